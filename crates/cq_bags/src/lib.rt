@@ -1,0 +1,13 @@
+//! Bags of rows, and the two lists that stand for them: the canonical one of a table, and the listing of a result.
+//!
+//! A list of rows with whole weights names the bag that gives each row the sum of its weights. A bag without negative
+//! rows has one listing in each order.
+#![tactic(auto)]
+
+mod laws;
+mod listing;
+mod sort_key;
+
+pub use laws::one_listing;
+pub use listing::listed;
+pub use sort_key::SortKey;

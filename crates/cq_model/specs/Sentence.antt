@@ -1,0 +1,78 @@
+-- The trees of statements and the token lists that they have.
+use Rattle.std.specs.Prelude.{◌≡◌, ℕ, Bool, true, false, List, [], ◌∷◌, ◌++◌, Option, Some, None}
+use Rattle.cq_model.specs.declared.token.Keyword.TheVariants as keywords
+use Rattle.cq_model.specs.declared.token.Symbol.{Symbol}
+use Rattle.cq_model.specs.declared.token.Symbol.TheVariants as symbols
+use Rattle.cq_model.specs.declared.token.Token.{Token}
+use Rattle.cq_model.specs.declared.token.Token.TheVariants as tokens
+use Rattle.cq_model.specs.declared.statement.ColumnDef.{ColumnDef}
+use Rattle.cq_model.specs.declared.statement.Comparison.{Comparison}
+use Rattle.cq_model.specs.declared.statement.Comparison.TheVariants as comparisons
+use Rattle.cq_model.specs.declared.statement.Condition.{Condition}
+use Rattle.cq_model.specs.declared.statement.Literal.{Literal}
+use Rattle.cq_model.specs.declared.statement.Statement.{Statement}
+use Rattle.cq_model.specs.declared.statement.Statement.TheVariants as statements
+use Rattle.cq_model.specs.Tokens.{HasTokens, is_past_limits}
+
+-- x {, x}
+abbrev pub Separated : {A : Type 0} → (A → List Token → Type 0) → List A → List Token → Type 0
+Separated Is [] ts = ⊥
+Separated Is (x ∷ []) ts = Is x ts
+Separated Is (x ∷ y ∷ ys) ts = (front rest : List Token) × (ts ≡ front ++ tokens.Symbol symbols.Comma ∷ rest) × Is x front × Separated Is (y ∷ ys) rest
+
+-- name
+abbrev pub IsName : List ℕ → List Token → Type 0
+IsName n ts = ts ≡ tokens.Name n ∷ []
+
+-- name INTEGER
+abbrev pub IsColumn : ColumnDef → List Token → Type 0
+IsColumn d ts = ts ≡ tokens.Name d.name ∷ tokens.Keyword keywords.Integer ∷ []
+
+abbrev pub sign_tokens : Bool → List Token
+sign_tokens true = tokens.Symbol symbols.Minus ∷ []
+sign_tokens false = []
+
+-- [-] int
+abbrev pub IsLiteral : Literal → List Token → Type 0
+IsLiteral l ts = ts ≡ sign_tokens l.is_negative ++ tokens.Number l.magnitude ∷ []
+
+-- ( const {, const} )
+abbrev pub IsRow : List Literal → List Token → Type 0
+IsRow row ts = (inner : List Token) × (ts ≡ tokens.Symbol symbols.Open ∷ inner ++ tokens.Symbol symbols.Close ∷ []) × Separated IsLiteral row inner
+
+abbrev pub comparison_symbol : Comparison → Symbol
+comparison_symbol comparisons.Equal = symbols.Equal
+comparison_symbol comparisons.NotEqual = symbols.NotEqual
+comparison_symbol comparisons.Less = symbols.Less
+comparison_symbol comparisons.LessOrEqual = symbols.LessOrEqual
+comparison_symbol comparisons.Greater = symbols.Greater
+comparison_symbol comparisons.GreaterOrEqual = symbols.GreaterOrEqual
+
+-- [WHERE name op const]
+abbrev pub IsWhere : Option Condition → List Token → Type 0
+IsWhere None ts = ts ≡ []
+IsWhere (Some c) ts = (number : List Token) × (ts ≡ tokens.Keyword keywords.Where ∷ tokens.Name c.column ∷ tokens.Symbol (comparison_symbol c.comparison) ∷ number) × IsLiteral c.literal number
+
+-- CREATE TABLE name ( column {, column} ), INSERT INTO name VALUES row {, row}, SELECT name {, name} FROM name [WHERE ..]
+abbrev pub IsStatement : Statement → List Token → Type 0
+IsStatement (statements.CreateTable name columns) ts = (inner : List Token) × (ts ≡ tokens.Keyword keywords.Create ∷ tokens.Keyword keywords.Table ∷ tokens.Name name ∷ tokens.Symbol symbols.Open ∷ inner ++ tokens.Symbol symbols.Close ∷ []) × Separated IsColumn columns inner
+IsStatement (statements.Insert name rows) ts = (inner : List Token) × (ts ≡ tokens.Keyword keywords.Insert ∷ tokens.Keyword keywords.Into ∷ tokens.Name name ∷ tokens.Keyword keywords.Values ∷ inner) × Separated IsRow rows inner
+IsStatement (statements.Select q) ts = (names rest : List Token) × (ts ≡ tokens.Keyword keywords.Select ∷ names ++ tokens.Keyword keywords.From ∷ tokens.Name q.table ∷ rest) × Separated IsName q.columns names × IsWhere q.condition rest
+
+-- the text is a statement: it has tokens within the limits, and they have this tree
+pub record IsSentence (text : List ℕ) (s : Statement) : Type 0 where
+  pub tokens : List Token
+  pub told : HasTokens text tokens
+  pub within : is_past_limits tokens ≡ false
+  pub tree : IsStatement s tokens
+
+-- the text has tokens, and they go past a limit
+pub record IsPastLimits (text : List ℕ) : Type 0 where
+  pub tokens : List Token
+  pub told : HasTokens text tokens
+  pub past : is_past_limits tokens ≡ true
+
+-- the tokens of the text, if it has any, are within the limits and have no tree
+pub record IsNoSentence (text : List ℕ) : Type 0 where
+  pub within : (ts : List Token) → HasTokens text ts → is_past_limits ts ≡ false
+  pub no_tree : (ts : List Token) → HasTokens text ts → (s : Statement) → IsStatement s ts → ⊥

@@ -1,0 +1,56 @@
+//! Statements as trees.
+use cq_values::{Seq, Text};
+
+/// A whole number with its sign. The greatest magnitude stands for every number from it on.
+#[derive(Clone, Copy, Debug, PartialEq, Eq)]
+pub struct Literal {
+    pub is_negative: bool,
+    pub magnitude: u128,
+}
+
+/// The six comparisons.
+#[derive(Clone, Copy, Debug, PartialEq, Eq)]
+pub enum Comparison {
+    Equal,
+    NotEqual,
+    Less,
+    LessOrEqual,
+    Greater,
+    GreaterOrEqual,
+}
+
+/// A column as CREATE TABLE declares it. Its type is INTEGER.
+#[derive(Debug, Drop)]
+pub struct ColumnDef {
+    pub name: Text,
+}
+
+/// A column compared with a number.
+#[derive(Debug, Drop)]
+pub struct Condition {
+    pub column: Text,
+    pub comparison: Comparison,
+    pub literal: Literal,
+}
+
+/// Columns of one table, of the rows that the condition keeps.
+#[derive(Debug, Drop)]
+pub struct Select {
+    pub columns: Seq<Text>,
+    pub table: Text,
+    pub condition: Option<Condition>,
+}
+
+/// A statement, as it was written.
+#[derive(Debug, Drop)]
+pub enum Statement {
+    CreateTable {
+        name: Text,
+        columns: Seq<ColumnDef>,
+    },
+    Insert {
+        table: Text,
+        rows: Seq<Seq<Literal>>,
+    },
+    Select(Select),
+}

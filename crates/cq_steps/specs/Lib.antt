@@ -1,0 +1,5 @@
+pub mod State
+pub mod Refusal
+pub mod Step
+pub mod Printed
+pub mod Output

@@ -1,0 +1,52 @@
+-- The output of a script: the texts of its statements' outcomes, one after the other.
+use Rattle.std.specs.Prelude.{◌≡◌, ℕ, Bool, true, false, not, List, [], ◌∷◌, map, filter, Result, Err}
+use Rattle.std.specs.List.{flat_map}
+use Rattle.std.specs.Str.{IsUtf8}
+use Rattle.cq_model.specs.declared.statement.Statement.{Statement}
+use Rattle.cq_model.specs.Sentence.{IsSentence, IsNoSentence, IsPastLimits}
+use Rattle.cq_model.specs.Pieces.{PieceOf, HasPieces}
+use Rattle.cq_steps.specs.declared.answer.Answer.{Answer}
+use Rattle.cq_steps.specs.declared.fault.Fault.{Fault}
+use Rattle.cq_steps.specs.declared.fault.Fault.TheVariants.{Memory, NotUtf8, Syntax, LimitExceeded}
+use Rattle.cq_steps.specs.State.{State, first_state}
+use Rattle.cq_steps.specs.Step.{Step}
+use Rattle.cq_steps.specs.Printed.{outcome_text}
+
+-- what a statement of a script, or what stands in its place, is answered with, and what state it leaves
+pub data Serves (old : State) (p : PieceOf) (outcome : Result Answer Fault) (new : State) : Type 0 where
+  rest_without_semicolon : p.closed ≡ false → outcome ≡ Err Syntax → new ≡ old → Serves old p outcome new
+  sentence : p.closed ≡ true → (s : Statement) → IsSentence p.text s → Step old s outcome new → Serves old p outcome new
+  no_sentence : p.closed ≡ true → IsNoSentence p.text → outcome ≡ Err Syntax → new ≡ old → Serves old p outcome new
+  past_limits : p.closed ≡ true → IsPastLimits p.text → outcome ≡ Err LimitExceeded → new ≡ old → Serves old p outcome new
+  out_of_memory : p.closed ≡ true → outcome ≡ Err Memory → new ≡ old → Serves old p outcome new
+
+-- the statements are answered one after the other, each in the state that the one before it left
+abbrev pub Runs : State → List PieceOf → List (Result Answer Fault) → State → Type 0
+Runs old [] [] new = new ≡ old
+Runs old [] (o ∷ os) new = ⊥
+Runs old (p ∷ ps) [] new = ⊥
+Runs old (p ∷ ps) (o ∷ os) new = (mid : State) × Serves old p o mid × Runs mid ps os new
+
+-- pieces of blanks and comments alone are no statements
+abbrev pub statements_among : List PieceOf → List PieceOf
+statements_among pieces = filter (λ p. not p.blank) pieces
+
+-- what the statements of a script are answered with, from the empty state; a script that is not UTF-8 has one line
+pub data HasOutcomes (max_rows : ℕ) (script : List ℕ) (outcomes : List (Result Answer Fault)) : Type 0 where
+  not_utf8 : (IsUtf8 script → ⊥) → outcomes ≡ Err NotUtf8 ∷ [] → HasOutcomes max_rows script outcomes
+  answered : IsUtf8 script → (pieces : List PieceOf) → HasPieces script pieces → (last : State) → Runs (first_state max_rows) (statements_among pieces) outcomes last → HasOutcomes max_rows script outcomes
+
+-- the output that outcomes make
+abbrev pub output_of : List (Result Answer Fault) → List ℕ
+output_of outcomes = flat_map outcome_text outcomes
+
+-- whether a statement was refused for want of memory
+abbrev pub is_for_memory : Result Answer Fault → Bool
+is_for_memory (Err Memory) = true
+is_for_memory outcome = false
+
+-- two runs of a script in which the same statements were refused for want of memory have the same outcomes
+abbrev pub MemoryDecides : Type 0
+MemoryDecides =
+    (max_rows : ℕ) (script : List ℕ) (xs ys : List (Result Answer Fault)) → HasOutcomes max_rows script xs → HasOutcomes max_rows script ys
+    → map is_for_memory xs ≡ map is_for_memory ys → xs ≡ ys

@@ -1,0 +1,79 @@
+-- Which refusal a statement gets: the walk through its places, each with its fault or none; the first fault wins.
+use Rattle.std.specs.Prelude.{ℕ, ◌+◌, ◌^◌, nat_lt, nat_le, ◌==◌, Bool, not, if◌then◌else◌, List, [], ◌∷◌, ◌++◌, map, length, Option, Some, None, is_some, is_none}
+use Rattle.std.specs.List.{list_any, flat_map}
+use Rattle.cq_values.specs.Texts.{is_text}
+use Rattle.cq_model.specs.declared.statement.ColumnDef.{ColumnDef}
+use Rattle.cq_model.specs.declared.statement.Condition.{Condition}
+use Rattle.cq_model.specs.declared.statement.Literal.{Literal}
+use Rattle.cq_model.specs.declared.statement.Select.{Select}
+use Rattle.cq_model.specs.declared.statement.Statement.{Statement}
+use Rattle.cq_model.specs.declared.statement.Statement.TheVariants as statements
+use Rattle.cq_model.specs.Query.{column_place}
+use Rattle.cq_steps.specs.declared.fault.Fault.{Fault}
+use Rattle.cq_steps.specs.declared.fault.Fault.TheVariants.{UnknownTable, UnknownColumn, NameTaken, TypeMismatch, TooWide, NumberOutside, TableFull, LimitExceeded}
+use Rattle.cq_steps.specs.State.{TableOf, State, table_named}
+
+-- the first place that has a fault decides
+abbrev pub first_fault : List (Option Fault) → Option Fault
+first_fault [] = None
+first_fault (Some f ∷ places) = Some f
+first_fault (None ∷ places) = first_fault places
+
+abbrev pub fault_if : Bool → Fault → Option Fault
+fault_if b f = if b then Some f else None
+
+-- a list has at most 64 entries
+abbrev pub too_long : ℕ → Option Fault
+too_long entries = fault_if (nat_lt 64 entries) LimitExceeded
+
+-- each column, whose name no earlier one has
+abbrev pub column_places : List ColumnDef → List ColumnDef → List (Option Fault)
+column_places before [] = []
+column_places before (c ∷ cs) = fault_if (list_any (λ b. is_text b.name c.name) before) NameTaken ∷ column_places (before ++ c ∷ []) cs
+
+-- CREATE TABLE: the name, each column, the list
+abbrev pub create_places : List ℕ → List ColumnDef → List TableOf → List (Option Fault)
+create_places name columns tables = fault_if (is_some (table_named name tables)) NameTaken ∷ column_places [] columns ++ too_long (length columns) ∷ []
+
+-- a stored number has 64 bits with a sign
+abbrev pub fits_column : Literal → Bool
+fits_column l = if l.is_negative then nat_le l.magnitude (2 ^ 63) else nat_lt l.magnitude (2 ^ 63)
+
+abbrev pub constant_place : Literal → Option Fault
+constant_place l = fault_if (not (fits_column l)) NumberOutside
+
+-- a row: its width, then each constant
+abbrev pub row_places : ℕ → List Literal → List (Option Fault)
+row_places width row = fault_if (not (length row == width)) TypeMismatch ∷ map constant_place row
+
+-- INSERT: the name, each row, then whether the rows fit the table
+abbrev pub insert_places : ℕ → List (List Literal) → Option TableOf → List (Option Fault)
+insert_places max_rows rows None = Some UnknownTable ∷ []
+insert_places max_rows rows (Some t) = flat_map (row_places (length t.columns)) rows ++ fault_if (nat_lt max_rows (length t.rows + length rows)) TableFull ∷ []
+
+abbrev pub name_place : List ColumnDef → List ℕ → Option Fault
+name_place columns name = fault_if (is_none (column_place columns name)) UnknownColumn
+
+-- an integer of an expression has at most 127 bits
+abbrev pub literal_place : Literal → Option Fault
+literal_place l = fault_if (not (nat_lt l.magnitude (2 ^ 127))) TooWide
+
+-- WHERE: its column, then its number
+abbrev pub where_places : List ColumnDef → Option Condition → List (Option Fault)
+where_places columns None = []
+where_places columns (Some c) = name_place columns c.column ∷ literal_place c.literal ∷ []
+
+-- SELECT: the table, WHERE, each item, the list of items
+abbrev pub select_places : Select → Option TableOf → List (Option Fault)
+select_places q None = Some UnknownTable ∷ []
+select_places q (Some t) = where_places t.columns q.condition ++ map (name_place t.columns) q.columns ++ too_long (length q.columns) ∷ []
+
+-- the places of a statement, in the order of the walk
+abbrev pub places : State → Statement → List (Option Fault)
+places s (statements.CreateTable name columns) = create_places name columns s.tables
+places s (statements.Insert name rows) = insert_places s.max_rows rows (table_named name s.tables)
+places s (statements.Select q) = select_places q (table_named q.table s.tables)
+
+-- the refusal of a statement, if it has one; want of memory is no part of the walk
+abbrev pub refusal : State → Statement → Option Fault
+refusal s statement = first_fault (places s statement)

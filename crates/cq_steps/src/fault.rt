@@ -1,0 +1,71 @@
+//! Why a statement is refused.
+ghost use Rattle.std.specs.Prelude.{◌≡◌};
+ghost use Rattle.cq_steps.specs.Printed.{fault_text};
+ghost use Rattle.cq_steps.specs.declared.fault.Fault.TheVariants.{Memory};
+
+use std::alloc::{AllocError, AllocFailed};
+use thiserror::Error;
+
+/// A refusal. A refused statement changes no table.
+#[derive(Clone, Copy, Debug, PartialEq, Eq, Error)]
+pub enum Fault {
+    #[error("1 out of memory")]
+    Memory,
+    #[error("9 script not UTF-8")]
+    NotUtf8,
+    #[error("10 syntax")]
+    Syntax,
+    #[error("11 unknown table or view")]
+    UnknownTable,
+    #[error("12 unknown column")]
+    UnknownColumn,
+    #[error("14 name taken")]
+    NameTaken,
+    #[error("15 type mismatch")]
+    TypeMismatch,
+    #[error("17 expression too wide")]
+    TooWide,
+    #[error("19 number outside 64 bits")]
+    NumberOutside,
+    #[error("21 table full")]
+    TableFull,
+    #[error("29 limit exceeded")]
+    LimitExceeded,
+}
+
+impl Fault {
+    /// The number of the refusal and its text, as they stand behind `error`.
+    pub fn text(self) -> &'static str
+        ensures { result.now ≡ fault_text self }
+    {
+        match self {
+            Fault::Memory => "1 out of memory",
+            Fault::NotUtf8 => "9 script not UTF-8",
+            Fault::Syntax => "10 syntax",
+            Fault::UnknownTable => "11 unknown table or view",
+            Fault::UnknownColumn => "12 unknown column",
+            Fault::NameTaken => "14 name taken",
+            Fault::TypeMismatch => "15 type mismatch",
+            Fault::TooWide => "17 expression too wide",
+            Fault::NumberOutside => "19 number outside 64 bits",
+            Fault::TableFull => "21 table full",
+            Fault::LimitExceeded => "29 limit exceeded",
+        }
+    }
+}
+
+impl From<AllocError> for Fault {
+    ghost from_gives = { λ _ e. e ≡ Memory };
+
+    fn from(_e: AllocError) -> Fault {
+        Fault::Memory
+    }
+}
+
+impl<T: Drop> From<AllocFailed<T>> for Fault {
+    ghost from_gives = { λ _ e. e ≡ Memory };
+
+    fn from(_e: AllocFailed<T>) -> Fault {
+        Fault::Memory
+    }
+}

@@ -1,0 +1,26 @@
+//! Each refusal as it is shown by `Display`.
+use crate::fault::Fault;
+use std::test::Fail;
+
+#[test]
+fn display_agrees_with_the_text(rt: HostRuntime) -> Result<(), Fail> {
+    let faults = [
+        (Fault::Memory, "1 out of memory"),
+        (Fault::NotUtf8, "9 script not UTF-8"),
+        (Fault::Syntax, "10 syntax"),
+        (Fault::UnknownTable, "11 unknown table or view"),
+        (Fault::UnknownColumn, "12 unknown column"),
+        (Fault::NameTaken, "14 name taken"),
+        (Fault::TypeMismatch, "15 type mismatch"),
+        (Fault::TooWide, "17 expression too wide"),
+        (Fault::NumberOutside, "19 number outside 64 bits"),
+        (Fault::TableFull, "21 table full"),
+        (Fault::LimitExceeded, "29 limit exceeded"),
+    ];
+    for (fault, text) in faults {
+        let shown = format!(in rt.alloc(); "{fault}")?;
+        assert_eq!(rt; shown.as_str(), text);
+        assert_eq!(rt; fault.text(), text);
+    }
+    Ok(())
+}

@@ -1,0 +1,6 @@
+pub mod Texts
+pub mod Days
+pub mod Value
+pub mod Order
+pub mod Keys
+pub mod Truth

@@ -1,0 +1,12 @@
+-- Rows.
+use Rattle.std.specs.Prelude.{ℕ, List, slice_index_or}
+use Rattle.cq_values.specs.declared.value.Value.{Value}
+use Rattle.cq_values.specs.declared.value.Value.TheVariants.{Null}
+
+-- a finite list of values
+abbrev pub Row : Type 0
+Row = List Value
+
+-- the value of a column, and NULL past the end
+abbrev pub column : Row → ℕ → Value
+column r at = slice_index_or r at Null

@@ -1,0 +1,23 @@
+//! Values and rows: what a column can hold, and the total order by which it is sorted.
+//!
+//! To its callers a [`Text`] is its bytes, a [`Seq`] and a [`Row`] are lists, and a [`Day`] is a number; no clause
+//! sees a buffer. Two values tie in the total order only where they are one value.
+#![tactic(auto)]
+
+mod day;
+mod order;
+mod row;
+mod seq;
+mod text;
+mod truth;
+mod ty;
+mod value;
+
+pub use day::Day;
+pub use order::cmp_total;
+pub use row::{Row, copy_row};
+pub use seq::Seq;
+pub use text::Text;
+pub use truth::Truth;
+pub use ty::Ty;
+pub use value::Value;
