@@ -1,5 +1,5 @@
 -- The tokens of a text, and the limits of the reader.
-use Rattle.std.specs.Prelude.{◌≡◌, ℕ, ◌+◌, ◌-◌, ◌*◌, ◌^◌, min, nat_lt, Bool, true, false, ◌||◌, List, [], ◌∷◌, map, fold, length, Option, Some, None, codes}
+use Rattle.std.specs.Prelude.{◌≡◌, ℕ, ◌+◌, ◌-◌, ◌*◌, ◌^◌, min, nat_lt, Bool, false, ◌||◌, List, [], ◌∷◌, map, fold, length, Option, Some, None, codes}
 use Rattle.std.specs.List.{find}
 use Rattle.std.specs.Char.{to_ascii_lowercase}
 use Rattle.cq_values.specs.Texts.{is_text}

@@ -13,7 +13,7 @@ mod truth;
 mod ty;
 mod value;
 
-pub use day::Day;
+pub use day::{CivilDay, Day};
 pub use order::cmp_total;
 pub use row::{Row, copy_row};
 pub use seq::Seq;

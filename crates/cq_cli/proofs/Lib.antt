@@ -1,0 +1,4 @@
+pub mod Writes
+pub mod Serving
+pub mod Runs
+pub mod Lines

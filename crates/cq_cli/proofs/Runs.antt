@@ -1,0 +1,192 @@
+-- Runs that go on, end, and are cut off.
+use Rattle.std.proofs.Common.{◌≡◌, ℕ, ◌+◌, ◌-◌, ◌^◌, ◌≤◌, ◌<◌, Bool, true, false, cond, if◌then◌else◌, not, List, [], ◌∷◌, ◌++◌, count_by, length, filter, Option, Result, Ok, Err, IfOk, refl, sym, ap, subst, ◌∙◌, append_assoc, arith}
+use Rattle.cq_steps.specs.declared.fault.Fault.TheVariants.{NotUtf8}
+use Rattle.std.specs.Str.{IsUtf8}
+use Rattle.std.specs.Io.KnownBytes.{Appends, Keeps}
+use Rattle.std.proofs.lemmas.Grind.{flat_map-append}
+use Rattle.std.proofs.lemmas.List.{append-nil}
+use Rattle.std.proofs.lemmas.List.Sums.{sum_by-append}
+use Rattle.cq_model.specs.Pieces.{PieceOf, HasPieces}
+use Rattle.cq_steps.specs.declared.answer.Answer.{Answer}
+use Rattle.cq_steps.specs.declared.fault.Fault.{Fault}
+use Rattle.cq_steps.specs.State.{State, first_state}
+use Rattle.cq_steps.specs.Output.{answered, not_utf8, Runs, Serves, output_of, statements_among}
+use Rattle.cq_steps.specs.Printed.{outcome_text}
+use Rattle.cq_cli.specs.declared.endings.Status.{Status}
+use Rattle.cq_cli.specs.declared.endings.Status.TheVariants.{AllAccepted, SomeRefused}
+use Rattle.cq_cli.specs.declared.endings.RunFault.{RunFault}
+use Rattle.cq_cli.specs.Running.{RunsScript, ServesPiece, both, status_of}
+use Rattle.cq_cli.specs.Writing.{Wrote, WroteFront}
+use Rattle.cq_cli.proofs.Serving.{refused_somehow, serves_draws}
+use Rattle.cq_cli.proofs.Writes.{all_then_failed, appends_kept, appends_more, appends_nothing, front_of_more, wrote_then}
+
+-- a run goes on by one piece
+runs_more : (ps : List PieceOf) (os : List (Result Answer Fault)) (a b c : State) (p : PieceOf) (o : Result Answer Fault) → Runs a ps os b → Serves b p o c → Runs a (ps ++ p ∷ []) (os ++ o ∷ []) c
+runs_more [] [] a b c p o r h = (c, subst (λ (s : State). Serves s p o c) r h, refl)
+runs_more [] (x ∷ os) a b c p o r h = absurd r
+runs_more (q ∷ ps) [] a b c p o r h = absurd r
+runs_more (q ∷ ps) (x ∷ os) a b c p o r h = (r.0, r.1, runs_more ps os r.0 b c p o r.2 h)
+
+-- two runs, one after the other
+runs_then : (ps qs : List PieceOf) (os us : List (Result Answer Fault)) (a b c : State) → Runs a ps os b → Runs b qs us c → Runs a (ps ++ qs) (os ++ us) c
+runs_then [] qs [] us a b c r h = subst (λ (s : State). Runs s qs us c) r h
+runs_then [] qs (x ∷ os) us a b c r h = absurd r
+runs_then (q ∷ ps) qs [] us a b c r h = absurd r
+runs_then (q ∷ ps) qs (x ∷ os) us a b c r h = (r.0, r.1, runs_then ps qs os us r.0 b c r.2 h)
+
+-- a run may end so: no further statement is accepted
+rest_refused : (s : State) (ps : List PieceOf) → (os : List (Result Answer Fault)) × Runs s ps os s
+rest_refused s [] = ([], refl)
+rest_refused s (p ∷ ps) =
+    let first = refused_somehow s p p.closed refl in
+    let rest = rest_refused s ps in (first.0 ∷ rest.0, (s, first.1, rest.1))
+
+filter_by : {X : Type 0} (p : X → Bool) (x : X) (xs ys : List X) (b : Bool) → filter p (xs ++ ys) ≡ filter p xs ++ filter p ys → cond b (x ∷ filter p (xs ++ ys)) (filter p (xs ++ ys)) ≡ cond b (x ∷ filter p xs) (filter p xs) ++ filter p ys
+filter_by {X} p x xs ys true e = ap (λ (zs : List X). x ∷ zs) e
+filter_by p x xs ys false e = e
+
+filter-append : {X : Type 0} (p : X → Bool) (xs ys : List X) → filter p (xs ++ ys) ≡ filter p xs ++ filter p ys
+filter-append p [] ys = refl
+filter-append p (x ∷ xs) ys = filter_by p x xs ys (p x) (filter-append p xs ys)
+
+-- a blank piece is no statement, and any other is one
+statements_more : (ps : List PieceOf) (p : PieceOf) (blank : Bool) → p.blank ≡ blank → statements_among (ps ++ p ∷ []) ≡ cond blank (statements_among ps) (statements_among ps ++ p ∷ [])
+statements_more ps p true e = filter-append (λ (q : PieceOf). not q.blank) ps (p ∷ []) ∙ ap (λ (b : Bool). statements_among ps ++ cond (not b) (p ∷ []) []) e ∙ append-nil (statements_among ps)
+statements_more ps p false e = filter-append (λ (q : PieceOf). not q.blank) ps (p ∷ []) ∙ ap (λ (b : Bool). statements_among ps ++ cond (not b) (p ∷ []) []) e
+
+-- the output of one outcome more
+output_more : (os : List (Result Answer Fault)) (o : Result Answer Fault) → output_of (os ++ o ∷ []) ≡ output_of os ++ outcome_text o
+output_more os o = flat_map-append outcome_text os (o ∷ []) ∙ ap (λ (t : List ℕ). output_of os ++ t) (append-nil (outcome_text o))
+
+-- the status of one outcome more
+status_more : (os : List (Result Answer Fault)) (o : Result Answer Fault) → status_of (os ++ o ∷ []) ≡ both (status_of os) (status_of (o ∷ []))
+status_more [] o = refl
+status_more (Ok a ∷ os) o = status_more os o
+status_more (Err f ∷ os) o = refl
+
+-- how many pieces were ended by a semicolon, with one piece more
+closed_more : (ps : List PieceOf) (p : PieceOf) → count_by (λ (q : PieceOf). q.closed) (ps ++ p ∷ []) ≡ count_by (λ (q : PieceOf). q.closed) ps + (if p.closed then 1 else 0)
+closed_more ps p = grind (arith, sum_by-append (λ (q : PieceOf). if q.closed then 1 else 0) ps (p ∷ []))
+
+-- how far a script has come
+pub record HasRun (max_rows : ℕ) (script : List ℕ) (left : List PieceOf) (old new : Option (List ℕ)) (before after : ℕ) (state : State) (status : Status) : Type 0 where
+  pub served : List PieceOf
+  pub outcomes : List (Result Answer Fault)
+  pub cut : HasPieces script (served ++ left)
+  pub run : Runs (first_state max_rows) (statements_among served) outcomes state
+  pub written : Appends old new (output_of outcomes)
+  pub count : after ≡ before
+  pub told : status ≡ status_of outcomes
+  pub drawn : state.drawn ≤ count_by (λ p. p.closed) served
+
+-- before the first piece
+pub starts : (max_rows : ℕ) (script : List ℕ) (left : List PieceOf) (a : Option (List ℕ)) (f : ℕ) (state : State) → HasPieces script left → state ≡ first_state max_rows → HasRun max_rows script left a a f f state AllAccepted
+starts max_rows script left a f state cut first = record {
+  served = [];
+  outcomes = [];
+  cut = cut;
+  run = first;
+  written = appends_nothing a;
+  count = refl;
+  told = refl;
+  drawn = rw first (omega arith);
+}
+
+module _ (max_rows : ℕ) (script : List ℕ) (a b : Option (List ℕ)) (f g : ℕ) (state : State) (status : Status) (p : PieceOf) (ps left : List PieceOf) (same : left ≡ p ∷ ps) (so_far : HasRun max_rows script left a b f g state status) where
+  regrouped : HasPieces script ((so_far.served ++ p ∷ []) ++ ps)
+  regrouped = subst (HasPieces script) (ap (λ (xs : List PieceOf). so_far.served ++ xs) same ∙ sym (append_assoc so_far.served (p ∷ []) ps)) so_far.cut
+
+  -- before a closed piece the count of statements is below the script's length
+  pub has_room : ((pieces : List PieceOf) → HasPieces script pieces → count_by (λ (q : PieceOf). q.closed) pieces ≤ length script) → length script < 2 ^ 64 → p.closed ≡ true → state.drawn < 2 ^ 64 - 1
+  has_room fits short closed =
+      let all : count_by (λ (q : PieceOf). q.closed) ((so_far.served ++ p ∷ []) ++ ps) ≡ count_by (λ (q : PieceOf). q.closed) (so_far.served ++ p ∷ []) + count_by (λ (q : PieceOf). q.closed) ps =
+      sum_by-append (λ (q : PieceOf). if q.closed then 1 else 0) (so_far.served ++ p ∷ []) ps in
+      let one : count_by (λ (q : PieceOf). q.closed) (so_far.served ++ p ∷ []) ≡ count_by (λ (q : PieceOf). q.closed) so_far.served + 1 =
+      closed_more so_far.served p ∙ ap (λ (b : Bool). count_by (λ (q : PieceOf). q.closed) so_far.served + (if b then 1 else 0)) closed in
+      omega (arith, all, one, fits ((so_far.served ++ p ∷ []) ++ ps) regrouped, so_far.drawn, short)
+
+  -- a blank piece is passed over
+  pub passes : p.blank ≡ true → HasRun max_rows script ps a b f g state status
+  passes blank = record {
+    served = so_far.served ++ p ∷ [];
+    outcomes = so_far.outcomes;
+    cut = regrouped;
+    run = subst (λ (xs : List PieceOf). Runs (first_state max_rows) xs so_far.outcomes state) (sym (statements_more so_far.served p true blank)) so_far.run;
+    written = so_far.written;
+    count = so_far.count;
+    told = so_far.told;
+    drawn = omega (arith, closed_more so_far.served p, so_far.drawn);
+  }
+
+  -- a statement is served
+  pub serves : (c : Option (List ℕ)) (h : ℕ) (next : State) (one : Status) → p.blank ≡ false → ServesPiece state p next b c g h (Ok one) → HasRun max_rows script ps a c f h next (both status one)
+  serves c h next one said served = record {
+    served = so_far.served ++ p ∷ [];
+    outcomes = so_far.outcomes ++ served.outcome ∷ [];
+    cut = regrouped;
+    run = subst (λ (xs : List PieceOf). Runs (first_state max_rows) xs (so_far.outcomes ++ served.outcome ∷ []) next) (sym (statements_more so_far.served p false said)) (runs_more (statements_among so_far.served) so_far.outcomes (first_state max_rows) state next p served.outcome so_far.run served.answered);
+    written = subst (λ (t : List ℕ). Appends a c t) (sym (output_more so_far.outcomes served.outcome)) (appends_more a b c (output_of so_far.outcomes) (outcome_text served.outcome) so_far.written served.written.0);
+    count = served.written.1 ∙ so_far.count;
+    told = rw (so_far.told, served.told) (sym (status_more so_far.outcomes served.outcome));
+    drawn = omega (arith, closed_more so_far.served p, so_far.drawn, serves_draws state next p served.outcome served.answered);
+  }
+
+  -- the sink fails: the rest of the script may still be answered so that what was written begins its output
+  pub cut_off : (c : Option (List ℕ)) (h : ℕ) (next : State) (cause e : RunFault) → IsUtf8 script → p.blank ≡ false → ServesPiece state p next b c g h (Err cause) → RunsScript max_rows script a c f h (Err e)
+  cut_off c h next cause e utf8 said served =
+      let o = served.outcome in
+      let rest = rest_refused next (statements_among ps) in
+      let first = runs_more (statements_among so_far.served) so_far.outcomes (first_state max_rows) state next p o so_far.run served.answered in
+      let statements : statements_among ((so_far.served ++ p ∷ []) ++ ps) ≡ (statements_among so_far.served ++ p ∷ []) ++ statements_among ps =
+      filter-append (λ (q : PieceOf). not q.blank) (so_far.served ++ p ∷ []) ps ∙ ap (λ (xs : List PieceOf). xs ++ statements_among ps) (statements_more so_far.served p false said) in
+      let run : Runs (first_state max_rows) (statements_among ((so_far.served ++ p ∷ []) ++ ps)) ((so_far.outcomes ++ o ∷ []) ++ rest.0) next =
+      subst (λ (xs : List PieceOf). Runs (first_state max_rows) xs ((so_far.outcomes ++ o ∷ []) ++ rest.0) next) (sym statements)
+      (runs_then (statements_among so_far.served ++ p ∷ []) (statements_among ps) (so_far.outcomes ++ o ∷ []) rest.0 (first_state max_rows) next next first rest.1) in
+      let text : output_of ((so_far.outcomes ++ o ∷ []) ++ rest.0) ≡ (output_of so_far.outcomes ++ outcome_text o) ++ output_of rest.0 =
+      flat_map-append outcome_text (so_far.outcomes ++ o ∷ []) rest.0 ∙ ap (λ (t : List ℕ). t ++ output_of rest.0) (output_more so_far.outcomes o) in
+      let front : WroteFront (output_of so_far.outcomes ++ outcome_text o) a c f h =
+      wrote_then {A = Status} (output_of so_far.outcomes) (outcome_text o) a b c f g h (Err e) (so_far.written, so_far.count) served.written in
+      record {
+        outcomes = (so_far.outcomes ++ o ∷ []) ++ rest.0;
+        answered = answered utf8 ((so_far.served ++ p ∷ []) ++ ps) regrouped next run;
+        written = subst (λ (t : List ℕ). WroteFront t a c f h) (sym text) (front_of_more (output_of so_far.outcomes ++ outcome_text o) (output_of rest.0) a c f h front);
+        told = tt;
+      }
+
+-- nothing is left
+pub ends : (max_rows : ℕ) (script : List ℕ) (left : List PieceOf) (a b : Option (List ℕ)) (f g : ℕ) (state : State) (status : Status) → IsUtf8 script → left ≡ [] → HasRun max_rows script left a b f g state status → RunsScript max_rows script a b f g (Ok status)
+ends max_rows script left a b f g state status utf8 empty h =
+    let all : h.served ++ left ≡ h.served = ap (λ (xs : List PieceOf). h.served ++ xs) empty ∙ append-nil h.served in record {
+      outcomes = h.outcomes;
+      answered = answered utf8 h.served (subst (HasPieces script) all h.cut) state h.run;
+      written = (h.written, h.count);
+      told = h.told;
+    }
+
+-- a script that is not UTF-8 is answered by one line
+pub refuses_bytes : (max_rows : ℕ) (script : List ℕ) (a b : Option (List ℕ)) (f g : ℕ) (r : Result Status RunFault) → (IsUtf8 script → ⊥) → Wrote (outcome_text (Err NotUtf8)) a b f g r → IfOk r (λ status. status ≡ SomeRefused) → RunsScript max_rows script a b f g r
+refuses_bytes max_rows script a b f g r bad written told = record {
+  outcomes = Err NotUtf8 ∷ [];
+  answered = not_utf8 bad refl;
+  written = subst (λ (t : List ℕ). Wrote t a b f g r) (sym (append-nil (outcome_text (Err NotUtf8)))) written;
+  told = told;
+}
+
+module _ (max_rows : ℕ) (script : List ℕ) (a b c : Option (List ℕ)) (f g h : ℕ) (status : Status) (ran : RunsScript max_rows script a b f g (Ok status)) (kept : Keeps b c) where
+  -- the flush succeeds
+  pub flushes : h ≡ g → RunsScript max_rows script a c f h (Ok status)
+  flushes same = record {
+    outcomes = ran.outcomes;
+    answered = ran.answered;
+    written = (appends_kept a b c (output_of ran.outcomes) ran.written.0 kept, same ∙ ran.written.1);
+    told = ran.told;
+  }
+
+  -- the flush fails, after all of the output was put
+  pub flush_fails : (e : RunFault) → h ≡ g + 1 → RunsScript max_rows script a c f h (Err e)
+  flush_fails e more = record {
+    outcomes = ran.outcomes;
+    answered = ran.answered;
+    written = all_then_failed (output_of ran.outcomes) a b c f g h ran.written kept more;
+    told = tt;
+  }

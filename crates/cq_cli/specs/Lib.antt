@@ -1,0 +1,4 @@
+pub mod Writing
+pub mod Printing
+pub mod Running
+pub mod Line

@@ -1,0 +1,22 @@
+//! The program as a library: command lines, and scripts from bytes to bytes.
+//!
+//! [`run`] writes the answer of each statement before the next one runs. What it writes is the output of the script's
+//! outcomes, or a front of it where the [`Sink`] failed.
+#![tactic(auto)]
+
+mod endings;
+mod laws;
+mod no_sources;
+mod options;
+mod printing;
+mod running;
+mod sink;
+#[cfg(test)]
+mod tests;
+
+pub use endings::{RunFault, Status, exit_of};
+pub use laws::same_output;
+pub use no_sources::NoSources;
+pub use options::{LineFault, Options, options_of};
+pub use running::run;
+pub use sink::{Sink, Writer};

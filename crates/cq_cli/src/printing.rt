@@ -1,0 +1,103 @@
+//! Answers on their way out.
+ghost use Rattle.std.specs.Prelude.{◌≡◌, ◌<◌, ◌-◌, ◌^◌, ◌++◌, ◌∷◌, [], IfOk, codes};
+ghost use Rattle.std.specs.Fmt.{decimal};
+ghost use Rattle.cq_cli.specs.Writing.{Wrote};
+ghost use Rattle.cq_cli.specs.Printing.{Shows, printed_status, printed_text};
+
+use crate::endings::{RunFault, Status};
+use crate::sink::{Sink, put_all};
+use cq_csvio::print_result;
+use cq_steps::{Answer, Fault};
+use cq_values::Seq;
+use itoa::Buffer;
+use std::alloc::Global;
+
+/// What is printed for a statement.
+#[derive(Drop)]
+pub enum Printed {
+    Done,
+    Count(u64),
+    Rows(Seq<u8>),
+    Refused(Fault),
+}
+
+impl Printed {
+    /// What this one statement makes of a script's status.
+    pub fn status(&self) -> Status
+        ensures { result ≡ printed_status self.now }
+    {
+        match self {
+            Printed::Done | Printed::Count(_) | Printed::Rows(_) => Status::AllAccepted,
+            Printed::Refused(_) => Status::SomeRefused,
+        }
+    }
+}
+
+/// Makes the text of a result before any of it is written.
+pub fn shown(alloc: Global, outcome: Result<Answer, Fault>) -> Printed
+    ensures { Shows outcome result }
+{
+    match outcome {
+        Ok(Answer::Done) => Printed::Done,
+        Ok(Answer::Count(n)) => Printed::Count(n),
+        Ok(Answer::Rows { header, rows }) => {
+            match print_result(alloc, header.as_slice(), rows.as_slice()) {
+                Ok(text) => Printed::Rows(text),
+                Err(_) => Printed::Refused(Fault::Memory),
+            }
+        }
+        Err(fault) => Printed::Refused(fault),
+    }
+}
+
+/// Writes what is printed. Takes no memory.
+pub fn print<K: Sink>(out: &mut K, printed: &Printed) -> Result<Status, RunFault>
+    requires { K.failures out.old < 2 ^ 64 - 1 }
+    ensures written { Wrote (printed_text printed.now) (K.contents out.old) (K.contents out.new) (K.failures out.old) (K.failures out.new) result }
+    ensures status { IfOk result (λ status. status ≡ printed_status printed.now) }
+{
+    put_printed(out, printed)?;
+    Ok(printed.status())
+}
+
+fn put_printed<K: Sink>(out: &mut K, printed: &Printed) -> Result<(), RunFault>
+    requires { K.failures out.old < 2 ^ 64 - 1 }
+    ensures { Wrote (printed_text printed.now) (K.contents out.old) (K.contents out.new) (K.failures out.old) (K.failures out.new) result }
+{
+    match printed {
+        Printed::Done => put_all(out, b"ok\n"),
+        Printed::Count(n) => put_count(out, *n),
+        Printed::Rows(text) => put_all(out, text.as_slice()),
+        Printed::Refused(fault) => put_three(out, b"error ", fault.text().as_bytes(), b"\n"),
+    }
+}
+
+fn put_count<K: Sink>(out: &mut K, n: u64) -> Result<(), RunFault>
+    requires { K.failures out.old < 2 ^ 64 - 1 }
+    ensures { Wrote (codes "ok " ++ (decimal n ++ 10 ∷ [])) (K.contents out.old) (K.contents out.new) (K.failures out.old) (K.failures out.new) result }
+{
+    let mut buffer = Buffer::new();
+    let digits = buffer.format(n);
+    put_three(out, b"ok ", digits.as_bytes(), b"\n")
+}
+
+fn put_three<K: Sink>(
+    out: &mut K,
+    first: &[u8],
+    second: &[u8],
+    third: &[u8],
+) -> Result<(), RunFault>
+    requires { K.failures out.old < 2 ^ 64 - 1 }
+    ensures { Wrote (first.now ++ (second.now ++ third.now)) (K.contents out.old) (K.contents out.new) (K.failures out.old) (K.failures out.new) result }
+{
+    put_all(out, first)?;
+    put_two(out, second, third)
+}
+
+fn put_two<K: Sink>(out: &mut K, first: &[u8], second: &[u8]) -> Result<(), RunFault>
+    requires { K.failures out.old < 2 ^ 64 - 1 }
+    ensures { Wrote (first.now ++ second.now) (K.contents out.old) (K.contents out.new) (K.failures out.old) (K.failures out.new) result }
+{
+    put_all(out, first)?;
+    put_all(out, second)
+}

@@ -1,0 +1,111 @@
+//! Scripts from bytes to bytes.
+ghost use Rattle.std.specs.Prelude.{◌≡◌, ◌<◌, ◌-◌, ◌^◌, true};
+ghost use Rattle.cq_steps.specs.Output.{Serves};
+ghost use Rattle.cq_tokens.specs.Piece.{piece_of};
+ghost use Rattle.cq_cli.specs.Running.{RunsScript, ServesPiece};
+
+use crate::endings::{RunFault, Status};
+use crate::printing::{Printed, print, shown};
+use crate::sink::Sink;
+use cq_engine::{Engine, Limits, Sources};
+use cq_sql::{Piece, SqlFault, parse, split};
+use cq_steps::{Answer, Fault};
+use cq_tokens::closed_pieces_fit;
+use std::alloc::Global;
+
+/// What a piece is answered with.
+fn answer<S: Sources>(
+    alloc: Global,
+    engine: &mut Engine,
+    piece: &Piece<'_>,
+    sources: &mut S,
+) -> Result<Answer, Fault>
+    requires { piece.now.closed ≡ true → engine.old.drawn < 2 ^ 64 - 1 }
+    ensures { Serves engine.old (piece_of piece.now) result engine.new }
+{
+    if !piece.closed {
+        return Err(Fault::Syntax);
+    }
+    match parse(alloc, piece.text) {
+        Ok(statement) => engine.step(&statement, sources),
+        Err(SqlFault::Memory) => Err(Fault::Memory),
+        Err(SqlFault::Syntax) => Err(Fault::Syntax),
+        Err(SqlFault::LimitExceeded) => Err(Fault::LimitExceeded),
+    }
+}
+
+/// Answers a piece, and writes the answer.
+fn serve<S: Sources, K: Sink>(
+    alloc: Global,
+    engine: &mut Engine,
+    piece: &Piece<'_>,
+    sources: &mut S,
+    out: &mut K,
+) -> Result<Status, RunFault>
+    requires room { piece.now.closed ≡ true → engine.old.drawn < 2 ^ 64 - 1 }
+    requires countable { K.failures out.old < 2 ^ 64 - 1 }
+    ensures { ServesPiece engine.old (piece_of piece.now) engine.new (K.contents out.old) (K.contents out.new) (K.failures out.old) (K.failures out.new) result }
+{
+    let outcome = answer(alloc, engine, piece, sources);
+    print(out, &shown(alloc, outcome))
+}
+
+/// Answers the pieces of a text one after the other.
+fn run_text<S: Sources, K: Sink>(
+    alloc: Global,
+    script: &str,
+    limits: Limits,
+    sources: &mut S,
+    out: &mut K,
+) -> Result<Status, RunFault>
+    requires { K.failures out.old < 2 ^ 64 - 1 }
+    ensures { RunsScript limits.max_rows script.now (K.contents out.old) (K.contents out.new) (K.failures out.old) (K.failures out.new) result }
+{
+    closed_pieces_fit();
+    let mut engine = Engine::new(alloc, limits);
+    let mut status = Status::AllAccepted;
+    let mut pieces = split(script);
+    while let Some(piece) = pieces.next() {
+        if !piece.blank {
+            let served = serve(alloc, &mut engine, &piece, sources, out)?;
+            status = status.and(served);
+        }
+    }
+    Ok(status)
+}
+
+/// Answers the bytes of a script.
+fn run_bytes<S: Sources, K: Sink>(
+    alloc: Global,
+    script: &[u8],
+    limits: Limits,
+    sources: &mut S,
+    out: &mut K,
+) -> Result<Status, RunFault>
+    requires { K.failures out.old < 2 ^ 64 - 1 }
+    ensures { RunsScript limits.max_rows script.now (K.contents out.old) (K.contents out.new) (K.failures out.old) (K.failures out.new) result }
+{
+    match str::from_utf8(script) {
+        Ok(text) => run_text(alloc, text, limits, sources, out),
+        Err(_) => print(out, &Printed::Refused(Fault::NotUtf8)),
+    }
+}
+
+/// Runs a script: writes the answer of each statement before the next one runs, and flushes once at the end. After the
+/// first failure nothing more is put or flushed.
+pub fn run<S: Sources, K: Sink>(
+    alloc: Global,
+    script: &[u8],
+    limits: Limits,
+    sources: &mut S,
+    out: &mut K,
+) -> Result<Status, RunFault>
+    requires { K.failures out.old < 2 ^ 64 - 1 }
+    ensures { RunsScript limits.max_rows script.now (K.contents out.old) (K.contents out.new) (K.failures out.old) (K.failures out.new) result }
+{
+    let status = run_bytes(alloc, script, limits, sources, out)?;
+    match out.flush() {
+        Ok(()) => Ok(status),
+        Err(_) => Err(RunFault::Output),
+    }
+}

@@ -1,0 +1,109 @@
+//! Where the output goes.
+ghost use Rattle.std.specs.Prelude.{◌≡◌, ◌≤◌, ◌<◌, ◌+◌, ◌-◌, ◌^◌, ℕ, List, Option, IfOk, length};
+ghost use Rattle.std.specs.Io.KnownBytes.{Keeps, WriteAppends};
+ghost use Rattle.cq_cli.specs.Writing.{Wrote, failures_after, failures_of};
+
+use crate::endings::RunFault;
+use std::io;
+use std::io::Write;
+use std::marker::Model;
+
+/// A writer that counts its failures.
+pub trait Sink {
+    /// The bytes taken, where they are known.
+    ghost contents: { Self → Option (List ℕ) };
+
+    /// How often a put or a flush failed.
+    ghost failures: { Self → ℕ };
+
+    /// Takes a front of the bytes. To take nothing of some bytes is a failure.
+    fn put(&mut self, bytes: &[u8]) -> io::Result<usize>
+        requires { failures self.old < 2 ^ 64 - 1 }
+        ensures count { IfOk result (λ n. n ≤ length bytes.now) }
+        ensures taken { WriteAppends (contents self.old) (contents self.new) result bytes.now }
+        ensures failed { failures self.new
+            ≡ failures self.old + failures_after result (length bytes.now) };
+
+    fn flush(&mut self) -> io::Result<()>
+        requires { failures self.old < 2 ^ 64 - 1 }
+        ensures kept { Keeps (contents self.old) (contents self.new) }
+        ensures failed { failures self.new ≡ failures self.old + failures_of result };
+}
+
+/// Any writer as a sink.
+#[derive(Drop)]
+pub struct Writer<W: Write> {
+    writer: W,
+    failures: u64,
+}
+
+impl<W: Write> Model for Writer<W> {
+    ghost use Rattle.std.specs.Prelude.{ℕ, List, Option};
+
+    ghost Value = { Option (List ℕ) × ℕ };
+
+    ghost view = { λ s. (W.contents s.writer, s.failures) };
+}
+
+impl<W: Write> Writer<W> {
+    pub fn new(writer: W) -> Writer<W>
+        ensures { result ≡ (W.contents writer, 0) }
+    {
+        Writer {
+            writer,
+            failures: 0,
+        }
+    }
+
+    /// The writer as it is. Nothing is flushed.
+    pub fn into_inner(self) -> W
+        ensures { W.contents result ≡ self.0 }
+    {
+        let Writer { writer, .. } = self;
+        writer
+    }
+}
+
+impl<W: Write> Sink for Writer<W> {
+    ghost contents = { λ s. s.0 };
+
+    ghost failures = { λ s. s.1 };
+
+    fn put(&mut self, bytes: &[u8]) -> io::Result<usize> {
+        let taken = self.writer.write(bytes);
+        let failed = match &taken {
+            Ok(n) => *n == 0 && !bytes.is_empty(),
+            Err(_) => true,
+        };
+        if failed {
+            self.failures += 1;
+        }
+        taken
+    }
+
+    fn flush(&mut self) -> io::Result<()> {
+        let flushed = self.writer.flush();
+        if flushed.is_err() {
+            self.failures += 1;
+        }
+        flushed
+    }
+}
+
+/// Puts the bytes again and again until all of them are taken.
+pub fn put_all<K: Sink>(out: &mut K, bytes: &[u8]) -> Result<(), RunFault>
+    requires { K.failures out.old < 2 ^ 64 - 1 }
+    ensures { Wrote bytes.now (K.contents out.old) (K.contents out.new) (K.failures out.old) (K.failures out.new) result }
+{
+    let mut rest = bytes;
+    while !rest.is_empty() {
+        match out.put(rest) {
+            Ok(n) if n > 0 => {
+                let (_, after) = rest.split_at(n);
+                rest = after;
+            }
+            _ => return Err(RunFault::Output),
+        }
+    }
+    Ok(())
+}

@@ -1,0 +1,4 @@
+pub mod Given
+pub mod Walk
+pub mod Bound
+pub mod Statements

@@ -1,0 +1,25 @@
+//! The limits that a caller sets.
+ghost use Rattle.std.specs.Prelude.{◌≡◌, ◌≤◌, ◌^◌, ◌↔◌, IfSome, IsSome};
+
+/// How many rows a table may have.
+#[derive(Clone, Copy, Debug)]
+pub struct Limits {
+    pub max_rows: u64,
+    pub ghost in_range: { (1 ≤ max_rows) × (max_rows ≤ 2 ^ 24) },
+}
+
+impl Limits {
+    /// The most that can be allowed.
+    pub const MAX_ROWS: u64 = 16_777_216;
+
+    /// None where the limit is not from 1 to [`Limits::MAX_ROWS`].
+    pub fn new(max_rows: u64) -> Option<Limits>
+        ensures in_range { IsSome result ↔ ((1 ≤ max_rows) × (max_rows ≤ 2 ^ 24)) }
+        ensures value { IfSome result (λ l. l.max_rows ≡ max_rows) }
+    {
+        if max_rows < 1 || Limits::MAX_ROWS < max_rows {
+            return None;
+        }
+        Some(Limits { max_rows })
+    }
+}

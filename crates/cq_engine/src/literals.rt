@@ -1,0 +1,31 @@
+//! Whole numbers as they are written.
+ghost use Rattle.std.specs.Prelude.{◌≡◌, ◌<◌, ◌^◌};
+ghost use Rattle.cq_model.specs.Query.{literal_value};
+ghost use Rattle.cq_steps.specs.Refusal.{fits_column};
+
+use cq_model::Literal;
+
+/// Whether a column can hold it: stored numbers have 64 bits with a sign.
+pub fn fits_column(literal: &Literal) -> bool
+    ensures { result ≡ fits_column literal.now }
+{
+    let limit = 1u128 << 63;
+    if literal.is_negative {
+        literal.magnitude <= limit
+    } else {
+        literal.magnitude < limit
+    }
+}
+
+/// The number with its sign.
+pub fn literal_number(literal: &Literal) -> i128
+    requires { literal.now.magnitude < 2 ^ 127 }
+    ensures { result ≡ literal_value literal.now }
+{
+    let magnitude = literal.magnitude as i128;
+    if literal.is_negative {
+        -magnitude
+    } else {
+        magnitude
+    }
+}

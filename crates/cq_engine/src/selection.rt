@@ -1,0 +1,116 @@
+//! Queries with the places of their columns, answered from a table's rows.
+ghost use Rattle.std.specs.Prelude.{◌≡◌, IfOk, Some, filter, map};
+ghost use Rattle.cq_values.specs.Value.{column};
+ghost use Rattle.cq_steps.specs.Refusal.{name_place, select_places, where_places};
+ghost use Rattle.cq_engine.specs.Bound.{IsBound, bound_where, keeps_at, place_in, values_at};
+ghost use Rattle.cq_engine.specs.Statements.{Selects};
+ghost use Rattle.cq_engine.specs.Walk.{Walked};
+
+use crate::columns::{check_length, column_place};
+use crate::condition::BoundCondition;
+use crate::table::Table;
+use cq_bags::listed;
+use cq_model::{ColumnDef, Condition, Select};
+use cq_steps::Fault;
+use cq_values::{Row, Seq, Text, Value};
+use std::alloc::{AllocError, Global};
+
+/// What WHERE keeps, and where the items stand.
+#[derive(Drop)]
+pub struct Selection {
+    condition: Option<BoundCondition>,
+    places: Vec<usize>,
+}
+
+impl Selection {
+    /// The query on this table, once it has been walked through.
+    pub fn new(alloc: Global, table: &Table, select: &Select) -> Result<Selection, Fault>
+        ensures { Walked (select_places select.now (Some table.now)) (IsBound table.now.columns select.now) result }
+    {
+        let columns = table.columns();
+        let names = select.columns.as_slice();
+        let condition = bound_where(columns, &select.condition)?;
+        let places = item_places(alloc, columns, names)?;
+        check_length(names.len())?;
+        Ok(Selection { condition, places })
+    }
+
+    /// The rows of the result, as these rows give them one after the other.
+    pub fn rows(&self, alloc: Global, rows: &[Row]) -> Result<Vec<Row>, AllocError>
+        ensures { IfOk result (λ v. v.items
+            ≡ map (values_at self.now.places.items) (filter (keeps_at self.now.condition) rows.now)) }
+    {
+        let mut results = Vec::new(alloc);
+        for row in rows {
+            let values = row.as_slice();
+            if self.keeps(values) {
+                results.push(self.values(alloc, values)?)?;
+            }
+        }
+        Ok(results)
+    }
+
+    fn keeps(&self, row: &[Value]) -> bool
+        ensures { result ≡ keeps_at self.now.condition row.now }
+    {
+        match &self.condition {
+            Some(condition) => condition.keeps(row),
+            None => true,
+        }
+    }
+
+    fn values(&self, alloc: Global, row: &[Value]) -> Result<Row, AllocError>
+        ensures { IfOk result (λ values. values ≡ values_at self.now.places.items row.now) }
+    {
+        let mut values = Row::new(alloc);
+        for place in &self.places {
+            values.push(column(alloc, row, *place)?)?;
+        }
+        Ok(values)
+    }
+}
+
+/// The listing of a query on this table.
+pub fn rows_from(alloc: Global, table: &Table, select: &Select) -> Result<Seq<Row>, Fault>
+    ensures { Selects select.now table.now result }
+{
+    let selection = Selection::new(alloc, table, select)?;
+    let results = selection.rows(alloc, table.rows())?;
+    let sorted = listed(results)?;
+    Ok(Seq::from_vec(sorted))
+}
+
+fn bound_where(
+    columns: &[ColumnDef],
+    condition: &Option<Condition>,
+) -> Result<Option<BoundCondition>, Fault>
+    ensures { Walked (where_places columns.now condition.now) (λ b. b ≡ bound_where columns.now condition.now) result }
+{
+    match condition {
+        Some(condition) => Ok(Some(BoundCondition::new(columns, condition)?)),
+        None => Ok(None),
+    }
+}
+
+fn item_places(alloc: Global, columns: &[ColumnDef], names: &[Text]) -> Result<Vec<usize>, Fault>
+    ensures { Walked (map (name_place columns.now) names.now) (λ v. v.items ≡ map (place_in columns.now) names.now) result }
+{
+    let mut places = Vec::with_capacity(alloc, names.len())?;
+    for name in names {
+        let Some(place) = column_place(columns, name.as_str()) else {
+            return Err(Fault::UnknownColumn);
+        };
+        places.push(place)?;
+    }
+    Ok(places)
+}
+
+/// A copy of the value of a column, and NULL past the end.
+fn column(alloc: Global, row: &[Value], place: usize) -> Result<Value, AllocError>
+    ensures { IfOk result (λ value. value ≡ column row.now place) }
+{
+    match row.get(place) {
+        Some(value) => value.copy(alloc),
+        None => Ok(Value::Null),
+    }
+}

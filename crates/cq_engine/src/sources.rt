@@ -1,0 +1,27 @@
+//! Where COPY finds its files.
+ghost use Rattle.std.specs.Prelude.{◌≡◌, List, ℕ};
+ghost use Rattle.cq_engine.specs.Given.{Reads};
+
+use thiserror::Error;
+
+/// Why a source gave nothing.
+#[derive(Clone, Copy, Debug, PartialEq, Eq, Error)]
+pub enum SourceFault {
+    #[error("the file could not be read")]
+    Failed,
+    #[error("out of memory")]
+    Memory,
+}
+
+/// Files by their names.
+pub trait Sources {
+    /// The bytes that a name stands for.
+    ghost files: { Self → List ℕ → List ℕ };
+
+    /// How often a read failed.
+    ghost failures: { Self → ℕ };
+
+    fn read(&mut self, name: &str) -> Result<Vec<u8>, SourceFault>
+        ensures files { files self.new ≡ files self.old }
+        ensures read { Reads (files self.old name.now) (failures self.old) (failures self.new) result };
+}

@@ -1,0 +1,75 @@
+//! A table in memory.
+ghost use Rattle.std.specs.Prelude.{◌≡◌, IfOk, OnErr, OnOk, length};
+ghost use Rattle.cq_values.specs.Texts.{is_text};
+ghost use Rattle.cq_bags.specs.Canonical.{bag_of};
+ghost use Rattle.cq_steps.specs.State.{empty_table, with_rows};
+
+use crate::columns::copy_columns;
+use cq_model::ColumnDef;
+use cq_values::{Row, Seq, Text};
+use std::alloc::{AllocError, Global};
+use std::marker::Model;
+
+/// Rows under a name, in the order in which they came. Contracts see the one list that stands for their bag.
+#[derive(Drop)]
+pub struct Table {
+    name: Text,
+    columns: Seq<ColumnDef>,
+    rows: Vec<Row>,
+}
+
+impl Model for Table {
+    ghost use Rattle.cq_bags.specs.Canonical.{bag_of};
+    ghost use Rattle.cq_steps.specs.State.{TableOf};
+
+    ghost Value = { TableOf };
+
+    ghost view = { λ t. record { name = t.name; columns = t.columns; rows = bag_of t.rows.items } };
+}
+
+impl Table {
+    /// A table of this name without rows.
+    pub fn new(alloc: Global, name: &Text, columns: &[ColumnDef]) -> Result<Table, AllocError>
+        ensures { IfOk result (λ t. t ≡ empty_table name.now columns.now) }
+    {
+        Ok(Table {
+            name: name.copy(alloc)?,
+            columns: copy_columns(alloc, columns)?,
+            rows: Vec::new(alloc),
+        })
+    }
+
+    pub fn is_named(&self, name: &str) -> bool
+        ensures { result ≡ is_text self.now.name name.now }
+    {
+        self.name.as_str() == name
+    }
+
+    pub fn columns(&self) -> &[ColumnDef]
+        ensures { result.now ≡ self.now.columns }
+    {
+        self.columns.as_slice()
+    }
+
+    /// The rows as they are stored.
+    pub fn rows(&self) -> &[Row]
+        ensures { bag_of result.now ≡ self.now.rows }
+    {
+        self.rows.as_slice()
+    }
+
+    pub fn len(&self) -> usize
+        ensures { result ≡ length self.now.rows }
+    {
+        self.rows.len()
+    }
+
+    /// Adds all of these rows, or none.
+    pub fn append(&mut self, rows: Vec<Row>) -> Result<(), AllocError>
+        ensures ok { OnOk result (self.new ≡ with_rows rows.items self.old) }
+        ensures err { OnErr result (self.new ≡ self.old) }
+    {
+        let mut rows = rows;
+        self.rows.append(&mut rows)
+    }
+}

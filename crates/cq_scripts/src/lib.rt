@@ -1,0 +1,8 @@
+//! Whole scripts from bytes to bytes, as tests of `run`: worked rows, limits, and sinks that fail on purpose.
+#![tactic(auto)]
+
+mod test_sink;
+#[cfg(test)]
+mod tests;
+
+pub use test_sink::{Plan, TestSink};

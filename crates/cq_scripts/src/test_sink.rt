@@ -1,0 +1,104 @@
+//! A sink in memory that fails on purpose.
+ghost use Rattle.std.specs.Prelude.{◌≡◌, [], Some};
+
+use cq_cli::Sink;
+use std::alloc::Global;
+use std::io;
+use std::io::{Error, ErrorKind};
+use std::marker::Model;
+
+/// What a sink does with its puts and its flush.
+#[derive(Clone, Copy, Debug)]
+pub enum Plan {
+    TakesAll,
+    TakesOneByte,
+    /// The put of this number, from 0, fails.
+    FailsAt(u64),
+    /// The put of this number, from 0, takes nothing.
+    TakesNothingAt(u64),
+    FlushFails,
+}
+
+/// Keeps what it takes.
+#[derive(Drop)]
+pub struct TestSink {
+    taken: Vec<u8>,
+    puts: u64,
+    failures: u64,
+    plan: Plan,
+}
+
+impl Model for TestSink {
+    ghost use Rattle.std.specs.Prelude.{ℕ, List};
+
+    ghost Value = { List ℕ × ℕ };
+
+    ghost view = { λ s. (s.taken.items, s.failures) };
+}
+
+impl TestSink {
+    pub fn new(alloc: Global, plan: Plan) -> TestSink
+        ensures { result ≡ ([], 0) }
+    {
+        TestSink {
+            taken: Vec::new(alloc),
+            puts: 0,
+            failures: 0,
+            plan,
+        }
+    }
+
+    /// What was taken so far.
+    pub fn taken(&self) -> &[u8]
+        ensures { result.now ≡ self.now.0 }
+    {
+        self.taken.as_slice()
+    }
+
+    /// How often a put or the flush failed.
+    pub fn failures(&self) -> u64
+        ensures { result ≡ self.now.1 }
+    {
+        self.failures
+    }
+}
+
+fn broken() -> Error {
+    Error::from(ErrorKind::BrokenPipe)
+}
+
+impl Sink for TestSink {
+    ghost contents = { λ s. Some s.0 };
+
+    ghost failures = { λ s. s.1 };
+
+    fn put(&mut self, bytes: &[u8]) -> io::Result<usize> {
+        let at = self.puts;
+        self.puts = at.wrapping_add(1);
+        let offered = match self.plan {
+            Plan::FailsAt(put) if put == at => {
+                self.failures += 1;
+                return Err(broken());
+            }
+            Plan::TakesNothingAt(put) if put == at => &bytes[..0],
+            Plan::TakesOneByte => &bytes[..bytes.len().min(1)],
+            _ => bytes,
+        };
+        if self.taken.extend_from_slice(offered).is_err() {
+            self.failures += 1;
+            return Err(Error::from(ErrorKind::OutOfMemory));
+        }
+        if offered.is_empty() && !bytes.is_empty() {
+            self.failures += 1;
+        }
+        Ok(offered.len())
+    }
+
+    fn flush(&mut self) -> io::Result<()> {
+        if matches!(self.plan, Plan::FlushFails) {
+            self.failures += 1;
+            return Err(broken());
+        }
+        Ok(())
+    }
+}

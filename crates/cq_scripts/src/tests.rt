@@ -1,0 +1,22 @@
+//! Runs of whole scripts.
+mod beginnings;
+mod limits;
+mod refusals;
+mod rows;
+mod sinks;
+
+use crate::test_sink::{Plan, TestSink};
+use cq_cli::{NoSources, exit_of, run};
+use cq_engine::Limits;
+use std::alloc::Global;
+
+/// The exit status of a run over a sink of this plan, and the sink.
+fn ended(alloc: Global, script: &[u8], plan: Plan) -> (u8, TestSink) {
+    let mut sink = TestSink::new(alloc, plan);
+    let Some(limits) = Limits::new(16_777_216) else {
+        return (2, sink);
+    };
+    let mut sources = NoSources::default();
+    let result = run(alloc, script, limits, &mut sources, &mut sink);
+    (exit_of(&result), sink)
+}

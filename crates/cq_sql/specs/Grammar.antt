@@ -1,0 +1,85 @@
+-- How the readers of the grammar go, as functions on lists: what a sentence is, the model says.
+use Rattle.std.specs.Prelude.{ℕ, true, false, List, [], ◌∷◌, Option, Some, None}
+use Rattle.cq_model.specs.declared.token.Keyword.TheVariants as keywords
+use Rattle.cq_model.specs.declared.token.Symbol.{Symbol}
+use Rattle.cq_model.specs.declared.token.Symbol.TheVariants as symbols
+use Rattle.cq_model.specs.declared.token.Token.{Token}
+use Rattle.cq_model.specs.declared.token.Token.TheVariants as tokens
+use Rattle.cq_model.specs.declared.statement.ColumnDef.{ColumnDef}
+use Rattle.cq_model.specs.declared.statement.Comparison.{Comparison}
+use Rattle.cq_model.specs.declared.statement.Comparison.TheVariants as comparisons
+use Rattle.cq_model.specs.declared.statement.Condition.{Condition}
+use Rattle.cq_model.specs.declared.statement.Literal.{Literal}
+use Rattle.cq_model.specs.declared.statement.Statement.{Statement}
+use Rattle.cq_model.specs.declared.statement.Statement.TheVariants as statements
+use Rattle.cq_sql.specs.Read.{◌>>=◌, Reader, done, followed_by, behind, after_keyword, after_symbol, list_at, tail_at}
+
+-- takes a name from the front, as it is spelled in lower case
+abbrev pub name_at : Reader (List ℕ)
+name_at (tokens.Name name ∷ ts) = Some (name, ts)
+name_at ts = None
+
+-- takes a column: its name, and then its type
+unfoldable pub column_at : Reader ColumnDef
+column_at = followed_by name_at (λ name. behind (after_keyword keywords.Integer) (done (record { name = name })))
+
+-- takes a whole number, with or without a minus in front
+abbrev pub literal_at : Reader Literal
+literal_at (tokens.Number n ∷ ts) = Some (record { is_negative = false; magnitude = n }, ts)
+literal_at (tokens.Symbol symbols.Minus ∷ tokens.Number n ∷ ts) = Some (record { is_negative = true; magnitude = n }, ts)
+literal_at ts = None
+
+-- takes a row: constants with commas, between two parentheses
+unfoldable pub row_at : Reader (List Literal)
+row_at = behind (after_symbol symbols.Open) (followed_by (list_at literal_at) (λ row. behind (after_symbol symbols.Close) (done row)))
+
+-- the comparison that the symbol stands for, if it is one
+abbrev pub comparison_of : Symbol → Option Comparison
+comparison_of symbols.Equal = Some comparisons.Equal
+comparison_of symbols.NotEqual = Some comparisons.NotEqual
+comparison_of symbols.Less = Some comparisons.Less
+comparison_of symbols.LessOrEqual = Some comparisons.LessOrEqual
+comparison_of symbols.Greater = Some comparisons.Greater
+comparison_of symbols.GreaterOrEqual = Some comparisons.GreaterOrEqual
+comparison_of symbol = None
+
+-- takes one of the six symbols of a comparison from the front
+abbrev pub comparison_at : Reader Comparison
+comparison_at (tokens.Symbol symbol ∷ ts) = comparison_of symbol >>= λ comparison. Some (comparison, ts)
+comparison_at ts = None
+
+-- takes a condition: a column, a comparison and a constant
+unfoldable pub condition_at : Reader Condition
+condition_at =
+    followed_by name_at (λ column. followed_by comparison_at (λ comparison. followed_by literal_at (λ literal. done (record { column = column; comparison = comparison; literal = literal }))))
+
+-- takes what follows CREATE: the table's name and its columns
+unfoldable pub create_at : Reader Statement
+create_at =
+    behind (after_keyword keywords.Table) (followed_by name_at (λ name. behind (after_symbol symbols.Open) (followed_by (list_at column_at) (λ columns. behind (after_symbol symbols.Close) (done (statements.CreateTable name columns))))))
+
+-- takes what follows INSERT: the table's name and the new rows
+unfoldable pub insert_at : Reader Statement
+insert_at =
+    behind (after_keyword keywords.Into) (followed_by name_at (λ table. behind (after_keyword keywords.Values) (followed_by (list_at row_at) (λ rows. done (statements.Insert table rows)))))
+
+-- takes what follows SELECT: columns, their table and an optional condition
+unfoldable pub select_at : Reader Statement
+select_at =
+    followed_by (list_at name_at) (λ columns. behind (after_keyword keywords.From) (followed_by name_at (λ table. followed_by (tail_at keywords.Where condition_at) (λ condition. done (statements.Select (record { columns = columns; table = table; condition = condition }))))))
+
+-- takes a statement: its first keyword says which one it is
+unfoldable pub statement_at : Reader Statement
+statement_at (tokens.Keyword keywords.Create ∷ ts) = create_at ts
+statement_at (tokens.Keyword keywords.Insert ∷ ts) = insert_at ts
+statement_at (tokens.Keyword keywords.Select ∷ ts) = select_at ts
+statement_at ts = None
+
+-- the statement that was read, where nothing is left behind it
+abbrev pub if_all_read : Statement × List Token → Option Statement
+if_all_read (statement, []) = Some statement
+if_all_read (statement, t ∷ ts) = None
+
+-- the statement that all of the tokens are, if they are one
+unfoldable pub whole_statement : List Token → Option Statement
+whole_statement ts = statement_at ts >>= if_all_read

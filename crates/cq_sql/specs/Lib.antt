@@ -1,0 +1,4 @@
+pub mod Gives
+pub mod Read
+pub mod Grammar
+pub mod Parses

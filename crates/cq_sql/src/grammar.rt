@@ -1,0 +1,181 @@
+//! Tokens as statements.
+ghost use Rattle.std.specs.Prelude.{◌≡◌, IfOk};
+ghost use Rattle.cq_model.specs.Sentence.{IsStatement};
+ghost use Rattle.cq_model.specs.declared.statement.Statement.{Statement};
+ghost use Rattle.cq_sql.specs.declared.fault.SqlFault.TheVariants.{LimitExceeded, Syntax};
+ghost use Rattle.cq_sql.specs.Gives.{Gives};
+ghost use Rattle.cq_sql.specs.Grammar.{name_at, column_at, literal_at, row_at, comparison_of, comparison_at, condition_at, select_at, create_at, insert_at, statement_at, whole_statement};
+
+use crate::fault::SqlFault;
+use crate::read::{Readable, expect_keyword, expect_symbol, list_of, tail_of};
+use cq_model::{
+    ColumnDef, Comparison, Condition, Keyword, Literal, Select, Statement, Symbol, Token,
+};
+use cq_values::{Seq, Text};
+use std::alloc::Global;
+
+impl Readable for Text {
+    ghost reads = { name_at };
+
+    fn read(alloc: Global, tokens: &[Token]) -> Result<(Text, &[Token]), SqlFault> {
+        match tokens {
+            [Token::Name(name), rest @ ..] => Ok((name.copy(alloc)?, rest)),
+            _ => Err(SqlFault::Syntax),
+        }
+    }
+}
+
+impl Readable for ColumnDef {
+    ghost reads = { column_at };
+
+    #[tactic(auto, unfolding(crate::specs::Grammar::column_at))]
+    fn read(alloc: Global, tokens: &[Token]) -> Result<(ColumnDef, &[Token]), SqlFault> {
+        let (name, rest) = Text::read(alloc, tokens)?;
+        let rest = expect_keyword(Keyword::Integer, rest)?;
+        Ok((ColumnDef { name }, rest))
+    }
+}
+
+impl Readable for Literal {
+    ghost reads = { literal_at };
+
+    fn read(_alloc: Global, tokens: &[Token]) -> Result<(Literal, &[Token]), SqlFault> {
+        let (is_negative, magnitude, rest) = match tokens {
+            [Token::Number(n), rest @ ..] => (false, *n, rest),
+            [Token::Symbol(Symbol::Minus), Token::Number(n), rest @ ..] => (true, *n, rest),
+            _ => return Err(SqlFault::Syntax),
+        };
+        let literal = Literal {
+            is_negative,
+            magnitude,
+        };
+        Ok((literal, rest))
+    }
+}
+
+impl Readable for Seq<Literal> {
+    ghost reads = { row_at };
+
+    #[tactic(auto, unfolding(crate::specs::Grammar::row_at))]
+    fn read(alloc: Global, tokens: &[Token]) -> Result<(Seq<Literal>, &[Token]), SqlFault> {
+        let rest = expect_symbol(Symbol::Open, tokens)?;
+        let (row, rest) = list_of::<Literal>(alloc, rest)?;
+        let rest = expect_symbol(Symbol::Close, rest)?;
+        Ok((row, rest))
+    }
+}
+
+fn comparison_of(symbol: Symbol) -> Option<Comparison>
+    ensures { result ≡ comparison_of symbol }
+{
+    match symbol {
+        Symbol::Equal => Some(Comparison::Equal),
+        Symbol::NotEqual => Some(Comparison::NotEqual),
+        Symbol::Less => Some(Comparison::Less),
+        Symbol::LessOrEqual => Some(Comparison::LessOrEqual),
+        Symbol::Greater => Some(Comparison::Greater),
+        Symbol::GreaterOrEqual => Some(Comparison::GreaterOrEqual),
+        _ => None,
+    }
+}
+
+fn comparison_at(tokens: &[Token]) -> Result<(Comparison, &[Token]), SqlFault>
+    ensures { Gives (λ x. (x.0, x.1.now)) result (comparison_at tokens.now) }
+{
+    match tokens {
+        [Token::Symbol(symbol), rest @ ..] => {
+            let comparison = comparison_of(*symbol).ok_or(SqlFault::Syntax)?;
+            Ok((comparison, rest))
+        }
+        _ => Err(SqlFault::Syntax),
+    }
+}
+
+impl Readable for Condition {
+    ghost reads = { condition_at };
+
+    #[tactic(auto, unfolding(crate::specs::Grammar::condition_at))]
+    fn read(alloc: Global, tokens: &[Token]) -> Result<(Condition, &[Token]), SqlFault> {
+        let (column, rest) = Text::read(alloc, tokens)?;
+        let (comparison, rest) = comparison_at(rest)?;
+        let (literal, rest) = Literal::read(alloc, rest)?;
+        let condition = Condition {
+            column,
+            comparison,
+            literal,
+        };
+        Ok((condition, rest))
+    }
+}
+
+#[tactic(auto, unfolding(crate::specs::Grammar::create_at))]
+fn create_at(alloc: Global, tokens: &[Token]) -> Result<(Statement, &[Token]), SqlFault>
+    ensures { Gives (λ x. (x.0, x.1.now)) result (create_at tokens.now) }
+{
+    let rest = expect_keyword(Keyword::Table, tokens)?;
+    let (name, rest) = Text::read(alloc, rest)?;
+    let rest = expect_symbol(Symbol::Open, rest)?;
+    let (columns, rest) = list_of::<ColumnDef>(alloc, rest)?;
+    let rest = expect_symbol(Symbol::Close, rest)?;
+    Ok((Statement::CreateTable { name, columns }, rest))
+}
+
+#[tactic(auto, unfolding(crate::specs::Grammar::insert_at))]
+fn insert_at(alloc: Global, tokens: &[Token]) -> Result<(Statement, &[Token]), SqlFault>
+    ensures { Gives (λ x. (x.0, x.1.now)) result (insert_at tokens.now) }
+{
+    let rest = expect_keyword(Keyword::Into, tokens)?;
+    let (table, rest) = Text::read(alloc, rest)?;
+    let rest = expect_keyword(Keyword::Values, rest)?;
+    let (rows, rest) = list_of::<Seq<Literal>>(alloc, rest)?;
+    Ok((Statement::Insert { table, rows }, rest))
+}
+
+#[tactic(auto, unfolding(crate::specs::Grammar::select_at))]
+fn select_at(alloc: Global, tokens: &[Token]) -> Result<(Statement, &[Token]), SqlFault>
+    ensures { Gives (λ x. (x.0, x.1.now)) result (select_at tokens.now) }
+{
+    let (columns, rest) = list_of::<Text>(alloc, tokens)?;
+    let rest = expect_keyword(Keyword::From, rest)?;
+    let (table, rest) = Text::read(alloc, rest)?;
+    let (condition, rest) = tail_of::<Condition>(alloc, Keyword::Where, rest)?;
+    let select = Select {
+        columns,
+        table,
+        condition,
+    };
+    Ok((Statement::Select(select), rest))
+}
+
+#[tactic(auto, unfolding(crate::specs::Grammar::statement_at))]
+fn statement_at(alloc: Global, tokens: &[Token]) -> Result<(Statement, &[Token]), SqlFault>
+    ensures { Gives (λ x. (x.0, x.1.now)) result (statement_at tokens.now) }
+{
+    match tokens {
+        [Token::Keyword(Keyword::Create), rest @ ..] => create_at(alloc, rest),
+        [Token::Keyword(Keyword::Insert), rest @ ..] => insert_at(alloc, rest),
+        [Token::Keyword(Keyword::Select), rest @ ..] => select_at(alloc, rest),
+        _ => Err(SqlFault::Syntax),
+    }
+}
+
+#[tactic(auto, unfolding(crate::specs::Grammar::whole_statement))]
+fn whole_statement(alloc: Global, tokens: &[Token]) -> Result<Statement, SqlFault>
+    ensures { Gives (λ x. x) result (whole_statement tokens.now) }
+{
+    let (statement, rest) = statement_at(alloc, tokens)?;
+    if rest.is_empty() {
+        Ok(statement)
+    } else {
+        Err(SqlFault::Syntax)
+    }
+}
+
+/// The tree of a list of tokens, all of them. Its texts are copies.
+pub fn tree_of(alloc: Global, tokens: &[Token]) -> Result<Statement, SqlFault>
+    ensures tree { IfOk result (λ s. IsStatement s tokens.now) }
+    ensures no_tree { result ≡ Err Syntax → (s : Statement) → IsStatement s tokens.now → ⊥ }
+    ensures within { result ≡ Err LimitExceeded → ⊥ }
+{
+    whole_statement(alloc, tokens)
+}

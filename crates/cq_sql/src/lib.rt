@@ -1,0 +1,19 @@
+//! Pieces of a script as statements.
+//!
+//! [`parse`] answers the tree of a piece exactly where the piece is a sentence within the limits. A list of tokens has at
+//! most one tree.
+#![tactic(auto)]
+
+mod fault;
+mod grammar;
+mod laws;
+mod read;
+mod sentences;
+#[cfg(test)]
+mod tests;
+
+pub use cq_tokens::{Piece, Pieces, split};
+pub use fault::SqlFault;
+pub use grammar::tree_of;
+pub use laws::one_tree;
+pub use sentences::parse;

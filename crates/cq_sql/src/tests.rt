@@ -1,0 +1,193 @@
+//! Lists of tokens that are statements, and lists that are none.
+use crate::{SqlFault, tree_of};
+use cq_model::{Comparison, Condition, Keyword, Literal, Statement, Symbol, Token};
+use cq_values::Text;
+use std::alloc::Global;
+use std::test::Fail;
+
+fn keyword(word: &str) -> Option<Keyword> {
+    match word {
+        "create" => Some(Keyword::Create),
+        "from" => Some(Keyword::From),
+        "insert" => Some(Keyword::Insert),
+        "integer" => Some(Keyword::Integer),
+        "into" => Some(Keyword::Into),
+        "select" => Some(Keyword::Select),
+        "table" => Some(Keyword::Table),
+        "values" => Some(Keyword::Values),
+        "where" => Some(Keyword::Where),
+        _ => None,
+    }
+}
+
+fn symbol(word: &str) -> Option<Symbol> {
+    match word {
+        "(" => Some(Symbol::Open),
+        ")" => Some(Symbol::Close),
+        "," => Some(Symbol::Comma),
+        "." => Some(Symbol::Dot),
+        "=" => Some(Symbol::Equal),
+        "<>" => Some(Symbol::NotEqual),
+        "<" => Some(Symbol::Less),
+        "<=" => Some(Symbol::LessOrEqual),
+        ">" => Some(Symbol::Greater),
+        ">=" => Some(Symbol::GreaterOrEqual),
+        "+" => Some(Symbol::Plus),
+        "-" => Some(Symbol::Minus),
+        "*" => Some(Symbol::Star),
+        _ => None,
+    }
+}
+
+fn token(alloc: Global, word: &str) -> Result<Token, Fail> {
+    if let Some(keyword) = keyword(word) {
+        return Ok(Token::Keyword(keyword));
+    }
+    if let Some(symbol) = symbol(word) {
+        return Ok(Token::Symbol(symbol));
+    }
+    match word.parse::<u64>() {
+        Ok(number) => Ok(Token::Number(u128::from(number))),
+        Err(_) => Ok(Token::Name(Text::new(alloc, word)?)),
+    }
+}
+
+/// The words of a text, which stand apart, as tokens.
+fn tokens(alloc: Global, text: &str) -> Result<Vec<Token>, Fail> {
+    let mut tokens = Vec::new(alloc);
+    for word in text.split(' ') {
+        if !word.is_empty() {
+            tokens.push(token(alloc, word)?)?;
+        }
+    }
+    Ok(tokens)
+}
+
+fn fault_of(alloc: Global, text: &str) -> Result<Option<SqlFault>, Fail> {
+    let tokens = tokens(alloc, text)?;
+    Ok(tree_of(alloc, &tokens).err())
+}
+
+#[test]
+fn a_statement_is_read(rt: HostRuntime) -> Result<(), Fail> {
+    let texts = [
+        "create table t ( a integer )",
+        "create table t ( a integer , b integer , a integer )",
+        "insert into t values ( 1 )",
+        "insert into t values ( 1 , - 2 ) , ( 3 )",
+        "insert into t values ( - 0 )",
+        "select a from t",
+        "select a , b , a from t",
+        "select a from t where a = 1",
+        "select a from t where b <> 1",
+        "select a from t where b < - 1",
+        "select a from t where b <= 1",
+        "select a from t where b > 1",
+        "select a from t where b >= 1",
+    ];
+    for text in texts {
+        assert_eq!(rt; fault_of(rt.alloc(), text)?, None, "{text}");
+    }
+    Ok(())
+}
+
+#[test]
+fn half_a_statement_is_none(rt: HostRuntime) -> Result<(), Fail> {
+    let texts = [
+        "",
+        "create",
+        "create t ( a integer )",
+        "create table ( a integer )",
+        "create table t ( )",
+        "create table t ( a )",
+        "create table t ( a integer",
+        "create table t ( a integer , )",
+        "create table t ( a integer b integer )",
+        "insert into t values",
+        "insert into t values ( )",
+        "insert into t values ( 1",
+        "insert into t values ( 1 , )",
+        "insert into t values ( 1 2 )",
+        "insert into t values ( 1 ) ,",
+        "insert into t values ( 1 ) ( 2 )",
+        "insert t values ( 1 )",
+        "select a",
+        "select from t",
+        "select a , from t",
+        "select a b from t",
+        "select a from t where",
+        "select a from t where a",
+        "select a from t where a <=",
+    ];
+    for text in texts {
+        assert_eq!(rt;
+            fault_of(rt.alloc(), text)?,
+            Some(SqlFault::Syntax),
+            "{text}"
+        );
+    }
+    Ok(())
+}
+
+#[test]
+fn what_follows_a_statement_makes_it_none(rt: HostRuntime) -> Result<(), Fail> {
+    let texts = [
+        "create table t ( a integer ) )",
+        "create table t ( a integer ) u",
+        "insert into t values ( 1 ) where a = 1",
+        "insert into t values ( - - 1 )",
+        "insert into t values ( + 1 )",
+        "insert into t values ( a )",
+        "select a from t u",
+        "select a from t where a = b",
+        "select a from t where 1 = a",
+        "select a from t where a - 1",
+        "select a from t where a = 1 where a = 1",
+        "select a from t where a = 1 2",
+    ];
+    for text in texts {
+        assert_eq!(rt;
+            fault_of(rt.alloc(), text)?,
+            Some(SqlFault::Syntax),
+            "{text}"
+        );
+    }
+    Ok(())
+}
+
+fn literals_of(statement: &Statement) -> Option<&[Literal]> {
+    match statement {
+        Statement::Insert { rows, .. } => rows.as_slice().first().map(|row| row.as_slice()),
+        _ => None,
+    }
+}
+
+#[test]
+fn a_minus_belongs_to_the_number_behind_it(rt: HostRuntime) -> Result<(), Fail> {
+    let tokens = tokens(rt.alloc(), "insert into t values ( 5 , - 5 )")?;
+    let statement = tree_of(rt.alloc(), &tokens)?;
+    let literals = literals_of(&statement).ok_or("no row")?;
+    assert_eq!(rt; literals.len(), 2);
+    assert_eq!(rt; literals[0].is_negative, false);
+    assert_eq!(rt; literals[1].is_negative, true);
+    assert_eq!(rt; literals[1].magnitude, 5);
+    Ok(())
+}
+
+fn condition_of(statement: &Statement) -> Option<&Condition> {
+    match statement {
+        Statement::Select(select) => select.condition.as_ref(),
+        _ => None,
+    }
+}
+
+#[test]
+fn a_condition_is_kept(rt: HostRuntime) -> Result<(), Fail> {
+    let tokens = tokens(rt.alloc(), "select a from t where b <= 7")?;
+    let statement = tree_of(rt.alloc(), &tokens)?;
+    let condition = condition_of(&statement).ok_or("no condition")?;
+    assert_eq!(rt; condition.column.as_str(), "b");
+    assert_eq!(rt; condition.comparison, Comparison::LessOrEqual);
+    assert_eq!(rt; condition.literal.magnitude, 7);
+    Ok(())
+}

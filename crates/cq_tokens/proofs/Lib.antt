@@ -1,0 +1,12 @@
+pub mod Decisions
+pub mod Prefixes
+pub mod Boundaries
+pub mod Contents
+pub mod Keywords
+pub mod Signs
+pub mod Spelled
+pub mod Fronts
+pub mod Cuts
+pub mod FirstPieces
+pub mod Stretches
+pub mod Splits

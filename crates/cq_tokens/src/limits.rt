@@ -1,0 +1,53 @@
+//! The limits of the reader.
+ghost use Rattle.cq_model.specs.Tokens.{opens, closes, is_long_name, is_past_limits};
+ghost use Rattle.std.specs.Prelude.{◌≡◌};
+
+use cq_model::{Symbol, Token};
+
+const MAX_NAME_LEN: usize = 63;
+
+const MAX_OPEN: u64 = 64;
+
+fn opens(token: &Token) -> u64
+    ensures { result ≡ opens token.now }
+{
+    match token {
+        Token::Symbol(Symbol::Open) => 1,
+        _ => 0,
+    }
+}
+
+fn closes(token: &Token) -> u64
+    ensures { result ≡ closes token.now }
+{
+    match token {
+        Token::Symbol(Symbol::Close) => 1,
+        _ => 0,
+    }
+}
+
+fn is_long_name(token: &Token) -> bool
+    ensures { result ≡ is_long_name token.now }
+{
+    match token {
+        Token::Name(name) => MAX_NAME_LEN < name.as_str().len(),
+        _ => false,
+    }
+}
+
+/// Whether a name has more than 63 bytes, or more than 64 parentheses are open at once.
+#[tactic(auto, unfolding(cq_model::specs::Tokens::is_past_limits))]
+pub fn is_past_limits(tokens: &[Token]) -> bool
+    ensures { result ≡ is_past_limits tokens.now }
+{
+    let mut opened = 0u64;
+    let mut closed = 0u64;
+    for token in tokens {
+        opened += opens(token);
+        closed += closes(token);
+        if is_long_name(token) || closed + MAX_OPEN < opened {
+            return true;
+        }
+    }
+    false
+}
