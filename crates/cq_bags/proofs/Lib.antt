@@ -1,6 +1,15 @@
 pub mod Integers
 pub mod Totals
 pub mod Bags
+pub mod Linears
+pub mod Joins
+pub mod Widths
+pub mod Distincts
+pub mod Entries
+pub mod Sizes
+pub mod Fewer
+pub mod Positives
+pub mod Merges
 pub mod Listings
 pub mod Canonicals
 pub mod Sorts

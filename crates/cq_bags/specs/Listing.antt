@@ -1,4 +1,4 @@
--- The one list of an answer.
+-- The one list of an answer (ISO 9075-2, 10.10; docs/LANGUAGE.md, Results).
 use Rattle.std.specs.Prelude.{◌≡◌, ℕ, Bool, true, false, List, [], ◌∷◌, Option, Some, None, take}
 use Rattle.std.specs.declared.cmp.Ordering.{Ordering}
 use Rattle.std.specs.Ordering.{ordering_then, is_gt}

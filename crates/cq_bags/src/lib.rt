@@ -8,6 +8,10 @@ mod laws;
 mod listing;
 mod sort_key;
 
-pub use laws::one_listing;
+pub use laws::{
+    difference_leads, distinct_respects, distinct_weight, join_law, joined_weight,
+    linear_operators, look_ups_cost, one_listing, operators_keep_bags, projected_weight,
+    sizes_depend_on_bag, sums_depend_on_bag,
+};
 pub use listing::listed;
 pub use sort_key::SortKey;

@@ -6,7 +6,8 @@ use Rattle.cq_values.specs.Value.{Row, column}
 use Rattle.cq_model.specs.declared.statement.ColumnDef.{ColumnDef}
 use Rattle.cq_model.specs.declared.statement.Condition.{Condition}
 use Rattle.cq_model.specs.declared.statement.Select.{Select}
-use Rattle.cq_model.specs.Query.{column_place, compared, literal_value}
+use Rattle.cq_model.specs.Comparison.{compared}
+use Rattle.cq_model.specs.Query.{column_place, literal_value}
 use Rattle.cq_engine.specs.declared.condition.BoundCondition.{BoundCondition}
 use Rattle.cq_engine.specs.declared.selection.Selection.{Selection}
 

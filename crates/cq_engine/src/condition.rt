@@ -2,7 +2,7 @@
 ghost use Rattle.std.specs.Prelude.{◌≡◌, Some};
 ghost use Rattle.cq_values.specs.declared.value.Value.TheVariants.{Number};
 ghost use Rattle.cq_values.specs.Truth.{is_true, truth_of};
-ghost use Rattle.cq_model.specs.Query.{compared, passes};
+ghost use Rattle.cq_model.specs.Comparison.{compared, passes};
 ghost use Rattle.cq_steps.specs.Refusal.{where_places};
 ghost use Rattle.cq_engine.specs.Bound.{bound, passes_at};
 ghost use Rattle.cq_engine.specs.Walk.{Walked};

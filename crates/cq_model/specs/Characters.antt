@@ -1,4 +1,4 @@
--- The characters of the language, by their codes.
+-- The characters of the language, by their codes (docs/LANGUAGE.md, Scripts and tokens).
 use Rattle.std.specs.Prelude.{ℕ, nat_le, ◌==◌, Bool, true, false, ◌&&◌, ◌||◌, if◌then◌else◌, List, [], ◌∷◌, ◌++◌}
 
 -- space, tab, LF and CR

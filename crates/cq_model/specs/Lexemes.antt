@@ -1,4 +1,5 @@
--- A text is cut into blanks, comments, words, numbers, quoted texts and symbols, each as long as it can be.
+-- A text is cut into blanks, comments, words, numbers, quoted texts and symbols, each as long as it can be
+-- (ISO 9075-2, 5.2; docs/LANGUAGE.md, Scripts and tokens).
 use Rattle.std.specs.Prelude.{◌≡◌, ℕ, ◌==◌, Bool, false, not, ◌||◌, IsTrue, List, [], ◌∷◌, ◌++◌}
 use Rattle.std.specs.List.{list_all}
 use Rattle.cq_model.specs.declared.token.Symbol.{Symbol}

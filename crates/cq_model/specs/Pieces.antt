@@ -1,4 +1,4 @@
--- The pieces of a script: it is cut at each semicolon that stands outside texts and comments.
+-- The pieces of a script: it is cut at each semicolon that stands outside texts and comments (docs/LANGUAGE.md, Scripts and tokens).
 use Rattle.std.specs.Prelude.{◌≡◌, ℕ, ◌==◌, Bool, true, false, not, ◌&&◌, IsTrue, List, [], ◌∷◌, ◌++◌, if◌then◌else◌}
 use Rattle.std.specs.List.{list_all}
 use Rattle.cq_model.specs.Characters.{is_blank, is_quote, is_dash, begins, is_end_of_line, doubled}

@@ -1,18 +1,13 @@
 -- What a query means on a table (ISO 9075-2, 7.12 and 7.16, for one table).
 use Rattle.std.specs.Prelude.{ℕ, ℤ, pos, neg_ℤ, Bool, true, if◌then◌else◌, List, map, Option, Some, None, unwrap_or, position}
-use Rattle.std.specs.Ordering.{is_eq, is_ne, is_lt, is_le, is_gt, is_ge}
-use Rattle.std.specs.declared.cmp.Ordering.{Ordering}
 use Rattle.cq_values.specs.declared.value.Value.{Value}
-use Rattle.cq_values.specs.declared.value.Value.TheVariants.{Number, Null}
+use Rattle.cq_values.specs.declared.value.Value.TheVariants.{Number}
 use Rattle.cq_values.specs.declared.truth.Truth.{Truth}
-use Rattle.cq_values.specs.declared.truth.Truth.TheVariants.{Unknown}
 use Rattle.cq_values.specs.Texts.{is_text}
-use Rattle.cq_values.specs.Truth.{is_true, truth_of}
+use Rattle.cq_values.specs.Truth.{is_true}
 use Rattle.cq_values.specs.Value.{Row, column}
-use Rattle.cq_values.specs.Order.{value_cmp}
 use Rattle.cq_bags.specs.Bag.{Weighted, filtered, projected}
-use Rattle.cq_model.specs.declared.statement.Comparison.{Comparison}
-use Rattle.cq_model.specs.declared.statement.Comparison.TheVariants.{Equal, NotEqual, Less, LessOrEqual, Greater, GreaterOrEqual}
+use Rattle.cq_model.specs.Comparison.{compared}
 use Rattle.cq_model.specs.declared.statement.Condition.{Condition}
 use Rattle.cq_model.specs.declared.statement.ColumnDef.{ColumnDef}
 use Rattle.cq_model.specs.declared.statement.Literal.{Literal}
@@ -29,21 +24,6 @@ column_place columns name = position (λ c. is_text c.name name) columns
 -- the value in the column of a name
 abbrev pub value_in : List ColumnDef → List ℕ → Row → Value
 value_in columns name row = column row (unwrap_or (column_place columns name) 0)
-
--- whether an ordering passes a comparison
-abbrev pub passes : Comparison → Ordering → Bool
-passes Equal o = is_eq o
-passes NotEqual o = is_ne o
-passes Less o = is_lt o
-passes LessOrEqual o = is_le o
-passes Greater o = is_gt o
-passes GreaterOrEqual o = is_ge o
-
--- a comparison with NULL is Unknown
-abbrev pub compared : Comparison → Value → Value → Truth
-compared c Null w = Unknown
-compared c v Null = Unknown
-compared c v w = truth_of (passes c (value_cmp v w))
 
 -- the truth of a condition in a row
 abbrev pub holds : List ColumnDef → Condition → Row → Truth

@@ -1,4 +1,4 @@
--- The trees of statements and the token lists that they have.
+-- The trees of statements and the token lists that they have (docs/LANGUAGE.md, Statements).
 use Rattle.std.specs.Prelude.{◌≡◌, ℕ, Bool, true, false, List, [], ◌∷◌, ◌++◌, Option, Some, None}
 use Rattle.cq_model.specs.declared.token.Keyword.TheVariants as keywords
 use Rattle.cq_model.specs.declared.token.Symbol.{Symbol}

@@ -1,4 +1,4 @@
--- The tokens of a text, and the limits of the reader.
+-- The tokens of a text, and the limits of the reader (docs/LANGUAGE.md, Scripts and tokens).
 use Rattle.std.specs.Prelude.{◌≡◌, ℕ, ◌+◌, ◌-◌, ◌*◌, ◌^◌, min, nat_lt, Bool, false, ◌||◌, List, [], ◌∷◌, map, fold, length, Option, Some, None, codes}
 use Rattle.std.specs.List.{find}
 use Rattle.std.specs.Char.{to_ascii_lowercase}

@@ -1,11 +1,25 @@
-//! The language and the meaning of its queries: tokens, trees, and the definitions that the layers above cite.
+//! The language and the meaning of its queries: tokens, trees, expressions, and the definitions that the layers above
+//! cite.
 //!
 //! A sentence is defined by how it is spelled: trees and the token lists that they have, tokens and the texts that are
-//! cut into them. A query means a bag of rows. The readers and the engine are proved against these definitions.
+//! cut into them. A query means a bag of rows. The readers and the engine are proved against these definitions;
+//! [`eval_row`] and [`holds_row`] are what an expression and a condition mean in a row.
 #![tactic(auto)]
 
+mod eval;
+mod expr;
+mod pattern;
+mod query;
 mod statement;
+#[cfg(test)]
+mod tests;
 mod token;
+mod truth;
 
+pub use eval::{bound_holds, eval_row, lend_column};
+pub use expr::{Cond, DayPart, Expr};
+pub use pattern::{like, like_decides};
+pub use query::{Aggregate, Equality, Join, Order, Query, Shape, Source};
 pub use statement::{ColumnDef, Comparison, Condition, Literal, Select, Statement};
 pub use token::{Keyword, Symbol, Token};
+pub use truth::{compare, holds_row};

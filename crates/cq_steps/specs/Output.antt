@@ -1,4 +1,4 @@
--- The output of a script: the texts of its statements' outcomes, one after the other.
+-- The output of a script: the texts of its statements' outcomes, one after the other (docs/LANGUAGE.md, Scripts and tokens).
 use Rattle.std.specs.Prelude.{◌≡◌, ℕ, Bool, true, false, not, List, [], ◌∷◌, map, filter, Result, Err}
 use Rattle.std.specs.List.{flat_map}
 use Rattle.std.specs.Str.{IsUtf8}

@@ -1,4 +1,5 @@
--- Which refusal a statement gets: the walk through its places, each with its fault or none; the first fault wins.
+-- Which refusal a statement gets: the walk through its places, each with its fault or none; the first fault wins
+-- (docs/LANGUAGE.md, Refusals).
 use Rattle.std.specs.Prelude.{ℕ, ◌+◌, ◌^◌, nat_lt, nat_le, ◌==◌, Bool, not, if◌then◌else◌, List, [], ◌∷◌, ◌++◌, map, length, Option, Some, None, is_some, is_none}
 use Rattle.std.specs.List.{list_any, flat_map}
 use Rattle.cq_values.specs.Texts.{is_text}

@@ -1,4 +1,4 @@
--- What the engine stands for: tables, each the bag of its rows, and how many writes there were.
+-- What the engine stands for: tables, each the bag of its rows, and how many writes there were (ISO 9075-2, 11.3).
 use Rattle.std.specs.Prelude.{ℕ, List, [], ◌∷◌, ◌++◌, if◌then◌else◌, Option}
 use Rattle.std.specs.List.{find}
 use Rattle.cq_values.specs.Texts.{is_text}

@@ -1,4 +1,4 @@
--- One step: what a statement may answer in a state, and what state it leaves.
+-- One step: what a statement may answer in a state, and what state it leaves (ISO 9075-2, 11.3, 14.11; docs/LANGUAGE.md, Statements).
 use Rattle.std.specs.Prelude.{◌≡◌, ℕ, ◌+◌, List, [], ◌∷◌, ◌++◌, map, length, Option, Some, None, Result, Ok, Err, IfSome}
 use Rattle.cq_values.specs.declared.value.Value.TheVariants.{Number}
 use Rattle.cq_values.specs.Value.{Row}

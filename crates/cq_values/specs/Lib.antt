@@ -4,3 +4,4 @@ pub mod Value
 pub mod Order
 pub mod Keys
 pub mod Truth
+pub mod Lent

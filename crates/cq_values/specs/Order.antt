@@ -1,4 +1,4 @@
--- The total order of values and of rows.
+-- The total order of values and of rows, by which results are sorted (ISO 9075-2, 8.2; docs/LANGUAGE.md, Results).
 use Rattle.std.specs.Prelude.{ℕ, ℤ, pos, List, [], Bool}
 use Rattle.std.specs.declared.cmp.Ordering.{Ordering}
 use Rattle.std.specs.Ordering.{on, then_cmp, nat_cmp, int_cmp, is_eq}

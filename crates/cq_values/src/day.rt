@@ -59,6 +59,8 @@ impl Day {
         ensures month { result.month ≡ month_of self }
         ensures day { result.day ≡ day_of_month self }
         ensures four_digits { result.year ≤ 9999 }
+        ensures twelve_months { result.month ≤ 12 }
+        ensures longest_month { result.day ≤ 31 }
     {
         let date = date_of(self.number);
         CivilDay {

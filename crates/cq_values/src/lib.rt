@@ -5,6 +5,7 @@
 #![tactic(auto)]
 
 mod day;
+mod lent;
 mod order;
 mod row;
 mod seq;
@@ -14,6 +15,7 @@ mod ty;
 mod value;
 
 pub use day::{CivilDay, Day};
+pub use lent::{Lent, cmp_lent};
 pub use order::cmp_total;
 pub use row::{Row, copy_row};
 pub use seq::Seq;

@@ -1,0 +1,15 @@
+pub mod Chains
+pub mod Extremes
+pub mod Groups
+pub mod Counted
+pub mod Meanings
+pub mod Pushed
+pub mod Keeps
+pub mod Standings
+pub mod Names
+pub mod Own
+pub mod Positives
+pub mod Ranges
+pub mod Works
+pub mod Lessened
+pub mod Told

@@ -1,0 +1,13 @@
+//! What holds of queries, of their changes, and of the states that views keep.
+//!
+//! Each function is a law: its body is empty, and its contract is the statement. The definitions are those of the model.
+#![tactic(auto)]
+
+mod laws;
+
+pub use laws::{
+    built_stands, chain_law, condition_below_joins, extremes_are_counted, group_tells,
+    groups_depend_on_bag, joined_rows_go_on, kept_tells, keys_are_counted, last_tells,
+    meaning_depends_on_bags, meaning_is_bag, own_conditions_are_implied, standing_goes_on,
+    views_depend_on_bags, work_depends_on_bags,
+};

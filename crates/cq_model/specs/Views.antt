@@ -1,0 +1,28 @@
+-- What a view's name in FROM stands for.
+use Rattle.std.specs.Prelude.{ℕ, [], ◌∷◌, map}
+use Rattle.std.specs.List.{AllByRecursion}
+use Rattle.cq_bags.specs.Bag.{Weighted}
+use Rattle.cq_model.specs.declared.query.Query.{Query}
+use Rattle.cq_model.specs.declared.query.Source.{Source}
+use Rattle.cq_model.specs.declared.query.Source.TheVariants.{Table, View}
+use Rattle.cq_model.specs.Meaning.{Tables, meaning, MeaningInRange}
+
+-- the bags of the tables alone, by their numbers: a view's query names no view
+abbrev pub tables_alone : (ℕ → Weighted) → Tables
+tables_alone tables (Table t) = tables t
+tables_alone tables (View v) = []
+
+-- a table's name stands for its bag, and a view's for its query's bag
+abbrev pub with_views : (ℕ → Weighted) → (ℕ → Query) → Tables
+with_views tables queries (Table t) = tables t
+with_views tables queries (View v) = meaning (queries v) (tables_alone tables)
+
+-- the totals of a view that is named can be shown
+abbrev pub SourceInRange : (ℕ → Weighted) → (ℕ → Query) → Source → Type 0
+SourceInRange tables queries (Table t) = Unit {0}
+SourceInRange tables queries (View v) = MeaningInRange (queries v) (tables_alone tables)
+
+-- the totals of a query and of each view that FROM names can be shown
+pub record AnswerInRange (tables : ℕ → Weighted) (queries : ℕ → Query) (q : Query) : Type 0 where
+  pub own : MeaningInRange q (with_views tables queries)
+  pub named : AllByRecursion (SourceInRange tables queries) (q.first ∷ map (λ j. j.source) q.joins)

@@ -1,0 +1,118 @@
+-- How large the values of an expression can be, at a row and while the columns keep bounds.
+use Rattle.std.specs.Prelude.{◌≤◌, ℕ, ◌+◌, ◌*◌, max, nat_abs, List, map, fold, slice_index_or}
+use Rattle.cq_values.specs.declared.value.Value.{Value}
+use Rattle.cq_values.specs.declared.value.Value.TheVariants.{Number}
+use Rattle.cq_values.specs.Value.{Row, column}
+use Rattle.cq_model.specs.declared.expr.DayPart.{DayPart}
+use Rattle.cq_model.specs.declared.expr.DayPart.TheVariants as parts
+use Rattle.cq_model.specs.declared.expr.Expr.{Expr}
+use Rattle.cq_model.specs.declared.expr.Expr.TheOpen as node
+use Rattle.cq_model.specs.declared.expr.Expr.TheFolds.{fold-Expr}
+use Rattle.cq_model.specs.declared.expr.Cond.{Cond}
+use Rattle.cq_model.specs.declared.expr.Cond.TheOpen as cond_node
+use Rattle.cq_model.specs.declared.expr.Cond.TheFolds.{fold-Cond}
+
+-- a number's distance from zero, and zero for what is no number
+abbrev pub value_size : Value → ℕ
+value_size (Number n) = nat_abs n
+value_size v = 0
+
+-- the largest size of an expression's value, and of any on the way to it
+pub record Extent : Type 0 where
+  pub size : ℕ
+  pub widest : ℕ
+
+-- the extent of a value of this size, with what is below it
+abbrev pub extent_of : ℕ → ℕ → Extent
+extent_of size below = record { size = size; widest = max size below }
+
+-- a sum is at most as large as both sizes together
+abbrev pub extent_plus : Extent → Extent → Extent
+extent_plus a b = extent_of (a.size + b.size) (max a.widest b.widest)
+
+-- a product is at most as large as the product of the sizes
+abbrev pub extent_times : Extent → Extent → Extent
+extent_times a b = extent_of (a.size * b.size) (max a.widest b.widest)
+
+-- the greatest year, month and day of a month
+abbrev pub part_limit : DayPart → ℕ
+part_limit parts.Year = 9999
+part_limit parts.Month = 12
+part_limit parts.Day = 31
+
+-- one node of an expression: its extent, from those of its parts
+abbrev pub width_step : node.Expr-F ((ℕ → ℕ) → Extent) → (ℕ → ℕ) → Extent
+width_step (node.Column i) sizes = extent_of (sizes i) 0
+width_step (node.Literal v) sizes = extent_of (value_size v) 0
+width_step (node.Negate e) sizes = extent_of (e.value sizes).size (e.value sizes).widest
+width_step (node.Sum es) sizes = fold extent_plus (extent_of 0 0) (map (λ e. e sizes) es.items)
+width_step (node.Product es) sizes = fold extent_times (extent_of 1 0) (map (λ e. e sizes) es.items)
+width_step (node.Extract part e) sizes = extent_of (part_limit part) (e.value sizes).widest
+
+-- the extent of an expression over columns of these sizes
+abbrev pub width : Expr → (ℕ → ℕ) → Extent
+width = fold-Expr ((ℕ → ℕ) → Extent) width_step
+
+-- the widest of any value on the way to the expression's
+abbrev pub widest : (ℕ → ℕ) → Expr → ℕ
+widest sizes e = (width e sizes).widest
+
+-- the widest of any value on the way to those of several expressions
+abbrev pub widest_of : (ℕ → ℕ) → List Expr → ℕ
+widest_of sizes es = fold max 0 (map (widest sizes) es)
+
+-- one node of a condition, with the widest values in its parts
+abbrev pub widest_step : cond_node.Cond-F ((ℕ → ℕ) → ℕ) → (ℕ → ℕ) → ℕ
+widest_step (cond_node.Compare c a b) sizes = max (widest sizes a) (widest sizes b)
+widest_step (cond_node.IsNull e) sizes = widest sizes e
+widest_step (cond_node.Between e a b) sizes = max (widest sizes e) (max (widest sizes a) (widest sizes b))
+widest_step (cond_node.In e es) sizes = max (widest sizes e) (widest_of sizes es.items)
+widest_step (cond_node.Like e pattern) sizes = widest sizes e
+widest_step (cond_node.Not c) sizes = c.value sizes
+widest_step (cond_node.And cs) sizes = fold max 0 (map (λ c. c sizes) cs.items)
+widest_step (cond_node.Or cs) sizes = fold max 0 (map (λ c. c sizes) cs.items)
+
+-- the widest of any value in a condition over columns of these sizes
+abbrev pub widest_in : Cond → (ℕ → ℕ) → ℕ
+widest_in = fold-Cond ((ℕ → ℕ) → ℕ) widest_step
+
+-- the sizes of a row's values
+abbrev pub sizes_of : Row → ℕ → ℕ
+sizes_of row i = value_size (column row i)
+
+-- the extent of an expression at a row
+abbrev pub extent : Expr → Row → Extent
+extent e row = width e (sizes_of row)
+
+-- the widest of any value in a condition at a row
+abbrev pub widest_at : Cond → Row → ℕ
+widest_at c row = widest_in c (sizes_of row)
+
+-- the bound of a column, and zero past the end
+abbrev pub bounds_of : List ℕ → ℕ → ℕ
+bounds_of columns i = slice_index_or columns i 0
+
+-- the extent that an expression never exceeds while the columns keep their bounds
+abbrev pub bound : Expr → List ℕ → Extent
+bound e columns = width e (bounds_of columns)
+
+-- the width that no value in a condition exceeds while the columns keep their bounds
+abbrev pub widest_bound : Cond → List ℕ → ℕ
+widest_bound c columns = widest_in c (bounds_of columns)
+
+-- each value of the row is within the bound of its column
+abbrev pub KeepsBounds : List ℕ → Row → Type 0
+KeepsBounds columns row = (i : ℕ) → sizes_of row i ≤ bounds_of columns i
+
+-- an extent is within another in size and in width
+pub record IsWithin (small large : Extent) : Type 0 where
+  pub size : small.size ≤ large.size
+  pub widest : small.widest ≤ large.widest
+
+-- at each row that keeps the bounds, an expression's extent is within its bound
+abbrev pub BoundHolds : Type 0
+BoundHolds = (e : Expr) (columns : List ℕ) (row : Row) → KeepsBounds columns row → IsWithin (extent e row) (bound e columns)
+
+-- at each row that keeps the bounds, no value in a condition is wider than its bound
+abbrev pub BoundHoldsIn : Type 0
+BoundHoldsIn = (c : Cond) (columns : List ℕ) (row : Row) → KeepsBounds columns row → widest_at c row ≤ widest_bound c columns

@@ -1,0 +1,66 @@
+//! Queries with their names resolved.
+use crate::expr::{Cond, Expr};
+use cq_bags::SortKey;
+use cq_values::Seq;
+
+/// What a name in FROM stands for. A view stands for the bag of its query.
+#[derive(Clone, Copy, Debug, PartialEq, Eq)]
+pub enum Source {
+    Table(u64),
+    View(u64),
+}
+
+/// An equality of ON: a column of the rows joined so far, and one of the next source.
+#[derive(Clone, Copy, Debug, PartialEq, Eq)]
+pub struct Equality {
+    pub left: usize,
+    pub right: usize,
+}
+
+/// A source that is joined to those before it.
+#[derive(Debug, Drop)]
+pub struct Join {
+    pub source: Source,
+    pub on: Seq<Equality>,
+}
+
+/// What is told of a group. But for `CountAll` only values other than NULL count.
+#[derive(Debug, Drop)]
+pub enum Aggregate {
+    CountAll,
+    Count(Expr),
+    Sum(Expr),
+    Min(Expr),
+    Max(Expr),
+}
+
+/// How joined rows become rows that items and HAVING read.
+#[derive(Debug, Drop)]
+pub enum Shape {
+    /// Each row stands for itself.
+    Plain,
+    /// Each group gives a row: its key columns, then its aggregates. Without GROUP BY there are no keys and one group.
+    Grouped {
+        keys: Option<Seq<usize>>,
+        aggregates: Seq<Aggregate>,
+        having: Option<Cond>,
+    },
+}
+
+/// A query up to its bag: `first` joined with each of `joins` in turn, then WHERE, groups, items and DISTINCT.
+#[derive(Debug, Drop)]
+pub struct Query {
+    pub first: Source,
+    pub joins: Seq<Join>,
+    pub filter: Option<Cond>,
+    pub shape: Shape,
+    pub items: Seq<Expr>,
+    pub distinct: bool,
+}
+
+/// ORDER BY and LIMIT, which make a list of a query's bag.
+#[derive(Debug, Drop)]
+pub struct Order {
+    pub keys: Seq<SortKey>,
+    pub limit: Option<u64>,
+}

@@ -1,0 +1,191 @@
+//! LIKE and the truth of conditions, with NULL in each place.
+ghost use Rattle.std.specs.Prelude.{◌^◌, ◌≤◌, []};
+ghost use Rattle.cq_model.specs.Width.{sizes_of, value_size, widest, widest_at};
+
+use crate::expr::{Cond, Expr};
+use crate::pattern::like;
+use crate::statement::Comparison;
+use crate::truth::{between, compare, holds_row, is_in, is_like};
+use cq_values::{Lent, Truth, Value};
+use std::alloc::{AllocError, Global};
+use std::test::Fail;
+
+#[test]
+fn a_pattern_fits_by_characters(rt: HostRuntime) -> Result<(), Fail> {
+    let cases = [
+        ("", "", true),
+        ("", "a", false),
+        ("%", "", true),
+        ("%", "abc", true),
+        ("%%", "", true),
+        ("_", "", false),
+        ("_", "a", true),
+        ("_", "é", true),
+        ("__", "é", false),
+        ("日_", "日本", true),
+        ("_", "日本", false),
+        ("%本", "日本", true),
+        ("%é%", "caféteria", true),
+        ("%_", "", false),
+        ("%_", "ü", true),
+        ("a%", "a", true),
+        ("a%", "ba", false),
+        ("A%", "abc", false),
+        ("a_c", "abc", true),
+        ("a_c", "ac", false),
+        ("%aab", "aaab", true),
+        ("%bc%bc", "abc", false),
+        ("%bc%bc", "abcbc", true),
+        ("a%b%c", "a-b-b-c", true),
+        ("a%b%c", "a-b-c-", false),
+    ];
+    for (pattern, text, fits) in cases {
+        assert_eq!(rt; like(pattern, text), fits, "'{text}' LIKE '{pattern}'");
+    }
+    Ok(())
+}
+
+#[test]
+fn a_comparison_with_null_is_unknown(rt: HostRuntime) -> Result<(), Fail> {
+    let cases = [
+        (Some(1), Some(2), Truth::True),
+        (Some(2), Some(2), Truth::False),
+        (None, Some(2), Truth::Unknown),
+        (Some(1), None, Truth::Unknown),
+        (None, None, Truth::Unknown),
+    ];
+    for (a, b, truth) in cases {
+        let less = compare(Comparison::Less, &lent(a), &lent(b));
+        assert_eq!(rt; less, truth, "{a:?} < {b:?}");
+    }
+    Ok(())
+}
+
+#[test]
+fn between_is_two_comparisons(rt: HostRuntime) -> Result<(), Fail> {
+    let cases = [
+        (Some(1), Some(1), Some(3), Truth::True),
+        (Some(3), Some(1), Some(3), Truth::True),
+        (Some(4), Some(1), Some(3), Truth::False),
+        (None, Some(1), Some(3), Truth::Unknown),
+        (Some(2), None, Some(3), Truth::Unknown),
+        (Some(4), None, Some(3), Truth::False),
+        (Some(2), Some(1), None, Truth::Unknown),
+        (Some(0), Some(1), None, Truth::False),
+    ];
+    for (value, least, greatest, truth) in cases {
+        let found = between(&lent(value), &lent(least), &lent(greatest));
+        assert_eq!(rt;
+            found,
+            truth,
+            "{value:?} BETWEEN {least:?} AND {greatest:?}"
+        );
+    }
+    Ok(())
+}
+
+#[test]
+fn like_of_null_is_unknown(rt: HostRuntime) -> Result<(), Fail> {
+    assert_eq!(rt; is_like(&Lent::Null, "%"), Truth::Unknown);
+    assert_eq!(rt; is_like(&Lent::Text("a"), "%"), Truth::True);
+    Ok(())
+}
+
+#[test]
+fn in_is_a_chain_of_or(rt: HostRuntime) -> Result<(), Fail> {
+    // the value; two choices
+    let cases = [
+        (Some(1), Some(1), Some(2), Truth::True),
+        (Some(3), Some(1), Some(2), Truth::False),
+        (None, Some(1), Some(2), Truth::Unknown),
+        (Some(1), Some(1), None, Truth::True),
+        (Some(1), None, Some(1), Truth::True),
+        (Some(3), Some(1), None, Truth::Unknown),
+        (Some(3), None, Some(1), Truth::Unknown),
+    ];
+    for (value, a, b, truth) in cases {
+        let found = one_of(rt.alloc(), value, a, b)?;
+        assert_eq!(rt; found, truth, "{value:?} IN ({a:?}, {b:?})");
+    }
+    Ok(())
+}
+
+#[test]
+fn a_chain_of_truths_has_the_tables_truth(rt: HostRuntime) -> Result<(), Fail> {
+    // two truths; by AND; by OR
+    let cases = [
+        (Truth::True, Truth::True, Truth::True, Truth::True),
+        (Truth::True, Truth::Unknown, Truth::Unknown, Truth::True),
+        (Truth::True, Truth::False, Truth::False, Truth::True),
+        (Truth::Unknown, Truth::True, Truth::Unknown, Truth::True),
+        (
+            Truth::Unknown,
+            Truth::Unknown,
+            Truth::Unknown,
+            Truth::Unknown,
+        ),
+        (Truth::Unknown, Truth::False, Truth::False, Truth::Unknown),
+        (Truth::False, Truth::True, Truth::False, Truth::True),
+        (Truth::False, Truth::Unknown, Truth::False, Truth::Unknown),
+        (Truth::False, Truth::False, Truth::False, Truth::False),
+    ];
+    for (a, b, by_and, by_or) in cases {
+        assert_eq!(rt; both(rt.alloc(), a, b)?, by_and, "{a:?} AND {b:?}");
+        assert_eq!(rt; either(rt.alloc(), a, b)?, by_or, "{a:?} OR {b:?}");
+    }
+    Ok(())
+}
+
+fn one_of(
+    alloc: Global,
+    value: Option<i64>,
+    a: Option<i64>,
+    b: Option<i64>,
+) -> Result<Truth, AllocError> {
+    let choices = vec![in alloc; literal(a), literal(b)]?;
+    Ok(is_in(&lent(value), &choices, &[]))
+}
+
+fn literal(number: Option<i64>) -> Expr
+    ensures { widest (sizes_of []) result ≤ 2 ^ 63 }
+{
+    match number {
+        Some(number) => Expr::Literal(Value::Number(i128::from(number))),
+        None => Expr::Literal(Value::Null),
+    }
+}
+
+fn lent<'a>(number: Option<i64>) -> Lent<'a> {
+    match number {
+        Some(number) => Lent::Number(i128::from(number)),
+        None => Lent::Null,
+    }
+}
+
+fn condition(truth: Truth) -> Cond
+    ensures { widest_at result [] ≤ 2 }
+{
+    match truth {
+        Truth::True => one_equals(Value::Number(1)),
+        Truth::False => one_equals(Value::Number(2)),
+        Truth::Unknown => one_equals(Value::Null),
+    }
+}
+
+fn one_equals(value: Value) -> Cond
+    requires { value_size value ≤ 2 }
+    ensures { widest_at result [] ≤ 2 }
+{
+    let one = Expr::Literal(Value::Number(1));
+    Cond::Compare(Comparison::Equal, one, Expr::Literal(value))
+}
+
+fn both(alloc: Global, a: Truth, b: Truth) -> Result<Truth, AllocError> {
+    let cond = Cond::And(vec![in alloc; condition(a), condition(b)]?);
+    Ok(holds_row(&cond, &[]))
+}
+
+fn either(alloc: Global, a: Truth, b: Truth) -> Result<Truth, AllocError> {
+    let cond = Cond::Or(vec![in alloc; condition(a), condition(b)]?);
+    Ok(holds_row(&cond, &[]))
+}
