@@ -1,8 +1,9 @@
 //! The program `colview`: runs a script and writes its answers to standard output.
 #![tactic(auto)]
 
-use cq_cli::{LineFault, NoSources, Options, Writer, exit_of, options_of, run};
+use cq_cli::{NoSources, Writer, exit_of, run};
 use cq_engine::Limits;
+use cq_options::{LineFault, Options, options_of};
 use cq_values::Text;
 use std::io::BufWriter;
 use std::process::ExitCode;

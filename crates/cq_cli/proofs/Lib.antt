@@ -1,4 +1,3 @@
 pub mod Writes
 pub mod Serving
 pub mod Runs
-pub mod Lines

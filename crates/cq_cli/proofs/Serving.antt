@@ -1,35 +1,31 @@
 -- What is printed for a piece is the text of an outcome that the piece may have.
-use Rattle.std.proofs.Common.{◌≡◌, ℕ, ◌+◌, ◌≤◌, Bool, true, false, List, [], ◌∷◌, Result, Ok, Err, refl, arith, if◌then◌else◌}
+use Rattle.std.proofs.Common.{◌≡◌, ℕ, ◌+◌, ◌≤◌, Bool, true, false, List, [], ◌∷◌, Result, Ok, Err, refl, ap, arith, if◌then◌else◌}
 use Rattle.cq_values.specs.Value.{Row}
 use Rattle.cq_model.specs.Pieces.{PieceOf}
+use Rattle.cq_model.specs.declared.bound.Bound.{Bound}
+use Rattle.cq_model.specs.declared.bound.Bound.TheVariants as commands
 use Rattle.cq_model.specs.declared.statement.Statement.{Statement}
-use Rattle.cq_model.specs.declared.statement.Statement.TheVariants as statements
 use Rattle.cq_steps.specs.declared.answer.Answer.{Answer}
 use Rattle.cq_steps.specs.declared.answer.Answer.TheVariants.{Done, Count, Rows}
 use Rattle.cq_steps.specs.declared.fault.Fault.{Fault}
 use Rattle.cq_steps.specs.declared.fault.Fault.TheVariants as faults
 use Rattle.cq_steps.specs.State.{State}
-use Rattle.cq_steps.specs.Step.{Step}
-use Rattle.cq_steps.specs.Output.{Serves, rest_without_semicolon, sentence, no_sentence, past_limits, out_of_memory}
+use Rattle.cq_steps.specs.Step.{Leads, Does, Refuses, by_walk, for_memory, source_failed, memory_on_the_way, too_large, Step}
+use Rattle.cq_steps.specs.Output.{Serves, rest_without_semicolon, sentence, no_sentence, past_limits, out_of_memory, no_text}
 use Rattle.cq_steps.specs.Printed.{outcome_text}
 use Rattle.cq_cli.specs.declared.printing.Printed.{Printed}
 use Rattle.cq_cli.specs.declared.printing.Printed.TheVariants as prints
 use Rattle.cq_cli.specs.Printing.{Shows, printed_status, printed_text}
 use Rattle.cq_cli.specs.Running.{status_of}
 
--- a statement that answers rows leaves the state as it was
-rows_keep : (old new : State) (s : Statement) (header : List (List ℕ)) (rows : List Row) → Step old s (Ok (Rows header rows)) new → new ≡ old
-rows_keep old new (statements.CreateTable name columns) header rows h = absurd h.1
-rows_keep old new (statements.Insert name values) header rows h = absurd h.1
-rows_keep old new (statements.Select q) header rows h = h.1.2
-
 -- a result whose text finds no memory is refused for it
 pub memory_instead : (old new : State) (p : PieceOf) (header : List (List ℕ)) (rows : List Row) → Serves old p (Ok (Rows header rows)) new → Serves old p (Err faults.Memory) new
 memory_instead old new p header rows (rest_without_semicolon unclosed is same) = absurd cc
-memory_instead old new p header rows (sentence closed s is step) = out_of_memory closed refl (rows_keep old new s header rows step)
+memory_instead old new p header rows (sentence closed s is step) = no_text closed s is header rows step refl
 memory_instead old new p header rows (no_sentence closed none is same) = absurd cc
 memory_instead old new p header rows (past_limits closed past is same) = absurd cc
 memory_instead old new p header rows (out_of_memory closed is same) = absurd cc
+memory_instead old new p header rows (no_text closed s is names listed step e) = absurd cc
 
 -- what is shown for an outcome is the text and the status of an outcome of the same piece
 pub shown_serves : (old new : State) (p : PieceOf) (o : Result Answer Fault) (shown : Printed) → Serves old p o new → Shows o shown
@@ -46,18 +42,40 @@ pub refused_somehow : (s : State) (p : PieceOf) (closed : Bool) → p.closed ≡
 refused_somehow s p true is = (Err faults.Memory, out_of_memory is refl refl)
 refused_somehow s p false is = (Err faults.Syntax, rest_without_semicolon is refl refl)
 
+-- the number that is drawn next
+abbrev next : State → ℕ
+next s = s.drawn
+
+-- a command draws at most one number
+leads_draws : (old whole : State) (command : Bound) (answer : Answer) → Leads old command answer whole → whole.drawn ≤ old.drawn + 1
+leads_draws old whole (commands.CreateTable name columns sort) answer l = omega (arith, ap next l.1)
+leads_draws old whole (commands.DropTable n) answer l = omega (arith, ap next l.1)
+leads_draws old whole (commands.CreateView name columns q) answer l = omega (arith, ap next l.1)
+leads_draws old whole (commands.DropView place) answer l = omega (arith, ap next l.1)
+leads_draws old whole (commands.Insert n rows) answer l = omega (arith, ap next l.1.state)
+leads_draws old whole (commands.Delete n c) answer l = omega (arith, ap next l.1.state)
+leads_draws old whole (commands.Update n assignments c) answer l = omega (arith, ap next l.1.state)
+leads_draws old whole (commands.Select header q order) answer l = omega (arith, ap next l.1)
+leads_draws old whole (commands.Move n rows) answer l = omega (arith, ap next l.1)
+leads_draws old whole (commands.Merge n) answer l = omega (arith, ap next l.1)
+leads_draws old whole (commands.Refresh place changes) answer l = omega (arith, ap next l.1)
+
+-- an accepted statement too
+does_draws : (old new : State) (s : Statement) (answer : Answer) → Does old s answer new → new.drawn ≤ old.drawn + 1
+does_draws old new s answer d = omega (arith, ap next d.accepts.trims.state, leads_draws old d.accepts.whole d.command answer d.accepts.leads)
+
+-- and a refused one none
+refuses_draws : (old new : State) (s : Statement) (f : Fault) → Refuses old s f new → new.drawn ≤ old.drawn + 1
+refuses_draws old new s f (by_walk refused same) = omega (arith, ap next same)
+refuses_draws old new s f (for_memory is same) = omega (arith, ap next same)
+refuses_draws old new s f (source_failed reads is same) = omega (arith, ap next same)
+refuses_draws old new s f (memory_on_the_way command free bound is gives) = omega (arith, ap next gives.state)
+refuses_draws old new s f (too_large command free bound large is gives) = omega (arith, ap next gives.state)
+
 -- a step counts at most one statement more
 step_draws : (old new : State) (s : Statement) (o : Result Answer Fault) → Step old s o new → new.drawn ≤ old.drawn + 1
-step_draws old new (statements.CreateTable name columns) (Ok Done) h = rw h.1 (omega arith)
-step_draws old new (statements.CreateTable name columns) (Ok (Count n)) h = absurd h.1
-step_draws old new (statements.CreateTable name columns) (Ok (Rows header rows)) h = absurd h.1
-step_draws old new (statements.Insert name rows) (Ok Done) h = absurd h.1
-step_draws old new (statements.Insert name rows) (Ok (Count n)) h = rw h.1.1 (omega arith)
-step_draws old new (statements.Insert name rows) (Ok (Rows header listed)) h = absurd h.1
-step_draws old new (statements.Select q) (Ok Done) h = absurd h.1
-step_draws old new (statements.Select q) (Ok (Count n)) h = absurd h.1
-step_draws old new (statements.Select q) (Ok (Rows header rows)) h = rw h.1.2 (omega arith)
-step_draws old new s (Err f) h = rw h.1 (omega arith)
+step_draws old new s (Ok answer) d = does_draws old new s answer d
+step_draws old new s (Err f) r = refuses_draws old new s f r
 
 -- a piece counts one statement more where a semicolon ended it, and none otherwise
 pub serves_draws : (old new : State) (p : PieceOf) (o : Result Answer Fault) → Serves old p o new → new.drawn ≤ old.drawn + (if p.closed then 1 else 0)
@@ -66,3 +84,4 @@ serves_draws old new p o (sentence closed s is step) = rw closed (step_draws old
 serves_draws old new p o (no_sentence closed none is same) = rw (same, closed) (omega arith)
 serves_draws old new p o (past_limits closed past is same) = rw (same, closed) (omega arith)
 serves_draws old new p o (out_of_memory closed is same) = rw (same, closed) (omega arith)
+serves_draws old new p o (no_text closed s is header rows step e) = rw closed (step_draws old new s (Ok (Rows header rows)) step)

@@ -1,4 +1,3 @@
 pub mod Writing
 pub mod Printing
 pub mod Running
-pub mod Line

@@ -1,4 +1,4 @@
-//! The program as a library: command lines, and scripts from bytes to bytes.
+//! The program as a library: scripts from bytes to bytes.
 //!
 //! [`run`] writes the answer of each statement before the next one runs. What it writes is the output of the script's
 //! outcomes, or a front of it where the [`Sink`] failed.
@@ -7,7 +7,6 @@
 mod endings;
 mod laws;
 mod no_sources;
-mod options;
 mod printing;
 mod running;
 mod sink;
@@ -17,6 +16,5 @@ mod tests;
 pub use endings::{RunFault, Status, exit_of};
 pub use laws::same_output;
 pub use no_sources::NoSources;
-pub use options::{LineFault, Options, options_of};
 pub use running::run;
 pub use sink::{Sink, Writer};

@@ -8,8 +8,7 @@ use Rattle.cq_model.specs.declared.statement.ColumnDef.{ColumnDef}
 use Rattle.cq_model.specs.declared.statement.Literal.{Literal}
 use Rattle.cq_steps.specs.declared.fault.Fault.{Fault}
 use Rattle.cq_steps.specs.declared.fault.Fault.TheVariants as faults
-use Rattle.cq_steps.specs.Refusal.{first_fault, fault_if, column_places, row_places}
-use Rattle.cq_steps.specs.Step.{MayRefuse}
+use Rattle.cq_steps.specs.Refusal.{first_fault, fault_if, column_places, row_places, MayRefuse}
 use Rattle.cq_engine.specs.Walk.{Walked}
 
 -- the first fault of two stretches is that of the first, or else that of the second
@@ -26,16 +25,7 @@ first_fault_cons None places = refl
 -- what refuses a part of the walk refuses the whole, where the whole has the part's fault
 pub refused_along : (part whole : Option Fault) (f : Fault) → (part ≡ Some f → whole ≡ Some f) → MayRefuse part f → MayRefuse whole f
 refused_along part whole faults.Memory goes m = tt
-refused_along part whole faults.NotUtf8 goes m = goes m
-refused_along part whole faults.Syntax goes m = goes m
-refused_along part whole faults.UnknownTable goes m = goes m
-refused_along part whole faults.UnknownColumn goes m = goes m
-refused_along part whole faults.NameTaken goes m = goes m
-refused_along part whole faults.TypeMismatch goes m = goes m
-refused_along part whole faults.TooWide goes m = goes m
-refused_along part whole faults.NumberOutside goes m = goes m
-refused_along part whole faults.TableFull goes m = goes m
-refused_along part whole faults.LimitExceeded goes m = goes m
+refused_along part whole f goes m = goes m
 
 -- a fault of the first decides
 or_first : (o p : Option Fault) (f : Fault) → o ≡ Some f → option_or o p ≡ Some f

@@ -1,21 +1,23 @@
 -- Stored rows, the bag that they are, and what a query makes of it.
-use Rattle.std.proofs.Common.{◌≡◌, ℕ, Bool, cond, List, [], ◌∷◌, ◌++◌, map, pos, Option, Some, None, refl, sym, ap, ◌∙◌, subst, Result, Ok, Err}
+use Rattle.std.proofs.Common.{◌≡◌, ℕ, Bool, cond, List, [], ◌∷◌, ◌++◌, map, pos, option_map, refl, sym, ap, ◌∙◌, subst, Result, Ok, Err}
 use Rattle.std.specs.Result.{OnOk, is_ok}
 use Rattle.std.specs.Prelude.{filter}
 use Rattle.cq_values.specs.Value.{Row}
 use Rattle.cq_bags.specs.Bag.{Weighted, SameBag, once_each, filtered, projected}
 use Rattle.cq_bags.specs.Canonical.{bag_of}
-use Rattle.cq_bags.specs.Listing.{Lists, IsListing}
+use Rattle.cq_bags.specs.Listing.{Lists}
 use Rattle.cq_bags.proofs.Totals.{by_test}
 use Rattle.cq_bags.proofs.Bags.{same-sym, same-trans, filtered-respects, projected-respects}
 use Rattle.cq_bags.proofs.Canonicals.{bag_of-again, same-bag_of}
 use Rattle.cq_model.specs.declared.statement.ColumnDef.{ColumnDef}
-use Rattle.cq_model.specs.declared.statement.Condition.{Condition}
 use Rattle.cq_model.specs.declared.statement.Select.{Select}
-use Rattle.cq_model.specs.Query.{keeps, selected, meaning, value_in}
-use Rattle.cq_steps.specs.State.{TableOf, empty_table, with_rows}
+use Rattle.cq_model.specs.Meaning.{keeps, items_of, meaning}
+use Rattle.cq_steps.specs.Bound.{named_column, bound_condition, bound_query}
+use Rattle.cq_steps.specs.State.{TableOf, empty_table}
 use Rattle.cq_engine.specs.declared.selection.Selection.{Selection}
-use Rattle.cq_engine.specs.Bound.{place_in, bound_where, keeps_at, values_at, IsBound}
+use Rattle.cq_engine.specs.Bound.{keeps_at, values_at, IsBound}
+use Rattle.cq_engine.specs.Statements.{with_more, IsResult}
+use Rattle.cq_engine.proofs.Resolved.{keeps_same, values_same}
 
 -- no rows are the empty bag
 pub bag_of_none : bag_of [] ≡ []
@@ -23,31 +25,26 @@ unfolding bag_of
 bag_of_none = refl
 
 -- a table with no rows is the empty one
-pub empty_as_stored : (name : List ℕ) (columns : List ColumnDef) (stored : List Row) → stored ≡ [] → record { name = name; columns = columns; rows = bag_of stored } ≡ empty_table name columns
-empty_as_stored name columns stored none = λ i. record { name = name; columns = columns; rows = (ap bag_of none ∙ bag_of_none) i }
+pub empty_as_stored : (number : ℕ) (name : List ℕ) (columns : List ColumnDef) (stored : List Row) → stored ≡ []
+    → record { number = number; name = name; columns = columns; sort = []; rows = bag_of stored } ≡ empty_table number name columns []
+empty_as_stored number name columns stored none = λ i. record { number = number; name = name; columns = columns; sort = []; rows = (ap bag_of none ∙ bag_of_none) i }
 
 -- more rows behind the stored ones are more rows in the bag
 pub bag_of_more : (stored more : List Row) → bag_of (stored ++ more) ≡ bag_of (bag_of stored ++ more)
 bag_of_more stored more = sym (bag_of-again stored more)
 
+-- the table with these stored rows
+abbrev storing : List Row → TableOf → TableOf
+storing stored t = record { number = t.number; name = t.name; columns = t.columns; sort = t.sort; rows = bag_of stored }
+
 -- rows stored behind the others are more rows of the table
-pub more_as_stored : (t : TableOf) (stored more all : List Row) → bag_of stored ≡ t.rows → all ≡ stored ++ more → record { name = t.name; columns = t.columns; rows = bag_of all } ≡ with_rows more t
-more_as_stored t stored more all rows is = λ i. record { name = t.name; columns = t.columns; rows = (ap bag_of is ∙ bag_of_more stored more ∙ ap (λ (rs : List Row). bag_of (rs ++ more)) rows) i }
+pub more_as_stored : (t : TableOf) (stored more all : List Row) → bag_of stored ≡ t.rows → all ≡ stored ++ more → storing all t ≡ with_more more t
+more_as_stored t stored more all rows is = ap (λ (rs : List Row). record { number = t.number; name = t.name; columns = t.columns; sort = t.sort; rows = rs }) (ap bag_of is ∙ bag_of_more stored more ∙ ap (λ (rs : List Row). bag_of (rs ++ more)) rows)
 
 -- an append that succeeds adds rows to the table
-pub append_as_stored : {E : Type 0} (t : TableOf) (stored more all : List Row) (result : Result (Unit {0}) E) → bag_of stored ≡ t.rows → all ≡ cond (is_ok result) (stored ++ more) stored → OnOk result (record { name = t.name; columns = t.columns; rows = bag_of all } ≡ with_rows more t)
+pub append_as_stored : {E : Type 0} (t : TableOf) (stored more all : List Row) (result : Result (Unit {0}) E) → bag_of stored ≡ t.rows → all ≡ cond (is_ok result) (stored ++ more) stored → OnOk result (storing all t ≡ with_more more t)
 append_as_stored t stored more all (Ok x) rows is = more_as_stored t stored more all rows is
 append_as_stored t stored more all (Err e) rows is = tt
-
--- a condition with its place keeps what the condition keeps
-keeps_same : (columns : List ColumnDef) (c : Option Condition) (row : Row) → keeps_at (bound_where columns c) row ≡ keeps columns c row
-keeps_same columns None row = refl
-keeps_same columns (Some c) row = refl
-
--- the values at the places of the names are those of the names
-values_same : (columns : List ColumnDef) (names : List (List ℕ)) (row : Row) → values_at (map (place_in columns) names) row ≡ selected columns names row
-values_same columns [] row = refl
-values_same columns (n ∷ names) row = ap (λ (vs : Row). value_in columns n row ∷ vs) (values_same columns names row)
 
 -- a result's rows, each once, are the bag of what is kept and selected
 once_each-results : (keep : Row → Bool) (f : Row → Row) (rows : List Row) → once_each (map f (filter keep rows)) ≡ projected f (filtered keep (once_each rows))
@@ -63,24 +60,31 @@ same_results keep f stored =
     (projected-respects f (filtered keep (once_each stored)) (filtered keep (once_each (bag_of stored)))
     (filtered-respects keep (once_each stored) (once_each (bag_of stored)) (same-sym (once_each (bag_of stored)) (once_each stored) (same-bag_of stored))))
 
--- the sorted results of a bound query are its listing
-pub listing_bound : (t : TableOf) (q : Select) (s : Selection) (stored results list : List Row) → IsBound t.columns q s → bag_of stored ≡ t.rows → results ≡ map (values_at s.places.items) (filter (keeps_at s.condition) stored) → Lists [] (once_each results) list
-    → IsListing [] None (meaning t.columns q (once_each t.rows)) list
-listing_bound t q s stored results list b rows made listed = (
-  list,
-  record { same = same-trans (once_each list) (once_each results) (meaning t.columns q (once_each t.rows)) listed.same means; in_order = listed.in_order },
-  refl,
-)
-  where
-    kept : (row : Row) → keeps_at s.condition row ≡ keeps t.columns q.condition row
-    kept row = ap (λ c. keeps_at c row) b.condition ∙ keeps_same t.columns q.condition row
+-- what WHERE keeps, and the items of a row
+module _ (t : TableOf) (q : Select) where
+  abbrev keep : Row → Bool
+  keep = keeps (option_map (bound_condition t.columns) q.condition)
 
-    valued : (row : Row) → values_at s.places.items row ≡ selected t.columns q.columns row
-    valued row = ap (λ ps. values_at ps row) b.places ∙ values_same t.columns q.columns row
+  abbrev select : Row → Row
+  select = items_of (map (named_column t.columns) q.columns)
 
-    by_names : results ≡ map (selected t.columns q.columns) (filter (keeps t.columns q.condition) stored)
-    by_names = made ∙ (λ i. map (λ row. valued row i) (filter (λ row. kept row i) stored))
+  -- the sorted results of a bound query are its listing
+  pub listing_bound : (s : Selection) (stored results list : List Row) → IsBound t.columns q s → bag_of stored ≡ t.rows → results ≡ map (values_at s.places.items) (filter (keeps_at s.condition) stored) → Lists [] (once_each results) list → IsResult q t list
+  listing_bound s stored results list b rows made listed = (
+    list,
+    record { same = same-trans (once_each list) (once_each results) (meaning (bound_query t q) (λ source. once_each t.rows)) listed.same means; in_order = listed.in_order },
+    refl,
+  )
+    where
+      kept : (row : Row) → keeps_at s.condition row ≡ keep row
+      kept row = ap (λ c. keeps_at c row) b.condition ∙ keeps_same t.columns q.condition row
 
-    means : SameBag (once_each results) (meaning t.columns q (once_each t.rows))
-    means = subst (λ (xs : List Row). SameBag (once_each xs) (meaning t.columns q (once_each t.rows))) (sym by_names)
-        (subst (λ (rows : List Row). SameBag (once_each (map (selected t.columns q.columns) (filter (keeps t.columns q.condition) stored))) (meaning t.columns q (once_each rows))) rows (same_results (keeps t.columns q.condition) (selected t.columns q.columns) stored))
+      valued : (row : Row) → values_at s.places.items row ≡ select row
+      valued row = ap (λ ps. values_at ps row) b.places ∙ values_same t.columns q.columns row
+
+      by_items : results ≡ map select (filter keep stored)
+      by_items = made ∙ (λ i. map (λ row. valued row i) (filter (λ row. kept row i) stored))
+
+      means : SameBag (once_each results) (projected select (filtered keep (once_each t.rows)))
+      means = subst (λ (xs : List Row). SameBag (once_each xs) (projected select (filtered keep (once_each t.rows)))) (sym by_items)
+          (subst (λ (rows : List Row). SameBag (once_each (map select (filter keep stored))) (projected select (filtered keep (once_each rows)))) rows (same_results keep select stored))

@@ -7,9 +7,8 @@ use Rattle.cq_model.specs.declared.statement.Literal.{Literal}
 use Rattle.cq_model.specs.declared.statement.Select.{Select}
 use Rattle.cq_steps.specs.declared.fault.Fault.{Fault}
 use Rattle.cq_steps.specs.declared.fault.Fault.TheVariants.{NameTaken, TableFull}
-use Rattle.cq_steps.specs.Refusal.{first_fault, fault_if, too_long, column_places, create_places, row_places, insert_places, name_place, where_places, select_places}
+use Rattle.cq_steps.specs.Refusal.{first_fault, fault_if, too_long, column_places, create_places, row_places, insert_places, name_place, where_places, select_places, MayRefuse}
 use Rattle.cq_steps.specs.State.{TableOf, table_named}
-use Rattle.cq_steps.specs.Step.{MayRefuse}
 use Rattle.cq_engine.proofs.Faults.{first_fault_append, none_append, or_next, refused_back, refused_front, refused_same}
 
 -- ---- CREATE TABLE: under a free name the columns decide, and then their number

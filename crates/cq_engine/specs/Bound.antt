@@ -1,5 +1,5 @@
 -- Queries whose names have become places.
-use Rattle.std.specs.Prelude.{◌≡◌, ℕ, Bool, true, List, map, Option, Some, None, unwrap_or}
+use Rattle.std.specs.Prelude.{◌≡◌, ℕ, Bool, true, List, map, Option, Some, None}
 use Rattle.cq_values.specs.declared.value.Value.TheVariants.{Number}
 use Rattle.cq_values.specs.Truth.{is_true}
 use Rattle.cq_values.specs.Value.{Row, column}
@@ -7,13 +7,9 @@ use Rattle.cq_model.specs.declared.statement.ColumnDef.{ColumnDef}
 use Rattle.cq_model.specs.declared.statement.Condition.{Condition}
 use Rattle.cq_model.specs.declared.statement.Select.{Select}
 use Rattle.cq_model.specs.Comparison.{compared}
-use Rattle.cq_model.specs.Query.{column_place, literal_value}
+use Rattle.cq_steps.specs.Bound.{place_in, literal_value}
 use Rattle.cq_engine.specs.declared.condition.BoundCondition.{BoundCondition}
 use Rattle.cq_engine.specs.declared.selection.Selection.{Selection}
-
--- where the column of a name stands, which is known to be there
-abbrev pub place_in : List ColumnDef → List ℕ → ℕ
-place_in columns name = unwrap_or (column_place columns name) 0
 
 -- a condition with the place of its column and its number
 abbrev pub bound : List ColumnDef → Condition → BoundCondition

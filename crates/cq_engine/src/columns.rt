@@ -2,7 +2,7 @@
 ghost use Rattle.std.specs.Prelude.{◌≡◌, ◌∷◌, IfOk, []};
 ghost use Rattle.std.specs.List.{list_any};
 ghost use Rattle.cq_values.specs.Texts.{is_text};
-ghost use Rattle.cq_model.specs.Query.{column_place};
+ghost use Rattle.cq_steps.specs.Bound.{column_place};
 ghost use Rattle.cq_steps.specs.Refusal.{column_places, too_long};
 ghost use Rattle.cq_engine.specs.Walk.{Passes};
 
@@ -50,8 +50,11 @@ pub fn copy_columns(alloc: Global, columns: &[ColumnDef]) -> Result<Seq<ColumnDe
 {
     let mut copies = Seq::new(alloc);
     for column in columns {
-        let name = column.name.copy(alloc)?;
-        copies.push(ColumnDef { name })?;
+        copies.push(ColumnDef {
+            name: column.name.copy(alloc)?,
+            ty: column.ty,
+            not_null: column.not_null,
+        })?;
     }
     Ok(copies)
 }

@@ -29,14 +29,20 @@ pub struct Engine {
 }
 
 impl Model for Engine {
+    ghost use Rattle.std.specs.Coded.{codes};
     ghost use Rattle.std.specs.Prelude.{◌≤◌};
-    ghost use Rattle.cq_steps.specs.State.{State};
+    ghost use Rattle.cq_model.specs.contracts.expr.Cond as cond;
+    ghost use Rattle.cq_model.specs.contracts.expr.Expr as expr;
+    ghost use Rattle.cq_steps.specs.State.{State, AreNumbered};
+    ghost use Rattle.cq_engine.specs.Statements.{without_views};
 
     ghost Value = { State };
 
-    ghost view = { λ e. record { tables = e.tables.items; writes = e.writes; drawn = e.drawn; max_rows = e.limits.max_rows } };
+    ghost coded = { Prim.hlevel (codes, expr.the_row.coded, cond.the_row.coded) };
 
-    ghost invariant = { λ e. e.writes ≤ e.drawn };
+    ghost view = { λ e. without_views e.tables.items e.writes e.drawn e.limits.max_rows };
+
+    ghost invariant = { λ e. (e.writes ≤ e.drawn) × AreNumbered e.tables.items e.drawn };
 }
 
 impl Engine {
@@ -54,7 +60,7 @@ impl Engine {
 
     /// How many writes were accepted.
     pub fn now(&self) -> u64
-        ensures { result ≡ self.now.writes }
+        ensures { result ≡ self.now.now }
     {
         self.writes
     }
@@ -82,7 +88,13 @@ impl Engine {
         requires { self.old.drawn < 2 ^ 64 - 1 }
         ensures { Step self.old (statements.CreateTable name.now columns.now) result self.new }
     {
-        create_in(self.alloc, &mut self.tables, name, columns.as_slice())?;
+        create_in(
+            self.alloc,
+            &mut self.tables,
+            self.drawn,
+            name,
+            columns.as_slice(),
+        )?;
         self.drawn += 1;
         Ok(Answer::Done)
     }

@@ -1,10 +1,10 @@
 //! The rows that an INSERT brings.
-ghost use Rattle.std.specs.Prelude.{◌≡◌, ◌+◌, ◌∷◌, OnErr, Some, [], nat_lt};
+ghost use Rattle.std.specs.Prelude.{◌≡◌, ◌+◌, ◌∷◌, OnErr, Some, [], map, nat_lt};
 ghost use Rattle.std.specs.List.{flat_map};
+ghost use Rattle.cq_steps.specs.Bound.{row_of};
 ghost use Rattle.cq_steps.specs.declared.fault.Fault.TheVariants.{TableFull};
 ghost use Rattle.cq_steps.specs.Refusal.{fault_if, insert_places, row_places};
-ghost use Rattle.cq_steps.specs.Step.{rows_of};
-ghost use Rattle.cq_engine.specs.Statements.{Inserts, row_of};
+ghost use Rattle.cq_engine.specs.Statements.{Inserts};
 ghost use Rattle.cq_engine.specs.Walk.{Passes, Walked};
 
 use crate::literals::{fits_column, literal_number};
@@ -36,7 +36,7 @@ fn checked_rows(
     table: &Table,
     rows: &[Seq<Literal>],
 ) -> Result<Vec<Row>, Fault>
-    ensures { Walked (insert_places max_rows rows.now (Some table.now)) (λ v. v.items ≡ rows_of rows.now) result }
+    ensures { Walked (insert_places max_rows rows.now (Some table.now)) (λ v. v.items ≡ map row_of rows.now) result }
 {
     let made = made_rows(alloc, table.columns().len(), rows)?;
     check_room(max_rows, table.len(), rows.len())?;
@@ -45,7 +45,7 @@ fn checked_rows(
 
 /// The rows of these constants, each of this width.
 fn made_rows(alloc: Global, width: usize, rows: &[Seq<Literal>]) -> Result<Vec<Row>, Fault>
-    ensures { Walked (flat_map (row_places width) rows.now) (λ v. v.items ≡ rows_of rows.now) result }
+    ensures { Walked (flat_map (row_places width) rows.now) (λ v. v.items ≡ map row_of rows.now) result }
 {
     let mut made = Vec::with_capacity(alloc, rows.len())?;
     for row in rows {

@@ -1,6 +1,6 @@
 //! Whole numbers as they are written.
 ghost use Rattle.std.specs.Prelude.{◌≡◌, ◌<◌, ◌^◌};
-ghost use Rattle.cq_model.specs.Query.{literal_value};
+ghost use Rattle.cq_steps.specs.Bound.{literal_value};
 ghost use Rattle.cq_steps.specs.Refusal.{fits_column};
 
 use cq_model::Literal;

@@ -1,8 +1,9 @@
 //! Queries with the places of their columns, answered from a table's rows.
 ghost use Rattle.std.specs.Prelude.{◌≡◌, IfOk, Some, filter, map};
 ghost use Rattle.cq_values.specs.Value.{column};
+ghost use Rattle.cq_steps.specs.Bound.{place_in};
 ghost use Rattle.cq_steps.specs.Refusal.{name_place, select_places, where_places};
-ghost use Rattle.cq_engine.specs.Bound.{IsBound, bound_where, keeps_at, place_in, values_at};
+ghost use Rattle.cq_engine.specs.Bound.{IsBound, bound_where, keeps_at, values_at};
 ghost use Rattle.cq_engine.specs.Statements.{Selects};
 ghost use Rattle.cq_engine.specs.Walk.{Walked};
 

@@ -1,8 +1,9 @@
 //! A table in memory.
-ghost use Rattle.std.specs.Prelude.{◌≡◌, IfOk, OnErr, OnOk, length};
+ghost use Rattle.std.specs.Prelude.{◌≡◌, IfOk, OnErr, OnOk, [], length};
 ghost use Rattle.cq_values.specs.Texts.{is_text};
 ghost use Rattle.cq_bags.specs.Canonical.{bag_of};
-ghost use Rattle.cq_steps.specs.State.{empty_table, with_rows};
+ghost use Rattle.cq_steps.specs.State.{empty_table};
+ghost use Rattle.cq_engine.specs.Statements.{with_more};
 
 use crate::columns::copy_columns;
 use cq_model::ColumnDef;
@@ -13,26 +14,34 @@ use std::marker::Model;
 /// Rows under a name, in the order in which they came. Contracts see the one list that stands for their bag.
 #[derive(Drop)]
 pub struct Table {
+    number: u64,
     name: Text,
     columns: Seq<ColumnDef>,
     rows: Vec<Row>,
 }
 
 impl Model for Table {
+    ghost use Rattle.std.specs.Prelude.{[]};
     ghost use Rattle.cq_bags.specs.Canonical.{bag_of};
     ghost use Rattle.cq_steps.specs.State.{TableOf};
 
     ghost Value = { TableOf };
 
-    ghost view = { λ t. record { name = t.name; columns = t.columns; rows = bag_of t.rows.items } };
+    ghost view = { λ t. record { number = t.number; name = t.name; columns = t.columns; sort = []; rows = bag_of t.rows.items } };
 }
 
 impl Table {
-    /// A table of this name without rows.
-    pub fn new(alloc: Global, name: &Text, columns: &[ColumnDef]) -> Result<Table, AllocError>
-        ensures { IfOk result (λ t. t ≡ empty_table name.now columns.now) }
+    /// A table of this name without rows, under the number that it drew.
+    pub fn new(
+        alloc: Global,
+        number: u64,
+        name: &Text,
+        columns: &[ColumnDef],
+    ) -> Result<Table, AllocError>
+        ensures { IfOk result (λ t. t ≡ empty_table number name.now columns.now []) }
     {
         Ok(Table {
+            number,
             name: name.copy(alloc)?,
             columns: copy_columns(alloc, columns)?,
             rows: Vec::new(alloc),
@@ -66,7 +75,7 @@ impl Table {
 
     /// Adds all of these rows, or none.
     pub fn append(&mut self, rows: Vec<Row>) -> Result<(), AllocError>
-        ensures ok { OnOk result (self.new ≡ with_rows rows.items self.old) }
+        ensures ok { OnOk result (self.new ≡ with_more rows.items self.old) }
         ensures err { OnErr result (self.new ≡ self.old) }
     {
         let mut rows = rows;

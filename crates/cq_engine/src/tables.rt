@@ -16,18 +16,19 @@ use cq_steps::Fault;
 use cq_values::{Row, Seq, Text};
 use std::alloc::Global;
 
-/// CREATE TABLE.
+/// CREATE TABLE, where the table draws this number.
 pub fn create_in(
     alloc: Global,
     tables: &mut Vec<Table>,
+    number: u64,
     name: &Text,
     columns: &[ColumnDef],
 ) -> Result<(), Fault>
-    ensures walk { Creates name.now columns.now tables.old.items tables.new.items result }
+    ensures walk { Creates number name.now columns.now tables.old.items tables.new.items result }
     ensures err { OnErr result (tables.new.items ≡ tables.old.items) }
 {
     check_create(tables, name.as_str(), columns)?;
-    tables.push(Table::new(alloc, name, columns)?)?;
+    tables.push(Table::new(alloc, number, name, columns)?)?;
     Ok(())
 }
 

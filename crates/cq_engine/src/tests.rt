@@ -4,7 +4,7 @@ ghost use Rattle.std.specs.Prelude.{[]};
 use super::*;
 use cq_model::{ColumnDef, Comparison, Condition, Literal, Select};
 use cq_steps::{Answer, Fault};
-use cq_values::{Seq, Text, Value};
+use cq_values::{Seq, Text, Ty, Value};
 use std::alloc::{AllocError, Global};
 use std::process::Abort;
 use std::test::Fail;
@@ -44,15 +44,19 @@ fn row(alloc: Global, first: Literal, second: Literal) -> Result<Seq<Literal>, A
     Ok(row)
 }
 
+fn integer_column(alloc: Global, name: &str) -> Result<ColumnDef, AllocError> {
+    Ok(ColumnDef {
+        name: Text::new(alloc, name)?,
+        ty: Ty::Integer,
+        not_null: false,
+    })
+}
+
 /// CREATE TABLE t (a INTEGER, b INTEGER)
 fn creation(alloc: Global) -> Result<Command, AllocError> {
     let mut columns = Seq::new(alloc);
-    columns.push(ColumnDef {
-        name: Text::new(alloc, "a")?,
-    })?;
-    columns.push(ColumnDef {
-        name: Text::new(alloc, "b")?,
-    })?;
+    columns.push(integer_column(alloc, "a")?)?;
+    columns.push(integer_column(alloc, "b")?)?;
     let name = Text::new(alloc, "t")?;
     Ok(Command::CreateTable { name, columns })
 }

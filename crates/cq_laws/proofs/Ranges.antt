@@ -18,7 +18,7 @@ use Rattle.cq_model.specs.Group.{count_all, key_of, rows_of_key, keys_of, InRang
 use Rattle.cq_model.specs.declared.query.Source.{Source}
 use Rattle.cq_model.specs.declared.query.Source.TheVariants.{Table, View}
 use Rattle.cq_model.specs.Meaning.{Tables, joined_rows, ShapeInRange, MeaningInRange}
-use Rattle.cq_model.specs.Views.{tables_alone, with_views, SourceInRange, AnswerInRange}
+use Rattle.cq_model.specs.Views.{tables_alone, view_bag, with_views, ViewInRange, SourceInRange, sources_of, AnswerInRange}
 use Rattle.cq_laws.proofs.Groups.{IsRowOf, rows-respect, sum-respects}
 use Rattle.cq_laws.proofs.Meanings.{joined_rows-respects, meaning-respects}
 
@@ -83,18 +83,28 @@ alone-respect tables others s = record { at = each }
     each (View v) = same-refl []
 
 -- a view's bag depends on the tables' bags alone
-pub views-respect : (tables others : ℕ → Weighted) (queries : ℕ → Query) → ((t : ℕ) → SameBag (tables t) (others t)) → SameTables (with_views tables queries) (with_views others queries)
+view-respects : (tables others : ℕ → Weighted) (query : Option Query) → ((t : ℕ) → SameBag (tables t) (others t)) → SameBag (view_bag tables query) (view_bag others query)
+view-respects tables others None s = same-refl []
+view-respects tables others (Some q) s = meaning-respects q (tables_alone tables) (tables_alone others) (alone-respect tables others s)
+
+-- and so does what each source names
+pub views-respect : (tables others : ℕ → Weighted) (queries : ℕ → Option Query) → ((t : ℕ) → SameBag (tables t) (others t)) → SameTables (with_views tables queries) (with_views others queries)
 views-respect tables others queries s = record { at = each }
   where
     each : (source : Source) → SameBag (with_views tables queries source) (with_views others queries source)
     each (Table t) = s t
-    each (View v) = meaning-respects (queries v) (tables_alone tables) (tables_alone others) (alone-respect tables others s)
+    each (View v) = view-respects tables others (queries v) s
 
-module _ (tables others : ℕ → Weighted) (queries : ℕ → Query) (s : (t : ℕ) → SameBag (tables t) (others t)) where
+-- whether a view's totals can be shown, too
+view_range-respects : (tables others : ℕ → Weighted) (query : Option Query) → ((t : ℕ) → SameBag (tables t) (others t)) → ViewInRange tables query → ViewInRange others query
+view_range-respects tables others None s h = tt
+view_range-respects tables others (Some q) s h = (range-respects q (tables_alone tables) (tables_alone others) (alone-respect tables others s)).0 h
+
+module _ (tables others : ℕ → Weighted) (queries : ℕ → Option Query) (s : (t : ℕ) → SameBag (tables t) (others t)) where
   -- one source
   source_range-respects : (source : Source) → SourceInRange tables queries source → SourceInRange others queries source
   source_range-respects (Table t) h = tt
-  source_range-respects (View v) h = (range-respects (queries v) (tables_alone tables) (tables_alone others) (alone-respect tables others s)).0 h
+  source_range-respects (View v) h = view_range-respects tables others (queries v) s h
 
   -- all sources that FROM names
   source_ranges-respect : (sources : List Source) → AllByRecursion (SourceInRange tables queries) sources → AllByRecursion (SourceInRange others queries) sources
@@ -105,10 +115,10 @@ module _ (tables others : ℕ → Weighted) (queries : ℕ → Query) (s : (t : 
   answer_range-respects : (q : Query) → AnswerInRange tables queries q → AnswerInRange others queries q
   answer_range-respects q h = record {
     own = (range-respects q (with_views tables queries) (with_views others queries) (views-respect tables others queries s)).0 h.own;
-    named = source_ranges-respect (q.first ∷ map (λ j. j.source) q.joins) h.named;
+    named = source_ranges-respect (sources_of q) h.named;
   }
 
 -- both ways
-pub answer-respects : (tables others : ℕ → Weighted) (queries : ℕ → Query) → ((t : ℕ) → SameBag (tables t) (others t)) → (q : Query) → AnswerInRange tables queries q ↔ AnswerInRange others queries q
+pub answer-respects : (tables others : ℕ → Weighted) (queries : ℕ → Option Query) → ((t : ℕ) → SameBag (tables t) (others t)) → (q : Query) → AnswerInRange tables queries q ↔ AnswerInRange others queries q
 answer-respects tables others queries s q =
     (answer_range-respects tables others queries s q, answer_range-respects others tables queries (λ t. same-sym (tables t) (others t) (s t)) q)

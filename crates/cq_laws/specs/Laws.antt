@@ -97,14 +97,14 @@ abbrev pub MeaningDependsOnBags : Type 0
 MeaningDependsOnBags = (q : Query) (tables others : Tables) → SameTables tables others → MeansSame q tables others
 
 -- a query that may name views means one bag over both, and answers over both
-pub record AnswersSame (tables others : ℕ → Weighted) (queries : ℕ → Query) (q : Query) : Type 0 where
+pub record AnswersSame (tables others : ℕ → Weighted) (queries : ℕ → Option Query) (q : Query) : Type 0 where
   pub bag : SameBag (meaning q (with_views tables queries)) (meaning q (with_views others queries))
   pub range : AnswerInRange tables queries q ↔ AnswerInRange others queries q
 
 -- through the views that it names too, a query depends on the tables' bags alone
 abbrev pub ViewsDependOnBags : Type 0
 ViewsDependOnBags =
-    (tables others : ℕ → Weighted) (queries : ℕ → Query) (q : Query) → ((t : ℕ) → SameBag (tables t) (others t))
+    (tables others : ℕ → Weighted) (queries : ℕ → Option Query) (q : Query) → ((t : ℕ) → SameBag (tables t) (others t))
     → AnswersSame tables others queries q
 
 -- over bags a query means a bag, with no negative row

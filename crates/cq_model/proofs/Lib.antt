@@ -4,3 +4,4 @@ pub mod Evals
 pub mod Extents
 pub mod Conditions
 pub mod Bounds
+pub mod Widths

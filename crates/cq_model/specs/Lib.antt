@@ -4,7 +4,6 @@ pub mod Tokens
 pub mod Sentence
 pub mod Pieces
 pub mod Comparison
-pub mod Query
 pub mod Eval
 pub mod Like
 pub mod Front
@@ -12,6 +11,7 @@ pub mod Condition
 pub mod Width
 pub mod Group
 pub mod Meaning
+pub mod Write
 pub mod Views
 pub mod Delta
 pub mod Pushed

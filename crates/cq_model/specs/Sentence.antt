@@ -1,5 +1,6 @@
 -- The trees of statements and the token lists that they have (docs/LANGUAGE.md, Statements).
 use Rattle.std.specs.Prelude.{◌≡◌, ℕ, Bool, true, false, List, [], ◌∷◌, ◌++◌, Option, Some, None}
+use Rattle.cq_values.specs.declared.ty.Ty.TheVariants as types
 use Rattle.cq_model.specs.declared.token.Keyword.TheVariants as keywords
 use Rattle.cq_model.specs.declared.token.Symbol.{Symbol}
 use Rattle.cq_model.specs.declared.token.Symbol.TheVariants as symbols
@@ -24,9 +25,13 @@ Separated Is (x ∷ y ∷ ys) ts = (front rest : List Token) × (ts ≡ front ++
 abbrev pub IsName : List ℕ → List Token → Type 0
 IsName n ts = ts ≡ tokens.Name n ∷ []
 
+-- a column of whole numbers that may be NULL
+abbrev pub integer_column : List ℕ → ColumnDef
+integer_column name = record { name = name; ty = types.Integer; not_null = false }
+
 -- name INTEGER
 abbrev pub IsColumn : ColumnDef → List Token → Type 0
-IsColumn d ts = ts ≡ tokens.Name d.name ∷ tokens.Keyword keywords.Integer ∷ []
+IsColumn d ts = (d ≡ integer_column d.name) × (ts ≡ tokens.Name d.name ∷ tokens.Keyword keywords.Integer ∷ [])
 
 abbrev pub sign_tokens : Bool → List Token
 sign_tokens true = tokens.Symbol symbols.Minus ∷ []

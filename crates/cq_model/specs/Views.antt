@@ -1,5 +1,5 @@
 -- What a view's name in FROM stands for.
-use Rattle.std.specs.Prelude.{ℕ, [], ◌∷◌, map}
+use Rattle.std.specs.Prelude.{ℕ, List, [], ◌∷◌, map, Option, Some, None}
 use Rattle.std.specs.List.{AllByRecursion}
 use Rattle.cq_bags.specs.Bag.{Weighted}
 use Rattle.cq_model.specs.declared.query.Query.{Query}
@@ -12,17 +12,31 @@ abbrev pub tables_alone : (ℕ → Weighted) → Tables
 tables_alone tables (Table t) = tables t
 tables_alone tables (View v) = []
 
+-- the bag of a view's query, and no row where there is no such view
+abbrev pub view_bag : (ℕ → Weighted) → Option Query → Weighted
+view_bag tables None = []
+view_bag tables (Some q) = meaning q (tables_alone tables)
+
 -- a table's name stands for its bag, and a view's for its query's bag
-abbrev pub with_views : (ℕ → Weighted) → (ℕ → Query) → Tables
+abbrev pub with_views : (ℕ → Weighted) → (ℕ → Option Query) → Tables
 with_views tables queries (Table t) = tables t
-with_views tables queries (View v) = meaning (queries v) (tables_alone tables)
+with_views tables queries (View v) = view_bag tables (queries v)
+
+-- the totals of a view can be shown
+abbrev pub ViewInRange : (ℕ → Weighted) → Option Query → Type 0
+ViewInRange tables None = Unit {0}
+ViewInRange tables (Some q) = MeaningInRange q (tables_alone tables)
 
 -- the totals of a view that is named can be shown
-abbrev pub SourceInRange : (ℕ → Weighted) → (ℕ → Query) → Source → Type 0
+abbrev pub SourceInRange : (ℕ → Weighted) → (ℕ → Option Query) → Source → Type 0
 SourceInRange tables queries (Table t) = Unit {0}
-SourceInRange tables queries (View v) = MeaningInRange (queries v) (tables_alone tables)
+SourceInRange tables queries (View v) = ViewInRange tables (queries v)
+
+-- the sources that a query names, in their order
+abbrev pub sources_of : Query → List Source
+sources_of q = q.first ∷ map (λ j. j.source) q.joins
 
 -- the totals of a query and of each view that FROM names can be shown
-pub record AnswerInRange (tables : ℕ → Weighted) (queries : ℕ → Query) (q : Query) : Type 0 where
+pub record AnswerInRange (tables : ℕ → Weighted) (queries : ℕ → Option Query) (q : Query) : Type 0 where
   pub own : MeaningInRange q (with_views tables queries)
-  pub named : AllByRecursion (SourceInRange tables queries) (q.first ∷ map (λ j. j.source) q.joins)
+  pub named : AllByRecursion (SourceInRange tables queries) (sources_of q)

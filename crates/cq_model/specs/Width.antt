@@ -1,5 +1,5 @@
 -- How large the values of an expression can be, at a row and while the columns keep bounds.
-use Rattle.std.specs.Prelude.{◌≤◌, ℕ, ◌+◌, ◌*◌, max, nat_abs, List, map, fold, slice_index_or}
+use Rattle.std.specs.Prelude.{◌≤◌, ℕ, ◌+◌, ◌*◌, ◌^◌, if◌then◌else◌, nat_lt, max, nat_abs, Option, Some, None, List, map, fold, slice_index_or}
 use Rattle.cq_values.specs.declared.value.Value.{Value}
 use Rattle.cq_values.specs.declared.value.Value.TheVariants.{Number}
 use Rattle.cq_values.specs.Value.{Row, column}
@@ -99,6 +99,10 @@ bound e columns = width e (bounds_of columns)
 -- the width that no value in a condition exceeds while the columns keep their bounds
 abbrev pub widest_bound : Cond → List ℕ → ℕ
 widest_bound c columns = widest_in c (bounds_of columns)
+
+-- the size of what has no value too wide on the way to it
+abbrev pub fitting : Extent → Option ℕ
+fitting x = if nat_lt x.widest (2 ^ 127) then Some x.size else None
 
 -- each value of the row is within the bound of its column
 abbrev pub KeepsBounds : List ℕ → Row → Type 0

@@ -6,6 +6,7 @@
 //! [`eval_row`] and [`holds_row`] are what an expression and a condition mean in a row.
 #![tactic(auto)]
 
+mod bound;
 mod eval;
 mod expr;
 mod pattern;
@@ -15,7 +16,9 @@ mod statement;
 mod tests;
 mod token;
 mod truth;
+mod width;
 
+pub use bound::{Assignment, Bound};
 pub use eval::{bound_holds, eval_row, lend_column};
 pub use expr::{Cond, DayPart, Expr};
 pub use pattern::{like, like_decides};
@@ -23,3 +26,4 @@ pub use query::{Aggregate, Equality, Join, Order, Query, Shape, Source};
 pub use statement::{ColumnDef, Comparison, Condition, Literal, Select, Statement};
 pub use token::{Keyword, Symbol, Token};
 pub use truth::{compare, holds_row};
+pub use width::{fits, width_of};

@@ -1,5 +1,5 @@
 //! Statements as trees.
-use cq_values::{Seq, Text};
+use cq_values::{Seq, Text, Ty};
 
 /// A whole number with its sign. The greatest magnitude stands for every number from it on.
 #[derive(Clone, Copy, Debug, PartialEq, Eq)]
@@ -19,10 +19,12 @@ pub enum Comparison {
     GreaterOrEqual,
 }
 
-/// A column as CREATE TABLE declares it. Its type is INTEGER.
+/// A column of a table, or of a view.
 #[derive(Debug, Drop)]
 pub struct ColumnDef {
     pub name: Text,
+    pub ty: Ty,
+    pub not_null: bool,
 }
 
 /// A column compared with a number.

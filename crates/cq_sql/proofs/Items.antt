@@ -11,7 +11,7 @@ use Rattle.cq_model.specs.declared.statement.Comparison.{Comparison}
 use Rattle.cq_model.specs.declared.statement.Comparison.TheVariants as comparisons
 use Rattle.cq_model.specs.declared.statement.Condition.{Condition}
 use Rattle.cq_model.specs.declared.statement.Literal.{Literal}
-use Rattle.cq_model.specs.Sentence.{Separated, IsName, IsColumn, IsLiteral, IsRow, sign_tokens, comparison_symbol}
+use Rattle.cq_model.specs.Sentence.{Separated, IsName, integer_column, IsColumn, IsLiteral, IsRow, sign_tokens, comparison_symbol}
 use Rattle.cq_sql.specs.Grammar.{name_at, column_at, literal_at, row_at, comparison_of, comparison_at, condition_at}
 use Rattle.cq_sql.proofs.Exact.{Reads, Anything, Done, After, Then, bind_some, parts_of, keyword_takes, symbol_takes, by_same, done_reads, behind_reads, then_reads, next_reads}
 use Rattle.cq_sql.proofs.Lists.{list_reads}
@@ -34,27 +34,32 @@ name_some n front h = omega (arith, ap (λ (ts : List Token). length ts) h)
 
 -- name INTEGER
 abbrev ColumnParts : ColumnDef → List Token → Type 0
-ColumnParts = Then IsName (λ name. After (tokens.Keyword keywords.Integer) (Done (record { name = name })))
+ColumnParts = Then IsName (λ name. After (tokens.Keyword keywords.Integer) (Done (integer_column name)))
 
 -- what follows the name of a column is its type
 column_parts : Reads Anything ColumnParts column_at
 unfolding column_at
-column_parts = next_reads name_reads (λ name. behind_reads (keyword_takes keywords.Integer) (done_reads (record { name = name })))
+column_parts = next_reads name_reads (λ name. behind_reads (keyword_takes keywords.Integer) (done_reads (integer_column name)))
 
 -- columns are read exactly
 pub column_reads : Reads Anything IsColumn column_at
 column_reads = by_same column_parts to from where
   to : (d : ColumnDef) (ts : List Token) → IsColumn d ts → ColumnParts d ts
-  to d ts h = (d.name, tokens.Name d.name ∷ [], tokens.Keyword keywords.Integer ∷ [], h, refl, ([], refl, (refl, refl)))
+  to d ts h = (d.name, tokens.Name d.name ∷ [], tokens.Keyword keywords.Integer ∷ [], h.1, refl, ([], refl, (h.0, refl)))
 
   from : (d : ColumnDef) (ts : List Token) → ColumnParts d ts → IsColumn d ts
   from d ts h =
       let type = h.5 in
-      rw (h.3, h.4, type.1, type.2.1) (ap (λ (x : ColumnDef). tokens.Name x.name ∷ tokens.Keyword keywords.Integer ∷ []) (sym type.2.0))
+      let declared : d ≡ integer_column h.0 = type.2.0 in
+      let name : h.0 ≡ d.name = ap (λ (x : ColumnDef). x.name) (sym declared) in
+      (
+        declared ∙ ap integer_column name,
+        rw (h.3, h.4, type.1, type.2.1) (ap (λ (n : List ℕ). tokens.Name n ∷ tokens.Keyword keywords.Integer ∷ []) name),
+      )
 
 -- a column has a token
 pub column_some : (d : ColumnDef) (front : List Token) → IsColumn d front → 0 < length front
-column_some d front h = omega (arith, ap (λ (ts : List Token). length ts) h)
+column_some d front h = omega (arith, ap (λ (ts : List Token). length ts) h.1)
 
 -- constants are read exactly, with their signs
 pub literal_reads : Reads Anything IsLiteral literal_at

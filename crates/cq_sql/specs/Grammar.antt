@@ -12,6 +12,7 @@ use Rattle.cq_model.specs.declared.statement.Condition.{Condition}
 use Rattle.cq_model.specs.declared.statement.Literal.{Literal}
 use Rattle.cq_model.specs.declared.statement.Statement.{Statement}
 use Rattle.cq_model.specs.declared.statement.Statement.TheVariants as statements
+use Rattle.cq_model.specs.Sentence.{integer_column}
 use Rattle.cq_sql.specs.Read.{◌>>=◌, Reader, done, followed_by, behind, after_keyword, after_symbol, list_at, tail_at}
 
 -- takes a name from the front, as it is spelled in lower case
@@ -21,7 +22,7 @@ name_at ts = None
 
 -- takes a column: its name, and then its type
 unfoldable pub column_at : Reader ColumnDef
-column_at = followed_by name_at (λ name. behind (after_keyword keywords.Integer) (done (record { name = name })))
+column_at = followed_by name_at (λ name. behind (after_keyword keywords.Integer) (done (integer_column name)))
 
 -- takes a whole number, with or without a minus in front
 abbrev pub literal_at : Reader Literal

@@ -11,7 +11,7 @@ use crate::read::{Readable, expect_keyword, expect_symbol, list_of, tail_of};
 use cq_model::{
     ColumnDef, Comparison, Condition, Keyword, Literal, Select, Statement, Symbol, Token,
 };
-use cq_values::{Seq, Text};
+use cq_values::{Seq, Text, Ty};
 use std::alloc::Global;
 
 impl Readable for Text {
@@ -32,7 +32,12 @@ impl Readable for ColumnDef {
     fn read(alloc: Global, tokens: &[Token]) -> Result<(ColumnDef, &[Token]), SqlFault> {
         let (name, rest) = Text::read(alloc, tokens)?;
         let rest = expect_keyword(Keyword::Integer, rest)?;
-        Ok((ColumnDef { name }, rest))
+        let column = ColumnDef {
+            name,
+            ty: Ty::Integer,
+            not_null: false,
+        };
+        Ok((column, rest))
     }
 }
 

@@ -1,108 +1,122 @@
--- What a script is answered with is decided by which statements were refused for want of memory.
-use Rattle.std.proofs.Common.{◌≡◌, ℕ, Bool, true, false, List, [], ◌∷◌, map, Option, Some, None, Result, Ok, Err, refl, sym, ap, subst, ◌∙◌}
-use Rattle.std.specs.Prelude.{IfSome}
+-- What a script is answered with is decided by which statements were refused for want of memory, and which sources failed.
+use Rattle.std.proofs.Common.{◌≡◌, ◌⊎◌, inl, inr, ℕ, Bool, true, false, List, [], ◌∷◌, map, Option, Some, None, Result, Ok, Err, refl, sym, ap, subst, ◌∙◌}
+use Rattle.std.specs.Prelude.{option_map}
 use Rattle.cq_values.specs.Value.{Row}
-use Rattle.cq_bags.specs.Bag.{Weighted, once_each}
+use Rattle.cq_bags.specs.Bag.{Weighted}
 use Rattle.cq_bags.specs.Listing.{IsListing}
 use Rattle.cq_bags.specs.declared.sort_key.SortKey.{SortKey}
-use Rattle.cq_model.specs.declared.statement.Select.{Select}
+use Rattle.cq_model.specs.declared.bound.Bound.{Bound}
+use Rattle.cq_model.specs.declared.bound.Bound.TheVariants as commands
 use Rattle.cq_model.specs.declared.statement.Statement.{Statement}
 use Rattle.cq_model.specs.declared.statement.Statement.TheVariants as statements
 use Rattle.cq_model.specs.declared.token.Token.{Token}
-use Rattle.cq_model.specs.Query.{meaning}
 use Rattle.cq_model.specs.Tokens.{HasTokens, is_past_limits}
 use Rattle.cq_model.specs.Sentence.{IsStatement, IsSentence, IsNoSentence, IsPastLimits}
 use Rattle.cq_model.specs.Pieces.{PieceOf, HasPieces}
 use Rattle.cq_steps.specs.declared.answer.Answer.{Answer}
-use Rattle.cq_steps.specs.declared.answer.Answer.TheVariants.{Done, Count, Rows}
+use Rattle.cq_steps.specs.declared.answer.Answer.TheVariants.{Rows}
 use Rattle.cq_steps.specs.declared.fault.Fault.{Fault}
 use Rattle.cq_steps.specs.declared.fault.Fault.TheVariants as faults
-use Rattle.cq_steps.specs.State.{State, TableOf, table_named, first_state}
-use Rattle.cq_steps.specs.Refusal.{first_fault, select_places, refusal}
-use Rattle.cq_steps.specs.Step.{Step, Accepts, MayRefuse}
-use Rattle.cq_steps.specs.Output.{Serves, rest_without_semicolon, sentence, no_sentence, past_limits, out_of_memory, Runs, statements_among, not_utf8, answered, is_for_memory, MemoryDecides}
+use Rattle.cq_steps.specs.State.{TableOf, State, table_named, first_state}
+use Rattle.cq_steps.specs.Bound.{bound, row_of, bound_select}
+use Rattle.cq_steps.specs.Refusal.{first_fault, create_places, insert_places, select_places, refusal}
+use Rattle.cq_steps.specs.Step.{Step, Does, Accepts, IsTooLarge, Refuses, by_walk, for_memory, source_failed, memory_on_the_way, too_large}
+use Rattle.cq_steps.specs.Output.{Serves, rest_without_semicolon, sentence, no_sentence, past_limits, out_of_memory, no_text, Runs, statements_among, not_utf8, answered, outside, RefusalsDecide}
+use Rattle.cq_steps.proofs.Alike.{Alike, alike_same, alike_turned, alike_then, gives-up-alike, SameAnswer, accepts-rows, accepts-alike, not-too-large}
 
 abbrev Outcome : Type 0
 Outcome = Result Answer Fault
 
--- one outcome and one state after it
+-- one outcome, and states after it that are alike
 pub record Same (o p : Outcome) (x y : State) : Type 0 where
   pub outcome : o ≡ p
-  pub state : x ≡ y
+  pub states : Alike x y
 
--- a refusal that is not for memory is that of the walk
-refused_by_walk : (refused : Option Fault) (f : Fault) → MayRefuse refused f → is_for_memory (Err f) ≡ false → refused ≡ Some f
-refused_by_walk refused faults.Memory m e = absurd (cc)
-refused_by_walk refused faults.NotUtf8 m e = m
-refused_by_walk refused faults.Syntax m e = m
-refused_by_walk refused faults.UnknownTable m e = m
-refused_by_walk refused faults.UnknownColumn m e = m
-refused_by_walk refused faults.NameTaken m e = m
-refused_by_walk refused faults.TypeMismatch m e = m
-refused_by_walk refused faults.TooWide m e = m
-refused_by_walk refused faults.NumberOutside m e = m
-refused_by_walk refused faults.TableFull m e = m
-refused_by_walk refused faults.LimitExceeded m e = m
+-- a refusal that is from outside is the one that it is told as
+from_outside : (f g : Fault) → outside (Err f) ≡ Some g → f ≡ g
+from_outside faults.Memory g e = cc
+from_outside faults.SourceFailed g e = cc
+from_outside faults.NotUtf8 g e = absurd (cc)
+from_outside faults.Syntax g e = absurd (cc)
+from_outside faults.UnknownTable g e = absurd (cc)
+from_outside faults.UnknownColumn g e = absurd (cc)
+from_outside faults.NameTaken g e = absurd (cc)
+from_outside faults.TypeMismatch g e = absurd (cc)
+from_outside faults.TooWide g e = absurd (cc)
+from_outside faults.NumberOutside g e = absurd (cc)
+from_outside faults.TableFull g e = absurd (cc)
+from_outside faults.SumOutOfRange g e = absurd (cc)
+from_outside faults.LimitExceeded g e = absurd (cc)
 
--- the refusal that is for memory is one
-for_memory : (f : Fault) → is_for_memory (Err f) ≡ true → f ≡ faults.Memory
-for_memory faults.Memory e = refl
-for_memory faults.NotUtf8 e = absurd (cc)
-for_memory faults.Syntax e = absurd (cc)
-for_memory faults.UnknownTable e = absurd (cc)
-for_memory faults.UnknownColumn e = absurd (cc)
-for_memory faults.NameTaken e = absurd (cc)
-for_memory faults.TypeMismatch e = absurd (cc)
-for_memory faults.TooWide e = absurd (cc)
-for_memory faults.NumberOutside e = absurd (cc)
-for_memory faults.TableFull e = absurd (cc)
-for_memory faults.LimitExceeded e = absurd (cc)
+-- the walk sees tables and the limit of rows alone
+refusal-alike : (x y : State) (s : Statement) → Alike x y → refusal x s ≡ refusal y s
+refusal-alike x y (statements.CreateTable name columns) a = ap (λ (ts : List TableOf). first_fault (create_places name columns ts)) a.tables
+refusal-alike x y (statements.Insert name rows) a = λ i. first_fault (insert_places (a.max_rows i) rows (table_named name (a.tables i)))
+refusal-alike x y (statements.Select q) a = ap (λ (ts : List TableOf). first_fault (select_places q (table_named q.table ts))) a.tables
 
-both_refused : (refused : Option Fault) (f g : Fault) (b : Bool) → is_for_memory (Err f) ≡ b → is_for_memory (Err g) ≡ b → MayRefuse refused f → MayRefuse refused g → f ≡ g
-both_refused refused f g true e k m n = for_memory f e ∙ sym (for_memory g k)
-both_refused refused f g false e k m n =
-    let one = refused_by_walk refused f m e in
-    let two = refused_by_walk refused g n k in
-    cc
+-- and so does the resolving of names
+bound-alike : (x y : State) (s : Statement) → Alike x y → bound x s ≡ bound y s
+bound-alike x y (statements.CreateTable name columns) a = refl
+bound-alike x y (statements.Insert name rows) a = ap (λ (ts : List TableOf). option_map (λ t. commands.Insert t.number (map row_of rows)) (table_named name ts)) a.tables
+bound-alike x y (statements.Select q) a = ap (λ (ts : List TableOf). option_map (bound_select q) (table_named q.table ts)) a.tables
 
--- a statement that is accepted has no refusal
-accepted_or_refused : (refused : Option Fault) (f : Fault) → refused ≡ None → MayRefuse refused f → is_for_memory (Err f) ≡ false → ⊥
-accepted_or_refused refused f none m e = let one = refused_by_walk refused f m e in cc
+-- a refused statement leaves a state that is alike
+refused-alike : (x : State) (s : Statement) (f : Fault) (y : State) → Refuses x s f y → Alike y x
+refused-alike x s f y (by_walk refused same) = alike_same y x same
+refused-alike x s f y (for_memory is same) = alike_same y x same
+refused-alike x s f y (source_failed reads is same) = alike_same y x same
+refused-alike x s f y (memory_on_the_way command free is_bound is gives) = gives-up-alike x command y gives
+refused-alike x s f y (too_large command free is_bound large is gives) = gives-up-alike x command y gives
+
+-- a total that cannot be shown, where no place refuses
+record HasLarge (x : State) (s : Statement) : Type 0 where
+  pub free : refusal x s ≡ None
+  pub command : Bound
+  pub is_bound : bound x s ≡ Some command
+  pub large : IsTooLarge x command
+
+-- a refusal that is not from outside is that of the walk, or of a total
+why : (x : State) (s : Statement) (f : Fault) (y : State) → Refuses x s f y → outside (Err f) ≡ None → (refusal x s ≡ Some f) ⊎ ((f ≡ faults.SumOutOfRange) × HasLarge x s)
+why x s f y (by_walk refused same) e = inl refused
+why x s f y (for_memory is same) e = absurd (let k : outside (Err f) ≡ Some faults.Memory = ap (λ (g : Fault). outside (Err g)) is in cc)
+why x s f y (source_failed reads is same) e = absurd (let k : outside (Err f) ≡ Some faults.SourceFailed = ap (λ (g : Fault). outside (Err g)) is in cc)
+why x s f y (memory_on_the_way command free is_bound is gives) e = absurd (let k : outside (Err f) ≡ Some faults.Memory = ap (λ (g : Fault). outside (Err g)) is in cc)
+why x s f y (too_large command free is_bound large is gives) e = inr (is, record { free = free; command = command; is_bound = is_bound; large = large })
+
+-- of two reasons for refusals of one statement
+one_fault : (x y : State) (s : Statement) (f g : Fault) → refusal x s ≡ refusal y s
+    → (refusal x s ≡ Some f) ⊎ ((f ≡ faults.SumOutOfRange) × HasLarge x s) → (refusal y s ≡ Some g) ⊎ ((g ≡ faults.SumOutOfRange) × HasLarge y s) → f ≡ g
+one_fault x y s f g same (inl e) (inl k) = let both : Some f ≡ Some g = sym e ∙ same ∙ k in cc
+one_fault x y s f g same (inl e) (inr k) = let both : Some f ≡ None = sym e ∙ same ∙ k.1.free in absurd (cc)
+one_fault x y s f g same (inr e) (inl k) = let both : None ≡ Some g = sym e.1.free ∙ same ∙ k in absurd (cc)
+one_fault x y s f g same (inr e) (inr k) = e.0 ∙ sym k.0
+
+-- two refusals of one statement that are told alike
+both_refused : (x y : State) (s : Statement) (f g : Fault) (v w : State) (o : Option Fault) → refusal x s ≡ refusal y s → Refuses x s f v → Refuses y s g w → outside (Err f) ≡ o → outside (Err g) ≡ o → f ≡ g
+both_refused x y s f g v w (Some h) same r q e k = from_outside f h e ∙ sym (from_outside g h k)
+both_refused x y s f g v w None same r q e k = one_fault x y s f g same (why x s f v r e) (why y s g w q k)
+
+-- a command that was accepted and the reason for a refusal of it
+accepted_or_refused : (x y : State) (s : Statement) (a : Answer) (v : State) (f : Fault) → Alike x y → Does x s a v → (refusal y s ≡ Some f) ⊎ ((f ≡ faults.SumOutOfRange) × HasLarge y s) → ⊥
+accepted_or_refused x y s a v f same d (inl e) = let both : None ≡ Some f = sym d.free ∙ refusal-alike x y s same ∙ e in cc
+accepted_or_refused x y s a v f same d (inr e) =
+    let commands_same : Some d.command ≡ Some e.1.command = sym d.is_bound ∙ bound-alike x y s same ∙ e.1.is_bound in
+    let one : e.1.command ≡ d.command = cc in
+    not-too-large x y d.command a v same d.accepts (subst (λ (c : Bound). IsTooLarge y c) one e.1.large)
 
 module _ (one_listing : (keys : List SortKey) (limit : Option ℕ) (bag : Weighted) (rows others : List Row) → IsListing keys limit bag rows → IsListing keys limit bag others → rows ≡ others) where
-  one_result : (q : Select) (t : Option TableOf) (rows others : List Row) → first_fault (select_places q t) ≡ None
-      → IfSome t (λ u. IsListing [] None (meaning u.columns q (once_each u.rows)) rows) → IfSome t (λ u. IsListing [] None (meaning u.columns q (once_each u.rows)) others) → rows ≡ others
-  one_result q None rows others free a b = absurd (cc)
-  one_result q (Some u) rows others free a b = one_listing [] None (meaning u.columns q (once_each u.rows)) rows others a b
-
-  accepts_same : (old : State) (s : Statement) (a b : Answer) (x y : State) → refusal old s ≡ None → Accepts old s a x → Accepts old s b y → Same (Ok a) (Ok b) x y
-  accepts_same old (statements.CreateTable name columns) Done Done x y free p q = record { outcome = refl; state = p ∙ sym q }
-  accepts_same old (statements.CreateTable name columns) Done (Count n) x y free p q = absurd q
-  accepts_same old (statements.CreateTable name columns) Done (Rows h r) x y free p q = absurd q
-  accepts_same old (statements.CreateTable name columns) (Count n) b x y free p q = absurd p
-  accepts_same old (statements.CreateTable name columns) (Rows h r) b x y free p q = absurd p
-  accepts_same old (statements.Insert name rows) (Count n) (Count m) x y free p q = record { outcome = ap (λ (k : ℕ). Ok (Count k)) (p.0 ∙ sym q.0); state = p.1 ∙ sym q.1 }
-  accepts_same old (statements.Insert name rows) (Count n) Done x y free p q = absurd q
-  accepts_same old (statements.Insert name rows) (Count n) (Rows h r) x y free p q = absurd q
-  accepts_same old (statements.Insert name rows) Done b x y free p q = absurd p
-  accepts_same old (statements.Insert name rows) (Rows h r) b x y free p q = absurd p
-  accepts_same old (statements.Select s) (Rows h r) (Rows g t) x y free p q =
-      let header : h ≡ g = p.0 ∙ sym q.0 in
-      let rows : r ≡ t = one_result s (table_named s.table old.tables) r t free p.1 q.1 in
-      record { outcome = λ i. Ok (Rows (header i) (rows i)); state = p.2 ∙ sym q.2 }
-  accepts_same old (statements.Select s) (Rows h r) Done x y free p q = absurd q
-  accepts_same old (statements.Select s) (Rows h r) (Count n) x y free p q = absurd q
-  accepts_same old (statements.Select s) Done b x y free p q = absurd p
-  accepts_same old (statements.Select s) (Count n) b x y free p q = absurd p
-
-  -- a statement has one answer, but for want of memory
-  pub step_same : (old : State) (s : Statement) (o p : Outcome) (x y : State) → Step old s o x → Step old s p y → is_for_memory o ≡ is_for_memory p → Same o p x y
-  step_same old s (Ok a) (Ok b) x y h k e = accepts_same old s a b x y h.0 h.1 k.1
-  step_same old s (Ok a) (Err f) x y h k e = absurd (accepted_or_refused (refusal old s) f h.0 k.0 (sym e))
-  step_same old s (Err f) (Ok b) x y h k e = absurd (accepted_or_refused (refusal old s) f k.0 h.0 e)
-  step_same old s (Err f) (Err g) x y h k e = record {
-    outcome = ap (λ (z : Fault). Err z) (both_refused (refusal old s) f g (is_for_memory (Err g)) e refl h.0 k.0);
-    state = h.1 ∙ sym k.1;
+  -- a statement has one answer, but for what comes from outside
+  pub step_same : (x y : State) (s : Statement) (o p : Outcome) (v w : State) → Alike x y → Step x s o v → Step y s p w → outside o ≡ outside p → Same o p v w
+  step_same x y s (Ok a) (Ok b) v w same h k e =
+      let commands_same : Some k.command ≡ Some h.command = sym k.is_bound ∙ sym (bound-alike x y s same) ∙ h.is_bound in
+      let one : k.command ≡ h.command = cc in
+      let answers = accepts-alike one_listing x y h.command a b v w same h.accepts (subst (λ (c : Bound). Accepts y c b w) one k.accepts) in
+      record { outcome = ap (λ (z : Answer). Ok z) answers.answer; states = answers.states }
+  step_same x y s (Ok a) (Err f) v w same h k e = absurd (accepted_or_refused x y s a v f same h (why y s f w k (sym e)))
+  step_same x y s (Err f) (Ok b) v w same h k e = absurd (accepted_or_refused y x s b w f (alike_turned x y same) k (why x s f v h e))
+  step_same x y s (Err f) (Err g) v w same h k e = record {
+    outcome = ap (λ (z : Fault). Err z) (both_refused x y s f g v w (outside (Err g)) (refusal-alike x y s same) h k e refl);
+    states = alike_then v x w (refused-alike x s f v h) (alike_then x y w same (alike_turned w y (refused-alike y s g w k)));
   }
 
   module _ (one_cut : (text : List ℕ) (ts us : List Token) → HasTokens text ts → HasTokens text us → ts ≡ us) (one_tree : (ts : List Token) (s t : Statement) → IsStatement s ts → IsStatement t ts → s ≡ t) where
@@ -121,71 +135,90 @@ module _ (one_listing : (keys : List SortKey) (limit : Option ℕ) (bag : Weight
     open_or_closed : (b : Bool) → b ≡ false → b ≡ true → ⊥
     open_or_closed b e k = cc
 
-    same_refusal : (f : Fault) (o p : Outcome) (old x y : State) → o ≡ Err f → p ≡ Err f → x ≡ old → y ≡ old → Same o p x y
-    same_refusal f o p old x y e k h j = record { outcome = e ∙ sym k; state = h ∙ sym j }
+    same_refusal : (f : Fault) (o p : Outcome) (x y v w : State) → Alike x y → o ≡ Err f → p ≡ Err f → v ≡ x → w ≡ y → Same o p v w
+    same_refusal f o p x y v w same e k h j = record {
+      outcome = e ∙ sym k;
+      states = alike_then v x w (alike_same v x h) (alike_then x y w same (alike_turned w y (alike_same w y j)));
+    }
 
-    -- no other outcome is for memory
-    not_for_memory : (o p : Outcome) (f : Fault) → is_for_memory (Err f) ≡ false → o ≡ Err f → p ≡ Err faults.Memory → is_for_memory o ≡ is_for_memory p → ⊥
-    not_for_memory o p f e h k m =
-        let one : is_for_memory o ≡ false = ap is_for_memory h ∙ e in
-        let two : is_for_memory p ≡ true = ap is_for_memory k in
-        cc
+    -- rows leave a state that is alike
+    step_rows : (x : State) (s : Statement) (header : List (List ℕ)) (rows : List Row) (v : State) → Step x s (Ok (Rows header rows)) v → Alike v x
+    step_rows x s header rows v h = accepts-rows x h.command header rows v h.accepts
 
-    -- a step that was refused for memory
-    step_for_memory : (old : State) (s : Statement) (o p : Outcome) (x y : State) → Step old s o x → p ≡ Err faults.Memory → y ≡ old → is_for_memory o ≡ is_for_memory p → Same o p x y
-    step_for_memory old s o p x y h k j e =
-        step_same old s o p x y h (subst (λ (z : Outcome). Step old s z y) (sym k) (tt, j)) e
+    -- an outcome for memory leaves a state that is alike
+    memory_alike : (x : State) (p : PieceOf) (o : Outcome) (v : State) → Serves x p o v → o ≡ Err faults.Memory → Alike v x
+    memory_alike x p o v (rest_without_semicolon c e h) m = alike_same v x h
+    memory_alike x p o v (sentence c s t h) m = refused-alike x s faults.Memory v (subst (λ (z : Outcome). Step x s z v) m h)
+    memory_alike x p o v (no_sentence c n e h) m = alike_same v x h
+    memory_alike x p o v (past_limits c n e h) m = alike_same v x h
+    memory_alike x p o v (out_of_memory c e h) m = alike_same v x h
+    memory_alike x p o v (no_text c s t header rows h e) m = step_rows x s header rows v h
+
+    -- the outcome that is told as one for memory is one
+    told_memory : (o : Outcome) → outside o ≡ Some faults.Memory → o ≡ Err faults.Memory
+    told_memory (Ok a) e = absurd (cc)
+    told_memory (Err f) e = ap (λ (g : Fault). Err g) (from_outside f faults.Memory e)
+
+    -- where one is for memory both are
+    both_for_memory : (x y : State) (p : PieceOf) (o q : Outcome) (v w : State) → Alike x y → Serves x p o v → Serves y p q w → o ≡ Err faults.Memory → outside o ≡ outside q → Same o q v w
+    both_for_memory x y p o q v w a h k e m =
+        let other : q ≡ Err faults.Memory = told_memory q (sym m ∙ ap outside e) in
+        record {
+          outcome = e ∙ sym other;
+          states = alike_then v x w (memory_alike x p o v h e) (alike_then x y w a (alike_turned w y (memory_alike y p q w k other)));
+        }
 
     same_turned : (o p : Outcome) (x y : State) → Same o p x y → Same p o y x
-    same_turned o p x y s = record { outcome = sym s.outcome; state = sym s.state }
+    same_turned o p x y s = record { outcome = sym s.outcome; states = alike_turned x y s.states }
 
-    -- what stands in a script is answered in one way, but for want of memory
-    serves_same : (old : State) (p : PieceOf) (o q : Outcome) (x y : State) → Serves old p o x → Serves old p q y → is_for_memory o ≡ is_for_memory q → Same o q x y
-    serves_same old p o q x y (rest_without_semicolon c e h) (rest_without_semicolon d k j) m = same_refusal faults.Syntax o q old x y e k h j
-    serves_same old p o q x y (rest_without_semicolon c e h) (sentence d s t k) m = absurd (open_or_closed p.closed c d)
-    serves_same old p o q x y (rest_without_semicolon c e h) (no_sentence d n k j) m = absurd (open_or_closed p.closed c d)
-    serves_same old p o q x y (rest_without_semicolon c e h) (past_limits d n k j) m = absurd (open_or_closed p.closed c d)
-    serves_same old p o q x y (rest_without_semicolon c e h) (out_of_memory d k j) m = absurd (open_or_closed p.closed c d)
-    serves_same old p o q x y (sentence c s t h) (rest_without_semicolon d k j) m = absurd (open_or_closed p.closed d c)
-    serves_same old p o q x y (sentence c s t h) (sentence d u v k) m = step_same old s o q x y h (subst (λ (z : Statement). Step old z q y) (one_sentence p.text u s v t) k) m
-    serves_same old p o q x y (sentence c s t h) (no_sentence d n k j) m = absurd (not_both_ways p.text s t n)
-    serves_same old p o q x y (sentence c s t h) (past_limits d n k j) m = absurd (within_or_past p.text t.tokens t.told t.within n)
-    serves_same old p o q x y (sentence c s t h) (out_of_memory d k j) m = step_for_memory old s o q x y h k j m
-    serves_same old p o q x y (no_sentence c n e h) (rest_without_semicolon d k j) m = absurd (open_or_closed p.closed d c)
-    serves_same old p o q x y (no_sentence c n e h) (sentence d s t k) m = absurd (not_both_ways p.text s t n)
-    serves_same old p o q x y (no_sentence c n e h) (no_sentence d l k j) m = same_refusal faults.Syntax o q old x y e k h j
-    serves_same old p o q x y (no_sentence c n e h) (past_limits d l k j) m = absurd (within_or_past p.text l.tokens l.told (n.within l.tokens l.told) l)
-    serves_same old p o q x y (no_sentence c n e h) (out_of_memory d k j) m = absurd (not_for_memory o q faults.Syntax refl e k m)
-    serves_same old p o q x y (past_limits c n e h) (rest_without_semicolon d k j) m = absurd (open_or_closed p.closed d c)
-    serves_same old p o q x y (past_limits c n e h) (sentence d s t k) m = absurd (within_or_past p.text t.tokens t.told t.within n)
-    serves_same old p o q x y (past_limits c n e h) (no_sentence d l k j) m = absurd (within_or_past p.text n.tokens n.told (l.within n.tokens n.told) n)
-    serves_same old p o q x y (past_limits c n e h) (past_limits d l k j) m = same_refusal faults.LimitExceeded o q old x y e k h j
-    serves_same old p o q x y (past_limits c n e h) (out_of_memory d k j) m = absurd (not_for_memory o q faults.LimitExceeded refl e k m)
-    serves_same old p o q x y (out_of_memory c e h) (rest_without_semicolon d k j) m = absurd (open_or_closed p.closed d c)
-    serves_same old p o q x y (out_of_memory c e h) (sentence d s t k) m = same_turned q o y x (step_for_memory old s q o y x k e h (sym m))
-    serves_same old p o q x y (out_of_memory c e h) (no_sentence d n k j) m = absurd (not_for_memory q o faults.Syntax refl k e (sym m))
-    serves_same old p o q x y (out_of_memory c e h) (past_limits d n k j) m = absurd (not_for_memory q o faults.LimitExceeded refl k e (sym m))
-    serves_same old p o q x y (out_of_memory c e h) (out_of_memory d k j) m = same_refusal faults.Memory o q old x y e k h j
+    -- what stands in a script is answered in one way, but for what comes from outside
+    serves_same : (x y : State) (p : PieceOf) (o q : Outcome) (v w : State) → Alike x y → Serves x p o v → Serves y p q w → outside o ≡ outside q → Same o q v w
+    serves_same x y p o q v w a (rest_without_semicolon c e h) (rest_without_semicolon d k j) m = same_refusal faults.Syntax o q x y v w a e k h j
+    serves_same x y p o q v w a (rest_without_semicolon c e h) (sentence d s t k) m = absurd (open_or_closed p.closed c d)
+    serves_same x y p o q v w a (rest_without_semicolon c e h) (no_sentence d n k j) m = absurd (open_or_closed p.closed c d)
+    serves_same x y p o q v w a (rest_without_semicolon c e h) (past_limits d n k j) m = absurd (open_or_closed p.closed c d)
+    serves_same x y p o q v w a (sentence c s t h) (rest_without_semicolon d k j) m = absurd (open_or_closed p.closed d c)
+    serves_same x y p o q v w a (sentence c s t h) (sentence d u r k) m = step_same x y s o q v w a h (subst (λ (z : Statement). Step y z q w) (one_sentence p.text u s r t) k) m
+    serves_same x y p o q v w a (sentence c s t h) (no_sentence d n k j) m = absurd (not_both_ways p.text s t n)
+    serves_same x y p o q v w a (sentence c s t h) (past_limits d n k j) m = absurd (within_or_past p.text t.tokens t.told t.within n)
+    serves_same x y p o q v w a (no_sentence c n e h) (rest_without_semicolon d k j) m = absurd (open_or_closed p.closed d c)
+    serves_same x y p o q v w a (no_sentence c n e h) (sentence d s t k) m = absurd (not_both_ways p.text s t n)
+    serves_same x y p o q v w a (no_sentence c n e h) (no_sentence d l k j) m = same_refusal faults.Syntax o q x y v w a e k h j
+    serves_same x y p o q v w a (no_sentence c n e h) (past_limits d l k j) m = absurd (within_or_past p.text l.tokens l.told (n.within l.tokens l.told) l)
+    serves_same x y p o q v w a (past_limits c n e h) (rest_without_semicolon d k j) m = absurd (open_or_closed p.closed d c)
+    serves_same x y p o q v w a (past_limits c n e h) (sentence d s t k) m = absurd (within_or_past p.text t.tokens t.told t.within n)
+    serves_same x y p o q v w a (past_limits c n e h) (no_sentence d l k j) m = absurd (within_or_past p.text n.tokens n.told (l.within n.tokens n.told) n)
+    serves_same x y p o q v w a (past_limits c n e h) (past_limits d l k j) m = same_refusal faults.LimitExceeded o q x y v w a e k h j
+    serves_same x y p o q v w a (rest_without_semicolon c e h) (out_of_memory d k j) m = same_turned q o w v (both_for_memory y x p q o w v (alike_turned x y a) (out_of_memory d k j) (rest_without_semicolon c e h) k (sym m))
+    serves_same x y p o q v w a (rest_without_semicolon c e h) (no_text d r u header rows j k) m = same_turned q o w v (both_for_memory y x p q o w v (alike_turned x y a) (no_text d r u header rows j k) (rest_without_semicolon c e h) k (sym m))
+    serves_same x y p o q v w a (sentence c s t h) (out_of_memory d k j) m = same_turned q o w v (both_for_memory y x p q o w v (alike_turned x y a) (out_of_memory d k j) (sentence c s t h) k (sym m))
+    serves_same x y p o q v w a (sentence c s t h) (no_text d r u header rows j k) m = same_turned q o w v (both_for_memory y x p q o w v (alike_turned x y a) (no_text d r u header rows j k) (sentence c s t h) k (sym m))
+    serves_same x y p o q v w a (no_sentence c n e h) (out_of_memory d k j) m = same_turned q o w v (both_for_memory y x p q o w v (alike_turned x y a) (out_of_memory d k j) (no_sentence c n e h) k (sym m))
+    serves_same x y p o q v w a (no_sentence c n e h) (no_text d r u header rows j k) m = same_turned q o w v (both_for_memory y x p q o w v (alike_turned x y a) (no_text d r u header rows j k) (no_sentence c n e h) k (sym m))
+    serves_same x y p o q v w a (past_limits c n e h) (out_of_memory d k j) m = same_turned q o w v (both_for_memory y x p q o w v (alike_turned x y a) (out_of_memory d k j) (past_limits c n e h) k (sym m))
+    serves_same x y p o q v w a (past_limits c n e h) (no_text d r u header rows j k) m = same_turned q o w v (both_for_memory y x p q o w v (alike_turned x y a) (no_text d r u header rows j k) (past_limits c n e h) k (sym m))
+    serves_same x y p o q v w a (out_of_memory c e h) k m = both_for_memory x y p o q v w a (out_of_memory c e h) k e m
+    serves_same x y p o q v w a (no_text c s t header rows h e) k m = both_for_memory x y p o q v w a (no_text c s t header rows h e) k e m
 
-    runs_same : (old : State) (ps : List PieceOf) (os qs : List Outcome) (x y : State) → Runs old ps os x → Runs old ps qs y → map is_for_memory os ≡ map is_for_memory qs → os ≡ qs
-    runs_same old [] [] [] x y h k m = refl
-    runs_same old [] [] (q ∷ qs) x y h k m = absurd k
-    runs_same old [] (o ∷ os) qs x y h k m = absurd h
-    runs_same old (p ∷ ps) [] qs x y h k m = absurd h
-    runs_same old (p ∷ ps) (o ∷ os) [] x y h k m = absurd k
-    runs_same old (p ∷ ps) (o ∷ os) (q ∷ qs) x y h k m =
-        let first : is_for_memory o ≡ is_for_memory q = cc in
-        let later : map is_for_memory os ≡ map is_for_memory qs = cc in
-        let one = serves_same old p o q h.0 k.0 h.1 k.1 first in
-        let rest = runs_same h.0 ps os qs x y h.2 (subst (λ (z : State). Runs z ps qs y) (sym one.state) k.2) later in
+    runs_same : (x y : State) (ps : List PieceOf) (os qs : List Outcome) (v w : State) → Alike x y → Runs x ps os v → Runs y ps qs w → map outside os ≡ map outside qs → os ≡ qs
+    runs_same x y [] [] [] v w a h k m = refl
+    runs_same x y [] [] (q ∷ qs) v w a h k m = absurd k
+    runs_same x y [] (o ∷ os) qs v w a h k m = absurd h
+    runs_same x y (p ∷ ps) [] qs v w a h k m = absurd h
+    runs_same x y (p ∷ ps) (o ∷ os) [] v w a h k m = absurd k
+    runs_same x y (p ∷ ps) (o ∷ os) (q ∷ qs) v w a h k m =
+        let first : outside o ≡ outside q = cc in
+        let later : map outside os ≡ map outside qs = cc in
+        let one = serves_same x y p o q h.0 k.0 a h.1 k.1 first in
+        let rest = runs_same h.0 k.0 ps os qs v w one.states h.2 k.2 later in
         let both = one.outcome in
         λ i. both i ∷ rest i
 
-    -- the outcomes of a script are decided by which of them are for want of memory
-    pub memory_decides : ((script : List ℕ) (ps qs : List PieceOf) → HasPieces script ps → HasPieces script qs → ps ≡ qs) → MemoryDecides
-    memory_decides one_split max_rows script xs ys (not_utf8 n e) (not_utf8 l k) m = e ∙ sym k
-    memory_decides one_split max_rows script xs ys (not_utf8 n e) (answered u ps h last r) m = absurd (n u)
-    memory_decides one_split max_rows script xs ys (answered u ps h last r) (not_utf8 n e) m = absurd (n u)
-    memory_decides one_split max_rows script xs ys (answered u ps h last r) (answered v qs k end s) m =
-        runs_same (first_state max_rows) (statements_among ps) xs ys last end r
+    -- the outcomes of a script are decided by those that come from outside
+    pub refusals_decide : ((script : List ℕ) (ps qs : List PieceOf) → HasPieces script ps → HasPieces script qs → ps ≡ qs) → RefusalsDecide
+    refusals_decide one_split max_rows script xs ys (not_utf8 n e) (not_utf8 l k) m = e ∙ sym k
+    refusals_decide one_split max_rows script xs ys (not_utf8 n e) (answered u ps h last r) m = absurd (n u)
+    refusals_decide one_split max_rows script xs ys (answered u ps h last r) (not_utf8 n e) m = absurd (n u)
+    refusals_decide one_split max_rows script xs ys (answered u ps h last r) (answered v qs k end s) m =
+        runs_same (first_state max_rows) (first_state max_rows) (statements_among ps) xs ys last end (alike_same (first_state max_rows) (first_state max_rows) refl) r
         (subst (λ (z : List PieceOf). Runs (first_state max_rows) (statements_among z) ys end) (one_split script qs ps k h) s) m

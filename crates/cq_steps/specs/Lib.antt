@@ -1,4 +1,5 @@
 pub mod State
+pub mod Bound
 pub mod Refusal
 pub mod Step
 pub mod Printed

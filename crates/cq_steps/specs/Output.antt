@@ -1,24 +1,28 @@
 -- The output of a script: the texts of its statements' outcomes, one after the other (docs/LANGUAGE.md, Scripts and tokens).
-use Rattle.std.specs.Prelude.{◌≡◌, ℕ, Bool, true, false, not, List, [], ◌∷◌, map, filter, Result, Err}
+use Rattle.std.specs.Prelude.{◌≡◌, ℕ, true, false, not, List, [], ◌∷◌, map, filter, Option, Some, None, Result, Ok, Err}
 use Rattle.std.specs.List.{flat_map}
 use Rattle.std.specs.Str.{IsUtf8}
+use Rattle.cq_values.specs.Value.{Row}
 use Rattle.cq_model.specs.declared.statement.Statement.{Statement}
 use Rattle.cq_model.specs.Sentence.{IsSentence, IsNoSentence, IsPastLimits}
 use Rattle.cq_model.specs.Pieces.{PieceOf, HasPieces}
 use Rattle.cq_steps.specs.declared.answer.Answer.{Answer}
+use Rattle.cq_steps.specs.declared.answer.Answer.TheVariants.{Rows}
 use Rattle.cq_steps.specs.declared.fault.Fault.{Fault}
-use Rattle.cq_steps.specs.declared.fault.Fault.TheVariants.{Memory, NotUtf8, Syntax, LimitExceeded}
+use Rattle.cq_steps.specs.declared.fault.Fault.TheVariants.{Memory, SourceFailed, NotUtf8, Syntax, LimitExceeded}
 use Rattle.cq_steps.specs.State.{State, first_state}
 use Rattle.cq_steps.specs.Step.{Step}
 use Rattle.cq_steps.specs.Printed.{outcome_text}
 
--- what a statement of a script, or what stands in its place, is answered with, and what state it leaves
+-- what a statement of a script, or what stands in its place, is answered with, and what state it leaves; rows may find
+-- no memory for their text
 pub data Serves (old : State) (p : PieceOf) (outcome : Result Answer Fault) (new : State) : Type 0 where
   rest_without_semicolon : p.closed ≡ false → outcome ≡ Err Syntax → new ≡ old → Serves old p outcome new
   sentence : p.closed ≡ true → (s : Statement) → IsSentence p.text s → Step old s outcome new → Serves old p outcome new
   no_sentence : p.closed ≡ true → IsNoSentence p.text → outcome ≡ Err Syntax → new ≡ old → Serves old p outcome new
   past_limits : p.closed ≡ true → IsPastLimits p.text → outcome ≡ Err LimitExceeded → new ≡ old → Serves old p outcome new
   out_of_memory : p.closed ≡ true → outcome ≡ Err Memory → new ≡ old → Serves old p outcome new
+  no_text : p.closed ≡ true → (s : Statement) → IsSentence p.text s → (header : List (List ℕ)) (rows : List Row) → Step old s (Ok (Rows header rows)) new → outcome ≡ Err Memory → Serves old p outcome new
 
 -- the statements are answered one after the other, each in the state that the one before it left
 abbrev pub Runs : State → List PieceOf → List (Result Answer Fault) → State → Type 0
@@ -40,13 +44,14 @@ pub data HasOutcomes (max_rows : ℕ) (script : List ℕ) (outcomes : List (Resu
 abbrev pub output_of : List (Result Answer Fault) → List ℕ
 output_of outcomes = flat_map outcome_text outcomes
 
--- whether a statement was refused for want of memory
-abbrev pub is_for_memory : Result Answer Fault → Bool
-is_for_memory (Err Memory) = true
-is_for_memory outcome = false
+-- a refusal that neither the script nor its files decide: memory was wanting, or the source failed
+abbrev pub outside : Result Answer Fault → Option Fault
+outside (Err Memory) = Some Memory
+outside (Err SourceFailed) = Some SourceFailed
+outside outcome = None
 
--- two runs of a script in which the same statements were refused for want of memory have the same outcomes
-abbrev pub MemoryDecides : Type 0
-MemoryDecides =
+-- two runs of a script that agree on these refusals have the same outcomes
+abbrev pub RefusalsDecide : Type 0
+RefusalsDecide =
     (max_rows : ℕ) (script : List ℕ) (xs ys : List (Result Answer Fault)) → HasOutcomes max_rows script xs → HasOutcomes max_rows script ys
-    → map is_for_memory xs ≡ map is_for_memory ys → xs ≡ ys
+    → map outside xs ≡ map outside ys → xs ≡ ys

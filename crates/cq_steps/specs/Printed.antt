@@ -55,6 +55,7 @@ rows_text header rows = codes "rows " ++ decimal (length rows) ++ 10 ∷ line_te
 -- the number of a refusal and its text
 abbrev pub fault_text : Fault → List ℕ
 fault_text faults.Memory = codes "1 out of memory"
+fault_text faults.SourceFailed = codes "3 source failed"
 fault_text faults.NotUtf8 = codes "9 script not UTF-8"
 fault_text faults.Syntax = codes "10 syntax"
 fault_text faults.UnknownTable = codes "11 unknown table or view"
@@ -64,6 +65,7 @@ fault_text faults.TypeMismatch = codes "15 type mismatch"
 fault_text faults.TooWide = codes "17 expression too wide"
 fault_text faults.NumberOutside = codes "19 number outside 64 bits"
 fault_text faults.TableFull = codes "21 table full"
+fault_text faults.SumOutOfRange = codes "27 sum beyond 128 bits"
 fault_text faults.LimitExceeded = codes "29 limit exceeded"
 
 -- what is written for a statement

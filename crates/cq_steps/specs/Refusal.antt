@@ -1,6 +1,6 @@
 -- Which refusal a statement gets: the walk through its places, each with its fault or none; the first fault wins
 -- (docs/LANGUAGE.md, Refusals).
-use Rattle.std.specs.Prelude.{ℕ, ◌+◌, ◌^◌, nat_lt, nat_le, ◌==◌, Bool, not, if◌then◌else◌, List, [], ◌∷◌, ◌++◌, map, length, Option, Some, None, is_some, is_none}
+use Rattle.std.specs.Prelude.{◌≡◌, ℕ, ◌+◌, ◌^◌, nat_lt, nat_le, ◌==◌, Bool, not, if◌then◌else◌, List, [], ◌∷◌, ◌++◌, map, length, Option, Some, None, is_some, is_none}
 use Rattle.std.specs.List.{list_any, flat_map}
 use Rattle.cq_values.specs.Texts.{is_text}
 use Rattle.cq_model.specs.declared.statement.ColumnDef.{ColumnDef}
@@ -9,9 +9,10 @@ use Rattle.cq_model.specs.declared.statement.Literal.{Literal}
 use Rattle.cq_model.specs.declared.statement.Select.{Select}
 use Rattle.cq_model.specs.declared.statement.Statement.{Statement}
 use Rattle.cq_model.specs.declared.statement.Statement.TheVariants as statements
-use Rattle.cq_model.specs.Query.{column_place}
 use Rattle.cq_steps.specs.declared.fault.Fault.{Fault}
 use Rattle.cq_steps.specs.declared.fault.Fault.TheVariants.{UnknownTable, UnknownColumn, NameTaken, TypeMismatch, TooWide, NumberOutside, TableFull, LimitExceeded}
+use Rattle.cq_steps.specs.declared.fault.Fault.TheVariants as faults
+use Rattle.cq_steps.specs.Bound.{column_place}
 use Rattle.cq_steps.specs.State.{TableOf, State, table_named}
 
 -- the first place that has a fault decides
@@ -78,3 +79,8 @@ places s (statements.Select q) = select_places q (table_named q.table s.tables)
 -- the refusal of a statement, if it has one; want of memory is no part of the walk
 abbrev pub refusal : State → Statement → Option Fault
 refusal s statement = first_fault (places s statement)
+
+-- what a stretch of the walk may be refused with: want of memory may come at any point of it
+abbrev pub MayRefuse : Option Fault → Fault → Type 0
+MayRefuse refused faults.Memory = Unit {0}
+MayRefuse refused f = refused ≡ Some f

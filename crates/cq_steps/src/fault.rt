@@ -11,6 +11,8 @@ use thiserror::Error;
 pub enum Fault {
     #[error("1 out of memory")]
     Memory,
+    #[error("3 source failed")]
+    SourceFailed,
     #[error("9 script not UTF-8")]
     NotUtf8,
     #[error("10 syntax")]
@@ -29,6 +31,8 @@ pub enum Fault {
     NumberOutside,
     #[error("21 table full")]
     TableFull,
+    #[error("27 sum beyond 128 bits")]
+    SumOutOfRange,
     #[error("29 limit exceeded")]
     LimitExceeded,
 }
@@ -40,6 +44,7 @@ impl Fault {
     {
         match self {
             Fault::Memory => "1 out of memory",
+            Fault::SourceFailed => "3 source failed",
             Fault::NotUtf8 => "9 script not UTF-8",
             Fault::Syntax => "10 syntax",
             Fault::UnknownTable => "11 unknown table or view",
@@ -49,6 +54,7 @@ impl Fault {
             Fault::TooWide => "17 expression too wide",
             Fault::NumberOutside => "19 number outside 64 bits",
             Fault::TableFull => "21 table full",
+            Fault::SumOutOfRange => "27 sum beyond 128 bits",
             Fault::LimitExceeded => "29 limit exceeded",
         }
     }

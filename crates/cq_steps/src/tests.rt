@@ -6,6 +6,7 @@ use std::test::Fail;
 fn display_agrees_with_the_text(rt: HostRuntime) -> Result<(), Fail> {
     let faults = [
         (Fault::Memory, "1 out of memory"),
+        (Fault::SourceFailed, "3 source failed"),
         (Fault::NotUtf8, "9 script not UTF-8"),
         (Fault::Syntax, "10 syntax"),
         (Fault::UnknownTable, "11 unknown table or view"),
@@ -15,6 +16,7 @@ fn display_agrees_with_the_text(rt: HostRuntime) -> Result<(), Fail> {
         (Fault::TooWide, "17 expression too wide"),
         (Fault::NumberOutside, "19 number outside 64 bits"),
         (Fault::TableFull, "21 table full"),
+        (Fault::SumOutOfRange, "27 sum beyond 128 bits"),
         (Fault::LimitExceeded, "29 limit exceeded"),
     ];
     for (fault, text) in faults {

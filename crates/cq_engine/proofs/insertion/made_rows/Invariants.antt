@@ -1,11 +1,11 @@
-use Rattle.std.proofs.Common.{◌≡◌, take, drop}
+use Rattle.std.proofs.Common.{◌≡◌, map, take, drop}
 use Rattle.std.specs.List.{flat_map}
+use Rattle.cq_steps.specs.Bound.{row_of}
 use Rattle.cq_steps.specs.Refusal.{first_fault, row_places}
-use Rattle.cq_steps.specs.Step.{rows_of}
 use Rattle.cq_engine.proofs.insertion.made_rows.Given as goal
 
 -- the rows so far are made, and those that are left have the first fault of all
 abbrev pub invariant-loop-row : goal.invariant-loop-row
 invariant-loop-row l =
-    (l.made.items ≡ rows_of (take l.row-index l.rows))
+    (l.made.items ≡ map row_of (take l.row-index l.rows))
     × (first_fault (flat_map (row_places l.width) (drop l.row-index l.rows)) ≡ first_fault (flat_map (row_places l.width) l.rows))

@@ -1,0 +1,6 @@
+pub mod Each
+pub mod Numbers
+pub mod Pasts
+pub mod Times
+pub mod Follows
+pub mod Stays

@@ -1,0 +1,71 @@
+-- Statements leave sound states, whether they are accepted or refused.
+use Rattle.std.proofs.Common.{◌≡◌, ℕ, List, [], ◌∷◌, map, Option, Some, None, Result, Ok, Err, refl, sym, subst, arith, eq-eqb}
+use Rattle.std.specs.Prelude.{option_map}
+use Rattle.cq_values.specs.Texts.{is_text}
+use Rattle.cq_bags.proofs.Totals.{by_test}
+use Rattle.cq_model.specs.declared.bound.Bound.{Bound}
+use Rattle.cq_model.specs.declared.bound.Bound.TheVariants as commands
+use Rattle.cq_model.specs.declared.statement.Statement.{Statement}
+use Rattle.cq_model.specs.declared.statement.Statement.TheVariants as statements
+use Rattle.cq_steps.specs.declared.answer.Answer.{Answer}
+use Rattle.cq_steps.specs.declared.fault.Fault.{Fault}
+use Rattle.cq_steps.specs.Bound.{row_of, bound_select, bound}
+use Rattle.cq_steps.specs.State.{TableOf, State, table_named, first_state}
+use Rattle.cq_steps.specs.Step.{reach, GivesUp, Refuses, by_walk, for_memory, source_failed, memory_on_the_way, too_large, Step}
+use Rattle.cq_epochs.specs.Sound.{IsThere, Fits, IsSound}
+use Rattle.cq_epochs.proofs.Numbers.{there-behind}
+use Rattle.cq_epochs.proofs.Times.{reach-in_time, between-in_time}
+use Rattle.cq_epochs.proofs.Follows.{follows-views, follows-accepts}
+
+-- a table that is found by its name is there by its number
+there-named : (name : List ℕ) (tables : List TableOf) (t : TableOf) → table_named name tables ≡ Some t → IsThere t.number tables
+there-named name [] t e = absurd (cc)
+there-named name (u ∷ us) t e = by_test (is_text u.name name)
+    (λ k. let found : u ≡ t = let h = rw k at e in cc in subst (λ v. IsThere v.number (u ∷ us)) found (rw (eq-eqb u.number u.number refl) refl))
+    (λ k. there-behind t.number u us (there-named name us t (rw k at e)))
+
+-- a statement whose tables are there is bound to a command that fits
+pub bound-fits : (s : State) (statement : Statement) (command : Bound) → bound s statement ≡ Some command → Fits s command
+bound-fits s (statements.CreateTable name columns) command e =
+    let is : commands.CreateTable name columns [] ≡ command = cc in subst (Fits s) is tt
+bound-fits s (statements.Insert name rows) command e = found (table_named name s.tables) refl e
+  where
+    found : (o : Option TableOf) → table_named name s.tables ≡ o → option_map (λ t. commands.Insert t.number (map row_of rows)) o ≡ Some command → Fits s command
+    found None h e = absurd (cc)
+    found (Some t) h e =
+        let is : commands.Insert t.number (map row_of rows) ≡ command = cc in subst (Fits s) is (there-named name s.tables t h)
+bound-fits s (statements.Select q) command e = found (table_named q.table s.tables) e
+  where
+    found : (o : Option TableOf) → option_map (bound_select q) o ≡ Some command → Fits s command
+    found None e = absurd (cc)
+    found (Some t) e = let is : bound_select q t ≡ command = cc in subst (Fits s) is tt
+
+-- the state in which nothing is there
+pub first-sound : (max_rows : ℕ) → IsSound (first_state max_rows)
+first-sound max_rows = record {
+  numbered = tt;
+  whole = omega arith;
+  drawn = omega arith;
+  known = tt;
+  epochs = tt;
+  bags = λ epoch n low high there. absurd (cc);
+}
+
+-- a command that gives up moves views alone
+sound-gives_up : (old new : State) (command : Bound) → IsSound old → GivesUp old command new → IsSound new
+sound-gives_up old new command sound g =
+    let epochs = between-in_time old.passed old.now (reach old command) (reach-in_time old command) 0 old.views new.views sound.epochs g.views in
+    subst IsSound (sym g.state) (follows-views old new.views sound epochs).sound
+
+-- no refusal does more
+sound-refuses : (old new : State) (statement : Statement) (f : Fault) → IsSound old → Refuses old statement f new → IsSound new
+sound-refuses old new statement f sound (by_walk r e) = subst IsSound (sym e) sound
+sound-refuses old new statement f sound (for_memory r e) = subst IsSound (sym e) sound
+sound-refuses old new statement f sound (source_failed r q e) = subst IsSound (sym e) sound
+sound-refuses old new statement f sound (memory_on_the_way command r b q g) = sound-gives_up old new command sound g
+sound-refuses old new statement f sound (too_large command r b l q g) = sound-gives_up old new command sound g
+
+-- so every step leaves a sound state
+pub step-sound : (old new : State) (statement : Statement) (outcome : Result Answer Fault) → IsSound old → Step old statement outcome new → IsSound new
+step-sound old new statement (Ok answer) sound d = (follows-accepts old new d.command answer sound (bound-fits old statement d.command d.is_bound) d.accepts).sound
+step-sound old new statement (Err f) sound r = sound-refuses old new statement f sound r

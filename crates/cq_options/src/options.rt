@@ -1,0 +1,105 @@
+//! The command line.
+ghost use Rattle.std.specs.Prelude.{◌≡◌, IfErr, IfOk, List, ℕ, [], codes, map, option_and_then, true, unwrap_or};
+ghost use Rattle.clap.specs.Words.{FailsBy, app_of, fault_of, first_of, kind_of, subcommand_of, subcommand_rows_of, takes};
+ghost use Rattle.cq_options.specs.Line.{AnswersBy, IsFaultOf, colview, fault_exit, script_in};
+ghost use Rattle.cq_options.specs.declared.options.LineFault.TheVariants.{Memory};
+
+use clap::error::ErrorKind;
+use clap::{Arg, ArgMatches, Command, Error};
+use cq_values::Text;
+use std::alloc::{AllocError, Global};
+
+/// What the command line asks for.
+#[derive(Debug, Drop)]
+pub struct Options {
+    /// The path of the script.
+    pub script: Text,
+}
+
+/// Why a command line asks for no run.
+#[derive(Debug, Drop)]
+pub enum LineFault {
+    /// Help was asked for. This is its text.
+    Help(Text),
+    Memory,
+    /// The words are no command. This says why.
+    Refused(Text),
+}
+
+impl LineFault {
+    /// The exit status of the program.
+    pub fn exit(&self) -> u8
+        ensures { result ≡ fault_exit self.now }
+    {
+        match self {
+            LineFault::Help(_) => 0,
+            LineFault::Refused(_) => 2,
+            LineFault::Memory => 3,
+        }
+    }
+
+    fn new(alloc: Global, error: Error) -> LineFault
+        ensures { IsFaultOf (kind_of error) result }
+    {
+        let kind = error.kind();
+        let Ok(text) = error.to_string(alloc) else {
+            return LineFault::Memory;
+        };
+        match kind {
+            ErrorKind::OutOfMemory => LineFault::Memory,
+            ErrorKind::DisplayHelp => LineFault::Help(Text::from_string(text)),
+            _ => LineFault::Refused(Text::from_string(text)),
+        }
+    }
+}
+
+impl From<AllocError> for LineFault {
+    ghost from_gives = { λ _ fault. fault ≡ Memory };
+
+    fn from(_e: AllocError) -> LineFault {
+        LineFault::Memory
+    }
+}
+
+/// Reads the words of a command line. The first is the program's name.
+pub fn options_of<'a>(alloc: Global, words: &'a [&'a str]) -> Result<Options, LineFault>
+    ensures script { IfOk result (λ options. options.script ≡ script_in (map (λ s. s.now) words.entry.now)) }
+    ensures memory { IfErr result (λ fault. takes colview (map (λ s. s.now) words.entry.now) ≡ true → fault ≡ Memory) }
+    ensures fault { AnswersBy (fault_of colview (map (λ s. s.now) words.entry.now)) result }
+{
+    match matches_from(alloc, words) {
+        Ok(matches) => {
+            let script = Text::new(alloc, script_of(&matches))?;
+            Ok(Options { script })
+        }
+        Err(error) => Err(LineFault::new(alloc, error)),
+    }
+}
+
+fn command<'a>(alloc: Global) -> Result<Command<'a>, AllocError>
+    ensures { IfOk result (λ command. app_of command ≡ colview) }
+{
+    let script = Arg::new(alloc, "SCRIPT").required(true);
+    let run = Command::new(alloc, "run").arg(script)?;
+    Command::new(alloc, "colview")
+        .subcommand_required(true)
+        .subcommand(run)
+}
+
+fn matches_from<'a>(alloc: Global, words: &'a [&'a str]) -> Result<ArgMatches<'a>, Error>
+    ensures rows { IfOk result (λ matches. subcommand_rows_of matches ≡ subcommand_of colview (map (λ s. s.now) words.entry.now)) }
+    ensures memory { IfErr result (λ error. takes colview (map (λ s. s.now) words.entry.now) ≡ true → kind_of error ≡ ErrorKind.OutOfMemory) }
+    ensures fault { FailsBy (fault_of colview (map (λ s. s.now) words.entry.now)) result }
+{
+    let command = command(alloc)?;
+    command.try_get_matches_from(words)
+}
+
+fn script_of<'a>(matches: &ArgMatches<'a>) -> &'a str
+    ensures { result.now ≡ unwrap_or (option_and_then (λ found. first_of (codes "SCRIPT") found.1) (subcommand_rows_of matches.now)) [] }
+{
+    match matches.subcommand() {
+        Some((_, entered)) => entered.get_str("SCRIPT").unwrap_or(""),
+        None => "",
+    }
+}
