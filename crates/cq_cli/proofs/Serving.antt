@@ -74,7 +74,7 @@ refuses_draws old new s f (too_large command free bound large is gives) = omega 
 
 -- a step counts at most one statement more
 step_draws : (old new : State) (s : Statement) (o : Result Answer Fault) → Step old s o new → new.drawn ≤ old.drawn + 1
-step_draws old new s (Ok answer) d = does_draws old new s answer d
+step_draws old new s (Ok answer) d = omega (arith, ap next d.trims.state, does_draws old d.on_the_way s answer d.does)
 step_draws old new s (Err f) r = refuses_draws old new s f r
 
 -- a piece counts one statement more where a semicolon ended it, and none otherwise

@@ -1,5 +1,6 @@
 -- Conditions and items mean the same with places as with the expressions that names are bound to.
-use Rattle.std.proofs.Common.{◌≡◌, ℕ, List, [], ◌∷◌, map, Option, Some, None, option_map, refl, sym, ap, ap₂, ◌∙◌}
+use Rattle.std.proofs.Common.{◌≡◌, ℕ, not, List, [], ◌∷◌, map, Option, Some, None, option_map, refl, sym, ap, ap₂, ◌∙◌}
+use Rattle.std.specs.Prelude.{filter}
 use Rattle.cq_values.specs.declared.truth.Truth.{Truth}
 use Rattle.cq_values.specs.declared.value.Value.{Value}
 use Rattle.cq_values.specs.declared.value.Value.TheVariants.{Number}
@@ -19,7 +20,10 @@ use Rattle.cq_model.specs.Condition.{holds, holds_step}
 use Rattle.cq_model.specs.Eval.{eval, eval_step}
 use Rattle.cq_model.specs.Meaning.{keeps, items_of}
 use Rattle.cq_steps.specs.Bound.{literal_value, place_in, named_column, bound_condition}
+use Rattle.cq_steps.specs.State.{TableOf}
+use Rattle.cq_engine.specs.declared.condition.BoundCondition.{BoundCondition}
 use Rattle.cq_engine.specs.Bound.{bound_where, keeps_at, values_at}
+use Rattle.cq_engine.specs.Statements.{where_on, chosen_in, left_in}
 
 -- a column gives its value
 eval-Column : (place : ℕ) (row : Row) → eval (exprs.Column place) row ≡ column row place
@@ -43,6 +47,17 @@ keeps_same columns (Some c) row = sym (
       eval-Literal (Number (literal_value c.literal)) row,
     ) refl
     )
+
+-- a DELETE's condition with its place chooses the same rows, and leaves the same
+module _ (t : TableOf) (c : Option Condition) (b : Option BoundCondition) (is : b ≡ bound_where t.columns c) where
+  kept : (row : Row) → keeps_at b row ≡ keeps (where_on t c) row
+  kept row = ap (λ o. keeps_at o row) is ∙ keeps_same t.columns c row
+
+  pub chosen_same : filter (keeps_at b) t.rows ≡ chosen_in c t
+  chosen_same = λ i. filter (λ row. kept row i) t.rows
+
+  pub left_same : filter (λ row. not (keeps_at b row)) t.rows ≡ left_in c t
+  left_same = λ i. filter (λ row. not (kept row i)) t.rows
 
 -- the values at the places of the names are those of the items
 pub values_same : (columns : List ColumnDef) (names : List (List ℕ)) (row : Row) → values_at (map (place_in columns) names) row ≡ items_of (map (named_column columns) names) row

@@ -1,28 +1,30 @@
 -- How the stretches of a statement's walk make up the whole.
-use Rattle.std.proofs.Common.{◌≡◌, ℕ, ◌+◌, Bool, false, List, [], ◌∷◌, ◌++◌, map, length, Option, Some, None, ap, ◌∙◌}
-use Rattle.std.specs.Prelude.{is_some, nat_lt}
+use Rattle.std.proofs.Common.{◌≡◌, ℕ, ◌+◌, Bool, false, List, [], ◌∷◌, ◌++◌, map, length, Option, Some, None, ap, ◌∙◌, Ok}
+use Rattle.std.specs.Prelude.{◌||◌, is_some, nat_lt}
 use Rattle.std.specs.List.{flat_map}
 use Rattle.cq_model.specs.declared.statement.ColumnDef.{ColumnDef}
 use Rattle.cq_model.specs.declared.statement.Literal.{Literal}
 use Rattle.cq_model.specs.declared.statement.Select.{Select}
 use Rattle.cq_steps.specs.declared.fault.Fault.{Fault}
 use Rattle.cq_steps.specs.declared.fault.Fault.TheVariants.{NameTaken, TableFull}
+use Rattle.cq_steps.specs.Bound.{Named}
 use Rattle.cq_steps.specs.Refusal.{first_fault, fault_if, too_long, column_places, create_places, row_places, insert_places, name_place, where_places, select_places, MayRefuse}
 use Rattle.cq_steps.specs.State.{TableOf, table_named}
+use Rattle.cq_engine.specs.Statements.{alone}
 use Rattle.cq_engine.proofs.Faults.{first_fault_append, none_append, or_next, refused_back, refused_front, refused_same}
 
 -- ---- CREATE TABLE: under a free name the columns decide, and then their number
 module _ (name : List ℕ) (columns : List ColumnDef) (tables : List TableOf) (free : is_some (table_named name tables) ≡ false) where
   -- the name is no fault
-  create_goes_on : first_fault (create_places name columns tables) ≡ first_fault (column_places [] columns ++ too_long (length columns) ∷ [])
-  create_goes_on = ap (λ (b : Bool). first_fault (fault_if b NameTaken ∷ column_places [] columns ++ too_long (length columns) ∷ [])) free
+  create_goes_on : first_fault (create_places name columns (alone tables)) ≡ first_fault (column_places [] columns ++ too_long (length columns) ∷ [])
+  create_goes_on = ap (λ (b : Bool). first_fault (fault_if (b || false) NameTaken ∷ column_places [] columns ++ too_long (length columns) ∷ [])) free
 
   -- a column refuses
-  pub columns_refused : (f : Fault) → MayRefuse (first_fault (column_places [] columns)) f → MayRefuse (first_fault (create_places name columns tables)) f
-  columns_refused f m = refused_same (first_fault (column_places [] columns ++ too_long (length columns) ∷ [])) (first_fault (create_places name columns tables)) f create_goes_on (refused_front (column_places [] columns) (too_long (length columns) ∷ []) f m)
+  pub columns_refused : (f : Fault) → MayRefuse (first_fault (column_places [] columns)) f → MayRefuse (first_fault (create_places name columns (alone tables))) f
+  columns_refused f m = refused_same (first_fault (column_places [] columns ++ too_long (length columns) ∷ [])) (first_fault (create_places name columns (alone tables))) f create_goes_on (refused_front (column_places [] columns) (too_long (length columns) ∷ []) f m)
 
   -- behind the columns only their number is left
-  pub create_ends : first_fault (column_places [] columns) ≡ None → first_fault (create_places name columns tables) ≡ first_fault (too_long (length columns) ∷ [])
+  pub create_ends : first_fault (column_places [] columns) ≡ None → first_fault (create_places name columns (alone tables)) ≡ first_fault (too_long (length columns) ∷ [])
   create_ends distinct =
       create_goes_on
       ∙ first_fault_append (column_places [] columns) (too_long (length columns) ∷ [])
@@ -37,36 +39,36 @@ module _ (max_rows : ℕ) (rows : List (List Literal)) (t : TableOf) where
   room = fault_if (nat_lt max_rows (length t.rows + length rows)) TableFull
 
   -- a row refuses
-  pub rows_refused : (f : Fault) → MayRefuse (first_fault row_walk) f → MayRefuse (first_fault (insert_places max_rows rows (Some t))) f
+  pub rows_refused : (f : Fault) → MayRefuse (first_fault row_walk) f → MayRefuse (first_fault (insert_places max_rows rows (Ok t))) f
   rows_refused f m = refused_front row_walk (room ∷ []) f m
 
   -- the table is full
-  pub room_refused : (f : Fault) → first_fault row_walk ≡ None → MayRefuse (first_fault (room ∷ [])) f → MayRefuse (first_fault (insert_places max_rows rows (Some t))) f
+  pub room_refused : (f : Fault) → first_fault row_walk ≡ None → MayRefuse (first_fault (room ∷ [])) f → MayRefuse (first_fault (insert_places max_rows rows (Ok t))) f
   room_refused f made m = refused_back row_walk (room ∷ []) f made m
 
   -- no place refuses
-  pub insert_passes : first_fault row_walk ≡ None → first_fault (room ∷ []) ≡ None → first_fault (insert_places max_rows rows (Some t)) ≡ None
+  pub insert_passes : first_fault row_walk ≡ None → first_fault (room ∷ []) ≡ None → first_fault (insert_places max_rows rows (Ok t)) ≡ None
   insert_passes made fits = none_append row_walk (room ∷ []) made fits
 
 -- ---- SELECT: WHERE decides, then the items, and then their number
-module _ (q : Select) (t : TableOf) where
+module _ (q : Select) (source : Named) where
   abbrev where_walk : List (Option Fault)
-  where_walk = where_places t.columns q.condition
+  where_walk = where_places source.columns q.condition
 
   abbrev item_walk : List (Option Fault)
-  item_walk = map (name_place t.columns) q.columns
+  item_walk = map (name_place source.columns) q.columns
 
   abbrev number : Option Fault
   number = too_long (length q.columns)
 
   -- an item refuses
-  pub items_refused : (f : Fault) → first_fault where_walk ≡ None → MayRefuse (first_fault item_walk) f → MayRefuse (first_fault (select_places q (Some t))) f
+  pub items_refused : (f : Fault) → first_fault where_walk ≡ None → MayRefuse (first_fault item_walk) f → MayRefuse (first_fault (select_places q (Some source))) f
   items_refused f kept m = refused_front (where_walk ++ item_walk) (number ∷ []) f (refused_back where_walk item_walk f kept m)
 
   -- there are too many items
-  pub number_refused : (f : Fault) → first_fault where_walk ≡ None → first_fault item_walk ≡ None → MayRefuse (first_fault (number ∷ [])) f → MayRefuse (first_fault (select_places q (Some t))) f
+  pub number_refused : (f : Fault) → first_fault where_walk ≡ None → first_fault item_walk ≡ None → MayRefuse (first_fault (number ∷ [])) f → MayRefuse (first_fault (select_places q (Some source))) f
   number_refused f kept named m = refused_back (where_walk ++ item_walk) (number ∷ []) f (none_append where_walk item_walk kept named) m
 
   -- no place refuses
-  pub select_passes : first_fault where_walk ≡ None → first_fault item_walk ≡ None → first_fault (number ∷ []) ≡ None → first_fault (select_places q (Some t)) ≡ None
+  pub select_passes : first_fault where_walk ≡ None → first_fault item_walk ≡ None → first_fault (number ∷ []) ≡ None → first_fault (select_places q (Some source)) ≡ None
   select_passes kept named short = none_append (where_walk ++ item_walk) (number ∷ []) (none_append where_walk item_walk kept named) short

@@ -4,7 +4,7 @@ ghost use Rattle.cq_values.specs.declared.value.Value.TheVariants.{Number};
 ghost use Rattle.cq_values.specs.Truth.{is_true, truth_of};
 ghost use Rattle.cq_model.specs.Comparison.{compared, passes};
 ghost use Rattle.cq_steps.specs.Refusal.{where_places};
-ghost use Rattle.cq_engine.specs.Bound.{bound, passes_at};
+ghost use Rattle.cq_engine.specs.Bound.{bound, bound_where, keeps_at, passes_at};
 ghost use Rattle.cq_engine.specs.Walk.{Walked};
 
 use crate::columns::column_place;
@@ -49,6 +49,29 @@ impl BoundCondition {
             None => Truth::Unknown,
         };
         is_true(truth)
+    }
+}
+
+/// WHERE on a table with these columns, if it is there.
+pub fn bound_where(
+    columns: &[ColumnDef],
+    condition: &Option<Condition>,
+) -> Result<Option<BoundCondition>, Fault>
+    ensures { Walked (where_places columns.now condition.now) (λ b. b ≡ bound_where columns.now condition.now) result }
+{
+    match condition {
+        Some(condition) => Ok(Some(BoundCondition::new(columns, condition)?)),
+        None => Ok(None),
+    }
+}
+
+/// Whether WHERE keeps the row, as it does each where it is absent.
+pub fn keeps_at(condition: &Option<BoundCondition>, row: &[Value]) -> bool
+    ensures { result ≡ keeps_at condition.now row.now }
+{
+    match condition {
+        Some(condition) => condition.keeps(row),
+        None => true,
     }
 }
 

@@ -1,15 +1,17 @@
 //! The engine, and one step of it.
-ghost use Rattle.std.specs.Prelude.{◌≡◌, ◌<◌, ◌-◌, ◌^◌};
+ghost use Rattle.std.specs.Prelude.{◌≡◌, ◌<◌, ◌+◌, ◌-◌, ◌^◌};
 ghost use Rattle.cq_model.specs.declared.statement.Statement.TheVariants as statements;
+ghost use Rattle.cq_steps.specs.declared.answer.Answer.TheVariants.{Count};
 ghost use Rattle.cq_steps.specs.State.{first_state};
 ghost use Rattle.cq_steps.specs.Step.{Step};
+ghost use Rattle.cq_engine.specs.Statements.{without_views};
 
 use crate::columns::copy_names;
 use crate::limits::Limits;
 use crate::sources::Sources;
 use crate::table::Table;
-use crate::tables::{create_in, insert_in, select_from};
-use cq_model::{ColumnDef, Literal, Select, Statement};
+use crate::tables::{create_in, delete_in, drop_in, insert_in, select_from};
+use cq_model::{ColumnDef, Condition, Literal, Select, Statement};
 use cq_steps::{Answer, Fault};
 use cq_values::{Seq, Text};
 use std::alloc::Global;
@@ -79,7 +81,9 @@ impl Engine {
     {
         match command {
             Statement::CreateTable { name, columns } => self.create(name, columns),
+            Statement::DropTable(name) => self.drop_table(name),
             Statement::Insert { table, rows } => self.insert(table, rows),
+            Statement::Delete { table, condition } => self.delete(table, condition),
             Statement::Select(select) => self.select(select),
         }
     }
@@ -99,6 +103,13 @@ impl Engine {
         Ok(Answer::Done)
     }
 
+    fn drop_table(&mut self, name: &Text) -> Result<Answer, Fault>
+        ensures { Step self.old (statements.DropTable name.now) result self.new }
+    {
+        drop_in(&mut self.tables, name)?;
+        Ok(Answer::Done)
+    }
+
     fn insert(&mut self, table: &Text, rows: &Seq<Seq<Literal>>) -> Result<Answer, Fault>
         requires { self.old.drawn < 2 ^ 64 - 1 }
         ensures { Step self.old (statements.Insert table.now rows.now) result self.new }
@@ -111,9 +122,26 @@ impl Engine {
             table,
             rows.as_slice(),
         )?;
+        Ok(self.counted(rows.len()))
+    }
+
+    fn delete(&mut self, table: &Text, condition: &Option<Condition>) -> Result<Answer, Fault>
+        requires { self.old.drawn < 2 ^ 64 - 1 }
+        ensures { Step self.old (statements.Delete table.now condition.now) result self.new }
+    {
+        let rows = delete_in(&mut self.tables, table, condition)?;
+        Ok(self.counted(rows))
+    }
+
+    /// Counts a write of so many rows.
+    fn counted(&mut self, rows: usize) -> Answer
+        requires { self.old.drawn < 2 ^ 64 - 1 }
+        ensures answer { result ≡ Count rows }
+        ensures one_more { self.new ≡ without_views self.old.tables (self.old.now + 1) (self.old.drawn + 1) self.old.max_rows }
+    {
         self.writes += 1;
         self.drawn += 1;
-        Ok(Answer::Count(rows.len() as u64))
+        Answer::Count(rows as u64)
     }
 
     fn select(&self, select: &Select) -> Result<Answer, Fault>

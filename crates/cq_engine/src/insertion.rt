@@ -1,5 +1,5 @@
 //! The rows that an INSERT brings.
-ghost use Rattle.std.specs.Prelude.{◌≡◌, ◌+◌, ◌∷◌, OnErr, Some, [], map, nat_lt};
+ghost use Rattle.std.specs.Prelude.{◌≡◌, ◌+◌, ◌∷◌, OnErr, Ok, [], map, nat_lt};
 ghost use Rattle.std.specs.List.{flat_map};
 ghost use Rattle.cq_steps.specs.Bound.{row_of};
 ghost use Rattle.cq_steps.specs.declared.fault.Fault.TheVariants.{TableFull};
@@ -36,7 +36,7 @@ fn checked_rows(
     table: &Table,
     rows: &[Seq<Literal>],
 ) -> Result<Vec<Row>, Fault>
-    ensures { Walked (insert_places max_rows rows.now (Some table.now)) (λ v. v.items ≡ map row_of rows.now) result }
+    ensures { Walked (insert_places max_rows rows.now (Ok table.now)) (λ v. v.items ≡ map row_of rows.now) result }
 {
     let made = made_rows(alloc, table.columns().len(), rows)?;
     check_room(max_rows, table.len(), rows.len())?;

@@ -7,6 +7,7 @@
 
 mod columns;
 mod condition;
+mod deletion;
 mod engine;
 mod insertion;
 mod limits;

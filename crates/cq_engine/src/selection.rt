@@ -2,16 +2,16 @@
 ghost use Rattle.std.specs.Prelude.{◌≡◌, IfOk, Some, filter, map};
 ghost use Rattle.cq_values.specs.Value.{column};
 ghost use Rattle.cq_steps.specs.Bound.{place_in};
-ghost use Rattle.cq_steps.specs.Refusal.{name_place, select_places, where_places};
-ghost use Rattle.cq_engine.specs.Bound.{IsBound, bound_where, keeps_at, values_at};
-ghost use Rattle.cq_engine.specs.Statements.{Selects};
+ghost use Rattle.cq_steps.specs.Refusal.{name_place, select_places};
+ghost use Rattle.cq_engine.specs.Bound.{IsBound, keeps_at, values_at};
+ghost use Rattle.cq_engine.specs.Statements.{Selects, from_table};
 ghost use Rattle.cq_engine.specs.Walk.{Walked};
 
 use crate::columns::{check_length, column_place};
-use crate::condition::BoundCondition;
+use crate::condition::{BoundCondition, bound_where, keeps_at};
 use crate::table::Table;
 use cq_bags::listed;
-use cq_model::{ColumnDef, Condition, Select};
+use cq_model::{ColumnDef, Select};
 use cq_steps::Fault;
 use cq_values::{Row, Seq, Text, Value};
 use std::alloc::{AllocError, Global};
@@ -26,7 +26,7 @@ pub struct Selection {
 impl Selection {
     /// The query on this table, once it has been walked through.
     pub fn new(alloc: Global, table: &Table, select: &Select) -> Result<Selection, Fault>
-        ensures { Walked (select_places select.now (Some table.now)) (IsBound table.now.columns select.now) result }
+        ensures { Walked (select_places select.now (Some (from_table table.now))) (IsBound table.now.columns select.now) result }
     {
         let columns = table.columns();
         let names = select.columns.as_slice();
@@ -44,20 +44,11 @@ impl Selection {
         let mut results = Vec::new(alloc);
         for row in rows {
             let values = row.as_slice();
-            if self.keeps(values) {
+            if keeps_at(&self.condition, values) {
                 results.push(self.values(alloc, values)?)?;
             }
         }
         Ok(results)
-    }
-
-    fn keeps(&self, row: &[Value]) -> bool
-        ensures { result ≡ keeps_at self.now.condition row.now }
-    {
-        match &self.condition {
-            Some(condition) => condition.keeps(row),
-            None => true,
-        }
     }
 
     fn values(&self, alloc: Global, row: &[Value]) -> Result<Row, AllocError>
@@ -79,18 +70,6 @@ pub fn rows_from(alloc: Global, table: &Table, select: &Select) -> Result<Seq<Ro
     let results = selection.rows(alloc, table.rows())?;
     let sorted = listed(results)?;
     Ok(Seq::from_vec(sorted))
-}
-
-fn bound_where(
-    columns: &[ColumnDef],
-    condition: &Option<Condition>,
-) -> Result<Option<BoundCondition>, Fault>
-    ensures { Walked (where_places columns.now condition.now) (λ b. b ≡ bound_where columns.now condition.now) result }
-{
-    match condition {
-        Some(condition) => Ok(Some(BoundCondition::new(columns, condition)?)),
-        None => Ok(None),
-    }
 }
 
 fn item_places(alloc: Global, columns: &[ColumnDef], names: &[Text]) -> Result<Vec<usize>, Fault>

@@ -1,11 +1,12 @@
 //! A table in memory.
-ghost use Rattle.std.specs.Prelude.{◌≡◌, IfOk, OnErr, OnOk, [], length};
+ghost use Rattle.std.specs.Prelude.{◌++◌, ◌≡◌, IfOk, OnErr, OnOk, [], filter, length, not};
 ghost use Rattle.cq_values.specs.Texts.{is_text};
 ghost use Rattle.cq_bags.specs.Canonical.{bag_of};
-ghost use Rattle.cq_steps.specs.State.{empty_table};
-ghost use Rattle.cq_engine.specs.Statements.{with_more};
+ghost use Rattle.cq_steps.specs.State.{empty_table, holding};
+ghost use Rattle.cq_engine.specs.Bound.{keeps_at};
 
 use crate::columns::copy_columns;
+use crate::condition::{BoundCondition, keeps_at};
 use cq_model::ColumnDef;
 use cq_values::{Row, Seq, Text};
 use std::alloc::{AllocError, Global};
@@ -75,10 +76,20 @@ impl Table {
 
     /// Adds all of these rows, or none.
     pub fn append(&mut self, rows: Vec<Row>) -> Result<(), AllocError>
-        ensures ok { OnOk result (self.new ≡ with_more rows.items self.old) }
+        ensures ok { OnOk result (self.new ≡ holding (self.old.rows ++ rows.items) self.old) }
         ensures err { OnErr result (self.new ≡ self.old) }
     {
         let mut rows = rows;
         self.rows.append(&mut rows)
+    }
+
+    /// Takes the rows that WHERE keeps away, and tells how many they were.
+    pub fn remove(&mut self, condition: &Option<BoundCondition>) -> usize
+        ensures count { result ≡ length (filter (keeps_at condition.now) self.old.rows) }
+        ensures left { self.new ≡ holding (filter (λ row. not (keeps_at condition.now row)) self.old.rows) self.old }
+    {
+        let before = self.rows.len();
+        self.rows.retain(|row| !keeps_at(condition, row.as_slice()));
+        before - self.rows.len()
     }
 }

@@ -1,17 +1,18 @@
-//! Tables under their names, and the three statements on them.
+//! Tables under their names, and the statements on them.
 ghost use Rattle.std.specs.Prelude.{◌≡◌, ◌<◌, IfSome, OnErr, is_some, length, position, slice_get};
 ghost use Rattle.std.specs.List.{position_or_len};
 ghost use Rattle.cq_values.specs.Texts.{is_text};
 ghost use Rattle.cq_steps.specs.Refusal.{create_places};
 ghost use Rattle.cq_steps.specs.State.{table_named};
-ghost use Rattle.cq_engine.specs.Statements.{Creates, InsertsIn, SelectsFrom};
+ghost use Rattle.cq_engine.specs.Statements.{Creates, DeletesIn, DropsTable, InsertsIn, SelectsFrom, alone};
 ghost use Rattle.cq_engine.specs.Walk.{Passes};
 
 use crate::columns::{check_length, check_names};
+use crate::deletion::delete_from;
 use crate::insertion::insert_into;
 use crate::selection::rows_from;
 use crate::table::Table;
-use cq_model::{ColumnDef, Literal, Select};
+use cq_model::{ColumnDef, Condition, Literal, Select};
 use cq_steps::Fault;
 use cq_values::{Row, Seq, Text};
 use std::alloc::Global;
@@ -32,6 +33,18 @@ pub fn create_in(
     Ok(())
 }
 
+/// DROP TABLE.
+pub fn drop_in(tables: &mut Vec<Table>, name: &Text) -> Result<(), Fault>
+    ensures walk { DropsTable name.now tables.old.items tables.new.items result }
+    ensures err { OnErr result (tables.new.items ≡ tables.old.items) }
+{
+    let Some(place) = place_of(tables, name.as_str()) else {
+        return Err(Fault::UnknownTable);
+    };
+    tables.remove(place);
+    Ok(())
+}
+
 /// INSERT.
 pub fn insert_in(
     alloc: Global,
@@ -49,6 +62,21 @@ pub fn insert_in(
     insert_into(alloc, max_rows, &mut tables[place], rows)
 }
 
+/// DELETE, with the number of the rows that it takes.
+pub fn delete_in(
+    tables: &mut Vec<Table>,
+    name: &Text,
+    condition: &Option<Condition>,
+) -> Result<usize, Fault>
+    ensures walk { DeletesIn name.now condition.now tables.old.items tables.new.items result }
+    ensures err { OnErr result (tables.new.items ≡ tables.old.items) }
+{
+    let Some(place) = place_of(tables, name.as_str()) else {
+        return Err(Fault::UnknownTable);
+    };
+    delete_from(&mut tables[place], condition)
+}
+
 /// SELECT.
 pub fn select_from(alloc: Global, tables: &[Table], select: &Select) -> Result<Seq<Row>, Fault>
     ensures { SelectsFrom select.now tables.now result }
@@ -61,7 +89,7 @@ pub fn select_from(alloc: Global, tables: &[Table], select: &Select) -> Result<S
 
 /// The walk through a CREATE TABLE.
 fn check_create(tables: &[Table], name: &str, columns: &[ColumnDef]) -> Result<(), Fault>
-    ensures { Passes (create_places name.now columns.now tables.now) result }
+    ensures { Passes (create_places name.now columns.now (alone tables.now)) result }
 {
     if place_of(tables, name).is_some() {
         return Err(Fault::NameTaken);

@@ -71,17 +71,32 @@ fn insertion(alloc: Global) -> Result<Command, AllocError> {
     Ok(Command::Insert { table, rows })
 }
 
-/// SELECT b, a FROM t WHERE b <= 20
-fn selection(alloc: Global) -> Result<Command, AllocError> {
-    let condition = Condition {
+/// b <= 20
+fn at_most_twenty(alloc: Global) -> Result<Condition, AllocError> {
+    Ok(Condition {
         column: Text::new(alloc, "b")?,
         comparison: Comparison::LessOrEqual,
         literal: number(false, 20),
-    };
+    })
+}
+
+/// DELETE FROM t
+fn deletion(alloc: Global, condition: Option<Condition>) -> Result<Command, AllocError> {
+    let table = Text::new(alloc, "t")?;
+    Ok(Command::Delete { table, condition })
+}
+
+/// DROP TABLE t
+fn removal(alloc: Global) -> Result<Command, AllocError> {
+    Ok(Command::DropTable(Text::new(alloc, "t")?))
+}
+
+/// SELECT b, a FROM t
+fn selection(alloc: Global, condition: Option<Condition>) -> Result<Command, AllocError> {
     Ok(Command::Select(Select {
         columns: names(alloc, "b", "a")?,
         table: Text::new(alloc, "t")?,
-        condition: Some(condition),
+        condition,
     }))
 }
 
@@ -110,7 +125,8 @@ fn a_table_counts_as_drawn_and_an_insert_as_a_write(rt: HostRuntime) -> Result<(
 #[test]
 fn a_select_lists_what_where_keeps(rt: HostRuntime) -> Result<(), Fail> {
     let mut engine = filled(&rt, rt.alloc())?;
-    let selected = answer(&rt, &mut engine, &selection(rt.alloc())?)?;
+    let kept = at_most_twenty(rt.alloc())?;
+    let selected = answer(&rt, &mut engine, &selection(rt.alloc(), Some(kept))?)?;
     let Answer::Rows { header, rows } = selected else {
         panic!(rt; "no rows");
     };
@@ -135,5 +151,61 @@ fn a_full_table_takes_no_row(rt: HostRuntime) -> Result<(), Fail> {
     let refused = answer(&rt, &mut engine, &insertion(rt.alloc())?);
     assert!(rt; matches!(refused, Err(Fault::TableFull)));
     assert_eq!(rt; engine.now(), 1);
+    Ok(())
+}
+
+#[test]
+fn a_delete_takes_each_copy_of_what_where_keeps(rt: HostRuntime) -> Result<(), Fail> {
+    let mut engine = Engine::new(rt.alloc(), Limits::new(6).ok_or("in range")?);
+    answer(&rt, &mut engine, &creation(rt.alloc())?)?;
+    answer(&rt, &mut engine, &insertion(rt.alloc())?)?;
+    answer(&rt, &mut engine, &insertion(rt.alloc())?)?;
+    // whether WHERE b <= 20 stands there; how many rows are taken
+    let cases = [(true, 4), (true, 0), (false, 2), (false, 0)];
+    for (has_where, taken) in cases {
+        let kept = at_most_twenty(rt.alloc())?;
+        let condition = if has_where { Some(kept) } else { None };
+        let deleted = answer(&rt, &mut engine, &deletion(rt.alloc(), condition)?)?;
+        let Answer::Count(count) = deleted else {
+            panic!(rt; "no count");
+        };
+        assert_eq!(rt; count, taken);
+    }
+    assert_eq!(rt; engine.now(), 6);
+    assert_eq!(rt; engine.drawn(), 7);
+    Ok(())
+}
+
+#[test]
+fn a_delete_leaves_what_where_does_not_keep(rt: HostRuntime) -> Result<(), Fail> {
+    let mut engine = filled(&rt, rt.alloc())?;
+    let kept = at_most_twenty(rt.alloc())?;
+    answer(&rt, &mut engine, &deletion(rt.alloc(), Some(kept))?)?;
+    let selected = answer(&rt, &mut engine, &selection(rt.alloc(), None)?)?;
+    let Answer::Rows { rows, .. } = selected else {
+        panic!(rt; "no rows");
+    };
+    assert_eq!(rt; rows.len(), 1);
+    assert_eq!(rt;
+        rows.as_slice()[0].as_slice(),
+        [Value::Number(30), Value::Number(3)].as_slice()
+    );
+    Ok(())
+}
+
+#[test]
+fn a_dropped_table_is_unknown_until_it_is_created_again(rt: HostRuntime) -> Result<(), Fail> {
+    let mut engine = filled(&rt, rt.alloc())?;
+    let dropped = answer(&rt, &mut engine, &removal(rt.alloc())?)?;
+    assert!(rt; matches!(dropped, Answer::Done));
+    assert_eq!(rt; engine.drawn(), 2);
+    let selected = answer(&rt, &mut engine, &selection(rt.alloc(), None)?);
+    assert!(rt; matches!(selected, Err(Fault::UnknownTable)));
+    let dropped = answer(&rt, &mut engine, &removal(rt.alloc())?);
+    assert!(rt; matches!(dropped, Err(Fault::UnknownTable)));
+    answer(&rt, &mut engine, &creation(rt.alloc())?)?;
+    assert_eq!(rt; engine.drawn(), 3);
+    let deleted = answer(&rt, &mut engine, &deletion(rt.alloc(), None)?)?;
+    assert!(rt; matches!(deleted, Answer::Count(0)));
     Ok(())
 }

@@ -9,13 +9,13 @@ use Rattle.cq_model.specs.declared.statement.Statement.{Statement}
 use Rattle.cq_model.specs.declared.statement.Statement.TheVariants as statements
 use Rattle.cq_steps.specs.declared.answer.Answer.{Answer}
 use Rattle.cq_steps.specs.declared.fault.Fault.{Fault}
-use Rattle.cq_steps.specs.Bound.{row_of, bound_select, bound}
+use Rattle.cq_steps.specs.Bound.{row_of, bound_condition, Named, source_named, bound_select, bound}
 use Rattle.cq_steps.specs.State.{TableOf, State, table_named, first_state}
-use Rattle.cq_steps.specs.Step.{reach, GivesUp, Refuses, by_walk, for_memory, source_failed, memory_on_the_way, too_large, Step}
+use Rattle.cq_steps.specs.Step.{reach, at_epoch, Does, at_present, Trims, GivesUp, Refuses, by_walk, for_memory, source_failed, memory_on_the_way, too_large, Step}
 use Rattle.cq_epochs.specs.Sound.{IsThere, Fits, IsSound}
 use Rattle.cq_epochs.proofs.Numbers.{there-behind}
-use Rattle.cq_epochs.proofs.Times.{reach-in_time, between-in_time}
-use Rattle.cq_epochs.proofs.Follows.{follows-views, follows-accepts}
+use Rattle.cq_epochs.proofs.Times.{reach-in_time, between-in_time, present-in_time}
+use Rattle.cq_epochs.proofs.Follows.{follows-views, follows-trims, follows-accepts}
 
 -- a table that is found by its name is there by its number
 there-named : (name : List ℕ) (tables : List TableOf) (t : TableOf) → table_named name tables ≡ Some t → IsThere t.number tables
@@ -24,21 +24,28 @@ there-named name (u ∷ us) t e = by_test (is_text u.name name)
     (λ k. let found : u ≡ t = let h = rw k at e in cc in subst (λ v. IsThere v.number (u ∷ us)) found (rw (eq-eqb u.number u.number refl) refl))
     (λ k. there-behind t.number u us (there-named name us t (rw k at e)))
 
+-- a command of a table that is found by its name
+of_table : (s : State) (name : List ℕ) (command : Bound) (make : TableOf → Bound) → ((t : TableOf) → IsThere t.number s.tables → Fits s (make t))
+    → option_map make (table_named name s.tables) ≡ Some command → Fits s command
+of_table s name command make fits e = found (table_named name s.tables) refl e
+  where
+    found : (o : Option TableOf) → table_named name s.tables ≡ o → option_map make o ≡ Some command → Fits s command
+    found None h e = absurd (cc)
+    found (Some t) h e = let is : make t ≡ command = cc in subst (Fits s) is (fits t (there-named name s.tables t h))
+
 -- a statement whose tables are there is bound to a command that fits
 pub bound-fits : (s : State) (statement : Statement) (command : Bound) → bound s statement ≡ Some command → Fits s command
 bound-fits s (statements.CreateTable name columns) command e =
     let is : commands.CreateTable name columns [] ≡ command = cc in subst (Fits s) is tt
-bound-fits s (statements.Insert name rows) command e = found (table_named name s.tables) refl e
+bound-fits s (statements.DropTable name) command e = of_table s name command (λ t. commands.DropTable t.number) (λ t there. there) e
+bound-fits s (statements.Insert name rows) command e = of_table s name command (λ t. commands.Insert t.number (map row_of rows)) (λ t there. there) e
+bound-fits s (statements.Delete name condition) command e =
+    of_table s name command (λ t. commands.Delete t.number (option_map (bound_condition t.columns) condition)) (λ t there. there) e
+bound-fits s (statements.Select q) command e = found (source_named q.table s) e
   where
-    found : (o : Option TableOf) → table_named name s.tables ≡ o → option_map (λ t. commands.Insert t.number (map row_of rows)) o ≡ Some command → Fits s command
-    found None h e = absurd (cc)
-    found (Some t) h e =
-        let is : commands.Insert t.number (map row_of rows) ≡ command = cc in subst (Fits s) is (there-named name s.tables t h)
-bound-fits s (statements.Select q) command e = found (table_named q.table s.tables) e
-  where
-    found : (o : Option TableOf) → option_map (bound_select q) o ≡ Some command → Fits s command
+    found : (o : Option Named) → option_map (bound_select q) o ≡ Some command → Fits s command
     found None e = absurd (cc)
-    found (Some t) e = let is : bound_select q t ≡ command = cc in subst (Fits s) is tt
+    found (Some source) e = let is : bound_select q source ≡ command = cc in subst (Fits s) is tt
 
 -- the state in which nothing is there
 pub first-sound : (max_rows : ℕ) → IsSound (first_state max_rows)
@@ -65,7 +72,17 @@ sound-refuses old new statement f sound (source_failed r q e) = subst IsSound (s
 sound-refuses old new statement f sound (memory_on_the_way command r b q g) = sound-gives_up old new command sound g
 sound-refuses old new statement f sound (too_large command r b l q g) = sound-gives_up old new command sound g
 
+-- an accepted statement leaves a sound state
+does-sound : (old new : State) (statement : Statement) (answer : Answer) → IsSound old → Does old statement answer new → IsSound new
+does-sound old new statement answer sound d = (follows-accepts old new d.command answer sound (bound-fits old statement d.command d.is_bound) d.accepts).sound
+
+-- so does taking each view to the present
+sound-trims : (s new : State) → IsSound s → Trims (at_present s) new → IsSound new
+sound-trims s new sound t =
+    let present = follows-views s (map (at_epoch s.now) s.views) sound (present-in_time s.passed s.now s.views sound.epochs) in
+    (follows-trims s (at_present s) new t present).sound
+
 -- so every step leaves a sound state
 pub step-sound : (old new : State) (statement : Statement) (outcome : Result Answer Fault) → IsSound old → Step old statement outcome new → IsSound new
-step-sound old new statement (Ok answer) sound d = (follows-accepts old new d.command answer sound (bound-fits old statement d.command d.is_bound) d.accepts).sound
+step-sound old new statement (Ok answer) sound d = sound-trims d.on_the_way new (does-sound old d.on_the_way statement answer sound d.does) d.trims
 step-sound old new statement (Err f) sound r = sound-refuses old new statement f sound r

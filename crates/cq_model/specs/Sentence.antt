@@ -58,10 +58,17 @@ abbrev pub IsWhere : Option Condition → List Token → Type 0
 IsWhere None ts = ts ≡ []
 IsWhere (Some c) ts = (number : List Token) × (ts ≡ tokens.Keyword keywords.Where ∷ tokens.Name c.column ∷ tokens.Symbol (comparison_symbol c.comparison) ∷ number) × IsLiteral c.literal number
 
--- CREATE TABLE name ( column {, column} ), INSERT INTO name VALUES row {, row}, SELECT name {, name} FROM name [WHERE ..]
+-- a statement of each kind, from its first word to its last
 abbrev pub IsStatement : Statement → List Token → Type 0
+-- CREATE TABLE name ( column {, column} )
 IsStatement (statements.CreateTable name columns) ts = (inner : List Token) × (ts ≡ tokens.Keyword keywords.Create ∷ tokens.Keyword keywords.Table ∷ tokens.Name name ∷ tokens.Symbol symbols.Open ∷ inner ++ tokens.Symbol symbols.Close ∷ []) × Separated IsColumn columns inner
+-- DROP TABLE name
+IsStatement (statements.DropTable name) ts = ts ≡ tokens.Keyword keywords.Drop ∷ tokens.Keyword keywords.Table ∷ tokens.Name name ∷ []
+-- INSERT INTO name VALUES row {, row}
 IsStatement (statements.Insert name rows) ts = (inner : List Token) × (ts ≡ tokens.Keyword keywords.Insert ∷ tokens.Keyword keywords.Into ∷ tokens.Name name ∷ tokens.Keyword keywords.Values ∷ inner) × Separated IsRow rows inner
+-- DELETE FROM name [WHERE ..]
+IsStatement (statements.Delete name condition) ts = (rest : List Token) × (ts ≡ tokens.Keyword keywords.Delete ∷ tokens.Keyword keywords.From ∷ tokens.Name name ∷ rest) × IsWhere condition rest
+-- SELECT name {, name} FROM name [WHERE ..]
 IsStatement (statements.Select q) ts = (names rest : List Token) × (ts ≡ tokens.Keyword keywords.Select ∷ names ++ tokens.Keyword keywords.From ∷ tokens.Name q.table ∷ rest) × Separated IsName q.columns names × IsWhere q.condition rest
 
 -- the text is a statement: it has tokens within the limits, and they have this tree

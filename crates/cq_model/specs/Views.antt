@@ -1,5 +1,5 @@
 -- What a view's name in FROM stands for.
-use Rattle.std.specs.Prelude.{ℕ, List, [], ◌∷◌, map, Option, Some, None}
+use Rattle.std.specs.Prelude.{ℕ, ◌==◌, Bool, false, List, [], ◌∷◌, map, Option, Some, None}
 use Rattle.std.specs.List.{AllByRecursion}
 use Rattle.cq_bags.specs.Bag.{Weighted}
 use Rattle.cq_model.specs.declared.query.Query.{Query}
@@ -35,6 +35,16 @@ SourceInRange tables queries (View v) = ViewInRange tables (queries v)
 -- the sources that a query names, in their order
 abbrev pub sources_of : Query → List Source
 sources_of q = q.first ∷ map (λ j. j.source) q.joins
+
+-- whether a source is the table of a number
+abbrev pub is_table : ℕ → Source → Bool
+is_table n (Table t) = t == n
+is_table n (View v) = false
+
+-- whether a source is the view at a place
+abbrev pub is_view : ℕ → Source → Bool
+is_view place (Table t) = false
+is_view place (View v) = v == place
 
 -- the totals of a query and of each view that FROM names can be shown
 pub record AnswerInRange (tables : ℕ → Weighted) (queries : ℕ → Option Query) (q : Query) : Type 0 where

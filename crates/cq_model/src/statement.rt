@@ -50,9 +50,14 @@ pub enum Statement {
         name: Text,
         columns: Seq<ColumnDef>,
     },
+    DropTable(Text),
     Insert {
         table: Text,
         rows: Seq<Seq<Literal>>,
+    },
+    Delete {
+        table: Text,
+        condition: Option<Condition>,
     },
     Select(Select),
 }

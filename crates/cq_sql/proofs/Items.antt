@@ -1,5 +1,5 @@
 -- Names, columns, constants, rows, comparisons and conditions are read exactly.
-use Rattle.std.proofs.Common.{◌≡◌, ℕ, ◌<◌, Bool, true, false, List, [], ◌∷◌, ◌++◌, length, Some, refl, sym, ap, subst, ◌∙◌, arith, length-append}
+use Rattle.std.proofs.Common.{◌≡◌, ℕ, ◌<◌, Bool, true, false, List, [], ◌∷◌, ◌++◌, length, Option, Some, None, refl, sym, ap, subst, ◌∙◌, arith, length-append}
 use Rattle.std.proofs.lemmas.List.{append-nil}
 use Rattle.cq_model.specs.declared.token.Keyword.TheVariants as keywords
 use Rattle.cq_model.specs.declared.token.Symbol.{Symbol}
@@ -11,9 +11,10 @@ use Rattle.cq_model.specs.declared.statement.Comparison.{Comparison}
 use Rattle.cq_model.specs.declared.statement.Comparison.TheVariants as comparisons
 use Rattle.cq_model.specs.declared.statement.Condition.{Condition}
 use Rattle.cq_model.specs.declared.statement.Literal.{Literal}
-use Rattle.cq_model.specs.Sentence.{Separated, IsName, integer_column, IsColumn, IsLiteral, IsRow, sign_tokens, comparison_symbol}
+use Rattle.cq_model.specs.Sentence.{Separated, IsName, integer_column, IsColumn, IsLiteral, IsRow, IsWhere, sign_tokens, comparison_symbol}
+use Rattle.cq_sql.specs.Read.{tail_at}
 use Rattle.cq_sql.specs.Grammar.{name_at, column_at, literal_at, row_at, comparison_of, comparison_at, condition_at}
-use Rattle.cq_sql.proofs.Exact.{Reads, Anything, Done, After, Then, bind_some, parts_of, keyword_takes, symbol_takes, by_same, done_reads, behind_reads, then_reads, next_reads}
+use Rattle.cq_sql.proofs.Exact.{Reads, Anything, Done, After, Then, Tail, EndsTail, bind_some, parts_of, keyword_takes, symbol_takes, by_same, done_reads, behind_reads, then_reads, next_reads, tail_reads}
 use Rattle.cq_sql.proofs.Lists.{list_reads}
 
 -- names are read exactly
@@ -51,8 +52,7 @@ column_reads = by_same column_parts to from where
   from d ts h =
       let type = h.5 in
       let declared : d ≡ integer_column h.0 = type.2.0 in
-      let name : h.0 ≡ d.name = ap (λ (x : ColumnDef). x.name) (sym declared) in
-      (
+      let name : h.0 ≡ d.name = ap (λ (x : ColumnDef). x.name) (sym declared) in (
         declared ∙ ap integer_column name,
         rw (h.3, h.4, type.1, type.2.1) (ap (λ (n : List ℕ). tokens.Name n ∷ tokens.Keyword keywords.Integer ∷ []) name),
       )
@@ -149,7 +149,7 @@ comparison_reads = record { found = found; only = only } where
   only op ts rest e = absurd cc
 
 -- name op const
-abbrev pub IsCondition : Condition → List Token → Type 0
+abbrev IsCondition : Condition → List Token → Type 0
 IsCondition c ts = (number : List Token) × (ts ≡ tokens.Name c.column ∷ tokens.Symbol (comparison_symbol c.comparison) ∷ number) × IsLiteral c.literal number
 
 -- the same, one part after the other
@@ -162,7 +162,7 @@ unfolding condition_at
 condition_parts = next_reads name_reads (λ column. next_reads comparison_reads (λ comparison. next_reads literal_reads (λ literal. done_reads (record { column = column; comparison = comparison; literal = literal }))))
 
 -- conditions are read exactly
-pub condition_reads : Reads Anything IsCondition condition_at
+condition_reads : Reads Anything IsCondition condition_at
 condition_reads = by_same condition_parts to from where
   to : (c : Condition) (ts : List Token) → IsCondition c ts → ConditionParts c ts
   to c ts h = (
@@ -180,3 +180,14 @@ condition_reads = by_same condition_parts to from where
       let number = op.5 in
       let spelled : IsCondition (record { column = h.0; comparison = op.0; literal = number.0 }) ts = (number.1, rw (h.3, h.4, op.3, op.4, number.3, number.5.1) (ap (λ (us : List Token). tokens.Name h.0 ∷ tokens.Symbol (comparison_symbol op.0) ∷ us) (append-nil number.1)), number.4) in
       subst (λ (x : Condition). IsCondition x ts) (sym number.5.0) spelled
+
+-- an optional condition is read exactly, where no other WHERE follows
+pub where_reads : Reads (EndsTail keywords.Where Anything) IsWhere (tail_at keywords.Where condition_at)
+where_reads = by_same (tail_reads keywords.Where condition_reads) to from where
+  to : (o : Option Condition) (ts : List Token) → IsWhere o ts → Tail keywords.Where IsCondition o ts
+  to None ts h = h
+  to (Some c) ts h = (tokens.Name c.column ∷ _, h.1, (h.0, refl, h.2))
+
+  from : (o : Option Condition) (ts : List Token) → Tail keywords.Where IsCondition o ts → IsWhere o ts
+  from None ts h = h
+  from (Some c) ts h = (h.2.0, rw (h.1, h.2.1) refl, h.2.2)

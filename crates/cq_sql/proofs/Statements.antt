@@ -1,12 +1,15 @@
 -- Statements are read exactly: what is read is what the tokens have as their tree, and there is at most one.
-use Rattle.std.proofs.Common.{◌≡◌, List, [], ◌∷◌, ◌++◌, Option, Some, None, refl, sym, ap, subst, ◌∙◌}
+use Rattle.std.proofs.Common.{◌≡◌, ℕ, List, [], ◌∷◌, ◌++◌, Option, Some, None, refl, sym, ap, subst, ◌∙◌}
 use Rattle.std.specs.Prelude.{Result, Ok, Err, IfOk}
 use Rattle.std.proofs.lemmas.List.{append-nil}
 use Rattle.cq_model.specs.declared.token.Keyword.TheVariants as keywords
 use Rattle.cq_model.specs.declared.token.Symbol.TheVariants as symbols
 use Rattle.cq_model.specs.declared.token.Token.{Token}
 use Rattle.cq_model.specs.declared.token.Token.TheVariants as tokens
+use Rattle.cq_model.specs.declared.statement.ColumnDef.{ColumnDef}
 use Rattle.cq_model.specs.declared.statement.Condition.{Condition}
+use Rattle.cq_model.specs.declared.statement.Literal.{Literal}
+use Rattle.cq_model.specs.declared.statement.Select.{Select}
 use Rattle.cq_model.specs.declared.statement.Statement.{Statement}
 use Rattle.cq_model.specs.declared.statement.Statement.TheVariants as statements
 use Rattle.cq_model.specs.Sentence.{Separated, IsName, IsColumn, IsRow, IsWhere, IsStatement}
@@ -14,14 +17,29 @@ use Rattle.cq_sql.specs.declared.fault.SqlFault.{SqlFault}
 use Rattle.cq_sql.specs.declared.fault.SqlFault.TheVariants as errors
 use Rattle.cq_sql.specs.Gives.{Gives}
 use Rattle.cq_sql.specs.Read.{after_keyword, after_symbol}
-use Rattle.cq_sql.specs.Grammar.{name_at, column_at, row_at, create_at, insert_at, select_at, statement_at, if_all_read, whole_statement}
-use Rattle.cq_sql.proofs.Exact.{Reads, Anything, Nothing, Done, After, Then, Tail, at_end, bind_some, keyword_takes, symbol_takes, by_same, done_reads, behind_reads, then_reads, next_reads, tail_reads}
+use Rattle.cq_sql.specs.Grammar.{name_at, column_at, row_at, create_table_at, drop_table_at, insert_at, delete_at, select_at, statement_at, if_all_read, whole_statement}
+use Rattle.cq_sql.proofs.Exact.{Reads, Anything, Nothing, Done, After, Then, at_end, bind_some, keyword_takes, symbol_takes, done_reads, behind_reads, then_reads, next_reads}
 use Rattle.cq_sql.proofs.Lists.{list_reads}
-use Rattle.cq_sql.proofs.Items.{IsCondition, name_reads, name_some, column_reads, column_some, row_reads, row_some, condition_reads}
+use Rattle.cq_sql.proofs.Items.{name_reads, name_some, column_reads, column_some, row_reads, row_some, where_reads}
 
--- the words and signs that every statement of a kind has
+-- the words and signs of statements
+abbrev create : Token
+create = tokens.Keyword keywords.Create
+
 abbrev table : Token
 table = tokens.Keyword keywords.Table
+
+abbrev drop_word : Token
+drop_word = tokens.Keyword keywords.Drop
+
+abbrev insert : Token
+insert = tokens.Keyword keywords.Insert
+
+abbrev delete : Token
+delete = tokens.Keyword keywords.Delete
+
+abbrev select : Token
+select = tokens.Keyword keywords.Select
 
 abbrev into : Token
 into = tokens.Keyword keywords.Into
@@ -38,145 +56,177 @@ open_sign = tokens.Symbol symbols.Open
 abbrev close_sign : Token
 close_sign = tokens.Symbol symbols.Close
 
--- TABLE name ( columns )
-abbrev CreateParts : Statement → List Token → Type 0
-CreateParts = After table (Then IsName (λ name. After open_sign (Then (Separated IsColumn) (λ columns. After close_sign (Done (statements.CreateTable name columns))))))
+-- name ( columns )
+abbrev CreateTableParts : Statement → List Token → Type 0
+CreateTableParts = Then IsName (λ name. After open_sign (Then (Separated IsColumn) (λ columns. After close_sign (Done (statements.CreateTable name columns)))))
 
 -- behind the columns stands a parenthesis, and no comma
-create_parts : Reads Nothing CreateParts create_at
-unfolding create_at
-create_parts =
-    behind_reads (keyword_takes keywords.Table) (next_reads name_reads (λ name. behind_reads
+create_table_reads : Reads Nothing CreateTableParts create_table_at
+unfolding create_table_at
+create_table_reads =
+    next_reads name_reads (λ name. behind_reads
     (symbol_takes symbols.Open)
     (then_reads
     (list_reads Anything IsColumn column_at column_reads column_some (λ ts. tt))
     (λ columns. behind_reads (symbol_takes symbols.Close) (done_reads (statements.CreateTable name columns)))
-    (λ columns y back rest h end. (tt, rw h.1 refl)))))
+    (λ columns y back rest h end. (tt, rw h.1 refl))))
 
--- what follows CREATE is read exactly
-create_reads : Reads Nothing (λ s ts. IsStatement s (tokens.Keyword keywords.Create ∷ ts)) create_at
-create_reads = by_same create_parts to from where
-  to : (s : Statement) (ts : List Token) → IsStatement s (tokens.Keyword keywords.Create ∷ ts) → CreateParts s ts
-  to (statements.CreateTable name columns) ts h = (
-    tokens.Name name ∷ open_sign ∷ h.0 ++ close_sign ∷ [],
-    cc h.1,
-    (name, tokens.Name name ∷ [], open_sign ∷ h.0 ++ close_sign ∷ [], refl, refl, (h.0 ++ close_sign ∷ [], refl, (columns, h.0, close_sign ∷ [], refl, h.2, ([], refl, (refl, refl))))),
-  )
-  to (statements.Insert name rows) ts h = absurd (cc h.1)
-  to (statements.Select q) ts h = absurd (cc h.2)
+-- the parts of a CREATE TABLE
+create_table_parts : (name : List ℕ) (columns : List ColumnDef) (inner : List Token) → Separated IsColumn columns inner → CreateTableParts (statements.CreateTable name columns) (tokens.Name name ∷ open_sign ∷ inner ++ close_sign ∷ [])
+create_table_parts name columns inner listed = (
+  name,
+  tokens.Name name ∷ [],
+  open_sign ∷ inner ++ close_sign ∷ [],
+  refl,
+  refl,
+  (inner ++ close_sign ∷ [], refl, (columns, inner, close_sign ∷ [], refl, listed, ([], refl, (refl, refl)))),
+)
 
-  from : (s : Statement) (ts : List Token) → CreateParts s ts → IsStatement s (tokens.Keyword keywords.Create ∷ ts)
-  from s ts h =
-      let name = h.2 in
-      let opened = name.5 in
-      let columns = opened.2 in
-      let close = columns.5 in
-      let spelled : IsStatement (statements.CreateTable name.0 columns.0) (tokens.Keyword keywords.Create ∷ ts) = (columns.1, rw (h.1, name.3, name.4, opened.1, columns.3, close.1, close.2.1) refl, columns.4) in
-      subst (λ (x : Statement). IsStatement x (tokens.Keyword keywords.Create ∷ ts)) (sym close.2.0) spelled
+-- a CREATE TABLE from its parts
+create_table_spelled : (s : Statement) (ts : List Token) → CreateTableParts s ts → IsStatement s (create ∷ table ∷ ts)
+create_table_spelled s ts h =
+    let opened = h.5 in
+    let columns = opened.2 in
+    let close = columns.5 in
+    let spelled : IsStatement (statements.CreateTable h.0 columns.0) (create ∷ table ∷ ts) = (columns.1, rw (h.3, h.4, opened.1, columns.3, close.1, close.2.1) refl, columns.4) in
+    subst (λ (x : Statement). IsStatement x (create ∷ table ∷ ts)) (sym close.2.0) spelled
+
+-- name
+abbrev DropTableParts : Statement → List Token → Type 0
+DropTableParts = Then IsName (λ name. Done (statements.DropTable name))
+
+-- no part needs a look ahead
+drop_table_reads : Reads Nothing DropTableParts drop_table_at
+unfolding drop_table_at
+drop_table_reads = next_reads name_reads (λ name. done_reads (statements.DropTable name))
+
+-- the parts of a DROP TABLE
+drop_table_parts : (name : List ℕ) → DropTableParts (statements.DropTable name) (tokens.Name name ∷ [])
+drop_table_parts name = (name, tokens.Name name ∷ [], [], refl, refl, (refl, refl))
+
+-- a DROP TABLE from its parts
+drop_table_spelled : (s : Statement) (ts : List Token) → DropTableParts s ts → IsStatement s (drop_word ∷ table ∷ ts)
+drop_table_spelled s ts h =
+    let spelled : IsStatement (statements.DropTable h.0) (drop_word ∷ table ∷ ts) = rw (h.3, h.4, h.5.1) refl in
+    subst (λ (x : Statement). IsStatement x (drop_word ∷ table ∷ ts)) (sym h.5.0) spelled
 
 -- INTO name VALUES rows
 abbrev InsertParts : Statement → List Token → Type 0
 InsertParts = After into (Then IsName (λ name. After values (Then (Separated IsRow) (λ rows. Done (statements.Insert name rows)))))
 
 -- behind the rows stands nothing
-insert_parts : Reads Nothing InsertParts insert_at
+insert_reads : Reads Nothing InsertParts insert_at
 unfolding insert_at
-insert_parts =
+insert_reads =
     behind_reads (keyword_takes keywords.Into) (next_reads name_reads (λ name. behind_reads
     (keyword_takes keywords.Values)
     (then_reads (list_reads Anything IsRow row_at row_reads row_some (λ ts. tt)) (λ rows. done_reads (statements.Insert name rows)) (λ rows y back rest h end. (tt, at_end (after_symbol symbols.Comma) back rest h.1 end refl)))))
 
--- what follows INSERT is read exactly
-insert_reads : Reads Nothing (λ s ts. IsStatement s (tokens.Keyword keywords.Insert ∷ ts)) insert_at
-insert_reads = by_same insert_parts to from where
-  to : (s : Statement) (ts : List Token) → IsStatement s (tokens.Keyword keywords.Insert ∷ ts) → InsertParts s ts
-  to (statements.CreateTable name columns) ts h = absurd (cc h.1)
-  to (statements.Insert name rows) ts h = (
-    tokens.Name name ∷ values ∷ h.0,
-    cc h.1,
-    (name, tokens.Name name ∷ [], values ∷ h.0, refl, refl, (h.0, refl, (rows, h.0, [], sym (append-nil h.0), h.2, (refl, refl)))),
-  )
-  to (statements.Select q) ts h = absurd (cc h.2)
+-- the parts of an INSERT
+insert_parts : (name : List ℕ) (rows : List (List Literal)) (inner : List Token) → Separated IsRow rows inner → InsertParts (statements.Insert name rows) (into ∷ tokens.Name name ∷ values ∷ inner)
+insert_parts name rows inner listed = (tokens.Name name ∷ values ∷ inner, refl, (name, tokens.Name name ∷ [], values ∷ inner, refl, refl, (inner, refl, (rows, inner, [], sym (append-nil inner), listed, (refl, refl)))))
 
-  from : (s : Statement) (ts : List Token) → InsertParts s ts → IsStatement s (tokens.Keyword keywords.Insert ∷ ts)
-  from s ts h =
-      let name = h.2 in
-      let opened = name.5 in
-      let rows = opened.2 in
-      let whole : opened.0 ≡ rows.1 = rw (rows.3, rows.5.1) (append-nil rows.1) in
-      let spelled : IsStatement (statements.Insert name.0 rows.0) (tokens.Keyword keywords.Insert ∷ ts) = (rows.1, rw (h.1, name.3, name.4, opened.1, whole) refl, rows.4) in
-      subst (λ (x : Statement). IsStatement x (tokens.Keyword keywords.Insert ∷ ts)) (sym rows.5.0) spelled
+-- an INSERT from its parts
+insert_spelled : (s : Statement) (ts : List Token) → InsertParts s ts → IsStatement s (insert ∷ ts)
+insert_spelled s ts h =
+    let name = h.2 in
+    let opened = name.5 in
+    let rows = opened.2 in
+    let whole : opened.0 ≡ rows.1 = rw (rows.3, rows.5.1) (append-nil rows.1) in
+    let spelled : IsStatement (statements.Insert name.0 rows.0) (insert ∷ ts) = (rows.1, rw (h.1, name.3, name.4, opened.1, whole) refl, rows.4) in
+    subst (λ (x : Statement). IsStatement x (insert ∷ ts)) (sym rows.5.0) spelled
+
+-- FROM name [WHERE ..]
+abbrev DeleteParts : Statement → List Token → Type 0
+DeleteParts = After from_word (Then IsName (λ name. Then IsWhere (λ condition. Done (statements.Delete name condition))))
+
+-- behind the table stands WHERE or nothing
+delete_reads : Reads Nothing DeleteParts delete_at
+unfolding delete_at
+delete_reads =
+    behind_reads (keyword_takes keywords.From) (next_reads name_reads (λ name. then_reads
+    where_reads
+    (λ condition. done_reads (statements.Delete name condition))
+    (λ condition y back rest h end. (tt, at_end (after_keyword keywords.Where) back rest h.1 end refl))))
+
+-- the parts of a DELETE
+delete_parts : (name : List ℕ) (condition : Option Condition) (kept : List Token) → IsWhere condition kept → DeleteParts (statements.Delete name condition) (from_word ∷ tokens.Name name ∷ kept)
+delete_parts name condition kept where_is = (tokens.Name name ∷ kept, refl, (name, tokens.Name name ∷ [], kept, refl, refl, (condition, kept, [], sym (append-nil kept), where_is, (refl, refl))))
+
+-- a DELETE from its parts
+delete_spelled : (s : Statement) (ts : List Token) → DeleteParts s ts → IsStatement s (delete ∷ ts)
+delete_spelled s ts h =
+    let name = h.2 in
+    let tail = name.5 in
+    let whole : name.2 ≡ tail.1 = rw (tail.3, tail.5.1) (append-nil tail.1) in
+    let spelled : IsStatement (statements.Delete name.0 tail.0) (delete ∷ ts) = (tail.1, rw (h.1, name.3, name.4, whole) refl, tail.4) in
+    subst (λ (x : Statement). IsStatement x (delete ∷ ts)) (sym tail.5.0) spelled
 
 -- names FROM name [WHERE ..]
 abbrev SelectParts : Statement → List Token → Type 0
 SelectParts =
-    Then (Separated IsName) (λ columns. After from_word (Then IsName (λ table. Then (Tail keywords.Where IsCondition) (λ condition. Done (statements.Select (record { columns = columns; table = table; condition = condition }))))))
+    Then (Separated IsName) (λ columns. After from_word (Then IsName (λ table. Then IsWhere (λ condition. Done (statements.Select (record { columns = columns; table = table; condition = condition }))))))
 
 -- behind the columns stands FROM, and behind the table WHERE or nothing
-select_parts : Reads Nothing SelectParts select_at
+select_reads : Reads Nothing SelectParts select_at
 unfolding select_at
-select_parts =
+select_reads =
     then_reads
     (list_reads Anything IsName name_at name_reads name_some (λ ts. tt))
     (λ columns. behind_reads (keyword_takes keywords.From) (next_reads name_reads (λ table. then_reads
-    (tail_reads keywords.Where condition_reads)
+    where_reads
     (λ condition. done_reads (statements.Select (record { columns = columns; table = table; condition = condition })))
     (λ condition y back rest h end. (tt, at_end (after_keyword keywords.Where) back rest h.1 end refl)))))
     (λ columns y back rest h end. (tt, rw h.1 refl))
 
--- a condition behind WHERE is an optional tail
-where_tail : (o : Option Condition) (ts : List Token) → IsWhere o ts → Tail keywords.Where IsCondition o ts
-where_tail None ts h = h
-where_tail (Some c) ts h = (tokens.Name c.column ∷ _, h.1, (h.0, refl, h.2))
+-- the parts of a SELECT
+select_parts : (q : Select) (names rest : List Token) → Separated IsName q.columns names → IsWhere q.condition rest → SelectParts (statements.Select q) (names ++ from_word ∷ tokens.Name q.table ∷ rest)
+select_parts q names rest listed where_is = (
+  q.columns,
+  names,
+  from_word ∷ tokens.Name q.table ∷ rest,
+  refl,
+  listed,
+  (tokens.Name q.table ∷ rest, refl, (q.table, tokens.Name q.table ∷ [], rest, refl, refl, (q.condition, rest, [], sym (append-nil rest), where_is, (refl, refl)))),
+)
 
--- the optional tail is a condition behind WHERE
-tail_where : (o : Option Condition) (ts : List Token) → Tail keywords.Where IsCondition o ts → IsWhere o ts
-tail_where None ts h = h
-tail_where (Some c) ts h = (h.2.0, rw (h.1, h.2.1) refl, h.2.2)
-
--- what follows SELECT is read exactly
-select_reads : Reads Nothing (λ s ts. IsStatement s (tokens.Keyword keywords.Select ∷ ts)) select_at
-select_reads = by_same select_parts to from where
-  to : (s : Statement) (ts : List Token) → IsStatement s (tokens.Keyword keywords.Select ∷ ts) → SelectParts s ts
-  to (statements.CreateTable name columns) ts h = absurd (cc h.1)
-  to (statements.Insert name rows) ts h = absurd (cc h.1)
-  to (statements.Select q) ts h = (
-    q.columns,
-    h.0,
-    from_word ∷ tokens.Name q.table ∷ h.1,
-    cc h.2,
-    h.3,
-    (tokens.Name q.table ∷ h.1, refl, (q.table, tokens.Name q.table ∷ [], h.1, refl, refl, (q.condition, h.1, [], sym (append-nil h.1), where_tail q.condition h.1 h.4, (refl, refl)))),
-  )
-
-  from : (s : Statement) (ts : List Token) → SelectParts s ts → IsStatement s (tokens.Keyword keywords.Select ∷ ts)
-  from s ts h =
-      let source = h.5 in
-      let name = source.2 in
-      let tail = name.5 in
-      let whole : name.2 ≡ tail.1 = rw (tail.3, tail.5.1) (append-nil tail.1) in
-      let spelled : IsStatement (statements.Select (record { columns = h.0; table = name.0; condition = tail.0 })) (tokens.Keyword keywords.Select ∷ ts) = (h.1, tail.1, rw (h.3, source.1, name.3, name.4, whole) refl, h.4, tail_where tail.0 tail.1 tail.4) in
-      subst (λ (x : Statement). IsStatement x (tokens.Keyword keywords.Select ∷ ts)) (sym tail.5.0) spelled
+-- a SELECT from its parts
+select_spelled : (s : Statement) (ts : List Token) → SelectParts s ts → IsStatement s (select ∷ ts)
+select_spelled s ts h =
+    let source = h.5 in
+    let name = source.2 in
+    let tail = name.5 in
+    let whole : name.2 ≡ tail.1 = rw (tail.3, tail.5.1) (append-nil tail.1) in
+    let spelled : IsStatement (statements.Select (record { columns = h.0; table = name.0; condition = tail.0 })) (select ∷ ts) = (h.1, tail.1, rw (h.3, source.1, name.3, name.4, whole) refl, h.4, tail.4) in
+    subst (λ (x : Statement). IsStatement x (select ∷ ts)) (sym tail.5.0) spelled
 
 -- statements are read exactly, by their first keywords
 pub statement_reads : Reads Nothing IsStatement statement_at
 unfolding statement_at
 statement_reads = record { found = found; only = only } where
   found : (s : Statement) (front rest : List Token) → IsStatement s front → Nothing rest → statement_at (front ++ rest) ≡ Some (s, rest)
-  found (statements.CreateTable name columns) front rest h end = rw h.1 (create_reads.found (statements.CreateTable name columns) _ rest (h.0, refl, h.2) end)
-  found (statements.Insert name rows) front rest h end = rw h.1 (insert_reads.found (statements.Insert name rows) _ rest (h.0, refl, h.2) end)
-  found (statements.Select q) front rest h end = rw h.2 (select_reads.found (statements.Select q) _ rest (h.0, h.1, refl, h.3, h.4) end)
+  found (statements.CreateTable name columns) front rest h end = rw h.1 (create_table_reads.found (statements.CreateTable name columns) _ rest (create_table_parts name columns h.0 h.2) end)
+  found (statements.DropTable name) front rest h end = rw h (drop_table_reads.found (statements.DropTable name) _ rest (drop_table_parts name) end)
+  found (statements.Insert name rows) front rest h end = rw h.1 (insert_reads.found (statements.Insert name rows) _ rest (insert_parts name rows h.0 h.2) end)
+  found (statements.Delete name condition) front rest h end = rw h.1 (delete_reads.found (statements.Delete name condition) _ rest (delete_parts name condition h.0 h.2) end)
+  found (statements.Select q) front rest h end = rw h.2 (select_reads.found (statements.Select q) _ rest (select_parts q h.0 h.1 h.3 h.4) end)
 
   only : (s : Statement) (ts rest : List Token) → statement_at ts ≡ Some (s, rest) → (front : List Token) × (ts ≡ front ++ rest) × IsStatement s front
-  only s (tokens.Keyword keywords.Create ∷ ts) rest e =
-      let o = create_reads.only s ts rest e in
-      (tokens.Keyword keywords.Create ∷ o.0, ap (λ (us : List Token). tokens.Keyword keywords.Create ∷ us) o.1, o.2)
+  only s (tokens.Keyword keywords.Create ∷ tokens.Keyword keywords.Table ∷ ts) rest e =
+      let o = create_table_reads.only s ts rest e in
+      (create ∷ table ∷ o.0, ap (λ (us : List Token). create ∷ table ∷ us) o.1, create_table_spelled s o.0 o.2)
+  only s (tokens.Keyword keywords.Drop ∷ tokens.Keyword keywords.Table ∷ ts) rest e =
+      let o = drop_table_reads.only s ts rest e in
+      (drop_word ∷ table ∷ o.0, ap (λ (us : List Token). drop_word ∷ table ∷ us) o.1, drop_table_spelled s o.0 o.2)
   only s (tokens.Keyword keywords.Insert ∷ ts) rest e =
       let o = insert_reads.only s ts rest e in
-      (tokens.Keyword keywords.Insert ∷ o.0, ap (λ (us : List Token). tokens.Keyword keywords.Insert ∷ us) o.1, o.2)
+      (insert ∷ o.0, ap (λ (us : List Token). insert ∷ us) o.1, insert_spelled s o.0 o.2)
+  only s (tokens.Keyword keywords.Delete ∷ ts) rest e =
+      let o = delete_reads.only s ts rest e in
+      (delete ∷ o.0, ap (λ (us : List Token). delete ∷ us) o.1, delete_spelled s o.0 o.2)
   only s (tokens.Keyword keywords.Select ∷ ts) rest e =
       let o = select_reads.only s ts rest e in
-      (tokens.Keyword keywords.Select ∷ o.0, ap (λ (us : List Token). tokens.Keyword keywords.Select ∷ us) o.1, o.2)
+      (select ∷ o.0, ap (λ (us : List Token). select ∷ us) o.1, select_spelled s o.0 o.2)
   only s ts rest e = absurd cc
 
 -- a tree of the tokens is what is read from them

@@ -54,25 +54,36 @@ unfoldable pub condition_at : Reader Condition
 condition_at =
     followed_by name_at (λ column. followed_by comparison_at (λ comparison. followed_by literal_at (λ literal. done (record { column = column; comparison = comparison; literal = literal }))))
 
--- takes what follows CREATE: the table's name and its columns
-unfoldable pub create_at : Reader Statement
-create_at =
-    behind (after_keyword keywords.Table) (followed_by name_at (λ name. behind (after_symbol symbols.Open) (followed_by (list_at column_at) (λ columns. behind (after_symbol symbols.Close) (done (statements.CreateTable name columns))))))
+-- takes what follows CREATE TABLE: the table's name and its columns
+unfoldable pub create_table_at : Reader Statement
+create_table_at =
+    followed_by name_at (λ name. behind (after_symbol symbols.Open) (followed_by (list_at column_at) (λ columns. behind (after_symbol symbols.Close) (done (statements.CreateTable name columns)))))
+
+-- takes what follows DROP TABLE: the table's name
+unfoldable pub drop_table_at : Reader Statement
+drop_table_at = followed_by name_at (λ name. done (statements.DropTable name))
 
 -- takes what follows INSERT: the table's name and the new rows
 unfoldable pub insert_at : Reader Statement
 insert_at =
     behind (after_keyword keywords.Into) (followed_by name_at (λ table. behind (after_keyword keywords.Values) (followed_by (list_at row_at) (λ rows. done (statements.Insert table rows)))))
 
+-- takes what follows DELETE: the table's name and an optional condition
+unfoldable pub delete_at : Reader Statement
+delete_at =
+    behind (after_keyword keywords.From) (followed_by name_at (λ table. followed_by (tail_at keywords.Where condition_at) (λ condition. done (statements.Delete table condition))))
+
 -- takes what follows SELECT: columns, their table and an optional condition
 unfoldable pub select_at : Reader Statement
 select_at =
     followed_by (list_at name_at) (λ columns. behind (after_keyword keywords.From) (followed_by name_at (λ table. followed_by (tail_at keywords.Where condition_at) (λ condition. done (statements.Select (record { columns = columns; table = table; condition = condition }))))))
 
--- takes a statement: its first keyword says which one it is
+-- takes a statement: its first keywords say which one it is
 unfoldable pub statement_at : Reader Statement
-statement_at (tokens.Keyword keywords.Create ∷ ts) = create_at ts
+statement_at (tokens.Keyword keywords.Create ∷ tokens.Keyword keywords.Table ∷ ts) = create_table_at ts
+statement_at (tokens.Keyword keywords.Drop ∷ tokens.Keyword keywords.Table ∷ ts) = drop_table_at ts
 statement_at (tokens.Keyword keywords.Insert ∷ ts) = insert_at ts
+statement_at (tokens.Keyword keywords.Delete ∷ ts) = delete_at ts
 statement_at (tokens.Keyword keywords.Select ∷ ts) = select_at ts
 statement_at ts = None
 

@@ -4,7 +4,7 @@ ghost use Rattle.cq_model.specs.Sentence.{IsStatement};
 ghost use Rattle.cq_model.specs.declared.statement.Statement.{Statement};
 ghost use Rattle.cq_sql.specs.declared.fault.SqlFault.TheVariants.{LimitExceeded, Syntax};
 ghost use Rattle.cq_sql.specs.Gives.{Gives};
-ghost use Rattle.cq_sql.specs.Grammar.{name_at, column_at, literal_at, row_at, comparison_of, comparison_at, condition_at, select_at, create_at, insert_at, statement_at, whole_statement};
+ghost use Rattle.cq_sql.specs.Grammar.{name_at, column_at, literal_at, row_at, comparison_of, comparison_at, condition_at, create_table_at, drop_table_at, insert_at, delete_at, select_at, statement_at, whole_statement};
 
 use crate::fault::SqlFault;
 use crate::read::{Readable, expect_keyword, expect_symbol, list_of, tail_of};
@@ -113,16 +113,23 @@ impl Readable for Condition {
     }
 }
 
-#[tactic(auto, unfolding(crate::specs::Grammar::create_at))]
-fn create_at(alloc: Global, tokens: &[Token]) -> Result<(Statement, &[Token]), SqlFault>
-    ensures { Gives (λ x. (x.0, x.1.now)) result (create_at tokens.now) }
+#[tactic(auto, unfolding(crate::specs::Grammar::create_table_at))]
+fn create_table_at(alloc: Global, tokens: &[Token]) -> Result<(Statement, &[Token]), SqlFault>
+    ensures { Gives (λ x. (x.0, x.1.now)) result (create_table_at tokens.now) }
 {
-    let rest = expect_keyword(Keyword::Table, tokens)?;
-    let (name, rest) = Text::read(alloc, rest)?;
+    let (name, rest) = Text::read(alloc, tokens)?;
     let rest = expect_symbol(Symbol::Open, rest)?;
     let (columns, rest) = list_of::<ColumnDef>(alloc, rest)?;
     let rest = expect_symbol(Symbol::Close, rest)?;
     Ok((Statement::CreateTable { name, columns }, rest))
+}
+
+#[tactic(auto, unfolding(crate::specs::Grammar::drop_table_at))]
+fn drop_table_at(alloc: Global, tokens: &[Token]) -> Result<(Statement, &[Token]), SqlFault>
+    ensures { Gives (λ x. (x.0, x.1.now)) result (drop_table_at tokens.now) }
+{
+    let (name, rest) = Text::read(alloc, tokens)?;
+    Ok((Statement::DropTable(name), rest))
 }
 
 #[tactic(auto, unfolding(crate::specs::Grammar::insert_at))]
@@ -134,6 +141,16 @@ fn insert_at(alloc: Global, tokens: &[Token]) -> Result<(Statement, &[Token]), S
     let rest = expect_keyword(Keyword::Values, rest)?;
     let (rows, rest) = list_of::<Seq<Literal>>(alloc, rest)?;
     Ok((Statement::Insert { table, rows }, rest))
+}
+
+#[tactic(auto, unfolding(crate::specs::Grammar::delete_at))]
+fn delete_at(alloc: Global, tokens: &[Token]) -> Result<(Statement, &[Token]), SqlFault>
+    ensures { Gives (λ x. (x.0, x.1.now)) result (delete_at tokens.now) }
+{
+    let rest = expect_keyword(Keyword::From, tokens)?;
+    let (table, rest) = Text::read(alloc, rest)?;
+    let (condition, rest) = tail_of::<Condition>(alloc, Keyword::Where, rest)?;
+    Ok((Statement::Delete { table, condition }, rest))
 }
 
 #[tactic(auto, unfolding(crate::specs::Grammar::select_at))]
@@ -157,8 +174,18 @@ fn statement_at(alloc: Global, tokens: &[Token]) -> Result<(Statement, &[Token])
     ensures { Gives (λ x. (x.0, x.1.now)) result (statement_at tokens.now) }
 {
     match tokens {
-        [Token::Keyword(Keyword::Create), rest @ ..] => create_at(alloc, rest),
+        [
+            Token::Keyword(Keyword::Create),
+            Token::Keyword(Keyword::Table),
+            rest @ ..,
+        ] => create_table_at(alloc, rest),
+        [
+            Token::Keyword(Keyword::Drop),
+            Token::Keyword(Keyword::Table),
+            rest @ ..,
+        ] => drop_table_at(alloc, rest),
         [Token::Keyword(Keyword::Insert), rest @ ..] => insert_at(alloc, rest),
+        [Token::Keyword(Keyword::Delete), rest @ ..] => delete_at(alloc, rest),
         [Token::Keyword(Keyword::Select), rest @ ..] => select_at(alloc, rest),
         _ => Err(SqlFault::Syntax),
     }

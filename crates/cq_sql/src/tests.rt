@@ -8,6 +8,8 @@ use std::test::Fail;
 fn keyword(word: &str) -> Option<Keyword> {
     match word {
         "create" => Some(Keyword::Create),
+        "delete" => Some(Keyword::Delete),
+        "drop" => Some(Keyword::Drop),
         "from" => Some(Keyword::From),
         "insert" => Some(Keyword::Insert),
         "integer" => Some(Keyword::Integer),
@@ -73,9 +75,13 @@ fn a_statement_is_read(rt: HostRuntime) -> Result<(), Fail> {
     let texts = [
         "create table t ( a integer )",
         "create table t ( a integer , b integer , a integer )",
+        "drop table t",
         "insert into t values ( 1 )",
         "insert into t values ( 1 , - 2 ) , ( 3 )",
         "insert into t values ( - 0 )",
+        "delete from t",
+        "delete from t where a = 1",
+        "delete from t where b <> - 1",
         "select a from t",
         "select a , b , a from t",
         "select a from t where a = 1",
@@ -103,6 +109,9 @@ fn half_a_statement_is_none(rt: HostRuntime) -> Result<(), Fail> {
         "create table t ( a integer",
         "create table t ( a integer , )",
         "create table t ( a integer b integer )",
+        "drop",
+        "drop t",
+        "drop table",
         "insert into t values",
         "insert into t values ( )",
         "insert into t values ( 1",
@@ -111,6 +120,13 @@ fn half_a_statement_is_none(rt: HostRuntime) -> Result<(), Fail> {
         "insert into t values ( 1 ) ,",
         "insert into t values ( 1 ) ( 2 )",
         "insert t values ( 1 )",
+        "delete",
+        "delete t",
+        "delete from",
+        "delete from where a = 1",
+        "delete from t where",
+        "delete from t where a",
+        "delete from t where a =",
         "select a",
         "select from t",
         "select a , from t",
@@ -134,10 +150,17 @@ fn what_follows_a_statement_makes_it_none(rt: HostRuntime) -> Result<(), Fail> {
     let texts = [
         "create table t ( a integer ) )",
         "create table t ( a integer ) u",
+        "drop table t u",
+        "drop table t , u",
         "insert into t values ( 1 ) where a = 1",
         "insert into t values ( - - 1 )",
         "insert into t values ( + 1 )",
         "insert into t values ( a )",
+        "delete from t u",
+        "delete from t , u",
+        "delete from t a = 1",
+        "delete from t where a = b",
+        "delete from t where a = 1 where a = 1",
         "select a from t u",
         "select a from t where a = b",
         "select a from t where 1 = a",
@@ -176,6 +199,7 @@ fn a_minus_belongs_to_the_number_behind_it(rt: HostRuntime) -> Result<(), Fail> 
 
 fn condition_of(statement: &Statement) -> Option<&Condition> {
     match statement {
+        Statement::Delete { condition, .. } => condition.as_ref(),
         Statement::Select(select) => select.condition.as_ref(),
         _ => None,
     }
@@ -183,11 +207,29 @@ fn condition_of(statement: &Statement) -> Option<&Condition> {
 
 #[test]
 fn a_condition_is_kept(rt: HostRuntime) -> Result<(), Fail> {
-    let tokens = tokens(rt.alloc(), "select a from t where b <= 7")?;
+    let texts = ["select a from t where b <= 7", "delete from t where b <= 7"];
+    for text in texts {
+        let tokens = tokens(rt.alloc(), text)?;
+        let statement = tree_of(rt.alloc(), &tokens)?;
+        let condition = condition_of(&statement).ok_or("no condition")?;
+        assert_eq!(rt; condition.column.as_str(), "b", "{text}");
+        assert_eq!(rt; condition.comparison, Comparison::LessOrEqual, "{text}");
+        assert_eq!(rt; condition.literal.magnitude, 7, "{text}");
+    }
+    Ok(())
+}
+
+fn dropped(statement: &Statement) -> Option<&str> {
+    match statement {
+        Statement::DropTable(name) => Some(name.as_str()),
+        _ => None,
+    }
+}
+
+#[test]
+fn a_dropped_table_goes_by_its_name(rt: HostRuntime) -> Result<(), Fail> {
+    let tokens = tokens(rt.alloc(), "drop table t")?;
     let statement = tree_of(rt.alloc(), &tokens)?;
-    let condition = condition_of(&statement).ok_or("no condition")?;
-    assert_eq!(rt; condition.column.as_str(), "b");
-    assert_eq!(rt; condition.comparison, Comparison::LessOrEqual);
-    assert_eq!(rt; condition.literal.magnitude, 7);
+    assert_eq!(rt; dropped(&statement), Some("t"));
     Ok(())
 }

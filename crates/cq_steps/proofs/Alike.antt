@@ -1,8 +1,16 @@
 -- States that differ in nothing that an answer shows: in the epochs of their views and in the front of their queues alone.
 use Rattle.std.proofs.Common.{◌≡◌, ℕ, suc, ◌+◌, not, List, [], ◌∷◌, ◌++◌, map, take, drop, Option, Some, None, refl, sym, ap, subst, ◌∙◌}
-use Rattle.std.specs.Prelude.{slice_get, length, filter, ◌==◌}
-use Rattle.std.specs.List.{remove}
-use Rattle.std.proofs.lemmas.List.{map-append, take-map, drop-map}
+use Rattle.std.specs.Prelude.{slice_get, length, filter, ◌==◌, ◌||◌, Bool, is_some, option_map, unwrap_or}
+use Rattle.cq_values.specs.Texts.{is_text}
+use Rattle.cq_bags.proofs.Totals.{by_test}
+use Rattle.cq_model.specs.declared.query.Source.TheVariants.{Table, View}
+use Rattle.cq_model.specs.declared.statement.Statement.{Statement}
+use Rattle.cq_model.specs.declared.statement.Statement.TheVariants as statements
+use Rattle.cq_steps.specs.Bound.{Named, source_named, bound, bound_select}
+use Rattle.cq_steps.specs.Refusal.{first_fault, is_used, drop_table_places, select_places, refusal}
+use Rattle.std.specs.List.{remove, prefix_len, list_any}
+use Rattle.std.proofs.lemmas.List.{map-append, take-map, drop-map, length-map}
+use Rattle.std.specs.Option.{option_or}
 use Rattle.cq_values.specs.Value.{Row}
 use Rattle.cq_bags.specs.Bag.{Weighted, once_each}
 use Rattle.cq_bags.specs.Listing.{IsListing}
@@ -13,12 +21,12 @@ use Rattle.cq_model.specs.declared.query.Order.{Order}
 use Rattle.cq_model.specs.declared.query.Query.{Query}
 use Rattle.cq_model.specs.declared.statement.ColumnDef.{ColumnDef}
 use Rattle.cq_model.specs.Meaning.{meaning}
-use Rattle.cq_model.specs.Views.{with_views, AnswerInRange}
+use Rattle.cq_model.specs.Views.{with_views, sources_of, is_table, AnswerInRange}
 use Rattle.cq_model.specs.Write.{chosen, left_by, updated}
 use Rattle.cq_steps.specs.declared.answer.Answer.{Answer}
 use Rattle.cq_steps.specs.declared.answer.Answer.TheVariants.{Done, Count, Rows}
-use Rattle.cq_steps.specs.State.{TableOf, ViewOf, State, empty_table, rows_in, with_rows, tables_now, queries_of}
-use Rattle.cq_steps.specs.Step.{with_all_views, created, new_view, written, Writes, at_epoch, taken_on, reach, refreshed, Shows, Leads, Trims, Accepts, AreBetween, GivesUp, IsTooLarge}
+use Rattle.cq_steps.specs.State.{TableOf, ViewOf, State, table_named, view_place, view_named, empty_table, rows_in, with_rows, tables_now, queries_of}
+use Rattle.cq_steps.specs.Step.{with_all_views, created, new_view, written, Writes, at_epoch, taken_on, reach, refreshed, Shows, Leads, Trims, at_present, Accepts, AreBetween, GivesUp, IsTooLarge}
 
 -- the view without its epoch
 abbrev pub timeless : ViewOf → ViewOf
@@ -40,6 +48,72 @@ alike_turned x y a = record { tables = sym a.tables; views = sym a.views; now = 
 
 pub alike_then : (x y z : State) → Alike x y → Alike y z → Alike x z
 alike_then x y z a b = record { tables = a.tables ∙ b.tables; views = a.views ∙ b.views; now = a.now ∙ b.now; drawn = a.drawn ∙ b.drawn; max_rows = a.max_rows ∙ b.max_rows }
+
+-- what of a state an answer shows
+abbrev seen : State → State
+seen x = record { tables = x.tables; views = map timeless x.views; now = x.now; drawn = x.drawn; passed = 0; queue = []; max_rows = x.max_rows }
+
+seen-alike : (x y : State) → Alike x y → seen x ≡ seen y
+seen-alike x y a = λ i. record { tables = a.tables i; views = a.views i; now = a.now i; drawn = a.drawn i; passed = 0; queue = []; max_rows = a.max_rows i }
+
+-- a view is found by its name, whatever its epoch
+prefix-timeless : (p : ViewOf → Bool) (vs : List ViewOf) → ((v : ViewOf) → p (timeless v) ≡ p v) → prefix_len p (map timeless vs) ≡ prefix_len p vs
+prefix-timeless p [] same = refl
+prefix-timeless p (v ∷ vs) same = rw (same v, prefix-timeless p vs same) refl
+
+place-timeless : (name : List ℕ) (vs : List ViewOf) → view_place name (map timeless vs) ≡ view_place name vs
+place-timeless name vs = rw (prefix-timeless (λ v. not (is_text v.name name)) vs (λ v. refl), length-map vs timeless) refl
+
+named-timeless : (name : List ℕ) (vs : List ViewOf) → view_named name (map timeless vs) ≡ option_map timeless (view_named name vs)
+named-timeless name [] = refl
+named-timeless name (v ∷ vs) = by_test (is_text v.name name) (λ k. rw k refl) (λ k. rw k (named-timeless name vs))
+
+there-timeless : (name : List ℕ) (vs : List ViewOf) → is_some (view_named name (map timeless vs)) ≡ is_some (view_named name vs)
+there-timeless name vs = ap is_some (named-timeless name vs) ∙ some (view_named name vs)
+  where
+    some : (o : Option ViewOf) → is_some (option_map timeless o) ≡ is_some o
+    some None = refl
+    some (Some v) = refl
+
+used-timeless : (n : ℕ) (vs : List ViewOf) → is_used n (map timeless vs) ≡ is_used n vs
+used-timeless n [] = refl
+used-timeless n (v ∷ vs) = ap (λ (b : Bool). list_any (is_table n) (sources_of v.query) || b) (used-timeless n vs)
+
+-- a source is the same, whatever the epochs
+source-timeless : (name : List ℕ) (x : State) → source_named name (seen x) ≡ source_named name x
+source-timeless name x = rw (place-timeless name x.views, named-timeless name x.views) (told (view_named name x.views))
+  where
+    told : (o : Option ViewOf)
+        → option_or {T = Named} (option_map (λ (t : TableOf). record { columns = t.columns; source = Table t.number }) (table_named name x.tables)) (option_map (λ (v : ViewOf). record { columns = v.columns; source = View (unwrap_or (view_place name x.views) 0) }) (option_map timeless o))
+        ≡ option_or {T = Named} (option_map (λ (t : TableOf). record { columns = t.columns; source = Table t.number }) (table_named name x.tables)) (option_map (λ (v : ViewOf). record { columns = v.columns; source = View (unwrap_or (view_place name x.views) 0) }) o)
+    told None = refl
+    told (Some v) = refl
+
+-- the walk sees no epoch
+refusal-seen : (x : State) (s : Statement) → refusal (seen x) s ≡ refusal x s
+refusal-seen x (statements.CreateTable name columns) = rw (there-timeless name x.views) refl
+refusal-seen x (statements.DropTable name) = used (table_named name x.tables)
+  where
+    used : (o : Option TableOf) → first_fault (drop_table_places (map timeless x.views) o) ≡ first_fault (drop_table_places x.views o)
+    used None = refl
+    used (Some t) = rw (used-timeless t.number x.views) refl
+refusal-seen x (statements.Insert name rows) = rw (there-timeless name x.views) refl
+refusal-seen x (statements.Delete name condition) = rw (there-timeless name x.views) refl
+refusal-seen x (statements.Select q) = ap (λ (o : Option Named). first_fault (select_places q o)) (source-timeless q.table x)
+
+-- and names are resolved without one
+bound-seen : (x : State) (s : Statement) → bound (seen x) s ≡ bound x s
+bound-seen x (statements.CreateTable name columns) = refl
+bound-seen x (statements.DropTable name) = refl
+bound-seen x (statements.Insert name rows) = refl
+bound-seen x (statements.Delete name condition) = refl
+bound-seen x (statements.Select q) = ap (option_map (bound_select q)) (source-timeless q.table x)
+
+pub refusal-alike : (x y : State) (s : Statement) → Alike x y → refusal x s ≡ refusal y s
+refusal-alike x y s a = sym (refusal-seen x s) ∙ ap (λ (z : State). refusal z s) (seen-alike x y a) ∙ refusal-seen y s
+
+pub bound-alike : (x y : State) (s : Statement) → Alike x y → bound x s ≡ bound y s
+bound-alike x y s a = sym (bound-seen x s) ∙ ap (λ (z : State). bound z s) (seen-alike x y a) ∙ bound-seen y s
 
 -- the queries of views have no epoch
 queries_timeless : (vs : List ViewOf) → map (λ v. v.query) (map timeless vs) ≡ map (λ v. v.query) vs
@@ -242,3 +316,17 @@ not-too-large x y (commands.Update n assignments c) a v s p large = large
 not-too-large x y (commands.Move n rows) a v s p large = large
 not-too-large x y (commands.Merge n) a v s p large = large
 not-too-large x y (commands.Refresh place changes) a v s p large = large
+
+-- taking every view to the present shows nothing
+present-timeless : (n : ℕ) (vs : List ViewOf) → map timeless (map (at_epoch n) vs) ≡ map timeless vs
+present-timeless n [] = refl
+present-timeless n (v ∷ vs) = ap (λ (ws : List ViewOf). timeless v ∷ ws) (present-timeless n vs)
+
+pub present-alike : (x y : State) → Trims (at_present x) y → Alike y x
+present-alike x y t = record {
+  tables = ap (λ (s : State). s.tables) t.state;
+  views = ap (λ (s : State). map timeless s.views) t.state ∙ present-timeless x.now x.views;
+  now = ap (λ (s : State). s.now) t.state;
+  drawn = ap (λ (s : State). s.drawn) t.state;
+  max_rows = ap (λ (s : State). s.max_rows) t.state;
+}

@@ -1,14 +1,11 @@
 -- What a script is answered with is decided by which statements were refused for want of memory, and which sources failed.
 use Rattle.std.proofs.Common.{◌≡◌, ◌⊎◌, inl, inr, ℕ, Bool, true, false, List, [], ◌∷◌, map, Option, Some, None, Result, Ok, Err, refl, sym, ap, subst, ◌∙◌}
-use Rattle.std.specs.Prelude.{option_map}
 use Rattle.cq_values.specs.Value.{Row}
 use Rattle.cq_bags.specs.Bag.{Weighted}
 use Rattle.cq_bags.specs.Listing.{IsListing}
 use Rattle.cq_bags.specs.declared.sort_key.SortKey.{SortKey}
 use Rattle.cq_model.specs.declared.bound.Bound.{Bound}
-use Rattle.cq_model.specs.declared.bound.Bound.TheVariants as commands
 use Rattle.cq_model.specs.declared.statement.Statement.{Statement}
-use Rattle.cq_model.specs.declared.statement.Statement.TheVariants as statements
 use Rattle.cq_model.specs.declared.token.Token.{Token}
 use Rattle.cq_model.specs.Tokens.{HasTokens, is_past_limits}
 use Rattle.cq_model.specs.Sentence.{IsStatement, IsSentence, IsNoSentence, IsPastLimits}
@@ -17,12 +14,12 @@ use Rattle.cq_steps.specs.declared.answer.Answer.{Answer}
 use Rattle.cq_steps.specs.declared.answer.Answer.TheVariants.{Rows}
 use Rattle.cq_steps.specs.declared.fault.Fault.{Fault}
 use Rattle.cq_steps.specs.declared.fault.Fault.TheVariants as faults
-use Rattle.cq_steps.specs.State.{TableOf, State, table_named, first_state}
-use Rattle.cq_steps.specs.Bound.{bound, row_of, bound_select}
-use Rattle.cq_steps.specs.Refusal.{first_fault, create_places, insert_places, select_places, refusal}
+use Rattle.cq_steps.specs.State.{State, first_state}
+use Rattle.cq_steps.specs.Bound.{bound}
+use Rattle.cq_steps.specs.Refusal.{refusal}
 use Rattle.cq_steps.specs.Step.{Step, Does, Accepts, IsTooLarge, Refuses, by_walk, for_memory, source_failed, memory_on_the_way, too_large}
 use Rattle.cq_steps.specs.Output.{Serves, rest_without_semicolon, sentence, no_sentence, past_limits, out_of_memory, no_text, Runs, statements_among, not_utf8, answered, outside, RefusalsDecide}
-use Rattle.cq_steps.proofs.Alike.{Alike, alike_same, alike_turned, alike_then, gives-up-alike, SameAnswer, accepts-rows, accepts-alike, not-too-large}
+use Rattle.cq_steps.proofs.Alike.{Alike, alike_same, alike_turned, alike_then, refusal-alike, bound-alike, gives-up-alike, SameAnswer, accepts-rows, accepts-alike, not-too-large, present-alike}
 
 abbrev Outcome : Type 0
 Outcome = Result Answer Fault
@@ -45,20 +42,10 @@ from_outside faults.TypeMismatch g e = absurd (cc)
 from_outside faults.TooWide g e = absurd (cc)
 from_outside faults.NumberOutside g e = absurd (cc)
 from_outside faults.TableFull g e = absurd (cc)
+from_outside faults.TableInUse g e = absurd (cc)
+from_outside faults.ViewNotWritten g e = absurd (cc)
 from_outside faults.SumOutOfRange g e = absurd (cc)
 from_outside faults.LimitExceeded g e = absurd (cc)
-
--- the walk sees tables and the limit of rows alone
-refusal-alike : (x y : State) (s : Statement) → Alike x y → refusal x s ≡ refusal y s
-refusal-alike x y (statements.CreateTable name columns) a = ap (λ (ts : List TableOf). first_fault (create_places name columns ts)) a.tables
-refusal-alike x y (statements.Insert name rows) a = λ i. first_fault (insert_places (a.max_rows i) rows (table_named name (a.tables i)))
-refusal-alike x y (statements.Select q) a = ap (λ (ts : List TableOf). first_fault (select_places q (table_named q.table ts))) a.tables
-
--- and so does the resolving of names
-bound-alike : (x y : State) (s : Statement) → Alike x y → bound x s ≡ bound y s
-bound-alike x y (statements.CreateTable name columns) a = refl
-bound-alike x y (statements.Insert name rows) a = ap (λ (ts : List TableOf). option_map (λ t. commands.Insert t.number (map row_of rows)) (table_named name ts)) a.tables
-bound-alike x y (statements.Select q) a = ap (λ (ts : List TableOf). option_map (bound_select q) (table_named q.table ts)) a.tables
 
 -- a refused statement leaves a state that is alike
 refused-alike : (x : State) (s : Statement) (f : Fault) (y : State) → Refuses x s f y → Alike y x
@@ -105,15 +92,25 @@ accepted_or_refused x y s a v f same d (inr e) =
     not-too-large x y d.command a v same d.accepts (subst (λ (c : Bound). IsTooLarge y c) one e.1.large)
 
 module _ (one_listing : (keys : List SortKey) (limit : Option ℕ) (bag : Weighted) (rows others : List Row) → IsListing keys limit bag rows → IsListing keys limit bag others → rows ≡ others) where
+  -- a statement that is accepted has one answer
+  does_same : (x y : State) (s : Statement) (a b : Answer) (v w : State) → Alike x y → Does x s a v → Does y s b w → SameAnswer a b v w
+  does_same x y s a b v w same h k =
+      let commands_same : Some k.command ≡ Some h.command = sym k.is_bound ∙ sym (bound-alike x y s same) ∙ h.is_bound in
+      let one : k.command ≡ h.command = cc in
+      accepts-alike one_listing x y h.command a b v w same h.accepts (subst (λ (c : Bound). Accepts y c b w) one k.accepts)
+
   -- a statement has one answer, but for what comes from outside
   pub step_same : (x y : State) (s : Statement) (o p : Outcome) (v w : State) → Alike x y → Step x s o v → Step y s p w → outside o ≡ outside p → Same o p v w
   step_same x y s (Ok a) (Ok b) v w same h k e =
-      let commands_same : Some k.command ≡ Some h.command = sym k.is_bound ∙ sym (bound-alike x y s same) ∙ h.is_bound in
-      let one : k.command ≡ h.command = cc in
-      let answers = accepts-alike one_listing x y h.command a b v w same h.accepts (subst (λ (c : Bound). Accepts y c b w) one k.accepts) in
-      record { outcome = ap (λ (z : Answer). Ok z) answers.answer; states = answers.states }
-  step_same x y s (Ok a) (Err f) v w same h k e = absurd (accepted_or_refused x y s a v f same h (why y s f w k (sym e)))
-  step_same x y s (Err f) (Ok b) v w same h k e = absurd (accepted_or_refused y x s b w f (alike_turned x y same) k (why x s f v h e))
+      let answers = does_same x y s a b h.on_the_way k.on_the_way same h.does k.does in
+      record {
+        outcome = ap (λ (z : Answer). Ok z) answers.answer;
+        states =
+          alike_then v h.on_the_way w (present-alike h.on_the_way v h.trims)
+          (alike_then h.on_the_way k.on_the_way w answers.states (alike_turned w k.on_the_way (present-alike k.on_the_way w k.trims)));
+      }
+  step_same x y s (Ok a) (Err f) v w same h k e = absurd (accepted_or_refused x y s a h.on_the_way f same h.does (why y s f w k (sym e)))
+  step_same x y s (Err f) (Ok b) v w same h k e = absurd (accepted_or_refused y x s b k.on_the_way f (alike_turned x y same) k.does (why x s f v h e))
   step_same x y s (Err f) (Err g) v w same h k e = record {
     outcome = ap (λ (z : Fault). Err z) (both_refused x y s f g v w (outside (Err g)) (refusal-alike x y s same) h k e refl);
     states = alike_then v x w (refused-alike x s f v h) (alike_then x y w same (alike_turned w y (refused-alike y s g w k)));
@@ -143,7 +140,7 @@ module _ (one_listing : (keys : List SortKey) (limit : Option ℕ) (bag : Weight
 
     -- rows leave a state that is alike
     step_rows : (x : State) (s : Statement) (header : List (List ℕ)) (rows : List Row) (v : State) → Step x s (Ok (Rows header rows)) v → Alike v x
-    step_rows x s header rows v h = accepts-rows x h.command header rows v h.accepts
+    step_rows x s header rows v h = alike_then v h.on_the_way x (present-alike h.on_the_way v h.trims) (accepts-rows x h.does.command header rows h.on_the_way h.does.accepts)
 
     -- an outcome for memory leaves a state that is alike
     memory_alike : (x : State) (p : PieceOf) (o : Outcome) (v : State) → Serves x p o v → o ≡ Err faults.Memory → Alike v x

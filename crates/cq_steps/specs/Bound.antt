@@ -1,5 +1,6 @@
 -- What statements say once their names are resolved (docs/LANGUAGE.md, Statements).
 use Rattle.std.specs.Prelude.{ℕ, ℤ, pos, neg_ℤ, false, if◌then◌else◌, List, [], map, Option, Some, None, option_map, unwrap_or, position}
+use Rattle.std.specs.Option.{option_or}
 use Rattle.cq_values.specs.declared.value.Value.TheVariants.{Number}
 use Rattle.cq_values.specs.Texts.{is_text}
 use Rattle.cq_values.specs.Value.{Row}
@@ -11,14 +12,15 @@ use Rattle.cq_model.specs.declared.expr.Expr.{Expr}
 use Rattle.cq_model.specs.declared.expr.Expr.TheVariants as exprs
 use Rattle.cq_model.specs.declared.query.Query.{Query}
 use Rattle.cq_model.specs.declared.query.Shape.TheVariants.{Plain}
-use Rattle.cq_model.specs.declared.query.Source.TheVariants.{Table}
+use Rattle.cq_model.specs.declared.query.Source.{Source}
+use Rattle.cq_model.specs.declared.query.Source.TheVariants.{Table, View}
 use Rattle.cq_model.specs.declared.statement.ColumnDef.{ColumnDef}
 use Rattle.cq_model.specs.declared.statement.Condition.{Condition}
 use Rattle.cq_model.specs.declared.statement.Literal.{Literal}
 use Rattle.cq_model.specs.declared.statement.Select.{Select}
 use Rattle.cq_model.specs.declared.statement.Statement.{Statement}
 use Rattle.cq_model.specs.declared.statement.Statement.TheVariants as statements
-use Rattle.cq_steps.specs.State.{TableOf, State, table_named}
+use Rattle.cq_steps.specs.State.{TableOf, State, table_named, view_place, view_named}
 
 -- the number that a literal stands for
 abbrev pub literal_value : Literal → ℤ
@@ -44,23 +46,36 @@ named_column columns name = exprs.Column (place_in columns name)
 abbrev pub bound_condition : List ColumnDef → Condition → Cond
 bound_condition columns c = Compare c.comparison (named_column columns c.column) (exprs.Literal (Number (literal_value c.literal)))
 
--- a query of one table
-abbrev pub bound_query : TableOf → Select → Query
-bound_query t q = record {
-  first = Table t.number;
+-- what FROM names: the columns, and where their rows come from
+pub record Named : Type 0 where
+  pub columns : List ColumnDef
+  pub source : Source
+
+-- the table of a name, or else the view
+abbrev pub source_named : List ℕ → State → Option Named
+source_named name s =
+    option_or (option_map (λ t. record { columns = t.columns; source = Table t.number }) (table_named name s.tables))
+    (option_map (λ v. record { columns = v.columns; source = View (unwrap_or (view_place name s.views) 0) }) (view_named name s.views))
+
+-- a query of one source
+abbrev pub bound_query : Select → Named → Query
+bound_query q source = record {
+  first = source.source;
   joins = [];
-  filter = option_map (bound_condition t.columns) q.condition;
+  filter = option_map (bound_condition source.columns) q.condition;
   shape = Plain;
-  items = map (named_column t.columns) q.columns;
+  items = map (named_column source.columns) q.columns;
   distinct = false;
 }
 
 -- a query with the names above its columns, in the order of all columns
-abbrev pub bound_select : Select → TableOf → Bound
-bound_select q t = commands.Select q.columns (bound_query t q) (record { keys = []; limit = None })
+abbrev pub bound_select : Select → Named → Bound
+bound_select q source = commands.Select q.columns (bound_query q source) (record { keys = []; limit = None })
 
--- a statement whose tables are there
+-- a statement whose tables and views are there
 abbrev pub bound : State → Statement → Option Bound
 bound s (statements.CreateTable name columns) = Some (commands.CreateTable name columns [])
+bound s (statements.DropTable name) = option_map (λ t. commands.DropTable t.number) (table_named name s.tables)
 bound s (statements.Insert name rows) = option_map (λ t. commands.Insert t.number (map row_of rows)) (table_named name s.tables)
-bound s (statements.Select q) = option_map (bound_select q) (table_named q.table s.tables)
+bound s (statements.Delete name condition) = option_map (λ t. commands.Delete t.number (option_map (bound_condition t.columns) condition)) (table_named name s.tables)
+bound s (statements.Select q) = option_map (bound_select q) (source_named q.table s)

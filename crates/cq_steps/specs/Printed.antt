@@ -65,6 +65,8 @@ fault_text faults.TypeMismatch = codes "15 type mismatch"
 fault_text faults.TooWide = codes "17 expression too wide"
 fault_text faults.NumberOutside = codes "19 number outside 64 bits"
 fault_text faults.TableFull = codes "21 table full"
+fault_text faults.TableInUse = codes "22 table used by a view"
+fault_text faults.ViewNotWritten = codes "23 views are not written"
 fault_text faults.SumOutOfRange = codes "27 sum beyond 128 bits"
 fault_text faults.LimitExceeded = codes "29 limit exceeded"
 

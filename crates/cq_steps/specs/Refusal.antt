@@ -1,6 +1,6 @@
 -- Which refusal a statement gets: the walk through its places, each with its fault or none; the first fault wins
 -- (docs/LANGUAGE.md, Refusals).
-use Rattle.std.specs.Prelude.{◌≡◌, ℕ, ◌+◌, ◌^◌, nat_lt, nat_le, ◌==◌, Bool, not, if◌then◌else◌, List, [], ◌∷◌, ◌++◌, map, length, Option, Some, None, is_some, is_none}
+use Rattle.std.specs.Prelude.{◌≡◌, ℕ, ◌+◌, ◌^◌, nat_lt, nat_le, ◌==◌, Bool, not, if◌then◌else◌, List, [], ◌∷◌, ◌++◌, map, length, Option, Some, None, is_some, is_none, ok_or, Result, Ok, Err}
 use Rattle.std.specs.List.{list_any, flat_map}
 use Rattle.cq_values.specs.Texts.{is_text}
 use Rattle.cq_model.specs.declared.statement.ColumnDef.{ColumnDef}
@@ -9,11 +9,12 @@ use Rattle.cq_model.specs.declared.statement.Literal.{Literal}
 use Rattle.cq_model.specs.declared.statement.Select.{Select}
 use Rattle.cq_model.specs.declared.statement.Statement.{Statement}
 use Rattle.cq_model.specs.declared.statement.Statement.TheVariants as statements
+use Rattle.cq_model.specs.Views.{sources_of, is_table}
 use Rattle.cq_steps.specs.declared.fault.Fault.{Fault}
-use Rattle.cq_steps.specs.declared.fault.Fault.TheVariants.{UnknownTable, UnknownColumn, NameTaken, TypeMismatch, TooWide, NumberOutside, TableFull, LimitExceeded}
+use Rattle.cq_steps.specs.declared.fault.Fault.TheVariants.{UnknownTable, UnknownColumn, NameTaken, TypeMismatch, TooWide, NumberOutside, TableFull, TableInUse, ViewNotWritten, LimitExceeded}
 use Rattle.cq_steps.specs.declared.fault.Fault.TheVariants as faults
-use Rattle.cq_steps.specs.Bound.{column_place}
-use Rattle.cq_steps.specs.State.{TableOf, State, table_named}
+use Rattle.cq_steps.specs.Bound.{column_place, Named, source_named}
+use Rattle.cq_steps.specs.State.{TableOf, ViewOf, State, table_named, view_named, is_taken}
 
 -- the first place that has a fault decides
 abbrev pub first_fault : List (Option Fault) → Option Fault
@@ -34,8 +35,17 @@ column_places before [] = []
 column_places before (c ∷ cs) = fault_if (list_any (λ b. is_text b.name c.name) before) NameTaken ∷ column_places (before ++ c ∷ []) cs
 
 -- CREATE TABLE: the name, each column, the list
-abbrev pub create_places : List ℕ → List ColumnDef → List TableOf → List (Option Fault)
-create_places name columns tables = fault_if (is_some (table_named name tables)) NameTaken ∷ column_places [] columns ++ too_long (length columns) ∷ []
+abbrev pub create_places : List ℕ → List ColumnDef → State → List (Option Fault)
+create_places name columns s = fault_if (is_taken name s) NameTaken ∷ column_places [] columns ++ too_long (length columns) ∷ []
+
+-- whether a view stands on the table of a number
+abbrev pub is_used : ℕ → List ViewOf → Bool
+is_used n views = list_any (λ v. list_any (is_table n) (sources_of v.query)) views
+
+-- DROP TABLE: the name, then whether a view stands on the table
+abbrev pub drop_table_places : List ViewOf → Option TableOf → List (Option Fault)
+drop_table_places views None = Some UnknownTable ∷ []
+drop_table_places views (Some t) = fault_if (is_used t.number views) TableInUse ∷ []
 
 -- a stored number has 64 bits with a sign
 abbrev pub fits_column : Literal → Bool
@@ -48,11 +58,16 @@ constant_place l = fault_if (not (fits_column l)) NumberOutside
 abbrev pub row_places : ℕ → List Literal → List (Option Fault)
 row_places width row = fault_if (not (length row == width)) TypeMismatch ∷ map constant_place row
 
--- INSERT: the name, each row, then whether the rows fit the table
-abbrev pub insert_places : ℕ → List (List Literal) → Option TableOf → List (Option Fault)
-insert_places max_rows rows None = Some UnknownTable ∷ []
-insert_places max_rows rows (Some t) = flat_map (row_places (length t.columns)) rows ++ fault_if (nat_lt max_rows (length t.rows + length rows)) TableFull ∷ []
+-- the table that a statement writes: views are not written
+abbrev pub written_table : List ℕ → State → Result TableOf Fault
+written_table name s = ok_or (table_named name s.tables) (if is_some (view_named name s.views) then ViewNotWritten else UnknownTable)
 
+-- INSERT: the name, each row, then whether the rows fit the table
+abbrev pub insert_places : ℕ → List (List Literal) → Result TableOf Fault → List (Option Fault)
+insert_places max_rows rows (Err f) = Some f ∷ []
+insert_places max_rows rows (Ok t) = flat_map (row_places (length t.columns)) rows ++ fault_if (nat_lt max_rows (length t.rows + length rows)) TableFull ∷ []
+
+-- the name of a column
 abbrev pub name_place : List ColumnDef → List ℕ → Option Fault
 name_place columns name = fault_if (is_none (column_place columns name)) UnknownColumn
 
@@ -65,16 +80,23 @@ abbrev pub where_places : List ColumnDef → Option Condition → List (Option F
 where_places columns None = []
 where_places columns (Some c) = name_place columns c.column ∷ literal_place c.literal ∷ []
 
--- SELECT: the table, WHERE, each item, the list of items
-abbrev pub select_places : Select → Option TableOf → List (Option Fault)
+-- DELETE: the name, WHERE
+abbrev pub delete_places : Option Condition → Result TableOf Fault → List (Option Fault)
+delete_places condition (Err f) = Some f ∷ []
+delete_places condition (Ok t) = where_places t.columns condition
+
+-- SELECT: the source, WHERE, each item, the list of items
+abbrev pub select_places : Select → Option Named → List (Option Fault)
 select_places q None = Some UnknownTable ∷ []
-select_places q (Some t) = where_places t.columns q.condition ++ map (name_place t.columns) q.columns ++ too_long (length q.columns) ∷ []
+select_places q (Some source) = where_places source.columns q.condition ++ map (name_place source.columns) q.columns ++ too_long (length q.columns) ∷ []
 
 -- the places of a statement, in the order of the walk
 abbrev pub places : State → Statement → List (Option Fault)
-places s (statements.CreateTable name columns) = create_places name columns s.tables
-places s (statements.Insert name rows) = insert_places s.max_rows rows (table_named name s.tables)
-places s (statements.Select q) = select_places q (table_named q.table s.tables)
+places s (statements.CreateTable name columns) = create_places name columns s
+places s (statements.DropTable name) = drop_table_places s.views (table_named name s.tables)
+places s (statements.Insert name rows) = insert_places s.max_rows rows (written_table name s)
+places s (statements.Delete name condition) = delete_places condition (written_table name s)
+places s (statements.Select q) = select_places q (source_named q.table s)
 
 -- the refusal of a statement, if it has one; want of memory is no part of the walk
 abbrev pub refusal : State → Statement → Option Fault

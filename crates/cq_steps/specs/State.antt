@@ -1,6 +1,6 @@
 -- What the engine stands for: tables and views under their names, how much was written, and the changes that views may
 -- still have to take in (ISO 9075-2, 11.3 and 11.32; docs/ARCHITECTURE.md, Epochs).
-use Rattle.std.specs.Prelude.{ℕ, ◌-◌, ◌<◌, ◌==◌, if◌then◌else◌, List, [], ◌∷◌, ◌++◌, map, filter, drop, Option, slice_get}
+use Rattle.std.specs.Prelude.{ℕ, ◌-◌, ◌<◌, ◌==◌, Bool, ◌||◌, if◌then◌else◌, List, [], ◌∷◌, ◌++◌, map, filter, drop, Option, is_some, position, slice_get}
 use Rattle.std.specs.List.{AllByRecursion, find, flat_map}
 use Rattle.cq_values.specs.Texts.{is_text}
 use Rattle.cq_values.specs.Value.{Row}
@@ -44,6 +44,18 @@ pub record State : Type 0 where
 -- the table of a name, if there is one
 abbrev pub table_named : List ℕ → List TableOf → Option TableOf
 table_named name tables = find (λ t. is_text t.name name) tables
+
+-- where the view of a name stands, if there is one
+abbrev pub view_place : List ℕ → List ViewOf → Option ℕ
+view_place name views = position (λ v. is_text v.name name) views
+
+-- the view of a name, if there is one
+abbrev pub view_named : List ℕ → List ViewOf → Option ViewOf
+view_named name views = find (λ v. is_text v.name name) views
+
+-- tables and views share their names
+abbrev pub is_taken : List ℕ → State → Bool
+is_taken name s = is_some (table_named name s.tables) || is_some (view_named name s.views)
 
 -- the rows of the table of a number
 abbrev pub rows_in : List TableOf → ℕ → List Row

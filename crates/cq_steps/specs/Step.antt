@@ -1,6 +1,6 @@
 -- One step: what a statement may answer in a state, and what state it leaves (ISO 9075-2, 11.3, 14.9, 14.11 and 14.14;
 -- docs/LANGUAGE.md, Statements; docs/ARCHITECTURE.md, Epochs).
-use Rattle.std.specs.Prelude.{◌≡◌, ℕ, ◌+◌, ◌≤◌, ◌==◌, min, Bool, true, false, if◌then◌else◌, not, List, [], ◌∷◌, ◌++◌, filter, length, drop, Option, Some, None, Result, Ok, Err}
+use Rattle.std.specs.Prelude.{◌≡◌, ℕ, ◌+◌, ◌≤◌, ◌==◌, min, Bool, true, false, if◌then◌else◌, not, List, [], ◌∷◌, ◌++◌, filter, length, drop, map, Option, Some, None, Result, Ok, Err}
 use Rattle.std.specs.List.{AllByRecursion, list_any, remove}
 use Rattle.cq_values.specs.Value.{Row}
 use Rattle.cq_bags.specs.Bag.{Weighted, SameBag, once_each, difference}
@@ -14,7 +14,7 @@ use Rattle.cq_model.specs.declared.query.Source.TheVariants.{Table, View}
 use Rattle.cq_model.specs.declared.statement.ColumnDef.{ColumnDef}
 use Rattle.cq_model.specs.declared.statement.Statement.{Statement}
 use Rattle.cq_model.specs.Meaning.{meaning}
-use Rattle.cq_model.specs.Views.{with_views, sources_of, AnswerInRange}
+use Rattle.cq_model.specs.Views.{with_views, sources_of, is_view, AnswerInRange}
 use Rattle.cq_model.specs.Write.{chosen, left_by, updated}
 use Rattle.cq_steps.specs.declared.answer.Answer.{Answer}
 use Rattle.cq_steps.specs.declared.answer.Answer.TheVariants.{Done, Count, Rows}
@@ -65,11 +65,6 @@ pub record Writes (old : State) (n : ℕ) (rows : List Row) (new : State) : Type
   pub change : Weighted
   pub is_difference : SameBag change (difference (once_each rows) (tables_now old n))
   pub state : new ≡ written n rows change old
-
--- whether a source is the view at a place
-abbrev pub is_view : ℕ → Source → Bool
-is_view place (Table t) = false
-is_view place (View v) = v == place
 
 -- the epoch to which a command takes the view at a place
 abbrev pub reach : State → Bound → ℕ → ViewOf → ℕ
@@ -172,7 +167,22 @@ pub record Does (old : State) (statement : Statement) (answer : Answer) (new : S
   pub is_bound : bound old statement ≡ Some command
   pub accepts : Accepts old command answer new
 
--- from old, the statement may answer this and leave new
+-- from old, the statement may answer this and leave new, while views take changes in when they are asked for
+abbrev pub LazyStep : State → Statement → Result Answer Fault → State → Type 0
+LazyStep old statement (Ok answer) new = Does old statement answer new
+LazyStep old statement (Err f) new = Refuses old statement f new
+
+-- the state with each view at the present
+abbrev pub at_present : State → State
+at_present s = with_all_views (map (at_epoch s.now) s.views) s
+
+-- an accepted statement, after which each view is taken to the present
+pub record DoesAtOnce (old : State) (statement : Statement) (answer : Answer) (new : State) : Type 0 where
+  pub on_the_way : State
+  pub does : Does old statement answer on_the_way
+  pub trims : Trims (at_present on_the_way) new
+
+-- from old, the statement may answer this and leave new: views take each change in at once
 abbrev pub Step : State → Statement → Result Answer Fault → State → Type 0
-Step old statement (Ok answer) new = Does old statement answer new
+Step old statement (Ok answer) new = DoesAtOnce old statement answer new
 Step old statement (Err f) new = Refuses old statement f new

@@ -31,6 +31,10 @@ pub enum Fault {
     NumberOutside,
     #[error("21 table full")]
     TableFull,
+    #[error("22 table used by a view")]
+    TableInUse,
+    #[error("23 views are not written")]
+    ViewNotWritten,
     #[error("27 sum beyond 128 bits")]
     SumOutOfRange,
     #[error("29 limit exceeded")]
@@ -54,6 +58,8 @@ impl Fault {
             Fault::TooWide => "17 expression too wide",
             Fault::NumberOutside => "19 number outside 64 bits",
             Fault::TableFull => "21 table full",
+            Fault::TableInUse => "22 table used by a view",
+            Fault::ViewNotWritten => "23 views are not written",
             Fault::SumOutOfRange => "27 sum beyond 128 bits",
             Fault::LimitExceeded => "29 limit exceeded",
         }

@@ -16,6 +16,8 @@ fn display_agrees_with_the_text(rt: HostRuntime) -> Result<(), Fail> {
         (Fault::TooWide, "17 expression too wide"),
         (Fault::NumberOutside, "19 number outside 64 bits"),
         (Fault::TableFull, "21 table full"),
+        (Fault::TableInUse, "22 table used by a view"),
+        (Fault::ViewNotWritten, "23 views are not written"),
         (Fault::SumOutOfRange, "27 sum beyond 128 bits"),
         (Fault::LimitExceeded, "29 limit exceeded"),
     ];

@@ -7,6 +7,7 @@
 mod day;
 mod lent;
 mod order;
+mod product;
 mod row;
 mod seq;
 mod text;

@@ -49,7 +49,19 @@ fn the_first_place_of_the_walk_decides(rt: HostRuntime) -> Result<(), Fail> {
         ("SELECT select FROM t;", "error 10 syntax\n"),
         ("INSERT INTO t VALUES (--1\n);", "error 10 syntax\n"),
         ("INSERT INTO t VALUES (NULL, 1);", "error 10 syntax\n"),
-        ("DROP TABLE t;", "error 10 syntax\n"),
+        ("DROP VIEW t;", "error 10 syntax\n"),
+        ("DROP TABLE u;", "error 11 unknown table or view\n"),
+        ("DROP TABLE t u;", "error 10 syntax\n"),
+        (
+            "DELETE FROM u WHERE zz = 1;",
+            "error 11 unknown table or view\n",
+        ),
+        ("DELETE FROM t WHERE zz = 1;", "error 12 unknown column\n"),
+        (
+            "DELETE FROM t WHERE a = 170141183460469231731687303715884105728;",
+            "error 17 expression too wide\n",
+        ),
+        ("DELETE t;", "error 10 syntax\n"),
         ("SELECT a FROM t ! ;", "error 10 syntax\n"),
     ];
     for (statement, answer) in rows {

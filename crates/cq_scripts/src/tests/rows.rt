@@ -30,6 +30,16 @@ fn each_row_prints_its_output(rt: HostRuntime) -> Result<(), Fail> {
             0,
         ),
         (
+            "CREATE TABLE t(a INTEGER, b INTEGER); INSERT INTO t VALUES (1,2), (1,2), (3,4), (1,5); DELETE FROM t WHERE b < 3; SELECT a, b FROM t; DELETE FROM t WHERE a <> 1; DELETE FROM t WHERE a <> 1; DELETE FROM t; SELECT a FROM t;",
+            "ok\nok 4\nok 2\nrows 2\na,b\n1,5\n3,4\nok 1\nok 0\nok 1\nrows 0\na\n",
+            0,
+        ),
+        (
+            "CREATE TABLE t(a INTEGER); CREATE TABLE u(a INTEGER); INSERT INTO t VALUES (1); INSERT INTO u VALUES (2); DROP TABLE t; SELECT a FROM t; SELECT a FROM u; CREATE TABLE t(b INTEGER); SELECT b FROM t;",
+            "ok\nok\nok 1\nok 1\nok\nerror 11 unknown table or view\nrows 1\na\n2\nok\nrows 0\nb\n",
+            1,
+        ),
+        (
             "create table T_1(A integer)\r\n;\r\ninsert into t_1 values(1);select a from T_1 -- ; no end\n where a=1;",
             "ok\nok 1\nrows 1\na\n1\n",
             0,

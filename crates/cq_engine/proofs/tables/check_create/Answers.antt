@@ -3,6 +3,7 @@ use Rattle.std.specs.Prelude.{is_some, length}
 use Rattle.std.proofs.lemmas.Result.{err_from_is_err_and}
 use Rattle.cq_steps.specs.Refusal.{create_places, too_long}
 use Rattle.cq_steps.specs.State.{table_named}
+use Rattle.cq_engine.specs.Statements.{alone}
 use Rattle.cq_engine.proofs.Faults.{walked_same}
 use Rattle.cq_engine.proofs.Walks.{columns_refused, create_ends}
 use Rattle.cq_engine.proofs.tables.check_create.Goals as goal
@@ -16,5 +17,5 @@ returns-in_err-check_names c =
 pub returns : goal.returns
 returns c =
     let free : is_some (table_named c.args.name.now c.args.tables.now) ≡ false = search rules in
-    walked_same (too_long (length c.args.columns.now) ∷ []) (create_places c.args.name.now c.args.columns.now c.args.tables.now) (λ x. Unit {0}) c.check_length.result
+    walked_same (too_long (length c.args.columns.now) ∷ []) (create_places c.args.name.now c.args.columns.now (alone c.args.tables.now)) (λ x. Unit {0}) c.check_length.result
     (create_ends c.args.name.now c.args.columns.now c.args.tables.now free c.in_ok-check_names.ensures.0) c.check_length.ensures
