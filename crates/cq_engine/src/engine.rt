@@ -92,14 +92,10 @@ impl Engine {
         requires { self.old.drawn < 2 ^ 64 - 1 }
         ensures { Step self.old (statements.CreateTable name.now columns.now) result self.new }
     {
-        create_in(
-            self.alloc,
-            &mut self.tables,
-            self.drawn,
-            name,
-            columns.as_slice(),
-        )?;
-        self.drawn += 1;
+        let number = self.drawn;
+        let columns = columns.as_slice();
+        create_in(self.alloc, &mut self.tables, number, name, columns)?;
+        self.drawn = number + 1;
         Ok(Answer::Done)
     }
 

@@ -105,6 +105,23 @@ fn answer(rt: &impl Abort, engine: &mut Engine, command: &Command) -> Result<Ans
     engine.step(command, &mut Nowhere)
 }
 
+fn refusal(rt: &impl Abort, engine: &mut Engine, command: &Command) -> Option<Fault> {
+    answer(rt, engine, command).err()
+}
+
+/// How many rows a DELETE takes.
+fn deleted(
+    rt: &impl Abort,
+    alloc: Global,
+    engine: &mut Engine,
+    condition: Option<Condition>,
+) -> Result<u64, Fail> {
+    match answer(rt, engine, &deletion(alloc, condition)?)? {
+        Answer::Count(rows) => Ok(rows),
+        Answer::Done | Answer::Rows { .. } => Err("no count".into()),
+    }
+}
+
 fn filled(rt: &impl Abort, alloc: Global) -> Result<Engine, Fail> {
     let mut engine = Engine::new(alloc, Limits::new(3).ok_or("in range")?);
     let created = answer(rt, &mut engine, &creation(alloc)?)?;
@@ -157,22 +174,16 @@ fn a_full_table_takes_no_row(rt: HostRuntime) -> Result<(), Fail> {
 #[test]
 fn a_delete_takes_each_copy_of_what_where_keeps(rt: HostRuntime) -> Result<(), Fail> {
     let mut engine = Engine::new(rt.alloc(), Limits::new(6).ok_or("in range")?);
-    answer(&rt, &mut engine, &creation(rt.alloc())?)?;
-    answer(&rt, &mut engine, &insertion(rt.alloc())?)?;
-    answer(&rt, &mut engine, &insertion(rt.alloc())?)?;
-    // whether WHERE b <= 20 stands there; how many rows are taken
-    let cases = [(true, 4), (true, 0), (false, 2), (false, 0)];
-    for (has_where, taken) in cases {
-        let kept = at_most_twenty(rt.alloc())?;
-        let condition = if has_where { Some(kept) } else { None };
-        let deleted = answer(&rt, &mut engine, &deletion(rt.alloc(), condition)?)?;
-        let Answer::Count(count) = deleted else {
-            panic!(rt; "no count");
-        };
-        assert_eq!(rt; count, taken);
-    }
-    assert_eq!(rt; engine.now(), 6);
-    assert_eq!(rt; engine.drawn(), 7);
+    let insertion = insertion(rt.alloc())?;
+    refusal(&rt, &mut engine, &creation(rt.alloc())?);
+    refusal(&rt, &mut engine, &insertion);
+    refusal(&rt, &mut engine, &insertion);
+    let kept = at_most_twenty(rt.alloc())?;
+    assert_eq!(rt; deleted(&rt, rt.alloc(), &mut engine, Some(kept))?, 4);
+    assert_eq!(rt; deleted(&rt, rt.alloc(), &mut engine, None)?, 2);
+    assert_eq!(rt; deleted(&rt, rt.alloc(), &mut engine, None)?, 0);
+    assert_eq!(rt; engine.now(), 5);
+    assert_eq!(rt; engine.drawn(), 6);
     Ok(())
 }
 
@@ -180,7 +191,7 @@ fn a_delete_takes_each_copy_of_what_where_keeps(rt: HostRuntime) -> Result<(), F
 fn a_delete_leaves_what_where_does_not_keep(rt: HostRuntime) -> Result<(), Fail> {
     let mut engine = filled(&rt, rt.alloc())?;
     let kept = at_most_twenty(rt.alloc())?;
-    answer(&rt, &mut engine, &deletion(rt.alloc(), Some(kept))?)?;
+    assert_eq!(rt; deleted(&rt, rt.alloc(), &mut engine, Some(kept))?, 2);
     let selected = answer(&rt, &mut engine, &selection(rt.alloc(), None)?)?;
     let Answer::Rows { rows, .. } = selected else {
         panic!(rt; "no rows");
@@ -194,18 +205,24 @@ fn a_delete_leaves_what_where_does_not_keep(rt: HostRuntime) -> Result<(), Fail>
 }
 
 #[test]
-fn a_dropped_table_is_unknown_until_it_is_created_again(rt: HostRuntime) -> Result<(), Fail> {
+fn a_dropped_table_is_unknown(rt: HostRuntime) -> Result<(), Fail> {
     let mut engine = filled(&rt, rt.alloc())?;
-    let dropped = answer(&rt, &mut engine, &removal(rt.alloc())?)?;
-    assert!(rt; matches!(dropped, Answer::Done));
+    let removal = removal(rt.alloc())?;
+    assert_eq!(rt; refusal(&rt, &mut engine, &removal), None);
+    assert_eq!(rt;
+        refusal(&rt, &mut engine, &removal),
+        Some(Fault::UnknownTable)
+    );
     assert_eq!(rt; engine.drawn(), 2);
-    let selected = answer(&rt, &mut engine, &selection(rt.alloc(), None)?);
-    assert!(rt; matches!(selected, Err(Fault::UnknownTable)));
-    let dropped = answer(&rt, &mut engine, &removal(rt.alloc())?);
-    assert!(rt; matches!(dropped, Err(Fault::UnknownTable)));
-    answer(&rt, &mut engine, &creation(rt.alloc())?)?;
+    Ok(())
+}
+
+#[test]
+fn a_dropped_table_comes_back_empty(rt: HostRuntime) -> Result<(), Fail> {
+    let mut engine = filled(&rt, rt.alloc())?;
+    refusal(&rt, &mut engine, &removal(rt.alloc())?);
+    assert_eq!(rt; refusal(&rt, &mut engine, &creation(rt.alloc())?), None);
     assert_eq!(rt; engine.drawn(), 3);
-    let deleted = answer(&rt, &mut engine, &deletion(rt.alloc(), None)?)?;
-    assert!(rt; matches!(deleted, Answer::Count(0)));
+    assert_eq!(rt; deleted(&rt, rt.alloc(), &mut engine, None)?, 0);
     Ok(())
 }

@@ -180,9 +180,9 @@ viewed-alike : (name : List ℕ) (columns : List ColumnDef) (q : Query) (x y : S
 viewed-alike name columns q x y a = record {
   tables = a.tables;
   views =
-    map-append timeless x.views (new_view name columns q x.now ∷ [])
-    ∙ (λ i. a.views i ++ timeless (new_view name columns q (a.now i)) ∷ [])
-    ∙ sym (map-append timeless y.views (new_view name columns q y.now ∷ []));
+      map-append timeless x.views (new_view name columns q x.now ∷ [])
+      ∙ (λ i. a.views i ++ timeless (new_view name columns q (a.now i)) ∷ [])
+      ∙ sym (map-append timeless y.views (new_view name columns q y.now ∷ []));
   now = a.now;
   drawn = a.drawn;
   max_rows = a.max_rows;
@@ -264,11 +264,11 @@ module _ (one_listing : (keys : List SortKey) (limit : Option ℕ) (bag : Weight
     states = record {
       tables = ap (λ (z : State). z.tables) p.1 ∙ s.tables ∙ sym (ap (λ (z : State). z.tables) q.1);
       views =
-        ap (λ (z : State). map timeless z.views) p.1
-        ∙ removed-timeless x.views place
-        ∙ ap (λ (vs : List ViewOf). remove vs place) s.views
-        ∙ sym (removed-timeless y.views place)
-        ∙ sym (ap (λ (z : State). map timeless z.views) q.1);
+          ap (λ (z : State). map timeless z.views) p.1
+          ∙ removed-timeless x.views place
+          ∙ ap (λ (vs : List ViewOf). remove vs place) s.views
+          ∙ sym (removed-timeless y.views place)
+          ∙ sym (ap (λ (z : State). map timeless z.views) q.1);
       now = ap (λ (z : State). z.now) p.1 ∙ s.now ∙ sym (ap (λ (z : State). z.now) q.1);
       drawn = ap (λ (z : State). z.drawn) p.1 ∙ s.drawn ∙ sym (ap (λ (z : State). z.drawn) q.1);
       max_rows = ap (λ (z : State). z.max_rows) p.1 ∙ s.max_rows ∙ sym (ap (λ (z : State). z.max_rows) q.1);

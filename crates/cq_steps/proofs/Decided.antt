@@ -106,8 +106,8 @@ module _ (one_listing : (keys : List SortKey) (limit : Option ℕ) (bag : Weight
       record {
         outcome = ap (λ (z : Answer). Ok z) answers.answer;
         states =
-          alike_then v h.on_the_way w (present-alike h.on_the_way v h.trims)
-          (alike_then h.on_the_way k.on_the_way w answers.states (alike_turned w k.on_the_way (present-alike k.on_the_way w k.trims)));
+            alike_then v h.on_the_way w (present-alike h.on_the_way v h.trims)
+            (alike_then h.on_the_way k.on_the_way w answers.states (alike_turned w k.on_the_way (present-alike k.on_the_way w k.trims)));
       }
   step_same x y s (Ok a) (Err f) v w same h k e = absurd (accepted_or_refused x y s a h.on_the_way f same h.does (why y s f w k (sym e)))
   step_same x y s (Err f) (Ok b) v w same h k e = absurd (accepted_or_refused y x s b k.on_the_way f (alike_turned x y same) k.does (why x s f v h e))

@@ -1,0 +1,10 @@
+pub mod GoesOn
+pub mod Listing
+pub mod MetKeys
+pub mod NoRows
+pub mod Ranges
+pub mod Rowwise
+pub mod Small
+pub mod Tables
+pub mod Telling
+pub mod Turns

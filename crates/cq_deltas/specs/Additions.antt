@@ -1,0 +1,48 @@
+-- What changed rows add to the groups of a view.
+use Rattle.std.specs.Prelude.{◌<◌, ◌^◌, ℕ, ℤ, if◌then◌else◌, List, map, Option, None, Some, pos}
+use Rattle.std.specs.List.{AllByRecursion}
+use Rattle.cq_values.specs.declared.value.Value.{Value}
+use Rattle.cq_values.specs.Value.{Row}
+use Rattle.cq_bags.specs.Bag.{Weighted}
+use Rattle.cq_model.specs.declared.query.Aggregate.{Aggregate}
+use Rattle.cq_model.specs.declared.query.Aggregate.TheVariants.{CountAll, Count, Sum, Min, Max}
+use Rattle.cq_model.specs.Condition.{is_null}
+use Rattle.cq_model.specs.Eval.{eval}
+use Rattle.cq_model.specs.Group.{addend, key_of}
+use Rattle.cq_model.specs.Width.{extent}
+use Rattle.cq_deltas.specs.declared.change.Addition.{Addition}
+
+-- what a value adds to a total; NULL is not even counted
+abbrev pub counted_addend : Value → Option ℤ
+counted_addend v = if is_null v then None else Some (addend v)
+
+-- what a row adds to an aggregate
+abbrev pub addend_of : Row → Aggregate → Option ℤ
+addend_of r CountAll = Some (pos 0)
+addend_of r (Count e) = counted_addend (eval e r)
+addend_of r (Sum e) = counted_addend (eval e r)
+addend_of r a = None
+
+-- what a changed row adds: its key, its weight, and what its arguments add
+abbrev pub addition : List ℕ → List Aggregate → Row × ℤ → Addition
+addition columns aggregates x = record { key = key_of columns x.0; weight = x.1; addends = map (addend_of x.0) aggregates }
+
+-- what a change of the rows adds
+abbrev pub additions : List ℕ → List Aggregate → Weighted → List Addition
+additions columns aggregates dxs = map (addition columns aggregates) dxs
+
+-- no value on the way to an aggregate's argument is too wide
+abbrev pub IsNarrow : Row → Aggregate → Type 0
+IsNarrow r (Count e) = (extent e r).widest < 2 ^ 127
+IsNarrow r (Sum e) = (extent e r).widest < 2 ^ 127
+IsNarrow r a = Unit {0}
+
+-- COUNT and SUM, which are told by counts and totals
+abbrev pub IsTotal : Aggregate → Type 0
+IsTotal (Min e) = ⊥
+IsTotal (Max e) = ⊥
+IsTotal a = Unit {0}
+
+-- an aggregate list of these alone
+abbrev pub AreTotals : List Aggregate → Type 0
+AreTotals aggregates = AllByRecursion IsTotal aggregates

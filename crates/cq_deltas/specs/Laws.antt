@@ -1,0 +1,32 @@
+-- What holds of groups that stand for rows. Each statement is the contract of a function in laws.rt.
+use Rattle.std.specs.Prelude.{◌<◌, ◌≤◌, ◌^◌, ◌↔◌, ℕ, ◌+◌, List, [], Option, unwrap_or}
+use Rattle.std.specs.List.{AllByRecursion}
+use Rattle.cq_bags.specs.Bag.{Weighted}
+use Rattle.cq_model.specs.declared.expr.Cond.{Cond}
+use Rattle.cq_model.specs.declared.query.Aggregate.{Aggregate}
+use Rattle.cq_model.specs.declared.query.Query.{Query}
+use Rattle.cq_model.specs.declared.query.Shape.TheVariants.{Grouped}
+use Rattle.cq_model.specs.Group.{SumInRange}
+use Rattle.cq_model.specs.Kept.{Group, GroupStands, Groups, LastStands}
+use Rattle.cq_deltas.specs.declared.change.Addition.{Addition}
+use Rattle.cq_deltas.specs.Additions.{AreTotals, additions}
+use Rattle.cq_deltas.specs.Table.{Table, group_at, count_moves, all_total_moves, HoldsFor}
+use Rattle.cq_deltas.specs.Told.{AllCanBeTold}
+
+-- what rows and a change can move counts and totals together is in range
+pub record AreSmall (rows change : List Addition) : Type 0 where
+  pub counts : count_moves rows + count_moves change < 2 ^ 127
+  pub totals : all_total_moves rows + all_total_moves change ≤ 2 ^ 250
+
+-- groups that stand for such rows hold while the change is put in
+abbrev pub SmallRowsHold : Type 0
+SmallRowsHold =
+    (q : Query) (keys : Option (List ℕ)) (aggregates : List Aggregate) (having : Option Cond) (xs : Weighted) (table : Table) (change : List Addition)
+    → AreTotals aggregates → LastStands q (Grouped keys aggregates having) xs (Groups (group_at aggregates table))
+    → AreSmall (additions (unwrap_or keys []) aggregates xs) change → HoldsFor change table
+
+-- a group that stands for rows can be told exactly where their totals can be shown
+abbrev pub RangesTell : Type 0
+RangesTell =
+    (aggregates : List Aggregate) (xs : Weighted) (group : Group) → GroupStands aggregates xs group
+    → AllCanBeTold aggregates group.kept ↔ AllByRecursion (λ a. SumInRange a xs) aggregates

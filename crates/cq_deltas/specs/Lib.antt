@@ -1,0 +1,5 @@
+pub mod Additions
+pub mod Kept
+pub mod Laws
+pub mod Table
+pub mod Told

@@ -1,0 +1,78 @@
+-- Groups by key, and what a change makes of them.
+use Rattle.std.specs.Prelude.{◌≡◌, ℕ, pos, Bool, true, if◌then◌else◌, List, [], ◌++◌, nat_abs, Option, None, Some, is_some, unwrap_or, fold}
+use Rattle.std.specs.Ordering.{int_eq}
+use Rattle.std.specs.List.{list_any, sum_by}
+use Rattle.std.specs.Map.{lookup}
+use Rattle.std.specs.Option.{option_map}
+use Rattle.cq_values.specs.Value.{Row}
+use Rattle.cq_values.specs.Order.{same_row}
+use Rattle.cq_bags.specs.Bag.{Weighted, SameBag, IsBag}
+use Rattle.cq_model.specs.declared.expr.Cond.{Cond}
+use Rattle.cq_model.specs.declared.query.Aggregate.{Aggregate}
+use Rattle.cq_model.specs.declared.query.Query.{Query}
+use Rattle.cq_model.specs.declared.query.Shape.TheVariants.{Grouped}
+use Rattle.cq_model.specs.Kept.{Group, Groups, LastStands, group_of}
+use Rattle.cq_deltas.specs.declared.change.Addition.{Addition}
+use Rattle.cq_deltas.specs.Additions.{AreTotals, additions}
+use Rattle.cq_deltas.specs.Kept.{GroupHolds, group_with, total_moves}
+
+-- keys with their groups
+abbrev pub Table : Type 0
+Table = List (Row × Group)
+
+-- what is stored of a key
+abbrev pub stored_at : Table → Row → Option Group
+stored_at table k = lookup (same_row k) table
+
+-- the group of a key: where none is stored, that of no rows
+abbrev pub group_at : List Aggregate → Table → Row → Group
+group_at aggregates table k = unwrap_or (stored_at table k) (group_of aggregates [])
+
+-- whether a change has a row with the key
+abbrev pub is_met : List Addition → Row → Bool
+is_met change k = list_any (λ x. same_row x.key k) change
+
+-- a key's group with a changed row put in, if the row has that key
+abbrev pub group_met : Row → Group → Addition → Group
+group_met k group x = if same_row x.key k then group_with x.weight x.addends group else group
+
+-- a key's group with a change put in
+abbrev pub group_with_all : List Addition → Row → Group → Group
+group_with_all change k group = fold (group_met k) group change
+
+-- a group without rows is none
+abbrev pub settled : Option Group → Option Group
+settled None = None
+settled (Some g) = if int_eq g.count (pos 0) then None else Some g
+
+-- what is stored of a key after a change
+abbrev pub stored_after : List Addition → Row → Option Group → Option Group
+stored_after change k stored = if is_met change k then settled (option_map (group_with_all change k) stored) else stored
+
+-- new is old with the change put in
+pub record Takes (old : Table) (change : List Addition) (new : Table) : Type 0 where
+  pub at : (k : Row) → stored_at new k ≡ stored_after change k (stored_at old k)
+
+-- each key of the change is stored: what groups have that were made ready for it
+pub record HasKeys (change : List Addition) (table : Table) : Type 0 where
+  pub at : (k : Row) → is_met change k ≡ true → is_some (stored_at table k) ≡ true
+
+-- how far a change can move a count
+abbrev pub count_moves : List Addition → ℕ
+count_moves change = sum_by (λ x. nat_abs x.weight) change
+
+-- how far it can move a total
+abbrev pub all_total_moves : List Addition → ℕ
+all_total_moves change = sum_by (λ x. total_moves x.weight x.addends) change
+
+-- no count and no total leaves its range while the change is put in
+pub record HoldsFor (change : List Addition) (table : Table) : Type 0 where
+  pub at : (k : Row) (g : Group) → stored_at table k ≡ Some g → GroupHolds (count_moves change) (all_total_moves change) g
+
+-- groups that stand for rows stand for the changed rows, once their change is put in
+abbrev pub GroupsGoOn : Table → List Addition → Table → Type 0
+GroupsGoOn old change new =
+    (q : Query) (keys : Option (List ℕ)) (aggregates : List Aggregate) (having : Option Cond) (xs dxs ys : Weighted)
+    → change ≡ additions (unwrap_or keys []) aggregates dxs → AreTotals aggregates → SameBag ys (xs ++ dxs) → IsBag ys
+    → LastStands q (Grouped keys aggregates having) xs (Groups (group_at aggregates old))
+    → LastStands q (Grouped keys aggregates having) ys (Groups (group_at aggregates new))

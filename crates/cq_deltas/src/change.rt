@@ -1,0 +1,142 @@
+//! What changed rows add to groups.
+ghost use Rattle.std.specs.List.{AllByRecursion};
+ghost use Rattle.std.specs.Prelude.{◌++◌, ◌∷◌, ◌≡◌, IfOk, OnErr, OnOk, [], map};
+ghost use Rattle.cq_model.specs.Group.{key_of};
+ghost use Rattle.cq_values.specs.Value.{column};
+ghost use Rattle.cq_deltas.specs.Additions.{IsNarrow, addend_of, addition, additions};
+
+use cq_model::{Aggregate, eval_row};
+use cq_values::{Lent, Row, Seq, Value};
+use std::alloc::{AllocError, Global};
+use std::marker::Model;
+
+/// What a changed row adds: to the group of its key so many rows, and to each aggregate what its argument adds.
+#[derive(Debug, Drop)]
+pub struct Addition {
+    pub(crate) key: Row,
+    pub(crate) weight: i128,
+    pub(crate) addends: Seq<Option<i128>>,
+}
+
+/// What a change of the rows adds, row by row.
+#[derive(Debug, Drop)]
+pub struct GroupChange {
+    additions: Vec<Addition>,
+}
+
+impl Model for GroupChange {
+    ghost use Rattle.std.specs.Prelude.{List};
+    ghost use Rattle.cq_deltas.specs.declared.change.Addition.{Addition};
+
+    ghost Value = { List Addition };
+
+    ghost view = { λ c. c.additions.items };
+}
+
+impl GroupChange {
+    pub fn new(alloc: Global) -> GroupChange
+        ensures { result ≡ [] }
+    {
+        GroupChange {
+            additions: Vec::new(alloc),
+        }
+    }
+
+    /// What these rows add, each so often as its weight says, with GROUP BY these columns.
+    pub fn of(
+        alloc: Global,
+        columns: &[usize],
+        aggregates: &[Aggregate],
+        rows: &[(Row, i128)],
+    ) -> Result<GroupChange, AllocError>
+        requires { AllByRecursion (λ x. AllByRecursion (IsNarrow x.0) aggregates.now) rows.now }
+        ensures { IfOk result (λ change. change ≡ additions columns.now aggregates.now rows.now) }
+    {
+        let mut change = GroupChange::new(alloc);
+        for (row, weight) in rows {
+            change.push(alloc, columns, aggregates, row.as_slice(), *weight)?;
+        }
+        Ok(change)
+    }
+
+    /// Adds what one changed row adds.
+    pub fn push(
+        &mut self,
+        alloc: Global,
+        columns: &[usize],
+        aggregates: &[Aggregate],
+        row: &[Value],
+        weight: i128,
+    ) -> Result<(), AllocError>
+        requires { AllByRecursion (IsNarrow row.now) aggregates.now }
+        ensures ok { OnOk result (self.new ≡ self.old ++ addition columns.now aggregates.now (row.now, weight) ∷ []) }
+        ensures err { OnErr result (self.new ≡ self.old) }
+    {
+        let key = key_of(alloc, columns, row)?;
+        let addends = addends_of(alloc, aggregates, row)?;
+        self.additions.push(Addition {
+            key,
+            weight,
+            addends,
+        })?;
+        Ok(())
+    }
+
+    pub fn as_slice(&self) -> &[Addition]
+        ensures { result.now ≡ self.now }
+    {
+        self.additions.as_slice()
+    }
+}
+
+/// The values of a row in these columns.
+fn key_of(alloc: Global, columns: &[usize], row: &[Value]) -> Result<Row, AllocError>
+    ensures { IfOk result (λ key. key ≡ key_of columns.now row.now) }
+{
+    let mut key = Row::new(alloc);
+    for place in columns {
+        key.push(copy_column(alloc, row, *place)?)?;
+    }
+    Ok(key)
+}
+
+fn copy_column(alloc: Global, row: &[Value], place: usize) -> Result<Value, AllocError>
+    ensures { IfOk result (λ v. v ≡ column row.now place) }
+{
+    match row.get(place) {
+        Some(value) => value.copy(alloc),
+        None => Ok(Value::Null),
+    }
+}
+
+/// What a row adds to each aggregate.
+fn addends_of(
+    alloc: Global,
+    aggregates: &[Aggregate],
+    row: &[Value],
+) -> Result<Seq<Option<i128>>, AllocError>
+    requires { AllByRecursion (IsNarrow row.now) aggregates.now }
+    ensures { IfOk result (λ addends. addends ≡ map (addend_of row.now) aggregates.now) }
+{
+    let mut addends = Vec::new(alloc);
+    for aggregate in aggregates {
+        addends.push(addend_of(aggregate, row))?;
+    }
+    Ok(Seq::from_vec(addends))
+}
+
+/// What a row adds to the total of an aggregate, and `None` where it is not counted.
+fn addend_of(aggregate: &Aggregate, row: &[Value]) -> Option<i128>
+    requires { IsNarrow row.now aggregate.now }
+    ensures { result ≡ addend_of row.now aggregate.now }
+{
+    match aggregate {
+        Aggregate::CountAll => Some(0),
+        Aggregate::Count(argument) | Aggregate::Sum(argument) => match eval_row(argument, row) {
+            Lent::Null => None,
+            Lent::Number(n) => Some(n),
+            Lent::Day(_) | Lent::Text(_) => Some(0),
+        },
+        Aggregate::Min(_) | Aggregate::Max(_) => None,
+    }
+}

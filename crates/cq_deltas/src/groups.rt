@@ -1,0 +1,183 @@
+//! Groups by key.
+ghost use Rattle.std.specs.Map.Iter.{ShowsInOrder, deref_pair};
+ghost use Rattle.std.specs.Option.{option_map, option_map_or};
+ghost use Rattle.std.specs.Ordering.{int_eq};
+ghost use Rattle.std.specs.Prelude.{nat_abs, ◌++◌, ◌∷◌, ◌≡◌, Bool, IfErr, IfOk, OnOk, Some, [], if◌then◌else◌, is_some, true, false, pos};
+ghost use Rattle.cq_model.specs.Kept.{Group as Counted, Groups as ByKey};
+ghost use Rattle.cq_model.specs.Told.{ListsKeys};
+ghost use Rattle.cq_values.specs.Order.{same_row};
+ghost use Rattle.cq_values.specs.Value.{Row as Values};
+ghost use Rattle.cq_deltas.specs.Additions.{AreTotals};
+ghost use Rattle.cq_deltas.specs.declared.fault.ToldFault.TheVariants.{SumOutOfRange};
+ghost use Rattle.cq_deltas.specs.Told.{EntriesCanBeTold, GroupsCanBeTold, counted_keys, entry_rows, group_rows};
+ghost use Rattle.cq_deltas.specs.Kept.{GroupHolds, total_moves};
+ghost use Rattle.cq_deltas.specs.Table.{GroupsGoOn, HasKeys, HoldsFor, Takes, group_at, group_met, group_with_all, is_met, settled, stored_at};
+
+use crate::change::{Addition, GroupChange};
+use crate::fault::ToldFault;
+use crate::group::Group;
+use cq_model::Aggregate;
+use cq_values::{Row, copy_row};
+use indexmap::IndexMap;
+use indexmap::map::Iter;
+use std::alloc::{AllocError, Global};
+use std::marker::Model;
+
+/// The groups that a view keeps, by their keys. NULL keys are one key.
+#[derive(Drop)]
+pub struct Groups {
+    groups: IndexMap<Row, Group>,
+}
+
+impl Model for Groups {
+    ghost use Rattle.cq_deltas.specs.Table.{Table};
+
+    ghost Value = { Table };
+
+    ghost view = { λ g. g.groups.entries };
+}
+
+impl Groups {
+    pub fn new(alloc: Global) -> Groups
+        ensures { result ≡ [] }
+    {
+        Groups {
+            groups: IndexMap::new(alloc),
+        }
+    }
+
+    /// Makes an empty group for each new key of a change, so that the change can be put in without growth.
+    pub fn ready(
+        &mut self,
+        alloc: Global,
+        aggregates: &[Aggregate],
+        change: &GroupChange,
+    ) -> Result<(), AllocError>
+        requires { AreTotals aggregates.now }
+        ensures groups { (k : Values) → group_at aggregates.now self.new k ≡ group_at aggregates.now self.old k }
+        ensures keys { OnOk result (HasKeys change.now self.new) }
+    {
+        for addition in change.as_slice() {
+            self.make(alloc, aggregates, &addition.key)?;
+        }
+        Ok(())
+    }
+
+    /// Makes an empty group for a key that has none.
+    fn make(&mut self, alloc: Global, aggregates: &[Aggregate], key: &Row) -> Result<(), AllocError>
+        requires { AreTotals aggregates.now }
+        ensures groups { (k : Values) → group_at aggregates.now self.new k ≡ group_at aggregates.now self.old k }
+        ensures there { OnOk result (is_some (stored_at self.new key.now) ≡ true) }
+        ensures kept { (k : Values) → is_some (stored_at self.old k) ≡ true → is_some (stored_at self.new k) ≡ true }
+    {
+        if self.groups.contains_key(key) {
+            return Ok(());
+        }
+        let group = Group::empty(alloc, aggregates)?;
+        let copy = copy_row(alloc, key.as_slice())?;
+        self.groups.insert(copy, group)?;
+        Ok(())
+    }
+
+    /// Puts a change in that the groups were made ready for. It cannot fail, and takes no memory.
+    pub fn take(&mut self, change: GroupChange)
+        requires keys { HasKeys change self.old }
+        requires holds { HoldsFor change self.old }
+        ensures takes { Takes self.old change self.new }
+        ensures goes_on { GroupsGoOn self.old change self.new }
+    {
+        self.put_all(change.as_slice());
+        self.drop_empty(change.as_slice());
+    }
+
+    /// The groups with their keys, also those without rows that were made for a change that never came.
+    pub fn iter(&self) -> Iter<'_, Row, Group>
+        ensures entries { result ≡ self.now }
+        ensures runs { ShowsInOrder (deref_pair {K = Values} {X = Counted}) }
+    {
+        self.groups.iter()
+    }
+
+    /// The row of each group that has rows.
+    pub fn told_rows(&self, alloc: Global, aggregates: &[Aggregate]) -> Result<Vec<Row>, ToldFault>
+        ensures rows { IfOk result (λ rows. rows.items ≡ group_rows aggregates.now self.now) }
+        ensures keys { OnOk result (ListsKeys (counted_keys self.now) (ByKey (group_at aggregates.now self.now))) }
+        ensures range { OnOk result (GroupsCanBeTold aggregates.now self.now) }
+        ensures fault { IfErr result (λ e. e ≡ SumOutOfRange → GroupsCanBeTold aggregates.now self.now → ⊥) }
+    {
+        let mut rows = Vec::new(alloc);
+        for place in 0..self.groups.len() {
+            match self.groups.get_index(place) {
+                Some((key, group)) => push_told(alloc, aggregates, key, group, &mut rows)?,
+                None => unreachable!(),
+            }
+        }
+        Ok(rows)
+    }
+
+    /// Puts the rows of a change in their groups.
+    fn put_all(&mut self, additions: &[Addition])
+        requires keys { HasKeys additions.now self.old }
+        requires holds { HoldsFor additions.now self.old }
+        ensures { (k : Values) → stored_at self.new k ≡ option_map (group_with_all additions.now k) (stored_at self.old k) }
+    {
+        for addition in additions {
+            self.put(addition);
+        }
+    }
+
+    fn put(&mut self, addition: &Addition)
+        requires there { is_some (stored_at self.old addition.now.key) ≡ true }
+        requires holds { (g : Counted) → stored_at self.old addition.now.key ≡ Some g → GroupHolds (nat_abs addition.now.weight) (total_moves addition.now.weight addition.now.addends) g }
+        ensures { (k : Values) → stored_at self.new k ≡ option_map (λ g. group_met k g addition.now) (stored_at self.old k) }
+    {
+        match self.groups.get_mut(&addition.key) {
+            Some(group) => group.add(addition.weight, addition.addends.as_slice()),
+            None => unreachable!(),
+        }
+    }
+
+    /// Drops those groups of a change that it leaves without rows.
+    fn drop_empty(&mut self, additions: &[Addition])
+        ensures { (k : Values) → stored_at self.new k ≡ (if is_met additions.now k then settled (stored_at self.old k) else stored_at self.old k) }
+    {
+        for addition in additions {
+            self.drop_if_empty(&addition.key);
+        }
+    }
+
+    fn drop_if_empty(&mut self, key: &Row)
+        ensures { (k : Values) → stored_at self.new k ≡ (if same_row key.now k then settled (stored_at self.old k) else stored_at self.old k) }
+    {
+        if self.is_empty_at(key) {
+            drop(self.groups.swap_remove(key));
+        }
+    }
+
+    fn is_empty_at(&self, key: &Row) -> bool
+        ensures { result ≡ option_map_or (λ g. int_eq g.count (pos 0)) (stored_at self.now key.now) false }
+    {
+        match self.groups.get(key) {
+            Some(group) => group.count() == 0,
+            None => false,
+        }
+    }
+}
+
+/// Adds the row of a group, if the group has rows.
+fn push_told(
+    alloc: Global,
+    aggregates: &[Aggregate],
+    key: &Row,
+    group: &Group,
+    rows: &mut Vec<Row>,
+) -> Result<(), ToldFault>
+    ensures rows { OnOk result (rows.new.items ≡ rows.old.items ++ entry_rows aggregates.now ((key.now, group.now) ∷ [])) }
+    ensures range { OnOk result (EntriesCanBeTold aggregates.now ((key.now, group.now) ∷ [])) }
+    ensures fault { IfErr result (λ e. e ≡ SumOutOfRange → EntriesCanBeTold aggregates.now ((key.now, group.now) ∷ []) → ⊥) }
+{
+    if group.count() > 0 {
+        rows.push(group.told(alloc, aggregates, key)?)?;
+    }
+    Ok(())
+}

@@ -1,0 +1,22 @@
+//! What a grouped view keeps, changed row by row and not worked out anew.
+//!
+//! [`Groups`] has a group for each key: how many rows it has, and a count or an exact total for each aggregate. A
+//! [`GroupChange`] is what changed rows add. First [`Groups::ready`] makes all growth, then [`Groups::take`] puts the
+//! change in and cannot fail; then the groups are those of the changed rows.
+#![tactic(auto)]
+
+mod change;
+mod fault;
+mod group;
+mod groups;
+mod kept;
+mod laws;
+#[cfg(test)]
+mod tests;
+
+pub use change::{Addition, GroupChange};
+pub use fault::ToldFault;
+pub use group::Group;
+pub use groups::Groups;
+pub use kept::{CountedTotal, Kept};
+pub use laws::{ranges_tell, small_rows_hold};

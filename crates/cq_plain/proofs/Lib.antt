@@ -1,0 +1,9 @@
+pub mod Once
+pub mod Bests
+pub mod Narrow
+pub mod ListedGroups
+pub mod Exits
+pub mod GroupFaults
+pub mod Agreeing
+pub mod Assignments
+pub mod ToldAt

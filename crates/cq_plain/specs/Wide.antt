@@ -1,0 +1,66 @@
+-- Where a query meets a value that does not fit 127 bits and a sign.
+use Rattle.std.specs.Prelude.{ℕ, ◌^◌, ◌≤◌, pos, ◌<ℤ◌, Option, Some, None, ◌⊎◌}
+use Rattle.std.specs.List.{Any}
+use Rattle.cq_values.specs.Value.{Row}
+use Rattle.cq_bags.specs.Bag.{Weighted, weight_of}
+use Rattle.cq_model.specs.declared.expr.Cond.{Cond}
+use Rattle.cq_model.specs.declared.expr.Expr.{Expr}
+use Rattle.cq_model.specs.declared.query.Aggregate.{Aggregate}
+use Rattle.cq_model.specs.declared.query.Aggregate.TheVariants.{CountAll, Count, Sum, Min, Max}
+use Rattle.cq_model.specs.declared.query.Query.{Query}
+use Rattle.cq_model.specs.declared.query.Shape.{Shape}
+use Rattle.cq_model.specs.declared.query.Shape.TheVariants.{Plain, Grouped}
+use Rattle.cq_model.specs.declared.query.Source.{Source}
+use Rattle.cq_model.specs.declared.query.Source.TheVariants.{Table, View}
+use Rattle.cq_model.specs.Group.{grouped}
+use Rattle.cq_model.specs.Meaning.{Tables, chain, joined_rows, shaped}
+use Rattle.cq_model.specs.Views.{tables_alone, with_views, sources_of}
+use Rattle.cq_model.specs.Width.{extent, widest_at}
+
+-- in this row some value on the way to the expression's is too wide
+abbrev pub IsWideAt : Expr → Row → Type 0
+IsWideAt e row = 2 ^ 127 ≤ (extent e row).widest
+
+-- in this row some value in the condition is too wide
+abbrev pub IsWideIn : Option Cond → Row → Type 0
+IsWideIn None row = ⊥
+IsWideIn (Some c) row = 2 ^ 127 ≤ widest_at c row
+
+-- a row is there for which this holds
+abbrev pub AtSomeRow : (Row → Type 0) → Weighted → Type 0
+AtSomeRow P xs = (row : Row) × (pos 0 <ℤ weight_of xs row) × P row
+
+-- the argument of an aggregate is too wide in some row
+abbrev pub IsWideOver : Weighted → Aggregate → Type 0
+IsWideOver xs CountAll = ⊥
+IsWideOver xs (Count e) = AtSomeRow (IsWideAt e) xs
+IsWideOver xs (Sum e) = AtSomeRow (IsWideAt e) xs
+IsWideOver xs (Min e) = AtSomeRow (IsWideAt e) xs
+IsWideOver xs (Max e) = AtSomeRow (IsWideAt e) xs
+
+-- an aggregate over these rows is too wide, or HAVING over their groups
+abbrev pub IsShapeWide : Shape → Weighted → Type 0
+IsShapeWide Plain xs = ⊥
+IsShapeWide (Grouped keys aggregates having) xs = Any (IsWideOver xs) aggregates ⊎ AtSomeRow (IsWideIn having) (grouped keys aggregates xs)
+
+-- an aggregate, HAVING or an item is too wide over these joined rows
+abbrev pub IsShownWide : Query → Weighted → Type 0
+IsShownWide q xs = IsShapeWide q.shape xs ⊎ Any (λ e. AtSomeRow (IsWideAt e) (shaped q.shape xs)) q.items
+
+-- a query is too wide in a row that WHERE tests, or over those that it keeps
+abbrev pub IsQueryWide : Query → Tables → Type 0
+IsQueryWide q tables = AtSomeRow (IsWideIn q.filter) (chain tables (tables q.first) q.joins) ⊎ IsShownWide q (joined_rows q tables)
+
+-- the query of a view is too wide
+abbrev pub IsViewWide : (ℕ → Weighted) → Option Query → Type 0
+IsViewWide tables None = ⊥
+IsViewWide tables (Some q) = IsQueryWide q (tables_alone tables)
+
+-- a source is a view whose query is too wide
+abbrev pub IsSourceWide : (ℕ → Weighted) → (ℕ → Option Query) → Source → Type 0
+IsSourceWide tables queries (Table t) = ⊥
+IsSourceWide tables queries (View v) = IsViewWide tables (queries v)
+
+-- a query is too wide itself, or a view that FROM names
+abbrev pub IsAnswerWide : (ℕ → Weighted) → (ℕ → Option Query) → Query → Type 0
+IsAnswerWide tables queries q = IsQueryWide q (with_views tables queries) ⊎ Any (IsSourceWide tables queries) (sources_of q)

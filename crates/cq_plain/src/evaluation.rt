@@ -1,0 +1,89 @@
+//! Expressions and conditions in a row, once no value on the way is too wide.
+ghost use Rattle.std.specs.Prelude.{◌^◌, ◌≡◌, ◌≤◌, IfErr, IfOk, map, nat_lt};
+ghost use Rattle.cq_values.specs.Lent.{owned};
+ghost use Rattle.cq_values.specs.Truth.{is_true};
+ghost use Rattle.cq_model.specs.Condition.{holds};
+ghost use Rattle.cq_model.specs.Eval.{eval};
+ghost use Rattle.cq_model.specs.Meaning.{keeps};
+ghost use Rattle.cq_model.specs.Width.{extent, value_size, widest_at};
+ghost use Rattle.cq_plain.specs.Faults.{Tells};
+ghost use Rattle.cq_plain.specs.Wide.{IsWideAt, IsWideIn};
+
+use crate::fault::PlainFault;
+use cq_model::{Cond, Expr, eval_row, fits, holds_row, width_of};
+use cq_values::{Lent, Text, Value};
+use std::alloc::{AllocError, Global};
+
+/// The value of the expression in the row.
+pub(crate) fn value_at(alloc: Global, expr: &Expr, row: &[Value]) -> Result<Value, PlainFault>
+    ensures ok { IfOk result (λ v. v ≡ eval expr.now row.now) }
+    ensures fault { IfErr result (Tells (IsWideAt expr.now row.now) ⊥) }
+{
+    if !is_narrow(alloc, expr, row)? {
+        return Err(PlainFault::TooWide);
+    }
+    Ok(copy_lent(alloc, &eval_row(expr, row))?)
+}
+
+/// Whether the condition keeps the row. Where there is none, each row is kept.
+pub(crate) fn keeps(alloc: Global, filter: &Option<Cond>, row: &[Value]) -> Result<bool, PlainFault>
+    ensures ok { IfOk result (λ kept. kept ≡ keeps filter.now row.now) }
+    ensures fault { IfErr result (Tells (IsWideIn filter.now row.now) ⊥) }
+{
+    match filter {
+        Some(cond) => makes_true(alloc, cond, row),
+        None => Ok(true),
+    }
+}
+
+fn makes_true(alloc: Global, cond: &Cond, row: &[Value]) -> Result<bool, PlainFault>
+    ensures ok { IfOk result (λ kept. kept ≡ is_true (holds cond.now row.now)) }
+    ensures fault { IfErr result (Tells (2 ^ 127 ≤ widest_at cond.now row.now) ⊥) }
+{
+    if !is_cond_narrow(alloc, cond, row)? {
+        return Err(PlainFault::TooWide);
+    }
+    Ok(holds_row(cond, row).is_true())
+}
+
+fn is_narrow(alloc: Global, expr: &Expr, row: &[Value]) -> Result<bool, AllocError>
+    ensures { IfOk result (λ narrow. narrow ≡ nat_lt (extent expr.now row.now).widest (2 ^ 127)) }
+{
+    let sizes = sizes_of(alloc, row)?;
+    Ok(width_of(expr, &sizes).is_some())
+}
+
+fn is_cond_narrow(alloc: Global, cond: &Cond, row: &[Value]) -> Result<bool, AllocError>
+    ensures { IfOk result (λ narrow. narrow ≡ nat_lt (widest_at cond.now row.now) (2 ^ 127)) }
+{
+    let sizes = sizes_of(alloc, row)?;
+    Ok(fits(cond, &sizes))
+}
+
+/// How far from zero each value of the row is.
+fn sizes_of(alloc: Global, row: &[Value]) -> Result<Vec<u128>, AllocError>
+    ensures { IfOk result (λ sizes. sizes.items ≡ map value_size row.now) }
+{
+    row.iter().map(|value| value_size(value)).collect(alloc)
+}
+
+fn value_size(value: &Value) -> u128
+    ensures { result ≡ value_size value.now }
+{
+    match value {
+        Value::Number(n) => n.unsigned_abs(),
+        _ => 0,
+    }
+}
+
+/// A value of its own.
+pub(crate) fn copy_lent(alloc: Global, value: &Lent<'_>) -> Result<Value, AllocError>
+    ensures { IfOk result (λ v. v ≡ owned value.now) }
+{
+    match value {
+        Lent::Number(n) => Ok(Value::Number(*n)),
+        Lent::Day(day) => Ok(Value::Day(*day)),
+        Lent::Text(text) => Ok(Value::Text(Text::new(alloc, text)?)),
+        Lent::Null => Ok(Value::Null),
+    }
+}

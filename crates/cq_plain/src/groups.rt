@@ -1,0 +1,130 @@
+//! GROUP BY, by looking through a list of keys.
+ghost use Rattle.std.specs.Prelude.{◌≡◌, IfErr, IfOk, Some};
+ghost use Rattle.std.specs.List.{AllByRecursion, Any};
+ghost use Rattle.cq_bags.specs.Bag.{once_each};
+ghost use Rattle.cq_model.specs.Group.{SumInRange, SumsInRange, group_row, grouped, key_of, keys_of, rows_of_key};
+ghost use Rattle.cq_plain.specs.Faults.{Tells};
+ghost use Rattle.cq_plain.specs.Wide.{IsWideOver};
+
+use crate::aggregates::aggregate;
+use crate::evaluation::copy_lent;
+use crate::fault::PlainFault;
+use crate::repeats::firsts;
+use cq_model::{Aggregate, lend_column};
+use cq_values::{Row, Seq, Value, copy_row};
+use std::alloc::{AllocError, Global};
+
+/// A row for each group. Without GROUP BY all rows are one group, also where there is none.
+pub(crate) fn grouped(
+    alloc: Global,
+    keys: &Option<Seq<usize>>,
+    aggregates: &[Aggregate],
+    rows: &[Row],
+) -> Result<Vec<Row>, PlainFault>
+    ensures ok { IfOk result (λ groups. once_each groups.items ≡ grouped keys.now aggregates.now (once_each rows.now)) }
+    ensures range { IfOk result (λ groups. SumsInRange keys.now aggregates.now (once_each rows.now)) }
+    ensures fault { IfErr result (Tells (Any (IsWideOver (once_each rows.now)) aggregates.now) (SumsInRange keys.now aggregates.now (once_each rows.now) → ⊥)) }
+{
+    match keys {
+        Some(columns) => grouped_by(alloc, columns.as_slice(), aggregates, rows),
+        None => {
+            let mut groups = Vec::new(alloc);
+            groups.push(group_row(alloc, aggregates, &Row::new(alloc), rows)?)?;
+            Ok(groups)
+        }
+    }
+}
+
+/// A row for each key that occurs.
+fn grouped_by(
+    alloc: Global,
+    columns: &[usize],
+    aggregates: &[Aggregate],
+    rows: &[Row],
+) -> Result<Vec<Row>, PlainFault>
+    ensures ok { IfOk result (λ groups. once_each groups.items ≡ grouped (Some columns.now) aggregates.now (once_each rows.now)) }
+    ensures range { IfOk result (λ groups. SumsInRange (Some columns.now) aggregates.now (once_each rows.now)) }
+    ensures fault { IfErr result (Tells (Any (IsWideOver (once_each rows.now)) aggregates.now) (SumsInRange (Some columns.now) aggregates.now (once_each rows.now) → ⊥)) }
+{
+    let keys = keys_of(alloc, columns, rows)?;
+    let mut groups = Vec::new(alloc);
+    for key in &keys {
+        groups.push(group_of_key(alloc, columns, aggregates, key, rows)?)?;
+    }
+    Ok(groups)
+}
+
+/// The row of the group that has this key.
+fn group_of_key(
+    alloc: Global,
+    columns: &[usize],
+    aggregates: &[Aggregate],
+    key: &Row,
+    rows: &[Row],
+) -> Result<Row, PlainFault>
+    ensures ok { IfOk result (λ row. row ≡ group_row aggregates.now key.now (rows_of_key columns.now key.now (once_each rows.now))) }
+    ensures range { IfOk result (λ row. AllByRecursion (λ a. SumInRange a (rows_of_key columns.now key.now (once_each rows.now))) aggregates.now) }
+    ensures fault { IfErr result (Tells (Any (IsWideOver (once_each rows.now)) aggregates.now)
+        (AllByRecursion (λ a. SumInRange a (rows_of_key columns.now key.now (once_each rows.now))) aggregates.now → ⊥)) }
+{
+    let own = rows_of_key(alloc, columns, key, rows)?;
+    group_row(alloc, aggregates, key, &own)
+}
+
+/// The row of a group: its key, and then its aggregates.
+fn group_row(
+    alloc: Global,
+    aggregates: &[Aggregate],
+    key: &Row,
+    rows: &[Row],
+) -> Result<Row, PlainFault>
+    ensures ok { IfOk result (λ row. row ≡ group_row aggregates.now key.now (once_each rows.now)) }
+    ensures range { IfOk result (λ row. AllByRecursion (λ a. SumInRange a (once_each rows.now)) aggregates.now) }
+    ensures fault { IfErr result (Tells (Any (IsWideOver (once_each rows.now)) aggregates.now) (AllByRecursion (λ a. SumInRange a (once_each rows.now)) aggregates.now → ⊥)) }
+{
+    let mut row = copy_row(alloc, key.as_slice())?;
+    for each in aggregates {
+        row.push(aggregate(alloc, each, rows)?)?;
+    }
+    Ok(row)
+}
+
+/// The keys that occur, each of them once.
+fn keys_of(alloc: Global, columns: &[usize], rows: &[Row]) -> Result<Vec<Row>, AllocError>
+    ensures { IfOk result (λ keys. keys.items ≡ keys_of columns.now (once_each rows.now)) }
+{
+    let mut keys = Vec::new(alloc);
+    for row in rows {
+        keys.push(key_of(alloc, columns, row.as_slice())?)?;
+    }
+    firsts(alloc, &keys)
+}
+
+/// The rows that have this key. NULL is the same as NULL here.
+fn rows_of_key(
+    alloc: Global,
+    columns: &[usize],
+    key: &Row,
+    rows: &[Row],
+) -> Result<Vec<Row>, AllocError>
+    ensures { IfOk result (λ own. once_each own.items ≡ rows_of_key columns.now key.now (once_each rows.now)) }
+{
+    let mut own = Vec::new(alloc);
+    for row in rows {
+        let values = row.as_slice();
+        if key_of(alloc, columns, values)? == *key {
+            own.push(copy_row(alloc, values)?)?;
+        }
+    }
+    Ok(own)
+}
+
+fn key_of(alloc: Global, columns: &[usize], row: &[Value]) -> Result<Row, AllocError>
+    ensures { IfOk result (λ key. key ≡ key_of columns.now row.now) }
+{
+    let mut key = Row::new(alloc);
+    for column in columns {
+        key.push(copy_lent(alloc, &lend_column(row, *column))?)?;
+    }
+    Ok(key)
+}
