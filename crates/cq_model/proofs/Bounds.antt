@@ -8,7 +8,7 @@ use Rattle.cq_model.specs.declared.expr.Cond.TheFolds.{fold-roll-Cond, ind-Cond,
 use Rattle.cq_model.specs.declared.expr.Expr.{Expr}
 use Rattle.cq_model.specs.declared.expr.Expr.TheOpen as node
 use Rattle.cq_model.specs.declared.expr.Expr.TheFolds.{fold-roll-Expr, ind-Expr, map-Expr}
-use Rattle.cq_model.specs.Width.{Extent, IsWithin, extent_of, extent_plus, extent_times, width, width_step, widest, widest_in, widest_step, BoundHolds, BoundHoldsIn, sizes_of, bounds_of}
+use Rattle.cq_model.specs.Width.{Extent, IsWithin, extent_of, extent_of_product, extent_plus, extent_times, width, width_step, widest, widest_in, widest_step, BoundHolds, BoundHoldsIn, sizes_of, bounds_of}
 
 plus_grows : (a b c d : Extent) → IsWithin a b → IsWithin c d → IsWithin (extent_plus a c) (extent_plus b d)
 plus_grows a b c d h k = record { size = omega (arith, h.size, k.size); widest = omega (arith, h.size, h.widest, k.size, k.widest) }
@@ -33,6 +33,11 @@ module _ (small large : ℕ → ℕ) (kept : (i : ℕ) → small i ≤ large i) 
   same_extent : (a : Extent) → IsWithin a a
   same_extent a = record { size = omega arith; widest = omega arith }
 
+  several_grow : (es : List ((e : Expr) × Grows e))
+      → IsWithin (extent_of_product (map (λ f. f small) (map width (map (λ e. e.0) es)))) (extent_of_product (map (λ f. f large) (map width (map (λ e. e.0) es))))
+  several_grow [] = same_extent (extent_of 1 0)
+  several_grow (e ∷ es) = product_grows es (width e.0 small) (width e.0 large) e.1
+
   -- one node grows where its parts do
   node_grows : (y : node.Expr-F ((e : Expr) × Grows e)) → IsWithin (width_step (map-Expr Expr ((ℕ → ℕ) → Extent) width (map-Expr ((e : Expr) × Grows e) Expr (λ e. e.0) y)) small)
       (width_step (map-Expr Expr ((ℕ → ℕ) → Extent) width (map-Expr ((e : Expr) × Grows e) Expr (λ e. e.0) y)) large)
@@ -40,8 +45,8 @@ module _ (small large : ℕ → ℕ) (kept : (i : ℕ) → small i ≤ large i) 
   node_grows (node.Literal v) = record { size = omega arith; widest = omega arith }
   node_grows (node.Negate e) = let part = e.value.1 in record { size = part.size; widest = omega (arith, part.size, part.widest) }
   node_grows (node.Sum es) = sum_grows es.items (extent_of 0 0) (extent_of 0 0) (same_extent (extent_of 0 0))
-  node_grows (node.Product es) = product_grows es.items (extent_of 1 0) (extent_of 1 0) (same_extent (extent_of 1 0))
-  node_grows (node.Extract day_part e) = let part = e.value.1 in record { size = omega arith; widest = omega (arith, part.widest) }
+  node_grows (node.Product es) = several_grow es.items
+  node_grows (node.Extract day_part e) = let part = e.value.1 in record { size = omega arith; widest = part.widest }
 
   width_grows : (e : Expr) → Grows e
   width_grows = ind-Expr Grows (λ x y is.

@@ -11,7 +11,7 @@ use Rattle.cq_model.specs.declared.expr.Expr.TheViews as view
 use Rattle.cq_model.specs.declared.expr.Expr.TheFolds.{fold-roll-Expr}
 use Rattle.cq_model.specs.declared.expr.Expr.TheVariants.{rolls-Sum, rolls-Product, rolls-Negate, rolls-Extract}
 use Rattle.cq_model.specs.Eval.{plus, times, negated, extracted, eval, eval_step}
-use Rattle.cq_model.specs.Width.{Extent, extent_of, extent_plus, extent_times, part_limit, width, width_step}
+use Rattle.cq_model.specs.Width.{Extent, extent_of, extent_of_product, extent_plus, width, width_step}
 
 -- what functions give at one argument
 pub map-at : {X Y A : Type 0} (f : X → Y → A) (y : Y) (xs : List X) → map (λ g. g y) (map f xs) ≡ map (λ x. f x y) xs
@@ -33,11 +33,8 @@ eval-Extract day_part part r = ap (λ e. eval e r) (sym (rolls-Extract day_part 
 pub width-Sum : (parts : Vec Expr Global) (z : ℕ → ℕ) → width (view.Sum parts) z ≡ fold extent_plus (extent_of 0 0) (map (λ e. width e z) parts.items)
 width-Sum parts z = ap (λ e. width e z) (sym (rolls-Sum parts)) ∙ ap (λ f. f z) (fold-roll-Expr ((ℕ → ℕ) → Extent) width_step (node.Sum parts)) ∙ ap (fold extent_plus (extent_of 0 0)) (map-at width z parts.items)
 
-pub width-Product : (parts : Vec Expr Global) (z : ℕ → ℕ) → width (view.Product parts) z ≡ fold extent_times (extent_of 1 0) (map (λ e. width e z) parts.items)
-width-Product parts z = ap (λ e. width e z) (sym (rolls-Product parts)) ∙ ap (λ f. f z) (fold-roll-Expr ((ℕ → ℕ) → Extent) width_step (node.Product parts)) ∙ ap (fold extent_times (extent_of 1 0)) (map-at width z parts.items)
+pub width-Product : (parts : Vec Expr Global) (z : ℕ → ℕ) → width (view.Product parts) z ≡ extent_of_product (map (λ e. width e z) parts.items)
+width-Product parts z = ap (λ e. width e z) (sym (rolls-Product parts)) ∙ ap (λ f. f z) (fold-roll-Expr ((ℕ → ℕ) → Extent) width_step (node.Product parts)) ∙ ap extent_of_product (map-at width z parts.items)
 
 pub width-Negate : (part : Box Expr Global) (z : ℕ → ℕ) → width (view.Negate part) z ≡ extent_of (width part.value z).size (width part.value z).widest
 width-Negate part z = ap (λ e. width e z) (sym (rolls-Negate part)) ∙ ap (λ f. f z) (fold-roll-Expr ((ℕ → ℕ) → Extent) width_step (node.Negate part))
-
-pub width-Extract : (day_part : DayPart) (part : Box Expr Global) (z : ℕ → ℕ) → width (view.Extract day_part part) z ≡ extent_of (part_limit day_part) (width part.value z).widest
-width-Extract day_part part z = ap (λ e. width e z) (sym (rolls-Extract day_part part)) ∙ ap (λ f. f z) (fold-roll-Expr ((ℕ → ℕ) → Extent) width_step (node.Extract day_part part))

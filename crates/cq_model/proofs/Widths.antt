@@ -1,13 +1,11 @@
 -- Which expressions and conditions have a value too wide on the way.
-use Rattle.std.proofs.Common.{◌≡◌, ℕ, ◌+◌, ◌*◌, ◌^◌, ◌<◌, ◌≤◌, max, nat_lt, ◌&&◌, Some, None, List, [], ◌∷◌, map, drop, length, get_or, refl, sym, ◌∙◌, ap, subst, arith, Vec, Box, Global, ◌⊎◌, inl, inr}
+use Rattle.std.proofs.Common.{◌≡◌, ℕ, ◌+◌, ◌*◌, ◌^◌, ◌<◌, ◌≤◌, max, nat_lt, if◌then◌else◌, ◌&&◌, Some, None, List, [], ◌∷◌, map, drop, length, get_or, refl, sym, ◌∙◌, ap, subst, arith, Vec, Box, Global, ◌⊎◌, inl, inr}
 use Rattle.std.specs.List.{fold, list_all}
 use Rattle.cq_model.specs.declared.expr.Expr.{Expr}
-use Rattle.cq_model.specs.declared.expr.Expr.TheOpen as node
 use Rattle.cq_model.specs.declared.expr.Expr.TheViews as view
-use Rattle.cq_model.specs.declared.expr.Expr.TheFolds.{fold-roll-Expr, ind-Expr, map-Expr}
 use Rattle.cq_model.specs.declared.expr.Cond.{Cond}
 use Rattle.cq_model.specs.declared.expr.Cond.TheViews as cond_view
-use Rattle.cq_model.specs.Width.{Extent, extent_of, extent_plus, extent_times, fitting, width, width_step, widest_in}
+use Rattle.cq_model.specs.Width.{Extent, extent_of, extent_of_product, extent_plus, extent_times, fitting, width, widest_in}
 use Rattle.cq_model.proofs.Evals.{width-Sum, width-Product, width-Negate}
 use Rattle.cq_model.proofs.Conditions.{widest-And, widest-Or}
 use Rattle.cq_model.proofs.Extents.{map-drop, widest-plus, widest-times}
@@ -18,37 +16,11 @@ fitting-Some x n e = grind (arith, e)
 pub fitting-None : (x : Extent) → None ≡ fitting x → 2 ^ 127 ≤ x.widest
 fitting-None x e = grind (arith, e)
 
-sized-plus : (a : Extent) (xs : List Extent) → a.size ≤ a.widest → (fold extent_plus a xs).size ≤ (fold extent_plus a xs).widest
-sized-plus a [] h = h
-sized-plus a (x ∷ xs) h = sized-plus (extent_plus a x) xs (omega arith)
-
-sized-times : (a : Extent) (xs : List Extent) → a.size ≤ a.widest → (fold extent_times a xs).size ≤ (fold extent_times a xs).widest
-sized-times a [] h = h
-sized-times a (x ∷ xs) h = sized-times (extent_times a x) xs (omega arith)
-
-module _ (z : ℕ → ℕ) where
-  abbrev Sized : Extent → Type 0
-  Sized x = x.size ≤ x.widest
-
-  node_sized : (x : node.Expr-F Expr) → Sized (width_step (map-Expr Expr ((ℕ → ℕ) → Extent) width x) z)
-  node_sized (node.Column i) = omega arith
-  node_sized (node.Literal v) = omega arith
-  node_sized (node.Negate e) = omega arith
-  node_sized (node.Sum es) = sized-plus (extent_of 0 0) (map (λ f. f z) (map width es.items)) (omega arith)
-  node_sized (node.Product es) = sized-times (extent_of 1 0) (map (λ f. f z) (map width es.items)) (omega arith)
-  node_sized (node.Extract day_part e) = omega arith
-
-  -- the size is one of the sizes on the way
-  pub size_in_width : (e : Expr) → (width e z).size ≤ (width e z).widest
-  size_in_width = ind-Expr (λ e. Sized (width e z)) (λ x y is.
-      subst (λ (f : (ℕ → ℕ) → Extent). Sized (f z)) (sym (fold-roll-Expr ((ℕ → ℕ) → Extent) width_step x)) (node_sized x))
-
 -- In a chain of which a front is joined: what is left completes the whole extent, and nothing in the front is too wide.
 pub record Joining (join : Extent → Extent → Extent) (z : ℕ → ℕ) (left : List Expr) (size : ℕ) (whole : Extent) : Type 0 where
   pub so_far : Extent
   pub extents : fold join so_far (map (λ e. width e z) left) ≡ whole
   pub same : so_far.size ≡ size
-  pub sized : size ≤ so_far.widest
   pub fits : so_far.widest < 2 ^ 127
 
 pub fitting-wide : (x : Extent) → 2 ^ 127 ≤ x.widest → None ≡ fitting x
@@ -79,25 +51,35 @@ sum-start z e parts items is same = record {
   so_far = extent_of 0 0;
   extents = ap (λ (left : List Expr). fold extent_plus (extent_of 0 0) (map (λ y. width y z) left)) same ∙ sym (ap (λ x. width x z) is ∙ width-Sum parts z);
   same = refl;
-  sized = omega arith;
   fits = omega arith;
 }
 
-pub product-start : (z : ℕ → ℕ) (e : Expr) (parts : Vec Expr Global) (items : List Expr) → e ≡ view.Product parts → items ≡ parts.items → Joining extent_times z items 1 (width e z)
-product-start z e parts items is same = record {
-  so_far = extent_of 1 0;
-  extents = ap (λ (left : List Expr). fold extent_times (extent_of 1 0) (map (λ y. width y z) left)) same ∙ sym (ap (λ x. width x z) is ∙ width-Product parts z);
-  same = refl;
-  sized = omega arith;
-  fits = omega arith;
-}
+module _ (z : ℕ → ℕ) (e : Expr) (factors : Vec Expr Global) (items : List Expr) (is : e ≡ view.Product factors) (same : items ≡ factors.items) where
+  whole-product : extent_of_product (map (λ y. width y z) items) ≡ width e z
+  whole-product = ap (λ (left : List Expr). extent_of_product (map (λ y. width y z) left)) same ∙ sym (ap (λ x. width x z) is ∙ width-Product factors z)
 
--- a negated part fits where the part does
-pub negated-fits : (z : ℕ → ℕ) (e : Expr) (part : Box Expr Global) (x : Expr) → e ≡ view.Negate part → x ≡ part.value → fitting (width x z) ≡ fitting (width e z)
-negated-fits z e part x is same =
-    let h = ap (λ y. width y z) is ∙ width-Negate part z ∙ ap (λ y. extent_of (width y z).size (width y z).widest) (sym same) in
-    let sized = size_in_width z x in
-    rw h (grind (arith, sized))
+  module _ (first : Expr) (others : List Expr) (split : items ≡ first ∷ others) where
+    from-first : fold extent_times (width first z) (map (λ y. width y z) others) ≡ width e z
+    from-first = ap (λ (left : List Expr). extent_of_product (map (λ y. width y z) left)) (sym split) ∙ whole-product
+
+    -- a product fits only where its first factor does
+    pub first-fits : None ≡ fitting (width first z) → None ≡ fitting (width e z)
+    first-fits wide = fitting-wide (width e z) (omega (arith, fitting-None (width first z) wide, widest-times (width first z) (map (λ y. width y z) others), ap {B = ℕ} (λ (x : Extent). x.widest) from-first))
+
+    -- after its first factor a product is that factor
+    pub product-start : (size : ℕ) → Some size ≡ fitting (width first z) → Joining extent_times z others size (width e z)
+    product-start size fits =
+        let narrow = fitting-Some (width first z) size fits in
+        record { so_far = width first z; extents = from-first; same = sym narrow.0; fits = narrow.1 }
+
+worked-out : (x : Extent) (n : ℕ) → (n ≡ x.size) × (x.widest < 2 ^ 127) → (if nat_lt n (2 ^ 127) then Some n else None) ≡ fitting (extent_of x.size x.widest)
+worked-out x n e = rw e.0 (grind (arith, e.1))
+
+-- minus makes a number of the size of its part
+pub negated-fits : (z : ℕ → ℕ) (e : Expr) (part : Box Expr Global) (x : Expr) → e ≡ view.Negate part → x ≡ part.value → (n : ℕ) → Some n ≡ fitting (width x z)
+    → (if nat_lt n (2 ^ 127) then Some n else None) ≡ fitting (width e z)
+negated-fits z e part x is same n fits =
+    worked-out (width x z) n (fitting-Some (width x z) n fits) ∙ sym (ap fitting (ap (λ y. width y z) is ∙ width-Negate part z ∙ ap (λ y. extent_of (width y z).size (width y z).widest) (sym same)))
 
 -- the greatest of several is below a limit where each is
 fits-from : {X : Type 0} (f : X → ℕ) (n limit : ℕ) (xs : List X) → nat_lt (fold max n (map f xs)) limit ≡ (nat_lt n limit && list_all (λ x. nat_lt (f x) limit) xs)

@@ -1,5 +1,5 @@
 -- How large the values of an expression can be, at a row and while the columns keep bounds.
-use Rattle.std.specs.Prelude.{◌≤◌, ℕ, ◌+◌, ◌*◌, ◌^◌, if◌then◌else◌, nat_lt, max, nat_abs, Option, Some, None, List, map, fold, slice_index_or}
+use Rattle.std.specs.Prelude.{◌≤◌, ◌<◌, ◌≡◌, ◌⊎◌, ℕ, pos, ◌+◌, ◌*◌, ◌^◌, if◌then◌else◌, nat_lt, max, nat_abs, Option, Some, None, List, [], ◌∷◌, map, fold, slice_index_or}
 use Rattle.cq_values.specs.declared.value.Value.{Value}
 use Rattle.cq_values.specs.declared.value.Value.TheVariants.{Number}
 use Rattle.cq_values.specs.Value.{Row, column}
@@ -17,12 +17,12 @@ abbrev pub value_size : Value → ℕ
 value_size (Number n) = nat_abs n
 value_size v = 0
 
--- the largest size of an expression's value, and of any on the way to it
+-- how large an expression's value can be, and the widest number that is written or worked out on the way to it
 pub record Extent : Type 0 where
   pub size : ℕ
   pub widest : ℕ
 
--- the extent of a value of this size, with what is below it
+-- the extent of a number that is written or worked out, of this size, with what is below it
 abbrev pub extent_of : ℕ → ℕ → Extent
 extent_of size below = record { size = size; widest = max size below }
 
@@ -34,34 +34,43 @@ extent_plus a b = extent_of (a.size + b.size) (max a.widest b.widest)
 abbrev pub extent_times : Extent → Extent → Extent
 extent_times a b = extent_of (a.size * b.size) (max a.widest b.widest)
 
+-- the first factor of a product is not worked out: only a product of two or more is
+abbrev pub extent_of_product : List Extent → Extent
+extent_of_product [] = extent_of 1 0
+extent_of_product (first ∷ others) = fold extent_times first others
+
+-- one times a value is that value, and any other product stays below 2^127
+abbrev pub CanMultiply : Value → Value → Type 0
+CanMultiply v w = (v ≡ Number (pos 1)) ⊎ (value_size v * value_size w < 2 ^ 127)
+
 -- the greatest year, month and day of a month
 abbrev pub part_limit : DayPart → ℕ
 part_limit parts.Year = 9999
 part_limit parts.Month = 12
 part_limit parts.Day = 31
 
--- one node of an expression: its extent, from those of its parts
+-- one node of an expression: its extent, from those of its parts; a column and a part of a day are neither written nor worked out
 abbrev pub width_step : node.Expr-F ((ℕ → ℕ) → Extent) → (ℕ → ℕ) → Extent
-width_step (node.Column i) sizes = extent_of (sizes i) 0
+width_step (node.Column i) sizes = record { size = sizes i; widest = 0 }
 width_step (node.Literal v) sizes = extent_of (value_size v) 0
 width_step (node.Negate e) sizes = extent_of (e.value sizes).size (e.value sizes).widest
 width_step (node.Sum es) sizes = fold extent_plus (extent_of 0 0) (map (λ e. e sizes) es.items)
-width_step (node.Product es) sizes = fold extent_times (extent_of 1 0) (map (λ e. e sizes) es.items)
-width_step (node.Extract part e) sizes = extent_of (part_limit part) (e.value sizes).widest
+width_step (node.Product es) sizes = extent_of_product (map (λ e. e sizes) es.items)
+width_step (node.Extract part e) sizes = record { size = part_limit part; widest = (e.value sizes).widest }
 
 -- the extent of an expression over columns of these sizes
 abbrev pub width : Expr → (ℕ → ℕ) → Extent
 width = fold-Expr ((ℕ → ℕ) → Extent) width_step
 
--- the widest of any value on the way to the expression's
+-- the widest number that is written or worked out on the way to the expression's value
 abbrev pub widest : (ℕ → ℕ) → Expr → ℕ
 widest sizes e = (width e sizes).widest
 
--- the widest of any value on the way to those of several expressions
+-- the widest number that is written or worked out on the way to the values of several expressions
 abbrev pub widest_of : (ℕ → ℕ) → List Expr → ℕ
 widest_of sizes es = fold max 0 (map (widest sizes) es)
 
--- one node of a condition, with the widest values in its parts
+-- one node of a condition, with the widest number written or worked out in its parts
 abbrev pub widest_step : cond_node.Cond-F ((ℕ → ℕ) → ℕ) → (ℕ → ℕ) → ℕ
 widest_step (cond_node.Compare c a b) sizes = max (widest sizes a) (widest sizes b)
 widest_step (cond_node.IsNull e) sizes = widest sizes e
@@ -72,7 +81,7 @@ widest_step (cond_node.Not c) sizes = c.value sizes
 widest_step (cond_node.And cs) sizes = fold max 0 (map (λ c. c sizes) cs.items)
 widest_step (cond_node.Or cs) sizes = fold max 0 (map (λ c. c sizes) cs.items)
 
--- the widest of any value in a condition over columns of these sizes
+-- the widest number written or worked out in a condition over columns of these sizes
 abbrev pub widest_in : Cond → (ℕ → ℕ) → ℕ
 widest_in = fold-Cond ((ℕ → ℕ) → ℕ) widest_step
 
@@ -84,7 +93,7 @@ sizes_of row i = value_size (column row i)
 abbrev pub extent : Expr → Row → Extent
 extent e row = width e (sizes_of row)
 
--- the widest of any value in a condition at a row
+-- the widest number written or worked out in a condition at a row
 abbrev pub widest_at : Cond → Row → ℕ
 widest_at c row = widest_in c (sizes_of row)
 
@@ -96,11 +105,11 @@ bounds_of columns i = slice_index_or columns i 0
 abbrev pub bound : Expr → List ℕ → Extent
 bound e columns = width e (bounds_of columns)
 
--- the width that no value in a condition exceeds while the columns keep their bounds
+-- the width that no number written or worked out in a condition exceeds while the columns keep their bounds
 abbrev pub widest_bound : Cond → List ℕ → ℕ
 widest_bound c columns = widest_in c (bounds_of columns)
 
--- the size of what has no value too wide on the way to it
+-- the size of what has nothing too wide on the way to it
 abbrev pub fitting : Extent → Option ℕ
 fitting x = if nat_lt x.widest (2 ^ 127) then Some x.size else None
 
@@ -117,6 +126,6 @@ pub record IsWithin (small large : Extent) : Type 0 where
 abbrev pub BoundHolds : Type 0
 BoundHolds = (e : Expr) (columns : List ℕ) (row : Row) → KeepsBounds columns row → IsWithin (extent e row) (bound e columns)
 
--- at each row that keeps the bounds, no value in a condition is wider than its bound
+-- at each row that keeps the bounds, no number written or worked out in a condition is wider than its bound
 abbrev pub BoundHoldsIn : Type 0
 BoundHoldsIn = (c : Cond) (columns : List ℕ) (row : Row) → KeepsBounds columns row → widest_at c row ≤ widest_bound c columns

@@ -1,9 +1,9 @@
 //! The value of an expression in a row, without a copy of a text.
-ghost use Rattle.std.specs.Prelude.{◌*◌, ◌+◌, ◌<◌, ◌^◌, ◌≡◌, ◌≤◌};
+ghost use Rattle.std.specs.Prelude.{◌+◌, ◌<◌, ◌^◌, ◌≡◌, ◌≤◌};
 ghost use Rattle.cq_values.specs.Lent.{owned};
 ghost use Rattle.cq_values.specs.Value.{column};
 ghost use Rattle.cq_model.specs.Eval.{eval, extracted, negated, plus, times};
-ghost use Rattle.cq_model.specs.Width.{BoundHolds, BoundHoldsIn, extent, part_limit, value_size};
+ghost use Rattle.cq_model.specs.Width.{BoundHolds, BoundHoldsIn, CanMultiply, extent, part_limit, value_size};
 
 use crate::expr::{DayPart, Expr};
 use cq_values::{Lent, Value};
@@ -74,7 +74,7 @@ fn add<'a>(a: &Lent<'_>, b: &Lent<'_>) -> Lent<'a>
 }
 
 fn multiply<'a>(a: &Lent<'_>, b: &Lent<'_>) -> Lent<'a>
-    requires { value_size (owned a.now) * value_size (owned b.now) < 2 ^ 127 }
+    requires { CanMultiply (owned a.now) (owned b.now) }
     ensures { owned result ≡ times (owned a.now) (owned b.now) }
 {
     match (a, b) {

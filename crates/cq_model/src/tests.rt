@@ -1,4 +1,4 @@
-//! LIKE and the truth of conditions, with NULL in each place.
+//! LIKE and the truth of conditions, with NULL in each place; and which numbers are too wide.
 ghost use Rattle.std.specs.Prelude.{◌^◌, ◌≤◌, []};
 ghost use Rattle.cq_model.specs.Width.{sizes_of, value_size, widest, widest_at};
 
@@ -6,6 +6,7 @@ use crate::expr::{Cond, Expr};
 use crate::pattern::like;
 use crate::statement::Comparison;
 use crate::truth::{between, compare, holds_row, is_in, is_like};
+use crate::width::width_of;
 use cq_values::{Lent, Truth, Value};
 use std::alloc::{AllocError, Global};
 use std::test::Fail;
@@ -133,6 +134,29 @@ fn a_chain_of_truths_has_the_tables_truth(rt: HostRuntime) -> Result<(), Fail> {
         assert_eq!(rt; both(rt.alloc(), a, b)?, by_and, "{a:?} AND {b:?}");
         assert_eq!(rt; either(rt.alloc(), a, b)?, by_or, "{a:?} OR {b:?}");
     }
+    Ok(())
+}
+
+#[test]
+fn a_wide_column_may_stand_but_not_be_worked_with(rt: HostRuntime) -> Result<(), Fail> {
+    let sizes = [1 << 127];
+    assert_eq!(rt; width_of(&Expr::Column(0), &sizes), Some(1 << 127));
+    // what the column is added to and multiplied by; the sizes of the sum and the product
+    let cases = [(0, None, Some(0)), (1, None, None), (-1, None, None)];
+    for (number, of_sum, of_product) in cases {
+        let sum = Expr::Sum(vec![in rt.alloc(); Expr::Column(0), literal(Some(number))]?);
+        assert_eq!(rt; width_of(&sum, &sizes), of_sum, "a + {number}");
+        let product = Expr::Product(vec![in rt.alloc(); Expr::Column(0), literal(Some(number))]?);
+        assert_eq!(rt; width_of(&product, &sizes), of_product, "a * {number}");
+    }
+    Ok(())
+}
+
+#[test]
+fn minus_counts_with_its_own_size(rt: HostRuntime) -> Result<(), Fail> {
+    let minus = Expr::Negate(Box::new(rt.alloc(), Expr::Column(0))?);
+    assert_eq!(rt; width_of(&minus, &[(1 << 127) - 1]), Some((1 << 127) - 1));
+    assert_eq!(rt; width_of(&minus, &[1 << 127]), None);
     Ok(())
 }
 

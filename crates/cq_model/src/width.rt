@@ -1,33 +1,37 @@
-//! The sizes that the values of an expression and of a condition never exceed, while the columns keep theirs.
+//! The size that the value of an expression never exceeds while the columns keep theirs, and what is too wide on the way.
 ghost use Rattle.std.specs.Prelude.{None, Some, if◌then◌else◌, nat_lt, ◌^◌, ◌≡◌};
 ghost use Rattle.cq_model.specs.Width.{bound, bounds_of, fitting, part_limit, value_size, widest, widest_bound, widest_of};
 
 use crate::expr::{Cond, DayPart, Expr};
 use cq_values::Value;
 
-/// The least size that is too wide for a value.
+/// The least size that is too wide for a number that is written or worked out.
 const TOO_WIDE: u128 = 1 << 127;
 
-/// The size that the expression's value never exceeds, or None where a value on the way to it may be too wide.
+/// The size that the expression's value never exceeds, or None where a number written or worked out on the way may be too
+/// wide. That of a column alone is any size.
 ///
 /// The columns' values are of these sizes at most.
 pub fn width_of(expr: &Expr, sizes: &[u128]) -> Option<u128>
     ensures { result ≡ fitting (bound expr.now sizes.now) }
 {
     match expr {
-        Expr::Column(place) => fit(sizes.get(*place).copied().unwrap_or(0)),
+        Expr::Column(place) => Some(sizes.get(*place).copied().unwrap_or(0)),
         Expr::Literal(value) => fit(value_size(value)),
-        Expr::Negate(part) => width_of(part, sizes),
+        Expr::Negate(part) => fit(width_of(part, sizes)?),
         Expr::Sum(parts) => {
-            let mut sum = 0;
+            let mut sum: u128 = 0;
             for part in parts {
-                sum = fit(sum + width_of(part, sizes)?)?;
+                sum = fit(sum.checked_add(width_of(part, sizes)?)?)?;
             }
             Some(sum)
         }
         Expr::Product(factors) => {
-            let mut product: u128 = 1;
-            for factor in factors {
+            let Some((first, others)) = factors.split_first() else {
+                return Some(1);
+            };
+            let mut product = width_of(first, sizes)?;
+            for factor in others {
                 product = fit(product.checked_mul(width_of(factor, sizes)?)?)?;
             }
             Some(product)
@@ -39,7 +43,7 @@ pub fn width_of(expr: &Expr, sizes: &[u128]) -> Option<u128>
     }
 }
 
-/// Whether no value on the way to the condition's truth can be too wide. The columns' values are of these sizes at most.
+/// Whether no number written or worked out in the condition can be too wide. The columns' values are of these sizes at most.
 pub fn fits(cond: &Cond, sizes: &[u128]) -> bool
     ensures { result ≡ nat_lt (widest_bound cond.now sizes.now) (2 ^ 127) }
 {

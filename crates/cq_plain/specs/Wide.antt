@@ -1,4 +1,4 @@
--- Where a query meets a value that does not fit 127 bits and a sign.
+-- Where a query meets a number, written or worked out, that does not fit 127 bits and a sign.
 use Rattle.std.specs.Prelude.{ℕ, ◌^◌, ◌≤◌, pos, ◌<ℤ◌, Option, Some, None, ◌⊎◌}
 use Rattle.std.specs.List.{Any}
 use Rattle.cq_values.specs.Value.{Row}
@@ -17,11 +17,11 @@ use Rattle.cq_model.specs.Meaning.{Tables, chain, joined_rows, shaped}
 use Rattle.cq_model.specs.Views.{tables_alone, with_views, sources_of}
 use Rattle.cq_model.specs.Width.{extent, widest_at}
 
--- in this row some value on the way to the expression's is too wide
+-- in this row some number is too wide that is written or worked out on the way to the expression's value
 abbrev pub IsWideAt : Expr → Row → Type 0
 IsWideAt e row = 2 ^ 127 ≤ (extent e row).widest
 
--- in this row some value in the condition is too wide
+-- in this row some number written or worked out in the condition is too wide
 abbrev pub IsWideIn : Option Cond → Row → Type 0
 IsWideIn None row = ⊥
 IsWideIn (Some c) row = 2 ^ 127 ≤ widest_at c row

@@ -1,4 +1,4 @@
-//! Expressions and conditions in a row, once no value on the way is too wide.
+//! Expressions and conditions in a row, once no number that is written or worked out on the way is too wide.
 ghost use Rattle.std.specs.Prelude.{◌^◌, ◌≡◌, ◌≤◌, IfErr, IfOk, map, nat_lt};
 ghost use Rattle.cq_values.specs.Lent.{owned};
 ghost use Rattle.cq_values.specs.Truth.{is_true};

@@ -10,7 +10,7 @@ use thiserror::Error;
 pub enum PlainFault {
     #[error("out of memory")]
     Memory,
-    /// A value on the way to an expression's does not fit 127 bits and a sign.
+    /// A number that is written or worked out on the way to an expression's value does not fit 127 bits and a sign.
     #[error("value too wide")]
     TooWide,
     /// The total of a SUM cannot be shown.

@@ -1,17 +1,19 @@
 //! Sums beyond 128 bits.
 use super::asked::Datum::{Null, Number};
-use super::asked::Term::{Column, Literal};
+use super::asked::Term::{self, Column, Literal, Minus, Product};
 use super::asked::Test::Compare;
 use super::asked::Told::{Count, Sum};
 use super::asked::{Asked, Groups};
 use super::judge::{ALL, Answered, Refused, Stored, check, check_refused};
 use cq_model::Comparison::{Equal, Less};
 use cq_model::Source::{Table, View};
-use cq_plain::PlainFault::SumOutOfRange;
+use cq_plain::PlainFault::{SumOutOfRange, TooWide};
 use std::test::Fail;
 
-/// The greatest number that 128 bits hold.
+/// The greatest number that 128 bits hold, and the least.
 const MOST: i128 = 170_141_183_460_469_231_731_687_303_715_884_105_727;
+
+const LEAST: i128 = -MOST - 1;
 
 /// t(k, a), where the totals of the keys are one above the greatest number (1), the greatest one with the running total
 /// above it (2), the least one (3), one below it (4), 0 by way of twice the greatest (5), and NULL (6); and u(a), empty.
@@ -82,15 +84,6 @@ const ANSWERED: &[Answered<'static>] = &[
         &[&[Number(MOST)]],
     ),
     (
-        "the least number, which no item shows",
-        Asked {
-            filter: Some(Compare(Equal, Column(0), Literal(Number(3)))),
-            items: &[Literal(Number(0))],
-            ..TOTAL
-        },
-        &[&[Number(0)]],
-    ),
-    (
         "twice the greatest number and back",
         Asked {
             filter: Some(Compare(Equal, Column(0), Literal(Number(5)))),
@@ -133,6 +126,85 @@ const ANSWERED: &[Answered<'static>] = &[
 #[test]
 fn a_total_is_exact_whatever_its_way(rt: HostRuntime) -> Result<(), Fail> {
     check(&rt, rt.alloc(), &T, ANSWERED)?;
+    Ok(())
+}
+
+/// SELECT .. FROM t WHERE k = 3, whose SUM(a) is the least number.
+const LEAST_TOTAL: Asked<'static> = Asked {
+    filter: Some(Compare(Equal, Column(0), Literal(Number(3)))),
+    ..TOTAL
+};
+
+const THE_SUM: Term<'static> = Column(0);
+
+const STANDING: &[Answered<'static>] = &[
+    ("SUM(a)", LEAST_TOTAL, &[&[Number(LEAST)]]),
+    (
+        "SUM(a) * 0",
+        Asked {
+            items: &[Product(&[THE_SUM, Literal(Number(0))])],
+            ..LEAST_TOTAL
+        },
+        &[&[Number(0)]],
+    ),
+    (
+        "0 * SUM(a)",
+        Asked {
+            items: &[Product(&[Literal(Number(0)), THE_SUM])],
+            ..LEAST_TOTAL
+        },
+        &[&[Number(0)]],
+    ),
+    (
+        "HAVING SUM(a) < 0",
+        Asked {
+            groups: Some(Groups {
+                having: Some(Compare(Less, Column(1), Literal(Number(0)))),
+                ..OF_EACH_K
+            }),
+            items: &[Column(1)],
+            ..LEAST_TOTAL
+        },
+        &[&[Number(LEAST)]],
+    ),
+];
+
+#[test]
+fn the_least_number_may_be_shown_and_compared(rt: HostRuntime) -> Result<(), Fail> {
+    check(&rt, rt.alloc(), &T, STANDING)?;
+    Ok(())
+}
+
+const WORKED_WITH: &[Refused<'static>] = &[
+    (
+        "SUM(a) + 0",
+        Asked {
+            items: &[Term::Sum(&[THE_SUM, Literal(Number(0))])],
+            ..LEAST_TOTAL
+        },
+        TooWide,
+    ),
+    (
+        "SUM(a) * 1",
+        Asked {
+            items: &[Product(&[THE_SUM, Literal(Number(1))])],
+            ..LEAST_TOTAL
+        },
+        TooWide,
+    ),
+    (
+        "-SUM(a)",
+        Asked {
+            items: &[Minus(&THE_SUM)],
+            ..LEAST_TOTAL
+        },
+        TooWide,
+    ),
+];
+
+#[test]
+fn the_least_number_is_too_wide_to_work_with(rt: HostRuntime) -> Result<(), Fail> {
+    check_refused(&rt, rt.alloc(), &T, WORKED_WITH);
     Ok(())
 }
 

@@ -1,9 +1,8 @@
 use Rattle.std.proofs.Common.{rules, arith}
-use Rattle.std.proofs.lemmas.Nat.{mul-le}
 use Rattle.cq_values.specs.Lent.{owned}
 use Rattle.cq_model.specs.Eval.{eval}
-use Rattle.cq_model.specs.Width.{extent, value_size}
-use Rattle.cq_model.proofs.Extents.{negated-within, adding-start, adding-next, adding-within, adding-all, multiplying-start, multiplying-next, multiplying-within, multiplying-all}
+use Rattle.cq_model.specs.Width.{extent}
+use Rattle.cq_model.proofs.Extents.{negated-within, adding-start, adding-next, adding-within, adding-all, multiplying-start, multiplying-next, multiplying-all, factor-fits, product-fits}
 use Rattle.cq_model.specs.declared.expr.Expr.TheViews.{the_lemmas}
 use Rattle.cq_model.proofs.eval.+eval_within.Goals as goal
 
@@ -29,20 +28,18 @@ loop-part-preserved t c =
 
 pub eval_within-requires-in-loop-factor : goal.eval_within-requires-in-loop-factor
 eval_within-requires-in-loop-factor t c =
-    let w = multiplying-within c.args.row.now c.deref-factor-items.result.now c.loop-factor.factor-index c.factor-item.result (owned c.loop-factor.product) (eval c.args.expr.now c.args.row.now) (extent c.args.expr.now c.args.row.now) c.loop-factor-test.true c.factor-item.is c.loop-factor.invariant in
-    (search (rules, the_lemmas), omega (arith, w.0, c.requires))
+    (search (rules, the_lemmas), factor-fits c.args.row.now c.deref-factor-items.result.now c.loop-factor.factor-index c.factor-item.result (owned c.loop-factor.product) (extent c.args.expr.now c.args.row.now) c.loop-factor-test.true c.factor-item.is (eval c.args.expr.now c.args.row.now) c.requires c.loop-factor.invariant)
 
 pub loop-factor-init : goal.loop-factor-init
 loop-factor-init t c = multiplying-start c.args.row.now c.args.expr.now c.in-Product.factors c.deref-factor-items.result.now c.in-Product.is c.deref-factor-items.ensures.value
 
 pub multiply-product-requires : goal.multiply-product-requires
 multiply-product-requires t c =
-    let w = multiplying-within c.args.row.now c.deref-factor-items.result.now c.loop-factor.factor-index c.factor-item.result (owned c.loop-factor.product) (eval c.args.expr.now c.args.row.now) (extent c.args.expr.now c.args.row.now) c.loop-factor-test.true c.factor-item.is c.loop-factor.invariant in
-    omega (arith, w.1, c.requires, mul-le (value_size (owned c.loop-factor.product)) (value_size (owned c.eval_within-in-loop-factor.result)) (value_size (owned c.loop-factor.product)) (extent c.factor-item.result c.args.row.now).size (omega arith) c.eval_within-in-loop-factor.ensures.small)
+    product-fits c.args.row.now c.deref-factor-items.result.now c.loop-factor.factor-index c.factor-item.result (owned c.loop-factor.product) (extent c.args.expr.now c.args.row.now) c.loop-factor-test.true c.factor-item.is (owned c.eval_within-in-loop-factor.result) (eval c.args.expr.now c.args.row.now) c.eval_within-in-loop-factor.ensures.small c.requires c.loop-factor.invariant
 
 pub loop-factor-preserved : goal.loop-factor-preserved
 loop-factor-preserved t c =
-    rw c.multiply-product.ensures (multiplying-next c.args.row.now c.deref-factor-items.result.now c.loop-factor.factor-index c.factor-item.result (owned c.loop-factor.product) (owned c.eval_within-in-loop-factor.result) (eval c.args.expr.now c.args.row.now) (extent c.args.expr.now c.args.row.now) c.loop-factor-test.true c.factor-item.is c.eval_within-in-loop-factor.ensures.value c.eval_within-in-loop-factor.ensures.small c.loop-factor.invariant)
+    rw c.multiply-product.ensures (multiplying-next c.args.row.now c.deref-factor-items.result.now c.loop-factor.factor-index c.factor-item.result (owned c.loop-factor.product) (extent c.args.expr.now c.args.row.now) c.loop-factor-test.true c.factor-item.is (owned c.eval_within-in-loop-factor.result) (eval c.args.expr.now c.args.row.now) c.eval_within-in-loop-factor.ensures.value c.eval_within-in-loop-factor.ensures.small c.loop-factor.invariant)
 
 pub returns-after-loop-part-clause-value : goal.returns-after-loop-part-clause-value
 returns-after-loop-part-clause-value t c = (adding-all c.args.row.now c.deref-part-items.result.now c.loop-part.part-index (owned c.loop-part.sum) (eval c.args.expr.now c.args.row.now) (extent c.args.expr.now c.args.row.now) c.loop-part-test.false c.loop-part.invariant).0

@@ -9,4 +9,4 @@ invariant-loop-part l = Joining extent_plus (bounds_of l.sizes) (drop l.part-ind
 
 -- what is left completes the product's extent
 abbrev pub invariant-loop-factor : goal.invariant-loop-factor
-invariant-loop-factor l = Joining extent_times (bounds_of l.sizes) (drop l.factor-index l.factor-items) l.product (bound l.expr l.sizes)
+invariant-loop-factor l = Joining extent_times (bounds_of l.sizes) (drop l.factor-index l.others) l.product (bound l.expr l.sizes)
