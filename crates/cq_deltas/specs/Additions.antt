@@ -1,5 +1,5 @@
 -- What changed rows add to the groups of a view.
-use Rattle.std.specs.Prelude.{◌<◌, ◌^◌, ℕ, ℤ, if◌then◌else◌, List, map, Option, None, Some, pos}
+use Rattle.std.specs.Prelude.{◌<◌, ◌≤◌, ◌^◌, ℕ, ℤ, if◌then◌else◌, List, map, Option, None, Some, IfSome, nat_abs, pos}
 use Rattle.std.specs.List.{AllByRecursion}
 use Rattle.cq_values.specs.declared.value.Value.{Value}
 use Rattle.cq_values.specs.Value.{Row}
@@ -31,11 +31,15 @@ addition columns aggregates x = record { key = key_of columns x.0; weight = x.1;
 abbrev pub additions : List ℕ → List Aggregate → Weighted → List Addition
 additions columns aggregates dxs = map (addition columns aggregates) dxs
 
--- no value on the way to an aggregate's argument is too wide
+-- no number that is written or worked out on the way to an aggregate's argument is too wide
 abbrev pub IsNarrow : Row → Aggregate → Type 0
 IsNarrow r (Count e) = (extent e r).widest < 2 ^ 127
 IsNarrow r (Sum e) = (extent e r).widest < 2 ^ 127
 IsNarrow r a = Unit {0}
+
+-- what a row adds to an aggregate is no larger than a number can be
+abbrev pub IsSmall : Row → Aggregate → Type 0
+IsSmall r a = IfSome (addend_of r a) (λ n. nat_abs n ≤ 2 ^ 127)
 
 -- COUNT and SUM, which are told by counts and totals
 abbrev pub IsTotal : Aggregate → Type 0

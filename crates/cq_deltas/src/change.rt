@@ -3,7 +3,7 @@ ghost use Rattle.std.specs.List.{AllByRecursion};
 ghost use Rattle.std.specs.Prelude.{◌++◌, ◌∷◌, ◌≡◌, IfOk, OnErr, OnOk, [], map};
 ghost use Rattle.cq_model.specs.Group.{key_of};
 ghost use Rattle.cq_values.specs.Value.{column};
-ghost use Rattle.cq_deltas.specs.Additions.{IsNarrow, addend_of, addition, additions};
+ghost use Rattle.cq_deltas.specs.Additions.{IsNarrow, IsSmall, addend_of, addition, additions};
 
 use cq_model::{Aggregate, eval_row};
 use cq_values::{Lent, Row, Seq, Value};
@@ -69,6 +69,7 @@ impl GroupChange {
         weight: i128,
     ) -> Result<(), AllocError>
         requires { AllByRecursion (IsNarrow row.now) aggregates.now }
+        ensures small { OnOk result (AllByRecursion (IsSmall row.now) aggregates.now) }
         ensures ok { OnOk result (self.new ≡ self.old ++ addition columns.now aggregates.now (row.now, weight) ∷ []) }
         ensures err { OnErr result (self.new ≡ self.old) }
     {
@@ -116,7 +117,8 @@ fn addends_of(
     row: &[Value],
 ) -> Result<Seq<Option<i128>>, AllocError>
     requires { AllByRecursion (IsNarrow row.now) aggregates.now }
-    ensures { IfOk result (λ addends. addends ≡ map (addend_of row.now) aggregates.now) }
+    ensures ok { IfOk result (λ addends. addends ≡ map (addend_of row.now) aggregates.now) }
+    ensures small { OnOk result (AllByRecursion (IsSmall row.now) aggregates.now) }
 {
     let mut addends = Vec::new(alloc);
     for aggregate in aggregates {
@@ -128,7 +130,8 @@ fn addends_of(
 /// What a row adds to the total of an aggregate, and `None` where it is not counted.
 fn addend_of(aggregate: &Aggregate, row: &[Value]) -> Option<i128>
     requires { IsNarrow row.now aggregate.now }
-    ensures { result ≡ addend_of row.now aggregate.now }
+    ensures value { result ≡ addend_of row.now aggregate.now }
+    ensures small { IsSmall row.now aggregate.now }
 {
     match aggregate {
         Aggregate::CountAll => Some(0),

@@ -101,7 +101,7 @@ impl Groups {
     /// The row of each group that has rows.
     pub fn told_rows(&self, alloc: Global, aggregates: &[Aggregate]) -> Result<Vec<Row>, ToldFault>
         ensures rows { IfOk result (λ rows. rows.items ≡ group_rows aggregates.now self.now) }
-        ensures keys { OnOk result (ListsKeys (counted_keys self.now) (ByKey (group_at aggregates.now self.now))) }
+        ensures keys { ListsKeys (counted_keys self.now) (ByKey (group_at aggregates.now self.now)) }
         ensures range { OnOk result (GroupsCanBeTold aggregates.now self.now) }
         ensures fault { IfErr result (λ e. e ≡ SumOutOfRange → GroupsCanBeTold aggregates.now self.now → ⊥) }
     {

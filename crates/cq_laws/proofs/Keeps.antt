@@ -99,7 +99,7 @@ all-kept-respect (a ∷ aggregates) xs ys s [] h = absurd h
 all-kept-respect (a ∷ aggregates) xs ys s (k ∷ kept) h = (kept-respects a xs ys s k h.0, all-kept-respect aggregates xs ys s kept h.1)
 
 -- what stands behind the joins stands for the bag
-last-respects : (q : Query) (shape : Shape) (xs ys : Weighted) → SameBag xs ys → (last : Last) → LastStands q shape xs last → LastStands q shape ys last
+pub last-respects : (q : Query) (shape : Shape) (xs ys : Weighted) → SameBag xs ys → (last : Last) → LastStands q shape xs last → LastStands q shape ys last
 last-respects q Plain xs ys s (Images rows) h =
     same-trans rows (projected (items_of q.items) xs) (projected (items_of q.items) ys) h (projected-respects (items_of q.items) xs ys s)
 last-respects q Plain xs ys s (Groups group) h = absurd h

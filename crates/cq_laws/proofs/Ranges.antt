@@ -23,13 +23,13 @@ use Rattle.cq_laws.proofs.Groups.{IsRowOf, rows-respect, sum-respects}
 use Rattle.cq_laws.proofs.Meanings.{joined_rows-respects, meaning-respects}
 
 -- what holds of all rows holds of each that is listed
-all-at : (P : Row → Type 0) (rows : List Row) → AllByRecursion P rows → (r : Row) → IsRowOf r rows → P r
+pub all-at : (P : Row → Type 0) (rows : List Row) → AllByRecursion P rows → (r : Row) → IsRowOf r rows → P r
 all-at P [] all r among = absurd among
 all-at P (s ∷ rows) all r (inl e) = subst P (sym e) all.0
 all-at P (s ∷ rows) all r (inr among) = all-at P rows all.1 r among
 
 -- and the other way
-all-from : (P : Row → Type 0) (rows : List Row) → ((r : Row) → IsRowOf r rows → P r) → AllByRecursion P rows
+pub all-from : (P : Row → Type 0) (rows : List Row) → ((r : Row) → IsRowOf r rows → P r) → AllByRecursion P rows
 all-from P [] f = tt
 all-from P (s ∷ rows) f = (f s (inl refl), all-from P rows (λ r among. f r (inr among)))
 

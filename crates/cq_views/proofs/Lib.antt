@@ -1,0 +1,6 @@
+pub mod Building
+pub mod Columns
+pub mod Moves
+pub mod Narrow
+pub mod Standing
+pub mod Tellings

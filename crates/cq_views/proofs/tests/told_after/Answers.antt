@@ -1,0 +1,31 @@
+use Rattle.std.proofs.Common.{◌<◌, ◌^◌, FitsSigned, pos, [], ◌∷◌, length, rules, sym, subst, arith}
+use Rattle.std.specs.List.{AllByRecursion}
+use Rattle.std.specs.Int.{w128}
+use Rattle.std.proofs.lemmas.Int.{ints, to_z-of_z}
+use Rattle.cq_bags.specs.Bag.{once_each}
+use Rattle.cq_views.specs.declared.view_def.ViewDef.{ViewDef}
+use Rattle.cq_views.specs.Small.{AreSmallFor, IsSmallFor}
+use Rattle.cq_views.specs.View.{IsNarrowFor, changed}
+use Rattle.cq_views.proofs.Building.{ready-holds}
+use Rattle.cq_views.proofs.Moves.{small-rows}
+use Rattle.cq_views.proofs.Narrow.{all-narrow}
+use Rattle.cq_views.proofs.tests.told_after.Goals as goal
+
+pub build-requires-clause-narrow : goal.build-requires-clause-narrow
+build-requires-clause-narrow c = all-narrow c.in_ok-totals.field-0 c.args.table.now c.in_ok-totals.ensures.narrow c.requires.table
+
+pub prepare-requires : goal.prepare-requires
+prepare-requires c =
+    (subst (λ (d : ViewDef). IsNarrowFor d c.args.changed.now) (sym c.in_ok-view.ensures.def) (c.in_ok-totals.ensures.narrow c.args.changed.now c.requires.changed), tt)
+
+pub commit-requires-clause-holds : goal.commit-requires-clause-holds
+commit-requires-clause-holds c =
+    let def = c.in_ok-view.view.def in
+    let few : length c.args.table.now < 2 ^ 64 = search rules in
+    let there : AllByRecursion (IsSmallFor def) c.args.table.now = subst (λ (d : ViewDef). AllByRecursion (IsSmallFor d) c.args.table.now) (sym c.in_ok-view.ensures.def) c.in_ok-view.ensures.small in
+    let old : AreSmallFor def (once_each c.args.table.now) = small-rows def c.args.table.now (pos 1) few there (omega (arith, ints)) in
+    let new : AreSmallFor def (changed (c.args.changed.now ∷ []) c.args.weight) = small-rows def (c.args.changed.now ∷ []) c.args.weight (omega arith) c.in_ok-pending.ensures.small c.requires.once in
+    let fits : FitsSigned w128 c.args.weight = search rules in
+    rw (c.in_ok-pending.ensures.change, to_z-of_z w128 c.args.weight fits)
+    (ready-holds c.in_ok-view.view c.prepare.new.self (once_each c.args.table.now) (changed (c.args.changed.now ∷ []) c.args.weight) c.in_ok-pending.ensures.kept c.in_ok-pending.ensures.can_be_kept
+    c.in_ok-view.ensures.stands old new)

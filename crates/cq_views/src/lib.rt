@@ -1,0 +1,19 @@
+//! The kept state of one grouped view.
+//!
+//! A [`ViewState`] has the groups of its table's rows that WHERE keeps. A write of the table goes in by two steps:
+//! [`ViewState::prepare`] works out what it changes and makes all growth, and [`ViewState::commit`] puts the change in,
+//! which cannot fail. Then the groups stand for the changed table, and [`ViewState::rows`] tells the bag of the query.
+#![tactic(auto)]
+
+mod items;
+mod laws;
+mod pending;
+mod state;
+#[cfg(test)]
+mod tests;
+mod view_def;
+
+pub use laws::{small_changes_hold, small_rows_change, standing_depends_on_bag};
+pub use pending::Pending;
+pub use state::ViewState;
+pub use view_def::ViewDef;
