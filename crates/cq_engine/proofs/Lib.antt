@@ -1,7 +1,16 @@
-pub mod Faults
 pub mod Walks
 pub mod Places
 pub mod Resolved
 pub mod Results
 pub mod Numbers
 pub mod Steps
+pub mod Rows
+pub mod Changes
+pub mod Turns
+pub mod Fitting
+pub mod Kept
+pub mod Stored
+pub mod Named
+pub mod Readings
+pub mod Creating
+pub mod Written

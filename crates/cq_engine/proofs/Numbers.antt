@@ -16,7 +16,7 @@ Above n ts = AllByRecursion (λ u. n < u.number) ts
 -- ---- Finding a table
 module _ (name : List ℕ) (t : TableOf) where
   -- a table that is found among those above a number is above it
-  found_above : (n : ℕ) (ts : List TableOf) → Above n ts → table_named name ts ≡ Some t → n < t.number
+  pub found_above : (n : ℕ) (ts : List TableOf) → Above n ts → table_named name ts ≡ Some t → n < t.number
   found_above n [] above found = absurd cc
   found_above n (x ∷ ts) above found = by_test (is_text x.name name)
       (λ k. let same : x ≡ t = cc in subst (λ (y : TableOf). n < y.number) same above.0)

@@ -1,6 +1,6 @@
 -- Tables by their names and places.
 use Rattle.std.proofs.Common.{◌≡◌, ℕ, ◌+◌, ◌<◌, Bool, true, false, cond, not, List, [], ◌∷◌, length, get_or, set, Option, Some, None, refl, sym, ap, ◌∙◌, inl, inr, subst, Result, Ok, Err}
-use Rattle.std.specs.Prelude.{slice_get, is_some, IfSome, position, nat_lt, ok_or, option_map}
+use Rattle.std.specs.Prelude.{slice_get, is_some, IfSome, position, nat_lt, ok_or, option_map, unwrap_or, if◌then◌else◌}
 use Rattle.std.proofs.lemmas.Bool.{lt-ltb, le-ltb}
 use Rattle.std.proofs.lemmas.Option.{slice_get_cases, slice_get_read}
 use Rattle.std.specs.List.{find, position_or_len, remove}
@@ -11,14 +11,14 @@ use Rattle.cq_values.specs.Value.{Row}
 use Rattle.cq_values.specs.Texts.{is_text}
 use Rattle.cq_model.specs.declared.statement.Condition.{Condition}
 use Rattle.cq_model.specs.declared.statement.Literal.{Literal}
-use Rattle.cq_model.specs.declared.statement.Select.{Select}
+use Rattle.cq_model.specs.declared.query.Source.TheVariants.{View}
 use Rattle.cq_steps.specs.declared.fault.Fault.{Fault}
-use Rattle.cq_steps.specs.declared.fault.Fault.TheVariants.{UnknownTable}
+use Rattle.cq_steps.specs.declared.fault.Fault.TheVariants.{TableInUse, UnknownTable, ViewNotWritten}
 use Rattle.cq_steps.specs.Bound.{source_named}
-use Rattle.cq_steps.specs.Refusal.{first_fault, delete_places, drop_table_places, insert_places, select_places, written_table}
-use Rattle.cq_steps.specs.State.{TableOf, table_named, holding}
-use Rattle.cq_engine.specs.Statements.{alone, from_table, and_rows, chosen_in, left_in, with_rows_in, without_table, DropsTable, Inserts, InsertsIn, Deletes, DeletesIn, IsResult, Selects, SelectsFrom}
-use Rattle.cq_engine.proofs.Faults.{refused_same}
+use Rattle.cq_steps.specs.Refusal.{first_fault, fault_if, is_used, delete_places, drop_table_places, insert_places, written_table}
+use Rattle.cq_steps.specs.State.{TableOf, ViewOf, table_named, view_named, view_place, holding}
+use Rattle.cq_engine.specs.Statements.{alone, from_table, and_rows, chosen_in, left_in, with_rows_in, without_table, DropsTable, Inserts, InsertsIn, Deletes, DeletesIn}
+use Rattle.cq_binder.proofs.Faults.{refused_same}
 
 -- what is read at a place within the list
 there : {X : Type 0} (xs : List X) (n : ℕ) (o : Option X) (b : Bool) → o ≡ slice_get xs n → IfSome (cond b (Some n) None) (λ i. slice_get xs i ≡ o)
@@ -72,8 +72,8 @@ module _ (name : List ℕ) where
   without_table_at (x ∷ ts) = without_table_here x ts (is_text x.name name) refl (without_table_at ts)
 
 -- ---- A table that was found in a list and for a text that are these tables and this name
-module _ (name text : List ℕ) (ts seen : List TableOf) (i : ℕ) (t : TableOf) (same_name : text ≡ name) (same_list : seen ≡ ts) (place : i ≡ position_or_len (λ x. is_text x.name text) seen) (found : slice_get seen i ≡ table_named text seen)
-    (within : i < length seen) (is : t ≡ get_or ts i t) where
+module _ (name text : List ℕ) (ts seen : List TableOf) (views : List ViewOf) (i : ℕ) (t : TableOf) (same_name : text ≡ name) (same_list : seen ≡ ts) (place : i ≡ position_or_len (λ x. is_text x.name text) seen)
+    (found : slice_get seen i ≡ table_named text seen) (within : i < length seen) (is : t ≡ get_or ts i t) where
   -- it stands at the first place of the name
   at_first : i ≡ first_place name ts
   at_first = place ∙ ap (λ (xs : List TableOf). first_place text xs) same_list ∙ ap (λ (n : List ℕ). first_place n ts) same_name
@@ -85,35 +85,37 @@ module _ (name text : List ℕ) (ts seen : List TableOf) (i : ℕ) (t : TableOf)
       sym (ap (λ (xs : List TableOf). slice_get xs i) (sym same_list) ∙ found ∙ ap (λ (xs : List TableOf). table_named text xs) same_list ∙ ap (λ (n : List ℕ). table_named n ts) same_name) ∙ read
 
   -- a statement walks through what it writes
-  walks_written : (places : Result TableOf Fault → List (Option Fault)) → first_fault (places (written_table name (alone ts))) ≡ first_fault (places (Ok t))
-  walks_written places = ap (λ (o : Option TableOf). first_fault (places (ok_or o UnknownTable))) named_there
+  walks_written : (places : Result TableOf Fault → List (Option Fault)) → first_fault (places (written_table name (alone ts views))) ≡ first_fault (places (Ok t))
+  walks_written places = ap (λ (o : Option TableOf). first_fault (places (ok_or o (if is_some (view_named name views) then ViewNotWritten else UnknownTable)))) named_there
 
   -- new rows in it are new rows in the table of the name
   rows_written : (rows : TableOf → List Row) (u : TableOf) → u ≡ holding (rows t) t → set ts i u ≡ with_rows_in name rows ts
   rows_written rows u is_new = rw (at_first, is_new) (with_rows_at name rows ts t named_there)
 
   -- what an INSERT into it does to all of them
-  pub insert_walked : (max_rows : ℕ) (rows : List (List Literal)) (u : TableOf) (result : Result (Unit {0}) Fault) → Inserts max_rows rows t u result → InsertsIn max_rows name rows ts (set ts i u) result
+  pub insert_walked : (max_rows : ℕ) (rows : List (List Literal)) (u : TableOf) (result : Result (Unit {0}) Fault) → Inserts max_rows rows t u result → InsertsIn max_rows name rows views ts (set ts i u) result
   insert_walked max_rows rows u (Ok x) w = (walks_written (insert_places max_rows rows) ∙ w.0, rows_written (and_rows rows) u w.1)
-  insert_walked max_rows rows u (Err f) w = refused_same (first_fault (insert_places max_rows rows (Ok t))) (first_fault (insert_places max_rows rows (written_table name (alone ts)))) f (walks_written (insert_places max_rows rows)) w
+  insert_walked max_rows rows u (Err f) w = refused_same (first_fault (insert_places max_rows rows (Ok t))) (first_fault (insert_places max_rows rows (written_table name (alone ts views)))) f (walks_written (insert_places max_rows rows)) w
 
   -- what a DELETE from it does to all of them
-  pub delete_walked : (condition : Option Condition) (u : TableOf) (result : Result ℕ Fault) → Deletes condition t u result → DeletesIn name condition ts (set ts i u) result
+  pub delete_walked : (condition : Option Condition) (u : TableOf) (result : Result ℕ Fault) → Deletes condition t u result → DeletesIn name condition views ts (set ts i u) result
   delete_walked condition u (Ok count) w = (
     walks_written (delete_places condition) ∙ w.0,
     (subst (λ (o : Option TableOf). IfSome o (λ x. count ≡ length (chosen_in condition x))) (sym named_there) w.1.0, rows_written (left_in condition) u w.1.1),
   )
-  delete_walked condition u (Err f) w = refused_same (first_fault (delete_places condition (Ok t))) (first_fault (delete_places condition (written_table name (alone ts)))) f (walks_written (delete_places condition)) w
+  delete_walked condition u (Err f) w = refused_same (first_fault (delete_places condition (Ok t))) (first_fault (delete_places condition (written_table name (alone ts views)))) f (walks_written (delete_places condition)) w
 
-  -- a query walks through the table
-  walks_read : (q : Select) → first_fault (select_places q (source_named name (alone ts))) ≡ first_fault (select_places q (Some (from_table t)))
-  walks_read q = ap (λ (o : Option TableOf). first_fault (select_places q (option_or (option_map from_table o) None))) named_there
-
-  -- what a SELECT from it gives
-  pub select_walked : (q : Select) (result : Result (List Row) Fault) → q.table ≡ name → Selects q t result → SelectsFrom q ts result
-  select_walked q (Ok rows) same_table w = rw same_table (walks_read q ∙ w.0, subst (λ (o : Option TableOf). IfSome o (λ x. IsResult q x rows)) (sym named_there) w.1)
-  select_walked q (Err f) same_table w = rw same_table (refused_same (first_fault (select_places q (Some (from_table t)))) (first_fault (select_places q (source_named name (alone ts)))) f (walks_read q) w)
+  -- a table that a view stands on is not taken away
+  pub drop_refused : is_used t.number views ≡ true → first_fault (drop_table_places views (table_named name ts)) ≡ Some TableInUse
+  drop_refused used = ap (λ (o : Option TableOf). first_fault (drop_table_places views o)) named_there ∙ ap (λ (b : Bool). first_fault (fault_if b TableInUse ∷ [])) used
 
   -- what taking it away does to all of them
-  pub drop_walked : DropsTable name ts (remove ts i) (Ok tt)
-  drop_walked = (ap (λ (o : Option TableOf). first_fault (drop_table_places [] o)) named_there, rw at_first (without_table_at name ts))
+  pub drop_walked : is_used t.number views ≡ false → DropsTable name views ts (remove ts i) (Ok tt)
+  drop_walked unused = (
+    ap (λ (o : Option TableOf). first_fault (drop_table_places views o)) named_there ∙ ap (λ (b : Bool). first_fault (fault_if b TableInUse ∷ [])) unused,
+    rw at_first (without_table_at name ts),
+  )
+
+  -- a query walks through the table
+  pub source_there : source_named name (alone ts views) ≡ Some (from_table t)
+  source_there = ap (λ (o : Option TableOf). option_or (option_map from_table o) (option_map (λ v. record { columns = v.columns; source = View (unwrap_or (view_place name views) 0) }) (view_named name views))) named_there

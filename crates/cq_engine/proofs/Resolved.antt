@@ -26,7 +26,7 @@ use Rattle.cq_engine.specs.Bound.{bound_where, keeps_at, values_at}
 use Rattle.cq_engine.specs.Statements.{where_on, chosen_in, left_in}
 
 -- a column gives its value
-eval-Column : (place : ℕ) (row : Row) → eval (exprs.Column place) row ≡ column row place
+pub eval-Column : (place : ℕ) (row : Row) → eval (exprs.Column place) row ≡ column row place
 eval-Column place row = ap (λ e. eval e row) (sym (exprs.rolls-Column place)) ∙ ap (λ f. f row) (fold-roll-Expr (Row → Value) eval_step (node.Column place))
 
 -- a constant gives itself

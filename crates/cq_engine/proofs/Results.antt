@@ -1,23 +1,24 @@
 -- Stored rows, the bag that they are, and what a query makes of it.
 use Rattle.std.proofs.Common.{◌≡◌, ℕ, ◌+◌, Bool, cond, not, List, [], ◌∷◌, ◌++◌, map, length, pos, arith, refl, sym, ap, ◌∙◌, subst, Result, Ok, Err}
 use Rattle.std.specs.Result.{OnOk, is_ok}
-use Rattle.std.specs.Prelude.{filter}
+use Rattle.std.specs.Prelude.{filter, option_map, None}
 use Rattle.std.proofs.lemmas.List.Filters.{length-filter_both}
 use Rattle.cq_values.specs.Value.{Row}
 use Rattle.cq_bags.specs.Bag.{Weighted, SameBag, once_each, filtered, projected}
 use Rattle.cq_bags.specs.Canonical.{bag_of}
-use Rattle.cq_bags.specs.Listing.{Lists}
+use Rattle.cq_bags.specs.Listing.{Lists, IsListing}
 use Rattle.cq_bags.proofs.Totals.{by_test}
 use Rattle.cq_bags.proofs.Bags.{same-sym, same-trans, filtered-respects, projected-respects}
 use Rattle.cq_bags.proofs.Canonicals.{bag_of-again, bag_of-weights, length-bag_of, same-bag_of}
+use Rattle.cq_model.specs.declared.query.Source.{Source}
 use Rattle.cq_model.specs.declared.statement.ColumnDef.{ColumnDef}
 use Rattle.cq_model.specs.declared.statement.Select.{Select}
-use Rattle.cq_model.specs.Meaning.{keeps, items_of, meaning}
-use Rattle.cq_steps.specs.Bound.{named_column, bound_query}
+use Rattle.cq_model.specs.Meaning.{Tables, keeps, items_of, meaning}
+use Rattle.cq_steps.specs.Bound.{bound_condition, named_column, bound_query}
 use Rattle.cq_steps.specs.State.{TableOf, empty_table, holding}
 use Rattle.cq_engine.specs.declared.selection.Selection.{Selection}
 use Rattle.cq_engine.specs.Bound.{keeps_at, values_at, IsBound}
-use Rattle.cq_engine.specs.Statements.{IsResult, from_table, where_on}
+use Rattle.cq_engine.specs.Statements.{IsResult}
 use Rattle.cq_engine.proofs.Resolved.{keeps_same, values_same}
 
 -- no rows are the empty bag
@@ -63,15 +64,8 @@ once_each-map f (r ∷ rows) = ap (λ (xs : Weighted). (f r, pos 1) ∷ xs) (onc
 same_kept : (keep : Row → Bool) (stored : List Row) → SameBag (filtered keep (once_each stored)) (filtered keep (once_each (bag_of stored)))
 same_kept keep stored = filtered-respects keep (once_each stored) (once_each (bag_of stored)) (same-sym (once_each (bag_of stored)) (once_each stored) (same-bag_of stored))
 
--- a query's results from stored rows have the bag that it means on theirs
-same_results : (keep : Row → Bool) (f : Row → Row) (stored : List Row) → SameBag (once_each (map f (filter keep stored))) (projected f (filtered keep (once_each (bag_of stored))))
-same_results keep f stored =
-    subst (λ (xs : Weighted). SameBag xs (projected f (filtered keep (once_each (bag_of stored)))))
-    (sym (once_each-map f (filter keep stored) ∙ ap (projected f) (once_each-filter keep stored)))
-    (projected-respects f (filtered keep (once_each stored)) (filtered keep (once_each (bag_of stored))) (same_kept keep stored))
-
 -- one list stands for what is kept, of the stored rows and of their bag
-bag_of_kept : (keep : Row → Bool) (stored : List Row) → bag_of (filter keep stored) ≡ bag_of (filter keep (bag_of stored))
+pub bag_of_kept : (keep : Row → Bool) (stored : List Row) → bag_of (filter keep stored) ≡ bag_of (filter keep (bag_of stored))
 bag_of_kept keep stored =
     bag_of-weights (filter keep stored) (filter keep (bag_of stored))
     (subst (λ (xs : Weighted). SameBag xs (once_each (filter keep (bag_of stored)))) (sym (once_each-filter keep stored))
@@ -95,30 +89,37 @@ module _ (keep : Row → Bool) (stored left : List Row) (is_left : left ≡ filt
       omega (arith, ap length is_left, both, length-kept keep stored)
 
 -- what WHERE keeps, and the items of a row
-module _ (t : TableOf) (q : Select) where
+module _ (columns : List ColumnDef) (q : Select) where
   abbrev keep : Row → Bool
-  keep = keeps (where_on t q.condition)
+  keep = keeps (option_map (bound_condition columns) q.condition)
 
   abbrev select : Row → Row
-  select = items_of (map (named_column t.columns) q.columns)
+  select = items_of (map (named_column columns) q.columns)
 
   -- the sorted results of a bound query are its listing
-  pub listing_bound : (s : Selection) (stored results list : List Row) → IsBound t.columns q s → bag_of stored ≡ t.rows → results ≡ map (values_at s.places.items) (filter (keeps_at s.condition) stored) → Lists [] (once_each results) list → IsResult q t list
-  listing_bound s stored results list b rows made listed = (
-    list,
-    record { same = same-trans (once_each list) (once_each results) (meaning (bound_query q (from_table t)) (λ source. once_each t.rows)) listed.same means; in_order = listed.in_order },
-    refl,
-  )
+  pub listing_bound : (s : Selection) (rows list : List Row) → IsBound columns q s → Lists [] (once_each (map (values_at s.places.items) (filter (keeps_at s.condition) rows))) list → IsResult q columns rows list
+  listing_bound s rows list b listed = (list, subst (λ (xs : Weighted). Lists [] xs list) means listed, refl)
     where
       kept : (row : Row) → keeps_at s.condition row ≡ keep row
-      kept row = ap (λ c. keeps_at c row) b.condition ∙ keeps_same t.columns q.condition row
+      kept row = ap (λ c. keeps_at c row) b.condition ∙ keeps_same columns q.condition row
 
       valued : (row : Row) → values_at s.places.items row ≡ select row
-      valued row = ap (λ ps. values_at ps row) b.places ∙ values_same t.columns q.columns row
+      valued row = ap (λ ps. values_at ps row) b.places ∙ values_same columns q.columns row
 
-      by_items : results ≡ map select (filter keep stored)
-      by_items = made ∙ (λ i. map (λ row. valued row i) (filter (λ row. kept row i) stored))
+      by_items : map (values_at s.places.items) (filter (keeps_at s.condition) rows) ≡ map select (filter keep rows)
+      by_items = λ i. map (λ row. valued row i) (filter (λ row. kept row i) rows)
 
-      means : SameBag (once_each results) (projected select (filtered keep (once_each t.rows)))
-      means = subst (λ (xs : List Row). SameBag (once_each xs) (projected select (filtered keep (once_each t.rows)))) (sym by_items)
-          (subst (λ (rows : List Row). SameBag (once_each (map select (filter keep stored))) (projected select (filtered keep (once_each rows)))) rows (same_results keep select stored))
+      means : once_each (map (values_at s.places.items) (filter (keeps_at s.condition) rows)) ≡ projected select (filtered keep (once_each rows))
+      means = ap once_each by_items ∙ once_each-map select (filter keep rows) ∙ ap (projected select) (once_each-filter keep rows)
+
+  -- rows that a source names in any order have the listing of the query on it
+  pub listing_named : (source : Source) (tables : Tables) (rows list : List Row) → SameBag (once_each rows) (tables source) → IsResult q columns rows list
+      → IsListing [] None (meaning (bound_query q (record { columns = columns; source = source })) tables) list
+  listing_named source tables rows list same l = (
+    l.0,
+    record { same = same-trans (once_each l.0) (shown (once_each rows)) (shown (tables source)) l.1.same (projected-respects select (filtered keep (once_each rows)) (filtered keep (tables source)) (filtered-respects keep (once_each rows) (tables source) same)); in_order = l.1.in_order },
+    l.2,
+  )
+    where
+      shown : Weighted → Weighted
+      shown xs = projected select (filtered keep xs)

@@ -1,6 +1,6 @@
 -- How the stretches of a statement's walk make up the whole.
 use Rattle.std.proofs.Common.{◌≡◌, ℕ, ◌+◌, Bool, false, List, [], ◌∷◌, ◌++◌, map, length, Option, Some, None, ap, ◌∙◌, Ok}
-use Rattle.std.specs.Prelude.{◌||◌, is_some, nat_lt}
+use Rattle.std.specs.Prelude.{nat_lt}
 use Rattle.std.specs.List.{flat_map}
 use Rattle.cq_model.specs.declared.statement.ColumnDef.{ColumnDef}
 use Rattle.cq_model.specs.declared.statement.Literal.{Literal}
@@ -9,22 +9,22 @@ use Rattle.cq_steps.specs.declared.fault.Fault.{Fault}
 use Rattle.cq_steps.specs.declared.fault.Fault.TheVariants.{NameTaken, TableFull}
 use Rattle.cq_steps.specs.Bound.{Named}
 use Rattle.cq_steps.specs.Refusal.{first_fault, fault_if, too_long, column_places, create_places, row_places, insert_places, name_place, where_places, select_places, MayRefuse}
-use Rattle.cq_steps.specs.State.{TableOf, table_named}
+use Rattle.cq_steps.specs.State.{TableOf, ViewOf, is_taken}
 use Rattle.cq_engine.specs.Statements.{alone}
-use Rattle.cq_engine.proofs.Faults.{first_fault_append, none_append, or_next, refused_back, refused_front, refused_same}
+use Rattle.cq_binder.proofs.Faults.{first_fault_append, none_append, or_next, refused_back, refused_front, refused_same}
 
 -- ---- CREATE TABLE: under a free name the columns decide, and then their number
-module _ (name : List ℕ) (columns : List ColumnDef) (tables : List TableOf) (free : is_some (table_named name tables) ≡ false) where
+module _ (name : List ℕ) (columns : List ColumnDef) (tables : List TableOf) (views : List ViewOf) (free : is_taken name (alone tables views) ≡ false) where
   -- the name is no fault
-  create_goes_on : first_fault (create_places name columns (alone tables)) ≡ first_fault (column_places [] columns ++ too_long (length columns) ∷ [])
-  create_goes_on = ap (λ (b : Bool). first_fault (fault_if (b || false) NameTaken ∷ column_places [] columns ++ too_long (length columns) ∷ [])) free
+  create_goes_on : first_fault (create_places name columns (alone tables views)) ≡ first_fault (column_places [] columns ++ too_long (length columns) ∷ [])
+  create_goes_on = ap (λ (b : Bool). first_fault (fault_if b NameTaken ∷ column_places [] columns ++ too_long (length columns) ∷ [])) free
 
   -- a column refuses
-  pub columns_refused : (f : Fault) → MayRefuse (first_fault (column_places [] columns)) f → MayRefuse (first_fault (create_places name columns (alone tables))) f
-  columns_refused f m = refused_same (first_fault (column_places [] columns ++ too_long (length columns) ∷ [])) (first_fault (create_places name columns (alone tables))) f create_goes_on (refused_front (column_places [] columns) (too_long (length columns) ∷ []) f m)
+  pub columns_refused : (f : Fault) → MayRefuse (first_fault (column_places [] columns)) f → MayRefuse (first_fault (create_places name columns (alone tables views))) f
+  columns_refused f m = refused_same (first_fault (column_places [] columns ++ too_long (length columns) ∷ [])) (first_fault (create_places name columns (alone tables views))) f create_goes_on (refused_front (column_places [] columns) (too_long (length columns) ∷ []) f m)
 
   -- behind the columns only their number is left
-  pub create_ends : first_fault (column_places [] columns) ≡ None → first_fault (create_places name columns (alone tables)) ≡ first_fault (too_long (length columns) ∷ [])
+  pub create_ends : first_fault (column_places [] columns) ≡ None → first_fault (create_places name columns (alone tables views)) ≡ first_fault (too_long (length columns) ∷ [])
   create_ends distinct =
       create_goes_on
       ∙ first_fault_append (column_places [] columns) (too_long (length columns) ∷ [])

@@ -1,4 +1,4 @@
 pub mod Given
-pub mod Walk
 pub mod Bound
+pub mod Views
 pub mod Statements

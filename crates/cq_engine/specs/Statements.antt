@@ -1,28 +1,37 @@
--- What each statement does with tables, or else is refused.
-use Rattle.std.specs.Prelude.{◌≡◌, ℕ, if◌then◌else◌, List, [], ◌∷◌, ◌++◌, map, length, option_map, Option, Some, None, Result, Ok, IfSome}
+-- What each statement does with tables and views, or else is refused.
+use Rattle.std.specs.Prelude.{◌≡◌, ◌⊎◌, ℕ, if◌then◌else◌, List, [], ◌∷◌, ◌++◌, map, length, option_map, Option, Some, None, Result, Ok, Err, IfSome}
+use Rattle.std.specs.List.{remove}
 use Rattle.cq_values.specs.Texts.{is_text}
 use Rattle.cq_values.specs.Value.{Row}
 use Rattle.cq_bags.specs.Bag.{once_each}
 use Rattle.cq_bags.specs.Listing.{IsListing}
+use Rattle.cq_deltas.specs.declared.fault.ToldFault.{ToldFault}
+use Rattle.cq_deltas.specs.declared.fault.ToldFault.TheVariants as told
 use Rattle.cq_model.specs.declared.expr.Cond.{Cond}
 use Rattle.cq_model.specs.declared.query.Source.TheVariants.{Table}
 use Rattle.cq_model.specs.declared.statement.ColumnDef.{ColumnDef}
 use Rattle.cq_model.specs.declared.statement.Condition.{Condition}
 use Rattle.cq_model.specs.declared.statement.Literal.{Literal}
 use Rattle.cq_model.specs.declared.statement.Select.{Select}
-use Rattle.cq_model.specs.Meaning.{meaning}
+use Rattle.cq_model.specs.declared.statement.ViewSelect.{ViewSelect}
+use Rattle.cq_model.specs.Meaning.{Tables, MeaningInRange, meaning}
+use Rattle.cq_model.specs.Views.{with_views, AnswerInRange}
 use Rattle.cq_model.specs.Write.{chosen, left_by}
 use Rattle.cq_steps.specs.declared.fault.Fault.{Fault}
-use Rattle.cq_steps.specs.Bound.{Named, row_of, bound_condition, bound_query, source_named}
-use Rattle.cq_steps.specs.Refusal.{create_places, delete_places, drop_table_places, insert_places, select_places, written_table}
-use Rattle.cq_steps.specs.State.{TableOf, State, table_named, empty_table, holding}
-use Rattle.cq_engine.specs.Walk.{Walked}
+use Rattle.cq_steps.specs.declared.fault.Fault.TheVariants.{Memory, SumOutOfRange}
+use Rattle.cq_steps.specs.Bound.{Named, row_of, bound_condition, bound_query, grouped_query, source_named, view_columns}
+use Rattle.cq_steps.specs.Refusal.{create_places, create_view_places, delete_places, drop_table_places, drop_view_places, first_fault, insert_places, select_places, written_table, MayRefuse}
+use Rattle.cq_steps.specs.State.{TableOf, ViewOf, State, table_named, view_place, empty_table, holding, tables_now, queries_of}
+use Rattle.cq_steps.specs.Step.{new_view}
+use Rattle.cq_views.specs.View.{Stands, StandsFor, query_of}
+use Rattle.cq_engine.specs.Views.{NamedView, Fits, view_of}
+use Rattle.cq_binder.specs.Walk.{Walked}
 
--- a state without views, in which no change waits
-abbrev pub without_views : List TableOf → ℕ → ℕ → ℕ → State
-without_views tables now drawn max_rows = record {
+-- a state in which no change waits
+abbrev pub present : List TableOf → List ViewOf → ℕ → ℕ → ℕ → State
+present tables views now drawn max_rows = record {
   tables = tables;
-  views = [];
+  views = views;
   now = now;
   drawn = drawn;
   passed = now;
@@ -30,9 +39,9 @@ without_views tables now drawn max_rows = record {
   max_rows = max_rows;
 }
 
--- a state of which nothing but the tables is asked
-abbrev pub alone : List TableOf → State
-alone tables = without_views tables 0 0 0
+-- a state of which nothing but the tables and views is asked
+abbrev pub alone : List TableOf → List ViewOf → State
+alone tables views = present tables views 0 0 0
 
 -- a table as FROM names it
 abbrev pub from_table : TableOf → Named
@@ -65,20 +74,30 @@ without_table name [] = []
 without_table name (t ∷ ts) = if is_text t.name name then ts else t ∷ without_table name ts
 
 -- CREATE TABLE puts an empty table behind the others
-abbrev pub Creates : ℕ → List ℕ → List ColumnDef → List TableOf → List TableOf → Result (Unit {0}) Fault → Type 0
-Creates number name columns old new result = Walked (create_places name columns (alone old)) (λ x. new ≡ old ++ empty_table number name columns [] ∷ []) result
+abbrev pub Creates : ℕ → List ℕ → List ColumnDef → List ViewOf → List TableOf → List TableOf → Result (Unit {0}) Fault → Type 0
+Creates number name columns views old new result = Walked (create_places name columns (alone old views)) (λ x. new ≡ old ++ empty_table number name columns [] ∷ []) result
 
 -- DROP TABLE takes the table of a name away
-abbrev pub DropsTable : List ℕ → List TableOf → List TableOf → Result (Unit {0}) Fault → Type 0
-DropsTable name old new result = Walked (drop_table_places [] (table_named name old)) (λ x. new ≡ without_table name old) result
+abbrev pub DropsTable : List ℕ → List ViewOf → List TableOf → List TableOf → Result (Unit {0}) Fault → Type 0
+DropsTable name views old new result = Walked (drop_table_places views (table_named name old)) (λ x. new ≡ without_table name old) result
+
+-- CREATE VIEW puts a view of its query behind the others, built at the present
+abbrev pub CreatesView : ℕ → List ℕ → ViewSelect → List TableOf → List ViewOf → List ViewOf → Result (Unit {0}) Fault → Type 0
+CreatesView now name view tables old new result =
+    Walked (create_view_places name view (alone tables old))
+    (λ x. IfSome (table_named view.table tables) (λ t. new ≡ old ++ new_view name (view_columns view) (grouped_query view t) now ∷ [])) result
+
+-- DROP VIEW takes the view of a name away
+abbrev pub DropsView : List ℕ → List ViewOf → List ViewOf → Result (Unit {0}) Fault → Type 0
+DropsView name old new result = Walked (drop_view_places (view_place name old)) (λ x. IfSome (view_place name old) (λ place. new ≡ remove old place)) result
 
 -- INSERT adds its rows to the table
 abbrev pub Inserts : ℕ → List (List Literal) → TableOf → TableOf → Result (Unit {0}) Fault → Type 0
 Inserts max_rows rows old new result = Walked (insert_places max_rows rows (Ok old)) (λ x. new ≡ holding (and_rows rows old) old) result
 
 -- INSERT adds its rows to the table of a name
-abbrev pub InsertsIn : ℕ → List ℕ → List (List Literal) → List TableOf → List TableOf → Result (Unit {0}) Fault → Type 0
-InsertsIn max_rows name rows old new result = Walked (insert_places max_rows rows (written_table name (alone old))) (λ x. new ≡ with_rows_in name (and_rows rows) old) result
+abbrev pub InsertsIn : ℕ → List ℕ → List (List Literal) → List ViewOf → List TableOf → List TableOf → Result (Unit {0}) Fault → Type 0
+InsertsIn max_rows name rows views old new result = Walked (insert_places max_rows rows (written_table name (alone old views))) (λ x. new ≡ with_rows_in name (and_rows rows) old) result
 
 -- DELETE takes the rows that WHERE keeps from the table, and tells how many they were
 abbrev pub Deletes : Option Condition → TableOf → TableOf → Result ℕ Fault → Type 0
@@ -86,20 +105,56 @@ Deletes condition old new result =
     Walked (delete_places condition (Ok old)) (λ count. (count ≡ length (chosen_in condition old)) × (new ≡ holding (left_in condition old) old)) result
 
 -- DELETE takes them from the table of a name
-abbrev pub DeletesIn : List ℕ → Option Condition → List TableOf → List TableOf → Result ℕ Fault → Type 0
-DeletesIn name condition old new result =
-    Walked (delete_places condition (written_table name (alone old)))
+abbrev pub DeletesIn : List ℕ → Option Condition → List ViewOf → List TableOf → List TableOf → Result ℕ Fault → Type 0
+DeletesIn name condition views old new result =
+    Walked (delete_places condition (written_table name (alone old views)))
     (λ count. IfSome (table_named name old) (λ t. count ≡ length (chosen_in condition t)) × (new ≡ with_rows_in name (left_in condition) old)) result
 
--- the listing of what the query means on the table
-abbrev pub IsResult : Select → TableOf → List Row → Type 0
-IsResult q t rows = IsListing [] None (meaning (bound_query q (from_table t)) (λ source. once_each t.rows)) rows
+-- the columns of a source, wherever its rows come from
+abbrev pub from_columns : List ColumnDef → Named
+from_columns columns = record { columns = columns; source = Table 0 }
 
--- SELECT answers the query from the table
-abbrev pub Selects : Select → TableOf → Result (List Row) Fault → Type 0
-Selects q t result = Walked (select_places q (Some (from_table t))) (IsResult q t) result
+-- the listing of what the query shows of rows with these columns
+abbrev pub IsResult : Select → List ColumnDef → List Row → List Row → Type 0
+IsResult q columns rows list = IsListing [] None (meaning (bound_query q (from_columns columns)) (λ source. once_each rows)) list
 
--- SELECT answers the query from the table that it names
-abbrev pub SelectsFrom : Select → List TableOf → Result (List Row) Fault → Type 0
-SelectsFrom q tables result =
-    Walked (select_places q (source_named q.table (alone tables))) (λ rows. IfSome (table_named q.table tables) (λ t. IsResult q t rows)) result
+-- SELECT answers the query from rows with these columns
+abbrev pub Selects : Select → List ColumnDef → List Row → Result (List Row) Fault → Type 0
+Selects q columns rows result = Walked (select_places q (Some (from_columns columns))) (IsResult q columns rows) result
+
+-- the listing of the query on a source that is there, whose totals can be shown
+pub record IsAnswer (s : State) (q : Select) (source : Named) (rows : List Row) : Type 0 where
+  pub listed : IsListing [] None (meaning (bound_query q source) (with_views (tables_now s) (queries_of s))) rows
+  pub in_range : AnswerInRange (tables_now s) (queries_of s) (bound_query q source)
+
+-- a query of a source with a total that cannot be shown
+abbrev pub HasNone : State → Select → Fault → Type 0
+HasNone s q f =
+    (f ≡ SumOutOfRange) × (first_fault (select_places q (source_named q.table s)) ≡ None)
+    × IfSome (source_named q.table s) (λ source. AnswerInRange (tables_now s) (queries_of s) (bound_query q source) → ⊥)
+
+-- SELECT answers the query from the table or the view that it names
+abbrev pub SelectsFrom : Select → State → Result (List Row) Fault → Type 0
+SelectsFrom q s (Ok rows) = (first_fault (select_places q (source_named q.table s)) ≡ None) × IfSome (source_named q.table s) (λ source. IsAnswer s q source rows)
+SelectsFrom q s (Err f) = MayRefuse (first_fault (select_places q (source_named q.table s))) f ⊎ HasNone s q f
+
+-- SELECT answers the query from what a view keeps, which is the bag of the view's query on each tables that it stands for
+abbrev pub SelectsKept : Select → NamedView → Result (List Row) Fault → Type 0
+SelectsKept q v (Ok rows) = (first_fault (select_places q (Some (from_columns v.columns))) ≡ None)
+    × ((tables : Tables) → StandsFor v.kept tables
+    → IsListing [] None (meaning (bound_query q (from_columns v.columns)) (λ source. meaning (query_of v.kept.def) tables)) rows × MeaningInRange (query_of v.kept.def) tables)
+SelectsKept q v (Err f) = MayRefuse (first_fault (select_places q (Some (from_columns v.columns)))) f
+    ⊎ ((f ≡ SumOutOfRange) × (first_fault (select_places q (Some (from_columns v.columns))) ≡ None)
+    × ((tables : Tables) → StandsFor v.kept tables → MeaningInRange (query_of v.kept.def) tables → ⊥))
+
+-- a view that was built for its query on this table
+pub record IsBuilt (now : ℕ) (name : List ℕ) (q : ViewSelect) (t : TableOf) (v : NamedView) : Type 0 where
+  pub view : view_of v ≡ new_view name (view_columns q) (grouped_query q t) now
+  pub table : v.kept.def.table ≡ t.number
+  pub fits : Fits v.kept.def
+  pub stands : Stands v.kept (once_each t.rows)
+
+-- why the rows of a view cannot be told
+abbrev pub told_as : ToldFault → Fault
+told_as told.Memory = Memory
+told_as told.SumOutOfRange = SumOutOfRange

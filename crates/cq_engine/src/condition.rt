@@ -5,10 +5,9 @@ ghost use Rattle.cq_values.specs.Truth.{is_true, truth_of};
 ghost use Rattle.cq_model.specs.Comparison.{compared, passes};
 ghost use Rattle.cq_steps.specs.Refusal.{where_places};
 ghost use Rattle.cq_engine.specs.Bound.{bound, bound_where, keeps_at, passes_at};
-ghost use Rattle.cq_engine.specs.Walk.{Walked};
+ghost use Rattle.cq_binder.specs.Walk.{Walked};
 
-use crate::columns::column_place;
-use crate::literals::literal_number;
+use cq_binder::{column_place, literal_number};
 use cq_model::{ColumnDef, Comparison, Condition};
 use cq_steps::Fault;
 use cq_values::{Truth, Value};

@@ -1,17 +1,38 @@
 //! The rows that a DELETE takes.
-ghost use Rattle.std.specs.Prelude.{◌≡◌, OnErr};
+ghost use Rattle.std.specs.List.{AllByRecursion};
+ghost use Rattle.std.specs.Prelude.{◌≡◌, OnErr, OnOk};
 ghost use Rattle.cq_engine.specs.Statements.{Deletes};
+ghost use Rattle.cq_engine.specs.Views.{AreSame, Follow, IsStored, StandOn};
 
 use crate::condition::bound_where;
 use crate::table::Table;
+use crate::view::View;
+use crate::views::{commit_all, prepare_all};
 use cq_model::Condition;
 use cq_steps::Fault;
+use std::alloc::Global;
 
-/// Takes the rows that WHERE keeps from this table, and tells how many they were. It needs no memory.
-pub fn delete_from(table: &mut Table, condition: &Option<Condition>) -> Result<usize, Fault>
+/// Takes the rows that WHERE keeps from this table, and tells how many they were. The views on the table follow.
+pub fn delete_from(
+    alloc: Global,
+    table: &mut Table,
+    views: &mut Vec<View>,
+    condition: &Option<Condition>,
+    epoch: u64,
+) -> Result<usize, Fault>
+    requires stored { AllByRecursion IsStored table.old.rows }
+    requires stand { StandOn table.old views.old.items }
     ensures walk { Deletes condition.now table.old table.new result }
-    ensures err { OnErr result (table.new ≡ table.old) }
+    ensures stored { AllByRecursion IsStored table.new.rows }
+    ensures follow { OnOk result (Follow epoch table.new views.old.items views.new.items) }
+    ensures err { OnErr result ((table.new ≡ table.old) × AreSame views.old.items views.new.items) }
 {
     let condition = bound_where(table.columns(), condition)?;
-    Ok(table.remove(&condition))
+    let pendings = {
+        let chosen = table.chosen(alloc, &condition)?;
+        prepare_all(alloc, views, table.number(), &chosen, -1)?
+    };
+    let count = table.remove(&condition);
+    commit_all(views, pendings, epoch);
+    Ok(count)
 }

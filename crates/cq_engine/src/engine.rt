@@ -1,17 +1,19 @@
 //! The engine, and one step of it.
-ghost use Rattle.std.specs.Prelude.{◌≡◌, ◌<◌, ◌+◌, ◌-◌, ◌^◌};
+ghost use Rattle.std.specs.Prelude.{◌≡◌, ◌<◌, ◌+◌, ◌-◌, ◌^◌, option_map};
 ghost use Rattle.cq_model.specs.declared.statement.Statement.TheVariants as statements;
-ghost use Rattle.cq_steps.specs.declared.answer.Answer.TheVariants.{Count};
-ghost use Rattle.cq_steps.specs.State.{first_state};
+ghost use Rattle.cq_steps.specs.State.{first_state, view_named};
 ghost use Rattle.cq_steps.specs.Step.{Step};
-ghost use Rattle.cq_engine.specs.Statements.{without_views};
 
-use crate::columns::copy_names;
+use crate::creation::{create_view_in, drop_view_in};
 use crate::limits::Limits;
+use crate::reading::select_from;
 use crate::sources::Sources;
 use crate::table::Table;
-use crate::tables::{create_in, delete_in, drop_in, insert_in, select_from};
-use cq_model::{ColumnDef, Condition, Literal, Select, Statement};
+use crate::tables::{create_in, delete_in, drop_in, insert_in};
+use crate::view::View;
+use crate::views::view_place;
+use cq_binder::copy_names;
+use cq_model::{ColumnDef, Condition, Literal, Select, Statement, ViewSelect};
 use cq_steps::{Answer, Fault};
 use cq_values::{Seq, Text};
 use std::alloc::Global;
@@ -20,11 +22,12 @@ use std::marker::Model;
 /// What the engine can be told to do.
 pub type Command = Statement;
 
-/// Tables, and how much was written to them.
+/// Tables with the views on them, and how much was written.
 #[derive(Drop)]
 pub struct Engine {
     alloc: Global,
     tables: Vec<Table>,
+    views: Vec<View>,
     writes: u64,
     drawn: u64,
     limits: Limits,
@@ -36,15 +39,16 @@ impl Model for Engine {
     ghost use Rattle.cq_model.specs.contracts.expr.Cond as cond;
     ghost use Rattle.cq_model.specs.contracts.expr.Expr as expr;
     ghost use Rattle.cq_steps.specs.State.{State, AreNumbered};
-    ghost use Rattle.cq_engine.specs.Statements.{without_views};
+    ghost use Rattle.cq_engine.specs.Statements.{present};
+    ghost use Rattle.cq_engine.specs.Views.{AreRight, AreStored, views_of};
 
     ghost Value = { State };
 
     ghost coded = { Prim.hlevel (codes, expr.the_row.coded, cond.the_row.coded) };
 
-    ghost view = { λ e. without_views e.tables.items e.writes e.drawn e.limits.max_rows };
+    ghost view = { λ e. present e.tables.items (views_of e.views.items) e.writes e.drawn e.limits.max_rows };
 
-    ghost invariant = { λ e. (e.writes ≤ e.drawn) × AreNumbered e.tables.items e.drawn };
+    ghost invariant = { λ e. (e.writes ≤ e.drawn) × AreNumbered e.tables.items e.drawn × AreStored e.tables.items × AreRight e.tables.items e.writes e.views.items };
 }
 
 impl Engine {
@@ -54,6 +58,7 @@ impl Engine {
         Engine {
             alloc,
             tables: Vec::new(alloc),
+            views: Vec::new(alloc),
             writes: 0,
             drawn: 0,
             limits,
@@ -74,7 +79,15 @@ impl Engine {
         self.drawn
     }
 
-    /// Carries out one statement, or refuses it and leaves every table as it was.
+    /// How many writes the view of a name has taken in, if there is one.
+    pub fn view_epoch(&self, name: &str) -> Option<u64>
+        ensures { result ≡ option_map (λ v. v.epoch) (view_named name.now self.now.views) }
+    {
+        let place = view_place(&self.views, name)?;
+        Some(self.views[place].epoch())
+    }
+
+    /// Carries out one statement, or refuses it and leaves every table and view as it was.
     pub fn step<S: Sources>(&mut self, command: &Command, _sources: &mut S) -> Result<Answer, Fault>
         requires { self.old.drawn < 2 ^ 64 - 1 }
         ensures { Step self.old command.now result self.new }
@@ -82,6 +95,8 @@ impl Engine {
         match command {
             Statement::CreateTable { name, columns } => self.create(name, columns),
             Statement::DropTable(name) => self.drop_table(name),
+            Statement::CreateView { name, view } => self.create_view(name, view),
+            Statement::DropView(name) => self.drop_view(name),
             Statement::Insert { table, rows } => self.insert(table, rows),
             Statement::Delete { table, condition } => self.delete(table, condition),
             Statement::Select(select) => self.select(select),
@@ -94,7 +109,14 @@ impl Engine {
     {
         let number = self.drawn;
         let columns = columns.as_slice();
-        create_in(self.alloc, &mut self.tables, number, name, columns)?;
+        create_in(
+            self.alloc,
+            &mut self.tables,
+            &self.views,
+            number,
+            name,
+            columns,
+        )?;
         self.drawn = number + 1;
         Ok(Answer::Done)
     }
@@ -102,7 +124,22 @@ impl Engine {
     fn drop_table(&mut self, name: &Text) -> Result<Answer, Fault>
         ensures { Step self.old (statements.DropTable name.now) result self.new }
     {
-        drop_in(&mut self.tables, name)?;
+        drop_in(&mut self.tables, &self.views, name)?;
+        Ok(Answer::Done)
+    }
+
+    fn create_view(&mut self, name: &Text, view: &ViewSelect) -> Result<Answer, Fault>
+        ensures { Step self.old (statements.CreateView name.now view.now) result self.new }
+    {
+        let now = self.writes;
+        create_view_in(self.alloc, &self.tables, &mut self.views, name, view, now)?;
+        Ok(Answer::Done)
+    }
+
+    fn drop_view(&mut self, name: &Text) -> Result<Answer, Fault>
+        ensures { Step self.old (statements.DropView name.now) result self.new }
+    {
+        drop_view_in(&mut self.views, name)?;
         Ok(Answer::Done)
     }
 
@@ -111,39 +148,43 @@ impl Engine {
         ensures { Step self.old (statements.Insert table.now rows.now) result self.new }
     {
         let max_rows = self.limits.max_rows;
+        let epoch = self.writes + 1;
         insert_in(
             self.alloc,
             max_rows,
             &mut self.tables,
+            &mut self.views,
             table,
             rows.as_slice(),
+            epoch,
         )?;
-        Ok(self.counted(rows.len()))
+        self.writes = epoch;
+        self.drawn += 1;
+        Ok(Answer::Count(rows.len() as u64))
     }
 
     fn delete(&mut self, table: &Text, condition: &Option<Condition>) -> Result<Answer, Fault>
         requires { self.old.drawn < 2 ^ 64 - 1 }
         ensures { Step self.old (statements.Delete table.now condition.now) result self.new }
     {
-        let rows = delete_in(&mut self.tables, table, condition)?;
-        Ok(self.counted(rows))
-    }
-
-    /// Counts a write of so many rows.
-    fn counted(&mut self, rows: usize) -> Answer
-        requires { self.old.drawn < 2 ^ 64 - 1 }
-        ensures answer { result ≡ Count rows }
-        ensures one_more { self.new ≡ without_views self.old.tables (self.old.now + 1) (self.old.drawn + 1) self.old.max_rows }
-    {
-        self.writes += 1;
+        let epoch = self.writes + 1;
+        let rows = delete_in(
+            self.alloc,
+            &mut self.tables,
+            &mut self.views,
+            table,
+            condition,
+            epoch,
+        )?;
+        self.writes = epoch;
         self.drawn += 1;
-        Answer::Count(rows as u64)
+        Ok(Answer::Count(rows as u64))
     }
 
     fn select(&self, select: &Select) -> Result<Answer, Fault>
         ensures { Step self.now (statements.Select select.now) result self.now }
     {
-        let rows = select_from(self.alloc, &self.tables, select)?;
+        let rows = select_from(self.alloc, &self.tables, &self.views, select)?;
         let header = copy_names(self.alloc, select.columns.as_slice())?;
         Ok(Answer::Rows { header, rows })
     }

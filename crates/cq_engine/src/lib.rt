@@ -5,19 +5,21 @@
 //! moves by the relation `Step`.
 #![tactic(auto)]
 
-mod columns;
 mod condition;
+mod creation;
 mod deletion;
 mod engine;
 mod insertion;
 mod limits;
-mod literals;
+mod reading;
 mod selection;
 mod sources;
 mod table;
 mod tables;
 #[cfg(test)]
 mod tests;
+mod view;
+mod views;
 
 pub use engine::{Command, Engine};
 pub use limits::Limits;

@@ -1,16 +1,17 @@
-//! Queries with the places of their columns, answered from a table's rows.
-ghost use Rattle.std.specs.Prelude.{◌≡◌, IfOk, Some, filter, map};
+//! Queries with the places of their columns, answered from the rows of a table or a view.
+ghost use Rattle.std.specs.Prelude.{◌≡◌, IfOk, Some, [], filter, map};
+ghost use Rattle.cq_bags.specs.Bag.{once_each};
+ghost use Rattle.cq_bags.specs.Listing.{Lists};
 ghost use Rattle.cq_values.specs.Value.{column};
 ghost use Rattle.cq_steps.specs.Bound.{place_in};
 ghost use Rattle.cq_steps.specs.Refusal.{name_place, select_places};
 ghost use Rattle.cq_engine.specs.Bound.{IsBound, keeps_at, values_at};
-ghost use Rattle.cq_engine.specs.Statements.{Selects, from_table};
-ghost use Rattle.cq_engine.specs.Walk.{Walked};
+ghost use Rattle.cq_engine.specs.Statements.{from_columns};
+ghost use Rattle.cq_binder.specs.Walk.{Walked};
 
-use crate::columns::{check_length, column_place};
 use crate::condition::{BoundCondition, bound_where, keeps_at};
-use crate::table::Table;
 use cq_bags::listed;
+use cq_binder::{check_length, column_place};
 use cq_model::{ColumnDef, Select};
 use cq_steps::Fault;
 use cq_values::{Row, Seq, Text, Value};
@@ -24,11 +25,10 @@ pub struct Selection {
 }
 
 impl Selection {
-    /// The query on this table, once it has been walked through.
-    pub fn new(alloc: Global, table: &Table, select: &Select) -> Result<Selection, Fault>
-        ensures { Walked (select_places select.now (Some (from_table table.now))) (IsBound table.now.columns select.now) result }
+    /// The query on a source with these columns, once it has been walked through.
+    pub fn new(alloc: Global, columns: &[ColumnDef], select: &Select) -> Result<Selection, Fault>
+        ensures { Walked (select_places select.now (Some (from_columns columns.now))) (IsBound columns.now select.now) result }
     {
-        let columns = table.columns();
         let names = select.columns.as_slice();
         let condition = bound_where(columns, &select.condition)?;
         let places = item_places(alloc, columns, names)?;
@@ -51,6 +51,15 @@ impl Selection {
         Ok(results)
     }
 
+    /// The listing of the query on these rows.
+    pub fn list(&self, alloc: Global, rows: &[Row]) -> Result<Seq<Row>, AllocError>
+        ensures { IfOk result (Lists [] (once_each (map (values_at self.now.places.items) (filter (keeps_at self.now.condition) rows.now)))) }
+    {
+        let results = self.rows(alloc, rows)?;
+        let sorted = listed(results)?;
+        Ok(Seq::from_vec(sorted))
+    }
+
     fn values(&self, alloc: Global, row: &[Value]) -> Result<Row, AllocError>
         ensures { IfOk result (λ values. values ≡ values_at self.now.places.items row.now) }
     {
@@ -60,16 +69,6 @@ impl Selection {
         }
         Ok(values)
     }
-}
-
-/// The listing of a query on this table.
-pub fn rows_from(alloc: Global, table: &Table, select: &Select) -> Result<Seq<Row>, Fault>
-    ensures { Selects select.now table.now result }
-{
-    let selection = Selection::new(alloc, table, select)?;
-    let results = selection.rows(alloc, table.rows())?;
-    let sorted = listed(results)?;
-    Ok(Seq::from_vec(sorted))
 }
 
 fn item_places(alloc: Global, columns: &[ColumnDef], names: &[Text]) -> Result<Vec<usize>, Fault>

@@ -1,12 +1,12 @@
 //! A table in memory.
-ghost use Rattle.std.specs.Prelude.{◌++◌, ◌≡◌, IfOk, OnErr, OnOk, [], filter, length, not};
+ghost use Rattle.std.specs.Prelude.{◌++◌, ◌≡◌, ◌<◌, ◌^◌, IfOk, OnErr, OnOk, [], filter, length, map, not};
 ghost use Rattle.cq_values.specs.Texts.{is_text};
 ghost use Rattle.cq_bags.specs.Canonical.{bag_of};
 ghost use Rattle.cq_steps.specs.State.{empty_table, holding};
 ghost use Rattle.cq_engine.specs.Bound.{keeps_at};
 
-use crate::columns::copy_columns;
 use crate::condition::{BoundCondition, keeps_at};
+use cq_binder::copy_columns;
 use cq_model::ColumnDef;
 use cq_values::{Row, Seq, Text};
 use std::alloc::{AllocError, Global};
@@ -55,10 +55,34 @@ impl Table {
         self.name.as_str() == name
     }
 
+    pub fn number(&self) -> u64
+        ensures { result ≡ self.now.number }
+    {
+        self.number
+    }
+
     pub fn columns(&self) -> &[ColumnDef]
         ensures { result.now ≡ self.now.columns }
     {
         self.columns.as_slice()
+    }
+
+    /// The rows that WHERE keeps, where they are stored.
+    pub fn chosen(
+        &self,
+        alloc: Global,
+        condition: &Option<BoundCondition>,
+    ) -> Result<Vec<&Row>, AllocError>
+        ensures bag { IfOk result (λ rows. bag_of (map (λ r. r.now) rows.items) ≡ bag_of (filter (keeps_at condition.now) self.now.rows)) }
+        ensures few { OnOk result (length self.now.rows < 2 ^ 64) }
+    {
+        let mut rows = Vec::new(alloc);
+        for row in &self.rows {
+            if keeps_at(condition, row.as_slice()) {
+                rows.push(row)?;
+            }
+        }
+        Ok(rows)
     }
 
     /// The rows as they are stored.

@@ -10,9 +10,13 @@ use Rattle.cq_model.specs.declared.statement.ColumnDef.{ColumnDef}
 use Rattle.cq_model.specs.declared.statement.Comparison.{Comparison}
 use Rattle.cq_model.specs.declared.statement.Comparison.TheVariants as comparisons
 use Rattle.cq_model.specs.declared.statement.Condition.{Condition}
+use Rattle.cq_model.specs.declared.statement.Item.{Item}
+use Rattle.cq_model.specs.declared.statement.ItemValue.{ItemValue}
+use Rattle.cq_model.specs.declared.statement.ItemValue.TheVariants as values
 use Rattle.cq_model.specs.declared.statement.Literal.{Literal}
 use Rattle.cq_model.specs.declared.statement.Statement.{Statement}
 use Rattle.cq_model.specs.declared.statement.Statement.TheVariants as statements
+use Rattle.cq_model.specs.declared.statement.ViewSelect.{ViewSelect}
 use Rattle.cq_model.specs.Tokens.{HasTokens, is_past_limits}
 
 -- x {, x}
@@ -58,12 +62,37 @@ abbrev pub IsWhere : Option Condition → List Token → Type 0
 IsWhere None ts = ts ≡ []
 IsWhere (Some c) ts = (number : List Token) × (ts ≡ tokens.Keyword keywords.Where ∷ tokens.Name c.column ∷ tokens.Symbol (comparison_symbol c.comparison) ∷ number) × IsLiteral c.literal number
 
+-- name, COUNT ( * ) or SUM ( name )
+abbrev pub IsItemValue : ItemValue → List Token → Type 0
+IsItemValue (values.Column name) ts = IsName name ts
+IsItemValue values.CountAll ts = ts ≡ tokens.Keyword keywords.Count ∷ tokens.Symbol symbols.Open ∷ tokens.Symbol symbols.Star ∷ tokens.Symbol symbols.Close ∷ []
+IsItemValue (values.Sum name) ts = ts ≡ tokens.Keyword keywords.Sum ∷ tokens.Symbol symbols.Open ∷ tokens.Name name ∷ tokens.Symbol symbols.Close ∷ []
+
+-- [AS name]
+abbrev pub IsAlias : Option (List ℕ) → List Token → Type 0
+IsAlias None ts = ts ≡ []
+IsAlias (Some name) ts = ts ≡ tokens.Keyword keywords.As ∷ tokens.Name name ∷ []
+
+-- an item of a view
+abbrev pub IsItem : Item → List Token → Type 0
+IsItem item ts = (value alias : List Token) × (ts ≡ value ++ alias) × IsItemValue item.value value × IsAlias item.alias alias
+
+-- SELECT item {, item} FROM name [WHERE ..] GROUP BY name {, name}
+abbrev pub IsViewSelect : ViewSelect → List Token → Type 0
+IsViewSelect v ts = (items condition group : List Token)
+    × (ts ≡ tokens.Keyword keywords.Select ∷ items ++ tokens.Keyword keywords.From ∷ tokens.Name v.table ∷ condition ++ tokens.Keyword keywords.Group ∷ tokens.Keyword keywords.By ∷ group)
+    × Separated IsItem v.items items × IsWhere v.condition condition × Separated IsName v.group group
+
 -- a statement of each kind, from its first word to its last
 abbrev pub IsStatement : Statement → List Token → Type 0
 -- CREATE TABLE name ( column {, column} )
 IsStatement (statements.CreateTable name columns) ts = (inner : List Token) × (ts ≡ tokens.Keyword keywords.Create ∷ tokens.Keyword keywords.Table ∷ tokens.Name name ∷ tokens.Symbol symbols.Open ∷ inner ++ tokens.Symbol symbols.Close ∷ []) × Separated IsColumn columns inner
 -- DROP TABLE name
 IsStatement (statements.DropTable name) ts = ts ≡ tokens.Keyword keywords.Drop ∷ tokens.Keyword keywords.Table ∷ tokens.Name name ∷ []
+-- CREATE VIEW name AS select
+IsStatement (statements.CreateView name view) ts = (rest : List Token) × (ts ≡ tokens.Keyword keywords.Create ∷ tokens.Keyword keywords.View ∷ tokens.Name name ∷ tokens.Keyword keywords.As ∷ rest) × IsViewSelect view rest
+-- DROP VIEW name
+IsStatement (statements.DropView name) ts = ts ≡ tokens.Keyword keywords.Drop ∷ tokens.Keyword keywords.View ∷ tokens.Name name ∷ []
 -- INSERT INTO name VALUES row {, row}
 IsStatement (statements.Insert name rows) ts = (inner : List Token) × (ts ≡ tokens.Keyword keywords.Insert ∷ tokens.Keyword keywords.Into ∷ tokens.Name name ∷ tokens.Keyword keywords.Values ∷ inner) × Separated IsRow rows inner
 -- DELETE FROM name [WHERE ..]

@@ -23,7 +23,9 @@ pub use eval::{bound_holds, eval_row, lend_column};
 pub use expr::{Cond, DayPart, Expr};
 pub use pattern::{like, like_decides};
 pub use query::{Aggregate, Equality, Join, Order, Query, Shape, Source};
-pub use statement::{ColumnDef, Comparison, Condition, Literal, Select, Statement};
+pub use statement::{
+    ColumnDef, Comparison, Condition, Item, ItemValue, Literal, Select, Statement, ViewSelect,
+};
 pub use token::{Keyword, Symbol, Token};
 pub use truth::{compare, holds_row};
 pub use width::{fits, width_of};

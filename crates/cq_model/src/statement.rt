@@ -43,6 +43,30 @@ pub struct Select {
     pub condition: Option<Condition>,
 }
 
+/// What an item of a view shows.
+#[derive(Debug, Drop)]
+pub enum ItemValue {
+    Column(Text),
+    CountAll,
+    Sum(Text),
+}
+
+/// An item of a view, with the name behind AS.
+#[derive(Debug, Drop)]
+pub struct Item {
+    pub value: ItemValue,
+    pub alias: Option<Text>,
+}
+
+/// The query of a view: items of the groups of one table's rows.
+#[derive(Debug, Drop)]
+pub struct ViewSelect {
+    pub items: Seq<Item>,
+    pub table: Text,
+    pub condition: Option<Condition>,
+    pub group: Seq<Text>,
+}
+
 /// A statement, as it was written.
 #[derive(Debug, Drop)]
 pub enum Statement {
@@ -51,6 +75,11 @@ pub enum Statement {
         columns: Seq<ColumnDef>,
     },
     DropTable(Text),
+    CreateView {
+        name: Text,
+        view: ViewSelect,
+    },
+    DropView(Text),
     Insert {
         table: Text,
         rows: Seq<Seq<Literal>>,

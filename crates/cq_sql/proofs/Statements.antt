@@ -21,40 +21,8 @@ use Rattle.cq_sql.specs.Grammar.{name_at, column_at, row_at, create_table_at, dr
 use Rattle.cq_sql.proofs.Exact.{Reads, Anything, Nothing, Done, After, Then, at_end, bind_some, keyword_takes, symbol_takes, done_reads, behind_reads, then_reads, next_reads}
 use Rattle.cq_sql.proofs.Lists.{list_reads}
 use Rattle.cq_sql.proofs.Items.{name_reads, name_some, column_reads, column_some, row_reads, row_some, where_reads}
-
--- the words and signs of statements
-abbrev create : Token
-create = tokens.Keyword keywords.Create
-
-abbrev table : Token
-table = tokens.Keyword keywords.Table
-
-abbrev drop_word : Token
-drop_word = tokens.Keyword keywords.Drop
-
-abbrev insert : Token
-insert = tokens.Keyword keywords.Insert
-
-abbrev delete : Token
-delete = tokens.Keyword keywords.Delete
-
-abbrev select : Token
-select = tokens.Keyword keywords.Select
-
-abbrev into : Token
-into = tokens.Keyword keywords.Into
-
-abbrev values : Token
-values = tokens.Keyword keywords.Values
-
-abbrev from_word : Token
-from_word = tokens.Keyword keywords.From
-
-abbrev open_sign : Token
-open_sign = tokens.Symbol symbols.Open
-
-abbrev close_sign : Token
-close_sign = tokens.Symbol symbols.Close
+use Rattle.cq_sql.proofs.Views.{create_view_reads, create_view_parts, create_view_spelled, drop_view_reads, drop_view_parts, drop_view_spelled}
+use Rattle.cq_sql.proofs.Words.{create, table, view_word, drop_word, insert, delete, select, into, values, from_word, open_sign, close_sign}
 
 -- name ( columns )
 abbrev CreateTableParts : Statement → List Token → Type 0
@@ -207,6 +175,8 @@ statement_reads = record { found = found; only = only } where
   found : (s : Statement) (front rest : List Token) → IsStatement s front → Nothing rest → statement_at (front ++ rest) ≡ Some (s, rest)
   found (statements.CreateTable name columns) front rest h end = rw h.1 (create_table_reads.found (statements.CreateTable name columns) _ rest (create_table_parts name columns h.0 h.2) end)
   found (statements.DropTable name) front rest h end = rw h (drop_table_reads.found (statements.DropTable name) _ rest (drop_table_parts name) end)
+  found (statements.CreateView name view) front rest h end = rw h.1 (create_view_reads.found (statements.CreateView name view) _ rest (create_view_parts name view h.0 h.2) end)
+  found (statements.DropView name) front rest h end = rw h (drop_view_reads.found (statements.DropView name) _ rest (drop_view_parts name) end)
   found (statements.Insert name rows) front rest h end = rw h.1 (insert_reads.found (statements.Insert name rows) _ rest (insert_parts name rows h.0 h.2) end)
   found (statements.Delete name condition) front rest h end = rw h.1 (delete_reads.found (statements.Delete name condition) _ rest (delete_parts name condition h.0 h.2) end)
   found (statements.Select q) front rest h end = rw h.2 (select_reads.found (statements.Select q) _ rest (select_parts q h.0 h.1 h.3 h.4) end)
@@ -218,6 +188,12 @@ statement_reads = record { found = found; only = only } where
   only s (tokens.Keyword keywords.Drop ∷ tokens.Keyword keywords.Table ∷ ts) rest e =
       let o = drop_table_reads.only s ts rest e in
       (drop_word ∷ table ∷ o.0, ap (λ (us : List Token). drop_word ∷ table ∷ us) o.1, drop_table_spelled s o.0 o.2)
+  only s (tokens.Keyword keywords.Create ∷ tokens.Keyword keywords.View ∷ ts) rest e =
+      let o = create_view_reads.only s ts rest e in
+      (create ∷ view_word ∷ o.0, ap (λ (us : List Token). create ∷ view_word ∷ us) o.1, create_view_spelled s o.0 o.2)
+  only s (tokens.Keyword keywords.Drop ∷ tokens.Keyword keywords.View ∷ ts) rest e =
+      let o = drop_view_reads.only s ts rest e in
+      (drop_word ∷ view_word ∷ o.0, ap (λ (us : List Token). drop_word ∷ view_word ∷ us) o.1, drop_view_spelled s o.0 o.2)
   only s (tokens.Keyword keywords.Insert ∷ ts) rest e =
       let o = insert_reads.only s ts rest e in
       (insert ∷ o.0, ap (λ (us : List Token). insert ∷ us) o.1, insert_spelled s o.0 o.2)

@@ -9,9 +9,13 @@ use Rattle.cq_model.specs.declared.statement.ColumnDef.{ColumnDef}
 use Rattle.cq_model.specs.declared.statement.Comparison.{Comparison}
 use Rattle.cq_model.specs.declared.statement.Comparison.TheVariants as comparisons
 use Rattle.cq_model.specs.declared.statement.Condition.{Condition}
+use Rattle.cq_model.specs.declared.statement.Item.{Item}
+use Rattle.cq_model.specs.declared.statement.ItemValue.{ItemValue}
+use Rattle.cq_model.specs.declared.statement.ItemValue.TheVariants as values
 use Rattle.cq_model.specs.declared.statement.Literal.{Literal}
 use Rattle.cq_model.specs.declared.statement.Statement.{Statement}
 use Rattle.cq_model.specs.declared.statement.Statement.TheVariants as statements
+use Rattle.cq_model.specs.declared.statement.ViewSelect.{ViewSelect}
 use Rattle.cq_model.specs.Sentence.{integer_column}
 use Rattle.cq_sql.specs.Read.{◌>>=◌, Reader, done, followed_by, behind, after_keyword, after_symbol, list_at, tail_at}
 
@@ -54,6 +58,38 @@ unfoldable pub condition_at : Reader Condition
 condition_at =
     followed_by name_at (λ column. followed_by comparison_at (λ comparison. followed_by literal_at (λ literal. done (record { column = column; comparison = comparison; literal = literal }))))
 
+-- takes what follows COUNT: a star between two parentheses
+unfoldable pub count_at : Reader ItemValue
+count_at = behind (after_symbol symbols.Open) (behind (after_symbol symbols.Star) (behind (after_symbol symbols.Close) (done values.CountAll)))
+
+-- takes what follows SUM: a column between two parentheses
+unfoldable pub sum_at : Reader ItemValue
+sum_at = behind (after_symbol symbols.Open) (followed_by name_at (λ name. behind (after_symbol symbols.Close) (done (values.Sum name))))
+
+-- takes what an item shows: a column, or what its first keyword says
+unfoldable pub item_value_at : Reader ItemValue
+item_value_at (tokens.Name name ∷ ts) = Some (values.Column name, ts)
+item_value_at (tokens.Keyword keywords.Count ∷ ts) = count_at ts
+item_value_at (tokens.Keyword keywords.Sum ∷ ts) = sum_at ts
+item_value_at ts = None
+
+-- takes the name behind AS, or nothing where there is none
+abbrev pub alias_at : Reader (Option (List ℕ))
+alias_at = tail_at keywords.As name_at
+
+-- takes an item of a view: what it shows, and an optional name
+unfoldable pub item_at : Reader Item
+item_at = followed_by item_value_at (λ value. followed_by alias_at (λ alias. done (record { value = value; alias = alias })))
+
+-- takes what follows the items of a view: its table, an optional condition and the columns of its groups
+unfoldable pub groups_at : List Item → Reader ViewSelect
+groups_at items =
+    behind (after_keyword keywords.From) (followed_by name_at (λ table. followed_by (tail_at keywords.Where condition_at) (λ condition. behind (after_keyword keywords.Group) (behind (after_keyword keywords.By) (followed_by (list_at name_at) (λ group. done (record { items = items; table = table; condition = condition; group = group })))))))
+
+-- takes the query of a view: its items, and what they are taken from
+unfoldable pub view_select_at : Reader ViewSelect
+view_select_at = behind (after_keyword keywords.Select) (followed_by (list_at item_at) groups_at)
+
 -- takes what follows CREATE TABLE: the table's name and its columns
 unfoldable pub create_table_at : Reader Statement
 create_table_at =
@@ -62,6 +98,14 @@ create_table_at =
 -- takes what follows DROP TABLE: the table's name
 unfoldable pub drop_table_at : Reader Statement
 drop_table_at = followed_by name_at (λ name. done (statements.DropTable name))
+
+-- takes what follows CREATE VIEW: the view's name and its query
+unfoldable pub create_view_at : Reader Statement
+create_view_at = followed_by name_at (λ name. behind (after_keyword keywords.As) (followed_by view_select_at (λ view. done (statements.CreateView name view))))
+
+-- takes what follows DROP VIEW: the view's name
+unfoldable pub drop_view_at : Reader Statement
+drop_view_at = followed_by name_at (λ name. done (statements.DropView name))
 
 -- takes what follows INSERT: the table's name and the new rows
 unfoldable pub insert_at : Reader Statement
@@ -82,6 +126,8 @@ select_at =
 unfoldable pub statement_at : Reader Statement
 statement_at (tokens.Keyword keywords.Create ∷ tokens.Keyword keywords.Table ∷ ts) = create_table_at ts
 statement_at (tokens.Keyword keywords.Drop ∷ tokens.Keyword keywords.Table ∷ ts) = drop_table_at ts
+statement_at (tokens.Keyword keywords.Create ∷ tokens.Keyword keywords.View ∷ ts) = create_view_at ts
+statement_at (tokens.Keyword keywords.Drop ∷ tokens.Keyword keywords.View ∷ ts) = drop_view_at ts
 statement_at (tokens.Keyword keywords.Insert ∷ ts) = insert_at ts
 statement_at (tokens.Keyword keywords.Delete ∷ ts) = delete_at ts
 statement_at (tokens.Keyword keywords.Select ∷ ts) = select_at ts

@@ -4,12 +4,13 @@ ghost use Rattle.cq_model.specs.Sentence.{IsStatement};
 ghost use Rattle.cq_model.specs.declared.statement.Statement.{Statement};
 ghost use Rattle.cq_sql.specs.declared.fault.SqlFault.TheVariants.{LimitExceeded, Syntax};
 ghost use Rattle.cq_sql.specs.Gives.{Gives};
-ghost use Rattle.cq_sql.specs.Grammar.{name_at, column_at, literal_at, row_at, comparison_of, comparison_at, condition_at, create_table_at, drop_table_at, insert_at, delete_at, select_at, statement_at, whole_statement};
+ghost use Rattle.cq_sql.specs.Grammar.{name_at, column_at, literal_at, row_at, comparison_of, comparison_at, condition_at, create_table_at, drop_table_at, create_view_at, drop_view_at, insert_at, delete_at, select_at, statement_at, whole_statement};
 
 use crate::fault::SqlFault;
 use crate::read::{Readable, expect_keyword, expect_symbol, list_of, tail_of};
 use cq_model::{
     ColumnDef, Comparison, Condition, Keyword, Literal, Select, Statement, Symbol, Token,
+    ViewSelect,
 };
 use cq_values::{Seq, Text, Ty};
 use std::alloc::Global;
@@ -132,6 +133,24 @@ fn drop_table_at(alloc: Global, tokens: &[Token]) -> Result<(Statement, &[Token]
     Ok((Statement::DropTable(name), rest))
 }
 
+#[tactic(auto, unfolding(crate::specs::Grammar::create_view_at))]
+fn create_view_at(alloc: Global, tokens: &[Token]) -> Result<(Statement, &[Token]), SqlFault>
+    ensures { Gives (λ x. (x.0, x.1.now)) result (create_view_at tokens.now) }
+{
+    let (name, rest) = Text::read(alloc, tokens)?;
+    let rest = expect_keyword(Keyword::As, rest)?;
+    let (view, rest) = ViewSelect::read(alloc, rest)?;
+    Ok((Statement::CreateView { name, view }, rest))
+}
+
+#[tactic(auto, unfolding(crate::specs::Grammar::drop_view_at))]
+fn drop_view_at(alloc: Global, tokens: &[Token]) -> Result<(Statement, &[Token]), SqlFault>
+    ensures { Gives (λ x. (x.0, x.1.now)) result (drop_view_at tokens.now) }
+{
+    let (name, rest) = Text::read(alloc, tokens)?;
+    Ok((Statement::DropView(name), rest))
+}
+
 #[tactic(auto, unfolding(crate::specs::Grammar::insert_at))]
 fn insert_at(alloc: Global, tokens: &[Token]) -> Result<(Statement, &[Token]), SqlFault>
     ensures { Gives (λ x. (x.0, x.1.now)) result (insert_at tokens.now) }
@@ -184,6 +203,16 @@ fn statement_at(alloc: Global, tokens: &[Token]) -> Result<(Statement, &[Token])
             Token::Keyword(Keyword::Table),
             rest @ ..,
         ] => drop_table_at(alloc, rest),
+        [
+            Token::Keyword(Keyword::Create),
+            Token::Keyword(Keyword::View),
+            rest @ ..,
+        ] => create_view_at(alloc, rest),
+        [
+            Token::Keyword(Keyword::Drop),
+            Token::Keyword(Keyword::View),
+            rest @ ..,
+        ] => drop_view_at(alloc, rest),
         [Token::Keyword(Keyword::Insert), rest @ ..] => insert_at(alloc, rest),
         [Token::Keyword(Keyword::Delete), rest @ ..] => delete_at(alloc, rest),
         [Token::Keyword(Keyword::Select), rest @ ..] => select_at(alloc, rest),

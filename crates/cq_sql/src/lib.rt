@@ -11,6 +11,7 @@ mod read;
 mod sentences;
 #[cfg(test)]
 mod tests;
+mod view;
 
 pub use cq_tokens::{Piece, Pieces, split};
 pub use fault::SqlFault;

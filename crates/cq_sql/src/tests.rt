@@ -1,4 +1,6 @@
 //! Lists of tokens that are statements, and lists that are none.
+mod views;
+
 use crate::{SqlFault, tree_of};
 use cq_model::{Comparison, Condition, Keyword, Literal, Statement, Symbol, Token};
 use cq_values::Text;
@@ -7,16 +9,22 @@ use std::test::Fail;
 
 fn keyword(word: &str) -> Option<Keyword> {
     match word {
+        "as" => Some(Keyword::As),
+        "by" => Some(Keyword::By),
+        "count" => Some(Keyword::Count),
         "create" => Some(Keyword::Create),
         "delete" => Some(Keyword::Delete),
         "drop" => Some(Keyword::Drop),
         "from" => Some(Keyword::From),
+        "group" => Some(Keyword::Group),
         "insert" => Some(Keyword::Insert),
         "integer" => Some(Keyword::Integer),
         "into" => Some(Keyword::Into),
         "select" => Some(Keyword::Select),
+        "sum" => Some(Keyword::Sum),
         "table" => Some(Keyword::Table),
         "values" => Some(Keyword::Values),
+        "view" => Some(Keyword::View),
         "where" => Some(Keyword::Where),
         _ => None,
     }
@@ -76,6 +84,8 @@ fn a_statement_is_read(rt: HostRuntime) -> Result<(), Fail> {
         "create table t ( a integer )",
         "create table t ( a integer , b integer , a integer )",
         "drop table t",
+        "create view v as select a from t group by a",
+        "drop view v",
         "insert into t values ( 1 )",
         "insert into t values ( 1 , - 2 ) , ( 3 )",
         "insert into t values ( - 0 )",
@@ -112,6 +122,10 @@ fn half_a_statement_is_none(rt: HostRuntime) -> Result<(), Fail> {
         "drop",
         "drop t",
         "drop table",
+        "create view v as select a from t",
+        "create view v as select a as from t group by a",
+        "create view v as select sum ( * ) from t group by a",
+        "drop view",
         "insert into t values",
         "insert into t values ( )",
         "insert into t values ( 1",
@@ -152,6 +166,8 @@ fn what_follows_a_statement_makes_it_none(rt: HostRuntime) -> Result<(), Fail> {
         "create table t ( a integer ) u",
         "drop table t u",
         "drop table t , u",
+        "create view v as select a from t group by a where a = 1",
+        "drop view v w",
         "insert into t values ( 1 ) where a = 1",
         "insert into t values ( - - 1 )",
         "insert into t values ( + 1 )",
@@ -219,17 +235,25 @@ fn a_condition_is_kept(rt: HostRuntime) -> Result<(), Fail> {
     Ok(())
 }
 
-fn dropped(statement: &Statement) -> Option<&str> {
+/// What is dropped, and its name.
+fn dropped(statement: &Statement) -> Option<(&str, &str)> {
     match statement {
-        Statement::DropTable(name) => Some(name.as_str()),
+        Statement::DropTable(name) => Some(("table", name.as_str())),
+        Statement::DropView(name) => Some(("view", name.as_str())),
         _ => None,
     }
 }
 
 #[test]
-fn a_dropped_table_goes_by_its_name(rt: HostRuntime) -> Result<(), Fail> {
-    let tokens = tokens(rt.alloc(), "drop table t")?;
-    let statement = tree_of(rt.alloc(), &tokens)?;
-    assert_eq!(rt; dropped(&statement), Some("t"));
+fn what_is_dropped_goes_by_its_name(rt: HostRuntime) -> Result<(), Fail> {
+    let cases = [
+        ("drop table t", ("table", "t")),
+        ("drop view v", ("view", "v")),
+    ];
+    for (text, expected) in cases {
+        let tokens = tokens(rt.alloc(), text)?;
+        let statement = tree_of(rt.alloc(), &tokens)?;
+        assert_eq!(rt; dropped(&statement), Some(expected), "{text}");
+    }
     Ok(())
 }

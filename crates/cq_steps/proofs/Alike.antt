@@ -97,6 +97,8 @@ refusal-seen x (statements.DropTable name) = used (table_named name x.tables)
     used : (o : Option TableOf) → first_fault (drop_table_places (map timeless x.views) o) ≡ first_fault (drop_table_places x.views o)
     used None = refl
     used (Some t) = rw (used-timeless t.number x.views) refl
+refusal-seen x (statements.CreateView name view) = rw (there-timeless name x.views, there-timeless view.table x.views) refl
+refusal-seen x (statements.DropView name) = rw (place-timeless name x.views) refl
 refusal-seen x (statements.Insert name rows) = rw (there-timeless name x.views) refl
 refusal-seen x (statements.Delete name condition) = rw (there-timeless name x.views) refl
 refusal-seen x (statements.Select q) = ap (λ (o : Option Named). first_fault (select_places q o)) (source-timeless q.table x)
@@ -105,6 +107,8 @@ refusal-seen x (statements.Select q) = ap (λ (o : Option Named). first_fault (s
 bound-seen : (x : State) (s : Statement) → bound (seen x) s ≡ bound x s
 bound-seen x (statements.CreateTable name columns) = refl
 bound-seen x (statements.DropTable name) = refl
+bound-seen x (statements.CreateView name view) = refl
+bound-seen x (statements.DropView name) = ap (option_map commands.DropView) (place-timeless name x.views)
 bound-seen x (statements.Insert name rows) = refl
 bound-seen x (statements.Delete name condition) = refl
 bound-seen x (statements.Select q) = ap (option_map (bound_select q)) (source-timeless q.table x)

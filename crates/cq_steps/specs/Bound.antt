@@ -1,6 +1,9 @@
 -- What statements say once their names are resolved (docs/LANGUAGE.md, Statements).
-use Rattle.std.specs.Prelude.{ℕ, ℤ, pos, neg_ℤ, false, if◌then◌else◌, List, [], map, Option, Some, None, option_map, unwrap_or, position}
+use Rattle.std.specs.Prelude.{ℕ, ◌+◌, ℤ, pos, neg_ℤ, false, if◌then◌else◌, List, [], ◌∷◌, ◌++◌, codes, map, length, Option, Some, None, option_map, unwrap_or, position}
+use Rattle.std.specs.Fmt.{decimal}
+use Rattle.std.specs.List.{flat_map}
 use Rattle.std.specs.Option.{option_or}
+use Rattle.cq_values.specs.declared.ty.Ty.TheVariants.{Integer}
 use Rattle.cq_values.specs.declared.value.Value.TheVariants.{Number}
 use Rattle.cq_values.specs.Texts.{is_text}
 use Rattle.cq_values.specs.Value.{Row}
@@ -10,16 +13,22 @@ use Rattle.cq_model.specs.declared.expr.Cond.{Cond}
 use Rattle.cq_model.specs.declared.expr.Cond.TheVariants.{Compare}
 use Rattle.cq_model.specs.declared.expr.Expr.{Expr}
 use Rattle.cq_model.specs.declared.expr.Expr.TheVariants as exprs
+use Rattle.cq_model.specs.declared.query.Aggregate.{Aggregate}
+use Rattle.cq_model.specs.declared.query.Aggregate.TheVariants as aggregates
 use Rattle.cq_model.specs.declared.query.Query.{Query}
-use Rattle.cq_model.specs.declared.query.Shape.TheVariants.{Plain}
+use Rattle.cq_model.specs.declared.query.Shape.TheVariants.{Plain, Grouped}
 use Rattle.cq_model.specs.declared.query.Source.{Source}
 use Rattle.cq_model.specs.declared.query.Source.TheVariants.{Table, View}
 use Rattle.cq_model.specs.declared.statement.ColumnDef.{ColumnDef}
 use Rattle.cq_model.specs.declared.statement.Condition.{Condition}
+use Rattle.cq_model.specs.declared.statement.Item.{Item}
+use Rattle.cq_model.specs.declared.statement.ItemValue.{ItemValue}
+use Rattle.cq_model.specs.declared.statement.ItemValue.TheVariants as values
 use Rattle.cq_model.specs.declared.statement.Literal.{Literal}
 use Rattle.cq_model.specs.declared.statement.Select.{Select}
 use Rattle.cq_model.specs.declared.statement.Statement.{Statement}
 use Rattle.cq_model.specs.declared.statement.Statement.TheVariants as statements
+use Rattle.cq_model.specs.declared.statement.ViewSelect.{ViewSelect}
 use Rattle.cq_steps.specs.State.{TableOf, State, table_named, view_place, view_named}
 
 -- the number that a literal stands for
@@ -72,10 +81,63 @@ bound_query q source = record {
 abbrev pub bound_select : Select → Named → Bound
 bound_select q source = commands.Select q.columns (bound_query q source) (record { keys = []; limit = None })
 
+-- what an item of a view is called where it has no name behind AS: a column by its name, and the others by their place
+abbrev pub own_name : ℕ → ItemValue → List ℕ
+own_name place (values.Column name) = name
+own_name place values.CountAll = codes "c" ++ decimal place
+own_name place (values.Sum name) = codes "c" ++ decimal place
+
+-- what the items from a place on are called
+abbrev pub item_names : ℕ → List Item → List (List ℕ)
+item_names place [] = []
+item_names place (item ∷ items) = unwrap_or item.alias (own_name place item.value) ∷ item_names (place + 1) items
+
+-- a column of a view: each item is a whole number
+abbrev pub view_column : List ℕ → ColumnDef
+view_column name = record { name = name; ty = Integer; not_null = false }
+
+-- the columns of a view
+abbrev pub view_columns : ViewSelect → List ColumnDef
+view_columns v = map view_column (item_names 1 v.items)
+
+-- what an item tells of a group
+abbrev pub aggregates_in : List ColumnDef → ItemValue → List Aggregate
+aggregates_in columns (values.Column name) = []
+aggregates_in columns values.CountAll = aggregates.CountAll ∷ []
+aggregates_in columns (values.Sum name) = aggregates.Sum (named_column columns name) ∷ []
+
+-- where a column of GROUP BY stands in a group's row
+abbrev pub group_place : List (List ℕ) → List ℕ → ℕ
+group_place group name = unwrap_or (position (λ g. is_text g name) group) 0
+
+-- the items by their places in a group's row: its key, and from a place on what these items tell of it
+abbrev pub item_places_in : List (List ℕ) → ℕ → List ItemValue → List ℕ
+item_places_in group next [] = []
+item_places_in group next (values.Column name ∷ items) = group_place group name ∷ item_places_in group next items
+item_places_in group next (values.CountAll ∷ items) = next ∷ item_places_in group (next + 1) items
+item_places_in group next (values.Sum name ∷ items) = next ∷ item_places_in group (next + 1) items
+
+-- what the items of a view show
+abbrev pub values_in : ViewSelect → List ItemValue
+values_in v = map (λ item. item.value) v.items
+
+-- a view's query on its table
+abbrev pub grouped_query : ViewSelect → TableOf → Query
+grouped_query v t = record {
+  first = Table t.number;
+  joins = [];
+  filter = option_map (bound_condition t.columns) v.condition;
+  shape = Grouped (Some (map (place_in t.columns) v.group)) (flat_map (aggregates_in t.columns) (values_in v)) None;
+  items = map exprs.Column (item_places_in v.group (length v.group) (values_in v));
+  distinct = false;
+}
+
 -- a statement whose tables and views are there
 abbrev pub bound : State → Statement → Option Bound
 bound s (statements.CreateTable name columns) = Some (commands.CreateTable name columns [])
 bound s (statements.DropTable name) = option_map (λ t. commands.DropTable t.number) (table_named name s.tables)
+bound s (statements.CreateView name view) = option_map (λ t. commands.CreateView name (view_columns view) (grouped_query view t)) (table_named view.table s.tables)
+bound s (statements.DropView name) = option_map commands.DropView (view_place name s.views)
 bound s (statements.Insert name rows) = option_map (λ t. commands.Insert t.number (map row_of rows)) (table_named name s.tables)
 bound s (statements.Delete name condition) = option_map (λ t. commands.Delete t.number (option_map (bound_condition t.columns) condition)) (table_named name s.tables)
 bound s (statements.Select q) = option_map (bound_select q) (source_named q.table s)

@@ -1,20 +1,23 @@
 -- Which refusal a statement gets: the walk through its places, each with its fault or none; the first fault wins
 -- (docs/LANGUAGE.md, Refusals).
-use Rattle.std.specs.Prelude.{◌≡◌, ℕ, ◌+◌, ◌^◌, nat_lt, nat_le, ◌==◌, Bool, not, if◌then◌else◌, List, [], ◌∷◌, ◌++◌, map, length, Option, Some, None, is_some, is_none, ok_or, Result, Ok, Err}
+use Rattle.std.specs.Prelude.{◌≡◌, ℕ, ◌+◌, ◌^◌, nat_lt, nat_le, ◌==◌, Bool, false, ◌||◌, not, if◌then◌else◌, List, [], ◌∷◌, ◌++◌, map, length, Option, Some, None, is_some, is_none, ok_or, Result, Ok, Err}
 use Rattle.std.specs.List.{list_any, flat_map}
 use Rattle.cq_values.specs.Texts.{is_text}
 use Rattle.cq_model.specs.declared.statement.ColumnDef.{ColumnDef}
 use Rattle.cq_model.specs.declared.statement.Condition.{Condition}
+use Rattle.cq_model.specs.declared.statement.ItemValue.{ItemValue}
+use Rattle.cq_model.specs.declared.statement.ItemValue.TheVariants as values
 use Rattle.cq_model.specs.declared.statement.Literal.{Literal}
 use Rattle.cq_model.specs.declared.statement.Select.{Select}
 use Rattle.cq_model.specs.declared.statement.Statement.{Statement}
 use Rattle.cq_model.specs.declared.statement.Statement.TheVariants as statements
+use Rattle.cq_model.specs.declared.statement.ViewSelect.{ViewSelect}
 use Rattle.cq_model.specs.Views.{sources_of, is_table}
 use Rattle.cq_steps.specs.declared.fault.Fault.{Fault}
-use Rattle.cq_steps.specs.declared.fault.Fault.TheVariants.{UnknownTable, UnknownColumn, NameTaken, TypeMismatch, TooWide, NumberOutside, TableFull, TableInUse, ViewNotWritten, LimitExceeded}
+use Rattle.cq_steps.specs.declared.fault.Fault.TheVariants.{UnknownTable, UnknownColumn, NameTaken, TypeMismatch, AggregateMisplaced, TooWide, NumberOutside, TableFull, TableInUse, ViewNotWritten, ClauseInView, LimitExceeded}
 use Rattle.cq_steps.specs.declared.fault.Fault.TheVariants as faults
-use Rattle.cq_steps.specs.Bound.{column_place, Named, source_named}
-use Rattle.cq_steps.specs.State.{TableOf, ViewOf, State, table_named, view_named, is_taken}
+use Rattle.cq_steps.specs.Bound.{column_place, item_names, values_in, Named, source_named}
+use Rattle.cq_steps.specs.State.{TableOf, ViewOf, State, table_named, view_place, view_named, is_taken}
 
 -- the first place that has a fault decides
 abbrev pub first_fault : List (Option Fault) → Option Fault
@@ -90,10 +93,47 @@ abbrev pub select_places : Select → Option Named → List (Option Fault)
 select_places q None = Some UnknownTable ∷ []
 select_places q (Some source) = where_places source.columns q.condition ++ map (name_place source.columns) q.columns ++ too_long (length q.columns) ∷ []
 
+-- the table that a view reads: a view is none
+abbrev pub read_table : List ℕ → State → Result TableOf Fault
+read_table name s = ok_or (table_named name s.tables) (if is_some (view_named name s.views) then ClauseInView else UnknownTable)
+
+-- an item of a view: a column that is there and grouped, or the column that a SUM adds
+abbrev pub item_places : List ColumnDef → List (List ℕ) → ItemValue → List (Option Fault)
+item_places columns group (values.Column name) = name_place columns name ∷ fault_if (not (list_any (λ g. is_text g name) group)) AggregateMisplaced ∷ []
+item_places columns group values.CountAll = []
+item_places columns group (values.Sum name) = name_place columns name ∷ []
+
+-- each name that an earlier one is
+abbrev pub repeats : List (List ℕ) → List (List ℕ) → Bool
+repeats before [] = false
+repeats before (name ∷ names) = list_any (λ b. is_text b name) before || repeats (before ++ name ∷ []) names
+
+-- a view's query behind its table: WHERE, GROUP BY and its list, each item, then the names of all and their list
+abbrev pub query_places : List ColumnDef → ViewSelect → List (Option Fault)
+query_places columns v =
+    where_places columns v.condition
+    ++ map (name_place columns) v.group ++ too_long (length v.group)
+    ∷ flat_map (item_places columns v.group) (values_in v) ++ fault_if (repeats [] (item_names 1 v.items)) NameTaken ∷ too_long (length v.items) ∷ []
+
+-- a view's query: the table, and what stands behind it
+abbrev pub view_select_places : ViewSelect → Result TableOf Fault → List (Option Fault)
+view_select_places v (Err f) = Some f ∷ []
+view_select_places v (Ok t) = query_places t.columns v
+
+-- CREATE VIEW: the name, then the query
+abbrev pub create_view_places : List ℕ → ViewSelect → State → List (Option Fault)
+create_view_places name v s = fault_if (is_taken name s) NameTaken ∷ view_select_places v (read_table v.table s)
+
+-- DROP VIEW: the name
+abbrev pub drop_view_places : Option ℕ → List (Option Fault)
+drop_view_places place = fault_if (is_none place) UnknownTable ∷ []
+
 -- the places of a statement, in the order of the walk
 abbrev pub places : State → Statement → List (Option Fault)
 places s (statements.CreateTable name columns) = create_places name columns s
 places s (statements.DropTable name) = drop_table_places s.views (table_named name s.tables)
+places s (statements.CreateView name view) = create_view_places name view s
+places s (statements.DropView name) = drop_view_places (view_place name s.views)
 places s (statements.Insert name rows) = insert_places s.max_rows rows (written_table name s)
 places s (statements.Delete name condition) = delete_places condition (written_table name s)
 places s (statements.Select q) = select_places q (source_named q.table s)

@@ -25,6 +25,8 @@ pub enum Fault {
     NameTaken,
     #[error("15 type mismatch")]
     TypeMismatch,
+    #[error("16 aggregate misplaced or column not grouped")]
+    AggregateMisplaced,
     #[error("17 expression too wide")]
     TooWide,
     #[error("19 number outside 64 bits")]
@@ -37,6 +39,8 @@ pub enum Fault {
     ViewNotWritten,
     #[error("27 sum beyond 128 bits")]
     SumOutOfRange,
+    #[error("28 clause not allowed in a view")]
+    ClauseInView,
     #[error("29 limit exceeded")]
     LimitExceeded,
 }
@@ -55,12 +59,14 @@ impl Fault {
             Fault::UnknownColumn => "12 unknown column",
             Fault::NameTaken => "14 name taken",
             Fault::TypeMismatch => "15 type mismatch",
+            Fault::AggregateMisplaced => "16 aggregate misplaced or column not grouped",
             Fault::TooWide => "17 expression too wide",
             Fault::NumberOutside => "19 number outside 64 bits",
             Fault::TableFull => "21 table full",
             Fault::TableInUse => "22 table used by a view",
             Fault::ViewNotWritten => "23 views are not written",
             Fault::SumOutOfRange => "27 sum beyond 128 bits",
+            Fault::ClauseInView => "28 clause not allowed in a view",
             Fault::LimitExceeded => "29 limit exceeded",
         }
     }

@@ -13,12 +13,17 @@ fn display_agrees_with_the_text(rt: HostRuntime) -> Result<(), Fail> {
         (Fault::UnknownColumn, "12 unknown column"),
         (Fault::NameTaken, "14 name taken"),
         (Fault::TypeMismatch, "15 type mismatch"),
+        (
+            Fault::AggregateMisplaced,
+            "16 aggregate misplaced or column not grouped",
+        ),
         (Fault::TooWide, "17 expression too wide"),
         (Fault::NumberOutside, "19 number outside 64 bits"),
         (Fault::TableFull, "21 table full"),
         (Fault::TableInUse, "22 table used by a view"),
         (Fault::ViewNotWritten, "23 views are not written"),
         (Fault::SumOutOfRange, "27 sum beyond 128 bits"),
+        (Fault::ClauseInView, "28 clause not allowed in a view"),
         (Fault::LimitExceeded, "29 limit exceeded"),
     ];
     for (fault, text) in faults {

@@ -3,7 +3,7 @@ use Rattle.std.proofs.lemmas.Grind.{common_steps}
 use Rattle.std.proofs.lemmas.Result.{err_from_is_err_and}
 use Rattle.cq_model.specs.declared.statement.Literal.{Literal}
 use Rattle.cq_steps.specs.Refusal.{first_fault, row_places}
-use Rattle.cq_engine.proofs.Faults.{rows_more, passed, refused_first, refused_same}
+use Rattle.cq_binder.proofs.Faults.{rows_more, passed, refused_first, refused_same}
 use Rattle.cq_engine.proofs.insertion.made_rows.Goals as goal
 
 pub returns-in_err-made_row : goal.returns-in_err-made_row

@@ -1,0 +1,13 @@
+-- What each customer ordered, kept up to date with every order that comes or goes.
+CREATE TABLE orders(id INTEGER, customer INTEGER, cents INTEGER);
+CREATE VIEW by_customer AS SELECT customer, COUNT(*) AS orders, SUM(cents) AS total FROM orders GROUP BY customer;
+CREATE VIEW large AS SELECT customer, COUNT(*) AS orders FROM orders WHERE cents >= 10000 GROUP BY customer;
+INSERT INTO orders VALUES (1, 17, 4990), (2, 17, 12500), (3, 23, 800), (4, 42, 25000);
+SELECT customer, orders, total FROM by_customer;
+-- An order is taken back, and the only one of another customer too.
+DELETE FROM orders WHERE id = 2;
+DELETE FROM orders WHERE customer = 23;
+INSERT INTO orders VALUES (5, 42, 300);
+SELECT customer, orders, total FROM by_customer;
+SELECT customer FROM by_customer WHERE total > 10000;
+SELECT customer, orders FROM large;

@@ -1,0 +1,4 @@
+pub mod Faults
+pub mod Walks
+pub mod ViewNames
+pub mod BoundItems

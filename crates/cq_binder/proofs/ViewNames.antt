@@ -1,0 +1,55 @@
+-- The names of a view's columns.
+use Rattle.std.proofs.Common.{◌≡◌, ℕ, Bool, true, false, List, [], ◌∷◌, ◌++◌, map, length, Option, None, refl, sym, ap, ◌∙◌}
+use Rattle.std.specs.Prelude.{◌||◌}
+use Rattle.std.specs.List.{list_any}
+use Rattle.std.proofs.lemmas.List.{map-append}
+use Rattle.cq_values.specs.Texts.{is_text}
+use Rattle.cq_model.specs.declared.statement.ColumnDef.{ColumnDef}
+use Rattle.cq_model.specs.declared.statement.Item.{Item}
+use Rattle.cq_steps.specs.declared.fault.Fault.{Fault}
+use Rattle.cq_steps.specs.declared.fault.Fault.TheVariants.{NameTaken}
+use Rattle.cq_steps.specs.Bound.{item_names, view_column}
+use Rattle.cq_steps.specs.Refusal.{first_fault, fault_if, column_places, repeats, too_long, MayRefuse}
+use Rattle.cq_binder.proofs.Faults.{first_fault_cons, or_next, refused_first, refused_next, refused_same}
+
+-- a name stands among columns where it stands among their names
+taken_same : (before : List (List ℕ)) (name : List ℕ) → list_any (λ c. is_text c.name name) (map view_column before) ≡ list_any (λ b. is_text b name) before
+taken_same [] name = refl
+taken_same (b ∷ before) name = ap (λ (t : Bool). is_text b name || t) (taken_same before name)
+
+-- one place more, that refuses or not
+fault_or : (a b : Bool) (rest : List (Option Fault)) → first_fault rest ≡ fault_if b NameTaken → first_fault (fault_if a NameTaken ∷ rest) ≡ fault_if (a || b) NameTaken
+fault_or true b rest same = refl
+fault_or false b rest same = same
+
+-- columns are walked through as their names are
+pub names_walked : (before names : List (List ℕ)) → first_fault (column_places (map view_column before) (map view_column names)) ≡ fault_if (repeats before names) NameTaken
+names_walked before [] = refl
+names_walked before (name ∷ names) =
+    let behind = ap (λ (cs : List ColumnDef). first_fault (column_places cs (map view_column names))) (sym (map-append view_column before (name ∷ []))) in
+    ap (λ (t : Bool). first_fault (fault_if t NameTaken ∷ column_places (map view_column before ++ view_column name ∷ []) (map view_column names))) (taken_same before name)
+    ∙ fault_or (list_any (λ b. is_text b name) before) (repeats (before ++ name ∷ []) names) (column_places (map view_column before ++ view_column name ∷ []) (map view_column names)) (behind ∙ names_walked (before ++ name ∷ []) names)
+
+-- ---- The columns of the items: their names decide, and then their number
+module _ (items : List Item) (columns : List ColumnDef) (named : columns ≡ map view_column (item_names 1 items)) where
+  abbrev repeated : Option Fault
+  repeated = fault_if (repeats [] (item_names 1 items)) NameTaken
+
+  abbrev number : List (Option Fault)
+  number = too_long (length items) ∷ []
+
+  -- the columns are walked through as the names
+  same_walk : first_fault (column_places [] columns) ≡ repeated
+  same_walk = ap (λ (cs : List ColumnDef). first_fault (column_places [] cs)) named ∙ names_walked [] (item_names 1 items)
+
+  -- a name refuses
+  pub name_refused : (f : Fault) → MayRefuse (first_fault (column_places [] columns)) f → MayRefuse (first_fault (repeated ∷ number)) f
+  name_refused f m = rw first_fault_cons (refused_first repeated (first_fault number) f (refused_same (first_fault (column_places [] columns)) repeated f (sym same_walk) m))
+
+  -- there are too many items
+  pub number_refused : (f : Fault) → first_fault (column_places [] columns) ≡ None → MayRefuse (first_fault number) f → MayRefuse (first_fault (repeated ∷ number)) f
+  number_refused f distinct m = rw first_fault_cons (refused_next repeated (first_fault number) f (sym same_walk ∙ distinct) m)
+
+  -- no place refuses
+  pub names_pass : first_fault (column_places [] columns) ≡ None → first_fault number ≡ None → first_fault (repeated ∷ number) ≡ None
+  names_pass distinct short = first_fault_cons repeated number ∙ or_next repeated (first_fault number) (sym same_walk ∙ distinct) ∙ short

@@ -1,0 +1,4 @@
+use Rattle.cq_binder.proofs.items.bound_item.Goals as goal
+
+pub returns-in-Column : goal.returns-in-Column
+returns-in-Column c = rw c.in-Column.is (rw c.as_str.ensures at c.grouped_column.ensures)

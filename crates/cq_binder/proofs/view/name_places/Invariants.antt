@@ -1,0 +1,10 @@
+use Rattle.std.proofs.Common.{◌≡◌, map, take, drop}
+use Rattle.cq_steps.specs.Bound.{place_in}
+use Rattle.cq_steps.specs.Refusal.{first_fault, name_place}
+use Rattle.cq_binder.proofs.view.name_places.Given as goal
+
+-- the places so far are those of the names so far, and the names that are left have the first fault of all
+abbrev pub invariant-loop-name : goal.invariant-loop-name
+invariant-loop-name l =
+    (l.places ≡ map (place_in l.columns) (take l.name-index l.names))
+    × (first_fault (map (name_place l.columns) (drop l.name-index l.names)) ≡ first_fault (map (name_place l.columns) l.names))

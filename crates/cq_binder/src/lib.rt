@@ -1,0 +1,17 @@
+//! The binder: names become places, constants become values, and the first fault of the walk refuses.
+//!
+//! Each function walks one stretch of a statement's places, in their order. To the engine a stretch is either passed, with
+//! what it gives, or refused with its first fault (`Walked`); want of memory may come at any point.
+#![tactic(auto)]
+
+mod columns;
+mod items;
+mod literals;
+mod names;
+#[cfg(test)]
+mod tests;
+mod view;
+
+pub use columns::{check_length, check_names, column_place, copy_columns, copy_names};
+pub use literals::{fits_column, literal_number};
+pub use view::{BoundView, bound_view};

@@ -1,0 +1,157 @@
+-- CREATE VIEW: what its walk lets pass is a view that can be kept, and stands for its query on its table.
+use Rattle.std.proofs.Common.{◌≡◌, ℕ, ◌≤◌, ◌<◌, false, List, [], ◌∷◌, ◌++◌, map, length, get_or, Option, Some, None, Ok, refl, sym, ap, ◌∙◌, arith, subst}
+use Rattle.std.specs.Prelude.{nat_lt, option_map, IfSome}
+use Rattle.std.specs.List.{AllByRecursion, flat_map}
+use Rattle.std.specs.Option.{option_or}
+use Rattle.std.proofs.lemmas.Bool.{ltb-false}
+use Rattle.std.proofs.lemmas.List.{length-map, map-append}
+use Rattle.cq_values.specs.Value.{Row}
+use Rattle.cq_bags.specs.Bag.{SameBag, once_each}
+use Rattle.cq_bags.specs.Canonical.{bag_of}
+use Rattle.cq_bags.proofs.Bags.{same-sym}
+use Rattle.cq_bags.proofs.Canonicals.{same-bag_of}
+use Rattle.cq_bags.proofs.Totals.{by_test}
+use Rattle.cq_model.specs.declared.statement.ColumnDef.{ColumnDef}
+use Rattle.cq_model.specs.declared.statement.ViewSelect.{ViewSelect}
+use Rattle.cq_steps.specs.declared.fault.Fault.{Fault}
+use Rattle.cq_steps.specs.declared.fault.Fault.TheVariants.{NameTaken}
+use Rattle.cq_steps.specs.Bound.{aggregates_in, bound_condition, grouped_query, item_names, item_places_in, place_in, values_in, view_columns}
+use Rattle.cq_steps.specs.Refusal.{create_view_places, fault_if, first_fault, item_places, name_place, query_places, repeats, too_long, view_select_places, where_places}
+use Rattle.cq_steps.specs.State.{TableOf, ViewOf, is_taken, rows_in, table_named, AreNumbered}
+use Rattle.cq_steps.specs.Step.{new_view}
+use Rattle.cq_views.specs.declared.view_def.ViewDef.{ViewDef}
+use Rattle.cq_views.specs.Laws.{StandingDependsOnBag}
+use Rattle.cq_views.specs.View.{KeptView, IsNarrowFor, Stands, query_of}
+use Rattle.cq_engine.specs.Statements.{alone, CreatesView, IsBuilt}
+use Rattle.cq_engine.specs.Views.{Fits, IsRight, IsStored, NamedView, view_of, views_of}
+use Rattle.cq_engine.proofs.Fitting.{few_told, narrow_items, narrow_where, second_free, small_items, totals}
+use Rattle.cq_engine.proofs.Rows.{rows_there}
+use Rattle.cq_engine.proofs.Stored.{all_of_rows}
+use Rattle.cq_binder.proofs.Faults.{first_fault_append, or_next}
+use Rattle.cq_binder.specs.declared.view.BoundView.{BoundView}
+use Rattle.cq_binder.specs.View.{IsBoundView}
+
+-- ---- What the walk through a view's query says
+-- where two stretches have no fault, neither has one
+front_free : (xs ys : List (Option Fault)) → first_fault (xs ++ ys) ≡ None → first_fault xs ≡ None
+front_free xs ys free = free_first (first_fault xs) refl
+  where
+    free_first : (o : Option Fault) → first_fault xs ≡ o → first_fault xs ≡ None
+    free_first None e = e
+    free_first (Some f) e = absurd (let both : Some f ≡ None = sym (first_fault_append xs ys ∙ ap (λ (p : Option Fault). option_or p (first_fault ys)) e) ∙ free in cc)
+
+back_free : (xs ys : List (Option Fault)) → first_fault (xs ++ ys) ≡ None → first_fault ys ≡ None
+back_free xs ys free = sym (first_fault_append xs ys ∙ or_next (first_fault xs) (first_fault ys) (front_free xs ys free)) ∙ free
+
+-- a list that is not too long has at most 64 entries
+short : (n : ℕ) → too_long n ≡ None → n ≤ 64
+short n e = by_test (nat_lt 64 n)
+    (λ k. absurd (cc (rw k at e)))
+    (λ k. ltb-false 64 n k)
+
+module _ (columns : List ColumnDef) (v : ViewSelect) (free : first_fault (query_places columns v) ≡ None) where
+  abbrev keys_walk : List (Option Fault)
+  keys_walk = map (name_place columns) v.group
+
+  abbrev items_walk : List (Option Fault)
+  items_walk = too_long (length v.group) ∷ flat_map (item_places columns v.group) (values_in v)
+
+  abbrev names_walk : List (Option Fault)
+  names_walk = fault_if (repeats [] (item_names 1 v.items)) NameTaken ∷ too_long (length v.items) ∷ []
+
+  -- WHERE has no fault
+  where_free : first_fault (where_places columns v.condition) ≡ None
+  where_free =
+      let where_walk : List (Option Fault) = where_places columns v.condition in
+      front_free where_walk keys_walk (front_free (where_walk ++ keys_walk) items_walk (front_free ((where_walk ++ keys_walk) ++ items_walk) names_walk free))
+
+  -- there are not too many items
+  few_items : length v.items ≤ 64
+  few_items =
+      let where_walk : List (Option Fault) = where_places columns v.condition in
+      short (length v.items)
+      (second_free (fault_if (repeats [] (item_names 1 v.items)) NameTaken) (too_long (length v.items)) (back_free ((where_walk ++ keys_walk) ++ items_walk) names_walk free))
+
+-- ---- The view's query
+-- the query with its names as places among the columns of the table
+abbrev pub def_of : ViewSelect → TableOf → ViewDef
+def_of v t = record {
+  table = t.number;
+  filter = option_map (bound_condition t.columns) v.condition;
+  keys = map (place_in t.columns) v.group;
+  aggregates = flat_map (aggregates_in t.columns) (values_in v);
+  items = item_places_in v.group (length v.group) (values_in v);
+}
+
+-- it is what the binder makes of the view
+pub bound_def : (v : ViewSelect) (t : TableOf) (number : ℕ) (b : BoundView) → number ≡ t.number → IsBoundView t.columns v b
+    → record { table = number; filter = b.filter; keys = b.keys; aggregates = b.aggregates; items = b.items } ≡ def_of v t
+bound_def v t number b is_number is = λ i. record { table = is_number i; filter = is.filter i; keys = is.keys i; aggregates = is.aggregates i; items = is.items i }
+
+module _ (v : ViewSelect) (t : TableOf) (free : first_fault (query_places t.columns v) ≡ None) where
+  -- it fits the rows that a table stores
+  pub def_fits : Fits (def_of v t)
+  def_fits = record {
+    can_be_kept = record {
+      totals = totals t.columns (values_in v);
+      few = omega (arith, few_told t.columns (values_in v), length-map v.items (λ item. item.value), few_items t.columns v free);
+    };
+    narrow = λ row stored. record {
+      filter = narrow_where t.columns v.condition row (where_free t.columns v free) stored;
+      aggregates = narrow_items t.columns (values_in v) row stored;
+    };
+    small = λ row stored kept. small_items t.columns (values_in v) row stored;
+  }
+
+-- ---- A view that is built
+-- rows that are stored are narrow for what fits them
+all_narrow : (def : ViewDef) (rows : List Row) → Fits def → AllByRecursion IsStored rows → AllByRecursion (IsNarrowFor def) rows
+all_narrow def [] fits stored = tt
+all_narrow def (r ∷ rows) fits stored = (fits.narrow r stored.0, all_narrow def rows fits stored.1)
+
+module _ (t : TableOf) (rows : List Row) (same : bag_of rows ≡ t.rows) where
+  -- the rows of a table are narrow as they are stored
+  pub stored_narrow : (def : ViewDef) → Fits def → AllByRecursion IsStored t.rows → AllByRecursion (IsNarrowFor def) rows
+  stored_narrow def fits stored = all_narrow def rows fits (all_of_rows IsStored rows (subst (λ (rs : List Row). AllByRecursion IsStored rs) (sym same) stored))
+
+  -- what stands for the rows as they are stored stands for the table's bag
+  pub stands_for_bag : StandingDependsOnBag → (v : KeptView) → Stands v (once_each rows) → Stands v (once_each t.rows)
+  stands_for_bag law v stands =
+      let listed : SameBag (once_each rows) (once_each t.rows) = subst (λ (rs : List Row). SameBag (once_each rows) (once_each rs)) same (same-sym (once_each (bag_of rows)) (once_each rows) (same-bag_of rows)) in
+      law v (once_each rows) (once_each t.rows) listed stands
+
+-- the view of this query, built now
+pub is_built : (now : ℕ) (name : List ℕ) (q : ViewSelect) (t : TableOf) (v : NamedView) → v.name ≡ name → v.columns ≡ view_columns q → v.kept.def ≡ def_of q t → v.kept.epoch ≡ now → v.kept.built ≡ now
+    → first_fault (query_places t.columns q) ≡ None → Stands v.kept (once_each t.rows) → IsBuilt now name q t v
+is_built now name q t v named columns def epoch built free stands = record {
+  view = λ i. record { name = named i; columns = columns i; query = query_of (def i); epoch = epoch i; built = built i };
+  table = ap (λ (d : ViewDef). d.table) def;
+  fits = subst Fits (sym def) (def_fits q t free);
+  stands = stands;
+}
+
+-- it is right where its table is
+pub built_right : (tables : List TableOf) (next i now : ℕ) (name : List ℕ) (q : ViewSelect) (t : TableOf) (v : NamedView) → AreNumbered tables next → i < length tables → t ≡ get_or tables i t → IsBuilt now name q t v → IsRight tables now v
+built_right tables next i now name q t v numbered within is built =
+    let number : v.kept.def.table ≡ (get_or tables i t).number = built.table ∙ ap (λ (u : TableOf). u.number) is in
+    let rows : rows_in tables v.kept.def.table ≡ t.rows = ap (rows_in tables) number ∙ rows_there tables i t next numbered within ∙ ap (λ (u : TableOf). u.rows) (sym is) in
+    record {
+      fits = built.fits;
+      epoch = ap (λ (u : ViewOf). u.epoch) built.view;
+      stands = subst (λ (rs : List Row). Stands v.kept (once_each rs)) (sym rows) built.stands;
+    }
+
+-- ---- The walk through a CREATE VIEW under a free name, on a table that was found
+module _ (name : List ℕ) (view : ViewSelect) (tables : List TableOf) (old : List NamedView) (t : TableOf) (free : is_taken name (alone tables (views_of old)) ≡ false) (found : table_named view.table tables ≡ Some t) where
+  -- the query decides
+  create_view_goes_on : first_fault (create_view_places name view (alone tables (views_of old))) ≡ first_fault (view_select_places view (Ok t))
+  create_view_goes_on = rw (free, found) refl
+
+  -- a view that is built for it stands behind the others
+  pub view_created : (now : ℕ) (new : List NamedView) (v : NamedView) → first_fault (view_select_places view (Ok t)) ≡ None → IsBuilt now name view t v → new ≡ old ++ v ∷ [] → CreatesView now name view tables (views_of old) (views_of new) (Ok tt)
+  view_created now new v passed built is =
+      let behind : views_of new ≡ views_of old ++ new_view name (view_columns view) (grouped_query view t) now ∷ [] =
+      ap views_of is ∙ map-append view_of old (v ∷ []) ∙ ap (λ (u : ViewOf). views_of old ++ u ∷ []) built.view in (
+        create_view_goes_on ∙ passed,
+        subst (λ (o : Option TableOf). IfSome o (λ u. views_of new ≡ views_of old ++ new_view name (view_columns view) (grouped_query view u) now ∷ [])) (sym found) behind,
+      )

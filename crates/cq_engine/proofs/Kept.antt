@@ -1,0 +1,198 @@
+-- Lists of views: what stays the same of them, what they are ready for, and how they follow a write.
+use Rattle.std.proofs.Common.{◌≡◌, ℕ, ◌<◌, ◌^◌, Bool, true, false, List, [], ◌∷◌, ◌++◌, map, length, Option, Some, None, refl, sym, ap, ◌∙◌, arith, subst}
+use Rattle.std.specs.Prelude.{◌==◌}
+use Rattle.std.specs.List.{AllByRecursion}
+use Rattle.std.proofs.lemmas.Bool.{eqb-true}
+use Rattle.cq_values.specs.Value.{Row}
+use Rattle.cq_bags.specs.Bag.{Weighted, SameBag, IsBag, once_each}
+use Rattle.cq_bags.proofs.Totals.{by_test}
+use Rattle.cq_deltas.specs.declared.change.Addition.{Addition}
+use Rattle.cq_deltas.specs.Table.{HasKeys, HoldsFor}
+use Rattle.cq_steps.specs.declared.fault.Fault.{Fault}
+use Rattle.cq_steps.specs.declared.fault.Fault.TheVariants.{TableInUse, UnknownTable}
+use Rattle.cq_steps.specs.Refusal.{first_fault, fault_if, is_used, drop_table_places}
+use Rattle.cq_steps.specs.State.{TableOf, ViewOf, table_named, rows_in}
+use Rattle.cq_steps.specs.Step.{at_epoch}
+use Rattle.cq_views.specs.declared.view_def.ViewDef.{ViewDef}
+use Rattle.cq_views.specs.Laws.{SmallChangesHold}
+use Rattle.cq_views.specs.Small.{AreSmallFor, CanBeKept}
+use Rattle.cq_views.specs.View.{KeptView, Stands, change_of, query_of}
+use Rattle.cq_engine.specs.Statements.{without_table}
+use Rattle.cq_engine.specs.Views.{NamedView, view_of, views_of, Fits, IsRight, AreRight, StandsOn, StandOn, IsSame, AreSame, IsReady, AreReady, CanTake, CanAllTake, GroupsGo, HasTaken, HaveTaken, Follows, Follow, Moved}
+use Rattle.cq_engine.proofs.Rows.{rows_left, unused}
+use Rattle.cq_engine.proofs.Steps.{AreAt}
+
+-- ---- The same views
+-- a view of which nothing is changed is the same view
+same_view : (v w : NamedView) → IsSame v w → view_of w ≡ view_of v
+same_view v w s = λ i. record { name = s.name i; columns = s.columns i; query = query_of (s.kept.def i); epoch = s.kept.epoch i; built = s.kept.built i }
+
+pub same_views : (vs ws : List NamedView) → AreSame vs ws → views_of ws ≡ views_of vs
+same_views [] [] s = refl
+same_views [] (w ∷ ws) s = absurd s
+same_views (v ∷ vs) [] s = absurd s
+same_views (v ∷ vs) (w ∷ ws) s = λ i. same_view v w s.0 i ∷ same_views vs ws s.1 i
+
+-- it is right where it was
+right_same : (tables : List TableOf) (now : ℕ) (v w : NamedView) → IsSame v w → IsRight tables now v → IsRight tables now w
+right_same tables now v w s r = record {
+  fits = subst Fits (sym s.kept.def) r.fits;
+  epoch = s.kept.epoch ∙ r.epoch;
+  stands = subst (λ (d : ViewDef). Stands w.kept (once_each (rows_in tables d.table))) (sym s.kept.def) (s.kept.stands (once_each (rows_in tables v.kept.def.table)) r.stands);
+}
+
+pub all_right_same : (tables : List TableOf) (now : ℕ) (vs ws : List NamedView) → AreSame vs ws → AreRight tables now vs → AreRight tables now ws
+all_right_same tables now [] [] s r = tt
+all_right_same tables now [] (w ∷ ws) s r = absurd s
+all_right_same tables now (v ∷ vs) [] s r = absurd s
+all_right_same tables now (v ∷ vs) (w ∷ ws) s r = (right_same tables now v w s.0 r.0, all_right_same tables now vs ws s.1 r.1)
+
+-- ---- Views of one table
+-- views that are right stand on each of the tables
+pub stand_on : (tables : List TableOf) (now : ℕ) (t : TableOf) (vs : List NamedView) → rows_in tables t.number ≡ t.rows → AreRight tables now vs → StandOn t vs
+stand_on tables now t [] rows r = tt
+stand_on tables now t (v ∷ vs) rows r = ((r.0.fits, on), stand_on tables now t vs rows r.1)
+  where
+    on : (v.kept.def.table == t.number) ≡ true → Stands v.kept (once_each t.rows)
+    on e =
+        let n : v.kept.def.table ≡ t.number = eqb-true v.kept.def.table t.number e in
+        subst (λ (rs : List Row). Stands v.kept (once_each rs)) (ap (rows_in tables) n ∙ rows) r.0.stands
+
+-- views that are ready for a small change can take it
+module _ (law : SmallChangesHold) (t : TableOf) (dxs : Weighted) where
+  abbrev pub AreSmall : NamedView → Type 0
+  AreSmall v = AreSmallFor v.kept.def (once_each t.rows) × AreSmallFor v.kept.def dxs
+
+  can_take : (v w : NamedView) (p : Option (List Addition)) → StandsOn t v → AreSmall v → IsSame v w → IsReady t.number dxs w p → CanTake w p
+  can_take v w None on small s ready = tt
+  can_take v w (Some change) on small s ready =
+      let here : (v.kept.def.table == t.number) ≡ true = ap (λ (d : ViewDef). d.table == t.number) (sym s.kept.def) ∙ ready.0 in
+      let holds = law w.kept (once_each t.rows) dxs (subst (λ (d : ViewDef). CanBeKept d) (sym s.kept.def) on.0.can_be_kept) (s.kept.stands (once_each t.rows) (on.1 here))
+      (subst (λ (d : ViewDef). AreSmallFor d (once_each t.rows)) (sym s.kept.def) small.0) (subst (λ (d : ViewDef). AreSmallFor d dxs) (sym s.kept.def) small.1) in
+      (ready.2, subst (λ (c : List Addition). HoldsFor c w.kept.groups) (sym ready.1) holds)
+
+  pub can_all_take : (vs ws : List NamedView) (ps : List (Option (List Addition))) → StandOn t vs → AllByRecursion AreSmall vs → AreSame vs ws → AreReady t.number dxs ws ps → CanAllTake ws ps
+  can_all_take [] [] [] on small s ready = tt
+  can_all_take [] [] (p ∷ ps) on small s ready = absurd ready
+  can_all_take [] (w ∷ ws) ps on small s ready = absurd s
+  can_all_take (v ∷ vs) [] ps on small s ready = absurd s
+  can_all_take (v ∷ vs) (w ∷ ws) [] on small s ready = absurd ready
+  can_all_take (v ∷ vs) (w ∷ ws) (p ∷ ps) on small s ready = (can_take v w p on.0 small.0 s.0 ready.0, can_all_take vs ws ps on.1 small.1 s.1 ready.1)
+
+-- views that took a change in follow the table
+module _ (epoch : ℕ) (t u : TableOf) (dxs : Weighted) (number : u.number ≡ t.number) (rows : SameBag (once_each u.rows) (once_each t.rows ++ dxs)) (bag : IsBag (once_each u.rows)) where
+  follows : (v w x : NamedView) (p : Option (List Addition)) → StandsOn t v → IsSame v w → IsReady t.number dxs w p → HasTaken epoch w p x → Follows epoch u v x
+  follows v w x None on s ready taken = record {
+    name = taken.name ∙ s.name;
+    columns = taken.columns ∙ s.columns;
+    def = taken.def ∙ s.kept.def;
+    built = taken.built ∙ s.kept.built;
+    epoch = taken.epoch;
+    on = λ e. absurd (let both : true ≡ false = sym e ∙ ap (λ (n : ℕ). x.kept.def.table == n) number ∙ ap (λ (d : ViewDef). d.table == t.number) taken.def ∙ ready in cc);
+    off = λ e xs h. taken.groups xs (s.kept.stands xs h);
+  }
+  follows v w x (Some change) on s ready taken = record {
+    name = taken.name ∙ s.name;
+    columns = taken.columns ∙ s.columns;
+    def = taken.def ∙ s.kept.def;
+    built = taken.built ∙ s.kept.built;
+    epoch = taken.epoch;
+    on = λ e.
+        let here : (v.kept.def.table == t.number) ≡ true = ap (λ (d : ViewDef). d.table == t.number) (sym s.kept.def) ∙ ready.0 in
+        taken.groups (once_each t.rows) dxs (once_each u.rows) ready.1 rows bag (s.kept.stands (once_each t.rows) (on.1 here));
+    off = λ e. absurd (let both : false ≡ true = sym e ∙ ap (λ (n : ℕ). x.kept.def.table == n) number ∙ ap (λ (d : ViewDef). d.table == t.number) taken.def ∙ ready.0 in cc);
+  }
+
+  pub follow : (vs ws xs : List NamedView) (ps : List (Option (List Addition))) → StandOn t vs → AreSame vs ws → AreReady t.number dxs ws ps → HaveTaken epoch ws ps xs → Follow epoch u vs xs
+  follow [] [] [] [] on s ready taken = tt
+  follow [] [] (x ∷ xs) [] on s ready taken = absurd taken
+  follow [] [] xs (p ∷ ps) on s ready taken = absurd ready
+  follow [] (w ∷ ws) xs ps on s ready taken = absurd s
+  follow (v ∷ vs) [] xs ps on s ready taken = absurd s
+  follow (v ∷ vs) (w ∷ ws) xs [] on s ready taken = absurd ready
+  follow (v ∷ vs) (w ∷ ws) [] (p ∷ ps) on s ready taken = absurd taken
+  follow (v ∷ vs) (w ∷ ws) (x ∷ xs) (p ∷ ps) on s ready taken = (follows v w x p on.0 s.0 ready.0 taken.0, follow vs ws xs ps on.1 s.1 ready.1 taken.1)
+
+-- ---- Views of all tables, where one table was written
+module _ (epoch now : ℕ) (old new : List TableOf) (u : TableOf) (written : rows_in new u.number ≡ u.rows) (others : (n : ℕ) → (n == u.number) ≡ false → rows_in new n ≡ rows_in old n) where
+  moved_view : (v w : NamedView) → Follows epoch u v w → view_of w ≡ at_epoch epoch (view_of v)
+  moved_view v w f = λ i. record { name = f.name i; columns = f.columns i; query = query_of (f.def i); epoch = f.epoch i; built = f.built i }
+
+  moved_right : (v w : NamedView) → Follows epoch u v w → IsRight old now v → IsRight new epoch w
+  moved_right v w f r = record {
+    fits = subst Fits (sym f.def) r.fits;
+    epoch = f.epoch;
+    stands = by_test (w.kept.def.table == u.number) on off;
+  }
+    where
+      on : (w.kept.def.table == u.number) ≡ true → Stands w.kept (once_each (rows_in new w.kept.def.table))
+      on e =
+          let n : w.kept.def.table ≡ u.number = eqb-true w.kept.def.table u.number e in
+          subst (λ (rs : List Row). Stands w.kept (once_each rs)) (sym (ap (rows_in new) n ∙ written)) (f.on e)
+
+      off : (w.kept.def.table == u.number) ≡ false → Stands w.kept (once_each (rows_in new w.kept.def.table))
+      off e =
+          let same : rows_in new w.kept.def.table ≡ rows_in old v.kept.def.table = others w.kept.def.table e ∙ ap (λ (d : ViewDef). rows_in old d.table) f.def in
+          subst (λ (rs : List Row). Stands w.kept (once_each rs)) (sym same) (f.off e (once_each (rows_in old v.kept.def.table)) r.stands)
+
+  moved_views : (vs ws : List NamedView) → Follow epoch u vs ws → views_of ws ≡ map (at_epoch epoch) (views_of vs)
+  moved_views [] [] f = refl
+  moved_views [] (w ∷ ws) f = absurd f
+  moved_views (v ∷ vs) [] f = absurd f
+  moved_views (v ∷ vs) (w ∷ ws) f = λ i. moved_view v w f.0 i ∷ moved_views vs ws f.1 i
+
+  all_moved_right : (vs ws : List NamedView) → Follow epoch u vs ws → AreRight old now vs → AreRight new epoch ws
+  all_moved_right [] [] f r = tt
+  all_moved_right [] (w ∷ ws) f r = absurd f
+  all_moved_right (v ∷ vs) [] f r = absurd f
+  all_moved_right (v ∷ vs) (w ∷ ws) f r = (moved_right v w f.0 r.0, all_moved_right vs ws f.1 r.1)
+
+  pub moved : (vs ws : List NamedView) → Follow epoch u vs ws → AreRight old now vs → Moved epoch new vs ws
+  moved vs ws f r = record { views = moved_views vs ws f; right = all_moved_right vs ws f r }
+
+-- ---- Views of other tables, and other views
+-- views that are right are at the present
+pub all_at : (tables : List TableOf) (now : ℕ) (vs : List NamedView) → AreRight tables now vs → AreAt now (views_of vs)
+all_at tables now [] r = tt
+all_at tables now (v ∷ vs) r = (r.0.epoch, all_at tables now vs r.1)
+
+-- they are right wherever the tables that they stand on have their rows
+pub right_elsewhere : (old new : List TableOf) (now : ℕ) (vs : List NamedView) → AllByRecursion (λ v. rows_in new v.kept.def.table ≡ rows_in old v.kept.def.table) vs → AreRight old now vs → AreRight new now vs
+right_elsewhere old new now [] same r = tt
+right_elsewhere old new now (v ∷ vs) same r = (
+  record { fits = r.0.fits; epoch = r.0.epoch; stands = subst (λ (rs : List Row). Stands v.kept (once_each rs)) (sym same.0) r.0.stands },
+  right_elsewhere old new now vs same.1 r.1,
+)
+
+pub right_behind : (tables : List TableOf) (now : ℕ) (vs : List NamedView) (v : NamedView) → AreRight tables now vs → IsRight tables now v → AreRight tables now (vs ++ v ∷ [])
+right_behind tables now [] v r one = (one, tt)
+right_behind tables now (w ∷ ws) v r one = (r.0, right_behind tables now ws v r.1 one)
+
+pub right_everywhere : (old new : List TableOf) (now : ℕ) (vs : List NamedView) → ((n : ℕ) → rows_in new n ≡ rows_in old n) → AreRight old now vs → AreRight new now vs
+right_everywhere old new now [] same r = tt
+right_everywhere old new now (v ∷ vs) same r = (
+  record { fits = r.0.fits; epoch = r.0.epoch; stands = subst (λ (rs : List Row). Stands v.kept (once_each rs)) (sym (same v.kept.def.table)) r.0.stands },
+  right_everywhere old new now vs same r.1,
+)
+
+module _ (name : List ℕ) (tables : List TableOf) (now : ℕ) where
+  -- without a table that no view stands on
+  right_left : (t : TableOf) (vs : List NamedView) → table_named name tables ≡ Some t → AllByRecursion (λ v. (v.kept.def.table == t.number) ≡ false) vs → AreRight tables now vs → AreRight (without_table name tables) now vs
+  right_left t [] found free r = tt
+  right_left t (v ∷ vs) found free r = (
+    record { fits = r.0.fits; epoch = r.0.epoch; stands = subst (λ (rs : List Row). Stands v.kept (once_each rs)) (sym (rows_left name tables t 0 found v.kept.def.table free.0)) r.0.stands },
+    right_left t vs found free.1 r.1,
+  )
+
+  pub right_dropped : (vs : List NamedView) → first_fault (drop_table_places (views_of vs) (table_named name tables)) ≡ None → AreRight tables now vs → AreRight (without_table name tables) now vs
+  right_dropped vs free r = dropped (table_named name tables) refl
+    where
+      dropped_table : (t : TableOf) (b : Bool) → is_used t.number (views_of vs) ≡ b → table_named name tables ≡ Some t → AreRight (without_table name tables) now vs
+      dropped_table t false used found = right_left t vs found (unused t.number vs used) r
+      dropped_table t true used found =
+          absurd (let fault : first_fault (drop_table_places (views_of vs) (table_named name tables)) ≡ Some TableInUse = ap (λ (o : Option TableOf). first_fault (drop_table_places (views_of vs) o)) found ∙ ap (λ (b : Bool). first_fault (fault_if b TableInUse ∷ [])) used in
+          let both : None ≡ Some TableInUse = sym free ∙ fault in cc)
+
+      dropped : (o : Option TableOf) → table_named name tables ≡ o → AreRight (without_table name tables) now vs
+      dropped (Some t) found = dropped_table t (is_used t.number (views_of vs)) refl found
+      dropped None found = absurd (let both : Some UnknownTable ≡ None = sym (ap (λ (o : Option TableOf). first_fault (drop_table_places (views_of vs) o)) found) ∙ free in cc)

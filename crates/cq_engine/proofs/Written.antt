@@ -1,0 +1,136 @@
+-- A write of one table: what comes or goes is small for the views on it, and they follow.
+use Rattle.std.proofs.Common.{◌≡◌, ◌≤◌, ◌<◌, ◌^◌, ℕ, ℤ, pos, neg_ℤ, nat_abs, Bool, not, List, [], ◌∷◌, ◌++◌, map, length, get_or, set, Option, Result, Ok, Err, refl, sym, ap, ap₂, ◌∙◌, arith, subst}
+use Rattle.std.specs.Prelude.{filter}
+use Rattle.std.specs.Result.{OnErr, OnOk}
+use Rattle.std.specs.List.{AllByRecursion}
+use Rattle.std.proofs.lemmas.Int.{ints}
+use Rattle.cq_values.specs.Value.{Row}
+use Rattle.cq_bags.specs.Bag.{once_each}
+use Rattle.cq_bags.specs.Canonical.{bag_of}
+use Rattle.cq_bags.proofs.Canonicals.{length-bag_of}
+use Rattle.cq_bags.proofs.Totals.{by_test}
+use Rattle.cq_deltas.specs.declared.change.Addition.{Addition}
+use Rattle.cq_model.specs.declared.statement.Condition.{Condition}
+use Rattle.cq_model.specs.declared.statement.Literal.{Literal}
+use Rattle.cq_model.specs.declared.statement.Statement.{Statement}
+use Rattle.cq_steps.specs.declared.fault.Fault.{Fault}
+use Rattle.cq_steps.specs.declared.fault.Fault.TheVariants as faults
+use Rattle.cq_steps.specs.Refusal.{refusal, MayRefuse}
+use Rattle.cq_steps.specs.State.{TableOf, ViewOf, AreNumbered, holding, rows_in}
+use Rattle.cq_steps.specs.Step.{Refuses, by_walk, for_memory}
+use Rattle.cq_views.specs.declared.view_def.ViewDef.{ViewDef}
+use Rattle.cq_views.specs.Small.{AreSmallFor, IsSmallFor}
+use Rattle.cq_views.specs.View.{IsNarrowFor, changed}
+use Rattle.cq_views.proofs.Moves.{small-changes, small-rows}
+use Rattle.cq_engine.specs.Statements.{present, Inserts, Deletes}
+use Rattle.cq_engine.specs.Views.{NamedView, views_of, Fits, IsStored, AreRight, StandOn, AreSame, AreReady, CanAllTake, HaveTaken, Follow, Moved}
+use Rattle.cq_engine.proofs.Changes.{once_each-bag, with_fewer, with_more}
+use Rattle.cq_engine.proofs.Kept.{can_all_take, follow, moved, same_views, stand_on}
+use Rattle.cq_engine.proofs.Rows.{rows_at, rows_elsewhere, rows_there}
+use Rattle.cq_engine.proofs.Stored.{all_of_bag, all_of_kept, all_of_rows}
+
+-- ---- Rows that fit views
+module _ (def : ViewDef) (fits : Fits def) where
+  narrow_rows : (rows : List Row) → AllByRecursion IsStored rows → AllByRecursion (IsNarrowFor def) rows
+  narrow_rows [] stored = tt
+  narrow_rows (r ∷ rows) stored = (fits.narrow r stored.0, narrow_rows rows stored.1)
+
+  small_stored : (rows : List Row) → AllByRecursion IsStored rows → AllByRecursion (IsSmallFor def) rows
+  small_stored [] stored = tt
+  small_stored (r ∷ rows) stored = (fits.small r stored.0, small_stored rows stored.1)
+
+-- stored rows are narrow for each view
+pub all_narrow : (t : TableOf) (vs : List NamedView) (rows : List Row) → StandOn t vs → AllByRecursion IsStored rows → AllByRecursion (λ v. AllByRecursion (IsNarrowFor v.kept.def) rows) vs
+all_narrow t [] rows stand stored = tt
+all_narrow t (v ∷ vs) rows stand stored = (narrow_rows v.kept.def stand.0.0 rows stored, all_narrow t vs rows stand.1 stored)
+
+-- so they are where they are lent
+module _ {X : Type 0} (here : X → Row) where
+  narrow_here : (def : ViewDef) (xs : List X) → AllByRecursion (IsNarrowFor def) (map here xs) → AllByRecursion (λ x. IsNarrowFor def (here x)) xs
+  narrow_here def [] narrow = tt
+  narrow_here def (x ∷ xs) narrow = (narrow.0, narrow_here def xs narrow.1)
+
+  pub all_narrow_here : (vs : List NamedView) (xs : List X) → AllByRecursion (λ v. AllByRecursion (IsNarrowFor v.kept.def) (map here xs)) vs → AllByRecursion (λ v. AllByRecursion (λ x. IsNarrowFor v.kept.def (here x)) xs) vs
+  all_narrow_here [] xs narrow = tt
+  all_narrow_here (v ∷ vs) xs narrow = (narrow_here v.kept.def xs narrow.0, all_narrow_here vs xs narrow.1)
+
+-- ---- Rows that all come, or all go
+module _ (t : TableOf) (rows : List Row) (weight : ℤ) (once : nat_abs weight ≤ 1) (few : length t.rows < 2 ^ 64) (few_rows : length rows < 2 ^ 64) (stored : AllByRecursion IsStored t.rows) (stored_rows : AllByRecursion IsStored rows) where
+  all_small : (vs : List NamedView) → StandOn t vs → AllByRecursion (λ v. AreSmallFor v.kept.def (once_each t.rows) × AreSmallFor v.kept.def (changed rows weight)) vs
+  all_small [] stand = tt
+  all_small (v ∷ vs) stand = (
+    (
+      small-rows v.kept.def t.rows (pos 1) few (small_stored v.kept.def stand.0.0 t.rows stored) (omega (arith, ints)),
+      small-rows v.kept.def rows weight few_rows (small_stored v.kept.def stand.0.0 rows stored_rows) once,
+    ),
+    all_small vs stand.1,
+  )
+
+  -- views that were made ready for them can take them in
+  pub can_take_rows : (vs ws : List NamedView) (ps : List (Option (List Addition))) → StandOn t vs → AreSame vs ws → AreReady t.number (changed rows weight) ws ps → CanAllTake ws ps
+  can_take_rows vs ws ps stand same ready = can_all_take small-changes t (changed rows weight) vs ws ps stand (all_small vs stand) same ready
+
+module _ (epoch : ℕ) (t u : TableOf) (vs ws xs : List NamedView) (ps : List (Option (List Addition))) (stand : StandOn t vs) (same : AreSame vs ws) (taken : HaveTaken epoch ws ps xs) where
+  -- views follow the rows of an INSERT
+  pub inserted-follow : (rows : List Row) → u ≡ holding (t.rows ++ rows) t → AreReady t.number (once_each rows) ws ps → Follow epoch u vs xs
+  inserted-follow rows is ready =
+      subst (λ (w : TableOf). Follow epoch w vs xs) (sym is)
+      (follow epoch t (holding (t.rows ++ rows) t) (once_each rows) refl (with_more t.rows rows) (once_each-bag (bag_of (t.rows ++ rows))) vs ws xs ps stand same ready taken)
+
+  -- and those of a DELETE
+  pub deleted-follow : (keep : Row → Bool) (gone : List Row) → u ≡ holding (filter (λ row. not (keep row)) t.rows) t → bag_of gone ≡ bag_of (filter keep t.rows) → AreReady t.number (changed gone (neg_ℤ (pos 1))) ws ps → Follow epoch u vs xs
+  deleted-follow keep gone is chosen ready =
+      subst (λ (w : TableOf). Follow epoch w vs xs) (sym is)
+      (follow epoch t (holding (filter (λ row. not (keep row)) t.rows) t) (changed gone (neg_ℤ (pos 1))) refl (with_fewer keep t.rows gone chosen)
+      (once_each-bag (bag_of (filter (λ row. not (keep row)) t.rows))) vs ws xs ps stand same ready taken)
+
+-- ---- The rows that a DELETE takes
+module _ (keep : Row → Bool) where
+  kept_few : (rows : List Row) → length (filter keep rows) ≤ length rows
+  kept_few [] = omega arith
+  kept_few (r ∷ rows) = by_test (keep r)
+      (λ k. rw k (omega (arith, kept_few rows)))
+      (λ k. rw k (omega (arith, kept_few rows)))
+
+  module _ (rows gone : List Row) (chosen : bag_of gone ≡ bag_of (filter keep rows)) where
+    -- are stored
+    pub gone_stored : AllByRecursion IsStored rows → AllByRecursion IsStored gone
+    gone_stored stored = all_of_rows IsStored gone (subst (λ (rs : List Row). AllByRecursion IsStored rs) (sym chosen) (all_of_bag IsStored (filter keep rows) (all_of_kept IsStored keep rows stored)))
+
+    -- and no more than there were
+    pub gone_few : (bound : ℕ) → length rows < bound → length gone < bound
+    gone_few bound few =
+        let same : length gone ≡ length (filter keep rows) = sym (length-bag_of gone) ∙ ap length chosen ∙ length-bag_of (filter keep rows) in
+        omega (arith, few, same, kept_few rows)
+
+-- ---- Views of all tables, where the one at a place was written
+module _ (now next : ℕ) (tables : List TableOf) (i : ℕ) (t : TableOf) (vs : List NamedView) (numbered : AreNumbered tables next) (within : i < length tables) (is : t ≡ get_or tables i t) (right : AreRight tables now vs) where
+  -- they stand on it
+  pub stand_at : StandOn t vs
+  stand_at = stand_on tables now t vs (subst (λ (x : TableOf). rows_in tables x.number ≡ x.rows) (sym is) (rows_there tables i t next numbered within)) right
+
+  -- and are led on with it
+  moved_at : (epoch : ℕ) (u : TableOf) (ws : List NamedView) → u.number ≡ t.number → Follow epoch u vs ws → Moved epoch (set tables i u) vs ws
+  moved_at epoch u ws number f =
+      let same : u.number ≡ (get_or tables i t).number = number ∙ ap (λ (x : TableOf). x.number) is in
+      moved epoch now tables (set tables i u) u (rows_at u t tables i next numbered within same) (rows_elsewhere u t tables i within same) vs ws f right
+
+  pub inserted-moved : (epoch : ℕ) (u : TableOf) (ws : List NamedView) (max_rows : ℕ) (rows : List (List Literal)) (result : Result (Unit {0}) Fault) → Inserts max_rows rows t u result → OnOk result (Follow epoch u vs ws) → OnOk result (Moved epoch (set tables i u) vs ws)
+  inserted-moved epoch u ws max_rows rows (Ok x) w f = moved_at epoch u ws (ap (λ (y : TableOf). y.number) w.1) f
+  inserted-moved epoch u ws max_rows rows (Err e) w f = tt
+
+  pub deleted-moved : (epoch : ℕ) (u : TableOf) (ws : List NamedView) (condition : Option Condition) (result : Result ℕ Fault) → Deletes condition t u result → OnOk result (Follow epoch u vs ws) → OnOk result (Moved epoch (set tables i u) vs ws)
+  deleted-moved epoch u ws condition (Ok x) w f = moved_at epoch u ws (ap (λ (y : TableOf). y.number) w.1.1) f
+  deleted-moved epoch u ws condition (Err e) w f = tt
+
+-- ---- A write that is refused
+-- the statement is refused where its walk is, and nothing is changed that is seen
+pub refused : (tables left : List TableOf) (vs ws : List NamedView) (now drawn max_rows : ℕ) (statement : Statement) (f : Fault) → left ≡ tables → AreSame vs ws → MayRefuse (refusal (present tables (views_of vs) now drawn max_rows) statement) f
+    → Refuses (present tables (views_of vs) now drawn max_rows) statement f (present left (views_of ws) now drawn max_rows)
+refused tables left vs ws now drawn max_rows statement faults.Memory same views m = for_memory refl (ap₂ (λ (ts : List TableOf) (xs : List ViewOf). present ts xs now drawn max_rows) same (same_views vs ws views))
+refused tables left vs ws now drawn max_rows statement f same views m = by_walk m (ap₂ (λ (ts : List TableOf) (xs : List ViewOf). present ts xs now drawn max_rows) same (same_views vs ws views))
+
+-- what holds anyway holds where the call is refused
+pub where_refused : {X : Type 0} {P : Type 0} (result : Result X Fault) → P → OnErr result P
+where_refused (Ok x) p = tt
+where_refused (Err f) p = p

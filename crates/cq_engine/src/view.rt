@@ -1,0 +1,116 @@
+//! A view under its name.
+ghost use Rattle.std.specs.Prelude.{◌≡◌, ◌==◌, IfErr, IfOk, IfSome, OnOk, map};
+ghost use Rattle.std.specs.List.{AllByRecursion};
+ghost use Rattle.cq_bags.specs.Bag.{SameBag, once_each};
+ghost use Rattle.cq_deltas.specs.declared.fault.ToldFault.TheVariants.{SumOutOfRange};
+ghost use Rattle.cq_model.specs.Meaning.{MeaningInRange, Tables, meaning};
+ghost use Rattle.cq_values.specs.Texts.{is_text};
+ghost use Rattle.cq_views.specs.View.{IsNarrowFor, StandsFor, changed, query_of};
+ghost use Rattle.cq_engine.specs.Views.{CanTake, HasTaken, IsReady, IsSame};
+
+use cq_deltas::ToldFault;
+use cq_model::ColumnDef;
+use cq_values::{Row, Seq, Text};
+use cq_views::{Pending, ViewState};
+use std::alloc::{AllocError, Global};
+use std::marker::Model;
+
+/// A kept view under a name, with the columns that it shows.
+#[derive(Drop)]
+pub struct View {
+    name: Text,
+    columns: Seq<ColumnDef>,
+    state: ViewState,
+}
+
+impl Model for View {
+    ghost use Rattle.std.specs.Coded.{codes};
+    ghost use Rattle.cq_model.specs.contracts.expr.Cond as cond;
+    ghost use Rattle.cq_model.specs.contracts.expr.Expr as expr;
+    ghost use Rattle.cq_engine.specs.Views.{NamedView};
+
+    ghost Value = { NamedView };
+
+    ghost coded = { Prim.hlevel (codes, expr.the_row.coded, cond.the_row.coded) };
+
+    ghost view = { λ v. record { name = v.name; columns = v.columns; kept = v.state } };
+}
+
+impl View {
+    pub fn new(name: Text, columns: Seq<ColumnDef>, state: ViewState) -> View
+        ensures { result ≡ record { name = name; columns = columns; kept = state } }
+    {
+        View {
+            name,
+            columns,
+            state,
+        }
+    }
+
+    pub fn is_named(&self, name: &str) -> bool
+        ensures { result ≡ is_text self.now.name name.now }
+    {
+        self.name.as_str() == name
+    }
+
+    pub fn columns(&self) -> &[ColumnDef]
+        ensures { result.now ≡ self.now.columns }
+    {
+        self.columns.as_slice()
+    }
+
+    /// Whether the view stands on the table of a number.
+    pub fn is_on(&self, table: u64) -> bool
+        ensures { result ≡ (self.now.kept.def.table == table) }
+    {
+        self.state.is_on(table)
+    }
+
+    /// How many writes the view has taken in.
+    pub fn epoch(&self) -> u64
+        ensures { result ≡ self.now.kept.epoch }
+    {
+        self.state.epoch()
+    }
+
+    /// The rows of the view. It costs what the view holds.
+    pub fn rows(&self, alloc: Global) -> Result<Vec<Row>, ToldFault>
+        ensures bag { IfOk result (λ rows. (tables : Tables) → StandsFor self.now.kept tables → SameBag (once_each rows.items) (meaning (query_of self.now.kept.def) tables)) }
+        ensures range { OnOk result ((tables : Tables) → StandsFor self.now.kept tables → MeaningInRange (query_of self.now.kept.def) tables) }
+        ensures fault { IfErr result (λ e. e ≡ SumOutOfRange → (tables : Tables) → StandsFor self.now.kept tables → MeaningInRange (query_of self.now.kept.def) tables → ⊥) }
+    {
+        self.state.rows(alloc)
+    }
+
+    /// What these rows of a table change in the view, all with one weight, if it stands on that table. All growth for it
+    /// is made, and no group changes.
+    pub fn prepare(
+        &mut self,
+        alloc: Global,
+        table: u64,
+        rows: &[&Row],
+        weight: i128,
+    ) -> Result<Option<Pending>, AllocError>
+        requires { AllByRecursion (λ r. IsNarrowFor self.old.kept.def r.now) rows.now }
+        ensures kept { IsSame self.old self.new }
+        ensures ready { IfOk result (IsReady table (changed (map (λ r. r.now) rows.now) weight) self.new) }
+    {
+        if !self.state.is_on(table) {
+            return Ok(None);
+        }
+        let pending = self.state.prepare(alloc, rows, weight)?;
+        Ok(Some(pending))
+    }
+
+    /// Takes in the write that the view was made ready for, which is one of another table where there is no change. It
+    /// cannot fail, and takes no memory.
+    pub fn commit(&mut self, pending: Option<Pending>, epoch: u64)
+        requires { CanTake self.old pending }
+        ensures { HasTaken epoch self.old pending self.new }
+    {
+        match pending {
+            Some(pending) => self.state.commit(pending, epoch),
+            None => self.state.advance(epoch),
+        }
+    }
+}

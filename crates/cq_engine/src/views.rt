@@ -1,0 +1,80 @@
+//! Views under their names, and the writes that they take in.
+ghost use Rattle.std.specs.Prelude.{◌≡◌, ◌==◌, IfOk, is_some, map, position};
+ghost use Rattle.std.specs.List.{AllByRecursion, list_any};
+ghost use Rattle.cq_values.specs.Texts.{is_text};
+ghost use Rattle.cq_steps.specs.Refusal.{is_used};
+ghost use Rattle.cq_steps.specs.State.{view_named, view_place};
+ghost use Rattle.cq_views.specs.View.{IsNarrowFor, changed};
+ghost use Rattle.cq_engine.specs.Views.{AreReady, AreSame, CanAllTake, HaveTaken, views_of};
+
+use crate::view::View;
+use cq_values::Row;
+use cq_views::Pending;
+use std::alloc::{AllocError, Global};
+
+/// Where the view of a name stands.
+#[tactic(auto, using(crate::proofs::Named::place_named))]
+pub fn view_place(views: &[View], name: &str) -> Option<usize>
+    ensures { result ≡ view_place name.now (views_of views.now) }
+{
+    position_of(views, name)
+}
+
+/// Whether there is a view of a name.
+#[tactic(auto, using(crate::proofs::Named::has_place))]
+pub fn is_view(views: &[View], name: &str) -> bool
+    ensures { result ≡ is_some (view_named name.now (views_of views.now)) }
+{
+    view_place(views, name).is_some()
+}
+
+/// Whether a view stands on the table of a number.
+#[tactic(auto, using(crate::proofs::Named::used_by))]
+pub fn is_used(views: &[View], table: u64) -> bool
+    ensures { result ≡ is_used table (views_of views.now) }
+{
+    is_any_on(views, table)
+}
+
+/// What these rows of a table change in each view, all with one weight. All growth for it is made, and no group changes.
+pub fn prepare_all(
+    alloc: Global,
+    views: &mut Vec<View>,
+    table: u64,
+    rows: &[&Row],
+    weight: i128,
+) -> Result<Vec<Option<Pending>>, AllocError>
+    requires { AllByRecursion (λ v. AllByRecursion (λ r. IsNarrowFor v.kept.def r.now) rows.now) views.old.items }
+    ensures kept { AreSame views.old.items views.new.items }
+    ensures ready { IfOk result (λ ps. AreReady table (changed (map (λ r. r.now) rows.now) weight) views.new.items ps.items) }
+{
+    let mut pendings = Vec::with_capacity(alloc, views.len())?;
+    for place in 0..views.len() {
+        pendings.push(views[place].prepare(alloc, table, rows, weight)?)?;
+    }
+    Ok(pendings)
+}
+
+/// Takes a write in that the views were made ready for. It cannot fail, and takes no memory.
+pub fn commit_all(views: &mut Vec<View>, pendings: Vec<Option<Pending>>, epoch: u64)
+    requires { CanAllTake views.old.items pendings.items }
+    ensures { HaveTaken epoch views.old.items pendings.items views.new.items }
+{
+    let mut place = 0;
+    for pending in pendings {
+        views[place].commit(pending, epoch);
+        place += 1;
+    }
+}
+
+fn position_of(views: &[View], name: &str) -> Option<usize>
+    ensures { result ≡ position (λ v. is_text v.name name.now) views.now }
+{
+    views.iter().position(|v| v.is_named(name))
+}
+
+fn is_any_on(views: &[View], table: u64) -> bool
+    ensures { result ≡ list_any (λ v. v.kept.def.table == table) views.now }
+{
+    views.iter().any(|v| v.is_on(table))
+}

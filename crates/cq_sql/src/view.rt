@@ -1,0 +1,89 @@
+//! The query of a view: its items, and what they are taken from.
+ghost use Rattle.std.specs.Prelude.{◌≡◌};
+ghost use Rattle.cq_sql.specs.Gives.{Gives};
+ghost use Rattle.cq_sql.specs.Grammar.{count_at, sum_at, item_value_at, item_at, groups_at, view_select_at};
+
+use crate::fault::SqlFault;
+use crate::read::{Readable, expect_keyword, expect_symbol, list_of, tail_of};
+use cq_model::{Condition, Item, ItemValue, Keyword, Symbol, Token, ViewSelect};
+use cq_values::{Seq, Text};
+use std::alloc::Global;
+
+#[tactic(auto, unfolding(crate::specs::Grammar::count_at))]
+fn count_at(tokens: &[Token]) -> Result<(ItemValue, &[Token]), SqlFault>
+    ensures { Gives (λ x. (x.0, x.1.now)) result (count_at tokens.now) }
+{
+    let rest = expect_symbol(Symbol::Open, tokens)?;
+    let rest = expect_symbol(Symbol::Star, rest)?;
+    let rest = expect_symbol(Symbol::Close, rest)?;
+    Ok((ItemValue::CountAll, rest))
+}
+
+#[tactic(auto, unfolding(crate::specs::Grammar::sum_at))]
+fn sum_at(alloc: Global, tokens: &[Token]) -> Result<(ItemValue, &[Token]), SqlFault>
+    ensures { Gives (λ x. (x.0, x.1.now)) result (sum_at tokens.now) }
+{
+    let rest = expect_symbol(Symbol::Open, tokens)?;
+    let (name, rest) = Text::read(alloc, rest)?;
+    let rest = expect_symbol(Symbol::Close, rest)?;
+    Ok((ItemValue::Sum(name), rest))
+}
+
+impl Readable for ItemValue {
+    ghost reads = { item_value_at };
+
+    #[tactic(auto, unfolding(crate::specs::Grammar::item_value_at))]
+    fn read(alloc: Global, tokens: &[Token]) -> Result<(ItemValue, &[Token]), SqlFault> {
+        match tokens {
+            [Token::Name(name), rest @ ..] => Ok((ItemValue::Column(name.copy(alloc)?), rest)),
+            [Token::Keyword(Keyword::Count), rest @ ..] => count_at(rest),
+            [Token::Keyword(Keyword::Sum), rest @ ..] => sum_at(alloc, rest),
+            _ => Err(SqlFault::Syntax),
+        }
+    }
+}
+
+impl Readable for Item {
+    ghost reads = { item_at };
+
+    #[tactic(auto, unfolding(crate::specs::Grammar::item_at))]
+    fn read(alloc: Global, tokens: &[Token]) -> Result<(Item, &[Token]), SqlFault> {
+        let (value, rest) = ItemValue::read(alloc, tokens)?;
+        let (alias, rest) = tail_of::<Text>(alloc, Keyword::As, rest)?;
+        Ok((Item { value, alias }, rest))
+    }
+}
+
+#[tactic(auto, unfolding(crate::specs::Grammar::groups_at))]
+fn groups_at(
+    alloc: Global,
+    items: Seq<Item>,
+    tokens: &[Token],
+) -> Result<(ViewSelect, &[Token]), SqlFault>
+    ensures { Gives (λ x. (x.0, x.1.now)) result (groups_at items tokens.now) }
+{
+    let rest = expect_keyword(Keyword::From, tokens)?;
+    let (table, rest) = Text::read(alloc, rest)?;
+    let (condition, rest) = tail_of::<Condition>(alloc, Keyword::Where, rest)?;
+    let rest = expect_keyword(Keyword::Group, rest)?;
+    let rest = expect_keyword(Keyword::By, rest)?;
+    let (group, rest) = list_of::<Text>(alloc, rest)?;
+    let view = ViewSelect {
+        items,
+        table,
+        condition,
+        group,
+    };
+    Ok((view, rest))
+}
+
+impl Readable for ViewSelect {
+    ghost reads = { view_select_at };
+
+    #[tactic(auto, unfolding(crate::specs::Grammar::view_select_at))]
+    fn read(alloc: Global, tokens: &[Token]) -> Result<(ViewSelect, &[Token]), SqlFault> {
+        let rest = expect_keyword(Keyword::Select, tokens)?;
+        let (items, rest) = list_of::<Item>(alloc, rest)?;
+        groups_at(alloc, items, rest)
+    }
+}
