@@ -105,10 +105,6 @@ module _ (name text : List ℕ) (ts seen : List TableOf) (views : List ViewOf) (
   )
   delete_walked condition u (Err f) w = refused_same (first_fault (delete_places condition (Ok t))) (first_fault (delete_places condition (written_table name (alone ts views)))) f (walks_written (delete_places condition)) w
 
-  -- a table that a view stands on is not taken away
-  pub drop_refused : is_used t.number views ≡ true → first_fault (drop_table_places views (table_named name ts)) ≡ Some TableInUse
-  drop_refused used = ap (λ (o : Option TableOf). first_fault (drop_table_places views o)) named_there ∙ ap (λ (b : Bool). first_fault (fault_if b TableInUse ∷ [])) used
-
   -- what taking it away does to all of them
   pub drop_walked : is_used t.number views ≡ false → DropsTable name views ts (remove ts i) (Ok tt)
   drop_walked unused = (
