@@ -1,0 +1,34 @@
+//! An engine that is given statements by their texts.
+mod calls;
+mod memory;
+mod queries;
+mod random;
+
+use cq_cli::NoSources;
+use cq_engine::{Engine, Limits};
+use cq_sql::parse;
+use cq_steps::Answer;
+use cq_values::{Row, Seq};
+use std::alloc::Global;
+use std::process::Abort;
+use std::test::Fail;
+
+fn engine(alloc: Global) -> Result<Engine, Fail> {
+    let limits = Limits::new(Limits::MAX_ROWS).ok_or("in range")?;
+    Ok(Engine::new(alloc, limits))
+}
+
+/// What the engine answers a statement.
+fn answer(rt: &impl Abort, alloc: Global, engine: &mut Engine, text: &str) -> Result<Answer, Fail> {
+    assert!(rt; engine.drawn() < 1000);
+    let statement = parse(alloc, text)?;
+    Ok(engine.step(&statement, &mut NoSources::default())?)
+}
+
+/// The rows that the engine answers a query.
+fn rows(rt: &impl Abort, alloc: Global, engine: &mut Engine, text: &str) -> Result<Seq<Row>, Fail> {
+    match answer(rt, alloc, engine, text)? {
+        Answer::Rows { rows, .. } => Ok(rows),
+        Answer::Done | Answer::Count(_) => Err("no rows".into()),
+    }
+}

@@ -1,0 +1,73 @@
+//! The views of the random scripts, as queries for the plain evaluator.
+use cq_model::{Aggregate, Comparison, Cond, Expr, Order, Query, Shape, Source};
+use cq_plain::{Database, PlainFault, answer_listed};
+use cq_values::{Row, Seq, Value};
+use std::alloc::{AllocError, Global};
+
+fn two<T: Drop>(alloc: Global, first: T, second: T) -> Result<Seq<T>, AllocError> {
+    let mut list = Seq::new(alloc);
+    list.push(first)?;
+    list.push(second)?;
+    Ok(list)
+}
+
+fn columns(alloc: Global, places: [usize; 3]) -> Result<Seq<Expr>, AllocError> {
+    let mut columns = Seq::new(alloc);
+    for place in places {
+        columns.push(Expr::Column(place))?;
+    }
+    Ok(columns)
+}
+
+fn grouped(
+    alloc: Global,
+    filter: Option<Cond>,
+    keys: Seq<usize>,
+    aggregates: Seq<Aggregate>,
+    items: [usize; 3],
+) -> Result<Query, AllocError> {
+    Ok(Query {
+        first: Source::Table(0),
+        joins: Seq::new(alloc),
+        filter,
+        shape: Shape::Grouped {
+            keys: Some(keys),
+            aggregates,
+            having: None,
+        },
+        items: columns(alloc, items)?,
+        distinct: false,
+    })
+}
+
+/// SELECT k, COUNT(*), SUM(a) FROM t GROUP BY k
+pub fn by_key(alloc: Global) -> Result<Query, AllocError> {
+    let mut keys = Seq::new(alloc);
+    keys.push(0)?;
+    let told = two(alloc, Aggregate::CountAll, Aggregate::Sum(Expr::Column(1)))?;
+    grouped(alloc, None, keys, told, [0, 1, 2])
+}
+
+/// SELECT SUM(k), a, COUNT(*) FROM t WHERE a > 0 GROUP BY a, k
+pub fn of_positives(alloc: Global) -> Result<Query, AllocError> {
+    let zero = Expr::Literal(Value::Number(0));
+    let filter = Cond::Compare(Comparison::Greater, Expr::Column(1), zero);
+    let keys = two(alloc, 1, 0)?;
+    let told = two(alloc, Aggregate::Sum(Expr::Column(0)), Aggregate::CountAll)?;
+    grouped(alloc, Some(filter), keys, told, [2, 0, 3])
+}
+
+/// What the query means on the rows of its table, as a list.
+pub fn meant(alloc: Global, query: &Query, rows: Seq<Row>) -> Result<Vec<Row>, PlainFault> {
+    let mut tables = Seq::new(alloc);
+    tables.push(rows)?;
+    let database = Database {
+        tables,
+        views: Seq::new(alloc),
+    };
+    let order = Order {
+        keys: Seq::new(alloc),
+        limit: None,
+    };
+    answer_listed(alloc, &database, query, &order)
+}
