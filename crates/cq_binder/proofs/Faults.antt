@@ -1,15 +1,20 @@
 -- The first fault of a list of places, and refusals that go on from a part to the whole.
-use Rattle.std.proofs.Common.{◌≡◌, ℕ, ◌+◌, ◌<◌, List, [], ◌∷◌, ◌++◌, length, get_or, take, drop, Option, Some, None, refl, sym, ap, ◌∙◌, subst, Result, Ok, Err}
+use Rattle.std.proofs.Common.{◌≡◌, ℕ, ◌+◌, ◌<◌, Bool, true, false, List, [], ◌∷◌, ◌++◌, length, get_or, take, drop, Option, Some, None, refl, sym, ap, ◌∙◌, subst, Result, Ok, Err}
 use Rattle.std.proofs.lemmas.List.{take_more, at_drop_more}
 use Rattle.std.specs.List.{flat_map, list_any}
 use Rattle.std.specs.Option.{option_or}
 use Rattle.cq_values.specs.Texts.{is_text}
 use Rattle.cq_model.specs.declared.statement.ColumnDef.{ColumnDef}
-use Rattle.cq_model.specs.declared.statement.Literal.{Literal}
+use Rattle.cq_model.specs.declared.statement.Constant.{Constant}
 use Rattle.cq_steps.specs.declared.fault.Fault.{Fault}
 use Rattle.cq_steps.specs.declared.fault.Fault.TheVariants as faults
 use Rattle.cq_steps.specs.Refusal.{first_fault, fault_if, column_places, row_places, MayRefuse}
 use Rattle.cq_binder.specs.Walk.{Walked}
+
+-- a stretch of one place
+pub single : (b : Bool) (f : Fault) → first_fault (fault_if b f ∷ []) ≡ fault_if b f
+single true f = refl
+single false f = refl
 
 -- the first fault of two stretches is that of the first, or else that of the second
 pub first_fault_append : (xs ys : List (Option Fault)) → first_fault (xs ++ ys) ≡ option_or (first_fault xs) (first_fault ys)
@@ -65,11 +70,11 @@ walked_same part whole Is (Ok x) same w = (same ∙ w.0, w.1)
 walked_same part whole Is (Err f) same m = refused_same (first_fault part) (first_fault whole) f same m
 
 -- the first fault of the rows from one on: its own, or else that of the rows behind it
-pub rows_more : (width : ℕ) (rows : List (List Literal)) (i : ℕ) (row : List Literal) → i < length rows → row ≡ get_or rows i row → first_fault (flat_map (row_places width) (drop i rows)) ≡ option_or (first_fault (row_places width row)) (first_fault (flat_map (row_places width) (drop (i + 1) rows)))
-rows_more width rows i row lt is =
-    at_drop_more (λ xs. first_fault (flat_map (row_places width) xs)) rows i row lt
-    ∙ ap (λ (r : List Literal). first_fault (row_places width r ++ flat_map (row_places width) (drop (i + 1) rows))) (sym is)
-    ∙ first_fault_append (row_places width row) (flat_map (row_places width) (drop (i + 1) rows))
+pub rows_more : (columns : List ColumnDef) (rows : List (List Constant)) (i : ℕ) (row : List Constant) → i < length rows → row ≡ get_or rows i row → first_fault (flat_map (row_places columns) (drop i rows)) ≡ option_or (first_fault (row_places columns row)) (first_fault (flat_map (row_places columns) (drop (i + 1) rows)))
+rows_more columns rows i row lt is =
+    at_drop_more (λ xs. first_fault (flat_map (row_places columns) xs)) rows i row lt
+    ∙ ap (λ (r : List Constant). first_fault (row_places columns r ++ flat_map (row_places columns) (drop (i + 1) rows))) (sym is)
+    ∙ first_fault_append (row_places columns row) (flat_map (row_places columns) (drop (i + 1) rows))
 
 -- the same of columns: is it declared before, or else the columns behind it
 pub columns_more : (columns : List ColumnDef) (i : ℕ) (c : ColumnDef) → i < length columns → c ≡ get_or columns i c

@@ -2,3 +2,4 @@ pub mod Faults
 pub mod Walks
 pub mod ViewNames
 pub mod BoundItems
+pub mod Sorting

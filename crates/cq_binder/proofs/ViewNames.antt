@@ -1,6 +1,6 @@
 -- The names of a view's columns.
-use Rattle.std.proofs.Common.{◌≡◌, ℕ, Bool, true, false, List, [], ◌∷◌, ◌++◌, map, length, Option, None, refl, sym, ap, ◌∙◌}
-use Rattle.std.specs.Prelude.{◌||◌}
+use Rattle.std.proofs.Common.{◌≡◌, ℕ, ◌+◌, Bool, true, false, List, [], ◌∷◌, ◌++◌, map, length, Option, None, refl, sym, ap, ◌∙◌}
+use Rattle.std.specs.Prelude.{◌||◌, unwrap_or}
 use Rattle.std.specs.List.{list_any}
 use Rattle.std.proofs.lemmas.List.{map-append}
 use Rattle.cq_values.specs.Texts.{is_text}
@@ -8,14 +8,18 @@ use Rattle.cq_model.specs.declared.statement.ColumnDef.{ColumnDef}
 use Rattle.cq_model.specs.declared.statement.Item.{Item}
 use Rattle.cq_steps.specs.declared.fault.Fault.{Fault}
 use Rattle.cq_steps.specs.declared.fault.Fault.TheVariants.{NameTaken}
-use Rattle.cq_steps.specs.Bound.{item_names, view_column}
+use Rattle.cq_steps.specs.Bound.{item_columns, item_names, own_name}
 use Rattle.cq_steps.specs.Refusal.{first_fault, fault_if, column_places, repeats, too_long, MayRefuse}
 use Rattle.cq_binder.proofs.Faults.{first_fault_cons, or_next, refused_first, refused_next, refused_same}
 
+-- what columns are called
+abbrev pub names_of : List ColumnDef → List (List ℕ)
+names_of columns = map (λ c. c.name) columns
+
 -- a name stands among columns where it stands among their names
-taken_same : (before : List (List ℕ)) (name : List ℕ) → list_any (λ c. is_text c.name name) (map view_column before) ≡ list_any (λ b. is_text b name) before
+taken_same : (before : List ColumnDef) (name : List ℕ) → list_any (λ c. is_text c.name name) before ≡ list_any (λ b. is_text b name) (names_of before)
 taken_same [] name = refl
-taken_same (b ∷ before) name = ap (λ (t : Bool). is_text b name || t) (taken_same before name)
+taken_same (b ∷ before) name = ap (λ (t : Bool). is_text b.name name || t) (taken_same before name)
 
 -- one place more, that refuses or not
 fault_or : (a b : Bool) (rest : List (Option Fault)) → first_fault rest ≡ fault_if b NameTaken → first_fault (fault_if a NameTaken ∷ rest) ≡ fault_if (a || b) NameTaken
@@ -23,15 +27,20 @@ fault_or true b rest same = refl
 fault_or false b rest same = same
 
 -- columns are walked through as their names are
-pub names_walked : (before names : List (List ℕ)) → first_fault (column_places (map view_column before) (map view_column names)) ≡ fault_if (repeats before names) NameTaken
+pub names_walked : (before columns : List ColumnDef) → first_fault (column_places before columns) ≡ fault_if (repeats (names_of before) (names_of columns)) NameTaken
 names_walked before [] = refl
-names_walked before (name ∷ names) =
-    let behind = ap (λ (cs : List ColumnDef). first_fault (column_places cs (map view_column names))) (sym (map-append view_column before (name ∷ []))) in
-    ap (λ (t : Bool). first_fault (fault_if t NameTaken ∷ column_places (map view_column before ++ view_column name ∷ []) (map view_column names))) (taken_same before name)
-    ∙ fault_or (list_any (λ b. is_text b name) before) (repeats (before ++ name ∷ []) names) (column_places (map view_column before ++ view_column name ∷ []) (map view_column names)) (behind ∙ names_walked (before ++ name ∷ []) names)
+names_walked before (c ∷ columns) =
+    let behind = ap (λ (ns : List (List ℕ)). fault_if (repeats ns (names_of columns)) NameTaken) (map-append (λ d. d.name) before (c ∷ [])) in
+    ap (λ (t : Bool). first_fault (fault_if t NameTaken ∷ column_places (before ++ c ∷ []) columns)) (taken_same before c.name)
+    ∙ fault_or (list_any (λ b. is_text b c.name) (names_of before)) (repeats (names_of before ++ c.name ∷ []) (names_of columns)) (column_places (before ++ c ∷ []) columns) (names_walked (before ++ c ∷ []) columns ∙ behind)
+
+-- the columns of items are called as the items are
+names_kept : (table : List ColumnDef) (place : ℕ) (items : List Item) → names_of (item_columns table place items) ≡ item_names place items
+names_kept table place [] = refl
+names_kept table place (item ∷ items) = ap (λ (ns : List (List ℕ)). unwrap_or item.alias (own_name place item.value) ∷ ns) (names_kept table (place + 1) items)
 
 -- ---- The columns of the items: their names decide, and then their number
-module _ (items : List Item) (columns : List ColumnDef) (named : columns ≡ map view_column (item_names 1 items)) where
+module _ (table : List ColumnDef) (items : List Item) (columns : List ColumnDef) (named : columns ≡ item_columns table 1 items) where
   abbrev repeated : Option Fault
   repeated = fault_if (repeats [] (item_names 1 items)) NameTaken
 
@@ -40,7 +49,9 @@ module _ (items : List Item) (columns : List ColumnDef) (named : columns ≡ map
 
   -- the columns are walked through as the names
   same_walk : first_fault (column_places [] columns) ≡ repeated
-  same_walk = ap (λ (cs : List ColumnDef). first_fault (column_places [] cs)) named ∙ names_walked [] (item_names 1 items)
+  same_walk =
+      ap (λ (cs : List ColumnDef). first_fault (column_places [] cs)) named ∙ names_walked [] (item_columns table 1 items)
+      ∙ ap (λ (ns : List (List ℕ)). fault_if (repeats [] ns) NameTaken) (names_kept table 1 items)
 
   -- a name refuses
   pub name_refused : (f : Fault) → MayRefuse (first_fault (column_places [] columns)) f → MayRefuse (first_fault (repeated ∷ number)) f

@@ -40,7 +40,7 @@ AreBoundItems columns v told = (told.0 ≡ flat_map (aggregates_in columns) (val
 
 -- what a view shows, and its query by places among the columns of the table
 pub record IsBoundView (table : List ColumnDef) (v : ViewSelect) (b : BoundView) : Type 0 where
-  pub columns : b.columns ≡ view_columns v
+  pub columns : b.columns ≡ view_columns table v
   pub filter : b.filter ≡ option_map (bound_condition table) v.condition
   pub keys : b.keys ≡ map (place_in table) v.group
   pub aggregates : b.aggregates ≡ flat_map (aggregates_in table) (values_in v)

@@ -1,14 +1,15 @@
 //! The columns of a table: where a name stands, and what CREATE TABLE may not declare.
-ghost use Rattle.std.specs.Prelude.{◌≡◌, ◌∷◌, IfOk, []};
+ghost use Rattle.std.specs.Prelude.{◌≡◌, ◌∷◌, IfOk, [], map};
 ghost use Rattle.std.specs.List.{list_any};
+ghost use Rattle.cq_values.specs.declared.ty.Ty.TheVariants.{Integer};
 ghost use Rattle.cq_values.specs.Texts.{is_text};
-ghost use Rattle.cq_steps.specs.Bound.{column_place};
-ghost use Rattle.cq_steps.specs.Refusal.{column_places, too_long};
-ghost use Rattle.cq_binder.specs.Walk.{Passes};
+ghost use Rattle.cq_steps.specs.Bound.{column_place, place_in, type_named};
+ghost use Rattle.cq_steps.specs.Refusal.{column_places, is_type, sort_places, too_long};
+ghost use Rattle.cq_binder.specs.Walk.{Passes, Walked};
 
 use cq_model::ColumnDef;
 use cq_steps::Fault;
-use cq_values::{Seq, Text};
+use cq_values::{Seq, Text, Ty};
 use std::alloc::{AllocError, Global};
 
 /// A list of columns or of items has at most so many entries.
@@ -19,6 +20,45 @@ pub fn column_place(columns: &[ColumnDef], name: &str) -> Option<usize>
     ensures { result ≡ column_place columns.now name.now }
 {
     columns.iter().position(|c| c.name.as_str() == name)
+}
+
+/// The type of the column of a name.
+pub fn type_named(columns: &[ColumnDef], name: &str) -> Ty
+    ensures { result ≡ type_named columns.now name.now }
+{
+    let place = column_place(columns, name).unwrap_or(0);
+    match columns.get(place) {
+        Some(column) => column.ty,
+        None => Ty::Integer,
+    }
+}
+
+/// Whether the column of a name holds whole numbers.
+pub fn is_number(columns: &[ColumnDef], name: &str) -> bool
+    ensures { result ≡ is_type (type_named columns.now name.now) Integer }
+{
+    type_named(columns, name) == Ty::Integer
+}
+
+/// Where the columns behind SORT BY stand, each of them once.
+pub fn sort_columns(
+    alloc: Global,
+    columns: &[ColumnDef],
+    names: &[Text],
+) -> Result<Seq<usize>, Fault>
+    ensures { Walked (sort_places columns.now [] names.now) (λ places. places ≡ map (place_in columns.now) names.now) result }
+{
+    let mut places = Seq::new(alloc);
+    for (i, name) in names.iter().enumerate() {
+        let Some(place) = column_place(columns, name.as_str()) else {
+            return Err(Fault::UnknownColumn);
+        };
+        if is_named(&names[..i], name.as_str()) {
+            return Err(Fault::NameTaken);
+        }
+        places.push(place)?;
+    }
+    Ok(places)
 }
 
 /// Refuses a name that an earlier column has.
@@ -75,4 +115,10 @@ fn is_declared(columns: &[ColumnDef], column: &ColumnDef) -> bool
 {
     let name = column.name.as_str();
     columns.iter().any(|c| c.name.as_str() == name)
+}
+
+fn is_named(names: &[Text], name: &str) -> bool
+    ensures { result ≡ list_any (λ n. is_text n name.now) names.now }
+{
+    names.iter().any(|n| n.as_str() == name)
 }

@@ -1,12 +1,12 @@
 //! The items of a view: keys of its groups, or what is told of each group.
-ghost use Rattle.std.specs.Prelude.{◌≡◌, position};
+ghost use Rattle.std.specs.Prelude.{◌≡◌, [], position};
 ghost use Rattle.cq_values.specs.Texts.{is_text};
-ghost use Rattle.cq_model.specs.declared.statement.ItemValue.TheVariants.{Column};
+ghost use Rattle.cq_model.specs.declared.statement.ItemValue.TheVariants.{Column, Sum};
 ghost use Rattle.cq_steps.specs.Refusal.{item_places};
 ghost use Rattle.cq_binder.specs.View.{AreBoundItems, bound_item, item_walk};
 ghost use Rattle.cq_binder.specs.Walk.{Walked};
 
-use crate::columns::column_place;
+use crate::columns::{column_place, is_number};
 use cq_model::{Aggregate, ColumnDef, Expr, ItemValue, ViewSelect};
 use cq_steps::Fault;
 use cq_values::{Seq, Text};
@@ -49,10 +49,7 @@ fn bound_item(columns: &[ColumnDef], group: &[Text], value: &ItemValue) -> Resul
     match value {
         ItemValue::Column(name) => grouped_column(columns, group, name.as_str()),
         ItemValue::CountAll => Ok(BoundItem::Told(Aggregate::CountAll)),
-        ItemValue::Sum(name) => match column_place(columns, name.as_str()) {
-            Some(place) => Ok(BoundItem::Told(Aggregate::Sum(Expr::Column(place)))),
-            None => Err(Fault::UnknownColumn),
-        },
+        ItemValue::Sum(name) => added_column(columns, name.as_str()),
     }
 }
 
@@ -67,6 +64,19 @@ fn grouped_column(columns: &[ColumnDef], group: &[Text], name: &str) -> Result<B
         Some(place) => Ok(BoundItem::Key(place)),
         None => Err(Fault::AggregateMisplaced),
     }
+}
+
+/// A column of whole numbers, which are added up.
+fn added_column(columns: &[ColumnDef], name: &str) -> Result<BoundItem, Fault>
+    ensures { Walked (item_places columns.now [] (Sum name.now)) (λ item. item ≡ bound_item columns.now [] (Sum name.now)) result }
+{
+    let Some(place) = column_place(columns, name) else {
+        return Err(Fault::UnknownColumn);
+    };
+    if !is_number(columns, name) {
+        return Err(Fault::TypeMismatch);
+    }
+    Ok(BoundItem::Told(Aggregate::Sum(Expr::Column(place))))
 }
 
 /// Where a column stands in GROUP BY.

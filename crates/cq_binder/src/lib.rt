@@ -5,6 +5,7 @@
 #![tactic(auto)]
 
 mod columns;
+mod constants;
 mod items;
 mod literals;
 mod names;
@@ -12,6 +13,9 @@ mod names;
 mod tests;
 mod view;
 
-pub use columns::{check_length, check_names, column_place, copy_columns, copy_names};
-pub use literals::{fits_column, literal_number};
+pub use columns::{
+    check_length, check_names, column_place, copy_columns, copy_names, is_number, sort_columns,
+};
+pub use constants::bound_row;
+pub use literals::literal_number;
 pub use view::{BoundView, bound_view};

@@ -1,37 +1,54 @@
-//! The columns of a view: what its items are called.
-ghost use Rattle.std.specs.Prelude.{◌≡◌, IfOk, map, unwrap_or};
-ghost use Rattle.cq_steps.specs.Bound.{item_names, own_name, view_column};
+//! The columns of a view: what its items are called, and their types.
+ghost use Rattle.std.specs.Prelude.{◌≡◌, IfOk, unwrap_or};
+ghost use Rattle.cq_steps.specs.Bound.{item_columns, item_type, own_name};
 ghost use Rattle.cq_binder.specs.View.{name_walk};
 ghost use Rattle.cq_binder.specs.Walk.{Walked};
 
-use crate::columns::{check_length, check_names};
+use crate::columns::{check_length, check_names, type_named};
 use cq_model::{ColumnDef, Item, ItemValue};
 use cq_steps::Fault;
 use cq_values::{Seq, Text, Ty};
 use std::alloc::{AllocError, Global};
 
 /// The columns that the items show, of different names and not too many.
-pub fn view_columns(alloc: Global, items: &[Item]) -> Result<Seq<ColumnDef>, Fault>
-    ensures { Walked (name_walk items.now) (λ columns. columns ≡ map view_column (item_names 1 items.now)) result }
+pub fn view_columns(
+    alloc: Global,
+    table: &[ColumnDef],
+    items: &[Item],
+) -> Result<Seq<ColumnDef>, Fault>
+    ensures { Walked (name_walk items.now) (λ columns. columns ≡ item_columns table.now 1 items.now) result }
 {
-    let columns = named_columns(alloc, items)?;
+    let columns = named_columns(alloc, table, items)?;
     check_names(columns.as_slice())?;
     check_length(items.len())?;
     Ok(columns)
 }
 
-fn named_columns(alloc: Global, items: &[Item]) -> Result<Seq<ColumnDef>, AllocError>
-    ensures { IfOk result (λ columns. columns ≡ map view_column (item_names 1 items.now)) }
+fn named_columns(
+    alloc: Global,
+    table: &[ColumnDef],
+    items: &[Item],
+) -> Result<Seq<ColumnDef>, AllocError>
+    ensures { IfOk result (λ columns. columns ≡ item_columns table.now 1 items.now) }
 {
     let mut columns = Seq::new(alloc);
     for (i, item) in items.iter().enumerate() {
         columns.push(ColumnDef {
             name: item_name(alloc, i + 1, item)?,
-            ty: Ty::Integer,
+            ty: item_type(table, &item.value),
             not_null: false,
         })?;
     }
     Ok(columns)
+}
+
+fn item_type(table: &[ColumnDef], value: &ItemValue) -> Ty
+    ensures { result ≡ item_type table.now value.now }
+{
+    match value {
+        ItemValue::Column(name) => type_named(table, name.as_str()),
+        ItemValue::CountAll | ItemValue::Sum(_) => Ty::Integer,
+    }
 }
 
 /// The name behind AS, or else the item's own. Places are counted from 1.

@@ -1,21 +1,22 @@
-//! The views of one table, t(a INTEGER, b INTEGER).
+//! The views of one table, t(a INTEGER, b INTEGER, c TEXT), and the constants that columns take.
 
 use super::*;
 use cq_model::{
-    Aggregate, ColumnDef, Comparison, Condition, Expr, Item, ItemValue, Literal, ViewSelect,
+    Aggregate, ColumnDef, Comparison, Condition, Constant, Expr, Item, ItemValue, Literal,
+    ViewSelect,
 };
 use cq_steps::Fault;
-use cq_values::{Seq, Text, Ty};
+use cq_values::{Seq, Text, Ty, Value};
 use std::alloc::{AllocError, Global};
 use std::process::Abort;
 use std::test::Fail;
 
 fn columns(alloc: Global) -> Result<Seq<ColumnDef>, AllocError> {
     let mut columns = Seq::new(alloc);
-    for name in ["a", "b"] {
+    for (name, ty) in [("a", Ty::Integer), ("b", Ty::Integer), ("c", Ty::Text)] {
         columns.push(ColumnDef {
             name: Text::new(alloc, name)?,
-            ty: Ty::Integer,
+            ty,
             not_null: false,
         })?;
     }
@@ -37,25 +38,40 @@ fn unnamed(value: ItemValue) -> Item {
     Item { value, alias: None }
 }
 
-/// SELECT first, second FROM t WHERE a < 10 GROUP BY b
+fn number(magnitude: u128) -> Literal {
+    Literal {
+        is_negative: false,
+        magnitude,
+    }
+}
+
+/// column < 10
+fn below_ten(alloc: Global, column: &str) -> Result<Condition, AllocError> {
+    Ok(Condition {
+        column: Text::new(alloc, column)?,
+        comparison: Comparison::Less,
+        literal: number(10),
+    })
+}
+
+fn texts(alloc: Global, names: &[&str]) -> Result<Seq<Text>, AllocError> {
+    let mut texts = Seq::new(alloc);
+    for name in names {
+        texts.push(Text::new(alloc, *name)?)?;
+    }
+    Ok(texts)
+}
+
+/// SELECT first, second FROM t WHERE a < 10 GROUP BY b, c
 fn view(alloc: Global, first: Item, second: Item) -> Result<ViewSelect, AllocError> {
     let mut items = Seq::new(alloc);
     items.push(first)?;
     items.push(second)?;
-    let mut group = Seq::new(alloc);
-    group.push(Text::new(alloc, "b")?)?;
     Ok(ViewSelect {
         items,
         table: Text::new(alloc, "t")?,
-        condition: Some(Condition {
-            column: Text::new(alloc, "a")?,
-            comparison: Comparison::Less,
-            literal: Literal {
-                is_negative: false,
-                magnitude: 10,
-            },
-        }),
-        group,
+        condition: Some(below_ten(alloc, "a")?),
+        group: texts(alloc, &["b", "c"])?,
     })
 }
 
@@ -77,8 +93,8 @@ fn a_sum_stands_behind_the_keys_and_before_its_name(rt: HostRuntime) -> Result<(
     let columns = columns(alloc)?;
     let bound = bound_view(alloc, columns.as_slice(), &view)?;
     assert!(rt; bound.filter.is_some());
-    assert_eq!(rt; bound.keys.as_slice(), [1].as_slice());
-    assert_eq!(rt; bound.items.as_slice(), [1, 0].as_slice());
+    assert_eq!(rt; bound.keys.as_slice(), [1, 2].as_slice());
+    assert_eq!(rt; bound.items.as_slice(), [2, 0].as_slice());
     for (column, name) in bound.columns.as_slice().iter().zip(["total", "b"]) {
         assert_eq!(rt; column.name.as_str(), name);
     }
@@ -118,5 +134,164 @@ fn a_column_that_is_not_grouped_is_refused(rt: HostRuntime) -> Result<(), Fail> 
     let key = unnamed(column(alloc, "b")?);
     let refusal = refusal(alloc, key, unnamed(column(alloc, "a")?))?;
     assert_eq!(rt; refusal, Some(Fault::AggregateMisplaced));
+    Ok(())
+}
+
+#[test]
+fn a_key_keeps_its_type_and_a_count_is_a_number(rt: HostRuntime) -> Result<(), Fail> {
+    let alloc = rt.alloc();
+    let key = unnamed(column(alloc, "c")?);
+    let view = view(alloc, key, unnamed(ItemValue::CountAll))?;
+    let columns = columns(alloc)?;
+    let bound = bound_view(alloc, columns.as_slice(), &view)?;
+    for (column, ty) in bound.columns.as_slice().iter().zip([Ty::Text, Ty::Integer]) {
+        assert_eq!(rt; column.ty, ty);
+    }
+    Ok(())
+}
+
+#[test]
+fn a_sum_of_texts_is_refused(rt: HostRuntime) -> Result<(), Fail> {
+    let alloc = rt.alloc();
+    let sum = unnamed(ItemValue::Sum(Text::new(alloc, "c")?));
+    let refusal = refusal(alloc, unnamed(column(alloc, "b")?), sum)?;
+    assert_eq!(rt; refusal, Some(Fault::TypeMismatch));
+    Ok(())
+}
+
+#[test]
+fn a_text_is_compared_with_no_number(rt: HostRuntime) -> Result<(), Fail> {
+    let alloc = rt.alloc();
+    let key = unnamed(column(alloc, "b")?);
+    let mut view = view(alloc, key, unnamed(ItemValue::CountAll))?;
+    view.condition = Some(below_ten(alloc, "c")?);
+    let columns = columns(alloc)?;
+    let refusal = bound_view(alloc, columns.as_slice(), &view).err();
+    assert_eq!(rt; refusal, Some(Fault::TypeMismatch));
+    Ok(())
+}
+
+/// How SORT BY of these names is refused, if it is.
+fn sort_refusal(alloc: Global, names: &[&str]) -> Result<Option<Fault>, AllocError> {
+    let columns = columns(alloc)?;
+    let names = texts(alloc, names)?;
+    Ok(sort_columns(alloc, columns.as_slice(), names.as_slice()).err())
+}
+
+#[test]
+fn a_table_is_sorted_by_columns_of_its_own_each_once(rt: HostRuntime) -> Result<(), Fail> {
+    let alloc = rt.alloc();
+    assert_eq!(rt; sort_refusal(alloc, &["c", "a"])?, None);
+    assert_eq!(rt;
+        sort_refusal(alloc, &["c", "d"])?,
+        Some(Fault::UnknownColumn)
+    );
+    assert_eq!(rt;
+        sort_refusal(alloc, &["c", "a", "c"])?,
+        Some(Fault::NameTaken)
+    );
+    Ok(())
+}
+
+/// How a constant is refused in a column of this type that takes no NULL, if it is.
+fn constant_refusal(
+    alloc: Global,
+    ty: Ty,
+    constant: Constant,
+) -> Result<Option<Fault>, AllocError> {
+    let mut columns = Seq::new(alloc);
+    columns.push(ColumnDef {
+        name: Text::new(alloc, "a")?,
+        ty,
+        not_null: true,
+    })?;
+    let mut row = Seq::new(alloc);
+    row.push(constant)?;
+    Ok(bound_row(alloc, columns.as_slice(), row.as_slice()).err())
+}
+
+/// A text of so many bytes.
+fn long_text(alloc: Global, bytes: u32) -> Result<Constant, AllocError> {
+    let mut string = String::new(alloc);
+    for _ in 0..bytes {
+        string.push('x')?;
+    }
+    Ok(Constant::Text(Text::from_string(string)))
+}
+
+#[test]
+fn a_column_refuses_null_where_it_says_so(rt: HostRuntime) -> Result<(), Fail> {
+    let alloc = rt.alloc();
+    let refusal = constant_refusal(alloc, Ty::Integer, Constant::Null)?;
+    assert_eq!(rt; refusal, Some(Fault::NullNotAllowed));
+    Ok(())
+}
+
+#[test]
+fn a_constant_of_another_type_is_refused(rt: HostRuntime) -> Result<(), Fail> {
+    let alloc = rt.alloc();
+    for ty in [Ty::Text, Ty::Date] {
+        let refusal = constant_refusal(alloc, ty, Constant::Number(number(1)))?;
+        assert_eq!(rt; refusal, Some(Fault::TypeMismatch));
+    }
+    let refusal = constant_refusal(alloc, Ty::Date, long_text(alloc, 10)?)?;
+    assert_eq!(rt; refusal, Some(Fault::TypeMismatch));
+    Ok(())
+}
+
+#[test]
+fn a_text_has_at_most_4096_bytes(rt: HostRuntime) -> Result<(), Fail> {
+    let alloc = rt.alloc();
+    for (bytes, refused) in [(4096, None), (4097, Some(Fault::TextTooLong))] {
+        let refusal = constant_refusal(alloc, Ty::Text, long_text(alloc, bytes)?)?;
+        assert_eq!(rt; refusal, refused);
+    }
+    Ok(())
+}
+
+#[test]
+fn a_date_names_a_day_of_the_calendar(rt: HostRuntime) -> Result<(), Fail> {
+    let alloc = rt.alloc();
+    let cases = [
+        ("2024-02-29", None),
+        ("2023-02-29", Some(Fault::BadDate)),
+        ("0000-12-31", Some(Fault::BadDate)),
+        ("2024-2-29", Some(Fault::BadDate)),
+    ];
+    for (text, refused) in cases {
+        let date = Constant::Date(Text::new(alloc, text)?);
+        assert_eq!(rt; constant_refusal(alloc, Ty::Date, date)?, refused, "{text}");
+    }
+    Ok(())
+}
+
+/// 7, NULL
+fn short_row(alloc: Global) -> Result<Seq<Constant>, AllocError> {
+    let mut row = Seq::new(alloc);
+    row.push(Constant::Number(number(7)))?;
+    row.push(Constant::Null)?;
+    Ok(row)
+}
+
+#[test]
+fn a_row_of_another_width_is_refused(rt: HostRuntime) -> Result<(), Fail> {
+    let columns = columns(rt.alloc())?;
+    let row = short_row(rt.alloc())?;
+    let refusal = bound_row(rt.alloc(), columns.as_slice(), row.as_slice()).err();
+    assert_eq!(rt; refusal, Some(Fault::TypeMismatch));
+    Ok(())
+}
+
+#[test]
+fn a_row_has_the_values_of_its_constants(rt: HostRuntime) -> Result<(), Fail> {
+    let columns = columns(rt.alloc())?;
+    let mut row = short_row(rt.alloc())?;
+    row.push(long_text(rt.alloc(), 1)?)?;
+    let bound = bound_row(rt.alloc(), columns.as_slice(), row.as_slice())?;
+    let text = Value::Text(Text::new(rt.alloc(), "x")?);
+    assert_eq!(rt;
+        bound.as_slice(),
+        [Value::Number(7), Value::Null, text].as_slice()
+    );
     Ok(())
 }

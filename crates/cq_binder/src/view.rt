@@ -5,7 +5,7 @@ ghost use Rattle.cq_steps.specs.Refusal.{name_place, query_places, where_places}
 ghost use Rattle.cq_binder.specs.View.{IsBoundView, group_walk};
 ghost use Rattle.cq_binder.specs.Walk.{Walked};
 
-use crate::columns::{check_length, column_place};
+use crate::columns::{check_length, column_place, is_number};
 use crate::items::bound_items;
 use crate::literals::literal_number;
 use crate::names::view_columns;
@@ -35,7 +35,7 @@ pub fn bound_view(
     let filter = bound_where(columns, &view.condition)?;
     let keys = group_keys(alloc, columns, view.group.as_slice())?;
     let (aggregates, items) = bound_items(alloc, columns, view)?;
-    let columns = view_columns(alloc, view.items.as_slice())?;
+    let columns = view_columns(alloc, columns, view.items.as_slice())?;
     Ok(BoundView {
         columns,
         filter,
@@ -57,6 +57,9 @@ fn bound_where(columns: &[ColumnDef], condition: &Option<Condition>) -> Result<O
     };
     if condition.literal.magnitude >= 1u128 << 127 {
         return Err(Fault::TooWide);
+    }
+    if !is_number(columns, condition.column.as_str()) {
+        return Err(Fault::TypeMismatch);
     }
     let number = Value::Number(literal_number(&condition.literal));
     Ok(Some(Cond::Compare(

@@ -70,7 +70,7 @@ module _ (columns : List ColumnDef) (v : ViewSelect) (free : first_fault (query_
   few_items =
       let where_walk : List (Option Fault) = where_places columns v.condition in
       short (length v.items)
-      (second_free (fault_if (repeats [] (item_names 1 v.items)) NameTaken) (too_long (length v.items)) (back_free ((where_walk ++ keys_walk) ++ items_walk) names_walk free))
+      (second_free (fault_if (repeats [] (item_names 1 v.items)) NameTaken) (too_long (length v.items)) [] (back_free ((where_walk ++ keys_walk) ++ items_walk) names_walk free))
 
 -- ---- The view's query
 -- the query with its names as places among the columns of the table
@@ -121,7 +121,7 @@ module _ (t : TableOf) (rows : List Row) (same : bag_of rows ≡ t.rows) where
       law v (once_each rows) (once_each t.rows) listed stands
 
 -- the view of this query, built now
-pub is_built : (now : ℕ) (name : List ℕ) (q : ViewSelect) (t : TableOf) (v : NamedView) → v.name ≡ name → v.columns ≡ view_columns q → v.kept.def ≡ def_of q t → v.kept.epoch ≡ now → v.kept.built ≡ now
+pub is_built : (now : ℕ) (name : List ℕ) (q : ViewSelect) (t : TableOf) (v : NamedView) → v.name ≡ name → v.columns ≡ view_columns t.columns q → v.kept.def ≡ def_of q t → v.kept.epoch ≡ now → v.kept.built ≡ now
     → first_fault (query_places t.columns q) ≡ None → Stands v.kept (once_each t.rows) → IsBuilt now name q t v
 is_built now name q t v named columns def epoch built free stands = record {
   view = λ i. record { name = named i; columns = columns i; query = query_of (def i); epoch = epoch i; built = built i };
@@ -150,8 +150,8 @@ module _ (name : List ℕ) (view : ViewSelect) (tables : List TableOf) (old : Li
   -- a view that is built for it stands behind the others
   pub view_created : (now : ℕ) (new : List NamedView) (v : NamedView) → first_fault (view_select_places view (Ok t)) ≡ None → IsBuilt now name view t v → new ≡ old ++ v ∷ [] → CreatesView now name view tables (views_of old) (views_of new) (Ok tt)
   view_created now new v passed built is =
-      let behind : views_of new ≡ views_of old ++ new_view name (view_columns view) (grouped_query view t) now ∷ [] =
+      let behind : views_of new ≡ views_of old ++ new_view name (view_columns t.columns view) (grouped_query view t) now ∷ [] =
       ap views_of is ∙ map-append view_of old (v ∷ []) ∙ ap (λ (u : ViewOf). views_of old ++ u ∷ []) built.view in (
         create_view_goes_on ∙ passed,
-        subst (λ (o : Option TableOf). IfSome o (λ u. views_of new ≡ views_of old ++ new_view name (view_columns view) (grouped_query view u) now ∷ [])) (sym found) behind,
+        subst (λ (o : Option TableOf). IfSome o (λ u. views_of new ≡ views_of old ++ new_view name (view_columns u.columns view) (grouped_query view u) now ∷ [])) (sym found) behind,
       )

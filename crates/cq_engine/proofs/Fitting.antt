@@ -26,7 +26,7 @@ use Rattle.cq_model.specs.Eval.{eval}
 use Rattle.cq_model.specs.Width.{Extent, width, width_step, widest, widest_in, widest_step, widest_at, extent, sizes_of, value_size}
 use Rattle.cq_steps.specs.declared.fault.Fault.{Fault}
 use Rattle.cq_steps.specs.Bound.{aggregates_in, bound_condition, literal_value, place_in}
-use Rattle.cq_steps.specs.Refusal.{first_fault, literal_place, name_place, where_places}
+use Rattle.cq_steps.specs.Refusal.{first_fault, literal_place, name_place, number_place, where_places}
 use Rattle.cq_engine.specs.Views.{IsStored}
 use Rattle.cq_engine.proofs.Resolved.{eval-Column}
 
@@ -59,15 +59,15 @@ narrow_condition columns c row free stored =
     let number : (width (exprs.Literal (Number n)) (sizes_of row)).widest < 2 ^ 127 = rw (width-Number n (sizes_of row)) (omega (arith, narrow_literal c.literal free)) in
     rw (widest-Compare c.comparison (exprs.Column place) (exprs.Literal (Number n)) (sizes_of row)) (omega (arith, number, column_widest place row stored))
 
--- where two places have no fault, the second has none
-pub second_free : (o p : Option Fault) → first_fault (o ∷ p ∷ []) ≡ None → p ≡ None
-second_free None None e = refl
-second_free None (Some f) e = absurd (cc)
-second_free (Some f) p e = absurd (cc)
+-- where places have no fault, the second has none
+pub second_free : (o p : Option Fault) (places : List (Option Fault)) → first_fault (o ∷ p ∷ places) ≡ None → p ≡ None
+second_free None None places e = refl
+second_free None (Some f) places e = absurd (cc)
+second_free (Some f) p places e = absurd (cc)
 
 pub narrow_where : (columns : List ColumnDef) (c : Option Condition) (row : Row) → first_fault (where_places columns c) ≡ None → IsStored row → IfSome (option_map (bound_condition columns) c) (λ d. widest_at d row < 2 ^ 127)
 narrow_where columns None row free stored = tt
-narrow_where columns (Some c) row free stored = narrow_condition columns c row (second_free (name_place columns c.column) (literal_place c.literal) free) stored
+narrow_where columns (Some c) row free stored = narrow_condition columns c row (second_free (name_place columns c.column) (literal_place c.literal) (number_place columns c.column ∷ []) free) stored
 
 -- ---- What the items tell
 module _ (columns : List ColumnDef) where

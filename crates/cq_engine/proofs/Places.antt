@@ -10,7 +10,7 @@ use Rattle.std.proofs.Math.Numerals.{one-add}
 use Rattle.cq_values.specs.Value.{Row}
 use Rattle.cq_values.specs.Texts.{is_text}
 use Rattle.cq_model.specs.declared.statement.Condition.{Condition}
-use Rattle.cq_model.specs.declared.statement.Literal.{Literal}
+use Rattle.cq_model.specs.declared.statement.Constant.{Constant}
 use Rattle.cq_model.specs.declared.query.Source.TheVariants.{View}
 use Rattle.cq_steps.specs.declared.fault.Fault.{Fault}
 use Rattle.cq_steps.specs.declared.fault.Fault.TheVariants.{TableInUse, UnknownTable, ViewNotWritten}
@@ -93,7 +93,7 @@ module _ (name text : List ℕ) (ts seen : List TableOf) (views : List ViewOf) (
   rows_written rows u is_new = rw (at_first, is_new) (with_rows_at name rows ts t named_there)
 
   -- what an INSERT into it does to all of them
-  pub insert_walked : (max_rows : ℕ) (rows : List (List Literal)) (u : TableOf) (result : Result (Unit {0}) Fault) → Inserts max_rows rows t u result → InsertsIn max_rows name rows views ts (set ts i u) result
+  pub insert_walked : (max_rows : ℕ) (rows : List (List Constant)) (u : TableOf) (result : Result (Unit {0}) Fault) → Inserts max_rows rows t u result → InsertsIn max_rows name rows views ts (set ts i u) result
   insert_walked max_rows rows u (Ok x) w = (walks_written (insert_places max_rows rows) ∙ w.0, rows_written (and_rows rows) u w.1)
   insert_walked max_rows rows u (Err f) w = refused_same (first_fault (insert_places max_rows rows (Ok t))) (first_fault (insert_places max_rows rows (written_table name (alone ts views)))) f (walks_written (insert_places max_rows rows)) w
 

@@ -27,9 +27,9 @@ unfolding bag_of
 bag_of_none = refl
 
 -- a table with no rows is the empty one
-pub empty_as_stored : (number : ℕ) (name : List ℕ) (columns : List ColumnDef) (stored : List Row) → stored ≡ []
-    → record { number = number; name = name; columns = columns; sort = []; rows = bag_of stored } ≡ empty_table number name columns []
-empty_as_stored number name columns stored none = λ i. record { number = number; name = name; columns = columns; sort = []; rows = (ap bag_of none ∙ bag_of_none) i }
+pub empty_as_stored : (number : ℕ) (name : List ℕ) (columns : List ColumnDef) (sort : List ℕ) (stored : List Row) → stored ≡ []
+    → record { number = number; name = name; columns = columns; sort = sort; rows = bag_of stored } ≡ empty_table number name columns sort
+empty_as_stored number name columns sort stored none = λ i. record { number = number; name = name; columns = columns; sort = sort; rows = (ap bag_of none ∙ bag_of_none) i }
 
 -- more rows behind the stored ones are more rows in the bag
 pub bag_of_more : (stored more : List Row) → bag_of (stored ++ more) ≡ bag_of (bag_of stored ++ more)

@@ -12,7 +12,7 @@ use Rattle.cq_model.specs.declared.bound.Bound.{Bound}
 use Rattle.cq_model.specs.declared.bound.Bound.TheVariants as commands
 use Rattle.cq_model.specs.declared.statement.ColumnDef.{ColumnDef}
 use Rattle.cq_model.specs.declared.statement.Condition.{Condition}
-use Rattle.cq_model.specs.declared.statement.Literal.{Literal}
+use Rattle.cq_model.specs.declared.statement.Constant.{Constant}
 use Rattle.cq_model.specs.declared.statement.Select.{Select}
 use Rattle.cq_model.specs.declared.statement.Statement.{Statement}
 use Rattle.cq_model.specs.declared.statement.Statement.TheVariants as statements
@@ -23,7 +23,7 @@ use Rattle.cq_steps.specs.declared.answer.Answer.{Answer}
 use Rattle.cq_steps.specs.declared.answer.Answer.TheVariants.{Done, Count, Rows}
 use Rattle.cq_steps.specs.declared.fault.Fault.{Fault}
 use Rattle.cq_steps.specs.declared.fault.Fault.TheVariants.{ClauseInView, NameTaken, UnknownTable, ViewNotWritten}
-use Rattle.cq_steps.specs.Bound.{Named, bound, row_of, bound_query, bound_select, grouped_query, source_named, view_columns}
+use Rattle.cq_steps.specs.Bound.{Named, bound, row_of, bound_query, bound_select, grouped_query, place_in, source_named, view_columns}
 use Rattle.cq_steps.specs.Refusal.{first_fault, fault_if, refusal, view_select_places, create_places, create_view_places, drop_table_places, drop_view_places, insert_places, delete_places, select_places, written_table}
 use Rattle.cq_steps.specs.State.{TableOf, ViewOf, State, is_taken, table_named, view_named, view_place, rows_in, empty_table, with_rows, tables_now, AreNumbered}
 use Rattle.cq_steps.specs.Step.{at_epoch, new_view, reach, taken_on, written, Leads, DoesAtOnce, Writes}
@@ -116,20 +116,21 @@ module _ (tables : List TableOf) (views : List ViewOf) (now drawn max_rows : ℕ
     }
 
   -- CREATE TABLE under the number that is drawn
-  pub create_does : (name : List ℕ) (columns : List ColumnDef) (new : List TableOf) → first_fault (create_places name columns (alone tables views)) ≡ None → new ≡ tables ++ empty_table drawn name columns [] ∷ []
-      → DoesAtOnce old (statements.CreateTable name columns) Done (present new views now (drawn + 1) max_rows)
-  create_does name columns new free is =
-      rw is (unwritten (statements.CreateTable name columns) (commands.CreateTable name columns []) Done (tables ++ empty_table drawn name columns [] ∷ []) views (drawn + 1) here free refl (refl, refl))
+  pub create_does : (name : List ℕ) (columns : List ColumnDef) (sort : List (List ℕ)) (new : List TableOf) → first_fault (create_places name columns sort (alone tables views)) ≡ None
+      → new ≡ tables ++ empty_table drawn name columns (map (place_in columns) sort) ∷ [] → DoesAtOnce old (statements.CreateTable name columns sort) Done (present new views now (drawn + 1) max_rows)
+  create_does name columns sort new free is =
+      let places = map (place_in columns) sort in
+      rw is (unwritten (statements.CreateTable name columns sort) (commands.CreateTable name columns places) Done (tables ++ empty_table drawn name columns places ∷ []) views (drawn + 1) here free refl (refl, refl))
 
   -- CREATE VIEW on a table that is there
   pub create_view_does : (name : List ℕ) (view : ViewSelect) (new : List ViewOf) → first_fault (create_view_places name view (alone tables views)) ≡ None
-      → IfSome (table_named view.table tables) (λ t. new ≡ views ++ new_view name (view_columns view) (grouped_query view t) now ∷ []) → DoesAtOnce old (statements.CreateView name view) Done (present tables new now drawn max_rows)
+      → IfSome (table_named view.table tables) (λ t. new ≡ views ++ new_view name (view_columns t.columns view) (grouped_query view t) now ∷ []) → DoesAtOnce old (statements.CreateView name view) Done (present tables new now drawn max_rows)
   create_view_does name view new free is = create_view_for (table_named view.table tables) refl
     where
       create_view_for : (o : Option TableOf) → table_named view.table tables ≡ o → DoesAtOnce old (statements.CreateView name view) Done (present tables new now drawn max_rows)
       create_view_for (Some t) found =
-          rw (rw found at is) (unwritten (statements.CreateView name view) (commands.CreateView name (view_columns view) (grouped_query view t)) Done tables (views ++ new_view name (view_columns view) (grouped_query view t) now ∷ []) drawn
-          (at_behind now views (new_view name (view_columns view) (grouped_query view t) now) here refl) free (ap (option_map (λ u. commands.CreateView name (view_columns view) (grouped_query view u))) found) (refl, refl))
+          rw (rw found at is) (unwritten (statements.CreateView name view) (commands.CreateView name (view_columns t.columns view) (grouped_query view t)) Done tables (views ++ new_view name (view_columns t.columns view) (grouped_query view t) now ∷ []) drawn
+          (at_behind now views (new_view name (view_columns t.columns view) (grouped_query view t) now) here refl) free (ap (option_map (λ u. commands.CreateView name (view_columns u.columns view) (grouped_query view u))) found) (refl, refl))
       create_view_for None found =
           let fault = if is_some (view_named view.table views) then ClauseInView else UnknownTable in
           absurd (second_refuses (fault_if (is_taken name old) NameTaken) fault (sym (ap (λ (o : Option TableOf). first_fault (fault_if (is_taken name old) NameTaken ∷ view_select_places view (ok_or o fault))) found) ∙ free))
@@ -157,7 +158,7 @@ module _ (tables : List TableOf) (views : List ViewOf) (now drawn max_rows : ℕ
     its_rows = rows-found name t tables drawn numbered found
 
     -- INSERT into a table that is there
-    insert_does_at : (rows : List (List Literal)) → refusal old (statements.Insert name rows) ≡ None
+    insert_does_at : (rows : List (List Constant)) → refusal old (statements.Insert name rows) ≡ None
         → DoesAtOnce old (statements.Insert name rows) (Count (length rows)) (present (with_rows_in name (and_rows rows) tables) (map (at_epoch (now + 1)) views) (now + 1) (drawn + 1) max_rows)
     insert_does_at rows free =
         write_does t.number (rows_in tables t.number ++ map row_of rows) (statements.Insert name rows) (commands.Insert t.number (map row_of rows)) (Count (length rows)) (with_rows_in name (and_rows rows) tables)
@@ -215,7 +216,7 @@ module _ (tables : List TableOf) (views : List ViewOf) (now drawn max_rows : ℕ
         drop_for None found = absurd (cc (rw found at free))
 
     -- INSERT
-    pub insert_does : (name : List ℕ) (rows : List (List Literal)) (new : List TableOf) (others : List ViewOf) → first_fault (insert_places max_rows rows (written_table name (alone tables views))) ≡ None → new ≡ with_rows_in name (and_rows rows) tables
+    pub insert_does : (name : List ℕ) (rows : List (List Constant)) (new : List TableOf) (others : List ViewOf) → first_fault (insert_places max_rows rows (written_table name (alone tables views))) ≡ None → new ≡ with_rows_in name (and_rows rows) tables
         → others ≡ map (at_epoch (now + 1)) views → DoesAtOnce old (statements.Insert name rows) (Count (length rows)) (present new others (now + 1) (drawn + 1) max_rows)
     insert_does name rows new others free is moved = rw (is, moved) (insert_for (table_named name tables) refl)
       where

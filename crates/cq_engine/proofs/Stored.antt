@@ -1,21 +1,26 @@
 -- Rows that tables can hold: each number has 64 bits.
-use Rattle.std.proofs.Common.{◌≡◌, ◌≤◌, ℕ, zero, suc, ◌+◌, ◌^◌, Bool, true, false, not, List, [], ◌∷◌, ◌++◌, map, length, Option, Some, None, refl, sym, ap, ◌∙◌, arith, subst, Ordering}
-use Rattle.std.specs.Prelude.{◌==◌, filter, nat_le, nat_lt, if◌then◌else◌}
+use Rattle.std.proofs.Common.{◌≡◌, ◌≤◌, ℕ, ℤ, zero, suc, ◌+◌, ◌^◌, Bool, true, false, not, List, [], ◌∷◌, ◌++◌, map, length, Option, Some, None, refl, sym, ap, ◌∙◌, arith, subst, Ordering}
+use Rattle.std.specs.Prelude.{◌==◌, filter}
 use Rattle.std.specs.Option.{option_or}
 use Rattle.std.specs.List.{AllByRecursion, flat_map}
 use Rattle.std.specs.Ordering.{is_gt}
-use Rattle.std.proofs.lemmas.Bool.{leb-true, ltb-true}
+use Rattle.std.proofs.lemmas.Bool.{eqb-true, leb-true, ltb-true}
 use Rattle.std.proofs.lemmas.Int.{ints}
+use Rattle.cq_values.specs.declared.ty.Ty.TheVariants as types
+use Rattle.cq_values.specs.declared.value.Value.TheVariants.{Day, Null, Number}
+use Rattle.cq_values.specs.Dates.{day_named}
 use Rattle.cq_values.specs.Order.{row_cmp}
 use Rattle.cq_values.specs.Value.{Row, column}
 use Rattle.cq_bags.specs.Canonical.{bag_of, with_row, sorted_by}
 use Rattle.cq_bags.proofs.Totals.{by_test}
+use Rattle.cq_model.specs.declared.statement.ColumnDef.{ColumnDef}
+use Rattle.cq_model.specs.declared.statement.Constant.{Constant}
+use Rattle.cq_model.specs.declared.statement.Constant.TheVariants as constants
 use Rattle.cq_model.specs.declared.statement.Literal.{Literal}
 use Rattle.cq_model.specs.Width.{value_size}
 use Rattle.cq_steps.specs.declared.fault.Fault.{Fault}
-use Rattle.cq_steps.specs.declared.fault.Fault.TheVariants.{TypeMismatch}
-use Rattle.cq_steps.specs.Bound.{literal_value, row_of}
-use Rattle.cq_steps.specs.Refusal.{first_fault, fault_if, fits_column, constant_place, row_places}
+use Rattle.cq_steps.specs.Bound.{constant_value, literal_value, row_of}
+use Rattle.cq_steps.specs.Refusal.{first_fault, fits_column, is_type, constant_place, constant_places, row_places}
 use Rattle.cq_engine.specs.Views.{IsStored}
 use Rattle.cq_binder.proofs.Faults.{first_fault_append}
 
@@ -61,38 +66,55 @@ module _ (P : Row → Type 0) where
   all_of_rows rows a = unsorted row_cmp rows a
 
 -- ---- The rows of an INSERT
--- a constant that fits a column is stored
-constant_stored : (l : Literal) → constant_place l ≡ None → IsStored (row_of (l ∷ []))
-constant_stored l free = by_test (fits_column l) (λ k. fitting l.is_negative refl k) (λ k. absurd (cc (rw k at free)))
+-- a number that fits a column has 64 bits
+number_small : (l : Literal) → fits_column l ≡ true → value_size (Number (literal_value l)) ≤ 2 ^ 63
+number_small l k = fitting l.is_negative refl
   where
-    fitting : (b : Bool) → l.is_negative ≡ b → fits_column l ≡ true → IsStored (row_of (l ∷ []))
-    fitting true e k zero = rw e (let small = leb-true l.magnitude (2 ^ 63) (rw e at k) in omega (arith, ints, small))
-    fitting false e k zero = rw e (let small = ltb-true l.magnitude (2 ^ 63) (rw e at k) in omega (arith, ints, small))
-    fitting b e k (suc i) = omega arith
+    fitting : (b : Bool) → l.is_negative ≡ b → value_size (Number (literal_value l)) ≤ 2 ^ 63
+    fitting true e = rw e (let small = leb-true l.magnitude (2 ^ 63) (rw e at k) in omega (arith, ints, small))
+    fitting false e = rw e (let small = ltb-true l.magnitude (2 ^ 63) (rw e at k) in omega (arith, ints, small))
 
-constants_stored : (row : List Literal) → first_fault (map constant_place row) ≡ None → IsStored (row_of row)
-constants_stored [] free = λ i. omega arith
-constants_stored (l ∷ row) free = by_place (constant_place l) refl (λ e. constants_stored row e)
+-- a day and NULL have no size
+day_small : (o : Option ℤ) → value_size (elim o [ None ↦ Null | Some d ↦ Day d ]) ≤ 2 ^ 63
+day_small None = omega arith
+day_small (Some d) = omega arith
+
+-- a value that its column takes has at most 64 bits
+constant_small : (d : ColumnDef) (c : Constant) → constant_place d c ≡ None → value_size (constant_value c) ≤ 2 ^ 63
+constant_small d constants.Null free = omega arith
+constant_small d (constants.Number l) free =
+    by_test (is_type d.ty types.Integer)
+    (λ typed. by_test (fits_column l) (λ fits. number_small l fits) (λ wide. absurd (cc (rw (typed, wide) at free))))
+    (λ other. absurd (cc (rw other at free)))
+constant_small d (constants.Text t) free = omega arith
+constant_small d (constants.Date t) free = day_small (day_named t)
+
+-- constants that their columns take are stored
+constants_stored : (columns : List ColumnDef) (row : List Constant) → length row ≡ length columns → first_fault (constant_places columns row) ≡ None → IsStored (row_of row)
+constants_stored columns [] same free = λ i. omega arith
+constants_stored [] (c ∷ row) same free = absurd (omega (arith, same))
+constants_stored (d ∷ columns) (c ∷ row) same free = by_place (constant_place d c) refl (λ e. constants_stored columns row (omega (arith, same)) e)
   where
-    by_place : (o : Option Fault) → constant_place l ≡ o → (first_fault (map constant_place row) ≡ None → IsStored (row_of row)) → IsStored (row_of (l ∷ row))
-    by_place None e later zero = constant_stored l e zero
-    by_place None e later (suc i) = later (ap (λ (p : Option Fault). first_fault (p ∷ map constant_place row)) (sym e) ∙ free) i
-    by_place (Some f) e later i = absurd (let both : Some f ≡ None = sym (ap (λ (p : Option Fault). first_fault (p ∷ map constant_place row)) e) ∙ free in cc)
+    by_place : (o : Option Fault) → constant_place d c ≡ o → (first_fault (constant_places columns row) ≡ None → IsStored (row_of row)) → IsStored (row_of (c ∷ row))
+    by_place None e later zero = constant_small d c e
+    by_place None e later (suc i) = later (ap (λ (p : Option Fault). first_fault (p ∷ constant_places columns row)) (sym e) ∙ free) i
+    by_place (Some f) e later i = absurd (let both : Some f ≡ None = sym (ap (λ (p : Option Fault). first_fault (p ∷ constant_places columns row)) e) ∙ free in cc)
 
-row_stored : (width : ℕ) (row : List Literal) → first_fault (row_places width row) ≡ None → IsStored (row_of row)
-row_stored width row free = by_width (fault_if (not (length row == width)) TypeMismatch) refl
+-- a row that has no fault is stored
+row_stored : (columns : List ColumnDef) (row : List Constant) → first_fault (row_places columns row) ≡ None → IsStored (row_of row)
+row_stored columns row free =
+    by_test (length row == length columns)
+    (λ k. constants_stored columns row (eqb-true _ _ k) (rw k at free))
+    (λ k. absurd (cc (rw k at free)))
+
+-- rows that have no fault are stored
+pub rows_stored : (columns : List ColumnDef) (rows : List (List Constant)) → first_fault (flat_map (row_places columns) rows) ≡ None → AllByRecursion IsStored (map row_of rows)
+rows_stored columns [] free = tt
+rows_stored columns (row ∷ rows) free = by_row (first_fault (row_places columns row)) refl (λ e. rows_stored columns rows e)
   where
-    by_width : (o : Option Fault) → fault_if (not (length row == width)) TypeMismatch ≡ o → IsStored (row_of row)
-    by_width None e = constants_stored row (ap (λ (p : Option Fault). first_fault (p ∷ map constant_place row)) (sym e) ∙ free)
-    by_width (Some f) e = absurd (let both : Some f ≡ None = sym (ap (λ (p : Option Fault). first_fault (p ∷ map constant_place row)) e) ∙ free in cc)
+    split : first_fault (flat_map (row_places columns) (row ∷ rows)) ≡ option_or (first_fault (row_places columns row)) (first_fault (flat_map (row_places columns) rows))
+    split = first_fault_append (row_places columns row) (flat_map (row_places columns) rows)
 
-pub rows_stored : (width : ℕ) (rows : List (List Literal)) → first_fault (flat_map (row_places width) rows) ≡ None → AllByRecursion IsStored (map row_of rows)
-rows_stored width [] free = tt
-rows_stored width (row ∷ rows) free = by_row (first_fault (row_places width row)) refl (λ e. rows_stored width rows e)
-  where
-    split : first_fault (flat_map (row_places width) (row ∷ rows)) ≡ option_or (first_fault (row_places width row)) (first_fault (flat_map (row_places width) rows))
-    split = first_fault_append (row_places width row) (flat_map (row_places width) rows)
-
-    by_row : (o : Option Fault) → first_fault (row_places width row) ≡ o → (first_fault (flat_map (row_places width) rows) ≡ None → AllByRecursion IsStored (map row_of rows)) → AllByRecursion IsStored (map row_of (row ∷ rows))
-    by_row None e later = (row_stored width row e, later (sym (split ∙ ap (λ (o : Option Fault). option_or o (first_fault (flat_map (row_places width) rows))) e) ∙ free))
-    by_row (Some f) e later = absurd (let both : Some f ≡ None = sym (split ∙ ap (λ (o : Option Fault). option_or o (first_fault (flat_map (row_places width) rows))) e) ∙ free in cc)
+    by_row : (o : Option Fault) → first_fault (row_places columns row) ≡ o → (first_fault (flat_map (row_places columns) rows) ≡ None → AllByRecursion IsStored (map row_of rows)) → AllByRecursion IsStored (map row_of (row ∷ rows))
+    by_row None e later = (row_stored columns row e, later (sym (split ∙ ap (λ (o : Option Fault). option_or o (first_fault (flat_map (row_places columns) rows))) e) ∙ free))
+    by_row (Some f) e later = absurd (let both : Some f ≡ None = sym (split ∙ ap (λ (o : Option Fault). option_or o (first_fault (flat_map (row_places columns) rows))) e) ∙ free in cc)

@@ -11,7 +11,7 @@ use Rattle.cq_bags.proofs.Canonicals.{length-bag_of}
 use Rattle.cq_bags.proofs.Totals.{by_test}
 use Rattle.cq_deltas.specs.declared.change.Addition.{Addition}
 use Rattle.cq_model.specs.declared.statement.Condition.{Condition}
-use Rattle.cq_model.specs.declared.statement.Literal.{Literal}
+use Rattle.cq_model.specs.declared.statement.Constant.{Constant}
 use Rattle.cq_model.specs.declared.statement.Statement.{Statement}
 use Rattle.cq_steps.specs.declared.fault.Fault.{Fault}
 use Rattle.cq_steps.specs.declared.fault.Fault.TheVariants as faults
@@ -115,7 +115,7 @@ module _ (now next : ℕ) (tables : List TableOf) (i : ℕ) (t : TableOf) (vs : 
       let same : u.number ≡ (get_or tables i t).number = number ∙ ap (λ (x : TableOf). x.number) is in
       moved epoch now tables (set tables i u) u (rows_at u t tables i next numbered within same) (rows_elsewhere u t tables i within same) vs ws f right
 
-  pub inserted-moved : (epoch : ℕ) (u : TableOf) (ws : List NamedView) (max_rows : ℕ) (rows : List (List Literal)) (result : Result (Unit {0}) Fault) → Inserts max_rows rows t u result → OnOk result (Follow epoch u vs ws) → OnOk result (Moved epoch (set tables i u) vs ws)
+  pub inserted-moved : (epoch : ℕ) (u : TableOf) (ws : List NamedView) (max_rows : ℕ) (rows : List (List Constant)) (result : Result (Unit {0}) Fault) → Inserts max_rows rows t u result → OnOk result (Follow epoch u vs ws) → OnOk result (Moved epoch (set tables i u) vs ws)
   inserted-moved epoch u ws max_rows rows (Ok x) w f = moved_at epoch u ws (ap (λ (y : TableOf). y.number) w.1) f
   inserted-moved epoch u ws max_rows rows (Err e) w f = tt
 

@@ -11,7 +11,7 @@ use Rattle.cq_model.specs.declared.expr.Cond.{Cond}
 use Rattle.cq_model.specs.declared.query.Source.TheVariants.{Table}
 use Rattle.cq_model.specs.declared.statement.ColumnDef.{ColumnDef}
 use Rattle.cq_model.specs.declared.statement.Condition.{Condition}
-use Rattle.cq_model.specs.declared.statement.Literal.{Literal}
+use Rattle.cq_model.specs.declared.statement.Constant.{Constant}
 use Rattle.cq_model.specs.declared.statement.Select.{Select}
 use Rattle.cq_model.specs.declared.statement.ViewSelect.{ViewSelect}
 use Rattle.cq_model.specs.Meaning.{Tables, MeaningInRange, meaning}
@@ -19,7 +19,7 @@ use Rattle.cq_model.specs.Views.{with_views, AnswerInRange}
 use Rattle.cq_model.specs.Write.{chosen, left_by}
 use Rattle.cq_steps.specs.declared.fault.Fault.{Fault}
 use Rattle.cq_steps.specs.declared.fault.Fault.TheVariants.{Memory, SumOutOfRange}
-use Rattle.cq_steps.specs.Bound.{Named, row_of, bound_condition, bound_query, grouped_query, source_named, view_columns}
+use Rattle.cq_steps.specs.Bound.{Named, row_of, bound_condition, bound_query, grouped_query, place_in, source_named, view_columns}
 use Rattle.cq_steps.specs.Refusal.{create_places, create_view_places, delete_places, drop_table_places, drop_view_places, first_fault, insert_places, select_places, written_table, MayRefuse}
 use Rattle.cq_steps.specs.State.{TableOf, ViewOf, State, table_named, view_place, empty_table, holding, tables_now, queries_of}
 use Rattle.cq_steps.specs.Step.{new_view}
@@ -52,7 +52,7 @@ abbrev pub where_on : TableOf → Option Condition → Option Cond
 where_on t condition = option_map (bound_condition t.columns) condition
 
 -- the rows of a table with these behind them
-abbrev pub and_rows : List (List Literal) → TableOf → List Row
+abbrev pub and_rows : List (List Constant) → TableOf → List Row
 and_rows rows t = t.rows ++ map row_of rows
 
 -- the rows of a table that WHERE keeps
@@ -74,8 +74,9 @@ without_table name [] = []
 without_table name (t ∷ ts) = if is_text t.name name then ts else t ∷ without_table name ts
 
 -- CREATE TABLE puts an empty table behind the others
-abbrev pub Creates : ℕ → List ℕ → List ColumnDef → List ViewOf → List TableOf → List TableOf → Result (Unit {0}) Fault → Type 0
-Creates number name columns views old new result = Walked (create_places name columns (alone old views)) (λ x. new ≡ old ++ empty_table number name columns [] ∷ []) result
+abbrev pub Creates : ℕ → List ℕ → List ColumnDef → List (List ℕ) → List ViewOf → List TableOf → List TableOf → Result (Unit {0}) Fault → Type 0
+Creates number name columns sort views old new result =
+    Walked (create_places name columns sort (alone old views)) (λ x. new ≡ old ++ empty_table number name columns (map (place_in columns) sort) ∷ []) result
 
 -- DROP TABLE takes the table of a name away
 abbrev pub DropsTable : List ℕ → List ViewOf → List TableOf → List TableOf → Result (Unit {0}) Fault → Type 0
@@ -85,18 +86,18 @@ DropsTable name views old new result = Walked (drop_table_places views (table_na
 abbrev pub CreatesView : ℕ → List ℕ → ViewSelect → List TableOf → List ViewOf → List ViewOf → Result (Unit {0}) Fault → Type 0
 CreatesView now name view tables old new result =
     Walked (create_view_places name view (alone tables old))
-    (λ x. IfSome (table_named view.table tables) (λ t. new ≡ old ++ new_view name (view_columns view) (grouped_query view t) now ∷ [])) result
+    (λ x. IfSome (table_named view.table tables) (λ t. new ≡ old ++ new_view name (view_columns t.columns view) (grouped_query view t) now ∷ [])) result
 
 -- DROP VIEW takes the view of a name away
 abbrev pub DropsView : List ℕ → List ViewOf → List ViewOf → Result (Unit {0}) Fault → Type 0
 DropsView name old new result = Walked (drop_view_places (view_place name old)) (λ x. IfSome (view_place name old) (λ place. new ≡ remove old place)) result
 
 -- INSERT adds its rows to the table
-abbrev pub Inserts : ℕ → List (List Literal) → TableOf → TableOf → Result (Unit {0}) Fault → Type 0
+abbrev pub Inserts : ℕ → List (List Constant) → TableOf → TableOf → Result (Unit {0}) Fault → Type 0
 Inserts max_rows rows old new result = Walked (insert_places max_rows rows (Ok old)) (λ x. new ≡ holding (and_rows rows old) old) result
 
 -- INSERT adds its rows to the table of a name
-abbrev pub InsertsIn : ℕ → List ℕ → List (List Literal) → List ViewOf → List TableOf → List TableOf → Result (Unit {0}) Fault → Type 0
+abbrev pub InsertsIn : ℕ → List ℕ → List (List Constant) → List ViewOf → List TableOf → List TableOf → Result (Unit {0}) Fault → Type 0
 InsertsIn max_rows name rows views old new result = Walked (insert_places max_rows rows (written_table name (alone old views))) (λ x. new ≡ with_rows_in name (and_rows rows) old) result
 
 -- DELETE takes the rows that WHERE keeps from the table, and tells how many they were
@@ -149,7 +150,7 @@ SelectsKept q v (Err f) = MayRefuse (first_fault (select_places q (Some (from_co
 
 -- a view that was built for its query on this table
 pub record IsBuilt (now : ℕ) (name : List ℕ) (q : ViewSelect) (t : TableOf) (v : NamedView) : Type 0 where
-  pub view : view_of v ≡ new_view name (view_columns q) (grouped_query q t) now
+  pub view : view_of v ≡ new_view name (view_columns t.columns q) (grouped_query q t) now
   pub table : v.kept.def.table ≡ t.number
   pub fits : Fits v.kept.def
   pub stands : Stands v.kept (once_each t.rows)

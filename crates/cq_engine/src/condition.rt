@@ -7,7 +7,7 @@ ghost use Rattle.cq_steps.specs.Refusal.{where_places};
 ghost use Rattle.cq_engine.specs.Bound.{bound, bound_where, keeps_at, passes_at};
 ghost use Rattle.cq_binder.specs.Walk.{Walked};
 
-use cq_binder::{column_place, literal_number};
+use cq_binder::{column_place, is_number, literal_number};
 use cq_model::{ColumnDef, Comparison, Condition};
 use cq_steps::Fault;
 use cq_values::{Truth, Value};
@@ -31,6 +31,9 @@ impl BoundCondition {
         };
         if condition.literal.magnitude >= 1u128 << 127 {
             return Err(Fault::TooWide);
+        }
+        if !is_number(columns, condition.column.as_str()) {
+            return Err(Fault::TypeMismatch);
         }
         Ok(BoundCondition {
             place,

@@ -13,7 +13,7 @@ use crate::tables::{create_in, delete_in, drop_in, insert_in};
 use crate::view::View;
 use crate::views::view_place;
 use cq_binder::copy_names;
-use cq_model::{ColumnDef, Condition, Literal, Select, Statement, ViewSelect};
+use cq_model::{ColumnDef, Condition, Constant, Select, Statement, ViewSelect};
 use cq_steps::{Answer, Fault};
 use cq_values::{Seq, Text};
 use std::alloc::Global;
@@ -93,7 +93,11 @@ impl Engine {
         ensures { Step self.old command.now result self.new }
     {
         match command {
-            Statement::CreateTable { name, columns } => self.create(name, columns),
+            Statement::CreateTable {
+                name,
+                columns,
+                sort,
+            } => self.create(name, columns, sort),
             Statement::DropTable(name) => self.drop_table(name),
             Statement::CreateView { name, view } => self.create_view(name, view),
             Statement::DropView(name) => self.drop_view(name),
@@ -103,12 +107,18 @@ impl Engine {
         }
     }
 
-    fn create(&mut self, name: &Text, columns: &Seq<ColumnDef>) -> Result<Answer, Fault>
+    fn create(
+        &mut self,
+        name: &Text,
+        columns: &Seq<ColumnDef>,
+        sort: &Seq<Text>,
+    ) -> Result<Answer, Fault>
         requires { self.old.drawn < 2 ^ 64 - 1 }
-        ensures { Step self.old (statements.CreateTable name.now columns.now) result self.new }
+        ensures { Step self.old (statements.CreateTable name.now columns.now sort.now) result self.new }
     {
         let number = self.drawn;
         let columns = columns.as_slice();
+        let sort = sort.as_slice();
         create_in(
             self.alloc,
             &mut self.tables,
@@ -116,6 +126,7 @@ impl Engine {
             number,
             name,
             columns,
+            sort,
         )?;
         self.drawn = number + 1;
         Ok(Answer::Done)
@@ -143,7 +154,7 @@ impl Engine {
         Ok(Answer::Done)
     }
 
-    fn insert(&mut self, table: &Text, rows: &Seq<Seq<Literal>>) -> Result<Answer, Fault>
+    fn insert(&mut self, table: &Text, rows: &Seq<Seq<Constant>>) -> Result<Answer, Fault>
         requires { self.old.drawn < 2 ^ 64 - 1 }
         ensures { Step self.old (statements.Insert table.now rows.now) result self.new }
     {

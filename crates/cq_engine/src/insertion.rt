@@ -13,10 +13,10 @@ ghost use Rattle.cq_binder.specs.Walk.{Passes, Walked};
 use crate::table::Table;
 use crate::view::View;
 use crate::views::{commit_all, prepare_all};
-use cq_binder::{fits_column, literal_number};
-use cq_model::Literal;
+use cq_binder::bound_row;
+use cq_model::{ColumnDef, Constant};
 use cq_steps::Fault;
-use cq_values::{Row, Seq, Value};
+use cq_values::{Row, Seq};
 use cq_views::Pending;
 use std::alloc::{AllocError, Global};
 
@@ -26,7 +26,7 @@ pub fn insert_into(
     max_rows: u64,
     table: &mut Table,
     views: &mut Vec<View>,
-    rows: &[Seq<Literal>],
+    rows: &[Seq<Constant>],
     epoch: u64,
 ) -> Result<(), Fault>
     requires stored { AllByRecursion IsStored table.old.rows }
@@ -74,43 +74,31 @@ fn checked_rows(
     alloc: Global,
     max_rows: u64,
     table: &Table,
-    rows: &[Seq<Literal>],
+    rows: &[Seq<Constant>],
 ) -> Result<Vec<Row>, Fault>
     ensures walk { Walked (insert_places max_rows rows.now (Ok table.now)) (λ v. v.items ≡ map row_of rows.now) result }
     ensures stored { IfOk result (λ v. AllByRecursion IsStored v.items) }
     ensures few { OnOk result ((length table.now.rows < 2 ^ 64) × (length rows.now < 2 ^ 64)) }
 {
-    let made = made_rows(alloc, table.columns().len(), rows)?;
+    let made = made_rows(alloc, table.columns(), rows)?;
     check_room(max_rows, table.len(), rows.len())?;
     Ok(made)
 }
 
-/// The rows of these constants, each of this width.
-fn made_rows(alloc: Global, width: usize, rows: &[Seq<Literal>]) -> Result<Vec<Row>, Fault>
-    ensures { Walked (flat_map (row_places width) rows.now) (λ v. v.items ≡ map row_of rows.now) result }
+/// The rows of these constants, each for these columns.
+fn made_rows(
+    alloc: Global,
+    columns: &[ColumnDef],
+    rows: &[Seq<Constant>],
+) -> Result<Vec<Row>, Fault>
+    ensures { Walked (flat_map (row_places columns.now) rows.now) (λ v. v.items ≡ map row_of rows.now) result }
 {
     let mut made = Vec::with_capacity(alloc, rows.len())?;
     for row in rows {
-        let literals = row.as_slice();
-        made.push(made_row(alloc, width, literals)?)?;
+        let constants = row.as_slice();
+        made.push(bound_row(alloc, columns, constants)?)?;
     }
     Ok(made)
-}
-
-fn made_row(alloc: Global, width: usize, literals: &[Literal]) -> Result<Row, Fault>
-    ensures { Walked (row_places width literals.now) (λ row. row ≡ row_of literals.now) result }
-{
-    if literals.len() != width {
-        return Err(Fault::TypeMismatch);
-    }
-    let mut row = Row::new(alloc);
-    for literal in literals {
-        if !fits_column(literal) {
-            return Err(Fault::NumberOutside);
-        }
-        row.push(Value::Number(literal_number(literal)))?;
-    }
-    Ok(row)
 }
 
 /// Refuses more rows than a table may have.

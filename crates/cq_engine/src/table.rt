@@ -1,5 +1,5 @@
 //! A table in memory.
-ghost use Rattle.std.specs.Prelude.{◌++◌, ◌≡◌, ◌<◌, ◌^◌, IfOk, OnErr, OnOk, [], filter, length, map, not};
+ghost use Rattle.std.specs.Prelude.{◌++◌, ◌≡◌, ◌<◌, ◌^◌, IfOk, OnErr, OnOk, filter, length, map, not};
 ghost use Rattle.cq_values.specs.Texts.{is_text};
 ghost use Rattle.cq_bags.specs.Canonical.{bag_of};
 ghost use Rattle.cq_steps.specs.State.{empty_table, holding};
@@ -18,17 +18,17 @@ pub struct Table {
     number: u64,
     name: Text,
     columns: Seq<ColumnDef>,
+    sort: Seq<usize>,
     rows: Vec<Row>,
 }
 
 impl Model for Table {
-    ghost use Rattle.std.specs.Prelude.{[]};
     ghost use Rattle.cq_bags.specs.Canonical.{bag_of};
     ghost use Rattle.cq_steps.specs.State.{TableOf};
 
     ghost Value = { TableOf };
 
-    ghost view = { λ t. record { number = t.number; name = t.name; columns = t.columns; sort = []; rows = bag_of t.rows.items } };
+    ghost view = { λ t. record { number = t.number; name = t.name; columns = t.columns; sort = t.sort; rows = bag_of t.rows.items } };
 }
 
 impl Table {
@@ -38,13 +38,15 @@ impl Table {
         number: u64,
         name: &Text,
         columns: &[ColumnDef],
+        sort: Seq<usize>,
     ) -> Result<Table, AllocError>
-        ensures { IfOk result (λ t. t ≡ empty_table number name.now columns.now []) }
+        ensures { IfOk result (λ t. t ≡ empty_table number name.now columns.now sort) }
     {
         Ok(Table {
             number,
             name: name.copy(alloc)?,
             columns: copy_columns(alloc, columns)?,
+            sort,
             rows: Vec::new(alloc),
         })
     }

@@ -1,21 +1,22 @@
 //! Tables under their names, and the statements on them.
-ghost use Rattle.std.specs.Prelude.{◌≡◌, ◌<◌, if◌then◌else◌, ℕ, IfSome, OnErr, OnOk, is_some, length, position, slice_get};
+ghost use Rattle.std.specs.Prelude.{◌≡◌, ◌<◌, if◌then◌else◌, ℕ, IfSome, OnErr, OnOk, is_some, length, map, position, slice_get};
 ghost use Rattle.std.specs.List.{position_or_len};
 ghost use Rattle.cq_values.specs.Texts.{is_text};
+ghost use Rattle.cq_steps.specs.Bound.{place_in};
 ghost use Rattle.cq_steps.specs.declared.fault.Fault.TheVariants.{UnknownTable, ViewNotWritten};
 ghost use Rattle.cq_steps.specs.Refusal.{create_places};
 ghost use Rattle.cq_steps.specs.State.{AreNumbered, is_taken, table_named, view_named};
 ghost use Rattle.cq_engine.specs.Statements.{Creates, DeletesIn, DropsTable, InsertsIn, alone};
 ghost use Rattle.cq_engine.specs.Views.{AreRight, AreSame, AreStored, Moved, views_of};
-ghost use Rattle.cq_binder.specs.Walk.{Passes};
+ghost use Rattle.cq_binder.specs.Walk.{Walked};
 
 use crate::deletion::delete_from;
 use crate::insertion::insert_into;
 use crate::table::Table;
 use crate::view::View;
 use crate::views::{is_used, is_view};
-use cq_binder::{check_length, check_names};
-use cq_model::{ColumnDef, Condition, Literal};
+use cq_binder::{check_length, check_names, sort_columns};
+use cq_model::{ColumnDef, Condition, Constant};
 use cq_steps::Fault;
 use cq_values::{Seq, Text};
 use std::alloc::Global;
@@ -28,12 +29,13 @@ pub fn create_in(
     number: u64,
     name: &Text,
     columns: &[ColumnDef],
+    sort: &[Text],
 ) -> Result<(), Fault>
-    ensures walk { Creates number name.now columns.now (views_of views.now) tables.old.items tables.new.items result }
+    ensures walk { Creates number name.now columns.now sort.now (views_of views.now) tables.old.items tables.new.items result }
     ensures err { OnErr result (tables.new.items ≡ tables.old.items) }
 {
-    check_create(tables, views, name.as_str(), columns)?;
-    tables.push(Table::new(alloc, number, name, columns)?)?;
+    let sort = check_create(alloc, tables, views, name.as_str(), columns, sort)?;
+    tables.push(Table::new(alloc, number, name, columns, sort)?)?;
     Ok(())
 }
 
@@ -59,7 +61,7 @@ pub fn insert_in(
     tables: &mut Vec<Table>,
     views: &mut Vec<View>,
     name: &Text,
-    rows: &[Seq<Literal>],
+    rows: &[Seq<Constant>],
     epoch: u64,
 ) -> Result<(), Fault>
     requires numbered { (next : ℕ) × AreNumbered tables.old.items next }
@@ -120,20 +122,23 @@ fn unwritten(views: &[View], name: &str) -> Fault
     }
 }
 
-/// The walk through a CREATE TABLE.
+/// The walk through a CREATE TABLE, and where the columns behind SORT BY stand.
 fn check_create(
+    alloc: Global,
     tables: &[Table],
     views: &[View],
     name: &str,
     columns: &[ColumnDef],
-) -> Result<(), Fault>
-    ensures { Passes (create_places name.now columns.now (alone tables.now (views_of views.now))) result }
+    sort: &[Text],
+) -> Result<Seq<usize>, Fault>
+    ensures { Walked (create_places name.now columns.now sort.now (alone tables.now (views_of views.now))) (λ places. places ≡ map (place_in columns.now) sort.now) result }
 {
     if is_taken(tables, views, name) {
         return Err(Fault::NameTaken);
     }
     check_names(columns)?;
-    check_length(columns.len())
+    check_length(columns.len())?;
+    sort_columns(alloc, columns, sort)
 }
 
 /// Whether a table or a view has the name.

@@ -9,7 +9,7 @@ use Rattle.cq_model.specs.declared.statement.Statement.{Statement}
 use Rattle.cq_model.specs.declared.statement.Statement.TheVariants as statements
 use Rattle.cq_steps.specs.declared.answer.Answer.{Answer}
 use Rattle.cq_steps.specs.declared.fault.Fault.{Fault}
-use Rattle.cq_steps.specs.Bound.{row_of, bound_condition, Named, source_named, bound_select, bound, grouped_query, view_columns}
+use Rattle.cq_steps.specs.Bound.{place_in, row_of, bound_condition, Named, source_named, bound_select, bound, grouped_query, view_columns}
 use Rattle.cq_steps.specs.State.{TableOf, State, table_named, view_place, first_state}
 use Rattle.cq_steps.specs.Step.{reach, at_epoch, Does, at_present, Trims, GivesUp, Refuses, by_walk, for_memory, source_failed, memory_on_the_way, too_large, Step}
 use Rattle.cq_epochs.specs.Sound.{IsThere, Fits, IsSound}
@@ -35,10 +35,10 @@ of_table s name command make fits e = found (table_named name s.tables) refl e
 
 -- a statement whose tables are there is bound to a command that fits
 pub bound-fits : (s : State) (statement : Statement) (command : Bound) → bound s statement ≡ Some command → Fits s command
-bound-fits s (statements.CreateTable name columns) command e =
-    let is : commands.CreateTable name columns [] ≡ command = cc in subst (Fits s) is tt
+bound-fits s (statements.CreateTable name columns sort) command e =
+    let is : commands.CreateTable name columns (map (place_in columns) sort) ≡ command = cc in subst (Fits s) is tt
 bound-fits s (statements.DropTable name) command e = of_table s name command (λ t. commands.DropTable t.number) (λ t there. there) e
-bound-fits s (statements.CreateView name view) command e = of_table s view.table command (λ t. commands.CreateView name (view_columns view) (grouped_query view t)) (λ t there. tt) e
+bound-fits s (statements.CreateView name view) command e = of_table s view.table command (λ t. commands.CreateView name (view_columns t.columns view) (grouped_query view t)) (λ t there. tt) e
 bound-fits s (statements.DropView name) command e = placed (view_place name s.views) e
   where
     placed : (o : Option ℕ) → option_map commands.DropView o ≡ Some command → Fits s command

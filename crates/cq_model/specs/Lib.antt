@@ -1,6 +1,10 @@
 pub mod Characters
 pub mod Lexemes
 pub mod Tokens
+pub mod Written
+pub mod Codes
+pub mod Expression
+pub mod Meant
 pub mod Sentence
 pub mod Pieces
 pub mod Comparison

@@ -1,6 +1,8 @@
 -- The trees of statements and the token lists that they have (docs/LANGUAGE.md, Statements).
 use Rattle.std.specs.Prelude.{◌≡◌, ℕ, Bool, true, false, List, [], ◌∷◌, ◌++◌, Option, Some, None}
+use Rattle.cq_values.specs.declared.ty.Ty.{Ty}
 use Rattle.cq_values.specs.declared.ty.Ty.TheVariants as types
+use Rattle.cq_model.specs.declared.token.Keyword.{Keyword}
 use Rattle.cq_model.specs.declared.token.Keyword.TheVariants as keywords
 use Rattle.cq_model.specs.declared.token.Symbol.{Symbol}
 use Rattle.cq_model.specs.declared.token.Symbol.TheVariants as symbols
@@ -10,6 +12,8 @@ use Rattle.cq_model.specs.declared.statement.ColumnDef.{ColumnDef}
 use Rattle.cq_model.specs.declared.statement.Comparison.{Comparison}
 use Rattle.cq_model.specs.declared.statement.Comparison.TheVariants as comparisons
 use Rattle.cq_model.specs.declared.statement.Condition.{Condition}
+use Rattle.cq_model.specs.declared.statement.Constant.{Constant}
+use Rattle.cq_model.specs.declared.statement.Constant.TheVariants as constants
 use Rattle.cq_model.specs.declared.statement.Item.{Item}
 use Rattle.cq_model.specs.declared.statement.ItemValue.{ItemValue}
 use Rattle.cq_model.specs.declared.statement.ItemValue.TheVariants as values
@@ -29,13 +33,25 @@ Separated Is (x ∷ y ∷ ys) ts = (front rest : List Token) × (ts ≡ front ++
 abbrev pub IsName : List ℕ → List Token → Type 0
 IsName n ts = ts ≡ tokens.Name n ∷ []
 
--- a column of whole numbers that may be NULL
-abbrev pub integer_column : List ℕ → ColumnDef
-integer_column name = record { name = name; ty = types.Integer; not_null = false }
+-- INTEGER, TEXT or DATE
+abbrev pub type_word : Ty → Keyword
+type_word types.Integer = keywords.Integer
+type_word types.Text = keywords.Text
+type_word types.Date = keywords.Date
 
--- name INTEGER
+-- [NOT NULL]
+abbrev pub not_null_tokens : Bool → List Token
+not_null_tokens true = tokens.Keyword keywords.Not ∷ tokens.Keyword keywords.Null ∷ []
+not_null_tokens false = []
+
+-- name type [NOT NULL]
 abbrev pub IsColumn : ColumnDef → List Token → Type 0
-IsColumn d ts = (d ≡ integer_column d.name) × (ts ≡ tokens.Name d.name ∷ tokens.Keyword keywords.Integer ∷ [])
+IsColumn d ts = ts ≡ tokens.Name d.name ∷ tokens.Keyword (type_word d.ty) ∷ not_null_tokens d.not_null
+
+-- [SORT BY name {, name}]
+abbrev pub IsSort : List (List ℕ) → List Token → Type 0
+IsSort [] ts = ts ≡ []
+IsSort (name ∷ names) ts = (list : List Token) × (ts ≡ tokens.Keyword keywords.Sort ∷ tokens.Keyword keywords.By ∷ list) × Separated IsName (name ∷ names) list
 
 abbrev pub sign_tokens : Bool → List Token
 sign_tokens true = tokens.Symbol symbols.Minus ∷ []
@@ -45,9 +61,16 @@ sign_tokens false = []
 abbrev pub IsLiteral : Literal → List Token → Type 0
 IsLiteral l ts = ts ≡ sign_tokens l.is_negative ++ tokens.Number l.magnitude ∷ []
 
+-- NULL, [-] int, text or DATE text
+abbrev pub IsConstant : Constant → List Token → Type 0
+IsConstant constants.Null ts = ts ≡ tokens.Keyword keywords.Null ∷ []
+IsConstant (constants.Number l) ts = IsLiteral l ts
+IsConstant (constants.Text t) ts = ts ≡ tokens.Text t ∷ []
+IsConstant (constants.Date t) ts = ts ≡ tokens.Keyword keywords.Date ∷ tokens.Text t ∷ []
+
 -- ( const {, const} )
-abbrev pub IsRow : List Literal → List Token → Type 0
-IsRow row ts = (inner : List Token) × (ts ≡ tokens.Symbol symbols.Open ∷ inner ++ tokens.Symbol symbols.Close ∷ []) × Separated IsLiteral row inner
+abbrev pub IsRow : List Constant → List Token → Type 0
+IsRow row ts = (inner : List Token) × (ts ≡ tokens.Symbol symbols.Open ∷ inner ++ tokens.Symbol symbols.Close ∷ []) × Separated IsConstant row inner
 
 abbrev pub comparison_symbol : Comparison → Symbol
 comparison_symbol comparisons.Equal = symbols.Equal
@@ -85,8 +108,10 @@ IsViewSelect v ts = (items condition group : List Token)
 
 -- a statement of each kind, from its first word to its last
 abbrev pub IsStatement : Statement → List Token → Type 0
--- CREATE TABLE name ( column {, column} )
-IsStatement (statements.CreateTable name columns) ts = (inner : List Token) × (ts ≡ tokens.Keyword keywords.Create ∷ tokens.Keyword keywords.Table ∷ tokens.Name name ∷ tokens.Symbol symbols.Open ∷ inner ++ tokens.Symbol symbols.Close ∷ []) × Separated IsColumn columns inner
+-- CREATE TABLE name ( column {, column} ) [SORT BY ..]
+IsStatement (statements.CreateTable name columns sort) ts = (inner rest : List Token)
+    × (ts ≡ tokens.Keyword keywords.Create ∷ tokens.Keyword keywords.Table ∷ tokens.Name name ∷ tokens.Symbol symbols.Open ∷ inner ++ tokens.Symbol symbols.Close ∷ rest)
+    × Separated IsColumn columns inner × IsSort sort rest
 -- DROP TABLE name
 IsStatement (statements.DropTable name) ts = ts ≡ tokens.Keyword keywords.Drop ∷ tokens.Keyword keywords.Table ∷ tokens.Name name ∷ []
 -- CREATE VIEW name AS select

@@ -17,6 +17,7 @@ mod tests;
 mod token;
 mod truth;
 mod width;
+mod written;
 
 pub use bound::{Assignment, Bound};
 pub use eval::{bound_holds, eval_row, lend_column};
@@ -24,8 +25,10 @@ pub use expr::{Cond, DayPart, Expr};
 pub use pattern::{like, like_decides};
 pub use query::{Aggregate, Equality, Join, Order, Query, Shape, Source};
 pub use statement::{
-    ColumnDef, Comparison, Condition, Item, ItemValue, Literal, Select, Statement, ViewSelect,
+    ColumnDef, Comparison, Condition, Constant, Item, ItemValue, Literal, Select, Statement,
+    ViewSelect,
 };
 pub use token::{Keyword, Symbol, Token};
 pub use truth::{compare, holds_row};
 pub use width::{fits, width_of};
+pub use written::{ColumnName, ExprNode, Sign, SqlExpr};

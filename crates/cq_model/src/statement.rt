@@ -8,6 +8,16 @@ pub struct Literal {
     pub magnitude: u128,
 }
 
+/// A constant of an INSERT.
+#[derive(Debug, Drop)]
+pub enum Constant {
+    Null,
+    Number(Literal),
+    Text(Text),
+    /// What stands behind DATE.
+    Date(Text),
+}
+
 /// The six comparisons.
 #[derive(Clone, Copy, Debug, PartialEq, Eq)]
 pub enum Comparison {
@@ -73,6 +83,8 @@ pub enum Statement {
     CreateTable {
         name: Text,
         columns: Seq<ColumnDef>,
+        /// The columns behind SORT BY.
+        sort: Seq<Text>,
     },
     DropTable(Text),
     CreateView {
@@ -82,7 +94,7 @@ pub enum Statement {
     DropView(Text),
     Insert {
         table: Text,
-        rows: Seq<Seq<Literal>>,
+        rows: Seq<Seq<Constant>>,
     },
     Delete {
         table: Text,

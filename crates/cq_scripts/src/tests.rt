@@ -4,6 +4,7 @@ mod limits;
 mod refusals;
 mod rows;
 mod sinks;
+mod values;
 mod views;
 
 use crate::test_sink::{Plan, TestSink};

@@ -1,5 +1,5 @@
 -- Readers that find exactly what a relation says, and how they are put together.
-use Rattle.std.proofs.Common.{◌≡◌, Bool, true, false, List, [], ◌∷◌, ◌++◌, Option, Some, None, refl, sym, ap, subst, ◌∙◌, append_assoc}
+use Rattle.std.proofs.Common.{◌≡◌, Bool, true, false, List, [], ◌∷◌, ◌++◌, Option, Some, None, refl, sym, ap, subst, ◌∙◌, append_assoc, ◌⊎◌, inl, inr}
 use Rattle.std.specs.Prelude.{if◌then◌else◌}
 use denote.Enum.Bare.{sameb, same_true, true_same}
 use Rattle.cq_model.specs.contracts.token.Keyword as keyword
@@ -8,7 +8,7 @@ use Rattle.cq_model.specs.declared.token.Keyword.{Keyword}
 use Rattle.cq_model.specs.declared.token.Symbol.{Symbol}
 use Rattle.cq_model.specs.declared.token.Token.{Token}
 use Rattle.cq_model.specs.declared.token.Token.TheVariants as tokens
-use Rattle.cq_sql.specs.Read.{◌>>=◌, Reader, done, followed_by, behind, after_keyword, after_symbol, some_or_none, tail_at}
+use Rattle.cq_sql.specs.Read.{◌>>=◌, Reader, done, followed_by, behind, after_keyword, after_symbol, some_or_none, tail_at, read_or, tail_or}
 
 -- the reader finds exactly what the relation says, where what follows ends it
 pub record Reads {A : Type 0} (Ends : List Token → Type 0) (Is : A → List Token → Type 0) (item : Reader A) : Type 0 where
@@ -44,6 +44,10 @@ Then {A} Is More y ts = (x : A) × (front back : List Token) × (ts ≡ front ++
 abbrev pub Tail : {A : Type 0} → Keyword → (A → List Token → Type 0) → Option A → List Token → Type 0
 Tail first Is None ts = ts ≡ []
 Tail first Is (Some x) ts = After (tokens.Keyword first) Is x ts
+
+-- an item behind its keyword, or no tokens, which stand for this one
+abbrev pub TailOr : {A : Type 0} → Keyword → A → (A → List Token → Type 0) → A → List Token → Type 0
+TailOr first x Is y ts = Done x y ts ⊎ After (tokens.Keyword first) Is y ts
 
 -- a step that was taken: what it had, and what it went on to
 pub bind_some : {A B : Type 0} (o : Option A) (f : A → Option B) (y : B) → (o >>= f) ≡ Some y → (x : A) × (o ≡ Some x) × (f x ≡ Some y)
@@ -191,3 +195,25 @@ tail_reads {A} {Ends} {Is} {item} first reads = record { found = found; only = o
 
   only : (o : Option A) (ts rest : List Token) → tail_at first item ts ≡ Some (o, rest) → (front : List Token) × (ts ≡ front ++ rest) × Tail first Is o front
   only o ts rest e = by_keyword o ts rest (after_keyword first ts) refl e
+
+-- a tail that stands for something where it is left out
+pub tail_or_reads : {A : Type 0} {Ends : List Token → Type 0} {Is : A → List Token → Type 0} {item : Reader A} (first : Keyword) (x : A) → Reads Ends Is item → Reads (EndsTail first Ends) (TailOr first x Is) (tail_or first x item)
+unfolding tail_or
+tail_or_reads {A} {Ends} {Is} {item} first x reads = record { found = found; only = only } where
+  found : (y : A) (front rest : List Token) → TailOr first x Is y front → EndsTail first Ends rest → tail_or first x item (front ++ rest) ≡ Some (y, rest)
+  found y front rest (inl h) end = rw (h.0, h.1, end.1) refl
+  found y front rest (inr h) end =
+      let takes = keyword_takes first in
+      rw (h.1, takes.found (h.0 ++ rest)) (reads.found y h.0 rest h.2 end.0)
+
+  by_keyword : (y : A) (ts rest : List Token) (after : Option (List Token)) → after_keyword first ts ≡ after → read_or x item ts after ≡ Some (y, rest) → (front : List Token) × (ts ≡ front ++ rest) × TailOr first x Is y front
+  by_keyword y ts rest None there e =
+      let p = parts_of x y ts rest e in
+      ([], p.1, inl (sym p.0, refl))
+  by_keyword y ts rest (Some after) there e =
+      let takes = keyword_takes first in
+      let a = reads.only y after rest e in
+      (tokens.Keyword first ∷ a.0, takes.only ts after there ∙ ap (λ (us : List Token). tokens.Keyword first ∷ us) a.1, inr (a.0, refl, a.2))
+
+  only : (y : A) (ts rest : List Token) → tail_or first x item ts ≡ Some (y, rest) → (front : List Token) × (ts ≡ front ++ rest) × TailOr first x Is y front
+  only y ts rest e = by_keyword y ts rest (after_keyword first ts) refl e

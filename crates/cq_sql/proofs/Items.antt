@@ -1,4 +1,4 @@
--- Names, columns, constants, rows, comparisons and conditions are read exactly.
+-- Names, constants, rows, comparisons and conditions are read exactly.
 use Rattle.std.proofs.Common.{◌≡◌, ℕ, ◌<◌, Bool, true, false, List, [], ◌∷◌, ◌++◌, length, Option, Some, None, refl, sym, ap, subst, ◌∙◌, arith, length-append}
 use Rattle.std.proofs.lemmas.List.{append-nil}
 use Rattle.cq_model.specs.declared.token.Keyword.TheVariants as keywords
@@ -6,16 +6,18 @@ use Rattle.cq_model.specs.declared.token.Symbol.{Symbol}
 use Rattle.cq_model.specs.declared.token.Symbol.TheVariants as symbols
 use Rattle.cq_model.specs.declared.token.Token.{Token}
 use Rattle.cq_model.specs.declared.token.Token.TheVariants as tokens
-use Rattle.cq_model.specs.declared.statement.ColumnDef.{ColumnDef}
 use Rattle.cq_model.specs.declared.statement.Comparison.{Comparison}
 use Rattle.cq_model.specs.declared.statement.Comparison.TheVariants as comparisons
 use Rattle.cq_model.specs.declared.statement.Condition.{Condition}
+use Rattle.cq_model.specs.declared.statement.Constant.{Constant}
+use Rattle.cq_model.specs.declared.statement.Constant.TheVariants as constants
 use Rattle.cq_model.specs.declared.statement.Literal.{Literal}
-use Rattle.cq_model.specs.Sentence.{Separated, IsName, integer_column, IsColumn, IsLiteral, IsRow, IsWhere, sign_tokens, comparison_symbol}
+use Rattle.cq_model.specs.Sentence.{Separated, IsName, IsLiteral, IsConstant, IsRow, IsWhere, sign_tokens, comparison_symbol}
 use Rattle.cq_sql.specs.Read.{tail_at}
-use Rattle.cq_sql.specs.Grammar.{name_at, column_at, literal_at, row_at, comparison_of, comparison_at, condition_at}
-use Rattle.cq_sql.proofs.Exact.{Reads, Anything, Done, After, Then, Tail, EndsTail, bind_some, parts_of, keyword_takes, symbol_takes, by_same, done_reads, behind_reads, then_reads, next_reads, tail_reads}
+use Rattle.cq_sql.specs.Grammar.{name_at, literal_at, number_at, constant_at, row_at, comparison_of, comparison_at, condition_at}
+use Rattle.cq_sql.proofs.Exact.{Reads, Anything, Done, After, Then, Tail, EndsTail, bind_some, parts_of, symbol_takes, by_same, done_reads, behind_reads, then_reads, next_reads, tail_reads}
 use Rattle.cq_sql.proofs.Lists.{list_reads}
+use Rattle.cq_sql.proofs.Words.{null_word, date_word, open_sign, close_sign}
 
 -- names are read exactly
 pub name_reads : Reads Anything IsName name_at
@@ -33,35 +35,7 @@ name_reads = record { found = found; only = only } where
 pub name_some : (n : List ℕ) (front : List Token) → IsName n front → 0 < length front
 name_some n front h = omega (arith, ap (λ (ts : List Token). length ts) h)
 
--- name INTEGER
-abbrev ColumnParts : ColumnDef → List Token → Type 0
-ColumnParts = Then IsName (λ name. After (tokens.Keyword keywords.Integer) (Done (integer_column name)))
-
--- what follows the name of a column is its type
-column_parts : Reads Anything ColumnParts column_at
-unfolding column_at
-column_parts = next_reads name_reads (λ name. behind_reads (keyword_takes keywords.Integer) (done_reads (integer_column name)))
-
--- columns are read exactly
-pub column_reads : Reads Anything IsColumn column_at
-column_reads = by_same column_parts to from where
-  to : (d : ColumnDef) (ts : List Token) → IsColumn d ts → ColumnParts d ts
-  to d ts h = (d.name, tokens.Name d.name ∷ [], tokens.Keyword keywords.Integer ∷ [], h.1, refl, ([], refl, (h.0, refl)))
-
-  from : (d : ColumnDef) (ts : List Token) → ColumnParts d ts → IsColumn d ts
-  from d ts h =
-      let type = h.5 in
-      let declared : d ≡ integer_column h.0 = type.2.0 in
-      let name : h.0 ≡ d.name = ap (λ (x : ColumnDef). x.name) (sym declared) in (
-        declared ∙ ap integer_column name,
-        rw (h.3, h.4, type.1, type.2.1) (ap (λ (n : List ℕ). tokens.Name n ∷ tokens.Keyword keywords.Integer ∷ []) name),
-      )
-
--- a column has a token
-pub column_some : (d : ColumnDef) (front : List Token) → IsColumn d front → 0 < length front
-column_some d front h = omega (arith, ap (λ (ts : List Token). length ts) h.1)
-
--- constants are read exactly, with their signs
+-- whole numbers are read exactly, with their signs
 pub literal_reads : Reads Anything IsLiteral literal_at
 literal_reads = record { found = λ l front rest h end. by_sign l.is_negative l.magnitude front rest h; only = only } where
   by_sign : (b : Bool) (n : ℕ) (front rest : List Token) → front ≡ sign_tokens b ++ tokens.Number n ∷ [] → literal_at (front ++ rest) ≡ Some (record { is_negative = b; magnitude = n }, rest)
@@ -80,13 +54,71 @@ literal_reads = record { found = λ l front rest h end. by_sign l.is_negative l.
       )
   only l ts rest e = absurd cc
 
--- a constant has a token
+-- a whole number has a token
 pub literal_some : (l : Literal) (front : List Token) → IsLiteral l front → 0 < length front
 literal_some l front h = omega (arith, ap (λ (ts : List Token). length ts) h, length-append (sign_tokens l.is_negative) (tokens.Number l.magnitude ∷ []))
 
+-- a whole number as a constant
+abbrev NumberParts : Constant → List Token → Type 0
+NumberParts = Then IsLiteral (λ literal. Done (constants.Number literal))
+
+-- no part of a number needs a look ahead
+number_reads : Reads Anything NumberParts number_at
+unfolding number_at
+number_reads = next_reads literal_reads (λ literal. done_reads (constants.Number literal))
+
+-- the parts of a number
+number_parts : (l : Literal) (ts : List Token) → IsLiteral l ts → NumberParts (constants.Number l) ts
+number_parts l ts h = (l, ts, [], sym (append-nil ts), h, (refl, refl))
+
+-- a number from its parts
+number_spelled : (c : Constant) (ts : List Token) → NumberParts c ts → IsConstant c ts
+number_spelled c ts h =
+    let whole : ts ≡ h.1 = rw (h.3, h.5.1) (append-nil h.1) in
+    let spelled : IsConstant (constants.Number h.0) ts = subst (λ (us : List Token). IsLiteral h.0 us) (sym whole) h.4 in
+    subst (λ (x : Constant). IsConstant x ts) (sym h.5.0) spelled
+
+-- constants are read exactly, by their first token
+pub constant_reads : Reads Anything IsConstant constant_at
+unfolding constant_at
+constant_reads = record { found = found; only = only } where
+  by_sign : (b : Bool) (n : ℕ) (front rest : List Token) → front ≡ sign_tokens b ++ tokens.Number n ∷ [] → constant_at (front ++ rest) ≡ number_at (front ++ rest)
+  by_sign true n front rest h = rw h refl
+  by_sign false n front rest h = rw h refl
+
+  found : (c : Constant) (front rest : List Token) → IsConstant c front → Anything rest → constant_at (front ++ rest) ≡ Some (c, rest)
+  found constants.Null front rest h end = rw h refl
+  found (constants.Number l) front rest h end = by_sign l.is_negative l.magnitude front rest h ∙ number_reads.found (constants.Number l) front rest (number_parts l front h) end
+  found (constants.Text text) front rest h end = rw h refl
+  found (constants.Date text) front rest h end = rw h refl
+
+  only : (c : Constant) (ts rest : List Token) → constant_at ts ≡ Some (c, rest) → (front : List Token) × (ts ≡ front ++ rest) × IsConstant c front
+  only c (tokens.Keyword keywords.Null ∷ ts) rest e =
+      let p = parts_of constants.Null c ts rest e in
+      (null_word ∷ [], ap (λ (us : List Token). null_word ∷ us) p.1, subst (λ (x : Constant). IsConstant x (null_word ∷ [])) p.0 refl)
+  only c (tokens.Text text ∷ ts) rest e =
+      let p = parts_of (constants.Text text) c ts rest e in
+      (tokens.Text text ∷ [], ap (λ (us : List Token). tokens.Text text ∷ us) p.1, subst (λ (x : Constant). IsConstant x (tokens.Text text ∷ [])) p.0 refl)
+  only c (tokens.Keyword keywords.Date ∷ tokens.Text text ∷ ts) rest e =
+      let p = parts_of (constants.Date text) c ts rest e in (
+        date_word ∷ tokens.Text text ∷ [],
+        ap (λ (us : List Token). date_word ∷ tokens.Text text ∷ us) p.1,
+        subst (λ (x : Constant). IsConstant x (date_word ∷ tokens.Text text ∷ [])) p.0 refl,
+      )
+  only c ts rest e =
+      let o = number_reads.only c ts rest e in
+      (o.0, o.1, number_spelled c o.0 o.2)
+
+-- a constant has a token
+pub constant_some : (c : Constant) (front : List Token) → IsConstant c front → 0 < length front
+constant_some constants.Null front h = omega (arith, ap (λ (ts : List Token). length ts) h)
+constant_some (constants.Number l) front h = literal_some l front h
+constant_some (constants.Text text) front h = omega (arith, ap (λ (ts : List Token). length ts) h)
+constant_some (constants.Date text) front h = omega (arith, ap (λ (ts : List Token). length ts) h)
+
 -- ( constants )
-abbrev RowParts : List Literal → List Token → Type 0
-RowParts = After (tokens.Symbol symbols.Open) (Then (Separated IsLiteral) (λ row. After (tokens.Symbol symbols.Close) (Done row)))
+abbrev RowParts : List Constant → List Token → Type 0
+RowParts = After open_sign (Then (Separated IsConstant) (λ row. After close_sign (Done row)))
 
 -- behind the constants stands a parenthesis, and no comma
 row_parts : Reads Anything RowParts row_at
@@ -94,22 +126,22 @@ unfolding row_at
 row_parts =
     behind_reads
     (symbol_takes symbols.Open)
-    (then_reads (list_reads Anything IsLiteral literal_at literal_reads literal_some (λ ts. tt)) (λ row. behind_reads (symbol_takes symbols.Close) (done_reads row)) (λ row y back rest h end. (tt, rw h.1 refl)))
+    (then_reads (list_reads Anything IsConstant constant_at constant_reads constant_some (λ ts. tt)) (λ row. behind_reads (symbol_takes symbols.Close) (done_reads row)) (λ row y back rest h end. (tt, rw h.1 refl)))
 
 -- rows are read exactly
 pub row_reads : Reads Anything IsRow row_at
 row_reads = by_same row_parts to from where
-  to : (row : List Literal) (ts : List Token) → IsRow row ts → RowParts row ts
-  to row ts h = (h.0 ++ tokens.Symbol symbols.Close ∷ [], h.1, (row, h.0, tokens.Symbol symbols.Close ∷ [], refl, h.2, ([], refl, (refl, refl))))
+  to : (row : List Constant) (ts : List Token) → IsRow row ts → RowParts row ts
+  to row ts h = (h.0 ++ close_sign ∷ [], h.1, (row, h.0, close_sign ∷ [], refl, h.2, ([], refl, (refl, refl))))
 
-  from : (row : List Literal) (ts : List Token) → RowParts row ts → IsRow row ts
+  from : (row : List Constant) (ts : List Token) → RowParts row ts → IsRow row ts
   from row ts h =
       let p = h.2 in
       let close = p.5 in
-      (p.1, rw (h.1, p.3, close.1, close.2.1) refl, subst (λ (xs : List Literal). Separated IsLiteral xs p.1) (sym close.2.0) p.4)
+      (p.1, rw (h.1, p.3, close.1, close.2.1) refl, subst (λ (xs : List Constant). Separated IsConstant xs p.1) (sym close.2.0) p.4)
 
 -- a row has a token
-pub row_some : (row : List Literal) (front : List Token) → IsRow row front → 0 < length front
+pub row_some : (row : List Constant) (front : List Token) → IsRow row front → 0 < length front
 row_some row front h = omega (arith, ap (λ (ts : List Token). length ts) h.1)
 
 -- op

@@ -3,6 +3,7 @@ pub mod Exact
 pub mod Lists
 pub mod Items
 pub mod Words
+pub mod Tables
 pub mod Views
 pub mod Statements
 pub mod Decided

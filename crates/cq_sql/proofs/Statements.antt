@@ -6,58 +6,23 @@ use Rattle.cq_model.specs.declared.token.Keyword.TheVariants as keywords
 use Rattle.cq_model.specs.declared.token.Symbol.TheVariants as symbols
 use Rattle.cq_model.specs.declared.token.Token.{Token}
 use Rattle.cq_model.specs.declared.token.Token.TheVariants as tokens
-use Rattle.cq_model.specs.declared.statement.ColumnDef.{ColumnDef}
 use Rattle.cq_model.specs.declared.statement.Condition.{Condition}
-use Rattle.cq_model.specs.declared.statement.Literal.{Literal}
+use Rattle.cq_model.specs.declared.statement.Constant.{Constant}
 use Rattle.cq_model.specs.declared.statement.Select.{Select}
 use Rattle.cq_model.specs.declared.statement.Statement.{Statement}
 use Rattle.cq_model.specs.declared.statement.Statement.TheVariants as statements
-use Rattle.cq_model.specs.Sentence.{Separated, IsName, IsColumn, IsRow, IsWhere, IsStatement}
+use Rattle.cq_model.specs.Sentence.{Separated, IsName, IsRow, IsWhere, IsStatement}
 use Rattle.cq_sql.specs.declared.fault.SqlFault.{SqlFault}
 use Rattle.cq_sql.specs.declared.fault.SqlFault.TheVariants as errors
 use Rattle.cq_sql.specs.Gives.{Gives}
 use Rattle.cq_sql.specs.Read.{after_keyword, after_symbol}
-use Rattle.cq_sql.specs.Grammar.{name_at, column_at, row_at, create_table_at, drop_table_at, insert_at, delete_at, select_at, statement_at, if_all_read, whole_statement}
-use Rattle.cq_sql.proofs.Exact.{Reads, Anything, Nothing, Done, After, Then, at_end, bind_some, keyword_takes, symbol_takes, done_reads, behind_reads, then_reads, next_reads}
+use Rattle.cq_sql.specs.Grammar.{name_at, row_at, drop_table_at, insert_at, delete_at, select_at, statement_at, if_all_read, whole_statement}
+use Rattle.cq_sql.proofs.Exact.{Reads, Anything, Nothing, Done, After, Then, at_end, bind_some, keyword_takes, done_reads, behind_reads, then_reads, next_reads}
 use Rattle.cq_sql.proofs.Lists.{list_reads}
-use Rattle.cq_sql.proofs.Items.{name_reads, name_some, column_reads, column_some, row_reads, row_some, where_reads}
+use Rattle.cq_sql.proofs.Items.{name_reads, name_some, row_reads, row_some, where_reads}
+use Rattle.cq_sql.proofs.Tables.{create_table_reads, create_table_parts, create_table_spelled}
 use Rattle.cq_sql.proofs.Views.{create_view_reads, create_view_parts, create_view_spelled, drop_view_reads, drop_view_parts, drop_view_spelled}
-use Rattle.cq_sql.proofs.Words.{create, table, view_word, drop_word, insert, delete, select, into, values, from_word, open_sign, close_sign}
-
--- name ( columns )
-abbrev CreateTableParts : Statement → List Token → Type 0
-CreateTableParts = Then IsName (λ name. After open_sign (Then (Separated IsColumn) (λ columns. After close_sign (Done (statements.CreateTable name columns)))))
-
--- behind the columns stands a parenthesis, and no comma
-create_table_reads : Reads Nothing CreateTableParts create_table_at
-unfolding create_table_at
-create_table_reads =
-    next_reads name_reads (λ name. behind_reads
-    (symbol_takes symbols.Open)
-    (then_reads
-    (list_reads Anything IsColumn column_at column_reads column_some (λ ts. tt))
-    (λ columns. behind_reads (symbol_takes symbols.Close) (done_reads (statements.CreateTable name columns)))
-    (λ columns y back rest h end. (tt, rw h.1 refl))))
-
--- the parts of a CREATE TABLE
-create_table_parts : (name : List ℕ) (columns : List ColumnDef) (inner : List Token) → Separated IsColumn columns inner → CreateTableParts (statements.CreateTable name columns) (tokens.Name name ∷ open_sign ∷ inner ++ close_sign ∷ [])
-create_table_parts name columns inner listed = (
-  name,
-  tokens.Name name ∷ [],
-  open_sign ∷ inner ++ close_sign ∷ [],
-  refl,
-  refl,
-  (inner ++ close_sign ∷ [], refl, (columns, inner, close_sign ∷ [], refl, listed, ([], refl, (refl, refl)))),
-)
-
--- a CREATE TABLE from its parts
-create_table_spelled : (s : Statement) (ts : List Token) → CreateTableParts s ts → IsStatement s (create ∷ table ∷ ts)
-create_table_spelled s ts h =
-    let opened = h.5 in
-    let columns = opened.2 in
-    let close = columns.5 in
-    let spelled : IsStatement (statements.CreateTable h.0 columns.0) (create ∷ table ∷ ts) = (columns.1, rw (h.3, h.4, opened.1, columns.3, close.1, close.2.1) refl, columns.4) in
-    subst (λ (x : Statement). IsStatement x (create ∷ table ∷ ts)) (sym close.2.0) spelled
+use Rattle.cq_sql.proofs.Words.{create, table, view_word, drop_word, insert, delete, select, into, values, from_word}
 
 -- name
 abbrev DropTableParts : Statement → List Token → Type 0
@@ -91,7 +56,7 @@ insert_reads =
     (then_reads (list_reads Anything IsRow row_at row_reads row_some (λ ts. tt)) (λ rows. done_reads (statements.Insert name rows)) (λ rows y back rest h end. (tt, at_end (after_symbol symbols.Comma) back rest h.1 end refl)))))
 
 -- the parts of an INSERT
-insert_parts : (name : List ℕ) (rows : List (List Literal)) (inner : List Token) → Separated IsRow rows inner → InsertParts (statements.Insert name rows) (into ∷ tokens.Name name ∷ values ∷ inner)
+insert_parts : (name : List ℕ) (rows : List (List Constant)) (inner : List Token) → Separated IsRow rows inner → InsertParts (statements.Insert name rows) (into ∷ tokens.Name name ∷ values ∷ inner)
 insert_parts name rows inner listed = (tokens.Name name ∷ values ∷ inner, refl, (name, tokens.Name name ∷ [], values ∷ inner, refl, refl, (inner, refl, (rows, inner, [], sym (append-nil inner), listed, (refl, refl)))))
 
 -- an INSERT from its parts
@@ -173,7 +138,7 @@ pub statement_reads : Reads Nothing IsStatement statement_at
 unfolding statement_at
 statement_reads = record { found = found; only = only } where
   found : (s : Statement) (front rest : List Token) → IsStatement s front → Nothing rest → statement_at (front ++ rest) ≡ Some (s, rest)
-  found (statements.CreateTable name columns) front rest h end = rw h.1 (create_table_reads.found (statements.CreateTable name columns) _ rest (create_table_parts name columns h.0 h.2) end)
+  found (statements.CreateTable name columns sort) front rest h end = rw h.2 (create_table_reads.found (statements.CreateTable name columns sort) _ rest (create_table_parts name columns sort h.0 h.1 h.3 h.4) end)
   found (statements.DropTable name) front rest h end = rw h (drop_table_reads.found (statements.DropTable name) _ rest (drop_table_parts name) end)
   found (statements.CreateView name view) front rest h end = rw h.1 (create_view_reads.found (statements.CreateView name view) _ rest (create_view_parts name view h.0 h.2) end)
   found (statements.DropView name) front rest h end = rw h (drop_view_reads.found (statements.DropView name) _ rest (drop_view_parts name) end)

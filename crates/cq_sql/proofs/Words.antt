@@ -49,6 +49,12 @@ group_word = tokens.Keyword keywords.Group
 abbrev pub by_word : Token
 by_word = tokens.Keyword keywords.By
 
+abbrev pub null_word : Token
+null_word = tokens.Keyword keywords.Null
+
+abbrev pub date_word : Token
+date_word = tokens.Keyword keywords.Date
+
 abbrev pub open_sign : Token
 open_sign = tokens.Symbol symbols.Open
 

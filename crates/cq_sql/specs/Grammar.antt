@@ -1,5 +1,8 @@
 -- How the readers of the grammar go, as functions on lists: what a sentence is, the model says.
-use Rattle.std.specs.Prelude.{ℕ, true, false, List, [], ◌∷◌, Option, Some, None}
+use Rattle.std.specs.Prelude.{ℕ, Bool, true, false, List, [], ◌∷◌, Option, Some, None}
+use Rattle.cq_values.specs.declared.ty.Ty.{Ty}
+use Rattle.cq_values.specs.declared.ty.Ty.TheVariants as types
+use Rattle.cq_model.specs.declared.token.Keyword.{Keyword}
 use Rattle.cq_model.specs.declared.token.Keyword.TheVariants as keywords
 use Rattle.cq_model.specs.declared.token.Symbol.{Symbol}
 use Rattle.cq_model.specs.declared.token.Symbol.TheVariants as symbols
@@ -9,6 +12,8 @@ use Rattle.cq_model.specs.declared.statement.ColumnDef.{ColumnDef}
 use Rattle.cq_model.specs.declared.statement.Comparison.{Comparison}
 use Rattle.cq_model.specs.declared.statement.Comparison.TheVariants as comparisons
 use Rattle.cq_model.specs.declared.statement.Condition.{Condition}
+use Rattle.cq_model.specs.declared.statement.Constant.{Constant}
+use Rattle.cq_model.specs.declared.statement.Constant.TheVariants as constants
 use Rattle.cq_model.specs.declared.statement.Item.{Item}
 use Rattle.cq_model.specs.declared.statement.ItemValue.{ItemValue}
 use Rattle.cq_model.specs.declared.statement.ItemValue.TheVariants as values
@@ -16,17 +21,33 @@ use Rattle.cq_model.specs.declared.statement.Literal.{Literal}
 use Rattle.cq_model.specs.declared.statement.Statement.{Statement}
 use Rattle.cq_model.specs.declared.statement.Statement.TheVariants as statements
 use Rattle.cq_model.specs.declared.statement.ViewSelect.{ViewSelect}
-use Rattle.cq_model.specs.Sentence.{integer_column}
-use Rattle.cq_sql.specs.Read.{◌>>=◌, Reader, done, followed_by, behind, after_keyword, after_symbol, list_at, tail_at}
+use Rattle.cq_sql.specs.Read.{◌>>=◌, Reader, done, followed_by, behind, after_keyword, after_symbol, list_at, tail_at, tail_or}
 
 -- takes a name from the front, as it is spelled in lower case
 abbrev pub name_at : Reader (List ℕ)
 name_at (tokens.Name name ∷ ts) = Some (name, ts)
 name_at ts = None
 
--- takes a column: its name, and then its type
+-- the type that the word names, if it names one
+abbrev pub type_of : Keyword → Option Ty
+type_of keywords.Integer = Some types.Integer
+type_of keywords.Text = Some types.Text
+type_of keywords.Date = Some types.Date
+type_of word = None
+
+-- takes one of the three words of a type from the front
+abbrev pub type_at : Reader Ty
+type_at (tokens.Keyword word ∷ ts) = type_of word >>= λ ty. Some (ty, ts)
+type_at ts = None
+
+-- takes NOT NULL, or nothing where no NOT stands: whether it was there
+abbrev pub not_null_at : Reader Bool
+not_null_at = tail_or keywords.Not false (behind (after_keyword keywords.Null) (done true))
+
+-- takes a column: its name, its type, and whether NULL is kept out
 unfoldable pub column_at : Reader ColumnDef
-column_at = followed_by name_at (λ name. behind (after_keyword keywords.Integer) (done (integer_column name)))
+column_at =
+    followed_by name_at (λ name. followed_by type_at (λ ty. followed_by not_null_at (λ not_null. done (record { name = name; ty = ty; not_null = not_null }))))
 
 -- takes a whole number, with or without a minus in front
 abbrev pub literal_at : Reader Literal
@@ -34,9 +55,20 @@ literal_at (tokens.Number n ∷ ts) = Some (record { is_negative = false; magnit
 literal_at (tokens.Symbol symbols.Minus ∷ tokens.Number n ∷ ts) = Some (record { is_negative = true; magnitude = n }, ts)
 literal_at ts = None
 
+-- takes a whole number as a constant
+unfoldable pub number_at : Reader Constant
+number_at = followed_by literal_at (λ literal. done (constants.Number literal))
+
+-- takes a constant: NULL, a text, DATE and a text, or a whole number
+unfoldable pub constant_at : Reader Constant
+constant_at (tokens.Keyword keywords.Null ∷ ts) = Some (constants.Null, ts)
+constant_at (tokens.Text text ∷ ts) = Some (constants.Text text, ts)
+constant_at (tokens.Keyword keywords.Date ∷ tokens.Text text ∷ ts) = Some (constants.Date text, ts)
+constant_at ts = number_at ts
+
 -- takes a row: constants with commas, between two parentheses
-unfoldable pub row_at : Reader (List Literal)
-row_at = behind (after_symbol symbols.Open) (followed_by (list_at literal_at) (λ row. behind (after_symbol symbols.Close) (done row)))
+unfoldable pub row_at : Reader (List Constant)
+row_at = behind (after_symbol symbols.Open) (followed_by (list_at constant_at) (λ row. behind (after_symbol symbols.Close) (done row)))
 
 -- the comparison that the symbol stands for, if it is one
 abbrev pub comparison_of : Symbol → Option Comparison
@@ -90,10 +122,14 @@ groups_at items =
 unfoldable pub view_select_at : Reader ViewSelect
 view_select_at = behind (after_keyword keywords.Select) (followed_by (list_at item_at) groups_at)
 
--- takes what follows CREATE TABLE: the table's name and its columns
+-- takes SORT BY and its columns, or nothing where no SORT stands
+abbrev pub sort_at : Reader (List (List ℕ))
+sort_at = tail_or keywords.Sort [] (behind (after_keyword keywords.By) (list_at name_at))
+
+-- takes what follows CREATE TABLE: the table's name, its columns, and an optional order
 unfoldable pub create_table_at : Reader Statement
 create_table_at =
-    followed_by name_at (λ name. behind (after_symbol symbols.Open) (followed_by (list_at column_at) (λ columns. behind (after_symbol symbols.Close) (done (statements.CreateTable name columns)))))
+    followed_by name_at (λ name. behind (after_symbol symbols.Open) (followed_by (list_at column_at) (λ columns. behind (after_symbol symbols.Close) (followed_by sort_at (λ sort. done (statements.CreateTable name columns sort))))))
 
 -- takes what follows DROP TABLE: the table's name
 unfoldable pub drop_table_at : Reader Statement

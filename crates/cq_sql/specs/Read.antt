@@ -67,3 +67,12 @@ some_or_none item ts None = Some (None, ts)
 -- takes an item behind its keyword, or nothing where there is none
 unfoldable pub tail_at : {A : Type 0} → Keyword → Reader A → Reader (Option A)
 tail_at first item ts = some_or_none item ts (after_keyword first ts)
+
+-- a thing where its keyword was there, and otherwise this one
+abbrev pub read_or : {A : Type 0} → A → Reader A → List Token → Option (List Token) → Option (A × List Token)
+read_or x item ts (Some after) = item after
+read_or x item ts None = Some (x, ts)
+
+-- takes a thing behind its keyword, or nothing, which stands for this one
+unfoldable pub tail_or : {A : Type 0} → Keyword → A → Reader A → Reader A
+tail_or first x item ts = read_or x item ts (after_keyword first ts)

@@ -4,15 +4,15 @@ ghost use Rattle.cq_model.specs.Sentence.{IsStatement};
 ghost use Rattle.cq_model.specs.declared.statement.Statement.{Statement};
 ghost use Rattle.cq_sql.specs.declared.fault.SqlFault.TheVariants.{LimitExceeded, Syntax};
 ghost use Rattle.cq_sql.specs.Gives.{Gives};
-ghost use Rattle.cq_sql.specs.Grammar.{name_at, column_at, literal_at, row_at, comparison_of, comparison_at, condition_at, create_table_at, drop_table_at, create_view_at, drop_view_at, insert_at, delete_at, select_at, statement_at, whole_statement};
+ghost use Rattle.cq_sql.specs.Grammar.{name_at, comparison_of, comparison_at, condition_at, drop_table_at, create_view_at, drop_view_at, insert_at, delete_at, select_at, statement_at, whole_statement};
 
 use crate::fault::SqlFault;
-use crate::read::{Readable, expect_keyword, expect_symbol, list_of, tail_of};
+use crate::read::{Readable, expect_keyword, list_of, tail_of};
+use crate::table::create_table_at;
 use cq_model::{
-    ColumnDef, Comparison, Condition, Keyword, Literal, Select, Statement, Symbol, Token,
-    ViewSelect,
+    Comparison, Condition, Constant, Keyword, Literal, Select, Statement, Symbol, Token, ViewSelect,
 };
-use cq_values::{Seq, Text, Ty};
+use cq_values::{Seq, Text};
 use std::alloc::Global;
 
 impl Readable for Text {
@@ -23,51 +23,6 @@ impl Readable for Text {
             [Token::Name(name), rest @ ..] => Ok((name.copy(alloc)?, rest)),
             _ => Err(SqlFault::Syntax),
         }
-    }
-}
-
-impl Readable for ColumnDef {
-    ghost reads = { column_at };
-
-    #[tactic(auto, unfolding(crate::specs::Grammar::column_at))]
-    fn read(alloc: Global, tokens: &[Token]) -> Result<(ColumnDef, &[Token]), SqlFault> {
-        let (name, rest) = Text::read(alloc, tokens)?;
-        let rest = expect_keyword(Keyword::Integer, rest)?;
-        let column = ColumnDef {
-            name,
-            ty: Ty::Integer,
-            not_null: false,
-        };
-        Ok((column, rest))
-    }
-}
-
-impl Readable for Literal {
-    ghost reads = { literal_at };
-
-    fn read(_alloc: Global, tokens: &[Token]) -> Result<(Literal, &[Token]), SqlFault> {
-        let (is_negative, magnitude, rest) = match tokens {
-            [Token::Number(n), rest @ ..] => (false, *n, rest),
-            [Token::Symbol(Symbol::Minus), Token::Number(n), rest @ ..] => (true, *n, rest),
-            _ => return Err(SqlFault::Syntax),
-        };
-        let literal = Literal {
-            is_negative,
-            magnitude,
-        };
-        Ok((literal, rest))
-    }
-}
-
-impl Readable for Seq<Literal> {
-    ghost reads = { row_at };
-
-    #[tactic(auto, unfolding(crate::specs::Grammar::row_at))]
-    fn read(alloc: Global, tokens: &[Token]) -> Result<(Seq<Literal>, &[Token]), SqlFault> {
-        let rest = expect_symbol(Symbol::Open, tokens)?;
-        let (row, rest) = list_of::<Literal>(alloc, rest)?;
-        let rest = expect_symbol(Symbol::Close, rest)?;
-        Ok((row, rest))
     }
 }
 
@@ -114,17 +69,6 @@ impl Readable for Condition {
     }
 }
 
-#[tactic(auto, unfolding(crate::specs::Grammar::create_table_at))]
-fn create_table_at(alloc: Global, tokens: &[Token]) -> Result<(Statement, &[Token]), SqlFault>
-    ensures { Gives (λ x. (x.0, x.1.now)) result (create_table_at tokens.now) }
-{
-    let (name, rest) = Text::read(alloc, tokens)?;
-    let rest = expect_symbol(Symbol::Open, rest)?;
-    let (columns, rest) = list_of::<ColumnDef>(alloc, rest)?;
-    let rest = expect_symbol(Symbol::Close, rest)?;
-    Ok((Statement::CreateTable { name, columns }, rest))
-}
-
 #[tactic(auto, unfolding(crate::specs::Grammar::drop_table_at))]
 fn drop_table_at(alloc: Global, tokens: &[Token]) -> Result<(Statement, &[Token]), SqlFault>
     ensures { Gives (λ x. (x.0, x.1.now)) result (drop_table_at tokens.now) }
@@ -158,7 +102,7 @@ fn insert_at(alloc: Global, tokens: &[Token]) -> Result<(Statement, &[Token]), S
     let rest = expect_keyword(Keyword::Into, tokens)?;
     let (table, rest) = Text::read(alloc, rest)?;
     let rest = expect_keyword(Keyword::Values, rest)?;
-    let (rows, rest) = list_of::<Seq<Literal>>(alloc, rest)?;
+    let (rows, rest) = list_of::<Seq<Constant>>(alloc, rest)?;
     Ok((Statement::Insert { table, rows }, rest))
 }
 

@@ -4,11 +4,13 @@
 //! most one tree.
 #![tactic(auto)]
 
+mod constants;
 mod fault;
 mod grammar;
 mod laws;
 mod read;
 mod sentences;
+mod table;
 #[cfg(test)]
 mod tests;
 mod view;

@@ -19,7 +19,8 @@ pub trait Readable: Sized + Drop {
         ensures { Gives (λ x. (x.0, x.1.now)) result (reads tokens.now) };
 }
 
-fn after_keyword(keyword: Keyword, tokens: &[Token]) -> Option<&[Token]>
+/// The tokens behind this keyword, if it is there.
+pub fn after_keyword(keyword: Keyword, tokens: &[Token]) -> Option<&[Token]>
     ensures { option_map (λ x. x.now) result ≡ after_keyword keyword tokens.now }
 {
     match tokens {

@@ -1,8 +1,10 @@
 //! Lists of tokens that are statements, and lists that are none.
+mod columns;
+mod constants;
 mod views;
 
 use crate::{SqlFault, tree_of};
-use cq_model::{Comparison, Condition, Keyword, Literal, Statement, Symbol, Token};
+use cq_model::{Comparison, Condition, Keyword, Statement, Symbol, Token};
 use cq_values::Text;
 use std::alloc::Global;
 use std::test::Fail;
@@ -191,25 +193,6 @@ fn what_follows_a_statement_makes_it_none(rt: HostRuntime) -> Result<(), Fail> {
             "{text}"
         );
     }
-    Ok(())
-}
-
-fn literals_of(statement: &Statement) -> Option<&[Literal]> {
-    match statement {
-        Statement::Insert { rows, .. } => rows.as_slice().first().map(|row| row.as_slice()),
-        _ => None,
-    }
-}
-
-#[test]
-fn a_minus_belongs_to_the_number_behind_it(rt: HostRuntime) -> Result<(), Fail> {
-    let tokens = tokens(rt.alloc(), "insert into t values ( 5 , - 5 )")?;
-    let statement = tree_of(rt.alloc(), &tokens)?;
-    let literals = literals_of(&statement).ok_or("no row")?;
-    assert_eq!(rt; literals.len(), 2);
-    assert_eq!(rt; literals[0].is_negative, false);
-    assert_eq!(rt; literals[1].is_negative, true);
-    assert_eq!(rt; literals[1].magnitude, 5);
     Ok(())
 }
 

@@ -91,7 +91,7 @@ source-timeless name x = rw (place-timeless name x.views, named-timeless name x.
 
 -- the walk sees no epoch
 refusal-seen : (x : State) (s : Statement) → refusal (seen x) s ≡ refusal x s
-refusal-seen x (statements.CreateTable name columns) = rw (there-timeless name x.views) refl
+refusal-seen x (statements.CreateTable name columns sort) = rw (there-timeless name x.views) refl
 refusal-seen x (statements.DropTable name) = used (table_named name x.tables)
   where
     used : (o : Option TableOf) → first_fault (drop_table_places (map timeless x.views) o) ≡ first_fault (drop_table_places x.views o)
@@ -105,7 +105,7 @@ refusal-seen x (statements.Select q) = ap (λ (o : Option Named). first_fault (s
 
 -- and names are resolved without one
 bound-seen : (x : State) (s : Statement) → bound (seen x) s ≡ bound x s
-bound-seen x (statements.CreateTable name columns) = refl
+bound-seen x (statements.CreateTable name columns sort) = refl
 bound-seen x (statements.DropTable name) = refl
 bound-seen x (statements.CreateView name view) = refl
 bound-seen x (statements.DropView name) = ap (option_map commands.DropView) (place-timeless name x.views)

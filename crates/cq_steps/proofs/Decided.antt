@@ -33,21 +33,7 @@ pub record Same (o p : Outcome) (x y : State) : Type 0 where
 from_outside : (f g : Fault) → outside (Err f) ≡ Some g → f ≡ g
 from_outside faults.Memory g e = cc
 from_outside faults.SourceFailed g e = cc
-from_outside faults.NotUtf8 g e = absurd (cc)
-from_outside faults.Syntax g e = absurd (cc)
-from_outside faults.UnknownTable g e = absurd (cc)
-from_outside faults.UnknownColumn g e = absurd (cc)
-from_outside faults.NameTaken g e = absurd (cc)
-from_outside faults.TypeMismatch g e = absurd (cc)
-from_outside faults.AggregateMisplaced g e = absurd (cc)
-from_outside faults.TooWide g e = absurd (cc)
-from_outside faults.NumberOutside g e = absurd (cc)
-from_outside faults.TableFull g e = absurd (cc)
-from_outside faults.TableInUse g e = absurd (cc)
-from_outside faults.ViewNotWritten g e = absurd (cc)
-from_outside faults.SumOutOfRange g e = absurd (cc)
-from_outside faults.ClauseInView g e = absurd (cc)
-from_outside faults.LimitExceeded g e = absurd (cc)
+from_outside f g e = absurd (cc)
 
 -- a refused statement leaves a state that is alike
 refused-alike : (x : State) (s : Statement) (f : Fault) (y : State) → Refuses x s f y → Alike y x

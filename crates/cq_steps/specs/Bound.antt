@@ -1,10 +1,12 @@
 -- What statements say once their names are resolved (docs/LANGUAGE.md, Statements).
-use Rattle.std.specs.Prelude.{ℕ, ◌+◌, ℤ, pos, neg_ℤ, false, if◌then◌else◌, List, [], ◌∷◌, ◌++◌, codes, map, length, Option, Some, None, option_map, unwrap_or, position}
+use Rattle.std.specs.Prelude.{ℕ, ◌+◌, ℤ, pos, neg_ℤ, false, if◌then◌else◌, List, [], ◌∷◌, ◌++◌, codes, map, length, Option, Some, None, option_map, unwrap_or, position, slice_index_or}
 use Rattle.std.specs.Fmt.{decimal}
 use Rattle.std.specs.List.{flat_map}
 use Rattle.std.specs.Option.{option_or}
+use Rattle.cq_values.specs.declared.ty.Ty.{Ty}
 use Rattle.cq_values.specs.declared.ty.Ty.TheVariants.{Integer}
-use Rattle.cq_values.specs.declared.value.Value.TheVariants.{Number}
+use Rattle.cq_values.specs.declared.value.Value.{Value}
+use Rattle.cq_values.specs.declared.value.Value.TheVariants.{Null, Number, Text}
 use Rattle.cq_values.specs.Texts.{is_text}
 use Rattle.cq_values.specs.Value.{Row}
 use Rattle.cq_model.specs.declared.bound.Bound.{Bound}
@@ -21,6 +23,8 @@ use Rattle.cq_model.specs.declared.query.Source.{Source}
 use Rattle.cq_model.specs.declared.query.Source.TheVariants.{Table, View}
 use Rattle.cq_model.specs.declared.statement.ColumnDef.{ColumnDef}
 use Rattle.cq_model.specs.declared.statement.Condition.{Condition}
+use Rattle.cq_model.specs.declared.statement.Constant.{Constant}
+use Rattle.cq_model.specs.declared.statement.Constant.TheVariants as constants
 use Rattle.cq_model.specs.declared.statement.Item.{Item}
 use Rattle.cq_model.specs.declared.statement.ItemValue.{ItemValue}
 use Rattle.cq_model.specs.declared.statement.ItemValue.TheVariants as values
@@ -29,15 +33,23 @@ use Rattle.cq_model.specs.declared.statement.Select.{Select}
 use Rattle.cq_model.specs.declared.statement.Statement.{Statement}
 use Rattle.cq_model.specs.declared.statement.Statement.TheVariants as statements
 use Rattle.cq_model.specs.declared.statement.ViewSelect.{ViewSelect}
+use Rattle.cq_model.specs.Meant.{named_day}
 use Rattle.cq_steps.specs.State.{TableOf, State, table_named, view_place, view_named}
 
 -- the number that a literal stands for
 abbrev pub literal_value : Literal → ℤ
 literal_value l = if l.is_negative then neg_ℤ (pos l.magnitude) else pos l.magnitude
 
+-- the value that a constant stands for
+abbrev pub constant_value : Constant → Value
+constant_value constants.Null = Null
+constant_value (constants.Number l) = Number (literal_value l)
+constant_value (constants.Text t) = Text t
+constant_value (constants.Date t) = named_day t
+
 -- the row that the constants of an INSERT make
-abbrev pub row_of : List Literal → Row
-row_of literals = map (λ l. Number (literal_value l)) literals
+abbrev pub row_of : List Constant → Row
+row_of row = map constant_value row
 
 -- where the column of a name stands, if there is one
 abbrev pub column_place : List ColumnDef → List ℕ → Option ℕ
@@ -92,13 +104,25 @@ abbrev pub item_names : ℕ → List Item → List (List ℕ)
 item_names place [] = []
 item_names place (item ∷ items) = unwrap_or item.alias (own_name place item.value) ∷ item_names (place + 1) items
 
--- a column of a view: each item is a whole number
-abbrev pub view_column : List ℕ → ColumnDef
-view_column name = record { name = name; ty = Integer; not_null = false }
+-- the type of the column of a name
+abbrev pub type_named : List ColumnDef → List ℕ → Ty
+type_named columns name = slice_index_or (map (λ c. c.ty) columns) (place_in columns name) Integer
 
--- the columns of a view
-abbrev pub view_columns : ViewSelect → List ColumnDef
-view_columns v = map view_column (item_names 1 v.items)
+-- the type of an item: that of its column, and counts and sums are whole numbers
+abbrev pub item_type : List ColumnDef → ItemValue → Ty
+item_type columns (values.Column name) = type_named columns name
+item_type columns values.CountAll = Integer
+item_type columns (values.Sum name) = Integer
+
+-- the columns of a view that its items from a place on are shown as
+abbrev pub item_columns : List ColumnDef → ℕ → List Item → List ColumnDef
+item_columns columns place [] = []
+item_columns columns place (item ∷ items) =
+    record { name = unwrap_or item.alias (own_name place item.value); ty = item_type columns item.value; not_null = false } ∷ item_columns columns (place + 1) items
+
+-- the columns of a view on a table
+abbrev pub view_columns : List ColumnDef → ViewSelect → List ColumnDef
+view_columns columns v = item_columns columns 1 v.items
 
 -- what an item tells of a group
 abbrev pub aggregates_in : List ColumnDef → ItemValue → List Aggregate
@@ -134,9 +158,9 @@ grouped_query v t = record {
 
 -- a statement whose tables and views are there
 abbrev pub bound : State → Statement → Option Bound
-bound s (statements.CreateTable name columns) = Some (commands.CreateTable name columns [])
+bound s (statements.CreateTable name columns sort) = Some (commands.CreateTable name columns (map (place_in columns) sort))
 bound s (statements.DropTable name) = option_map (λ t. commands.DropTable t.number) (table_named name s.tables)
-bound s (statements.CreateView name view) = option_map (λ t. commands.CreateView name (view_columns view) (grouped_query view t)) (table_named view.table s.tables)
+bound s (statements.CreateView name view) = option_map (λ t. commands.CreateView name (view_columns t.columns view) (grouped_query view t)) (table_named view.table s.tables)
 bound s (statements.DropView name) = option_map commands.DropView (view_place name s.views)
 bound s (statements.Insert name rows) = option_map (λ t. commands.Insert t.number (map row_of rows)) (table_named name s.tables)
 bound s (statements.Delete name condition) = option_map (λ t. commands.Delete t.number (option_map (bound_condition t.columns) condition)) (table_named name s.tables)

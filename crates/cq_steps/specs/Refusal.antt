@@ -2,9 +2,16 @@
 -- (docs/LANGUAGE.md, Refusals).
 use Rattle.std.specs.Prelude.{◌≡◌, ℕ, ◌+◌, ◌^◌, nat_lt, nat_le, ◌==◌, Bool, false, ◌||◌, not, if◌then◌else◌, List, [], ◌∷◌, ◌++◌, map, length, Option, Some, None, is_some, is_none, ok_or, Result, Ok, Err}
 use Rattle.std.specs.List.{list_any, flat_map}
+use denote.Enum.Bare.{sameb}
+use Rattle.cq_values.specs.contracts.ty.Ty as ty
+use Rattle.cq_values.specs.declared.ty.Ty.{Ty}
+use Rattle.cq_values.specs.declared.ty.Ty.TheVariants as types
+use Rattle.cq_values.specs.Dates.{day_named}
 use Rattle.cq_values.specs.Texts.{is_text}
 use Rattle.cq_model.specs.declared.statement.ColumnDef.{ColumnDef}
 use Rattle.cq_model.specs.declared.statement.Condition.{Condition}
+use Rattle.cq_model.specs.declared.statement.Constant.{Constant}
+use Rattle.cq_model.specs.declared.statement.Constant.TheVariants as constants
 use Rattle.cq_model.specs.declared.statement.ItemValue.{ItemValue}
 use Rattle.cq_model.specs.declared.statement.ItemValue.TheVariants as values
 use Rattle.cq_model.specs.declared.statement.Literal.{Literal}
@@ -14,9 +21,9 @@ use Rattle.cq_model.specs.declared.statement.Statement.TheVariants as statements
 use Rattle.cq_model.specs.declared.statement.ViewSelect.{ViewSelect}
 use Rattle.cq_model.specs.Views.{sources_of, is_table}
 use Rattle.cq_steps.specs.declared.fault.Fault.{Fault}
-use Rattle.cq_steps.specs.declared.fault.Fault.TheVariants.{UnknownTable, UnknownColumn, NameTaken, TypeMismatch, AggregateMisplaced, TooWide, NumberOutside, TableFull, TableInUse, ViewNotWritten, ClauseInView, LimitExceeded}
+use Rattle.cq_steps.specs.declared.fault.Fault.TheVariants.{UnknownTable, UnknownColumn, NameTaken, TypeMismatch, AggregateMisplaced, TooWide, NumberOutside, NullNotAllowed, TableFull, TableInUse, ViewNotWritten, TextTooLong, BadDate, ClauseInView, LimitExceeded}
 use Rattle.cq_steps.specs.declared.fault.Fault.TheVariants as faults
-use Rattle.cq_steps.specs.Bound.{column_place, item_names, values_in, Named, source_named}
+use Rattle.cq_steps.specs.Bound.{column_place, type_named, item_names, values_in, Named, source_named}
 use Rattle.cq_steps.specs.State.{TableOf, ViewOf, State, table_named, view_place, view_named, is_taken}
 
 -- the first place that has a fault decides
@@ -37,9 +44,20 @@ abbrev pub column_places : List ColumnDef → List ColumnDef → List (Option Fa
 column_places before [] = []
 column_places before (c ∷ cs) = fault_if (list_any (λ b. is_text b.name c.name) before) NameTaken ∷ column_places (before ++ c ∷ []) cs
 
--- CREATE TABLE: the name, each column, the list
-abbrev pub create_places : List ℕ → List ColumnDef → State → List (Option Fault)
-create_places name columns s = fault_if (is_taken name s) NameTaken ∷ column_places [] columns ++ too_long (length columns) ∷ []
+-- the name of a column
+abbrev pub name_place : List ColumnDef → List ℕ → Option Fault
+name_place columns name = fault_if (is_none (column_place columns name)) UnknownColumn
+
+-- SORT BY: each column is there, and no earlier one
+abbrev pub sort_places : List ColumnDef → List (List ℕ) → List (List ℕ) → List (Option Fault)
+sort_places columns before [] = []
+sort_places columns before (name ∷ names) =
+    name_place columns name ∷ fault_if (list_any (λ b. is_text b name) before) NameTaken ∷ sort_places columns (before ++ name ∷ []) names
+
+-- CREATE TABLE: the name, each column, the list, SORT BY
+abbrev pub create_places : List ℕ → List ColumnDef → List (List ℕ) → State → List (Option Fault)
+create_places name columns sort s =
+    fault_if (is_taken name s) NameTaken ∷ column_places [] columns ++ too_long (length columns) ∷ sort_places columns [] sort
 
 -- whether a view stands on the table of a number
 abbrev pub is_used : ℕ → List ViewOf → Bool
@@ -54,34 +72,47 @@ drop_table_places views (Some t) = fault_if (is_used t.number views) TableInUse 
 abbrev pub fits_column : Literal → Bool
 fits_column l = if l.is_negative then nat_le l.magnitude (2 ^ 63) else nat_lt l.magnitude (2 ^ 63)
 
-abbrev pub constant_place : Literal → Option Fault
-constant_place l = fault_if (not (fits_column l)) NumberOutside
+-- whether a column has this type
+abbrev pub is_type : Ty → Ty → Bool
+is_type t u = sameb ty.the_type t u
+
+-- a constant in its column: its type, and then what the column asks of it
+abbrev pub constant_place : ColumnDef → Constant → Option Fault
+constant_place d constants.Null = fault_if d.not_null NullNotAllowed
+constant_place d (constants.Number l) = if is_type d.ty types.Integer then fault_if (not (fits_column l)) NumberOutside else Some TypeMismatch
+constant_place d (constants.Text t) = if is_type d.ty types.Text then fault_if (nat_lt 4096 (length t)) TextTooLong else Some TypeMismatch
+constant_place d (constants.Date t) = if is_type d.ty types.Date then fault_if (is_none (day_named t)) BadDate else Some TypeMismatch
+
+-- each constant in the column of its place
+abbrev pub constant_places : List ColumnDef → List Constant → List (Option Fault)
+constant_places (d ∷ ds) (c ∷ cs) = constant_place d c ∷ constant_places ds cs
+constant_places ds cs = []
 
 -- a row: its width, then each constant
-abbrev pub row_places : ℕ → List Literal → List (Option Fault)
-row_places width row = fault_if (not (length row == width)) TypeMismatch ∷ map constant_place row
+abbrev pub row_places : List ColumnDef → List Constant → List (Option Fault)
+row_places columns row = fault_if (not (length row == length columns)) TypeMismatch ∷ constant_places columns row
 
 -- the table that a statement writes: views are not written
 abbrev pub written_table : List ℕ → State → Result TableOf Fault
 written_table name s = ok_or (table_named name s.tables) (if is_some (view_named name s.views) then ViewNotWritten else UnknownTable)
 
 -- INSERT: the name, each row, then whether the rows fit the table
-abbrev pub insert_places : ℕ → List (List Literal) → Result TableOf Fault → List (Option Fault)
+abbrev pub insert_places : ℕ → List (List Constant) → Result TableOf Fault → List (Option Fault)
 insert_places max_rows rows (Err f) = Some f ∷ []
-insert_places max_rows rows (Ok t) = flat_map (row_places (length t.columns)) rows ++ fault_if (nat_lt max_rows (length t.rows + length rows)) TableFull ∷ []
-
--- the name of a column
-abbrev pub name_place : List ColumnDef → List ℕ → Option Fault
-name_place columns name = fault_if (is_none (column_place columns name)) UnknownColumn
+insert_places max_rows rows (Ok t) = flat_map (row_places t.columns) rows ++ fault_if (nat_lt max_rows (length t.rows + length rows)) TableFull ∷ []
 
 -- an integer of an expression has at most 127 bits
 abbrev pub literal_place : Literal → Option Fault
 literal_place l = fault_if (not (nat_lt l.magnitude (2 ^ 127))) TooWide
 
--- WHERE: its column, then its number
+-- a column that a number is compared with, or that is added up
+abbrev pub number_place : List ColumnDef → List ℕ → Option Fault
+number_place columns name = fault_if (not (is_type (type_named columns name) types.Integer)) TypeMismatch
+
+-- WHERE: its column, then its number, then the comparison of both
 abbrev pub where_places : List ColumnDef → Option Condition → List (Option Fault)
 where_places columns None = []
-where_places columns (Some c) = name_place columns c.column ∷ literal_place c.literal ∷ []
+where_places columns (Some c) = name_place columns c.column ∷ literal_place c.literal ∷ number_place columns c.column ∷ []
 
 -- DELETE: the name, WHERE
 abbrev pub delete_places : Option Condition → Result TableOf Fault → List (Option Fault)
@@ -97,11 +128,11 @@ select_places q (Some source) = where_places source.columns q.condition ++ map (
 abbrev pub read_table : List ℕ → State → Result TableOf Fault
 read_table name s = ok_or (table_named name s.tables) (if is_some (view_named name s.views) then ClauseInView else UnknownTable)
 
--- an item of a view: a column that is there and grouped, or the column that a SUM adds
+-- an item of a view: a column that is there and grouped, or the column of numbers that a SUM adds
 abbrev pub item_places : List ColumnDef → List (List ℕ) → ItemValue → List (Option Fault)
 item_places columns group (values.Column name) = name_place columns name ∷ fault_if (not (list_any (λ g. is_text g name) group)) AggregateMisplaced ∷ []
 item_places columns group values.CountAll = []
-item_places columns group (values.Sum name) = name_place columns name ∷ []
+item_places columns group (values.Sum name) = name_place columns name ∷ number_place columns name ∷ []
 
 -- each name that an earlier one is
 abbrev pub repeats : List (List ℕ) → List (List ℕ) → Bool
@@ -130,7 +161,7 @@ drop_view_places place = fault_if (is_none place) UnknownTable ∷ []
 
 -- the places of a statement, in the order of the walk
 abbrev pub places : State → Statement → List (Option Fault)
-places s (statements.CreateTable name columns) = create_places name columns s
+places s (statements.CreateTable name columns sort) = create_places name columns sort s
 places s (statements.DropTable name) = drop_table_places s.views (table_named name s.tables)
 places s (statements.CreateView name view) = create_view_places name view s
 places s (statements.DropView name) = drop_view_places (view_place name s.views)

@@ -31,12 +31,18 @@ pub enum Fault {
     TooWide,
     #[error("19 number outside 64 bits")]
     NumberOutside,
+    #[error("20 NULL in a NOT NULL column")]
+    NullNotAllowed,
     #[error("21 table full")]
     TableFull,
     #[error("22 table used by a view")]
     TableInUse,
     #[error("23 views are not written")]
     ViewNotWritten,
+    #[error("24 text too long")]
+    TextTooLong,
+    #[error("25 bad date")]
+    BadDate,
     #[error("27 sum beyond 128 bits")]
     SumOutOfRange,
     #[error("28 clause not allowed in a view")]
@@ -62,9 +68,12 @@ impl Fault {
             Fault::AggregateMisplaced => "16 aggregate misplaced or column not grouped",
             Fault::TooWide => "17 expression too wide",
             Fault::NumberOutside => "19 number outside 64 bits",
+            Fault::NullNotAllowed => "20 NULL in a NOT NULL column",
             Fault::TableFull => "21 table full",
             Fault::TableInUse => "22 table used by a view",
             Fault::ViewNotWritten => "23 views are not written",
+            Fault::TextTooLong => "24 text too long",
+            Fault::BadDate => "25 bad date",
             Fault::SumOutOfRange => "27 sum beyond 128 bits",
             Fault::ClauseInView => "28 clause not allowed in a view",
             Fault::LimitExceeded => "29 limit exceeded",

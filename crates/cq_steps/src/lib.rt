@@ -9,6 +9,8 @@ mod answer;
 mod fault;
 #[cfg(test)]
 mod tests;
+mod typing;
 
 pub use answer::Answer;
 pub use fault::Fault;
+pub use typing::{Kind, Typing};

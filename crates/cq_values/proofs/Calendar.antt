@@ -41,7 +41,7 @@ begun y z m d n e p q before after =
         sym (true_is_le (days_from_civil y m d) (days_from_civil z n e) (omega (arith, signed_arith, days_from_civil-day_count y m d, days_from_civil-day_count z n e, before le))) ∙ sym test
 
 -- the first of January of a year up to the date's is not after it
-year_before : (y k m d : ℕ) → IsCivilDate (pos y) m d → k ≤ y → day_count (pos k) 1 1 ≤ day_count (pos y) m d
+pub year_before : (y k m d : ℕ) → IsCivilDate (pos y) m d → k ≤ y → day_count (pos k) 1 1 ≤ day_count (pos y) m d
 year_before y k m d h le =
     let place = day_count-day_of_year (pos y) m d h.2.0 in
     elim (cases_order k y) [
@@ -93,16 +93,16 @@ module _ (y m d : ℕ) (n : ℤ) (real : IsCivilDate (pos y) m d) (numbered : n 
       rw (year_of_date, month_of_date, numbered, passed) (omega (arith, real.2.0))
 
 -- the days before 0001-01-01
-day_count-start : day_count (pos 1) 1 1 ≡ 3_652_791
+pub day_count-start : day_count (pos 1) 1 1 ≡ 3_652_791
 day_count-start = day_count-early (pos 1) 10000 1 1 refl (omega arith) (omega arith) (omega arith)
 
 -- a date from 0001-01-01 on has a year from 1 on
-later_than_start : (d : Date) → neg_ℤ (pos 719162) ≤ℤ epoch_day d → pos 1 ≤ℤ d.year
+pub later_than_start : (d : Date) → neg_ℤ (pos 719162) ≤ℤ epoch_day d → pos 1 ≤ℤ d.year
 later_than_start d h =
     by_lt_z d.year (pos 1) (λ lt. absurd (omega (arith, signed_arith, day_count-start, days_from_civil-day_count d.year d.month d.day, day_count-lt_year d.year d.month d.day (pos 1) 1 1 (civil d) (omega arith) lt))) (λ ge. ge)
 
 -- a number from 1 on is its size
-positive : (z : ℤ) → pos 1 ≤ℤ z → z ≡ pos (unsigned_abs z)
+pub positive : (z : ℤ) → pos 1 ≤ℤ z → z ≡ pos (unsigned_abs z)
 positive (pos n) h = refl
 positive (negsuc n) h = absurd (omega (arith, signed_arith))
 

@@ -1,2 +1,3 @@
 pub mod Calendar
+pub mod NamedDays
 pub mod Sums

@@ -1,5 +1,6 @@
 pub mod Texts
 pub mod Days
+pub mod Dates
 pub mod Value
 pub mod Order
 pub mod Keys

@@ -4,18 +4,22 @@
 //! sees a buffer. Two values tie in the total order only where they are one value.
 #![tactic(auto)]
 
+mod dates;
 mod day;
 mod lent;
 mod order;
 mod product;
 mod row;
 mod seq;
+#[cfg(test)]
+mod tests;
 mod text;
 mod total;
 mod truth;
 mod ty;
 mod value;
 
+pub use dates::{DateFault, calendar_ends, date_of};
 pub use day::{CivilDay, Day};
 pub use lent::{Lent, cmp_lent};
 pub use order::cmp_total;

@@ -48,7 +48,7 @@ fn the_first_place_of_the_walk_decides(rt: HostRuntime) -> Result<(), Fail> {
         ("SELECT a FROM t WHERE a = 1a;", "error 10 syntax\n"),
         ("SELECT select FROM t;", "error 10 syntax\n"),
         ("INSERT INTO t VALUES (--1\n);", "error 10 syntax\n"),
-        ("INSERT INTO t VALUES (NULL, 1);", "error 10 syntax\n"),
+        ("INSERT INTO t VALUES (NULL 1);", "error 10 syntax\n"),
         ("DROP VIEW t;", "error 11 unknown table or view\n"),
         ("DROP TABLE u;", "error 11 unknown table or view\n"),
         ("DROP TABLE t u;", "error 10 syntax\n"),

@@ -1,4 +1,3 @@
-use Rattle.std.proofs.Common.{length}
 use Rattle.std.proofs.lemmas.Result.{err_from_is_err_and}
 use Rattle.cq_engine.proofs.Stored.{rows_stored}
 use Rattle.cq_engine.proofs.Walks.{insert_passes, room_refused, rows_refused}
@@ -26,4 +25,4 @@ returns-clause-walk c =
 pub returns-clause-stored : goal.returns-clause-stored
 returns-clause-stored c =
     let made = rw c.columns.ensures at c.in_ok-made.ensures in
-    rw made.1 (rows_stored (length c.args.table.now.columns) c.args.rows.now made.0)
+    rw made.1 (rows_stored c.args.table.now.columns c.args.rows.now made.0)

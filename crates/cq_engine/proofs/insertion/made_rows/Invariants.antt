@@ -8,4 +8,4 @@ use Rattle.cq_engine.proofs.insertion.made_rows.Given as goal
 abbrev pub invariant-loop-row : goal.invariant-loop-row
 invariant-loop-row l =
     (l.made.items ≡ map row_of (take l.row-index l.rows))
-    × (first_fault (flat_map (row_places l.width) (drop l.row-index l.rows)) ≡ first_fault (flat_map (row_places l.width) l.rows))
+    × (first_fault (flat_map (row_places l.columns) (drop l.row-index l.rows)) ≡ first_fault (flat_map (row_places l.columns) l.rows))

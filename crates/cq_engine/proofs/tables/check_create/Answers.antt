@@ -1,12 +1,12 @@
-use Rattle.std.proofs.Common.{◌≡◌, false, rules, [], ◌∷◌}
-use Rattle.std.specs.Prelude.{length}
+use Rattle.std.proofs.Common.{◌≡◌, ℕ, false, rules, List, [], map}
 use Rattle.std.proofs.lemmas.Result.{err_from_is_err_and}
-use Rattle.cq_steps.specs.Refusal.{create_places, too_long}
+use Rattle.cq_steps.specs.Bound.{place_in}
+use Rattle.cq_steps.specs.Refusal.{create_places, sort_places}
 use Rattle.cq_steps.specs.State.{is_taken}
 use Rattle.cq_engine.specs.Statements.{alone}
 use Rattle.cq_engine.specs.Views.{views_of}
 use Rattle.cq_binder.proofs.Faults.{walked_same}
-use Rattle.cq_engine.proofs.Walks.{columns_refused, create_ends}
+use Rattle.cq_engine.proofs.Walks.{columns_refused, length_refused, sort_decides}
 use Rattle.cq_engine.proofs.tables.check_create.Goals as goal
 
 pub returns-in_err-check_names : goal.returns-in_err-check_names
@@ -14,11 +14,20 @@ returns-in_err-check_names c =
     let p = err_from_is_err_and c.from_residual.result c.from_residual.ensures.1 in
     let views = views_of c.args.views.now in
     let free : is_taken c.args.name.now (alone c.args.tables.now views) ≡ false = search rules in
-    rw (p.1, p.2) (columns_refused c.args.name.now c.args.columns.now c.args.tables.now views free c.in_err-check_names.field-0.0 c.in_err-check_names.ensures)
+    rw (p.1, p.2) (columns_refused c.args.name.now c.args.columns.now c.args.sort.now c.args.tables.now views free c.in_err-check_names.field-0.0 c.in_err-check_names.ensures)
+
+pub returns-in_err-check_length : goal.returns-in_err-check_length
+returns-in_err-check_length c =
+    let p = err_from_is_err_and c.from_residual-in_err-check_length.result c.from_residual-in_err-check_length.ensures.1 in
+    let views = views_of c.args.views.now in
+    let free : is_taken c.args.name.now (alone c.args.tables.now views) ≡ false = search rules in
+    rw (p.1, p.2)
+    (length_refused c.args.name.now c.args.columns.now c.args.sort.now c.args.tables.now views free c.in_err-check_length.field-0.0 c.in_ok-check_names.ensures.0 c.in_err-check_length.ensures)
 
 pub returns : goal.returns
 returns c =
     let views = views_of c.args.views.now in
+    let columns = c.args.columns.now in
     let free : is_taken c.args.name.now (alone c.args.tables.now views) ≡ false = search rules in
-    walked_same (too_long (length c.args.columns.now) ∷ []) (create_places c.args.name.now c.args.columns.now (alone c.args.tables.now views)) (λ x. Unit {0}) c.check_length.result
-    (create_ends c.args.name.now c.args.columns.now c.args.tables.now views free c.in_ok-check_names.ensures.0) c.check_length.ensures
+    walked_same (sort_places columns [] c.args.sort.now) (create_places c.args.name.now columns c.args.sort.now (alone c.args.tables.now views)) (λ (places : List ℕ). places ≡ map (place_in columns) c.args.sort.now)
+    c.sort_columns.result (sort_decides c.args.name.now columns c.args.sort.now c.args.tables.now views free c.in_ok-check_names.ensures.0 c.in_ok-check_length.ensures.0) c.sort_columns.ensures

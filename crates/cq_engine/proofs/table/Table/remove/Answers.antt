@@ -1,4 +1,4 @@
-use Rattle.std.proofs.Common.{◌≡◌, not, rules, refl, [], arith}
+use Rattle.std.proofs.Common.{◌≡◌, not, rules, refl, arith}
 use Rattle.std.specs.Prelude.{filter}
 use Rattle.std.proofs.lemmas.Fn.{filter_same}
 use Rattle.cq_bags.specs.Canonical.{bag_of}
@@ -18,4 +18,4 @@ pub returns-clause-left : goal.returns-clause-left
 returns-clause-left c =
     rw (← c.self.view_is)
     (taken_as_stored (keeps_at c.args.condition.now) c.self.inside.rows.items c.retain.new.self.items (is_left c)
-    (record { number = c.self.inside.number; name = c.self.inside.name; columns = c.self.inside.columns; sort = []; rows = bag_of c.self.inside.rows.items }) refl)
+    (record { number = c.self.inside.number; name = c.self.inside.name; columns = c.self.inside.columns; sort = c.self.inside.sort; rows = bag_of c.self.inside.rows.items }) refl)

@@ -1,0 +1,85 @@
+//! The constants of an INSERT, each for the column at its place.
+ghost use Rattle.std.specs.Prelude.{◌≡◌, ◌∷◌, []};
+ghost use Rattle.cq_model.specs.declared.statement.Constant.TheVariants as constants;
+ghost use Rattle.cq_steps.specs.Bound.{constant_value, row_of};
+ghost use Rattle.cq_steps.specs.Refusal.{constant_place, row_places};
+ghost use Rattle.cq_binder.specs.Walk.{Walked};
+
+use crate::literals::{fits_column, literal_number};
+use cq_model::{ColumnDef, Constant, Literal};
+use cq_steps::Fault;
+use cq_values::{Row, Text, Ty, Value, date_of};
+use std::alloc::Global;
+
+/// A stored text has at most so many bytes.
+const MAX_TEXT: usize = 4096;
+
+/// The row that the constants make, where each can stand in its column.
+pub fn bound_row(alloc: Global, columns: &[ColumnDef], constants: &[Constant]) -> Result<Row, Fault>
+    ensures { Walked (row_places columns.now constants.now) (λ row. row ≡ row_of constants.now) result }
+{
+    if constants.len() != columns.len() {
+        return Err(Fault::TypeMismatch);
+    }
+    let mut row = Row::new(alloc);
+    for (i, constant) in constants.iter().enumerate() {
+        row.push(bound_constant(alloc, &columns[i], constant)?)?;
+    }
+    Ok(row)
+}
+
+fn bound_constant(alloc: Global, column: &ColumnDef, constant: &Constant) -> Result<Value, Fault>
+    ensures { Walked (constant_place column.now constant.now ∷ []) (λ value. value ≡ constant_value constant.now) result }
+{
+    match constant {
+        Constant::Null => bound_null(column),
+        Constant::Number(literal) => bound_number(column, literal),
+        Constant::Text(text) => bound_text(alloc, column, text),
+        Constant::Date(text) => bound_date(column, text.as_str()),
+    }
+}
+
+fn bound_null(column: &ColumnDef) -> Result<Value, Fault>
+    ensures { Walked (constant_place column.now constants.Null ∷ []) (λ value. value ≡ constant_value constants.Null) result }
+{
+    if column.not_null {
+        return Err(Fault::NullNotAllowed);
+    }
+    Ok(Value::Null)
+}
+
+fn bound_number(column: &ColumnDef, literal: &Literal) -> Result<Value, Fault>
+    ensures { Walked (constant_place column.now (constants.Number literal.now) ∷ []) (λ value. value ≡ constant_value (constants.Number literal.now)) result }
+{
+    if column.ty != Ty::Integer {
+        return Err(Fault::TypeMismatch);
+    }
+    if !fits_column(literal) {
+        return Err(Fault::NumberOutside);
+    }
+    Ok(Value::Number(literal_number(literal)))
+}
+
+fn bound_text(alloc: Global, column: &ColumnDef, text: &Text) -> Result<Value, Fault>
+    ensures { Walked (constant_place column.now (constants.Text text.now) ∷ []) (λ value. value ≡ constant_value (constants.Text text.now)) result }
+{
+    if column.ty != Ty::Text {
+        return Err(Fault::TypeMismatch);
+    }
+    if MAX_TEXT < text.as_str().len() {
+        return Err(Fault::TextTooLong);
+    }
+    Ok(Value::Text(text.copy(alloc)?))
+}
+
+fn bound_date(column: &ColumnDef, text: &str) -> Result<Value, Fault>
+    ensures { Walked (constant_place column.now (constants.Date text.now) ∷ []) (λ value. value ≡ constant_value (constants.Date text.now)) result }
+{
+    if column.ty != Ty::Date {
+        return Err(Fault::TypeMismatch);
+    }
+    match date_of(text) {
+        Ok(day) => Ok(Value::Day(day)),
+        Err(_) => Err(Fault::BadDate),
+    }
+}
