@@ -26,7 +26,8 @@ impl Readable for Text {
     }
 }
 
-fn comparison_of(symbol: Symbol) -> Option<Comparison>
+/// The comparison that the symbol stands for, if it is one.
+pub fn comparison_of(symbol: Symbol) -> Option<Comparison>
     ensures { result ≡ comparison_of symbol }
 {
     match symbol {

@@ -4,10 +4,15 @@
 //! most one tree.
 #![tactic(auto)]
 
+mod atoms;
 mod constants;
+mod expressions;
 mod fault;
 mod grammar;
 mod laws;
+mod links;
+mod nodes;
+mod predicates;
 mod read;
 mod sentences;
 mod table;
@@ -16,7 +21,8 @@ mod tests;
 mod view;
 
 pub use cq_tokens::{Piece, Pieces, split};
+pub use expressions::{expression_at, expression_of};
 pub use fault::SqlFault;
 pub use grammar::tree_of;
-pub use laws::one_tree;
+pub use laws::{one_expression, one_tree};
 pub use sentences::parse;

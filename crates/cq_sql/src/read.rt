@@ -29,7 +29,8 @@ pub fn after_keyword(keyword: Keyword, tokens: &[Token]) -> Option<&[Token]>
     }
 }
 
-fn after_symbol(symbol: Symbol, tokens: &[Token]) -> Option<&[Token]>
+/// The tokens behind this symbol, if it is there.
+pub fn after_symbol(symbol: Symbol, tokens: &[Token]) -> Option<&[Token]>
     ensures { option_map (λ x. x.now) result ≡ after_symbol symbol tokens.now }
 {
     match tokens {

@@ -1,6 +1,7 @@
 //! Lists of tokens that are statements, and lists that are none.
 mod columns;
 mod constants;
+mod expressions;
 mod views;
 
 use crate::{SqlFault, tree_of};

@@ -1,0 +1,42 @@
+-- Expressions that have no parts, and what opens a pair of parentheses, as readers on lists.
+use Rattle.std.specs.Prelude.{ℕ, List, [], ◌∷◌, Option, Some, None}
+use Rattle.cq_model.specs.declared.expr.DayPart.{DayPart}
+use Rattle.cq_model.specs.declared.expr.DayPart.TheVariants as parts
+use Rattle.cq_model.specs.declared.token.Keyword.{Keyword}
+use Rattle.cq_model.specs.declared.token.Keyword.TheVariants as keywords
+use Rattle.cq_model.specs.declared.token.Symbol.TheVariants as symbols
+use Rattle.cq_model.specs.declared.token.Token.{Token}
+use Rattle.cq_model.specs.declared.token.Token.TheVariants as tokens
+use Rattle.cq_model.specs.Written.{Written, Number, Text, Date, Null, Column}
+use Rattle.cq_sql.specs.declared.atoms.Opening.{Opening}
+use Rattle.cq_sql.specs.declared.atoms.Opening.TheVariants as openings
+use Rattle.cq_sql.specs.Read.{◌>>=◌, Reader}
+
+-- takes a text in quotes from the front
+abbrev pub text_at : Reader (List ℕ)
+text_at (tokens.Text text ∷ ts) = Some (text, ts)
+text_at ts = None
+
+-- takes a number, a text, a date, NULL or a column from the front
+abbrev pub atom_at : Reader Written
+atom_at (tokens.Number n ∷ ts) = Some (Number n, ts)
+atom_at (tokens.Text text ∷ ts) = Some (Text text, ts)
+atom_at (tokens.Keyword keywords.Date ∷ tokens.Text text ∷ ts) = Some (Date text, ts)
+atom_at (tokens.Keyword keywords.Null ∷ ts) = Some (Null, ts)
+atom_at (tokens.Name source ∷ tokens.Symbol symbols.Dot ∷ tokens.Name name ∷ ts) = Some (Column (record { source = Some source; name = name }), ts)
+atom_at (tokens.Name name ∷ ts) = Some (Column (record { source = None; name = name }), ts)
+atom_at ts = None
+
+-- the part of a day that the word names, if it names one
+abbrev pub day_part_of : Keyword → Option DayPart
+day_part_of keywords.Year = Some parts.Year
+day_part_of keywords.Month = Some parts.Month
+day_part_of keywords.Day = Some parts.Day
+day_part_of word = None
+
+-- takes what opens a pair of parentheses from the front
+abbrev pub opening_at : Reader Opening
+opening_at (tokens.Symbol symbols.Open ∷ ts) = Some (openings.Parens, ts)
+opening_at (tokens.Keyword keywords.Extract ∷ tokens.Symbol symbols.Open ∷ tokens.Keyword word ∷ tokens.Keyword keywords.From ∷ ts) =
+    day_part_of word >>= λ part. Some (openings.Extract part, ts)
+opening_at ts = None

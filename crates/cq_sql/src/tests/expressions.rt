@@ -1,0 +1,33 @@
+//! Expressions as they are read, and lists of tokens that are none.
+use crate::expression_of;
+use cq_tokens::tokens;
+use std::test::Fail;
+
+#[test]
+fn a_list_of_tokens_is_an_expression_or_none(rt: HostRuntime) -> Result<(), Fail> {
+    let cases = [
+        (
+            "a + 1 * 2 = 3 AND NOT b NOT IN (1, NULL) OR t.c IS NOT NULL",
+            true,
+        ),
+        ("a BETWEEN - 1 AND 2 AND b LIKE '%'", true),
+        (
+            "EXTRACT(YEAR FROM d) < 2024 OR (d = DATE '2024-02-29')",
+            true,
+        ),
+        ("((a))", true),
+        ("a = b = c", false),
+        ("NOT NOT a", false),
+        ("- - 1", false),
+        ("a NOT b", false),
+        ("a IN ()", false),
+        ("(a", false),
+        ("", false),
+    ];
+    for (text, is_one) in cases {
+        let tokens = tokens(rt.alloc(), text)?;
+        let read = expression_of(rt.alloc(), tokens.as_slice());
+        assert_eq!(rt; read.is_ok(), is_one, "{text}");
+    }
+    Ok(())
+}
