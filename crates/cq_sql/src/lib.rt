@@ -21,7 +21,7 @@ mod tests;
 mod view;
 
 pub use cq_tokens::{Piece, Pieces, split};
-pub use expressions::{expression_at, expression_of};
+pub use expressions::expression_of;
 pub use fault::SqlFault;
 pub use grammar::tree_of;
 pub use laws::{one_expression, one_tree};

@@ -74,7 +74,7 @@ pub struct Asked<'a> {
 }
 
 /// A number of a day past the calendar is NULL.
-pub fn value(alloc: Global, datum: &Datum<'_>) -> Result<Value, AllocError> {
+pub(crate) fn value(alloc: Global, datum: &Datum<'_>) -> Result<Value, AllocError> {
     match datum {
         Datum::Number(number) => Ok(Value::Number(*number)),
         Datum::Day(number) => Ok(Day::new(*number).map_or(Value::Null, Value::Day)),
@@ -84,7 +84,7 @@ pub fn value(alloc: Global, datum: &Datum<'_>) -> Result<Value, AllocError> {
 }
 
 /// The rows of a table.
-pub fn rows(alloc: Global, table: Rows<'_>) -> Result<Seq<Row>, AllocError> {
+pub(crate) fn rows(alloc: Global, table: Rows<'_>) -> Result<Seq<Row>, AllocError> {
     let mut rows = Seq::new(alloc);
     for data in table {
         let mut row = Row::new(alloc);
@@ -97,7 +97,7 @@ pub fn rows(alloc: Global, table: Rows<'_>) -> Result<Seq<Row>, AllocError> {
 }
 
 /// The tree of an expression.
-pub fn expr(alloc: Global, term: &Term<'_>) -> Result<Expr, AllocError> {
+pub(crate) fn expr(alloc: Global, term: &Term<'_>) -> Result<Expr, AllocError> {
     match term {
         Term::Column(place) => Ok(Expr::Column(*place)),
         Term::Literal(datum) => Ok(Expr::Literal(value(alloc, datum)?)),
@@ -129,7 +129,7 @@ fn exprs(alloc: Global, terms: &[Term<'_>]) -> Result<Vec<Expr>, AllocError> {
 }
 
 /// The tree of a condition.
-pub fn cond(alloc: Global, test: &Test<'_>) -> Result<Cond, AllocError> {
+pub(crate) fn cond(alloc: Global, test: &Test<'_>) -> Result<Cond, AllocError> {
     match test {
         Test::Compare(comparison, left, right) => Ok(Cond::Compare(
             *comparison,
@@ -165,7 +165,10 @@ pub fn cond(alloc: Global, test: &Test<'_>) -> Result<Cond, AllocError> {
 }
 
 /// WHERE or HAVING.
-pub fn condition(alloc: Global, test: &Option<Test<'_>>) -> Result<Option<Cond>, AllocError> {
+pub(crate) fn condition(
+    alloc: Global,
+    test: &Option<Test<'_>>,
+) -> Result<Option<Cond>, AllocError> {
     match test {
         None => Ok(None),
         Some(test) => Ok(Some(cond(alloc, test)?)),
@@ -219,7 +222,7 @@ fn join(alloc: Global, source: Source, on: &[(usize, usize)]) -> Result<Join, Al
 }
 
 /// The tree of a query, without ORDER BY and LIMIT.
-pub fn query(alloc: Global, asked: &Asked<'_>) -> Result<Query, AllocError> {
+pub(crate) fn query(alloc: Global, asked: &Asked<'_>) -> Result<Query, AllocError> {
     let mut joins = Seq::new(alloc);
     for (source, on) in asked.joins {
         joins.push(join(alloc, *source, on)?)?;
@@ -235,7 +238,7 @@ pub fn query(alloc: Global, asked: &Asked<'_>) -> Result<Query, AllocError> {
 }
 
 /// ORDER BY and LIMIT.
-pub fn order(alloc: Global, asked: &Asked<'_>) -> Result<Order, AllocError> {
+pub(crate) fn order(alloc: Global, asked: &Asked<'_>) -> Result<Order, AllocError> {
     let mut keys = Seq::new(alloc);
     for (column, descending) in asked.keys {
         keys.push(SortKey {

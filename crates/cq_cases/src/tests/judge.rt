@@ -38,7 +38,7 @@ fn database(alloc: Global, stored: &Stored<'_>) -> Result<Database, AllocError> 
 }
 
 /// The rows that the query answers.
-pub fn listed(
+pub(crate) fn listed(
     alloc: Global,
     stored: &Stored<'_>,
     asked: &Asked<'_>,
@@ -53,7 +53,7 @@ pub fn listed(
 pub type Answered<'a> = (&'a str, Asked<'a>, Rows<'a>);
 
 /// Each question has its answer.
-pub fn check(
+pub(crate) fn check(
     rt: &impl Abort,
     alloc: Global,
     stored: &Stored<'_>,
@@ -74,7 +74,12 @@ pub fn check(
 pub type Refused<'a> = (&'a str, Asked<'a>, PlainFault);
 
 /// Each question is refused for its reason.
-pub fn check_refused(rt: &impl Abort, alloc: Global, stored: &Stored<'_>, cases: &[Refused<'_>]) {
+pub(crate) fn check_refused(
+    rt: &impl Abort,
+    alloc: Global,
+    stored: &Stored<'_>,
+    cases: &[Refused<'_>],
+) {
     for (name, asked, fault) in cases {
         match listed(alloc, stored, asked) {
             Ok(found) => assert!(rt; false, "{name}: {found:?}"),
@@ -84,7 +89,7 @@ pub fn check_refused(rt: &impl Abort, alloc: Global, stored: &Stored<'_>, cases:
 }
 
 /// Each condition has its truth: of one row, WHERE keeps what is True, and with NOT what is False.
-pub fn check_truths(
+pub(crate) fn check_truths(
     rt: &impl Abort,
     alloc: Global,
     row: &[Datum<'_>],
@@ -107,7 +112,7 @@ fn keeps(alloc: Global, row: &[Datum<'_>], filter: Cond) -> Result<bool, PlainFa
 }
 
 /// Each expression has its value in the row.
-pub fn check_values(
+pub(crate) fn check_values(
     rt: &impl Abort,
     alloc: Global,
     row: &[Datum<'_>],

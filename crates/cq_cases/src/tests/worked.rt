@@ -33,12 +33,12 @@ fn names(alloc: Global, header: &[&str]) -> Result<Vec<Text>, AllocError> {
 }
 
 /// The answer as the program prints it.
-pub fn printed(alloc: Global, header: &[&str], rows: &[Row]) -> Result<Seq<u8>, AllocError> {
+pub(crate) fn printed(alloc: Global, header: &[&str], rows: &[Row]) -> Result<Seq<u8>, AllocError> {
     print_result(alloc, &names(alloc, header)?, rows)
 }
 
 /// Each row prints what it must.
-pub fn check(rt: &impl Abort, alloc: Global, rows: &[Worked<'_>]) -> Result<(), PlainFault> {
+pub(crate) fn check(rt: &impl Abort, alloc: Global, rows: &[Worked<'_>]) -> Result<(), PlainFault> {
     for row in rows {
         let found = listed(alloc, &row.stored, &row.asked)?;
         let text = printed(alloc, row.header, found.as_slice())?;

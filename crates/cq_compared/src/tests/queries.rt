@@ -41,7 +41,7 @@ fn grouped(
 }
 
 /// SELECT k, COUNT(*), SUM(a) FROM t GROUP BY k
-pub fn by_key(alloc: Global) -> Result<Query, AllocError> {
+pub(crate) fn by_key(alloc: Global) -> Result<Query, AllocError> {
     let mut keys = Seq::new(alloc);
     keys.push(0)?;
     let told = two(alloc, Aggregate::CountAll, Aggregate::Sum(Expr::Column(1)))?;
@@ -49,7 +49,7 @@ pub fn by_key(alloc: Global) -> Result<Query, AllocError> {
 }
 
 /// SELECT SUM(k), a, COUNT(*) FROM t WHERE a > 0 GROUP BY a, k
-pub fn of_positives(alloc: Global) -> Result<Query, AllocError> {
+pub(crate) fn of_positives(alloc: Global) -> Result<Query, AllocError> {
     let zero = Expr::Literal(Value::Number(0));
     let filter = Cond::Compare(Comparison::Greater, Expr::Column(1), zero);
     let keys = two(alloc, 1, 0)?;
@@ -58,7 +58,7 @@ pub fn of_positives(alloc: Global) -> Result<Query, AllocError> {
 }
 
 /// What the query means on the rows of its table, as a list.
-pub fn meant(alloc: Global, query: &Query, rows: Seq<Row>) -> Result<Vec<Row>, PlainFault> {
+pub(crate) fn meant(alloc: Global, query: &Query, rows: Seq<Row>) -> Result<Vec<Row>, PlainFault> {
     let mut tables = Seq::new(alloc);
     tables.push(rows)?;
     let database = Database {
