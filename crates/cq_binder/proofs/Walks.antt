@@ -4,20 +4,24 @@ use Rattle.std.proofs.lemmas.List.{append_assoc}
 use Rattle.cq_model.specs.declared.statement.ColumnDef.{ColumnDef}
 use Rattle.cq_model.specs.declared.statement.ViewSelect.{ViewSelect}
 use Rattle.cq_steps.specs.declared.fault.Fault.{Fault}
-use Rattle.cq_steps.specs.Refusal.{first_fault, name_place, query_places, too_long, where_places, MayRefuse}
+use Rattle.cq_steps.specs.Refusal.{first_fault, name_place, query_places, too_long, where_place, MayRefuse}
+use Rattle.cq_steps.specs.Typing.{Scope}
 use Rattle.cq_binder.specs.View.{group_walk, item_walk, name_walk}
 use Rattle.cq_binder.proofs.Faults.{none_append, refused_back, refused_front, refused_same}
 
 -- ---- WHERE decides, then GROUP BY, then the items, and then their names and number
-module _ (columns : List ColumnDef) (v : ViewSelect) where
+module _ (s : Scope) (v : ViewSelect) where
+  abbrev columns : List ColumnDef
+  columns = s.columns
+
   abbrev where_walk : List (Option Fault)
-  where_walk = where_places columns v.condition
+  where_walk = where_place s v.condition ∷ []
 
   abbrev walk : List (Option Fault)
   walk = where_walk ++ (group_walk columns v.group ++ (item_walk columns v ++ name_walk v.items))
 
   -- the stretches in their order
-  stretches : query_places columns v ≡ walk
+  stretches : query_places s v ≡ walk
   stretches =
       let key_walk : List (Option Fault) = map (name_place columns) v.group in
       let number : List (Option Fault) = too_long (length v.group) ∷ [] in
@@ -26,31 +30,31 @@ module _ (columns : List ColumnDef) (v : ViewSelect) where
       ∙ ap (λ (places : List (Option Fault)). where_walk ++ places) (sym (append_assoc key_walk number (item_walk columns v ++ name_walk v.items)))
 
   -- what refuses the stretches refuses the query
-  refused_whole : (f : Fault) → MayRefuse (first_fault walk) f → MayRefuse (first_fault (query_places columns v)) f
-  refused_whole f m = refused_same (first_fault walk) (first_fault (query_places columns v)) f (ap first_fault stretches) m
+  refused_whole : (f : Fault) → MayRefuse (first_fault walk) f → MayRefuse (first_fault (query_places s v)) f
+  refused_whole f m = refused_same (first_fault walk) (first_fault (query_places s v)) f (ap first_fault stretches) m
 
   module _ (kept : first_fault where_walk ≡ None) where
     -- GROUP BY refuses
-    pub group_refused : (f : Fault) → MayRefuse (first_fault (group_walk columns v.group)) f → MayRefuse (first_fault (query_places columns v)) f
+    pub group_refused : (f : Fault) → MayRefuse (first_fault (group_walk columns v.group)) f → MayRefuse (first_fault (query_places s v)) f
     group_refused f m =
         refused_whole f (refused_back where_walk (group_walk columns v.group ++ (item_walk columns v ++ name_walk v.items)) f kept (refused_front (group_walk columns v.group) (item_walk columns v ++ name_walk v.items) f m))
 
     module _ (grouped : first_fault (group_walk columns v.group) ≡ None) where
       -- what refuses the stretches behind GROUP BY refuses the query
-      refused_behind : (f : Fault) → MayRefuse (first_fault (item_walk columns v ++ name_walk v.items)) f → MayRefuse (first_fault (query_places columns v)) f
+      refused_behind : (f : Fault) → MayRefuse (first_fault (item_walk columns v ++ name_walk v.items)) f → MayRefuse (first_fault (query_places s v)) f
       refused_behind f m =
           refused_whole f (refused_back where_walk (group_walk columns v.group ++ (item_walk columns v ++ name_walk v.items)) f kept (refused_back (group_walk columns v.group) (item_walk columns v ++ name_walk v.items) f grouped m))
 
       -- an item refuses
-      pub items_refused : (f : Fault) → MayRefuse (first_fault (item_walk columns v)) f → MayRefuse (first_fault (query_places columns v)) f
+      pub items_refused : (f : Fault) → MayRefuse (first_fault (item_walk columns v)) f → MayRefuse (first_fault (query_places s v)) f
       items_refused f m = refused_behind f (refused_front (item_walk columns v) (name_walk v.items) f m)
 
       -- the names or their number refuse
-      pub names_refused : (f : Fault) → first_fault (item_walk columns v) ≡ None → MayRefuse (first_fault (name_walk v.items)) f → MayRefuse (first_fault (query_places columns v)) f
+      pub names_refused : (f : Fault) → first_fault (item_walk columns v) ≡ None → MayRefuse (first_fault (name_walk v.items)) f → MayRefuse (first_fault (query_places s v)) f
       names_refused f bound m = refused_behind f (refused_back (item_walk columns v) (name_walk v.items) f bound m)
 
       -- no place refuses
-      pub view_passes : first_fault (item_walk columns v) ≡ None → first_fault (name_walk v.items) ≡ None → first_fault (query_places columns v) ≡ None
+      pub view_passes : first_fault (item_walk columns v) ≡ None → first_fault (name_walk v.items) ≡ None → first_fault (query_places s v) ≡ None
       view_passes bound named =
           ap first_fault stretches
           ∙ none_append where_walk (group_walk columns v.group ++ (item_walk columns v ++ name_walk v.items)) kept

@@ -3,10 +3,11 @@ ghost use Rattle.std.specs.Prelude.{◌≡◌, ◌∷◌, IfOk, [], map};
 ghost use Rattle.std.specs.List.{list_any};
 ghost use Rattle.cq_values.specs.declared.ty.Ty.TheVariants.{Integer};
 ghost use Rattle.cq_values.specs.Texts.{is_text};
-ghost use Rattle.cq_steps.specs.Bound.{column_place, place_in, type_named};
+ghost use Rattle.cq_steps.specs.Bound.{place_in, type_named};
 ghost use Rattle.cq_steps.specs.Refusal.{column_places, is_type, sort_places, too_long};
 ghost use Rattle.cq_binder.specs.Walk.{Passes, Walked};
 
+use cq_exprs::column_place;
 use cq_model::ColumnDef;
 use cq_steps::Fault;
 use cq_values::{Seq, Text, Ty};
@@ -14,13 +15,6 @@ use std::alloc::{AllocError, Global};
 
 /// A list of columns or of items has at most so many entries.
 const MAX_ENTRIES: usize = 64;
-
-/// Where the column of a name stands.
-pub fn column_place(columns: &[ColumnDef], name: &str) -> Option<usize>
-    ensures { result ≡ column_place columns.now name.now }
-{
-    columns.iter().position(|c| c.name.as_str() == name)
-}
 
 /// The type of the column of a name.
 pub fn type_named(columns: &[ColumnDef], name: &str) -> Ty

@@ -6,7 +6,8 @@ ghost use Rattle.cq_steps.specs.Refusal.{item_places};
 ghost use Rattle.cq_binder.specs.View.{AreBoundItems, bound_item, item_walk};
 ghost use Rattle.cq_binder.specs.Walk.{Walked};
 
-use crate::columns::{column_place, is_number};
+use crate::columns::is_number;
+use cq_exprs::column_place;
 use cq_model::{Aggregate, ColumnDef, Expr, ItemValue, ViewSelect};
 use cq_steps::Fault;
 use cq_values::{Seq, Text};
@@ -76,7 +77,7 @@ fn added_column(columns: &[ColumnDef], name: &str) -> Result<BoundItem, Fault>
     if !is_number(columns, name) {
         return Err(Fault::TypeMismatch);
     }
-    Ok(BoundItem::Told(Aggregate::Sum(Expr::Column(place))))
+    Ok(BoundItem::Told(Aggregate::Sum(Expr::column(place))))
 }
 
 /// Where a column stands in GROUP BY.

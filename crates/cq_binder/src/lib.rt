@@ -5,6 +5,7 @@
 #![tactic(auto)]
 
 mod columns;
+mod conditions;
 mod constants;
 mod items;
 mod literals;
@@ -13,9 +14,7 @@ mod names;
 mod tests;
 mod view;
 
-pub use columns::{
-    check_length, check_names, column_place, copy_columns, copy_names, is_number, sort_columns,
-};
+pub use columns::{check_length, check_names, copy_columns, copy_names, is_number, sort_columns};
+pub use conditions::bound_where;
 pub use constants::bound_row;
-pub use literals::literal_number;
 pub use view::{BoundView, bound_view};

@@ -1,9 +1,10 @@
 //! The views of one table, t(a INTEGER, b INTEGER, c TEXT), and the constants that columns take.
 
 use super::*;
+use cq_exprs::Scope;
 use cq_model::{
-    Aggregate, ColumnDef, Comparison, Condition, Constant, Expr, Item, ItemValue, Literal,
-    ViewSelect,
+    Aggregate, ColumnDef, ColumnName, Comparison, Constant, ExprNode, ExprTree, Item, ItemValue,
+    Literal, SqlExpr, ViewSelect,
 };
 use cq_steps::Fault;
 use cq_values::{Seq, Text, Ty, Value};
@@ -46,12 +47,24 @@ fn number(magnitude: u128) -> Literal {
 }
 
 /// column < 10
-fn below_ten(alloc: Global, column: &str) -> Result<Condition, AllocError> {
-    Ok(Condition {
-        column: Text::new(alloc, column)?,
-        comparison: Comparison::Less,
-        literal: number(10),
-    })
+fn below_ten(alloc: Global, column: &str) -> Result<SqlExpr, AllocError> {
+    let name = ColumnName {
+        source: None,
+        name: Text::new(alloc, column)?,
+    };
+    let column = Box::new(alloc, ExprNode::Column(name))?;
+    let ten = Box::new(alloc, ExprNode::Number(10))?;
+    Ok(SqlExpr::new(ExprNode::Compare(Comparison::Less, column, ten)))
+}
+
+/// What the view on t with these columns is bound to.
+fn bound(alloc: Global, columns: &[ColumnDef], view: &ViewSelect) -> Result<BoundView, Fault> {
+    let scope = Scope {
+        known: "t",
+        columns,
+        sizes: &[1 << 63, 1 << 63, 1 << 63],
+    };
+    bound_view(alloc, &scope, view)
 }
 
 fn texts(alloc: Global, names: &[&str]) -> Result<Seq<Text>, AllocError> {
@@ -79,7 +92,7 @@ fn view(alloc: Global, first: Item, second: Item) -> Result<ViewSelect, AllocErr
 fn refusal(alloc: Global, first: Item, second: Item) -> Result<Option<Fault>, AllocError> {
     let columns = columns(alloc)?;
     let view = view(alloc, first, second)?;
-    Ok(bound_view(alloc, columns.as_slice(), &view).err())
+    Ok(bound(alloc, columns.as_slice(), &view).err())
 }
 
 #[test]
@@ -91,7 +104,7 @@ fn a_sum_stands_behind_the_keys_and_before_its_name(rt: HostRuntime) -> Result<(
     );
     let view = view(alloc, total, unnamed(column(alloc, "b")?))?;
     let columns = columns(alloc)?;
-    let bound = bound_view(alloc, columns.as_slice(), &view)?;
+    let bound = bound(alloc, columns.as_slice(), &view)?;
     assert!(rt; bound.filter.is_some());
     assert_eq!(rt; bound.keys.as_slice(), [1, 2].as_slice());
     assert_eq!(rt; bound.items.as_slice(), [2, 0].as_slice());
@@ -99,7 +112,9 @@ fn a_sum_stands_behind_the_keys_and_before_its_name(rt: HostRuntime) -> Result<(
         assert_eq!(rt; column.name.as_str(), name);
     }
     for aggregate in bound.aggregates.as_slice() {
-        assert!(rt; matches!(aggregate, Aggregate::Sum(Expr::Column(0))));
+        assert!(rt;
+            matches!(aggregate, Aggregate::Sum(e) if matches!(e.tree(), ExprTree::Column(0)))
+        );
     }
     assert_eq!(rt; bound.columns.len(), 2);
     assert_eq!(rt; bound.aggregates.len(), 1);
@@ -112,7 +127,7 @@ fn a_count_without_a_name_is_called_by_its_place(rt: HostRuntime) -> Result<(), 
     let key = unnamed(column(alloc, "b")?);
     let view = view(alloc, key, unnamed(ItemValue::CountAll))?;
     let columns = columns(alloc)?;
-    let bound = bound_view(alloc, columns.as_slice(), &view)?;
+    let bound = bound(alloc, columns.as_slice(), &view)?;
     for (column, name) in bound.columns.as_slice().iter().zip(["b", "c2"]) {
         assert_eq!(rt; column.name.as_str(), name);
     }
@@ -143,7 +158,7 @@ fn a_key_keeps_its_type_and_a_count_is_a_number(rt: HostRuntime) -> Result<(), F
     let key = unnamed(column(alloc, "c")?);
     let view = view(alloc, key, unnamed(ItemValue::CountAll))?;
     let columns = columns(alloc)?;
-    let bound = bound_view(alloc, columns.as_slice(), &view)?;
+    let bound = bound(alloc, columns.as_slice(), &view)?;
     for (column, ty) in bound.columns.as_slice().iter().zip([Ty::Text, Ty::Integer]) {
         assert_eq!(rt; column.ty, ty);
     }
@@ -166,7 +181,7 @@ fn a_text_is_compared_with_no_number(rt: HostRuntime) -> Result<(), Fail> {
     let mut view = view(alloc, key, unnamed(ItemValue::CountAll))?;
     view.condition = Some(below_ten(alloc, "c")?);
     let columns = columns(alloc)?;
-    let refusal = bound_view(alloc, columns.as_slice(), &view).err();
+    let refusal = bound(alloc, columns.as_slice(), &view).err();
     assert_eq!(rt; refusal, Some(Fault::TypeMismatch));
     Ok(())
 }

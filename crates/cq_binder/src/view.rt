@@ -1,17 +1,19 @@
 //! Views with their names resolved.
-ghost use Rattle.std.specs.Prelude.{◌≡◌, map, option_map};
-ghost use Rattle.cq_steps.specs.Bound.{bound_condition, place_in};
-ghost use Rattle.cq_steps.specs.Refusal.{name_place, query_places, where_places};
+ghost use Rattle.std.specs.Prelude.{◌≡◌, map};
+ghost use Rattle.cq_steps.specs.Bound.{place_in};
+ghost use Rattle.cq_steps.specs.Refusal.{name_place, query_places};
+ghost use Rattle.cq_exprs.specs.Expressions.{scope_of};
 ghost use Rattle.cq_binder.specs.View.{IsBoundView, group_walk};
 ghost use Rattle.cq_binder.specs.Walk.{Walked};
 
-use crate::columns::{check_length, column_place, is_number};
+use crate::columns::check_length;
+use crate::conditions::bound_where;
 use crate::items::bound_items;
-use crate::literals::literal_number;
 use crate::names::view_columns;
-use cq_model::{Aggregate, ColumnDef, Cond, Condition, Expr, ViewSelect};
+use cq_exprs::{Scope, column_place};
+use cq_model::{Aggregate, ColumnDef, Cond, ViewSelect};
 use cq_steps::Fault;
-use cq_values::{Seq, Text, Value};
+use cq_values::{Seq, Text};
 use std::alloc::Global;
 
 /// The query of a view with its names resolved, and the columns that the view shows.
@@ -24,15 +26,12 @@ pub struct BoundView {
     pub items: Seq<usize>,
 }
 
-/// The view on a table with these columns, once its query has been walked through.
-pub fn bound_view(
-    alloc: Global,
-    columns: &[ColumnDef],
-    view: &ViewSelect,
-) -> Result<BoundView, Fault>
-    ensures { Walked (query_places columns.now view.now) (IsBoundView columns.now view.now) result }
+/// The view on a table, once its query has been walked through.
+pub fn bound_view(alloc: Global, table: &Scope<'_>, view: &ViewSelect) -> Result<BoundView, Fault>
+    ensures { Walked (query_places (scope_of table.now) view.now) (IsBoundView table.now.columns.now view.now) result }
 {
-    let filter = bound_where(columns, &view.condition)?;
+    let columns = table.columns;
+    let filter = bound_where(alloc, table, &view.condition)?;
     let keys = group_keys(alloc, columns, view.group.as_slice())?;
     let (aggregates, items) = bound_items(alloc, columns, view)?;
     let columns = view_columns(alloc, columns, view.items.as_slice())?;
@@ -43,30 +42,6 @@ pub fn bound_view(
         aggregates,
         items,
     })
-}
-
-/// WHERE, if it is there.
-fn bound_where(columns: &[ColumnDef], condition: &Option<Condition>) -> Result<Option<Cond>, Fault>
-    ensures { Walked (where_places columns.now condition.now) (λ c. c ≡ option_map (bound_condition columns.now) condition.now) result }
-{
-    let Some(condition) = condition else {
-        return Ok(None);
-    };
-    let Some(place) = column_place(columns, condition.column.as_str()) else {
-        return Err(Fault::UnknownColumn);
-    };
-    if condition.literal.magnitude >= 1u128 << 127 {
-        return Err(Fault::TooWide);
-    }
-    if !is_number(columns, condition.column.as_str()) {
-        return Err(Fault::TypeMismatch);
-    }
-    let number = Value::Number(literal_number(&condition.literal));
-    Ok(Some(Cond::Compare(
-        condition.comparison,
-        Expr::Column(place),
-        Expr::Literal(number),
-    )))
 }
 
 /// GROUP BY by the places of its columns.

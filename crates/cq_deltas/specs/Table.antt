@@ -7,7 +7,7 @@ use Rattle.std.specs.Option.{option_map}
 use Rattle.cq_values.specs.Value.{Row}
 use Rattle.cq_values.specs.Order.{same_row}
 use Rattle.cq_bags.specs.Bag.{Weighted, SameBag, IsBag}
-use Rattle.cq_model.specs.declared.expr.Cond.{Cond}
+use Rattle.cq_model.specs.Expr.{Cond}
 use Rattle.cq_model.specs.declared.query.Aggregate.{Aggregate}
 use Rattle.cq_model.specs.declared.query.Query.{Query}
 use Rattle.cq_model.specs.declared.query.Shape.TheVariants.{Grouped}

@@ -31,8 +31,8 @@ fn null_is_one_key_and_adds_nothing(rt: HostRuntime) -> Result<(), Fail> {
     let alloc = rt.alloc();
     let aggregates = [
         Aggregate::CountAll,
-        Aggregate::Count(Expr::Column(1)),
-        Aggregate::Sum(Expr::Column(1)),
+        Aggregate::Count(Expr::column(1)),
+        Aggregate::Sum(Expr::column(1)),
     ];
     let mut change = GroupChange::new(alloc);
     change.push(
@@ -59,7 +59,7 @@ fn null_is_one_key_and_adds_nothing(rt: HostRuntime) -> Result<(), Fail> {
 #[test]
 fn a_sum_may_leave_its_range_and_come_back(rt: HostRuntime) -> Result<(), Fail> {
     let alloc = rt.alloc();
-    let aggregates = [Aggregate::Sum(Expr::Column(0))];
+    let aggregates = [Aggregate::Sum(Expr::column(0))];
     for (weight, fits) in [(1, true), (2, false), (-1, true), (-2, false)] {
         let mut change = GroupChange::new(alloc);
         change.push(alloc, &[], &aggregates, &[Value::Number(i128::MAX)], weight)?;

@@ -15,8 +15,8 @@ use Rattle.cq_model.specs.declared.statement.ColumnDef.{ColumnDef}
 use Rattle.cq_model.specs.declared.statement.ViewSelect.{ViewSelect}
 use Rattle.cq_steps.specs.declared.fault.Fault.{Fault}
 use Rattle.cq_steps.specs.declared.fault.Fault.TheVariants.{NameTaken}
-use Rattle.cq_steps.specs.Bound.{aggregates_in, bound_condition, grouped_query, item_names, item_places_in, place_in, values_in, view_columns}
-use Rattle.cq_steps.specs.Refusal.{create_view_places, fault_if, first_fault, item_places, name_place, query_places, repeats, too_long, view_select_places, where_places}
+use Rattle.cq_steps.specs.Bound.{aggregates_in, bound_condition, from_table, grouped_query, item_names, item_places_in, place_in, scope_of, values_in, view_columns}
+use Rattle.cq_steps.specs.Refusal.{create_view_places, fault_if, first_fault, item_places, name_place, query_places, repeats, too_long, view_select_places, where_place}
 use Rattle.cq_steps.specs.State.{TableOf, ViewOf, is_taken, rows_in, table_named, AreNumbered}
 use Rattle.cq_steps.specs.Step.{new_view}
 use Rattle.cq_views.specs.declared.view_def.ViewDef.{ViewDef}
@@ -24,7 +24,8 @@ use Rattle.cq_views.specs.Laws.{StandingDependsOnBag}
 use Rattle.cq_views.specs.View.{KeptView, IsNarrowFor, Stands, query_of}
 use Rattle.cq_engine.specs.Statements.{alone, CreatesView, IsBuilt}
 use Rattle.cq_engine.specs.Views.{Fits, IsRight, IsStored, NamedView, view_of, views_of}
-use Rattle.cq_engine.proofs.Fitting.{few_told, narrow_items, narrow_where, second_free, small_items, totals}
+use Rattle.cq_steps.specs.Typing.{Scope}
+use Rattle.cq_engine.proofs.Fitting.{few_told, first_free, narrow_items, narrow_where, second_free, small_items, stored_keeps, totals}
 use Rattle.cq_engine.proofs.Rows.{rows_there}
 use Rattle.cq_engine.proofs.Stored.{all_of_rows}
 use Rattle.cq_binder.proofs.Faults.{first_fault_append, or_next}
@@ -49,7 +50,10 @@ short n e = by_test (nat_lt 64 n)
     (λ k. absurd (cc (rw k at e)))
     (λ k. ltb-false 64 n k)
 
-module _ (columns : List ColumnDef) (v : ViewSelect) (free : first_fault (query_places columns v) ≡ None) where
+module _ (s : Scope) (v : ViewSelect) (free : first_fault (query_places s v) ≡ None) where
+  abbrev columns : List ColumnDef
+  columns = s.columns
+
   abbrev keys_walk : List (Option Fault)
   keys_walk = map (name_place columns) v.group
 
@@ -60,15 +64,13 @@ module _ (columns : List ColumnDef) (v : ViewSelect) (free : first_fault (query_
   names_walk = fault_if (repeats [] (item_names 1 v.items)) NameTaken ∷ too_long (length v.items) ∷ []
 
   -- WHERE has no fault
-  where_free : first_fault (where_places columns v.condition) ≡ None
-  where_free =
-      let where_walk : List (Option Fault) = where_places columns v.condition in
-      front_free where_walk keys_walk (front_free (where_walk ++ keys_walk) items_walk (front_free ((where_walk ++ keys_walk) ++ items_walk) names_walk free))
+  where_free : where_place s v.condition ≡ None
+  where_free = first_free (where_place s v.condition) (keys_walk ++ items_walk ++ names_walk) free
 
   -- there are not too many items
   few_items : length v.items ≤ 64
   few_items =
-      let where_walk : List (Option Fault) = where_places columns v.condition in
+      let where_walk : List (Option Fault) = where_place s v.condition ∷ [] in
       short (length v.items)
       (second_free (fault_if (repeats [] (item_names 1 v.items)) NameTaken) (too_long (length v.items)) [] (back_free ((where_walk ++ keys_walk) ++ items_walk) names_walk free))
 
@@ -88,16 +90,16 @@ pub bound_def : (v : ViewSelect) (t : TableOf) (number : ℕ) (b : BoundView) �
     → record { table = number; filter = b.filter; keys = b.keys; aggregates = b.aggregates; items = b.items } ≡ def_of v t
 bound_def v t number b is_number is = λ i. record { table = is_number i; filter = is.filter i; keys = is.keys i; aggregates = is.aggregates i; items = is.items i }
 
-module _ (v : ViewSelect) (t : TableOf) (free : first_fault (query_places t.columns v) ≡ None) where
+module _ (v : ViewSelect) (t : TableOf) (free : first_fault (query_places (scope_of (from_table t)) v) ≡ None) where
   -- it fits the rows that a table stores
   pub def_fits : Fits (def_of v t)
   def_fits = record {
     can_be_kept = record {
       totals = totals t.columns (values_in v);
-      few = omega (arith, few_told t.columns (values_in v), length-map v.items (λ item. item.value), few_items t.columns v free);
+      few = omega (arith, few_told t.columns (values_in v), length-map v.items (λ item. item.value), few_items (scope_of (from_table t)) v free);
     };
     narrow = λ row stored. record {
-      filter = narrow_where t.columns v.condition row (where_free t.columns v free) stored;
+      filter = narrow_where (scope_of (from_table t)) v.condition row (where_free (scope_of (from_table t)) v free) (stored_keeps t row stored);
       aggregates = narrow_items t.columns (values_in v) row stored;
     };
     small = λ row stored kept. small_items t.columns (values_in v) row stored;
@@ -122,9 +124,9 @@ module _ (t : TableOf) (rows : List Row) (same : bag_of rows ≡ t.rows) where
 
 -- the view of this query, built now
 pub is_built : (now : ℕ) (name : List ℕ) (q : ViewSelect) (t : TableOf) (v : NamedView) → v.name ≡ name → v.columns ≡ view_columns t.columns q → v.kept.def ≡ def_of q t → v.kept.epoch ≡ now → v.kept.built ≡ now
-    → first_fault (query_places t.columns q) ≡ None → Stands v.kept (once_each t.rows) → IsBuilt now name q t v
-is_built now name q t v named columns def epoch built free stands = record {
-  view = λ i. record { name = named i; columns = columns i; query = query_of (def i); epoch = epoch i; built = built i };
+    → first_fault (query_places (scope_of (from_table t)) q) ≡ None → Stands v.kept (once_each t.rows) → IsBuilt now name q t v
+is_built now name q t v named shown def epoch built free stands = record {
+  view = λ i. record { name = named i; columns = shown i; query = query_of (def i); epoch = epoch i; built = built i };
   table = ap (λ (d : ViewDef). d.table) def;
   fits = subst Fits (sym def) (def_fits q t free);
   stands = stands;

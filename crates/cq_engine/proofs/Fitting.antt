@@ -1,63 +1,61 @@
--- A view whose query is bound fits the rows that its table stores.
-use Rattle.std.proofs.Common.{◌≡◌, ℕ, ◌≤◌, ◌<◌, ◌^◌, nat_abs, Bool, true, false, max, List, [], ◌∷◌, length, Option, Some, None, refl, sym, ap, ◌∙◌, arith}
-use Rattle.std.specs.Prelude.{IfSome, nat_lt, option_map}
+-- A view whose query is bound fits the rows that its table stores, and WHERE is narrow at each of them.
+use Rattle.std.proofs.Common.{◌≡◌, ℕ, zero, suc, ◌≤◌, ◌<◌, ◌^◌, nat_abs, List, [], ◌∷◌, length, Option, Some, None, Result, Ok, Err, refl, sym, ap, ◌∙◌, arith}
+use Rattle.std.specs.Prelude.{IfSome, option_map, slice_index_or}
 use Rattle.std.specs.List.{AllByRecursion, flat_map}
-use Rattle.std.proofs.lemmas.Bool.{ltb-true}
-use Rattle.std.proofs.lemmas.Int.{ints}
 use Rattle.cq_values.specs.declared.value.Value.{Value}
 use Rattle.cq_values.specs.declared.value.Value.TheVariants.{Null, Number, Day, Text}
 use Rattle.cq_values.specs.Value.{Row, column}
-use Rattle.cq_bags.proofs.Totals.{by_test}
 use Rattle.cq_deltas.specs.Additions.{AreTotals, IsNarrow, IsSmall, counted_addend}
-use Rattle.cq_model.specs.declared.expr.Cond.TheFolds.{fold-roll-Cond}
-use Rattle.cq_model.specs.declared.expr.Cond.TheOpen as cond_node
-use Rattle.cq_model.specs.declared.expr.Cond.TheVariants.{Compare, rolls-Compare}
-use Rattle.cq_model.specs.declared.expr.Expr.{Expr}
-use Rattle.cq_model.specs.declared.expr.Expr.TheFolds.{fold-roll-Expr}
-use Rattle.cq_model.specs.declared.expr.Expr.TheOpen as node
-use Rattle.cq_model.specs.declared.expr.Expr.TheVariants as exprs
+use Rattle.cq_model.specs.Expr as exprs
 use Rattle.cq_model.specs.declared.statement.ColumnDef.{ColumnDef}
-use Rattle.cq_model.specs.declared.statement.Comparison.{Comparison}
-use Rattle.cq_model.specs.declared.statement.Condition.{Condition}
 use Rattle.cq_model.specs.declared.statement.ItemValue.{ItemValue}
 use Rattle.cq_model.specs.declared.statement.ItemValue.TheVariants as values
-use Rattle.cq_model.specs.declared.statement.Literal.{Literal}
 use Rattle.cq_model.specs.Eval.{eval}
-use Rattle.cq_model.specs.Width.{Extent, width, width_step, widest, widest_in, widest_step, widest_at, extent, sizes_of, value_size}
+use Rattle.cq_model.specs.Sizes.{stored_size, stored_sizes}
+use Rattle.cq_model.specs.Width.{sizes_of, value_size}
+use Rattle.cq_model.specs.Written.{Written}
 use Rattle.cq_steps.specs.declared.fault.Fault.{Fault}
-use Rattle.cq_steps.specs.Bound.{aggregates_in, bound_condition, literal_value, place_in}
-use Rattle.cq_steps.specs.Refusal.{first_fault, literal_place, name_place, number_place, where_places}
+use Rattle.cq_steps.specs.declared.typing.Typing.{Typing}
+use Rattle.cq_steps.specs.Bound.{aggregates_in, bound_condition, from_table, place_in, scope_of}
+use Rattle.cq_steps.specs.Refusal.{first_fault, where_place}
+use Rattle.cq_steps.specs.State.{TableOf}
+use Rattle.cq_steps.specs.Typing.{Scope, condition_fault, typed}
+use Rattle.cq_exprs.proofs.Narrow.{typed_is_narrow}
+use Rattle.cq_exprs.specs.Expressions.{KeepSizes}
+use Rattle.cq_engine.specs.Bound.{IsNarrowAt}
 use Rattle.cq_engine.specs.Views.{IsStored}
-use Rattle.cq_engine.proofs.Resolved.{eval-Column}
-
--- ---- How wide a column and a constant are
-width-Column : (i : ℕ) (z : ℕ → ℕ) → width (exprs.Column i) z ≡ width_step (node.Column i) z
-width-Column i z = ap (λ e. width e z) (sym (exprs.rolls-Column i)) ∙ ap (λ f. f z) (fold-roll-Expr ((ℕ → ℕ) → Extent) width_step (node.Column i))
-
-width-Number : (n : _) (z : ℕ → ℕ) → width (exprs.Literal (Number n)) z ≡ width_step (node.Literal (Number n)) z
-width-Number n z = ap (λ e. width e z) (sym (exprs.rolls-Literal (Number n))) ∙ ap (λ f. f z) (fold-roll-Expr ((ℕ → ℕ) → Extent) width_step (node.Literal (Number n)))
-
-widest-Compare : (c : Comparison) (a b : Expr) (z : ℕ → ℕ) → widest_in (Compare c a b) z ≡ max (widest z a) (widest z b)
-widest-Compare c a b z = ap (λ d. widest_in d z) (sym (rolls-Compare c a b)) ∙ ap (λ f. f z) (fold-roll-Cond ((ℕ → ℕ) → ℕ) widest_step (cond_node.Compare c a b))
-
-column_widest : (i : ℕ) (row : Row) → IsStored row → (extent (exprs.Column i) row).widest ≤ 2 ^ 63
-column_widest i row stored = rw (width-Column i (sizes_of row)) (omega (arith, stored i))
 
 -- ---- WHERE
--- a number that the walk lets pass has 127 bits
-narrow_literal : (l : Literal) → literal_place l ≡ None → value_size (Number (literal_value l)) < 2 ^ 127
-narrow_literal l free = by_test (nat_lt l.magnitude (2 ^ 127)) (λ k. signed l.is_negative refl k) (λ k. absurd (cc (rw k at free)))
+-- a condition that the walk lets pass is narrow wherever the columns keep their sizes
+narrow_condition : (s : Scope) (w : Written) (row : Row) → condition_fault (typed s w) ≡ None → KeepSizes s (sizes_of row) → IsNarrowAt (Some (bound_condition s.columns w)) row
+narrow_condition s w row free kept = by_typing (typed s w) refl
   where
-    signed : (b : Bool) → l.is_negative ≡ b → nat_lt l.magnitude (2 ^ 127) ≡ true → value_size (Number (literal_value l)) < 2 ^ 127
-    signed true e k = rw e (omega (arith, ints, ltb-true l.magnitude (2 ^ 127) k))
-    signed false e k = rw e (omega (arith, ints, ltb-true l.magnitude (2 ^ 127) k))
+    by_typing : (r : Result Typing Fault) → typed s w ≡ r → IsNarrowAt (Some (bound_condition s.columns w)) row
+    by_typing (Ok t) e = (typed_is_narrow s w t (sizes_of row) e kept).condition
+    by_typing (Err f) e = absurd (let both : Some f ≡ None = sym (ap condition_fault e) ∙ free in cc)
 
-narrow_condition : (columns : List ColumnDef) (c : Condition) (row : Row) → literal_place c.literal ≡ None → IsStored row → widest_at (bound_condition columns c) row < 2 ^ 127
-narrow_condition columns c row free stored =
-    let place = place_in columns c.column in
-    let n = literal_value c.literal in
-    let number : (width (exprs.Literal (Number n)) (sizes_of row)).widest < 2 ^ 127 = rw (width-Number n (sizes_of row)) (omega (arith, narrow_literal c.literal free)) in
-    rw (widest-Compare c.comparison (exprs.Column place) (exprs.Literal (Number n)) (sizes_of row)) (omega (arith, number, column_widest place row stored))
+pub narrow_where : (s : Scope) (c : Option Written) (row : Row) → where_place s c ≡ None → KeepSizes s (sizes_of row) → IsNarrowAt (option_map (bound_condition s.columns) c) row
+narrow_where s None row free kept = tt
+narrow_where s (Some w) row free kept = narrow_condition s w row free kept
+
+-- so it is at each of several rows
+pub narrow_rows : (s : Scope) (c : Option Written) (rows : List Row) → where_place s c ≡ None → AllByRecursion (λ row. KeepSizes s (sizes_of row)) rows → AllByRecursion (IsNarrowAt (option_map (bound_condition s.columns) c)) rows
+narrow_rows s c [] free kept = tt
+narrow_rows s c (row ∷ rows) free kept = (narrow_where s c row free kept.0, narrow_rows s c rows free kept.1)
+
+-- each column of a table has the size of a stored number
+size_there : (columns : List ColumnDef) (i : ℕ) → i < length columns → slice_index_or (stored_sizes columns) i 0 ≡ stored_size
+size_there [] i h = absurd (omega (arith, h))
+size_there (d ∷ columns) zero h = refl
+size_there (d ∷ columns) (suc i) h = size_there columns i (omega (arith, h))
+
+-- stored rows keep the sizes of their table's columns
+pub stored_keeps : (t : TableOf) (row : Row) → IsStored row → KeepSizes (scope_of (from_table t)) (sizes_of row)
+stored_keeps t row stored i h = omega (arith, stored i, size_there t.columns i h)
+
+pub stored_keep : (t : TableOf) (rows : List Row) → AllByRecursion IsStored rows → AllByRecursion (λ row. KeepSizes (scope_of (from_table t)) (sizes_of row)) rows
+stored_keep t [] stored = tt
+stored_keep t (row ∷ rows) stored = (stored_keeps t row stored.0, stored_keep t rows stored.1)
 
 -- where places have no fault, the second has none
 pub second_free : (o p : Option Fault) (places : List (Option Fault)) → first_fault (o ∷ p ∷ places) ≡ None → p ≡ None
@@ -65,9 +63,10 @@ second_free None None places e = refl
 second_free None (Some f) places e = absurd (cc)
 second_free (Some f) p places e = absurd (cc)
 
-pub narrow_where : (columns : List ColumnDef) (c : Option Condition) (row : Row) → first_fault (where_places columns c) ≡ None → IsStored row → IfSome (option_map (bound_condition columns) c) (λ d. widest_at d row < 2 ^ 127)
-narrow_where columns None row free stored = tt
-narrow_where columns (Some c) row free stored = narrow_condition columns c row (second_free (name_place columns c.column) (literal_place c.literal) (number_place columns c.column ∷ []) free) stored
+-- nor has the first
+pub first_free : (o : Option Fault) (places : List (Option Fault)) → first_fault (o ∷ places) ≡ None → o ≡ None
+first_free None places e = refl
+first_free (Some f) places e = absurd (cc)
 
 -- ---- What the items tell
 module _ (columns : List ColumnDef) where
@@ -81,11 +80,11 @@ module _ (columns : List ColumnDef) where
   narrow_items [] row stored = tt
   narrow_items (values.Column name ∷ items) row stored = narrow_items items row stored
   narrow_items (values.CountAll ∷ items) row stored = (tt, narrow_items items row stored)
-  narrow_items (values.Sum name ∷ items) row stored = (omega (arith, column_widest (place_in columns name) row stored), narrow_items items row stored)
+  narrow_items (values.Sum name ∷ items) row stored = (omega arith, narrow_items items row stored)
 
   -- a stored number is no larger than a number can be
   small_addend : (i : ℕ) (row : Row) → IsStored row → IfSome (counted_addend (eval (exprs.Column i) row)) (λ n. nat_abs n ≤ 2 ^ 127)
-  small_addend i row stored = rw (eval-Column i row) (of_value (column row i) (stored i))
+  small_addend i row stored = of_value (column row i) (stored i)
     where
       of_value : (v : Value) → value_size v ≤ 2 ^ 63 → IfSome (counted_addend v) (λ n. nat_abs n ≤ 2 ^ 127)
       of_value Null h = tt

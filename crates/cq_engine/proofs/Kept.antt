@@ -1,5 +1,5 @@
 -- Lists of views: what stays the same of them, what they are ready for, and how they follow a write.
-use Rattle.std.proofs.Common.{◌≡◌, ℕ, ◌<◌, ◌^◌, Bool, true, false, List, [], ◌∷◌, ◌++◌, map, length, Option, Some, None, refl, sym, ap, ◌∙◌, arith, subst}
+use Rattle.std.proofs.Common.{◌≡◌, ℕ, Bool, true, false, List, [], ◌∷◌, ◌++◌, map, Option, Some, None, refl, sym, ap, ◌∙◌, subst}
 use Rattle.std.specs.Prelude.{◌==◌}
 use Rattle.std.specs.List.{AllByRecursion}
 use Rattle.std.proofs.lemmas.Bool.{eqb-true}
@@ -7,18 +7,17 @@ use Rattle.cq_values.specs.Value.{Row}
 use Rattle.cq_bags.specs.Bag.{Weighted, SameBag, IsBag, once_each}
 use Rattle.cq_bags.proofs.Totals.{by_test}
 use Rattle.cq_deltas.specs.declared.change.Addition.{Addition}
-use Rattle.cq_deltas.specs.Table.{HasKeys, HoldsFor}
-use Rattle.cq_steps.specs.declared.fault.Fault.{Fault}
+use Rattle.cq_deltas.specs.Table.{HoldsFor}
 use Rattle.cq_steps.specs.declared.fault.Fault.TheVariants.{TableInUse, UnknownTable}
 use Rattle.cq_steps.specs.Refusal.{first_fault, fault_if, is_used, drop_table_places}
-use Rattle.cq_steps.specs.State.{TableOf, ViewOf, table_named, rows_in}
+use Rattle.cq_steps.specs.State.{TableOf, table_named, rows_in}
 use Rattle.cq_steps.specs.Step.{at_epoch}
 use Rattle.cq_views.specs.declared.view_def.ViewDef.{ViewDef}
 use Rattle.cq_views.specs.Laws.{SmallChangesHold}
 use Rattle.cq_views.specs.Small.{AreSmallFor, CanBeKept}
-use Rattle.cq_views.specs.View.{KeptView, Stands, change_of, query_of}
+use Rattle.cq_views.specs.View.{Stands, query_of}
 use Rattle.cq_engine.specs.Statements.{without_table}
-use Rattle.cq_engine.specs.Views.{NamedView, view_of, views_of, Fits, IsRight, AreRight, StandsOn, StandOn, IsSame, AreSame, IsReady, AreReady, CanTake, CanAllTake, GroupsGo, HasTaken, HaveTaken, Follows, Follow, Moved}
+use Rattle.cq_engine.specs.Views.{NamedView, view_of, views_of, Fits, IsRight, AreRight, StandsOn, StandOn, IsSame, AreSame, IsReady, AreReady, CanTake, CanAllTake, HasTaken, HaveTaken, Follows, Follow, Moved}
 use Rattle.cq_engine.proofs.Rows.{rows_left, unused}
 use Rattle.cq_engine.proofs.Steps.{AreAt}
 

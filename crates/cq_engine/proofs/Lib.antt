@@ -14,3 +14,4 @@ pub mod Named
 pub mod Readings
 pub mod Creating
 pub mod Written
+pub mod Leaving

@@ -9,15 +9,15 @@ use Rattle.std.proofs.lemmas.List.Folds.{find_at}
 use Rattle.std.proofs.Math.Numerals.{one-add}
 use Rattle.cq_values.specs.Value.{Row}
 use Rattle.cq_values.specs.Texts.{is_text}
-use Rattle.cq_model.specs.declared.statement.Condition.{Condition}
+use Rattle.cq_model.specs.Written.{Written}
 use Rattle.cq_model.specs.declared.statement.Constant.{Constant}
-use Rattle.cq_model.specs.declared.query.Source.TheVariants.{View}
 use Rattle.cq_steps.specs.declared.fault.Fault.{Fault}
 use Rattle.cq_steps.specs.declared.fault.Fault.TheVariants.{TableInUse, UnknownTable, ViewNotWritten}
 use Rattle.cq_steps.specs.Bound.{source_named}
 use Rattle.cq_steps.specs.Refusal.{first_fault, fault_if, is_used, delete_places, drop_table_places, insert_places, written_table}
 use Rattle.cq_steps.specs.State.{TableOf, ViewOf, table_named, view_named, view_place, holding}
-use Rattle.cq_engine.specs.Statements.{alone, from_table, and_rows, chosen_in, left_in, with_rows_in, without_table, DropsTable, Inserts, InsertsIn, Deletes, DeletesIn}
+use Rattle.cq_steps.specs.Bound.{from_table, from_view}
+use Rattle.cq_engine.specs.Statements.{alone, and_rows, chosen_in, left_in, with_rows_in, without_table, DropsTable, Inserts, InsertsIn, Deletes, DeletesIn}
 use Rattle.cq_binder.proofs.Faults.{refused_same}
 
 -- what is read at a place within the list
@@ -98,7 +98,7 @@ module _ (name text : List ℕ) (ts seen : List TableOf) (views : List ViewOf) (
   insert_walked max_rows rows u (Err f) w = refused_same (first_fault (insert_places max_rows rows (Ok t))) (first_fault (insert_places max_rows rows (written_table name (alone ts views)))) f (walks_written (insert_places max_rows rows)) w
 
   -- what a DELETE from it does to all of them
-  pub delete_walked : (condition : Option Condition) (u : TableOf) (result : Result ℕ Fault) → Deletes condition t u result → DeletesIn name condition views ts (set ts i u) result
+  pub delete_walked : (condition : Option Written) (u : TableOf) (result : Result ℕ Fault) → Deletes condition t u result → DeletesIn name condition views ts (set ts i u) result
   delete_walked condition u (Ok count) w = (
     walks_written (delete_places condition) ∙ w.0,
     (subst (λ (o : Option TableOf). IfSome o (λ x. count ≡ length (chosen_in condition x))) (sym named_there) w.1.0, rows_written (left_in condition) u w.1.1),
@@ -114,4 +114,4 @@ module _ (name text : List ℕ) (ts seen : List TableOf) (views : List ViewOf) (
 
   -- a query walks through the table
   pub source_there : source_named name (alone ts views) ≡ Some (from_table t)
-  source_there = ap (λ (o : Option TableOf). option_or (option_map from_table o) (option_map (λ v. record { columns = v.columns; source = View (unwrap_or (view_place name views) 0) }) (view_named name views))) named_there
+  source_there = ap (λ (o : Option TableOf). option_or (option_map from_table o) (option_map (λ v. from_view v (unwrap_or (view_place name views) 0)) (view_named name views))) named_there

@@ -1,7 +1,7 @@
 -- What SELECT reads: the rows of a table, or those that a view keeps, are the bag that its name in FROM stands for.
-use Rattle.std.proofs.Common.{◌≡◌, ℕ, zero, suc, ◌+◌, ◌≤◌, ◌<◌, Bool, true, false, List, [], ◌∷◌, length, get_or, Option, Some, None, refl, sym, ap, ◌∙◌, inl, inr, arith, subst, Result, Ok, Err}
-use Rattle.std.specs.Prelude.{◌⊎◌, if◌then◌else◌, IfSome, is_some, option_map, slice_get, unwrap_or}
-use Rattle.std.specs.List.{list_any}
+use Rattle.std.proofs.Common.{◌≡◌, ℕ, zero, suc, ◌+◌, ◌≤◌, ◌<◌, ◌^◌, Bool, true, false, List, [], ◌∷◌, ◌++◌, map, length, get_or, Option, Some, None, refl, sym, ap, ◌∙◌, inl, inr, arith, subst, Result, Ok, Err}
+use Rattle.std.specs.Prelude.{◌⊎◌, ◌==◌, if◌then◌else◌, IfSome, is_some, option_map, slice_get, slice_index_or, unwrap_or}
+use Rattle.std.specs.List.{AllByRecursion, list_any}
 use Rattle.std.specs.Option.{option_or}
 use Rattle.std.specs.Result.{MatchResult, is_ok}
 use Rattle.std.proofs.lemmas.List.{length-map}
@@ -16,22 +16,34 @@ use Rattle.cq_bags.proofs.Bags.{same-refl, same-sym}
 use Rattle.cq_bags.proofs.Canonicals.{same-bag_of}
 use Rattle.cq_bags.proofs.Totals.{by_test}
 use Rattle.cq_model.specs.declared.query.Query.{Query}
-use Rattle.cq_model.specs.declared.query.Source.TheVariants.{Table, View}
+use Rattle.cq_model.specs.declared.query.Source.TheVariants.{Table}
 use Rattle.cq_model.specs.declared.statement.ColumnDef.{ColumnDef}
 use Rattle.cq_model.specs.declared.statement.Select.{Select}
 use Rattle.cq_model.specs.declared.statement.Statement.{Statement}
 use Rattle.cq_model.specs.declared.statement.Statement.TheVariants as statements
 use Rattle.cq_model.specs.Meaning.{Tables, MeaningInRange, meaning}
+use Rattle.cq_model.specs.Sizes.{stored_sizes}
 use Rattle.cq_model.specs.Views.{tables_alone, view_bag, with_views, is_view, sources_of, ViewInRange, AnswerInRange}
 use Rattle.cq_steps.specs.declared.fault.Fault.{Fault}
 use Rattle.cq_steps.specs.declared.fault.Fault.TheVariants.{Memory, SumOutOfRange, UnknownTable}
-use Rattle.cq_steps.specs.Bound.{Named, bound_query, bound_select, source_named}
-use Rattle.cq_steps.specs.Refusal.{first_fault, refusal, select_places, MayRefuse}
+use Rattle.cq_steps.specs.Bound.{Named, bound_query, bound_select, from_table, from_view, scope_of, source_named}
+use Rattle.cq_steps.specs.Refusal.{first_fault, name_place, refusal, select_places, source_places, too_long, where_place, MayRefuse}
+use Rattle.cq_steps.specs.Typing.{Scope}
 use Rattle.cq_steps.specs.State.{TableOf, ViewOf, State, table_named, view_named, view_place, rows_in, tables_now, queries_of}
 use Rattle.cq_steps.specs.Step.{AreBetween, Refuses, by_walk, for_memory, too_large, reach}
+use Rattle.cq_deltas.specs.Additions.{AreTotals}
+use Rattle.cq_exprs.specs.Expressions.{KeepSizes}
+use Rattle.cq_laws.specs.Sizes.{CountsOrAdds, IsSized, RowsKeepSizes}
+use Rattle.cq_model.specs.Expr.{Cond}
+use Rattle.cq_model.specs.Width.{sizes_of}
+use Rattle.cq_model.specs.declared.query.Aggregate.{Aggregate}
+use Rattle.cq_model.specs.declared.query.Aggregate.TheVariants.{CountAll, Count, Sum, Min, Max}
+use Rattle.cq_engine.specs.declared.selection.Selection.{Selection}
+use Rattle.cq_engine.specs.Bound.{IsBound, IsNarrowAt}
+use Rattle.cq_engine.proofs.Fitting.{first_free, narrow_rows}
 use Rattle.cq_views.specs.View.{StandsFor, query_of}
-use Rattle.cq_engine.specs.Statements.{IsAnswer, IsResult, Selects, SelectsFrom, SelectsKept, present, alone, from_table}
-use Rattle.cq_engine.specs.Views.{NamedView, IsRight, AreRight, view_of, views_of}
+use Rattle.cq_engine.specs.Statements.{IsAnswer, IsResult, Selects, SelectsFrom, SelectsKept, present, alone, view_scope}
+use Rattle.cq_engine.specs.Views.{NamedView, AreFew, AreStored, IsBacked, IsRight, IsStored, AreRight, view_of, views_of}
 use Rattle.cq_engine.proofs.Changes.{once_each-bag}
 use Rattle.cq_engine.proofs.Places.{found_there, same_presence}
 use Rattle.cq_engine.proofs.Results.{listing_named}
@@ -50,14 +62,57 @@ absent (Some x) none = absurd cc
 -- the result from stored rows is that from the one list of their bag
 pub result_stored : (q : Select) (columns : List ColumnDef) (stored rows list : List Row) → bag_of stored ≡ rows → IsResult q columns stored list → IsResult q columns rows list
 result_stored q columns stored rows list is l =
-    listing_named columns q (Table 0) (λ source. once_each rows) stored list
+    listing_named columns q [] [] (Table 0) (λ source. once_each rows) stored list
     (subst (λ (rs : List Row). SameBag (once_each stored) (once_each rs)) is (same-sym (once_each (bag_of stored)) (once_each stored) (same-bag_of stored))) l
+
+-- the walk over a source is that over what is named
+pub in_source : (q : Select) (b : Selection) (s u : Scope) → s ≡ u → (first_fault (source_places q s) ≡ None) × IsBound s.columns q b → (first_fault (source_places q u) ≡ None) × IsBound u.columns q b
+in_source q b s u same bound = subst (λ (x : Scope). (first_fault (source_places q x) ≡ None) × IsBound x.columns q b) same bound
+
+-- a query that was bound is narrow at rows that keep the sizes of its source
+pub narrow_for : (q : Select) (b : Selection) (s : Scope) (rows : List Row) → (first_fault (source_places q s) ≡ None) × IsBound s.columns q b
+    → AllByRecursion (λ row. KeepSizes s (sizes_of row)) rows → AllByRecursion (IsNarrowAt b.condition) rows
+narrow_for q b s rows bound kept =
+    let free = first_free (where_place s q.condition) (map (name_place s.columns) q.columns ++ too_long (length q.columns) ∷ []) bound.0 in
+    subst (λ (o : Option Cond). AllByRecursion (IsNarrowAt o) rows) (sym bound.1.condition) (narrow_rows s q.condition rows free kept)
+
+-- counts and totals are all that a view tells
+counts_or_adds : (aggregates : List Aggregate) → AreTotals aggregates → AllByRecursion CountsOrAdds aggregates
+counts_or_adds [] h = tt
+counts_or_adds (CountAll ∷ aggregates) h = (tt, counts_or_adds aggregates h.1)
+counts_or_adds (Count e ∷ aggregates) h = (tt, counts_or_adds aggregates h.1)
+counts_or_adds (Sum e ∷ aggregates) h = (tt, counts_or_adds aggregates h.1)
+counts_or_adds (Min e ∷ aggregates) h = absurd h.0
+counts_or_adds (Max e ∷ aggregates) h = absurd h.0
+
+-- rows that are sized keep the sizes of a source
+sized_keep : (s : Scope) (rows : List Row) → AllByRecursion (IsSized (λ i. slice_index_or s.sizes i 0)) rows → AllByRecursion (λ row. KeepSizes s (sizes_of row)) rows
+sized_keep s [] sized = tt
+sized_keep s (row ∷ rows) sized = ((λ i h. sized.0 i), sized_keep s rows sized.1)
+
+-- the rows that a view tells keep the sizes of its columns
+pub told_keep : (v : NamedView) (rows : List Row) → IsBacked v → RowsKeepSizes
+    → ((tables : Tables) → StandsFor v.kept tables → SameBag (once_each rows) (meaning (query_of v.kept.def) tables))
+    → ((tables : Tables) → StandsFor v.kept tables → MeaningInRange (query_of v.kept.def) tables) → AllByRecursion (λ row. KeepSizes (view_scope v) (sizes_of row)) rows
+told_keep v rows backed law bag range =
+    let tables : Tables = λ source. once_each backed.rows in
+    let stands : StandsFor v.kept tables = record { bag = once_each-bag backed.rows; stands = backed.stands } in
+    sized_keep (view_scope v) rows
+    (law (query_of v.kept.def) v.kept.def.keys v.kept.def.aggregates v.kept.def.items tables backed.rows rows refl refl refl refl refl
+    (counts_or_adds v.kept.def.aggregates backed.totals) backed.stored backed.few (range tables stands) (bag tables stands))
 
 -- what all have, the one at a place has
 right_there : (tables : List TableOf) (now : ℕ) (views : List NamedView) (place : ℕ) (v : NamedView) → AreRight tables now views → slice_get views place ≡ Some v → IsRight tables now v
 right_there tables now [] place v right at = absurd cc
 right_there tables now (w ∷ ws) zero v right at = let same : w ≡ v = cc in subst (IsRight tables now) same right.0
 right_there tables now (w ∷ ws) (suc place) v right at = right_there tables now ws place v right.1 at
+
+-- what the rows of all tables have, those of a number have
+rows_have : (P : List Row → Type 0) → P [] → (tables : List TableOf) (n : ℕ) → AllByRecursion (λ t. P t.rows) tables → P (rows_in tables n)
+rows_have P none [] n all = none
+rows_have P none (t ∷ tables) n all = by_test (t.number == n)
+    (λ k. rw k all.0)
+    (λ k. rw k (rows_have P none tables n all.1))
 
 -- ---- SELECT from these tables and views
 module _ (q : Select) (tables : List TableOf) (views : List NamedView) where
@@ -76,20 +131,20 @@ module _ (q : Select) (tables : List TableOf) (views : List NamedView) where
   IsRefused f o = MayRefuse (first_fault (select_places q o)) f ⊎ ((f ≡ SumOutOfRange) × (first_fault (select_places q o) ≡ None) × IfSome o (λ source. AnswerInRange (tables_now here) (queries_of here) (bound_query q source) → ⊥))
 
   -- from a table, whose rows are those of its number
-  pub from_rows : (t : TableOf) (result : Result (List Row) Fault) → source_named q.table here ≡ Some (from_table t) → rows_in tables t.number ≡ t.rows → Selects q t.columns t.rows result → SelectsFrom q here result
+  pub from_rows : (t : TableOf) (result : Result (List Row) Fault) → source_named q.table here ≡ Some (from_table t) → rows_in tables t.number ≡ t.rows → Selects q (scope_of (from_table t)) t.rows result → SelectsFrom q here result
   from_rows t (Ok list) found own w = subst (IsAnswered list) (sym found) (w.0, answer)
     where
       same : SameBag (once_each t.rows) (once_each (rows_in tables t.number))
       same = subst (λ (rows : List Row). SameBag (once_each t.rows) (once_each rows)) (sym own) (same-refl (once_each t.rows))
 
       answer : IsAnswer here q (from_table t) list
-      answer = record { listed = listing_named t.columns q (Table t.number) all_sources t.rows list same w.1; in_range = record { own = tt; named = (tt, tt) } }
+      answer = record { listed = listing_named t.columns q t.name (stored_sizes t.columns) (Table t.number) all_sources t.rows list same w.1; in_range = record { own = tt; named = (tt, tt) } }
   from_rows t (Err f) found own m = subst (IsRefused f) (sym found) (inl m)
 
   -- where no table has the name, a view may have it
   module _ (no_table : is_some (table_named q.table tables) ≡ false) where
     abbrev named_view : Option ViewOf → Option ℕ → Option Named
-    named_view o place = option_map (λ v. record { columns = v.columns; source = View (unwrap_or place 0) }) o
+    named_view o place = option_map (λ v. from_view v (unwrap_or place 0)) o
 
     view_or_none : source_named q.table here ≡ named_view (view_named q.table (views_of views)) (view_place q.table (views_of views))
     view_or_none = ap (λ (o : Option TableOf). option_or (option_map from_table o) (named_view (view_named q.table (views_of views)) (view_place q.table (views_of views)))) (absent (table_named q.table tables) no_table)
@@ -115,15 +170,28 @@ module _ (q : Select) (tables : List TableOf) (views : List NamedView) where
       view_at : slice_get (views_of views) place ≡ Some (view_of v)
       view_at = slice_get-map view_of views place ∙ ap (option_map view_of) at_place
 
-      abbrev from_view : Named
-      from_view = record { columns = v.columns; source = View place }
+      abbrev this_view : Named
+      this_view = from_view (view_of v) place
 
       -- the name stands for it
-      found : source_named q.table here ≡ Some from_view
+      found : source_named q.table here ≡ Some this_view
       found = view_or_none ∙ (λ i. named_view (its_name i) (is_place i))
         where
           its_name : view_named q.table (views_of views) ≡ Some (view_of v)
           its_name = sym (subst (λ (o : Option ℕ). IfSome o (λ i. slice_get (views_of views) i ≡ view_named q.table (views_of views))) is_place (found_there (λ w. is_text w.name q.table) (views_of views))) ∙ view_at
+
+      -- it is backed by the rows of its table
+      pub backed : AreStored tables → AreFew tables → IsBacked v
+      backed stored few =
+          let r = right_there tables now views place v right at_place in
+          let n = v.kept.def.table in
+          record {
+            totals = r.fits.can_be_kept.totals;
+            rows = rows_in tables n;
+            stored = rows_have (λ rs. AllByRecursion IsStored rs) tt tables n stored;
+            few = omega (arith, rows_have (λ rs. length rs < 2 ^ 64) (omega arith) tables n few);
+            stands = r.stands;
+          }
 
       -- its place has its query
       query_there : queries_of here place ≡ Some (query_of v.kept.def)
@@ -139,12 +207,12 @@ module _ (q : Select) (tables : List TableOf) (views : List NamedView) where
       pub from_kept : (result : Result (List Row) Fault) → SelectsKept q v result → SelectsFrom q here result
       from_kept (Ok list) w = subst (IsAnswered list) (sym found) (w.0, answer)
         where
-          told : IsListing [] None (meaning (bound_query q from_view) (λ source. meaning (query_of v.kept.def) bases)) list × MeaningInRange (query_of v.kept.def) bases
+          told : IsListing [] None (meaning (bound_query q this_view) (λ source. meaning (query_of v.kept.def) bases)) list × MeaningInRange (query_of v.kept.def) bases
           told = w.1 bases stands_for
 
-          answer : IsAnswer here q from_view list
+          answer : IsAnswer here q this_view list
           answer = record {
-            listed = subst (λ (o : Option Query). IsListing [] None (meaning (bound_query q from_view) (λ source. view_bag (tables_now here) o)) list) (sym query_there) told.0;
+            listed = subst (λ (o : Option Query). IsListing [] None (meaning (bound_query q this_view) (λ source. view_bag (tables_now here) o)) list) (sym query_there) told.0;
             in_range = record { own = tt; named = (subst (λ (o : Option Query). ViewInRange (tables_now here) o) (sym query_there) told.1, tt) };
           }
       from_kept (Err f) (inl m) = subst (IsRefused f) (sym found) (inl m)

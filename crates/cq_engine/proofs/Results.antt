@@ -17,9 +17,9 @@ use Rattle.cq_model.specs.Meaning.{Tables, keeps, items_of, meaning}
 use Rattle.cq_steps.specs.Bound.{bound_condition, named_column, bound_query}
 use Rattle.cq_steps.specs.State.{TableOf, empty_table, holding}
 use Rattle.cq_engine.specs.declared.selection.Selection.{Selection}
-use Rattle.cq_engine.specs.Bound.{keeps_at, values_at, IsBound}
+use Rattle.cq_engine.specs.Bound.{values_at, IsBound}
 use Rattle.cq_engine.specs.Statements.{IsResult}
-use Rattle.cq_engine.proofs.Resolved.{keeps_same, values_same}
+use Rattle.cq_engine.proofs.Resolved.{values_same}
 
 -- no rows are the empty bag
 pub bag_of_none : bag_of [] ≡ []
@@ -97,25 +97,25 @@ module _ (columns : List ColumnDef) (q : Select) where
   select = items_of (map (named_column columns) q.columns)
 
   -- the sorted results of a bound query are its listing
-  pub listing_bound : (s : Selection) (rows list : List Row) → IsBound columns q s → Lists [] (once_each (map (values_at s.places.items) (filter (keeps_at s.condition) rows))) list → IsResult q columns rows list
+  pub listing_bound : (s : Selection) (rows list : List Row) → IsBound columns q s → Lists [] (once_each (map (values_at s.places.items) (filter (keeps s.condition) rows))) list → IsResult q columns rows list
   listing_bound s rows list b listed = (list, subst (λ (xs : Weighted). Lists [] xs list) means listed, refl)
     where
-      kept : (row : Row) → keeps_at s.condition row ≡ keep row
-      kept row = ap (λ c. keeps_at c row) b.condition ∙ keeps_same columns q.condition row
+      kept : (row : Row) → keeps s.condition row ≡ keep row
+      kept row = ap (λ c. keeps c row) b.condition
 
       valued : (row : Row) → values_at s.places.items row ≡ select row
       valued row = ap (λ ps. values_at ps row) b.places ∙ values_same columns q.columns row
 
-      by_items : map (values_at s.places.items) (filter (keeps_at s.condition) rows) ≡ map select (filter keep rows)
+      by_items : map (values_at s.places.items) (filter (keeps s.condition) rows) ≡ map select (filter keep rows)
       by_items = λ i. map (λ row. valued row i) (filter (λ row. kept row i) rows)
 
-      means : once_each (map (values_at s.places.items) (filter (keeps_at s.condition) rows)) ≡ projected select (filtered keep (once_each rows))
+      means : once_each (map (values_at s.places.items) (filter (keeps s.condition) rows)) ≡ projected select (filtered keep (once_each rows))
       means = ap once_each by_items ∙ once_each-map select (filter keep rows) ∙ ap (projected select) (once_each-filter keep rows)
 
   -- rows that a source names in any order have the listing of the query on it
-  pub listing_named : (source : Source) (tables : Tables) (rows list : List Row) → SameBag (once_each rows) (tables source) → IsResult q columns rows list
-      → IsListing [] None (meaning (bound_query q (record { columns = columns; source = source })) tables) list
-  listing_named source tables rows list same l = (
+  pub listing_named : (known : List ℕ) (sizes : List ℕ) (source : Source) (tables : Tables) (rows list : List Row) → SameBag (once_each rows) (tables source) → IsResult q columns rows list
+      → IsListing [] None (meaning (bound_query q (record { known = known; columns = columns; sizes = sizes; source = source })) tables) list
+  listing_named known sizes source tables rows list same l = (
     l.0,
     record { same = same-trans (once_each l.0) (shown (once_each rows)) (shown (tables source)) l.1.same (projected-respects select (filtered keep (once_each rows)) (filtered keep (tables source)) (filtered-respects keep (once_each rows) (tables source) same)); in_order = l.1.in_order },
     l.2,

@@ -1,17 +1,15 @@
 -- The rows of tables by their numbers, where one table is written, made or taken away.
-use Rattle.std.proofs.Common.{◌≡◌, ℕ, zero, suc, ◌+◌, ◌<◌, Bool, true, false, List, [], ◌∷◌, ◌++◌, length, get_or, set, Some, refl, sym, ap, ◌∙◌, arith, subst}
+use Rattle.std.proofs.Common.{◌≡◌, ℕ, zero, suc, ◌<◌, Bool, true, false, List, [], ◌∷◌, ◌++◌, length, get_or, set, Some, refl, sym, ap, ◌∙◌, arith, subst}
 use Rattle.std.specs.Prelude.{◌==◌, ◌||◌}
-use Rattle.std.specs.List.{AllByRecursion, list_any}
+use Rattle.std.specs.List.{AllByRecursion}
 use Rattle.std.proofs.lemmas.Bool.{eq-eqb, eqb-false, ne_eqb}
 use Rattle.cq_values.specs.Texts.{is_text}
 use Rattle.cq_values.specs.Value.{Row}
 use Rattle.cq_bags.proofs.Totals.{by_test}
-use Rattle.cq_model.specs.Views.{is_table, sources_of}
 use Rattle.cq_steps.specs.Refusal.{is_used}
 use Rattle.cq_steps.specs.State.{TableOf, table_named, rows_in, AreNumbered}
 use Rattle.cq_engine.specs.Statements.{without_table}
 use Rattle.cq_engine.specs.Views.{NamedView, views_of, IsStored, AreStored}
-use Rattle.cq_engine.proofs.Numbers.{found_above}
 
 -- a table that is read at a place behind others is above them
 above_at : (n : ℕ) (ts : List TableOf) (i : ℕ) (d : TableOf) → AllByRecursion (λ u. n < u.number) ts → i < length ts → n < (get_or ts i d).number

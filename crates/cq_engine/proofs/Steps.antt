@@ -1,5 +1,5 @@
 -- What the engine does with its tables and views is the step of the statement.
-use Rattle.std.proofs.Common.{◌≡◌, ℕ, ◌+◌, ◌≤◌, not, List, [], ◌∷◌, ◌++◌, map, length, Option, Some, None, refl, sym, ap, ◌∙◌, arith, subst}
+use Rattle.std.proofs.Common.{◌≡◌, ℕ, ◌+◌, ◌≤◌, not, List, [], ◌∷◌, ◌++◌, map, length, Option, Some, None, refl, sym, ap, ◌∙◌, arith}
 use Rattle.std.specs.Prelude.{◌==◌, Bool, IfSome, Result, Err, filter, is_some, ok_or, option_map, if◌then◌else◌}
 use Rattle.std.specs.List.{AllByRecursion, list_any, remove}
 use Rattle.std.proofs.lemmas.List.{length-map}
@@ -11,7 +11,7 @@ use Rattle.cq_bags.proofs.Totals.{by_test}
 use Rattle.cq_model.specs.declared.bound.Bound.{Bound}
 use Rattle.cq_model.specs.declared.bound.Bound.TheVariants as commands
 use Rattle.cq_model.specs.declared.statement.ColumnDef.{ColumnDef}
-use Rattle.cq_model.specs.declared.statement.Condition.{Condition}
+use Rattle.cq_model.specs.Written.{Written}
 use Rattle.cq_model.specs.declared.statement.Constant.{Constant}
 use Rattle.cq_model.specs.declared.statement.Select.{Select}
 use Rattle.cq_model.specs.declared.statement.Statement.{Statement}
@@ -166,7 +166,7 @@ module _ (tables : List TableOf) (views : List ViewOf) (now drawn max_rows : ℕ
         (with_rows_in-number name (and_rows rows) tables drawn t numbered found ∙ ap (λ (rs : List Row). with_rows t.number (rs ++ map row_of rows) tables) (sym its_rows))
 
     -- DELETE from a table that is there
-    delete_does_at : (condition : Option Condition) → refusal old (statements.Delete name condition) ≡ None
+    delete_does_at : (condition : Option Written) → refusal old (statements.Delete name condition) ≡ None
         → DoesAtOnce old (statements.Delete name condition) (Count (length (chosen_in condition t))) (present (with_rows_in name (left_in condition) tables) (map (at_epoch (now + 1)) views) (now + 1) (drawn + 1) max_rows)
     delete_does_at condition free =
         write_does t.number (left_by (where_on t condition) (rows_in tables t.number)) (statements.Delete name condition) (commands.Delete t.number (where_on t condition)) (Count (length (chosen_in condition t)))
@@ -226,7 +226,7 @@ module _ (tables : List TableOf) (views : List ViewOf) (now drawn max_rows : ℕ
         insert_for None found = absurd (no_table name (insert_places max_rows rows) (λ f. refl) found free)
 
     -- DELETE
-    pub delete_does : (name : List ℕ) (condition : Option Condition) (new : List TableOf) (others : List ViewOf) (count : ℕ) → first_fault (delete_places condition (written_table name (alone tables views))) ≡ None
+    pub delete_does : (name : List ℕ) (condition : Option Written) (new : List TableOf) (others : List ViewOf) (count : ℕ) → first_fault (delete_places condition (written_table name (alone tables views))) ≡ None
         → IfSome (table_named name tables) (λ t. count ≡ length (chosen_in condition t)) → new ≡ with_rows_in name (left_in condition) tables
         → others ≡ map (at_epoch (now + 1)) views → DoesAtOnce old (statements.Delete name condition) (Count count) (present new others (now + 1) (drawn + 1) max_rows)
     delete_does name condition new others count free counted is moved = rw (is, moved) (delete_for (table_named name tables) refl)

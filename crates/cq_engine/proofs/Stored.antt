@@ -1,5 +1,5 @@
 -- Rows that tables can hold: each number has 64 bits.
-use Rattle.std.proofs.Common.{◌≡◌, ◌≤◌, ℕ, ℤ, zero, suc, ◌+◌, ◌^◌, Bool, true, false, not, List, [], ◌∷◌, ◌++◌, map, length, Option, Some, None, refl, sym, ap, ◌∙◌, arith, subst, Ordering}
+use Rattle.std.proofs.Common.{◌≡◌, ◌≤◌, ◌<◌, get_or, ℕ, ℤ, zero, suc, ◌^◌, Bool, true, false, List, [], ◌∷◌, ◌++◌, map, length, Option, Some, None, refl, sym, ap, ◌∙◌, arith, subst, Ordering}
 use Rattle.std.specs.Prelude.{◌==◌, filter}
 use Rattle.std.specs.Option.{option_or}
 use Rattle.std.specs.List.{AllByRecursion, flat_map}
@@ -10,7 +10,7 @@ use Rattle.cq_values.specs.declared.ty.Ty.TheVariants as types
 use Rattle.cq_values.specs.declared.value.Value.TheVariants.{Day, Null, Number}
 use Rattle.cq_values.specs.Dates.{day_named}
 use Rattle.cq_values.specs.Order.{row_cmp}
-use Rattle.cq_values.specs.Value.{Row, column}
+use Rattle.cq_values.specs.Value.{Row}
 use Rattle.cq_bags.specs.Canonical.{bag_of, with_row, sorted_by}
 use Rattle.cq_bags.proofs.Totals.{by_test}
 use Rattle.cq_model.specs.declared.statement.ColumnDef.{ColumnDef}
@@ -64,6 +64,12 @@ module _ (P : Row → Type 0) where
   pub all_of_rows : (rows : List Row) → AllByRecursion P (bag_of rows) → AllByRecursion P rows
   unfolding bag_of
   all_of_rows rows a = unsorted row_cmp rows a
+
+  -- and what holds of each holds of the one at a place
+  pub all_at : (rows : List Row) → AllByRecursion P rows → (i : ℕ) (r : Row) → i < length rows → r ≡ get_or rows i r → P r
+  all_at [] a i r h is = absurd (omega (arith, h))
+  all_at (s ∷ rows) a zero r h is = subst P (sym is) a.0
+  all_at (s ∷ rows) a (suc i) r h is = all_at rows a.1 i r (omega (arith, h)) is
 
 -- ---- The rows of an INSERT
 -- a number that fits a column has 64 bits

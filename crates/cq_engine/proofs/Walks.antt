@@ -1,5 +1,5 @@
 -- How the stretches of a statement's walk make up the whole.
-use Rattle.std.proofs.Common.{◌≡◌, ℕ, ◌+◌, Bool, false, List, [], ◌∷◌, ◌++◌, map, length, Option, Some, None, ap, ◌∙◌, Ok}
+use Rattle.std.proofs.Common.{◌≡◌, ℕ, ◌+◌, Bool, false, List, [], ◌∷◌, ◌++◌, map, length, Option, None, ap, ◌∙◌, Ok}
 use Rattle.std.specs.Prelude.{nat_lt}
 use Rattle.std.specs.List.{flat_map}
 use Rattle.cq_model.specs.declared.statement.ColumnDef.{ColumnDef}
@@ -7,8 +7,8 @@ use Rattle.cq_model.specs.declared.statement.Constant.{Constant}
 use Rattle.cq_model.specs.declared.statement.Select.{Select}
 use Rattle.cq_steps.specs.declared.fault.Fault.{Fault}
 use Rattle.cq_steps.specs.declared.fault.Fault.TheVariants.{NameTaken, TableFull}
-use Rattle.cq_steps.specs.Bound.{Named}
-use Rattle.cq_steps.specs.Refusal.{first_fault, fault_if, too_long, column_places, create_places, row_places, insert_places, name_place, sort_places, where_places, select_places, MayRefuse}
+use Rattle.cq_steps.specs.Typing.{Scope}
+use Rattle.cq_steps.specs.Refusal.{first_fault, fault_if, too_long, column_places, create_places, row_places, insert_places, name_place, sort_places, where_place, source_places, MayRefuse}
 use Rattle.cq_steps.specs.State.{TableOf, ViewOf, is_taken}
 use Rattle.cq_engine.specs.Statements.{alone}
 use Rattle.cq_binder.proofs.Faults.{first_fault_append, none_append, or_next, refused_back, refused_front, refused_same}
@@ -68,9 +68,9 @@ module _ (max_rows : ℕ) (rows : List (List Constant)) (t : TableOf) where
   insert_passes made fits = none_append row_walk (room ∷ []) made fits
 
 -- ---- SELECT: WHERE decides, then the items, and then their number
-module _ (q : Select) (source : Named) where
+module _ (q : Select) (source : Scope) where
   abbrev where_walk : List (Option Fault)
-  where_walk = where_places source.columns q.condition
+  where_walk = where_place source q.condition ∷ []
 
   abbrev item_walk : List (Option Fault)
   item_walk = map (name_place source.columns) q.columns
@@ -79,13 +79,13 @@ module _ (q : Select) (source : Named) where
   number = too_long (length q.columns)
 
   -- an item refuses
-  pub items_refused : (f : Fault) → first_fault where_walk ≡ None → MayRefuse (first_fault item_walk) f → MayRefuse (first_fault (select_places q (Some source))) f
+  pub items_refused : (f : Fault) → first_fault where_walk ≡ None → MayRefuse (first_fault item_walk) f → MayRefuse (first_fault (source_places q source)) f
   items_refused f kept m = refused_front (where_walk ++ item_walk) (number ∷ []) f (refused_back where_walk item_walk f kept m)
 
   -- there are too many items
-  pub number_refused : (f : Fault) → first_fault where_walk ≡ None → first_fault item_walk ≡ None → MayRefuse (first_fault (number ∷ [])) f → MayRefuse (first_fault (select_places q (Some source))) f
+  pub number_refused : (f : Fault) → first_fault where_walk ≡ None → first_fault item_walk ≡ None → MayRefuse (first_fault (number ∷ [])) f → MayRefuse (first_fault (source_places q source)) f
   number_refused f kept named m = refused_back (where_walk ++ item_walk) (number ∷ []) f (none_append where_walk item_walk kept named) m
 
   -- no place refuses
-  pub select_passes : first_fault where_walk ≡ None → first_fault item_walk ≡ None → first_fault (number ∷ []) ≡ None → first_fault (select_places q (Some source)) ≡ None
+  pub select_passes : first_fault where_walk ≡ None → first_fault item_walk ≡ None → first_fault (number ∷ []) ≡ None → first_fault (source_places q source) ≡ None
   select_passes kept named short = none_append (where_walk ++ item_walk) (number ∷ []) (none_append where_walk item_walk kept named) short

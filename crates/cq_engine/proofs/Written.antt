@@ -10,7 +10,7 @@ use Rattle.cq_bags.specs.Canonical.{bag_of}
 use Rattle.cq_bags.proofs.Canonicals.{length-bag_of}
 use Rattle.cq_bags.proofs.Totals.{by_test}
 use Rattle.cq_deltas.specs.declared.change.Addition.{Addition}
-use Rattle.cq_model.specs.declared.statement.Condition.{Condition}
+use Rattle.cq_model.specs.Written.{Written}
 use Rattle.cq_model.specs.declared.statement.Constant.{Constant}
 use Rattle.cq_model.specs.declared.statement.Statement.{Statement}
 use Rattle.cq_steps.specs.declared.fault.Fault.{Fault}
@@ -119,7 +119,7 @@ module _ (now next : ℕ) (tables : List TableOf) (i : ℕ) (t : TableOf) (vs : 
   inserted-moved epoch u ws max_rows rows (Ok x) w f = moved_at epoch u ws (ap (λ (y : TableOf). y.number) w.1) f
   inserted-moved epoch u ws max_rows rows (Err e) w f = tt
 
-  pub deleted-moved : (epoch : ℕ) (u : TableOf) (ws : List NamedView) (condition : Option Condition) (result : Result ℕ Fault) → Deletes condition t u result → OnOk result (Follow epoch u vs ws) → OnOk result (Moved epoch (set tables i u) vs ws)
+  pub deleted-moved : (epoch : ℕ) (u : TableOf) (ws : List NamedView) (condition : Option Written) (result : Result ℕ Fault) → Deletes condition t u result → OnOk result (Follow epoch u vs ws) → OnOk result (Moved epoch (set tables i u) vs ws)
   deleted-moved epoch u ws condition (Ok x) w f = moved_at epoch u ws (ap (λ (y : TableOf). y.number) w.1.1) f
   deleted-moved epoch u ws condition (Err e) w f = tt
 

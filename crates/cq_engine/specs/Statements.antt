@@ -1,5 +1,5 @@
 -- What each statement does with tables and views, or else is refused.
-use Rattle.std.specs.Prelude.{◌≡◌, ◌⊎◌, ℕ, if◌then◌else◌, List, [], ◌∷◌, ◌++◌, map, length, option_map, Option, Some, None, Result, Ok, Err, IfSome}
+use Rattle.std.specs.Prelude.{◌≡◌, ◌⊎◌, ℕ, if◌then◌else◌, List, [], ◌∷◌, ◌++◌, map, length, option_map, Option, None, Result, Ok, Err, IfSome}
 use Rattle.std.specs.List.{remove}
 use Rattle.cq_values.specs.Texts.{is_text}
 use Rattle.cq_values.specs.Value.{Row}
@@ -7,22 +7,23 @@ use Rattle.cq_bags.specs.Bag.{once_each}
 use Rattle.cq_bags.specs.Listing.{IsListing}
 use Rattle.cq_deltas.specs.declared.fault.ToldFault.{ToldFault}
 use Rattle.cq_deltas.specs.declared.fault.ToldFault.TheVariants as told
-use Rattle.cq_model.specs.declared.expr.Cond.{Cond}
+use Rattle.cq_model.specs.Expr.{Cond}
 use Rattle.cq_model.specs.declared.query.Source.TheVariants.{Table}
 use Rattle.cq_model.specs.declared.statement.ColumnDef.{ColumnDef}
-use Rattle.cq_model.specs.declared.statement.Condition.{Condition}
 use Rattle.cq_model.specs.declared.statement.Constant.{Constant}
 use Rattle.cq_model.specs.declared.statement.Select.{Select}
 use Rattle.cq_model.specs.declared.statement.ViewSelect.{ViewSelect}
 use Rattle.cq_model.specs.Meaning.{Tables, MeaningInRange, meaning}
 use Rattle.cq_model.specs.Views.{with_views, AnswerInRange}
 use Rattle.cq_model.specs.Write.{chosen, left_by}
+use Rattle.cq_model.specs.Written.{Written}
 use Rattle.cq_steps.specs.declared.fault.Fault.{Fault}
 use Rattle.cq_steps.specs.declared.fault.Fault.TheVariants.{Memory, SumOutOfRange}
-use Rattle.cq_steps.specs.Bound.{Named, row_of, bound_condition, bound_query, grouped_query, place_in, source_named, view_columns}
-use Rattle.cq_steps.specs.Refusal.{create_places, create_view_places, delete_places, drop_table_places, drop_view_places, first_fault, insert_places, select_places, written_table, MayRefuse}
+use Rattle.cq_steps.specs.Bound.{Named, row_of, bound_condition, bound_query, from_view, grouped_query, place_in, scope_of, source_named, view_columns}
+use Rattle.cq_steps.specs.Refusal.{create_places, create_view_places, delete_places, drop_table_places, drop_view_places, first_fault, insert_places, select_places, source_places, written_table, MayRefuse}
 use Rattle.cq_steps.specs.State.{TableOf, ViewOf, State, table_named, view_place, empty_table, holding, tables_now, queries_of}
 use Rattle.cq_steps.specs.Step.{new_view}
+use Rattle.cq_steps.specs.Typing.{Scope}
 use Rattle.cq_views.specs.View.{Stands, StandsFor, query_of}
 use Rattle.cq_engine.specs.Views.{NamedView, Fits, view_of}
 use Rattle.cq_binder.specs.Walk.{Walked}
@@ -43,12 +44,8 @@ present tables views now drawn max_rows = record {
 abbrev pub alone : List TableOf → List ViewOf → State
 alone tables views = present tables views 0 0 0
 
--- a table as FROM names it
-abbrev pub from_table : TableOf → Named
-from_table t = record { columns = t.columns; source = Table t.number }
-
 -- WHERE on a table
-abbrev pub where_on : TableOf → Option Condition → Option Cond
+abbrev pub where_on : TableOf → Option Written → Option Cond
 where_on t condition = option_map (bound_condition t.columns) condition
 
 -- the rows of a table with these behind them
@@ -56,11 +53,11 @@ abbrev pub and_rows : List (List Constant) → TableOf → List Row
 and_rows rows t = t.rows ++ map row_of rows
 
 -- the rows of a table that WHERE keeps
-abbrev pub chosen_in : Option Condition → TableOf → List Row
+abbrev pub chosen_in : Option Written → TableOf → List Row
 chosen_in condition t = chosen (where_on t condition) t.rows
 
 -- the rows of a table that a DELETE leaves
-abbrev pub left_in : Option Condition → TableOf → List Row
+abbrev pub left_in : Option Written → TableOf → List Row
 left_in condition t = left_by (where_on t condition) t.rows
 
 -- the tables with these rows in the first one of a name; it is the one of its number (proofs/Numbers.antt)
@@ -101,27 +98,27 @@ abbrev pub InsertsIn : ℕ → List ℕ → List (List Constant) → List ViewOf
 InsertsIn max_rows name rows views old new result = Walked (insert_places max_rows rows (written_table name (alone old views))) (λ x. new ≡ with_rows_in name (and_rows rows) old) result
 
 -- DELETE takes the rows that WHERE keeps from the table, and tells how many they were
-abbrev pub Deletes : Option Condition → TableOf → TableOf → Result ℕ Fault → Type 0
+abbrev pub Deletes : Option Written → TableOf → TableOf → Result ℕ Fault → Type 0
 Deletes condition old new result =
     Walked (delete_places condition (Ok old)) (λ count. (count ≡ length (chosen_in condition old)) × (new ≡ holding (left_in condition old) old)) result
 
 -- DELETE takes them from the table of a name
-abbrev pub DeletesIn : List ℕ → Option Condition → List ViewOf → List TableOf → List TableOf → Result ℕ Fault → Type 0
+abbrev pub DeletesIn : List ℕ → Option Written → List ViewOf → List TableOf → List TableOf → Result ℕ Fault → Type 0
 DeletesIn name condition views old new result =
     Walked (delete_places condition (written_table name (alone old views)))
     (λ count. IfSome (table_named name old) (λ t. count ≡ length (chosen_in condition t)) × (new ≡ with_rows_in name (left_in condition) old)) result
 
 -- the columns of a source, wherever its rows come from
 abbrev pub from_columns : List ColumnDef → Named
-from_columns columns = record { columns = columns; source = Table 0 }
+from_columns columns = record { known = []; columns = columns; sizes = []; source = Table 0 }
 
 -- the listing of what the query shows of rows with these columns
 abbrev pub IsResult : Select → List ColumnDef → List Row → List Row → Type 0
 IsResult q columns rows list = IsListing [] None (meaning (bound_query q (from_columns columns)) (λ source. once_each rows)) list
 
--- SELECT answers the query from rows with these columns
-abbrev pub Selects : Select → List ColumnDef → List Row → Result (List Row) Fault → Type 0
-Selects q columns rows result = Walked (select_places q (Some (from_columns columns))) (IsResult q columns rows) result
+-- SELECT answers the query from the rows of a source
+abbrev pub Selects : Select → Scope → List Row → Result (List Row) Fault → Type 0
+Selects q s rows result = Walked (source_places q s) (IsResult q s.columns rows) result
 
 -- the listing of the query on a source that is there, whose totals can be shown
 pub record IsAnswer (s : State) (q : Select) (source : Named) (rows : List Row) : Type 0 where
@@ -139,13 +136,17 @@ abbrev pub SelectsFrom : Select → State → Result (List Row) Fault → Type 0
 SelectsFrom q s (Ok rows) = (first_fault (select_places q (source_named q.table s)) ≡ None) × IfSome (source_named q.table s) (λ source. IsAnswer s q source rows)
 SelectsFrom q s (Err f) = MayRefuse (first_fault (select_places q (source_named q.table s))) f ⊎ HasNone s q f
 
+-- what expressions over a view see of it
+abbrev pub view_scope : NamedView → Scope
+view_scope v = scope_of (from_view (view_of v) 0)
+
 -- SELECT answers the query from what a view keeps, which is the bag of the view's query on each tables that it stands for
 abbrev pub SelectsKept : Select → NamedView → Result (List Row) Fault → Type 0
-SelectsKept q v (Ok rows) = (first_fault (select_places q (Some (from_columns v.columns))) ≡ None)
+SelectsKept q v (Ok rows) = (first_fault (source_places q (view_scope v)) ≡ None)
     × ((tables : Tables) → StandsFor v.kept tables
     → IsListing [] None (meaning (bound_query q (from_columns v.columns)) (λ source. meaning (query_of v.kept.def) tables)) rows × MeaningInRange (query_of v.kept.def) tables)
-SelectsKept q v (Err f) = MayRefuse (first_fault (select_places q (Some (from_columns v.columns)))) f
-    ⊎ ((f ≡ SumOutOfRange) × (first_fault (select_places q (Some (from_columns v.columns))) ≡ None)
+SelectsKept q v (Err f) = MayRefuse (first_fault (source_places q (view_scope v))) f
+    ⊎ ((f ≡ SumOutOfRange) × (first_fault (source_places q (view_scope v)) ≡ None)
     × ((tables : Tables) → StandsFor v.kept tables → MeaningInRange (query_of v.kept.def) tables → ⊥))
 
 -- a view that was built for its query on this table

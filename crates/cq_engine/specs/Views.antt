@@ -1,8 +1,9 @@
 -- Views under their names, and what the writes of tables do to them.
-use Rattle.std.specs.Prelude.{◌≡◌, ◌≤◌, ◌^◌, ℕ, ◌==◌, true, false, List, [], ◌∷◌, map, Option, Some, None, IfSome}
+use Rattle.std.specs.Prelude.{◌≡◌, ◌≤◌, ◌<◌, ◌^◌, ℕ, ◌==◌, true, false, List, [], ◌∷◌, length, map, Option, Some, None, IfSome}
 use Rattle.std.specs.List.{AllByRecursion}
 use Rattle.cq_values.specs.Value.{Row, column}
 use Rattle.cq_bags.specs.Bag.{Weighted, once_each}
+use Rattle.cq_deltas.specs.Additions.{AreTotals}
 use Rattle.cq_deltas.specs.declared.change.Addition.{Addition}
 use Rattle.cq_deltas.specs.Table.{HasKeys, HoldsFor}
 use Rattle.cq_model.specs.declared.statement.ColumnDef.{ColumnDef}
@@ -33,6 +34,18 @@ IsStored row = (i : ℕ) → value_size (column row i) ≤ 2 ^ 63
 
 abbrev pub AreStored : List TableOf → Type 0
 AreStored tables = AllByRecursion (λ t. AllByRecursion IsStored t.rows) tables
+
+-- no table has more rows than can be counted
+abbrev pub AreFew : List TableOf → Type 0
+AreFew tables = AllByRecursion (λ t. length t.rows < 2 ^ 64) tables
+
+-- the view counts and adds, and stands for the rows of its table, all of which are stored; there are not too many to be counted
+pub record IsBacked (v : NamedView) : Type 0 where
+  pub totals : AreTotals v.kept.def.aggregates
+  pub rows : List Row
+  pub stored : AllByRecursion IsStored rows
+  pub few : length rows ≤ 2 ^ 96
+  pub stands : Stands v.kept (once_each rows)
 
 -- ---- Views that stand
 -- no stored row has a value that is too wide or too large for the view

@@ -8,6 +8,7 @@ ghost use Rattle.cq_engine.specs.Statements.{CreatesView, DropsView, IsBuilt};
 ghost use Rattle.cq_engine.specs.Views.{AreRight, AreStored, IsStored, views_of};
 ghost use Rattle.cq_binder.specs.Walk.{Walked};
 
+use crate::scopes::{stored_sizes, table_scope};
 use crate::table::Table;
 use crate::tables::{is_taken, place_of};
 use crate::view::View;
@@ -56,7 +57,8 @@ fn built_view(
     requires { AllByRecursion IsStored table.now.rows }
     ensures { Walked (view_select_places view.now (Ok table.now)) (IsBuilt now name.now view.now table.now) result }
 {
-    let bound = bound_view(alloc, table.columns(), view)?;
+    let sizes = stored_sizes(alloc, table)?;
+    let bound = bound_view(alloc, &table_scope(table, &sizes), view)?;
     let BoundView {
         columns,
         filter,

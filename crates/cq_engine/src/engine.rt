@@ -13,7 +13,7 @@ use crate::tables::{create_in, delete_in, drop_in, insert_in};
 use crate::view::View;
 use crate::views::view_place;
 use cq_binder::copy_names;
-use cq_model::{ColumnDef, Condition, Constant, Select, Statement, ViewSelect};
+use cq_model::{ColumnDef, Constant, Select, SqlExpr, Statement, ViewSelect};
 use cq_steps::{Answer, Fault};
 use cq_values::{Seq, Text};
 use std::alloc::Global;
@@ -174,7 +174,7 @@ impl Engine {
         Ok(Answer::Count(rows.len() as u64))
     }
 
-    fn delete(&mut self, table: &Text, condition: &Option<Condition>) -> Result<Answer, Fault>
+    fn delete(&mut self, table: &Text, condition: &Option<SqlExpr>) -> Result<Answer, Fault>
         requires { self.old.drawn < 2 ^ 64 - 1 }
         ensures { Step self.old (statements.Delete table.now condition.now) result self.new }
     {

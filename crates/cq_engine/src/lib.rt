@@ -12,6 +12,7 @@ mod engine;
 mod insertion;
 mod limits;
 mod reading;
+mod scopes;
 mod selection;
 mod sources;
 mod table;

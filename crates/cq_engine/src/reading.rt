@@ -1,15 +1,19 @@
 //! SELECT from a table or from a view.
+ghost use Rattle.std.specs.List.{AllByRecursion};
 ghost use Rattle.std.specs.Prelude.{◌≡◌, ℕ};
 ghost use Rattle.cq_steps.specs.State.{AreNumbered};
+ghost use Rattle.cq_steps.specs.Bound.{from_table, scope_of};
 ghost use Rattle.cq_engine.specs.Statements.{Selects, SelectsFrom, SelectsKept, told_as, alone};
-ghost use Rattle.cq_engine.specs.Views.{AreRight, views_of};
+ghost use Rattle.cq_engine.specs.Views.{AreFew, AreRight, AreStored, IsBacked, IsStored, views_of};
 
+use crate::scopes::{stored_sizes, table_scope, view_scope};
 use crate::selection::Selection;
 use crate::table::Table;
 use crate::tables::place_of;
 use crate::view::View;
 use crate::views::view_place;
 use cq_deltas::ToldFault;
+use cq_laws::rows_keep_sizes;
 use cq_model::Select;
 use cq_steps::Fault;
 use cq_values::{Row, Seq};
@@ -23,6 +27,7 @@ pub fn select_from(
     select: &Select,
 ) -> Result<Seq<Row>, Fault>
     requires numbered { (next : ℕ) × AreNumbered tables.now next }
+    requires stored { AreStored tables.now }
     requires right { (now : ℕ) × AreRight tables.now now views.now }
     ensures { SelectsFrom select.now (alone tables.now (views_of views.now)) result }
 {
@@ -31,23 +36,40 @@ pub fn select_from(
         return select_from_table(alloc, &tables[place], select);
     }
     match view_place(views, name) {
-        Some(place) => select_from_view(alloc, &views[place], select),
+        Some(place) => {
+            all_few(tables);
+            select_from_view(alloc, &views[place], select)
+        }
         None => Err(Fault::UnknownTable),
     }
 }
 
-fn select_from_table(alloc: Global, table: &Table, select: &Select) -> Result<Seq<Row>, Fault>
-    ensures { Selects select.now table.now.columns table.now.rows result }
+/// No table has more rows than can be counted.
+fn all_few(tables: &[Table])
+    ensures { AreFew tables.now }
 {
-    let selection = Selection::new(alloc, table.columns(), select)?;
+    for table in tables {
+        let _few = table.len();
+    }
+}
+
+fn select_from_table(alloc: Global, table: &Table, select: &Select) -> Result<Seq<Row>, Fault>
+    requires { AllByRecursion IsStored table.now.rows }
+    ensures { Selects select.now (scope_of (from_table table.now)) table.now.rows result }
+{
+    let sizes = stored_sizes(alloc, table)?;
+    let selection = Selection::new(alloc, &table_scope(table, &sizes), select)?;
     Ok(selection.list(alloc, table.rows())?)
 }
 
 fn select_from_view(alloc: Global, view: &View, select: &Select) -> Result<Seq<Row>, Fault>
+    requires { IsBacked view.now }
     ensures { SelectsKept select.now view.now result }
 {
-    let selection = Selection::new(alloc, view.columns(), select)?;
+    let sizes = view.column_sizes(alloc)?;
+    let selection = Selection::new(alloc, &view_scope(view, &sizes), select)?;
     let rows = view.rows(alloc).map_err(told_fault)?;
+    rows_keep_sizes();
     Ok(selection.list(alloc, &rows)?)
 }
 

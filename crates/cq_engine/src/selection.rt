@@ -1,18 +1,21 @@
 //! Queries with the places of their columns, answered from the rows of a table or a view.
-ghost use Rattle.std.specs.Prelude.{◌≡◌, IfOk, Some, [], filter, map};
+ghost use Rattle.std.specs.List.{AllByRecursion};
+ghost use Rattle.std.specs.Prelude.{◌≡◌, IfOk, [], filter, map};
 ghost use Rattle.cq_bags.specs.Bag.{once_each};
 ghost use Rattle.cq_bags.specs.Listing.{Lists};
 ghost use Rattle.cq_values.specs.Value.{column};
 ghost use Rattle.cq_steps.specs.Bound.{place_in};
-ghost use Rattle.cq_steps.specs.Refusal.{name_place, select_places};
-ghost use Rattle.cq_engine.specs.Bound.{IsBound, keeps_at, values_at};
-ghost use Rattle.cq_engine.specs.Statements.{from_columns};
+ghost use Rattle.cq_steps.specs.Refusal.{name_place, source_places};
+ghost use Rattle.cq_model.specs.Meaning.{keeps};
+ghost use Rattle.cq_exprs.specs.Expressions.{scope_of};
+ghost use Rattle.cq_engine.specs.Bound.{IsBound, IsNarrowAt, values_at};
 ghost use Rattle.cq_binder.specs.Walk.{Walked};
 
-use crate::condition::{BoundCondition, bound_where, keeps_at};
+use crate::condition::keeps;
 use cq_bags::listed;
-use cq_binder::{check_length, column_place};
-use cq_model::{ColumnDef, Select};
+use cq_binder::{bound_where, check_length};
+use cq_exprs::{Scope, column_place};
+use cq_model::{ColumnDef, Cond, Select};
 use cq_steps::Fault;
 use cq_values::{Row, Seq, Text, Value};
 use std::alloc::{AllocError, Global};
@@ -20,31 +23,32 @@ use std::alloc::{AllocError, Global};
 /// What WHERE keeps, and where the items stand.
 #[derive(Drop)]
 pub struct Selection {
-    condition: Option<BoundCondition>,
+    condition: Option<Cond>,
     places: Vec<usize>,
 }
 
 impl Selection {
-    /// The query on a source with these columns, once it has been walked through.
-    pub fn new(alloc: Global, columns: &[ColumnDef], select: &Select) -> Result<Selection, Fault>
-        ensures { Walked (select_places select.now (Some (from_columns columns.now))) (IsBound columns.now select.now) result }
+    /// The query on a source, once it has been walked through.
+    pub fn new(alloc: Global, scope: &Scope<'_>, select: &Select) -> Result<Selection, Fault>
+        ensures { Walked (source_places select.now (scope_of scope.now)) (IsBound scope.now.columns.now select.now) result }
     {
         let names = select.columns.as_slice();
-        let condition = bound_where(columns, &select.condition)?;
-        let places = item_places(alloc, columns, names)?;
+        let condition = bound_where(alloc, scope, &select.condition)?;
+        let places = item_places(alloc, scope.columns, names)?;
         check_length(names.len())?;
         Ok(Selection { condition, places })
     }
 
     /// The rows of the result, as these rows give them one after the other.
     pub fn rows(&self, alloc: Global, rows: &[Row]) -> Result<Vec<Row>, AllocError>
+        requires { AllByRecursion (IsNarrowAt self.now.condition) rows.now }
         ensures { IfOk result (λ v. v.items
-            ≡ map (values_at self.now.places.items) (filter (keeps_at self.now.condition) rows.now)) }
+            ≡ map (values_at self.now.places.items) (filter (keeps self.now.condition) rows.now)) }
     {
         let mut results = Vec::new(alloc);
         for row in rows {
             let values = row.as_slice();
-            if keeps_at(&self.condition, values) {
+            if keeps(&self.condition, values) {
                 results.push(self.values(alloc, values)?)?;
             }
         }
@@ -53,7 +57,8 @@ impl Selection {
 
     /// The listing of the query on these rows.
     pub fn list(&self, alloc: Global, rows: &[Row]) -> Result<Seq<Row>, AllocError>
-        ensures { IfOk result (Lists [] (once_each (map (values_at self.now.places.items) (filter (keeps_at self.now.condition) rows.now)))) }
+        requires { AllByRecursion (IsNarrowAt self.now.condition) rows.now }
+        ensures { IfOk result (Lists [] (once_each (map (values_at self.now.places.items) (filter (keeps self.now.condition) rows.now)))) }
     {
         let results = self.rows(alloc, rows)?;
         let sorted = listed(results)?;

@@ -1,13 +1,15 @@
 //! A table in memory.
+ghost use Rattle.std.specs.List.{AllByRecursion};
 ghost use Rattle.std.specs.Prelude.{◌++◌, ◌≡◌, ◌<◌, ◌^◌, IfOk, OnErr, OnOk, filter, length, map, not};
 ghost use Rattle.cq_values.specs.Texts.{is_text};
 ghost use Rattle.cq_bags.specs.Canonical.{bag_of};
 ghost use Rattle.cq_steps.specs.State.{empty_table, holding};
-ghost use Rattle.cq_engine.specs.Bound.{keeps_at};
+ghost use Rattle.cq_model.specs.Meaning.{keeps};
+ghost use Rattle.cq_engine.specs.Bound.{IsNarrowAt};
 
-use crate::condition::{BoundCondition, keeps_at};
+use crate::condition::keeps;
 use cq_binder::copy_columns;
-use cq_model::ColumnDef;
+use cq_model::{ColumnDef, Cond};
 use cq_values::{Row, Seq, Text};
 use std::alloc::{AllocError, Global};
 use std::marker::Model;
@@ -57,6 +59,12 @@ impl Table {
         self.name.as_str() == name
     }
 
+    pub fn name(&self) -> &str
+        ensures { result.now ≡ self.now.name }
+    {
+        self.name.as_str()
+    }
+
     pub fn number(&self) -> u64
         ensures { result ≡ self.now.number }
     {
@@ -70,17 +78,14 @@ impl Table {
     }
 
     /// The rows that WHERE keeps, where they are stored.
-    pub fn chosen(
-        &self,
-        alloc: Global,
-        condition: &Option<BoundCondition>,
-    ) -> Result<Vec<&Row>, AllocError>
-        ensures bag { IfOk result (λ rows. bag_of (map (λ r. r.now) rows.items) ≡ bag_of (filter (keeps_at condition.now) self.now.rows)) }
+    pub fn chosen(&self, alloc: Global, condition: &Option<Cond>) -> Result<Vec<&Row>, AllocError>
+        requires { AllByRecursion (IsNarrowAt condition.now) self.now.rows }
+        ensures bag { IfOk result (λ rows. bag_of (map (λ r. r.now) rows.items) ≡ bag_of (filter (keeps condition.now) self.now.rows)) }
         ensures few { OnOk result (length self.now.rows < 2 ^ 64) }
     {
         let mut rows = Vec::new(alloc);
         for row in &self.rows {
-            if keeps_at(condition, row.as_slice()) {
+            if keeps(condition, row.as_slice()) {
                 rows.push(row)?;
             }
         }
@@ -110,12 +115,28 @@ impl Table {
     }
 
     /// Takes the rows that WHERE keeps away, and tells how many they were.
-    pub fn remove(&mut self, condition: &Option<BoundCondition>) -> usize
-        ensures count { result ≡ length (filter (keeps_at condition.now) self.old.rows) }
-        ensures left { self.new ≡ holding (filter (λ row. not (keeps_at condition.now row)) self.old.rows) self.old }
+    pub fn remove(&mut self, condition: &Option<Cond>) -> usize
+        requires { AllByRecursion (IsNarrowAt condition.now) self.old.rows }
+        ensures count { result ≡ length (filter (keeps condition.now) self.old.rows) }
+        ensures left { self.new ≡ holding (filter (λ row. not (keeps condition.now row)) self.old.rows) self.old }
     {
         let before = self.rows.len();
-        self.rows.retain(|row| !keeps_at(condition, row.as_slice()));
+        take_away(&mut self.rows, condition);
         before - self.rows.len()
     }
+}
+
+/// Takes the rows that WHERE keeps away, and leaves the others in their order. It takes no memory.
+fn take_away(rows: &mut Vec<Row>, condition: &Option<Cond>)
+    requires { AllByRecursion (IsNarrowAt condition.now) rows.old.items }
+    ensures { rows.new.items ≡ filter (λ row. not (keeps condition.now row)) rows.old.items }
+{
+    let mut left = 0;
+    for place in 0..rows.len() {
+        if !keeps(condition, rows[place].as_slice()) {
+            rows.swap(left, place);
+            left += 1;
+        }
+    }
+    rows.truncate(left);
 }

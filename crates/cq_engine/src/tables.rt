@@ -16,7 +16,7 @@ use crate::table::Table;
 use crate::view::View;
 use crate::views::{is_used, is_view};
 use cq_binder::{check_length, check_names, sort_columns};
-use cq_model::{ColumnDef, Condition, Constant};
+use cq_model::{ColumnDef, Constant, SqlExpr};
 use cq_steps::Fault;
 use cq_values::{Seq, Text};
 use std::alloc::Global;
@@ -84,7 +84,7 @@ pub fn delete_in(
     tables: &mut Vec<Table>,
     views: &mut Vec<View>,
     name: &Text,
-    condition: &Option<Condition>,
+    condition: &Option<SqlExpr>,
     epoch: u64,
 ) -> Result<usize, Fault>
     requires numbered { (next : ℕ) × AreNumbered tables.old.items next }

@@ -4,6 +4,7 @@ ghost use Rattle.std.specs.List.{AllByRecursion};
 ghost use Rattle.cq_bags.specs.Bag.{SameBag, once_each};
 ghost use Rattle.cq_deltas.specs.declared.fault.ToldFault.TheVariants.{SumOutOfRange};
 ghost use Rattle.cq_model.specs.Meaning.{MeaningInRange, Tables, meaning};
+ghost use Rattle.cq_model.specs.Sizes.{column_sizes};
 ghost use Rattle.cq_values.specs.Texts.{is_text};
 ghost use Rattle.cq_views.specs.View.{IsNarrowFor, StandsFor, changed, query_of};
 ghost use Rattle.cq_engine.specs.Views.{CanTake, HasTaken, IsReady, IsSame};
@@ -51,6 +52,19 @@ impl View {
         ensures { result ≡ is_text self.now.name name.now }
     {
         self.name.as_str() == name
+    }
+
+    pub fn name(&self) -> &str
+        ensures { result.now ≡ self.now.name }
+    {
+        self.name.as_str()
+    }
+
+    /// How large the numbers in the columns of the view can be.
+    pub fn column_sizes(&self, alloc: Global) -> Result<Vec<u128>, AllocError>
+        ensures { IfOk result (λ v. v.items ≡ column_sizes (query_of self.now.kept.def)) }
+    {
+        self.state.column_sizes(alloc)
     }
 
     pub fn columns(&self) -> &[ColumnDef]

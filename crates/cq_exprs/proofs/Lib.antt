@@ -1,7 +1,4 @@
-pub mod ChainsMade
-pub mod Constants
-pub mod Joined
+pub mod Chains
 pub mod Nodes
-pub mod Operands
-pub mod TestsMade
-pub mod Typed
+pub mod Narrow
+pub mod Places

@@ -1,15 +1,17 @@
-//! Expressions node by node: what each operator makes of operands whose names have become places, or the fault that it has.
+//! Expressions: what they give or the fault that they have, and what is written with places for names.
 //!
-//! A [`Part`] is an expression or a condition with what it gives. Each function here is one node of the walk through what is
-//! written: it means what is written in every row, keeps within the width that it was promised, or refuses.
+//! A written expression is walked through by [`typing_of`]; a condition without a fault is bound by [`bind_condition`], and
+//! nothing in it is too wide in a row whose columns keep their sizes ([`typed_is_narrow`]).
 #![tactic(auto)]
 
-mod chains;
-pub mod conditions;
-mod part;
+mod bind;
+mod laws;
+mod placing;
 mod scope;
-pub mod typings;
-pub mod values;
+mod typings;
+mod walk;
 
-pub use part::{BoundExpr, Part, condition_part, value_part};
-pub use scope::Scope;
+pub use bind::bind_condition;
+pub use laws::typed_is_narrow;
+pub use scope::{Scope, column_place};
+pub use walk::typing_of;

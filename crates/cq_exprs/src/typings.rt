@@ -1,7 +1,7 @@
 //! What operators and tests ask of their operands, and what they give.
 ghost use Rattle.std.specs.Prelude.{◌≡◌, ◌&&◌};
 ghost use Rattle.cq_model.specs.Width.{part_limit};
-ghost use Rattle.cq_steps.specs.Typing.{a_condition, agree, between_them, compared_with, is_of, is_value, like_of, negative, number_of, part_of, product_of, sum_of, tested, text_of, unless, value_of};
+ghost use Rattle.cq_steps.specs.Typing.{a_condition, agree, between_them, compared_with, connected, is_condition, is_of, is_value, like_of, negation_of, negative, number_of, part_of, product_of, sum_of, tested, text_of, unless, value_of};
 ghost use Rattle.cq_steps.specs.declared.fault.Fault.TheVariants.{TypeMismatch};
 
 use cq_model::DayPart;
@@ -15,7 +15,7 @@ const TOO_WIDE: u128 = 1 << 127;
 const MAX_TEXT: usize = 4096;
 
 /// A condition.
-pub const A_CONDITION: Typing = Typing {
+const A_CONDITION: Typing = Typing {
     kind: Kind::Condition,
     size: 0,
 };
@@ -128,6 +128,20 @@ pub fn like_of(x: Typing, pattern: Typing) -> Result<Typing, Fault>
     condition_if(is_of(Ty::Text, x.kind))
 }
 
+/// NOT of a condition.
+pub fn negation_of(x: Typing) -> Result<Typing, Fault>
+    ensures { result ≡ negation_of x }
+{
+    condition_if(is_condition(x.kind))
+}
+
+/// AND or OR of two conditions.
+pub fn connected(x: Typing, y: Typing) -> Result<Typing, Fault>
+    ensures { result ≡ connected x y }
+{
+    condition_if(is_condition(x.kind) && is_condition(y.kind))
+}
+
 /// A condition where this is met.
 pub fn condition_if(met: bool) -> Result<Typing, Fault>
     ensures { result ≡ unless met TypeMismatch a_condition }
@@ -171,6 +185,12 @@ fn is_value(kind: Kind) -> bool
     ensures { result ≡ is_value kind }
 {
     !matches!(kind, Kind::Condition)
+}
+
+fn is_condition(kind: Kind) -> bool
+    ensures { result ≡ is_condition kind }
+{
+    matches!(kind, Kind::Condition)
 }
 
 /// The greatest year, month or day of a month.

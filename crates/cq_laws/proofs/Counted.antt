@@ -6,7 +6,7 @@ use Rattle.cq_values.specs.declared.value.Value.TheVariants.{Number}
 use Rattle.cq_values.specs.Value.{Row, column}
 use Rattle.cq_values.specs.Order.{same_row}
 use Rattle.cq_values.specs.Keys.{same_row-refl, same_row-same}
-use Rattle.cq_model.specs.declared.expr.Expr.{Expr}
+use Rattle.cq_model.specs.Expr.{Expr}
 use Rattle.cq_model.specs.Condition.{is_null}
 use Rattle.cq_model.specs.Eval.{eval}
 use Rattle.cq_bags.specs.Bag.{Weighted, SameBag, IsBag, distinct_rows}

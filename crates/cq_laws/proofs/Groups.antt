@@ -5,7 +5,7 @@ use Rattle.cq_values.specs.declared.value.Value.TheVariants.{Number}
 use Rattle.cq_values.specs.Value.{Row}
 use Rattle.cq_values.specs.Order.{same_row}
 use Rattle.cq_values.specs.Keys.{same_row-refl, same_row-same}
-use Rattle.cq_model.specs.declared.expr.Expr.{Expr}
+use Rattle.cq_model.specs.Expr.{Expr}
 use Rattle.cq_model.specs.declared.query.Aggregate.{Aggregate}
 use Rattle.cq_model.specs.declared.query.Aggregate.TheVariants.{CountAll, Count, Sum, Min, Max}
 use Rattle.cq_model.specs.Condition.{is_null}

@@ -5,7 +5,7 @@ use Rattle.cq_bags.specs.Bag.{Weighted, SameBag, projected}
 use Rattle.cq_bags.proofs.Totals.{total-append}
 use Rattle.cq_bags.proofs.Bags.{same-refl, same-trans, same-append, filtered-respects, projected-respects}
 use Rattle.cq_bags.proofs.Linears.{filtered-append, projected-append}
-use Rattle.cq_model.specs.declared.expr.Expr.{Expr}
+use Rattle.cq_model.specs.Expr.{Expr}
 use Rattle.cq_model.specs.declared.query.Aggregate.{Aggregate}
 use Rattle.cq_model.specs.declared.query.Aggregate.TheVariants.{CountAll, Count, Sum, Min, Max}
 use Rattle.cq_model.specs.declared.query.Query.{Query}

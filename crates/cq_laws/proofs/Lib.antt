@@ -13,3 +13,5 @@ pub mod Ranges
 pub mod Works
 pub mod Lessened
 pub mod Told
+pub mod Fits
+pub mod Sizes

@@ -1,5 +1,5 @@
 -- WHERE implies a condition that is joined to the rest by AND.
-use Rattle.std.proofs.Common.{◌≡◌, ℕ, ◌+◌, ◌-◌, ◌≤◌, ◌<◌, true, false, List, [], ◌∷◌, ◌++◌, inl, inr, length, map, fold, get_or, replicate, Some, nat_le, nat_lt, refl, sym, ◌∙◌, ap, arith}
+use Rattle.std.proofs.Common.{◌≡◌, ℕ, ◌+◌, ◌-◌, ◌≤◌, ◌<◌, true, false, List, [], ◌∷◌, ◌++◌, length, get_or, replicate, Some, nat_le, nat_lt, refl, sym, ◌∙◌, ap, arith}
 use Rattle.std.specs.List.{AllByRecursion}
 use Rattle.std.proofs.Math.ListN.{get_or-append}
 use Rattle.std.proofs.Math.Seq.{get_or-append_right}
@@ -11,13 +11,10 @@ use Rattle.cq_values.specs.declared.value.Value.TheVariants.{Null}
 use Rattle.cq_values.specs.Truth.{is_true, and_truth}
 use Rattle.cq_values.specs.Value.{Row, column}
 use Rattle.cq_bags.proofs.Totals.{by_test}
-use Rattle.cq_model.specs.declared.expr.Cond.{Cond}
-use Rattle.cq_model.specs.declared.expr.Cond.TheFolds.{fold-roll-Cond}
-use Rattle.cq_model.specs.declared.expr.Cond.TheOpen as cond_node
-use Rattle.cq_model.specs.declared.expr.Cond.TheVariants.{And, rolls-And}
-use Rattle.cq_model.specs.Condition.{all_of, holds_step, holds}
+use Rattle.cq_model.specs.Expr.{Cond}
+use Rattle.cq_model.specs.Condition.{holds}
 use Rattle.cq_model.specs.Meaning.{keeps}
-use Rattle.cq_model.specs.Own.{is_within, tests_only, IsAmong, IsPart, whole, joined_by_and, in_place, passes_own, AreOwn}
+use Rattle.cq_model.specs.Own.{is_within, tests_only, IsPart, whole, before_and, behind_and, in_place, passes_own, AreOwn}
 use Rattle.cq_model.specs.Pushed.{IsImplied}
 use Rattle.cq_laws.proofs.Names.{both-first, both-second, holds-same}
 
@@ -29,22 +26,11 @@ both-true Unknown True h = absurd (cc)
 both-true Unknown False h = absurd (cc)
 both-true Unknown Unknown h = absurd (cc)
 
--- so is each part of what is joined by AND to a truth
-fold-true : (r : Row) (a : Truth) (cs : List Cond) → is_true (fold and_truth a (map (λ c. c r) (map holds cs))) ≡ true
-    → (is_true a ≡ true) × ((c : Cond) → IsAmong c cs → is_true (holds c r) ≡ true)
-fold-true r a [] h = (h, λ c among. absurd among)
-fold-true r a (d ∷ cs) h =
-    let rest = fold-true r (and_truth a (holds d r)) cs h in
-    let here = both-true a (holds d r) rest.0 in
-    (here.0, λ c among. elim among [ inl e ↦ ap (λ x. is_true (holds x r)) e ∙ here.1 | inr later ↦ rest.1 c later ])
-
 -- where a condition is True, so is each part that is joined by AND
 part-true : (c filter : Cond) → IsPart c filter → (r : Row) → is_true (holds filter r) ≡ true → is_true (holds c r) ≡ true
 part-true c filter (whole d) r h = h
-part-true c filter (joined_by_and d part cs among is) r h =
-    let open_and : holds (And cs) r ≡ all_of (map (λ x. x r) (map holds cs.items)) =
-    ap (λ x. holds x r) (sym (rolls-And cs)) ∙ ap (λ f. f r) (fold-roll-Cond (Row → Truth) holds_step (cond_node.And cs)) in
-    part-true d part is r ((fold-true r True cs.items (ap is_true (sym open_and) ∙ h)).1 part among)
+part-true c filter (before_and part a b is) r h = part-true part a is r (both-true (holds a r) (holds b r) h).0
+part-true c filter (behind_and part a b is) r h = part-true part b is r (both-true (holds a r) (holds b r) h).1
 
 -- the columns of a part are those of its row in place
 column-part : (before wide : ℕ) (r s t : Row) → length r ≡ before → length s ≡ wide → (i : ℕ) → is_within before wide i ≡ true → column (r ++ s ++ t) i ≡ column (in_place before s) i

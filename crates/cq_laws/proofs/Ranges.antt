@@ -1,5 +1,5 @@
 -- Whether totals can be shown depends on the bag of the rows alone, and a key occurs where its rows are counted.
-use Rattle.std.proofs.Common.{◌≡◌, ◌↔◌, ℕ, pos, int_lt, List, [], ◌∷◌, map, Option, Some, None, inl, inr, refl, sym, ◌∙◌, ap, subst}
+use Rattle.std.proofs.Common.{◌≡◌, ◌↔◌, ℕ, pos, int_lt, List, [], ◌∷◌, Option, Some, None, inl, inr, refl, sym, ◌∙◌, ap, subst}
 use Rattle.std.specs.List.{AllByRecursion, list_any}
 use Rattle.cq_values.specs.Value.{Row}
 use Rattle.cq_values.specs.Order.{same_row}

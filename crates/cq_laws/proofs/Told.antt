@@ -7,7 +7,7 @@ use Rattle.cq_bags.specs.Bag.{Weighted, SameBag, IsBag, once_each, filtered, pro
 use Rattle.cq_bags.proofs.Bags.{same-refl, filtered-respects, projected-respects}
 use Rattle.cq_bags.proofs.Distincts.{once_each-map, weight_of-distinct}
 use Rattle.cq_bags.proofs.Positives.{filtered-bag}
-use Rattle.cq_model.specs.declared.expr.Cond.{Cond}
+use Rattle.cq_model.specs.Expr.{Cond}
 use Rattle.cq_model.specs.declared.query.Aggregate.{Aggregate}
 use Rattle.cq_model.specs.declared.query.Query.{Query}
 use Rattle.cq_model.specs.declared.query.Shape.{Shape}

@@ -1,35 +1,37 @@
 -- Conditions over several parts: what is left of a chain completes its truth.
-use Rattle.std.proofs.Common.{◌≡◌, ℕ, zero, suc, ◌+◌, ◌≤◌, ◌<◌, max, List, [], ◌∷◌, map, drop, length, get_or, refl, sym, ◌∙◌, ap, arith, Vec, Global}
-use Rattle.std.proofs.lemmas.List.{drop_all}
+use Rattle.std.proofs.Common.{◌≡◌, ℕ, zero, suc, ◌≤◌, ◌<◌, max, List, [], ◌∷◌, map, drop, length, get_or, refl, sym, ◌∙◌, ap, arith, Vec, Box, Global}
 use Rattle.std.specs.List.{fold}
 use Rattle.cq_values.specs.Value.{Row}
 use Rattle.cq_values.specs.declared.truth.Truth.{Truth}
 use Rattle.cq_values.specs.declared.truth.Truth.TheVariants.{True, False}
 use Rattle.cq_values.specs.Truth.{and_truth, or_truth}
-use Rattle.cq_model.specs.declared.expr.Cond.{Cond}
-use Rattle.cq_model.specs.declared.expr.Cond.TheOpen as node
-use Rattle.cq_model.specs.declared.expr.Cond.TheViews as view
-use Rattle.cq_model.specs.declared.expr.Cond.TheFolds.{fold-roll-Cond}
-use Rattle.cq_model.specs.declared.expr.Cond.TheVariants.{rolls-And, rolls-Or}
-use Rattle.cq_model.specs.Condition.{all_of, any_of, holds, holds_step}
-use Rattle.cq_model.specs.Width.{widest_in, widest_step}
-use Rattle.cq_model.proofs.Evals.{map-at}
-use Rattle.cq_model.proofs.Extents.{map-drop}
+use Rattle.cq_model.specs.declared.expr.CondTree.{CondTree}
+use Rattle.cq_model.specs.declared.expr.CondTree.TheViews as view
+use Rattle.cq_model.specs.Condition.{holds}
+use Rattle.cq_model.specs.Expr.{And, Or}
+use Rattle.cq_model.specs.Trees.{cond_of}
+use Rattle.cq_model.specs.Width.{widest_in}
+use Rattle.cq_model.proofs.Trees.{through, tree-And, tree-Or}
 
-pub holds-And : (parts : Vec Cond Global) (r : Row) → holds (view.And parts) r ≡ all_of (map (λ c. holds c r) parts.items)
-holds-And parts r = ap (λ c. holds c r) (sym (rolls-And parts)) ∙ ap (λ f. f r) (fold-roll-Cond (Row → Truth) holds_step (node.And parts)) ∙ ap all_of (map-at holds r parts.items)
+module _ (first : Box CondTree Global) (rest : Vec CondTree Global) where
+  pub holds-And : (r : Row) → holds (cond_of (view.And first rest)) r ≡ fold and_truth (holds (cond_of first.value) r) (map (λ t. holds (cond_of t) r) rest.items)
+  holds-And r = ap (λ c. holds c r) (tree-And first rest) ∙ through cond_of (λ c. holds c r) And and_truth (λ a b. refl) (cond_of first.value) rest.items
 
-pub holds-Or : (parts : Vec Cond Global) (r : Row) → holds (view.Or parts) r ≡ any_of (map (λ c. holds c r) parts.items)
-holds-Or parts r = ap (λ c. holds c r) (sym (rolls-Or parts)) ∙ ap (λ f. f r) (fold-roll-Cond (Row → Truth) holds_step (node.Or parts)) ∙ ap any_of (map-at holds r parts.items)
+  pub holds-Or : (r : Row) → holds (cond_of (view.Or first rest)) r ≡ fold or_truth (holds (cond_of first.value) r) (map (λ t. holds (cond_of t) r) rest.items)
+  holds-Or r = ap (λ c. holds c r) (tree-Or first rest) ∙ through cond_of (λ c. holds c r) Or or_truth (λ a b. refl) (cond_of first.value) rest.items
 
-pub widest-And : (parts : Vec Cond Global) (z : ℕ → ℕ) → widest_in (view.And parts) z ≡ fold max 0 (map (λ c. widest_in c z) parts.items)
-widest-And parts z = ap (λ c. widest_in c z) (sym (rolls-And parts)) ∙ ap (λ f. f z) (fold-roll-Cond ((ℕ → ℕ) → ℕ) widest_step (node.And parts)) ∙ ap (fold max 0) (map-at widest_in z parts.items)
+  pub widest-And : (z : ℕ → ℕ) → widest_in (cond_of (view.And first rest)) z ≡ fold max (widest_in (cond_of first.value) z) (map (λ t. widest_in (cond_of t) z) rest.items)
+  widest-And z = ap (λ c. widest_in c z) (tree-And first rest) ∙ through cond_of (λ c. widest_in c z) And max (λ a b. refl) (cond_of first.value) rest.items
 
-pub widest-Or : (parts : Vec Cond Global) (z : ℕ → ℕ) → widest_in (view.Or parts) z ≡ fold max 0 (map (λ c. widest_in c z) parts.items)
-widest-Or parts z = ap (λ c. widest_in c z) (sym (rolls-Or parts)) ∙ ap (λ f. f z) (fold-roll-Cond ((ℕ → ℕ) → ℕ) widest_step (node.Or parts)) ∙ ap (fold max 0) (map-at widest_in z parts.items)
+  pub widest-Or : (z : ℕ → ℕ) → widest_in (cond_of (view.Or first rest)) z ≡ fold max (widest_in (cond_of first.value) z) (map (λ t. widest_in (cond_of t) z) rest.items)
+  widest-Or z = ap (λ c. widest_in c z) (tree-Or first rest) ∙ through cond_of (λ c. widest_in c z) Or max (λ a b. refl) (cond_of first.value) rest.items
+
+pub map-map : {X Y Z : Type 0} (f : X → Y) (g : Y → Z) (xs : List X) → map g (map f xs) ≡ map (λ x. g (f x)) xs
+map-map f g [] = refl
+map-map f g (x ∷ xs) = ap (λ zs. g (f x) ∷ zs) (map-map f g xs)
 
 -- the greatest is at least what it begins with
-max-start : (n : ℕ) (ns : List ℕ) → n ≤ fold max n ns
+pub max-start : (n : ℕ) (ns : List ℕ) → n ≤ fold max n ns
 max-start n [] = omega arith
 max-start n (m ∷ ns) = omega (arith, max-start (max n m) ns)
 
@@ -38,16 +40,6 @@ pub max-part : {X : Type 0} (f : X → ℕ) (n : ℕ) (xs : List X) (i : ℕ) (d
 max-part f n [] i d x h is = absurd (omega arith)
 max-part f n (y ∷ ys) zero d x h is = omega (arith, ap f is, max-start (max n (f y)) (map f ys))
 max-part f n (y ∷ ys) (suc i) d x h is = max-part f (max n (f y)) ys i d x (omega arith) is
-
--- one part more of a chain
-pub chain-next : {X : Type 0} (join : Truth → Truth → Truth) (f : X → Truth) (xs : List X) (i : ℕ) (x : X) (so_far truth whole : Truth) → i < length xs → x ≡ get_or xs i x → truth ≡ f x
-    → fold join so_far (map f (drop i xs)) ≡ whole → fold join (join so_far truth) (map f (drop (i + 1) xs)) ≡ whole
-chain-next join f xs i x so_far truth whole h is same e =
-    rw same (ap (λ y. fold join (join so_far (f y)) (map f (drop (i + 1) xs))) is ∙ sym (ap (fold join so_far) (map-drop f xs i x h)) ∙ e)
-
--- no part is left
-pub chain-end : {X : Type 0} (join : Truth → Truth → Truth) (f : X → Truth) (xs : List X) (i : ℕ) (so_far whole : Truth) → length xs ≤ i → fold join so_far (map f (drop i xs)) ≡ whole → so_far ≡ whole
-chain-end {X = X} join f xs i so_far whole h e = sym (ap (λ (left : List X). fold join so_far (map f left)) (drop_all i xs h)) ∙ e
 
 false-stays : (ts : List Truth) → fold and_truth False ts ≡ False
 false-stays [] = refl
@@ -58,32 +50,37 @@ true-stays [] = refl
 true-stays (t ∷ ts) = true-stays ts
 
 -- a chain of AND that has come to False is False
-pub false-found : {X : Type 0} (f : X → Truth) (xs : List X) (i : ℕ) (x : X) (so_far truth next whole : Truth) → i < length xs → x ≡ get_or xs i x → truth ≡ f x → next ≡ and_truth so_far truth
-    → next ≡ False → fold and_truth so_far (map f (drop i xs)) ≡ whole → next ≡ whole
-false-found f xs i x so_far truth next whole h is same joined found e =
-    let left = map f (drop (i + 1) xs) in
-    found ∙ sym (false-stays left) ∙ ap (λ t. fold and_truth t left) (sym found ∙ joined) ∙ chain-next and_truth f xs i x so_far truth whole h is same e
+pub false-found : (so_far whole : Truth) (left : List Truth) → so_far ≡ False → fold and_truth so_far left ≡ whole → so_far ≡ whole
+false-found so_far whole left found e = found ∙ sym (false-stays left) ∙ ap (λ t. fold and_truth t left) (sym found) ∙ e
 
 -- a chain of OR that has come to True is True
-pub true-found : {X : Type 0} (f : X → Truth) (xs : List X) (i : ℕ) (x : X) (so_far truth next whole : Truth) → i < length xs → x ≡ get_or xs i x → truth ≡ f x → next ≡ or_truth so_far truth
-    → next ≡ True → fold or_truth so_far (map f (drop i xs)) ≡ whole → next ≡ whole
-true-found f xs i x so_far truth next whole h is same joined found e =
-    let left = map f (drop (i + 1) xs) in
-    found ∙ sym (true-stays left) ∙ ap (λ t. fold or_truth t left) (sym found ∙ joined) ∙ chain-next or_truth f xs i x so_far truth whole h is same e
+pub true-found : (so_far whole : Truth) (left : List Truth) → so_far ≡ True → fold or_truth so_far left ≡ whole → so_far ≡ whole
+true-found so_far whole left found e = found ∙ sym (true-stays left) ∙ ap (λ t. fold or_truth t left) (sym found) ∙ e
 
 -- one part of a condition is not wider than the condition
-pub and-within : (z : ℕ → ℕ) (whole : Cond) (parts : Vec Cond Global) (items : List Cond) (i : ℕ) (part : Cond) → whole ≡ view.And parts → items ≡ parts.items → i < length items → part ≡ get_or items i part
-    → widest_in part z ≤ widest_in whole z
-and-within z whole parts items i part is same h at =
-    let e = ap (λ c. widest_in c z) is ∙ widest-And parts z ∙ ap (λ (left : List Cond). fold max 0 (map (λ c. widest_in c z) left)) (sym same) in
-    omega (arith, e, max-part (λ c. widest_in c z) 0 items i part part h at)
+module _ (z : ℕ → ℕ) (whole : CondTree) (first : Box CondTree Global) (rest : Vec CondTree Global) (head : CondTree) (items : List CondTree) (one : head ≡ first.value) (same : items ≡ rest.items) where
+  and-is : whole ≡ view.And first rest → widest_in (cond_of whole) z ≡ fold max (widest_in (cond_of head) z) (map (λ t. widest_in (cond_of t) z) items)
+  and-is is = rw (one, same) (ap (λ t. widest_in (cond_of t) z) is ∙ widest-And first rest z)
 
-pub or-within : (z : ℕ → ℕ) (whole : Cond) (parts : Vec Cond Global) (items : List Cond) (i : ℕ) (part : Cond) → whole ≡ view.Or parts → items ≡ parts.items → i < length items → part ≡ get_or items i part
-    → widest_in part z ≤ widest_in whole z
-or-within z whole parts items i part is same h at =
-    let e = ap (λ c. widest_in c z) is ∙ widest-Or parts z ∙ ap (λ (left : List Cond). fold max 0 (map (λ c. widest_in c z) left)) (sym same) in
-    omega (arith, e, max-part (λ c. widest_in c z) 0 items i part part h at)
+  or-is : whole ≡ view.Or first rest → widest_in (cond_of whole) z ≡ fold max (widest_in (cond_of head) z) (map (λ t. widest_in (cond_of t) z) items)
+  or-is is = rw (one, same) (ap (λ t. widest_in (cond_of t) z) is ∙ widest-Or first rest z)
 
--- before its first part a chain has all of its truth to come
-pub or-start : (r : Row) (whole : Cond) (parts : Vec Cond Global) (items : List Cond) → whole ≡ view.Or parts → items ≡ parts.items → any_of (map (λ c. holds c r) items) ≡ holds whole r
-or-start r whole parts items is same = ap (λ (left : List Cond). any_of (map (λ c. holds c r) left)) same ∙ sym (ap (λ c. holds c r) is ∙ holds-Or parts r)
+  pub and-first : whole ≡ view.And first rest → widest_in (cond_of head) z ≤ widest_in (cond_of whole) z
+  and-first is = omega (arith, and-is is, max-start (widest_in (cond_of head) z) (map (λ t. widest_in (cond_of t) z) items))
+
+  pub or-first : whole ≡ view.Or first rest → widest_in (cond_of head) z ≤ widest_in (cond_of whole) z
+  or-first is = omega (arith, or-is is, max-start (widest_in (cond_of head) z) (map (λ t. widest_in (cond_of t) z) items))
+
+  pub and-within : (i : ℕ) (part : CondTree) → whole ≡ view.And first rest → i < length items → part ≡ get_or items i part → widest_in (cond_of part) z ≤ widest_in (cond_of whole) z
+  and-within i part is h at = omega (arith, and-is is, max-part (λ t. widest_in (cond_of t) z) (widest_in (cond_of head) z) items i part part h at)
+
+  pub or-within : (i : ℕ) (part : CondTree) → whole ≡ view.Or first rest → i < length items → part ≡ get_or items i part → widest_in (cond_of part) z ≤ widest_in (cond_of whole) z
+  or-within i part is h at = omega (arith, or-is is, max-part (λ t. widest_in (cond_of t) z) (widest_in (cond_of head) z) items i part part h at)
+
+-- before its second part a chain has the truth of its first, and the rest to come
+module _ (r : Row) (whole : CondTree) (first : Box CondTree Global) (rest : Vec CondTree Global) (head : CondTree) (items : List CondTree) (truth : Truth) (one : head ≡ first.value) (same : items ≡ rest.items) (is_truth : truth ≡ holds (cond_of head) r) where
+  pub and-start : whole ≡ view.And first rest → fold and_truth truth (map (λ t. holds (cond_of t) r) items) ≡ holds (cond_of whole) r
+  and-start is = rw (is_truth, one, same) (sym (ap (λ t. holds (cond_of t) r) is ∙ holds-And first rest r))
+
+  pub or-start : whole ≡ view.Or first rest → fold or_truth truth (map (λ t. holds (cond_of t) r) items) ≡ holds (cond_of whole) r
+  or-start is = rw (is_truth, one, same) (sym (ap (λ t. holds (cond_of t) r) is ∙ holds-Or first rest r))

@@ -1,14 +1,12 @@
 -- What an expression gives in a row.
-use Rattle.std.specs.Prelude.{ℕ, ℤ, pos, ◌+ℤ◌, ◌*ℤ◌, neg_ℤ, map, fold}
+use Rattle.std.specs.Prelude.{ℕ, ℤ, pos, ◌+ℤ◌, ◌*ℤ◌, neg_ℤ}
 use Rattle.cq_values.specs.declared.value.Value.{Value}
 use Rattle.cq_values.specs.declared.value.Value.TheVariants.{Null, Number, Day}
 use Rattle.cq_values.specs.Days.{year_of, month_of, day_of_month}
 use Rattle.cq_values.specs.Value.{Row, column}
 use Rattle.cq_model.specs.declared.expr.DayPart.{DayPart}
 use Rattle.cq_model.specs.declared.expr.DayPart.TheVariants as parts
-use Rattle.cq_model.specs.declared.expr.Expr.{Expr}
-use Rattle.cq_model.specs.declared.expr.Expr.TheOpen as node
-use Rattle.cq_model.specs.declared.expr.Expr.TheFolds.{fold-Expr}
+use Rattle.cq_model.specs.Expr.{Expr, Column, Literal, Negate, Plus, Times, Extract}
 
 -- minus is exact, and of NULL it is NULL
 abbrev pub negated : Value → Value
@@ -36,15 +34,11 @@ abbrev pub extracted : DayPart → Value → Value
 extracted part (Day d) = Number (pos (part_of part d))
 extracted part v = Null
 
--- one node of an expression, with what its parts give
-abbrev pub eval_step : node.Expr-F (Row → Value) → Row → Value
-eval_step (node.Column i) r = column r i
-eval_step (node.Literal v) r = v
-eval_step (node.Negate e) r = negated (e.value r)
-eval_step (node.Sum es) r = fold plus (Number (pos 0)) (map (λ e. e r) es.items)
-eval_step (node.Product es) r = fold times (Number (pos 1)) (map (λ e. e r) es.items)
-eval_step (node.Extract part e) r = extracted part (e.value r)
-
 -- the value of an expression in a row
 abbrev pub eval : Expr → Row → Value
-eval = fold-Expr (Row → Value) eval_step
+eval (Column i) r = column r i
+eval (Literal v) r = v
+eval (Negate e) r = negated (eval e r)
+eval (Plus a b) r = plus (eval a r) (eval b r)
+eval (Times a b) r = times (eval a r) (eval b r)
+eval (Extract part e) r = extracted part (eval e r)

@@ -3,8 +3,11 @@ pub mod Lexemes
 pub mod Tokens
 pub mod Written
 pub mod Codes
+pub mod Expr
+pub mod ExprCodes
+pub mod Trees
 pub mod Expression
-pub mod Meant
+pub mod Placed
 pub mod Sentence
 pub mod Pieces
 pub mod Comparison
@@ -16,6 +19,7 @@ pub mod Width
 pub mod Group
 pub mod Meaning
 pub mod Write
+pub mod Sizes
 pub mod Views
 pub mod Delta
 pub mod Pushed

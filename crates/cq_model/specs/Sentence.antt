@@ -9,9 +9,6 @@ use Rattle.cq_model.specs.declared.token.Symbol.TheVariants as symbols
 use Rattle.cq_model.specs.declared.token.Token.{Token}
 use Rattle.cq_model.specs.declared.token.Token.TheVariants as tokens
 use Rattle.cq_model.specs.declared.statement.ColumnDef.{ColumnDef}
-use Rattle.cq_model.specs.declared.statement.Comparison.{Comparison}
-use Rattle.cq_model.specs.declared.statement.Comparison.TheVariants as comparisons
-use Rattle.cq_model.specs.declared.statement.Condition.{Condition}
 use Rattle.cq_model.specs.declared.statement.Constant.{Constant}
 use Rattle.cq_model.specs.declared.statement.Constant.TheVariants as constants
 use Rattle.cq_model.specs.declared.statement.Item.{Item}
@@ -21,7 +18,9 @@ use Rattle.cq_model.specs.declared.statement.Literal.{Literal}
 use Rattle.cq_model.specs.declared.statement.Statement.{Statement}
 use Rattle.cq_model.specs.declared.statement.Statement.TheVariants as statements
 use Rattle.cq_model.specs.declared.statement.ViewSelect.{ViewSelect}
+use Rattle.cq_model.specs.Expression.{IsExpression}
 use Rattle.cq_model.specs.Tokens.{HasTokens, is_past_limits}
+use Rattle.cq_model.specs.Written.{Written}
 
 -- x {, x}
 abbrev pub Separated : {A : Type 0} → (A → List Token → Type 0) → List A → List Token → Type 0
@@ -72,18 +71,10 @@ IsConstant (constants.Date t) ts = ts ≡ tokens.Keyword keywords.Date ∷ token
 abbrev pub IsRow : List Constant → List Token → Type 0
 IsRow row ts = (inner : List Token) × (ts ≡ tokens.Symbol symbols.Open ∷ inner ++ tokens.Symbol symbols.Close ∷ []) × Separated IsConstant row inner
 
-abbrev pub comparison_symbol : Comparison → Symbol
-comparison_symbol comparisons.Equal = symbols.Equal
-comparison_symbol comparisons.NotEqual = symbols.NotEqual
-comparison_symbol comparisons.Less = symbols.Less
-comparison_symbol comparisons.LessOrEqual = symbols.LessOrEqual
-comparison_symbol comparisons.Greater = symbols.Greater
-comparison_symbol comparisons.GreaterOrEqual = symbols.GreaterOrEqual
-
--- [WHERE name op const]
-abbrev pub IsWhere : Option Condition → List Token → Type 0
+-- [WHERE expr]
+abbrev pub IsWhere : Option Written → List Token → Type 0
 IsWhere None ts = ts ≡ []
-IsWhere (Some c) ts = (number : List Token) × (ts ≡ tokens.Keyword keywords.Where ∷ tokens.Name c.column ∷ tokens.Symbol (comparison_symbol c.comparison) ∷ number) × IsLiteral c.literal number
+IsWhere (Some condition) ts = (rest : List Token) × (ts ≡ tokens.Keyword keywords.Where ∷ rest) × IsExpression condition rest
 
 -- name, COUNT ( * ) or SUM ( name )
 abbrev pub IsItemValue : ItemValue → List Token → Type 0

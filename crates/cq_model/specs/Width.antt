@@ -1,16 +1,11 @@
 -- How large the values of an expression can be, at a row and while the columns keep bounds.
-use Rattle.std.specs.Prelude.{◌≤◌, ◌<◌, ◌≡◌, ◌⊎◌, ℕ, pos, ◌+◌, ◌*◌, ◌^◌, if◌then◌else◌, nat_lt, max, nat_abs, Option, Some, None, List, [], ◌∷◌, map, fold, slice_index_or}
+use Rattle.std.specs.Prelude.{◌≤◌, ◌<◌, ℕ, ◌+◌, ◌*◌, ◌^◌, if◌then◌else◌, nat_lt, max, nat_abs, Option, Some, None, List, map, fold, slice_index_or}
 use Rattle.cq_values.specs.declared.value.Value.{Value}
 use Rattle.cq_values.specs.declared.value.Value.TheVariants.{Number}
 use Rattle.cq_values.specs.Value.{Row, column}
 use Rattle.cq_model.specs.declared.expr.DayPart.{DayPart}
 use Rattle.cq_model.specs.declared.expr.DayPart.TheVariants as parts
-use Rattle.cq_model.specs.declared.expr.Expr.{Expr}
-use Rattle.cq_model.specs.declared.expr.Expr.TheOpen as node
-use Rattle.cq_model.specs.declared.expr.Expr.TheFolds.{fold-Expr}
-use Rattle.cq_model.specs.declared.expr.Cond.{Cond}
-use Rattle.cq_model.specs.declared.expr.Cond.TheOpen as cond_node
-use Rattle.cq_model.specs.declared.expr.Cond.TheFolds.{fold-Cond}
+use Rattle.cq_model.specs.Expr.{Expr, Column, Literal, Negate, Plus, Times, Extract, Cond, Compare, IsNull, Between, In, Like, Not, And, Or}
 
 -- a number's distance from zero, and zero for what is no number
 abbrev pub value_size : Value → ℕ
@@ -34,33 +29,20 @@ extent_plus a b = extent_of (a.size + b.size) (max a.widest b.widest)
 abbrev pub extent_times : Extent → Extent → Extent
 extent_times a b = extent_of (a.size * b.size) (max a.widest b.widest)
 
--- the first factor of a product is not worked out: only a product of two or more is
-abbrev pub extent_of_product : List Extent → Extent
-extent_of_product [] = extent_of 1 0
-extent_of_product (first ∷ others) = fold extent_times first others
-
--- one times a value is that value, and any other product stays below 2^127
-abbrev pub CanMultiply : Value → Value → Type 0
-CanMultiply v w = (v ≡ Number (pos 1)) ⊎ (value_size v * value_size w < 2 ^ 127)
-
 -- the greatest year, month and day of a month
 abbrev pub part_limit : DayPart → ℕ
 part_limit parts.Year = 9999
 part_limit parts.Month = 12
 part_limit parts.Day = 31
 
--- one node of an expression: its extent, from those of its parts; a column and a part of a day are neither written nor worked out
-abbrev pub width_step : node.Expr-F ((ℕ → ℕ) → Extent) → (ℕ → ℕ) → Extent
-width_step (node.Column i) sizes = record { size = sizes i; widest = 0 }
-width_step (node.Literal v) sizes = extent_of (value_size v) 0
-width_step (node.Negate e) sizes = extent_of (e.value sizes).size (e.value sizes).widest
-width_step (node.Sum es) sizes = fold extent_plus (extent_of 0 0) (map (λ e. e sizes) es.items)
-width_step (node.Product es) sizes = extent_of_product (map (λ e. e sizes) es.items)
-width_step (node.Extract part e) sizes = record { size = part_limit part; widest = (e.value sizes).widest }
-
--- the extent of an expression over columns of these sizes
+-- the extent of an expression over columns of these sizes; a column and a part of a day are neither written nor worked out
 abbrev pub width : Expr → (ℕ → ℕ) → Extent
-width = fold-Expr ((ℕ → ℕ) → Extent) width_step
+width (Column i) sizes = record { size = sizes i; widest = 0 }
+width (Literal v) sizes = extent_of (value_size v) 0
+width (Negate e) sizes = extent_of (width e sizes).size (width e sizes).widest
+width (Plus a b) sizes = extent_plus (width a sizes) (width b sizes)
+width (Times a b) sizes = extent_times (width a sizes) (width b sizes)
+width (Extract part e) sizes = record { size = part_limit part; widest = (width e sizes).widest }
 
 -- the widest number that is written or worked out on the way to the expression's value
 abbrev pub widest : (ℕ → ℕ) → Expr → ℕ
@@ -70,20 +52,16 @@ widest sizes e = (width e sizes).widest
 abbrev pub widest_of : (ℕ → ℕ) → List Expr → ℕ
 widest_of sizes es = fold max 0 (map (widest sizes) es)
 
--- one node of a condition, with the widest number written or worked out in its parts
-abbrev pub widest_step : cond_node.Cond-F ((ℕ → ℕ) → ℕ) → (ℕ → ℕ) → ℕ
-widest_step (cond_node.Compare c a b) sizes = max (widest sizes a) (widest sizes b)
-widest_step (cond_node.IsNull e) sizes = widest sizes e
-widest_step (cond_node.Between e a b) sizes = max (widest sizes e) (max (widest sizes a) (widest sizes b))
-widest_step (cond_node.In e es) sizes = max (widest sizes e) (widest_of sizes es.items)
-widest_step (cond_node.Like e pattern) sizes = widest sizes e
-widest_step (cond_node.Not c) sizes = c.value sizes
-widest_step (cond_node.And cs) sizes = fold max 0 (map (λ c. c sizes) cs.items)
-widest_step (cond_node.Or cs) sizes = fold max 0 (map (λ c. c sizes) cs.items)
-
 -- the widest number written or worked out in a condition over columns of these sizes
 abbrev pub widest_in : Cond → (ℕ → ℕ) → ℕ
-widest_in = fold-Cond ((ℕ → ℕ) → ℕ) widest_step
+widest_in (Compare c a b) sizes = max (widest sizes a) (widest sizes b)
+widest_in (IsNull e) sizes = widest sizes e
+widest_in (Between e a b) sizes = max (widest sizes e) (max (widest sizes a) (widest sizes b))
+widest_in (In e es) sizes = max (widest sizes e) (widest_of sizes es)
+widest_in (Like e pattern) sizes = widest sizes e
+widest_in (Not c) sizes = widest_in c sizes
+widest_in (And a b) sizes = max (widest_in a sizes) (widest_in b sizes)
+widest_in (Or a b) sizes = max (widest_in a sizes) (widest_in b sizes)
 
 -- the sizes of a row's values
 abbrev pub sizes_of : Row → ℕ → ℕ

@@ -2,7 +2,7 @@
 use Rattle.std.specs.Prelude.{not, if◌then◌else◌, List, [], ◌∷◌, map, filter, slice_set, Option}
 use Rattle.cq_values.specs.Value.{Row}
 use Rattle.cq_model.specs.declared.bound.Assignment.{Assignment}
-use Rattle.cq_model.specs.declared.expr.Cond.{Cond}
+use Rattle.cq_model.specs.Expr.{Cond}
 use Rattle.cq_model.specs.Eval.{eval}
 use Rattle.cq_model.specs.Meaning.{keeps}
 

@@ -1,11 +1,12 @@
 //! The value of an expression in a row, without a copy of a text.
-ghost use Rattle.std.specs.Prelude.{◌+◌, ◌<◌, ◌^◌, ◌≡◌, ◌≤◌};
+ghost use Rattle.std.specs.Prelude.{◌*◌, ◌+◌, ◌<◌, ◌^◌, ◌≡◌, ◌≤◌};
 ghost use Rattle.cq_values.specs.Lent.{owned};
 ghost use Rattle.cq_values.specs.Value.{column};
 ghost use Rattle.cq_model.specs.Eval.{eval, extracted, negated, plus, times};
-ghost use Rattle.cq_model.specs.Width.{BoundHolds, BoundHoldsIn, CanMultiply, extent, part_limit, value_size};
+ghost use Rattle.cq_model.specs.Trees.{expr_of};
+ghost use Rattle.cq_model.specs.Width.{BoundHolds, BoundHoldsIn, extent, part_limit, value_size};
 
-use crate::expr::{DayPart, Expr};
+use crate::expr::{DayPart, Expr, ExprTree};
 use cq_values::{Lent, Value};
 
 /// The value in a column of a row, and NULL past the end.
@@ -23,33 +24,33 @@ pub fn eval_row<'a>(expr: &'a Expr, row: &'a [Value]) -> Lent<'a>
     requires { (extent expr.now row.now).widest < 2 ^ 127 }
     ensures { owned result ≡ eval expr.now row.now }
 {
-    eval_within(expr, row)
+    eval_tree(expr.tree(), row)
 }
 
-fn eval_within<'a>(expr: &'a Expr, row: &'a [Value]) -> Lent<'a>
-    requires { (extent expr.now row.now).widest < 2 ^ 127 }
-    ensures value { owned result ≡ eval expr.now row.now }
-    ensures small { value_size (owned result) ≤ (extent expr.now row.now).size }
+pub(crate) fn eval_tree<'a>(tree: &'a ExprTree, row: &'a [Value]) -> Lent<'a>
+    requires { (extent (expr_of tree.now) row.now).widest < 2 ^ 127 }
+    ensures value { owned result ≡ eval (expr_of tree.now) row.now }
+    ensures small { value_size (owned result) ≤ (extent (expr_of tree.now) row.now).size }
 {
-    match expr {
-        Expr::Column(place) => lend_column(row, *place),
-        Expr::Literal(value) => value.lend(),
-        Expr::Negate(part) => negate(&eval_within(part, row)),
-        Expr::Sum(parts) => {
-            let mut sum = Lent::Number(0);
-            for part in parts {
-                sum = add(&sum, &eval_within(part, row));
+    match tree {
+        ExprTree::Column(place) => lend_column(row, *place),
+        ExprTree::Literal(value) => value.lend(),
+        ExprTree::Negate(part) => negate(&eval_tree(part, row)),
+        ExprTree::Sum(first, rest) => {
+            let mut sum = eval_tree(first, row);
+            for term in rest {
+                sum = add(&sum, &eval_tree(term, row));
             }
             sum
         }
-        Expr::Product(factors) => {
-            let mut product = Lent::Number(1);
-            for factor in factors {
-                product = multiply(&product, &eval_within(factor, row));
+        ExprTree::Product(first, rest) => {
+            let mut product = eval_tree(first, row);
+            for factor in rest {
+                product = multiply(&product, &eval_tree(factor, row));
             }
             product
         }
-        Expr::Extract(day_part, part) => extract(*day_part, &eval_within(part, row)),
+        ExprTree::Extract(day_part, part) => extract(*day_part, &eval_tree(part, row)),
     }
 }
 
@@ -74,7 +75,7 @@ fn add<'a>(a: &Lent<'_>, b: &Lent<'_>) -> Lent<'a>
 }
 
 fn multiply<'a>(a: &Lent<'_>, b: &Lent<'_>) -> Lent<'a>
-    requires { CanMultiply (owned a.now) (owned b.now) }
+    requires { value_size (owned a.now) * value_size (owned b.now) < 2 ^ 127 }
     ensures { owned result ≡ times (owned a.now) (owned b.now) }
 {
     match (a, b) {

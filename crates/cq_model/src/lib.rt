@@ -21,12 +21,11 @@ mod written;
 
 pub use bound::{Assignment, Bound};
 pub use eval::{bound_holds, eval_row, lend_column};
-pub use expr::{Cond, DayPart, Expr};
+pub use expr::{Cond, CondTree, DayPart, Expr, ExprTree};
 pub use pattern::{like, like_decides};
 pub use query::{Aggregate, Equality, Join, Order, Query, Shape, Source};
 pub use statement::{
-    ColumnDef, Comparison, Condition, Constant, Item, ItemValue, Literal, Select, Statement,
-    ViewSelect,
+    ColumnDef, Comparison, Constant, Item, ItemValue, Literal, Select, Statement, ViewSelect,
 };
 pub use token::{Keyword, Symbol, Token};
 pub use truth::{compare, holds_row};

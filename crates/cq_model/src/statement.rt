@@ -1,4 +1,5 @@
 //! Statements as trees.
+use crate::written::SqlExpr;
 use cq_values::{Seq, Text, Ty};
 
 /// A whole number with its sign. The greatest magnitude stands for every number from it on.
@@ -37,20 +38,12 @@ pub struct ColumnDef {
     pub not_null: bool,
 }
 
-/// A column compared with a number.
-#[derive(Debug, Drop)]
-pub struct Condition {
-    pub column: Text,
-    pub comparison: Comparison,
-    pub literal: Literal,
-}
-
 /// Columns of one table, of the rows that the condition keeps.
 #[derive(Debug, Drop)]
 pub struct Select {
     pub columns: Seq<Text>,
     pub table: Text,
-    pub condition: Option<Condition>,
+    pub condition: Option<SqlExpr>,
 }
 
 /// What an item of a view shows.
@@ -73,7 +66,7 @@ pub struct Item {
 pub struct ViewSelect {
     pub items: Seq<Item>,
     pub table: Text,
-    pub condition: Option<Condition>,
+    pub condition: Option<SqlExpr>,
     pub group: Seq<Text>,
 }
 
@@ -98,7 +91,7 @@ pub enum Statement {
     },
     Delete {
         table: Text,
-        condition: Option<Condition>,
+        condition: Option<SqlExpr>,
     },
     Select(Select),
 }

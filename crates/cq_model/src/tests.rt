@@ -1,8 +1,9 @@
 //! LIKE and the truth of conditions, with NULL in each place; and which numbers are too wide.
 ghost use Rattle.std.specs.Prelude.{◌^◌, ◌≤◌, []};
+ghost use Rattle.cq_model.specs.Trees.{cond_of, expr_of};
 ghost use Rattle.cq_model.specs.Width.{sizes_of, value_size, widest, widest_at};
 
-use crate::expr::{Cond, Expr};
+use crate::expr::{Cond, CondTree, Expr, ExprTree};
 use crate::pattern::like;
 use crate::statement::Comparison;
 use crate::truth::{between, compare, holds_row, is_in, is_like};
@@ -140,21 +141,27 @@ fn a_chain_of_truths_has_the_tables_truth(rt: HostRuntime) -> Result<(), Fail> {
 #[test]
 fn a_wide_column_may_stand_but_not_be_worked_with(rt: HostRuntime) -> Result<(), Fail> {
     let sizes = [1 << 127];
-    assert_eq!(rt; width_of(&Expr::Column(0), &sizes), Some(1 << 127));
+    assert_eq!(rt; width_of(&Expr::column(0), &sizes), Some(1 << 127));
     // what the column is added to and multiplied by; the sizes of the sum and the product
     let cases = [(0, None, Some(0)), (1, None, None), (-1, None, None)];
     for (number, of_sum, of_product) in cases {
-        let sum = Expr::Sum(vec![in rt.alloc(); Expr::Column(0), literal(Some(number))]?);
-        assert_eq!(rt; width_of(&sum, &sizes), of_sum, "a + {number}");
-        let product = Expr::Product(vec![in rt.alloc(); Expr::Column(0), literal(Some(number))]?);
-        assert_eq!(rt; width_of(&product, &sizes), of_product, "a * {number}");
+        let column = Box::new(rt.alloc(), ExprTree::Column(0))?;
+        let sum = ExprTree::Sum(column, vec![in rt.alloc(); literal(Some(number))]?);
+        assert_eq!(rt; width_of(&Expr::new(sum), &sizes), of_sum, "a + {number}");
+        let column = Box::new(rt.alloc(), ExprTree::Column(0))?;
+        let product = ExprTree::Product(column, vec![in rt.alloc(); literal(Some(number))]?);
+        assert_eq!(rt;
+            width_of(&Expr::new(product), &sizes),
+            of_product,
+            "a * {number}"
+        );
     }
     Ok(())
 }
 
 #[test]
 fn minus_counts_with_its_own_size(rt: HostRuntime) -> Result<(), Fail> {
-    let minus = Expr::Negate(Box::new(rt.alloc(), Expr::Column(0))?);
+    let minus = Expr::new(ExprTree::Negate(Box::new(rt.alloc(), ExprTree::Column(0))?));
     assert_eq!(rt; width_of(&minus, &[(1 << 127) - 1]), Some((1 << 127) - 1));
     assert_eq!(rt; width_of(&minus, &[1 << 127]), None);
     Ok(())
@@ -170,12 +177,12 @@ fn one_of(
     Ok(is_in(&lent(value), &choices, &[]))
 }
 
-fn literal(number: Option<i64>) -> Expr
-    ensures { widest (sizes_of []) result ≤ 2 ^ 63 }
+fn literal(number: Option<i64>) -> ExprTree
+    ensures { widest (sizes_of []) (expr_of result) ≤ 2 ^ 63 }
 {
     match number {
-        Some(number) => Expr::Literal(Value::Number(i128::from(number))),
-        None => Expr::Literal(Value::Null),
+        Some(number) => ExprTree::Literal(Value::Number(i128::from(number))),
+        None => ExprTree::Literal(Value::Null),
     }
 }
 
@@ -186,8 +193,8 @@ fn lent<'a>(number: Option<i64>) -> Lent<'a> {
     }
 }
 
-fn condition(truth: Truth) -> Cond
-    ensures { widest_at result [] ≤ 2 }
+fn condition(truth: Truth) -> CondTree
+    ensures { widest_at (cond_of result) [] ≤ 2 }
 {
     match truth {
         Truth::True => one_equals(Value::Number(1)),
@@ -196,20 +203,22 @@ fn condition(truth: Truth) -> Cond
     }
 }
 
-fn one_equals(value: Value) -> Cond
+fn one_equals(value: Value) -> CondTree
     requires { value_size value ≤ 2 }
-    ensures { widest_at result [] ≤ 2 }
+    ensures { widest_at (cond_of result) [] ≤ 2 }
 {
-    let one = Expr::Literal(Value::Number(1));
-    Cond::Compare(Comparison::Equal, one, Expr::Literal(value))
+    let one = ExprTree::Literal(Value::Number(1));
+    CondTree::Compare(Comparison::Equal, one, ExprTree::Literal(value))
 }
 
 fn both(alloc: Global, a: Truth, b: Truth) -> Result<Truth, AllocError> {
-    let cond = Cond::And(vec![in alloc; condition(a), condition(b)]?);
-    Ok(holds_row(&cond, &[]))
+    let first = Box::new(alloc, condition(a))?;
+    let cond = CondTree::And(first, vec![in alloc; condition(b)]?);
+    Ok(holds_row(&Cond::new(cond), &[]))
 }
 
 fn either(alloc: Global, a: Truth, b: Truth) -> Result<Truth, AllocError> {
-    let cond = Cond::Or(vec![in alloc; condition(a), condition(b)]?);
-    Ok(holds_row(&cond, &[]))
+    let first = Box::new(alloc, condition(a))?;
+    let cond = CondTree::Or(first, vec![in alloc; condition(b)]?);
+    Ok(holds_row(&Cond::new(cond), &[]))
 }

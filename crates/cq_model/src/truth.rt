@@ -6,10 +6,11 @@ ghost use Rattle.cq_values.specs.Truth.{truth_of};
 ghost use Rattle.cq_model.specs.Comparison.{compared, passes};
 ghost use Rattle.cq_model.specs.Condition.{any_of, between, holds, is_null, liked};
 ghost use Rattle.cq_model.specs.Eval.{eval};
+ghost use Rattle.cq_model.specs.Trees.{cond_of, expr_of};
 ghost use Rattle.cq_model.specs.Width.{sizes_of, widest_at, widest_of};
 
-use crate::eval::eval_row;
-use crate::expr::{Cond, Expr};
+use crate::eval::eval_tree;
+use crate::expr::{Cond, CondTree, ExprTree};
 use crate::pattern::like;
 use crate::statement::Comparison;
 use cq_values::{Lent, Truth, Value, cmp_lent};
@@ -20,36 +21,43 @@ pub fn holds_row(cond: &Cond, row: &[Value]) -> Truth
     requires { widest_at cond.now row.now < 2 ^ 127 }
     ensures { result ≡ holds cond.now row.now }
 {
-    match cond {
-        Cond::Compare(comparison, a, b) => {
-            compare(*comparison, &eval_row(a, row), &eval_row(b, row))
+    holds_tree(cond.tree(), row)
+}
+
+fn holds_tree(tree: &CondTree, row: &[Value]) -> Truth
+    requires { widest_at (cond_of tree.now) row.now < 2 ^ 127 }
+    ensures { result ≡ holds (cond_of tree.now) row.now }
+{
+    match tree {
+        CondTree::Compare(comparison, a, b) => {
+            compare(*comparison, &eval_tree(a, row), &eval_tree(b, row))
         }
-        Cond::IsNull(expr) => truth_of(is_null(&eval_row(expr, row))),
-        Cond::Between(expr, least, greatest) => between(
-            &eval_row(expr, row),
-            &eval_row(least, row),
-            &eval_row(greatest, row),
+        CondTree::IsNull(expr) => truth_of(is_null(&eval_tree(expr, row))),
+        CondTree::Between(expr, least, greatest) => between(
+            &eval_tree(expr, row),
+            &eval_tree(least, row),
+            &eval_tree(greatest, row),
         ),
-        Cond::In(expr, choices) => is_in(&eval_row(expr, row), choices, row),
-        Cond::Like(expr, pattern) => is_like(&eval_row(expr, row), pattern.as_str()),
-        Cond::Not(part) => holds_row(part, row).not(),
-        Cond::And(parts) => {
-            let mut truth = Truth::True;
-            for part in parts {
-                truth = truth.and(holds_row(part, row));
+        CondTree::In(expr, choices) => is_in(&eval_tree(expr, row), choices, row),
+        CondTree::Like(expr, pattern) => is_like(&eval_tree(expr, row), pattern.as_str()),
+        CondTree::Not(part) => holds_tree(part, row).not(),
+        CondTree::And(first, rest) => {
+            let mut truth = holds_tree(first, row);
+            for part in rest {
                 if truth == Truth::False {
                     return truth;
                 }
+                truth = truth.and(holds_tree(part, row));
             }
             truth
         }
-        Cond::Or(choices) => {
-            let mut truth = Truth::False;
-            for choice in choices {
-                truth = truth.or(holds_row(choice, row));
+        CondTree::Or(first, rest) => {
+            let mut truth = holds_tree(first, row);
+            for choice in rest {
                 if truth == Truth::True {
                     return truth;
                 }
+                truth = truth.or(holds_tree(choice, row));
             }
             truth
         }
@@ -73,16 +81,16 @@ pub(crate) fn between(value: &Lent<'_>, least: &Lent<'_>, greatest: &Lent<'_>) -
     from_least.and(compare(Comparison::LessOrEqual, value, greatest))
 }
 
-pub(crate) fn is_in(value: &Lent<'_>, choices: &[Expr], row: &[Value]) -> Truth
-    requires { widest_of (sizes_of row.now) choices.now < 2 ^ 127 }
-    ensures { result ≡ any_of (map (λ x. compared Comparison.Equal (owned value.now) (eval x row.now)) choices.now) }
+pub(crate) fn is_in(value: &Lent<'_>, choices: &[ExprTree], row: &[Value]) -> Truth
+    requires { widest_of (sizes_of row.now) (map expr_of choices.now) < 2 ^ 127 }
+    ensures { result ≡ any_of (map (λ x. compared Comparison.Equal (owned value.now) (eval x row.now)) (map expr_of choices.now)) }
 {
     let mut truth = Truth::False;
     for choice in choices {
-        truth = truth.or(compare(Comparison::Equal, value, &eval_row(choice, row)));
         if truth == Truth::True {
             return truth;
         }
+        truth = truth.or(compare(Comparison::Equal, value, &eval_tree(choice, row)));
     }
     truth
 }

@@ -1,8 +1,9 @@
 //! The size that the value of an expression never exceeds while the columns keep theirs, and what is too wide on the way.
-ghost use Rattle.std.specs.Prelude.{None, Some, if◌then◌else◌, nat_lt, ◌^◌, ◌≡◌};
+ghost use Rattle.std.specs.Prelude.{None, Some, if◌then◌else◌, map, nat_lt, ◌^◌, ◌≡◌};
+ghost use Rattle.cq_model.specs.Trees.{cond_of, expr_of};
 ghost use Rattle.cq_model.specs.Width.{bound, bounds_of, fitting, part_limit, value_size, widest, widest_bound, widest_of};
 
-use crate::expr::{Cond, DayPart, Expr};
+use crate::expr::{Cond, CondTree, DayPart, Expr, ExprTree};
 use cq_values::Value;
 
 /// The least size that is too wide for a number that is written or worked out.
@@ -15,29 +16,32 @@ const TOO_WIDE: u128 = 1 << 127;
 pub fn width_of(expr: &Expr, sizes: &[u128]) -> Option<u128>
     ensures { result ≡ fitting (bound expr.now sizes.now) }
 {
-    match expr {
-        Expr::Column(place) => Some(sizes.get(*place).copied().unwrap_or(0)),
-        Expr::Literal(value) => fit(value_size(value)),
-        Expr::Negate(part) => fit(width_of(part, sizes)?),
-        Expr::Sum(parts) => {
-            let mut sum: u128 = 0;
-            for part in parts {
-                sum = fit(sum.checked_add(width_of(part, sizes)?)?)?;
+    tree_width(expr.tree(), sizes)
+}
+
+fn tree_width(tree: &ExprTree, sizes: &[u128]) -> Option<u128>
+    ensures { result ≡ fitting (bound (expr_of tree.now) sizes.now) }
+{
+    match tree {
+        ExprTree::Column(place) => Some(sizes.get(*place).copied().unwrap_or(0)),
+        ExprTree::Literal(value) => fit(value_size(value)),
+        ExprTree::Negate(part) => fit(tree_width(part, sizes)?),
+        ExprTree::Sum(first, rest) => {
+            let mut sum = tree_width(first, sizes)?;
+            for term in rest {
+                sum = fit(sum.checked_add(tree_width(term, sizes)?)?)?;
             }
             Some(sum)
         }
-        Expr::Product(factors) => {
-            let Some((first, others)) = factors.split_first() else {
-                return Some(1);
-            };
-            let mut product = width_of(first, sizes)?;
-            for factor in others {
-                product = fit(product.checked_mul(width_of(factor, sizes)?)?)?;
+        ExprTree::Product(first, rest) => {
+            let mut product = tree_width(first, sizes)?;
+            for factor in rest {
+                product = fit(product.checked_mul(tree_width(factor, sizes)?)?)?;
             }
             Some(product)
         }
-        Expr::Extract(day_part, part) => {
-            width_of(part, sizes)?;
+        ExprTree::Extract(day_part, part) => {
+            tree_width(part, sizes)?;
             Some(part_limit(*day_part))
         }
     }
@@ -47,18 +51,27 @@ pub fn width_of(expr: &Expr, sizes: &[u128]) -> Option<u128>
 pub fn fits(cond: &Cond, sizes: &[u128]) -> bool
     ensures { result ≡ nat_lt (widest_bound cond.now sizes.now) (2 ^ 127) }
 {
-    match cond {
-        Cond::Compare(_, a, b) => expr_fits(a, sizes) && expr_fits(b, sizes),
-        Cond::IsNull(expr) => expr_fits(expr, sizes),
-        Cond::Between(expr, least, greatest) => {
+    tree_fits(cond.tree(), sizes)
+}
+
+fn tree_fits(tree: &CondTree, sizes: &[u128]) -> bool
+    ensures { result ≡ nat_lt (widest_bound (cond_of tree.now) sizes.now) (2 ^ 127) }
+{
+    match tree {
+        CondTree::Compare(_, a, b) => expr_fits(a, sizes) && expr_fits(b, sizes),
+        CondTree::IsNull(expr) => expr_fits(expr, sizes),
+        CondTree::Between(expr, least, greatest) => {
             expr_fits(expr, sizes) && expr_fits(least, sizes) && expr_fits(greatest, sizes)
         }
-        Cond::In(expr, choices) => expr_fits(expr, sizes) && exprs_fit(choices, sizes),
-        Cond::Like(expr, _) => expr_fits(expr, sizes),
-        Cond::Not(part) => fits(part, sizes),
-        Cond::And(parts) | Cond::Or(parts) => {
-            for part in parts {
-                if !fits(part, sizes) {
+        CondTree::In(expr, choices) => expr_fits(expr, sizes) && exprs_fit(choices, sizes),
+        CondTree::Like(expr, _) => expr_fits(expr, sizes),
+        CondTree::Not(part) => tree_fits(part, sizes),
+        CondTree::And(first, rest) | CondTree::Or(first, rest) => {
+            if !tree_fits(first, sizes) {
+                return false;
+            }
+            for part in rest {
+                if !tree_fits(part, sizes) {
                     return false;
                 }
             }
@@ -67,16 +80,16 @@ pub fn fits(cond: &Cond, sizes: &[u128]) -> bool
     }
 }
 
-fn expr_fits(expr: &Expr, sizes: &[u128]) -> bool
-    ensures { result ≡ nat_lt (widest (bounds_of sizes.now) expr.now) (2 ^ 127) }
+fn expr_fits(tree: &ExprTree, sizes: &[u128]) -> bool
+    ensures { result ≡ nat_lt (widest (bounds_of sizes.now) (expr_of tree.now)) (2 ^ 127) }
 {
-    width_of(expr, sizes).is_some()
+    tree_width(tree, sizes).is_some()
 }
 
-fn exprs_fit(exprs: &[Expr], sizes: &[u128]) -> bool
-    ensures { result ≡ nat_lt (widest_of (bounds_of sizes.now) exprs.now) (2 ^ 127) }
+fn exprs_fit(trees: &[ExprTree], sizes: &[u128]) -> bool
+    ensures { result ≡ nat_lt (widest_of (bounds_of sizes.now) (map expr_of trees.now)) (2 ^ 127) }
 {
-    exprs.iter().all(|expr| expr_fits(expr, sizes))
+    trees.iter().all(|tree| expr_fits(tree, sizes))
 }
 
 fn fit(size: u128) -> Option<u128>

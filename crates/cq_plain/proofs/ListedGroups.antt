@@ -10,7 +10,7 @@ use Rattle.cq_values.specs.Value.{Row}
 use Rattle.cq_bags.specs.Bag.{once_each, firsts}
 use Rattle.cq_bags.proofs.Totals.{by_test}
 use Rattle.cq_bags.proofs.Distincts.{is_among-firsts}
-use Rattle.cq_model.specs.declared.expr.Expr.{Expr}
+use Rattle.cq_model.specs.Expr.{Expr}
 use Rattle.cq_model.specs.declared.query.Aggregate.TheVariants.{CountAll, Count, Sum, Min, Max}
 use Rattle.cq_model.specs.Condition.{is_null}
 use Rattle.cq_model.specs.Eval.{eval}

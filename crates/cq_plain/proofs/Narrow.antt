@@ -2,8 +2,7 @@
 use Rattle.std.proofs.Common.{◌≡◌, ℕ, zero, suc, [], ◌∷◌, map, refl, ◌∙◌, ap}
 use Rattle.std.specs.Prelude.{◌^◌, nat_lt, is_some}
 use Rattle.cq_values.specs.Value.{Row}
-use Rattle.cq_model.specs.declared.expr.Cond.{Cond}
-use Rattle.cq_model.specs.declared.expr.Expr.{Expr}
+use Rattle.cq_model.specs.Expr.{Expr, Cond}
 use Rattle.cq_model.specs.Width.{Extent, bound, bounds_of, extent, fitting, sizes_of, value_size, widest_at, widest_bound, widest_in, width}
 use Rattle.cq_bags.proofs.Totals.{by_test}
 

@@ -3,8 +3,7 @@ use Rattle.std.specs.Prelude.{ℕ, ◌^◌, ◌≤◌, pos, ◌<ℤ◌, Option, 
 use Rattle.std.specs.List.{Any}
 use Rattle.cq_values.specs.Value.{Row}
 use Rattle.cq_bags.specs.Bag.{Weighted, weight_of}
-use Rattle.cq_model.specs.declared.expr.Cond.{Cond}
-use Rattle.cq_model.specs.declared.expr.Expr.{Expr}
+use Rattle.cq_model.specs.Expr.{Expr, Cond}
 use Rattle.cq_model.specs.declared.query.Aggregate.{Aggregate}
 use Rattle.cq_model.specs.declared.query.Aggregate.TheVariants.{CountAll, Count, Sum, Min, Max}
 use Rattle.cq_model.specs.declared.query.Query.{Query}

@@ -38,7 +38,7 @@ fn database(alloc: Global, numbers: &[Option<i64>]) -> Result<Database, AllocErr
 /// The first column of what the shape makes of the table.
 fn first_column(alloc: Global, shape: Shape) -> Result<Query, AllocError> {
     let mut items = Seq::new(alloc);
-    items.push(Expr::Column(0))?;
+    items.push(Expr::column(0))?;
     Ok(Query {
         first: Source::Table(0),
         joins: Seq::new(alloc),
@@ -75,7 +75,7 @@ fn descending(alloc: Global, limit: u64) -> Result<Order, AllocError> {
 
 fn total(alloc: Global, numbers: &[Option<i64>]) -> Result<Vec<Row>, PlainFault> {
     let database = database(alloc, numbers)?;
-    let shape = one_group(alloc, Aggregate::Sum(Expr::Column(0)))?;
+    let shape = one_group(alloc, Aggregate::Sum(Expr::column(0)))?;
     answer(alloc, &database, &first_column(alloc, shape)?)
 }
 

@@ -1,5 +1,6 @@
 //! Runs of whole scripts.
 mod beginnings;
+mod conditions;
 mod limits;
 mod refusals;
 mod rows;

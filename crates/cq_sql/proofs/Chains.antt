@@ -1,11 +1,11 @@
 -- Chains of parts: how a turn goes, and what a chain reads.
-use Rattle.std.proofs.Common.{◌≡◌, ℕ, zero, suc, ◌-◌, ◌+◌, ◌<◌, ◌≤◌, List, [], ◌∷◌, ◌++◌, length, Option, Some, None, refl, sym, ap, ◌∙◌, append_assoc, arith, length-append}
+use Rattle.std.proofs.Common.{◌≡◌, ℕ, zero, suc, ◌-◌, ◌+◌, ◌<◌, List, Option, Some, None, refl, sym, ap, ◌∙◌, arith}
 use Rattle.cq_model.specs.declared.token.Token.{Token}
 use Rattle.cq_sql.specs.declared.fault.SqlFault.{SqlFault}
 use Rattle.cq_sql.specs.declared.fault.SqlFault.TheVariants as errors
 use Rattle.cq_sql.specs.Gives.{Fails}
 use Rattle.cq_sql.specs.Read.{◌>>=◌}
-use Rattle.cq_sql.specs.Chains.{stop_or_go, chain_from}
+use Rattle.cq_sql.specs.Chains.{chain_from}
 
 -- a chain of any parts
 module _ {W : Type 0} (next : W → List Token → Option (Option (W × List Token))) where

@@ -1,5 +1,5 @@
 -- Conditions and whole expressions are read exactly, and a list of tokens is at most one expression.
-use Rattle.std.proofs.Common.{◌≡◌, Result, Ok, Err, ℕ, zero, suc, ◌+◌, ◌≤◌, ◌<◌, true, List, [], ◌∷◌, ◌++◌, length, Option, Some, None, refl, sym, ap, ap₂, subst, ◌∙◌, arith}
+use Rattle.std.proofs.Common.{◌≡◌, Result, Ok, Err, ℕ, zero, suc, ◌≤◌, ◌<◌, List, [], ◌∷◌, ◌++◌, length, Option, Some, None, refl, sym, ap, subst, ◌∙◌, arith, length-append}
 use Rattle.std.specs.Prelude.{IfOk}
 use Rattle.std.proofs.lemmas.List.{append-nil}
 use Rattle.cq_model.specs.declared.token.Keyword.TheVariants as keywords
@@ -7,15 +7,15 @@ use Rattle.cq_model.specs.declared.token.Token.{Token}
 use Rattle.cq_model.specs.declared.token.Token.TheVariants as tokens
 use Rattle.cq_model.specs.declared.written.ExprNode.{ExprNode}
 use Rattle.cq_model.specs.Written.{Written, Not, written}
-use Rattle.cq_model.specs.Expression.{spelled, fits, is_in_order, IsExpression}
+use Rattle.cq_model.specs.Expression.{spelled, IsExpression}
 use Rattle.cq_sql.specs.declared.links.Operator.TheVariants as operators
 use Rattle.cq_sql.specs.declared.fault.SqlFault.{SqlFault}
 use Rattle.cq_sql.specs.declared.fault.SqlFault.TheVariants as errors
 use Rattle.cq_sql.specs.Gives.{Gives}
-use Rattle.cq_sql.specs.Read.{◌>>=◌, Reader, after_keyword}
+use Rattle.cq_sql.specs.Read.{after_keyword}
 use Rattle.cq_sql.specs.Chains.{joined_at}
-use Rattle.cq_sql.specs.Expressions.{Inside, primary_of, factor_of, product_of, sum_of, predicate_of, negation_of, operand_of, expression_of, prefixed, nothing, readers, if_no_more, whole_expression}
-use Rattle.cq_sql.proofs.Exact.{bind_some, parts_of, keyword_takes}
+use Rattle.cq_sql.specs.Expressions.{Inside, primary_of, factor_of, product_of, sum_of, predicate_of, negation_of, operand_of, expression_of, prefixed, readers, expression_at, if_no_more, whole_expression}
+use Rattle.cq_sql.proofs.Exact.{Reads, bind_some, parts_of, keyword_takes}
 use Rattle.cq_sql.proofs.Tight.{joint_in, Fits, from_fits, to_fits, ReadsTight}
 use Rattle.cq_sql.proofs.Primaries.{ReadsInside, primary_reads}
 use Rattle.cq_sql.proofs.Levels.{factor_reads}
@@ -93,31 +93,49 @@ readers_reads (suc n) = record {
   sum = outer_sum n (readers n) (readers_reads n);
 }
 
+-- what follows does not go on with an expression
+abbrev pub EndsExpression : List Token → Type 0
+EndsExpression rest = joint_in rest ≡ 0
+
+-- expressions are read exactly, where nothing follows that goes on with them
+pub expression_reads : Reads EndsExpression IsExpression expression_at
+unfolding expression_at
+expression_reads = record { found = found; only = only } where
+  found : (w : Written) (front rest : List Token) → IsExpression w front → EndsExpression rest → expression_at (front ++ rest) ≡ Some (w, rest)
+  found w front rest (in_order, split) end =
+      let ts = front ++ rest in
+      let outer = outer_expression (length ts) (readers (length ts)) (readers_reads (length ts)) in
+      let whole : ts ≡ spelled w ++ rest = ap (λ (us : List Token). us ++ rest) split in
+      let count : length (spelled w) < suc (length ts) = omega (arith, ap (λ (us : List Token). length us) whole, length-append (spelled w) rest) in
+      ap (expression_of (readers (length ts))) whole ∙ outer.found w rest (from_fits 0 w in_order) count (omega (arith, end))
+
+  only : (w : Written) (ts rest : List Token) → expression_at ts ≡ Some (w, rest) → (front : List Token) × (ts ≡ front ++ rest) × IsExpression w front
+  only w ts rest e =
+      let outer = outer_expression (length ts) (readers (length ts)) (readers_reads (length ts)) in
+      let o = outer.only w ts rest e in
+      (spelled w, o.1, (to_fits 0 w o.0, refl))
+
 -- an expression is found in its tokens
 pub whole_found : (w : Written) (ts : List Token) → IsExpression w ts → whole_expression ts ≡ Some w
 unfolding whole_expression
-whole_found w ts (in_order, split) =
-    let outer = outer_expression (length ts) (readers (length ts)) (readers_reads (length ts)) in
-    let count : length (spelled w) < suc (length ts) = omega (arith, ap (λ (vs : List Token). length vs) split) in
-    let read : expression_of (readers (length ts)) ts ≡ Some (w, [])
-    = ap (expression_of (readers (length ts))) (split ∙ sym (append-nil (spelled w))) ∙ outer.found w [] (from_fits 0 w in_order) count (omega arith) in
+whole_found w ts h =
+    let read : expression_at ts ≡ Some (w, []) = ap expression_at (sym (append-nil ts)) ∙ expression_reads.found w ts [] h refl in
     rw read refl
 
 -- what was read to the end are the tokens of an expression
-to_the_end : (v w : Written) (ts rest : List Token) → Fits 0 v → ts ≡ spelled v ++ rest → if_no_more (v, rest) ≡ Some w → IsExpression w ts
-to_the_end v w ts [] fit split e =
+to_the_end : (v w : Written) (ts front rest : List Token) → IsExpression v front → ts ≡ front ++ rest → if_no_more (v, rest) ≡ Some w → IsExpression w ts
+to_the_end v w ts front [] h split e =
     let same : v ≡ w = cc e in
-    subst (λ (x : Written). IsExpression x ts) same (to_fits 0 v fit, split ∙ append-nil (spelled v))
-to_the_end v w ts (t ∷ rest) fit split e = absurd (cc e)
+    subst (λ (x : Written). IsExpression x ts) same (subst (λ (us : List Token). IsExpression v us) (sym (split ∙ append-nil front)) h)
+to_the_end v w ts front (t ∷ rest) h split e = absurd (cc e)
 
 -- what all of the tokens are read as is an expression
 pub whole_only : (w : Written) (ts : List Token) → whole_expression ts ≡ Some w → IsExpression w ts
 unfolding whole_expression
 whole_only w ts e =
-    let outer = outer_expression (length ts) (readers (length ts)) (readers_reads (length ts)) in
-    let b = bind_some (expression_of (readers (length ts)) ts) if_no_more w e in
-    let o = outer.only b.0.0 ts b.0.1 b.1 in
-    to_the_end b.0.0 w ts b.0.1 o.0 o.1 b.2
+    let b = bind_some (expression_at ts) if_no_more w e in
+    let o = expression_reads.only b.0.0 ts b.0.1 b.1 in
+    to_the_end b.0.0 w ts o.0 b.0.1 o.2 o.1 b.2
 
 -- a list of tokens is at most one expression
 pub one_expression : (v w : Written) (ts : List Token) → IsExpression v ts → IsExpression w ts → v ≡ w

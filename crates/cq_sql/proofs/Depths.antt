@@ -1,5 +1,5 @@
 -- What may be read in a pair of parentheses, by how many more pairs may open.
-use Rattle.std.proofs.Common.{◌≡◌, ℕ, zero, suc, ◌-◌, ◌<◌, List, [], ◌∷◌, Option, None, refl, ap, arith}
+use Rattle.std.proofs.Common.{◌≡◌, ℕ, zero, suc, ◌-◌, ◌<◌, List, [], ◌∷◌, None, refl, ap, arith}
 use Rattle.cq_model.specs.declared.token.Token.{Token}
 use Rattle.cq_model.specs.Written.{Written}
 use Rattle.cq_sql.specs.declared.atoms.Opening.{Opening}
@@ -8,7 +8,7 @@ use Rattle.cq_sql.specs.declared.links.Operator.TheVariants as operators
 use Rattle.cq_sql.specs.declared.links.Link.TheVariants as links
 use Rattle.cq_sql.specs.Read.{Reader, followed_by}
 use Rattle.cq_sql.specs.Chains.{joined_at, more_parts}
-use Rattle.cq_sql.specs.Expressions.{Inside, content_of, operand_of, expression_of, sum_of, choices_of, readers}
+use Rattle.cq_sql.specs.Expressions.{content_of, operand_of, expression_of, sum_of, choices_of, readers}
 
 -- where no pair of parentheses may open, nothing is read in one
 pub content_shut : (depth : ℕ) (opening : Opening) (ts : List Token) → depth ≡ 0 → content_of (readers depth) opening ts ≡ None

@@ -1,22 +1,20 @@
--- Names, constants, rows, comparisons and conditions are read exactly.
+-- Names, constants, rows and the conditions behind WHERE are read exactly.
 use Rattle.std.proofs.Common.{◌≡◌, ℕ, ◌<◌, Bool, true, false, List, [], ◌∷◌, ◌++◌, length, Option, Some, None, refl, sym, ap, subst, ◌∙◌, arith, length-append}
 use Rattle.std.proofs.lemmas.List.{append-nil}
 use Rattle.cq_model.specs.declared.token.Keyword.TheVariants as keywords
-use Rattle.cq_model.specs.declared.token.Symbol.{Symbol}
 use Rattle.cq_model.specs.declared.token.Symbol.TheVariants as symbols
 use Rattle.cq_model.specs.declared.token.Token.{Token}
 use Rattle.cq_model.specs.declared.token.Token.TheVariants as tokens
-use Rattle.cq_model.specs.declared.statement.Comparison.{Comparison}
-use Rattle.cq_model.specs.declared.statement.Comparison.TheVariants as comparisons
-use Rattle.cq_model.specs.declared.statement.Condition.{Condition}
 use Rattle.cq_model.specs.declared.statement.Constant.{Constant}
 use Rattle.cq_model.specs.declared.statement.Constant.TheVariants as constants
 use Rattle.cq_model.specs.declared.statement.Literal.{Literal}
-use Rattle.cq_model.specs.Sentence.{Separated, IsName, IsLiteral, IsConstant, IsRow, IsWhere, sign_tokens, comparison_symbol}
-use Rattle.cq_sql.specs.Read.{tail_at}
-use Rattle.cq_sql.specs.Grammar.{name_at, literal_at, number_at, constant_at, row_at, comparison_of, comparison_at, condition_at}
-use Rattle.cq_sql.proofs.Exact.{Reads, Anything, Done, After, Then, Tail, EndsTail, bind_some, parts_of, symbol_takes, by_same, done_reads, behind_reads, then_reads, next_reads, tail_reads}
+use Rattle.cq_model.specs.Expression.{IsExpression}
+use Rattle.cq_model.specs.Sentence.{Separated, IsName, IsLiteral, IsConstant, IsRow, IsWhere, sign_tokens}
+use Rattle.cq_model.specs.Written.{Written}
+use Rattle.cq_sql.specs.Grammar.{name_at, literal_at, number_at, constant_at, row_at, where_at}
+use Rattle.cq_sql.proofs.Exact.{Reads, Anything, Done, After, Then, Tail, EndsTail, parts_of, symbol_takes, by_same, done_reads, behind_reads, then_reads, next_reads, tail_reads}
 use Rattle.cq_sql.proofs.Lists.{list_reads}
+use Rattle.cq_sql.proofs.Conditions.{EndsExpression, expression_reads}
 use Rattle.cq_sql.proofs.Words.{null_word, date_word, open_sign, close_sign}
 
 -- names are read exactly
@@ -144,82 +142,17 @@ row_reads = by_same row_parts to from where
 pub row_some : (row : List Constant) (front : List Token) → IsRow row front → 0 < length front
 row_some row front h = omega (arith, ap (λ (ts : List Token). length ts) h.1)
 
--- op
-abbrev pub IsComparison : Comparison → List Token → Type 0
-IsComparison op ts = ts ≡ tokens.Symbol (comparison_symbol op) ∷ []
-
--- the symbol of a comparison stands for it
-comparison_found : (op : Comparison) → comparison_of (comparison_symbol op) ≡ Some op
-comparison_found comparisons.Equal = refl
-comparison_found comparisons.NotEqual = refl
-comparison_found comparisons.Less = refl
-comparison_found comparisons.LessOrEqual = refl
-comparison_found comparisons.Greater = refl
-comparison_found comparisons.GreaterOrEqual = refl
-
--- no other symbol stands for a comparison
-comparison_only : (s : Symbol) (op : Comparison) → comparison_of s ≡ Some op → s ≡ comparison_symbol op
-comparison_only symbols.Equal op e = let same : comparisons.Equal ≡ op = cc in ap comparison_symbol same
-comparison_only symbols.NotEqual op e = let same : comparisons.NotEqual ≡ op = cc in ap comparison_symbol same
-comparison_only symbols.Less op e = let same : comparisons.Less ≡ op = cc in ap comparison_symbol same
-comparison_only symbols.LessOrEqual op e = let same : comparisons.LessOrEqual ≡ op = cc in ap comparison_symbol same
-comparison_only symbols.Greater op e = let same : comparisons.Greater ≡ op = cc in ap comparison_symbol same
-comparison_only symbols.GreaterOrEqual op e = let same : comparisons.GreaterOrEqual ≡ op = cc in ap comparison_symbol same
-comparison_only s op e = absurd cc
-
--- comparisons are read exactly
-pub comparison_reads : Reads Anything IsComparison comparison_at
-comparison_reads = record { found = found; only = only } where
-  found : (op : Comparison) (front rest : List Token) → IsComparison op front → Anything rest → comparison_at (front ++ rest) ≡ Some (op, rest)
-  found op front rest h end = rw (h, comparison_found op) refl
-
-  only : (op : Comparison) (ts rest : List Token) → comparison_at ts ≡ Some (op, rest) → (front : List Token) × (ts ≡ front ++ rest) × IsComparison op front
-  only op (tokens.Symbol s ∷ ts) rest e =
-      let b = bind_some (comparison_of s) (λ c. Some (c, ts)) (op, rest) e in
-      let p = parts_of b.0 op ts rest b.2 in
-      (tokens.Symbol s ∷ [], ap (λ (us : List Token). tokens.Symbol s ∷ us) p.1, ap (λ (x : Symbol). tokens.Symbol x ∷ []) (comparison_only s op (b.1 ∙ ap (λ (c : Comparison). Some c) p.0)))
-  only op ts rest e = absurd cc
-
--- name op const
-abbrev IsCondition : Condition → List Token → Type 0
-IsCondition c ts = (number : List Token) × (ts ≡ tokens.Name c.column ∷ tokens.Symbol (comparison_symbol c.comparison) ∷ number) × IsLiteral c.literal number
-
--- the same, one part after the other
-abbrev ConditionParts : Condition → List Token → Type 0
-ConditionParts = Then IsName (λ column. Then IsComparison (λ comparison. Then IsLiteral (λ literal. Done (record { column = column; comparison = comparison; literal = literal }))))
-
--- no part of a condition needs a look ahead
-condition_parts : Reads Anything ConditionParts condition_at
-unfolding condition_at
-condition_parts = next_reads name_reads (λ column. next_reads comparison_reads (λ comparison. next_reads literal_reads (λ literal. done_reads (record { column = column; comparison = comparison; literal = literal }))))
-
--- conditions are read exactly
-condition_reads : Reads Anything IsCondition condition_at
-condition_reads = by_same condition_parts to from where
-  to : (c : Condition) (ts : List Token) → IsCondition c ts → ConditionParts c ts
-  to c ts h = (
-    c.column,
-    tokens.Name c.column ∷ [],
-    tokens.Symbol (comparison_symbol c.comparison) ∷ h.0,
-    h.1,
-    refl,
-    (c.comparison, tokens.Symbol (comparison_symbol c.comparison) ∷ [], h.0, refl, refl, (c.literal, h.0, [], sym (append-nil h.0), h.2, (refl, refl))),
-  )
-
-  from : (c : Condition) (ts : List Token) → ConditionParts c ts → IsCondition c ts
-  from c ts h =
-      let op = h.5 in
-      let number = op.5 in
-      let spelled : IsCondition (record { column = h.0; comparison = op.0; literal = number.0 }) ts = (number.1, rw (h.3, h.4, op.3, op.4, number.3, number.5.1) (ap (λ (us : List Token). tokens.Name h.0 ∷ tokens.Symbol (comparison_symbol op.0) ∷ us) (append-nil number.1)), number.4) in
-      subst (λ (x : Condition). IsCondition x ts) (sym number.5.0) spelled
-
--- an optional condition is read exactly, where no other WHERE follows
-pub where_reads : Reads (EndsTail keywords.Where Anything) IsWhere (tail_at keywords.Where condition_at)
-where_reads = by_same (tail_reads keywords.Where condition_reads) to from where
-  to : (o : Option Condition) (ts : List Token) → IsWhere o ts → Tail keywords.Where IsCondition o ts
+-- an optional condition is read exactly, where neither more of an expression nor another WHERE follows
+pub where_reads : Reads (EndsTail keywords.Where EndsExpression) IsWhere where_at
+where_reads = by_same (tail_reads keywords.Where expression_reads) to from where
+  to : (o : Option Written) (ts : List Token) → IsWhere o ts → Tail keywords.Where IsExpression o ts
   to None ts h = h
-  to (Some c) ts h = (tokens.Name c.column ∷ _, h.1, (h.0, refl, h.2))
+  to (Some w) ts h = h
 
-  from : (o : Option Condition) (ts : List Token) → Tail keywords.Where IsCondition o ts → IsWhere o ts
+  from : (o : Option Written) (ts : List Token) → Tail keywords.Where IsExpression o ts → IsWhere o ts
   from None ts h = h
-  from (Some c) ts h = (h.2.0, rw (h.1, h.2.1) refl, h.2.2)
+  from (Some w) ts h = h
+
+-- where nothing is left, there is neither more of an expression nor another WHERE
+pub where_at_end : (back rest : List Token) → back ≡ [] → rest ≡ [] → EndsTail keywords.Where EndsExpression (back ++ rest)
+where_at_end back rest none nothing = rw (none, nothing) (refl, refl)

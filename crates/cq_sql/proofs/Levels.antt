@@ -1,26 +1,14 @@
 -- Factors, products, sums and conditions are read exactly, each level over the tighter one.
-use Rattle.std.proofs.Common.{◌≡◌, ℕ, suc, ◌+◌, ◌≤◌, ◌<◌, Bool, true, false, List, [], ◌∷◌, ◌++◌, length, Option, Some, None, refl, sym, ap, ap₂, subst, ◌∙◌, append_assoc, arith, length-append, ◌⊎◌, inl, inr}
-use Rattle.std.specs.Prelude.{fold}
-use Rattle.std.specs.Option.{option_map}
-use Rattle.std.proofs.lemmas.List.Sums.{fold-append}
-use Rattle.cq_model.specs.declared.token.Keyword.TheVariants as keywords
+use Rattle.std.proofs.Common.{◌≡◌, ℕ, ◌≤◌, ◌<◌, List, ◌∷◌, ◌++◌, length, Option, Some, None, refl, sym, ap, subst, ◌∙◌, arith}
 use Rattle.cq_model.specs.declared.token.Symbol.TheVariants as symbols
 use Rattle.cq_model.specs.declared.token.Token.{Token}
 use Rattle.cq_model.specs.declared.token.Token.TheVariants as tokens
-use Rattle.cq_model.specs.declared.written.Sign.{Sign}
-use Rattle.cq_model.specs.declared.written.Sign.TheVariants as signs
-use Rattle.cq_model.specs.Written.{Written, Number, Text, Date, Null, Column, Extract, Parens, Negative, Times, Plus, Minus, Compare, IsNull, Between, In, Like, Not, And, Or, signed}
+use Rattle.cq_model.specs.Written.{Written, Number, Text, Date, Null, Column, Extract, Parens, Negative}
 use Rattle.cq_model.specs.Expression.{spelled, column_tokens}
-use Rattle.cq_sql.specs.declared.links.Operator.{Operator}
-use Rattle.cq_sql.specs.declared.links.Operator.TheVariants as operators
-use Rattle.cq_sql.specs.declared.links.Link.TheVariants as links
-use Rattle.cq_sql.specs.Read.{◌>>=◌, Reader, after_keyword, after_symbol}
-use Rattle.cq_sql.specs.Chains.{after_link, sign_at, join, stop_or_go, chain_from, linked_part, more_parts, joined_at, signed_term, more_terms}
-use Rattle.cq_sql.specs.Expressions.{Inside, prefixed, factor_of, product_of, sum_of, primary_of}
-use Rattle.cq_sql.proofs.Exact.{bind_some, parts_of, keyword_takes, symbol_takes}
-use Rattle.cq_sql.proofs.Tight.{joint, joint_in, Fits, from_fits, to_fits, ReadsTight}
-use Rattle.cq_sql.proofs.ChainReads.{Step, linked, IsChain, chain_reads}
-use Rattle.std.proofs.lemmas.Bool.{and_from, and_parts}
+use Rattle.cq_sql.specs.Read.{Reader, after_symbol}
+use Rattle.cq_sql.specs.Expressions.{Inside, prefixed, factor_of, primary_of}
+use Rattle.cq_sql.proofs.Exact.{bind_some, parts_of, symbol_takes}
+use Rattle.cq_sql.proofs.Tight.{joint_in, Fits, from_fits, to_fits, ReadsTight}
 
 -- the same reader, written in another way
 pub by_same_reader : {size level : ℕ} {item other : Reader Written} → ReadsTight size level item → ((ts : List Token) → other ts ≡ item ts) → ReadsTight size level other

@@ -1,5 +1,5 @@
 -- Chains of operators and sums are read exactly.
-use Rattle.std.proofs.Common.{◌≡◌, ℕ, zero, suc, ◌+◌, ◌≤◌, ◌<◌, List, [], ◌∷◌, ◌++◌, length, Option, Some, None, refl, sym, ap, ap₂, ◌∙◌, arith, ◌⊎◌, inl, inr}
+use Rattle.std.proofs.Common.{◌≡◌, ℕ, zero, suc, ◌≤◌, List, [], ◌∷◌, ◌++◌, length, Option, Some, None, refl, sym, ap, ap₂, ◌∙◌, arith, ◌⊎◌, inl, inr}
 use Rattle.std.specs.Prelude.{fold}
 use Rattle.std.specs.Option.{option_map}
 use Rattle.std.proofs.lemmas.Bool.{and_from, and_parts}
@@ -15,13 +15,13 @@ use Rattle.cq_model.specs.Expression.{spelled, fits, is_in_order}
 use Rattle.cq_sql.specs.declared.links.Operator.{Operator}
 use Rattle.cq_sql.specs.declared.links.Operator.TheVariants as operators
 use Rattle.cq_sql.specs.declared.links.Link.TheVariants as links
-use Rattle.cq_sql.specs.Read.{◌>>=◌, Reader, after_keyword, after_symbol}
+use Rattle.cq_sql.specs.Read.{◌>>=◌, Reader}
 use Rattle.cq_sql.specs.Chains.{after_link, sign_at, join, chain_from, linked_part, more_parts, joined_at, signed_term, more_terms}
 use Rattle.cq_sql.specs.Expressions.{Inside, product_of, sum_of}
 use Rattle.cq_sql.proofs.Exact.{Takes, parts_of, keyword_takes, symbol_takes}
 use Rattle.cq_sql.proofs.Chains.{goes_on, breaks, stops}
 use Rattle.cq_sql.proofs.Tight.{joint, joint_in, Fits, from_fits, to_fits, ReadsTight}
-use Rattle.cq_sql.proofs.ChainReads.{Step, linked, IsChain, read_chain, chain_reads}
+use Rattle.cq_sql.proofs.ChainReads.{Step, IsChain, read_chain, chain_reads}
 use Rattle.cq_sql.proofs.Levels.{by_same_reader}
 
 -- the token of an operator

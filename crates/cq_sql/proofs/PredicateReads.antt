@@ -1,27 +1,23 @@
 -- Values and their tests are read exactly, where sums are.
-use Rattle.std.proofs.Common.{◌≡◌, ℕ, zero, suc, ◌+◌, ◌≤◌, ◌<◌, Bool, true, false, List, [], ◌∷◌, ◌++◌, length, Option, Some, None, refl, sym, ap, ap₂, subst, ◌∙◌, append_assoc, arith, length-append}
+use Rattle.std.proofs.Common.{◌≡◌, ℕ, suc, ◌+◌, ◌≤◌, ◌<◌, Bool, true, false, List, [], ◌∷◌, ◌++◌, length, Option, Some, None, refl, sym, ap, ap₂, subst, ◌∙◌, append_assoc, arith, length-append}
 use Rattle.std.specs.Prelude.{◌&&◌}
 use Rattle.std.proofs.lemmas.Bool.{and_from, and_parts}
 use Rattle.std.proofs.lemmas.List.{append-nil}
 use Rattle.cq_model.specs.declared.statement.Comparison.{Comparison}
 use Rattle.cq_model.specs.declared.token.Keyword.{Keyword}
 use Rattle.cq_model.specs.declared.token.Keyword.TheVariants as keywords
-use Rattle.cq_model.specs.declared.token.Symbol.TheVariants as symbols
 use Rattle.cq_model.specs.declared.token.Token.{Token}
 use Rattle.cq_model.specs.declared.token.Token.TheVariants as tokens
 use Rattle.cq_model.specs.Written.{Written, Choices, NoChoice, Choice, choices, Compare, IsNull, Between, In, Like}
 use Rattle.cq_model.specs.Expression.{spelled, spelled_choices, spelled_more, comparison_sign, not_tokens, fits, is_in_order, are_in_order, has_entries}
-use Rattle.cq_sql.specs.declared.links.Link.TheVariants as links
 use Rattle.cq_sql.specs.declared.predicates.Test.{Test}
 use Rattle.cq_sql.specs.declared.predicates.Test.TheVariants as tests
-use Rattle.cq_sql.specs.Read.{◌>>=◌, Reader, done, behind, followed_by, after_keyword, after_symbol}
+use Rattle.cq_sql.specs.Read.{done, behind, followed_by, after_keyword}
 use Rattle.cq_sql.specs.Atoms.{text_at}
-use Rattle.cq_sql.specs.Chains.{chain_from, linked_part, more_parts}
 use Rattle.cq_sql.specs.Predicates.{test_at}
-use Rattle.cq_sql.specs.Expressions.{Inside, sum_of, choices_of, enclosed_choices, between_of, tested, value_or_test, predicate_of}
-use Rattle.cq_sql.proofs.Exact.{bind_some, parts_of, keyword_takes, symbol_takes}
-use Rattle.cq_sql.proofs.Chains.{goes_on, breaks, stops, runs_out}
-use Rattle.cq_sql.proofs.Tight.{joint, joint_in, Fits, from_fits, to_fits, ReadsTight}
+use Rattle.cq_sql.specs.Expressions.{Inside, sum_of, enclosed_choices, between_of, tested, value_or_test, predicate_of}
+use Rattle.cq_sql.proofs.Exact.{bind_some, parts_of, keyword_takes}
+use Rattle.cq_sql.proofs.Tight.{joint_in, Fits, from_fits, to_fits, ReadsTight}
 use Rattle.cq_sql.proofs.ValueTests.{choices_entries, test_tokens, test_found, test_ends, no_test, test_only}
 use Rattle.cq_sql.proofs.Choices.{open_sign, close_sign, enclosed_choices_found, enclosed_choices_only}
 

@@ -1,5 +1,5 @@
 -- Expressions that stand for themselves are read exactly, where what stands in their parentheses is.
-use Rattle.std.proofs.Common.{◌≡◌, ℕ, suc, ◌≤◌, ◌<◌, true, List, [], ◌∷◌, ◌++◌, length, Option, Some, None, refl, sym, ap, ap₂, subst, ◌∙◌, append_assoc, arith, length-append}
+use Rattle.std.proofs.Common.{◌≡◌, ℕ, suc, ◌≤◌, ◌<◌, List, [], ◌∷◌, ◌++◌, length, Option, Some, None, refl, sym, ap, ap₂, subst, ◌∙◌, append_assoc, arith, length-append}
 use Rattle.cq_model.specs.declared.expr.DayPart.{DayPart}
 use Rattle.cq_model.specs.declared.expr.DayPart.TheVariants as parts
 use Rattle.cq_model.specs.declared.token.Keyword.{Keyword}
@@ -8,10 +8,10 @@ use Rattle.cq_model.specs.declared.token.Symbol.TheVariants as symbols
 use Rattle.cq_model.specs.declared.token.Token.{Token}
 use Rattle.cq_model.specs.declared.token.Token.TheVariants as tokens
 use Rattle.cq_model.specs.Written.{Written, Number, Text, Date, Null, Column, Extract, Parens}
-use Rattle.cq_model.specs.Expression.{spelled, column_tokens, part_word, is_in_order}
+use Rattle.cq_model.specs.Expression.{spelled, column_tokens, part_word}
 use Rattle.cq_sql.specs.declared.atoms.Opening.{Opening}
 use Rattle.cq_sql.specs.declared.atoms.Opening.TheVariants as openings
-use Rattle.cq_sql.specs.Read.{◌>>=◌, Reader, done, behind, after_symbol}
+use Rattle.cq_sql.specs.Read.{done, behind, after_symbol}
 use Rattle.cq_sql.specs.Atoms.{atom_at, day_part_of, opening_at}
 use Rattle.cq_sql.specs.Chains.{enclosed}
 use Rattle.cq_sql.specs.Expressions.{Inside, content_of, atom_or_content, primary_of}

@@ -6,20 +6,20 @@ use Rattle.cq_model.specs.declared.token.Keyword.TheVariants as keywords
 use Rattle.cq_model.specs.declared.token.Symbol.TheVariants as symbols
 use Rattle.cq_model.specs.declared.token.Token.{Token}
 use Rattle.cq_model.specs.declared.token.Token.TheVariants as tokens
-use Rattle.cq_model.specs.declared.statement.Condition.{Condition}
 use Rattle.cq_model.specs.declared.statement.Constant.{Constant}
 use Rattle.cq_model.specs.declared.statement.Select.{Select}
 use Rattle.cq_model.specs.declared.statement.Statement.{Statement}
 use Rattle.cq_model.specs.declared.statement.Statement.TheVariants as statements
 use Rattle.cq_model.specs.Sentence.{Separated, IsName, IsRow, IsWhere, IsStatement}
+use Rattle.cq_model.specs.Written.{Written}
 use Rattle.cq_sql.specs.declared.fault.SqlFault.{SqlFault}
 use Rattle.cq_sql.specs.declared.fault.SqlFault.TheVariants as errors
 use Rattle.cq_sql.specs.Gives.{Gives}
-use Rattle.cq_sql.specs.Read.{after_keyword, after_symbol}
+use Rattle.cq_sql.specs.Read.{after_symbol}
 use Rattle.cq_sql.specs.Grammar.{name_at, row_at, drop_table_at, insert_at, delete_at, select_at, statement_at, if_all_read, whole_statement}
 use Rattle.cq_sql.proofs.Exact.{Reads, Anything, Nothing, Done, After, Then, at_end, bind_some, keyword_takes, done_reads, behind_reads, then_reads, next_reads}
 use Rattle.cq_sql.proofs.Lists.{list_reads}
-use Rattle.cq_sql.proofs.Items.{name_reads, name_some, row_reads, row_some, where_reads}
+use Rattle.cq_sql.proofs.Items.{name_reads, name_some, row_reads, row_some, where_reads, where_at_end}
 use Rattle.cq_sql.proofs.Tables.{create_table_reads, create_table_parts, create_table_spelled}
 use Rattle.cq_sql.proofs.Views.{create_view_reads, create_view_parts, create_view_spelled, drop_view_reads, drop_view_parts, drop_view_spelled}
 use Rattle.cq_sql.proofs.Words.{create, table, view_word, drop_word, insert, delete, select, into, values, from_word}
@@ -80,10 +80,10 @@ delete_reads =
     behind_reads (keyword_takes keywords.From) (next_reads name_reads (λ name. then_reads
     where_reads
     (λ condition. done_reads (statements.Delete name condition))
-    (λ condition y back rest h end. (tt, at_end (after_keyword keywords.Where) back rest h.1 end refl))))
+    (λ condition y back rest h end. where_at_end back rest h.1 end)))
 
 -- the parts of a DELETE
-delete_parts : (name : List ℕ) (condition : Option Condition) (kept : List Token) → IsWhere condition kept → DeleteParts (statements.Delete name condition) (from_word ∷ tokens.Name name ∷ kept)
+delete_parts : (name : List ℕ) (condition : Option Written) (kept : List Token) → IsWhere condition kept → DeleteParts (statements.Delete name condition) (from_word ∷ tokens.Name name ∷ kept)
 delete_parts name condition kept where_is = (tokens.Name name ∷ kept, refl, (name, tokens.Name name ∷ [], kept, refl, refl, (condition, kept, [], sym (append-nil kept), where_is, (refl, refl))))
 
 -- a DELETE from its parts
@@ -109,7 +109,7 @@ select_reads =
     (λ columns. behind_reads (keyword_takes keywords.From) (next_reads name_reads (λ table. then_reads
     where_reads
     (λ condition. done_reads (statements.Select (record { columns = columns; table = table; condition = condition })))
-    (λ condition y back rest h end. (tt, at_end (after_keyword keywords.Where) back rest h.1 end refl)))))
+    (λ condition y back rest h end. where_at_end back rest h.1 end))))
     (λ columns y back rest h end. (tt, rw h.1 refl))
 
 -- the parts of a SELECT

@@ -1,5 +1,5 @@
 -- Sums and products of lists: one more part at the end.
-use Rattle.std.proofs.Common.{◌≡◌, ℕ, suc, List, [], ◌∷◌, ◌++◌, length, refl, sym, arith, map}
+use Rattle.std.proofs.Common.{◌≡◌, List, [], ◌∷◌, ◌++◌, length, refl, sym, arith, map}
 use Rattle.cq_model.specs.declared.written.Sign.{Sign}
 use Rattle.cq_model.specs.declared.written.ExprNode.{ExprNode}
 use Rattle.cq_model.specs.Written.{Written, signed, terms, written}

@@ -1,6 +1,6 @@
 -- Readers that find exactly the expressions of one tightness, and what may follow them.
-use Rattle.std.proofs.Common.{◌≡◌, ℕ, ◌≤◌, ◌<◌, Bool, true, List, [], ◌∷◌, ◌++◌, length, Option, Some, arith, refl}
-use Rattle.std.specs.Prelude.{nat_le, ◌&&◌}
+use Rattle.std.proofs.Common.{◌≡◌, ℕ, ◌≤◌, ◌<◌, true, List, [], ◌∷◌, ◌++◌, length, Some}
+use Rattle.std.specs.Prelude.{nat_le}
 use Rattle.std.proofs.lemmas.Bool.{leb-true, le-leb, and_from, and_parts}
 use Rattle.cq_model.specs.declared.token.Keyword.TheVariants as keywords
 use Rattle.cq_model.specs.declared.token.Symbol.TheVariants as symbols

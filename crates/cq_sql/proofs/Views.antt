@@ -139,7 +139,7 @@ groups_reads items =
     (list_reads Anything IsName name_at name_reads name_some (λ ts. tt))
     (λ group. done_reads (record { items = items; table = table; condition = condition; group = group }))
     (λ group y back rest h end. (tt, at_end (after_symbol symbols.Comma) back rest h.1 end refl)))))
-    (λ condition y back rest h end. (tt, rw h.1 refl))))
+    (λ condition y back rest h end. (rw h.1 refl, rw h.1 refl))))
 
 -- the parts of a view behind its items
 groups_parts : (v : ViewSelect) (kept names : List Token) → IsWhere v.condition kept → Separated IsName v.group names

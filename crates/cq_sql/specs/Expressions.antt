@@ -111,6 +111,10 @@ unfoldable pub readers : ℕ → Inside
 readers zero = record { expression = nothing; sum = nothing }
 readers (suc depth) = record { expression = expression_of (readers depth); sum = sum_of (readers depth) }
 
+-- takes an expression from the front, as much as makes one
+unfoldable pub expression_at : Reader Written
+expression_at ts = expression_of (readers (length ts)) ts
+
 -- the expression that was read, where nothing is left behind it
 abbrev pub if_no_more : Written × List Token → Option Written
 if_no_more (w, []) = Some w
@@ -118,4 +122,4 @@ if_no_more (w, t ∷ ts) = None
 
 -- the expression that all of the tokens are, if they are one
 unfoldable pub whole_expression : List Token → Option Written
-whole_expression ts = expression_of (readers (length ts)) ts >>= if_no_more
+whole_expression ts = expression_at ts >>= if_no_more

@@ -4,14 +4,10 @@ use Rattle.cq_values.specs.declared.ty.Ty.{Ty}
 use Rattle.cq_values.specs.declared.ty.Ty.TheVariants as types
 use Rattle.cq_model.specs.declared.token.Keyword.{Keyword}
 use Rattle.cq_model.specs.declared.token.Keyword.TheVariants as keywords
-use Rattle.cq_model.specs.declared.token.Symbol.{Symbol}
 use Rattle.cq_model.specs.declared.token.Symbol.TheVariants as symbols
 use Rattle.cq_model.specs.declared.token.Token.{Token}
 use Rattle.cq_model.specs.declared.token.Token.TheVariants as tokens
 use Rattle.cq_model.specs.declared.statement.ColumnDef.{ColumnDef}
-use Rattle.cq_model.specs.declared.statement.Comparison.{Comparison}
-use Rattle.cq_model.specs.declared.statement.Comparison.TheVariants as comparisons
-use Rattle.cq_model.specs.declared.statement.Condition.{Condition}
 use Rattle.cq_model.specs.declared.statement.Constant.{Constant}
 use Rattle.cq_model.specs.declared.statement.Constant.TheVariants as constants
 use Rattle.cq_model.specs.declared.statement.Item.{Item}
@@ -21,6 +17,8 @@ use Rattle.cq_model.specs.declared.statement.Literal.{Literal}
 use Rattle.cq_model.specs.declared.statement.Statement.{Statement}
 use Rattle.cq_model.specs.declared.statement.Statement.TheVariants as statements
 use Rattle.cq_model.specs.declared.statement.ViewSelect.{ViewSelect}
+use Rattle.cq_model.specs.Written.{Written}
+use Rattle.cq_sql.specs.Expressions.{expression_at}
 use Rattle.cq_sql.specs.Read.{◌>>=◌, Reader, done, followed_by, behind, after_keyword, after_symbol, list_at, tail_at, tail_or}
 
 -- takes a name from the front, as it is spelled in lower case
@@ -70,25 +68,9 @@ constant_at ts = number_at ts
 unfoldable pub row_at : Reader (List Constant)
 row_at = behind (after_symbol symbols.Open) (followed_by (list_at constant_at) (λ row. behind (after_symbol symbols.Close) (done row)))
 
--- the comparison that the symbol stands for, if it is one
-abbrev pub comparison_of : Symbol → Option Comparison
-comparison_of symbols.Equal = Some comparisons.Equal
-comparison_of symbols.NotEqual = Some comparisons.NotEqual
-comparison_of symbols.Less = Some comparisons.Less
-comparison_of symbols.LessOrEqual = Some comparisons.LessOrEqual
-comparison_of symbols.Greater = Some comparisons.Greater
-comparison_of symbols.GreaterOrEqual = Some comparisons.GreaterOrEqual
-comparison_of symbol = None
-
--- takes one of the six symbols of a comparison from the front
-abbrev pub comparison_at : Reader Comparison
-comparison_at (tokens.Symbol symbol ∷ ts) = comparison_of symbol >>= λ comparison. Some (comparison, ts)
-comparison_at ts = None
-
--- takes a condition: a column, a comparison and a constant
-unfoldable pub condition_at : Reader Condition
-condition_at =
-    followed_by name_at (λ column. followed_by comparison_at (λ comparison. followed_by literal_at (λ literal. done (record { column = column; comparison = comparison; literal = literal }))))
+-- takes the expression behind WHERE, or nothing where there is none
+abbrev pub where_at : Reader (Option Written)
+where_at = tail_at keywords.Where expression_at
 
 -- takes what follows COUNT: a star between two parentheses
 unfoldable pub count_at : Reader ItemValue
@@ -116,7 +98,7 @@ item_at = followed_by item_value_at (λ value. followed_by alias_at (λ alias. d
 -- takes what follows the items of a view: its table, an optional condition and the columns of its groups
 unfoldable pub groups_at : List Item → Reader ViewSelect
 groups_at items =
-    behind (after_keyword keywords.From) (followed_by name_at (λ table. followed_by (tail_at keywords.Where condition_at) (λ condition. behind (after_keyword keywords.Group) (behind (after_keyword keywords.By) (followed_by (list_at name_at) (λ group. done (record { items = items; table = table; condition = condition; group = group })))))))
+    behind (after_keyword keywords.From) (followed_by name_at (λ table. followed_by (where_at) (λ condition. behind (after_keyword keywords.Group) (behind (after_keyword keywords.By) (followed_by (list_at name_at) (λ group. done (record { items = items; table = table; condition = condition; group = group })))))))
 
 -- takes the query of a view: its items, and what they are taken from
 unfoldable pub view_select_at : Reader ViewSelect
@@ -151,12 +133,12 @@ insert_at =
 -- takes what follows DELETE: the table's name and an optional condition
 unfoldable pub delete_at : Reader Statement
 delete_at =
-    behind (after_keyword keywords.From) (followed_by name_at (λ table. followed_by (tail_at keywords.Where condition_at) (λ condition. done (statements.Delete table condition))))
+    behind (after_keyword keywords.From) (followed_by name_at (λ table. followed_by (where_at) (λ condition. done (statements.Delete table condition))))
 
 -- takes what follows SELECT: columns, their table and an optional condition
 unfoldable pub select_at : Reader Statement
 select_at =
-    followed_by (list_at name_at) (λ columns. behind (after_keyword keywords.From) (followed_by name_at (λ table. followed_by (tail_at keywords.Where condition_at) (λ condition. done (statements.Select (record { columns = columns; table = table; condition = condition }))))))
+    followed_by (list_at name_at) (λ columns. behind (after_keyword keywords.From) (followed_by name_at (λ table. followed_by (where_at) (λ condition. done (statements.Select (record { columns = columns; table = table; condition = condition }))))))
 
 -- takes a statement: its first keywords say which one it is
 unfoldable pub statement_at : Reader Statement

@@ -1,13 +1,25 @@
 -- The words that begin a test of a value, as a reader on lists.
-use Rattle.std.specs.Prelude.{Bool, true, false, List, [], ◌∷◌, Option, Some, None}
+use Rattle.std.specs.Prelude.{Bool, true, false, ◌∷◌, Option, Some, None}
+use Rattle.cq_model.specs.declared.statement.Comparison.{Comparison}
+use Rattle.cq_model.specs.declared.statement.Comparison.TheVariants as comparisons
 use Rattle.cq_model.specs.declared.token.Keyword.{Keyword}
 use Rattle.cq_model.specs.declared.token.Keyword.TheVariants as keywords
-use Rattle.cq_model.specs.declared.token.Token.{Token}
+use Rattle.cq_model.specs.declared.token.Symbol.{Symbol}
+use Rattle.cq_model.specs.declared.token.Symbol.TheVariants as symbols
 use Rattle.cq_model.specs.declared.token.Token.TheVariants as tokens
 use Rattle.cq_sql.specs.declared.predicates.Test.{Test}
 use Rattle.cq_sql.specs.declared.predicates.Test.TheVariants as tests
-use Rattle.cq_sql.specs.Grammar.{comparison_of}
 use Rattle.cq_sql.specs.Read.{◌>>=◌, Reader}
+
+-- the comparison that the symbol stands for, if it is one
+abbrev pub comparison_of : Symbol → Option Comparison
+comparison_of symbols.Equal = Some comparisons.Equal
+comparison_of symbols.NotEqual = Some comparisons.NotEqual
+comparison_of symbols.Less = Some comparisons.Less
+comparison_of symbols.LessOrEqual = Some comparisons.LessOrEqual
+comparison_of symbols.Greater = Some comparisons.Greater
+comparison_of symbols.GreaterOrEqual = Some comparisons.GreaterOrEqual
+comparison_of symbol = None
 
 -- the test that the word begins, with or without NOT in front
 abbrev pub worded : Bool → Keyword → Option Test

@@ -7,7 +7,7 @@ ghost use Rattle.cq_model.specs.Expression.{IsExpression};
 ghost use Rattle.cq_model.specs.Written.{Written, written};
 ghost use Rattle.cq_sql.specs.declared.fault.SqlFault.TheVariants.{LimitExceeded, Syntax};
 ghost use Rattle.cq_sql.specs.Chains.{joined_at, more_parts, more_terms};
-ghost use Rattle.cq_sql.specs.Expressions.{between_of, choices_of, content_of, enclosed_choices, expression_of, factor_of, negation_of, operand_of, part_of, predicate_of, primary_of, product_of, readers, sum_of, tested, whole_expression};
+ghost use Rattle.cq_sql.specs.Expressions.{between_of, choices_of, content_of, enclosed_choices, expression_at, factor_of, negation_of, operand_of, part_of, predicate_of, primary_of, product_of, readers, sum_of, tested, whole_expression};
 ghost use Rattle.cq_sql.specs.Gives.{Gives};
 
 use crate::atoms::{Opening, atom_at, opening_at, text_at};
@@ -17,16 +17,25 @@ use crate::nodes::{
     among, between, compared, enclosed, joined, like, negation, negative, null_test, only, summed,
 };
 use crate::predicates::{Test, test_at};
-use crate::read::{after_keyword, after_symbol, expect_keyword, expect_symbol};
-use cq_model::{ExprNode, Keyword, Symbol, Token};
+use crate::read::{Readable, after_keyword, after_symbol, expect_keyword, expect_symbol};
+use cq_model::{ExprNode, Keyword, SqlExpr, Symbol, Token};
 use std::alloc::Global;
 
 /// The expression at the front of tokens, and the tokens behind it: as much as makes one.
-#[tactic(auto, unfolding(crate::specs::Expressions::expression_of))]
-pub fn expression_at(alloc: Global, tokens: &[Token]) -> Result<(ExprNode, &[Token]), SqlFault>
-    ensures { Gives (λ x. (written x.0, x.1.now)) result (expression_of (readers (length tokens.now)) tokens.now) }
+#[tactic(auto, unfolding(crate::specs::Expressions::expression_at, crate::specs::Expressions::expression_of))]
+fn expression_at(alloc: Global, tokens: &[Token]) -> Result<(ExprNode, &[Token]), SqlFault>
+    ensures { Gives (λ x. (written x.0, x.1.now)) result (expression_at tokens.now) }
 {
     chain_at(alloc, Operator::Or, tokens.len(), tokens)
+}
+
+impl Readable for SqlExpr {
+    ghost reads = { expression_at };
+
+    fn read(alloc: Global, tokens: &[Token]) -> Result<(SqlExpr, &[Token]), SqlFault> {
+        let (node, rest) = expression_at(alloc, tokens)?;
+        Ok((SqlExpr::new(node), rest))
+    }
 }
 
 #[cycle(expressions)]

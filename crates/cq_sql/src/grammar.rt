@@ -4,14 +4,12 @@ ghost use Rattle.cq_model.specs.Sentence.{IsStatement};
 ghost use Rattle.cq_model.specs.declared.statement.Statement.{Statement};
 ghost use Rattle.cq_sql.specs.declared.fault.SqlFault.TheVariants.{LimitExceeded, Syntax};
 ghost use Rattle.cq_sql.specs.Gives.{Gives};
-ghost use Rattle.cq_sql.specs.Grammar.{name_at, comparison_of, comparison_at, condition_at, drop_table_at, create_view_at, drop_view_at, insert_at, delete_at, select_at, statement_at, whole_statement};
+ghost use Rattle.cq_sql.specs.Grammar.{name_at, drop_table_at, create_view_at, drop_view_at, insert_at, delete_at, select_at, statement_at, whole_statement};
 
 use crate::fault::SqlFault;
 use crate::read::{Readable, expect_keyword, list_of, tail_of};
 use crate::table::create_table_at;
-use cq_model::{
-    Comparison, Condition, Constant, Keyword, Literal, Select, Statement, Symbol, Token, ViewSelect,
-};
+use cq_model::{Constant, Keyword, Select, SqlExpr, Statement, Token, ViewSelect};
 use cq_values::{Seq, Text};
 use std::alloc::Global;
 
@@ -23,50 +21,6 @@ impl Readable for Text {
             [Token::Name(name), rest @ ..] => Ok((name.copy(alloc)?, rest)),
             _ => Err(SqlFault::Syntax),
         }
-    }
-}
-
-/// The comparison that the symbol stands for, if it is one.
-pub fn comparison_of(symbol: Symbol) -> Option<Comparison>
-    ensures { result ≡ comparison_of symbol }
-{
-    match symbol {
-        Symbol::Equal => Some(Comparison::Equal),
-        Symbol::NotEqual => Some(Comparison::NotEqual),
-        Symbol::Less => Some(Comparison::Less),
-        Symbol::LessOrEqual => Some(Comparison::LessOrEqual),
-        Symbol::Greater => Some(Comparison::Greater),
-        Symbol::GreaterOrEqual => Some(Comparison::GreaterOrEqual),
-        _ => None,
-    }
-}
-
-fn comparison_at(tokens: &[Token]) -> Result<(Comparison, &[Token]), SqlFault>
-    ensures { Gives (λ x. (x.0, x.1.now)) result (comparison_at tokens.now) }
-{
-    match tokens {
-        [Token::Symbol(symbol), rest @ ..] => {
-            let comparison = comparison_of(*symbol).ok_or(SqlFault::Syntax)?;
-            Ok((comparison, rest))
-        }
-        _ => Err(SqlFault::Syntax),
-    }
-}
-
-impl Readable for Condition {
-    ghost reads = { condition_at };
-
-    #[tactic(auto, unfolding(crate::specs::Grammar::condition_at))]
-    fn read(alloc: Global, tokens: &[Token]) -> Result<(Condition, &[Token]), SqlFault> {
-        let (column, rest) = Text::read(alloc, tokens)?;
-        let (comparison, rest) = comparison_at(rest)?;
-        let (literal, rest) = Literal::read(alloc, rest)?;
-        let condition = Condition {
-            column,
-            comparison,
-            literal,
-        };
-        Ok((condition, rest))
     }
 }
 
@@ -113,7 +67,7 @@ fn delete_at(alloc: Global, tokens: &[Token]) -> Result<(Statement, &[Token]), S
 {
     let rest = expect_keyword(Keyword::From, tokens)?;
     let (table, rest) = Text::read(alloc, rest)?;
-    let (condition, rest) = tail_of::<Condition>(alloc, Keyword::Where, rest)?;
+    let (condition, rest) = tail_of::<SqlExpr>(alloc, Keyword::Where, rest)?;
     Ok((Statement::Delete { table, condition }, rest))
 }
 
@@ -124,7 +78,7 @@ fn select_at(alloc: Global, tokens: &[Token]) -> Result<(Statement, &[Token]), S
     let (columns, rest) = list_of::<Text>(alloc, tokens)?;
     let rest = expect_keyword(Keyword::From, rest)?;
     let (table, rest) = Text::read(alloc, rest)?;
-    let (condition, rest) = tail_of::<Condition>(alloc, Keyword::Where, rest)?;
+    let (condition, rest) = tail_of::<SqlExpr>(alloc, Keyword::Where, rest)?;
     let select = Select {
         columns,
         table,

@@ -1,10 +1,9 @@
 //! The tests of a value: which one it is, by the words in front of it.
 ghost use Rattle.std.specs.Prelude.{◌≡◌};
 ghost use Rattle.std.specs.Option.{option_map};
-ghost use Rattle.cq_sql.specs.Predicates.{test_at, worded};
+ghost use Rattle.cq_sql.specs.Predicates.{comparison_of, test_at, worded};
 
-use crate::grammar::comparison_of;
-use cq_model::{Comparison, Keyword, Token};
+use cq_model::{Comparison, Keyword, Symbol, Token};
 
 /// What a test asks. The `bool` tells whether NOT stands in it.
 #[derive(Clone, Copy, Debug, PartialEq, Eq)]
@@ -14,6 +13,21 @@ pub enum Test {
     Between(bool),
     In(bool),
     Like(bool),
+}
+
+/// The comparison that the symbol stands for, if it is one.
+fn comparison_of(symbol: Symbol) -> Option<Comparison>
+    ensures { result ≡ comparison_of symbol }
+{
+    match symbol {
+        Symbol::Equal => Some(Comparison::Equal),
+        Symbol::NotEqual => Some(Comparison::NotEqual),
+        Symbol::Less => Some(Comparison::Less),
+        Symbol::LessOrEqual => Some(Comparison::LessOrEqual),
+        Symbol::Greater => Some(Comparison::Greater),
+        Symbol::GreaterOrEqual => Some(Comparison::GreaterOrEqual),
+        _ => None,
+    }
 }
 
 fn worded(negated: bool, word: Keyword) -> Option<Test>

@@ -1,11 +1,12 @@
 //! Lists of tokens that are statements, and lists that are none.
 mod columns;
+mod conditions;
 mod constants;
 mod expressions;
 mod views;
 
 use crate::{SqlFault, tree_of};
-use cq_model::{Comparison, Condition, Keyword, Statement, Symbol, Token};
+use cq_model::{Comparison, ExprNode, Keyword, SqlExpr, Statement, Symbol, Token};
 use cq_values::Text;
 use std::alloc::Global;
 use std::test::Fail;
@@ -142,14 +143,12 @@ fn half_a_statement_is_none(rt: HostRuntime) -> Result<(), Fail> {
         "delete from",
         "delete from where a = 1",
         "delete from t where",
-        "delete from t where a",
         "delete from t where a =",
         "select a",
         "select from t",
         "select a , from t",
         "select a b from t",
         "select a from t where",
-        "select a from t where a",
         "select a from t where a <=",
     ];
     for text in texts {
@@ -178,12 +177,8 @@ fn what_follows_a_statement_makes_it_none(rt: HostRuntime) -> Result<(), Fail> {
         "delete from t u",
         "delete from t , u",
         "delete from t a = 1",
-        "delete from t where a = b",
         "delete from t where a = 1 where a = 1",
         "select a from t u",
-        "select a from t where a = b",
-        "select a from t where 1 = a",
-        "select a from t where a - 1",
         "select a from t where a = 1 where a = 1",
         "select a from t where a = 1 2",
     ];
@@ -197,10 +192,28 @@ fn what_follows_a_statement_makes_it_none(rt: HostRuntime) -> Result<(), Fail> {
     Ok(())
 }
 
-fn condition_of(statement: &Statement) -> Option<&Condition> {
+fn condition_of(statement: &Statement) -> Option<&SqlExpr> {
     match statement {
         Statement::Delete { condition, .. } => condition.as_ref(),
         Statement::Select(select) => select.condition.as_ref(),
+        _ => None,
+    }
+}
+
+/// The column of a comparison, how it is compared, and with what.
+fn comparison_parts(condition: &SqlExpr) -> Option<(&str, Comparison, &ExprNode)> {
+    match condition.node() {
+        ExprNode::Compare(comparison, left, right) => {
+            let column = column_name(left)?;
+            Some((column, *comparison, right))
+        }
+        _ => None,
+    }
+}
+
+fn column_name(node: &ExprNode) -> Option<&str> {
+    match node {
+        ExprNode::Column(column) => Some(column.name.as_str()),
         _ => None,
     }
 }
@@ -212,9 +225,10 @@ fn a_condition_is_kept(rt: HostRuntime) -> Result<(), Fail> {
         let tokens = tokens(rt.alloc(), text)?;
         let statement = tree_of(rt.alloc(), &tokens)?;
         let condition = condition_of(&statement).ok_or("no condition")?;
-        assert_eq!(rt; condition.column.as_str(), "b", "{text}");
-        assert_eq!(rt; condition.comparison, Comparison::LessOrEqual, "{text}");
-        assert_eq!(rt; condition.literal.magnitude, 7, "{text}");
+        let (column, comparison, other) = comparison_parts(condition).ok_or("no comparison")?;
+        assert_eq!(rt; column, "b", "{text}");
+        assert_eq!(rt; comparison, Comparison::LessOrEqual, "{text}");
+        assert!(rt; matches!(other, ExprNode::Number(7)), "{text}");
     }
     Ok(())
 }

@@ -6,7 +6,7 @@ use Rattle.cq_bags.proofs.Totals.{by_test}
 use Rattle.cq_model.specs.declared.query.Source.TheVariants.{Table, View}
 use Rattle.cq_model.specs.declared.statement.Statement.{Statement}
 use Rattle.cq_model.specs.declared.statement.Statement.TheVariants as statements
-use Rattle.cq_steps.specs.Bound.{Named, source_named, bound, bound_select}
+use Rattle.cq_steps.specs.Bound.{Named, from_table, from_view, source_named, bound, bound_select}
 use Rattle.cq_steps.specs.Refusal.{first_fault, is_used, drop_table_places, select_places, refusal}
 use Rattle.std.specs.List.{remove, prefix_len, list_any}
 use Rattle.std.proofs.lemmas.List.{map-append, take-map, drop-map, length-map}
@@ -84,8 +84,8 @@ source-timeless : (name : List ℕ) (x : State) → source_named name (seen x) �
 source-timeless name x = rw (place-timeless name x.views, named-timeless name x.views) (told (view_named name x.views))
   where
     told : (o : Option ViewOf)
-        → option_or {T = Named} (option_map (λ (t : TableOf). record { columns = t.columns; source = Table t.number }) (table_named name x.tables)) (option_map (λ (v : ViewOf). record { columns = v.columns; source = View (unwrap_or (view_place name x.views) 0) }) (option_map timeless o))
-        ≡ option_or {T = Named} (option_map (λ (t : TableOf). record { columns = t.columns; source = Table t.number }) (table_named name x.tables)) (option_map (λ (v : ViewOf). record { columns = v.columns; source = View (unwrap_or (view_place name x.views) 0) }) o)
+        → option_or {T = Named} (option_map from_table (table_named name x.tables)) (option_map (λ (v : ViewOf). from_view v (unwrap_or (view_place name x.views) 0)) (option_map timeless o))
+        ≡ option_or {T = Named} (option_map from_table (table_named name x.tables)) (option_map (λ (v : ViewOf). from_view v (unwrap_or (view_place name x.views) 0)) o)
     told None = refl
     told (Some v) = refl
 

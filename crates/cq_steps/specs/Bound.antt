@@ -11,10 +11,9 @@ use Rattle.cq_values.specs.Texts.{is_text}
 use Rattle.cq_values.specs.Value.{Row}
 use Rattle.cq_model.specs.declared.bound.Bound.{Bound}
 use Rattle.cq_model.specs.declared.bound.Bound.TheVariants as commands
-use Rattle.cq_model.specs.declared.expr.Cond.{Cond}
-use Rattle.cq_model.specs.declared.expr.Cond.TheVariants.{Compare}
-use Rattle.cq_model.specs.declared.expr.Expr.{Expr}
-use Rattle.cq_model.specs.declared.expr.Expr.TheVariants as exprs
+use Rattle.cq_model.specs.Expr.{Cond}
+use Rattle.cq_model.specs.Expr.{Expr}
+use Rattle.cq_model.specs.Expr as exprs
 use Rattle.cq_model.specs.declared.query.Aggregate.{Aggregate}
 use Rattle.cq_model.specs.declared.query.Aggregate.TheVariants as aggregates
 use Rattle.cq_model.specs.declared.query.Query.{Query}
@@ -22,7 +21,6 @@ use Rattle.cq_model.specs.declared.query.Shape.TheVariants.{Plain, Grouped}
 use Rattle.cq_model.specs.declared.query.Source.{Source}
 use Rattle.cq_model.specs.declared.query.Source.TheVariants.{Table, View}
 use Rattle.cq_model.specs.declared.statement.ColumnDef.{ColumnDef}
-use Rattle.cq_model.specs.declared.statement.Condition.{Condition}
 use Rattle.cq_model.specs.declared.statement.Constant.{Constant}
 use Rattle.cq_model.specs.declared.statement.Constant.TheVariants as constants
 use Rattle.cq_model.specs.declared.statement.Item.{Item}
@@ -33,8 +31,11 @@ use Rattle.cq_model.specs.declared.statement.Select.{Select}
 use Rattle.cq_model.specs.declared.statement.Statement.{Statement}
 use Rattle.cq_model.specs.declared.statement.Statement.TheVariants as statements
 use Rattle.cq_model.specs.declared.statement.ViewSelect.{ViewSelect}
-use Rattle.cq_model.specs.Meant.{named_day}
-use Rattle.cq_steps.specs.State.{TableOf, State, table_named, view_place, view_named}
+use Rattle.cq_model.specs.Placed.{named_day, placed_cond}
+use Rattle.cq_model.specs.Written.{Written}
+use Rattle.cq_model.specs.Sizes.{column_sizes, stored_sizes}
+use Rattle.cq_steps.specs.State.{TableOf, ViewOf, State, table_named, view_place, view_named}
+use Rattle.cq_steps.specs.Typing.{Scope}
 
 -- the number that a literal stands for
 abbrev pub literal_value : Literal → ℤ
@@ -64,19 +65,33 @@ abbrev pub named_column : List ColumnDef → List ℕ → Expr
 named_column columns name = exprs.Column (place_in columns name)
 
 -- a condition over these columns
-abbrev pub bound_condition : List ColumnDef → Condition → Cond
-bound_condition columns c = Compare c.comparison (named_column columns c.column) (exprs.Literal (Number (literal_value c.literal)))
+abbrev pub bound_condition : List ColumnDef → Written → Cond
+bound_condition columns condition = placed_cond (λ c. place_in columns c.name) condition
 
--- what FROM names: the columns, and where their rows come from
+-- what FROM names: what it is known by, its columns, how large their numbers can be, and where its rows come from
 pub record Named : Type 0 where
+  pub known : List ℕ
   pub columns : List ColumnDef
+  pub sizes : List ℕ
   pub source : Source
+
+-- a table as FROM names it
+abbrev pub from_table : TableOf → Named
+from_table t = record { known = t.name; columns = t.columns; sizes = stored_sizes t.columns; source = Table t.number }
+
+-- a view, and the place where it stands
+abbrev pub from_view : ViewOf → ℕ → Named
+from_view v place = record { known = v.name; columns = v.columns; sizes = column_sizes v.query; source = View place }
 
 -- the table of a name, or else the view
 abbrev pub source_named : List ℕ → State → Option Named
 source_named name s =
-    option_or (option_map (λ t. record { columns = t.columns; source = Table t.number }) (table_named name s.tables))
-    (option_map (λ v. record { columns = v.columns; source = View (unwrap_or (view_place name s.views) 0) }) (view_named name s.views))
+    option_or (option_map from_table (table_named name s.tables))
+    (option_map (λ v. from_view v (unwrap_or (view_place name s.views) 0)) (view_named name s.views))
+
+-- what expressions over a source see of it
+abbrev pub scope_of : Named → Scope
+scope_of source = record { known = source.known; columns = source.columns; sizes = source.sizes }
 
 -- a query of one source
 abbrev pub bound_query : Select → Named → Query

@@ -1,6 +1,6 @@
 pub mod State
-pub mod Bound
 pub mod Typing
+pub mod Bound
 pub mod Refusal
 pub mod Step
 pub mod Printed

@@ -9,7 +9,6 @@ use Rattle.cq_values.specs.declared.ty.Ty.TheVariants as types
 use Rattle.cq_values.specs.Dates.{day_named}
 use Rattle.cq_values.specs.Texts.{is_text}
 use Rattle.cq_model.specs.declared.statement.ColumnDef.{ColumnDef}
-use Rattle.cq_model.specs.declared.statement.Condition.{Condition}
 use Rattle.cq_model.specs.declared.statement.Constant.{Constant}
 use Rattle.cq_model.specs.declared.statement.Constant.TheVariants as constants
 use Rattle.cq_model.specs.declared.statement.ItemValue.{ItemValue}
@@ -20,11 +19,13 @@ use Rattle.cq_model.specs.declared.statement.Statement.{Statement}
 use Rattle.cq_model.specs.declared.statement.Statement.TheVariants as statements
 use Rattle.cq_model.specs.declared.statement.ViewSelect.{ViewSelect}
 use Rattle.cq_model.specs.Views.{sources_of, is_table}
+use Rattle.cq_model.specs.Written.{Written}
 use Rattle.cq_steps.specs.declared.fault.Fault.{Fault}
 use Rattle.cq_steps.specs.declared.fault.Fault.TheVariants.{UnknownTable, UnknownColumn, NameTaken, TypeMismatch, AggregateMisplaced, TooWide, NumberOutside, NullNotAllowed, TableFull, TableInUse, ViewNotWritten, TextTooLong, BadDate, ClauseInView, LimitExceeded}
 use Rattle.cq_steps.specs.declared.fault.Fault.TheVariants as faults
-use Rattle.cq_steps.specs.Bound.{column_place, type_named, item_names, values_in, Named, source_named}
+use Rattle.cq_steps.specs.Bound.{column_place, type_named, item_names, values_in, Named, from_table, scope_of, source_named}
 use Rattle.cq_steps.specs.State.{TableOf, ViewOf, State, table_named, view_place, view_named, is_taken}
+use Rattle.cq_steps.specs.Typing.{Scope, condition_fault, typed}
 
 -- the first place that has a fault decides
 abbrev pub first_fault : List (Option Fault) → Option Fault
@@ -101,28 +102,28 @@ abbrev pub insert_places : ℕ → List (List Constant) → Result TableOf Fault
 insert_places max_rows rows (Err f) = Some f ∷ []
 insert_places max_rows rows (Ok t) = flat_map (row_places t.columns) rows ++ fault_if (nat_lt max_rows (length t.rows + length rows)) TableFull ∷ []
 
--- an integer of an expression has at most 127 bits
-abbrev pub literal_place : Literal → Option Fault
-literal_place l = fault_if (not (nat_lt l.magnitude (2 ^ 127))) TooWide
-
--- a column that a number is compared with, or that is added up
+-- a column that is added up
 abbrev pub number_place : List ColumnDef → List ℕ → Option Fault
 number_place columns name = fault_if (not (is_type (type_named columns name) types.Integer)) TypeMismatch
 
--- WHERE: its column, then its number, then the comparison of both
-abbrev pub where_places : List ColumnDef → Option Condition → List (Option Fault)
-where_places columns None = []
-where_places columns (Some c) = name_place columns c.column ∷ literal_place c.literal ∷ number_place columns c.column ∷ []
+-- WHERE: the walk through it, and then that it is a condition
+abbrev pub where_place : Scope → Option Written → Option Fault
+where_place s None = None
+where_place s (Some condition) = condition_fault (typed s condition)
 
 -- DELETE: the name, WHERE
-abbrev pub delete_places : Option Condition → Result TableOf Fault → List (Option Fault)
+abbrev pub delete_places : Option Written → Result TableOf Fault → List (Option Fault)
 delete_places condition (Err f) = Some f ∷ []
-delete_places condition (Ok t) = where_places t.columns condition
+delete_places condition (Ok t) = where_place (scope_of (from_table t)) condition ∷ []
 
--- SELECT: the source, WHERE, each item, the list of items
+-- SELECT behind its source: WHERE, each item, the list of items
+abbrev pub source_places : Select → Scope → List (Option Fault)
+source_places q s = where_place s q.condition ∷ map (name_place s.columns) q.columns ++ too_long (length q.columns) ∷ []
+
+-- SELECT: the source, and what stands behind it
 abbrev pub select_places : Select → Option Named → List (Option Fault)
 select_places q None = Some UnknownTable ∷ []
-select_places q (Some source) = where_places source.columns q.condition ++ map (name_place source.columns) q.columns ++ too_long (length q.columns) ∷ []
+select_places q (Some source) = source_places q (scope_of source)
 
 -- the table that a view reads: a view is none
 abbrev pub read_table : List ℕ → State → Result TableOf Fault
@@ -140,16 +141,16 @@ repeats before [] = false
 repeats before (name ∷ names) = list_any (λ b. is_text b name) before || repeats (before ++ name ∷ []) names
 
 -- a view's query behind its table: WHERE, GROUP BY and its list, each item, then the names of all and their list
-abbrev pub query_places : List ColumnDef → ViewSelect → List (Option Fault)
-query_places columns v =
-    where_places columns v.condition
-    ++ map (name_place columns) v.group ++ too_long (length v.group)
-    ∷ flat_map (item_places columns v.group) (values_in v) ++ fault_if (repeats [] (item_names 1 v.items)) NameTaken ∷ too_long (length v.items) ∷ []
+abbrev pub query_places : Scope → ViewSelect → List (Option Fault)
+query_places s v =
+    where_place s v.condition
+    ∷ map (name_place s.columns) v.group ++ too_long (length v.group)
+    ∷ flat_map (item_places s.columns v.group) (values_in v) ++ fault_if (repeats [] (item_names 1 v.items)) NameTaken ∷ too_long (length v.items) ∷ []
 
 -- a view's query: the table, and what stands behind it
 abbrev pub view_select_places : ViewSelect → Result TableOf Fault → List (Option Fault)
 view_select_places v (Err f) = Some f ∷ []
-view_select_places v (Ok t) = query_places t.columns v
+view_select_places v (Ok t) = query_places (scope_of (from_table t)) v
 
 -- CREATE VIEW: the name, then the query
 abbrev pub create_view_places : List ℕ → ViewSelect → State → List (Option Fault)

@@ -1,6 +1,6 @@
 -- One step: what a statement may answer in a state, and what state it leaves (ISO 9075-2, 11.3, 14.9, 14.11 and 14.14;
 -- docs/LANGUAGE.md, Statements; docs/ARCHITECTURE.md, Epochs).
-use Rattle.std.specs.Prelude.{◌≡◌, ℕ, ◌+◌, ◌≤◌, ◌==◌, min, Bool, true, false, if◌then◌else◌, not, List, [], ◌∷◌, ◌++◌, filter, length, drop, map, Option, Some, None, Result, Ok, Err}
+use Rattle.std.specs.Prelude.{◌≡◌, ℕ, ◌+◌, ◌≤◌, ◌==◌, min, Bool, true, false, if◌then◌else◌, not, List, [], ◌∷◌, ◌++◌, filter, length, drop, map, Some, None, Result, Ok, Err}
 use Rattle.std.specs.List.{AllByRecursion, list_any, remove}
 use Rattle.cq_values.specs.Value.{Row}
 use Rattle.cq_bags.specs.Bag.{Weighted, SameBag, once_each, difference}
@@ -9,8 +9,6 @@ use Rattle.cq_model.specs.declared.bound.Bound.{Bound}
 use Rattle.cq_model.specs.declared.bound.Bound.TheVariants as commands
 use Rattle.cq_model.specs.declared.query.Order.{Order}
 use Rattle.cq_model.specs.declared.query.Query.{Query}
-use Rattle.cq_model.specs.declared.query.Source.{Source}
-use Rattle.cq_model.specs.declared.query.Source.TheVariants.{Table, View}
 use Rattle.cq_model.specs.declared.statement.ColumnDef.{ColumnDef}
 use Rattle.cq_model.specs.declared.statement.Statement.{Statement}
 use Rattle.cq_model.specs.Meaning.{meaning}
@@ -22,7 +20,7 @@ use Rattle.cq_steps.specs.declared.fault.Fault.{Fault}
 use Rattle.cq_steps.specs.declared.fault.Fault.TheVariants as faults
 use Rattle.cq_steps.specs.Bound.{bound}
 use Rattle.cq_steps.specs.Refusal.{refusal}
-use Rattle.cq_steps.specs.State.{TableOf, ViewOf, ChangeOf, State, empty_table, rows_in, with_rows, tables_now, queries_of}
+use Rattle.cq_steps.specs.State.{TableOf, ViewOf, State, empty_table, rows_in, with_rows, tables_now, queries_of}
 
 -- the state with these tables in place of its own
 abbrev pub with_tables : List TableOf → State → State

@@ -1,6 +1,6 @@
 -- The walk through an expression: each operand from left to right, and then the node that needs them. The first fault
 -- refuses, and what has none gives a value of a type or a condition (docs/LANGUAGE.md, Expressions).
-use Rattle.std.specs.Prelude.{ℕ, ◌+◌, ◌*◌, ◌^◌, nat_lt, nat_le, Bool, true, false, ◌&&◌, ◌||◌, not, if◌then◌else◌, List, length, map, Option, Some, None, Result, Ok, Err, is_none, position, slice_index_or}
+use Rattle.std.specs.Prelude.{ℕ, ◌+◌, ◌*◌, ◌^◌, nat_lt, nat_le, Bool, true, false, ◌&&◌, not, if◌then◌else◌, List, length, map, Option, Some, None, Result, Ok, Err, is_none, position, slice_index_or}
 use denote.Enum.Bare.{sameb}
 use Rattle.cq_values.specs.contracts.ty.Ty as ty
 use Rattle.cq_values.specs.declared.ty.Ty.{Ty}
@@ -9,7 +9,6 @@ use Rattle.cq_values.specs.Dates.{day_named}
 use Rattle.cq_values.specs.Texts.{is_text}
 use Rattle.cq_model.specs.declared.expr.DayPart.{DayPart}
 use Rattle.cq_model.specs.declared.statement.ColumnDef.{ColumnDef}
-use Rattle.cq_model.specs.declared.written.ColumnName.{ColumnName}
 use Rattle.cq_model.specs.Width.{part_limit}
 use Rattle.cq_model.specs.Written.{Written, Choices, Number, Text, Date, Null, Column, Extract, Parens, Negative, Times, Plus, Minus, Compare, IsNull, Between, In, Like, Not, And, Or, NoChoice, Choice}
 use Rattle.cq_steps.specs.declared.fault.Fault.{Fault}

@@ -4,3 +4,4 @@ pub mod Moves
 pub mod Narrow
 pub mod Standing
 pub mod Tellings
+pub mod Sizes

@@ -1,6 +1,6 @@
 //! The items of a view.
 ghost use Rattle.std.specs.Prelude.{◌≡◌, IfOk, map};
-ghost use Rattle.cq_model.specs.declared.expr.Expr.TheVariants.{Column};
+ghost use Rattle.cq_model.specs.Expr.{Column};
 ghost use Rattle.cq_model.specs.Meaning.{items_of};
 ghost use Rattle.cq_values.specs.Value.{column};
 

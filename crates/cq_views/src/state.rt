@@ -5,6 +5,7 @@ ghost use Rattle.cq_bags.specs.Bag.{SameBag, once_each};
 ghost use Rattle.cq_deltas.specs.declared.fault.ToldFault.TheVariants.{SumOutOfRange};
 ghost use Rattle.cq_deltas.specs.Table.{HasKeys, HoldsFor};
 ghost use Rattle.cq_model.specs.Meaning.{MeaningInRange, Tables, meaning};
+ghost use Rattle.cq_model.specs.Sizes.{column_sizes};
 ghost use Rattle.cq_values.specs.Value.{Row as Values};
 ghost use Rattle.cq_views.specs.Small.{CanBeKept, IsSmallFor};
 ghost use Rattle.cq_views.specs.View.{GoesOn, IsNarrowFor, SameView, Stands, StandsFor, change_of, changed, query_of};
@@ -87,6 +88,13 @@ impl ViewState {
         ensures can_be_kept { CanBeKept self.now.def }
     {
         &self.def
+    }
+
+    /// How large the numbers in the columns of the view can be.
+    pub fn column_sizes(&self, alloc: Global) -> Result<Vec<u128>, AllocError>
+        ensures { IfOk result (λ v. v.items ≡ column_sizes (query_of self.now.def)) }
+    {
+        self.def.column_sizes(alloc)
     }
 
     /// How many writes there were when the view last took one in.

@@ -1,7 +1,10 @@
 //! A view of a small table, as rows come and go.
 ghost use Rattle.std.specs.List.{AllByRecursion};
-ghost use Rattle.std.specs.Prelude.{◌<◌, ◌^◌, ◌≤◌, IfOk, nat_abs};
+ghost use Rattle.std.specs.Prelude.{◌≡◌, ◌<◌, ◌^◌, ◌≤◌, IfOk, nat_abs, pos};
+ghost use Rattle.cq_model.specs.Expr.{Column, Compare, Literal};
 ghost use Rattle.cq_model.specs.Width.{value_size};
+ghost use Rattle.cq_model.specs.declared.statement.Comparison.TheVariants.{NotEqual};
+ghost use Rattle.cq_values.specs.declared.value.Value.TheVariants.{Number};
 ghost use Rattle.cq_values.specs.Value.{Row as Values, column};
 ghost use Rattle.cq_views.specs.Small.{CanBeKept};
 ghost use Rattle.cq_views.specs.View.{IsNarrowFor};
@@ -9,24 +12,31 @@ ghost use Rattle.cq_views.specs.View.{IsNarrowFor};
 use crate::state::ViewState;
 use crate::view_def::ViewDef;
 use cq_deltas::ToldFault;
-use cq_model::{Aggregate, Comparison, Cond, Expr};
+use cq_model::{Aggregate, Comparison, Cond, CondTree, Expr, ExprTree};
 use cq_values::{Row, Seq, Value, copy_row};
 use std::alloc::{AllocError, Global};
 use std::test::Fail;
+
+/// The number is not 9.
+fn not_nine() -> Cond
+    ensures { result ≡ Compare NotEqual (Column 1) (Literal (Number (pos 9))) }
+{
+    let (number, nine) = (ExprTree::Column(1), ExprTree::Literal(Value::Number(9)));
+    Cond::new(CondTree::Compare(Comparison::NotEqual, number, nine))
+}
 
 /// Each key with the total of its numbers, of the rows whose number is not 9.
 fn totals(alloc: Global) -> Result<ViewDef, AllocError>
     ensures can_be_kept { IfOk result CanBeKept }
     ensures narrow { IfOk result (λ def. (r : Values) → value_size (column r 1) < 2 ^ 127 → IsNarrowFor def r) }
 {
-    let (number, nine) = (Expr::Column(1), Expr::Literal(Value::Number(9)));
     Ok(ViewDef {
         table: 7,
-        filter: Some(Cond::Compare(Comparison::NotEqual, number, nine)),
+        filter: Some(not_nine()),
         keys: Seq::from_vec(vec![in alloc; 0]?),
         aggregates: Seq::from_vec(vec![in alloc;
             Aggregate::CountAll,
-            Aggregate::Sum(Expr::Column(1)),
+            Aggregate::Sum(Expr::column(1)),
         ]?),
         items: Seq::from_vec(vec![in alloc; 0, 2]?),
     })

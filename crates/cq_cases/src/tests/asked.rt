@@ -1,7 +1,8 @@
 //! Queries as cases write them, and the trees that they stand for.
 use cq_bags::SortKey;
 use cq_model::{
-    Aggregate, Comparison, Cond, DayPart, Equality, Expr, Join, Order, Query, Shape, Source,
+    Aggregate, Comparison, Cond, CondTree, DayPart, Equality, Expr, ExprTree, Join, Order, Query,
+    Shape, Source,
 };
 use cq_values::{Day, Row, Seq, Text, Value};
 use std::alloc::{AllocError, Global};
@@ -96,72 +97,113 @@ pub(crate) fn rows(alloc: Global, table: Rows<'_>) -> Result<Seq<Row>, AllocErro
     Ok(rows)
 }
 
-/// The tree of an expression.
+/// An expression.
 pub(crate) fn expr(alloc: Global, term: &Term<'_>) -> Result<Expr, AllocError> {
+    Ok(Expr::new(tree(alloc, term)?))
+}
+
+fn exprs(alloc: Global, terms: &[Term<'_>]) -> Result<Seq<Expr>, AllocError> {
+    let mut items = Seq::new(alloc);
+    for term in terms {
+        items.push(expr(alloc, term)?)?;
+    }
+    Ok(items)
+}
+
+/// The tree of an expression.
+fn tree(alloc: Global, term: &Term<'_>) -> Result<ExprTree, AllocError> {
     match term {
-        Term::Column(place) => Ok(Expr::Column(*place)),
-        Term::Literal(datum) => Ok(Expr::Literal(value(alloc, datum)?)),
-        Term::Minus(part) => Ok(Expr::Negate(Box::new(alloc, expr(alloc, part)?)?)),
-        Term::Extract(part, day) => Ok(Expr::Extract(*part, Box::new(alloc, expr(alloc, day)?)?)),
+        Term::Column(place) => Ok(ExprTree::Column(*place)),
+        Term::Literal(datum) => Ok(ExprTree::Literal(value(alloc, datum)?)),
+        Term::Minus(part) => Ok(ExprTree::Negate(Box::new(alloc, tree(alloc, part)?)?)),
+        Term::Extract(part, day) => {
+            Ok(ExprTree::Extract(*part, Box::new(alloc, tree(alloc, day)?)?))
+        }
         Term::Sum(terms) => {
             let mut parts = Vec::new(alloc);
             for term in *terms {
-                parts.push(expr(alloc, term)?)?;
+                parts.push(tree(alloc, term)?)?;
             }
-            Ok(Expr::Sum(parts))
+            let (first, rest) = chain(alloc, parts, ExprTree::Literal(Value::Null))?;
+            Ok(ExprTree::Sum(first, rest))
         }
         Term::Product(terms) => {
             let mut parts = Vec::new(alloc);
             for term in *terms {
-                parts.push(expr(alloc, term)?)?;
+                parts.push(tree(alloc, term)?)?;
             }
-            Ok(Expr::Product(parts))
+            let (first, rest) = chain(alloc, parts, ExprTree::Literal(Value::Null))?;
+            Ok(ExprTree::Product(first, rest))
         }
     }
 }
 
-fn exprs(alloc: Global, terms: &[Term<'_>]) -> Result<Vec<Expr>, AllocError> {
+fn trees(alloc: Global, terms: &[Term<'_>]) -> Result<Vec<ExprTree>, AllocError> {
     let mut parts = Vec::new(alloc);
     for term in terms {
-        parts.push(expr(alloc, term)?)?;
+        parts.push(tree(alloc, term)?)?;
     }
     Ok(parts)
 }
 
-/// The tree of a condition.
+/// The first part of a chain and those behind it. A chain of none has this one part.
+fn chain<T: Drop>(alloc: Global, parts: Vec<T>, none: T) -> Result<(Box<T>, Vec<T>), AllocError> {
+    let mut parts = parts.into_iter();
+    let first = Box::new(alloc, parts.next().unwrap_or(none))?;
+    Ok((first, parts.collect(alloc)?))
+}
+
+/// A condition.
 pub(crate) fn cond(alloc: Global, test: &Test<'_>) -> Result<Cond, AllocError> {
+    Ok(Cond::new(cond_tree(alloc, test)?))
+}
+
+/// The tree of a condition.
+fn cond_tree(alloc: Global, test: &Test<'_>) -> Result<CondTree, AllocError> {
     match test {
-        Test::Compare(comparison, left, right) => Ok(Cond::Compare(
+        Test::Compare(comparison, left, right) => Ok(CondTree::Compare(
             *comparison,
-            expr(alloc, left)?,
-            expr(alloc, right)?,
+            tree(alloc, left)?,
+            tree(alloc, right)?,
         )),
-        Test::IsNull(term) => Ok(Cond::IsNull(expr(alloc, term)?)),
-        Test::Between(term, least, greatest) => Ok(Cond::Between(
-            expr(alloc, term)?,
-            expr(alloc, least)?,
-            expr(alloc, greatest)?,
+        Test::IsNull(term) => Ok(CondTree::IsNull(tree(alloc, term)?)),
+        Test::Between(term, least, greatest) => Ok(CondTree::Between(
+            tree(alloc, term)?,
+            tree(alloc, least)?,
+            tree(alloc, greatest)?,
         )),
-        Test::In(term, list) => Ok(Cond::In(expr(alloc, term)?, exprs(alloc, list)?)),
-        Test::Like(term, pattern) => {
-            Ok(Cond::Like(expr(alloc, term)?, Text::new(alloc, pattern)?))
-        }
-        Test::Not(part) => Ok(Cond::Not(Box::new(alloc, cond(alloc, part)?)?)),
+        Test::In(term, list) => Ok(CondTree::In(tree(alloc, term)?, trees(alloc, list)?)),
+        Test::Like(term, pattern) => Ok(CondTree::Like(
+            tree(alloc, term)?,
+            Text::new(alloc, pattern)?,
+        )),
+        Test::Not(part) => Ok(CondTree::Not(Box::new(alloc, cond_tree(alloc, part)?)?)),
         Test::And(tests) => {
             let mut parts = Vec::new(alloc);
             for test in *tests {
-                parts.push(cond(alloc, test)?)?;
+                parts.push(cond_tree(alloc, test)?)?;
             }
-            Ok(Cond::And(parts))
+            let (first, rest) = chain(alloc, parts, unknown())?;
+            Ok(CondTree::And(first, rest))
         }
         Test::Or(tests) => {
             let mut parts = Vec::new(alloc);
             for test in *tests {
-                parts.push(cond(alloc, test)?)?;
+                parts.push(cond_tree(alloc, test)?)?;
             }
-            Ok(Cond::Or(parts))
+            let (first, rest) = chain(alloc, parts, unknown())?;
+            Ok(CondTree::Or(first, rest))
         }
     }
+}
+
+/// NULL = NULL
+fn unknown() -> CondTree {
+    let (left, right) = (
+        ExprTree::Literal(Value::Null),
+        ExprTree::Literal(Value::Null),
+    );
+    CondTree::Compare(Comparison::Equal, left, right)
 }
 
 /// WHERE or HAVING.
@@ -232,7 +274,7 @@ pub(crate) fn query(alloc: Global, asked: &Asked<'_>) -> Result<Query, AllocErro
         joins,
         filter: condition(alloc, &asked.filter)?,
         shape: shape(alloc, &asked.groups)?,
-        items: Seq::from_vec(exprs(alloc, asked.items)?),
+        items: exprs(alloc, asked.items)?,
         distinct: asked.distinct,
     })
 }

@@ -97,8 +97,7 @@ pub(crate) fn check_truths(
 ) -> Result<(), PlainFault> {
     for (name, test, truth) in cases {
         let is_kept = keeps(alloc, row, cond(alloc, test)?)?;
-        let negated = Cond::Not(Box::new(alloc, cond(alloc, test)?)?);
-        let is_dropped = keeps(alloc, row, negated)?;
+        let is_dropped = keeps(alloc, row, cond(alloc, &Test::Not(test))?)?;
         assert_eq!(rt; is_kept, *truth == Truth::True, "{name}");
         assert_eq!(rt; is_dropped, *truth == Truth::False, "NOT {name}");
     }

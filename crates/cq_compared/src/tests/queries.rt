@@ -1,5 +1,7 @@
 //! The views of the random scripts, as queries for the plain evaluator.
-use cq_model::{Aggregate, Comparison, Cond, Expr, Order, Query, Shape, Source};
+use cq_model::{
+    Aggregate, Comparison, Cond, CondTree, Expr, ExprTree, Order, Query, Shape, Source,
+};
 use cq_plain::{Database, PlainFault, answer_listed};
 use cq_values::{Row, Seq, Value};
 use std::alloc::{AllocError, Global};
@@ -14,7 +16,7 @@ fn two<T: Drop>(alloc: Global, first: T, second: T) -> Result<Seq<T>, AllocError
 fn columns(alloc: Global, places: [usize; 3]) -> Result<Seq<Expr>, AllocError> {
     let mut columns = Seq::new(alloc);
     for place in places {
-        columns.push(Expr::Column(place))?;
+        columns.push(Expr::column(place))?;
     }
     Ok(columns)
 }
@@ -44,17 +46,17 @@ fn grouped(
 pub(crate) fn by_key(alloc: Global) -> Result<Query, AllocError> {
     let mut keys = Seq::new(alloc);
     keys.push(0)?;
-    let told = two(alloc, Aggregate::CountAll, Aggregate::Sum(Expr::Column(1)))?;
+    let told = two(alloc, Aggregate::CountAll, Aggregate::Sum(Expr::column(1)))?;
     grouped(alloc, None, keys, told, [0, 1, 2])
 }
 
 /// SELECT SUM(k), a, COUNT(*) FROM t WHERE a > 0 GROUP BY a, k
 pub(crate) fn of_positives(alloc: Global) -> Result<Query, AllocError> {
-    let zero = Expr::Literal(Value::Number(0));
-    let filter = Cond::Compare(Comparison::Greater, Expr::Column(1), zero);
+    let zero = ExprTree::Literal(Value::Number(0));
+    let filter = CondTree::Compare(Comparison::Greater, ExprTree::Column(1), zero);
     let keys = two(alloc, 1, 0)?;
-    let told = two(alloc, Aggregate::Sum(Expr::Column(0)), Aggregate::CountAll)?;
-    grouped(alloc, Some(filter), keys, told, [2, 0, 3])
+    let told = two(alloc, Aggregate::Sum(Expr::column(0)), Aggregate::CountAll)?;
+    grouped(alloc, Some(Cond::new(filter)), keys, told, [2, 0, 3])
 }
 
 /// What the query means on the rows of its table, as a list.

@@ -2,7 +2,7 @@
 use crate::{SqlFault, parse};
 use cq_model::{ColumnDef, Statement};
 use cq_values::{Text, Ty};
-use std::alloc::Global;
+use std::alloc::{AllocError, Global};
 use std::test::Fail;
 
 /// The columns of a table, and those behind SORT BY.
@@ -39,8 +39,12 @@ fn a_column_keeps_its_type_and_not_null(rt: HostRuntime) -> Result<(), Fail> {
 fn written_order(alloc: Global, text: &str) -> Result<String, Fail> {
     let statement = parse(alloc, text)?;
     let (_, sort) = table_of(&statement).ok_or("no table")?;
+    Ok(spaced(alloc, sort)?)
+}
+
+fn spaced(alloc: Global, names: &[Text]) -> Result<String, AllocError> {
     let mut line = String::new(alloc);
-    for name in sort {
+    for name in names {
         line.push_str(name.as_str())?;
         line.push_str(" ")?;
     }

@@ -93,9 +93,6 @@ fn what_is_no_constant_is_refused(rt: HostRuntime) -> Result<(), Fail> {
         "INSERT INTO t VALUES (DATE DATE '2024-01-01')",
         "INSERT INTO t VALUES (- DATE '2024-01-01')",
         "INSERT INTO t VALUES ('2024-01-01' DATE)",
-        "SELECT a FROM t WHERE a = NULL",
-        "SELECT a FROM t WHERE a = 'x'",
-        "SELECT a FROM t WHERE a = DATE '2024-01-01'",
     ];
     for text in texts {
         assert_eq!(rt;

@@ -1,7 +1,7 @@
 //! The queries of views as trees.
-use super::tokens;
+use super::{comparison_parts, tokens};
 use crate::tree_of;
-use cq_model::{Comparison, Item, ItemValue, Statement, ViewSelect};
+use cq_model::{Comparison, ExprNode, Item, ItemValue, Statement, ViewSelect};
 use std::test::Fail;
 
 fn view_of(statement: &Statement) -> Option<&ViewSelect> {
@@ -47,11 +47,12 @@ fn a_view_keeps_its_condition_and_groups(rt: HostRuntime) -> Result<(), Fail> {
     let statement = tree_of(rt.alloc(), &tokens)?;
     let view = view_of(&statement).ok_or("no view")?;
     let condition = view.condition.as_ref().ok_or("no condition")?;
+    let (column, comparison, other) = comparison_parts(condition).ok_or("no comparison")?;
     let group = view.group.as_slice();
     assert_eq!(rt; view.table.as_str(), "t");
-    assert_eq!(rt; condition.column.as_str(), "b");
-    assert_eq!(rt; condition.comparison, Comparison::Less);
-    assert_eq!(rt; condition.literal.is_negative, true);
+    assert_eq!(rt; column, "b");
+    assert_eq!(rt; comparison, Comparison::Less);
+    assert!(rt; matches!(other, ExprNode::Negative(_)));
     assert_eq!(rt; group.len(), 2);
     assert_eq!(rt; group[0].as_str(), "a");
     assert_eq!(rt; group[1].as_str(), "c");

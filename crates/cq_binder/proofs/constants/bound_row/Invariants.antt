@@ -1,4 +1,4 @@
-use Rattle.std.proofs.Common.{◌≡◌, length, take, drop}
+use Rattle.std.proofs.Common.{◌≡◌, take, drop}
 use Rattle.cq_steps.specs.Bound.{row_of}
 use Rattle.cq_steps.specs.Refusal.{constant_places, first_fault}
 use Rattle.cq_binder.proofs.constants.bound_row.Given as goal

@@ -45,13 +45,18 @@ const COUNT_AND_MAX: Asked<'static> = Asked {
 
 fn printed_of_numbers(alloc: Global, end: i128, asked: &Asked<'_>) -> Result<Seq<u8>, PlainFault> {
     let database = counting(alloc, end)?;
-    let found = answer_listed(
-        alloc,
-        &database,
-        &query(alloc, asked)?,
-        &order(alloc, asked)?,
-    )?;
+    let found = answered(alloc, &database, asked)?;
     Ok(printed(alloc, &["c1", "c2"], found.as_slice())?)
+}
+
+fn answered(
+    alloc: Global,
+    database: &Database,
+    asked: &Asked<'_>,
+) -> Result<Vec<Row>, PlainFault> {
+    let query = query(alloc, asked)?;
+    let order = order(alloc, asked)?;
+    answer_listed(alloc, database, &query, &order)
 }
 
 #[test]

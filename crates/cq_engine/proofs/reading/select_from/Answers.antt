@@ -2,7 +2,7 @@ use Rattle.std.proofs.Common.{refl, sym}
 use Rattle.cq_engine.specs.Views.{views_of}
 use Rattle.cq_engine.proofs.Numbers.{rows-found}
 use Rattle.cq_engine.proofs.Places.{named_there, source_there}
-use Rattle.cq_engine.proofs.Readings.{from_rows, from_kept, from_none}
+use Rattle.cq_engine.proofs.Readings.{backed, from_rows, from_kept, from_none}
 use Rattle.cq_engine.proofs.reading.select_from.Goals as goal
 
 -- the table of the name
@@ -31,3 +31,10 @@ returns-in-None c =
     let no_table = rw c.as_str-name.ensures at c.in_default.ensures.named in
     let no_place = rw c.as_str-name.ensures at c.in-None.ensures in
     from_none c.args.select.now c.args.tables.now c.args.views.now (sym no_table) (sym no_place)
+
+-- which its table backs
+pub select_from_view-requires : goal.select_from_view-requires
+select_from_view-requires c =
+    let no_table = rw c.as_str-name.ensures at c.in_default.ensures.named in
+    let place = rw c.as_str-name.ensures at c.in-Some-view_place.ensures in
+    backed c.args.select.now c.args.tables.now c.args.views.now (sym no_table) c.requires.right.0 c.in-Some-view_place.place c.index-views-place.result c.requires.right.1 (sym place) c.index-views-place.is c.requires.stored c.all_few.ensures

@@ -1,15 +1,29 @@
+use Rattle.std.proofs.Common.{[]}
 use Rattle.cq_model.specs.declared.query.Source.TheVariants.{Table}
 use Rattle.cq_model.specs.Meaning.{meaning}
 use Rattle.cq_views.specs.View.{query_of}
-use Rattle.cq_engine.proofs.Readings.{ok_before}
+use Rattle.cq_engine.specs.Statements.{view_scope}
+use Rattle.cq_engine.proofs.Readings.{in_source, narrow_for, ok_before, told_keep}
 use Rattle.cq_engine.proofs.Results.{listing_bound, listing_named}
 use Rattle.cq_engine.proofs.reading.select_from_view.Goals as goal
+
+-- WHERE is narrow at each row that the view tells
+pub list-requires : goal.list-requires
+list-requires c =
+    let v = c.args.view.now in
+    let bound = in_source c.args.select.now c.in_ok-selection.selection _ _ c.view_scope.ensures c.in_ok-selection.ensures in
+    let rows = c.in_ok-rows.rows in
+    let is = ok_before c.rows.result c.map_err.result _ rows c.map_err.ensures.cases c.map_err.ensures.variant c.in_ok-rows.was in
+    let bag = rw is at c.rows.ensures.bag in
+    let range = rw is at c.rows.ensures.range in
+    let told = told_keep v rows.items c.requires c.rows_keep_sizes.ensures bag range in
+    rw c.deref-2.ensures.value (narrow_for c.args.select.now c.in_ok-selection.selection (view_scope v) rows.items bound told)
 
 -- the listing of the rows that the view tells is that of its bag
 pub returns : goal.returns
 returns c =
-    let bound = rw c.columns.ensures at c.in_ok-selection.ensures in
-    let listed = rw c.deref.ensures.value at c.in_ok-list.ensures in
+    let bound = in_source c.args.select.now c.in_ok-selection.selection _ _ c.view_scope.ensures c.in_ok-selection.ensures in
+    let listed = rw c.deref-2.ensures.value at c.in_ok-list.ensures in
     let rows = c.in_ok-rows.rows in
     let is = ok_before c.rows.result c.map_err.result _ rows c.map_err.ensures.cases c.map_err.ensures.variant c.in_ok-rows.was in
     let bag = rw is at c.rows.ensures.bag in
@@ -20,7 +34,7 @@ returns c =
     let result = listing_bound columns select c.in_ok-selection.selection rows.items list bound.1 listed in (
       bound.0,
       λ tables stands. (
-        listing_named columns select (Table 0) (λ source. meaning (query_of c.args.view.now.kept.def) tables) rows.items list (bag tables stands) result,
+        listing_named columns select [] [] (Table 0) (λ source. meaning (query_of c.args.view.now.kept.def) tables) rows.items list (bag tables stands) result,
         range tables stands,
       ),
     )

@@ -4,10 +4,11 @@ use Rattle.cq_values.specs.Truth.{or_truth}
 use Rattle.cq_model.specs.Comparison.{compared}
 use Rattle.cq_model.specs.Condition.{any_of}
 use Rattle.cq_model.specs.Eval.{eval}
+use Rattle.cq_model.specs.Trees.{expr_of}
 use Rattle.cq_model.specs.declared.statement.Comparison.TheVariants.{Equal}
 use Rattle.cq_model.proofs.truth.is_in.Given as goal
 
 -- the choices that are left complete the truth
 abbrev pub invariant-loop-choice : goal.invariant-loop-choice
 invariant-loop-choice l =
-    fold or_truth l.truth (map (λ x. compared Equal (owned l.value) (eval x l.row)) (drop l.choice-index l.choices)) ≡ any_of (map (λ x. compared Equal (owned l.value) (eval x l.row)) l.choices)
+    fold or_truth l.truth (map (λ t. compared Equal (owned l.value) (eval (expr_of t) l.row)) (drop l.choice-index l.choices)) ≡ any_of (map (λ x. compared Equal (owned l.value) (eval x l.row)) (map expr_of l.choices))

@@ -1,4 +1,4 @@
-use Rattle.std.proofs.Common.{◌≡◌, ◌-◌, ◌<◌, Option, List, ◌∷◌, ◌++◌, [], length, map, arith, rules, sym, subst, ◌∙◌, length-append}
+use Rattle.std.proofs.Common.{◌≡◌, ◌-◌, Option, List, ◌∷◌, ◌++◌, [], length, map, arith, rules, sym, subst, ◌∙◌, length-append}
 use Rattle.std.proofs.lemmas.Result.{err_from_is_err_and}
 use Rattle.std.proofs.lemmas.List.{map-append, length-map}
 use Rattle.cq_model.specs.declared.token.Token.{Token}

@@ -1,5 +1,5 @@
 use Rattle.std.proofs.Common.{◌≡◌, map, take}
-use Rattle.cq_model.specs.declared.expr.Expr.TheVariants.{Column}
+use Rattle.cq_model.specs.Expr.{Column}
 use Rattle.cq_model.specs.Meaning.{items_of}
 use Rattle.cq_views.proofs.items.item_rows.Given as goal
 

@@ -1,7 +1,7 @@
 use Rattle.std.proofs.Common.{◌≡◌, ◌∙◌, ℕ, List, map, sym, ap, ap₂, subst, rules}
 use Rattle.cq_values.specs.Value.{Row}
 use Rattle.cq_bags.specs.Bag.{SameBag, once_each}
-use Rattle.cq_model.specs.declared.expr.Expr.TheVariants.{Column}
+use Rattle.cq_model.specs.Expr.{Column}
 use Rattle.cq_model.specs.declared.query.Aggregate.{Aggregate}
 use Rattle.cq_model.specs.Kept.{Groups}
 use Rattle.cq_model.specs.Meaning.{MeaningInRange, Tables, items_of, meaning}

@@ -1,0 +1,25 @@
+//! WHERE.
+ghost use Rattle.std.specs.Prelude.{◌≡◌, ◌∷◌, [], option_map};
+ghost use Rattle.cq_steps.specs.Bound.{bound_condition};
+ghost use Rattle.cq_steps.specs.Refusal.{where_place};
+ghost use Rattle.cq_exprs.specs.Expressions.{scope_of};
+ghost use Rattle.cq_binder.specs.Walk.{Walked};
+
+use cq_exprs::{Scope, bind_condition};
+use cq_model::{Cond, SqlExpr};
+use cq_steps::Fault;
+use std::alloc::Global;
+
+/// WHERE on a source, if it is there, once it has been walked through.
+pub fn bound_where(
+    alloc: Global,
+    scope: &Scope<'_>,
+    condition: &Option<SqlExpr>,
+) -> Result<Option<Cond>, Fault>
+    ensures { Walked (where_place (scope_of scope.now) condition.now ∷ []) (λ c. c ≡ option_map (bound_condition scope.now.columns.now) condition.now) result }
+{
+    match condition {
+        Some(condition) => Ok(Some(bind_condition(alloc, scope, condition)?)),
+        None => Ok(None),
+    }
+}

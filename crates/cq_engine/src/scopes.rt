@@ -1,0 +1,50 @@
+//! What expressions over a table or a view see of it.
+ghost use Rattle.std.specs.Prelude.{◌≡◌, IfOk};
+ghost use Rattle.cq_model.specs.Sizes.{column_sizes, stored_sizes};
+ghost use Rattle.cq_steps.specs.Bound.{from_table, scope_of as scope_of_source};
+ghost use Rattle.cq_exprs.specs.Expressions.{scope_of};
+ghost use Rattle.cq_views.specs.View.{query_of};
+ghost use Rattle.cq_engine.specs.Statements.{view_scope};
+
+use crate::table::Table;
+use crate::view::View;
+use cq_exprs::Scope;
+use std::alloc::{AllocError, Global};
+
+/// A stored number has 64 bits with a sign.
+const STORED_SIZE: u128 = 1 << 63;
+
+/// How large the numbers in the columns of a table can be.
+pub fn stored_sizes(alloc: Global, table: &Table) -> Result<Vec<u128>, AllocError>
+    ensures { IfOk result (λ v. v.items ≡ stored_sizes table.now.columns) }
+{
+    let mut sizes = Vec::new(alloc);
+    for _ in table.columns() {
+        sizes.push(STORED_SIZE)?;
+    }
+    Ok(sizes)
+}
+
+/// A table, whose numbers are of these sizes.
+pub fn table_scope<'a>(table: &'a Table, sizes: &'a [u128]) -> Scope<'a>
+    requires { sizes.now ≡ stored_sizes table.now.columns }
+    ensures { scope_of result ≡ scope_of_source (from_table table.now) }
+{
+    Scope {
+        known: table.name(),
+        columns: table.columns(),
+        sizes,
+    }
+}
+
+/// A view, whose numbers are of these sizes.
+pub fn view_scope<'a>(view: &'a View, sizes: &'a [u128]) -> Scope<'a>
+    requires { sizes.now ≡ column_sizes (query_of view.now.kept.def) }
+    ensures { scope_of result ≡ view_scope view.now }
+{
+    Scope {
+        known: view.name(),
+        columns: view.columns(),
+        sizes,
+    }
+}

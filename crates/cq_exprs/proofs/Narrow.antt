@@ -1,0 +1,191 @@
+-- What passes the walk has nothing too wide in it.
+use Rattle.std.proofs.Common.{arith, ◌≡◌, ℕ, ◌+◌, ◌*◌, ◌<◌, ◌≤◌, ◌^◌, max, Bool, true, false, ℤ, List, [], ◌∷◌, length, map, Option, Some, None, Result, Ok, Err, refl, ap}
+use Rattle.std.specs.Prelude.{nat_lt, ◌&&◌, if◌then◌else◌, position, slice_index_or, unwrap_or}
+use Rattle.std.specs.List.{fold}
+use Rattle.std.proofs.lemmas.Bool.{ltb-true}
+use Rattle.std.proofs.lemmas.List.Quantifiers.{position-Some}
+use Rattle.std.proofs.lemmas.Nat.{mul-le}
+use Rattle.cq_values.specs.Dates.{day_named}
+use Rattle.cq_values.specs.Texts.{is_text}
+use Rattle.cq_values.specs.declared.ty.Ty.TheVariants as types
+use Rattle.cq_values.specs.declared.value.Value.TheVariants as values
+use Rattle.cq_model.specs.declared.expr.DayPart.{DayPart}
+use Rattle.cq_model.specs.declared.written.ColumnName.{ColumnName}
+use Rattle.cq_model.specs.Expr.{Cond}
+use Rattle.cq_model.specs.Placed.{named_day, placed_expr, placed_exprs, turned, written_number}
+use Rattle.cq_model.specs.Width.{part_limit, value_size, widest, widest_in, width}
+use Rattle.cq_model.specs.Written.{Written, Choices, Number, Text, Date, Null, Column, Extract, Parens, Negative, Times, Plus, Minus, Compare, IsNull, Between, In, Like, Not, And, Or, NoChoice, Choice}
+use Rattle.cq_steps.specs.declared.fault.Fault.{Fault}
+use Rattle.cq_steps.specs.declared.fault.Fault.TheVariants.{TooWide, TypeMismatch, UnknownTable}
+use Rattle.cq_steps.specs.declared.typing.Typing.{Typing}
+use Rattle.cq_steps.specs.Typing.{◌and_then◌, Scope, agree, arithmetic, between_them, column_at, column_typing, compared_with, connected, is_of, knows, like_of, listed, negation_of, negative, number_of, part_of, product_of, sum_of, tested, text_of, type_at, typed, unless, value_of}
+use Rattle.cq_exprs.specs.Expressions.{IsNarrow, KeepSizes, TypedIsNarrow, place_of}
+
+-- what stands behind a first step, stands behind what that step gives
+stood : {A B : Type 0} (r : Result A Fault) (g : A → Result B Fault) (y : B) → (r and_then g) ≡ Ok y → (x : A) × (r ≡ Ok x) × (g x ≡ Ok y)
+stood (Ok x) g y e = (x, refl, e)
+stood (Err f) g y e = absurd (cc e)
+
+-- a test that was passed
+if_ok : {A : Type 0} (b : Bool) (r : Result A Fault) (f : Fault) (x : A) → (if b then r else Err f) ≡ Ok x → r ≡ Ok x
+if_ok true r f x e = e
+if_ok false r f x e = absurd (cc e)
+
+-- what stands is what was to stand
+unless_ok : {A : Type 0} (b : Bool) (f : Fault) (x y : A) → unless b f x ≡ Ok y → (b ≡ true) × (y ≡ x)
+unless_ok true f x y e = (refl, cc e)
+unless_ok false f x y e = absurd (cc e)
+
+-- a number that stands is below 2^127
+is_number : (n : ℕ) (t : Typing) → number_of n ≡ Ok t → (n < 2 ^ 127) × (t.size ≡ n)
+is_number n t e =
+    let p = unless_ok (nat_lt n (2 ^ 127)) TooWide (value_of types.Integer n) t e in
+    (ltb-true n (2 ^ 127) p.0, ap (λ (x : Typing). x.size) p.1)
+
+-- so is minus of a number
+is_negative : (x t : Typing) → negative x ≡ Ok t → (x.size < 2 ^ 127) × (t.size ≡ x.size)
+is_negative x t e = is_number x.size t (if_ok (is_of types.Integer x.kind) (number_of x.size) TypeMismatch t e)
+
+-- and what was worked out of two numbers
+is_arithmetic : (x y : Typing) (n : ℕ) (t : Typing) → arithmetic x y n ≡ Ok t → (n < 2 ^ 127) × (t.size ≡ n)
+is_arithmetic x y n t e = is_number n t (if_ok (is_of types.Integer x.kind && is_of types.Integer y.kind) (number_of n) TypeMismatch t e)
+
+-- a part of a day is no larger than the greatest
+is_part : (part : DayPart) (x t : Typing) → part_of part x ≡ Ok t → t.size ≡ part_limit part
+is_part part x t e = ap (λ (y : Typing). y.size) (unless_ok (is_of types.Date x.kind) TypeMismatch (value_of types.Integer (part_limit part)) t e).1
+
+-- a whole number is as large as it is written, where it is not too wide
+number_size : (n : ℕ) → value_size (written_number n) ≤ n
+number_size n = grind arith
+
+-- a day has no size
+no_size : (d : Option ℤ) → value_size (elim d [ None ↦ values.Null | Some n ↦ values.Day n ]) ≡ 0
+no_size None = refl
+no_size (Some n) = refl
+
+day_size : (t : List ℕ) → value_size (named_day t) ≡ 0
+day_size t = no_size (day_named t)
+
+-- NOT makes nothing wider
+widest-turned : (negated : Bool) (c : Cond) (sizes : ℕ → ℕ) → widest_in (turned negated c) sizes ≡ widest_in c sizes
+widest-turned true c sizes = refl
+widest-turned false c sizes = refl
+
+-- a place that is found is there
+place_found : {X : Type 0} (p : X → Bool) (xs : List X) (i : ℕ) → position p xs ≡ Some i → i < length xs
+place_found p [] i e = absurd (cc e)
+place_found p (x ∷ xs) i e = (position-Some p (x ∷ xs) i x e).0
+
+module _ (s : Scope) (sizes : ℕ → ℕ) (kept : KeepSizes s sizes) where
+  -- a column that is found has the size that its source promises
+  found_size : (o : Option ℕ) (t : Typing) → column_typing s o ≡ Ok t → ((i : ℕ) → o ≡ Some i → i < length s.columns) → sizes (unwrap_or o 0) ≤ t.size
+  found_size None t e there = absurd (cc e)
+  found_size (Some i) t e there =
+      let is : value_of (type_at s.columns i) (slice_index_or s.sizes i 0) ≡ t = cc e in
+      omega (arith, kept i (there i refl), ap {B = ℕ} (λ (x : Typing). x.size) is)
+
+  column_size : (c : ColumnName) (t : Typing) → typed s (Column c) ≡ Ok t → sizes (place_of s.columns c) ≤ t.size
+  column_size c t e =
+      found_size (column_at s c.name) t (if_ok (knows s c.source) (column_typing s (column_at s c.name)) UnknownTable t e) (place_found (λ d. is_text d.name c.name) s.columns)
+
+  mutual
+    narrow : (w : Written) (t : Typing) → typed s w ≡ Ok t → IsNarrow s w t sizes
+    narrow (Number n) t e =
+        let p = is_number n t e in
+        let m = number_size n in
+        record { value = omega (arith, p.0, m); size = omega (arith, p.1, m); condition = omega (arith, p.0, m) }
+    narrow (Text b) t e = record { value = omega arith; size = omega arith; condition = omega arith }
+    narrow (Date b) t e =
+        let d = day_size b in
+        record { value = omega (arith, d); size = omega (arith, d); condition = omega (arith, d) }
+    narrow Null t e = record { value = omega arith; size = omega arith; condition = omega arith }
+    narrow (Column c) t e = record { value = omega arith; size = column_size c t e; condition = omega arith }
+    narrow (Extract part a) t e =
+        let p = stood (typed s a) (part_of part) t e in
+        let x = narrow a p.0 p.1 in
+        record { value = x.value; size = omega (arith, is_part part p.0 t p.2); condition = x.value }
+    narrow (Parens a) t e =
+        let x = narrow a t e in
+        record { value = x.value; size = x.size; condition = x.condition }
+    narrow (Negative a) t e =
+        let p = stood (typed s a) negative t e in
+        let x = narrow a p.0 p.1 in
+        let n = is_negative p.0 t p.2 in
+        record { value = omega (arith, x.value, x.size, n.0); size = omega (arith, x.size, n.1); condition = omega (arith, x.value, x.size, n.0) }
+    narrow (Times a b) t e =
+        let p = stood (typed s a) (λ x. typed s b and_then product_of x) t e in
+        let q = stood (typed s b) (product_of p.0) t p.2 in
+        let x = narrow a p.0 p.1 in
+        let y = narrow b q.0 q.1 in
+        let n = is_arithmetic p.0 q.0 (p.0.size * q.0.size) t q.2 in
+        let product = mul-le (width (placed_expr (place_of s.columns) a) sizes).size (width (placed_expr (place_of s.columns) b) sizes).size p.0.size q.0.size x.size y.size in
+        record { value = omega (arith, x.value, y.value, n.0, product); size = omega (arith, n.1, product); condition = omega (arith, x.value, y.value, n.0, product) }
+    narrow (Plus a b) t e =
+        let p = stood (typed s a) (λ x. typed s b and_then sum_of x) t e in
+        let q = stood (typed s b) (sum_of p.0) t p.2 in
+        let x = narrow a p.0 p.1 in
+        let y = narrow b q.0 q.1 in
+        let n = is_arithmetic p.0 q.0 (p.0.size + q.0.size) t q.2 in
+        record { value = omega (arith, x.value, x.size, y.value, y.size, n.0); size = omega (arith, x.size, y.size, n.1); condition = omega (arith, x.value, x.size, y.value, y.size, n.0) }
+    narrow (Minus a b) t e =
+        let p = stood (typed s a) (λ x. typed s b and_then sum_of x) t e in
+        let q = stood (typed s b) (sum_of p.0) t p.2 in
+        let x = narrow a p.0 p.1 in
+        let y = narrow b q.0 q.1 in
+        let n = is_arithmetic p.0 q.0 (p.0.size + q.0.size) t q.2 in
+        record { value = omega (arith, x.value, x.size, y.value, y.size, n.0); size = omega (arith, x.size, y.size, n.1); condition = omega (arith, x.value, x.size, y.value, y.size, n.0) }
+    narrow (Compare c a b) t e =
+        let p = stood (typed s a) (λ x. typed s b and_then compared_with x) t e in
+        let q = stood (typed s b) (compared_with p.0) t p.2 in
+        let x = narrow a p.0 p.1 in
+        let y = narrow b q.0 q.1 in
+        record { value = omega arith; size = omega arith; condition = omega (arith, x.value, y.value) }
+    narrow (IsNull negated a) t e =
+        let p = stood (typed s a) tested t e in
+        let x = narrow a p.0 p.1 in
+        record { value = omega arith; size = omega arith; condition = rw (widest-turned negated _ sizes) x.value }
+    narrow (Between negated a least greatest) t e =
+        let p = stood (typed s a) (λ x. typed s least and_then λ l. typed s greatest and_then between_them x l) t e in
+        let q = stood (typed s least) (λ l. typed s greatest and_then between_them p.0 l) t p.2 in
+        let r = stood (typed s greatest) (between_them p.0 q.0) t q.2 in
+        let x = narrow a p.0 p.1 in
+        let y = narrow least q.0 q.1 in
+        let z = narrow greatest r.0 r.1 in
+        record { value = omega arith; size = omega arith; condition = rw (widest-turned negated _ sizes) (omega (arith, x.value, y.value, z.value)) }
+    narrow (In negated a bs) t e =
+        let p = stood (typed s a) (λ x. listed s x true bs) t e in
+        let x = narrow a p.0 p.1 in
+        let y = choices_narrow bs p.0 true t 0 (omega arith) p.2 in
+        record { value = omega arith; size = omega arith; condition = rw (widest-turned negated _ sizes) (omega (arith, x.value, y)) }
+    narrow (Like negated a pattern) t e =
+        let p = stood (typed s a) (λ x. text_of pattern and_then like_of x) t e in
+        let x = narrow a p.0 p.1 in
+        record { value = omega arith; size = omega arith; condition = rw (widest-turned negated _ sizes) x.value }
+    narrow (Not a) t e =
+        let p = stood (typed s a) negation_of t e in
+        let x = narrow a p.0 p.1 in
+        record { value = omega arith; size = omega arith; condition = x.condition }
+    narrow (And a b) t e =
+        let p = stood (typed s a) (λ x. typed s b and_then connected x) t e in
+        let q = stood (typed s b) (connected p.0) t p.2 in
+        let x = narrow a p.0 p.1 in
+        let y = narrow b q.0 q.1 in
+        record { value = omega arith; size = omega arith; condition = omega (arith, x.condition, y.condition) }
+    narrow (Or a b) t e =
+        let p = stood (typed s a) (λ x. typed s b and_then connected x) t e in
+        let q = stood (typed s b) (connected p.0) t p.2 in
+        let x = narrow a p.0 p.1 in
+        let y = narrow b q.0 q.1 in
+        record { value = omega arith; size = omega arith; condition = omega (arith, x.condition, y.condition) }
+
+    -- none of the entries behind IN is too wide
+    choices_narrow : (bs : Choices) (x : Typing) (all_agree : Bool) (t : Typing) (n : ℕ) → n < 2 ^ 127 → listed s x all_agree bs ≡ Ok t → fold max n (map (widest sizes) (placed_exprs (place_of s.columns) bs)) < 2 ^ 127
+    choices_narrow NoChoice x all_agree t n small e = small
+    choices_narrow (Choice b bs) x all_agree t n small e =
+        let p = stood (typed s b) (λ y. listed s x (all_agree && agree x.kind y.kind) bs) t e in
+        let y = narrow b p.0 p.1 in
+        choices_narrow bs x (all_agree && agree x.kind p.0.kind) t (max n (widest sizes (placed_expr (place_of s.columns) b))) (omega (arith, small, y.value)) p.2
+
+-- what has no fault is narrow wherever the columns keep their sizes
+pub typed_is_narrow : TypedIsNarrow
+typed_is_narrow s w t sizes e kept = narrow s sizes kept w t e

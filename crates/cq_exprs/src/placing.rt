@@ -1,0 +1,240 @@
+//! What is written with places for names.
+ghost use Rattle.std.specs.Prelude.{◌==◌, ◌||◌, ◌≡◌, IfOk, length, map};
+ghost use Rattle.cq_model.specs.Expr as terms;
+ghost use Rattle.cq_model.specs.Placed.{named_day, placed_cond, placed_expr, turned, written_number};
+ghost use Rattle.cq_model.specs.Trees.{cond_of, expr_of};
+ghost use Rattle.cq_model.specs.Written.{written};
+ghost use Rattle.cq_exprs.specs.Expressions.{place_of};
+ghost use Rattle.cq_exprs.specs.Terms.{later_terms, signed_term};
+
+use crate::scope::column_place;
+use cq_model::{ColumnDef, CondTree, ExprNode, ExprTree, Sign};
+use cq_values::{Value, date_of};
+use std::alloc::{AllocError, Global};
+
+/// The value that is written. A condition has none, and NULL stands for it; a chain of one part is that part.
+#[cycle(values)]
+pub(crate) fn expr_tree(
+    alloc: Global,
+    columns: &[ColumnDef],
+    node: &ExprNode,
+) -> Result<ExprTree, AllocError>
+    ensures { IfOk result (λ t. expr_of t ≡ placed_expr (place_of columns.now) (written node.now)) }
+{
+    match node {
+        ExprNode::Number(n) => Ok(ExprTree::Literal(whole(*n))),
+        ExprNode::Text(text) => Ok(ExprTree::Literal(Value::Text(text.copy(alloc)?))),
+        ExprNode::Date(text) => Ok(ExprTree::Literal(day(text.as_str()))),
+        ExprNode::Column(column) => {
+            let place = column_place(columns, column.name.as_str()).unwrap_or(0);
+            Ok(ExprTree::Column(place))
+        }
+        ExprNode::Extract(part, value) => {
+            let value = expr_tree(alloc, columns, value)?;
+            Ok(ExprTree::Extract(*part, Box::new(alloc, value)?))
+        }
+        ExprNode::Parens(inner) => expr_tree(alloc, columns, inner),
+        ExprNode::Negative(value) => {
+            let value = expr_tree(alloc, columns, value)?;
+            Ok(ExprTree::Negate(Box::new(alloc, value)?))
+        }
+        ExprNode::Product(first, rest) => {
+            let first = Box::new(alloc, expr_tree(alloc, columns, first)?)?;
+            Ok(ExprTree::Product(first, expr_trees(alloc, columns, rest)?))
+        }
+        ExprNode::Sum(first, signs, rest) => {
+            let first = Box::new(alloc, expr_tree(alloc, columns, first)?)?;
+            Ok(ExprTree::Sum(first, term_trees(alloc, columns, signs, rest)?))
+        }
+        ExprNode::And(first, rest) | ExprNode::Or(first, rest) => {
+            if rest.is_empty() {
+                expr_tree(alloc, columns, first)
+            } else {
+                Ok(ExprTree::Literal(Value::Null))
+            }
+        }
+        ExprNode::Null
+        | ExprNode::Compare(..)
+        | ExprNode::IsNull(..)
+        | ExprNode::Between(..)
+        | ExprNode::In(..)
+        | ExprNode::Like(..)
+        | ExprNode::Not(_) => Ok(ExprTree::Literal(Value::Null)),
+    }
+}
+
+/// The values that are written one after another.
+#[cycle(values)]
+fn expr_trees(
+    alloc: Global,
+    columns: &[ColumnDef],
+    nodes: &[ExprNode],
+) -> Result<Vec<ExprTree>, AllocError>
+    ensures { IfOk result (λ v. map expr_of v.items ≡ map (λ n. placed_expr (place_of columns.now) (written n)) nodes.now) }
+{
+    let mut trees = Vec::with_capacity(alloc, nodes.len())?;
+    for node in nodes {
+        trees.push(expr_tree(alloc, columns, node)?)?;
+    }
+    Ok(trees)
+}
+
+/// The later terms of a sum.
+#[cycle(values)]
+fn term_trees(
+    alloc: Global,
+    columns: &[ColumnDef],
+    signs: &[Sign],
+    nodes: &[ExprNode],
+) -> Result<Vec<ExprTree>, AllocError>
+    ensures { IfOk result (λ v. map expr_of v.items ≡ later_terms (place_of columns.now) signs.now (map written nodes.now)) }
+{
+    let mut terms = Vec::with_capacity(alloc, nodes.len())?;
+    for (sign, node) in signs.iter().zip(nodes) {
+        let term = expr_tree(alloc, columns, node)?;
+        terms.push(signed_tree(alloc, *sign, term)?)?;
+    }
+    Ok(terms)
+}
+
+/// A term behind a minus is negated.
+fn signed_tree(alloc: Global, sign: Sign, term: ExprTree) -> Result<ExprTree, AllocError>
+    ensures { IfOk result (λ t. expr_of t ≡ signed_term sign (expr_of term)) }
+{
+    match sign {
+        Sign::Plus => Ok(term),
+        Sign::Minus => Ok(ExprTree::Negate(Box::new(alloc, term)?)),
+    }
+}
+
+/// A whole number, and NULL where it has more than 127 bits.
+fn whole(n: u128) -> Value
+    ensures { result ≡ written_number n }
+{
+    match i128::try_from(n) {
+        Ok(number) => Value::Number(number),
+        Err(_) => Value::Null,
+    }
+}
+
+/// The day that a text names, and NULL where it names none.
+fn day(text: &str) -> Value
+    ensures { result ≡ named_day text.now }
+{
+    match date_of(text) {
+        Ok(day) => Value::Day(day),
+        Err(_) => Value::Null,
+    }
+}
+
+/// The condition that is written. A value is none, and whether it is NULL stands for it; a chain of one part is that part.
+#[cycle(conditions)]
+pub(crate) fn cond_tree(
+    alloc: Global,
+    columns: &[ColumnDef],
+    node: &ExprNode,
+) -> Result<CondTree, AllocError>
+    ensures { IfOk result (λ t. cond_of t ≡ placed_cond (place_of columns.now) (written node.now)) }
+{
+    match node {
+        ExprNode::Parens(inner) => cond_tree(alloc, columns, inner),
+        ExprNode::Compare(comparison, a, b) => {
+            let a = expr_tree(alloc, columns, a)?;
+            let b = expr_tree(alloc, columns, b)?;
+            Ok(CondTree::Compare(*comparison, a, b))
+        }
+        ExprNode::IsNull(negated, value) => {
+            let value = expr_tree(alloc, columns, value)?;
+            turned(alloc, *negated, CondTree::IsNull(value))
+        }
+        ExprNode::Between(negated, value, least, greatest) => {
+            let value = expr_tree(alloc, columns, value)?;
+            let least = expr_tree(alloc, columns, least)?;
+            let greatest = expr_tree(alloc, columns, greatest)?;
+            turned(alloc, *negated, CondTree::Between(value, least, greatest))
+        }
+        ExprNode::In(negated, value, choices) => {
+            let value = expr_tree(alloc, columns, value)?;
+            let choices = expr_trees(alloc, columns, choices)?;
+            turned(alloc, *negated, CondTree::In(value, choices))
+        }
+        ExprNode::Like(negated, value, pattern) => {
+            let value = expr_tree(alloc, columns, value)?;
+            turned(alloc, *negated, CondTree::Like(value, pattern.copy(alloc)?))
+        }
+        ExprNode::Not(part) => {
+            let part = cond_tree(alloc, columns, part)?;
+            Ok(CondTree::Not(Box::new(alloc, part)?))
+        }
+        ExprNode::And(first, rest) => {
+            let first = Box::new(alloc, cond_tree(alloc, columns, first)?)?;
+            Ok(CondTree::And(first, cond_trees(alloc, columns, rest)?))
+        }
+        ExprNode::Or(first, rest) => {
+            let first = Box::new(alloc, cond_tree(alloc, columns, first)?)?;
+            Ok(CondTree::Or(first, cond_trees(alloc, columns, rest)?))
+        }
+        ExprNode::Product(first, rest) => {
+            if rest.is_empty() {
+                cond_tree(alloc, columns, first)
+            } else {
+                null_test(alloc, columns, node)
+            }
+        }
+        ExprNode::Sum(first, signs, rest) => {
+            if is_one_term(signs, rest) {
+                cond_tree(alloc, columns, first)
+            } else {
+                null_test(alloc, columns, node)
+            }
+        }
+        ExprNode::Number(_)
+        | ExprNode::Text(_)
+        | ExprNode::Date(_)
+        | ExprNode::Null
+        | ExprNode::Column(_)
+        | ExprNode::Extract(..)
+        | ExprNode::Negative(_) => null_test(alloc, columns, node),
+    }
+}
+
+/// Whether a sum has no term behind the first.
+fn is_one_term(signs: &[Sign], rest: &[ExprNode]) -> bool
+    ensures { result ≡ (length signs.now == 0 || length rest.now == 0) }
+{
+    signs.is_empty() || rest.is_empty()
+}
+
+/// Whether the value that is written is NULL.
+fn null_test(alloc: Global, columns: &[ColumnDef], node: &ExprNode) -> Result<CondTree, AllocError>
+    ensures { IfOk result (λ t. cond_of t ≡ terms.IsNull (placed_expr (place_of columns.now) (written node.now))) }
+{
+    Ok(CondTree::IsNull(expr_tree(alloc, columns, node)?))
+}
+
+/// The conditions that are written one after another.
+#[cycle(conditions)]
+fn cond_trees(
+    alloc: Global,
+    columns: &[ColumnDef],
+    nodes: &[ExprNode],
+) -> Result<Vec<CondTree>, AllocError>
+    ensures { IfOk result (λ v. map cond_of v.items ≡ map (λ n. placed_cond (place_of columns.now) (written n)) nodes.now) }
+{
+    let mut trees = Vec::with_capacity(alloc, nodes.len())?;
+    for node in nodes {
+        trees.push(cond_tree(alloc, columns, node)?)?;
+    }
+    Ok(trees)
+}
+
+/// NOT in a test negates the whole test.
+fn turned(alloc: Global, negated: bool, test: CondTree) -> Result<CondTree, AllocError>
+    ensures { IfOk result (λ t. cond_of t ≡ turned negated (cond_of test)) }
+{
+    if negated {
+        Ok(CondTree::Not(Box::new(alloc, test)?))
+    } else {
+        Ok(test)
+    }
+}

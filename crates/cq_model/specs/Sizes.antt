@@ -1,0 +1,34 @@
+-- How large the numbers in the columns of tables and of queries can be (docs/LANGUAGE.md, Width).
+use Rattle.std.specs.Prelude.{ℕ, ◌^◌, List, ◌++◌, map, Option, slice_index_or, unwrap_or, []}
+use Rattle.cq_model.specs.declared.query.Aggregate.{Aggregate}
+use Rattle.cq_model.specs.declared.query.Aggregate.TheVariants.{CountAll, Count, Sum, Min, Max}
+use Rattle.cq_model.specs.declared.query.Query.{Query}
+use Rattle.cq_model.specs.declared.query.Shape.{Shape}
+use Rattle.cq_model.specs.declared.query.Shape.TheVariants.{Plain, Grouped}
+use Rattle.cq_model.specs.declared.statement.ColumnDef.{ColumnDef}
+use Rattle.cq_model.specs.Width.{width}
+
+-- a stored number has 64 bits with a sign
+abbrev pub stored_size : ℕ
+stored_size = 2 ^ 63
+
+-- the columns of a table
+abbrev pub stored_sizes : List ColumnDef → List ℕ
+stored_sizes columns = map (λ c. stored_size) columns
+
+-- what is told of a group: a count is at most 2^96, and a total that is shown at most 2^127
+abbrev pub told_size : Aggregate → ℕ
+told_size CountAll = 2 ^ 96
+told_size (Count e) = 2 ^ 96
+told_size (Sum e) = 2 ^ 127
+told_size (Min e) = (width e (λ i. stored_size)).size
+told_size (Max e) = (width e (λ i. stored_size)).size
+
+-- the columns that items read: those of tables, or a group's keys and what is told of it
+abbrev pub row_size : Shape → ℕ → ℕ
+row_size Plain i = stored_size
+row_size (Grouped keys aggregates having) i = slice_index_or (map (λ k. stored_size) (unwrap_or keys []) ++ map told_size aggregates) i 0
+
+-- the columns of a query on tables
+abbrev pub column_sizes : Query → List ℕ
+column_sizes q = map (λ e. (width e (row_size q.shape)).size) q.items
