@@ -9,6 +9,7 @@ use crate::{SqlFault, tree_of};
 use cq_model::{Comparison, ExprNode, Keyword, SqlExpr, Statement, Symbol, Token};
 use cq_values::Text;
 use std::alloc::Global;
+use std::process::Abort;
 use std::test::Fail;
 
 fn keyword(word: &str) -> Option<Keyword> {
@@ -218,19 +219,22 @@ fn column_name(node: &ExprNode) -> Option<&str> {
     }
 }
 
+/// Asks that the condition of a statement is `b <= 7`.
+fn check_condition(rt: &impl Abort, alloc: Global, text: &str) -> Result<(), Fail> {
+    let tokens = tokens(alloc, text)?;
+    let statement = tree_of(alloc, &tokens)?;
+    let condition = condition_of(&statement).ok_or("no condition")?;
+    let (column, comparison, other) = comparison_parts(condition).ok_or("no comparison")?;
+    assert_eq!(rt; column, "b", "{text}");
+    assert_eq!(rt; comparison, Comparison::LessOrEqual, "{text}");
+    assert!(rt; matches!(other, ExprNode::Number(7)), "{text}");
+    Ok(())
+}
+
 #[test]
 fn a_condition_is_kept(rt: HostRuntime) -> Result<(), Fail> {
-    let texts = ["select a from t where b <= 7", "delete from t where b <= 7"];
-    for text in texts {
-        let tokens = tokens(rt.alloc(), text)?;
-        let statement = tree_of(rt.alloc(), &tokens)?;
-        let condition = condition_of(&statement).ok_or("no condition")?;
-        let (column, comparison, other) = comparison_parts(condition).ok_or("no comparison")?;
-        assert_eq!(rt; column, "b", "{text}");
-        assert_eq!(rt; comparison, Comparison::LessOrEqual, "{text}");
-        assert!(rt; matches!(other, ExprNode::Number(7)), "{text}");
-    }
-    Ok(())
+    check_condition(&rt, rt.alloc(), "select a from t where b <= 7")?;
+    check_condition(&rt, rt.alloc(), "delete from t where b <= 7")
 }
 
 /// What is dropped, and its name.
@@ -242,16 +246,21 @@ fn dropped(statement: &Statement) -> Option<(&str, &str)> {
     }
 }
 
+/// Asks that this is dropped.
+fn check_dropped(
+    rt: &impl Abort,
+    alloc: Global,
+    text: &str,
+    expected: (&str, &str),
+) -> Result<(), Fail> {
+    let tokens = tokens(alloc, text)?;
+    let statement = tree_of(alloc, &tokens)?;
+    assert_eq!(rt; dropped(&statement), Some(expected), "{text}");
+    Ok(())
+}
+
 #[test]
 fn what_is_dropped_goes_by_its_name(rt: HostRuntime) -> Result<(), Fail> {
-    let cases = [
-        ("drop table t", ("table", "t")),
-        ("drop view v", ("view", "v")),
-    ];
-    for (text, expected) in cases {
-        let tokens = tokens(rt.alloc(), text)?;
-        let statement = tree_of(rt.alloc(), &tokens)?;
-        assert_eq!(rt; dropped(&statement), Some(expected), "{text}");
-    }
-    Ok(())
+    check_dropped(&rt, rt.alloc(), "drop table t", ("table", "t"))?;
+    check_dropped(&rt, rt.alloc(), "drop view v", ("view", "v"))
 }

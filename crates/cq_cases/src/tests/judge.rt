@@ -1,6 +1,6 @@
 //! Databases as cases write them, and what is asked of their answers.
 use super::asked::{Asked, Datum, Rows, Term, Test, cond, expr, order, query, rows};
-use cq_model::{Cond, Expr, Source};
+use cq_model::{Cond, Query, Source};
 use cq_plain::{Database, PlainFault, answer, answer_listed};
 use cq_values::{Row, Seq, Truth};
 use std::alloc::{AllocError, Global};
@@ -118,7 +118,7 @@ pub(crate) fn check_values(
     cases: &[(&str, Term<'_>, Datum<'_>)],
 ) -> Result<(), PlainFault> {
     for (name, term, expected) in cases {
-        let found = row_of(alloc, row, expr(alloc, term)?)?;
+        let found = row_of(alloc, row, term)?;
         let expected = rows(alloc, &[&[*expected]])?;
         assert!(rt;
             found.as_slice() == expected.as_slice(),
@@ -129,10 +129,16 @@ pub(crate) fn check_values(
 }
 
 /// The rows that have this item of the row.
-fn row_of(alloc: Global, row: &[Datum<'_>], item: Expr) -> Result<Vec<Row>, PlainFault> {
+fn row_of(alloc: Global, row: &[Datum<'_>], item: &Term<'_>) -> Result<Vec<Row>, PlainFault> {
+    let query = item_alone(alloc, item)?;
+    let database = of_row(alloc, row)?;
+    answer(alloc, &database, &query)
+}
+
+fn item_alone(alloc: Global, item: &Term<'_>) -> Result<Query, AllocError> {
     let mut query = query(alloc, &ALL)?;
-    query.items.push(item)?;
-    answer(alloc, &of_row(alloc, row)?, &query)
+    query.items.push(expr(alloc, item)?)?;
+    Ok(query)
 }
 
 /// One table of one row.

@@ -25,52 +25,49 @@ fn written(alloc: Global, constant: &Constant) -> Result<String, Fail> {
     Ok(line)
 }
 
+/// The constants, each with a semicolon behind it.
+fn lines_of(alloc: Global, row: &[Constant]) -> Result<String, Fail> {
+    let mut lines = String::new(alloc);
+    for constant in row {
+        lines.push_str(written(alloc, constant)?.as_str())?;
+        lines.push_str(";")?;
+    }
+    Ok(lines)
+}
+
+/// The constants of the first row of an INSERT.
+fn row_of(alloc: Global, text: &str) -> Result<String, Fail> {
+    let statement = parse(alloc, text)?;
+    let row = first_row(&statement).ok_or("no row")?;
+    lines_of(alloc, row)
+}
+
 #[test]
-fn each_constant_keeps_its_kind(rt: HostRuntime) -> Result<(), Fail> {
+fn each_constant_keeps_its_kind_and_place(rt: HostRuntime) -> Result<(), Fail> {
     let cases = [
-        ("INSERT INTO t VALUES (NULL)", "null"),
-        ("INSERT INTO t VALUES (0)", "plus 0"),
-        ("INSERT INTO t VALUES (-7)", "minus 7"),
-        ("INSERT INTO t VALUES ('x')", "text x"),
-        ("INSERT INTO t VALUES ('')", "text "),
-        ("INSERT INTO t VALUES ('it''s')", "text it's"),
-        ("INSERT INTO t VALUES ('NULL')", "text NULL"),
-        ("INSERT INTO t VALUES ('2024-01-01')", "text 2024-01-01"),
+        ("INSERT INTO t VALUES (NULL)", "null;"),
+        ("INSERT INTO t VALUES (0)", "plus 0;"),
+        (
+            "INSERT INTO t VALUES (5, - 5, -0)",
+            "plus 5;minus 5;minus 0;",
+        ),
+        ("INSERT INTO t VALUES ('x')", "text x;"),
+        ("INSERT INTO t VALUES ('')", "text ;"),
+        ("INSERT INTO t VALUES ('it''s')", "text it's;"),
+        ("INSERT INTO t VALUES ('NULL')", "text NULL;"),
+        ("INSERT INTO t VALUES ('2024-01-01')", "text 2024-01-01;"),
         (
             "INSERT INTO t VALUES (DATE '2024-01-01')",
-            "date 2024-01-01",
+            "date 2024-01-01;",
         ),
-        ("INSERT INTO t VALUES (date 'no day')", "date no day"),
+        ("INSERT INTO t VALUES (date 'no day')", "date no day;"),
+        (
+            "INSERT INTO t VALUES (DATE '2024-02-29', NULL, 'a, b', -1, NULL), (5)",
+            "date 2024-02-29;null;text a, b;minus 1;null;",
+        ),
     ];
     for (text, expected) in cases {
-        let statement = parse(rt.alloc(), text)?;
-        let row = first_row(&statement).ok_or("no row")?;
-        assert_eq!(rt; row.len(), 1, "{text}");
-        assert_eq!(rt; written(rt.alloc(), &row[0])?.as_str(), expected, "{text}");
-    }
-    Ok(())
-}
-
-#[test]
-fn a_minus_belongs_to_the_number_behind_it(rt: HostRuntime) -> Result<(), Fail> {
-    let statement = parse(rt.alloc(), "INSERT INTO t VALUES (5, - 5, -0)")?;
-    let row = first_row(&statement).ok_or("no row")?;
-    assert_eq!(rt; row.len(), 3);
-    assert_eq!(rt; written(rt.alloc(), &row[0])?.as_str(), "plus 5");
-    assert_eq!(rt; written(rt.alloc(), &row[1])?.as_str(), "minus 5");
-    assert_eq!(rt; written(rt.alloc(), &row[2])?.as_str(), "minus 0");
-    Ok(())
-}
-
-#[test]
-fn a_row_keeps_its_constants_in_order(rt: HostRuntime) -> Result<(), Fail> {
-    let text = "INSERT INTO t VALUES (DATE '2024-02-29', NULL, 'a, b', -1, NULL), (5)";
-    let expected = ["date 2024-02-29", "null", "text a, b", "minus 1", "null"];
-    let statement = parse(rt.alloc(), text)?;
-    let row = first_row(&statement).ok_or("no row")?;
-    assert_eq!(rt; row.len(), 5);
-    for (constant, line) in row.iter().zip(expected) {
-        assert_eq!(rt; written(rt.alloc(), constant)?.as_str(), line);
+        assert_eq!(rt; row_of(rt.alloc(), text)?.as_str(), expected, "{text}");
     }
     Ok(())
 }

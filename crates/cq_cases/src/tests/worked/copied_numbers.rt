@@ -49,11 +49,7 @@ fn printed_of_numbers(alloc: Global, end: i128, asked: &Asked<'_>) -> Result<Seq
     Ok(printed(alloc, &["c1", "c2"], found.as_slice())?)
 }
 
-fn answered(
-    alloc: Global,
-    database: &Database,
-    asked: &Asked<'_>,
-) -> Result<Vec<Row>, PlainFault> {
+fn answered(alloc: Global, database: &Database, asked: &Asked<'_>) -> Result<Vec<Row>, PlainFault> {
     let query = query(alloc, asked)?;
     let order = order(alloc, asked)?;
     answer_listed(alloc, database, &query, &order)
