@@ -3,3 +3,4 @@ pub mod Walks
 pub mod ViewNames
 pub mod BoundItems
 pub mod Sorting
+pub mod BareNames

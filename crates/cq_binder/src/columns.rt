@@ -93,17 +93,6 @@ pub fn copy_columns(alloc: Global, columns: &[ColumnDef]) -> Result<Seq<ColumnDe
     Ok(copies)
 }
 
-/// The names once more.
-pub fn copy_names(alloc: Global, names: &[Text]) -> Result<Seq<Text>, AllocError>
-    ensures { IfOk result (λ copies. copies ≡ names.now) }
-{
-    let mut copies = Seq::new(alloc);
-    for name in names {
-        copies.push(name.copy(alloc)?)?;
-    }
-    Ok(copies)
-}
-
 fn is_declared(columns: &[ColumnDef], column: &ColumnDef) -> bool
     ensures { result ≡ list_any (λ c. is_text c.name column.now.name) columns.now }
 {

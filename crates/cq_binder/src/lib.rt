@@ -10,11 +10,13 @@ mod constants;
 mod items;
 mod literals;
 mod names;
+mod select;
 #[cfg(test)]
 mod tests;
 mod view;
 
-pub use columns::{check_length, check_names, copy_columns, copy_names, is_number, sort_columns};
+pub use columns::{check_length, check_names, copy_columns, is_number, sort_columns};
 pub use conditions::bound_where;
 pub use constants::bound_row;
+pub use select::{bound_values, header};
 pub use view::{BoundView, bound_view};

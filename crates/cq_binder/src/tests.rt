@@ -1,10 +1,10 @@
-//! The views of one table, t(a INTEGER, b INTEGER, c TEXT), and the constants that columns take.
+//! The views and the items of one table, t(a INTEGER, b INTEGER, c TEXT), and the constants that columns take.
 
 use super::*;
 use cq_exprs::Scope;
 use cq_model::{
-    Aggregate, ColumnDef, ColumnName, Comparison, Constant, ExprNode, ExprTree, Item, ItemValue,
-    Literal, SqlExpr, ViewSelect,
+    Aggregate, ColumnDef, ColumnName, Comparison, Constant, ExprNode, ExprTree, FromSource, Item,
+    ItemValue, Literal, SelectItem, SqlExpr, ViewSelect,
 };
 use cq_steps::Fault;
 use cq_values::{Seq, Text, Ty, Value};
@@ -46,15 +46,19 @@ fn number(magnitude: u128) -> Literal {
     }
 }
 
-/// column < 10
-fn below_ten(alloc: Global, column: &str) -> Result<SqlExpr, AllocError> {
-    let name = ColumnName {
+/// The column of a name.
+fn named_node(alloc: Global, name: &str) -> Result<ExprNode, AllocError> {
+    Ok(ExprNode::Column(ColumnName {
         source: None,
-        name: Text::new(alloc, column)?,
-    };
-    let column = Box::new(alloc, ExprNode::Column(name))?;
+        name: Text::new(alloc, name)?,
+    }))
+}
+
+/// column < 10
+fn below_ten(alloc: Global, column: &str) -> Result<ExprNode, AllocError> {
+    let column = Box::new(alloc, named_node(alloc, column)?)?;
     let ten = Box::new(alloc, ExprNode::Number(10))?;
-    Ok(SqlExpr::new(ExprNode::Compare(Comparison::Less, column, ten)))
+    Ok(ExprNode::Compare(Comparison::Less, column, ten))
 }
 
 /// What the view on t with these columns is bound to.
@@ -80,10 +84,12 @@ fn view(alloc: Global, first: Item, second: Item) -> Result<ViewSelect, AllocErr
     let mut items = Seq::new(alloc);
     items.push(first)?;
     items.push(second)?;
+    let name = Text::new(alloc, "t")?;
+    let condition = below_ten(alloc, "a")?;
     Ok(ViewSelect {
         items,
-        table: Text::new(alloc, "t")?,
-        condition: Some(below_ten(alloc, "a")?),
+        source: FromSource { name, alias: None },
+        condition: Some(SqlExpr::new(condition)),
         group: texts(alloc, &["b", "c"])?,
     })
 }
@@ -179,9 +185,93 @@ fn a_text_is_compared_with_no_number(rt: HostRuntime) -> Result<(), Fail> {
     let alloc = rt.alloc();
     let key = unnamed(column(alloc, "b")?);
     let mut view = view(alloc, key, unnamed(ItemValue::CountAll))?;
-    view.condition = Some(below_ten(alloc, "c")?);
+    view.condition = Some(SqlExpr::new(below_ten(alloc, "c")?));
     let columns = columns(alloc)?;
     let refusal = bound(alloc, columns.as_slice(), &view).err();
+    assert_eq!(rt; refusal, Some(Fault::TypeMismatch));
+    Ok(())
+}
+
+/// An item without a name behind AS.
+fn item(node: ExprNode) -> SelectItem {
+    SelectItem {
+        value: SqlExpr::new(node),
+        alias: None,
+    }
+}
+
+/// q.c
+fn with_source(alloc: Global) -> Result<ExprNode, AllocError> {
+    let source = Text::new(alloc, "q")?;
+    let name = Text::new(alloc, "c")?;
+    Ok(ExprNode::Column(ColumnName {
+        source: Some(source),
+        name,
+    }))
+}
+
+/// What stands above the second item of SELECT 10, second.
+fn second_name(alloc: Global, second: SelectItem) -> Result<Text, AllocError> {
+    let first = item(ExprNode::Number(10));
+    let names = header(alloc, &[first, second])?;
+    match names.as_slice().last() {
+        Some(name) => name.copy(alloc),
+        None => Text::new(alloc, ""),
+    }
+}
+
+#[test]
+fn an_item_is_called_by_its_alias(rt: HostRuntime) -> Result<(), Fail> {
+    let alloc = rt.alloc();
+    let mut total = item(named_node(alloc, "a")?);
+    total.alias = Some(Text::new(alloc, "total")?);
+    assert_eq!(rt; second_name(alloc, total)?.as_str(), "total");
+    Ok(())
+}
+
+#[test]
+fn a_column_is_called_by_its_name_also_behind_its_source(rt: HostRuntime) -> Result<(), Fail> {
+    let alloc = rt.alloc();
+    let plain = named_node(alloc, "b")?;
+    assert_eq!(rt; second_name(alloc, item(plain))?.as_str(), "b");
+    let sourced = with_source(alloc)?;
+    assert_eq!(rt; second_name(alloc, item(sourced))?.as_str(), "c");
+    Ok(())
+}
+
+#[test]
+fn a_column_in_parentheses_is_called_by_its_place(rt: HostRuntime) -> Result<(), Fail> {
+    let alloc = rt.alloc();
+    let column = Box::new(alloc, named_node(alloc, "b")?)?;
+    let inner = item(ExprNode::Parens(column));
+    assert_eq!(rt; second_name(alloc, inner)?.as_str(), "c2");
+    Ok(())
+}
+
+/// How SELECT 10, second FROM t is refused, if it is.
+fn select_refusal(alloc: Global, second: ExprNode) -> Result<Option<Fault>, AllocError> {
+    let columns = columns(alloc)?;
+    let scope = Scope {
+        known: "t",
+        columns: columns.as_slice(),
+        sizes: &[1 << 63, 1 << 63, 1 << 63],
+    };
+    let items = [item(ExprNode::Number(10)), item(second)];
+    Ok(bound_values(alloc, &scope, &items).err())
+}
+
+#[test]
+fn an_item_is_refused_for_its_first_fault(rt: HostRuntime) -> Result<(), Fail> {
+    let alloc = rt.alloc();
+    let refusal = select_refusal(alloc, with_source(alloc)?)?;
+    assert_eq!(rt; refusal, Some(Fault::UnknownTable));
+    Ok(())
+}
+
+#[test]
+fn a_condition_is_no_item(rt: HostRuntime) -> Result<(), Fail> {
+    let alloc = rt.alloc();
+    let refusal = select_refusal(alloc, below_ten(alloc, "a")?)?;
     assert_eq!(rt; refusal, Some(Fault::TypeMismatch));
     Ok(())
 }

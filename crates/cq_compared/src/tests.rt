@@ -3,6 +3,8 @@ mod calls;
 mod memory;
 mod queries;
 mod random;
+mod selects;
+mod written;
 
 use cq_cli::NoSources;
 use cq_engine::{Engine, Limits};

@@ -2,7 +2,6 @@
 use Rattle.std.proofs.Common.{◌≡◌, ℕ, ◌≤◌, ◌<◌, false, List, [], ◌∷◌, ◌++◌, map, length, get_or, Option, Some, None, Ok, refl, sym, ap, ◌∙◌, arith, subst}
 use Rattle.std.specs.Prelude.{nat_lt, option_map, IfSome}
 use Rattle.std.specs.List.{AllByRecursion, flat_map}
-use Rattle.std.specs.Option.{option_or}
 use Rattle.std.proofs.lemmas.Bool.{ltb-false}
 use Rattle.std.proofs.lemmas.List.{length-map, map-append}
 use Rattle.cq_values.specs.Value.{Row}
@@ -15,7 +14,7 @@ use Rattle.cq_model.specs.declared.statement.ColumnDef.{ColumnDef}
 use Rattle.cq_model.specs.declared.statement.ViewSelect.{ViewSelect}
 use Rattle.cq_steps.specs.declared.fault.Fault.{Fault}
 use Rattle.cq_steps.specs.declared.fault.Fault.TheVariants.{NameTaken}
-use Rattle.cq_steps.specs.Bound.{aggregates_in, bound_condition, from_table, grouped_query, item_names, item_places_in, place_in, scope_of, values_in, view_columns}
+use Rattle.cq_steps.specs.Bound.{aggregates_in, bound_condition, from_table, grouped_query, item_names, item_places_in, place_in, scope_as, values_in, view_columns}
 use Rattle.cq_steps.specs.Refusal.{create_view_places, fault_if, first_fault, item_places, name_place, query_places, repeats, too_long, view_select_places, where_place}
 use Rattle.cq_steps.specs.State.{TableOf, ViewOf, is_taken, rows_in, table_named, AreNumbered}
 use Rattle.cq_steps.specs.Step.{new_view}
@@ -25,25 +24,13 @@ use Rattle.cq_views.specs.View.{KeptView, IsNarrowFor, Stands, query_of}
 use Rattle.cq_engine.specs.Statements.{alone, CreatesView, IsBuilt}
 use Rattle.cq_engine.specs.Views.{Fits, IsRight, IsStored, NamedView, view_of, views_of}
 use Rattle.cq_steps.specs.Typing.{Scope}
-use Rattle.cq_engine.proofs.Fitting.{few_told, first_free, narrow_items, narrow_where, second_free, small_items, stored_keeps, totals}
+use Rattle.cq_engine.proofs.Fitting.{back_free, few_told, first_free, narrow_items, narrow_where, second_free, small_items, stored_keeps, totals}
 use Rattle.cq_engine.proofs.Rows.{rows_there}
 use Rattle.cq_engine.proofs.Stored.{all_of_rows}
-use Rattle.cq_binder.proofs.Faults.{first_fault_append, or_next}
 use Rattle.cq_binder.specs.declared.view.BoundView.{BoundView}
 use Rattle.cq_binder.specs.View.{IsBoundView}
 
 -- ---- What the walk through a view's query says
--- where two stretches have no fault, neither has one
-front_free : (xs ys : List (Option Fault)) → first_fault (xs ++ ys) ≡ None → first_fault xs ≡ None
-front_free xs ys free = free_first (first_fault xs) refl
-  where
-    free_first : (o : Option Fault) → first_fault xs ≡ o → first_fault xs ≡ None
-    free_first None e = e
-    free_first (Some f) e = absurd (let both : Some f ≡ None = sym (first_fault_append xs ys ∙ ap (λ (p : Option Fault). option_or p (first_fault ys)) e) ∙ free in cc)
-
-back_free : (xs ys : List (Option Fault)) → first_fault (xs ++ ys) ≡ None → first_fault ys ≡ None
-back_free xs ys free = sym (first_fault_append xs ys ∙ or_next (first_fault xs) (first_fault ys) (front_free xs ys free)) ∙ free
-
 -- a list that is not too long has at most 64 entries
 short : (n : ℕ) → too_long n ≡ None → n ≤ 64
 short n e = by_test (nat_lt 64 n)
@@ -90,16 +77,16 @@ pub bound_def : (v : ViewSelect) (t : TableOf) (number : ℕ) (b : BoundView) �
     → record { table = number; filter = b.filter; keys = b.keys; aggregates = b.aggregates; items = b.items } ≡ def_of v t
 bound_def v t number b is_number is = λ i. record { table = is_number i; filter = is.filter i; keys = is.keys i; aggregates = is.aggregates i; items = is.items i }
 
-module _ (v : ViewSelect) (t : TableOf) (free : first_fault (query_places (scope_of (from_table t)) v) ≡ None) where
+module _ (v : ViewSelect) (t : TableOf) (free : first_fault (query_places (scope_as v.source (from_table t)) v) ≡ None) where
   -- it fits the rows that a table stores
   pub def_fits : Fits (def_of v t)
   def_fits = record {
     can_be_kept = record {
       totals = totals t.columns (values_in v);
-      few = omega (arith, few_told t.columns (values_in v), length-map v.items (λ item. item.value), few_items (scope_of (from_table t)) v free);
+      few = omega (arith, few_told t.columns (values_in v), length-map v.items (λ item. item.value), few_items (scope_as v.source (from_table t)) v free);
     };
     narrow = λ row stored. record {
-      filter = narrow_where (scope_of (from_table t)) v.condition row (where_free (scope_of (from_table t)) v free) (stored_keeps t row stored);
+      filter = narrow_where (scope_as v.source (from_table t)) v.condition row (where_free (scope_as v.source (from_table t)) v free) (stored_keeps t row stored);
       aggregates = narrow_items t.columns (values_in v) row stored;
     };
     small = λ row stored kept. small_items t.columns (values_in v) row stored;
@@ -124,7 +111,7 @@ module _ (t : TableOf) (rows : List Row) (same : bag_of rows ≡ t.rows) where
 
 -- the view of this query, built now
 pub is_built : (now : ℕ) (name : List ℕ) (q : ViewSelect) (t : TableOf) (v : NamedView) → v.name ≡ name → v.columns ≡ view_columns t.columns q → v.kept.def ≡ def_of q t → v.kept.epoch ≡ now → v.kept.built ≡ now
-    → first_fault (query_places (scope_of (from_table t)) q) ≡ None → Stands v.kept (once_each t.rows) → IsBuilt now name q t v
+    → first_fault (query_places (scope_as q.source (from_table t)) q) ≡ None → Stands v.kept (once_each t.rows) → IsBuilt now name q t v
 is_built now name q t v named shown def epoch built free stands = record {
   view = λ i. record { name = named i; columns = shown i; query = query_of (def i); epoch = epoch i; built = built i };
   table = ap (λ (d : ViewDef). d.table) def;
@@ -144,7 +131,7 @@ built_right tables next i now name q t v numbered within is built =
     }
 
 -- ---- The walk through a CREATE VIEW under a free name, on a table that was found
-module _ (name : List ℕ) (view : ViewSelect) (tables : List TableOf) (old : List NamedView) (t : TableOf) (free : is_taken name (alone tables (views_of old)) ≡ false) (found : table_named view.table tables ≡ Some t) where
+module _ (name : List ℕ) (view : ViewSelect) (tables : List TableOf) (old : List NamedView) (t : TableOf) (free : is_taken name (alone tables (views_of old)) ≡ false) (found : table_named view.source.name tables ≡ Some t) where
   -- the query decides
   create_view_goes_on : first_fault (create_view_places name view (alone tables (views_of old))) ≡ first_fault (view_select_places view (Ok t))
   create_view_goes_on = rw (free, found) refl

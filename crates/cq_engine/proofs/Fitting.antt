@@ -1,7 +1,8 @@
 -- A view whose query is bound fits the rows that its table stores, and WHERE is narrow at each of them.
-use Rattle.std.proofs.Common.{◌≡◌, ℕ, zero, suc, ◌≤◌, ◌<◌, ◌^◌, nat_abs, List, [], ◌∷◌, length, Option, Some, None, Result, Ok, Err, refl, sym, ap, ◌∙◌, arith}
+use Rattle.std.proofs.Common.{◌≡◌, ℕ, zero, suc, ◌≤◌, ◌<◌, ◌^◌, nat_abs, List, [], ◌∷◌, ◌++◌, map, length, Option, Some, None, Result, Ok, Err, refl, sym, ap, ◌∙◌, arith}
 use Rattle.std.specs.Prelude.{IfSome, option_map, slice_index_or}
 use Rattle.std.specs.List.{AllByRecursion, flat_map}
+use Rattle.std.specs.Option.{option_or}
 use Rattle.cq_values.specs.declared.value.Value.{Value}
 use Rattle.cq_values.specs.declared.value.Value.TheVariants.{Null, Number, Day, Text}
 use Rattle.cq_values.specs.Value.{Row, column}
@@ -12,17 +13,18 @@ use Rattle.cq_model.specs.declared.statement.ItemValue.{ItemValue}
 use Rattle.cq_model.specs.declared.statement.ItemValue.TheVariants as values
 use Rattle.cq_model.specs.Eval.{eval}
 use Rattle.cq_model.specs.Sizes.{stored_size, stored_sizes}
-use Rattle.cq_model.specs.Width.{sizes_of, value_size}
+use Rattle.cq_model.specs.Width.{extent, sizes_of, value_size}
 use Rattle.cq_model.specs.Written.{Written}
 use Rattle.cq_steps.specs.declared.fault.Fault.{Fault}
 use Rattle.cq_steps.specs.declared.typing.Typing.{Typing}
-use Rattle.cq_steps.specs.Bound.{aggregates_in, bound_condition, from_table, place_in, scope_of}
-use Rattle.cq_steps.specs.Refusal.{first_fault, where_place}
+use Rattle.cq_steps.specs.Bound.{aggregates_in, bound_condition, bound_value, from_table, place_in, scope_of}
+use Rattle.cq_steps.specs.Refusal.{first_fault, value_place, where_place}
 use Rattle.cq_steps.specs.State.{TableOf}
-use Rattle.cq_steps.specs.Typing.{Scope, condition_fault, typed}
+use Rattle.cq_steps.specs.Typing.{Scope, condition_fault, typed, value_fault}
+use Rattle.cq_binder.proofs.Faults.{first_fault_append, or_next}
 use Rattle.cq_exprs.proofs.Narrow.{typed_is_narrow}
 use Rattle.cq_exprs.specs.Expressions.{KeepSizes}
-use Rattle.cq_engine.specs.Bound.{IsNarrowAt}
+use Rattle.cq_engine.specs.Bound.{AreNarrowAt, IsNarrowAt}
 use Rattle.cq_engine.specs.Views.{IsStored}
 
 -- ---- WHERE
@@ -57,6 +59,17 @@ pub stored_keep : (t : TableOf) (rows : List Row) → AllByRecursion IsStored ro
 stored_keep t [] stored = tt
 stored_keep t (row ∷ rows) stored = (stored_keeps t row stored.0, stored_keep t rows stored.1)
 
+-- where two stretches have no fault, neither has one
+pub front_free : (xs ys : List (Option Fault)) → first_fault (xs ++ ys) ≡ None → first_fault xs ≡ None
+front_free xs ys free = free_first (first_fault xs) refl
+  where
+    free_first : (o : Option Fault) → first_fault xs ≡ o → first_fault xs ≡ None
+    free_first None e = e
+    free_first (Some f) e = absurd (let both : Some f ≡ None = sym (first_fault_append xs ys ∙ ap (λ (p : Option Fault). option_or p (first_fault ys)) e) ∙ free in cc)
+
+pub back_free : (xs ys : List (Option Fault)) → first_fault (xs ++ ys) ≡ None → first_fault ys ≡ None
+back_free xs ys free = sym (first_fault_append xs ys ∙ or_next (first_fault xs) (first_fault ys) (front_free xs ys free)) ∙ free
+
 -- where places have no fault, the second has none
 pub second_free : (o p : Option Fault) (places : List (Option Fault)) → first_fault (o ∷ p ∷ places) ≡ None → p ≡ None
 second_free None None places e = refl
@@ -68,7 +81,23 @@ pub first_free : (o : Option Fault) (places : List (Option Fault)) → first_fau
 first_free None places e = refl
 first_free (Some f) places e = absurd (cc)
 
--- ---- What the items tell
+-- ---- Items
+-- a value that the walk lets pass is narrow wherever the columns keep their sizes
+narrow_value : (s : Scope) (w : Written) (row : Row) → value_place s w ≡ None → KeepSizes s (sizes_of row) → (extent (bound_value s.columns w) row).widest < 2 ^ 127
+narrow_value s w row free kept = by_typing (typed s w) refl
+  where
+    by_typing : (r : Result Typing Fault) → typed s w ≡ r → (extent (bound_value s.columns w) row).widest < 2 ^ 127
+    by_typing (Ok t) e = (typed_is_narrow s w t (sizes_of row) e kept).value
+    by_typing (Err f) e = absurd (let both : Some f ≡ None = sym (ap value_fault e) ∙ free in cc)
+
+-- and so is each of several
+pub narrow_values : (s : Scope) (ws : List Written) (row : Row) → first_fault (map (value_place s) ws) ≡ None → KeepSizes s (sizes_of row) → AreNarrowAt (map (bound_value s.columns) ws) row
+narrow_values s [] row free kept = tt
+narrow_values s (w ∷ ws) row free kept =
+    let places = map (value_place s) ws in
+    (narrow_value s w row (first_free (value_place s w) places free) kept, narrow_values s ws row (back_free (value_place s w ∷ []) places free) kept)
+
+-- ---- What the items of a view tell
 module _ (columns : List ColumnDef) where
   pub totals : (items : List ItemValue) → AreTotals (flat_map (aggregates_in columns) items)
   totals [] = tt

@@ -18,6 +18,7 @@ use Rattle.cq_bags.proofs.Totals.{by_test}
 use Rattle.cq_model.specs.declared.query.Query.{Query}
 use Rattle.cq_model.specs.declared.query.Source.TheVariants.{Table}
 use Rattle.cq_model.specs.declared.statement.ColumnDef.{ColumnDef}
+use Rattle.cq_model.specs.declared.statement.FromSource.{FromSource}
 use Rattle.cq_model.specs.declared.statement.Select.{Select}
 use Rattle.cq_model.specs.declared.statement.Statement.{Statement}
 use Rattle.cq_model.specs.declared.statement.Statement.TheVariants as statements
@@ -26,21 +27,21 @@ use Rattle.cq_model.specs.Sizes.{stored_sizes}
 use Rattle.cq_model.specs.Views.{tables_alone, view_bag, with_views, is_view, sources_of, ViewInRange, AnswerInRange}
 use Rattle.cq_steps.specs.declared.fault.Fault.{Fault}
 use Rattle.cq_steps.specs.declared.fault.Fault.TheVariants.{Memory, SumOutOfRange, UnknownTable}
-use Rattle.cq_steps.specs.Bound.{Named, bound_query, bound_select, from_table, from_view, scope_of, source_named}
-use Rattle.cq_steps.specs.Refusal.{first_fault, name_place, refusal, select_places, source_places, too_long, where_place, MayRefuse}
+use Rattle.cq_steps.specs.Bound.{Named, bound_query, bound_select, from_table, from_view, scope_as, shown_by, source_named}
+use Rattle.cq_steps.specs.Refusal.{first_fault, refusal, select_places, source_places, too_long, value_place, where_place, MayRefuse}
 use Rattle.cq_steps.specs.Typing.{Scope}
 use Rattle.cq_steps.specs.State.{TableOf, ViewOf, State, table_named, view_named, view_place, rows_in, tables_now, queries_of}
 use Rattle.cq_steps.specs.Step.{AreBetween, Refuses, by_walk, for_memory, too_large, reach}
 use Rattle.cq_deltas.specs.Additions.{AreTotals}
 use Rattle.cq_exprs.specs.Expressions.{KeepSizes}
 use Rattle.cq_laws.specs.Sizes.{CountsOrAdds, IsSized, RowsKeepSizes}
-use Rattle.cq_model.specs.Expr.{Cond}
+use Rattle.cq_model.specs.Expr.{Cond, Expr}
 use Rattle.cq_model.specs.Width.{sizes_of}
 use Rattle.cq_model.specs.declared.query.Aggregate.{Aggregate}
 use Rattle.cq_model.specs.declared.query.Aggregate.TheVariants.{CountAll, Count, Sum, Min, Max}
 use Rattle.cq_engine.specs.declared.selection.Selection.{Selection}
-use Rattle.cq_engine.specs.Bound.{IsBound, IsNarrowAt}
-use Rattle.cq_engine.proofs.Fitting.{first_free, narrow_rows}
+use Rattle.cq_engine.specs.Bound.{AreNarrowAt, IsBound, IsNarrowAt, IsWithin}
+use Rattle.cq_engine.proofs.Fitting.{back_free, first_free, front_free, narrow_values, narrow_where}
 use Rattle.cq_views.specs.View.{StandsFor, query_of}
 use Rattle.cq_engine.specs.Statements.{IsAnswer, IsResult, Selects, SelectsFrom, SelectsKept, present, alone, view_scope}
 use Rattle.cq_engine.specs.Views.{NamedView, AreFew, AreStored, IsBacked, IsRight, IsStored, AreRight, view_of, views_of}
@@ -69,12 +70,28 @@ result_stored q columns stored rows list is l =
 pub in_source : (q : Select) (b : Selection) (s u : Scope) → s ≡ u → (first_fault (source_places q s) ≡ None) × IsBound s.columns q b → (first_fault (source_places q u) ≡ None) × IsBound u.columns q b
 in_source q b s u same bound = subst (λ (x : Scope). (first_fault (source_places q x) ≡ None) × IsBound x.columns q b) same bound
 
--- a query that was bound is narrow at rows that keep the sizes of its source
-pub narrow_for : (q : Select) (b : Selection) (s : Scope) (rows : List Row) → (first_fault (source_places q s) ≡ None) × IsBound s.columns q b
-    → AllByRecursion (λ row. KeepSizes s (sizes_of row)) rows → AllByRecursion (IsNarrowAt b.condition) rows
-narrow_for q b s rows bound kept =
-    let free = first_free (where_place s q.condition) (map (name_place s.columns) q.columns ++ too_long (length q.columns) ∷ []) bound.0 in
-    subst (λ (o : Option Cond). AllByRecursion (IsNarrowAt o) rows) (sym bound.1.condition) (narrow_rows s q.condition rows free kept)
+module _ (q : Select) (b : Selection) (s : Scope) (bound : (first_fault (source_places q s) ≡ None) × IsBound s.columns q b) where
+  abbrev item_walk : List (Option Fault)
+  item_walk = map (value_place s) (shown_by q.items)
+
+  abbrev number_walk : List (Option Fault)
+  number_walk = too_long (length q.items) ∷ []
+
+  -- where the walk has no fault, the items have none
+  items_free : first_fault item_walk ≡ None
+  items_free = front_free item_walk number_walk (back_free (where_place s q.condition ∷ []) (item_walk ++ number_walk) bound.0)
+
+  -- a query that was bound can be worked out on a row that keeps the sizes of its source
+  within_for : (row : Row) → KeepSizes s (sizes_of row) → IsWithin b row
+  within_for row kept = record {
+    condition = subst (λ (o : Option Cond). IsNarrowAt o row) (sym bound.1.condition) (narrow_where s q.condition row (first_free (where_place s q.condition) (item_walk ++ number_walk) bound.0) kept);
+    items = subst (λ (es : List Expr). AreNarrowAt es row) (sym bound.1.items) (narrow_values s (shown_by q.items) row items_free kept);
+  }
+
+  -- and so on each of several
+  pub narrow_for : (rows : List Row) → AllByRecursion (λ row. KeepSizes s (sizes_of row)) rows → AllByRecursion (IsWithin b) rows
+  narrow_for [] kept = tt
+  narrow_for (row ∷ rows) kept = (within_for row kept.0, narrow_for rows kept.1)
 
 -- counts and totals are all that a view tells
 counts_or_adds : (aggregates : List Aggregate) → AreTotals aggregates → AllByRecursion CountsOrAdds aggregates
@@ -91,13 +108,13 @@ sized_keep s [] sized = tt
 sized_keep s (row ∷ rows) sized = ((λ i h. sized.0 i), sized_keep s rows sized.1)
 
 -- the rows that a view tells keep the sizes of its columns
-pub told_keep : (v : NamedView) (rows : List Row) → IsBacked v → RowsKeepSizes
+pub told_keep : (f : FromSource) (v : NamedView) (rows : List Row) → IsBacked v → RowsKeepSizes
     → ((tables : Tables) → StandsFor v.kept tables → SameBag (once_each rows) (meaning (query_of v.kept.def) tables))
-    → ((tables : Tables) → StandsFor v.kept tables → MeaningInRange (query_of v.kept.def) tables) → AllByRecursion (λ row. KeepSizes (view_scope v) (sizes_of row)) rows
-told_keep v rows backed law bag range =
+    → ((tables : Tables) → StandsFor v.kept tables → MeaningInRange (query_of v.kept.def) tables) → AllByRecursion (λ row. KeepSizes (view_scope f v) (sizes_of row)) rows
+told_keep f v rows backed law bag range =
     let tables : Tables = λ source. once_each backed.rows in
     let stands : StandsFor v.kept tables = record { bag = once_each-bag backed.rows; stands = backed.stands } in
-    sized_keep (view_scope v) rows
+    sized_keep (view_scope f v) rows
     (law (query_of v.kept.def) v.kept.def.keys v.kept.def.aggregates v.kept.def.items tables backed.rows rows refl refl refl refl refl
     (counts_or_adds v.kept.def.aggregates backed.totals) backed.stored backed.few (range tables stands) (bag tables stands))
 
@@ -131,7 +148,7 @@ module _ (q : Select) (tables : List TableOf) (views : List NamedView) where
   IsRefused f o = MayRefuse (first_fault (select_places q o)) f ⊎ ((f ≡ SumOutOfRange) × (first_fault (select_places q o) ≡ None) × IfSome o (λ source. AnswerInRange (tables_now here) (queries_of here) (bound_query q source) → ⊥))
 
   -- from a table, whose rows are those of its number
-  pub from_rows : (t : TableOf) (result : Result (List Row) Fault) → source_named q.table here ≡ Some (from_table t) → rows_in tables t.number ≡ t.rows → Selects q (scope_of (from_table t)) t.rows result → SelectsFrom q here result
+  pub from_rows : (t : TableOf) (result : Result (List Row) Fault) → source_named q.source.name here ≡ Some (from_table t) → rows_in tables t.number ≡ t.rows → Selects q (scope_as q.source (from_table t)) t.rows result → SelectsFrom q here result
   from_rows t (Ok list) found own w = subst (IsAnswered list) (sym found) (w.0, answer)
     where
       same : SameBag (once_each t.rows) (once_each (rows_in tables t.number))
@@ -142,27 +159,27 @@ module _ (q : Select) (tables : List TableOf) (views : List NamedView) where
   from_rows t (Err f) found own m = subst (IsRefused f) (sym found) (inl m)
 
   -- where no table has the name, a view may have it
-  module _ (no_table : is_some (table_named q.table tables) ≡ false) where
+  module _ (no_table : is_some (table_named q.source.name tables) ≡ false) where
     abbrev named_view : Option ViewOf → Option ℕ → Option Named
     named_view o place = option_map (λ v. from_view v (unwrap_or place 0)) o
 
-    view_or_none : source_named q.table here ≡ named_view (view_named q.table (views_of views)) (view_place q.table (views_of views))
-    view_or_none = ap (λ (o : Option TableOf). option_or (option_map from_table o) (named_view (view_named q.table (views_of views)) (view_place q.table (views_of views)))) (absent (table_named q.table tables) no_table)
+    view_or_none : source_named q.source.name here ≡ named_view (view_named q.source.name (views_of views)) (view_place q.source.name (views_of views))
+    view_or_none = ap (λ (o : Option TableOf). option_or (option_map from_table o) (named_view (view_named q.source.name (views_of views)) (view_place q.source.name (views_of views)))) (absent (table_named q.source.name tables) no_table)
 
     -- nothing has the name
-    pub from_none : view_place q.table (views_of views) ≡ None → SelectsFrom q here (Err UnknownTable)
+    pub from_none : view_place q.source.name (views_of views) ≡ None → SelectsFrom q here (Err UnknownTable)
     from_none no_place = subst (IsRefused UnknownTable) (sym missing) (inl refl)
       where
-        no_view : view_named q.table (views_of views) ≡ None
-        no_view = absent (view_named q.table (views_of views)) (sym (same_presence (λ v. is_text v.name q.table) (views_of views)) ∙ ap is_some no_place)
+        no_view : view_named q.source.name (views_of views) ≡ None
+        no_view = absent (view_named q.source.name (views_of views)) (sym (same_presence (λ v. is_text v.name q.source.name) (views_of views)) ∙ ap is_some no_place)
 
-        missing : source_named q.table here ≡ None
-        missing = view_or_none ∙ ap (λ (o : Option ViewOf). named_view o (view_place q.table (views_of views))) no_view
+        missing : source_named q.source.name here ≡ None
+        missing = view_or_none ∙ ap (λ (o : Option ViewOf). named_view o (view_place q.source.name (views_of views))) no_view
 
     -- a view at the place of the name has it
-    module _ (now place : ℕ) (v : NamedView) (right : AreRight tables now views) (is_place : view_place q.table (views_of views) ≡ Some place) (is : v ≡ get_or views place v) where
+    module _ (now place : ℕ) (v : NamedView) (right : AreRight tables now views) (is_place : view_place q.source.name (views_of views) ≡ Some place) (is : v ≡ get_or views place v) where
       within : place < length views
-      within = subst (λ (n : ℕ). place < n) (length-map views view_of) (position-Some (λ w. is_text w.name q.table) (views_of views) place (view_of v) is_place).0
+      within = subst (λ (n : ℕ). place < n) (length-map views view_of) (position-Some (λ w. is_text w.name q.source.name) (views_of views) place (view_of v) is_place).0
 
       at_place : slice_get views place ≡ Some v
       at_place = slice_get_read views (length views) place v refl within is
@@ -174,11 +191,11 @@ module _ (q : Select) (tables : List TableOf) (views : List NamedView) where
       this_view = from_view (view_of v) place
 
       -- the name stands for it
-      found : source_named q.table here ≡ Some this_view
+      found : source_named q.source.name here ≡ Some this_view
       found = view_or_none ∙ (λ i. named_view (its_name i) (is_place i))
         where
-          its_name : view_named q.table (views_of views) ≡ Some (view_of v)
-          its_name = sym (subst (λ (o : Option ℕ). IfSome o (λ i. slice_get (views_of views) i ≡ view_named q.table (views_of views))) is_place (found_there (λ w. is_text w.name q.table) (views_of views))) ∙ view_at
+          its_name : view_named q.source.name (views_of views) ≡ Some (view_of v)
+          its_name = sym (subst (λ (o : Option ℕ). IfSome o (λ i. slice_get (views_of views) i ≡ view_named q.source.name (views_of views))) is_place (found_there (λ w. is_text w.name q.source.name) (views_of views))) ∙ view_at
 
       -- it is backed by the rows of its table
       pub backed : AreStored tables → AreFew tables → IsBacked v
@@ -242,9 +259,9 @@ module _ (tables : List TableOf) (views : List ViewOf) (now drawn max_rows : ℕ
   -- it leaves everything as it was
   pub select_refused : (f : Fault) → SelectsFrom q (alone tables views) (Err f) → Refuses old (statements.Select q) f old
   select_refused f (inl m) = walk_refuses old (statements.Select q) f m
-  select_refused f (inr none) = too_large_for (source_named q.table old) refl
+  select_refused f (inr none) = too_large_for (source_named q.source.name old) refl
     where
-      too_large_for : (o : Option Named) → source_named q.table old ≡ o → Refuses old (statements.Select q) f old
+      too_large_for : (o : Option Named) → source_named q.source.name old ≡ o → Refuses old (statements.Select q) f old
       too_large_for (Some source) found =
           too_large (bound_select q source) none.1 (ap (option_map (bound_select q)) found)
           (subst (λ (o : Option Named). IfSome o (λ s. AnswerInRange (tables_now old) (queries_of old) (bound_query q s) → ⊥)) found none.2)

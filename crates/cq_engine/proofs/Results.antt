@@ -14,12 +14,11 @@ use Rattle.cq_model.specs.declared.query.Source.{Source}
 use Rattle.cq_model.specs.declared.statement.ColumnDef.{ColumnDef}
 use Rattle.cq_model.specs.declared.statement.Select.{Select}
 use Rattle.cq_model.specs.Meaning.{Tables, keeps, items_of, meaning}
-use Rattle.cq_steps.specs.Bound.{bound_condition, named_column, bound_query}
+use Rattle.cq_steps.specs.Bound.{bound_condition, bound_query, bound_value, shown_by}
 use Rattle.cq_steps.specs.State.{TableOf, empty_table, holding}
 use Rattle.cq_engine.specs.declared.selection.Selection.{Selection}
-use Rattle.cq_engine.specs.Bound.{values_at, IsBound}
+use Rattle.cq_engine.specs.Bound.{IsBound}
 use Rattle.cq_engine.specs.Statements.{IsResult}
-use Rattle.cq_engine.proofs.Resolved.{values_same}
 
 -- no rows are the empty bag
 pub bag_of_none : bag_of [] ≡ []
@@ -94,22 +93,16 @@ module _ (columns : List ColumnDef) (q : Select) where
   keep = keeps (option_map (bound_condition columns) q.condition)
 
   abbrev select : Row → Row
-  select = items_of (map (named_column columns) q.columns)
+  select = items_of (map (bound_value columns) (shown_by q.items))
 
   -- the sorted results of a bound query are its listing
-  pub listing_bound : (s : Selection) (rows list : List Row) → IsBound columns q s → Lists [] (once_each (map (values_at s.places.items) (filter (keeps s.condition) rows))) list → IsResult q columns rows list
+  pub listing_bound : (s : Selection) (rows list : List Row) → IsBound columns q s → Lists [] (once_each (map (items_of s.items.items) (filter (keeps s.condition) rows))) list → IsResult q columns rows list
   listing_bound s rows list b listed = (list, subst (λ (xs : Weighted). Lists [] xs list) means listed, refl)
     where
-      kept : (row : Row) → keeps s.condition row ≡ keep row
-      kept row = ap (λ c. keeps c row) b.condition
+      by_items : map (items_of s.items.items) (filter (keeps s.condition) rows) ≡ map select (filter keep rows)
+      by_items = λ i. map (items_of (b.items i)) (filter (keeps (b.condition i)) rows)
 
-      valued : (row : Row) → values_at s.places.items row ≡ select row
-      valued row = ap (λ ps. values_at ps row) b.places ∙ values_same columns q.columns row
-
-      by_items : map (values_at s.places.items) (filter (keeps s.condition) rows) ≡ map select (filter keep rows)
-      by_items = λ i. map (λ row. valued row i) (filter (λ row. kept row i) rows)
-
-      means : once_each (map (values_at s.places.items) (filter (keeps s.condition) rows)) ≡ projected select (filtered keep (once_each rows))
+      means : once_each (map (items_of s.items.items) (filter (keeps s.condition) rows)) ≡ projected select (filtered keep (once_each rows))
       means = ap once_each by_items ∙ once_each-map select (filter keep rows) ∙ ap (projected select) (once_each-filter keep rows)
 
   -- rows that a source names in any order have the listing of the query on it

@@ -7,8 +7,9 @@ use Rattle.cq_model.specs.declared.statement.Constant.{Constant}
 use Rattle.cq_model.specs.declared.statement.Select.{Select}
 use Rattle.cq_steps.specs.declared.fault.Fault.{Fault}
 use Rattle.cq_steps.specs.declared.fault.Fault.TheVariants.{NameTaken, TableFull}
+use Rattle.cq_steps.specs.Bound.{shown_by}
 use Rattle.cq_steps.specs.Typing.{Scope}
-use Rattle.cq_steps.specs.Refusal.{first_fault, fault_if, too_long, column_places, create_places, row_places, insert_places, name_place, sort_places, where_place, source_places, MayRefuse}
+use Rattle.cq_steps.specs.Refusal.{first_fault, fault_if, too_long, column_places, create_places, row_places, insert_places, sort_places, value_place, where_place, source_places, MayRefuse}
 use Rattle.cq_steps.specs.State.{TableOf, ViewOf, is_taken}
 use Rattle.cq_engine.specs.Statements.{alone}
 use Rattle.cq_binder.proofs.Faults.{first_fault_append, none_append, or_next, refused_back, refused_front, refused_same}
@@ -73,10 +74,10 @@ module _ (q : Select) (source : Scope) where
   where_walk = where_place source q.condition ∷ []
 
   abbrev item_walk : List (Option Fault)
-  item_walk = map (name_place source.columns) q.columns
+  item_walk = map (value_place source) (shown_by q.items)
 
   abbrev number : Option Fault
-  number = too_long (length q.columns)
+  number = too_long (length q.items)
 
   -- an item refuses
   pub items_refused : (f : Fault) → first_fault where_walk ≡ None → MayRefuse (first_fault item_walk) f → MayRefuse (first_fault (source_places q source)) f

@@ -11,6 +11,7 @@ use Rattle.cq_model.specs.Expr.{Cond}
 use Rattle.cq_model.specs.declared.query.Source.TheVariants.{Table}
 use Rattle.cq_model.specs.declared.statement.ColumnDef.{ColumnDef}
 use Rattle.cq_model.specs.declared.statement.Constant.{Constant}
+use Rattle.cq_model.specs.declared.statement.FromSource.{FromSource}
 use Rattle.cq_model.specs.declared.statement.Select.{Select}
 use Rattle.cq_model.specs.declared.statement.ViewSelect.{ViewSelect}
 use Rattle.cq_model.specs.Meaning.{Tables, MeaningInRange, meaning}
@@ -19,7 +20,7 @@ use Rattle.cq_model.specs.Write.{chosen, left_by}
 use Rattle.cq_model.specs.Written.{Written}
 use Rattle.cq_steps.specs.declared.fault.Fault.{Fault}
 use Rattle.cq_steps.specs.declared.fault.Fault.TheVariants.{Memory, SumOutOfRange}
-use Rattle.cq_steps.specs.Bound.{Named, row_of, bound_condition, bound_query, from_view, grouped_query, place_in, scope_of, source_named, view_columns}
+use Rattle.cq_steps.specs.Bound.{Named, row_of, bound_condition, bound_query, from_view, grouped_query, place_in, scope_as, source_named, view_columns}
 use Rattle.cq_steps.specs.Refusal.{create_places, create_view_places, delete_places, drop_table_places, drop_view_places, first_fault, insert_places, select_places, source_places, written_table, MayRefuse}
 use Rattle.cq_steps.specs.State.{TableOf, ViewOf, State, table_named, view_place, empty_table, holding, tables_now, queries_of}
 use Rattle.cq_steps.specs.Step.{new_view}
@@ -83,7 +84,7 @@ DropsTable name views old new result = Walked (drop_table_places views (table_na
 abbrev pub CreatesView : ℕ → List ℕ → ViewSelect → List TableOf → List ViewOf → List ViewOf → Result (Unit {0}) Fault → Type 0
 CreatesView now name view tables old new result =
     Walked (create_view_places name view (alone tables old))
-    (λ x. IfSome (table_named view.table tables) (λ t. new ≡ old ++ new_view name (view_columns t.columns view) (grouped_query view t) now ∷ [])) result
+    (λ x. IfSome (table_named view.source.name tables) (λ t. new ≡ old ++ new_view name (view_columns t.columns view) (grouped_query view t) now ∷ [])) result
 
 -- DROP VIEW takes the view of a name away
 abbrev pub DropsView : List ℕ → List ViewOf → List ViewOf → Result (Unit {0}) Fault → Type 0
@@ -128,25 +129,25 @@ pub record IsAnswer (s : State) (q : Select) (source : Named) (rows : List Row) 
 -- a query of a source with a total that cannot be shown
 abbrev pub HasNone : State → Select → Fault → Type 0
 HasNone s q f =
-    (f ≡ SumOutOfRange) × (first_fault (select_places q (source_named q.table s)) ≡ None)
-    × IfSome (source_named q.table s) (λ source. AnswerInRange (tables_now s) (queries_of s) (bound_query q source) → ⊥)
+    (f ≡ SumOutOfRange) × (first_fault (select_places q (source_named q.source.name s)) ≡ None)
+    × IfSome (source_named q.source.name s) (λ source. AnswerInRange (tables_now s) (queries_of s) (bound_query q source) → ⊥)
 
 -- SELECT answers the query from the table or the view that it names
 abbrev pub SelectsFrom : Select → State → Result (List Row) Fault → Type 0
-SelectsFrom q s (Ok rows) = (first_fault (select_places q (source_named q.table s)) ≡ None) × IfSome (source_named q.table s) (λ source. IsAnswer s q source rows)
-SelectsFrom q s (Err f) = MayRefuse (first_fault (select_places q (source_named q.table s))) f ⊎ HasNone s q f
+SelectsFrom q s (Ok rows) = (first_fault (select_places q (source_named q.source.name s)) ≡ None) × IfSome (source_named q.source.name s) (λ source. IsAnswer s q source rows)
+SelectsFrom q s (Err f) = MayRefuse (first_fault (select_places q (source_named q.source.name s))) f ⊎ HasNone s q f
 
--- what expressions over a view see of it
-abbrev pub view_scope : NamedView → Scope
-view_scope v = scope_of (from_view (view_of v) 0)
+-- what expressions of a query over a view see of it
+abbrev pub view_scope : FromSource → NamedView → Scope
+view_scope f v = scope_as f (from_view (view_of v) 0)
 
 -- SELECT answers the query from what a view keeps, which is the bag of the view's query on each tables that it stands for
 abbrev pub SelectsKept : Select → NamedView → Result (List Row) Fault → Type 0
-SelectsKept q v (Ok rows) = (first_fault (source_places q (view_scope v)) ≡ None)
+SelectsKept q v (Ok rows) = (first_fault (source_places q (view_scope q.source v)) ≡ None)
     × ((tables : Tables) → StandsFor v.kept tables
     → IsListing [] None (meaning (bound_query q (from_columns v.columns)) (λ source. meaning (query_of v.kept.def) tables)) rows × MeaningInRange (query_of v.kept.def) tables)
-SelectsKept q v (Err f) = MayRefuse (first_fault (source_places q (view_scope v))) f
-    ⊎ ((f ≡ SumOutOfRange) × (first_fault (source_places q (view_scope v)) ≡ None)
+SelectsKept q v (Err f) = MayRefuse (first_fault (source_places q (view_scope q.source v))) f
+    ⊎ ((f ≡ SumOutOfRange) × (first_fault (source_places q (view_scope q.source v)) ≡ None)
     × ((tables : Tables) → StandsFor v.kept tables → MeaningInRange (query_of v.kept.def) tables → ⊥))
 
 -- a view that was built for its query on this table

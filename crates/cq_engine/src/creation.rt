@@ -8,7 +8,7 @@ ghost use Rattle.cq_engine.specs.Statements.{CreatesView, DropsView, IsBuilt};
 ghost use Rattle.cq_engine.specs.Views.{AreRight, AreStored, IsStored, views_of};
 ghost use Rattle.cq_binder.specs.Walk.{Walked};
 
-use crate::scopes::{stored_sizes, table_scope};
+use crate::scopes::{stored_sizes, table_scope_as};
 use crate::table::Table;
 use crate::tables::{is_taken, place_of};
 use crate::view::View;
@@ -16,7 +16,7 @@ use crate::views::{is_view, view_place};
 use cq_binder::{BoundView, bound_view};
 use cq_model::ViewSelect;
 use cq_steps::Fault;
-use cq_values::{Seq, Text};
+use cq_values::Text;
 use cq_views::{ViewDef, ViewState, standing_depends_on_bag};
 use std::alloc::Global;
 
@@ -39,8 +39,8 @@ pub fn create_view_in(
     if is_taken(tables, views, name.as_str()) {
         return Err(Fault::NameTaken);
     }
-    let Some(place) = place_of(tables, view.table.as_str()) else {
-        return Err(unread(views, view.table.as_str()));
+    let Some(place) = place_of(tables, view.source.name.as_str()) else {
+        return Err(unread(views, view.source.name.as_str()));
     };
     views.push(built_view(alloc, &tables[place], name, view, now)?)?;
     Ok(())
@@ -58,7 +58,7 @@ fn built_view(
     ensures { Walked (view_select_places view.now (Ok table.now)) (IsBuilt now name.now view.now table.now) result }
 {
     let sizes = stored_sizes(alloc, table)?;
-    let bound = bound_view(alloc, &table_scope(table, &sizes), view)?;
+    let bound = bound_view(alloc, &table_scope_as(&view.source, table, &sizes), view)?;
     let BoundView {
         columns,
         filter,

@@ -12,7 +12,7 @@ use crate::table::Table;
 use crate::tables::{create_in, delete_in, drop_in, insert_in};
 use crate::view::View;
 use crate::views::view_place;
-use cq_binder::copy_names;
+use cq_binder::header;
 use cq_model::{ColumnDef, Constant, Select, SqlExpr, Statement, ViewSelect};
 use cq_steps::{Answer, Fault};
 use cq_values::{Seq, Text};
@@ -196,7 +196,7 @@ impl Engine {
         ensures { Step self.now (statements.Select select.now) result self.now }
     {
         let rows = select_from(self.alloc, &self.tables, &self.views, select)?;
-        let header = copy_names(self.alloc, select.columns.as_slice())?;
+        let header = header(self.alloc, select.items.as_slice())?;
         Ok(Answer::Rows { header, rows })
     }
 }

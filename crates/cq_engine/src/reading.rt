@@ -2,11 +2,11 @@
 ghost use Rattle.std.specs.List.{AllByRecursion};
 ghost use Rattle.std.specs.Prelude.{◌≡◌, ℕ};
 ghost use Rattle.cq_steps.specs.State.{AreNumbered};
-ghost use Rattle.cq_steps.specs.Bound.{from_table, scope_of};
+ghost use Rattle.cq_steps.specs.Bound.{from_table, scope_as};
 ghost use Rattle.cq_engine.specs.Statements.{Selects, SelectsFrom, SelectsKept, told_as, alone};
 ghost use Rattle.cq_engine.specs.Views.{AreFew, AreRight, AreStored, IsBacked, IsStored, views_of};
 
-use crate::scopes::{stored_sizes, table_scope, view_scope};
+use crate::scopes::{stored_sizes, table_scope_as, view_scope_as};
 use crate::selection::Selection;
 use crate::table::Table;
 use crate::tables::place_of;
@@ -31,7 +31,7 @@ pub fn select_from(
     requires right { (now : ℕ) × AreRight tables.now now views.now }
     ensures { SelectsFrom select.now (alone tables.now (views_of views.now)) result }
 {
-    let name = select.table.as_str();
+    let name = select.source.name.as_str();
     if let Some(place) = place_of(tables, name) {
         return select_from_table(alloc, &tables[place], select);
     }
@@ -55,10 +55,14 @@ fn all_few(tables: &[Table])
 
 fn select_from_table(alloc: Global, table: &Table, select: &Select) -> Result<Seq<Row>, Fault>
     requires { AllByRecursion IsStored table.now.rows }
-    ensures { Selects select.now (scope_of (from_table table.now)) table.now.rows result }
+    ensures { Selects select.now (scope_as select.now.source (from_table table.now)) table.now.rows result }
 {
     let sizes = stored_sizes(alloc, table)?;
-    let selection = Selection::new(alloc, &table_scope(table, &sizes), select)?;
+    let selection = Selection::new(
+        alloc,
+        &table_scope_as(&select.source, table, &sizes),
+        select,
+    )?;
     Ok(selection.list(alloc, table.rows())?)
 }
 
@@ -67,7 +71,7 @@ fn select_from_view(alloc: Global, view: &View, select: &Select) -> Result<Seq<R
     ensures { SelectsKept select.now view.now result }
 {
     let sizes = view.column_sizes(alloc)?;
-    let selection = Selection::new(alloc, &view_scope(view, &sizes), select)?;
+    let selection = Selection::new(alloc, &view_scope_as(&select.source, view, &sizes), select)?;
     let rows = view.rows(alloc).map_err(told_fault)?;
     rows_keep_sizes();
     Ok(selection.list(alloc, &rows)?)

@@ -1,7 +1,7 @@
 //! What expressions over a table or a view see of it.
-ghost use Rattle.std.specs.Prelude.{◌≡◌, IfOk};
+ghost use Rattle.std.specs.Prelude.{◌≡◌, IfOk, unwrap_or};
 ghost use Rattle.cq_model.specs.Sizes.{column_sizes, stored_sizes};
-ghost use Rattle.cq_steps.specs.Bound.{from_table, scope_of as scope_of_source};
+ghost use Rattle.cq_steps.specs.Bound.{from_table, scope_as, scope_of as scope_of_source};
 ghost use Rattle.cq_exprs.specs.Expressions.{scope_of};
 ghost use Rattle.cq_views.specs.View.{query_of};
 ghost use Rattle.cq_engine.specs.Statements.{view_scope};
@@ -9,6 +9,7 @@ ghost use Rattle.cq_engine.specs.Statements.{view_scope};
 use crate::table::Table;
 use crate::view::View;
 use cq_exprs::Scope;
+use cq_model::FromSource;
 use std::alloc::{AllocError, Global};
 
 /// A stored number has 64 bits with a sign.
@@ -37,14 +38,36 @@ pub fn table_scope<'a>(table: &'a Table, sizes: &'a [u128]) -> Scope<'a>
     }
 }
 
-/// A view, whose numbers are of these sizes.
-pub fn view_scope<'a>(view: &'a View, sizes: &'a [u128]) -> Scope<'a>
-    requires { sizes.now ≡ column_sizes (query_of view.now.kept.def) }
-    ensures { scope_of result ≡ view_scope view.now }
+/// A table as FROM names it, whose numbers are of these sizes.
+pub fn table_scope_as<'a>(from: &'a FromSource, table: &'a Table, sizes: &'a [u128]) -> Scope<'a>
+    requires { sizes.now ≡ stored_sizes table.now.columns }
+    ensures { scope_of result ≡ scope_as from.now (from_table table.now) }
 {
     Scope {
-        known: view.name(),
+        known: known_as(from, table.name()),
+        columns: table.columns(),
+        sizes,
+    }
+}
+
+/// A view as FROM names it, whose numbers are of these sizes.
+pub fn view_scope_as<'a>(from: &'a FromSource, view: &'a View, sizes: &'a [u128]) -> Scope<'a>
+    requires { sizes.now ≡ column_sizes (query_of view.now.kept.def) }
+    ensures { scope_of result ≡ view_scope from.now view.now }
+{
+    Scope {
+        known: known_as(from, view.name()),
         columns: view.columns(),
         sizes,
+    }
+}
+
+/// The alias of a source, or else its own name.
+fn known_as<'a>(from: &'a FromSource, name: &'a str) -> &'a str
+    ensures { result.now ≡ unwrap_or from.now.alias name.now }
+{
+    match &from.alias {
+        Some(alias) => alias.as_str(),
+        None => name,
     }
 }

@@ -2,7 +2,10 @@
 ghost use Rattle.std.specs.Prelude.{[]};
 
 use super::*;
-use cq_model::{ColumnDef, Constant, Item, ItemValue, Select, ViewSelect};
+use cq_model::{
+    ColumnDef, ColumnName, Constant, ExprNode, FromSource, Item, ItemValue, Select, SelectItem,
+    SqlExpr, ViewSelect,
+};
 use cq_steps::{Answer, Fault};
 use cq_values::{Day, Seq, Text, Ty, Value};
 use std::alloc::{AllocError, Global};
@@ -74,12 +77,29 @@ fn insertion(alloc: Global) -> Result<Command, AllocError> {
     Ok(Command::Insert { table, rows })
 }
 
+fn source(alloc: Global) -> Result<FromSource, AllocError> {
+    let name = Text::new(alloc, "t")?;
+    Ok(FromSource { name, alias: None })
+}
+
+fn shown(alloc: Global, name: &str) -> Result<SelectItem, AllocError> {
+    let name = Text::new(alloc, name)?;
+    let column = ColumnName { source: None, name };
+    let value = SqlExpr::new(ExprNode::Column(column));
+    Ok(SelectItem { value, alias: None })
+}
+
 /// SELECT b, a, c FROM t
 fn selection(alloc: Global) -> Result<Command, AllocError> {
+    let mut items = only(alloc, shown(alloc, "b")?)?;
+    items.push(shown(alloc, "a")?)?;
+    items.push(shown(alloc, "c")?)?;
+    let source = source(alloc)?;
+    let condition = None;
     Ok(Command::Select(Select {
-        columns: names(alloc, &["b", "a", "c"])?,
-        table: Text::new(alloc, "t")?,
-        condition: None,
+        items,
+        source,
+        condition,
     }))
 }
 
@@ -92,7 +112,7 @@ fn count(alloc: Global) -> Result<Seq<Item>, AllocError> {
 fn view_query(alloc: Global) -> Result<ViewSelect, AllocError> {
     Ok(ViewSelect {
         items: count(alloc)?,
-        table: Text::new(alloc, "t")?,
+        source: source(alloc)?,
         condition: None,
         group: names(alloc, &["a"])?,
     })

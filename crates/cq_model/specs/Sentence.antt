@@ -1,5 +1,5 @@
 -- The trees of statements and the token lists that they have (docs/LANGUAGE.md, Statements).
-use Rattle.std.specs.Prelude.{◌≡◌, ℕ, Bool, true, false, List, [], ◌∷◌, ◌++◌, Option, Some, None}
+use Rattle.std.specs.Prelude.{◌≡◌, ◌⊎◌, ℕ, Bool, true, false, List, [], ◌∷◌, ◌++◌, Option, Some, None}
 use Rattle.cq_values.specs.declared.ty.Ty.{Ty}
 use Rattle.cq_values.specs.declared.ty.Ty.TheVariants as types
 use Rattle.cq_model.specs.declared.token.Keyword.{Keyword}
@@ -11,10 +11,12 @@ use Rattle.cq_model.specs.declared.token.Token.TheVariants as tokens
 use Rattle.cq_model.specs.declared.statement.ColumnDef.{ColumnDef}
 use Rattle.cq_model.specs.declared.statement.Constant.{Constant}
 use Rattle.cq_model.specs.declared.statement.Constant.TheVariants as constants
+use Rattle.cq_model.specs.declared.statement.FromSource.{FromSource}
 use Rattle.cq_model.specs.declared.statement.Item.{Item}
 use Rattle.cq_model.specs.declared.statement.ItemValue.{ItemValue}
 use Rattle.cq_model.specs.declared.statement.ItemValue.TheVariants as values
 use Rattle.cq_model.specs.declared.statement.Literal.{Literal}
+use Rattle.cq_model.specs.declared.statement.SelectItem.{SelectItem}
 use Rattle.cq_model.specs.declared.statement.Statement.{Statement}
 use Rattle.cq_model.specs.declared.statement.Statement.TheVariants as statements
 use Rattle.cq_model.specs.declared.statement.ViewSelect.{ViewSelect}
@@ -91,11 +93,24 @@ IsAlias (Some name) ts = ts ≡ tokens.Keyword keywords.As ∷ tokens.Name name 
 abbrev pub IsItem : Item → List Token → Type 0
 IsItem item ts = (value alias : List Token) × (ts ≡ value ++ alias) × IsItemValue item.value value × IsAlias item.alias alias
 
--- SELECT item {, item} FROM name [WHERE ..] GROUP BY name {, name}
+-- expr [AS name]
+abbrev pub IsSelectItem : SelectItem → List Token → Type 0
+IsSelectItem item ts = (value alias : List Token) × (ts ≡ value ++ alias) × IsExpression item.value value × IsAlias item.alias alias
+
+-- [[AS] name]
+abbrev pub IsKnownAs : Option (List ℕ) → List Token → Type 0
+IsKnownAs None ts = ts ≡ []
+IsKnownAs (Some name) ts = IsName name ts ⊎ IsAlias (Some name) ts
+
+-- name [[AS] name]
+abbrev pub IsSource : FromSource → List Token → Type 0
+IsSource f ts = (alias : List Token) × (ts ≡ tokens.Name f.name ∷ alias) × IsKnownAs f.alias alias
+
+-- SELECT item {, item} FROM source [WHERE ..] GROUP BY name {, name}
 abbrev pub IsViewSelect : ViewSelect → List Token → Type 0
-IsViewSelect v ts = (items condition group : List Token)
-    × (ts ≡ tokens.Keyword keywords.Select ∷ items ++ tokens.Keyword keywords.From ∷ tokens.Name v.table ∷ condition ++ tokens.Keyword keywords.Group ∷ tokens.Keyword keywords.By ∷ group)
-    × Separated IsItem v.items items × IsWhere v.condition condition × Separated IsName v.group group
+IsViewSelect v ts = (items source condition group : List Token)
+    × (ts ≡ tokens.Keyword keywords.Select ∷ items ++ tokens.Keyword keywords.From ∷ source ++ condition ++ tokens.Keyword keywords.Group ∷ tokens.Keyword keywords.By ∷ group)
+    × Separated IsItem v.items items × IsSource v.source source × IsWhere v.condition condition × Separated IsName v.group group
 
 -- a statement of each kind, from its first word to its last
 abbrev pub IsStatement : Statement → List Token → Type 0
@@ -113,8 +128,10 @@ IsStatement (statements.DropView name) ts = ts ≡ tokens.Keyword keywords.Drop 
 IsStatement (statements.Insert name rows) ts = (inner : List Token) × (ts ≡ tokens.Keyword keywords.Insert ∷ tokens.Keyword keywords.Into ∷ tokens.Name name ∷ tokens.Keyword keywords.Values ∷ inner) × Separated IsRow rows inner
 -- DELETE FROM name [WHERE ..]
 IsStatement (statements.Delete name condition) ts = (rest : List Token) × (ts ≡ tokens.Keyword keywords.Delete ∷ tokens.Keyword keywords.From ∷ tokens.Name name ∷ rest) × IsWhere condition rest
--- SELECT name {, name} FROM name [WHERE ..]
-IsStatement (statements.Select q) ts = (names rest : List Token) × (ts ≡ tokens.Keyword keywords.Select ∷ names ++ tokens.Keyword keywords.From ∷ tokens.Name q.table ∷ rest) × Separated IsName q.columns names × IsWhere q.condition rest
+-- SELECT item {, item} FROM source [WHERE ..]
+IsStatement (statements.Select q) ts = (items source rest : List Token)
+    × (ts ≡ tokens.Keyword keywords.Select ∷ items ++ tokens.Keyword keywords.From ∷ source ++ rest)
+    × Separated IsSelectItem q.items items × IsSource q.source source × IsWhere q.condition rest
 
 -- the text is a statement: it has tokens within the limits, and they have this tree
 pub record IsSentence (text : List ℕ) (s : Statement) : Type 0 where

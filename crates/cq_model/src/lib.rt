@@ -25,7 +25,8 @@ pub use expr::{Cond, CondTree, DayPart, Expr, ExprTree};
 pub use pattern::{like, like_decides};
 pub use query::{Aggregate, Equality, Join, Order, Query, Shape, Source};
 pub use statement::{
-    ColumnDef, Comparison, Constant, Item, ItemValue, Literal, Select, Statement, ViewSelect,
+    ColumnDef, Comparison, Constant, FromSource, Item, ItemValue, Literal, Select, SelectItem,
+    Statement, ViewSelect,
 };
 pub use token::{Keyword, Symbol, Token};
 pub use truth::{compare, holds_row};

@@ -38,11 +38,25 @@ pub struct ColumnDef {
     pub not_null: bool,
 }
 
-/// Columns of one table, of the rows that the condition keeps.
+/// What FROM names: a table or a view, and the name that it is known by where it has one of its own here.
+#[derive(Debug, Drop)]
+pub struct FromSource {
+    pub name: Text,
+    pub alias: Option<Text>,
+}
+
+/// An item of a SELECT, with the name behind AS.
+#[derive(Debug, Drop)]
+pub struct SelectItem {
+    pub value: SqlExpr,
+    pub alias: Option<Text>,
+}
+
+/// Values of the rows of one source that the condition keeps.
 #[derive(Debug, Drop)]
 pub struct Select {
-    pub columns: Seq<Text>,
-    pub table: Text,
+    pub items: Seq<SelectItem>,
+    pub source: FromSource,
     pub condition: Option<SqlExpr>,
 }
 
@@ -65,7 +79,7 @@ pub struct Item {
 #[derive(Debug, Drop)]
 pub struct ViewSelect {
     pub items: Seq<Item>,
-    pub table: Text,
+    pub source: FromSource,
     pub condition: Option<SqlExpr>,
     pub group: Seq<Text>,
 }

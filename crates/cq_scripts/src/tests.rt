@@ -1,6 +1,7 @@
 //! Runs of whole scripts.
 mod beginnings;
 mod conditions;
+mod items;
 mod limits;
 mod refusals;
 mod rows;

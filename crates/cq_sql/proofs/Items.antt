@@ -1,4 +1,4 @@
--- Names, constants, rows and the conditions behind WHERE are read exactly.
+-- Names with and without AS, constants, rows and the conditions behind WHERE are read exactly.
 use Rattle.std.proofs.Common.{◌≡◌, ℕ, ◌<◌, Bool, true, false, List, [], ◌∷◌, ◌++◌, length, Option, Some, None, refl, sym, ap, subst, ◌∙◌, arith, length-append}
 use Rattle.std.proofs.lemmas.List.{append-nil}
 use Rattle.cq_model.specs.declared.token.Keyword.TheVariants as keywords
@@ -9,9 +9,9 @@ use Rattle.cq_model.specs.declared.statement.Constant.{Constant}
 use Rattle.cq_model.specs.declared.statement.Constant.TheVariants as constants
 use Rattle.cq_model.specs.declared.statement.Literal.{Literal}
 use Rattle.cq_model.specs.Expression.{IsExpression}
-use Rattle.cq_model.specs.Sentence.{Separated, IsName, IsLiteral, IsConstant, IsRow, IsWhere, sign_tokens}
+use Rattle.cq_model.specs.Sentence.{Separated, IsName, IsAlias, IsLiteral, IsConstant, IsRow, IsWhere, sign_tokens}
 use Rattle.cq_model.specs.Written.{Written}
-use Rattle.cq_sql.specs.Grammar.{name_at, literal_at, number_at, constant_at, row_at, where_at}
+use Rattle.cq_sql.specs.Grammar.{name_at, alias_at, literal_at, number_at, constant_at, row_at, where_at}
 use Rattle.cq_sql.proofs.Exact.{Reads, Anything, Done, After, Then, Tail, EndsTail, parts_of, symbol_takes, by_same, done_reads, behind_reads, then_reads, next_reads, tail_reads}
 use Rattle.cq_sql.proofs.Lists.{list_reads}
 use Rattle.cq_sql.proofs.Conditions.{EndsExpression, expression_reads}
@@ -32,6 +32,17 @@ name_reads = record { found = found; only = only } where
 -- a name has a token
 pub name_some : (n : List ℕ) (front : List Token) → IsName n front → 0 < length front
 name_some n front h = omega (arith, ap (λ (ts : List Token). length ts) h)
+
+-- an optional name is read exactly, where no other AS follows
+pub alias_reads : Reads (EndsTail keywords.As Anything) IsAlias alias_at
+alias_reads = by_same (tail_reads keywords.As name_reads) to from where
+  to : (alias : Option (List ℕ)) (ts : List Token) → IsAlias alias ts → Tail keywords.As IsName alias ts
+  to None ts h = h
+  to (Some name) ts h = (tokens.Name name ∷ [], h, refl)
+
+  from : (alias : Option (List ℕ)) (ts : List Token) → Tail keywords.As IsName alias ts → IsAlias alias ts
+  from None ts h = h
+  from (Some name) ts h = rw (h.1, h.2) refl
 
 -- whole numbers are read exactly, with their signs
 pub literal_reads : Reads Anything IsLiteral literal_at

@@ -17,6 +17,8 @@ pub mod Conditions
 pub mod Lists
 pub mod Items
 pub mod Words
+pub mod Sources
+pub mod SelectItems
 pub mod Views
 pub mod Statements
 pub mod Decided

@@ -1,5 +1,5 @@
 -- Statements are read exactly: what is read is what the tokens have as their tree, and there is at most one.
-use Rattle.std.proofs.Common.{◌≡◌, ℕ, List, [], ◌∷◌, ◌++◌, Option, Some, None, refl, sym, ap, subst, ◌∙◌}
+use Rattle.std.proofs.Common.{◌≡◌, ℕ, List, [], ◌∷◌, ◌++◌, Option, Some, None, refl, sym, ap, subst, ◌∙◌, append_assoc}
 use Rattle.std.specs.Prelude.{Result, Ok, Err, IfOk}
 use Rattle.std.proofs.lemmas.List.{append-nil}
 use Rattle.cq_model.specs.declared.token.Keyword.TheVariants as keywords
@@ -7,19 +7,24 @@ use Rattle.cq_model.specs.declared.token.Symbol.TheVariants as symbols
 use Rattle.cq_model.specs.declared.token.Token.{Token}
 use Rattle.cq_model.specs.declared.token.Token.TheVariants as tokens
 use Rattle.cq_model.specs.declared.statement.Constant.{Constant}
+use Rattle.cq_model.specs.declared.statement.FromSource.{FromSource}
 use Rattle.cq_model.specs.declared.statement.Select.{Select}
+use Rattle.cq_model.specs.declared.statement.SelectItem.{SelectItem}
 use Rattle.cq_model.specs.declared.statement.Statement.{Statement}
 use Rattle.cq_model.specs.declared.statement.Statement.TheVariants as statements
-use Rattle.cq_model.specs.Sentence.{Separated, IsName, IsRow, IsWhere, IsStatement}
+use Rattle.cq_model.specs.Sentence.{Separated, IsName, IsRow, IsWhere, IsSelectItem, IsSource, IsStatement}
 use Rattle.cq_model.specs.Written.{Written}
 use Rattle.cq_sql.specs.declared.fault.SqlFault.{SqlFault}
 use Rattle.cq_sql.specs.declared.fault.SqlFault.TheVariants as errors
 use Rattle.cq_sql.specs.Gives.{Gives}
 use Rattle.cq_sql.specs.Read.{after_symbol}
-use Rattle.cq_sql.specs.Grammar.{name_at, row_at, drop_table_at, insert_at, delete_at, select_at, statement_at, if_all_read, whole_statement}
-use Rattle.cq_sql.proofs.Exact.{Reads, Anything, Nothing, Done, After, Then, at_end, bind_some, keyword_takes, done_reads, behind_reads, then_reads, next_reads}
+use Rattle.cq_sql.specs.Grammar.{row_at, select_item_at, drop_table_at, insert_at, delete_at, select_at, statement_at, if_all_read, whole_statement}
+use Rattle.cq_sql.proofs.Exact.{Reads, Anything, Nothing, Done, After, Then, EndsTail, at_end, bind_some, keyword_takes, done_reads, behind_reads, then_reads, next_reads}
 use Rattle.cq_sql.proofs.Lists.{list_reads}
-use Rattle.cq_sql.proofs.Items.{name_reads, name_some, row_reads, row_some, where_reads, where_at_end}
+use Rattle.cq_sql.proofs.Conditions.{EndsExpression}
+use Rattle.cq_sql.proofs.Items.{name_reads, row_reads, row_some, where_reads, where_at_end}
+use Rattle.cq_sql.proofs.Sources.{EndsSource, source_reads, where_ends_source}
+use Rattle.cq_sql.proofs.SelectItems.{select_item_reads, select_item_some}
 use Rattle.cq_sql.proofs.Tables.{create_table_reads, create_table_parts, create_table_spelled}
 use Rattle.cq_sql.proofs.Views.{create_view_reads, create_view_parts, create_view_spelled, drop_view_reads, drop_view_parts, drop_view_spelled}
 use Rattle.cq_sql.proofs.Words.{create, table, view_word, drop_word, insert, delete, select, into, values, from_word}
@@ -95,42 +100,55 @@ delete_spelled s ts h =
     let spelled : IsStatement (statements.Delete name.0 tail.0) (delete ∷ ts) = (tail.1, rw (h.1, name.3, name.4, whole) refl, tail.4) in
     subst (λ (x : Statement). IsStatement x (delete ∷ ts)) (sym tail.5.0) spelled
 
--- names FROM name [WHERE ..]
-abbrev SelectParts : Statement → List Token → Type 0
-SelectParts =
-    Then (Separated IsName) (λ columns. After from_word (Then IsName (λ table. Then IsWhere (λ condition. Done (statements.Select (record { columns = columns; table = table; condition = condition }))))))
+-- [WHERE ..]
+abbrev KeptParts : List SelectItem → FromSource → Statement → List Token → Type 0
+KeptParts items source = Then IsWhere (λ condition. Done (statements.Select (record { items = items; source = source; condition = condition })))
 
--- behind the columns stands FROM, and behind the table WHERE or nothing
+-- items FROM source [WHERE ..]
+abbrev SelectParts : Statement → List Token → Type 0
+SelectParts = Then (Separated IsSelectItem) (λ items. After from_word (Then IsSource (KeptParts items)))
+
+-- behind the source stands WHERE or nothing
+kept_ends_source : (items : List SelectItem) (source : FromSource) (s : Statement) (ts rest : List Token) → KeptParts items source s ts → rest ≡ [] → EndsSource (ts ++ rest)
+kept_ends_source items source s ts rest h end =
+    let split : ts ++ rest ≡ h.1 ++ (h.2 ++ rest) = ap (λ (us : List Token). us ++ rest) h.3 ∙ append_assoc h.1 h.2 rest in
+    subst EndsSource (sym split) (where_ends_source h.0 h.1 (h.2 ++ rest) h.4 (rw (h.5.1, end) (refl, refl)))
+
+-- behind the items stands FROM, and behind the source WHERE or nothing
 select_reads : Reads Nothing SelectParts select_at
 unfolding select_at
 select_reads =
     then_reads
-    (list_reads Anything IsName name_at name_reads name_some (λ ts. tt))
-    (λ columns. behind_reads (keyword_takes keywords.From) (next_reads name_reads (λ table. then_reads
+    (list_reads (EndsTail keywords.As EndsExpression) IsSelectItem select_item_at select_item_reads select_item_some (λ ts. (refl, refl)))
+    (λ items. behind_reads (keyword_takes keywords.From) (then_reads
+    source_reads
+    (λ source. then_reads
     where_reads
-    (λ condition. done_reads (statements.Select (record { columns = columns; table = table; condition = condition })))
-    (λ condition y back rest h end. where_at_end back rest h.1 end))))
-    (λ columns y back rest h end. (tt, rw h.1 refl))
+    (λ condition. done_reads (statements.Select (record { items = items; source = source; condition = condition })))
+    (λ condition y back rest h end. where_at_end back rest h.1 end))
+    (λ source y back rest h end. kept_ends_source items source y back rest h end)))
+    (λ items y back rest h end. rw h.1 ((refl, refl), refl))
 
 -- the parts of a SELECT
-select_parts : (q : Select) (names rest : List Token) → Separated IsName q.columns names → IsWhere q.condition rest → SelectParts (statements.Select q) (names ++ from_word ∷ tokens.Name q.table ∷ rest)
-select_parts q names rest listed where_is = (
-  q.columns,
-  names,
-  from_word ∷ tokens.Name q.table ∷ rest,
+select_parts : (q : Select) (items source rest : List Token) → Separated IsSelectItem q.items items → IsSource q.source source → IsWhere q.condition rest
+    → SelectParts (statements.Select q) (items ++ from_word ∷ (source ++ rest))
+select_parts q items source rest listed named where_is = (
+  q.items,
+  items,
+  from_word ∷ (source ++ rest),
   refl,
   listed,
-  (tokens.Name q.table ∷ rest, refl, (q.table, tokens.Name q.table ∷ [], rest, refl, refl, (q.condition, rest, [], sym (append-nil rest), where_is, (refl, refl)))),
+  (source ++ rest, refl, (q.source, source, rest, refl, named, (q.condition, rest, [], sym (append-nil rest), where_is, (refl, refl)))),
 )
 
 -- a SELECT from its parts
 select_spelled : (s : Statement) (ts : List Token) → SelectParts s ts → IsStatement s (select ∷ ts)
 select_spelled s ts h =
-    let source = h.5 in
-    let name = source.2 in
-    let tail = name.5 in
-    let whole : name.2 ≡ tail.1 = rw (tail.3, tail.5.1) (append-nil tail.1) in
-    let spelled : IsStatement (statements.Select (record { columns = h.0; table = name.0; condition = tail.0 })) (select ∷ ts) = (h.1, tail.1, rw (h.3, source.1, name.3, name.4, whole) refl, h.4, tail.4) in
+    let behind = h.5 in
+    let source = behind.2 in
+    let tail = source.5 in
+    let whole : source.2 ≡ tail.1 = rw (tail.3, tail.5.1) (append-nil tail.1) in
+    let spelled : IsStatement (statements.Select (record { items = h.0; source = source.0; condition = tail.0 })) (select ∷ ts) = (h.1, source.1, tail.1, rw (h.3, behind.1, source.3, whole) (sym (append_assoc (select ∷ h.1) (from_word ∷ source.1) tail.1)), h.4, source.4, tail.4) in
     subst (λ (x : Statement). IsStatement x (select ∷ ts)) (sym tail.5.0) spelled
 
 -- statements are read exactly, by their first keywords
@@ -144,7 +162,9 @@ statement_reads = record { found = found; only = only } where
   found (statements.DropView name) front rest h end = rw h (drop_view_reads.found (statements.DropView name) _ rest (drop_view_parts name) end)
   found (statements.Insert name rows) front rest h end = rw h.1 (insert_reads.found (statements.Insert name rows) _ rest (insert_parts name rows h.0 h.2) end)
   found (statements.Delete name condition) front rest h end = rw h.1 (delete_reads.found (statements.Delete name condition) _ rest (delete_parts name condition h.0 h.2) end)
-  found (statements.Select q) front rest h end = rw h.2 (select_reads.found (statements.Select q) _ rest (select_parts q h.0 h.1 h.3 h.4) end)
+  found (statements.Select q) front rest h end =
+      let split = h.3 ∙ append_assoc (select ∷ h.0) (from_word ∷ h.1) h.2 in
+      rw split (select_reads.found (statements.Select q) _ rest (select_parts q h.0 h.1 h.2 h.4 h.5 h.6) end)
 
   only : (s : Statement) (ts rest : List Token) → statement_at ts ≡ Some (s, rest) → (front : List Token) × (ts ≡ front ++ rest) × IsStatement s front
   only s (tokens.Keyword keywords.Create ∷ tokens.Keyword keywords.Table ∷ ts) rest e =

@@ -1,22 +1,25 @@
 -- Items and queries of views are read exactly, and so are the statements that create and drop a view.
-use Rattle.std.proofs.Common.{◌≡◌, ℕ, ◌<◌, List, [], ◌∷◌, ◌++◌, length, Option, Some, None, refl, sym, ap, subst, ◌∙◌, append_assoc, arith, length-append}
+use Rattle.std.proofs.Common.{◌≡◌, ℕ, ◌<◌, List, [], ◌∷◌, ◌++◌, length, Option, Some, refl, sym, ap, subst, ◌∙◌, append_assoc, arith, length-append}
 use Rattle.std.proofs.lemmas.List.{append-nil}
 use Rattle.cq_model.specs.declared.token.Keyword.TheVariants as keywords
 use Rattle.cq_model.specs.declared.token.Symbol.TheVariants as symbols
 use Rattle.cq_model.specs.declared.token.Token.{Token}
 use Rattle.cq_model.specs.declared.token.Token.TheVariants as tokens
+use Rattle.cq_model.specs.declared.statement.FromSource.{FromSource}
 use Rattle.cq_model.specs.declared.statement.Item.{Item}
 use Rattle.cq_model.specs.declared.statement.ItemValue.{ItemValue}
 use Rattle.cq_model.specs.declared.statement.ItemValue.TheVariants as values
 use Rattle.cq_model.specs.declared.statement.Statement.{Statement}
 use Rattle.cq_model.specs.declared.statement.Statement.TheVariants as statements
 use Rattle.cq_model.specs.declared.statement.ViewSelect.{ViewSelect}
-use Rattle.cq_model.specs.Sentence.{Separated, IsName, IsWhere, IsItemValue, IsAlias, IsItem, IsViewSelect, IsStatement}
+use Rattle.cq_model.specs.Written.{Written}
+use Rattle.cq_model.specs.Sentence.{Separated, IsName, IsSource, IsWhere, IsItemValue, IsAlias, IsItem, IsViewSelect, IsStatement}
 use Rattle.cq_sql.specs.Read.{after_symbol}
-use Rattle.cq_sql.specs.Grammar.{name_at, count_at, sum_at, item_value_at, alias_at, item_at, groups_at, view_select_at, create_view_at, drop_view_at}
-use Rattle.cq_sql.proofs.Exact.{Reads, Anything, Nothing, Done, After, Then, Tail, EndsTail, at_end, parts_of, keyword_takes, symbol_takes, by_same, done_reads, behind_reads, then_reads, next_reads, tail_reads}
+use Rattle.cq_sql.specs.Grammar.{name_at, count_at, sum_at, item_value_at, item_at, groups_at, view_select_at, create_view_at, drop_view_at}
+use Rattle.cq_sql.proofs.Exact.{Reads, Anything, Nothing, Done, After, Then, EndsTail, at_end, parts_of, keyword_takes, symbol_takes, by_same, done_reads, behind_reads, then_reads, next_reads}
 use Rattle.cq_sql.proofs.Lists.{list_reads}
-use Rattle.cq_sql.proofs.Items.{name_reads, name_some, where_reads}
+use Rattle.cq_sql.proofs.Items.{name_reads, name_some, alias_reads, where_reads}
+use Rattle.cq_sql.proofs.Sources.{EndsSource, source_reads, where_ends_source}
 use Rattle.cq_sql.proofs.Words.{create, view_word, drop_word, select, from_word, as_word, count_word, sum_word, group_word, by_word, open_sign, close_sign, star_sign}
 
 -- ( * )
@@ -88,17 +91,6 @@ item_value_some (values.Column name) front h = omega (arith, ap (λ (ts : List T
 item_value_some values.CountAll front h = omega (arith, ap (λ (ts : List Token). length ts) h)
 item_value_some (values.Sum name) front h = omega (arith, ap (λ (ts : List Token). length ts) h)
 
--- an optional name is read exactly, where no other AS follows
-alias_reads : Reads (EndsTail keywords.As Anything) IsAlias alias_at
-alias_reads = by_same (tail_reads keywords.As name_reads) to from where
-  to : (alias : Option (List ℕ)) (ts : List Token) → IsAlias alias ts → Tail keywords.As IsName alias ts
-  to None ts h = h
-  to (Some name) ts h = (tokens.Name name ∷ [], h, refl)
-
-  from : (alias : Option (List ℕ)) (ts : List Token) → Tail keywords.As IsName alias ts → IsAlias alias ts
-  from None ts h = h
-  from (Some name) ts h = rw (h.1, h.2) refl
-
 -- what is shown, and then an optional name
 abbrev ItemParts : Item → List Token → Type 0
 ItemParts = Then IsItemValue (λ value. Then IsAlias (λ alias. Done (record { value = value; alias = alias })))
@@ -124,31 +116,53 @@ item_reads = by_same item_parts to from where
 item_some : (item : Item) (front : List Token) → IsItem item front → 0 < length front
 item_some item front h = omega (arith, item_value_some item.value h.0 h.3, ap (λ (ts : List Token). length ts) h.2, length-append h.0 h.1)
 
--- FROM name [WHERE ..] GROUP BY names
+-- GROUP BY names
+abbrev ByParts : List Item → FromSource → Option Written → ViewSelect → List Token → Type 0
+ByParts items source condition =
+    After group_word (After by_word (Then (Separated IsName) (λ group. Done (record { items = items; source = source; condition = condition; group = group }))))
+
+-- [WHERE ..] GROUP BY names
+abbrev KeptParts : List Item → FromSource → ViewSelect → List Token → Type 0
+KeptParts items source = Then IsWhere (ByParts items source)
+
+-- FROM source [WHERE ..] GROUP BY names
 abbrev GroupsParts : List Item → ViewSelect → List Token → Type 0
-GroupsParts items =
-    After from_word (Then IsName (λ table. Then IsWhere (λ condition. After group_word (After by_word (Then (Separated IsName) (λ group. Done (record { items = items; table = table; condition = condition; group = group })))))))
+GroupsParts items = After from_word (Then IsSource (KeptParts items))
+
+-- behind the source of a view stands WHERE or GROUP
+groups_end_source : (items : List Item) (source : FromSource) (v : ViewSelect) (ts rest : List Token) → KeptParts items source v ts → EndsSource (ts ++ rest)
+groups_end_source items source v ts rest h =
+    let split : ts ++ rest ≡ h.1 ++ (h.2 ++ rest) = ap (λ (us : List Token). us ++ rest) h.3 ∙ append_assoc h.1 h.2 rest in
+    subst EndsSource (sym split) (where_ends_source h.0 h.1 (h.2 ++ rest) h.4 (rw h.5.1 (refl, refl)))
 
 -- GROUP stands behind the condition, and nothing behind the last name
 groups_reads : (items : List Item) → Reads Nothing (GroupsParts items) (groups_at items)
 unfolding groups_at
 groups_reads items =
-    behind_reads (keyword_takes keywords.From) (next_reads name_reads (λ table. then_reads
+    behind_reads (keyword_takes keywords.From) (then_reads
+    source_reads
+    (λ source. then_reads
     where_reads
     (λ condition. behind_reads (keyword_takes keywords.Group) (behind_reads (keyword_takes keywords.By) (then_reads
     (list_reads Anything IsName name_at name_reads name_some (λ ts. tt))
-    (λ group. done_reads (record { items = items; table = table; condition = condition; group = group }))
+    (λ group. done_reads (record { items = items; source = source; condition = condition; group = group }))
     (λ group y back rest h end. (tt, at_end (after_symbol symbols.Comma) back rest h.1 end refl)))))
-    (λ condition y back rest h end. (rw h.1 refl, rw h.1 refl))))
+    (λ condition y back rest h end. (rw h.1 refl, rw h.1 refl)))
+    (λ source v back rest h end. groups_end_source items source v back rest h))
 
 -- the parts of a view behind its items
-groups_parts : (v : ViewSelect) (kept names : List Token) → IsWhere v.condition kept → Separated IsName v.group names
-    → GroupsParts v.items v (from_word ∷ tokens.Name v.table ∷ (kept ++ group_word ∷ by_word ∷ names))
-groups_parts v kept names where_is listed = (
-  tokens.Name v.table ∷ (kept ++ group_word ∷ by_word ∷ names),
+groups_parts : (v : ViewSelect) (source kept names : List Token) → IsSource v.source source → IsWhere v.condition kept → Separated IsName v.group names
+    → GroupsParts v.items v (from_word ∷ (source ++ (kept ++ group_word ∷ by_word ∷ names)))
+groups_parts v source kept names named where_is listed = (
+  source ++ (kept ++ group_word ∷ by_word ∷ names),
   refl,
-  (v.table, tokens.Name v.table ∷ [], kept ++ group_word ∷ by_word ∷ names, refl, refl, (v.condition, kept, group_word ∷ by_word ∷ names, refl, where_is, (by_word ∷ names, refl, (names, refl, (v.group, names, [], sym (append-nil names), listed, (refl, refl)))))),
+  (v.source, source, kept ++ group_word ∷ by_word ∷ names, refl, named, (v.condition, kept, group_word ∷ by_word ∷ names, refl, where_is, (by_word ∷ names, refl, (names, refl, (v.group, names, [], sym (append-nil names), listed, (refl, refl)))))),
 )
+
+-- the clauses of a view one behind the other
+in_order : (items source kept names : List Token) → select ∷ items ++ from_word ∷ source ++ kept ++ group_word ∷ by_word ∷ names ≡ select ∷ (items ++ from_word ∷ (source ++ (kept ++ group_word ∷ by_word ∷ names)))
+in_order items source kept names =
+    append_assoc (select ∷ items ++ from_word ∷ source) kept (group_word ∷ by_word ∷ names) ∙ append_assoc (select ∷ items) (from_word ∷ source) (kept ++ group_word ∷ by_word ∷ names)
 
 -- SELECT items, and what they are taken from
 abbrev ViewParts : ViewSelect → List Token → Type 0
@@ -167,21 +181,20 @@ view_reads : Reads Nothing IsViewSelect view_select_at
 view_reads = by_same view_parts to from where
   to : (v : ViewSelect) (ts : List Token) → IsViewSelect v ts → ViewParts v ts
   to v ts h =
-      let groups = from_word ∷ tokens.Name v.table ∷ (h.1 ++ group_word ∷ by_word ∷ h.2) in
-      (h.0 ++ groups, h.3 ∙ append_assoc (select ∷ h.0) (from_word ∷ tokens.Name v.table ∷ h.1) (group_word ∷ by_word ∷ h.2), (v.items, h.0, groups, refl, h.4, groups_parts v h.1 h.2 h.5 h.6))
+      let groups = from_word ∷ (h.1 ++ (h.2 ++ group_word ∷ by_word ∷ h.3)) in
+      (h.0 ++ groups, h.4 ∙ in_order h.0 h.1 h.2 h.3, (v.items, h.0, groups, refl, h.5, groups_parts v h.1 h.2 h.3 h.6 h.7 h.8))
 
   from : (v : ViewSelect) (ts : List Token) → ViewParts v ts → IsViewSelect v ts
   from v ts h =
       let items = h.2 in
-      let source = items.5 in
-      let table = source.2 in
-      let kept = table.5 in
+      let behind = items.5 in
+      let source = behind.2 in
+      let kept = source.5 in
       let grouped = kept.5 in
       let by = grouped.2 in
       let group = by.2 in
       let whole : by.0 ≡ group.1 = rw (group.3, group.5.1) (append-nil group.1) in
-      let regrouped = sym (append_assoc (select ∷ items.1) (from_word ∷ tokens.Name table.0 ∷ kept.1) (group_word ∷ by_word ∷ group.1)) in
-      let spelled : IsViewSelect (record { items = items.0; table = table.0; condition = kept.0; group = group.0 }) ts = (items.1, kept.1, group.1, rw (h.1, items.3, source.1, table.3, table.4, kept.3, grouped.1, by.1, whole) regrouped, items.4, kept.4, group.4) in
+      let spelled : IsViewSelect (record { items = items.0; source = source.0; condition = kept.0; group = group.0 }) ts = (items.1, source.1, kept.1, group.1, rw (h.1, items.3, behind.1, source.3, kept.3, grouped.1, by.1, whole) (sym (in_order items.1 source.1 kept.1 group.1)), items.4, source.4, kept.4, group.4) in
       subst (λ (x : ViewSelect). IsViewSelect x ts) (sym group.5.0) spelled
 
 -- name AS select

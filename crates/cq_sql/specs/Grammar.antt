@@ -10,10 +10,12 @@ use Rattle.cq_model.specs.declared.token.Token.TheVariants as tokens
 use Rattle.cq_model.specs.declared.statement.ColumnDef.{ColumnDef}
 use Rattle.cq_model.specs.declared.statement.Constant.{Constant}
 use Rattle.cq_model.specs.declared.statement.Constant.TheVariants as constants
+use Rattle.cq_model.specs.declared.statement.FromSource.{FromSource}
 use Rattle.cq_model.specs.declared.statement.Item.{Item}
 use Rattle.cq_model.specs.declared.statement.ItemValue.{ItemValue}
 use Rattle.cq_model.specs.declared.statement.ItemValue.TheVariants as values
 use Rattle.cq_model.specs.declared.statement.Literal.{Literal}
+use Rattle.cq_model.specs.declared.statement.SelectItem.{SelectItem}
 use Rattle.cq_model.specs.declared.statement.Statement.{Statement}
 use Rattle.cq_model.specs.declared.statement.Statement.TheVariants as statements
 use Rattle.cq_model.specs.declared.statement.ViewSelect.{ViewSelect}
@@ -91,14 +93,27 @@ item_value_at ts = None
 abbrev pub alias_at : Reader (Option (List ℕ))
 alias_at = tail_at keywords.As name_at
 
+-- takes a name that stands alone or behind AS, or nothing where there is none
+unfoldable pub known_as_at : Reader (Option (List ℕ))
+known_as_at (tokens.Name name ∷ ts) = Some (Some name, ts)
+known_as_at ts = alias_at ts
+
+-- takes what FROM names: a table or a view, and the name that it is known by
+unfoldable pub source_at : Reader FromSource
+source_at = followed_by name_at (λ name. followed_by known_as_at (λ alias. done (record { name = name; alias = alias })))
+
+-- takes an item of a SELECT: an expression, and an optional name
+unfoldable pub select_item_at : Reader SelectItem
+select_item_at = followed_by expression_at (λ value. followed_by alias_at (λ alias. done (record { value = value; alias = alias })))
+
 -- takes an item of a view: what it shows, and an optional name
 unfoldable pub item_at : Reader Item
 item_at = followed_by item_value_at (λ value. followed_by alias_at (λ alias. done (record { value = value; alias = alias })))
 
--- takes what follows the items of a view: its table, an optional condition and the columns of its groups
+-- takes what follows the items of a view: its source, an optional condition and the columns of its groups
 unfoldable pub groups_at : List Item → Reader ViewSelect
 groups_at items =
-    behind (after_keyword keywords.From) (followed_by name_at (λ table. followed_by (where_at) (λ condition. behind (after_keyword keywords.Group) (behind (after_keyword keywords.By) (followed_by (list_at name_at) (λ group. done (record { items = items; table = table; condition = condition; group = group })))))))
+    behind (after_keyword keywords.From) (followed_by source_at (λ source. followed_by (where_at) (λ condition. behind (after_keyword keywords.Group) (behind (after_keyword keywords.By) (followed_by (list_at name_at) (λ group. done (record { items = items; source = source; condition = condition; group = group })))))))
 
 -- takes the query of a view: its items, and what they are taken from
 unfoldable pub view_select_at : Reader ViewSelect
@@ -135,10 +150,10 @@ unfoldable pub delete_at : Reader Statement
 delete_at =
     behind (after_keyword keywords.From) (followed_by name_at (λ table. followed_by (where_at) (λ condition. done (statements.Delete table condition))))
 
--- takes what follows SELECT: columns, their table and an optional condition
+-- takes what follows SELECT: items, their source and an optional condition
 unfoldable pub select_at : Reader Statement
 select_at =
-    followed_by (list_at name_at) (λ columns. behind (after_keyword keywords.From) (followed_by name_at (λ table. followed_by (where_at) (λ condition. done (statements.Select (record { columns = columns; table = table; condition = condition }))))))
+    followed_by (list_at select_item_at) (λ items. behind (after_keyword keywords.From) (followed_by source_at (λ source. followed_by (where_at) (λ condition. done (statements.Select (record { items = items; source = source; condition = condition }))))))
 
 -- takes a statement: its first keywords say which one it is
 unfoldable pub statement_at : Reader Statement

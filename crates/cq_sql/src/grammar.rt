@@ -9,7 +9,9 @@ ghost use Rattle.cq_sql.specs.Grammar.{name_at, drop_table_at, create_view_at, d
 use crate::fault::SqlFault;
 use crate::read::{Readable, expect_keyword, list_of, tail_of};
 use crate::table::create_table_at;
-use cq_model::{Constant, Keyword, Select, SqlExpr, Statement, Token, ViewSelect};
+use cq_model::{
+    Constant, FromSource, Keyword, Select, SelectItem, SqlExpr, Statement, Token, ViewSelect,
+};
 use cq_values::{Seq, Text};
 use std::alloc::Global;
 
@@ -75,13 +77,13 @@ fn delete_at(alloc: Global, tokens: &[Token]) -> Result<(Statement, &[Token]), S
 fn select_at(alloc: Global, tokens: &[Token]) -> Result<(Statement, &[Token]), SqlFault>
     ensures { Gives (λ x. (x.0, x.1.now)) result (select_at tokens.now) }
 {
-    let (columns, rest) = list_of::<Text>(alloc, tokens)?;
+    let (items, rest) = list_of::<SelectItem>(alloc, tokens)?;
     let rest = expect_keyword(Keyword::From, rest)?;
-    let (table, rest) = Text::read(alloc, rest)?;
+    let (source, rest) = FromSource::read(alloc, rest)?;
     let (condition, rest) = tail_of::<SqlExpr>(alloc, Keyword::Where, rest)?;
     let select = Select {
-        columns,
-        table,
+        items,
+        source,
         condition,
     };
     Ok((Statement::Select(select), rest))

@@ -14,7 +14,9 @@ mod links;
 mod nodes;
 mod predicates;
 mod read;
+mod select_item;
 mod sentences;
+mod source;
 mod table;
 #[cfg(test)]
 mod tests;

@@ -3,6 +3,7 @@ mod columns;
 mod conditions;
 mod constants;
 mod expressions;
+mod selects;
 mod views;
 
 use crate::{SqlFault, tree_of};
@@ -90,6 +91,7 @@ fn a_statement_is_read(rt: HostRuntime) -> Result<(), Fail> {
         "create table t ( a integer , b integer , a integer )",
         "drop table t",
         "create view v as select a from t group by a",
+        "create view v as select a from t as u group by a",
         "drop view v",
         "insert into t values ( 1 )",
         "insert into t values ( 1 , - 2 ) , ( 3 )",
@@ -105,6 +107,7 @@ fn a_statement_is_read(rt: HostRuntime) -> Result<(), Fail> {
         "select a from t where b <= 1",
         "select a from t where b > 1",
         "select a from t where b >= 1",
+        "select a + 1 as b , 2 from t u",
     ];
     for text in texts {
         assert_eq!(rt; fault_of(rt.alloc(), text)?, None, "{text}");
@@ -149,6 +152,9 @@ fn half_a_statement_is_none(rt: HostRuntime) -> Result<(), Fail> {
         "select from t",
         "select a , from t",
         "select a b from t",
+        "select a as from t",
+        "select a from t as",
+        "select a from t as where a",
         "select a from t where",
         "select a from t where a <=",
     ];
@@ -179,7 +185,8 @@ fn what_follows_a_statement_makes_it_none(rt: HostRuntime) -> Result<(), Fail> {
         "delete from t , u",
         "delete from t a = 1",
         "delete from t where a = 1 where a = 1",
-        "select a from t u",
+        "select a from t u v",
+        "select a from t as u v",
         "select a from t where a = 1 where a = 1",
         "select a from t where a = 1 2",
     ];

@@ -5,7 +5,7 @@ ghost use Rattle.cq_sql.specs.Grammar.{count_at, sum_at, item_value_at, item_at,
 
 use crate::fault::SqlFault;
 use crate::read::{Readable, expect_keyword, expect_symbol, list_of, tail_of};
-use cq_model::{Item, ItemValue, Keyword, SqlExpr, Symbol, Token, ViewSelect};
+use cq_model::{FromSource, Item, ItemValue, Keyword, SqlExpr, Symbol, Token, ViewSelect};
 use cq_values::{Seq, Text};
 use std::alloc::Global;
 
@@ -63,14 +63,14 @@ fn groups_at(
     ensures { Gives (λ x. (x.0, x.1.now)) result (groups_at items tokens.now) }
 {
     let rest = expect_keyword(Keyword::From, tokens)?;
-    let (table, rest) = Text::read(alloc, rest)?;
+    let (source, rest) = FromSource::read(alloc, rest)?;
     let (condition, rest) = tail_of::<SqlExpr>(alloc, Keyword::Where, rest)?;
     let rest = expect_keyword(Keyword::Group, rest)?;
     let rest = expect_keyword(Keyword::By, rest)?;
     let (group, rest) = list_of::<Text>(alloc, rest)?;
     let view = ViewSelect {
         items,
-        table,
+        source,
         condition,
         group,
     };

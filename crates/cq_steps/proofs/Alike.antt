@@ -3,7 +3,6 @@ use Rattle.std.proofs.Common.{◌≡◌, ℕ, suc, ◌+◌, not, List, [], ◌�
 use Rattle.std.specs.Prelude.{slice_get, length, filter, ◌==◌, ◌||◌, Bool, is_some, option_map, unwrap_or}
 use Rattle.cq_values.specs.Texts.{is_text}
 use Rattle.cq_bags.proofs.Totals.{by_test}
-use Rattle.cq_model.specs.declared.query.Source.TheVariants.{Table, View}
 use Rattle.cq_model.specs.declared.statement.Statement.{Statement}
 use Rattle.cq_model.specs.declared.statement.Statement.TheVariants as statements
 use Rattle.cq_steps.specs.Bound.{Named, from_table, from_view, source_named, bound, bound_select}
@@ -24,9 +23,9 @@ use Rattle.cq_model.specs.Meaning.{meaning}
 use Rattle.cq_model.specs.Views.{with_views, sources_of, is_table, AnswerInRange}
 use Rattle.cq_model.specs.Write.{chosen, left_by, updated}
 use Rattle.cq_steps.specs.declared.answer.Answer.{Answer}
-use Rattle.cq_steps.specs.declared.answer.Answer.TheVariants.{Done, Count, Rows}
+use Rattle.cq_steps.specs.declared.answer.Answer.TheVariants.{Count, Rows}
 use Rattle.cq_steps.specs.State.{TableOf, ViewOf, State, table_named, view_place, view_named, empty_table, rows_in, with_rows, tables_now, queries_of}
-use Rattle.cq_steps.specs.Step.{with_all_views, created, new_view, written, Writes, at_epoch, taken_on, reach, refreshed, Shows, Leads, Trims, at_present, Accepts, AreBetween, GivesUp, IsTooLarge}
+use Rattle.cq_steps.specs.Step.{with_all_views, created, new_view, Writes, at_epoch, taken_on, reach, refreshed, Shows, Leads, Trims, at_present, Accepts, AreBetween, GivesUp, IsTooLarge}
 
 -- the view without its epoch
 abbrev pub timeless : ViewOf → ViewOf
@@ -97,11 +96,11 @@ refusal-seen x (statements.DropTable name) = used (table_named name x.tables)
     used : (o : Option TableOf) → first_fault (drop_table_places (map timeless x.views) o) ≡ first_fault (drop_table_places x.views o)
     used None = refl
     used (Some t) = rw (used-timeless t.number x.views) refl
-refusal-seen x (statements.CreateView name view) = rw (there-timeless name x.views, there-timeless view.table x.views) refl
+refusal-seen x (statements.CreateView name view) = rw (there-timeless name x.views, there-timeless view.source.name x.views) refl
 refusal-seen x (statements.DropView name) = rw (place-timeless name x.views) refl
 refusal-seen x (statements.Insert name rows) = rw (there-timeless name x.views) refl
 refusal-seen x (statements.Delete name condition) = rw (there-timeless name x.views) refl
-refusal-seen x (statements.Select q) = ap (λ (o : Option Named). first_fault (select_places q o)) (source-timeless q.table x)
+refusal-seen x (statements.Select q) = ap (λ (o : Option Named). first_fault (select_places q o)) (source-timeless q.source.name x)
 
 -- and names are resolved without one
 bound-seen : (x : State) (s : Statement) → bound (seen x) s ≡ bound x s
@@ -111,7 +110,7 @@ bound-seen x (statements.CreateView name view) = refl
 bound-seen x (statements.DropView name) = ap (option_map commands.DropView) (place-timeless name x.views)
 bound-seen x (statements.Insert name rows) = refl
 bound-seen x (statements.Delete name condition) = refl
-bound-seen x (statements.Select q) = ap (option_map (bound_select q)) (source-timeless q.table x)
+bound-seen x (statements.Select q) = ap (option_map (bound_select q)) (source-timeless q.source.name x)
 
 pub refusal-alike : (x y : State) (s : Statement) → Alike x y → refusal x s ≡ refusal y s
 refusal-alike x y s a = sym (refusal-seen x s) ∙ ap (λ (z : State). refusal z s) (seen-alike x y a) ∙ refusal-seen y s

@@ -27,12 +27,15 @@ use Rattle.cq_model.specs.declared.statement.Item.{Item}
 use Rattle.cq_model.specs.declared.statement.ItemValue.{ItemValue}
 use Rattle.cq_model.specs.declared.statement.ItemValue.TheVariants as values
 use Rattle.cq_model.specs.declared.statement.Literal.{Literal}
+use Rattle.cq_model.specs.declared.statement.FromSource.{FromSource}
 use Rattle.cq_model.specs.declared.statement.Select.{Select}
+use Rattle.cq_model.specs.declared.statement.SelectItem.{SelectItem}
 use Rattle.cq_model.specs.declared.statement.Statement.{Statement}
 use Rattle.cq_model.specs.declared.statement.Statement.TheVariants as statements
 use Rattle.cq_model.specs.declared.statement.ViewSelect.{ViewSelect}
-use Rattle.cq_model.specs.Placed.{named_day, placed_cond}
+use Rattle.cq_model.specs.Placed.{named_day, placed_cond, placed_expr}
 use Rattle.cq_model.specs.Written.{Written}
+use Rattle.cq_model.specs.Written as tree
 use Rattle.cq_model.specs.Sizes.{column_sizes, stored_sizes}
 use Rattle.cq_steps.specs.State.{TableOf, ViewOf, State, table_named, view_place, view_named}
 use Rattle.cq_steps.specs.Typing.{Scope}
@@ -64,6 +67,10 @@ place_in columns name = unwrap_or (column_place columns name) 0
 abbrev pub named_column : List ColumnDef → List ℕ → Expr
 named_column columns name = exprs.Column (place_in columns name)
 
+-- an expression over these columns
+abbrev pub bound_value : List ColumnDef → Written → Expr
+bound_value columns w = placed_expr (λ c. place_in columns c.name) w
+
 -- a condition over these columns
 abbrev pub bound_condition : List ColumnDef → Written → Cond
 bound_condition columns condition = placed_cond (λ c. place_in columns c.name) condition
@@ -93,6 +100,14 @@ source_named name s =
 abbrev pub scope_of : Named → Scope
 scope_of source = record { known = source.known; columns = source.columns; sizes = source.sizes }
 
+-- a source is known by its alias, or else by its own name (ISO 9075-2, 7.6)
+abbrev pub scope_as : FromSource → Named → Scope
+scope_as f source = record { known = unwrap_or f.alias source.known; columns = source.columns; sizes = source.sizes }
+
+-- what the items show
+abbrev pub shown_by : List SelectItem → List Written
+shown_by items = map (λ item. item.value) items
+
 -- a query of one source
 abbrev pub bound_query : Select → Named → Query
 bound_query q source = record {
@@ -100,19 +115,37 @@ bound_query q source = record {
   joins = [];
   filter = option_map (bound_condition source.columns) q.condition;
   shape = Plain;
-  items = map (named_column source.columns) q.columns;
+  items = map (bound_value source.columns) (shown_by q.items);
   distinct = false;
 }
 
+-- the name of the column that an item is, where it is nothing more
+abbrev pub bare_name : Written → Option (List ℕ)
+bare_name (tree.Column c) = Some c.name
+bare_name w = None
+
+-- the name that an item has from its place
+abbrev pub name_by_place : ℕ → List ℕ
+name_by_place place = codes "c" ++ decimal place
+
+-- what an item is called by itself: a bare column by its name, and any other by its place
+abbrev pub shown_name : ℕ → Written → List ℕ
+shown_name place w = unwrap_or (bare_name w) (name_by_place place)
+
+-- what stands above the items from a place on: the name behind AS, or else their own
+abbrev pub header : ℕ → List SelectItem → List (List ℕ)
+header place [] = []
+header place (item ∷ items) = unwrap_or item.alias (shown_name place item.value) ∷ header (place + 1) items
+
 -- a query with the names above its columns, in the order of all columns
 abbrev pub bound_select : Select → Named → Bound
-bound_select q source = commands.Select q.columns (bound_query q source) (record { keys = []; limit = None })
+bound_select q source = commands.Select (header 1 q.items) (bound_query q source) (record { keys = []; limit = None })
 
 -- what an item of a view is called where it has no name behind AS: a column by its name, and the others by their place
 abbrev pub own_name : ℕ → ItemValue → List ℕ
 own_name place (values.Column name) = name
-own_name place values.CountAll = codes "c" ++ decimal place
-own_name place (values.Sum name) = codes "c" ++ decimal place
+own_name place values.CountAll = name_by_place place
+own_name place (values.Sum name) = name_by_place place
 
 -- what the items from a place on are called
 abbrev pub item_names : ℕ → List Item → List (List ℕ)
@@ -175,8 +208,8 @@ grouped_query v t = record {
 abbrev pub bound : State → Statement → Option Bound
 bound s (statements.CreateTable name columns sort) = Some (commands.CreateTable name columns (map (place_in columns) sort))
 bound s (statements.DropTable name) = option_map (λ t. commands.DropTable t.number) (table_named name s.tables)
-bound s (statements.CreateView name view) = option_map (λ t. commands.CreateView name (view_columns t.columns view) (grouped_query view t)) (table_named view.table s.tables)
+bound s (statements.CreateView name view) = option_map (λ t. commands.CreateView name (view_columns t.columns view) (grouped_query view t)) (table_named view.source.name s.tables)
 bound s (statements.DropView name) = option_map commands.DropView (view_place name s.views)
 bound s (statements.Insert name rows) = option_map (λ t. commands.Insert t.number (map row_of rows)) (table_named name s.tables)
 bound s (statements.Delete name condition) = option_map (λ t. commands.Delete t.number (option_map (bound_condition t.columns) condition)) (table_named name s.tables)
-bound s (statements.Select q) = option_map (bound_select q) (source_named q.table s)
+bound s (statements.Select q) = option_map (bound_select q) (source_named q.source.name s)

@@ -23,9 +23,9 @@ use Rattle.cq_model.specs.Written.{Written}
 use Rattle.cq_steps.specs.declared.fault.Fault.{Fault}
 use Rattle.cq_steps.specs.declared.fault.Fault.TheVariants.{UnknownTable, UnknownColumn, NameTaken, TypeMismatch, AggregateMisplaced, TooWide, NumberOutside, NullNotAllowed, TableFull, TableInUse, ViewNotWritten, TextTooLong, BadDate, ClauseInView, LimitExceeded}
 use Rattle.cq_steps.specs.declared.fault.Fault.TheVariants as faults
-use Rattle.cq_steps.specs.Bound.{column_place, type_named, item_names, values_in, Named, from_table, scope_of, source_named}
+use Rattle.cq_steps.specs.Bound.{column_place, type_named, item_names, values_in, Named, from_table, scope_as, scope_of, shown_by, source_named}
 use Rattle.cq_steps.specs.State.{TableOf, ViewOf, State, table_named, view_place, view_named, is_taken}
-use Rattle.cq_steps.specs.Typing.{Scope, condition_fault, typed}
+use Rattle.cq_steps.specs.Typing.{Scope, condition_fault, typed, value_fault}
 
 -- the first place that has a fault decides
 abbrev pub first_fault : List (Option Fault) → Option Fault
@@ -116,14 +116,18 @@ abbrev pub delete_places : Option Written → Result TableOf Fault → List (Opt
 delete_places condition (Err f) = Some f ∷ []
 delete_places condition (Ok t) = where_place (scope_of (from_table t)) condition ∷ []
 
+-- an item: the walk through it, and then that it is a value
+abbrev pub value_place : Scope → Written → Option Fault
+value_place s w = value_fault (typed s w)
+
 -- SELECT behind its source: WHERE, each item, the list of items
 abbrev pub source_places : Select → Scope → List (Option Fault)
-source_places q s = where_place s q.condition ∷ map (name_place s.columns) q.columns ++ too_long (length q.columns) ∷ []
+source_places q s = where_place s q.condition ∷ map (value_place s) (shown_by q.items) ++ too_long (length q.items) ∷ []
 
 -- SELECT: the source, and what stands behind it
 abbrev pub select_places : Select → Option Named → List (Option Fault)
 select_places q None = Some UnknownTable ∷ []
-select_places q (Some source) = source_places q (scope_of source)
+select_places q (Some source) = source_places q (scope_as q.source source)
 
 -- the table that a view reads: a view is none
 abbrev pub read_table : List ℕ → State → Result TableOf Fault
@@ -150,11 +154,11 @@ query_places s v =
 -- a view's query: the table, and what stands behind it
 abbrev pub view_select_places : ViewSelect → Result TableOf Fault → List (Option Fault)
 view_select_places v (Err f) = Some f ∷ []
-view_select_places v (Ok t) = query_places (scope_of (from_table t)) v
+view_select_places v (Ok t) = query_places (scope_as v.source (from_table t)) v
 
 -- CREATE VIEW: the name, then the query
 abbrev pub create_view_places : List ℕ → ViewSelect → State → List (Option Fault)
-create_view_places name v s = fault_if (is_taken name s) NameTaken ∷ view_select_places v (read_table v.table s)
+create_view_places name v s = fault_if (is_taken name s) NameTaken ∷ view_select_places v (read_table v.source.name s)
 
 -- DROP VIEW: the name
 abbrev pub drop_view_places : Option ℕ → List (Option Fault)
@@ -168,7 +172,7 @@ places s (statements.CreateView name view) = create_view_places name view s
 places s (statements.DropView name) = drop_view_places (view_place name s.views)
 places s (statements.Insert name rows) = insert_places s.max_rows rows (written_table name s)
 places s (statements.Delete name condition) = delete_places condition (written_table name s)
-places s (statements.Select q) = select_places q (source_named q.table s)
+places s (statements.Select q) = select_places q (source_named q.source.name s)
 
 -- the refusal of a statement, if it has one; want of memory is no part of the walk
 abbrev pub refusal : State → Statement → Option Fault

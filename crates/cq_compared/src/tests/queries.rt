@@ -59,6 +59,31 @@ pub(crate) fn of_positives(alloc: Global) -> Result<Query, AllocError> {
     grouped(alloc, Some(Cond::new(filter)), keys, told, [2, 0, 3])
 }
 
+/// SELECT b, COUNT(*), SUM(a) FROM t WHERE .. GROUP BY b, of t(k, a, b, d)
+pub(crate) fn grouped_texts(alloc: Global, filter: Cond) -> Result<Query, AllocError> {
+    let mut keys = Seq::new(alloc);
+    keys.push(2)?;
+    let told = two(alloc, Aggregate::CountAll, Aggregate::Sum(Expr::column(1)))?;
+    grouped(alloc, Some(filter), keys, told, [0, 1, 2])
+}
+
+/// SELECT .., .. FROM t WHERE ..
+pub(crate) fn plain(
+    alloc: Global,
+    filter: Cond,
+    first: Expr,
+    second: Expr,
+) -> Result<Query, AllocError> {
+    Ok(Query {
+        first: Source::Table(0),
+        joins: Seq::new(alloc),
+        filter: Some(filter),
+        shape: Shape::Plain,
+        items: two(alloc, first, second)?,
+        distinct: false,
+    })
+}
+
 /// What the query means on the rows of its table, as a list.
 pub(crate) fn meant(alloc: Global, query: &Query, rows: Seq<Row>) -> Result<Vec<Row>, PlainFault> {
     let mut tables = Seq::new(alloc);

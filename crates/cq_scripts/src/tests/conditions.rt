@@ -11,7 +11,12 @@ const ROWS: &str = "CREATE TABLE t(a INTEGER, b TEXT, d DATE); \
     CREATE VIEW v AS SELECT b, COUNT(*) AS n, SUM(a) AS s FROM t WHERE a > 0 OR a IS NULL GROUP BY b;";
 
 /// Asks that a statement behind these answers so.
-fn check(rt: &impl Abort, alloc: Global, statement: &str, answer: &str) -> Result<(), Fail> {
+pub(super) fn check(
+    rt: &impl Abort,
+    alloc: Global,
+    statement: &str,
+    answer: &str,
+) -> Result<(), Fail> {
     let script = format!(in alloc; "{ROWS} {statement};")?;
     let output = format!(in alloc; "ok\nok 4\nok\n{answer}\n")?;
     let (_, sink) = ended(alloc, script.as_bytes(), Plan::TakesAll);

@@ -49,7 +49,7 @@ fn a_view_keeps_its_condition_and_groups(rt: HostRuntime) -> Result<(), Fail> {
     let condition = view.condition.as_ref().ok_or("no condition")?;
     let (column, comparison, other) = comparison_parts(condition).ok_or("no comparison")?;
     let group = view.group.as_slice();
-    assert_eq!(rt; view.table.as_str(), "t");
+    assert_eq!(rt; view.source.name.as_str(), "t");
     assert_eq!(rt; column, "b");
     assert_eq!(rt; comparison, Comparison::Less);
     assert!(rt; matches!(other, ExprNode::Negative(_)));

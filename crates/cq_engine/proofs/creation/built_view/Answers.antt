@@ -17,24 +17,24 @@ in_scope q b s u same bound = subst (λ (x : Scope). (first_fault (query_places 
 pub returns-in_err-bound : goal.returns-in_err-bound
 returns-in_err-bound c =
     let p = err_from_is_err_and c.from_residual-in_err-bound.result c.from_residual-in_err-bound.ensures.1 in
-    let e = subst (λ (s : Scope). MayRefuse (first_fault (query_places s c.args.view.now)) c.in_err-bound.field-0.0) c.table_scope.ensures c.in_err-bound.ensures in
+    let e = subst (λ (s : Scope). MayRefuse (first_fault (query_places s c.args.view.now)) c.in_err-bound.field-0.0) c.table_scope_as.ensures c.in_err-bound.ensures in
     rw (p.1, p.2) e
 
 pub build-requires-clause-can_be_kept : goal.build-requires-clause-can_be_kept
 build-requires-clause-can_be_kept c =
-    let bound = in_scope c.args.view.now c.in_ok-bound.bound _ _ c.table_scope.ensures c.in_ok-bound.ensures in
+    let bound = in_scope c.args.view.now c.in_ok-bound.bound _ _ c.table_scope_as.ensures c.in_ok-bound.ensures in
     let def = bound_def c.args.view.now c.args.table.now c.number.result c.in_ok-bound.bound c.number.ensures bound.1 in
     subst CanBeKept (sym def) (def_fits c.args.view.now c.args.table.now bound.0).can_be_kept
 
 pub build-requires-clause-narrow : goal.build-requires-clause-narrow
 build-requires-clause-narrow c =
-    let bound = in_scope c.args.view.now c.in_ok-bound.bound _ _ c.table_scope.ensures c.in_ok-bound.ensures in
+    let bound = in_scope c.args.view.now c.in_ok-bound.bound _ _ c.table_scope_as.ensures c.in_ok-bound.ensures in
     let def = bound_def c.args.view.now c.args.table.now c.number.result c.in_ok-bound.bound c.number.ensures bound.1 in
     stored_narrow c.args.table.now c.rows.result.now c.rows.ensures _ (subst Fits (sym def) (def_fits c.args.view.now c.args.table.now bound.0)) c.requires
 
 pub returns : goal.returns
 returns c =
-    let bound = in_scope c.args.view.now c.in_ok-bound.bound _ _ c.table_scope.ensures c.in_ok-bound.ensures in
+    let bound = in_scope c.args.view.now c.in_ok-bound.bound _ _ c.table_scope_as.ensures c.in_ok-bound.ensures in
     let state = c.in_ok-state.ensures in
     let q = c.args.view.now in
     let t = c.args.table.now in

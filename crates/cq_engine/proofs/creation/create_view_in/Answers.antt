@@ -16,7 +16,7 @@ returns-clause-walk c =
     let q = c.args.view.now in
     let t = c.index-tables-place.result in
     let free : is_taken name (alone tables (views_of views)) ≡ false = rw (c.as_str.ensures, c.deref.ensures.value) at (sym c.is_taken.ensures ∙ c.if-is_taken.false) in
-    let found = named_there q.table c.as_str-2.result.now tables tables (views_of views) c.in-Some.place t c.as_str-2.ensures refl at.place at.found at.within c.index-tables-place.is in
+    let found = named_there q.source.name c.as_str-2.result.now tables tables (views_of views) c.in-Some.place t c.as_str-2.ensures refl at.place at.found at.within c.index-tables-place.is in
     let built = c.in_ok-built_view.ensures in
     view_created name q tables views t free found c.args.now c.push.new.self.items c.in_ok-built_view.field-0 built.0 built.1 c.in_ok-push.ensures.items
 

@@ -14,9 +14,9 @@ returns-in-Some c =
     let tables = c.args.tables.now in
     let views = c.args.views.now in
     let t = c.index-tables-place.result in
-    let named = named_there q.table text tables tables (views_of views) c.in-Some.place t c.as_str-name.ensures refl at.place at.found at.within c.index-tables-place.is in
-    let source = source_there q.table text tables tables (views_of views) c.in-Some.place t c.as_str-name.ensures refl at.place at.found at.within c.index-tables-place.is in
-    from_rows q tables views t c.select_from_table.result source (rows-found q.table t tables c.requires.numbered.0 c.requires.numbered.1 named) c.select_from_table.ensures
+    let named = named_there q.source.name text tables tables (views_of views) c.in-Some.place t c.as_str-name.ensures refl at.place at.found at.within c.index-tables-place.is in
+    let source = source_there q.source.name text tables tables (views_of views) c.in-Some.place t c.as_str-name.ensures refl at.place at.found at.within c.index-tables-place.is in
+    from_rows q tables views t c.select_from_table.result source (rows-found q.source.name t tables c.requires.numbered.0 c.requires.numbered.1 named) c.select_from_table.ensures
 
 -- the view of the name
 pub returns-in-Some-view_place : goal.returns-in-Some-view_place

@@ -7,22 +7,22 @@ use Rattle.cq_engine.proofs.Readings.{in_source, narrow_for, ok_before, told_kee
 use Rattle.cq_engine.proofs.Results.{listing_bound, listing_named}
 use Rattle.cq_engine.proofs.reading.select_from_view.Goals as goal
 
--- WHERE is narrow at each row that the view tells
+-- the query can be worked out on each row that the view tells
 pub list-requires : goal.list-requires
 list-requires c =
     let v = c.args.view.now in
-    let bound = in_source c.args.select.now c.in_ok-selection.selection _ _ c.view_scope.ensures c.in_ok-selection.ensures in
+    let bound = in_source c.args.select.now c.in_ok-selection.selection _ _ c.view_scope_as.ensures c.in_ok-selection.ensures in
     let rows = c.in_ok-rows.rows in
     let is = ok_before c.rows.result c.map_err.result _ rows c.map_err.ensures.cases c.map_err.ensures.variant c.in_ok-rows.was in
     let bag = rw is at c.rows.ensures.bag in
     let range = rw is at c.rows.ensures.range in
-    let told = told_keep v rows.items c.requires c.rows_keep_sizes.ensures bag range in
-    rw c.deref-2.ensures.value (narrow_for c.args.select.now c.in_ok-selection.selection (view_scope v) rows.items bound told)
+    let told = told_keep c.args.select.now.source v rows.items c.requires c.rows_keep_sizes.ensures bag range in
+    rw c.deref-2.ensures.value (narrow_for c.args.select.now c.in_ok-selection.selection (view_scope c.args.select.now.source v) bound rows.items told)
 
 -- the listing of the rows that the view tells is that of its bag
 pub returns : goal.returns
 returns c =
-    let bound = in_source c.args.select.now c.in_ok-selection.selection _ _ c.view_scope.ensures c.in_ok-selection.ensures in
+    let bound = in_source c.args.select.now c.in_ok-selection.selection _ _ c.view_scope_as.ensures c.in_ok-selection.ensures in
     let listed = rw c.deref-2.ensures.value at c.in_ok-list.ensures in
     let rows = c.in_ok-rows.rows in
     let is = ok_before c.rows.result c.map_err.result _ rows c.map_err.ensures.cases c.map_err.ensures.variant c.in_ok-rows.was in

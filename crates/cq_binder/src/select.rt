@@ -1,0 +1,86 @@
+//! The items of a SELECT: their values, and what stands above them.
+ghost use Rattle.std.specs.Prelude.{◌≡◌, IfOk, map, option_map, unwrap_or};
+ghost use Rattle.cq_model.specs.Written.{written};
+ghost use Rattle.cq_steps.specs.Bound.{bare_name, bound_value, header, shown_by, shown_name};
+ghost use Rattle.cq_steps.specs.Refusal.{value_place};
+ghost use Rattle.cq_exprs.specs.Expressions.{scope_of};
+ghost use Rattle.cq_binder.specs.Walk.{Walked};
+
+use cq_exprs::{Scope, bind_value};
+use cq_model::{Expr, ExprNode, SelectItem, SqlExpr};
+use cq_steps::Fault;
+use cq_values::{Seq, Text};
+use std::alloc::{AllocError, Global};
+
+/// The values of the items on a source, once each has been walked through.
+pub fn bound_values(
+    alloc: Global,
+    scope: &Scope<'_>,
+    items: &[SelectItem],
+) -> Result<Vec<Expr>, Fault>
+    ensures { Walked (map (value_place (scope_of scope.now)) (shown_by items.now)) (λ v. v.items ≡ map (bound_value scope.now.columns.now) (shown_by items.now)) result }
+{
+    let mut values = Vec::with_capacity(alloc, items.len())?;
+    for item in items {
+        values.push(bind_value(alloc, scope, &item.value)?)?;
+    }
+    Ok(values)
+}
+
+/// What stands above the items, in their order.
+pub fn header(alloc: Global, items: &[SelectItem]) -> Result<Seq<Text>, AllocError>
+    ensures { IfOk result (λ names. names ≡ header 1 items.now) }
+{
+    let mut names = Seq::new(alloc);
+    for (i, item) in items.iter().enumerate() {
+        names.push(item_name(alloc, i + 1, item)?)?;
+    }
+    Ok(names)
+}
+
+/// The name behind AS, or else the item's own. Places are counted from 1.
+fn item_name(alloc: Global, place: usize, item: &SelectItem) -> Result<Text, AllocError>
+    ensures { IfOk result (λ name. name ≡ unwrap_or item.now.alias (shown_name place item.now.value)) }
+{
+    match &item.alias {
+        Some(alias) => alias.copy(alloc),
+        None => shown_name(alloc, place, &item.value),
+    }
+}
+
+/// What an item is called by itself: a bare column by its name, and any other by its place.
+fn shown_name(alloc: Global, place: usize, value: &SqlExpr) -> Result<Text, AllocError>
+    ensures { IfOk result (λ name. name ≡ shown_name place value.now) }
+{
+    match bare_name(value.node()) {
+        Some(name) => name.copy(alloc),
+        None => {
+            let name = format!(in alloc; "c{place}")?;
+            Ok(Text::from_string(name))
+        }
+    }
+}
+
+/// The name of the column that the expression is, where it is nothing more; a chain of one part is that part.
+fn bare_name(node: &ExprNode) -> Option<&Text>
+    ensures { option_map (λ name. name.now) result ≡ bare_name (written node.now) }
+{
+    match node {
+        ExprNode::Column(column) => Some(&column.name),
+        ExprNode::Product(first, rest) | ExprNode::And(first, rest) | ExprNode::Or(first, rest) => {
+            if rest.is_empty() {
+                bare_name(first)
+            } else {
+                None
+            }
+        }
+        ExprNode::Sum(first, signs, rest) => {
+            if signs.is_empty() || rest.is_empty() {
+                bare_name(first)
+            } else {
+                None
+            }
+        }
+        _ => None,
+    }
+}
