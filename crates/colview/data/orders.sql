@@ -11,3 +11,5 @@ INSERT INTO orders VALUES (5, 42, 300);
 SELECT customer, orders, total FROM by_customer;
 SELECT customer FROM by_customer WHERE total > 10000;
 SELECT customer, orders FROM large;
+-- What is left to pay of each order, once 5.00 are taken off.
+SELECT o.id, o.cents - 500 AS to_pay FROM orders o WHERE o.customer = 42 AND o.cents > 500;

@@ -8,6 +8,7 @@ mod rows;
 mod sinks;
 mod values;
 mod views;
+mod walk;
 
 use crate::test_sink::{Plan, TestSink};
 use cq_cli::{NoSources, exit_of, run};

@@ -5,7 +5,12 @@ use std::alloc::{AllocError, Global};
 use std::test::Fail;
 
 /// A text so many times, with commas between.
-fn repeated(alloc: Global, text: &str, times: usize, between: &str) -> Result<String, AllocError> {
+pub(super) fn repeated(
+    alloc: Global,
+    text: &str,
+    times: usize,
+    between: &str,
+) -> Result<String, AllocError> {
     let mut all = String::new(alloc);
     for at in 0..times {
         if at > 0 {
