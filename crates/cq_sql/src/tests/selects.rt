@@ -1,9 +1,8 @@
 //! The items of a SELECT, and what it takes them from, as trees.
 use super::{column_name, tokens};
 use crate::tree_of;
-use cq_model::{ExprNode, Select, SelectItem, Statement};
-use cq_values::Text;
-use std::alloc::Global;
+use cq_model::{Select, SelectItem, Statement};
+use std::alloc::{AllocError, Global};
 use std::process::Abort;
 use std::test::Fail;
 
@@ -14,10 +13,6 @@ fn select_of(statement: &Statement) -> Option<&Select> {
     }
 }
 
-fn alias_of(alias: &Option<Text>) -> Option<&str> {
-    alias.as_ref().map(|name| name.as_str())
-}
-
 /// The source of a SELECT, with AS before the name that it is known by.
 fn source_of(alloc: Global, statement: &Statement) -> Result<String, Fail> {
     let source = &select_of(statement).ok_or("no select")?.source;
@@ -26,11 +21,6 @@ fn source_of(alloc: Global, statement: &Statement) -> Result<String, Fail> {
         Some(alias) => Ok(format!(in alloc; "{name} as {}", alias.as_str())?),
         None => Ok(String::from_str(alloc, name)?),
     }
-}
-
-/// The column that an item shows, if it is one alone, and the name behind AS.
-fn item_parts(item: &SelectItem) -> (Option<&str>, Option<&str>) {
-    (column_name(item.value.node()), alias_of(&item.alias))
 }
 
 /// Asks for the source of a SELECT.
@@ -49,17 +39,30 @@ fn a_source_keeps_its_alias(rt: HostRuntime) -> Result<(), Fail> {
     check_source(&rt, rt.alloc(), "select a from t as u where a", "t as u")
 }
 
+/// The items: a column by its name and all else as two dots, with AS before the name of its own.
+fn items_of(alloc: Global, items: &[SelectItem]) -> Result<String, AllocError> {
+    let mut line = String::new(alloc);
+    for item in items {
+        line.push_str(column_name(item.value.node()).unwrap_or(".."))?;
+        if let Some(alias) = &item.alias {
+            line.push_str(" as ")?;
+            line.push_str(alias.as_str())?;
+        }
+        line.push_str(";")?;
+    }
+    Ok(line)
+}
+
+fn items_in(alloc: Global, text: &str) -> Result<String, Fail> {
+    let tokens = tokens(alloc, text)?;
+    let statement = tree_of(alloc, &tokens)?;
+    let select = select_of(&statement).ok_or("no select")?;
+    Ok(items_of(alloc, select.items.as_slice())?)
+}
+
 #[test]
 fn an_item_keeps_its_expression_and_name(rt: HostRuntime) -> Result<(), Fail> {
-    let text = "select a , b as n , a + 1 as m from t";
-    let expected = [(Some("a"), None), (Some("b"), Some("n")), (None, Some("m"))];
-    let tokens = tokens(rt.alloc(), text)?;
-    let statement = tree_of(rt.alloc(), &tokens)?;
-    let items = select_of(&statement).ok_or("no select")?.items.as_slice();
-    assert_eq!(rt; items.len(), 3);
-    for (item, parts) in items.iter().zip(expected) {
-        assert_eq!(rt; item_parts(item), parts);
-    }
-    assert!(rt; matches!(items[2].value.node(), ExprNode::Sum(..)));
+    let items = items_in(rt.alloc(), "select a , b as n , a + 1 as m from t")?;
+    assert_eq!(rt; items.as_str(), "a;b as n;.. as m;");
     Ok(())
 }
