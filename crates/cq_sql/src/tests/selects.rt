@@ -1,8 +1,8 @@
-//! The items of a SELECT, and what it takes them from, as trees.
-use super::{column_name, tokens};
+//! What a SELECT takes its items from.
+use super::tokens;
 use crate::tree_of;
-use cq_model::{Select, SelectItem, Statement};
-use std::alloc::{AllocError, Global};
+use cq_model::{Select, Statement};
+use std::alloc::Global;
 use std::process::Abort;
 use std::test::Fail;
 
@@ -37,32 +37,4 @@ fn a_source_keeps_its_alias(rt: HostRuntime) -> Result<(), Fail> {
     check_source(&rt, rt.alloc(), "select a from t", "t")?;
     check_source(&rt, rt.alloc(), "select a from t u", "t as u")?;
     check_source(&rt, rt.alloc(), "select a from t as u where a", "t as u")
-}
-
-/// The items: a column by its name and all else as two dots, with AS before the name of its own.
-fn items_of(alloc: Global, items: &[SelectItem]) -> Result<String, AllocError> {
-    let mut line = String::new(alloc);
-    for item in items {
-        line.push_str(column_name(item.value.node()).unwrap_or(".."))?;
-        if let Some(alias) = &item.alias {
-            line.push_str(" as ")?;
-            line.push_str(alias.as_str())?;
-        }
-        line.push_str(";")?;
-    }
-    Ok(line)
-}
-
-fn items_in(alloc: Global, text: &str) -> Result<String, Fail> {
-    let tokens = tokens(alloc, text)?;
-    let statement = tree_of(alloc, &tokens)?;
-    let select = select_of(&statement).ok_or("no select")?;
-    Ok(items_of(alloc, select.items.as_slice())?)
-}
-
-#[test]
-fn an_item_keeps_its_expression_and_name(rt: HostRuntime) -> Result<(), Fail> {
-    let items = items_in(rt.alloc(), "select a , b as n , a + 1 as m from t")?;
-    assert_eq!(rt; items.as_str(), "a;b as n;.. as m;");
-    Ok(())
 }
