@@ -2,7 +2,7 @@
 use crate::{SqlFault, parse};
 use cq_model::{ColumnDef, Statement};
 use cq_values::{Text, Ty};
-use std::alloc::{AllocError, Global};
+use std::alloc::Global;
 use std::test::Fail;
 
 /// The columns of a table, and those behind SORT BY.
@@ -35,14 +35,21 @@ fn a_column_keeps_its_type_and_not_null(rt: HostRuntime) -> Result<(), Fail> {
     Ok(())
 }
 
+fn order_of(statement: &Statement) -> Option<&[Text]> {
+    match statement {
+        Statement::CreateTable { sort, .. } => Some(sort.as_slice()),
+        _ => None,
+    }
+}
+
 /// The columns behind SORT BY, each with a space behind it.
 fn written_order(alloc: Global, text: &str) -> Result<String, Fail> {
     let statement = parse(alloc, text)?;
-    let (_, sort) = table_of(&statement).ok_or("no table")?;
-    Ok(spaced(alloc, sort)?)
+    let sort = order_of(&statement).ok_or("no table")?;
+    spaced(alloc, sort)
 }
 
-fn spaced(alloc: Global, names: &[Text]) -> Result<String, AllocError> {
+fn spaced(alloc: Global, names: &[Text]) -> Result<String, Fail> {
     let mut line = String::new(alloc);
     for name in names {
         line.push_str(name.as_str())?;
