@@ -1,8 +1,7 @@
-//! The columns of a table, and the order that its rows are kept in.
+//! The columns of a table, and what is no column and no order.
 use crate::{SqlFault, parse};
 use cq_model::{ColumnDef, Statement};
 use cq_values::{Text, Ty};
-use std::alloc::Global;
 use std::test::Fail;
 
 /// The columns of a table, and those behind SORT BY.
@@ -31,50 +30,6 @@ fn a_column_keeps_its_type_and_not_null(rt: HostRuntime) -> Result<(), Fail> {
     assert_eq!(rt; sort.len(), 0);
     for (column, parts) in columns.iter().zip(expected) {
         assert_eq!(rt; (column.name.as_str(), column.ty, column.not_null), parts);
-    }
-    Ok(())
-}
-
-fn order_of(statement: &Statement) -> Option<&[Text]> {
-    match statement {
-        Statement::CreateTable { sort, .. } => Some(sort.as_slice()),
-        _ => None,
-    }
-}
-
-/// The columns behind SORT BY, each with a space behind it.
-fn written_order(alloc: Global, text: &str) -> Result<String, Fail> {
-    let statement = parse(alloc, text)?;
-    let sort = order_of(&statement).ok_or("no table")?;
-    spaced(alloc, sort)
-}
-
-fn spaced(alloc: Global, names: &[Text]) -> Result<String, Fail> {
-    let mut line = String::new(alloc);
-    for name in names {
-        line.push_str(name.as_str())?;
-        line.push_str(" ")?;
-    }
-    Ok(line)
-}
-
-#[test]
-fn a_table_keeps_its_order(rt: HostRuntime) -> Result<(), Fail> {
-    let cases = [
-        ("CREATE TABLE t (a INTEGER, b TEXT)", ""),
-        ("CREATE TABLE t (a INTEGER, b TEXT) SORT BY b", "b "),
-        ("CREATE TABLE t (a INTEGER, b TEXT) SORT BY b, a", "b a "),
-        (
-            "CREATE TABLE t (a INTEGER NOT NULL) SORT BY A, b, a",
-            "a b a ",
-        ),
-    ];
-    for (text, expected) in cases {
-        assert_eq!(rt;
-            written_order(rt.alloc(), text)?.as_str(),
-            expected,
-            "{text}"
-        );
     }
     Ok(())
 }
