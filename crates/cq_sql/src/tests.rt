@@ -200,14 +200,6 @@ fn what_follows_a_statement_makes_it_none(rt: HostRuntime) -> Result<(), Fail> {
     Ok(())
 }
 
-fn condition_of(statement: &Statement) -> Option<&SqlExpr> {
-    match statement {
-        Statement::Delete { condition, .. } => condition.as_ref(),
-        Statement::Select(select) => select.condition.as_ref(),
-        _ => None,
-    }
-}
-
 /// The column of a comparison, how it is compared, and with what.
 fn comparison_parts(condition: &SqlExpr) -> Option<(&str, Comparison, &ExprNode)> {
     match condition.node() {
@@ -224,24 +216,6 @@ fn column_name(node: &ExprNode) -> Option<&str> {
         ExprNode::Column(column) => Some(column.name.as_str()),
         _ => None,
     }
-}
-
-/// Asks that the condition of a statement is `b <= 7`.
-fn check_condition(rt: &impl Abort, alloc: Global, text: &str) -> Result<(), Fail> {
-    let tokens = tokens(alloc, text)?;
-    let statement = tree_of(alloc, &tokens)?;
-    let condition = condition_of(&statement).ok_or("no condition")?;
-    let (column, comparison, other) = comparison_parts(condition).ok_or("no comparison")?;
-    assert_eq!(rt; column, "b", "{text}");
-    assert_eq!(rt; comparison, Comparison::LessOrEqual, "{text}");
-    assert!(rt; matches!(other, ExprNode::Number(7)), "{text}");
-    Ok(())
-}
-
-#[test]
-fn a_condition_is_kept(rt: HostRuntime) -> Result<(), Fail> {
-    check_condition(&rt, rt.alloc(), "select a from t where b <= 7")?;
-    check_condition(&rt, rt.alloc(), "delete from t where b <= 7")
 }
 
 /// What is dropped, and its name.
