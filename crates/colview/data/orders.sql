@@ -13,3 +13,7 @@ SELECT customer FROM by_customer WHERE total > 10000;
 SELECT customer, orders FROM large;
 -- What is left to pay of each order, once 5.00 are taken off.
 SELECT o.id, o.cents - 500 AS to_pay FROM orders o WHERE o.customer = 42 AND o.cents > 500;
+-- The tax of each customer's orders, in hundredths of a cent, under the number of the customer's account.
+CREATE VIEW taxes AS SELECT customer + 70000 AS account, COUNT(cents) AS priced, SUM(cents * 19) AS tax FROM orders GROUP BY customer;
+INSERT INTO orders VALUES (6, 17, NULL);
+SELECT account, priced, tax FROM taxes;

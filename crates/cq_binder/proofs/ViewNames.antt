@@ -9,6 +9,7 @@ use Rattle.cq_model.specs.declared.statement.Item.{Item}
 use Rattle.cq_steps.specs.declared.fault.Fault.{Fault}
 use Rattle.cq_steps.specs.declared.fault.Fault.TheVariants.{NameTaken}
 use Rattle.cq_steps.specs.Bound.{item_columns, item_names, own_name}
+use Rattle.cq_steps.specs.Typing.{Scope}
 use Rattle.cq_steps.specs.Refusal.{first_fault, fault_if, column_places, repeats, too_long, MayRefuse}
 use Rattle.cq_binder.proofs.Faults.{first_fault_cons, or_next, refused_first, refused_next, refused_same}
 
@@ -35,12 +36,12 @@ names_walked before (c ∷ columns) =
     ∙ fault_or (list_any (λ b. is_text b c.name) (names_of before)) (repeats (names_of before ++ c.name ∷ []) (names_of columns)) (column_places (before ++ c ∷ []) columns) (names_walked (before ++ c ∷ []) columns ∙ behind)
 
 -- the columns of items are called as the items are
-names_kept : (table : List ColumnDef) (place : ℕ) (items : List Item) → names_of (item_columns table place items) ≡ item_names place items
+names_kept : (table : Scope) (place : ℕ) (items : List Item) → names_of (item_columns table place items) ≡ item_names place items
 names_kept table place [] = refl
 names_kept table place (item ∷ items) = ap (λ (ns : List (List ℕ)). unwrap_or item.alias (own_name place item.value) ∷ ns) (names_kept table (place + 1) items)
 
 -- ---- The columns of the items: their names decide, and then their number
-module _ (table : List ColumnDef) (items : List Item) (columns : List ColumnDef) (named : columns ≡ item_columns table 1 items) where
+module _ (table : Scope) (items : List Item) (columns : List ColumnDef) (named : columns ≡ item_columns table 1 items) where
   abbrev repeated : Option Fault
   repeated = fault_if (repeats [] (item_names 1 items)) NameTaken
 

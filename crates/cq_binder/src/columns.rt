@@ -1,38 +1,19 @@
 //! The columns of a table: where a name stands, and what CREATE TABLE may not declare.
 ghost use Rattle.std.specs.Prelude.{◌≡◌, ◌∷◌, IfOk, [], map};
 ghost use Rattle.std.specs.List.{list_any};
-ghost use Rattle.cq_values.specs.declared.ty.Ty.TheVariants.{Integer};
 ghost use Rattle.cq_values.specs.Texts.{is_text};
-ghost use Rattle.cq_steps.specs.Bound.{place_in, type_named};
-ghost use Rattle.cq_steps.specs.Refusal.{column_places, is_type, sort_places, too_long};
+ghost use Rattle.cq_steps.specs.Bound.{place_in};
+ghost use Rattle.cq_steps.specs.Refusal.{column_places, sort_places, too_long};
 ghost use Rattle.cq_binder.specs.Walk.{Passes, Walked};
 
 use cq_exprs::column_place;
 use cq_model::ColumnDef;
 use cq_steps::Fault;
-use cq_values::{Seq, Text, Ty};
+use cq_values::{Seq, Text};
 use std::alloc::{AllocError, Global};
 
 /// A list of columns or of items has at most so many entries.
 const MAX_ENTRIES: usize = 64;
-
-/// The type of the column of a name.
-pub fn type_named(columns: &[ColumnDef], name: &str) -> Ty
-    ensures { result ≡ type_named columns.now name.now }
-{
-    let place = column_place(columns, name).unwrap_or(0);
-    match columns.get(place) {
-        Some(column) => column.ty,
-        None => Ty::Integer,
-    }
-}
-
-/// Whether the column of a name holds whole numbers.
-pub fn is_number(columns: &[ColumnDef], name: &str) -> bool
-    ensures { result ≡ is_type (type_named columns.now name.now) Integer }
-{
-    type_named(columns, name) == Ty::Integer
-}
 
 /// Where the columns behind SORT BY stand, each of them once.
 pub fn sort_columns(

@@ -16,7 +16,7 @@ pub fn bound_where(
     scope: &Scope<'_>,
     condition: &Option<SqlExpr>,
 ) -> Result<Option<Cond>, Fault>
-    ensures { Walked (where_place (scope_of scope.now) condition.now ∷ []) (λ c. c ≡ option_map (bound_condition scope.now.columns.now) condition.now) result }
+    ensures { Walked (where_place (scope_of scope.now) condition.now ∷ []) (λ c. c ≡ option_map (bound_condition (scope_of scope.now)) condition.now) result }
 {
     match condition {
         Some(condition) => Ok(Some(bind_condition(alloc, scope, condition)?)),

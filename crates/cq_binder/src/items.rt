@@ -1,88 +1,69 @@
-//! The items of a view: keys of its groups, or what is told of each group.
-ghost use Rattle.std.specs.Prelude.{◌≡◌, [], position};
-ghost use Rattle.cq_values.specs.Texts.{is_text};
-ghost use Rattle.cq_model.specs.declared.statement.ItemValue.TheVariants.{Column, Sum};
-ghost use Rattle.cq_steps.specs.Refusal.{item_places};
+//! The items of a view: what they show of the keys of its groups, or what they tell of each group.
+ghost use Rattle.std.specs.Prelude.{◌≡◌, MatchResult, None};
+ghost use Rattle.cq_steps.specs.Refusal.{MayRefuse, item_place};
+ghost use Rattle.cq_exprs.specs.Expressions.{scope_of};
 ghost use Rattle.cq_binder.specs.View.{AreBoundItems, bound_item, item_walk};
 ghost use Rattle.cq_binder.specs.Walk.{Walked};
 
-use crate::columns::is_number;
-use cq_exprs::column_place;
-use cq_model::{Aggregate, ColumnDef, Expr, ItemValue, ViewSelect};
+use cq_exprs::{Scope, bind_kept, bind_number, bind_value};
+use cq_model::{Aggregate, Expr, ItemValue, ViewSelect};
 use cq_steps::Fault;
 use cq_values::{Seq, Text};
 use std::alloc::Global;
 
-/// An item with its name resolved.
+/// An item with its names resolved.
 #[derive(Drop)]
 pub enum BoundItem {
-    /// A column of GROUP BY, by its place there.
-    Key(usize),
+    /// A value of the group's key.
+    Shown(Expr),
     Told(Aggregate),
 }
 
-/// What the items tell of a group, and where each stands in the group's row: the keys first, then what is told.
+/// What the items tell of a group, and what each shows of the group's row: the keys come first in it, then what is told.
 pub fn bound_items(
     alloc: Global,
-    columns: &[ColumnDef],
+    table: &Scope<'_>,
     view: &ViewSelect,
-) -> Result<(Seq<Aggregate>, Seq<usize>), Fault>
-    ensures { Walked (item_walk columns.now view.now) (AreBoundItems columns.now view.now) result }
+) -> Result<(Seq<Aggregate>, Seq<Expr>), Fault>
+    ensures { Walked (item_walk (scope_of table.now) view.now) (AreBoundItems (scope_of table.now) view.now) result }
 {
     let group = view.group.as_slice();
     let mut aggregates = Seq::new(alloc);
-    let mut places = Seq::new(alloc);
+    let mut items = Seq::new(alloc);
     for item in view.items.as_slice() {
-        match bound_item(columns, group, &item.value)? {
-            BoundItem::Key(place) => places.push(place)?,
+        match bound_item(alloc, table, group, &item.value)? {
+            BoundItem::Shown(value) => items.push(value)?,
             BoundItem::Told(aggregate) => {
-                places.push(group.len() + aggregates.len())?;
+                items.push(Expr::column(group.len() + aggregates.len()))?;
                 aggregates.push(aggregate)?;
             }
         }
     }
-    Ok((aggregates, places))
+    Ok((aggregates, items))
 }
 
-fn bound_item(columns: &[ColumnDef], group: &[Text], value: &ItemValue) -> Result<BoundItem, Fault>
-    ensures { Walked (item_places columns.now group.now value.now) (λ item. item ≡ bound_item columns.now group.now value.now) result }
+fn bound_item(
+    alloc: Global,
+    table: &Scope<'_>,
+    group: &[Text],
+    value: &ItemValue,
+) -> Result<BoundItem, Fault>
+    ensures { MatchResult result (λ item. (item_place (scope_of table.now) group.now value.now ≡ None) × (item ≡ bound_item (scope_of table.now) group.now value.now))
+        (MayRefuse (item_place (scope_of table.now) group.now value.now)) }
 {
     match value {
-        ItemValue::Column(name) => grouped_column(columns, group, name.as_str()),
+        ItemValue::Value(value) => {
+            let value = bind_kept(alloc, &table.in_groups(group), value)?;
+            Ok(BoundItem::Shown(value))
+        }
         ItemValue::CountAll => Ok(BoundItem::Told(Aggregate::CountAll)),
-        ItemValue::Sum(name) => added_column(columns, name.as_str()),
+        ItemValue::Count(value) => {
+            let value = bind_value(alloc, table, value)?;
+            Ok(BoundItem::Told(Aggregate::Count(value)))
+        }
+        ItemValue::Sum(value) => {
+            let value = bind_number(alloc, table, value)?;
+            Ok(BoundItem::Told(Aggregate::Sum(value)))
+        }
     }
-}
-
-/// A column that is there and grouped.
-fn grouped_column(columns: &[ColumnDef], group: &[Text], name: &str) -> Result<BoundItem, Fault>
-    ensures { Walked (item_places columns.now group.now (Column name.now)) (λ item. item ≡ bound_item columns.now group.now (Column name.now)) result }
-{
-    if column_place(columns, name).is_none() {
-        return Err(Fault::UnknownColumn);
-    }
-    match group_place(group, name) {
-        Some(place) => Ok(BoundItem::Key(place)),
-        None => Err(Fault::AggregateMisplaced),
-    }
-}
-
-/// A column of whole numbers, which are added up.
-fn added_column(columns: &[ColumnDef], name: &str) -> Result<BoundItem, Fault>
-    ensures { Walked (item_places columns.now [] (Sum name.now)) (λ item. item ≡ bound_item columns.now [] (Sum name.now)) result }
-{
-    let Some(place) = column_place(columns, name) else {
-        return Err(Fault::UnknownColumn);
-    };
-    if !is_number(columns, name) {
-        return Err(Fault::TypeMismatch);
-    }
-    Ok(BoundItem::Told(Aggregate::Sum(Expr::column(place))))
-}
-
-/// Where a column stands in GROUP BY.
-fn group_place(group: &[Text], name: &str) -> Option<usize>
-    ensures { result ≡ position (λ g. is_text g name.now) group.now }
-{
-    group.iter().position(|g| g.as_str() == name)
 }

@@ -15,7 +15,7 @@ mod select;
 mod tests;
 mod view;
 
-pub use columns::{check_length, check_names, copy_columns, is_number, sort_columns};
+pub use columns::{check_length, check_names, copy_columns, sort_columns};
 pub use conditions::bound_where;
 pub use constants::bound_row;
 pub use select::{bound_values, header};

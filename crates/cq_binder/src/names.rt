@@ -1,24 +1,27 @@
 //! The columns of a view: what its items are called, and their types.
 ghost use Rattle.std.specs.Prelude.{◌≡◌, IfOk, unwrap_or};
 ghost use Rattle.cq_steps.specs.Bound.{item_columns, item_type, own_name};
+ghost use Rattle.cq_exprs.specs.Expressions.{scope_of};
 ghost use Rattle.cq_binder.specs.View.{name_walk};
 ghost use Rattle.cq_binder.specs.Walk.{Walked};
 
-use crate::columns::{check_length, check_names, type_named};
+use crate::columns::{check_length, check_names};
+use crate::select::{name_by_place, shown_name};
+use cq_exprs::{Scope, type_of};
 use cq_model::{ColumnDef, Item, ItemValue};
 use cq_steps::Fault;
 use cq_values::{Seq, Text, Ty};
 use std::alloc::{AllocError, Global};
 
-/// The columns that the items show, of different names and not too many.
+/// The columns that the items of groups show, of different names and not too many.
 pub fn view_columns(
     alloc: Global,
-    table: &[ColumnDef],
+    groups: &Scope<'_>,
     items: &[Item],
 ) -> Result<Seq<ColumnDef>, Fault>
-    ensures { Walked (name_walk items.now) (λ columns. columns ≡ item_columns table.now 1 items.now) result }
+    ensures { Walked (name_walk items.now) (λ columns. columns ≡ item_columns (scope_of groups.now) 1 items.now) result }
 {
-    let columns = named_columns(alloc, table, items)?;
+    let columns = named_columns(alloc, groups, items)?;
     check_names(columns.as_slice())?;
     check_length(items.len())?;
     Ok(columns)
@@ -26,28 +29,28 @@ pub fn view_columns(
 
 fn named_columns(
     alloc: Global,
-    table: &[ColumnDef],
+    groups: &Scope<'_>,
     items: &[Item],
 ) -> Result<Seq<ColumnDef>, AllocError>
-    ensures { IfOk result (λ columns. columns ≡ item_columns table.now 1 items.now) }
+    ensures { IfOk result (λ columns. columns ≡ item_columns (scope_of groups.now) 1 items.now) }
 {
     let mut columns = Seq::new(alloc);
     for (i, item) in items.iter().enumerate() {
         columns.push(ColumnDef {
             name: item_name(alloc, i + 1, item)?,
-            ty: item_type(table, &item.value),
+            ty: item_type(groups, &item.value),
             not_null: false,
         })?;
     }
     Ok(columns)
 }
 
-fn item_type(table: &[ColumnDef], value: &ItemValue) -> Ty
-    ensures { result ≡ item_type table.now value.now }
+fn item_type(groups: &Scope<'_>, value: &ItemValue) -> Ty
+    ensures { result ≡ item_type (scope_of groups.now) value.now }
 {
     match value {
-        ItemValue::Column(name) => type_named(table, name.as_str()),
-        ItemValue::CountAll | ItemValue::Sum(_) => Ty::Integer,
+        ItemValue::Value(value) => type_of(groups, value),
+        ItemValue::CountAll | ItemValue::Count(_) | ItemValue::Sum(_) => Ty::Integer,
     }
 }
 
@@ -65,10 +68,9 @@ fn own_name(alloc: Global, place: usize, value: &ItemValue) -> Result<Text, Allo
     ensures { IfOk result (λ name. name ≡ own_name place value.now) }
 {
     match value {
-        ItemValue::Column(name) => name.copy(alloc),
-        ItemValue::CountAll | ItemValue::Sum(_) => {
-            let name = format!(in alloc; "c{place}")?;
-            Ok(Text::from_string(name))
+        ItemValue::Value(value) => shown_name(alloc, place, value),
+        ItemValue::CountAll | ItemValue::Count(_) | ItemValue::Sum(_) => {
+            name_by_place(alloc, place)
         }
     }
 }

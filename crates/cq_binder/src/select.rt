@@ -1,7 +1,7 @@
 //! The items of a SELECT: their values, and what stands above them.
 ghost use Rattle.std.specs.Prelude.{◌≡◌, IfOk, map, option_map, unwrap_or};
 ghost use Rattle.cq_model.specs.Written.{written};
-ghost use Rattle.cq_steps.specs.Bound.{bare_name, bound_value, header, shown_by, shown_name};
+ghost use Rattle.cq_steps.specs.Bound.{bare_name, bound_value, header, name_by_place, shown_by, shown_name};
 ghost use Rattle.cq_steps.specs.Refusal.{value_place};
 ghost use Rattle.cq_exprs.specs.Expressions.{scope_of};
 ghost use Rattle.cq_binder.specs.Walk.{Walked};
@@ -18,7 +18,7 @@ pub fn bound_values(
     scope: &Scope<'_>,
     items: &[SelectItem],
 ) -> Result<Vec<Expr>, Fault>
-    ensures { Walked (map (value_place (scope_of scope.now)) (shown_by items.now)) (λ v. v.items ≡ map (bound_value scope.now.columns.now) (shown_by items.now)) result }
+    ensures { Walked (map (value_place (scope_of scope.now)) (shown_by items.now)) (λ v. v.items ≡ map (bound_value (scope_of scope.now)) (shown_by items.now)) result }
 {
     let mut values = Vec::with_capacity(alloc, items.len())?;
     for item in items {
@@ -49,16 +49,21 @@ fn item_name(alloc: Global, place: usize, item: &SelectItem) -> Result<Text, All
 }
 
 /// What an item is called by itself: a bare column by its name, and any other by its place.
-fn shown_name(alloc: Global, place: usize, value: &SqlExpr) -> Result<Text, AllocError>
+pub(crate) fn shown_name(alloc: Global, place: usize, value: &SqlExpr) -> Result<Text, AllocError>
     ensures { IfOk result (λ name. name ≡ shown_name place value.now) }
 {
     match bare_name(value.node()) {
         Some(name) => name.copy(alloc),
-        None => {
-            let name = format!(in alloc; "c{place}")?;
-            Ok(Text::from_string(name))
-        }
+        None => name_by_place(alloc, place),
     }
+}
+
+/// The name that an item has from its place.
+pub(crate) fn name_by_place(alloc: Global, place: usize) -> Result<Text, AllocError>
+    ensures { IfOk result (λ name. name ≡ name_by_place place) }
+{
+    let name = format!(in alloc; "c{place}")?;
+    Ok(Text::from_string(name))
 }
 
 /// The name of the column that the expression is, where it is nothing more; a chain of one part is that part.

@@ -11,7 +11,7 @@ use crate::conditions::bound_where;
 use crate::items::bound_items;
 use crate::names::view_columns;
 use cq_exprs::{Scope, column_place};
-use cq_model::{Aggregate, ColumnDef, Cond, ViewSelect};
+use cq_model::{Aggregate, ColumnDef, Cond, Expr, ViewSelect};
 use cq_steps::Fault;
 use cq_values::{Seq, Text};
 use std::alloc::Global;
@@ -23,18 +23,19 @@ pub struct BoundView {
     pub filter: Option<Cond>,
     pub keys: Seq<usize>,
     pub aggregates: Seq<Aggregate>,
-    pub items: Seq<usize>,
+    /// What is shown of a group's row, which has its keys and then what is told of it.
+    pub items: Seq<Expr>,
 }
 
 /// The view on a table, once its query has been walked through.
 pub fn bound_view(alloc: Global, table: &Scope<'_>, view: &ViewSelect) -> Result<BoundView, Fault>
-    ensures { Walked (query_places (scope_of table.now) view.now) (IsBoundView table.now.columns.now view.now) result }
+    ensures { Walked (query_places (scope_of table.now) view.now) (IsBoundView (scope_of table.now) view.now) result }
 {
-    let columns = table.columns;
+    let group = view.group.as_slice();
     let filter = bound_where(alloc, table, &view.condition)?;
-    let keys = group_keys(alloc, columns, view.group.as_slice())?;
-    let (aggregates, items) = bound_items(alloc, columns, view)?;
-    let columns = view_columns(alloc, columns, view.items.as_slice())?;
+    let keys = group_keys(alloc, table.columns, group)?;
+    let (aggregates, items) = bound_items(alloc, table, view)?;
+    let columns = view_columns(alloc, &table.in_groups(group), view.items.as_slice())?;
     Ok(BoundView {
         columns,
         filter,

@@ -14,17 +14,18 @@ use Rattle.cq_model.specs.declared.statement.ColumnDef.{ColumnDef}
 use Rattle.cq_model.specs.declared.statement.ViewSelect.{ViewSelect}
 use Rattle.cq_steps.specs.declared.fault.Fault.{Fault}
 use Rattle.cq_steps.specs.declared.fault.Fault.TheVariants.{NameTaken}
-use Rattle.cq_steps.specs.Bound.{aggregates_in, bound_condition, from_table, grouped_query, item_names, item_places_in, place_in, scope_as, values_in, view_columns}
-use Rattle.cq_steps.specs.Refusal.{create_view_places, fault_if, first_fault, item_places, name_place, query_places, repeats, too_long, view_select_places, where_place}
+use Rattle.cq_steps.specs.Bound.{aggregates_in, bound_condition, group_items, grouped_query, in_groups, item_names, place_in, values_in, view_columns, view_source}
+use Rattle.cq_steps.specs.Refusal.{create_view_places, fault_if, first_fault, item_place, name_place, query_places, repeats, too_long, view_select_places, where_place}
 use Rattle.cq_steps.specs.State.{TableOf, ViewOf, is_taken, rows_in, table_named, AreNumbered}
 use Rattle.cq_steps.specs.Step.{new_view}
 use Rattle.cq_views.specs.declared.view_def.ViewDef.{ViewDef}
 use Rattle.cq_views.specs.Laws.{StandingDependsOnBag}
+use Rattle.cq_views.specs.Small.{IsItemNarrow}
 use Rattle.cq_views.specs.View.{KeptView, IsNarrowFor, Stands, query_of}
 use Rattle.cq_engine.specs.Statements.{alone, CreatesView, IsBuilt}
 use Rattle.cq_engine.specs.Views.{Fits, IsRight, IsStored, NamedView, view_of, views_of}
 use Rattle.cq_steps.specs.Typing.{Scope}
-use Rattle.cq_engine.proofs.Fitting.{back_free, few_told, first_free, narrow_items, narrow_where, second_free, small_items, stored_keeps, totals}
+use Rattle.cq_engine.proofs.Fitting.{back_free, few_told, first_free, front_free, items_narrow, narrow_items, narrow_where, second_free, small_items, stored_keeps, totals}
 use Rattle.cq_engine.proofs.Rows.{rows_there}
 use Rattle.cq_engine.proofs.Stored.{all_of_rows}
 use Rattle.cq_binder.specs.declared.view.BoundView.{BoundView}
@@ -45,7 +46,7 @@ module _ (s : Scope) (v : ViewSelect) (free : first_fault (query_places s v) ≡
   keys_walk = map (name_place columns) v.group
 
   abbrev items_walk : List (Option Fault)
-  items_walk = too_long (length v.group) ∷ flat_map (item_places columns v.group) (values_in v)
+  items_walk = too_long (length v.group) ∷ map (item_place s v.group) (values_in v)
 
   abbrev names_walk : List (Option Fault)
   names_walk = fault_if (repeats [] (item_names 1 v.items)) NameTaken ∷ too_long (length v.items) ∷ []
@@ -53,6 +54,12 @@ module _ (s : Scope) (v : ViewSelect) (free : first_fault (query_places s v) ≡
   -- WHERE has no fault
   where_free : where_place s v.condition ≡ None
   where_free = first_free (where_place s v.condition) (keys_walk ++ items_walk ++ names_walk) free
+
+  -- nor has an item
+  items_free : first_fault (map (item_place s v.group) (values_in v)) ≡ None
+  items_free =
+      let where_walk : List (Option Fault) = where_place s v.condition ∷ [] in
+      back_free (too_long (length v.group) ∷ []) (map (item_place s v.group) (values_in v)) (back_free (where_walk ++ keys_walk) items_walk (front_free ((where_walk ++ keys_walk) ++ items_walk) names_walk free))
 
   -- there are not too many items
   few_items : length v.items ≤ 64
@@ -66,30 +73,34 @@ module _ (s : Scope) (v : ViewSelect) (free : first_fault (query_places s v) ≡
 abbrev pub def_of : ViewSelect → TableOf → ViewDef
 def_of v t = record {
   table = t.number;
-  filter = option_map (bound_condition t.columns) v.condition;
+  filter = option_map (bound_condition (view_source v t)) v.condition;
   keys = map (place_in t.columns) v.group;
-  aggregates = flat_map (aggregates_in t.columns) (values_in v);
-  items = item_places_in v.group (length v.group) (values_in v);
+  aggregates = flat_map (aggregates_in (view_source v t)) (values_in v);
+  items = group_items (in_groups v.group (view_source v t)) (length v.group) (values_in v);
 }
 
 -- it is what the binder makes of the view
-pub bound_def : (v : ViewSelect) (t : TableOf) (number : ℕ) (b : BoundView) → number ≡ t.number → IsBoundView t.columns v b
+pub bound_def : (v : ViewSelect) (t : TableOf) (number : ℕ) (b : BoundView) → number ≡ t.number → IsBoundView (view_source v t) v b
     → record { table = number; filter = b.filter; keys = b.keys; aggregates = b.aggregates; items = b.items } ≡ def_of v t
 bound_def v t number b is_number is = λ i. record { table = is_number i; filter = is.filter i; keys = is.keys i; aggregates = is.aggregates i; items = is.items i }
 
-module _ (v : ViewSelect) (t : TableOf) (free : first_fault (query_places (scope_as v.source (from_table t)) v) ≡ None) where
+module _ (v : ViewSelect) (t : TableOf) (free : first_fault (query_places (view_source v t) v) ≡ None) where
+  abbrev source : Scope
+  source = view_source v t
+
   -- it fits the rows that a table stores
   pub def_fits : Fits (def_of v t)
   def_fits = record {
     can_be_kept = record {
-      totals = totals t.columns (values_in v);
-      few = omega (arith, few_told t.columns (values_in v), length-map v.items (λ item. item.value), few_items (scope_as v.source (from_table t)) v free);
+      totals = totals source v.group (values_in v);
+      few = omega (arith, few_told source v.group (values_in v), length-map v.items (λ item. item.value), few_items source v free);
+      items = subst (λ n. AllByRecursion (IsItemNarrow n) (def_of v t).items) (sym (length-map v.group (place_in t.columns))) (items_narrow v t (length v.group) (values_in v) (items_free source v free));
     };
     narrow = λ row stored. record {
-      filter = narrow_where (scope_as v.source (from_table t)) v.condition row (where_free (scope_as v.source (from_table t)) v free) (stored_keeps t row stored);
-      aggregates = narrow_items t.columns (values_in v) row stored;
+      filter = narrow_where source v.condition row (where_free source v free) (stored_keeps t row stored);
+      aggregates = narrow_items source v.group row stored (stored_keeps t row stored) (values_in v) (items_free source v free);
     };
-    small = λ row stored kept. small_items t.columns (values_in v) row stored;
+    small = λ row stored kept. small_items source v.group row stored (stored_keeps t row stored) (values_in v) (items_free source v free);
   }
 
 -- ---- A view that is built
@@ -110,8 +121,8 @@ module _ (t : TableOf) (rows : List Row) (same : bag_of rows ≡ t.rows) where
       law v (once_each rows) (once_each t.rows) listed stands
 
 -- the view of this query, built now
-pub is_built : (now : ℕ) (name : List ℕ) (q : ViewSelect) (t : TableOf) (v : NamedView) → v.name ≡ name → v.columns ≡ view_columns t.columns q → v.kept.def ≡ def_of q t → v.kept.epoch ≡ now → v.kept.built ≡ now
-    → first_fault (query_places (scope_as q.source (from_table t)) q) ≡ None → Stands v.kept (once_each t.rows) → IsBuilt now name q t v
+pub is_built : (now : ℕ) (name : List ℕ) (q : ViewSelect) (t : TableOf) (v : NamedView) → v.name ≡ name → v.columns ≡ view_columns (view_source q t) q → v.kept.def ≡ def_of q t → v.kept.epoch ≡ now → v.kept.built ≡ now
+    → first_fault (query_places (view_source q t) q) ≡ None → Stands v.kept (once_each t.rows) → IsBuilt now name q t v
 is_built now name q t v named shown def epoch built free stands = record {
   view = λ i. record { name = named i; columns = shown i; query = query_of (def i); epoch = epoch i; built = built i };
   table = ap (λ (d : ViewDef). d.table) def;
@@ -139,8 +150,8 @@ module _ (name : List ℕ) (view : ViewSelect) (tables : List TableOf) (old : Li
   -- a view that is built for it stands behind the others
   pub view_created : (now : ℕ) (new : List NamedView) (v : NamedView) → first_fault (view_select_places view (Ok t)) ≡ None → IsBuilt now name view t v → new ≡ old ++ v ∷ [] → CreatesView now name view tables (views_of old) (views_of new) (Ok tt)
   view_created now new v passed built is =
-      let behind : views_of new ≡ views_of old ++ new_view name (view_columns t.columns view) (grouped_query view t) now ∷ [] =
+      let behind : views_of new ≡ views_of old ++ new_view name (view_columns (view_source view t) view) (grouped_query view t) now ∷ [] =
       ap views_of is ∙ map-append view_of old (v ∷ []) ∙ ap (λ (u : ViewOf). views_of old ++ u ∷ []) built.view in (
         create_view_goes_on ∙ passed,
-        subst (λ (o : Option TableOf). IfSome o (λ u. views_of new ≡ views_of old ++ new_view name (view_columns u.columns view) (grouped_query view u) now ∷ [])) (sym found) behind,
+        subst (λ (o : Option TableOf). IfSome o (λ u. views_of new ≡ views_of old ++ new_view name (view_columns (view_source view u) view) (grouped_query view u) now ∷ [])) (sym found) behind,
       )

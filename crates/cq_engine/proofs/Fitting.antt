@@ -1,47 +1,61 @@
 -- A view whose query is bound fits the rows that its table stores, and WHERE is narrow at each of them.
-use Rattle.std.proofs.Common.{◌≡◌, ℕ, zero, suc, ◌≤◌, ◌<◌, ◌^◌, nat_abs, List, [], ◌∷◌, ◌++◌, map, length, Option, Some, None, Result, Ok, Err, refl, sym, ap, ◌∙◌, arith}
-use Rattle.std.specs.Prelude.{IfSome, option_map, slice_index_or}
-use Rattle.std.specs.List.{AllByRecursion, flat_map}
+use Rattle.std.proofs.Common.{◌≡◌, ℕ, zero, suc, ◌+◌, ◌≤◌, ◌<◌, ◌^◌, nat_abs, Bool, true, false, List, [], ◌∷◌, ◌++◌, map, length, Option, Some, None, Result, Ok, Err, refl, sym, ap, ◌∙◌, arith}
+use Rattle.std.specs.Prelude.{IfSome, if◌then◌else◌, nat_lt, option_map, slice_index_or, unwrap_or}
+use Rattle.std.specs.List.{AllByRecursion, flat_map, list_any, position_or_len}
 use Rattle.std.specs.Option.{option_or}
+use Rattle.std.proofs.lemmas.Bool.{lt-ltb, ltb-true}
+use Rattle.std.proofs.lemmas.List.Quantifiers.{position-Some}
+use Rattle.std.proofs.Math.Numerals.{one-add}
+use Prim.Native.Nat.compare
+use Rattle.cq_values.specs.Texts.{is_text}
 use Rattle.cq_values.specs.declared.value.Value.{Value}
 use Rattle.cq_values.specs.declared.value.Value.TheVariants.{Null, Number, Day, Text}
 use Rattle.cq_values.specs.Value.{Row, column}
 use Rattle.cq_deltas.specs.Additions.{AreTotals, IsNarrow, IsSmall, counted_addend}
+use Rattle.cq_model.specs.declared.expr.DayPart.TheVariants as parts
+use Rattle.cq_model.specs.Expr.{Expr}
 use Rattle.cq_model.specs.Expr as exprs
 use Rattle.cq_model.specs.declared.statement.ColumnDef.{ColumnDef}
 use Rattle.cq_model.specs.declared.statement.ItemValue.{ItemValue}
 use Rattle.cq_model.specs.declared.statement.ItemValue.TheVariants as values
+use Rattle.cq_model.specs.declared.statement.ViewSelect.{ViewSelect}
 use Rattle.cq_model.specs.Eval.{eval}
 use Rattle.cq_model.specs.Sizes.{stored_size, stored_sizes}
-use Rattle.cq_model.specs.Width.{extent, sizes_of, value_size}
+use Rattle.cq_model.specs.Width.{extent, sizes_of, value_size, width}
 use Rattle.cq_model.specs.Written.{Written}
 use Rattle.cq_steps.specs.declared.fault.Fault.{Fault}
 use Rattle.cq_steps.specs.declared.typing.Typing.{Typing}
-use Rattle.cq_steps.specs.Bound.{aggregates_in, bound_condition, bound_value, from_table, place_in, scope_of}
-use Rattle.cq_steps.specs.Refusal.{first_fault, value_place, where_place}
+use Rattle.cq_steps.specs.Bound.{aggregates_in, bound_condition, bound_value, column_place, from_table, group_items, group_place, in_groups, place_in, scope_of, view_source}
+use Rattle.cq_steps.specs.Refusal.{first_fault, item_place, value_place, where_place}
 use Rattle.cq_steps.specs.State.{TableOf}
-use Rattle.cq_steps.specs.Typing.{Scope, condition_fault, typed, value_fault}
+use Rattle.cq_steps.specs.Typing.{◌and_then◌, Scope, added, fault_in, kept_value, negation_of, tested, typed}
 use Rattle.cq_binder.proofs.Faults.{first_fault_append, or_next}
 use Rattle.cq_exprs.proofs.Narrow.{typed_is_narrow}
-use Rattle.cq_exprs.specs.Expressions.{KeepSizes}
+use Rattle.cq_exprs.specs.Expressions.{IsNarrow as IsNarrowIn, KeepSizes}
+use Rattle.cq_views.specs.Small.{IsItemNarrow}
+use Rattle.cq_laws.proofs.Extents.{value-within}
 use Rattle.cq_engine.specs.Bound.{AreNarrowAt, IsNarrowAt}
 use Rattle.cq_engine.specs.Views.{IsStored}
 
--- ---- WHERE
--- a condition that the walk lets pass is narrow wherever the columns keep their sizes
-narrow_condition : (s : Scope) (w : Written) (row : Row) → condition_fault (typed s w) ≡ None → KeepSizes s (sizes_of row) → IsNarrowAt (Some (bound_condition s.columns w)) row
-narrow_condition s w row free kept = by_typing (typed s w) refl
-  where
-    by_typing : (r : Result Typing Fault) → typed s w ≡ r → IsNarrowAt (Some (bound_condition s.columns w)) row
-    by_typing (Ok t) e = (typed_is_narrow s w t (sizes_of row) e kept).condition
-    by_typing (Err f) e = absurd (let both : Some f ≡ None = sym (ap condition_fault e) ∙ free in cc)
+-- ---- Expressions that pass
+-- what is asked for as a whole stands where it passes
+passed : (ask : Typing → Result Typing Fault) (r : Result Typing Fault) → fault_in (r and_then ask) ≡ None → (t : Typing) × (r ≡ Ok t)
+passed ask (Ok t) free = (t, refl)
+passed ask (Err f) free = absurd (cc free)
 
-pub narrow_where : (s : Scope) (c : Option Written) (row : Row) → where_place s c ≡ None → KeepSizes s (sizes_of row) → IsNarrowAt (option_map (bound_condition s.columns) c) row
+-- and it is narrow wherever the columns keep their sizes
+narrow_whole : (ask : Typing → Result Typing Fault) (s : Scope) (w : Written) (sizes : ℕ → ℕ) → fault_in (typed s w and_then ask) ≡ None → KeepSizes s sizes → (t : Typing) × IsNarrowIn s w t sizes
+narrow_whole ask s w sizes free kept =
+    let p = passed ask (typed s w) free in
+    (p.0, typed_is_narrow s w p.0 sizes p.1 kept)
+
+-- ---- WHERE
+pub narrow_where : (s : Scope) (c : Option Written) (row : Row) → where_place s c ≡ None → KeepSizes s (sizes_of row) → IsNarrowAt (option_map (bound_condition s) c) row
 narrow_where s None row free kept = tt
-narrow_where s (Some w) row free kept = narrow_condition s w row free kept
+narrow_where s (Some w) row free kept = (narrow_whole negation_of s w (sizes_of row) free kept).1.condition
 
 -- so it is at each of several rows
-pub narrow_rows : (s : Scope) (c : Option Written) (rows : List Row) → where_place s c ≡ None → AllByRecursion (λ row. KeepSizes s (sizes_of row)) rows → AllByRecursion (IsNarrowAt (option_map (bound_condition s.columns) c)) rows
+pub narrow_rows : (s : Scope) (c : Option Written) (rows : List Row) → where_place s c ≡ None → AllByRecursion (λ row. KeepSizes s (sizes_of row)) rows → AllByRecursion (IsNarrowAt (option_map (bound_condition s) c)) rows
 narrow_rows s c [] free kept = tt
 narrow_rows s c (row ∷ rows) free kept = (narrow_where s c row free kept.0, narrow_rows s c rows free kept.1)
 
@@ -51,9 +65,14 @@ size_there [] i h = absurd (omega (arith, h))
 size_there (d ∷ columns) zero h = refl
 size_there (d ∷ columns) (suc i) h = size_there columns i (omega (arith, h))
 
+-- a column that is found is among them
+column_there : (columns : List ColumnDef) (name : List ℕ) (i : ℕ) → column_place columns name ≡ Some i → i < length columns
+column_there [] name i at = absurd (cc at)
+column_there (d ∷ columns) name i at = (position-Some (λ c. is_text c.name name) (d ∷ columns) i d at).0
+
 -- stored rows keep the sizes of their table's columns
 pub stored_keeps : (t : TableOf) (row : Row) → IsStored row → KeepSizes (scope_of (from_table t)) (sizes_of row)
-stored_keeps t row stored i h = omega (arith, stored i, size_there t.columns i h)
+stored_keeps t row stored c i at may = omega (arith, stored (place_in t.columns c.name), size_there t.columns i (column_there t.columns c.name i at))
 
 pub stored_keep : (t : TableOf) (rows : List Row) → AllByRecursion IsStored rows → AllByRecursion (λ row. KeepSizes (scope_of (from_table t)) (sizes_of row)) rows
 stored_keep t [] stored = tt
@@ -82,53 +101,119 @@ first_free None places e = refl
 first_free (Some f) places e = absurd (cc)
 
 -- ---- Items
--- a value that the walk lets pass is narrow wherever the columns keep their sizes
-narrow_value : (s : Scope) (w : Written) (row : Row) → value_place s w ≡ None → KeepSizes s (sizes_of row) → (extent (bound_value s.columns w) row).widest < 2 ^ 127
-narrow_value s w row free kept = by_typing (typed s w) refl
-  where
-    by_typing : (r : Result Typing Fault) → typed s w ≡ r → (extent (bound_value s.columns w) row).widest < 2 ^ 127
-    by_typing (Ok t) e = (typed_is_narrow s w t (sizes_of row) e kept).value
-    by_typing (Err f) e = absurd (let both : Some f ≡ None = sym (ap value_fault e) ∙ free in cc)
-
--- and so is each of several
-pub narrow_values : (s : Scope) (ws : List Written) (row : Row) → first_fault (map (value_place s) ws) ≡ None → KeepSizes s (sizes_of row) → AreNarrowAt (map (bound_value s.columns) ws) row
+-- the values of several items are narrow at a row that keeps the sizes
+pub narrow_values : (s : Scope) (ws : List Written) (row : Row) → first_fault (map (value_place s) ws) ≡ None → KeepSizes s (sizes_of row) → AreNarrowAt (map (bound_value s) ws) row
 narrow_values s [] row free kept = tt
 narrow_values s (w ∷ ws) row free kept =
     let places = map (value_place s) ws in
-    (narrow_value s w row (first_free (value_place s w) places free) kept, narrow_values s ws row (back_free (value_place s w ∷ []) places free) kept)
+    ((narrow_whole tested s w (sizes_of row) (first_free (value_place s w) places free) kept).1.value, narrow_values s ws row (back_free (value_place s w ∷ []) places free) kept)
 
--- ---- What the items of a view tell
-module _ (columns : List ColumnDef) where
-  pub totals : (items : List ItemValue) → AreTotals (flat_map (aggregates_in columns) items)
+-- ---- What the items of a view tell and show
+-- nothing is larger than a column can be where nothing on the way to it is too wide
+size_bound : (e : Expr) (sizes : ℕ → ℕ) → ((i : ℕ) → sizes i ≤ 2 ^ 63) → (width e sizes).widest < 2 ^ 127 → (width e sizes).size ≤ 2 ^ 127
+size_bound (exprs.Column i) sizes stored narrow = omega (arith, stored i)
+size_bound (exprs.Literal v) sizes stored narrow = omega (arith, narrow)
+size_bound (exprs.Negate e) sizes stored narrow = omega (arith, narrow)
+size_bound (exprs.Plus a b) sizes stored narrow = omega (arith, narrow)
+size_bound (exprs.Times a b) sizes stored narrow = omega (arith, narrow)
+size_bound (exprs.Extract parts.Year e) sizes stored narrow = omega arith
+size_bound (exprs.Extract parts.Month e) sizes stored narrow = omega arith
+size_bound (exprs.Extract parts.Day e) sizes stored narrow = omega arith
+
+-- what a number adds is as large as it is
+small_addend : (v : Value) → value_size v ≤ 2 ^ 127 → IfSome (counted_addend v) (λ n. nat_abs n ≤ 2 ^ 127)
+small_addend Null h = tt
+small_addend (Number n) h = h
+small_addend (Day d) h = omega arith
+small_addend (Text t) h = omega arith
+
+-- so an argument is small at a stored row where it is narrow
+small_argument : (e : Expr) (row : Row) → IsStored row → (extent e row).widest < 2 ^ 127 → IfSome (counted_addend (eval e row)) (λ n. nat_abs n ≤ 2 ^ 127)
+small_argument e row stored narrow = small_addend (eval e row) (omega (arith, value-within row (sizes_of row) (λ i. omega arith) e, size_bound e (sizes_of row) stored narrow))
+
+-- one element more in front
+found_here : {X : Type 0} (p : X → Bool) (x : X) (xs : List X) (b : Bool) → p x ≡ b → nat_lt (position_or_len p xs) (length xs) ≡ list_any p xs → nat_lt (position_or_len p (x ∷ xs)) (length (x ∷ xs)) ≡ list_any p (x ∷ xs)
+found_here p x xs true e more = rw e (lt-ltb 0 (length (x ∷ xs)) (omega arith))
+found_here p x xs false e more = rw (one-add, e, compare.suc-suc) more
+
+-- the first that passes stands within the list where one passes
+found_within : {X : Type 0} (p : X → Bool) (xs : List X) → nat_lt (position_or_len p xs) (length xs) ≡ list_any p xs
+found_within p [] = refl
+found_within p (x ∷ xs) = found_here p x xs (p x) refl (found_within p xs)
+
+-- a place within a list that was asked for
+place_within : (b : Bool) (i n : ℕ) → nat_lt i n ≡ b → b ≡ true → unwrap_or (if b then Some i else None) 0 < n
+place_within true i n within e = ltb-true i n within
+place_within false i n within e = absurd (cc e)
+
+-- where GROUP BY names a column, it has a place there
+grouped_at : (group : List (List ℕ)) (name : List ℕ) → list_any (λ g. is_text g name) group ≡ true → group_place group name < length group
+grouped_at group name among =
+    let p : List ℕ → Bool = λ g. is_text g name in
+    place_within (nat_lt (position_or_len p group) (length group)) (position_or_len p group) (length group) refl (found_within p group ∙ among)
+
+module _ (s : Scope) (group : List (List ℕ)) where
+  -- the walk through these items
+  abbrev walk : List ItemValue → List (Option Fault)
+  walk items = map (item_place s group) items
+
+  pub totals : (items : List ItemValue) → AreTotals (flat_map (aggregates_in s) items)
   totals [] = tt
-  totals (values.Column name ∷ items) = totals items
+  totals (values.Value w ∷ items) = totals items
   totals (values.CountAll ∷ items) = (tt, totals items)
-  totals (values.Sum name ∷ items) = (tt, totals items)
+  totals (values.Count w ∷ items) = (tt, totals items)
+  totals (values.Sum w ∷ items) = (tt, totals items)
 
-  pub narrow_items : (items : List ItemValue) (row : Row) → IsStored row → AllByRecursion (IsNarrow row) (flat_map (aggregates_in columns) items)
-  narrow_items [] row stored = tt
-  narrow_items (values.Column name ∷ items) row stored = narrow_items items row stored
-  narrow_items (values.CountAll ∷ items) row stored = (tt, narrow_items items row stored)
-  narrow_items (values.Sum name ∷ items) row stored = (omega arith, narrow_items items row stored)
-
-  -- a stored number is no larger than a number can be
-  small_addend : (i : ℕ) (row : Row) → IsStored row → IfSome (counted_addend (eval (exprs.Column i) row)) (λ n. nat_abs n ≤ 2 ^ 127)
-  small_addend i row stored = of_value (column row i) (stored i)
-    where
-      of_value : (v : Value) → value_size v ≤ 2 ^ 63 → IfSome (counted_addend v) (λ n. nat_abs n ≤ 2 ^ 127)
-      of_value Null h = tt
-      of_value (Number n) h = omega (arith, h)
-      of_value (Day d) h = omega arith
-      of_value (Text t) h = omega arith
-
-  pub small_items : (items : List ItemValue) (row : Row) → IsStored row → AllByRecursion (IsSmall row) (flat_map (aggregates_in columns) items)
-  small_items [] row stored = tt
-  small_items (values.Column name ∷ items) row stored = small_items items row stored
-  small_items (values.CountAll ∷ items) row stored = (omega arith, small_items items row stored)
-  small_items (values.Sum name ∷ items) row stored = (small_addend (place_in columns name) row stored, small_items items row stored)
-
-  pub few_told : (items : List ItemValue) → length (flat_map (aggregates_in columns) items) ≤ length items
+  pub few_told : (items : List ItemValue) → length (flat_map (aggregates_in s) items) ≤ length items
   few_told [] = omega arith
-  few_told (values.Column name ∷ items) = omega (arith, few_told items)
+  few_told (values.Value w ∷ items) = omega (arith, few_told items)
   few_told (values.CountAll ∷ items) = omega (arith, few_told items)
-  few_told (values.Sum name ∷ items) = omega (arith, few_told items)
+  few_told (values.Count w ∷ items) = omega (arith, few_told items)
+  few_told (values.Sum w ∷ items) = omega (arith, few_told items)
+
+  -- an item has no fault, and neither have those behind it
+  rest_free : (item : ItemValue) (items : List ItemValue) → first_fault (walk (item ∷ items)) ≡ None → (item_place s group item ≡ None) × (first_fault (walk items) ≡ None)
+  rest_free item items free = (first_free (item_place s group item) (walk items) free, back_free (item_place s group item ∷ []) (walk items) free)
+
+  module _ (row : Row) (stored : IsStored row) (kept : KeepSizes s (sizes_of row)) where
+    -- no argument is too wide at a stored row
+    pub narrow_items : (items : List ItemValue) → first_fault (walk items) ≡ None → AllByRecursion (IsNarrow row) (flat_map (aggregates_in s) items)
+    narrow_items [] free = tt
+    narrow_items (values.Value w ∷ items) free = narrow_items items (rest_free (values.Value w) items free).1
+    narrow_items (values.CountAll ∷ items) free = (tt, narrow_items items (rest_free values.CountAll items free).1)
+    narrow_items (values.Count w ∷ items) free =
+        let p = rest_free (values.Count w) items free in
+        ((narrow_whole tested s w (sizes_of row) p.0 kept).1.value, narrow_items items p.1)
+    narrow_items (values.Sum w ∷ items) free =
+        let p = rest_free (values.Sum w) items free in
+        ((narrow_whole added s w (sizes_of row) p.0 kept).1.value, narrow_items items p.1)
+
+    -- nor too large
+    pub small_items : (items : List ItemValue) → first_fault (walk items) ≡ None → AllByRecursion (IsSmall row) (flat_map (aggregates_in s) items)
+    small_items [] free = tt
+    small_items (values.Value w ∷ items) free = small_items items (rest_free (values.Value w) items free).1
+    small_items (values.CountAll ∷ items) free = (omega arith, small_items items (rest_free values.CountAll items free).1)
+    small_items (values.Count w ∷ items) free =
+        let p = rest_free (values.Count w) items free in
+        (small_argument (bound_value s w) row stored (narrow_whole tested s w (sizes_of row) p.0 kept).1.value, small_items items p.1)
+    small_items (values.Sum w ∷ items) free =
+        let p = rest_free (values.Sum w) items free in
+        (small_argument (bound_value s w) row stored (narrow_whole added s w (sizes_of row) p.0 kept).1.value, small_items items p.1)
+
+-- over groups whose keys are stored numbers, what is shown of them is narrow
+module _ (v : ViewSelect) (t : TableOf) where
+  abbrev groups : Scope
+  groups = in_groups v.group (view_source v t)
+
+  key_sizes : (sizes : ℕ → ℕ) → ((i : ℕ) → i < length v.group → sizes i ≤ stored_size) → KeepSizes groups sizes
+  key_sizes sizes kept c i at may =
+      omega (arith, kept (group_place v.group c.name) (grouped_at v.group c.name may), size_there t.columns i (column_there t.columns c.name i at))
+
+  pub items_narrow : (next : ℕ) (items : List ItemValue) → first_fault (map (item_place (view_source v t) v.group) items) ≡ None → AllByRecursion (IsItemNarrow (length v.group)) (group_items groups next items)
+  items_narrow next [] free = tt
+  items_narrow next (values.Value w ∷ items) free =
+      let p = rest_free (view_source v t) v.group (values.Value w) items free in
+      ((λ sizes kept. (narrow_whole kept_value groups w sizes p.0 (key_sizes sizes kept)).1.value), items_narrow next items p.1)
+  items_narrow next (values.CountAll ∷ items) free = ((λ sizes kept. omega arith), items_narrow (next + 1) items (rest_free (view_source v t) v.group values.CountAll items free).1)
+  items_narrow next (values.Count w ∷ items) free = ((λ sizes kept. omega arith), items_narrow (next + 1) items (rest_free (view_source v t) v.group (values.Count w) items free).1)
+  items_narrow next (values.Sum w ∷ items) free = ((λ sizes kept. omega arith), items_narrow (next + 1) items (rest_free (view_source v t) v.group (values.Sum w) items free).1)

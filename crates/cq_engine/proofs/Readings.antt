@@ -27,7 +27,7 @@ use Rattle.cq_model.specs.Sizes.{stored_sizes}
 use Rattle.cq_model.specs.Views.{tables_alone, view_bag, with_views, is_view, sources_of, ViewInRange, AnswerInRange}
 use Rattle.cq_steps.specs.declared.fault.Fault.{Fault}
 use Rattle.cq_steps.specs.declared.fault.Fault.TheVariants.{Memory, SumOutOfRange, UnknownTable}
-use Rattle.cq_steps.specs.Bound.{Named, bound_query, bound_select, from_table, from_view, scope_as, shown_by, source_named}
+use Rattle.cq_steps.specs.Bound.{Named, bound_query, bound_select, place_in, from_table, from_view, scope_as, shown_by, source_named}
 use Rattle.cq_steps.specs.Refusal.{first_fault, refusal, select_places, source_places, too_long, value_place, where_place, MayRefuse}
 use Rattle.cq_steps.specs.Typing.{Scope}
 use Rattle.cq_steps.specs.State.{TableOf, ViewOf, State, table_named, view_named, view_place, rows_in, tables_now, queries_of}
@@ -67,10 +67,10 @@ result_stored q columns stored rows list is l =
     (subst (λ (rs : List Row). SameBag (once_each stored) (once_each rs)) is (same-sym (once_each (bag_of stored)) (once_each stored) (same-bag_of stored))) l
 
 -- the walk over a source is that over what is named
-pub in_source : (q : Select) (b : Selection) (s u : Scope) → s ≡ u → (first_fault (source_places q s) ≡ None) × IsBound s.columns q b → (first_fault (source_places q u) ≡ None) × IsBound u.columns q b
-in_source q b s u same bound = subst (λ (x : Scope). (first_fault (source_places q x) ≡ None) × IsBound x.columns q b) same bound
+pub in_source : (q : Select) (b : Selection) (s u : Scope) → s ≡ u → (first_fault (source_places q s) ≡ None) × IsBound s q b → (first_fault (source_places q u) ≡ None) × IsBound u q b
+in_source q b s u same bound = subst (λ (x : Scope). (first_fault (source_places q x) ≡ None) × IsBound x q b) same bound
 
-module _ (q : Select) (b : Selection) (s : Scope) (bound : (first_fault (source_places q s) ≡ None) × IsBound s.columns q b) where
+module _ (q : Select) (b : Selection) (s : Scope) (bound : (first_fault (source_places q s) ≡ None) × IsBound s q b) where
   abbrev item_walk : List (Option Fault)
   item_walk = map (value_place s) (shown_by q.items)
 
@@ -102,10 +102,15 @@ counts_or_adds (Sum e ∷ aggregates) h = (tt, counts_or_adds aggregates h.1)
 counts_or_adds (Min e ∷ aggregates) h = absurd h.0
 counts_or_adds (Max e ∷ aggregates) h = absurd h.0
 
--- rows that are sized keep the sizes of a source
-sized_keep : (s : Scope) (rows : List Row) → AllByRecursion (IsSized (λ i. slice_index_or s.sizes i 0)) rows → AllByRecursion (λ row. KeepSizes s (sizes_of row)) rows
-sized_keep s [] sized = tt
-sized_keep s (row ∷ rows) sized = ((λ i h. sized.0 i), sized_keep s rows sized.1)
+-- rows that are sized keep the sizes of a view
+sized_keeps : (f : FromSource) (v : NamedView) (row : Row) → IsSized (λ i. slice_index_or (view_scope f v).sizes i 0) row → KeepSizes (view_scope f v) (sizes_of row)
+sized_keeps f v row sized c i at may =
+    let place : place_in v.columns c.name ≡ i = ap (λ (o : Option ℕ). unwrap_or o 0) at in
+    subst (λ p. sizes_of row (place_in v.columns c.name) ≤ slice_index_or (view_scope f v).sizes p 0) place (sized (place_in v.columns c.name))
+
+sized_keep : (f : FromSource) (v : NamedView) (rows : List Row) → AllByRecursion (IsSized (λ i. slice_index_or (view_scope f v).sizes i 0)) rows → AllByRecursion (λ row. KeepSizes (view_scope f v) (sizes_of row)) rows
+sized_keep f v [] sized = tt
+sized_keep f v (row ∷ rows) sized = (sized_keeps f v row sized.0, sized_keep f v rows sized.1)
 
 -- the rows that a view tells keep the sizes of its columns
 pub told_keep : (f : FromSource) (v : NamedView) (rows : List Row) → IsBacked v → RowsKeepSizes
@@ -114,8 +119,8 @@ pub told_keep : (f : FromSource) (v : NamedView) (rows : List Row) → IsBacked 
 told_keep f v rows backed law bag range =
     let tables : Tables = λ source. once_each backed.rows in
     let stands : StandsFor v.kept tables = record { bag = once_each-bag backed.rows; stands = backed.stands } in
-    sized_keep (view_scope f v) rows
-    (law (query_of v.kept.def) v.kept.def.keys v.kept.def.aggregates v.kept.def.items tables backed.rows rows refl refl refl refl refl
+    sized_keep f v rows
+    (law (query_of v.kept.def) v.kept.def.keys v.kept.def.aggregates tables backed.rows rows refl refl refl refl
     (counts_or_adds v.kept.def.aggregates backed.totals) backed.stored backed.few (range tables stands) (bag tables stands))
 
 -- what all have, the one at a place has

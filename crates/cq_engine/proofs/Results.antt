@@ -14,11 +14,12 @@ use Rattle.cq_model.specs.declared.query.Source.{Source}
 use Rattle.cq_model.specs.declared.statement.ColumnDef.{ColumnDef}
 use Rattle.cq_model.specs.declared.statement.Select.{Select}
 use Rattle.cq_model.specs.Meaning.{Tables, keeps, items_of, meaning}
-use Rattle.cq_steps.specs.Bound.{bound_condition, bound_query, bound_value, shown_by}
+use Rattle.cq_steps.specs.Bound.{bound_condition, bound_query, bound_value, scope_of, shown_by}
+use Rattle.cq_steps.specs.Typing.{Scope}
 use Rattle.cq_steps.specs.State.{TableOf, empty_table, holding}
 use Rattle.cq_engine.specs.declared.selection.Selection.{Selection}
 use Rattle.cq_engine.specs.Bound.{IsBound}
-use Rattle.cq_engine.specs.Statements.{IsResult}
+use Rattle.cq_engine.specs.Statements.{IsResult, from_columns}
 
 -- no rows are the empty bag
 pub bag_of_none : bag_of [] ≡ []
@@ -89,14 +90,17 @@ module _ (keep : Row → Bool) (stored left : List Row) (is_left : left ≡ filt
 
 -- what WHERE keeps, and the items of a row
 module _ (columns : List ColumnDef) (q : Select) where
+  abbrev source_of : Scope
+  source_of = scope_of (from_columns columns)
+
   abbrev keep : Row → Bool
-  keep = keeps (option_map (bound_condition columns) q.condition)
+  keep = keeps (option_map (bound_condition source_of) q.condition)
 
   abbrev select : Row → Row
-  select = items_of (map (bound_value columns) (shown_by q.items))
+  select = items_of (map (bound_value source_of) (shown_by q.items))
 
   -- the sorted results of a bound query are its listing
-  pub listing_bound : (s : Selection) (rows list : List Row) → IsBound columns q s → Lists [] (once_each (map (items_of s.items.items) (filter (keeps s.condition) rows))) list → IsResult q columns rows list
+  pub listing_bound : (s : Selection) (rows list : List Row) → IsBound source_of q s → Lists [] (once_each (map (items_of s.items.items) (filter (keeps s.condition) rows))) list → IsResult q columns rows list
   listing_bound s rows list b listed = (list, subst (λ (xs : Weighted). Lists [] xs list) means listed, refl)
     where
       by_items : map (items_of s.items.items) (filter (keeps s.condition) rows) ≡ map select (filter keep rows)

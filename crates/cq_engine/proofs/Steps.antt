@@ -23,7 +23,7 @@ use Rattle.cq_steps.specs.declared.answer.Answer.{Answer}
 use Rattle.cq_steps.specs.declared.answer.Answer.TheVariants.{Done, Count, Rows}
 use Rattle.cq_steps.specs.declared.fault.Fault.{Fault}
 use Rattle.cq_steps.specs.declared.fault.Fault.TheVariants.{ClauseInView, NameTaken, UnknownTable, ViewNotWritten}
-use Rattle.cq_steps.specs.Bound.{Named, bound, row_of, bound_query, bound_select, grouped_query, header, place_in, source_named, view_columns}
+use Rattle.cq_steps.specs.Bound.{Named, bound, row_of, bound_query, bound_select, grouped_query, header, place_in, source_named, view_columns, view_source}
 use Rattle.cq_steps.specs.Refusal.{first_fault, fault_if, refusal, view_select_places, create_places, create_view_places, drop_table_places, drop_view_places, insert_places, delete_places, select_places, written_table}
 use Rattle.cq_steps.specs.State.{TableOf, ViewOf, State, is_taken, table_named, view_named, view_place, rows_in, empty_table, with_rows, tables_now, AreNumbered}
 use Rattle.cq_steps.specs.Step.{at_epoch, new_view, reach, taken_on, written, Leads, DoesAtOnce, Writes}
@@ -124,13 +124,13 @@ module _ (tables : List TableOf) (views : List ViewOf) (now drawn max_rows : ℕ
 
   -- CREATE VIEW on a table that is there
   pub create_view_does : (name : List ℕ) (view : ViewSelect) (new : List ViewOf) → first_fault (create_view_places name view (alone tables views)) ≡ None
-      → IfSome (table_named view.source.name tables) (λ t. new ≡ views ++ new_view name (view_columns t.columns view) (grouped_query view t) now ∷ []) → DoesAtOnce old (statements.CreateView name view) Done (present tables new now drawn max_rows)
+      → IfSome (table_named view.source.name tables) (λ t. new ≡ views ++ new_view name (view_columns (view_source view t) view) (grouped_query view t) now ∷ []) → DoesAtOnce old (statements.CreateView name view) Done (present tables new now drawn max_rows)
   create_view_does name view new free is = create_view_for (table_named view.source.name tables) refl
     where
       create_view_for : (o : Option TableOf) → table_named view.source.name tables ≡ o → DoesAtOnce old (statements.CreateView name view) Done (present tables new now drawn max_rows)
       create_view_for (Some t) found =
-          rw (rw found at is) (unwritten (statements.CreateView name view) (commands.CreateView name (view_columns t.columns view) (grouped_query view t)) Done tables (views ++ new_view name (view_columns t.columns view) (grouped_query view t) now ∷ []) drawn
-          (at_behind now views (new_view name (view_columns t.columns view) (grouped_query view t) now) here refl) free (ap (option_map (λ u. commands.CreateView name (view_columns u.columns view) (grouped_query view u))) found) (refl, refl))
+          rw (rw found at is) (unwritten (statements.CreateView name view) (commands.CreateView name (view_columns (view_source view t) view) (grouped_query view t)) Done tables (views ++ new_view name (view_columns (view_source view t) view) (grouped_query view t) now ∷ []) drawn
+          (at_behind now views (new_view name (view_columns (view_source view t) view) (grouped_query view t) now) here refl) free (ap (option_map (λ u. commands.CreateView name (view_columns (view_source view u) view) (grouped_query view u))) found) (refl, refl))
       create_view_for None found =
           let fault = if is_some (view_named view.source.name views) then ClauseInView else UnknownTable in
           absurd (second_refuses (fault_if (is_taken name old) NameTaken) fault (sym (ap (λ (o : Option TableOf). first_fault (fault_if (is_taken name old) NameTaken ∷ view_select_places view (ok_or o fault))) found) ∙ free))

@@ -3,10 +3,10 @@ use Rattle.std.specs.Prelude.{◌≡◌, ◌<◌, ◌^◌, List, map, Option, op
 use Rattle.std.specs.List.{AllByRecursion}
 use Rattle.cq_values.specs.Value.{Row}
 use Rattle.cq_model.specs.Expr.{Cond, Expr}
-use Rattle.cq_model.specs.declared.statement.ColumnDef.{ColumnDef}
 use Rattle.cq_model.specs.declared.statement.Select.{Select}
 use Rattle.cq_model.specs.Width.{extent, widest_at}
 use Rattle.cq_steps.specs.Bound.{bound_condition, bound_value, shown_by}
+use Rattle.cq_steps.specs.Typing.{Scope}
 use Rattle.cq_engine.specs.declared.selection.Selection.{Selection}
 
 -- no number on the way to the truth of WHERE is too wide at the row
@@ -23,6 +23,6 @@ pub record IsWithin (s : Selection) (row : Row) : Type 0 where
   pub items : AreNarrowAt s.items.items row
 
 -- a query's condition and items by their places among the columns
-pub record IsBound (columns : List ColumnDef) (q : Select) (s : Selection) : Type 0 where
-  pub condition : s.condition ≡ option_map (bound_condition columns) q.condition
-  pub items : s.items.items ≡ map (bound_value columns) (shown_by q.items)
+pub record IsBound (source : Scope) (q : Select) (s : Selection) : Type 0 where
+  pub condition : s.condition ≡ option_map (bound_condition source) q.condition
+  pub items : s.items.items ≡ map (bound_value source) (shown_by q.items)

@@ -20,7 +20,7 @@ use Rattle.cq_model.specs.Write.{chosen, left_by}
 use Rattle.cq_model.specs.Written.{Written}
 use Rattle.cq_steps.specs.declared.fault.Fault.{Fault}
 use Rattle.cq_steps.specs.declared.fault.Fault.TheVariants.{Memory, SumOutOfRange}
-use Rattle.cq_steps.specs.Bound.{Named, row_of, bound_condition, bound_query, from_view, grouped_query, place_in, scope_as, source_named, view_columns}
+use Rattle.cq_steps.specs.Bound.{Named, row_of, bound_condition, bound_query, from_table, from_view, grouped_query, place_in, scope_as, scope_of, source_named, view_columns, view_source}
 use Rattle.cq_steps.specs.Refusal.{create_places, create_view_places, delete_places, drop_table_places, drop_view_places, first_fault, insert_places, select_places, source_places, written_table, MayRefuse}
 use Rattle.cq_steps.specs.State.{TableOf, ViewOf, State, table_named, view_place, empty_table, holding, tables_now, queries_of}
 use Rattle.cq_steps.specs.Step.{new_view}
@@ -47,7 +47,7 @@ alone tables views = present tables views 0 0 0
 
 -- WHERE on a table
 abbrev pub where_on : TableOf → Option Written → Option Cond
-where_on t condition = option_map (bound_condition t.columns) condition
+where_on t condition = option_map (bound_condition (scope_of (from_table t))) condition
 
 -- the rows of a table with these behind them
 abbrev pub and_rows : List (List Constant) → TableOf → List Row
@@ -84,7 +84,7 @@ DropsTable name views old new result = Walked (drop_table_places views (table_na
 abbrev pub CreatesView : ℕ → List ℕ → ViewSelect → List TableOf → List ViewOf → List ViewOf → Result (Unit {0}) Fault → Type 0
 CreatesView now name view tables old new result =
     Walked (create_view_places name view (alone tables old))
-    (λ x. IfSome (table_named view.source.name tables) (λ t. new ≡ old ++ new_view name (view_columns t.columns view) (grouped_query view t) now ∷ [])) result
+    (λ x. IfSome (table_named view.source.name tables) (λ t. new ≡ old ++ new_view name (view_columns (view_source view t) view) (grouped_query view t) now ∷ [])) result
 
 -- DROP VIEW takes the view of a name away
 abbrev pub DropsView : List ℕ → List ViewOf → List ViewOf → Result (Unit {0}) Fault → Type 0
@@ -152,7 +152,7 @@ SelectsKept q v (Err f) = MayRefuse (first_fault (source_places q (view_scope q.
 
 -- a view that was built for its query on this table
 pub record IsBuilt (now : ℕ) (name : List ℕ) (q : ViewSelect) (t : TableOf) (v : NamedView) : Type 0 where
-  pub view : view_of v ≡ new_view name (view_columns t.columns q) (grouped_query q t) now
+  pub view : view_of v ≡ new_view name (view_columns (view_source q t) q) (grouped_query q t) now
   pub table : v.kept.def.table ≡ t.number
   pub fits : Fits v.kept.def
   pub stands : Stands v.kept (once_each t.rows)

@@ -35,6 +35,7 @@ pub fn table_scope<'a>(table: &'a Table, sizes: &'a [u128]) -> Scope<'a>
         known: table.name(),
         columns: table.columns(),
         sizes,
+        grouped: None,
     }
 }
 
@@ -47,6 +48,7 @@ pub fn table_scope_as<'a>(from: &'a FromSource, table: &'a Table, sizes: &'a [u1
         known: known_as(from, table.name()),
         columns: table.columns(),
         sizes,
+        grouped: None,
     }
 }
 
@@ -59,6 +61,7 @@ pub fn view_scope_as<'a>(from: &'a FromSource, view: &'a View, sizes: &'a [u128]
         known: known_as(from, view.name()),
         columns: view.columns(),
         sizes,
+        grouped: None,
     }
 }
 

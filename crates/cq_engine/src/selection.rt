@@ -1,7 +1,6 @@
 //! Queries with the places of their columns, answered from the rows of a table or a view.
 ghost use Rattle.std.specs.List.{AllByRecursion};
 ghost use Rattle.std.specs.Prelude.{◌≡◌, IfOk, [], filter, map};
-ghost use Rattle.cq_values.specs.Lent.{owned};
 ghost use Rattle.cq_bags.specs.Bag.{once_each};
 ghost use Rattle.cq_bags.specs.Listing.{Lists};
 ghost use Rattle.cq_steps.specs.Refusal.{source_places};
@@ -16,7 +15,7 @@ use cq_binder::{bound_values, bound_where, check_length};
 use cq_exprs::Scope;
 use cq_model::{Cond, Expr, Select, eval_row};
 use cq_steps::Fault;
-use cq_values::{Lent, Row, Seq, Text, Value};
+use cq_values::{Row, Seq, Value};
 use std::alloc::{AllocError, Global};
 
 /// What WHERE keeps, and the values of the items.
@@ -29,7 +28,7 @@ pub struct Selection {
 impl Selection {
     /// The query on a source, once it has been walked through.
     pub fn new(alloc: Global, scope: &Scope<'_>, select: &Select) -> Result<Selection, Fault>
-        ensures { Walked (source_places select.now (scope_of scope.now)) (IsBound scope.now.columns.now select.now) result }
+        ensures { Walked (source_places select.now (scope_of scope.now)) (IsBound (scope_of scope.now) select.now) result }
     {
         let condition = bound_where(alloc, scope, &select.condition)?;
         let items = bound_values(alloc, scope, select.items.as_slice())?;
@@ -69,20 +68,8 @@ impl Selection {
     {
         let mut values = Row::new(alloc);
         for item in &self.items {
-            values.push(copied(alloc, eval_row(item, row))?)?;
+            values.push(eval_row(item, row).to_value(alloc)?)?;
         }
         Ok(values)
-    }
-}
-
-/// A value of its own.
-fn copied(alloc: Global, value: Lent<'_>) -> Result<Value, AllocError>
-    ensures { IfOk result (λ v. v ≡ owned value.entry) }
-{
-    match value {
-        Lent::Number(n) => Ok(Value::Number(n)),
-        Lent::Day(day) => Ok(Value::Day(day)),
-        Lent::Text(text) => Ok(Value::Text(Text::new(alloc, text)?)),
-        Lent::Null => Ok(Value::Null),
     }
 }

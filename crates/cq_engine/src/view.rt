@@ -6,6 +6,7 @@ ghost use Rattle.cq_deltas.specs.declared.fault.ToldFault.TheVariants.{SumOutOfR
 ghost use Rattle.cq_model.specs.Meaning.{MeaningInRange, Tables, meaning};
 ghost use Rattle.cq_model.specs.Sizes.{column_sizes};
 ghost use Rattle.cq_values.specs.Texts.{is_text};
+ghost use Rattle.cq_views.specs.Small.{StandsOnStored};
 ghost use Rattle.cq_views.specs.View.{IsNarrowFor, StandsFor, changed, query_of};
 ghost use Rattle.cq_engine.specs.Views.{CanTake, HasTaken, IsReady, IsSame};
 
@@ -89,6 +90,7 @@ impl View {
 
     /// The rows of the view. It costs what the view holds.
     pub fn rows(&self, alloc: Global) -> Result<Vec<Row>, ToldFault>
+        requires { StandsOnStored self.now.kept }
         ensures bag { IfOk result (λ rows. (tables : Tables) → StandsFor self.now.kept tables → SameBag (once_each rows.items) (meaning (query_of self.now.kept.def) tables)) }
         ensures range { OnOk result ((tables : Tables) → StandsFor self.now.kept tables → MeaningInRange (query_of self.now.kept.def) tables) }
         ensures fault { IfErr result (λ e. e ≡ SumOutOfRange → (tables : Tables) → StandsFor self.now.kept tables → MeaningInRange (query_of self.now.kept.def) tables → ⊥) }

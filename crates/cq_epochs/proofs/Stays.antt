@@ -9,7 +9,7 @@ use Rattle.cq_model.specs.declared.statement.Statement.{Statement}
 use Rattle.cq_model.specs.declared.statement.Statement.TheVariants as statements
 use Rattle.cq_steps.specs.declared.answer.Answer.{Answer}
 use Rattle.cq_steps.specs.declared.fault.Fault.{Fault}
-use Rattle.cq_steps.specs.Bound.{place_in, row_of, bound_condition, Named, source_named, bound_select, bound, grouped_query, view_columns}
+use Rattle.cq_steps.specs.Bound.{place_in, row_of, bound_condition, Named, source_named, bound_select, bound, from_table, grouped_query, scope_of, view_columns, view_source}
 use Rattle.cq_steps.specs.State.{TableOf, State, table_named, view_place, first_state}
 use Rattle.cq_steps.specs.Step.{reach, at_epoch, Does, at_present, Trims, GivesUp, Refuses, by_walk, for_memory, source_failed, memory_on_the_way, too_large, Step}
 use Rattle.cq_epochs.specs.Sound.{IsThere, Fits, IsSound}
@@ -38,7 +38,7 @@ pub bound-fits : (s : State) (statement : Statement) (command : Bound) → bound
 bound-fits s (statements.CreateTable name columns sort) command e =
     let is : commands.CreateTable name columns (map (place_in columns) sort) ≡ command = cc in subst (Fits s) is tt
 bound-fits s (statements.DropTable name) command e = of_table s name command (λ t. commands.DropTable t.number) (λ t there. there) e
-bound-fits s (statements.CreateView name view) command e = of_table s view.source.name command (λ t. commands.CreateView name (view_columns t.columns view) (grouped_query view t)) (λ t there. tt) e
+bound-fits s (statements.CreateView name view) command e = of_table s view.source.name command (λ t. commands.CreateView name (view_columns (view_source view t) view) (grouped_query view t)) (λ t there. tt) e
 bound-fits s (statements.DropView name) command e = placed (view_place name s.views) e
   where
     placed : (o : Option ℕ) → option_map commands.DropView o ≡ Some command → Fits s command
@@ -46,7 +46,7 @@ bound-fits s (statements.DropView name) command e = placed (view_place name s.vi
     placed (Some place) e = let is : commands.DropView place ≡ command = cc in subst (Fits s) is tt
 bound-fits s (statements.Insert name rows) command e = of_table s name command (λ t. commands.Insert t.number (map row_of rows)) (λ t there. there) e
 bound-fits s (statements.Delete name condition) command e =
-    of_table s name command (λ t. commands.Delete t.number (option_map (bound_condition t.columns) condition)) (λ t there. there) e
+    of_table s name command (λ t. commands.Delete t.number (option_map (bound_condition (scope_of (from_table t))) condition)) (λ t there. there) e
 bound-fits s (statements.Select q) command e = found (source_named q.source.name s) e
   where
     found : (o : Option Named) → option_map (bound_select q) o ≡ Some command → Fits s command

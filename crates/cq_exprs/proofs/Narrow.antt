@@ -1,12 +1,10 @@
 -- What passes the walk has nothing too wide in it.
-use Rattle.std.proofs.Common.{arith, ◌≡◌, ℕ, ◌+◌, ◌*◌, ◌<◌, ◌≤◌, ◌^◌, max, Bool, true, false, ℤ, List, [], ◌∷◌, length, map, Option, Some, None, Result, Ok, Err, refl, ap}
-use Rattle.std.specs.Prelude.{nat_lt, ◌&&◌, if◌then◌else◌, position, slice_index_or, unwrap_or}
+use Rattle.std.proofs.Common.{arith, ◌≡◌, ℕ, ◌+◌, ◌*◌, ◌<◌, ◌≤◌, ◌^◌, max, Bool, true, false, ℤ, List, map, Option, Some, None, Result, Ok, Err, refl, ap}
+use Rattle.std.specs.Prelude.{nat_lt, ◌&&◌, if◌then◌else◌, slice_index_or}
 use Rattle.std.specs.List.{fold}
 use Rattle.std.proofs.lemmas.Bool.{ltb-true}
-use Rattle.std.proofs.lemmas.List.Quantifiers.{position-Some}
 use Rattle.std.proofs.lemmas.Nat.{mul-le}
 use Rattle.cq_values.specs.Dates.{day_named}
-use Rattle.cq_values.specs.Texts.{is_text}
 use Rattle.cq_values.specs.declared.ty.Ty.TheVariants as types
 use Rattle.cq_values.specs.declared.value.Value.TheVariants as values
 use Rattle.cq_model.specs.declared.expr.DayPart.{DayPart}
@@ -16,10 +14,11 @@ use Rattle.cq_model.specs.Placed.{named_day, placed_expr, placed_exprs, turned, 
 use Rattle.cq_model.specs.Width.{part_limit, value_size, widest, widest_in, width}
 use Rattle.cq_model.specs.Written.{Written, Choices, Number, Text, Date, Null, Column, Extract, Parens, Negative, Times, Plus, Minus, Compare, IsNull, Between, In, Like, Not, And, Or, NoChoice, Choice}
 use Rattle.cq_steps.specs.declared.fault.Fault.{Fault}
-use Rattle.cq_steps.specs.declared.fault.Fault.TheVariants.{TooWide, TypeMismatch, UnknownTable}
+use Rattle.cq_steps.specs.declared.fault.Fault.TheVariants.{AggregateMisplaced, TooWide, TypeMismatch, UnknownTable}
 use Rattle.cq_steps.specs.declared.typing.Typing.{Typing}
-use Rattle.cq_steps.specs.Typing.{◌and_then◌, Scope, agree, arithmetic, between_them, column_at, column_typing, compared_with, connected, is_of, knows, like_of, listed, negation_of, negative, number_of, part_of, product_of, sum_of, tested, text_of, type_at, typed, unless, value_of}
-use Rattle.cq_exprs.specs.Expressions.{IsNarrow, KeepSizes, TypedIsNarrow, place_of}
+use Rattle.cq_steps.specs.Typing.{◌and_then◌, Scope, agree, arithmetic, between_them, column_at, column_typing, compared_with, connected, is_of, knows, like_of, listed, may_read, negation_of, negative, number_of, part_of, product_of, sum_of, tested, text_of, type_at, typed, unless, value_of}
+use Rattle.cq_steps.specs.Bound.{place_of}
+use Rattle.cq_exprs.specs.Expressions.{IsNarrow, KeepSizes, TypedIsNarrow}
 
 -- what stands behind a first step, stands behind what that step gives
 stood : {A B : Type 0} (r : Result A Fault) (g : A → Result B Fault) (y : B) → (r and_then g) ≡ Ok y → (x : A) × (r ≡ Ok x) × (g x ≡ Ok y)
@@ -71,22 +70,17 @@ widest-turned : (negated : Bool) (c : Cond) (sizes : ℕ → ℕ) → widest_in 
 widest-turned true c sizes = refl
 widest-turned false c sizes = refl
 
--- a place that is found is there
-place_found : {X : Type 0} (p : X → Bool) (xs : List X) (i : ℕ) → position p xs ≡ Some i → i < length xs
-place_found p [] i e = absurd (cc e)
-place_found p (x ∷ xs) i e = (position-Some p (x ∷ xs) i x e).0
-
 module _ (s : Scope) (sizes : ℕ → ℕ) (kept : KeepSizes s sizes) where
-  -- a column that is found has the size that its source promises
-  found_size : (o : Option ℕ) (t : Typing) → column_typing s o ≡ Ok t → ((i : ℕ) → o ≡ Some i → i < length s.columns) → sizes (unwrap_or o 0) ≤ t.size
-  found_size None t e there = absurd (cc e)
-  found_size (Some i) t e there =
-      let is : value_of (type_at s.columns i) (slice_index_or s.sizes i 0) ≡ t = cc e in
-      omega (arith, kept i (there i refl), ap {B = ℕ} (λ (x : Typing). x.size) is)
+  -- a column that is found and may be read has the size that its source promises
+  found_size : (c : ColumnName) (o : Option ℕ) (t : Typing) → column_at s c.name ≡ o → column_typing s c.name o ≡ Ok t → sizes (place_of s c) ≤ t.size
+  found_size c None t at e = absurd (cc e)
+  found_size c (Some i) t at e =
+      let p = unless_ok (may_read s.grouped c.name) AggregateMisplaced (value_of (type_at s.columns i) (slice_index_or s.sizes i 0)) t e in
+      omega (arith, kept c i at p.0, ap {B = ℕ} (λ (x : Typing). x.size) p.1)
 
-  column_size : (c : ColumnName) (t : Typing) → typed s (Column c) ≡ Ok t → sizes (place_of s.columns c) ≤ t.size
+  column_size : (c : ColumnName) (t : Typing) → typed s (Column c) ≡ Ok t → sizes (place_of s c) ≤ t.size
   column_size c t e =
-      found_size (column_at s c.name) t (if_ok (knows s c.source) (column_typing s (column_at s c.name)) UnknownTable t e) (place_found (λ d. is_text d.name c.name) s.columns)
+      found_size c (column_at s c.name) t refl (if_ok (knows s c.source) (column_typing s c.name (column_at s c.name)) UnknownTable t e)
 
   mutual
     narrow : (w : Written) (t : Typing) → typed s w ≡ Ok t → IsNarrow s w t sizes
@@ -118,7 +112,7 @@ module _ (s : Scope) (sizes : ℕ → ℕ) (kept : KeepSizes s sizes) where
         let x = narrow a p.0 p.1 in
         let y = narrow b q.0 q.1 in
         let n = is_arithmetic p.0 q.0 (p.0.size * q.0.size) t q.2 in
-        let product = mul-le (width (placed_expr (place_of s.columns) a) sizes).size (width (placed_expr (place_of s.columns) b) sizes).size p.0.size q.0.size x.size y.size in
+        let product = mul-le (width (placed_expr (place_of s) a) sizes).size (width (placed_expr (place_of s) b) sizes).size p.0.size q.0.size x.size y.size in
         record { value = omega (arith, x.value, y.value, n.0, product); size = omega (arith, n.1, product); condition = omega (arith, x.value, y.value, n.0, product) }
     narrow (Plus a b) t e =
         let p = stood (typed s a) (λ x. typed s b and_then sum_of x) t e in
@@ -179,12 +173,12 @@ module _ (s : Scope) (sizes : ℕ → ℕ) (kept : KeepSizes s sizes) where
         record { value = omega arith; size = omega arith; condition = omega (arith, x.condition, y.condition) }
 
     -- none of the entries behind IN is too wide
-    choices_narrow : (bs : Choices) (x : Typing) (all_agree : Bool) (t : Typing) (n : ℕ) → n < 2 ^ 127 → listed s x all_agree bs ≡ Ok t → fold max n (map (widest sizes) (placed_exprs (place_of s.columns) bs)) < 2 ^ 127
+    choices_narrow : (bs : Choices) (x : Typing) (all_agree : Bool) (t : Typing) (n : ℕ) → n < 2 ^ 127 → listed s x all_agree bs ≡ Ok t → fold max n (map (widest sizes) (placed_exprs (place_of s) bs)) < 2 ^ 127
     choices_narrow NoChoice x all_agree t n small e = small
     choices_narrow (Choice b bs) x all_agree t n small e =
         let p = stood (typed s b) (λ y. listed s x (all_agree && agree x.kind y.kind) bs) t e in
         let y = narrow b p.0 p.1 in
-        choices_narrow bs x (all_agree && agree x.kind p.0.kind) t (max n (widest sizes (placed_expr (place_of s.columns) b))) (omega (arith, small, y.value)) p.2
+        choices_narrow bs x (all_agree && agree x.kind p.0.kind) t (max n (widest sizes (placed_expr (place_of s) b))) (omega (arith, small, y.value)) p.2
 
 -- what has no fault is narrow wherever the columns keep their sizes
 pub typed_is_narrow : TypedIsNarrow

@@ -4,11 +4,12 @@ ghost use Rattle.cq_model.specs.Expr as terms;
 ghost use Rattle.cq_model.specs.Placed.{named_day, placed_cond, placed_expr, turned, written_number};
 ghost use Rattle.cq_model.specs.Trees.{cond_of, expr_of};
 ghost use Rattle.cq_model.specs.Written.{written};
-ghost use Rattle.cq_exprs.specs.Expressions.{place_of};
+ghost use Rattle.cq_steps.specs.Bound.{place_of};
+ghost use Rattle.cq_exprs.specs.Expressions.{scope_of};
 ghost use Rattle.cq_exprs.specs.Terms.{later_terms, signed_term};
 
-use crate::scope::column_place;
-use cq_model::{ColumnDef, CondTree, ExprNode, ExprTree, Sign};
+use crate::scope::Scope;
+use cq_model::{CondTree, ExprNode, ExprTree, Sign};
 use cq_values::{Value, date_of};
 use std::alloc::{AllocError, Global};
 
@@ -16,39 +17,36 @@ use std::alloc::{AllocError, Global};
 #[cycle(values)]
 pub(crate) fn expr_tree(
     alloc: Global,
-    columns: &[ColumnDef],
+    scope: &Scope<'_>,
     node: &ExprNode,
 ) -> Result<ExprTree, AllocError>
-    ensures { IfOk result (λ t. expr_of t ≡ placed_expr (place_of columns.now) (written node.now)) }
+    ensures { IfOk result (λ t. expr_of t ≡ placed_expr (place_of (scope_of scope.now)) (written node.now)) }
 {
     match node {
         ExprNode::Number(n) => Ok(ExprTree::Literal(whole(*n))),
         ExprNode::Text(text) => Ok(ExprTree::Literal(Value::Text(text.copy(alloc)?))),
         ExprNode::Date(text) => Ok(ExprTree::Literal(day(text.as_str()))),
-        ExprNode::Column(column) => {
-            let place = column_place(columns, column.name.as_str()).unwrap_or(0);
-            Ok(ExprTree::Column(place))
-        }
+        ExprNode::Column(column) => Ok(ExprTree::Column(scope.place_of(column))),
         ExprNode::Extract(part, value) => {
-            let value = expr_tree(alloc, columns, value)?;
+            let value = expr_tree(alloc, scope, value)?;
             Ok(ExprTree::Extract(*part, Box::new(alloc, value)?))
         }
-        ExprNode::Parens(inner) => expr_tree(alloc, columns, inner),
+        ExprNode::Parens(inner) => expr_tree(alloc, scope, inner),
         ExprNode::Negative(value) => {
-            let value = expr_tree(alloc, columns, value)?;
+            let value = expr_tree(alloc, scope, value)?;
             Ok(ExprTree::Negate(Box::new(alloc, value)?))
         }
         ExprNode::Product(first, rest) => {
-            let first = Box::new(alloc, expr_tree(alloc, columns, first)?)?;
-            Ok(ExprTree::Product(first, expr_trees(alloc, columns, rest)?))
+            let first = Box::new(alloc, expr_tree(alloc, scope, first)?)?;
+            Ok(ExprTree::Product(first, expr_trees(alloc, scope, rest)?))
         }
         ExprNode::Sum(first, signs, rest) => {
-            let first = Box::new(alloc, expr_tree(alloc, columns, first)?)?;
-            Ok(ExprTree::Sum(first, term_trees(alloc, columns, signs, rest)?))
+            let first = Box::new(alloc, expr_tree(alloc, scope, first)?)?;
+            Ok(ExprTree::Sum(first, term_trees(alloc, scope, signs, rest)?))
         }
         ExprNode::And(first, rest) | ExprNode::Or(first, rest) => {
             if rest.is_empty() {
-                expr_tree(alloc, columns, first)
+                expr_tree(alloc, scope, first)
             } else {
                 Ok(ExprTree::Literal(Value::Null))
             }
@@ -67,14 +65,14 @@ pub(crate) fn expr_tree(
 #[cycle(values)]
 fn expr_trees(
     alloc: Global,
-    columns: &[ColumnDef],
+    scope: &Scope<'_>,
     nodes: &[ExprNode],
 ) -> Result<Vec<ExprTree>, AllocError>
-    ensures { IfOk result (λ v. map expr_of v.items ≡ map (λ n. placed_expr (place_of columns.now) (written n)) nodes.now) }
+    ensures { IfOk result (λ v. map expr_of v.items ≡ map (λ n. placed_expr (place_of (scope_of scope.now)) (written n)) nodes.now) }
 {
     let mut trees = Vec::with_capacity(alloc, nodes.len())?;
     for node in nodes {
-        trees.push(expr_tree(alloc, columns, node)?)?;
+        trees.push(expr_tree(alloc, scope, node)?)?;
     }
     Ok(trees)
 }
@@ -83,15 +81,15 @@ fn expr_trees(
 #[cycle(values)]
 fn term_trees(
     alloc: Global,
-    columns: &[ColumnDef],
+    scope: &Scope<'_>,
     signs: &[Sign],
     nodes: &[ExprNode],
 ) -> Result<Vec<ExprTree>, AllocError>
-    ensures { IfOk result (λ v. map expr_of v.items ≡ later_terms (place_of columns.now) signs.now (map written nodes.now)) }
+    ensures { IfOk result (λ v. map expr_of v.items ≡ later_terms (place_of (scope_of scope.now)) signs.now (map written nodes.now)) }
 {
     let mut terms = Vec::with_capacity(alloc, nodes.len())?;
     for (sign, node) in signs.iter().zip(nodes) {
-        let term = expr_tree(alloc, columns, node)?;
+        let term = expr_tree(alloc, scope, node)?;
         terms.push(signed_tree(alloc, *sign, term)?)?;
     }
     Ok(terms)
@@ -131,61 +129,61 @@ fn day(text: &str) -> Value
 #[cycle(conditions)]
 pub(crate) fn cond_tree(
     alloc: Global,
-    columns: &[ColumnDef],
+    scope: &Scope<'_>,
     node: &ExprNode,
 ) -> Result<CondTree, AllocError>
-    ensures { IfOk result (λ t. cond_of t ≡ placed_cond (place_of columns.now) (written node.now)) }
+    ensures { IfOk result (λ t. cond_of t ≡ placed_cond (place_of (scope_of scope.now)) (written node.now)) }
 {
     match node {
-        ExprNode::Parens(inner) => cond_tree(alloc, columns, inner),
+        ExprNode::Parens(inner) => cond_tree(alloc, scope, inner),
         ExprNode::Compare(comparison, a, b) => {
-            let a = expr_tree(alloc, columns, a)?;
-            let b = expr_tree(alloc, columns, b)?;
+            let a = expr_tree(alloc, scope, a)?;
+            let b = expr_tree(alloc, scope, b)?;
             Ok(CondTree::Compare(*comparison, a, b))
         }
         ExprNode::IsNull(negated, value) => {
-            let value = expr_tree(alloc, columns, value)?;
+            let value = expr_tree(alloc, scope, value)?;
             turned(alloc, *negated, CondTree::IsNull(value))
         }
         ExprNode::Between(negated, value, least, greatest) => {
-            let value = expr_tree(alloc, columns, value)?;
-            let least = expr_tree(alloc, columns, least)?;
-            let greatest = expr_tree(alloc, columns, greatest)?;
+            let value = expr_tree(alloc, scope, value)?;
+            let least = expr_tree(alloc, scope, least)?;
+            let greatest = expr_tree(alloc, scope, greatest)?;
             turned(alloc, *negated, CondTree::Between(value, least, greatest))
         }
         ExprNode::In(negated, value, choices) => {
-            let value = expr_tree(alloc, columns, value)?;
-            let choices = expr_trees(alloc, columns, choices)?;
+            let value = expr_tree(alloc, scope, value)?;
+            let choices = expr_trees(alloc, scope, choices)?;
             turned(alloc, *negated, CondTree::In(value, choices))
         }
         ExprNode::Like(negated, value, pattern) => {
-            let value = expr_tree(alloc, columns, value)?;
+            let value = expr_tree(alloc, scope, value)?;
             turned(alloc, *negated, CondTree::Like(value, pattern.copy(alloc)?))
         }
         ExprNode::Not(part) => {
-            let part = cond_tree(alloc, columns, part)?;
+            let part = cond_tree(alloc, scope, part)?;
             Ok(CondTree::Not(Box::new(alloc, part)?))
         }
         ExprNode::And(first, rest) => {
-            let first = Box::new(alloc, cond_tree(alloc, columns, first)?)?;
-            Ok(CondTree::And(first, cond_trees(alloc, columns, rest)?))
+            let first = Box::new(alloc, cond_tree(alloc, scope, first)?)?;
+            Ok(CondTree::And(first, cond_trees(alloc, scope, rest)?))
         }
         ExprNode::Or(first, rest) => {
-            let first = Box::new(alloc, cond_tree(alloc, columns, first)?)?;
-            Ok(CondTree::Or(first, cond_trees(alloc, columns, rest)?))
+            let first = Box::new(alloc, cond_tree(alloc, scope, first)?)?;
+            Ok(CondTree::Or(first, cond_trees(alloc, scope, rest)?))
         }
         ExprNode::Product(first, rest) => {
             if rest.is_empty() {
-                cond_tree(alloc, columns, first)
+                cond_tree(alloc, scope, first)
             } else {
-                null_test(alloc, columns, node)
+                null_test(alloc, scope, node)
             }
         }
         ExprNode::Sum(first, signs, rest) => {
             if is_one_term(signs, rest) {
-                cond_tree(alloc, columns, first)
+                cond_tree(alloc, scope, first)
             } else {
-                null_test(alloc, columns, node)
+                null_test(alloc, scope, node)
             }
         }
         ExprNode::Number(_)
@@ -194,7 +192,7 @@ pub(crate) fn cond_tree(
         | ExprNode::Null
         | ExprNode::Column(_)
         | ExprNode::Extract(..)
-        | ExprNode::Negative(_) => null_test(alloc, columns, node),
+        | ExprNode::Negative(_) => null_test(alloc, scope, node),
     }
 }
 
@@ -206,24 +204,24 @@ fn is_one_term(signs: &[Sign], rest: &[ExprNode]) -> bool
 }
 
 /// Whether the value that is written is NULL.
-fn null_test(alloc: Global, columns: &[ColumnDef], node: &ExprNode) -> Result<CondTree, AllocError>
-    ensures { IfOk result (λ t. cond_of t ≡ terms.IsNull (placed_expr (place_of columns.now) (written node.now))) }
+fn null_test(alloc: Global, scope: &Scope<'_>, node: &ExprNode) -> Result<CondTree, AllocError>
+    ensures { IfOk result (λ t. cond_of t ≡ terms.IsNull (placed_expr (place_of (scope_of scope.now)) (written node.now))) }
 {
-    Ok(CondTree::IsNull(expr_tree(alloc, columns, node)?))
+    Ok(CondTree::IsNull(expr_tree(alloc, scope, node)?))
 }
 
 /// The conditions that are written one after another.
 #[cycle(conditions)]
 fn cond_trees(
     alloc: Global,
-    columns: &[ColumnDef],
+    scope: &Scope<'_>,
     nodes: &[ExprNode],
 ) -> Result<Vec<CondTree>, AllocError>
-    ensures { IfOk result (λ v. map cond_of v.items ≡ map (λ n. placed_cond (place_of columns.now) (written n)) nodes.now) }
+    ensures { IfOk result (λ v. map cond_of v.items ≡ map (λ n. placed_cond (place_of (scope_of scope.now)) (written n)) nodes.now) }
 {
     let mut trees = Vec::with_capacity(alloc, nodes.len())?;
     for node in nodes {
-        trees.push(cond_tree(alloc, columns, node)?)?;
+        trees.push(cond_tree(alloc, scope, node)?)?;
     }
     Ok(trees)
 }

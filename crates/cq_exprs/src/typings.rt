@@ -1,7 +1,7 @@
 //! What operators and tests ask of their operands, and what they give.
 ghost use Rattle.std.specs.Prelude.{◌≡◌, ◌&&◌};
 ghost use Rattle.cq_model.specs.Width.{part_limit};
-ghost use Rattle.cq_steps.specs.Typing.{a_condition, agree, between_them, compared_with, connected, is_condition, is_of, is_value, like_of, negation_of, negative, number_of, part_of, product_of, sum_of, tested, text_of, unless, value_of};
+ghost use Rattle.cq_steps.specs.Typing.{a_condition, added, agree, between_them, compared_with, connected, is_condition, is_of, is_value, kept_value, like_of, negation_of, negative, number_of, part_of, product_of, sum_of, tested, text_of, unless, value_of};
 ghost use Rattle.cq_steps.specs.declared.fault.Fault.TheVariants.{TypeMismatch};
 
 use cq_model::DayPart;
@@ -112,6 +112,27 @@ pub fn tested(x: Typing) -> Result<Typing, Fault>
     ensures { result ≡ tested x }
 {
     condition_if(is_value(x.kind))
+}
+
+/// A number that SUM adds.
+pub fn added(x: Typing) -> Result<Typing, Fault>
+    ensures { result ≡ added x }
+{
+    if is_of(Ty::Integer, x.kind) {
+        Ok(x)
+    } else {
+        Err(Fault::TypeMismatch)
+    }
+}
+
+/// A value with a type, as a column of a view keeps it.
+pub fn kept_value(x: Typing) -> Result<Typing, Fault>
+    ensures { result ≡ kept_value x }
+{
+    match x.kind {
+        Kind::Value(_) => Ok(x),
+        Kind::Condition | Kind::Null => Err(Fault::TypeMismatch),
+    }
 }
 
 /// A value between two others.

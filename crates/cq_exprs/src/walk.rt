@@ -132,17 +132,21 @@ fn date_typing(text: &Text) -> Result<Typing, Fault>
     }
 }
 
-/// A column: its source, and then its name.
+/// A column: its source, its name, and then whether it may be read.
 fn column_typing(scope: &Scope<'_>, column: &ColumnName) -> Result<Typing, Fault>
     ensures { result ≡ typed (scope_of scope.now) (tree.Column column.now) }
 {
     if !is_known(scope, &column.source) {
         return Err(Fault::UnknownTable);
     }
-    match column_place(scope.columns, column.name.as_str()) {
-        Some(place) => Ok(typing_at(scope, place)),
-        None => Err(Fault::UnknownColumn),
+    let name = column.name.as_str();
+    let Some(place) = column_place(scope.columns, name) else {
+        return Err(Fault::UnknownColumn);
+    };
+    if !scope.may_read(name) {
+        return Err(Fault::AggregateMisplaced);
     }
+    Ok(typing_at(scope, place))
 }
 
 /// Whether the source that a column names, if it names one, is the one that is there.

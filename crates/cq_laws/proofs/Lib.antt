@@ -14,4 +14,5 @@ pub mod Works
 pub mod Lessened
 pub mod Told
 pub mod Fits
+pub mod Extents
 pub mod Sizes

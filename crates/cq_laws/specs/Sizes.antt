@@ -1,9 +1,8 @@
 -- How large the numbers are in the rows of a grouped query that counts and adds.
-use Rattle.std.specs.Prelude.{◌≡◌, ◌≤◌, ◌^◌, ℕ, false, List, [], length, map, Some, None, slice_index_or}
+use Rattle.std.specs.Prelude.{◌≡◌, ◌≤◌, ◌^◌, ℕ, false, List, [], length, Some, None, slice_index_or}
 use Rattle.std.specs.List.{AllByRecursion}
 use Rattle.cq_values.specs.Value.{Row, column}
 use Rattle.cq_bags.specs.Bag.{SameBag, once_each}
-use Rattle.cq_model.specs.Expr.{Column}
 use Rattle.cq_model.specs.declared.query.Aggregate.{Aggregate}
 use Rattle.cq_model.specs.declared.query.Aggregate.TheVariants.{Min, Max}
 use Rattle.cq_model.specs.declared.query.Query.{Query}
@@ -25,7 +24,7 @@ CountsOrAdds a = Unit {0}
 -- counts and totals over the groups of stored rows of one table, where the totals can be shown, keep the sizes of the query's columns
 abbrev pub RowsKeepSizes : Type 0
 RowsKeepSizes =
-    (q : Query) (keys : List ℕ) (aggregates : List Aggregate) (items : List ℕ) (tables : Tables) (rows told : List Row)
-    → q.shape ≡ Grouped (Some keys) aggregates None → q.items ≡ map Column items → q.joins ≡ [] → q.distinct ≡ false → tables q.first ≡ once_each rows
+    (q : Query) (keys : List ℕ) (aggregates : List Aggregate) (tables : Tables) (rows told : List Row)
+    → q.shape ≡ Grouped (Some keys) aggregates None → q.joins ≡ [] → q.distinct ≡ false → tables q.first ≡ once_each rows
     → AllByRecursion CountsOrAdds aggregates → AllByRecursion (IsSized (λ i. stored_size)) rows → length rows ≤ 2 ^ 96 → MeaningInRange q tables
     → SameBag (once_each told) (meaning q tables) → AllByRecursion (IsSized (λ i. slice_index_or (column_sizes q) i 0)) told

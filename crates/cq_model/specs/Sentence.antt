@@ -20,7 +20,7 @@ use Rattle.cq_model.specs.declared.statement.SelectItem.{SelectItem}
 use Rattle.cq_model.specs.declared.statement.Statement.{Statement}
 use Rattle.cq_model.specs.declared.statement.Statement.TheVariants as statements
 use Rattle.cq_model.specs.declared.statement.ViewSelect.{ViewSelect}
-use Rattle.cq_model.specs.Expression.{IsExpression}
+use Rattle.cq_model.specs.Expression.{IsExpression, IsSum}
 use Rattle.cq_model.specs.Tokens.{HasTokens, is_past_limits}
 use Rattle.cq_model.specs.Written.{Written}
 
@@ -78,11 +78,16 @@ abbrev pub IsWhere : Option Written → List Token → Type 0
 IsWhere None ts = ts ≡ []
 IsWhere (Some condition) ts = (rest : List Token) × (ts ≡ tokens.Keyword keywords.Where ∷ rest) × IsExpression condition rest
 
--- name, COUNT ( * ) or SUM ( name )
+-- word ( sum )
+abbrev pub IsCall : Keyword → Written → List Token → Type 0
+IsCall word w ts = (inner : List Token) × (ts ≡ tokens.Keyword word ∷ tokens.Symbol symbols.Open ∷ inner ++ tokens.Symbol symbols.Close ∷ []) × IsSum w inner
+
+-- expr, COUNT ( * ), COUNT ( sum ) or SUM ( sum )
 abbrev pub IsItemValue : ItemValue → List Token → Type 0
-IsItemValue (values.Column name) ts = IsName name ts
+IsItemValue (values.Value w) ts = IsExpression w ts
 IsItemValue values.CountAll ts = ts ≡ tokens.Keyword keywords.Count ∷ tokens.Symbol symbols.Open ∷ tokens.Symbol symbols.Star ∷ tokens.Symbol symbols.Close ∷ []
-IsItemValue (values.Sum name) ts = ts ≡ tokens.Keyword keywords.Sum ∷ tokens.Symbol symbols.Open ∷ tokens.Name name ∷ tokens.Symbol symbols.Close ∷ []
+IsItemValue (values.Count w) ts = IsCall keywords.Count w ts
+IsItemValue (values.Sum w) ts = IsCall keywords.Sum w ts
 
 -- [AS name]
 abbrev pub IsAlias : Option (List ℕ) → List Token → Type 0

@@ -63,9 +63,10 @@ pub struct Select {
 /// What an item of a view shows.
 #[derive(Debug, Drop)]
 pub enum ItemValue {
-    Column(Text),
+    Value(SqlExpr),
     CountAll,
-    Sum(Text),
+    Count(SqlExpr),
+    Sum(SqlExpr),
 }
 
 /// An item of a view, with the name behind AS.

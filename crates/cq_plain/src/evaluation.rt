@@ -1,6 +1,5 @@
 //! Expressions and conditions in a row, once no number that is written or worked out on the way is too wide.
 ghost use Rattle.std.specs.Prelude.{◌^◌, ◌≡◌, ◌≤◌, IfErr, IfOk, map, nat_lt};
-ghost use Rattle.cq_values.specs.Lent.{owned};
 ghost use Rattle.cq_values.specs.Truth.{is_true};
 ghost use Rattle.cq_model.specs.Condition.{holds};
 ghost use Rattle.cq_model.specs.Eval.{eval};
@@ -11,7 +10,7 @@ ghost use Rattle.cq_plain.specs.Wide.{IsWideAt, IsWideIn};
 
 use crate::fault::PlainFault;
 use cq_model::{Cond, Expr, eval_row, fits, holds_row, width_of};
-use cq_values::{Lent, Text, Value};
+use cq_values::Value;
 use std::alloc::{AllocError, Global};
 
 /// The value of the expression in the row.
@@ -22,7 +21,7 @@ pub(crate) fn value_at(alloc: Global, expr: &Expr, row: &[Value]) -> Result<Valu
     if !is_narrow(alloc, expr, row)? {
         return Err(PlainFault::TooWide);
     }
-    Ok(copy_lent(alloc, &eval_row(expr, row))?)
+    Ok(eval_row(expr, row).to_value(alloc)?)
 }
 
 /// Whether the condition keeps the row. Where there is none, each row is kept.
@@ -73,17 +72,5 @@ fn value_size(value: &Value) -> u128
     match value {
         Value::Number(n) => n.unsigned_abs(),
         _ => 0,
-    }
-}
-
-/// A value of its own.
-pub(crate) fn copy_lent(alloc: Global, value: &Lent<'_>) -> Result<Value, AllocError>
-    ensures { IfOk result (λ v. v ≡ owned value.now) }
-{
-    match value {
-        Lent::Number(n) => Ok(Value::Number(*n)),
-        Lent::Day(day) => Ok(Value::Day(*day)),
-        Lent::Text(text) => Ok(Value::Text(Text::new(alloc, text)?)),
-        Lent::Null => Ok(Value::Null),
     }
 }

@@ -7,7 +7,6 @@ ghost use Rattle.cq_plain.specs.Faults.{Tells};
 ghost use Rattle.cq_plain.specs.Wide.{IsWideOver};
 
 use crate::aggregates::aggregate;
-use crate::evaluation::copy_lent;
 use crate::fault::PlainFault;
 use crate::repeats::firsts;
 use cq_model::{Aggregate, lend_column};
@@ -124,7 +123,7 @@ fn key_of(alloc: Global, columns: &[usize], row: &[Value]) -> Result<Row, AllocE
 {
     let mut key = Row::new(alloc);
     for column in columns {
-        key.push(copy_lent(alloc, &lend_column(row, *column))?)?;
+        key.push(lend_column(row, *column).to_value(alloc)?)?;
     }
     Ok(key)
 }

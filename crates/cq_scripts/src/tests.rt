@@ -7,6 +7,7 @@ mod refusals;
 mod rows;
 mod sinks;
 mod values;
+mod view_items;
 mod views;
 mod walk;
 

@@ -1,4 +1,4 @@
--- Conditions and whole expressions are read exactly, and a list of tokens is at most one expression.
+-- Conditions, whole expressions and the arguments of aggregates are read exactly, and a list of tokens is at most one expression.
 use Rattle.std.proofs.Common.{◌≡◌, Result, Ok, Err, ℕ, zero, suc, ◌≤◌, ◌<◌, List, [], ◌∷◌, ◌++◌, length, Option, Some, None, refl, sym, ap, subst, ◌∙◌, arith, length-append}
 use Rattle.std.specs.Prelude.{IfOk}
 use Rattle.std.proofs.lemmas.List.{append-nil}
@@ -7,14 +7,14 @@ use Rattle.cq_model.specs.declared.token.Token.{Token}
 use Rattle.cq_model.specs.declared.token.Token.TheVariants as tokens
 use Rattle.cq_model.specs.declared.written.ExprNode.{ExprNode}
 use Rattle.cq_model.specs.Written.{Written, Not, written}
-use Rattle.cq_model.specs.Expression.{spelled, IsExpression}
+use Rattle.cq_model.specs.Expression.{spelled, IsTight, IsExpression, IsSum}
 use Rattle.cq_sql.specs.declared.links.Operator.TheVariants as operators
 use Rattle.cq_sql.specs.declared.fault.SqlFault.{SqlFault}
 use Rattle.cq_sql.specs.declared.fault.SqlFault.TheVariants as errors
 use Rattle.cq_sql.specs.Gives.{Gives}
-use Rattle.cq_sql.specs.Read.{after_keyword}
+use Rattle.cq_sql.specs.Read.{Reader, after_keyword}
 use Rattle.cq_sql.specs.Chains.{joined_at}
-use Rattle.cq_sql.specs.Expressions.{Inside, primary_of, factor_of, product_of, sum_of, predicate_of, negation_of, operand_of, expression_of, prefixed, readers, expression_at, if_no_more, whole_expression}
+use Rattle.cq_sql.specs.Expressions.{Inside, primary_of, factor_of, product_of, sum_of, predicate_of, negation_of, operand_of, expression_of, prefixed, readers, expression_at, argument_at, if_no_more, whole_expression}
 use Rattle.cq_sql.proofs.Exact.{Reads, bind_some, parts_of, keyword_takes}
 use Rattle.cq_sql.proofs.Tight.{joint_in, Fits, from_fits, to_fits, ReadsTight}
 use Rattle.cq_sql.proofs.Primaries.{ReadsInside, primary_reads}
@@ -93,6 +93,23 @@ readers_reads (suc n) = record {
   sum = outer_sum n (readers n) (readers_reads n);
 }
 
+module _ (level : ℕ) (item : Inside → Reader Written) (outer : (size : ℕ) (inside : Inside) → ReadsInside size inside → ReadsTight (suc size) level (item inside)) where
+  -- what is as tight as that is read, where each token may open a pair of parentheses
+  tight_found : (w : Written) (front rest : List Token) → IsTight level w front → joint_in rest ≤ level → item (readers (length (front ++ rest))) (front ++ rest) ≡ Some (w, rest)
+  tight_found w front rest (in_order, split) end =
+      let ts = front ++ rest in
+      let reads = outer (length ts) (readers (length ts)) (readers_reads (length ts)) in
+      let whole : ts ≡ spelled w ++ rest = ap (λ (us : List Token). us ++ rest) split in
+      let count : length (spelled w) < suc (length ts) = omega (arith, ap (λ (us : List Token). length us) whole, length-append (spelled w) rest) in
+      ap (item (readers (length ts))) whole ∙ reads.found w rest (from_fits level w in_order) count end
+
+  -- what is read is as tight as that
+  tight_only : (w : Written) (ts rest : List Token) → item (readers (length ts)) ts ≡ Some (w, rest) → (front : List Token) × (ts ≡ front ++ rest) × IsTight level w front
+  tight_only w ts rest e =
+      let reads = outer (length ts) (readers (length ts)) (readers_reads (length ts)) in
+      let o = reads.only w ts rest e in
+      (spelled w, o.1, (to_fits level w o.0, refl))
+
 -- what follows does not go on with an expression
 abbrev pub EndsExpression : List Token → Type 0
 EndsExpression rest = joint_in rest ≡ 0
@@ -100,20 +117,19 @@ EndsExpression rest = joint_in rest ≡ 0
 -- expressions are read exactly, where nothing follows that goes on with them
 pub expression_reads : Reads EndsExpression IsExpression expression_at
 unfolding expression_at
-expression_reads = record { found = found; only = only } where
-  found : (w : Written) (front rest : List Token) → IsExpression w front → EndsExpression rest → expression_at (front ++ rest) ≡ Some (w, rest)
-  found w front rest (in_order, split) end =
-      let ts = front ++ rest in
-      let outer = outer_expression (length ts) (readers (length ts)) (readers_reads (length ts)) in
-      let whole : ts ≡ spelled w ++ rest = ap (λ (us : List Token). us ++ rest) split in
-      let count : length (spelled w) < suc (length ts) = omega (arith, ap (λ (us : List Token). length us) whole, length-append (spelled w) rest) in
-      ap (expression_of (readers (length ts))) whole ∙ outer.found w rest (from_fits 0 w in_order) count (omega (arith, end))
+expression_reads = record {
+  found = λ w front rest h end. tight_found 0 expression_of outer_expression w front rest h (omega (arith, end));
+  only = tight_only 0 expression_of outer_expression;
+}
 
-  only : (w : Written) (ts rest : List Token) → expression_at ts ≡ Some (w, rest) → (front : List Token) × (ts ≡ front ++ rest) × IsExpression w front
-  only w ts rest e =
-      let outer = outer_expression (length ts) (readers (length ts)) (readers_reads (length ts)) in
-      let o = outer.only w ts rest e in
-      (spelled w, o.1, (to_fits 0 w o.0, refl))
+-- what follows does not go on with a sum
+abbrev pub EndsSum : List Token → Type 0
+EndsSum rest = joint_in rest ≤ 4
+
+-- the arguments of aggregates are read exactly, where nothing follows that goes on with a sum
+pub argument_reads : Reads EndsSum IsSum argument_at
+unfolding argument_at
+argument_reads = record { found = tight_found 4 sum_of outer_sum; only = tight_only 4 sum_of outer_sum }
 
 -- an expression is found in its tokens
 pub whole_found : (w : Written) (ts : List Token) → IsExpression w ts → whole_expression ts ≡ Some w

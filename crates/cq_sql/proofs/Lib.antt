@@ -19,6 +19,8 @@ pub mod Items
 pub mod Words
 pub mod Sources
 pub mod SelectItems
+pub mod Calls
+pub mod ViewItems
 pub mod Views
 pub mod Statements
 pub mod Decided

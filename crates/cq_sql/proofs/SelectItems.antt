@@ -15,7 +15,7 @@ use Rattle.cq_sql.proofs.Items.{alias_reads}
 use Rattle.cq_sql.proofs.Conditions.{EndsExpression, expression_reads}
 
 -- AS does not go on with an expression
-alias_ends : (alias : Option (List ℕ)) (ts rest : List Token) → IsAlias alias ts → EndsExpression rest → EndsExpression (ts ++ rest)
+pub alias_ends : (alias : Option (List ℕ)) (ts rest : List Token) → IsAlias alias ts → EndsExpression rest → EndsExpression (ts ++ rest)
 alias_ends None ts rest h end = rw h end
 alias_ends (Some name) ts rest h end = rw h refl
 
@@ -50,7 +50,7 @@ unfolding expression_at expression_of operand_of negation_of predicate_of sum_of
 no_expression = refl
 
 -- an expression has a token
-expression_some : (w : Written) (front : List Token) → IsExpression w front → 0 < length front
+pub expression_some : (w : Written) (front : List Token) → IsExpression w front → 0 < length front
 expression_some w [] h =
     let bad : ◌≡◌ {A = Option (Written × List Token)} None (Some (w, [])) = sym no_expression ∙ expression_reads.found w [] [] h refl in
     absurd (cc bad)

@@ -1,5 +1,5 @@
--- Items and queries of views are read exactly, and so are the statements that create and drop a view.
-use Rattle.std.proofs.Common.{◌≡◌, ℕ, ◌<◌, List, [], ◌∷◌, ◌++◌, length, Option, Some, refl, sym, ap, subst, ◌∙◌, append_assoc, arith, length-append}
+-- Queries of views are read exactly, and so are the statements that create and drop a view.
+use Rattle.std.proofs.Common.{◌≡◌, ℕ, List, [], ◌∷◌, ◌++◌, Option, refl, sym, ap, subst, ◌∙◌, append_assoc}
 use Rattle.std.proofs.lemmas.List.{append-nil}
 use Rattle.cq_model.specs.declared.token.Keyword.TheVariants as keywords
 use Rattle.cq_model.specs.declared.token.Symbol.TheVariants as symbols
@@ -7,114 +7,20 @@ use Rattle.cq_model.specs.declared.token.Token.{Token}
 use Rattle.cq_model.specs.declared.token.Token.TheVariants as tokens
 use Rattle.cq_model.specs.declared.statement.FromSource.{FromSource}
 use Rattle.cq_model.specs.declared.statement.Item.{Item}
-use Rattle.cq_model.specs.declared.statement.ItemValue.{ItemValue}
-use Rattle.cq_model.specs.declared.statement.ItemValue.TheVariants as values
 use Rattle.cq_model.specs.declared.statement.Statement.{Statement}
 use Rattle.cq_model.specs.declared.statement.Statement.TheVariants as statements
 use Rattle.cq_model.specs.declared.statement.ViewSelect.{ViewSelect}
 use Rattle.cq_model.specs.Written.{Written}
-use Rattle.cq_model.specs.Sentence.{Separated, IsName, IsSource, IsWhere, IsItemValue, IsAlias, IsItem, IsViewSelect, IsStatement}
+use Rattle.cq_model.specs.Sentence.{Separated, IsName, IsSource, IsWhere, IsItem, IsViewSelect, IsStatement}
 use Rattle.cq_sql.specs.Read.{after_symbol}
-use Rattle.cq_sql.specs.Grammar.{name_at, count_at, sum_at, item_value_at, item_at, groups_at, view_select_at, create_view_at, drop_view_at}
-use Rattle.cq_sql.proofs.Exact.{Reads, Anything, Nothing, Done, After, Then, EndsTail, at_end, parts_of, keyword_takes, symbol_takes, by_same, done_reads, behind_reads, then_reads, next_reads}
+use Rattle.cq_sql.specs.Grammar.{name_at, item_at, groups_at, view_select_at, create_view_at, drop_view_at}
+use Rattle.cq_sql.proofs.Exact.{Reads, Anything, Nothing, Done, After, Then, EndsTail, at_end, keyword_takes, by_same, done_reads, behind_reads, then_reads, next_reads}
 use Rattle.cq_sql.proofs.Lists.{list_reads}
-use Rattle.cq_sql.proofs.Items.{name_reads, name_some, alias_reads, where_reads}
+use Rattle.cq_sql.proofs.Conditions.{EndsExpression}
+use Rattle.cq_sql.proofs.Items.{name_reads, name_some, where_reads}
 use Rattle.cq_sql.proofs.Sources.{EndsSource, source_reads, where_ends_source}
-use Rattle.cq_sql.proofs.Words.{create, view_word, drop_word, select, from_word, as_word, count_word, sum_word, group_word, by_word, open_sign, close_sign, star_sign}
-
--- ( * )
-abbrev CountParts : ItemValue → List Token → Type 0
-CountParts = After open_sign (After star_sign (After close_sign (Done values.CountAll)))
-
--- behind COUNT stands a star between two parentheses
-count_reads : Reads Anything CountParts count_at
-unfolding count_at
-count_reads = behind_reads (symbol_takes symbols.Open) (behind_reads (symbol_takes symbols.Star) (behind_reads (symbol_takes symbols.Close) (done_reads values.CountAll)))
-
--- the parts of a COUNT
-count_parts : CountParts values.CountAll (open_sign ∷ star_sign ∷ close_sign ∷ [])
-count_parts = (star_sign ∷ close_sign ∷ [], refl, (close_sign ∷ [], refl, ([], refl, (refl, refl))))
-
--- a COUNT from its parts
-count_spelled : (value : ItemValue) (ts : List Token) → CountParts value ts → IsItemValue value (count_word ∷ ts)
-count_spelled value ts h =
-    let star = h.2 in
-    let close = star.2 in
-    let spelled : IsItemValue values.CountAll (count_word ∷ ts) = rw (h.1, star.1, close.1, close.2.1) refl in
-    subst (λ (x : ItemValue). IsItemValue x (count_word ∷ ts)) (sym close.2.0) spelled
-
--- ( name )
-abbrev SumParts : ItemValue → List Token → Type 0
-SumParts = After open_sign (Then IsName (λ name. After close_sign (Done (values.Sum name))))
-
--- behind SUM stands a name between two parentheses
-sum_reads : Reads Anything SumParts sum_at
-unfolding sum_at
-sum_reads = behind_reads (symbol_takes symbols.Open) (next_reads name_reads (λ name. behind_reads (symbol_takes symbols.Close) (done_reads (values.Sum name))))
-
--- the parts of a SUM
-sum_parts : (name : List ℕ) → SumParts (values.Sum name) (open_sign ∷ tokens.Name name ∷ close_sign ∷ [])
-sum_parts name = (tokens.Name name ∷ close_sign ∷ [], refl, (name, tokens.Name name ∷ [], close_sign ∷ [], refl, refl, ([], refl, (refl, refl))))
-
--- a SUM from its parts
-sum_spelled : (value : ItemValue) (ts : List Token) → SumParts value ts → IsItemValue value (sum_word ∷ ts)
-sum_spelled value ts h =
-    let name = h.2 in
-    let close = name.5 in
-    let spelled : IsItemValue (values.Sum name.0) (sum_word ∷ ts) = rw (h.1, name.3, name.4, close.1, close.2.1) refl in
-    subst (λ (x : ItemValue). IsItemValue x (sum_word ∷ ts)) (sym close.2.0) spelled
-
--- what an item shows is read exactly, by its first token
-item_value_reads : Reads Anything IsItemValue item_value_at
-unfolding item_value_at
-item_value_reads = record { found = found; only = only } where
-  found : (value : ItemValue) (front rest : List Token) → IsItemValue value front → Anything rest → item_value_at (front ++ rest) ≡ Some (value, rest)
-  found (values.Column name) front rest h end = rw h refl
-  found values.CountAll front rest h end = rw h (count_reads.found values.CountAll _ rest count_parts end)
-  found (values.Sum name) front rest h end = rw h (sum_reads.found (values.Sum name) _ rest (sum_parts name) end)
-
-  only : (value : ItemValue) (ts rest : List Token) → item_value_at ts ≡ Some (value, rest) → (front : List Token) × (ts ≡ front ++ rest) × IsItemValue value front
-  only value (tokens.Name name ∷ ts) rest e =
-      let p = parts_of (values.Column name) value ts rest e in
-      (tokens.Name name ∷ [], ap (λ (us : List Token). tokens.Name name ∷ us) p.1, subst (λ (x : ItemValue). IsItemValue x (tokens.Name name ∷ [])) p.0 refl)
-  only value (tokens.Keyword keywords.Count ∷ ts) rest e =
-      let o = count_reads.only value ts rest e in
-      (count_word ∷ o.0, ap (λ (us : List Token). count_word ∷ us) o.1, count_spelled value o.0 o.2)
-  only value (tokens.Keyword keywords.Sum ∷ ts) rest e =
-      let o = sum_reads.only value ts rest e in
-      (sum_word ∷ o.0, ap (λ (us : List Token). sum_word ∷ us) o.1, sum_spelled value o.0 o.2)
-  only value ts rest e = absurd cc
-
--- what an item shows has a token
-item_value_some : (value : ItemValue) (front : List Token) → IsItemValue value front → 0 < length front
-item_value_some (values.Column name) front h = omega (arith, ap (λ (ts : List Token). length ts) h)
-item_value_some values.CountAll front h = omega (arith, ap (λ (ts : List Token). length ts) h)
-item_value_some (values.Sum name) front h = omega (arith, ap (λ (ts : List Token). length ts) h)
-
--- what is shown, and then an optional name
-abbrev ItemParts : Item → List Token → Type 0
-ItemParts = Then IsItemValue (λ value. Then IsAlias (λ alias. Done (record { value = value; alias = alias })))
-
--- the name of an item ends it
-item_parts : Reads (EndsTail keywords.As Anything) ItemParts item_at
-unfolding item_at
-item_parts = next_reads item_value_reads (λ value. then_reads alias_reads (λ alias. done_reads (record { value = value; alias = alias })) (λ alias y back rest h end. rw h.1 end))
-
--- items are read exactly, where no AS follows
-item_reads : Reads (EndsTail keywords.As Anything) IsItem item_at
-item_reads = by_same item_parts to from where
-  to : (item : Item) (ts : List Token) → IsItem item ts → ItemParts item ts
-  to item ts h = (item.value, h.0, h.1, h.2, h.3, (item.alias, h.1, [], sym (append-nil h.1), h.4, (refl, refl)))
-
-  from : (item : Item) (ts : List Token) → ItemParts item ts → IsItem item ts
-  from item ts h =
-      let alias = h.5 in
-      let spelled : IsItem (record { value = h.0; alias = alias.0 }) ts = (h.1, alias.1, rw (h.3, alias.3, alias.5.1) (ap (λ (us : List Token). h.1 ++ us) (append-nil alias.1)), h.4, alias.4) in
-      subst (λ (x : Item). IsItem x ts) (sym alias.5.0) spelled
-
--- an item has a token
-item_some : (item : Item) (front : List Token) → IsItem item front → 0 < length front
-item_some item front h = omega (arith, item_value_some item.value h.0 h.3, ap (λ (ts : List Token). length ts) h.2, length-append h.0 h.1)
+use Rattle.cq_sql.proofs.ViewItems.{item_reads, item_some}
+use Rattle.cq_sql.proofs.Words.{create, view_word, drop_word, select, from_word, as_word, group_word, by_word}
 
 -- GROUP BY names
 abbrev ByParts : List Item → FromSource → Option Written → ViewSelect → List Token → Type 0
@@ -174,7 +80,7 @@ unfolding view_select_at
 view_parts =
     behind_reads
     (keyword_takes keywords.Select)
-    (then_reads (list_reads (EndsTail keywords.As Anything) IsItem item_at item_reads item_some (λ ts. (tt, refl))) groups_reads (λ items y back rest h end. ((tt, rw h.1 refl), rw h.1 refl)))
+    (then_reads (list_reads (EndsTail keywords.As EndsExpression) IsItem item_at item_reads item_some (λ ts. (refl, refl))) groups_reads (λ items y back rest h end. ((rw h.1 refl, rw h.1 refl), rw h.1 refl)))
 
 -- queries of views are read exactly
 view_reads : Reads Nothing IsViewSelect view_select_at

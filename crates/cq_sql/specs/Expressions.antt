@@ -115,6 +115,10 @@ readers (suc depth) = record { expression = expression_of (readers depth); sum =
 unfoldable pub expression_at : Reader Written
 expression_at ts = expression_of (readers (length ts)) ts
 
+-- takes the argument of an aggregate from the front: as much as makes a sum
+unfoldable pub argument_at : Reader Written
+argument_at ts = sum_of (readers (length ts)) ts
+
 -- the expression that was read, where nothing is left behind it
 abbrev pub if_no_more : Written × List Token → Option Written
 if_no_more (w, []) = Some w

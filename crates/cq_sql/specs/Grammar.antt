@@ -20,7 +20,7 @@ use Rattle.cq_model.specs.declared.statement.Statement.{Statement}
 use Rattle.cq_model.specs.declared.statement.Statement.TheVariants as statements
 use Rattle.cq_model.specs.declared.statement.ViewSelect.{ViewSelect}
 use Rattle.cq_model.specs.Written.{Written}
-use Rattle.cq_sql.specs.Expressions.{expression_at}
+use Rattle.cq_sql.specs.Expressions.{expression_at, argument_at}
 use Rattle.cq_sql.specs.Read.{◌>>=◌, Reader, done, followed_by, behind, after_keyword, after_symbol, list_at, tail_at, tail_or}
 
 -- takes a name from the front, as it is spelled in lower case
@@ -74,20 +74,24 @@ row_at = behind (after_symbol symbols.Open) (followed_by (list_at constant_at) (
 abbrev pub where_at : Reader (Option Written)
 where_at = tail_at keywords.Where expression_at
 
--- takes what follows COUNT: a star between two parentheses
+-- takes what COUNT counts: every row by a star, or else the rows where a sum has a value
+unfoldable pub counted_at : Reader ItemValue
+counted_at (tokens.Symbol symbols.Star ∷ ts) = Some (values.CountAll, ts)
+counted_at ts = followed_by argument_at (λ w. done (values.Count w)) ts
+
+-- takes what follows COUNT: a star or a sum between two parentheses
 unfoldable pub count_at : Reader ItemValue
-count_at = behind (after_symbol symbols.Open) (behind (after_symbol symbols.Star) (behind (after_symbol symbols.Close) (done values.CountAll)))
+count_at = behind (after_symbol symbols.Open) (followed_by counted_at (λ value. behind (after_symbol symbols.Close) (done value)))
 
--- takes what follows SUM: a column between two parentheses
+-- takes what follows SUM: a sum between two parentheses
 unfoldable pub sum_at : Reader ItemValue
-sum_at = behind (after_symbol symbols.Open) (followed_by name_at (λ name. behind (after_symbol symbols.Close) (done (values.Sum name))))
+sum_at = behind (after_symbol symbols.Open) (followed_by argument_at (λ w. behind (after_symbol symbols.Close) (done (values.Sum w))))
 
--- takes what an item shows: a column, or what its first keyword says
+-- takes what an item shows: an aggregate by its keyword, or else an expression
 unfoldable pub item_value_at : Reader ItemValue
-item_value_at (tokens.Name name ∷ ts) = Some (values.Column name, ts)
 item_value_at (tokens.Keyword keywords.Count ∷ ts) = count_at ts
 item_value_at (tokens.Keyword keywords.Sum ∷ ts) = sum_at ts
-item_value_at ts = None
+item_value_at ts = followed_by expression_at (λ w. done (values.Value w)) ts
 
 -- takes the name behind AS, or nothing where there is none
 abbrev pub alias_at : Reader (Option (List ℕ))

@@ -7,7 +7,7 @@ ghost use Rattle.cq_model.specs.Expression.{IsExpression};
 ghost use Rattle.cq_model.specs.Written.{Written, written};
 ghost use Rattle.cq_sql.specs.declared.fault.SqlFault.TheVariants.{LimitExceeded, Syntax};
 ghost use Rattle.cq_sql.specs.Chains.{joined_at, more_parts, more_terms};
-ghost use Rattle.cq_sql.specs.Expressions.{between_of, choices_of, content_of, enclosed_choices, expression_at, factor_of, negation_of, operand_of, part_of, predicate_of, primary_of, product_of, readers, sum_of, tested, whole_expression};
+ghost use Rattle.cq_sql.specs.Expressions.{argument_at, between_of, choices_of, content_of, enclosed_choices, expression_at, factor_of, negation_of, operand_of, part_of, predicate_of, primary_of, product_of, readers, sum_of, tested, whole_expression};
 ghost use Rattle.cq_sql.specs.Gives.{Gives};
 
 use crate::atoms::{Opening, atom_at, opening_at, text_at};
@@ -36,6 +36,15 @@ impl Readable for SqlExpr {
         let (node, rest) = expression_at(alloc, tokens)?;
         Ok((SqlExpr::new(node), rest))
     }
+}
+
+/// The argument of an aggregate at the front of tokens, and the tokens behind it: as much as makes a sum.
+#[tactic(auto, unfolding(crate::specs::Expressions::argument_at))]
+pub fn argument_at(alloc: Global, tokens: &[Token]) -> Result<(SqlExpr, &[Token]), SqlFault>
+    ensures { Gives (λ x. (x.0, x.1.now)) result (argument_at tokens.now) }
+{
+    let (sum, rest) = sum_at(alloc, tokens.len(), tokens)?;
+    Ok((SqlExpr::new(sum), rest))
 }
 
 #[cycle(expressions)]

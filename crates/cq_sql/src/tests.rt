@@ -92,6 +92,7 @@ fn a_statement_is_read(rt: HostRuntime) -> Result<(), Fail> {
         "drop table t",
         "create view v as select a from t group by a",
         "create view v as select a from t as u group by a",
+        "create view v as select a + 1 , count ( a ) , sum ( a * b ) from t group by a",
         "drop view v",
         "insert into t values ( 1 )",
         "insert into t values ( 1 , - 2 ) , ( 3 )",

@@ -1,22 +1,36 @@
 //! The query of a view: its items, and what they are taken from.
 ghost use Rattle.std.specs.Prelude.{◌≡◌};
 ghost use Rattle.cq_sql.specs.Gives.{Gives};
-ghost use Rattle.cq_sql.specs.Grammar.{count_at, sum_at, item_value_at, item_at, groups_at, view_select_at};
+ghost use Rattle.cq_sql.specs.Grammar.{counted_at, count_at, sum_at, item_value_at, item_at, groups_at, view_select_at};
 
+use crate::expressions::argument_at;
 use crate::fault::SqlFault;
 use crate::read::{Readable, expect_keyword, expect_symbol, list_of, tail_of};
 use cq_model::{FromSource, Item, ItemValue, Keyword, SqlExpr, Symbol, Token, ViewSelect};
 use cq_values::{Seq, Text};
 use std::alloc::Global;
 
+/// What COUNT counts: all rows, or those where a sum has a value.
+#[tactic(auto, unfolding(crate::specs::Grammar::counted_at))]
+fn counted_at(alloc: Global, tokens: &[Token]) -> Result<(ItemValue, &[Token]), SqlFault>
+    ensures { Gives (λ x. (x.0, x.1.now)) result (counted_at tokens.now) }
+{
+    match tokens {
+        [Token::Symbol(Symbol::Star), rest @ ..] => Ok((ItemValue::CountAll, rest)),
+        _ => {
+            let (argument, rest) = argument_at(alloc, tokens)?;
+            Ok((ItemValue::Count(argument), rest))
+        }
+    }
+}
+
 #[tactic(auto, unfolding(crate::specs::Grammar::count_at))]
-fn count_at(tokens: &[Token]) -> Result<(ItemValue, &[Token]), SqlFault>
+fn count_at(alloc: Global, tokens: &[Token]) -> Result<(ItemValue, &[Token]), SqlFault>
     ensures { Gives (λ x. (x.0, x.1.now)) result (count_at tokens.now) }
 {
     let rest = expect_symbol(Symbol::Open, tokens)?;
-    let rest = expect_symbol(Symbol::Star, rest)?;
-    let rest = expect_symbol(Symbol::Close, rest)?;
-    Ok((ItemValue::CountAll, rest))
+    let (counted, rest) = counted_at(alloc, rest)?;
+    Ok((counted, expect_symbol(Symbol::Close, rest)?))
 }
 
 #[tactic(auto, unfolding(crate::specs::Grammar::sum_at))]
@@ -24,9 +38,9 @@ fn sum_at(alloc: Global, tokens: &[Token]) -> Result<(ItemValue, &[Token]), SqlF
     ensures { Gives (λ x. (x.0, x.1.now)) result (sum_at tokens.now) }
 {
     let rest = expect_symbol(Symbol::Open, tokens)?;
-    let (name, rest) = Text::read(alloc, rest)?;
+    let (argument, rest) = argument_at(alloc, rest)?;
     let rest = expect_symbol(Symbol::Close, rest)?;
-    Ok((ItemValue::Sum(name), rest))
+    Ok((ItemValue::Sum(argument), rest))
 }
 
 impl Readable for ItemValue {
@@ -35,10 +49,12 @@ impl Readable for ItemValue {
     #[tactic(auto, unfolding(crate::specs::Grammar::item_value_at))]
     fn read(alloc: Global, tokens: &[Token]) -> Result<(ItemValue, &[Token]), SqlFault> {
         match tokens {
-            [Token::Name(name), rest @ ..] => Ok((ItemValue::Column(name.copy(alloc)?), rest)),
-            [Token::Keyword(Keyword::Count), rest @ ..] => count_at(rest),
+            [Token::Keyword(Keyword::Count), rest @ ..] => count_at(alloc, rest),
             [Token::Keyword(Keyword::Sum), rest @ ..] => sum_at(alloc, rest),
-            _ => Err(SqlFault::Syntax),
+            _ => {
+                let (value, rest) = SqlExpr::read(alloc, tokens)?;
+                Ok((ItemValue::Value(value), rest))
+            }
         }
     }
 }

@@ -33,12 +33,13 @@ use Rattle.cq_model.specs.declared.statement.SelectItem.{SelectItem}
 use Rattle.cq_model.specs.declared.statement.Statement.{Statement}
 use Rattle.cq_model.specs.declared.statement.Statement.TheVariants as statements
 use Rattle.cq_model.specs.declared.statement.ViewSelect.{ViewSelect}
+use Rattle.cq_model.specs.declared.written.ColumnName.{ColumnName}
 use Rattle.cq_model.specs.Placed.{named_day, placed_cond, placed_expr}
 use Rattle.cq_model.specs.Written.{Written}
 use Rattle.cq_model.specs.Written as tree
 use Rattle.cq_model.specs.Sizes.{column_sizes, stored_sizes}
 use Rattle.cq_steps.specs.State.{TableOf, ViewOf, State, table_named, view_place, view_named}
-use Rattle.cq_steps.specs.Typing.{Scope}
+use Rattle.cq_steps.specs.Typing.{Scope, type_of, typed}
 
 -- the number that a literal stands for
 abbrev pub literal_value : Literal → ℤ
@@ -63,17 +64,26 @@ column_place columns name = position (λ c. is_text c.name name) columns
 abbrev pub place_in : List ColumnDef → List ℕ → ℕ
 place_in columns name = unwrap_or (column_place columns name) 0
 
--- the column of a name, as an expression
-abbrev pub named_column : List ColumnDef → List ℕ → Expr
-named_column columns name = exprs.Column (place_in columns name)
+-- where a column of GROUP BY stands in a group's row
+abbrev pub group_place : List (List ℕ) → List ℕ → ℕ
+group_place group name = unwrap_or (position (λ g. is_text g name) group) 0
 
--- an expression over these columns
-abbrev pub bound_value : List ColumnDef → Written → Expr
-bound_value columns w = placed_expr (λ c. place_in columns c.name) w
+-- where a column stands in the rows that expressions read: among the source's columns, or in a group's key
+abbrev pub read_place : Option (List (List ℕ)) → List ColumnDef → List ℕ → ℕ
+read_place None columns name = place_in columns name
+read_place (Some group) columns name = group_place group name
 
--- a condition over these columns
-abbrev pub bound_condition : List ColumnDef → Written → Cond
-bound_condition columns condition = placed_cond (λ c. place_in columns c.name) condition
+-- where the column stands that a name tells
+abbrev pub place_of : Scope → ColumnName → ℕ
+place_of s c = read_place s.grouped s.columns c.name
+
+-- an expression over a source
+abbrev pub bound_value : Scope → Written → Expr
+bound_value s w = placed_expr (place_of s) w
+
+-- a condition over a source
+abbrev pub bound_condition : Scope → Written → Cond
+bound_condition s condition = placed_cond (place_of s) condition
 
 -- what FROM names: what it is known by, its columns, how large their numbers can be, and where its rows come from
 pub record Named : Type 0 where
@@ -98,11 +108,15 @@ source_named name s =
 
 -- what expressions over a source see of it
 abbrev pub scope_of : Named → Scope
-scope_of source = record { known = source.known; columns = source.columns; sizes = source.sizes }
+scope_of source = record { known = source.known; columns = source.columns; sizes = source.sizes; grouped = None }
 
 -- a source is known by its alias, or else by its own name (ISO 9075-2, 7.6)
 abbrev pub scope_as : FromSource → Named → Scope
-scope_as f source = record { known = unwrap_or f.alias source.known; columns = source.columns; sizes = source.sizes }
+scope_as f source = record { known = unwrap_or f.alias source.known; columns = source.columns; sizes = source.sizes; grouped = None }
+
+-- what the items of a source's groups see of it
+abbrev pub in_groups : List (List ℕ) → Scope → Scope
+in_groups group s = record s { grouped = Some group }
 
 -- what the items show
 abbrev pub shown_by : List SelectItem → List Written
@@ -113,9 +127,9 @@ abbrev pub bound_query : Select → Named → Query
 bound_query q source = record {
   first = source.source;
   joins = [];
-  filter = option_map (bound_condition source.columns) q.condition;
+  filter = option_map (bound_condition (scope_of source)) q.condition;
   shape = Plain;
-  items = map (bound_value source.columns) (shown_by q.items);
+  items = map (bound_value (scope_of source)) (shown_by q.items);
   distinct = false;
 }
 
@@ -141,66 +155,60 @@ header place (item ∷ items) = unwrap_or item.alias (shown_name place item.valu
 abbrev pub bound_select : Select → Named → Bound
 bound_select q source = commands.Select (header 1 q.items) (bound_query q source) (record { keys = []; limit = None })
 
--- what an item of a view is called where it has no name behind AS: a column by its name, and the others by their place
+-- what an item of a view is called where it has no name behind AS: a bare column by its name, and the others by their place
 abbrev pub own_name : ℕ → ItemValue → List ℕ
-own_name place (values.Column name) = name
-own_name place values.CountAll = name_by_place place
-own_name place (values.Sum name) = name_by_place place
+own_name place (values.Value w) = shown_name place w
+own_name place aggregate = name_by_place place
 
 -- what the items from a place on are called
 abbrev pub item_names : ℕ → List Item → List (List ℕ)
 item_names place [] = []
 item_names place (item ∷ items) = unwrap_or item.alias (own_name place item.value) ∷ item_names (place + 1) items
 
--- the type of the column of a name
-abbrev pub type_named : List ColumnDef → List ℕ → Ty
-type_named columns name = slice_index_or (map (λ c. c.ty) columns) (place_in columns name) Integer
-
--- the type of an item: that of its column, and counts and sums are whole numbers
-abbrev pub item_type : List ColumnDef → ItemValue → Ty
-item_type columns (values.Column name) = type_named columns name
-item_type columns values.CountAll = Integer
-item_type columns (values.Sum name) = Integer
+-- the type of an item of groups, and counts and sums are whole numbers
+abbrev pub item_type : Scope → ItemValue → Ty
+item_type groups (values.Value w) = type_of (typed groups w)
+item_type groups aggregate = Integer
 
 -- the columns of a view that its items from a place on are shown as
-abbrev pub item_columns : List ColumnDef → ℕ → List Item → List ColumnDef
-item_columns columns place [] = []
-item_columns columns place (item ∷ items) =
-    record { name = unwrap_or item.alias (own_name place item.value); ty = item_type columns item.value; not_null = false } ∷ item_columns columns (place + 1) items
+abbrev pub item_columns : Scope → ℕ → List Item → List ColumnDef
+item_columns groups place [] = []
+item_columns groups place (item ∷ items) =
+    record { name = unwrap_or item.alias (own_name place item.value); ty = item_type groups item.value; not_null = false } ∷ item_columns groups (place + 1) items
 
--- the columns of a view on a table
-abbrev pub view_columns : List ColumnDef → ViewSelect → List ColumnDef
-view_columns columns v = item_columns columns 1 v.items
+-- the columns of a view on a source
+abbrev pub view_columns : Scope → ViewSelect → List ColumnDef
+view_columns s v = item_columns (in_groups v.group s) 1 v.items
 
--- what an item tells of a group
-abbrev pub aggregates_in : List ColumnDef → ItemValue → List Aggregate
-aggregates_in columns (values.Column name) = []
-aggregates_in columns values.CountAll = aggregates.CountAll ∷ []
-aggregates_in columns (values.Sum name) = aggregates.Sum (named_column columns name) ∷ []
+-- what an item tells of a group of the source's rows
+abbrev pub aggregates_in : Scope → ItemValue → List Aggregate
+aggregates_in s (values.Value w) = []
+aggregates_in s values.CountAll = aggregates.CountAll ∷ []
+aggregates_in s (values.Count w) = aggregates.Count (bound_value s w) ∷ []
+aggregates_in s (values.Sum w) = aggregates.Sum (bound_value s w) ∷ []
 
--- where a column of GROUP BY stands in a group's row
-abbrev pub group_place : List (List ℕ) → List ℕ → ℕ
-group_place group name = unwrap_or (position (λ g. is_text g name) group) 0
-
--- the items by their places in a group's row: its key, and from a place on what these items tell of it
-abbrev pub item_places_in : List (List ℕ) → ℕ → List ItemValue → List ℕ
-item_places_in group next [] = []
-item_places_in group next (values.Column name ∷ items) = group_place group name ∷ item_places_in group next items
-item_places_in group next (values.CountAll ∷ items) = next ∷ item_places_in group (next + 1) items
-item_places_in group next (values.Sum name ∷ items) = next ∷ item_places_in group (next + 1) items
+-- the items over a group's row, which has its key, and from a place on what these items tell of it
+abbrev pub group_items : Scope → ℕ → List ItemValue → List Expr
+group_items groups next [] = []
+group_items groups next (values.Value w ∷ items) = bound_value groups w ∷ group_items groups next items
+group_items groups next (aggregate ∷ items) = exprs.Column next ∷ group_items groups (next + 1) items
 
 -- what the items of a view show
 abbrev pub values_in : ViewSelect → List ItemValue
 values_in v = map (λ item. item.value) v.items
+
+-- a table as a view names it
+abbrev pub view_source : ViewSelect → TableOf → Scope
+view_source v t = scope_as v.source (from_table t)
 
 -- a view's query on its table
 abbrev pub grouped_query : ViewSelect → TableOf → Query
 grouped_query v t = record {
   first = Table t.number;
   joins = [];
-  filter = option_map (bound_condition t.columns) v.condition;
-  shape = Grouped (Some (map (place_in t.columns) v.group)) (flat_map (aggregates_in t.columns) (values_in v)) None;
-  items = map exprs.Column (item_places_in v.group (length v.group) (values_in v));
+  filter = option_map (bound_condition (view_source v t)) v.condition;
+  shape = Grouped (Some (map (place_in t.columns) v.group)) (flat_map (aggregates_in (view_source v t)) (values_in v)) None;
+  items = group_items (in_groups v.group (view_source v t)) (length v.group) (values_in v);
   distinct = false;
 }
 
@@ -208,8 +216,8 @@ grouped_query v t = record {
 abbrev pub bound : State → Statement → Option Bound
 bound s (statements.CreateTable name columns sort) = Some (commands.CreateTable name columns (map (place_in columns) sort))
 bound s (statements.DropTable name) = option_map (λ t. commands.DropTable t.number) (table_named name s.tables)
-bound s (statements.CreateView name view) = option_map (λ t. commands.CreateView name (view_columns t.columns view) (grouped_query view t)) (table_named view.source.name s.tables)
+bound s (statements.CreateView name view) = option_map (λ t. commands.CreateView name (view_columns (view_source view t) view) (grouped_query view t)) (table_named view.source.name s.tables)
 bound s (statements.DropView name) = option_map commands.DropView (view_place name s.views)
 bound s (statements.Insert name rows) = option_map (λ t. commands.Insert t.number (map row_of rows)) (table_named name s.tables)
-bound s (statements.Delete name condition) = option_map (λ t. commands.Delete t.number (option_map (bound_condition t.columns) condition)) (table_named name s.tables)
+bound s (statements.Delete name condition) = option_map (λ t. commands.Delete t.number (option_map (bound_condition (scope_of (from_table t))) condition)) (table_named name s.tables)
 bound s (statements.Select q) = option_map (bound_select q) (source_named q.source.name s)

@@ -23,9 +23,9 @@ use Rattle.cq_model.specs.Written.{Written}
 use Rattle.cq_steps.specs.declared.fault.Fault.{Fault}
 use Rattle.cq_steps.specs.declared.fault.Fault.TheVariants.{UnknownTable, UnknownColumn, NameTaken, TypeMismatch, AggregateMisplaced, TooWide, NumberOutside, NullNotAllowed, TableFull, TableInUse, ViewNotWritten, TextTooLong, BadDate, ClauseInView, LimitExceeded}
 use Rattle.cq_steps.specs.declared.fault.Fault.TheVariants as faults
-use Rattle.cq_steps.specs.Bound.{column_place, type_named, item_names, values_in, Named, from_table, scope_as, scope_of, shown_by, source_named}
+use Rattle.cq_steps.specs.Bound.{column_place, in_groups, item_names, values_in, view_source, Named, from_table, scope_as, scope_of, shown_by, source_named}
 use Rattle.cq_steps.specs.State.{TableOf, ViewOf, State, table_named, view_place, view_named, is_taken}
-use Rattle.cq_steps.specs.Typing.{Scope, condition_fault, typed, value_fault}
+use Rattle.cq_steps.specs.Typing.{Scope, condition_fault, kept_fault, number_fault, typed, value_fault}
 
 -- the first place that has a fault decides
 abbrev pub first_fault : List (Option Fault) → Option Fault
@@ -102,10 +102,6 @@ abbrev pub insert_places : ℕ → List (List Constant) → Result TableOf Fault
 insert_places max_rows rows (Err f) = Some f ∷ []
 insert_places max_rows rows (Ok t) = flat_map (row_places t.columns) rows ++ fault_if (nat_lt max_rows (length t.rows + length rows)) TableFull ∷ []
 
--- a column that is added up
-abbrev pub number_place : List ColumnDef → List ℕ → Option Fault
-number_place columns name = fault_if (not (is_type (type_named columns name) types.Integer)) TypeMismatch
-
 -- WHERE: the walk through it, and then that it is a condition
 abbrev pub where_place : Scope → Option Written → Option Fault
 where_place s None = None
@@ -133,11 +129,12 @@ select_places q (Some source) = source_places q (scope_as q.source source)
 abbrev pub read_table : List ℕ → State → Result TableOf Fault
 read_table name s = ok_or (table_named name s.tables) (if is_some (view_named name s.views) then ClauseInView else UnknownTable)
 
--- an item of a view: a column that is there and grouped, or the column of numbers that a SUM adds
-abbrev pub item_places : List ColumnDef → List (List ℕ) → ItemValue → List (Option Fault)
-item_places columns group (values.Column name) = name_place columns name ∷ fault_if (not (list_any (λ g. is_text g name) group)) AggregateMisplaced ∷ []
-item_places columns group values.CountAll = []
-item_places columns group (values.Sum name) = name_place columns name ∷ number_place columns name ∷ []
+-- an item of a view: the walk through it, and then that it is a value with a type; COUNT asks for a value, and SUM for a number
+abbrev pub item_place : Scope → List (List ℕ) → ItemValue → Option Fault
+item_place s group (values.Value w) = kept_fault (typed (in_groups group s) w)
+item_place s group values.CountAll = None
+item_place s group (values.Count w) = value_place s w
+item_place s group (values.Sum w) = number_fault (typed s w)
 
 -- each name that an earlier one is
 abbrev pub repeats : List (List ℕ) → List (List ℕ) → Bool
@@ -149,12 +146,12 @@ abbrev pub query_places : Scope → ViewSelect → List (Option Fault)
 query_places s v =
     where_place s v.condition
     ∷ map (name_place s.columns) v.group ++ too_long (length v.group)
-    ∷ flat_map (item_places s.columns v.group) (values_in v) ++ fault_if (repeats [] (item_names 1 v.items)) NameTaken ∷ too_long (length v.items) ∷ []
+    ∷ map (item_place s v.group) (values_in v) ++ fault_if (repeats [] (item_names 1 v.items)) NameTaken ∷ too_long (length v.items) ∷ []
 
 -- a view's query: the table, and what stands behind it
 abbrev pub view_select_places : ViewSelect → Result TableOf Fault → List (Option Fault)
 view_select_places v (Err f) = Some f ∷ []
-view_select_places v (Ok t) = query_places (scope_as v.source (from_table t)) v
+view_select_places v (Ok t) = query_places (view_source v t) v
 
 -- CREATE VIEW: the name, then the query
 abbrev pub create_view_places : List ℕ → ViewSelect → State → List (Option Fault)

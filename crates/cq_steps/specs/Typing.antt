@@ -1,6 +1,7 @@
 -- The walk through an expression: each operand from left to right, and then the node that needs them. The first fault
 -- refuses, and what has none gives a value of a type or a condition (docs/LANGUAGE.md, Expressions).
 use Rattle.std.specs.Prelude.{ℕ, ◌+◌, ◌*◌, ◌^◌, nat_lt, nat_le, Bool, true, false, ◌&&◌, not, if◌then◌else◌, List, length, map, Option, Some, None, Result, Ok, Err, is_none, position, slice_index_or}
+use Rattle.std.specs.List.{list_any}
 use denote.Enum.Bare.{sameb}
 use Rattle.cq_values.specs.contracts.ty.Ty as ty
 use Rattle.cq_values.specs.declared.ty.Ty.{Ty}
@@ -12,7 +13,7 @@ use Rattle.cq_model.specs.declared.statement.ColumnDef.{ColumnDef}
 use Rattle.cq_model.specs.Width.{part_limit}
 use Rattle.cq_model.specs.Written.{Written, Choices, Number, Text, Date, Null, Column, Extract, Parens, Negative, Times, Plus, Minus, Compare, IsNull, Between, In, Like, Not, And, Or, NoChoice, Choice}
 use Rattle.cq_steps.specs.declared.fault.Fault.{Fault}
-use Rattle.cq_steps.specs.declared.fault.Fault.TheVariants.{UnknownTable, UnknownColumn, TypeMismatch, TooWide, TextTooLong, BadDate}
+use Rattle.cq_steps.specs.declared.fault.Fault.TheVariants.{UnknownTable, UnknownColumn, TypeMismatch, AggregateMisplaced, TooWide, TextTooLong, BadDate}
 use Rattle.cq_steps.specs.declared.typing.Kind.{Kind}
 use Rattle.cq_steps.specs.declared.typing.Kind.TheVariants as kinds
 use Rattle.cq_steps.specs.declared.typing.Typing.{Typing}
@@ -27,11 +28,13 @@ abbrev pub ◌and_then◌ : {A B : Type 0} → Result A Fault → (A → Result 
 abbrev pub unless : {A : Type 0} → Bool → Fault → A → Result A Fault
 unless met f x = if met then Ok x else Err f
 
--- the source that expressions read: the name that it is known by, its columns, and the size that each one's numbers never exceed
+-- the source that expressions read: the name that it is known by, its columns, and the size that each one's numbers never exceed;
+-- the items of groups read the columns behind GROUP BY alone
 pub record Scope : Type 0 where
   pub known : List ℕ
   pub columns : List ColumnDef
   pub sizes : List ℕ
+  pub grouped : Option (List (List ℕ))
 
 -- where the column of a name stands
 abbrev pub column_at : Scope → List ℕ → Option ℕ
@@ -46,6 +49,11 @@ knows s (Some source) = is_text s.known source
 abbrev pub type_at : List ColumnDef → ℕ → Ty
 type_at cs i = slice_index_or (map (λ c. c.ty) cs) i types.Integer
 
+-- whether a column that is there may be read: all of a source's may, and of a group's those behind GROUP BY
+abbrev pub may_read : Option (List (List ℕ)) → List ℕ → Bool
+may_read None name = true
+may_read (Some group) name = list_any (λ g. is_text g name) group
+
 -- a value of a type
 abbrev pub value_of : Ty → ℕ → Typing
 value_of t size = record { kind = kinds.Value t; size = size }
@@ -54,10 +62,10 @@ value_of t size = record { kind = kinds.Value t; size = size }
 abbrev pub a_condition : Typing
 a_condition = record { kind = kinds.Condition; size = 0 }
 
--- a column: its source, and then the name
-abbrev pub column_typing : Scope → Option ℕ → Result Typing Fault
-column_typing s None = Err UnknownColumn
-column_typing s (Some i) = Ok (value_of (type_at s.columns i) (slice_index_or s.sizes i 0))
+-- a column: its name, and then whether it is grouped
+abbrev pub column_typing : Scope → List ℕ → Option ℕ → Result Typing Fault
+column_typing s name None = Err UnknownColumn
+column_typing s name (Some i) = unless (may_read s.grouped name) AggregateMisplaced (value_of (type_at s.columns i) (slice_index_or s.sizes i 0))
 
 -- whether something is a value of this type; NULL is one of any type
 abbrev pub is_of : Ty → Kind → Bool
@@ -72,6 +80,11 @@ is_value k = true
 abbrev pub is_condition : Kind → Bool
 is_condition kinds.Condition = true
 is_condition k = false
+
+-- whether something has a type of its own, which NULL alone has not
+abbrev pub has_type : Kind → Bool
+has_type (kinds.Value t) = true
+has_type k = false
 
 -- two values that can be compared: one type, or a NULL
 abbrev pub agree : Kind → Kind → Bool
@@ -137,7 +150,7 @@ abbrev mutual
   typed s (Text t) = text_of t
   typed s (Date t) = unless (not (is_none (day_named t))) BadDate (value_of types.Date 0)
   typed s Null = Ok (record { kind = kinds.Null; size = 0 })
-  typed s (Column c) = if knows s c.source then column_typing s (column_at s c.name) else Err UnknownTable
+  typed s (Column c) = if knows s c.source then column_typing s c.name (column_at s c.name) else Err UnknownTable
   typed s (Extract part a) = typed s a and_then part_of part
   typed s (Parens a) = typed s a
   typed s (Negative a) = typed s a and_then negative
@@ -158,6 +171,14 @@ abbrev mutual
   listed s x all_agree NoChoice = unless all_agree TypeMismatch a_condition
   listed s x all_agree (Choice b bs) = typed s b and_then λ y. listed s x (all_agree && agree x.kind y.kind) bs
 
+-- SUM asks for a number
+abbrev pub added : Typing → Result Typing Fault
+added x = unless (is_of types.Integer x.kind) TypeMismatch x
+
+-- a column of a view asks for a value with a type
+abbrev pub kept_value : Typing → Result Typing Fault
+kept_value x = unless (has_type x.kind) TypeMismatch x
+
 -- the fault of an expression, if it has one
 abbrev pub fault_in : {A : Type 0} → Result A Fault → Option Fault
 fault_in (Ok x) = None
@@ -170,3 +191,21 @@ condition_fault t = fault_in (t and_then negation_of)
 -- a value that is asked for as a whole, as an item
 abbrev pub value_fault : Result Typing Fault → Option Fault
 value_fault t = fault_in (t and_then tested)
+
+-- a number that is asked for as a whole, to be added
+abbrev pub number_fault : Result Typing Fault → Option Fault
+number_fault t = fault_in (t and_then added)
+
+-- a value with a type that is asked for as a whole, as an item of a view
+abbrev pub kept_fault : Result Typing Fault → Option Fault
+kept_fault t = fault_in (t and_then kept_value)
+
+-- the type of a value that has one
+abbrev pub kind_type : Kind → Ty
+kind_type (kinds.Value t) = t
+kind_type k = types.Integer
+
+-- the type of what has no fault
+abbrev pub type_of : Result Typing Fault → Ty
+type_of (Ok x) = kind_type x.kind
+type_of (Err f) = types.Integer

@@ -85,12 +85,18 @@ module _ (y m d : ℕ) (n : ℤ) (real : IsCivilDate (pos y) m d) (numbered : n 
       let all : min 12 (m + 1 - 1) ≡ m = omega arith in
       rw year_of_date (counted (λ (k : ℕ). int_le (days_from_civil (pos y) k 1) n) m 1 12 (λ k low high. month_begun k low (omega arith)) ∙ all)
 
-  -- the days since the first of the month, and one
+  -- a day of the month has begun if it is not after the date's
+  day_begun : (k : ℕ) → 1 ≤ k → k ≤ 31 → int_le (days_from_civil (pos y) m k) n ≡ nat_le k d
+  day_begun k low high =
+      let apart = day_count-day (pos y) m k d low real.2.0 in
+      rw numbered (begun (pos y) (pos y) m k m d k d (λ le. omega (arith, apart)) (λ lt. omega (arith, apart)))
+
+  -- the days that have begun are those up to the date's
   pub day_of_date : day_of_month n ≡ d
   unfolding day_of_month
   day_of_date =
-      let passed : days_from_civil (pos y) m d -ℤ days_from_civil (pos y) m 1 ≡ pos (d - 1) = omega (arith, signed_arith, real.2.0, days_from_civil-day_count (pos y) m d, days_from_civil-day_count (pos y) m 1, day_count-day (pos y) m 1 d (omega arith) real.2.0) in
-      rw (year_of_date, month_of_date, numbered, passed) (omega (arith, real.2.0))
+      let all : min 31 (d + 1 - 1) ≡ d = omega (arith, days_in_month_bounds (pos y) m, real.2.1) in
+      rw (year_of_date, month_of_date) (counted (λ (k : ℕ). int_le (days_from_civil (pos y) m k) n) d 1 31 (λ k low high. day_begun k low (omega arith)) ∙ all)
 
 -- the days before 0001-01-01
 pub day_count-start : day_count (pos 1) 1 1 ≡ 3_652_791

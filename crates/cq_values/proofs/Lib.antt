@@ -1,3 +1,4 @@
 pub mod Calendar
+pub mod Parts
 pub mod NamedDays
 pub mod Sums

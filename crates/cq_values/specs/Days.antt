@@ -1,5 +1,5 @@
 -- The numbers of days, and the calendar by which they are written. 1970-01-01 is day 0.
-use Rattle.std.specs.Prelude.{ℕ, ◌+◌, ℤ, pos, neg_ℤ, ◌≤ℤ◌, ◌-ℤ◌, int_le, nat_abs, count_by}
+use Rattle.std.specs.Prelude.{ℕ, ℤ, pos, neg_ℤ, ◌≤ℤ◌, int_le, count_by}
 use Rattle.std.specs.List.{range_with_len}
 use Rattle.jiff_core.specs.Calendar.{days_from_civil}
 
@@ -15,6 +15,6 @@ year_of n = count_by (λ y. int_le (days_from_civil (pos y) 1 1) n) (range_with_
 unfoldable pub month_of : ℤ → ℕ
 month_of n = count_by (λ m. int_le (days_from_civil (pos (year_of n)) m 1) n) (range_with_len 1 12)
 
--- the day of the month counts from 1, the day that the month begins with
+-- the day of the month is the number of days of the month that have begun by the day
 unfoldable pub day_of_month : ℤ → ℕ
-day_of_month n = nat_abs (n -ℤ days_from_civil (pos (year_of n)) (month_of n) 1) + 1
+day_of_month n = count_by (λ d. int_le (days_from_civil (pos (year_of n)) (month_of n) d) n) (range_with_len 1 31)

@@ -1,10 +1,12 @@
 //! Values whose texts are lent.
-ghost use Rattle.std.specs.Prelude.{◌≡◌};
+ghost use Rattle.std.specs.Prelude.{◌≡◌, IfOk};
 ghost use Rattle.cq_values.specs.Lent.{owned};
 ghost use Rattle.cq_values.specs.Order.{value_cmp};
 
 use crate::day::Day;
+use crate::text::Text;
 use crate::value::Value;
+use std::alloc::{AllocError, Global};
 use std::cmp::Ordering;
 
 /// A value that is read where it stands: its text is not copied.
@@ -25,6 +27,20 @@ impl Value {
             Value::Day(d) => Lent::Day(*d),
             Value::Text(t) => Lent::Text(t.as_str()),
             Value::Null => Lent::Null,
+        }
+    }
+}
+
+impl Lent<'_> {
+    /// The value as one of its own: a text is copied.
+    pub fn to_value(&self, alloc: Global) -> Result<Value, AllocError>
+        ensures { IfOk result (λ v. v ≡ owned self.now) }
+    {
+        match self {
+            Lent::Number(n) => Ok(Value::Number(*n)),
+            Lent::Day(day) => Ok(Value::Day(*day)),
+            Lent::Text(text) => Ok(Value::Text(Text::new(alloc, text)?)),
+            Lent::Null => Ok(Value::Null),
         }
     }
 }

@@ -14,7 +14,7 @@ use Rattle.cq_views.proofs.Moves.{small-changes, small-rows}
 use Rattle.cq_views.proofs.Standing.{nothing-stands}
 
 -- rows that stand once each are a bag
-once_each-bag : (rows : List Row) → IsBag (once_each rows)
+pub once_each-bag : (rows : List Row) → IsBag (once_each rows)
 once_each-bag rows = record { at = λ r. subst (λ n. pos 0 ≤ℤ n) (sym (weight_of-once_each rows r)) (omega (arith, ints)) }
 
 -- the view of an empty table

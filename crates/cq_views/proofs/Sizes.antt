@@ -1,19 +1,26 @@
--- How large the numbers in the columns of a view can be, item by item.
-use Rattle.std.proofs.Common.{◌≡◌, ℕ, zero, suc, ◌<◌, List, [], ◌∷◌, ◌++◌, map, length, refl, arith}
+-- How large the numbers in a group's row can be, and that no item works out what is too wide over them.
+use Rattle.std.proofs.Common.{ℕ, zero, suc, ◌≤◌, ◌<◌, ◌^◌, List, [], ◌∷◌, ◌++◌, map, length, arith}
+use Rattle.std.specs.List.{AllByRecursion}
 use Rattle.std.specs.Prelude.{slice_index_or}
-use Rattle.cq_model.specs.Expr.{Column}
-use Rattle.cq_model.specs.Sizes.{column_sizes, row_size, stored_size}
-use Rattle.cq_model.specs.Width.{width}
-use Rattle.cq_model.proofs.Conditions.{map-map}
+use Rattle.cq_model.specs.Expr.{Expr}
+use Rattle.cq_model.specs.Sizes.{row_size, stored_size, told_size}
+use Rattle.cq_model.specs.Width.{widest}
 use Rattle.cq_views.specs.declared.view_def.ViewDef.{ViewDef}
-use Rattle.cq_views.specs.View.{query_of, shape_of}
-
--- an item is as large as what stands at its place
-pub sizes-are : (def : ViewDef) → column_sizes (query_of def) ≡ map (row_size (shape_of def)) def.items
-sizes-are def = map-map Column (λ e. (width e (row_size (shape_of def))).size) def.items
+use Rattle.cq_views.specs.Small.{CanBeKept, IsItemNarrow}
+use Rattle.cq_views.specs.View.{shape_of}
 
 -- a key is as large as a stored number
-pub key-size : (keys rest : List ℕ) (i : ℕ) → i < length keys → slice_index_or (map (λ k. stored_size) keys ++ rest) i 0 ≡ stored_size
+key-size : (keys rest : List ℕ) (i : ℕ) → i < length keys → slice_index_or (map (λ k. stored_size) keys ++ rest) i 0 ≤ stored_size
 key-size [] rest i h = absurd (omega (arith, h))
-key-size (k ∷ keys) rest zero h = refl
+key-size (k ∷ keys) rest zero h = omega arith
 key-size (k ∷ keys) rest (suc i) h = key-size keys rest i (omega (arith, h))
+
+-- items that are narrow over stored keys are narrow where so many columns are within that size
+pub items-narrow : (keys : ℕ) (sizes : ℕ → ℕ) → ((i : ℕ) → i < keys → sizes i ≤ stored_size) → (items : List Expr) → AllByRecursion (IsItemNarrow keys) items
+    → AllByRecursion (λ e. widest sizes e < 2 ^ 127) items
+items-narrow keys sizes stored [] narrow = tt
+items-narrow keys sizes stored (e ∷ items) narrow = (narrow.0 sizes stored, items-narrow keys sizes stored items narrow.1)
+
+-- so over a group's row
+pub sizes-narrow : (def : ViewDef) → CanBeKept def → AllByRecursion (λ e. widest (row_size (shape_of def)) e < 2 ^ 127) def.items
+sizes-narrow def can = items-narrow (length def.keys) (row_size (shape_of def)) (key-size def.keys (map told_size def.aggregates)) def.items can.items

@@ -52,7 +52,7 @@ module _ (columns : List ℕ) (aggregates : List Aggregate) (table : Table) (xs 
       (λ b. absurd (omega (arith, ints, weight, weight_of-absent (once_each (counted_keys table)) k (ap (is_among k) (rows-once (counted_keys table)) ∙ b))))
 
   -- a key that is listed occurs
-  occurs : (k : Row) → IsRowOf k (counted_keys table) → IsRowOf k (keys_of columns xs)
+  pub occurs : (k : Row) → IsRowOf k (counted_keys table) → IsRowOf k (keys_of columns xs)
   occurs k among =
       let weight = weight-among (counted_keys table) k (row-to-test k (counted_keys table) among) in
       by_test (int_lt (pos 0) (group_at aggregates table k).count)

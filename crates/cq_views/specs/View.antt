@@ -3,14 +3,14 @@ use Rattle.std.specs.Prelude.{◌≡◌, ℕ, ◌<◌, ◌^◌, ℤ, false, List
 use Rattle.std.specs.List.{AllByRecursion}
 use Rattle.cq_values.specs.Value.{Row}
 use Rattle.cq_bags.specs.Bag.{Weighted, SameBag, IsBag, filtered}
-use Rattle.cq_model.specs.Expr.{Column}
+use Rattle.cq_model.specs.Expr.{Expr}
 use Rattle.cq_model.specs.declared.query.Query.{Query}
 use Rattle.cq_model.specs.declared.query.Shape.{Shape}
 use Rattle.cq_model.specs.declared.query.Shape.TheVariants.{Grouped}
 use Rattle.cq_model.specs.declared.query.Source.TheVariants.{Table as FromTable}
 use Rattle.cq_model.specs.Kept.{Groups, LastStands}
 use Rattle.cq_model.specs.Meaning.{Tables, keeps}
-use Rattle.cq_model.specs.Width.{widest_at}
+use Rattle.cq_model.specs.Width.{extent, widest_at}
 use Rattle.cq_deltas.specs.declared.change.Addition.{Addition}
 use Rattle.cq_deltas.specs.Additions.{IsNarrow, additions}
 use Rattle.cq_deltas.specs.Table.{Table, group_at}
@@ -27,7 +27,7 @@ query_of def = record {
   joins = [];
   filter = def.filter;
   shape = shape_of def;
-  items = map Column def.items;
+  items = def.items;
   distinct = false;
 }
 
@@ -63,6 +63,10 @@ change_of def dxs = additions def.keys def.aggregates (kept_rows def dxs)
 pub record IsNarrowFor (def : ViewDef) (row : Row) : Type 0 where
   pub filter : IfSome def.filter (λ c. widest_at c row < 2 ^ 127)
   pub aggregates : AllByRecursion (IsNarrow row) def.aggregates
+
+-- no number that is written or worked out on the way to an item is too wide at a group's row
+abbrev pub AreNarrowAt : List Expr → Row → Type 0
+AreNarrowAt items group = AllByRecursion (λ e. (extent e group).widest < 2 ^ 127) items
 
 -- nothing of a view has changed: each key has its group, and they stand for what they stood for
 pub record SameView (old new : KeptView) : Type 0 where

@@ -1,19 +1,21 @@
 //! The items of a view.
+ghost use Rattle.std.specs.List.{AllByRecursion};
 ghost use Rattle.std.specs.Prelude.{◌≡◌, IfOk, map};
-ghost use Rattle.cq_model.specs.Expr.{Column};
 ghost use Rattle.cq_model.specs.Meaning.{items_of};
-ghost use Rattle.cq_values.specs.Value.{column};
+ghost use Rattle.cq_views.specs.View.{AreNarrowAt};
 
+use cq_model::{Expr, eval_row};
 use cq_values::{Row, Value};
 use std::alloc::{AllocError, Global};
 
-/// What a view shows of the groups' rows: the values at these places.
+/// What a view shows of the groups' rows: the items, worked out in each of them.
 pub(crate) fn item_rows(
     alloc: Global,
-    items: &[usize],
+    items: &[Expr],
     groups: &[Row],
 ) -> Result<Vec<Row>, AllocError>
-    ensures { IfOk result (λ rows. rows.items ≡ map (items_of (map Column items.now)) groups.now) }
+    requires { AllByRecursion (AreNarrowAt items.now) groups.now }
+    ensures { IfOk result (λ rows. rows.items ≡ map (items_of items.now) groups.now) }
 {
     let mut rows = Vec::new(alloc);
     for group in groups {
@@ -22,21 +24,13 @@ pub(crate) fn item_rows(
     Ok(rows)
 }
 
-fn item_row(alloc: Global, items: &[usize], group: &[Value]) -> Result<Row, AllocError>
-    ensures { IfOk result (λ row. row ≡ items_of (map Column items.now) group.now) }
+fn item_row(alloc: Global, items: &[Expr], group: &[Value]) -> Result<Row, AllocError>
+    requires { AreNarrowAt items.now group.now }
+    ensures { IfOk result (λ row. row ≡ items_of items.now group.now) }
 {
     let mut row = Row::new(alloc);
-    for place in items {
-        row.push(copy_item(alloc, group, *place)?)?;
+    for item in items {
+        row.push(eval_row(item, group).to_value(alloc)?)?;
     }
     Ok(row)
-}
-
-fn copy_item(alloc: Global, group: &[Value], place: usize) -> Result<Value, AllocError>
-    ensures { IfOk result (λ v. v ≡ column group.now place) }
-{
-    match group.get(place) {
-        Some(value) => value.copy(alloc),
-        None => Ok(Value::Null),
-    }
 }

@@ -7,7 +7,7 @@ ghost use Rattle.cq_deltas.specs.Table.{HasKeys, HoldsFor};
 ghost use Rattle.cq_model.specs.Meaning.{MeaningInRange, Tables, meaning};
 ghost use Rattle.cq_model.specs.Sizes.{column_sizes};
 ghost use Rattle.cq_values.specs.Value.{Row as Values};
-ghost use Rattle.cq_views.specs.Small.{CanBeKept, IsSmallFor};
+ghost use Rattle.cq_views.specs.Small.{CanBeKept, IsSmallFor, StandsOnStored};
 ghost use Rattle.cq_views.specs.View.{GoesOn, IsNarrowFor, SameView, Stands, StandsFor, change_of, changed, query_of};
 
 use crate::items::item_rows;
@@ -168,6 +168,7 @@ impl ViewState {
 
     /// The rows of the view, in no order that is promised. It costs what the view holds, and the table is not read.
     pub fn rows(&self, alloc: Global) -> Result<Vec<Row>, ToldFault>
+        requires { StandsOnStored self.now }
         ensures bag { IfOk result (λ rows. (tables : Tables) → StandsFor self.now tables → SameBag (once_each rows.items) (meaning (query_of self.now.def) tables)) }
         ensures range { OnOk result ((tables : Tables) → StandsFor self.now tables → MeaningInRange (query_of self.now.def) tables) }
         ensures fault { IfErr result (λ e. e ≡ SumOutOfRange → (tables : Tables) → StandsFor self.now tables → MeaningInRange (query_of self.now.def) tables → ⊥) }

@@ -1,13 +1,16 @@
 //! A view of a small table, as rows come and go.
 ghost use Rattle.std.specs.List.{AllByRecursion};
-ghost use Rattle.std.specs.Prelude.{◌≡◌, ◌<◌, ◌^◌, ◌≤◌, IfOk, nat_abs, pos};
-ghost use Rattle.cq_model.specs.Expr.{Column, Compare, Literal};
+ghost use Rattle.std.specs.Prelude.{◌≡◌, ◌++◌, ◌∷◌, ◌<◌, ◌≤◌, IfOk, List, [], length, nat_abs, pos};
+ghost use Rattle.cq_bags.specs.Bag.{SameBag, once_each};
+ghost use Rattle.cq_laws.specs.Sizes.{IsSized};
+ghost use Rattle.cq_model.specs.Expr.{Column, Compare, Literal, Plus, Times};
+ghost use Rattle.cq_model.specs.Sizes.{stored_size};
 ghost use Rattle.cq_model.specs.Width.{value_size};
 ghost use Rattle.cq_model.specs.declared.statement.Comparison.TheVariants.{NotEqual};
 ghost use Rattle.cq_values.specs.declared.value.Value.TheVariants.{Number};
-ghost use Rattle.cq_values.specs.Value.{Row as Values, column};
+ghost use Rattle.cq_values.specs.Value.{Row as Values};
 ghost use Rattle.cq_views.specs.Small.{CanBeKept};
-ghost use Rattle.cq_views.specs.View.{IsNarrowFor};
+ghost use Rattle.cq_views.specs.View.{IsNarrowFor, Stands};
 
 use crate::state::ViewState;
 use crate::view_def::ViewDef;
@@ -25,10 +28,24 @@ fn not_nine() -> Cond
     Cond::new(CondTree::Compare(Comparison::NotEqual, number, nine))
 }
 
-/// Each key with the total of its numbers, of the rows whose number is not 9.
+/// Twice the key, and one more.
+fn twice_and_one(alloc: Global) -> Result<Expr, AllocError>
+    ensures { IfOk result (λ e. e ≡ Plus (Times (Column 0) (Literal (Number (pos 2)))) (Literal (Number (pos 1)))) }
+{
+    let (two, one) = (Value::Number(2), Value::Number(1));
+    let key = Box::new(alloc, ExprTree::Column(0))?;
+    let twice = ExprTree::Product(key, vec![in alloc; ExprTree::Literal(two)]?);
+    let sum = ExprTree::Sum(
+        Box::new(alloc, twice)?,
+        vec![in alloc; ExprTree::Literal(one)]?,
+    );
+    Ok(Expr::new(sum))
+}
+
+/// Each key, what is worked out from it, and the total of its numbers, of the rows whose number is not 9.
 fn totals(alloc: Global) -> Result<ViewDef, AllocError>
     ensures can_be_kept { IfOk result CanBeKept }
-    ensures narrow { IfOk result (λ def. (r : Values) → value_size (column r 1) < 2 ^ 127 → IsNarrowFor def r) }
+    ensures narrow { IfOk result (λ def. (r : Values) → IsSized (λ i. stored_size) r → IsNarrowFor def r) }
 {
     Ok(ViewDef {
         table: 7,
@@ -38,30 +55,54 @@ fn totals(alloc: Global) -> Result<ViewDef, AllocError>
             Aggregate::CountAll,
             Aggregate::Sum(Expr::column(1)),
         ]?),
-        items: Seq::from_vec(vec![in alloc; 0, 2]?),
+        items: Seq::from_vec(vec![in alloc;
+            Expr::column(0),
+            twice_and_one(alloc)?,
+            Expr::column(2),
+        ]?),
     })
 }
 
 fn row(alloc: Global, key: Value, number: i64) -> Result<Row, AllocError>
-    ensures { IfOk result (λ r. value_size (column r 1) < 2 ^ 127) }
+    requires { value_size key ≤ stored_size }
+    ensures { IfOk result (IsSized (λ i. stored_size)) }
 {
     copy_row(alloc, &[key, Value::Number(i128::from(number))])
 }
 
-/// What the view tells once a row of its table has come or gone.
-fn told_after(
+/// The view once a row of its table has come or gone.
+fn view_after(
     alloc: Global,
     table: &[Row],
     changed: &Row,
     weight: i128,
-) -> Result<Vec<Row>, ToldFault>
-    requires table { AllByRecursion (λ r. value_size (column r 1) < 2 ^ 127) table.now }
-    requires changed { value_size (column changed.now 1) < 2 ^ 127 }
+) -> Result<ViewState, AllocError>
+    requires table { AllByRecursion (IsSized (λ i. stored_size)) table.now }
+    requires changed { IsSized (λ i. stored_size) changed.now }
     requires once { nat_abs weight ≤ 1 }
+    ensures { IfOk result (λ v. (rows : List Values) → SameBag (once_each rows) (once_each table.now ++ (changed.now, weight) ∷ []) → Stands v (once_each rows)) }
 {
     let mut view = ViewState::build(alloc, totals(alloc)?, table, 0)?;
     let pending = view.prepare(alloc, &[changed], weight)?;
     view.commit(pending, 1);
+    Ok(view)
+}
+
+/// What the view tells once a row has come.
+fn told_with(alloc: Global, table: &[Row], row: &Row) -> Result<Vec<Row>, ToldFault>
+    requires table { AllByRecursion (IsSized (λ i. stored_size)) table.now }
+    requires row { IsSized (λ i. stored_size) row.now }
+{
+    let view = view_after(alloc, table, row, 1)?;
+    view.rows(alloc)
+}
+
+/// What the view tells once the first row of its table has gone.
+fn told_without_first(alloc: Global, table: &[Row]) -> Result<Vec<Row>, ToldFault>
+    requires table { AllByRecursion (IsSized (λ i. stored_size)) table.now }
+    requires some { 0 < length table.now }
+{
+    let view = view_after(alloc, table, &table[0], -1)?;
     view.rows(alloc)
 }
 
@@ -73,10 +114,10 @@ fn a_row_that_comes_joins_its_group(rt: HostRuntime) -> Result<(), Fail> {
         row(alloc, Value::Number(2), 9)?,
         row(alloc, Value::Null, 2)?,
     ];
-    let rows = told_after(alloc, &table, &row(alloc, Value::Null, 6)?, 1)?;
+    let rows = told_with(alloc, &table, &row(alloc, Value::Null, 6)?)?;
     assert_eq!(rt; rows.len(), 2);
-    let first = [Value::Number(1), Value::Number(5)];
-    let second = [Value::Null, Value::Number(8)];
+    let first = [Value::Number(1), Value::Number(3), Value::Number(5)];
+    let second = [Value::Null, Value::Null, Value::Number(8)];
     assert_eq!(rt; rows[0].as_slice(), first.as_slice());
     assert_eq!(rt; rows[1].as_slice(), second.as_slice());
     Ok(())
@@ -89,9 +130,9 @@ fn a_group_goes_with_its_last_row(rt: HostRuntime) -> Result<(), Fail> {
         row(alloc, Value::Number(1), 5)?,
         row(alloc, Value::Null, 2)?,
     ];
-    let rows = told_after(alloc, &table, &row(alloc, Value::Number(1), 5)?, -1)?;
+    let rows = told_without_first(alloc, &table)?;
     assert_eq!(rt; rows.len(), 1);
-    let left = [Value::Null, Value::Number(2)];
+    let left = [Value::Null, Value::Null, Value::Number(2)];
     assert_eq!(rt; rows[0].as_slice(), left.as_slice());
     Ok(())
 }
@@ -100,9 +141,19 @@ fn a_group_goes_with_its_last_row(rt: HostRuntime) -> Result<(), Fail> {
 fn a_row_that_where_drops_changes_nothing(rt: HostRuntime) -> Result<(), Fail> {
     let alloc = rt.alloc();
     let table = [row(alloc, Value::Number(1), 5)?];
-    let rows = told_after(alloc, &table, &row(alloc, Value::Number(1), 9)?, 1)?;
+    let rows = told_with(alloc, &table, &row(alloc, Value::Number(1), 9)?)?;
     assert_eq!(rt; rows.len(), 1);
-    let left = [Value::Number(1), Value::Number(5)];
+    let left = [Value::Number(1), Value::Number(3), Value::Number(5)];
     assert_eq!(rt; rows[0].as_slice(), left.as_slice());
+    Ok(())
+}
+
+#[test]
+fn an_item_is_as_large_as_what_it_works_out(rt: HostRuntime) -> Result<(), Fail> {
+    let alloc = rt.alloc();
+    let view = ViewState::build(alloc, totals(alloc)?, &[], 0)?;
+    let sizes = view.column_sizes(alloc)?;
+    let expected: [u128; 3] = [1 << 63, (1 << 64) + 1, 1 << 127];
+    assert_eq!(rt; sizes.as_slice(), expected.as_slice());
     Ok(())
 }

@@ -1,12 +1,14 @@
 //! The query of a view.
-ghost use Rattle.std.specs.Prelude.{IfOk, IfSome, ◌<◌, ◌^◌, ◌≡◌};
+ghost use Rattle.std.specs.List.{AllByRecursion};
+ghost use Rattle.std.specs.Prelude.{IfOk, IfSome, map, ◌++◌, ◌<◌, ◌^◌, ◌≡◌};
 ghost use Rattle.cq_deltas.specs.Additions.{AreTotals, IsTotal};
 ghost use Rattle.cq_model.specs.Meaning.{keeps};
-ghost use Rattle.cq_model.specs.Sizes.{column_sizes, row_size, told_size};
-ghost use Rattle.cq_model.specs.Width.{widest_at};
-ghost use Rattle.cq_views.specs.View.{query_of, shape_of};
+ghost use Rattle.cq_model.specs.Sizes.{column_sizes, stored_size, told_size};
+ghost use Rattle.cq_model.specs.Width.{bound, widest_at};
+ghost use Rattle.cq_views.specs.Small.{CanBeKept};
+ghost use Rattle.cq_views.specs.View.{query_of};
 
-use cq_model::{Aggregate, Cond, holds_row};
+use cq_model::{Aggregate, Cond, Expr, holds_row, width_of};
 use cq_values::{Seq, Value};
 use std::alloc::{AllocError, Global};
 
@@ -29,8 +31,8 @@ pub struct ViewDef {
     /// GROUP BY: columns of the table.
     pub keys: Seq<usize>,
     pub aggregates: Seq<Aggregate>,
-    /// Places in a group's row, which has its keys and then its aggregates.
-    pub items: Seq<usize>,
+    /// What is shown of a group's row, which has its keys and then its aggregates.
+    pub items: Seq<Expr>,
 }
 
 impl ViewDef {
@@ -47,29 +49,46 @@ impl ViewDef {
 
     /// How large the numbers in each column of the view can be.
     pub(crate) fn column_sizes(&self, alloc: Global) -> Result<Vec<u128>, AllocError>
-        requires { AreTotals self.now.aggregates }
+        requires { CanBeKept self.now }
         ensures { IfOk result (λ v. v.items ≡ column_sizes (query_of self.now)) }
     {
-        let mut sizes = Vec::new(alloc);
-        for place in self.items.as_slice() {
-            sizes.push(self.row_size(*place))?;
+        let group = self.group_sizes(alloc)?;
+        item_sizes(alloc, self.items.as_slice(), &group)
+    }
+
+    /// How large the numbers in a group's row can be.
+    fn group_sizes(&self, alloc: Global) -> Result<Vec<u128>, AllocError>
+        requires { AreTotals self.now.aggregates }
+        ensures { IfOk result (λ v. v.items ≡ map (λ k. stored_size) self.now.keys ++ map told_size self.now.aggregates) }
+    {
+        let mut sizes = vec![in alloc; STORED_SIZE; self.keys.len()]?;
+        for aggregate in self.aggregates.as_slice() {
+            sizes.push(told_size(aggregate))?;
         }
         Ok(sizes)
     }
+}
 
-    /// How large the number at a place of a group's row can be.
-    fn row_size(&self, place: usize) -> u128
-        requires { AreTotals self.now.aggregates }
-        ensures { result ≡ row_size (shape_of self.now) place }
-    {
-        let keys = self.keys.len();
-        if place < keys {
-            return STORED_SIZE;
-        }
-        match self.aggregates.as_slice().get(place - keys) {
-            Some(aggregate) => told_size(aggregate),
-            None => 0,
-        }
+/// How large the items can be over a group's row with numbers of these sizes.
+fn item_sizes(alloc: Global, items: &[Expr], group: &[u128]) -> Result<Vec<u128>, AllocError>
+    requires { AllByRecursion (λ e. (bound e group.now).widest < 2 ^ 127) items.now }
+    ensures { IfOk result (λ v. v.items ≡ map (λ e. (bound e group.now).size) items.now) }
+{
+    let mut sizes = Vec::new(alloc);
+    for item in items {
+        sizes.push(item_size(item, group))?;
+    }
+    Ok(sizes)
+}
+
+/// How large an item can be over a group's row with numbers of these sizes.
+fn item_size(item: &Expr, group: &[u128]) -> u128
+    requires { (bound item.now group.now).widest < 2 ^ 127 }
+    ensures { result ≡ (bound item.now group.now).size }
+{
+    match width_of(item, group) {
+        Some(size) => size,
+        None => unreachable!(),
     }
 }
 

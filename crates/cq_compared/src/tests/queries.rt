@@ -26,7 +26,7 @@ fn grouped(
     filter: Option<Cond>,
     keys: Seq<usize>,
     aggregates: Seq<Aggregate>,
-    items: [usize; 3],
+    items: Seq<Expr>,
 ) -> Result<Query, AllocError> {
     Ok(Query {
         first: Source::Table(0),
@@ -37,7 +37,7 @@ fn grouped(
             aggregates,
             having: None,
         },
-        items: columns(alloc, items)?,
+        items,
         distinct: false,
     })
 }
@@ -47,7 +47,7 @@ pub(crate) fn by_key(alloc: Global) -> Result<Query, AllocError> {
     let mut keys = Seq::new(alloc);
     keys.push(0)?;
     let told = two(alloc, Aggregate::CountAll, Aggregate::Sum(Expr::column(1)))?;
-    grouped(alloc, None, keys, told, [0, 1, 2])
+    grouped(alloc, None, keys, told, columns(alloc, [0, 1, 2])?)
 }
 
 /// SELECT SUM(k), a, COUNT(*) FROM t WHERE a > 0 GROUP BY a, k
@@ -56,15 +56,23 @@ pub(crate) fn of_positives(alloc: Global) -> Result<Query, AllocError> {
     let filter = CondTree::Compare(Comparison::Greater, ExprTree::Column(1), zero);
     let keys = two(alloc, 1, 0)?;
     let told = two(alloc, Aggregate::Sum(Expr::column(0)), Aggregate::CountAll)?;
-    grouped(alloc, Some(Cond::new(filter)), keys, told, [2, 0, 3])
+    let items = columns(alloc, [2, 0, 3])?;
+    grouped(alloc, Some(Cond::new(filter)), keys, told, items)
 }
 
-/// SELECT b, COUNT(*), SUM(a) FROM t WHERE .. GROUP BY b, of t(k, a, b, d)
-pub(crate) fn grouped_texts(alloc: Global, filter: Cond) -> Result<Query, AllocError> {
-    let mut keys = Seq::new(alloc);
-    keys.push(2)?;
-    let told = two(alloc, Aggregate::CountAll, Aggregate::Sum(Expr::column(1)))?;
-    grouped(alloc, Some(filter), keys, told, [0, 1, 2])
+/// SELECT shown, COUNT(counted), SUM(summed) FROM t WHERE .. GROUP BY b, k, of t(k, a, b, d)
+pub(crate) fn of_groups(
+    alloc: Global,
+    filter: Cond,
+    shown: Expr,
+    counted: Expr,
+    summed: Expr,
+) -> Result<Query, AllocError> {
+    let keys = two(alloc, 2, 0)?;
+    let told = two(alloc, Aggregate::Count(counted), Aggregate::Sum(summed))?;
+    let mut items = two(alloc, shown, Expr::column(2))?;
+    items.push(Expr::column(3))?;
+    grouped(alloc, Some(filter), keys, told, items)
 }
 
 /// SELECT .., .. FROM t WHERE ..

@@ -1,6 +1,6 @@
 //! Scripts made at random: what a SELECT, a DELETE and a view with any WHERE give is what the plain evaluator makes of it.
-use super::queries::{grouped_texts, meant, plain};
-use super::written::{condition, day, number, small, text};
+use super::queries::{meant, of_groups, plain};
+use super::written::{condition, day, key_number, number, small, text};
 use super::{answer, engine, rows};
 use cq_engine::Engine;
 use cq_model::{Cond, Expr, Query};
@@ -113,7 +113,7 @@ fn check_delete(
     Ok(())
 }
 
-/// A view with a condition, and writes behind it.
+/// A view with a condition and items that are worked out, and writes behind it.
 fn check_view(
     rt: &impl Abort,
     alloc: Global,
@@ -121,15 +121,19 @@ fn check_view(
     random: &mut Pcg32,
 ) -> Result<(), Fail> {
     let (kept, tree) = condition(alloc, random, 2)?;
+    let (shown, x) = key_number(alloc, random)?;
+    let (counted, n) = number(alloc, random, 1)?;
+    let (summed, s) = number(alloc, random, 2)?;
     let text = format!(in alloc;
-        "CREATE VIEW v AS SELECT b, COUNT(*) AS n, SUM(a) AS s FROM t WHERE {kept} GROUP BY b"
+        "CREATE VIEW v AS SELECT {shown} AS x, COUNT({counted}) AS n, SUM({summed}) AS s FROM t WHERE {kept} GROUP BY b, k"
     )?;
     answer(rt, alloc, engine, text.as_str())?;
     insert(rt, alloc, engine, random)?;
     check_delete(rt, alloc, engine, random)?;
     insert(rt, alloc, engine, random)?;
-    let query = grouped_texts(alloc, Cond::new(tree))?;
-    compare(rt, alloc, engine, "SELECT b, n, s FROM v", &query)
+    let (x, n, s) = (Expr::new(x), Expr::new(n), Expr::new(s));
+    let query = of_groups(alloc, Cond::new(tree), x, n, s)?;
+    compare(rt, alloc, engine, "SELECT x, n, s FROM v", &query)
 }
 
 fn check(rt: &impl Abort, alloc: Global, script: u64) -> Result<(), Fail> {

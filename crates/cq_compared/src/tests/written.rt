@@ -149,6 +149,19 @@ fn multiplied(
     Ok((text, ExprTree::Product(Box::new(alloc, value.1)?, others)))
 }
 
+/// A number that is worked out from k, where it is the second column of a group's key.
+pub(crate) fn key_number(
+    alloc: Global,
+    random: &mut Pcg32,
+) -> Result<(String, ExprTree), AllocError> {
+    let key = column(alloc, "k", 1)?;
+    match random.next_u32() % 3 {
+        0 => negated(alloc, key),
+        1 => multiplied(alloc, key, small(random)),
+        _ => added(alloc, key, literal(alloc, small(random))?),
+    }
+}
+
 /// A text: the column, or one that is written.
 pub(crate) fn text_value(
     alloc: Global,

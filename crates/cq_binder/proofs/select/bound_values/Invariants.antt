@@ -7,5 +7,5 @@ use Rattle.cq_binder.proofs.select.bound_values.Given as goal
 -- the values so far are those of the items so far, and the items that are left have the first fault of all
 abbrev pub invariant-loop-item : goal.invariant-loop-item
 invariant-loop-item l =
-    (l.values.items ≡ map (bound_value l.scope.columns.now) (shown_by (take l.item-index l.items)))
+    (l.values.items ≡ map (bound_value (scope_of l.scope)) (shown_by (take l.item-index l.items)))
     × (first_fault (map (value_place (scope_of l.scope)) (shown_by (drop l.item-index l.items))) ≡ first_fault (map (value_place (scope_of l.scope)) (shown_by l.items)))

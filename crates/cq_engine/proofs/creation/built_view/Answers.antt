@@ -11,8 +11,8 @@ use Rattle.cq_engine.proofs.Creating.{bound_def, def_fits, is_built, stands_for_
 use Rattle.cq_engine.proofs.creation.built_view.Goals as goal
 
 -- the walk over the table is that over what it is as a source
-in_scope : (q : ViewSelect) (b : BoundView) (s u : Scope) → s ≡ u → (first_fault (query_places s q) ≡ None) × IsBoundView s.columns q b → (first_fault (query_places u q) ≡ None) × IsBoundView u.columns q b
-in_scope q b s u same bound = subst (λ (x : Scope). (first_fault (query_places x q) ≡ None) × IsBoundView x.columns q b) same bound
+in_scope : (q : ViewSelect) (b : BoundView) (s u : Scope) → s ≡ u → (first_fault (query_places s q) ≡ None) × IsBoundView s q b → (first_fault (query_places u q) ≡ None) × IsBoundView u q b
+in_scope q b s u same bound = subst (λ (x : Scope). (first_fault (query_places x q) ≡ None) × IsBoundView x q b) same bound
 
 pub returns-in_err-bound : goal.returns-in_err-bound
 returns-in_err-bound c =

@@ -23,4 +23,4 @@ returns c =
     let columns = c.args.table.now.columns in
     let select = c.args.select.now in
     let list = c.in_ok-list.field-0 in
-    (bound.0, result_stored select columns c.rows.result.now c.args.table.now.rows list c.rows.ensures (listing_bound columns select c.in_ok-selection.selection c.rows.result.now list bound.1 c.in_ok-list.ensures))
+    (bound.0, result_stored select columns c.rows.result.now c.args.table.now.rows list c.rows.ensures (listing_bound columns select c.in_ok-selection.selection c.rows.result.now list (record { condition = bound.1.condition; items = bound.1.items }) c.in_ok-list.ensures))

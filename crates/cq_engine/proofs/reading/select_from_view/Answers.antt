@@ -7,6 +7,10 @@ use Rattle.cq_engine.proofs.Readings.{in_source, narrow_for, ok_before, told_kee
 use Rattle.cq_engine.proofs.Results.{listing_bound, listing_named}
 use Rattle.cq_engine.proofs.reading.select_from_view.Goals as goal
 
+-- its groups stand for stored rows
+pub rows-requires : goal.rows-requires
+rows-requires c = record { rows = c.requires.rows; stored = c.requires.stored; stands = c.requires.stands }
+
 -- the query can be worked out on each row that the view tells
 pub list-requires : goal.list-requires
 list-requires c =
@@ -31,7 +35,7 @@ returns c =
     let columns = c.args.view.now.columns in
     let select = c.args.select.now in
     let list = c.in_ok-list.field-0 in
-    let result = listing_bound columns select c.in_ok-selection.selection rows.items list bound.1 listed in (
+    let result = listing_bound columns select c.in_ok-selection.selection rows.items list (record { condition = bound.1.condition; items = bound.1.items }) listed in (
       bound.0,
       λ tables stands. (
         listing_named columns select [] [] (Table 0) (λ source. meaning (query_of c.args.view.now.kept.def) tables) rows.items list (bag tables stands) result,

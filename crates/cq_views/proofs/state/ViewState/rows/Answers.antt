@@ -1,7 +1,7 @@
-use Rattle.std.proofs.Common.{◌≡◌, ◌∙◌, ℕ, List, map, sym, ap, ap₂, subst, rules}
+use Rattle.std.proofs.Common.{◌≡◌, ◌∙◌, List, map, sym, ap, ap₂, subst, rules}
 use Rattle.cq_values.specs.Value.{Row}
 use Rattle.cq_bags.specs.Bag.{SameBag, once_each}
-use Rattle.cq_model.specs.Expr.{Column}
+use Rattle.cq_model.specs.Expr.{Expr}
 use Rattle.cq_model.specs.declared.query.Aggregate.{Aggregate}
 use Rattle.cq_model.specs.Kept.{Groups}
 use Rattle.cq_model.specs.Meaning.{MeaningInRange, Tables, items_of, meaning}
@@ -9,7 +9,9 @@ use Rattle.cq_model.specs.Told.{ListsKeys}
 use Rattle.cq_deltas.specs.declared.fault.ToldFault.TheVariants.{SumOutOfRange}
 use Rattle.cq_deltas.specs.Table.{group_at}
 use Rattle.cq_deltas.specs.Told.{GroupsCanBeTold, counted_keys, group_rows}
+use Rattle.cq_views.specs.Small.{StandsOnStored}
 use Rattle.cq_views.specs.View.{KeptView, StandsFor, query_of}
+use Rattle.cq_views.proofs.Keys.{groups-narrow}
 use Rattle.cq_views.proofs.Tellings.{meaning-told, range-told, told-range}
 use Rattle.cq_views.proofs.state.ViewState.rows.Goals as goal
 
@@ -22,6 +24,15 @@ returns-in_err-groups-clause-fault c =
     rw (← c.self.view_is) (λ is tables stands range. told is (told-range v keys tables stands range)) in
     search rules
 
+pub item_rows-requires : goal.item_rows-requires
+item_rows-requires c =
+    let v : KeptView = record { def = c.self.inside.def; epoch = c.self.inside.epoch; built = c.self.inside.built; groups = c.self.inside.groups } in
+    let keys : ListsKeys (counted_keys v.groups) (Groups (group_at v.def.aggregates v.groups)) = rw c.as_slice-aggregates.ensures at c.told_rows.ensures.keys in
+    let groups : c.deref.result.now ≡ group_rows v.def.aggregates v.groups =
+    c.deref.ensures.value ∙ c.in_ok-groups.ensures.rows ∙ ap (λ (aggregates : List Aggregate). group_rows aggregates v.groups) c.as_slice-aggregates.ensures in
+    let on : StandsOnStored v = rw (← c.self.view_is) at c.requires in
+    rw (groups, c.as_slice.ensures) (groups-narrow v c.self.invariant on keys)
+
 pub returns-clause-bag : goal.returns-clause-bag
 returns-clause-bag c =
     let v : KeptView = record { def = c.self.inside.def; epoch = c.self.inside.epoch; built = c.self.inside.built; groups = c.self.inside.groups } in
@@ -29,7 +40,7 @@ returns-clause-bag c =
     let groups : c.deref.result.now ≡ group_rows v.def.aggregates v.groups =
     c.deref.ensures.value ∙ c.in_ok-groups.ensures.rows ∙ ap (λ (aggregates : List Aggregate). group_rows aggregates v.groups) c.as_slice-aggregates.ensures in
     let rows : c.in_ok-item_rows.field-0.items ≡ map (items_of (query_of v.def).items) (group_rows v.def.aggregates v.groups) =
-    c.in_ok-item_rows.ensures ∙ ap₂ (λ (items : List ℕ) (rows : List Row). map (items_of (map Column items)) rows) c.as_slice.ensures groups in
+    c.in_ok-item_rows.ensures ∙ ap₂ (λ (items : List Expr) (rows : List Row). map (items_of items) rows) c.as_slice.ensures groups in
     rw (← c.self.view_is) (λ tables stands. subst (λ (rows : List Row). SameBag (once_each rows) (meaning (query_of v.def) tables)) (sym rows) (meaning-told v keys tables stands))
 
 pub returns-clause-range : goal.returns-clause-range

@@ -1,15 +1,15 @@
-use Rattle.std.proofs.Common.{◌<◌, ◌^◌, FitsSigned, pos, [], ◌∷◌, length, rules, sym, subst, arith}
+use Rattle.std.proofs.Common.{◌≡◌, ◌∙◌, ◌<◌, ◌^◌, FitsSigned, pos, [], ◌∷◌, length, rules, ap, sym, subst, arith}
 use Rattle.std.specs.List.{AllByRecursion}
 use Rattle.std.specs.Int.{w128}
 use Rattle.std.proofs.lemmas.Int.{ints, to_z-of_z}
-use Rattle.cq_bags.specs.Bag.{once_each}
+use Rattle.cq_bags.specs.Bag.{Weighted, once_each}
 use Rattle.cq_views.specs.declared.view_def.ViewDef.{ViewDef}
 use Rattle.cq_views.specs.Small.{AreSmallFor, IsSmallFor}
-use Rattle.cq_views.specs.View.{IsNarrowFor, changed}
-use Rattle.cq_views.proofs.Building.{ready-holds}
+use Rattle.cq_views.specs.View.{IsNarrowFor, change_of, changed}
+use Rattle.cq_views.proofs.Building.{once_each-bag, ready-holds}
 use Rattle.cq_views.proofs.Moves.{small-rows}
 use Rattle.cq_views.proofs.Narrow.{all-narrow}
-use Rattle.cq_views.proofs.tests.told_after.Goals as goal
+use Rattle.cq_views.proofs.tests.view_after.Goals as goal
 
 pub build-requires-clause-narrow : goal.build-requires-clause-narrow
 build-requires-clause-narrow c = all-narrow c.in_ok-totals.field-0 c.args.table.now c.in_ok-totals.ensures.narrow c.requires.table
@@ -29,3 +29,12 @@ commit-requires-clause-holds c =
     rw (c.in_ok-pending.ensures.change, to_z-of_z w128 c.args.weight fits)
     (ready-holds c.in_ok-view.view c.prepare.new.self (once_each c.args.table.now) (changed (c.args.changed.now ∷ []) c.args.weight) c.in_ok-pending.ensures.kept c.in_ok-pending.ensures.can_be_kept
     c.in_ok-view.ensures.stands old new)
+
+pub returns : goal.returns
+returns c = λ rows same.
+    let dxs : Weighted = changed (c.args.changed.now ∷ []) c.args.weight in
+    let fits : FitsSigned w128 c.args.weight = search rules in
+    let change : c.in_ok-pending.pending ≡ change_of c.in_ok-view.view.def dxs = rw (to_z-of_z w128 c.args.weight fits) at c.in_ok-pending.ensures.change in
+    let kept = c.in_ok-pending.ensures.kept in
+    c.commit.ensures.goes_on (once_each c.args.table.now) dxs (once_each rows) (change ∙ ap (λ (d : ViewDef). change_of d dxs) (sym kept.def)) same (once_each-bag rows)
+    (kept.stands (once_each c.args.table.now) c.in_ok-view.ensures.stands)

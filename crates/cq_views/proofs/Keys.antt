@@ -1,0 +1,67 @@
+-- The keys of the groups that are told are stored numbers where the numbers of the rows are, so no item works out what is too wide.
+use Rattle.std.proofs.Common.{ℕ, zero, suc, ◌≤◌, ◌<◌, List, [], ◌∷◌, ◌++◌, map, filter, length, sym, subst, arith}
+use Rattle.std.specs.List.{AllByRecursion}
+use Rattle.cq_values.specs.Value.{Row}
+use Rattle.cq_bags.specs.Bag.{once_each, distinct_rows}
+use Rattle.cq_bags.proofs.Distincts.{once_each-filter, once_each-map}
+use Rattle.cq_model.specs.Group.{key_of, keys_of}
+use Rattle.cq_model.specs.Kept.{Groups, told_row, told_values}
+use Rattle.cq_model.specs.Meaning.{keeps}
+use Rattle.cq_model.specs.Sizes.{stored_size}
+use Rattle.cq_model.specs.Told.{ListsKeys}
+use Rattle.cq_model.specs.Width.{sizes_of}
+use Rattle.cq_laws.proofs.Fits.{FitBeside, IsStored, all-filter, all-map, row-of-bag}
+use Rattle.cq_laws.proofs.Groups.{IsRowOf}
+use Rattle.cq_laws.proofs.Ranges.{all-at, all-from}
+use Rattle.cq_deltas.specs.Table.{group_at}
+use Rattle.cq_deltas.specs.Told.{counted_keys, group_rows}
+use Rattle.cq_views.specs.Small.{CanBeKept, StandsOnStored}
+use Rattle.cq_views.specs.View.{AreNarrowAt, KeptView, kept_rows}
+use Rattle.cq_views.proofs.Sizes.{items-narrow}
+use Rattle.cq_views.proofs.Tellings.{occurs}
+
+-- a key's columns are of a row
+key-fits : (columns : List ℕ) (r : Row) → IsStored r → FitBeside (key_of columns r) (map (λ c. stored_size) columns)
+key-fits [] r stored = tt
+key-fits (c ∷ columns) r stored = (stored c, key-fits columns r stored)
+
+-- and the first of each row that begins with the key
+key-first : (columns : List ℕ) (k rest : Row) → FitBeside k (map (λ c. stored_size) columns) → (i : ℕ) → i < length columns → sizes_of (k ++ rest) i ≤ stored_size
+key-first [] k rest fit i h = absurd (omega (arith, h))
+key-first (c ∷ columns) [] rest fit i h = absurd fit
+key-first (c ∷ columns) (v ∷ k) rest fit zero h = fit.0
+key-first (c ∷ columns) (v ∷ k) rest fit (suc i) h = key-first columns k rest fit.1 i (omega (arith, h))
+
+-- each key that occurs among stored rows fits
+keys-fit : (columns : List ℕ) (rows : List Row) → AllByRecursion IsStored rows → (k : Row) → IsRowOf k (keys_of columns (once_each rows)) → FitBeside k (map (λ c. stored_size) columns)
+keys-fit columns rows stored k among =
+    let one_of = subst (λ xs. IsRowOf k (distinct_rows xs)) (sym (once_each-map (key_of columns) rows)) among in
+    let fit = all-map IsStored (λ k. FitBeside k (map (λ c. stored_size) columns)) (key_of columns) (key-fits columns) rows stored in
+    all-at (λ k. FitBeside k (map (λ c. stored_size) columns)) (map (key_of columns) rows) fit k (row-of-bag (map (key_of columns) rows) k one_of)
+
+module _ (v : KeptView) (can : CanBeKept v.def) (on : StandsOnStored v) (lists : ListsKeys (counted_keys v.groups) (Groups (group_at v.def.aggregates v.groups))) where
+  -- the rows that WHERE keeps
+  abbrev kept : List Row
+  kept = filter (keeps v.def.filter) on.rows
+
+  -- each key that is told is one of theirs
+  told-fits : (k : Row) → IsRowOf k (counted_keys v.groups) → FitBeside k (map (λ c. stored_size) v.def.keys)
+  told-fits k among =
+      let there = occurs v.def.keys v.def.aggregates v.groups (kept_rows v.def (once_each on.rows)) lists on.stands k among in
+      keys-fit v.def.keys kept (all-filter IsStored (keeps v.def.filter) on.rows on.stored) k
+      (subst (λ xs. IsRowOf k (keys_of v.def.keys xs)) (sym (once_each-filter (keeps v.def.filter) on.rows)) there)
+
+  -- the row that is told of a key
+  abbrev told_of : Row → Row
+  told_of k = told_row v.def.aggregates k (group_at v.def.aggregates v.groups k).kept
+
+  told-narrow : (k : Row) → IsRowOf k (counted_keys v.groups) → AreNarrowAt v.def.items (told_of k)
+  told-narrow k among =
+      items-narrow (length v.def.keys) (sizes_of (told_of k)) (key-first v.def.keys k (told_values v.def.aggregates (group_at v.def.aggregates v.groups k).kept) (told-fits k among))
+      v.def.items can.items
+
+  -- so the items are narrow in the row of each group that is told
+  pub groups-narrow : AllByRecursion (AreNarrowAt v.def.items) (group_rows v.def.aggregates v.groups)
+  groups-narrow =
+      all-map (λ k. AreNarrowAt v.def.items (told_of k)) (AreNarrowAt v.def.items) told_of (λ k h. h) (counted_keys v.groups)
+      (all-from (λ k. AreNarrowAt v.def.items (told_of k)) (counted_keys v.groups) told-narrow)
