@@ -7,8 +7,8 @@ mod views;
 use crate::{BoundView, bound_view};
 use cq_exprs::Scope;
 use cq_model::{
-    ColumnDef, ColumnName, Comparison, ExprNode, FromSource, Item, ItemValue, Literal, Sign,
-    SqlExpr, ViewSelect,
+    ColumnDef, ColumnName, Comparison, ExprNode, FromSource, Item, ItemValue, Literal, SqlExpr,
+    ViewSelect,
 };
 use cq_steps::Fault;
 use cq_values::{Seq, Text, Ty};
@@ -64,15 +64,6 @@ fn product(alloc: Global, first: ExprNode, second: ExprNode) -> Result<ExprNode,
     let mut rest = Vec::new(alloc);
     rest.push(second)?;
     Ok(ExprNode::Product(Box::new(alloc, first)?, rest))
-}
-
-/// first + second
-fn sum(alloc: Global, first: ExprNode, second: ExprNode) -> Result<ExprNode, AllocError> {
-    let mut signs = Vec::new(alloc);
-    signs.push(Sign::Plus)?;
-    let mut rest = Vec::new(alloc);
-    rest.push(second)?;
-    Ok(ExprNode::Sum(Box::new(alloc, first)?, signs, rest))
 }
 
 /// column < 10

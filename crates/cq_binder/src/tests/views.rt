@@ -1,5 +1,5 @@
 //! What a view is bound to.
-use super::{bound, column, named, named_node, product, shown, sum, unnamed, view};
+use super::{bound, column, named, named_node, product, shown, unnamed, view};
 use cq_model::{Expr, ExprNode, ExprTree, ItemValue, SqlExpr};
 use cq_values::{Text, Ty};
 use std::alloc::{AllocError, Global};
@@ -48,16 +48,6 @@ fn a_sum_stands_behind_the_keys(rt: HostRuntime) -> Result<(), Fail> {
 }
 
 #[test]
-fn a_sum_adds_a_column_of_the_table(rt: HostRuntime) -> Result<(), Fail> {
-    let alloc = rt.alloc();
-    let view = view(alloc, unnamed(total(alloc)?), column(alloc, "b")?)?;
-    let bound = bound(alloc, &view)?;
-    let told = format!(in alloc; "{:?}", bound.aggregates.as_slice())?;
-    assert_eq!(rt; told.as_str(), "[Sum(Expr { tree: Column(0) })]");
-    Ok(())
-}
-
-#[test]
 fn a_sum_is_called_by_its_alias(rt: HostRuntime) -> Result<(), Fail> {
     let alloc = rt.alloc();
     let total = named(total(alloc)?, Text::new(alloc, "total")?);
@@ -78,32 +68,6 @@ fn a_count_without_a_name_is_called_by_its_place(rt: HostRuntime) -> Result<(), 
     for (column, name) in bound.columns.as_slice().iter().zip(["b", "c2"]) {
         assert_eq!(rt; column.name.as_str(), name);
     }
-    Ok(())
-}
-
-#[test]
-fn an_item_is_worked_out_over_the_key(rt: HostRuntime) -> Result<(), Fail> {
-    let alloc = rt.alloc();
-    let item = sum(alloc, twice(alloc, "b")?, ExprNode::Number(1))?;
-    let view = view(alloc, shown(item), column(alloc, "c")?)?;
-    let bound = bound(alloc, &view)?;
-    let items = format!(in alloc; "{:?}", bound.items.as_slice())?;
-    let expected =
-        "[Expr { tree: Sum(Product(Column(0), [Literal(Number(2))]), [Literal(Number(1))]) }, Expr { tree: Column(1) }]";
-    assert_eq!(rt; items.as_str(), expected);
-    assert!(rt; bound.aggregates.is_empty());
-    Ok(())
-}
-
-#[test]
-fn a_count_and_a_sum_are_worked_out_over_the_table(rt: HostRuntime) -> Result<(), Fail> {
-    let alloc = rt.alloc();
-    let view = view(alloc, unnamed(counted(alloc)?), unnamed(added(alloc)?))?;
-    let bound = bound(alloc, &view)?;
-    let told = format!(in alloc; "{:?}", bound.aggregates.as_slice())?;
-    let expected =
-        "[Count(Expr { tree: Product(Column(0), [Literal(Number(2))]) }), Sum(Expr { tree: Product(Column(1), [Literal(Number(2))]) })]";
-    assert_eq!(rt; told.as_str(), expected);
     Ok(())
 }
 
