@@ -69,6 +69,11 @@ pub walked_same : {X : Type 0} (part whole : List (Option Fault)) (Is : X → Ty
 walked_same part whole Is (Ok x) same w = (same ∙ w.0, w.1)
 walked_same part whole Is (Err f) same m = refused_same (first_fault part) (first_fault whole) f same m
 
+-- a stretch that makes one thing makes what is there, where it is that thing
+pub walked_as : {X : Type 0} (part whole : List (Option Fault)) (x : X) (o : Option X) (result : Result X Fault) → first_fault whole ≡ first_fault part → o ≡ Some x → Walked part (λ made. made ≡ x) result → Walked whole (λ made. o ≡ Some made) result
+walked_as part whole x o (Ok y) same is w = (same ∙ w.0, is ∙ ap Some (sym w.1))
+walked_as part whole x o (Err f) same is m = refused_same (first_fault part) (first_fault whole) f same m
+
 -- the first fault of the rows from one on: its own, or else that of the rows behind it
 pub rows_more : (columns : List ColumnDef) (rows : List (List Constant)) (i : ℕ) (row : List Constant) → i < length rows → row ≡ get_or rows i row → first_fault (flat_map (row_places columns) (drop i rows)) ≡ option_or (first_fault (row_places columns row)) (first_fault (flat_map (row_places columns) (drop (i + 1) rows)))
 rows_more columns rows i row lt is =

@@ -1,5 +1,9 @@
 pub mod Faults
 pub mod Walks
+pub mod Found
+pub mod Creating
+pub mod Selecting
+pub mod Deleting
 pub mod ViewNames
 pub mod BoundItems
 pub mod Sorting

@@ -1,2 +1,4 @@
 pub mod Walk
 pub mod View
+pub mod Catalog
+pub mod Select

@@ -16,7 +16,7 @@ use std::alloc::{AllocError, Global};
 const MAX_ENTRIES: usize = 64;
 
 /// Where the columns behind SORT BY stand, each of them once.
-pub fn sort_columns(
+pub(crate) fn sort_columns(
     alloc: Global,
     columns: &[ColumnDef],
     names: &[Text],
@@ -37,7 +37,7 @@ pub fn sort_columns(
 }
 
 /// Refuses a name that an earlier column has.
-pub fn check_names(columns: &[ColumnDef]) -> Result<(), Fault>
+pub(crate) fn check_names(columns: &[ColumnDef]) -> Result<(), Fault>
     ensures { Passes (column_places [] columns.now) result }
 {
     for (i, column) in columns.iter().enumerate() {
@@ -49,7 +49,7 @@ pub fn check_names(columns: &[ColumnDef]) -> Result<(), Fault>
 }
 
 /// Refuses a list that is too long.
-pub fn check_length(entries: usize) -> Result<(), Fault>
+pub(crate) fn check_length(entries: usize) -> Result<(), Fault>
     ensures { Passes (too_long entries ∷ []) result }
 {
     if MAX_ENTRIES < entries {
@@ -60,7 +60,10 @@ pub fn check_length(entries: usize) -> Result<(), Fault>
 }
 
 /// The columns once more.
-pub fn copy_columns(alloc: Global, columns: &[ColumnDef]) -> Result<Seq<ColumnDef>, AllocError>
+pub(crate) fn copy_columns(
+    alloc: Global,
+    columns: &[ColumnDef],
+) -> Result<Seq<ColumnDef>, AllocError>
     ensures { IfOk result (λ copies. copies ≡ columns.now) }
 {
     let mut copies = Seq::new(alloc);

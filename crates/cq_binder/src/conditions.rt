@@ -11,7 +11,7 @@ use cq_steps::Fault;
 use std::alloc::Global;
 
 /// WHERE on a source, if it is there, once it has been walked through.
-pub fn bound_where(
+pub(crate) fn bound_where(
     alloc: Global,
     scope: &Scope<'_>,
     condition: &Option<SqlExpr>,

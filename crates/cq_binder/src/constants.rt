@@ -15,7 +15,11 @@ use std::alloc::Global;
 const MAX_TEXT: usize = 4096;
 
 /// The row that the constants make, where each can stand in its column.
-pub fn bound_row(alloc: Global, columns: &[ColumnDef], constants: &[Constant]) -> Result<Row, Fault>
+pub(crate) fn bound_row(
+    alloc: Global,
+    columns: &[ColumnDef],
+    constants: &[Constant],
+) -> Result<Row, Fault>
     ensures { Walked (row_places columns.now constants.now) (λ row. row ≡ row_of constants.now) result }
 {
     if constants.len() != columns.len() {

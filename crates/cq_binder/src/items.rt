@@ -13,14 +13,14 @@ use std::alloc::Global;
 
 /// An item with its names resolved.
 #[derive(Drop)]
-pub enum BoundItem {
+pub(crate) enum BoundItem {
     /// A value of the group's key.
     Shown(Expr),
     Told(Aggregate),
 }
 
 /// What the items tell of a group, and what each shows of the group's row: the keys come first in it, then what is told.
-pub fn bound_items(
+pub(crate) fn bound_items(
     alloc: Global,
     table: &Scope<'_>,
     view: &ViewSelect,

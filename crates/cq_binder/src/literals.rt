@@ -6,7 +6,7 @@ ghost use Rattle.cq_steps.specs.Refusal.{fits_column};
 use cq_model::Literal;
 
 /// Whether a column can hold it: stored numbers have 64 bits with a sign.
-pub fn fits_column(literal: &Literal) -> bool
+pub(crate) fn fits_column(literal: &Literal) -> bool
     ensures { result ≡ fits_column literal.now }
 {
     let limit = 1u128 << 63;
@@ -18,7 +18,7 @@ pub fn fits_column(literal: &Literal) -> bool
 }
 
 /// The number with its sign.
-pub fn literal_number(literal: &Literal) -> i128
+pub(crate) fn literal_number(literal: &Literal) -> i128
     requires { literal.now.magnitude < 2 ^ 127 }
     ensures { result ≡ literal_value literal.now }
 {

@@ -14,7 +14,7 @@ use cq_values::{Seq, Text, Ty};
 use std::alloc::{AllocError, Global};
 
 /// The columns that the items of groups show, of different names and not too many.
-pub fn view_columns(
+pub(crate) fn view_columns(
     alloc: Global,
     groups: &Scope<'_>,
     items: &[Item],

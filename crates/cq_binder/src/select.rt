@@ -13,7 +13,7 @@ use cq_values::{Seq, Text};
 use std::alloc::{AllocError, Global};
 
 /// The values of the items on a source, once each has been walked through.
-pub fn bound_values(
+pub(crate) fn bound_values(
     alloc: Global,
     scope: &Scope<'_>,
     items: &[SelectItem],
@@ -28,7 +28,7 @@ pub fn bound_values(
 }
 
 /// What stands above the items, in their order.
-pub fn header(alloc: Global, items: &[SelectItem]) -> Result<Seq<Text>, AllocError>
+pub(crate) fn header(alloc: Global, items: &[SelectItem]) -> Result<Seq<Text>, AllocError>
     ensures { IfOk result (λ names. names ≡ header 1 items.now) }
 {
     let mut names = Seq::new(alloc);

@@ -4,7 +4,7 @@ mod refusals;
 mod selects;
 mod views;
 
-use crate::{BoundView, bound_view};
+use crate::view::{BoundView, bound_view};
 use cq_exprs::Scope;
 use cq_model::{
     ColumnDef, ColumnName, Comparison, ExprNode, FromSource, Item, ItemValue, Literal, SqlExpr,

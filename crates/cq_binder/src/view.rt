@@ -18,7 +18,7 @@ use std::alloc::Global;
 
 /// The query of a view with its names resolved, and the columns that the view shows.
 #[derive(Drop)]
-pub struct BoundView {
+pub(crate) struct BoundView {
     pub columns: Seq<ColumnDef>,
     pub filter: Option<Cond>,
     pub keys: Seq<usize>,
@@ -28,7 +28,11 @@ pub struct BoundView {
 }
 
 /// The view on a table, once its query has been walked through.
-pub fn bound_view(alloc: Global, table: &Scope<'_>, view: &ViewSelect) -> Result<BoundView, Fault>
+pub(crate) fn bound_view(
+    alloc: Global,
+    table: &Scope<'_>,
+    view: &ViewSelect,
+) -> Result<BoundView, Fault>
     ensures { Walked (query_places (scope_of table.now) view.now) (IsBoundView (scope_of table.now) view.now) result }
 {
     let group = view.group.as_slice();

@@ -1,35 +1,35 @@
 -- CREATE VIEW: what its walk lets pass is a view that can be kept, and stands for its query on its table.
-use Rattle.std.proofs.Common.{◌≡◌, ℕ, ◌≤◌, ◌<◌, false, List, [], ◌∷◌, ◌++◌, map, length, get_or, Option, Some, None, Ok, refl, sym, ap, ◌∙◌, arith, subst}
-use Rattle.std.specs.Prelude.{nat_lt, option_map, IfSome}
+use Rattle.std.proofs.Common.{◌≡◌, ℕ, ◌≤◌, List, [], ◌∷◌, ◌++◌, map, length, Option, Some, None, sym, arith, subst}
+use Rattle.std.specs.Prelude.{nat_lt, option_map}
 use Rattle.std.specs.List.{AllByRecursion, flat_map}
 use Rattle.std.proofs.lemmas.Bool.{ltb-false}
-use Rattle.std.proofs.lemmas.List.{length-map, map-append}
+use Rattle.std.proofs.lemmas.List.{length-map}
 use Rattle.cq_values.specs.Value.{Row}
 use Rattle.cq_bags.specs.Bag.{SameBag, once_each}
 use Rattle.cq_bags.specs.Canonical.{bag_of}
 use Rattle.cq_bags.proofs.Bags.{same-sym}
 use Rattle.cq_bags.proofs.Canonicals.{same-bag_of}
 use Rattle.cq_bags.proofs.Totals.{by_test}
+use Rattle.cq_model.specs.declared.query.Aggregate.{Aggregate}
+use Rattle.cq_model.specs.declared.query.Shape.{Shape}
+use Rattle.cq_model.specs.declared.query.Shape.TheVariants.{Grouped}
+use Rattle.cq_model.specs.declared.query.Source.{Source}
+use Rattle.cq_model.specs.declared.query.Source.TheVariants.{Table, View}
 use Rattle.cq_model.specs.declared.statement.ColumnDef.{ColumnDef}
 use Rattle.cq_model.specs.declared.statement.ViewSelect.{ViewSelect}
 use Rattle.cq_steps.specs.declared.fault.Fault.{Fault}
 use Rattle.cq_steps.specs.declared.fault.Fault.TheVariants.{NameTaken}
-use Rattle.cq_steps.specs.Bound.{aggregates_in, bound_condition, group_items, grouped_query, in_groups, item_names, place_in, values_in, view_columns, view_source}
-use Rattle.cq_steps.specs.Refusal.{create_view_places, fault_if, first_fault, item_place, name_place, query_places, repeats, too_long, view_select_places, where_place}
-use Rattle.cq_steps.specs.State.{TableOf, ViewOf, is_taken, rows_in, table_named, AreNumbered}
-use Rattle.cq_steps.specs.Step.{new_view}
+use Rattle.cq_steps.specs.Bound.{aggregates_in, bound_condition, group_items, in_groups, item_names, place_in, values_in, view_source}
+use Rattle.cq_steps.specs.Refusal.{fault_if, first_fault, item_place, name_place, query_places, repeats, too_long, where_place}
+use Rattle.cq_steps.specs.State.{TableOf}
 use Rattle.cq_views.specs.declared.view_def.ViewDef.{ViewDef}
 use Rattle.cq_views.specs.Laws.{StandingDependsOnBag}
 use Rattle.cq_views.specs.Small.{IsItemNarrow}
 use Rattle.cq_views.specs.View.{KeptView, IsNarrowFor, Stands, query_of}
-use Rattle.cq_engine.specs.Statements.{alone, CreatesView, IsBuilt}
-use Rattle.cq_engine.specs.Views.{Fits, IsRight, IsStored, NamedView, view_of, views_of}
+use Rattle.cq_engine.specs.Views.{Fits, IsStored}
 use Rattle.cq_steps.specs.Typing.{Scope}
 use Rattle.cq_engine.proofs.Fitting.{back_free, few_told, first_free, front_free, items_narrow, narrow_items, narrow_where, second_free, small_items, stored_keeps, totals}
-use Rattle.cq_engine.proofs.Rows.{rows_there}
 use Rattle.cq_engine.proofs.Stored.{all_of_rows}
-use Rattle.cq_binder.specs.declared.view.BoundView.{BoundView}
-use Rattle.cq_binder.specs.View.{IsBoundView}
 
 -- ---- What the walk through a view's query says
 -- a list that is not too long has at most 64 entries
@@ -70,8 +70,8 @@ module _ (s : Scope) (v : ViewSelect) (free : first_fault (query_places s v) ≡
 
 -- ---- The view's query
 -- the query with its names as places among the columns of the table
-abbrev pub def_of : ViewSelect → TableOf → ViewDef
-def_of v t = record {
+abbrev pub def_on : ViewSelect → TableOf → ViewDef
+def_on v t = record {
   table = t.number;
   filter = option_map (bound_condition (view_source v t)) v.condition;
   keys = map (place_in t.columns) v.group;
@@ -79,22 +79,17 @@ def_of v t = record {
   items = group_items (in_groups v.group (view_source v t)) (length v.group) (values_in v);
 }
 
--- it is what the binder makes of the view
-pub bound_def : (v : ViewSelect) (t : TableOf) (number : ℕ) (b : BoundView) → number ≡ t.number → IsBoundView (view_source v t) v b
-    → record { table = number; filter = b.filter; keys = b.keys; aggregates = b.aggregates; items = b.items } ≡ def_of v t
-bound_def v t number b is_number is = λ i. record { table = is_number i; filter = is.filter i; keys = is.keys i; aggregates = is.aggregates i; items = is.items i }
-
 module _ (v : ViewSelect) (t : TableOf) (free : first_fault (query_places (view_source v t) v) ≡ None) where
   abbrev source : Scope
   source = view_source v t
 
   -- it fits the rows that a table stores
-  pub def_fits : Fits (def_of v t)
+  pub def_fits : Fits (def_on v t)
   def_fits = record {
     can_be_kept = record {
       totals = totals source v.group (values_in v);
       few = omega (arith, few_told source v.group (values_in v), length-map v.items (λ item. item.value), few_items source v free);
-      items = subst (λ n. AllByRecursion (IsItemNarrow n) (def_of v t).items) (sym (length-map v.group (place_in t.columns))) (items_narrow v t (length v.group) (values_in v) (items_free source v free));
+      items = subst (λ n. AllByRecursion (IsItemNarrow n) (def_on v t).items) (sym (length-map v.group (place_in t.columns))) (items_narrow v t (length v.group) (values_in v) (items_free source v free));
     };
     narrow = λ row stored. record {
       filter = narrow_where source v.condition row (where_free source v free) (stored_keeps t row stored);
@@ -120,38 +115,19 @@ module _ (t : TableOf) (rows : List Row) (same : bag_of rows ≡ t.rows) where
       let listed : SameBag (once_each rows) (once_each t.rows) = subst (λ (rs : List Row). SameBag (once_each rows) (once_each rs)) same (same-sym (once_each (bag_of rows)) (once_each rows) (same-bag_of rows)) in
       law v (once_each rows) (once_each t.rows) listed stands
 
--- the view of this query, built now
-pub is_built : (now : ℕ) (name : List ℕ) (q : ViewSelect) (t : TableOf) (v : NamedView) → v.name ≡ name → v.columns ≡ view_columns (view_source q t) q → v.kept.def ≡ def_of q t → v.kept.epoch ≡ now → v.kept.built ≡ now
-    → first_fault (query_places (view_source q t) q) ≡ None → Stands v.kept (once_each t.rows) → IsBuilt now name q t v
-is_built now name q t v named shown def epoch built free stands = record {
-  view = λ i. record { name = named i; columns = shown i; query = query_of (def i); epoch = epoch i; built = built i };
-  table = ap (λ (d : ViewDef). d.table) def;
-  fits = subst Fits (sym def) (def_fits q t free);
-  stands = stands;
-}
+-- ---- The query as what is kept of a view
+abbrev table_in : Source → ℕ
+table_in (Table n) = n
+table_in (View place) = place
 
--- it is right where its table is
-pub built_right : (tables : List TableOf) (next i now : ℕ) (name : List ℕ) (q : ViewSelect) (t : TableOf) (v : NamedView) → AreNumbered tables next → i < length tables → t ≡ get_or tables i t → IsBuilt now name q t v → IsRight tables now v
-built_right tables next i now name q t v numbered within is built =
-    let number : v.kept.def.table ≡ (get_or tables i t).number = built.table ∙ ap (λ (u : TableOf). u.number) is in
-    let rows : rows_in tables v.kept.def.table ≡ t.rows = ap (rows_in tables) number ∙ rows_there tables i t next numbered within ∙ ap (λ (u : TableOf). u.rows) (sym is) in
-    record {
-      fits = built.fits;
-      epoch = ap (λ (u : ViewOf). u.epoch) built.view;
-      stands = subst (λ (rs : List Row). Stands v.kept (once_each rs)) (sym rows) built.stands;
-    }
+abbrev keys_in : Shape → List ℕ
+keys_in (Grouped (Some keys) aggregates having) = keys
+keys_in shape = []
 
--- ---- The walk through a CREATE VIEW under a free name, on a table that was found
-module _ (name : List ℕ) (view : ViewSelect) (tables : List TableOf) (old : List NamedView) (t : TableOf) (free : is_taken name (alone tables (views_of old)) ≡ false) (found : table_named view.source.name tables ≡ Some t) where
-  -- the query decides
-  create_view_goes_on : first_fault (create_view_places name view (alone tables (views_of old))) ≡ first_fault (view_select_places view (Ok t))
-  create_view_goes_on = rw (free, found) refl
+abbrev aggregates_in_shape : Shape → List Aggregate
+aggregates_in_shape (Grouped keys aggregates having) = aggregates
+aggregates_in_shape shape = []
 
-  -- a view that is built for it stands behind the others
-  pub view_created : (now : ℕ) (new : List NamedView) (v : NamedView) → first_fault (view_select_places view (Ok t)) ≡ None → IsBuilt now name view t v → new ≡ old ++ v ∷ [] → CreatesView now name view tables (views_of old) (views_of new) (Ok tt)
-  view_created now new v passed built is =
-      let behind : views_of new ≡ views_of old ++ new_view name (view_columns (view_source view t) view) (grouped_query view t) now ∷ [] =
-      ap views_of is ∙ map-append view_of old (v ∷ []) ∙ ap (λ (u : ViewOf). views_of old ++ u ∷ []) built.view in (
-        create_view_goes_on ∙ passed,
-        subst (λ (o : Option TableOf). IfSome o (λ u. views_of new ≡ views_of old ++ new_view name (view_columns (view_source view u) view) (grouped_query view u) now ∷ [])) (sym found) behind,
-      )
+-- a query is that of one definition
+pub one_def : (a b : ViewDef) → query_of a ≡ query_of b → a ≡ b
+one_def a b same = λ i. record { table = table_in (same i).first; filter = (same i).filter; keys = keys_in (same i).shape; aggregates = aggregates_in_shape (same i).shape; items = (same i).items }

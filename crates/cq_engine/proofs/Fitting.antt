@@ -3,14 +3,12 @@ use Rattle.std.proofs.Common.{◌≡◌, ℕ, zero, suc, ◌+◌, ◌≤◌, ◌
 use Rattle.std.specs.Prelude.{IfSome, if◌then◌else◌, nat_lt, option_map, slice_index_or, unwrap_or}
 use Rattle.std.specs.List.{AllByRecursion, flat_map, list_any, position_or_len}
 use Rattle.std.specs.Option.{option_or}
-use Rattle.std.proofs.lemmas.Bool.{lt-ltb, ltb-true}
+use Rattle.std.proofs.lemmas.Bool.{ltb-true}
 use Rattle.std.proofs.lemmas.List.Quantifiers.{position-Some}
-use Rattle.std.proofs.Math.Numerals.{one-add}
-use Prim.Native.Nat.compare
 use Rattle.cq_values.specs.Texts.{is_text}
 use Rattle.cq_values.specs.declared.value.Value.{Value}
 use Rattle.cq_values.specs.declared.value.Value.TheVariants.{Null, Number, Day, Text}
-use Rattle.cq_values.specs.Value.{Row, column}
+use Rattle.cq_values.specs.Value.{Row}
 use Rattle.cq_deltas.specs.Additions.{AreTotals, IsNarrow, IsSmall, counted_addend}
 use Rattle.cq_model.specs.declared.expr.DayPart.TheVariants as parts
 use Rattle.cq_model.specs.Expr.{Expr}
@@ -34,6 +32,7 @@ use Rattle.cq_exprs.proofs.Narrow.{typed_is_narrow}
 use Rattle.cq_exprs.specs.Expressions.{IsNarrow as IsNarrowIn, KeepSizes}
 use Rattle.cq_views.specs.Small.{IsItemNarrow}
 use Rattle.cq_laws.proofs.Extents.{value-within}
+use Rattle.cq_engine.proofs.Places.{found_within}
 use Rattle.cq_engine.specs.Bound.{AreNarrowAt, IsNarrowAt}
 use Rattle.cq_engine.specs.Views.{IsStored}
 
@@ -130,16 +129,6 @@ small_addend (Text t) h = omega arith
 -- so an argument is small at a stored row where it is narrow
 small_argument : (e : Expr) (row : Row) → IsStored row → (extent e row).widest < 2 ^ 127 → IfSome (counted_addend (eval e row)) (λ n. nat_abs n ≤ 2 ^ 127)
 small_argument e row stored narrow = small_addend (eval e row) (omega (arith, value-within row (sizes_of row) (λ i. omega arith) e, size_bound e (sizes_of row) stored narrow))
-
--- one element more in front
-found_here : {X : Type 0} (p : X → Bool) (x : X) (xs : List X) (b : Bool) → p x ≡ b → nat_lt (position_or_len p xs) (length xs) ≡ list_any p xs → nat_lt (position_or_len p (x ∷ xs)) (length (x ∷ xs)) ≡ list_any p (x ∷ xs)
-found_here p x xs true e more = rw e (lt-ltb 0 (length (x ∷ xs)) (omega arith))
-found_here p x xs false e more = rw (one-add, e, compare.suc-suc) more
-
--- the first that passes stands within the list where one passes
-found_within : {X : Type 0} (p : X → Bool) (xs : List X) → nat_lt (position_or_len p xs) (length xs) ≡ list_any p xs
-found_within p [] = refl
-found_within p (x ∷ xs) = found_here p x xs (p x) refl (found_within p xs)
 
 -- a place within a list that was asked for
 place_within : (b : Bool) (i n : ℕ) → nat_lt i n ≡ b → b ≡ true → unwrap_or (if b then Some i else None) 0 < n

@@ -1,5 +1,5 @@
 -- Lists of views: what stays the same of them, what they are ready for, and how they follow a write.
-use Rattle.std.proofs.Common.{◌≡◌, ℕ, Bool, true, false, List, [], ◌∷◌, ◌++◌, map, Option, Some, None, refl, sym, ap, ◌∙◌, subst}
+use Rattle.std.proofs.Common.{◌≡◌, ℕ, true, false, List, [], ◌∷◌, ◌++◌, map, Option, Some, None, refl, sym, ap, ◌∙◌, subst}
 use Rattle.std.specs.Prelude.{◌==◌}
 use Rattle.std.specs.List.{AllByRecursion}
 use Rattle.std.proofs.lemmas.Bool.{eqb-true}
@@ -8,16 +8,15 @@ use Rattle.cq_bags.specs.Bag.{Weighted, SameBag, IsBag, once_each}
 use Rattle.cq_bags.proofs.Totals.{by_test}
 use Rattle.cq_deltas.specs.declared.change.Addition.{Addition}
 use Rattle.cq_deltas.specs.Table.{HoldsFor}
-use Rattle.cq_steps.specs.declared.fault.Fault.TheVariants.{TableInUse, UnknownTable}
-use Rattle.cq_steps.specs.Refusal.{first_fault, fault_if, is_used, drop_table_places}
-use Rattle.cq_steps.specs.State.{TableOf, table_named, rows_in}
+use Rattle.cq_steps.specs.Refusal.{is_used}
+use Rattle.cq_steps.specs.State.{TableOf, rows_in}
 use Rattle.cq_steps.specs.Step.{at_epoch}
 use Rattle.cq_views.specs.declared.view_def.ViewDef.{ViewDef}
 use Rattle.cq_views.specs.Laws.{SmallChangesHold}
 use Rattle.cq_views.specs.Small.{AreSmallFor, CanBeKept}
 use Rattle.cq_views.specs.View.{Stands, query_of}
-use Rattle.cq_engine.specs.Statements.{without_table}
 use Rattle.cq_engine.specs.Views.{NamedView, view_of, views_of, Fits, IsRight, AreRight, StandsOn, StandOn, IsSame, AreSame, IsReady, AreReady, CanTake, CanAllTake, HasTaken, HaveTaken, Follows, Follow, Moved}
+use Rattle.cq_engine.proofs.Numbers.{others}
 use Rattle.cq_engine.proofs.Rows.{rows_left, unused}
 use Rattle.cq_engine.proofs.Steps.{AreAt}
 
@@ -174,24 +173,14 @@ right_everywhere old new now (v ∷ vs) same r = (
   right_everywhere old new now vs same r.1,
 )
 
-module _ (name : List ℕ) (tables : List TableOf) (now : ℕ) where
-  -- without a table that no view stands on
-  right_left : (t : TableOf) (vs : List NamedView) → table_named name tables ≡ Some t → AllByRecursion (λ v. (v.kept.def.table == t.number) ≡ false) vs → AreRight tables now vs → AreRight (without_table name tables) now vs
-  right_left t [] found free r = tt
-  right_left t (v ∷ vs) found free r = (
-    record { fits = r.0.fits; epoch = r.0.epoch; stands = subst (λ (rs : List Row). Stands v.kept (once_each rs)) (sym (rows_left name tables t 0 found v.kept.def.table free.0)) r.0.stands },
-    right_left t vs found free.1 r.1,
+-- without a table that no view stands on
+module _ (n : ℕ) (tables : List TableOf) (now : ℕ) where
+  right_left : (vs : List NamedView) → AllByRecursion (λ v. (v.kept.def.table == n) ≡ false) vs → AreRight tables now vs → AreRight (others n tables) now vs
+  right_left [] free r = tt
+  right_left (v ∷ vs) free r = (
+    record { fits = r.0.fits; epoch = r.0.epoch; stands = subst (λ (rs : List Row). Stands v.kept (once_each rs)) (sym (rows_left n tables v.kept.def.table free.0)) r.0.stands },
+    right_left vs free.1 r.1,
   )
 
-  pub right_dropped : (vs : List NamedView) → first_fault (drop_table_places (views_of vs) (table_named name tables)) ≡ None → AreRight tables now vs → AreRight (without_table name tables) now vs
-  right_dropped vs free r = dropped (table_named name tables) refl
-    where
-      dropped_table : (t : TableOf) (b : Bool) → is_used t.number (views_of vs) ≡ b → table_named name tables ≡ Some t → AreRight (without_table name tables) now vs
-      dropped_table t false used found = right_left t vs found (unused t.number vs used) r
-      dropped_table t true used found =
-          absurd (let fault : first_fault (drop_table_places (views_of vs) (table_named name tables)) ≡ Some TableInUse = ap (λ (o : Option TableOf). first_fault (drop_table_places (views_of vs) o)) found ∙ ap (λ (b : Bool). first_fault (fault_if b TableInUse ∷ [])) used in
-          let both : None ≡ Some TableInUse = sym free ∙ fault in cc)
-
-      dropped : (o : Option TableOf) → table_named name tables ≡ o → AreRight (without_table name tables) now vs
-      dropped (Some t) found = dropped_table t (is_used t.number (views_of vs)) refl found
-      dropped None found = absurd (let both : Some UnknownTable ≡ None = sym (ap (λ (o : Option TableOf). first_fault (drop_table_places (views_of vs) o)) found) ∙ free in cc)
+  pub right_dropped : (vs : List NamedView) → is_used n (views_of vs) ≡ false → AreRight tables now vs → AreRight (others n tables) now vs
+  right_dropped vs free r = right_left vs (unused n vs free) r

@@ -1,6 +1,4 @@
-pub mod Walks
 pub mod Places
-pub mod Resolved
 pub mod Results
 pub mod Numbers
 pub mod Steps
@@ -15,3 +13,4 @@ pub mod Readings
 pub mod Creating
 pub mod Written
 pub mod Leaving
+pub mod Binding

@@ -1,5 +1,5 @@
 -- Views by their names and places.
-use Rattle.std.proofs.Common.{◌≡◌, ℕ, zero, suc, ◌+◌, ◌<◌, ◌≤◌, Bool, true, false, cond, not, List, [], ◌∷◌, ◌++◌, map, length, get_or, set, take, drop, Option, Some, None, refl, sym, ap, ap₂, ◌∙◌, subst, arith, Ok}
+use Rattle.std.proofs.Common.{◌≡◌, ℕ, zero, suc, ◌+◌, ◌<◌, ◌≤◌, Bool, true, false, cond, not, List, [], ◌∷◌, ◌++◌, map, length, get_or, set, take, drop, Option, Some, None, refl, sym, ap, ap₂, ◌∙◌, subst, arith}
 use Rattle.std.specs.Prelude.{◌==◌, ◌||◌, is_some, position, nat_lt, option_map, slice_get, IfSome}
 use Rattle.std.specs.List.{AllByRecursion, list_any, position_or_len, remove}
 use Rattle.std.proofs.lemmas.Bool.{ltb-true}
@@ -8,14 +8,9 @@ use Rattle.std.proofs.lemmas.Option.{slice_get-map, slice_get_read}
 use Rattle.cq_values.specs.Texts.{is_text}
 use Rattle.cq_bags.specs.Bag.{Weighted}
 use Rattle.cq_deltas.specs.declared.change.Addition.{Addition}
-use Rattle.cq_model.specs.declared.statement.Statement.{Statement}
-use Rattle.cq_steps.specs.declared.fault.Fault.{Fault}
-use Rattle.cq_steps.specs.declared.fault.Fault.TheVariants as faults
-use Rattle.cq_steps.specs.Refusal.{first_fault, is_used, drop_view_places, refusal, MayRefuse}
-use Rattle.cq_steps.specs.State.{TableOf, ViewOf, State, view_named, view_place}
-use Rattle.cq_steps.specs.Step.{Refuses, by_walk, for_memory}
+use Rattle.cq_steps.specs.Refusal.{is_used}
+use Rattle.cq_steps.specs.State.{TableOf, ViewOf, view_named, view_place}
 use Rattle.cq_views.specs.declared.view_def.ViewDef.{ViewDef}
-use Rattle.cq_engine.specs.Statements.{DropsView}
 use Rattle.cq_engine.specs.Views.{NamedView, view_of, views_of, IsRight, AreRight, IsSame, AreSame, IsReady, AreReady, CanTake, CanAllTake, HasTaken, HaveTaken}
 use Rattle.cq_engine.proofs.Places.{found_there, same_presence}
 use Rattle.cq_engine.proofs.Turns.{same_set, ready_more, taken_more, rest_same, rest_left, can_take_at, as_many}
@@ -67,13 +62,6 @@ some_same : (n m : ℕ) → Some n ≡ Some m → n ≡ m
 some_same n m e = cc e
 
 module _ (name : List ℕ) (vs : List NamedView) (place : ℕ) (found : view_place name (views_of vs) ≡ Some place) where
-  -- DROP VIEW takes it away
-  pub drop_view_walked : DropsView name (views_of vs) (views_of (remove vs place)) (Ok tt)
-  drop_view_walked = (
-    ap (λ (o : Option ℕ). first_fault (drop_view_places o)) found,
-    subst (λ (o : Option ℕ). IfSome o (λ i. views_of (remove vs place) ≡ remove (views_of vs) i)) (sym found) (sym (remove-map view_of vs place)),
-  )
-
   -- it stands among them
   abbrev first : ℕ
   first = position_or_len (λ v. is_text v.name name) vs
@@ -82,7 +70,7 @@ module _ (name : List ℕ) (vs : List NamedView) (place : ℕ) (found : view_pla
   among true e h = subst (λ (n : ℕ). n < length vs) (some_same first place h) (ltb-true first (length vs) e)
   among false e h = absurd (cc h)
 
-  within : place < length vs
+  pub within : place < length vs
   within = among (nat_lt first (length vs)) refl (sym (place_named name vs) ∙ found)
 
   -- it is the view of the name
@@ -106,12 +94,6 @@ view_absent name views missing = absent (view_named name views) (sym (has_place 
     absent : (o : Option ViewOf) → is_some o ≡ false → o ≡ None
     absent (Some v) e = absurd (cc e)
     absent None e = refl
-
--- ---- A statement that its walk refuses
--- it leaves the state that it found
-pub refused_step : (old new : State) (statement : Statement) (f : Fault) → MayRefuse (refusal old statement) f → new ≡ old → Refuses old statement f new
-refused_step old new statement faults.Memory m same = for_memory refl same
-refused_step old new statement f m same = by_walk m same
 
 -- ---- Views at a place, where all are the same as others
 same_length : (vs ws : List NamedView) → AreSame vs ws → length ws ≡ length vs

@@ -1,36 +1,26 @@
 -- Tables by their numbers: a table's number is that of no other.
-use Rattle.std.proofs.Common.{◌≡◌, ℕ, ◌+◌, ◌≤◌, ◌<◌, false, not, List, [], ◌∷◌, ◌++◌, Some, refl, sym, ap, arith, subst}
+use Rattle.std.proofs.Common.{◌≡◌, ℕ, zero, suc, ◌+◌, ◌≤◌, ◌<◌, false, not, List, [], ◌∷◌, ◌++◌, length, get_or, set, refl, sym, ap, ◌∙◌, arith, subst}
 use Rattle.std.specs.Prelude.{◌==◌, filter}
-use Rattle.std.specs.List.{AllByRecursion}
+use Rattle.std.specs.List.{AllByRecursion, remove}
 use Rattle.std.proofs.lemmas.Bool.{eq-eqb, ne_eqb}
-use Rattle.cq_values.specs.Texts.{is_text}
 use Rattle.cq_values.specs.Value.{Row}
 use Rattle.cq_bags.proofs.Totals.{by_test}
-use Rattle.cq_steps.specs.State.{TableOf, table_named, rows_in, with_rows, holding, AreNumbered}
-use Rattle.cq_engine.specs.Statements.{with_rows_in, without_table}
+use Rattle.cq_steps.specs.State.{TableOf, with_rows, holding, AreNumbered}
 
 -- tables with numbers above another
-abbrev Above : ℕ → List TableOf → Type 0
+abbrev pub Above : ℕ → List TableOf → Type 0
 Above n ts = AllByRecursion (λ u. n < u.number) ts
 
--- ---- Finding a table
-module _ (name : List ℕ) (t : TableOf) where
-  -- a table that is found among those above a number is above it
-  pub found_above : (n : ℕ) (ts : List TableOf) → Above n ts → table_named name ts ≡ Some t → n < t.number
-  found_above n [] above found = absurd cc
-  found_above n (x ∷ ts) above found = by_test (is_text x.name name)
-      (λ k. let same : x ≡ t = cc in subst (λ (y : TableOf). n < y.number) same above.0)
-      (λ k. found_above n ts above.1 (rw k at found))
+-- a table that is read at a place behind others is above them
+pub above_at : (n : ℕ) (ts : List TableOf) (i : ℕ) (d : TableOf) → Above n ts → i < length ts → n < (get_or ts i d).number
+above_at n [] i d above h = absurd (omega (arith, h))
+above_at n (x ∷ xs) zero d above h = above.0
+above_at n (x ∷ xs) (suc i) d above h = above_at n xs i d above.1 (omega (arith, h))
 
-  -- its number has its rows
-  pub rows-found : (ts : List TableOf) (next : ℕ) → AreNumbered ts next → table_named name ts ≡ Some t → rows_in ts t.number ≡ t.rows
-  rows-found [] next numbered found = absurd cc
-  rows-found (x ∷ ts) next numbered found = by_test (is_text x.name name)
-      (λ k. let same : x ≡ t = cc in subst (λ (y : TableOf). rows_in (x ∷ ts) y.number ≡ y.rows) same (rw (eq-eqb x.number x.number refl) refl))
-      (λ k.
-      let later = rw k at found in
-      let other : (x.number == t.number) ≡ false = ne_eqb x.number t.number (λ e. absurd (omega (arith, e, found_above x.number ts numbered.1 later))) in
-      rw other (rows-found ts next numbered.2 later))
+-- numbers below a bound are below a greater one
+pub numbered-later : (ts : List TableOf) (next later : ℕ) → next ≤ later → AreNumbered ts next → AreNumbered ts later
+numbered-later [] next later bound numbered = tt
+numbered-later (x ∷ ts) next later bound numbered = (omega (arith, bound, numbered.0), numbered.1, numbered-later ts next later bound numbered.2)
 
 -- ---- Other rows
 module _ (n : ℕ) (all : List Row) where
@@ -41,75 +31,69 @@ module _ (n : ℕ) (all : List Row) where
       let other : (x.number == n) ≡ false = ne_eqb x.number n (λ e. absurd (omega (arith, e, above.0))) in
       rw other (ap (λ (xs : List TableOf). x ∷ xs) (above_stay ts above.1))
 
--- numbers below a bound are below a greater one
-pub numbered-later : (ts : List TableOf) (next later : ℕ) → next ≤ later → AreNumbered ts next → AreNumbered ts later
-numbered-later [] next later bound numbered = tt
-numbered-later (x ∷ ts) next later bound numbered = (omega (arith, bound, numbered.0), numbered.1, numbered-later ts next later bound numbered.2)
-
-module _ (name : List ℕ) (rows : TableOf → List Row) where
-  -- new rows in the table of a name are new rows in the table of its number
-  pub with_rows_in-number : (ts : List TableOf) (next : ℕ) (t : TableOf) → AreNumbered ts next → table_named name ts ≡ Some t → with_rows_in name rows ts ≡ with_rows t.number (rows t) ts
-  with_rows_in-number [] next t numbered found = absurd cc
-  with_rows_in-number (x ∷ ts) next t numbered found = by_test (is_text x.name name)
-      (λ k.
-      let same : x ≡ t = cc in
-      rw k (subst (λ (y : TableOf). holding (rows x) x ∷ ts ≡ with_rows y.number (rows y) (x ∷ ts)) same
-      (rw (eq-eqb x.number x.number refl) (ap (λ (xs : List TableOf). holding (rows x) x ∷ xs) (sym (above_stay x.number (rows x) ts numbered.1))))))
-      (λ k.
-      let later = rw k at found in
-      let other : (x.number == t.number) ≡ false = ne_eqb x.number t.number (λ e. absurd (omega (arith, e, found_above name t x.number ts numbered.1 later))) in
-      rw (k, other) (ap (λ (xs : List TableOf). x ∷ xs) (with_rows_in-number ts next t numbered.2 later)))
+  -- new rows in the table at the place of a number are new rows in the table of the number
+  pub set-number : (ts : List TableOf) (i next : ℕ) (t : TableOf) → AreNumbered ts next → i < length ts → t ≡ get_or ts i t → t.number ≡ n → set ts i (holding all t) ≡ with_rows n all ts
+  set-number [] i next t numbered h at is = absurd (omega (arith, h))
+  set-number (x ∷ xs) zero next t numbered h at is =
+      let same : x.number ≡ n = ap (λ (u : TableOf). u.number) (sym at) ∙ is in
+      let above : Above n xs = subst (λ m. Above m xs) same numbered.1 in
+      rw (eq-eqb x.number n same) (λ j. holding all (at j) ∷ sym (above_stay xs above) j)
+  set-number (x ∷ xs) (suc i) next t numbered h at is =
+      let inside : i < length xs = omega (arith, h) in
+      let other : (x.number == n) ≡ false = ne_eqb x.number n (λ e. absurd (omega (arith, e, is, ap (λ (u : TableOf). u.number) at, above_at x.number xs i t numbered.1 inside))) in
+      rw other (ap (λ (ys : List TableOf). x ∷ ys) (set-number xs i next t numbered.2 inside at is))
 
   -- numbers above another stay so
-  above-with_rows_in : (n : ℕ) (ts : List TableOf) → Above n ts → Above n (with_rows_in name rows ts)
-  above-with_rows_in n [] above = tt
-  above-with_rows_in n (x ∷ ts) above = by_test (is_text x.name name)
-      (λ k. rw k above)
-      (λ k. rw k (above.0, above-with_rows_in n ts above.1))
+  above-with_rows : (m : ℕ) (ts : List TableOf) → Above m ts → Above m (with_rows n all ts)
+  above-with_rows m [] above = tt
+  above-with_rows m (x ∷ ts) above = by_test (x.number == n)
+      (λ k. rw k (above.0, above-with_rows m ts above.1))
+      (λ k. rw k (above.0, above-with_rows m ts above.1))
 
   -- with new rows the tables have their numbers
-  pub numbered-with_rows_in : (ts : List TableOf) (next : ℕ) → AreNumbered ts next → AreNumbered (with_rows_in name rows ts) next
-  numbered-with_rows_in [] next numbered = tt
-  numbered-with_rows_in (x ∷ ts) next numbered = by_test (is_text x.name name)
-      (λ k. rw k numbered)
-      (λ k. rw k (numbered.0, above-with_rows_in x.number ts numbered.1, numbered-with_rows_in ts next numbered.2))
+  pub numbered-with_rows : (ts : List TableOf) (next : ℕ) → AreNumbered ts next → AreNumbered (with_rows n all ts) next
+  numbered-with_rows [] next numbered = tt
+  numbered-with_rows (x ∷ ts) next numbered = by_test (x.number == n)
+      (λ k. rw k (numbered.0, above-with_rows x.number ts numbered.1, numbered-with_rows ts next numbered.2))
+      (λ k. rw k (numbered.0, above-with_rows x.number ts numbered.1, numbered-with_rows ts next numbered.2))
 
 -- ---- One table fewer
 module _ (n : ℕ) where
-  -- no table with a greater number is that of the number
-  above_kept : (ts : List TableOf) → Above n ts → filter (λ u. not (u.number == n)) ts ≡ ts
+  -- the tables of other numbers
+  abbrev pub others : List TableOf → List TableOf
+  others ts = filter (λ u. not (u.number == n)) ts
+
+  -- tables with greater numbers are others
+  above_kept : (ts : List TableOf) → Above n ts → others ts ≡ ts
   above_kept [] above = refl
   above_kept (x ∷ ts) above =
       let other : (x.number == n) ≡ false = ne_eqb x.number n (λ e. absurd (omega (arith, e, above.0))) in
       rw other (ap (λ (xs : List TableOf). x ∷ xs) (above_kept ts above.1))
 
-module _ (name : List ℕ) where
-  -- without the table of a name are those of other numbers than its own
-  pub without_table-number : (ts : List TableOf) (next : ℕ) (t : TableOf) → AreNumbered ts next → table_named name ts ≡ Some t → without_table name ts ≡ filter (λ u. not (u.number == t.number)) ts
-  without_table-number [] next t numbered found = absurd cc
-  without_table-number (x ∷ ts) next t numbered found = by_test (is_text x.name name)
-      (λ k.
-      let same : x ≡ t = cc in
-      rw k (subst (λ (y : TableOf). ts ≡ filter (λ u. not (u.number == y.number)) (x ∷ ts)) same
-      (rw (eq-eqb x.number x.number refl) (sym (above_kept x.number ts numbered.1)))))
-      (λ k.
-      let later = rw k at found in
-      let other : (x.number == t.number) ≡ false = ne_eqb x.number t.number (λ e. absurd (omega (arith, e, found_above name t x.number ts numbered.1 later))) in
-      rw (k, other) (ap (λ (xs : List TableOf). x ∷ xs) (without_table-number ts next t numbered.2 later)))
+  -- without the table at the place of the number the others are left
+  pub remove-number : (ts : List TableOf) (i next : ℕ) (t : TableOf) → AreNumbered ts next → i < length ts → (get_or ts i t).number ≡ n → remove ts i ≡ others ts
+  remove-number [] i next t numbered h is = absurd (omega (arith, h))
+  remove-number (x ∷ xs) zero next t numbered h is =
+      let above : Above n xs = subst (λ m. Above m xs) is numbered.1 in
+      rw (eq-eqb x.number n is) (sym (above_kept xs above))
+  remove-number (x ∷ xs) (suc i) next t numbered h is =
+      let inside : i < length xs = omega (arith, h) in
+      let other : (x.number == n) ≡ false = ne_eqb x.number n (λ e. absurd (omega (arith, e, is, above_at x.number xs i t numbered.1 inside))) in
+      rw other (ap (λ (ys : List TableOf). x ∷ ys) (remove-number xs i next t numbered.2 inside is))
 
   -- numbers above another stay so
-  above-without_table : (n : ℕ) (ts : List TableOf) → Above n ts → Above n (without_table name ts)
-  above-without_table n [] above = tt
-  above-without_table n (x ∷ ts) above = by_test (is_text x.name name)
-      (λ k. rw k above.1)
-      (λ k. rw k (above.0, above-without_table n ts above.1))
+  above-others : (m : ℕ) (ts : List TableOf) → Above m ts → Above m (others ts)
+  above-others m [] above = tt
+  above-others m (x ∷ ts) above = by_test (x.number == n)
+      (λ k. rw k (above-others m ts above.1))
+      (λ k. rw k (above.0, above-others m ts above.1))
 
   -- the tables that are left have their numbers
-  pub numbered-without_table : (ts : List TableOf) (next : ℕ) → AreNumbered ts next → AreNumbered (without_table name ts) next
-  numbered-without_table [] next numbered = tt
-  numbered-without_table (x ∷ ts) next numbered = by_test (is_text x.name name)
-      (λ k. rw k numbered.2)
-      (λ k. rw k (numbered.0, above-without_table x.number ts numbered.1, numbered-without_table ts next numbered.2))
+  pub numbered-others : (ts : List TableOf) (next : ℕ) → AreNumbered ts next → AreNumbered (others ts) next
+  numbered-others [] next numbered = tt
+  numbered-others (x ∷ ts) next numbered = by_test (x.number == n)
+      (λ k. rw k (numbered-others ts next numbered.2))
+      (λ k. rw k (numbered.0, above-others x.number ts numbered.1, numbered-others ts next numbered.2))
 
 -- ---- One table more
 module _ (t : TableOf) where

@@ -1,7 +1,7 @@
 -- Stored rows, the bag that they are, and what a query makes of it.
 use Rattle.std.proofs.Common.{◌≡◌, ℕ, ◌+◌, Bool, cond, not, List, [], ◌∷◌, ◌++◌, map, length, pos, arith, refl, sym, ap, ◌∙◌, subst, Result, Ok, Err}
 use Rattle.std.specs.Result.{OnOk, is_ok}
-use Rattle.std.specs.Prelude.{filter, option_map, None}
+use Rattle.std.specs.Prelude.{filter, Option, None}
 use Rattle.std.proofs.lemmas.List.Filters.{length-filter_both}
 use Rattle.cq_values.specs.Value.{Row}
 use Rattle.cq_bags.specs.Bag.{Weighted, SameBag, once_each, filtered, projected}
@@ -10,16 +10,12 @@ use Rattle.cq_bags.specs.Listing.{Lists, IsListing}
 use Rattle.cq_bags.proofs.Totals.{by_test}
 use Rattle.cq_bags.proofs.Bags.{same-sym, same-trans, filtered-respects, projected-respects}
 use Rattle.cq_bags.proofs.Canonicals.{bag_of-again, bag_of-weights, length-bag_of, same-bag_of}
-use Rattle.cq_model.specs.declared.query.Source.{Source}
+use Rattle.cq_model.specs.Expr.{Cond, Expr}
 use Rattle.cq_model.specs.declared.statement.ColumnDef.{ColumnDef}
-use Rattle.cq_model.specs.declared.statement.Select.{Select}
+use Rattle.cq_model.specs.declared.query.Source.{Source}
 use Rattle.cq_model.specs.Meaning.{Tables, keeps, items_of, meaning}
-use Rattle.cq_steps.specs.Bound.{bound_condition, bound_query, bound_value, scope_of, shown_by}
-use Rattle.cq_steps.specs.Typing.{Scope}
 use Rattle.cq_steps.specs.State.{TableOf, empty_table, holding}
-use Rattle.cq_engine.specs.declared.selection.Selection.{Selection}
-use Rattle.cq_engine.specs.Bound.{IsBound}
-use Rattle.cq_engine.specs.Statements.{IsResult, from_columns}
+use Rattle.cq_engine.specs.Commands.{plain}
 
 -- no rows are the empty bag
 pub bag_of_none : bag_of [] ≡ []
@@ -88,35 +84,27 @@ module _ (keep : Row → Bool) (stored left : List Row) (is_left : left ≡ filt
       let both = length-filter_both keep (λ row. not (keep row)) (λ row. refl) stored in
       omega (arith, ap length is_left, both, length-kept keep stored)
 
--- what WHERE keeps, and the items of a row
-module _ (columns : List ColumnDef) (q : Select) where
-  abbrev source_of : Scope
-  source_of = scope_of (from_columns columns)
+-- the rows that WHERE keeps
+abbrev kept : Option Cond → List Row → List Row
+kept condition rows = filter (keeps condition) rows
 
-  abbrev keep : Row → Bool
-  keep = keeps (option_map (bound_condition source_of) q.condition)
+-- what items show of them
+module _ (filter : Option Cond) (items : List Expr) where
+  abbrev shown : Weighted → Weighted
+  shown xs = projected (items_of items) (filtered (keeps filter) xs)
 
-  abbrev select : Row → Row
-  select = items_of (map (bound_value source_of) (shown_by q.items))
+  shown_rows : (rows : List Row) → once_each (map (items_of items) (kept filter rows)) ≡ shown (once_each rows)
+  shown_rows rows = once_each-map (items_of items) (kept filter rows) ∙ ap (projected (items_of items)) (once_each-filter (keeps filter) rows)
 
-  -- the sorted results of a bound query are its listing
-  pub listing_bound : (s : Selection) (rows list : List Row) → IsBound source_of q s → Lists [] (once_each (map (items_of s.items.items) (filter (keeps s.condition) rows))) list → IsResult q columns rows list
-  listing_bound s rows list b listed = (list, subst (λ (xs : Weighted). Lists [] xs list) means listed, refl)
-    where
-      by_items : map (items_of s.items.items) (filter (keeps s.condition) rows) ≡ map select (filter keep rows)
-      by_items = λ i. map (items_of (b.items i)) (filter (keeps (b.condition i)) rows)
-
-      means : once_each (map (items_of s.items.items) (filter (keeps s.condition) rows)) ≡ projected select (filtered keep (once_each rows))
-      means = ap once_each by_items ∙ once_each-map select (filter keep rows) ∙ ap (projected select) (once_each-filter keep rows)
-
-  -- rows that a source names in any order have the listing of the query on it
-  pub listing_named : (known : List ℕ) (sizes : List ℕ) (source : Source) (tables : Tables) (rows list : List Row) → SameBag (once_each rows) (tables source) → IsResult q columns rows list
-      → IsListing [] None (meaning (bound_query q (record { known = known; columns = columns; sizes = sizes; source = source })) tables) list
-  listing_named known sizes source tables rows list same l = (
-    l.0,
-    record { same = same-trans (once_each l.0) (shown (once_each rows)) (shown (tables source)) l.1.same (projected-respects select (filtered keep (once_each rows)) (filtered keep (tables source)) (filtered-respects keep (once_each rows) (tables source) same)); in_order = l.1.in_order },
-    l.2,
-  )
-    where
-      shown : Weighted → Weighted
-      shown xs = projected select (filtered keep xs)
+  -- the sorted results are the listing of the query on a source whose bag the rows are
+  pub listing_plain : (source : Source) (tables : Tables) (rows list : List Row) → SameBag (once_each rows) (tables source) → Lists [] (once_each (map (items_of items) (kept filter rows))) list
+      → IsListing [] None (meaning (plain source filter items) tables) list
+  listing_plain source tables rows list same listed =
+      let l = subst (λ (xs : Weighted). Lists [] xs list) (shown_rows rows) listed in (
+        list,
+        record {
+          same = same-trans (once_each list) (shown (once_each rows)) (shown (tables source)) l.same (projected-respects (items_of items) (filtered (keeps filter) (once_each rows)) (filtered (keeps filter) (tables source)) (filtered-respects (keeps filter) (once_each rows) (tables source) same));
+          in_order = l.in_order;
+        },
+        refl,
+      )

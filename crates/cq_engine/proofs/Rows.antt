@@ -1,21 +1,14 @@
 -- The rows of tables by their numbers, where one table is written, made or taken away.
-use Rattle.std.proofs.Common.{◌≡◌, ℕ, zero, suc, ◌<◌, Bool, true, false, List, [], ◌∷◌, ◌++◌, length, get_or, set, Some, refl, sym, ap, ◌∙◌, arith, subst}
+use Rattle.std.proofs.Common.{◌≡◌, ℕ, zero, suc, ◌<◌, Bool, true, false, List, [], ◌∷◌, ◌++◌, length, get_or, set, refl, sym, ap, ◌∙◌, arith, subst}
 use Rattle.std.specs.Prelude.{◌==◌, ◌||◌}
 use Rattle.std.specs.List.{AllByRecursion}
-use Rattle.std.proofs.lemmas.Bool.{eq-eqb, eqb-false, ne_eqb}
-use Rattle.cq_values.specs.Texts.{is_text}
+use Rattle.std.proofs.lemmas.Bool.{eq-eqb, eqb-false, eqb-true, ne_eqb}
 use Rattle.cq_values.specs.Value.{Row}
 use Rattle.cq_bags.proofs.Totals.{by_test}
 use Rattle.cq_steps.specs.Refusal.{is_used}
-use Rattle.cq_steps.specs.State.{TableOf, table_named, rows_in, AreNumbered}
-use Rattle.cq_engine.specs.Statements.{without_table}
+use Rattle.cq_steps.specs.State.{TableOf, rows_in, AreNumbered}
 use Rattle.cq_engine.specs.Views.{NamedView, views_of, IsStored, AreStored}
-
--- a table that is read at a place behind others is above them
-above_at : (n : ℕ) (ts : List TableOf) (i : ℕ) (d : TableOf) → AllByRecursion (λ u. n < u.number) ts → i < length ts → n < (get_or ts i d).number
-above_at n [] i d above h = absurd (omega (arith, h))
-above_at n (x ∷ xs) zero d above h = above.0
-above_at n (x ∷ xs) (suc i) d above h = above_at n xs i d above.1 (omega (arith, h))
+use Rattle.cq_engine.proofs.Numbers.{above_at, others}
 
 -- ---- A table in the place of one of its number
 module _ (u d : TableOf) where
@@ -60,6 +53,10 @@ rows_there (x ∷ xs) (suc i) d next numbered h =
     let other : (x.number == (get_or xs i d).number) ≡ false = ne_eqb x.number (get_or xs i d).number (λ e. absurd (omega (arith, e, above_at x.number xs i d numbered.1 inside))) in
     rw other (rows_there xs i d next numbered.2 inside)
 
+-- so has a number that it has
+pub rows_numbered : (ts : List TableOf) (i : ℕ) (t : TableOf) (next n : ℕ) → AreNumbered ts next → i < length ts → t ≡ get_or ts i t → (get_or ts i t).number ≡ n → rows_in ts n ≡ t.rows
+rows_numbered ts i t next n numbered h is number = ap (rows_in ts) (sym number) ∙ rows_there ts i t next numbered h ∙ ap (λ (y : TableOf). y.rows) (sym is)
+
 -- ---- A table without rows behind the others
 pub rows_before : (ts : List TableOf) (t : TableOf) (n : ℕ) → t.rows ≡ [] → rows_in (ts ++ t ∷ []) n ≡ rows_in ts n
 rows_before [] t n none = by_test (t.number == n) (λ k. rw k none) (λ k. rw k refl)
@@ -70,23 +67,20 @@ stored_before [] t none stored = (subst (λ (rs : List Row). AllByRecursion IsSt
 stored_before (x ∷ xs) t none stored = (stored.0, stored_before xs t none stored.1)
 
 -- ---- One table fewer
-module _ (name : List ℕ) where
+module _ (n : ℕ) where
   -- the other numbers have their rows
-  pub rows_left : (ts : List TableOf) (t : TableOf) (next : ℕ) → table_named name ts ≡ Some t → (n : ℕ) → (n == t.number) ≡ false → rows_in (without_table name ts) n ≡ rows_in ts n
-  rows_left [] t next found n other = refl
-  rows_left (x ∷ xs) t next found n other = by_test (is_text x.name name)
+  pub rows_left : (ts : List TableOf) (m : ℕ) → (m == n) ≡ false → rows_in (others n ts) m ≡ rows_in ts m
+  rows_left [] m other = refl
+  rows_left (x ∷ xs) m other = by_test (x.number == n)
       (λ k.
-      let same : x ≡ t = cc in
-      let first : (x.number == n) ≡ false = ne_eqb x.number n (λ e. eqb-false n t.number other (sym e ∙ ap (λ (y : TableOf). y.number) same)) in
-      rw (k, first) refl)
-      (λ k.
-      let later = rw k at found in
-      rw k (by_test (x.number == n) (λ j. rw j refl) (λ j. rw j (rows_left xs t next later n other))))
+      let first : (x.number == m) ≡ false = ne_eqb x.number m (λ e. eqb-false m n other (sym e ∙ eqb-true x.number n k)) in
+      rw (k, first) (rows_left xs m other))
+      (λ k. rw k (by_test (x.number == m) (λ j. rw j refl) (λ j. rw j (rows_left xs m other))))
 
-  pub stored_left : (ts : List TableOf) → AreStored ts → AreStored (without_table name ts)
+  pub stored_left : (ts : List TableOf) → AreStored ts → AreStored (others n ts)
   stored_left [] stored = tt
-  stored_left (x ∷ xs) stored = by_test (is_text x.name name)
-      (λ k. rw k stored.1)
+  stored_left (x ∷ xs) stored = by_test (x.number == n)
+      (λ k. rw k (stored_left xs stored.1))
       (λ k. rw k (stored.0, stored_left xs stored.1))
 
 -- ---- Tables that no view stands on

@@ -10,23 +10,17 @@ use Rattle.cq_bags.specs.Canonical.{bag_of}
 use Rattle.cq_bags.proofs.Canonicals.{length-bag_of}
 use Rattle.cq_bags.proofs.Totals.{by_test}
 use Rattle.cq_deltas.specs.declared.change.Addition.{Addition}
-use Rattle.cq_model.specs.Written.{Written}
-use Rattle.cq_model.specs.declared.statement.Constant.{Constant}
-use Rattle.cq_model.specs.declared.statement.Statement.{Statement}
-use Rattle.cq_steps.specs.declared.fault.Fault.{Fault}
-use Rattle.cq_steps.specs.declared.fault.Fault.TheVariants as faults
-use Rattle.cq_steps.specs.Refusal.{refusal, MayRefuse}
-use Rattle.cq_steps.specs.State.{TableOf, ViewOf, AreNumbered, holding, rows_in}
-use Rattle.cq_steps.specs.Step.{Refuses, by_walk, for_memory}
+use Rattle.cq_steps.specs.State.{TableOf, ViewOf, AreNumbered, holding, rows_in, with_rows}
 use Rattle.cq_views.specs.declared.view_def.ViewDef.{ViewDef}
 use Rattle.cq_views.specs.Small.{AreSmallFor, IsSmallFor}
 use Rattle.cq_views.specs.View.{IsNarrowFor, changed}
 use Rattle.cq_views.proofs.Moves.{small-changes, small-rows}
-use Rattle.cq_engine.specs.Statements.{present, Inserts, Deletes}
+use Rattle.cq_engine.specs.Commands.{present}
 use Rattle.cq_engine.specs.Views.{NamedView, views_of, Fits, IsStored, AreRight, StandOn, AreSame, AreReady, CanAllTake, HaveTaken, Follow, Moved}
 use Rattle.cq_engine.proofs.Changes.{once_each-bag, with_fewer, with_more}
 use Rattle.cq_engine.proofs.Kept.{can_all_take, follow, moved, same_views, stand_on}
-use Rattle.cq_engine.proofs.Rows.{rows_at, rows_elsewhere, rows_there}
+use Rattle.cq_engine.proofs.Numbers.{set-number}
+use Rattle.cq_engine.proofs.Rows.{rows_at, rows_elsewhere, rows_numbered, rows_there}
 use Rattle.cq_engine.proofs.Stored.{all_of_bag, all_of_kept, all_of_rows}
 
 -- ---- Rows that fit views
@@ -110,27 +104,33 @@ module _ (now next : ℕ) (tables : List TableOf) (i : ℕ) (t : TableOf) (vs : 
   stand_at = stand_on tables now t vs (subst (λ (x : TableOf). rows_in tables x.number ≡ x.rows) (sym is) (rows_there tables i t next numbered within)) right
 
   -- and are led on with it
-  moved_at : (epoch : ℕ) (u : TableOf) (ws : List NamedView) → u.number ≡ t.number → Follow epoch u vs ws → Moved epoch (set tables i u) vs ws
+  pub moved_at : (epoch : ℕ) (u : TableOf) (ws : List NamedView) → u.number ≡ t.number → Follow epoch u vs ws → Moved epoch (set tables i u) vs ws
   moved_at epoch u ws number f =
       let same : u.number ≡ (get_or tables i t).number = number ∙ ap (λ (x : TableOf). x.number) is in
       moved epoch now tables (set tables i u) u (rows_at u t tables i next numbered within same) (rows_elsewhere u t tables i within same) vs ws f right
 
-  pub inserted-moved : (epoch : ℕ) (u : TableOf) (ws : List NamedView) (max_rows : ℕ) (rows : List (List Constant)) (result : Result (Unit {0}) Fault) → Inserts max_rows rows t u result → OnOk result (Follow epoch u vs ws) → OnOk result (Moved epoch (set tables i u) vs ws)
-  inserted-moved epoch u ws max_rows rows (Ok x) w f = moved_at epoch u ws (ap (λ (y : TableOf). y.number) w.1) f
-  inserted-moved epoch u ws max_rows rows (Err e) w f = tt
+  pub written-moved : {X E : Type 0} (epoch : ℕ) (u : TableOf) (ws : List NamedView) (rows : List Row) (result : Result X E) → OnOk result (u ≡ holding rows t) → OnOk result (Follow epoch u vs ws) → OnOk result (Moved epoch (set tables i u) vs ws)
+  written-moved epoch u ws rows (Ok x) w f = moved_at epoch u ws (ap (λ (y : TableOf). y.number) w) f
+  written-moved epoch u ws rows (Err e) w f = tt
 
-  pub deleted-moved : (epoch : ℕ) (u : TableOf) (ws : List NamedView) (condition : Option Written) (result : Result ℕ Fault) → Deletes condition t u result → OnOk result (Follow epoch u vs ws) → OnOk result (Moved epoch (set tables i u) vs ws)
-  deleted-moved epoch u ws condition (Ok x) w f = moved_at epoch u ws (ap (λ (y : TableOf). y.number) w.1.1) f
-  deleted-moved epoch u ws condition (Err e) w f = tt
+module _ (next : ℕ) (tables : List TableOf) (i : ℕ) (t : TableOf) (numbered : AreNumbered tables next) (within : i < length tables) (is : t ≡ get_or tables i t) (n : ℕ) (number : (get_or tables i t).number ≡ n) where
+  -- the table of the number has the rows that were written at its place
+  pub written_here : (u : TableOf) (rows : List Row → List Row) → u ≡ holding (rows t.rows) t → set tables i u ≡ with_rows n (rows (rows_in tables n)) tables
+  written_here u rows w =
+      let own : t.number ≡ n = ap (λ (y : TableOf). y.number) is ∙ number in
+      let there : rows_in tables n ≡ t.rows = rows_numbered tables i t next n numbered within is number in
+      ap (set tables i) w ∙ set-number n (rows t.rows) tables i next t numbered within is own ∙ ap (λ (rs : List Row). with_rows n (rows rs) tables) (sym there)
+
+  pub written-number : {X E : Type 0} (u : TableOf) (rows : List Row → List Row) (result : Result X E) → OnOk result (u ≡ holding (rows t.rows) t) → OnOk result (set tables i u ≡ with_rows n (rows (rows_in tables n)) tables)
+  written-number u rows (Ok x) w = written_here u rows w
+  written-number u rows (Err e) w = tt
 
 -- ---- A write that is refused
--- the statement is refused where its walk is, and nothing is changed that is seen
-pub refused : (tables left : List TableOf) (vs ws : List NamedView) (now drawn max_rows : ℕ) (statement : Statement) (f : Fault) → left ≡ tables → AreSame vs ws → MayRefuse (refusal (present tables (views_of vs) now drawn max_rows) statement) f
-    → Refuses (present tables (views_of vs) now drawn max_rows) statement f (present left (views_of ws) now drawn max_rows)
-refused tables left vs ws now drawn max_rows statement faults.Memory same views m = for_memory refl (ap₂ (λ (ts : List TableOf) (xs : List ViewOf). present ts xs now drawn max_rows) same (same_views vs ws views))
-refused tables left vs ws now drawn max_rows statement f same views m = by_walk m (ap₂ (λ (ts : List TableOf) (xs : List ViewOf). present ts xs now drawn max_rows) same (same_views vs ws views))
+-- nothing is changed that is seen
+pub unchanged : (tables left : List TableOf) (vs ws : List NamedView) (now drawn max_rows : ℕ) → left ≡ tables → AreSame vs ws → present left (views_of ws) now drawn max_rows ≡ present tables (views_of vs) now drawn max_rows
+unchanged tables left vs ws now drawn max_rows same views = ap₂ (λ (ts : List TableOf) (xs : List ViewOf). present ts xs now drawn max_rows) same (same_views vs ws views)
 
 -- what holds anyway holds where the call is refused
-pub where_refused : {X : Type 0} {P : Type 0} (result : Result X Fault) → P → OnErr result P
+pub where_refused : {X E : Type 0} {P : Type 0} (result : Result X E) → P → OnErr result P
 where_refused (Ok x) p = tt
 where_refused (Err f) p = p

@@ -1,13 +1,11 @@
--- Queries whose names have become places.
-use Rattle.std.specs.Prelude.{◌≡◌, ◌<◌, ◌^◌, List, map, Option, option_map, IfSome}
+-- Queries and conditions that can be worked out on rows.
+use Rattle.std.specs.Prelude.{◌<◌, ◌^◌, ℕ, List, Option, IfSome, slice_index_or}
 use Rattle.std.specs.List.{AllByRecursion}
 use Rattle.cq_values.specs.Value.{Row}
+use Rattle.cq_laws.specs.Sizes.{IsSized}
 use Rattle.cq_model.specs.Expr.{Cond, Expr}
-use Rattle.cq_model.specs.declared.statement.Select.{Select}
+use Rattle.cq_model.specs.declared.query.Query.{Query}
 use Rattle.cq_model.specs.Width.{extent, widest_at}
-use Rattle.cq_steps.specs.Bound.{bound_condition, bound_value, shown_by}
-use Rattle.cq_steps.specs.Typing.{Scope}
-use Rattle.cq_engine.specs.declared.selection.Selection.{Selection}
 
 -- no number on the way to the truth of WHERE is too wide at the row
 abbrev pub IsNarrowAt : Option Cond → Row → Type 0
@@ -18,11 +16,10 @@ abbrev pub AreNarrowAt : List Expr → Row → Type 0
 AreNarrowAt items row = AllByRecursion (λ e. (extent e row).widest < 2 ^ 127) items
 
 -- a row on which a query can be worked out
-pub record IsWithin (s : Selection) (row : Row) : Type 0 where
-  pub condition : IsNarrowAt s.condition row
-  pub items : AreNarrowAt s.items.items row
+pub record IsWithin (q : Query) (row : Row) : Type 0 where
+  pub condition : IsNarrowAt q.filter row
+  pub items : AreNarrowAt q.items row
 
--- a query's condition and items by their places among the columns
-pub record IsBound (source : Scope) (q : Select) (s : Selection) : Type 0 where
-  pub condition : s.condition ≡ option_map (bound_condition source) q.condition
-  pub items : s.items.items ≡ map (bound_value source) (shown_by q.items)
+-- a query that can be worked out on each row with numbers of these sizes
+abbrev pub IsWithinSized : List ℕ → Query → Type 0
+IsWithinSized sizes q = (row : Row) → IsSized (λ i. slice_index_or sizes i 0) row → IsWithin q row

@@ -1,4 +1,4 @@
 pub mod Given
 pub mod Bound
 pub mod Views
-pub mod Statements
+pub mod Commands

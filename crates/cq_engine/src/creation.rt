@@ -1,103 +1,114 @@
-//! CREATE VIEW and DROP VIEW.
-ghost use Rattle.std.specs.List.{AllByRecursion};
-ghost use Rattle.std.specs.Prelude.{◌≡◌, if◌then◌else◌, ℕ, List, OnErr, Ok, is_some};
-ghost use Rattle.cq_steps.specs.declared.fault.Fault.TheVariants.{ClauseInView, UnknownTable};
-ghost use Rattle.cq_steps.specs.Refusal.{view_select_places};
-ghost use Rattle.cq_steps.specs.State.{AreNumbered, TableOf, view_named};
-ghost use Rattle.cq_engine.specs.Statements.{CreatesView, DropsView, IsBuilt};
-ghost use Rattle.cq_engine.specs.Views.{AreRight, AreStored, IsStored, views_of};
-ghost use Rattle.cq_binder.specs.Walk.{Walked};
+//! CREATE VIEW.
+ghost use Rattle.std.specs.Prelude.{◌≡◌, ◌++◌, ◌∷◌, [], List, None, Some, ℕ, IfOk, OnErr, OnOk};
+ghost use Rattle.cq_bags.specs.Bag.{once_each};
+ghost use Rattle.cq_model.specs.declared.query.Aggregate.{Aggregate};
+ghost use Rattle.cq_model.specs.declared.query.Shape.TheVariants.{Grouped};
+ghost use Rattle.cq_model.specs.declared.query.Source.TheVariants.{Table};
+ghost use Rattle.cq_steps.specs.State.{AreNumbered, rows_in};
+ghost use Rattle.cq_steps.specs.Step.{new_view};
+ghost use Rattle.cq_views.specs.declared.view_def.ViewDef.{ViewDef};
+ghost use Rattle.cq_views.specs.View.{Stands, query_of};
+ghost use Rattle.cq_engine.specs.Commands.{CanBuild, IsThere};
+ghost use Rattle.cq_engine.specs.Views.{AreRight, AreStored, Fits, views_of};
 
-use crate::scopes::{stored_sizes, table_scope_as};
-use crate::table::Table;
-use crate::tables::{is_taken, place_of};
+use crate::table;
+use crate::tables::place_numbered;
 use crate::view::View;
-use crate::views::{is_view, view_place};
-use cq_binder::{BoundView, bound_view};
-use cq_model::ViewSelect;
-use cq_steps::Fault;
-use cq_values::Text;
+use cq_model::{Aggregate, ColumnDef, Query, Shape, Source};
+use cq_values::{Seq, Text};
 use cq_views::{ViewDef, ViewState, standing_depends_on_bag};
-use std::alloc::Global;
+use std::alloc::{AllocError, Global};
 
-/// CREATE VIEW: a view of its query on the table as it is at this epoch.
+/// Puts a view of this query behind the others, built from its table as it is at this epoch.
 pub fn create_view_in(
     alloc: Global,
-    tables: &[Table],
+    tables: &[table::Table],
     views: &mut Vec<View>,
-    name: &Text,
-    view: &ViewSelect,
+    name: Text,
+    columns: Seq<ColumnDef>,
+    query: Query,
     now: u64,
-) -> Result<(), Fault>
+) -> Result<(), AllocError>
     requires numbered { (next : ℕ) × AreNumbered tables.now next }
     requires stored { AreStored tables.now }
     requires right { AreRight tables.now now views.old.items }
-    ensures walk { CreatesView now name.now view.now tables.now (views_of views.old.items) (views_of views.new.items) result }
+    requires can_build { CanBuild tables.now query }
+    ensures created { OnOk result (views_of views.new.items ≡ views_of views.old.items ++ new_view name columns query now ∷ []) }
     ensures right { AreRight tables.now now views.new.items }
     ensures err { OnErr result (views.new.items ≡ views.old.items) }
 {
-    if is_taken(tables, views, name.as_str()) {
-        return Err(Fault::NameTaken);
-    }
-    let Some(place) = place_of(tables, view.source.name.as_str()) else {
-        return Err(unread(views, view.source.name.as_str()));
-    };
-    views.push(built_view(alloc, &tables[place], name, view, now)?)?;
+    let state = built_state(alloc, tables, def_of(query), now)?;
+    views.push(View::new(name, columns, state))?;
     Ok(())
 }
 
-/// The view of a query on this table.
-fn built_view(
+/// What is kept of a view, built from the rows of its table.
+fn built_state(
     alloc: Global,
-    table: &Table,
-    name: &Text,
-    view: &ViewSelect,
+    tables: &[table::Table],
+    def: ViewDef,
     now: u64,
-) -> Result<View, Fault>
-    requires { AllByRecursion IsStored table.now.rows }
-    ensures { Walked (view_select_places view.now (Ok table.now)) (IsBuilt now name.now view.now table.now) result }
+) -> Result<ViewState, AllocError>
+    requires numbered { (next : ℕ) × AreNumbered tables.now next }
+    requires stored { AreStored tables.now }
+    requires fits { Fits def }
+    requires there { IsThere def.table tables.now }
+    ensures { IfOk result (λ v. (v.def ≡ def) × (v.epoch ≡ now) × (v.built ≡ now) × Stands v (once_each (rows_in tables.now def.table))) }
 {
-    let sizes = stored_sizes(alloc, table)?;
-    let bound = bound_view(alloc, &table_scope_as(&view.source, table, &sizes), view)?;
-    let BoundView {
-        columns,
-        filter,
-        keys,
-        aggregates,
-        items,
-    } = bound;
-    let def = ViewDef {
-        table: table.number(),
-        filter,
-        keys,
-        aggregates,
-        items,
-    };
-    let state = ViewState::build(alloc, def, table.rows(), now)?;
+    let place = place_numbered(tables, def.table);
+    let state = ViewState::build(alloc, def, tables[place].rows(), now)?;
     standing_depends_on_bag();
-    Ok(View::new(name.copy(alloc)?, columns, state))
+    Ok(state)
 }
 
-/// DROP VIEW.
-pub fn drop_view_in(views: &mut Vec<View>, name: &Text) -> Result<(), Fault>
-    ensures walk { DropsView name.now (views_of views.old.items) (views_of views.new.items) result }
-    ensures right { (tables : List TableOf) (now : ℕ) → AreRight tables now views.old.items → AreRight tables now views.new.items }
-    ensures err { OnErr result (views.new.items ≡ views.old.items) }
+/// The groups of one table that the query is.
+fn def_of(query: Query) -> ViewDef
+    requires { (def : ViewDef) × (query ≡ query_of def) }
+    ensures { query ≡ query_of result }
 {
-    let Some(place) = view_place(views, name.as_str()) else {
-        return Err(Fault::UnknownTable);
-    };
-    views.remove(place);
-    Ok(())
+    let Query {
+        first,
+        joins: _joins,
+        filter,
+        shape,
+        items,
+        distinct: _,
+    } = query;
+    let (keys, aggregates) = groups_of(shape);
+    ViewDef {
+        table: table_of(first),
+        filter,
+        keys,
+        aggregates,
+        items,
+    }
 }
 
-/// Why a name that no table has cannot be read by a view.
-fn unread(views: &[View], name: &str) -> Fault
-    ensures { result ≡ (if is_some (view_named name.now (views_of views.now)) then ClauseInView else UnknownTable) }
+/// The table that is read.
+fn table_of(source: Source) -> u64
+    requires { (n : ℕ) × (source ≡ Table n) }
+    ensures { source ≡ Table result }
 {
-    if is_view(views, name) {
-        Fault::ClauseInView
-    } else {
-        Fault::UnknownTable
+    match source {
+        Source::Table(table) => table,
+        Source::View(_) => unreachable!(),
+    }
+}
+
+/// GROUP BY, and what is told of each group.
+fn groups_of(shape: Shape) -> (Seq<usize>, Seq<Aggregate>)
+    requires { (keys : List ℕ) × (aggregates : List Aggregate) × (shape ≡ Grouped (Some keys) aggregates None) }
+    ensures { shape ≡ Grouped (Some result.0) result.1 None }
+{
+    match shape {
+        Shape::Grouped {
+            keys,
+            aggregates,
+            having: _having,
+        } => match keys {
+            Some(keys) => (keys, aggregates),
+            None => unreachable!(),
+        },
+        Shape::Plain => unreachable!(),
     }
 }

@@ -1,21 +1,25 @@
 //! The engine, and one step of it.
-ghost use Rattle.std.specs.Prelude.{◌≡◌, ◌<◌, ◌+◌, ◌-◌, ◌^◌, option_map};
-ghost use Rattle.cq_model.specs.declared.statement.Statement.TheVariants as statements;
+ghost use Rattle.std.specs.Prelude.{◌≡◌, ◌<◌, ◌+◌, ◌-◌, ◌^◌, Ok, option_map};
+ghost use Rattle.cq_model.specs.declared.bound.Bound.TheVariants as commands;
 ghost use Rattle.cq_steps.specs.State.{first_state, view_named};
 ghost use Rattle.cq_steps.specs.Step.{Step};
+ghost use Rattle.cq_engine.specs.declared.answer_source.AnswerSource.TheVariants.{Tables};
+ghost use Rattle.cq_engine.specs.Commands.{CanCarryOut, CarriesOut};
 
-use crate::creation::{create_view_in, drop_view_in};
+use crate::answer_source::AnswerSource;
+use crate::catalog::EngineCatalog;
+use crate::creation::create_view_in;
 use crate::limits::Limits;
 use crate::reading::select_from;
 use crate::sources::Sources;
 use crate::table::Table;
-use crate::tables::{create_in, delete_in, drop_in, insert_in};
+use crate::tables::{delete_in, drop_in, insert_in};
 use crate::view::View;
-use crate::views::view_place;
-use cq_binder::header;
-use cq_model::{ColumnDef, Constant, Select, SqlExpr, Statement, ViewSelect};
+use crate::views::{drop_view_at, view_place};
+use cq_binder::bind;
+use cq_model::{Bound, ColumnDef, Cond, Order, Query, Statement};
 use cq_steps::{Answer, Fault};
-use cq_values::{Seq, Text};
+use cq_values::{Row, Seq, Text};
 use std::alloc::Global;
 use std::marker::Model;
 
@@ -39,7 +43,7 @@ impl Model for Engine {
     ghost use Rattle.cq_model.specs.contracts.expr.Cond as cond;
     ghost use Rattle.cq_model.specs.contracts.expr.Expr as expr;
     ghost use Rattle.cq_steps.specs.State.{State, AreNumbered};
-    ghost use Rattle.cq_engine.specs.Statements.{present};
+    ghost use Rattle.cq_engine.specs.Commands.{present};
     ghost use Rattle.cq_engine.specs.Views.{AreRight, AreStored, views_of};
 
     ghost Value = { State };
@@ -87,96 +91,140 @@ impl Engine {
         Some(self.views[place].epoch())
     }
 
+    /// The tables and views under their names. It takes no memory.
+    pub fn catalog(&self) -> EngineCatalog<'_>
+        ensures { result ≡ (self.now.tables, self.now.views) }
+    {
+        EngineCatalog::new(&self.tables, &self.views)
+    }
+
+    /// Where the answer to a query comes from that was bound by the catalog: always from what its FROM names.
+    pub fn answer_source(&self, _command: &Bound) -> AnswerSource<'_>
+        ensures { result ≡ Tables }
+    {
+        AnswerSource::Tables
+    }
+
     /// Carries out one statement, or refuses it and leaves every table and view as it was.
     pub fn step<S: Sources>(&mut self, command: &Command, _sources: &mut S) -> Result<Answer, Fault>
         requires { self.old.drawn < 2 ^ 64 - 1 }
         ensures { Step self.old command.now result self.new }
     {
+        let bound = bind(self.alloc, command, &self.catalog())?;
+        self.carry_out(bound)
+    }
+
+    /// Carries out a command that was bound by the catalog.
+    fn carry_out(&mut self, command: Bound) -> Result<Answer, Fault>
+        requires drawn { self.old.drawn < 2 ^ 64 - 1 }
+        requires bound { CanCarryOut self.old.tables self.old.views command }
+        ensures { CarriesOut self.old command result self.new }
+    {
         match command {
-            Statement::CreateTable {
+            Bound::CreateTable {
                 name,
                 columns,
                 sort,
             } => self.create(name, columns, sort),
-            Statement::DropTable(name) => self.drop_table(name),
-            Statement::CreateView { name, view } => self.create_view(name, view),
-            Statement::DropView(name) => self.drop_view(name),
-            Statement::Insert { table, rows } => self.insert(table, rows),
-            Statement::Delete { table, condition } => self.delete(table, condition),
-            Statement::Select(select) => self.select(select),
+            Bound::DropTable(number) => Ok(self.drop_table(number)),
+            Bound::CreateView {
+                name,
+                columns,
+                query,
+            } => self.create_view(name, columns, query),
+            Bound::DropView(place) => Ok(self.drop_view(place)),
+            Bound::Insert { table, rows } => self.insert(table, rows),
+            Bound::Delete { table, condition } => self.delete(table, condition),
+            Bound::Select {
+                header,
+                query,
+                order,
+            } => self.select(header, query, order),
+            Bound::Update { .. } | Bound::Move { .. } | Bound::Merge(_) | Bound::Refresh { .. } => {
+                unreachable!()
+            }
         }
     }
 
     fn create(
         &mut self,
-        name: &Text,
-        columns: &Seq<ColumnDef>,
-        sort: &Seq<Text>,
+        name: Text,
+        columns: Seq<ColumnDef>,
+        sort: Seq<usize>,
     ) -> Result<Answer, Fault>
         requires { self.old.drawn < 2 ^ 64 - 1 }
-        ensures { Step self.old (statements.CreateTable name.now columns.now sort.now) result self.new }
+        ensures { CarriesOut self.old (commands.CreateTable name columns sort) result self.new }
     {
-        let number = self.drawn;
-        let columns = columns.as_slice();
-        let sort = sort.as_slice();
-        create_in(
-            self.alloc,
-            &mut self.tables,
-            &self.views,
-            number,
-            name,
-            columns,
-            sort,
-        )?;
-        self.drawn = number + 1;
+        let table = Table::new(self.alloc, self.drawn, name, columns, sort);
+        self.tables.push(table)?;
+        self.drawn += 1;
         Ok(Answer::Done)
     }
 
-    fn drop_table(&mut self, name: &Text) -> Result<Answer, Fault>
-        ensures { Step self.old (statements.DropTable name.now) result self.new }
+    fn drop_table(&mut self, number: u64) -> Answer
+        requires { CanCarryOut self.old.tables self.old.views (commands.DropTable number) }
+        ensures { CarriesOut self.old (commands.DropTable number) (Ok result) self.new }
     {
-        drop_in(&mut self.tables, &self.views, name)?;
-        Ok(Answer::Done)
+        drop_in(&mut self.tables, number);
+        Answer::Done
     }
 
-    fn create_view(&mut self, name: &Text, view: &ViewSelect) -> Result<Answer, Fault>
-        ensures { Step self.old (statements.CreateView name.now view.now) result self.new }
+    fn create_view(
+        &mut self,
+        name: Text,
+        columns: Seq<ColumnDef>,
+        query: Query,
+    ) -> Result<Answer, Fault>
+        requires { CanCarryOut self.old.tables self.old.views (commands.CreateView name columns query) }
+        ensures { CarriesOut self.old (commands.CreateView name columns query) result self.new }
     {
         let now = self.writes;
-        create_view_in(self.alloc, &self.tables, &mut self.views, name, view, now)?;
+        create_view_in(
+            self.alloc,
+            &self.tables,
+            &mut self.views,
+            name,
+            columns,
+            query,
+            now,
+        )?;
         Ok(Answer::Done)
     }
 
-    fn drop_view(&mut self, name: &Text) -> Result<Answer, Fault>
-        ensures { Step self.old (statements.DropView name.now) result self.new }
+    fn drop_view(&mut self, place: usize) -> Answer
+        requires { CanCarryOut self.old.tables self.old.views (commands.DropView place) }
+        ensures { CarriesOut self.old (commands.DropView place) (Ok result) self.new }
     {
-        drop_view_in(&mut self.views, name)?;
-        Ok(Answer::Done)
+        drop_view_at(&mut self.views, place);
+        Answer::Done
     }
 
-    fn insert(&mut self, table: &Text, rows: &Seq<Seq<Constant>>) -> Result<Answer, Fault>
-        requires { self.old.drawn < 2 ^ 64 - 1 }
-        ensures { Step self.old (statements.Insert table.now rows.now) result self.new }
+    fn insert(&mut self, table: u64, rows: Seq<Row>) -> Result<Answer, Fault>
+        requires drawn { self.old.drawn < 2 ^ 64 - 1 }
+        requires bound { CanCarryOut self.old.tables self.old.views (commands.Insert table rows) }
+        ensures { CarriesOut self.old (commands.Insert table rows) result self.new }
     {
         let max_rows = self.limits.max_rows;
         let epoch = self.writes + 1;
+        let count = rows.len() as u64;
         insert_in(
             self.alloc,
             max_rows,
             &mut self.tables,
             &mut self.views,
             table,
-            rows.as_slice(),
+            rows.into_vec(),
             epoch,
         )?;
         self.writes = epoch;
         self.drawn += 1;
-        Ok(Answer::Count(rows.len() as u64))
+        Ok(Answer::Count(count))
     }
 
-    fn delete(&mut self, table: &Text, condition: &Option<SqlExpr>) -> Result<Answer, Fault>
-        requires { self.old.drawn < 2 ^ 64 - 1 }
-        ensures { Step self.old (statements.Delete table.now condition.now) result self.new }
+    fn delete(&mut self, table: u64, condition: Option<Cond>) -> Result<Answer, Fault>
+        requires drawn { self.old.drawn < 2 ^ 64 - 1 }
+        requires bound { CanCarryOut self.old.tables self.old.views (commands.Delete table condition) }
+        ensures { CarriesOut self.old (commands.Delete table condition) result self.new }
     {
         let epoch = self.writes + 1;
         let rows = delete_in(
@@ -184,7 +232,7 @@ impl Engine {
             &mut self.tables,
             &mut self.views,
             table,
-            condition,
+            &condition,
             epoch,
         )?;
         self.writes = epoch;
@@ -192,11 +240,11 @@ impl Engine {
         Ok(Answer::Count(rows as u64))
     }
 
-    fn select(&self, select: &Select) -> Result<Answer, Fault>
-        ensures { Step self.now (statements.Select select.now) result self.now }
+    fn select(&self, header: Seq<Text>, query: Query, order: Order) -> Result<Answer, Fault>
+        requires { CanCarryOut self.now.tables self.now.views (commands.Select header query order) }
+        ensures { CarriesOut self.now (commands.Select header query order) result self.now }
     {
-        let rows = select_from(self.alloc, &self.tables, &self.views, select)?;
-        let header = header(self.alloc, select.items.as_slice())?;
+        let rows = select_from(self.alloc, &self.tables, &self.views, &query)?;
         Ok(Answer::Rows { header, rows })
     }
 }

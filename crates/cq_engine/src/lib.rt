@@ -1,10 +1,12 @@
 //! The engine: tables in memory, and one statement after the other.
 //!
-//! A statement is walked through once: names become places, constants become values, and the first fault refuses it.
-//! A refused statement leaves every table as it was. To its callers an [`Engine`] is the state that [`Engine::step`]
+//! The binder makes a command of a statement, or refuses it; the engine carries the command out. A refused statement
+//! leaves every table as it was. To its callers an [`Engine`] is the state that [`Engine::step`]
 //! moves by the relation `Step`.
 #![tactic(auto)]
 
+mod answer_source;
+mod catalog;
 mod condition;
 mod creation;
 mod deletion;
@@ -12,7 +14,6 @@ mod engine;
 mod insertion;
 mod limits;
 mod reading;
-mod scopes;
 mod selection;
 mod sources;
 mod table;
@@ -22,6 +23,8 @@ mod tests;
 mod view;
 mod views;
 
+pub use answer_source::AnswerSource;
+pub use catalog::EngineCatalog;
 pub use engine::{Command, Engine};
 pub use limits::Limits;
 pub use sources::{SourceFault, Sources};

@@ -1,20 +1,19 @@
 //! SELECT from a table or from a view.
-ghost use Rattle.std.specs.List.{AllByRecursion};
 ghost use Rattle.std.specs.Prelude.{◌≡◌, ℕ};
+ghost use Rattle.cq_model.specs.Sizes.{column_sizes};
 ghost use Rattle.cq_steps.specs.State.{AreNumbered};
-ghost use Rattle.cq_steps.specs.Bound.{from_table, scope_as};
-ghost use Rattle.cq_engine.specs.Statements.{Selects, SelectsFrom, SelectsKept, told_as, alone};
-ghost use Rattle.cq_engine.specs.Views.{AreFew, AreRight, AreStored, IsBacked, IsStored, views_of};
+ghost use Rattle.cq_views.specs.View.{query_of};
+ghost use Rattle.cq_engine.specs.Bound.{IsWithinSized};
+ghost use Rattle.cq_engine.specs.Commands.{CanRead, Selects, SelectsKept, told_as};
+ghost use Rattle.cq_engine.specs.Views.{AreFew, AreRight, AreStored, IsBacked, views_of};
 
-use crate::scopes::{stored_sizes, table_scope_as, view_scope_as};
-use crate::selection::Selection;
+use crate::selection::list;
 use crate::table::Table;
-use crate::tables::place_of;
+use crate::tables::place_numbered;
 use crate::view::View;
-use crate::views::view_place;
 use cq_deltas::ToldFault;
 use cq_laws::rows_keep_sizes;
-use cq_model::Select;
+use cq_model::{Query, Source};
 use cq_steps::Fault;
 use cq_values::{Row, Seq};
 use std::alloc::Global;
@@ -24,23 +23,23 @@ pub fn select_from(
     alloc: Global,
     tables: &[Table],
     views: &[View],
-    select: &Select,
+    query: &Query,
 ) -> Result<Seq<Row>, Fault>
     requires numbered { (next : ℕ) × AreNumbered tables.now next }
     requires stored { AreStored tables.now }
     requires right { (now : ℕ) × AreRight tables.now now views.now }
-    ensures { SelectsFrom select.now (alone tables.now (views_of views.now)) result }
+    requires can_read { CanRead tables.now (views_of views.now) query.now }
+    ensures { Selects tables.now (views_of views.now) query.now result }
 {
-    let name = select.source.name.as_str();
-    if let Some(place) = place_of(tables, name) {
-        return select_from_table(alloc, &tables[place], select);
-    }
-    match view_place(views, name) {
-        Some(place) => {
-            all_few(tables);
-            select_from_view(alloc, &views[place], select)
+    match query.first {
+        Source::Table(number) => {
+            let place = place_numbered(tables, number);
+            Ok(list(alloc, query, tables[place].rows())?)
         }
-        None => Err(Fault::UnknownTable),
+        Source::View(place) => {
+            all_few(tables);
+            select_from_view(alloc, &views[place as usize], query)
+        }
     }
 }
 
@@ -53,28 +52,15 @@ fn all_few(tables: &[Table])
     }
 }
 
-fn select_from_table(alloc: Global, table: &Table, select: &Select) -> Result<Seq<Row>, Fault>
-    requires { AllByRecursion IsStored table.now.rows }
-    ensures { Selects select.now (scope_as select.now.source (from_table table.now)) table.now.rows result }
+/// The listing of a query on the rows that a view keeps.
+fn select_from_view(alloc: Global, view: &View, query: &Query) -> Result<Seq<Row>, Fault>
+    requires backed { IsBacked view.now }
+    requires within { IsWithinSized (column_sizes (query_of view.now.kept.def)) query.now }
+    ensures { SelectsKept query.now view.now result }
 {
-    let sizes = stored_sizes(alloc, table)?;
-    let selection = Selection::new(
-        alloc,
-        &table_scope_as(&select.source, table, &sizes),
-        select,
-    )?;
-    Ok(selection.list(alloc, table.rows())?)
-}
-
-fn select_from_view(alloc: Global, view: &View, select: &Select) -> Result<Seq<Row>, Fault>
-    requires { IsBacked view.now }
-    ensures { SelectsKept select.now view.now result }
-{
-    let sizes = view.column_sizes(alloc)?;
-    let selection = Selection::new(alloc, &view_scope_as(&select.source, view, &sizes), select)?;
     let rows = view.rows(alloc).map_err(told_fault)?;
     rows_keep_sizes();
-    Ok(selection.list(alloc, &rows)?)
+    Ok(list(alloc, query, &rows)?)
 }
 
 /// Why a view's rows cannot be told.

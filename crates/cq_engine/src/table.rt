@@ -8,7 +8,6 @@ ghost use Rattle.cq_model.specs.Meaning.{keeps};
 ghost use Rattle.cq_engine.specs.Bound.{IsNarrowAt};
 
 use crate::condition::keeps;
-use cq_binder::copy_columns;
 use cq_model::{ColumnDef, Cond};
 use cq_values::{Row, Seq, Text};
 use std::alloc::{AllocError, Global};
@@ -38,19 +37,19 @@ impl Table {
     pub fn new(
         alloc: Global,
         number: u64,
-        name: &Text,
-        columns: &[ColumnDef],
+        name: Text,
+        columns: Seq<ColumnDef>,
         sort: Seq<usize>,
-    ) -> Result<Table, AllocError>
-        ensures { IfOk result (λ t. t ≡ empty_table number name.now columns.now sort) }
+    ) -> Table
+        ensures { result ≡ empty_table number name columns sort }
     {
-        Ok(Table {
+        Table {
             number,
-            name: name.copy(alloc)?,
-            columns: copy_columns(alloc, columns)?,
+            name,
+            columns,
             sort,
             rows: Vec::new(alloc),
-        })
+        }
     }
 
     pub fn is_named(&self, name: &str) -> bool

@@ -1,109 +1,89 @@
-//! Tables under their names, and the statements on them.
-ghost use Rattle.std.specs.Prelude.{◌≡◌, ◌<◌, if◌then◌else◌, ℕ, IfSome, OnErr, OnOk, is_some, length, map, position, slice_get};
-ghost use Rattle.std.specs.List.{position_or_len};
+//! Tables under their names and numbers, and the commands on them.
+ghost use Rattle.std.specs.Prelude.{◌≡◌, ◌<◌, ◌+◌, ◌++◌, ◌==◌, ℕ, IfOk, IfSome, MatchResult, None, OnErr, OnOk, filter, get_or, is_some, length, nat_lt, not, position, slice_get};
+ghost use Rattle.std.specs.List.{AllByRecursion};
 ghost use Rattle.cq_values.specs.Texts.{is_text};
-ghost use Rattle.cq_steps.specs.Bound.{place_in};
-ghost use Rattle.cq_steps.specs.declared.fault.Fault.TheVariants.{UnknownTable, ViewNotWritten};
-ghost use Rattle.cq_steps.specs.Refusal.{create_places};
-ghost use Rattle.cq_steps.specs.State.{AreNumbered, is_taken, table_named, view_named};
-ghost use Rattle.cq_engine.specs.Statements.{Creates, DeletesIn, DropsTable, InsertsIn, alone};
-ghost use Rattle.cq_engine.specs.Views.{AreRight, AreSame, AreStored, Moved, views_of};
-ghost use Rattle.cq_binder.specs.Walk.{Walked};
+ghost use Rattle.cq_model.specs.Write.{chosen, left_by};
+ghost use Rattle.cq_steps.specs.declared.fault.Fault.TheVariants.{TableFull};
+ghost use Rattle.cq_steps.specs.Refusal.{MayRefuse, fault_if};
+ghost use Rattle.cq_steps.specs.State.{AreNumbered, TableOf, rows_in, table_named, with_rows};
+ghost use Rattle.cq_engine.specs.Bound.{IsNarrowAt};
+ghost use Rattle.cq_engine.specs.Commands.{IsThere, room_for};
+ghost use Rattle.cq_engine.specs.Views.{AreRight, AreSame, AreStored, IsStored, Moved};
 
 use crate::deletion::delete_from;
 use crate::insertion::insert_into;
 use crate::table::Table;
 use crate::view::View;
-use crate::views::{is_used, is_view};
-use cq_binder::{check_length, check_names, sort_columns};
-use cq_model::{ColumnDef, Constant, SqlExpr};
+use cq_model::Cond;
 use cq_steps::Fault;
-use cq_values::{Seq, Text};
-use std::alloc::Global;
+use cq_values::Row;
+use std::alloc::{AllocError, Global};
 
-/// CREATE TABLE, where the table draws this number.
-pub fn create_in(
-    alloc: Global,
-    tables: &mut Vec<Table>,
-    views: &[View],
-    number: u64,
-    name: &Text,
-    columns: &[ColumnDef],
-    sort: &[Text],
-) -> Result<(), Fault>
-    ensures walk { Creates number name.now columns.now sort.now (views_of views.now) tables.old.items tables.new.items result }
-    ensures err { OnErr result (tables.new.items ≡ tables.old.items) }
+/// Takes the table of a number away.
+pub fn drop_in(tables: &mut Vec<Table>, number: u64)
+    requires numbered { (next : ℕ) × AreNumbered tables.old.items next }
+    requires there { IsThere number tables.old.items }
+    ensures { tables.new.items ≡ filter (λ t. not (t.number == number)) tables.old.items }
 {
-    let sort = check_create(alloc, tables, views, name.as_str(), columns, sort)?;
-    tables.push(Table::new(alloc, number, name, columns, sort)?)?;
-    Ok(())
-}
-
-/// DROP TABLE.
-pub fn drop_in(tables: &mut Vec<Table>, views: &[View], name: &Text) -> Result<(), Fault>
-    ensures walk { DropsTable name.now (views_of views.now) tables.old.items tables.new.items result }
-    ensures err { OnErr result (tables.new.items ≡ tables.old.items) }
-{
-    let Some(place) = place_of(tables, name.as_str()) else {
-        return Err(Fault::UnknownTable);
-    };
-    if is_used(views, tables[place].number()) {
-        return Err(Fault::TableInUse);
-    }
+    let place = place_numbered(tables, number);
     tables.remove(place);
-    Ok(())
 }
 
-/// INSERT. The views on the table take the rows in, and each view is at the epoch.
+/// Adds the rows to the table of a number, where they fit. The views on it take them in, and each view is at the epoch.
 pub fn insert_in(
     alloc: Global,
     max_rows: u64,
     tables: &mut Vec<Table>,
     views: &mut Vec<View>,
-    name: &Text,
-    rows: &[Seq<Constant>],
+    number: u64,
+    rows: Vec<Row>,
     epoch: u64,
 ) -> Result<(), Fault>
     requires numbered { (next : ℕ) × AreNumbered tables.old.items next }
     requires stored { AreStored tables.old.items }
     requires right { (now : ℕ) × AreRight tables.old.items now views.old.items }
-    ensures walk { InsertsIn max_rows name.now rows.now (views_of views.old.items) tables.old.items tables.new.items result }
+    requires there { IsThere number tables.old.items }
+    requires rows { AllByRecursion IsStored rows.items }
+    ensures walk { MatchResult result
+        (λ x. (room_for max_rows tables.old.items number rows.items ≡ None) × (tables.new.items ≡ with_rows number (rows_in tables.old.items number ++ rows.items) tables.old.items))
+        (MayRefuse (room_for max_rows tables.old.items number rows.items)) }
     ensures stored { AreStored tables.new.items }
     ensures moved { OnOk result (Moved epoch tables.new.items views.old.items views.new.items) }
     ensures err { OnErr result ((tables.new.items ≡ tables.old.items) × AreSame views.old.items views.new.items) }
 {
-    let Some(place) = place_of(tables, name.as_str()) else {
-        return Err(unwritten(views, name.as_str()));
-    };
-    insert_into(alloc, max_rows, &mut tables[place], views, rows, epoch)
+    let place = place_numbered(tables, number);
+    check_room(max_rows, tables[place].len(), rows.len())?;
+    insert_into(alloc, &mut tables[place], views, rows, epoch)?;
+    Ok(())
 }
 
-/// DELETE, with the number of the rows that it takes. The views on the table follow, and each view is at the epoch.
+/// Takes the rows that WHERE keeps from the table of a number, and tells how many they were. The views on it follow, and
+/// each view is at the epoch.
 pub fn delete_in(
     alloc: Global,
     tables: &mut Vec<Table>,
     views: &mut Vec<View>,
-    name: &Text,
-    condition: &Option<SqlExpr>,
+    number: u64,
+    condition: &Option<Cond>,
     epoch: u64,
-) -> Result<usize, Fault>
+) -> Result<usize, AllocError>
     requires numbered { (next : ℕ) × AreNumbered tables.old.items next }
     requires stored { AreStored tables.old.items }
     requires right { (now : ℕ) × AreRight tables.old.items now views.old.items }
-    ensures walk { DeletesIn name.now condition.now (views_of views.old.items) tables.old.items tables.new.items result }
+    requires there { IsThere number tables.old.items }
+    requires narrow { AllByRecursion (IsNarrowAt condition.now) (rows_in tables.old.items number) }
+    ensures count { IfOk result (λ count. count ≡ length (chosen condition.now (rows_in tables.old.items number))) }
+    ensures left { OnOk result (tables.new.items ≡ with_rows number (left_by condition.now (rows_in tables.old.items number)) tables.old.items) }
     ensures stored { AreStored tables.new.items }
     ensures moved { OnOk result (Moved epoch tables.new.items views.old.items views.new.items) }
     ensures err { OnErr result ((tables.new.items ≡ tables.old.items) × AreSame views.old.items views.new.items) }
 {
-    let Some(place) = place_of(tables, name.as_str()) else {
-        return Err(unwritten(views, name.as_str()));
-    };
+    let place = place_numbered(tables, number);
     delete_from(alloc, &mut tables[place], views, condition, epoch)
 }
 
 /// Where the table of a name stands.
 pub fn place_of(tables: &[Table], name: &str) -> Option<usize>
-    ensures place { IfSome result (λ i. i ≡ position_or_len (λ t. is_text t.name name.now) tables.now) }
     ensures found { IfSome result (λ i. slice_get tables.now i ≡ table_named name.now tables.now) }
     ensures named { is_some result ≡ is_some (table_named name.now tables.now) }
     ensures within { IfSome result (λ i. i < length tables.now) }
@@ -111,45 +91,37 @@ pub fn place_of(tables: &[Table], name: &str) -> Option<usize>
     position_of(tables, name)
 }
 
-/// Why a name that no table has cannot be written.
-fn unwritten(views: &[View], name: &str) -> Fault
-    ensures { result ≡ (if is_some (view_named name.now (views_of views.now)) then ViewNotWritten else UnknownTable) }
+/// Where the table of a number stands that is there.
+pub fn place_numbered(tables: &[Table], number: u64) -> usize
+    requires { IsThere number tables.now }
+    ensures within { result < length tables.now }
+    ensures numbered { (t : TableOf) → (get_or tables.now result t).number ≡ number }
 {
-    if is_view(views, name) {
-        Fault::ViewNotWritten
+    match position_numbered(tables, number) {
+        Some(place) => place,
+        None => unreachable!(),
+    }
+}
+
+/// Refuses more rows than a table may have.
+fn check_room(max_rows: u64, stored: usize, added: usize) -> Result<(), Fault>
+    ensures { MatchResult result (λ x. fault_if (nat_lt max_rows (stored + added)) TableFull ≡ None) (MayRefuse (fault_if (nat_lt max_rows (stored + added)) TableFull)) }
+{
+    if u128::from(max_rows) < stored as u128 + added as u128 {
+        Err(Fault::TableFull)
     } else {
-        Fault::UnknownTable
+        Ok(())
     }
-}
-
-/// The walk through a CREATE TABLE, and where the columns behind SORT BY stand.
-fn check_create(
-    alloc: Global,
-    tables: &[Table],
-    views: &[View],
-    name: &str,
-    columns: &[ColumnDef],
-    sort: &[Text],
-) -> Result<Seq<usize>, Fault>
-    ensures { Walked (create_places name.now columns.now sort.now (alone tables.now (views_of views.now))) (λ places. places ≡ map (place_in columns.now) sort.now) result }
-{
-    if is_taken(tables, views, name) {
-        return Err(Fault::NameTaken);
-    }
-    check_names(columns)?;
-    check_length(columns.len())?;
-    sort_columns(alloc, columns, sort)
-}
-
-/// Whether a table or a view has the name.
-pub fn is_taken(tables: &[Table], views: &[View], name: &str) -> bool
-    ensures { result ≡ is_taken name.now (alone tables.now (views_of views.now)) }
-{
-    place_of(tables, name).is_some() || is_view(views, name)
 }
 
 fn position_of(tables: &[Table], name: &str) -> Option<usize>
     ensures { result ≡ position (λ t. is_text t.name name.now) tables.now }
 {
     tables.iter().position(|t| t.is_named(name))
+}
+
+fn position_numbered(tables: &[Table], number: u64) -> Option<usize>
+    ensures { result ≡ position (λ t. t.number == number) tables.now }
+{
+    tables.iter().position(|t| t.number() == number)
 }

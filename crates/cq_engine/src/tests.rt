@@ -2,6 +2,7 @@
 ghost use Rattle.std.specs.Prelude.{[]};
 
 use super::*;
+use cq_binder::{Catalog, bind};
 use cq_model::{
     ColumnDef, ColumnName, Constant, ExprNode, FromSource, Item, ItemValue, Select, SelectItem,
     SqlExpr, ViewSelect,
@@ -181,5 +182,33 @@ fn a_select_lists_a_date_a_text_and_null(rt: HostRuntime) -> Result<(), Fail> {
         rows.as_slice()[0].as_slice(),
         [day, text, Value::Null].as_slice()
     );
+    Ok(())
+}
+
+#[test]
+fn the_catalog_tells_a_table_and_its_view(rt: HostRuntime) -> Result<(), Fail> {
+    let engine = filled(&rt, rt.alloc())?;
+    let catalog = engine.catalog();
+    let table = catalog.table("t").ok_or("no table")?;
+    assert_eq!(rt; table.number, 0);
+    assert_eq!(rt; table.columns.len(), 3);
+    assert!(rt; catalog.is_used(0));
+    let view = catalog.view(rt.alloc(), "v")?.ok_or("no view")?;
+    assert_eq!(rt; view.place, 0);
+    assert_eq!(rt; view.columns.len(), 1);
+    assert_eq!(rt; view.sizes.as_slice(), [1u128 << 96].as_slice());
+    Ok(())
+}
+
+fn source_of_answers(alloc: Global, engine: &Engine) -> Result<AnswerSource<'_>, Fail> {
+    let bound = bind(alloc, &selection(alloc)?, &engine.catalog())?;
+    Ok(engine.answer_source(&bound))
+}
+
+#[test]
+fn a_query_is_answered_from_its_tables(rt: HostRuntime) -> Result<(), Fail> {
+    let engine = filled(&rt, rt.alloc())?;
+    let source = source_of_answers(rt.alloc(), &engine)?;
+    assert_eq!(rt; source, AnswerSource::Tables);
     Ok(())
 }

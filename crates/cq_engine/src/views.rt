@@ -1,9 +1,9 @@
 //! Views under their names, and the writes that they take in.
-ghost use Rattle.std.specs.Prelude.{◌≡◌, ◌==◌, IfOk, is_some, map, position};
-ghost use Rattle.std.specs.List.{AllByRecursion, list_any};
+ghost use Rattle.std.specs.Prelude.{◌≡◌, ◌<◌, ◌==◌, IfOk, length, map, position};
+ghost use Rattle.std.specs.List.{AllByRecursion, list_any, remove};
 ghost use Rattle.cq_values.specs.Texts.{is_text};
 ghost use Rattle.cq_steps.specs.Refusal.{is_used};
-ghost use Rattle.cq_steps.specs.State.{view_named, view_place};
+ghost use Rattle.cq_steps.specs.State.{view_place};
 ghost use Rattle.cq_views.specs.View.{IsNarrowFor, changed};
 ghost use Rattle.cq_engine.specs.Views.{AreReady, AreSame, CanAllTake, HaveTaken, views_of};
 
@@ -20,12 +20,12 @@ pub fn view_place(views: &[View], name: &str) -> Option<usize>
     position_of(views, name)
 }
 
-/// Whether there is a view of a name.
-#[tactic(auto, using(crate::proofs::Named::has_place))]
-pub fn is_view(views: &[View], name: &str) -> bool
-    ensures { result ≡ is_some (view_named name.now (views_of views.now)) }
+/// Takes the view at a place away.
+pub fn drop_view_at(views: &mut Vec<View>, place: usize)
+    requires { place < length views.old.items }
+    ensures { views.new.items ≡ remove views.old.items place }
 {
-    view_place(views, name).is_some()
+    views.remove(place);
 }
 
 /// Whether a view stands on the table of a number.

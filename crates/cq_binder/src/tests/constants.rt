@@ -1,6 +1,6 @@
 //! The constants of an INSERT.
 use super::{columns, number};
-use crate::bound_row;
+use crate::constants::bound_row;
 use cq_model::{ColumnDef, Constant};
 use cq_steps::Fault;
 use cq_values::{Seq, Text, Ty, Value};

@@ -1,6 +1,7 @@
 //! The items of a SELECT, and the columns behind SORT BY.
 use super::{below_ten, columns, named_node, table, texts};
-use crate::{bound_values, header, sort_columns};
+use crate::columns::sort_columns;
+use crate::select::{bound_values, header};
 use cq_model::{ColumnName, ExprNode, SelectItem, SqlExpr};
 use cq_steps::Fault;
 use cq_values::Text;

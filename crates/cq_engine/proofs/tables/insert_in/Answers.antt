@@ -1,29 +1,47 @@
-use Rattle.std.proofs.Common.{◌<◌, List, length, refl, subst}
-use Rattle.cq_steps.specs.State.{TableOf}
-use Rattle.cq_engine.specs.Views.{views_of}
-use Rattle.cq_engine.proofs.Places.{insert_walked}
+use Rattle.std.proofs.Common.{◌≡◌, ◌+◌, ◌++◌, None, length, refl, ap, subst, arith}
+use Rattle.std.specs.Prelude.{nat_lt}
+use Rattle.std.proofs.lemmas.Result.{err_from_is_err_and}
+use Rattle.cq_steps.specs.declared.fault.Fault.TheVariants.{TableFull}
+use Rattle.cq_steps.specs.Refusal.{fault_if, MayRefuse}
+use Rattle.cq_steps.specs.State.{TableOf, rows_in}
+use Rattle.cq_engine.proofs.Rows.{rows_numbered}
 use Rattle.cq_engine.proofs.Turns.{all_same}
-use Rattle.cq_engine.proofs.Written.{inserted-moved, stand_at}
+use Rattle.cq_engine.proofs.Written.{moved_at, stand_at, where_refused, written_here}
 use Rattle.cq_engine.proofs.tables.insert_in.Goals as goal
 
-pub returns-in_default-clause-err : goal.returns-in_default-clause-err
-returns-in_default-clause-err c = (refl, all_same c.args.views.now.items)
+pub returns-in_err-check_room-clause-walk : goal.returns-in_err-check_room-clause-walk
+returns-in_err-check_room-clause-walk c =
+    let p = err_from_is_err_and c.from_residual.result c.from_residual.ensures.1 in
+    let t = c.index.result.now in
+    let at = rw c.deref.ensures.value at c.place_numbered-place.ensures in
+    let rows = rows_numbered c.args.tables.now.items c.place_numbered-place.result t c.requires.numbered.0 c.args.number c.requires.numbered.1 at.within c.index.ensures (at.numbered t) in
+    let count : c.len.result + c.len-2.result ≡ length (rows_in c.args.tables.now.items c.args.number) + length c.args.rows.items = omega (arith, c.len.ensures, c.len-2.ensures, ap length rows, c.args.rows.ok.0) in
+    rw (p.1, p.2) (subst (λ n. MayRefuse (fault_if (nat_lt c.args.max_rows n) TableFull) c.in_err-check_room.field-0.0) count c.in_err-check_room.ensures)
+
+pub returns-in_err-check_room-clause-err : goal.returns-in_err-check_room-clause-err
+returns-in_err-check_room-clause-err c = where_refused c.from_residual.result (refl, all_same c.args.views.now.items)
 
 pub insert_into-requires-clause-stand : goal.insert_into-requires-clause-stand
 insert_into-requires-clause-stand c =
-    let within = subst (λ (ts : List TableOf). c.in-Some.place < length ts) c.deref.ensures.value c.in-Some.ensures.within in
-    stand_at c.requires.right.0 c.requires.numbered.0 c.args.tables.now.items c.in-Some.place c.index_mut.result.now c.args.views.now.items
-    c.requires.numbered.1 within c.index_mut.ensures.value c.requires.right.1
+    let at = rw c.deref.ensures.value at c.place_numbered-place.ensures in
+    stand_at c.requires.right.0 c.requires.numbered.0 c.args.tables.now.items c.place_numbered-place.result c.index_mut.result.now c.args.views.now.items
+    c.requires.numbered.1 at.within c.index_mut.ensures.value c.requires.right.1
 
 pub returns-clause-walk : goal.returns-clause-walk
 returns-clause-walk c =
-    let at = c.in-Some.ensures in
-    insert_walked c.args.name.now c.as_str.result.now c.args.tables.now.items c.deref.result.now (views_of c.args.views.now.items) c.in-Some.place c.index_mut.result.now
-    c.as_str.ensures c.deref.ensures.value at.place at.found at.within c.index_mut.ensures.value c.args.max_rows c.args.rows.now c.insert_into.new.table c.insert_into.result c.insert_into.ensures.walk
+    let t = c.index.result.now in
+    let u = c.index_mut.result.now in
+    let at = rw c.deref.ensures.value at c.place_numbered-place.ensures in
+    let rows = rows_numbered c.args.tables.now.items c.place_numbered-place.result t c.requires.numbered.0 c.args.number c.requires.numbered.1 at.within c.index.ensures (at.numbered t) in
+    let count : c.len.result + c.len-2.result ≡ length (rows_in c.args.tables.now.items c.args.number) + length c.args.rows.items = omega (arith, c.len.ensures, c.len-2.ensures, ap length rows, c.args.rows.ok.0) in (
+      subst (λ n. fault_if (nat_lt c.args.max_rows n) TableFull ≡ None) count c.in_ok-check_room.ensures,
+      written_here c.requires.numbered.0 c.args.tables.now.items c.place_numbered-place.result u c.requires.numbered.1 at.within c.index_mut.ensures.value c.args.number (at.numbered u)
+          c.insert_into.new.table (λ rs. rs ++ c.args.rows.items) c.in_ok-insert_into.ensures.added,
+    )
 
 pub returns-clause-moved : goal.returns-clause-moved
 returns-clause-moved c =
-    let within = subst (λ (ts : List TableOf). c.in-Some.place < length ts) c.deref.ensures.value c.in-Some.ensures.within in
-    inserted-moved c.requires.right.0 c.requires.numbered.0 c.args.tables.now.items c.in-Some.place c.index_mut.result.now c.args.views.now.items
-    c.requires.numbered.1 within c.index_mut.ensures.value c.requires.right.1 c.args.epoch c.insert_into.new.table c.insert_into.new.views.items c.args.max_rows c.args.rows.now c.insert_into.result
-    c.insert_into.ensures.walk c.insert_into.ensures.follow
+    let at = rw c.deref.ensures.value at c.place_numbered-place.ensures in
+    moved_at c.requires.right.0 c.requires.numbered.0 c.args.tables.now.items c.place_numbered-place.result c.index_mut.result.now c.args.views.now.items
+    c.requires.numbered.1 at.within c.index_mut.ensures.value c.requires.right.1 c.args.epoch c.insert_into.new.table c.insert_into.new.views.items
+    (ap (λ (y : TableOf). y.number) c.in_ok-insert_into.ensures.added) c.in_ok-insert_into.ensures.follow

@@ -1,25 +1,28 @@
+use Rattle.std.proofs.Common.{◌≡◌, false, refl}
+use Rattle.cq_steps.specs.Refusal.{is_used}
 use Rattle.cq_engine.specs.Views.{views_of}
 use Rattle.cq_engine.proofs.Kept.{all_at, right_dropped}
-use Rattle.cq_engine.proofs.Numbers.{numbered-without_table}
+use Rattle.cq_engine.proofs.Numbers.{numbered-others}
 use Rattle.cq_engine.proofs.Rows.{stored_left}
-use Rattle.cq_engine.proofs.Steps.{drop_does}
+use Rattle.cq_engine.proofs.Steps.{drop_done}
 use Rattle.cq_engine.proofs.engine.Engine.drop_table.Goals as goal
 
-pub invariant_of-self-2 : goal.invariant_of-self-2
-invariant_of-self-2 c =
-    let walk = rw c.deref.ensures.value at c.in_ok-drop_in.ensures.walk in
-    let tables = c.self.inside.tables.items in (
+pub invariant_of-self : goal.invariant_of-self
+invariant_of-self c =
+    let tables = c.self.inside.tables.items in
+    let unused : is_used c.args.number (views_of c.self.inside.views.items) ≡ false = (rw (← c.self.view_is) at c.requires).1 in (
       c.self.invariant.0,
-      rw walk.1 (numbered-without_table c.args.name.now tables c.self.inside.drawn c.self.invariant.1),
-      rw walk.1 (stored_left c.args.name.now tables c.self.invariant.2),
-      rw walk.1 (right_dropped c.args.name.now tables c.self.inside.writes c.self.inside.views.items walk.0 c.self.invariant.3),
+      rw c.drop_in.ensures (numbered-others c.args.number tables c.self.inside.drawn c.self.invariant.1),
+      rw c.drop_in.ensures (stored_left c.args.number tables c.self.invariant.2),
+      rw c.drop_in.ensures (right_dropped c.args.number tables c.self.inside.writes c.self.inside.views.items unused c.self.invariant.3),
     )
 
 pub returns : goal.returns
 returns c =
-    let walk = rw c.deref.ensures.value at c.in_ok-drop_in.ensures.walk in
     let tables = c.self.inside.tables.items in
     let views = c.self.inside.views.items in
-    rw (← c.self.view_is)
-    (drop_does tables (views_of views) c.self.inside.writes c.self.inside.drawn c.self.inside.limits.max_rows (all_at tables c.self.inside.writes views c.self.invariant.3)
-    c.self.invariant.1 c.args.name.now c.drop_in.new.tables.items walk.0 walk.1)
+    rw (← c.self.view_is) (
+      refl,
+      drop_done tables (views_of views) c.self.inside.writes c.self.inside.drawn c.self.inside.limits.max_rows (all_at tables c.self.inside.writes views c.self.invariant.3)
+          c.args.number c.drop_in.new.tables.items c.drop_in.ensures,
+    )

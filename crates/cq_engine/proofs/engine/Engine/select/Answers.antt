@@ -1,8 +1,8 @@
+use Rattle.std.proofs.Common.{refl}
 use Rattle.std.proofs.lemmas.Result.{err_from_is_err_and}
 use Rattle.cq_engine.specs.Views.{views_of}
 use Rattle.cq_engine.proofs.Kept.{all_at}
-use Rattle.cq_engine.proofs.Readings.{select_refused}
-use Rattle.cq_engine.proofs.Steps.{select_does}
+use Rattle.cq_engine.proofs.Steps.{select_done, select_refused}
 use Rattle.cq_engine.proofs.engine.Engine.select.Goals as goal
 
 pub select_from-requires-clause-right : goal.select_from-requires-clause-right
@@ -12,15 +12,13 @@ pub returns-in_err-rows : goal.returns-in_err-rows
 returns-in_err-rows c =
     let p = err_from_is_err_and c.from_residual.result c.from_residual.ensures.1 in
     let refused = rw (c.deref.ensures.value, c.deref-2.ensures.value) at c.in_err-rows.ensures in
-    let tables = c.self.inside.tables.items in
-    let views = c.self.inside.views.items in
-    rw (p.1, p.2, ← c.self.view_is)
-    (select_refused tables (views_of views) c.self.inside.writes c.self.inside.drawn c.self.inside.limits.max_rows (all_at tables c.self.inside.writes views c.self.invariant.3) c.args.select.now c.in_err-rows.field-0.0 refused)
+    rw (p.1, p.2, ← c.self.view_is) (select_refused c.self.inside.tables.items (views_of c.self.inside.views.items) c.self.inside.writes c.self.inside.drawn c.self.inside.limits.max_rows c.args.header c.args.query c.args.order c.in_err-rows.field-0.0 refused, refl)
 
 pub returns : goal.returns
 returns c =
     let walk = rw (c.deref.ensures.value, c.deref-2.ensures.value) at c.in_ok-rows.ensures in
+    let can = rw (← c.self.view_is) at c.requires in
     let tables = c.self.inside.tables.items in
     let views = c.self.inside.views.items in
-    rw (← c.self.view_is, c.in_ok-header.ensures, c.as_slice.ensures)
-    (select_does tables (views_of views) c.self.inside.writes c.self.inside.drawn c.self.inside.limits.max_rows (all_at tables c.self.inside.writes views c.self.invariant.3) c.args.select.now c.in_ok-rows.rows walk.0 walk.1)
+    rw (← c.self.view_is)
+    (refl, select_done tables (views_of views) c.self.inside.writes c.self.inside.drawn c.self.inside.limits.max_rows (all_at tables c.self.inside.writes views c.self.invariant.3) c.args.header c.args.query c.args.order c.in_ok-rows.rows can.1 walk)

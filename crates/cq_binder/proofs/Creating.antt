@@ -1,0 +1,81 @@
+-- How the stretches of CREATE TABLE and CREATE VIEW make up the whole.
+use Rattle.std.proofs.Common.{◌≡◌, ℕ, Bool, false, List, [], ◌∷◌, ◌++◌, length, Option, Some, None, Result, Ok, refl, ap, ◌∙◌}
+use Rattle.std.specs.Prelude.{option_map}
+use Rattle.cq_model.specs.declared.bound.Bound.{Bound}
+use Rattle.cq_model.specs.declared.bound.Bound.TheVariants as commands
+use Rattle.cq_model.specs.declared.query.Shape.TheVariants.{Grouped}
+use Rattle.cq_model.specs.declared.query.Join.{Join}
+use Rattle.cq_model.specs.declared.query.Source.TheVariants.{Table}
+use Rattle.cq_model.specs.declared.statement.ColumnDef.{ColumnDef}
+use Rattle.cq_model.specs.declared.statement.Statement.TheVariants as statements
+use Rattle.cq_model.specs.declared.statement.ViewSelect.{ViewSelect}
+use Rattle.cq_steps.specs.declared.fault.Fault.{Fault}
+use Rattle.cq_steps.specs.declared.fault.Fault.TheVariants.{NameTaken}
+use Rattle.cq_steps.specs.Bound.{grouped_query, view_columns, view_source}
+use Rattle.cq_steps.specs.Refusal.{column_places, create_places, create_view_places, fault_if, first_fault, sort_places, too_long, view_select_places, MayRefuse}
+use Rattle.cq_steps.specs.State.{TableOf, ViewOf, is_taken, table_named}
+use Rattle.cq_binder.specs.Catalog.{alone, heading, shown_heading, Binds}
+use Rattle.cq_binder.specs.View.{IsBoundView}
+use Rattle.cq_binder.specs.Walk.{Walked}
+use Rattle.cq_binder.specs.declared.catalog.TableEntry.{TableEntry}
+use Rattle.cq_binder.specs.declared.view.BoundView.{BoundView}
+use Rattle.cq_binder.proofs.Faults.{first_fault_append, or_next, refused_front, refused_same, walked_as}
+use Rattle.cq_binder.proofs.Found.{table_there}
+
+-- ---- CREATE TABLE: under a free name the columns decide, then their number, and then SORT BY
+module _ (name : List ℕ) (columns : List ColumnDef) (sort : List (List ℕ)) (tables : List TableOf) (views : List ViewOf) (free : is_taken name (alone tables views) ≡ false) where
+  abbrev entries : List (Option Fault)
+  entries = too_long (length columns) ∷ []
+
+  abbrev sort_walk : List (Option Fault)
+  sort_walk = sort_places columns [] sort
+
+  -- the name is no fault
+  create_goes_on : first_fault (create_places name columns sort (alone tables views)) ≡ first_fault (column_places [] columns ++ (entries ++ sort_walk))
+  create_goes_on = ap (λ (b : Bool). first_fault (fault_if b NameTaken ∷ column_places [] columns ++ (entries ++ sort_walk))) free
+
+  -- a column refuses
+  pub columns_refused : (f : Fault) → MayRefuse (first_fault (column_places [] columns)) f → MayRefuse (first_fault (create_places name columns sort (alone tables views))) f
+  columns_refused f m =
+      refused_same (first_fault (column_places [] columns ++ (entries ++ sort_walk))) (first_fault (create_places name columns sort (alone tables views))) f create_goes_on
+      (refused_front (column_places [] columns) (entries ++ sort_walk) f m)
+
+  -- behind the columns only their number and SORT BY are left
+  create_ends : first_fault (column_places [] columns) ≡ None → first_fault (create_places name columns sort (alone tables views)) ≡ first_fault (entries ++ sort_walk)
+  create_ends distinct =
+      create_goes_on
+      ∙ first_fault_append (column_places [] columns) (entries ++ sort_walk)
+      ∙ or_next (first_fault (column_places [] columns)) (first_fault (entries ++ sort_walk)) distinct
+
+  -- there are too many columns
+  pub length_refused : (f : Fault) → first_fault (column_places [] columns) ≡ None → MayRefuse (first_fault entries) f → MayRefuse (first_fault (create_places name columns sort (alone tables views))) f
+  length_refused f distinct m =
+      refused_same (first_fault (entries ++ sort_walk)) (first_fault (create_places name columns sort (alone tables views))) f (create_ends distinct) (refused_front entries sort_walk f m)
+
+  -- behind the number of the columns SORT BY decides
+  pub sort_decides : first_fault (column_places [] columns) ≡ None → first_fault entries ≡ None → first_fault (create_places name columns sort (alone tables views)) ≡ first_fault sort_walk
+  sort_decides distinct few = create_ends distinct ∙ first_fault_append entries sort_walk ∙ or_next (first_fault entries) (first_fault sort_walk) few
+
+-- ---- CREATE VIEW
+-- the command for a view on this table
+abbrev pub view_command : List ℕ → ViewSelect → TableOf → Bound
+view_command name v t = commands.CreateView name (view_columns (view_source v t) v) (grouped_query v t)
+
+-- it is what the bound view makes
+pub view_made : (name shown : List ℕ) (v : ViewSelect) (t : TableOf) (number : ℕ) (joins : List Join) (b : BoundView) → shown ≡ name → number ≡ t.number → joins ≡ [] → IsBoundView (view_source v t) v b
+    → commands.CreateView shown b.columns (record { first = Table number; joins = joins; filter = b.filter; shape = Grouped (Some b.keys) b.aggregates None; items = b.items; distinct = false }) ≡ view_command name v t
+view_made name shown v t number joins b is_name is_number none is = λ i.
+    commands.CreateView (is_name i) (is.columns i) (record { first = Table (is_number i); joins = none i; filter = is.filter i; shape = Grouped (Some (is.keys i)) (is.aggregates i) None; items = is.items i; distinct = false })
+
+-- ---- Under a free name the query decides
+module _ (name : List ℕ) (v : ViewSelect) (tables : List TableOf) (views : List ViewOf) (free : is_taken name (alone tables views) ≡ false) where
+  create_view_goes_on : (t : TableOf) → table_named v.source.name tables ≡ Some t → first_fault (create_view_places name v (alone tables views)) ≡ first_fault (view_select_places v (Ok t))
+  create_view_goes_on t found = rw (free, found) refl
+
+  -- on the table that was found
+  pub view_created : (e : TableEntry) (result : Result Bound Fault) → Some (shown_heading e) ≡ option_map heading (table_named v.source.name tables)
+      → ((t : TableOf) → shown_heading e ≡ heading t → Walked (view_select_places v (Ok t)) (λ command. command ≡ view_command name v t) result) → Binds (alone tables views) (statements.CreateView name v) result
+  view_created e result found walked =
+      let t = table_there e (table_named v.source.name tables) found in
+      walked_as (view_select_places v (Ok t.0)) (create_view_places name v (alone tables views)) (view_command name v t.0) (option_map (view_command name v) (table_named v.source.name tables)) result (create_view_goes_on t.0 t.1)
+      (ap (option_map (view_command name v)) t.1) (walked t.0 t.2)

@@ -1,0 +1,31 @@
+-- DELETE from the table that was found.
+use Rattle.std.proofs.Common.{◌≡◌, ℕ, List, [], ◌∷◌, Option, Some, ap, ap₂, sym, ◌∙◌}
+use Rattle.std.specs.Prelude.{if◌then◌else◌, is_some, ok_or, option_map}
+use Rattle.cq_model.specs.Expr.{Cond}
+use Rattle.cq_model.specs.Written.{Written}
+use Rattle.cq_model.specs.declared.bound.Bound.{Bound}
+use Rattle.cq_model.specs.declared.bound.Bound.TheVariants as commands
+use Rattle.cq_steps.specs.declared.fault.Fault.{Fault}
+use Rattle.cq_steps.specs.declared.fault.Fault.TheVariants.{UnknownTable, ViewNotWritten}
+use Rattle.cq_steps.specs.Bound.{bound_condition, from_table, scope_of}
+use Rattle.cq_steps.specs.Refusal.{delete_places, first_fault, where_place, written_table, MayRefuse}
+use Rattle.cq_steps.specs.State.{TableOf, ViewOf, table_named, view_named}
+use Rattle.cq_binder.specs.Catalog.{alone}
+use Rattle.cq_binder.proofs.Faults.{refused_same}
+
+-- the command on a table
+abbrev pub delete_command : Option Written → TableOf → Bound
+delete_command condition t = commands.Delete t.number (option_map (bound_condition (scope_of (from_table t))) condition)
+
+module _ (name : List ℕ) (condition : Option Written) (tables : List TableOf) (views : List ViewOf) (t : TableOf) (found : table_named name tables ≡ Some t) where
+  -- WHERE decides
+  pub where_decides : first_fault (delete_places condition (written_table name (alone tables views))) ≡ first_fault (where_place (scope_of (from_table t)) condition ∷ [])
+  where_decides = ap (λ (o : Option TableOf). first_fault (delete_places condition (ok_or o (if is_some (view_named name views) then ViewNotWritten else UnknownTable)))) found
+
+  -- it refuses
+  pub where_refused : (f : Fault) → MayRefuse (first_fault (where_place (scope_of (from_table t)) condition ∷ [])) f → MayRefuse (first_fault (delete_places condition (written_table name (alone tables views)))) f
+  where_refused f m = refused_same (first_fault (where_place (scope_of (from_table t)) condition ∷ [])) (first_fault (delete_places condition (written_table name (alone tables views)))) f where_decides m
+
+  -- the command is the one on the table
+  pub deleted : (number : ℕ) (kept : Option Cond) → number ≡ t.number → kept ≡ option_map (bound_condition (scope_of (from_table t))) condition → option_map (delete_command condition) (table_named name tables) ≡ Some (commands.Delete number kept)
+  deleted number kept is_number is_kept = ap (option_map (delete_command condition)) found ∙ ap₂ (λ (n : ℕ) (o : Option Cond). Some (commands.Delete n o)) (sym is_number) (sym is_kept)

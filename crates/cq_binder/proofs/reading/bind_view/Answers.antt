@@ -1,0 +1,13 @@
+use Rattle.std.proofs.Common.{◌≡◌, false, rules}
+use Rattle.cq_steps.specs.State.{is_taken}
+use Rattle.cq_binder.specs.Catalog.{alone}
+use Rattle.cq_binder.proofs.Creating.{view_created}
+use Rattle.cq_binder.proofs.reading.bind_view.Goals as goal
+
+pub returns : goal.returns
+returns g c =
+    let tables = g.C.Catalog.tables c.args.catalog.now in
+    let views = g.C.Catalog.views c.args.catalog.now in
+    let free : is_taken c.args.name.now (alone tables views) ≡ false = search rules in
+    let found = rw c.as_str-source.ensures at c.in-Some.ensures in
+    view_created c.args.name.now c.args.view.now tables views free c.in-Some.table c.bind_view_on.result found c.bind_view_on.ensures

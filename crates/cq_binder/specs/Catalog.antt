@@ -1,0 +1,54 @@
+-- The tables and views that statements find under their names, and what binding a statement gives.
+use Rattle.std.specs.Prelude.{◌≡◌, ℕ, List, [], ◌∷◌, Option, Some, option_map, unwrap_or, Result, Ok, Err}
+use Rattle.std.specs.List.{flat_map}
+use Rattle.cq_model.specs.declared.bound.Bound.{Bound}
+use Rattle.cq_model.specs.declared.query.Source.TheVariants.{View}
+use Rattle.cq_model.specs.declared.statement.ColumnDef.{ColumnDef}
+use Rattle.cq_model.specs.declared.statement.Constant.{Constant}
+use Rattle.cq_model.specs.declared.statement.Statement.{Statement}
+use Rattle.cq_model.specs.declared.statement.Statement.TheVariants as statements
+use Rattle.cq_steps.specs.declared.fault.Fault.{Fault}
+use Rattle.cq_steps.specs.Bound.{Named, bound, from_view}
+use Rattle.cq_steps.specs.Refusal.{places, row_places, written_table}
+use Rattle.cq_steps.specs.State.{TableOf, ViewOf, State, view_named, view_place}
+use Rattle.cq_binder.specs.declared.catalog.TableEntry.{TableEntry}
+use Rattle.cq_binder.specs.declared.catalog.ViewEntry.{ViewEntry}
+use Rattle.cq_binder.specs.Walk.{Walked}
+
+-- a state of which nothing but the tables and views is asked
+abbrev pub alone : List TableOf → List ViewOf → State
+alone tables views = record { tables = tables; views = views; now = 0; drawn = 0; passed = 0; queue = []; max_rows = 0 }
+
+-- a table but for its rows and its order
+pub record Heading : Type 0 where
+  pub number : ℕ
+  pub name : List ℕ
+  pub columns : List ColumnDef
+
+abbrev pub heading : TableOf → Heading
+heading t = record { number = t.number; name = t.name; columns = t.columns }
+
+abbrev pub shown_heading : TableEntry → Heading
+shown_heading e = record { number = e.number; name = e.name.now; columns = e.columns.now }
+
+-- a view as FROM names it
+abbrev pub shown_view : ViewEntry → Named
+shown_view e = record { known = e.name.now; columns = e.columns.now; sizes = e.sizes.items; source = View e.place }
+
+-- the view of a name as FROM names it, if there is one
+abbrev pub view_source_named : List ℕ → List ViewOf → Option Named
+view_source_named name views = option_map (λ v. from_view v (unwrap_or (view_place name views) 0)) (view_named name views)
+
+-- INSERT: the name, then each row
+abbrev pub rows_walk : List (List Constant) → Result TableOf Fault → List (Option Fault)
+rows_walk rows (Err f) = Some f ∷ []
+rows_walk rows (Ok t) = flat_map (row_places t.columns) rows
+
+-- the places of a statement that are seen without any row of a table: all but whether the rows of an INSERT fit
+abbrev pub binding_places : State → Statement → List (Option Fault)
+binding_places s (statements.Insert name rows) = rows_walk rows (written_table name s)
+binding_places s statement = places s statement
+
+-- a statement becomes its command where none of these places has a fault
+abbrev pub Binds : State → Statement → Result Bound Fault → Type 0
+Binds s statement result = Walked (binding_places s statement) (λ command. bound s statement ≡ Some command) result

@@ -1,0 +1,137 @@
+//! Statements become commands.
+ghost use Rattle.std.specs.Prelude.{◌≡◌, if◌then◌else◌, is_some, map};
+ghost use Rattle.cq_model.specs.declared.statement.Statement.TheVariants as statements;
+ghost use Rattle.cq_steps.specs.Bound.{place_in};
+ghost use Rattle.cq_steps.specs.declared.fault.Fault.TheVariants.{ClauseInView, UnknownTable, ViewNotWritten};
+ghost use Rattle.cq_steps.specs.Refusal.{create_places};
+ghost use Rattle.cq_steps.specs.State.{is_taken, view_named};
+ghost use Rattle.cq_binder.specs.Catalog.{Binds, alone};
+ghost use Rattle.cq_binder.specs.Walk.{Walked};
+
+use crate::catalog::Catalog;
+use crate::columns::{check_length, check_names, copy_columns, sort_columns};
+use crate::reading::{bind_select, bind_view};
+use crate::writing::{bind_delete, bind_insert};
+use cq_model::{Bound, ColumnDef, Statement};
+use cq_steps::Fault;
+use cq_values::{Seq, Text};
+use std::alloc::Global;
+
+/// Why a statement is not bound: the first fault of its walk, or want of memory.
+pub type BindFault = Fault;
+
+/// The command that a statement is, with the names of the catalog resolved. Whether the rows of an INSERT fit their table
+/// is not asked.
+pub fn bind<C: Catalog>(
+    alloc: Global,
+    statement: &Statement,
+    catalog: &C,
+) -> Result<Bound, BindFault>
+    ensures { Binds (alone (C.tables catalog.now) (C.views catalog.now)) statement.now result }
+{
+    match statement {
+        Statement::CreateTable {
+            name,
+            columns,
+            sort,
+        } => bind_create(alloc, catalog, name, columns, sort),
+        Statement::DropTable(name) => bind_drop(catalog, name),
+        Statement::CreateView { name, view } => bind_view(alloc, catalog, name, view),
+        Statement::DropView(name) => bind_drop_view(catalog, name),
+        Statement::Insert { table, rows } => bind_insert(alloc, catalog, table, rows),
+        Statement::Delete { table, condition } => bind_delete(alloc, catalog, table, condition),
+        Statement::Select(select) => bind_select(alloc, catalog, select),
+    }
+}
+
+fn bind_create<C: Catalog>(
+    alloc: Global,
+    catalog: &C,
+    name: &Text,
+    columns: &Seq<ColumnDef>,
+    sort: &Seq<Text>,
+) -> Result<Bound, BindFault>
+    ensures { Binds (alone (C.tables catalog.now) (C.views catalog.now)) (statements.CreateTable name.now columns.now sort.now) result }
+{
+    let columns = columns.as_slice();
+    let sort = check_create(alloc, catalog, name.as_str(), columns, sort.as_slice())?;
+    Ok(Bound::CreateTable {
+        name: name.copy(alloc)?,
+        columns: copy_columns(alloc, columns)?,
+        sort,
+    })
+}
+
+/// The walk through a CREATE TABLE, and where the columns behind SORT BY stand.
+fn check_create<C: Catalog>(
+    alloc: Global,
+    catalog: &C,
+    name: &str,
+    columns: &[ColumnDef],
+    sort: &[Text],
+) -> Result<Seq<usize>, BindFault>
+    ensures { Walked (create_places name.now columns.now sort.now (alone (C.tables catalog.now) (C.views catalog.now))) (λ places. places ≡ map (place_in columns.now) sort.now) result }
+{
+    if is_taken(catalog, name) {
+        return Err(Fault::NameTaken);
+    }
+    check_names(columns)?;
+    check_length(columns.len())?;
+    sort_columns(alloc, columns, sort)
+}
+
+fn bind_drop<C: Catalog>(catalog: &C, name: &Text) -> Result<Bound, BindFault>
+    ensures { Binds (alone (C.tables catalog.now) (C.views catalog.now)) (statements.DropTable name.now) result }
+{
+    let Some(table) = catalog.table(name.as_str()) else {
+        return Err(Fault::UnknownTable);
+    };
+    if catalog.is_used(table.number) {
+        return Err(Fault::TableInUse);
+    }
+    Ok(Bound::DropTable(table.number))
+}
+
+fn bind_drop_view<C: Catalog>(catalog: &C, name: &Text) -> Result<Bound, BindFault>
+    ensures { Binds (alone (C.tables catalog.now) (C.views catalog.now)) (statements.DropView name.now) result }
+{
+    match catalog.view_place(name.as_str()) {
+        Some(place) => Ok(Bound::DropView(place)),
+        None => Err(Fault::UnknownTable),
+    }
+}
+
+/// Whether a table or a view has the name.
+pub(crate) fn is_taken<C: Catalog>(catalog: &C, name: &str) -> bool
+    ensures { result ≡ is_taken name.now (alone (C.tables catalog.now) (C.views catalog.now)) }
+{
+    catalog.table(name).is_some() || is_view(catalog, name)
+}
+
+/// Why a name that no table has cannot be written.
+pub(crate) fn unwritten<C: Catalog>(catalog: &C, name: &str) -> BindFault
+    ensures { result ≡ (if is_some (view_named name.now (C.views catalog.now)) then ViewNotWritten else UnknownTable) }
+{
+    if is_view(catalog, name) {
+        Fault::ViewNotWritten
+    } else {
+        Fault::UnknownTable
+    }
+}
+
+/// Why a name that no table has cannot be read by a view.
+pub(crate) fn unread<C: Catalog>(catalog: &C, name: &str) -> BindFault
+    ensures { result ≡ (if is_some (view_named name.now (C.views catalog.now)) then ClauseInView else UnknownTable) }
+{
+    if is_view(catalog, name) {
+        Fault::ClauseInView
+    } else {
+        Fault::UnknownTable
+    }
+}
+
+fn is_view<C: Catalog>(catalog: &C, name: &str) -> bool
+    ensures { result ≡ is_some (view_named name.now (C.views catalog.now)) }
+{
+    catalog.view_place(name).is_some()
+}

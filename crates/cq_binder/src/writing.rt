@@ -1,0 +1,84 @@
+//! INSERT and DELETE.
+ghost use Rattle.std.specs.Prelude.{◌≡◌, ◌∷◌, [], map, option_map};
+ghost use Rattle.std.specs.List.{flat_map};
+ghost use Rattle.cq_model.specs.declared.statement.Statement.TheVariants as statements;
+ghost use Rattle.cq_steps.specs.Bound.{bound_condition, from_table, row_of, scope_of};
+ghost use Rattle.cq_steps.specs.Refusal.{row_places, where_place};
+ghost use Rattle.cq_steps.specs.State.{TableOf};
+ghost use Rattle.cq_binder.specs.Catalog.{Binds, alone, heading, shown_heading};
+ghost use Rattle.cq_binder.specs.Walk.{Walked};
+
+use crate::binding::{BindFault, unwritten};
+use crate::catalog::{Catalog, TableEntry};
+use crate::conditions::bound_where;
+use crate::constants::bound_row;
+use crate::scopes::{stored_sizes, table_scope};
+use cq_model::{Bound, ColumnDef, Cond, Constant, SqlExpr};
+use cq_values::{Row, Seq, Text};
+use std::alloc::Global;
+
+/// INSERT.
+pub(crate) fn bind_insert<C: Catalog>(
+    alloc: Global,
+    catalog: &C,
+    name: &Text,
+    rows: &Seq<Seq<Constant>>,
+) -> Result<Bound, BindFault>
+    ensures { Binds (alone (C.tables catalog.now) (C.views catalog.now)) (statements.Insert name.now rows.now) result }
+{
+    let Some(table) = catalog.table(name.as_str()) else {
+        return Err(unwritten(catalog, name.as_str()));
+    };
+    Ok(Bound::Insert {
+        table: table.number,
+        rows: bound_rows(alloc, table.columns, rows.as_slice())?,
+    })
+}
+
+/// The rows of these constants, each for these columns.
+fn bound_rows(
+    alloc: Global,
+    columns: &[ColumnDef],
+    rows: &[Seq<Constant>],
+) -> Result<Seq<Row>, BindFault>
+    ensures { Walked (flat_map (row_places columns.now) rows.now) (λ made. made ≡ map row_of rows.now) result }
+{
+    let mut made = Vec::with_capacity(alloc, rows.len())?;
+    for row in rows {
+        let constants = row.as_slice();
+        made.push(bound_row(alloc, columns, constants)?)?;
+    }
+    Ok(Seq::from_vec(made))
+}
+
+/// DELETE.
+pub(crate) fn bind_delete<C: Catalog>(
+    alloc: Global,
+    catalog: &C,
+    name: &Text,
+    condition: &Option<SqlExpr>,
+) -> Result<Bound, BindFault>
+    ensures { Binds (alone (C.tables catalog.now) (C.views catalog.now)) (statements.Delete name.now condition.now) result }
+{
+    let Some(table) = catalog.table(name.as_str()) else {
+        return Err(unwritten(catalog, name.as_str()));
+    };
+    Ok(Bound::Delete {
+        table: table.number,
+        condition: where_on(alloc, &table, condition)?,
+    })
+}
+
+/// WHERE on a table.
+fn where_on(
+    alloc: Global,
+    table: &TableEntry<'_>,
+    condition: &Option<SqlExpr>,
+) -> Result<Option<Cond>, BindFault>
+    ensures { (t : TableOf) → shown_heading table.now ≡ heading t
+        → Walked (where_place (scope_of (from_table t)) condition.now ∷ []) (λ c. c ≡ option_map (bound_condition (scope_of (from_table t))) condition.now) result }
+{
+    let sizes = stored_sizes(alloc, table.columns)?;
+    let scope = table_scope(table.name, table.columns, &sizes);
+    bound_where(alloc, &scope, condition)
+}

@@ -1,0 +1,336 @@
+-- Commands that were bound: what is known of them, and that carrying them out is the step of their statement.
+use Rattle.std.proofs.Common.{◌≡◌, ℕ, ◌+◌, ◌<◌, Bool, true, false, List, [], ◌∷◌, ◌++◌, map, length, Option, Some, None, refl, sym, ap, ◌∙◌, inl, inr, arith, subst, Result, Ok, Err}
+use Rattle.std.specs.Prelude.{◌≤◌, ◌==◌, nat_lt, IfSome, is_some, ok_or, option_map, slice_get, slice_index_or, unwrap_or, if◌then◌else◌}
+use Rattle.std.specs.List.{AllByRecursion, flat_map}
+use Rattle.std.specs.Option.{option_or}
+use Rattle.std.proofs.lemmas.Bool.{eq-eqb, ne_eqb}
+use Rattle.std.proofs.lemmas.List.{length-map}
+use Rattle.std.proofs.lemmas.List.Quantifiers.{position-Some}
+use Rattle.cq_values.specs.Texts.{is_text}
+use Rattle.cq_values.specs.Value.{Row}
+use Rattle.cq_bags.proofs.Totals.{by_test}
+use Rattle.cq_laws.specs.Sizes.{IsSized}
+use Rattle.cq_model.specs.declared.bound.Bound.{Bound}
+use Rattle.cq_model.specs.declared.bound.Bound.TheVariants as commands
+use Rattle.cq_model.specs.declared.statement.Constant.{Constant}
+use Rattle.cq_model.specs.declared.statement.FromSource.{FromSource}
+use Rattle.cq_model.specs.declared.statement.Select.{Select}
+use Rattle.cq_model.specs.declared.statement.Statement.{Statement}
+use Rattle.cq_model.specs.declared.statement.Statement.TheVariants as statements
+use Rattle.cq_model.specs.declared.statement.ViewSelect.{ViewSelect}
+use Rattle.cq_model.specs.Width.{sizes_of}
+use Rattle.cq_model.specs.Written.{Written}
+use Rattle.cq_steps.specs.declared.answer.Answer.{Answer}
+use Rattle.cq_steps.specs.declared.fault.Fault.{Fault}
+use Rattle.cq_steps.specs.declared.fault.Fault.TheVariants as faults
+use Rattle.cq_steps.specs.Bound.{Named, bound, bound_condition, bound_query, bound_select, from_table, from_view, grouped_query, place_in, row_of, scope_as, scope_of, shown_by, source_named, view_columns, view_source}
+use Rattle.cq_steps.specs.Refusal.{first_fault, fault_if, is_used, delete_places, drop_table_places, create_view_places, insert_places, places, query_places, refusal, row_places, select_places, source_places, too_long, value_place, view_select_places, where_place, written_table, MayRefuse}
+use Rattle.cq_steps.specs.State.{TableOf, ViewOf, State, is_taken, rows_in, table_named, view_named, view_place, AreNumbered}
+use Rattle.cq_steps.specs.Step.{AreBetween, IsTooLarge, Refuses, by_walk, for_memory, too_large, Step, reach, with_all_views}
+use Rattle.cq_exprs.specs.Expressions.{KeepSizes}
+use Rattle.cq_binder.specs.Catalog.{alone, binding_places, rows_walk}
+use Rattle.cq_binder.proofs.Faults.{first_fault_append, or_next, single}
+use Rattle.cq_engine.specs.Bound.{IsNarrowAt, IsWithin}
+use Rattle.cq_engine.specs.Commands.{CanCarryOut, CarriesOut, IsRefused, IsThere, IsWithinSource, present, room}
+use Rattle.cq_engine.specs.Views.{AreStored, IsStored}
+use Rattle.cq_engine.proofs.Creating.{def_fits, def_on}
+use Rattle.cq_engine.proofs.Fitting.{back_free, first_free, front_free, narrow_rows, narrow_values, narrow_where, stored_keep, stored_keeps}
+use Rattle.cq_engine.proofs.Numbers.{Above}
+use Rattle.cq_engine.proofs.Places.{found_there, same_presence}
+use Rattle.cq_engine.proofs.Stored.{rows_stored}
+use Rattle.cq_engine.proofs.Steps.{AreAt, all_between}
+
+-- what an optional value is mapped to
+mapped : {X Y : Type 0} (f : X → Y) (o : Option X) (y : Y) → option_map f o ≡ Some y → (x : X) × (o ≡ Some x) × (f x ≡ y)
+mapped f (Some x) y e = (x, refl, cc e)
+mapped f None y e = absurd (cc e)
+
+-- ---- Tables that were found by their names
+module _ (name : List ℕ) (t : TableOf) where
+  -- one that is found among those above a number is above it
+  found_above : (n : ℕ) (ts : List TableOf) → Above n ts → table_named name ts ≡ Some t → n < t.number
+  found_above n [] above found = absurd (cc found)
+  found_above n (x ∷ ts) above found = by_test (is_text x.name name)
+      (λ k. let same : x ≡ t = cc in subst (λ (y : TableOf). n < y.number) same above.0)
+      (λ k. found_above n ts above.1 (rw k at found))
+
+  -- its number has its rows
+  rows-found : (ts : List TableOf) (next : ℕ) → AreNumbered ts next → table_named name ts ≡ Some t → rows_in ts t.number ≡ t.rows
+  rows-found [] next numbered found = absurd (cc found)
+  rows-found (x ∷ ts) next numbered found = by_test (is_text x.name name)
+      (λ k. let same : x ≡ t = cc in subst (λ (y : TableOf). rows_in (x ∷ ts) y.number ≡ y.rows) same (rw (eq-eqb x.number x.number refl) refl))
+      (λ k.
+      let later = rw k at found in
+      let other : (x.number == t.number) ≡ false = ne_eqb x.number t.number (λ e. absurd (omega (arith, e, found_above x.number ts numbered.1 later))) in
+      rw other (rows-found ts next numbered.2 later))
+
+  -- its number is there
+  there-found : (ts : List TableOf) → table_named name ts ≡ Some t → IsThere t.number ts
+  there-found [] found = absurd (cc found)
+  there-found (x ∷ ts) found = by_test (is_text x.name name)
+      (λ k. let same : x ≡ t = cc in subst (λ (y : TableOf). IsThere y.number (x ∷ ts)) same (rw (eq-eqb x.number x.number refl) refl))
+      (λ k. by_test (x.number == t.number) (λ j. rw j refl) (λ j. rw j (there-found ts (rw k at found))))
+
+  -- its rows are stored
+  stored-found : (ts : List TableOf) → AreStored ts → table_named name ts ≡ Some t → AllByRecursion IsStored t.rows
+  stored-found [] stored found = absurd (cc found)
+  stored-found (x ∷ ts) stored found = by_test (is_text x.name name)
+      (λ k. let same : x ≡ t = cc in subst (λ (y : TableOf). AllByRecursion IsStored y.rows) same stored.0)
+      (λ k. stored-found ts stored.1 (rw k at found))
+
+-- ---- Views that were found by their names
+-- a view that has a place is among them
+within_views : (name : List ℕ) (views : List ViewOf) (place : ℕ) → view_place name views ≡ Some place → place < length views
+within_views name [] place found = absurd (cc found)
+within_views name (v ∷ vs) place found = (position-Some (λ w. is_text w.name name) (v ∷ vs) place v found).0
+
+-- the view of a name stands at the place of the name
+view_at_place : (name : List ℕ) (views : List ViewOf) (v : ViewOf) → view_named name views ≡ Some v → slice_get views (unwrap_or (view_place name views) 0) ≡ Some v
+view_at_place name views v named = at_place (view_place name views) refl
+  where
+    at_place : (o : Option ℕ) → view_place name views ≡ o → slice_get views (unwrap_or (view_place name views) 0) ≡ Some v
+    at_place (Some i) is =
+        let there : slice_get views i ≡ view_named name views = subst (λ (p : Option ℕ). IfSome p (λ j. slice_get views j ≡ view_named name views)) is (found_there (λ w. is_text w.name name) views) in
+        ap (λ (p : Option ℕ). slice_get views (unwrap_or p 0)) is ∙ there ∙ named
+    at_place None is = absurd (let both : false ≡ true = sym (ap is_some is) ∙ same_presence (λ w. is_text w.name name) views ∙ ap is_some named in cc)
+
+-- ---- Queries that were bound
+-- a row with numbers of a source's sizes keeps them
+sized_keeps : (f : FromSource) (source : Named) (row : Row) → IsSized (λ i. slice_index_or source.sizes i 0) row → KeepSizes (scope_as f source) (sizes_of row)
+sized_keeps f source row sized c i at may =
+    let place : place_in source.columns c.name ≡ i = ap (λ (o : Option ℕ). unwrap_or o 0) at in
+    subst (λ p. sizes_of row (place_in source.columns c.name) ≤ slice_index_or source.sizes p 0) place (sized (place_in source.columns c.name))
+
+-- a query whose walk has no fault can be worked out on a row that keeps the sizes of its source
+within_for : (q : Select) (source : Named) (row : Row) → first_fault (source_places q (scope_as q.source source)) ≡ None → KeepSizes (scope_as q.source source) (sizes_of row) → IsWithin (bound_query q source) row
+within_for q source row free kept =
+    let s = scope_as q.source source in
+    let item_walk : List (Option Fault) = map (value_place s) (shown_by q.items) in
+    let number_walk : List (Option Fault) = too_long (length q.items) ∷ [] in
+    record {
+      condition = narrow_where s q.condition row (first_free (where_place s q.condition) (item_walk ++ number_walk) free) kept;
+      items = narrow_values s (shown_by q.items) row (front_free item_walk number_walk (back_free (where_place s q.condition ∷ []) (item_walk ++ number_walk) free)) kept;
+    }
+
+-- so it can on stored rows of a table
+within_stored : (q : Select) (t : TableOf) (rows : List Row) → first_fault (source_places q (scope_as q.source (from_table t))) ≡ None → AllByRecursion IsStored rows → AllByRecursion (IsWithin (bound_query q (from_table t))) rows
+within_stored q t [] free stored = tt
+within_stored q t (row ∷ rows) free stored = (within_for q (from_table t) row free (stored_keeps t row stored.0), within_stored q t rows free stored.1)
+
+-- ---- What is known of a command that was bound
+module _ (tables : List TableOf) (views : List ViewOf) (next : ℕ) (numbered : AreNumbered tables next) (stored : AreStored tables) where
+  abbrev here : State
+  here = alone tables views
+
+  abbrev Can : Bound → Type 0
+  Can command = CanCarryOut tables views command
+
+  drop_can : (name : List ℕ) (t : TableOf) → table_named name tables ≡ Some t → first_fault (drop_table_places views (table_named name tables)) ≡ None → Can (commands.DropTable t.number)
+  drop_can name t found free =
+      let walk : first_fault (drop_table_places views (Some t)) ≡ None = subst (λ (o : Option TableOf). first_fault (drop_table_places views o) ≡ None) found free in
+      (there-found name t tables found, unused (is_used t.number views) refl walk)
+    where
+      unused : (b : Bool) → is_used t.number views ≡ b → first_fault (fault_if b faults.TableInUse ∷ []) ≡ None → is_used t.number views ≡ false
+      unused false e w = e
+      unused true e w = absurd (cc w)
+
+  create_view_can : (name : List ℕ) (view : ViewSelect) (t : TableOf) → table_named view.source.name tables ≡ Some t → first_fault (create_view_places name view here) ≡ None → Can (commands.CreateView name (view_columns (view_source view t) view) (grouped_query view t))
+  create_view_can name view t found free =
+      let fault = if is_some (view_named view.source.name views) then faults.ClauseInView else faults.UnknownTable in
+      let taken = fault_if (is_taken name here) faults.NameTaken in
+      let walk : first_fault (taken ∷ query_places (view_source view t) view) ≡ None = subst (λ (o : Option TableOf). first_fault (taken ∷ view_select_places view (ok_or o fault)) ≡ None) found free in
+      record { def = def_on view t; query = refl; fits = def_fits view t (back_free (taken ∷ []) (query_places (view_source view t) view) walk); there = there-found view.source.name t tables found }
+
+  insert_can : (name : List ℕ) (rows : List (List Constant)) (t : TableOf) → table_named name tables ≡ Some t → first_fault (rows_walk rows (written_table name here)) ≡ None → Can (commands.Insert t.number (map row_of rows))
+  insert_can name rows t found free =
+      let fault = if is_some (view_named name views) then faults.ViewNotWritten else faults.UnknownTable in
+      let walk : first_fault (flat_map (row_places t.columns) rows) ≡ None = subst (λ (o : Option TableOf). first_fault (rows_walk rows (ok_or o fault)) ≡ None) found free in
+      (there-found name t tables found, rows_stored t.columns rows walk)
+
+  delete_can : (name : List ℕ) (condition : Option Written) (t : TableOf) → table_named name tables ≡ Some t → first_fault (delete_places condition (written_table name here)) ≡ None → Can (commands.Delete t.number (option_map (bound_condition (scope_of (from_table t))) condition))
+  delete_can name condition t found free =
+      let fault = if is_some (view_named name views) then faults.ViewNotWritten else faults.UnknownTable in
+      let s = scope_of (from_table t) in
+      let walk : first_fault (where_place s condition ∷ []) ≡ None = subst (λ (o : Option TableOf). first_fault (delete_places condition (ok_or o fault)) ≡ None) found free in
+      let narrow = narrow_rows s condition t.rows (first_free (where_place s condition) [] walk) (stored_keep t t.rows (stored-found name t tables stored found)) in
+      (there-found name t tables found, subst (λ (rs : List Row). AllByRecursion (IsNarrowAt (option_map (bound_condition s) condition)) rs) (sym (rows-found name t tables next numbered found)) narrow)
+
+  -- a query that was bound on a source can be worked out on the source's rows
+  module _ (q : Select) where
+    abbrev asked : List ℕ
+    asked = q.source.name
+
+    abbrev Within : Named → Type 0
+    Within source = first_fault (source_places q (scope_as q.source source)) ≡ None → IsWithinSource tables views (bound_query q source) source.source
+
+    on_table : (t : TableOf) → table_named asked tables ≡ Some t → Within (from_table t)
+    on_table t found free =
+        let rows = stored-found asked t tables stored found in
+        (there-found asked t tables found, subst (λ (rs : List Row). AllByRecursion (IsWithin (bound_query q (from_table t))) rs) (sym (rows-found asked t tables next numbered found)) (within_stored q t t.rows free rows))
+
+    on_view : (v : ViewOf) → view_named asked views ≡ Some v → Within (from_view v (unwrap_or (view_place asked views) 0))
+    on_view v named free =
+        let source = from_view v (unwrap_or (view_place asked views) 0) in
+        (v, view_at_place asked views v named, λ row sized. within_for q source row free (sized_keeps q.source source row sized))
+
+    on_source : (source : Named) → source_named asked here ≡ Some source → Within source
+    on_source source found = by_table (table_named asked tables) (view_named asked views) refl refl found
+      where
+        by_table : (o : Option TableOf) (p : Option ViewOf) → table_named asked tables ≡ o → view_named asked views ≡ p
+            → option_or (option_map from_table o) (option_map (λ v. from_view v (unwrap_or (view_place asked views) 0)) p) ≡ Some source → Within source
+        by_table (Some t) p e f is = let same : from_table t ≡ source = cc is in subst Within same (on_table t e)
+        by_table None (Some v) e f is = let same : from_view v (unwrap_or (view_place asked views) 0) ≡ source = cc is in subst Within same (on_view v f)
+        by_table None None e f is = absurd (cc is)
+
+    select_can : (source : Named) → source_named asked here ≡ Some source → first_fault (select_places q (source_named asked here)) ≡ None → Can (bound_select q source)
+    select_can source found free =
+        let walk : first_fault (source_places q (scope_as q.source source)) ≡ None = subst (λ (o : Option Named). first_fault (select_places q o) ≡ None) found free in
+        (record { plain = refl; within = on_source source found walk }, refl)
+
+  pub bound_can : (statement : Statement) (command : Bound) → first_fault (binding_places here statement) ≡ None → bound here statement ≡ Some command → Can command
+  bound_can (statements.CreateTable name columns sort) command free is =
+      let same : commands.CreateTable name columns (map (place_in columns) sort) ≡ command = cc is in
+      subst Can same tt
+  bound_can (statements.DropTable name) command free is =
+      let m = mapped (λ t. commands.DropTable t.number) (table_named name tables) command is in
+      subst Can m.2 (drop_can name m.0 m.1 free)
+  bound_can (statements.CreateView name view) command free is =
+      let m = mapped (λ t. commands.CreateView name (view_columns (view_source view t) view) (grouped_query view t)) (table_named view.source.name tables) command is in
+      subst Can m.2 (create_view_can name view m.0 m.1 free)
+  bound_can (statements.DropView name) command free is =
+      let m = mapped commands.DropView (view_place name views) command is in
+      subst Can m.2 (within_views name views m.0 m.1)
+  bound_can (statements.Insert name rows) command free is =
+      let m = mapped (λ t. commands.Insert t.number (map row_of rows)) (table_named name tables) command is in
+      subst Can m.2 (insert_can name rows m.0 m.1 free)
+  bound_can (statements.Delete name condition) command free is =
+      let m = mapped (λ t. commands.Delete t.number (option_map (bound_condition (scope_of (from_table t))) condition)) (table_named name tables) command is in
+      subst Can m.2 (delete_can name condition m.0 m.1 free)
+  bound_can (statements.Select q) command free is =
+      let m = mapped (bound_select q) (source_named q.source.name here) command is in
+      subst Can m.2 (select_can q m.0 m.1 free)
+
+-- ---- From commands to statements
+-- nothing but the tables and views is asked
+same_places : (s : State) (statement : Statement) → binding_places (alone s.tables s.views) statement ≡ binding_places s statement
+same_places s (statements.CreateTable name columns sort) = refl
+same_places s (statements.DropTable name) = refl
+same_places s (statements.CreateView name view) = refl
+same_places s (statements.DropView name) = refl
+same_places s (statements.Insert name rows) = refl
+same_places s (statements.Delete name condition) = refl
+same_places s (statements.Select q) = refl
+
+same_bound : (s : State) (statement : Statement) → bound (alone s.tables s.views) statement ≡ bound s statement
+same_bound s (statements.CreateTable name columns sort) = refl
+same_bound s (statements.DropTable name) = refl
+same_bound s (statements.CreateView name view) = refl
+same_bound s (statements.DropView name) = refl
+same_bound s (statements.Insert name rows) = refl
+same_bound s (statements.Delete name condition) = refl
+same_bound s (statements.Select q) = refl
+
+-- a fault of the rows comes before the room for them
+insert_refuses : (max_rows : ℕ) (rows : List (List Constant)) (table : Result TableOf Fault) (f : Fault) → first_fault (rows_walk rows table) ≡ Some f → first_fault (insert_places max_rows rows table) ≡ Some f
+insert_refuses max_rows rows (Err g) f e = e
+insert_refuses max_rows rows (Ok t) f e =
+    let walk = flat_map (row_places t.columns) rows in
+    let fits : List (Option Fault) = fault_if (nat_lt max_rows (length t.rows + length rows)) faults.TableFull ∷ [] in
+    first_fault_append walk fits ∙ ap (λ (o : Option Fault). option_or o (first_fault fits)) e
+
+module _ (tables : List TableOf) (views : List ViewOf) (now drawn max_rows : ℕ) (at : AreAt now views) (numbered : AreNumbered tables drawn) where
+  abbrev old : State
+  old = present tables views now drawn max_rows
+
+  walk_refuses : (statement : Statement) (f : Fault) → first_fault (binding_places old statement) ≡ Some f → refusal old statement ≡ Some f
+  walk_refuses (statements.CreateTable name columns sort) f e = e
+  walk_refuses (statements.DropTable name) f e = e
+  walk_refuses (statements.CreateView name view) f e = e
+  walk_refuses (statements.DropView name) f e = e
+  walk_refuses (statements.Insert name rows) f e = insert_refuses max_rows rows (written_table name old) f e
+  walk_refuses (statements.Delete name condition) f e = e
+  walk_refuses (statements.Select q) f e = e
+
+  refused_along_walk : (statement : Statement) (f : Fault) → MayRefuse (first_fault (binding_places old statement)) f → Refuses old statement f old
+  refused_along_walk statement faults.Memory m = for_memory refl refl
+  refused_along_walk statement f m = by_walk (walk_refuses statement f m) refl
+
+  -- a statement that is not bound is refused
+  pub bind_refused : (statement : Statement) (f : Fault) → MayRefuse (first_fault (binding_places (alone tables views) statement)) f → Refuses old statement f old
+  bind_refused statement f m = refused_along_walk statement f (subst (λ (places : List (Option Fault)). MayRefuse (first_fault places) f) (same_places old statement) m)
+
+  module _ (statement : Statement) (command : Bound) (free_alone : first_fault (binding_places (alone tables views) statement) ≡ None) (is_alone : bound (alone tables views) statement ≡ Some command) where
+    free : first_fault (binding_places old statement) ≡ None
+    free = sym (ap first_fault (same_places old statement)) ∙ free_alone
+
+    is : bound old statement ≡ Some command
+    is = sym (same_bound old statement) ∙ is_alone
+
+  -- where it is bound, the room for its rows is all that can still refuse it
+  insert_room : (name : List ℕ) (rows : List (List Constant)) (t : TableOf) → table_named name tables ≡ Some t → first_fault (rows_walk rows (written_table name old)) ≡ None
+      → refusal old (statements.Insert name rows) ≡ room old (commands.Insert t.number (map row_of rows))
+  insert_room name rows t found none =
+      let fault = if is_some (view_named name views) then faults.ViewNotWritten else faults.UnknownTable in
+      let walk = flat_map (row_places t.columns) rows in
+      let asked : ℕ → Option Fault = λ n. fault_if (nat_lt max_rows n) faults.TableFull in
+      let passed : first_fault walk ≡ None = subst (λ (o : Option TableOf). first_fault (rows_walk rows (ok_or o fault)) ≡ None) found none in
+      let count : length t.rows + length rows ≡ length (rows_in tables t.number) + length (map row_of rows) = λ i. length (sym (rows-found name t tables drawn numbered found) i) + sym (length-map rows row_of) i in
+      ap (λ (o : Option TableOf). first_fault (insert_places max_rows rows (ok_or o fault))) found
+      ∙ first_fault_append walk (asked (length t.rows + length rows) ∷ [])
+      ∙ or_next (first_fault walk) (first_fault (asked (length t.rows + length rows) ∷ [])) passed
+      ∙ single (nat_lt max_rows (length t.rows + length rows)) faults.TableFull
+      ∙ ap asked count
+
+  room_decides : (statement : Statement) (command : Bound) → first_fault (binding_places old statement) ≡ None → bound old statement ≡ Some command → refusal old statement ≡ room old command
+  room_decides (statements.CreateTable name columns sort) command none is =
+      let same : commands.CreateTable name columns (map (place_in columns) sort) ≡ command = cc is in
+      subst (λ (c : Bound). first_fault (places old (statements.CreateTable name columns sort)) ≡ room old c) same none
+  room_decides (statements.DropTable name) command none is =
+      let m = mapped (λ t. commands.DropTable t.number) (table_named name tables) command is in
+      subst (λ (c : Bound). refusal old (statements.DropTable name) ≡ room old c) m.2 none
+  room_decides (statements.CreateView name view) command none is =
+      let m = mapped (λ t. commands.CreateView name (view_columns (view_source view t) view) (grouped_query view t)) (table_named view.source.name tables) command is in
+      subst (λ (c : Bound). refusal old (statements.CreateView name view) ≡ room old c) m.2 none
+  room_decides (statements.DropView name) command none is =
+      let m = mapped commands.DropView (view_place name views) command is in
+      subst (λ (c : Bound). refusal old (statements.DropView name) ≡ room old c) m.2 none
+  room_decides (statements.Insert name rows) command none is =
+      let m = mapped (λ t. commands.Insert t.number (map row_of rows)) (table_named name tables) command is in
+      subst (λ (c : Bound). refusal old (statements.Insert name rows) ≡ room old c) m.2 (insert_room name rows m.0 m.1 none)
+  room_decides (statements.Delete name condition) command none is =
+      let m = mapped (λ t. commands.Delete t.number (option_map (bound_condition (scope_of (from_table t))) condition)) (table_named name tables) command is in
+      subst (λ (c : Bound). refusal old (statements.Delete name condition) ≡ room old c) m.2 none
+  room_decides (statements.Select q) command none is =
+      let m = mapped (bound_select q) (source_named q.source.name old) command is in
+      subst (λ (c : Bound). refusal old (statements.Select q) ≡ room old c) m.2 none
+
+  -- a total that cannot be shown is one of a SELECT
+  only_select : (command : Bound) → IsTooLarge old command → (room old command ≡ None) × AreBetween (reach old command) 0 views views
+  only_select (commands.Select header q order) large = (refl, all_between tables views now drawn max_rows at header q order 0 views at)
+  only_select command large = absurd large
+
+  module _ (statement : Statement) (command : Bound) (free_alone : first_fault (binding_places (alone tables views) statement) ≡ None) (is_alone : bound (alone tables views) statement ≡ Some command) where
+    decides : refusal old statement ≡ room old command
+    decides = room_decides statement command (free statement command free_alone is_alone) (is statement command free_alone is_alone)
+
+    room_refused : (f : Fault) (new : State) → MayRefuse (room old command) f → new ≡ old → Refuses old statement f new
+    room_refused faults.Memory new m same = for_memory refl same
+    room_refused f new m same = by_walk (decides ∙ m) same
+
+    carried_refused : (f : Fault) (new : State) → IsRefused old command f → new ≡ old → Refuses old statement f new
+    carried_refused f new (inl m) same = room_refused f new m same
+    carried_refused f new (inr w) same =
+        let select = only_select command w.1 in
+        too_large command (decides ∙ select.0) (is statement command free_alone is_alone) w.1 w.0 (record {
+          views = subst (λ (s : State). AreBetween (reach old command) 0 views s.views) (sym same) select.1;
+          state = same ∙ ap (λ (s : State). with_all_views s.views old) (sym same);
+        })
+
+    -- a command that is carried out is the step of its statement
+    pub carried : (result : Result Answer Fault) (new : State) → CarriesOut old command result new → Step old statement result new
+    carried (Ok answer) new c = record {
+      on_the_way = c.1.on_the_way;
+      does = record { free = decides ∙ c.0; command = command; is_bound = is statement command free_alone is_alone; accepts = c.1.accepts };
+      trims = c.1.trims;
+    }
+    carried (Err f) new c = carried_refused f new c.0 c.1

@@ -1,0 +1,127 @@
+-- What each command does with tables and views that it was bound to, or else is refused.
+use Rattle.std.specs.Prelude.{◌≡◌, ◌⊎◌, ◌<◌, ◌+◌, ◌==◌, nat_lt, ℕ, true, false, List, [], length, Option, Some, None, Result, Ok, Err, slice_get}
+use Rattle.std.specs.List.{AllByRecursion, list_any}
+use Rattle.cq_values.specs.Value.{Row}
+use Rattle.cq_bags.specs.Listing.{IsListing}
+use Rattle.cq_deltas.specs.declared.fault.ToldFault.{ToldFault}
+use Rattle.cq_deltas.specs.declared.fault.ToldFault.TheVariants as told
+use Rattle.cq_model.specs.declared.bound.Bound.{Bound}
+use Rattle.cq_model.specs.declared.bound.Bound.TheVariants as commands
+use Rattle.cq_model.specs.Expr.{Cond, Expr}
+use Rattle.cq_model.specs.declared.query.Query.{Query}
+use Rattle.cq_model.specs.declared.query.Shape.TheVariants.{Plain}
+use Rattle.cq_model.specs.declared.query.Source.{Source}
+use Rattle.cq_model.specs.declared.query.Source.TheVariants.{Table, View}
+use Rattle.cq_model.specs.Meaning.{Tables, MeaningInRange, meaning}
+use Rattle.cq_model.specs.Sizes.{column_sizes}
+use Rattle.cq_model.specs.Views.{with_views, AnswerInRange}
+use Rattle.cq_steps.specs.declared.answer.Answer.{Answer}
+use Rattle.cq_steps.specs.declared.fault.Fault.{Fault}
+use Rattle.cq_steps.specs.declared.fault.Fault.TheVariants.{Memory, SumOutOfRange, TableFull}
+use Rattle.cq_steps.specs.Refusal.{fault_if, is_used, MayRefuse}
+use Rattle.cq_steps.specs.State.{TableOf, ViewOf, State, rows_in, tables_now, queries_of}
+use Rattle.cq_steps.specs.Step.{Accepts, IsTooLarge, Trims, at_present}
+use Rattle.cq_binder.specs.Catalog.{alone}
+use Rattle.cq_views.specs.declared.view_def.ViewDef.{ViewDef}
+use Rattle.cq_views.specs.View.{StandsFor, query_of}
+use Rattle.cq_engine.specs.Bound.{IsNarrowAt, IsWithin, IsWithinSized}
+use Rattle.cq_engine.specs.Views.{NamedView, Fits, IsStored}
+
+-- a state in which no change waits
+abbrev pub present : List TableOf → List ViewOf → ℕ → ℕ → ℕ → State
+present tables views now drawn max_rows = record {
+  tables = tables;
+  views = views;
+  now = now;
+  drawn = drawn;
+  passed = now;
+  queue = [];
+  max_rows = max_rows;
+}
+
+-- ---- Commands that were bound
+-- a table has the number
+abbrev pub IsThere : ℕ → List TableOf → Type 0
+IsThere n tables = list_any (λ t. t.number == n) tables ≡ true
+
+-- what items show of the rows of one source that WHERE keeps
+abbrev pub plain : Source → Option Cond → List Expr → Query
+plain source filter items = record { first = source; joins = []; filter = filter; shape = Plain; items = items; distinct = false }
+
+-- a query can be worked out on each row of its source
+abbrev pub IsWithinSource : List TableOf → List ViewOf → Query → Source → Type 0
+IsWithinSource tables views q (Table n) = IsThere n tables × AllByRecursion (IsWithin q) (rows_in tables n)
+IsWithinSource tables views q (View place) = (v : ViewOf) × (slice_get views place ≡ Some v) × IsWithinSized (column_sizes v.query) q
+
+-- a query of one source that can be worked out on its rows
+pub record CanRead (tables : List TableOf) (views : List ViewOf) (q : Query) : Type 0 where
+  pub plain : q ≡ plain q.first q.filter q.items
+  pub within : IsWithinSource tables views q q.first
+
+-- a query that a view can be built and kept for
+pub record CanBuild (tables : List TableOf) (q : Query) : Type 0 where
+  pub def : ViewDef
+  pub query : q ≡ query_of def
+  pub fits : Fits def
+  pub there : IsThere def.table tables
+
+-- what is known of a command that was bound to these tables and views
+abbrev pub CanCarryOut : List TableOf → List ViewOf → Bound → Type 0
+CanCarryOut tables views (commands.CreateTable name columns sort) = Unit {0}
+CanCarryOut tables views (commands.DropTable n) = IsThere n tables × (is_used n views ≡ false)
+CanCarryOut tables views (commands.CreateView name columns q) = CanBuild tables q
+CanCarryOut tables views (commands.DropView place) = place < length views
+CanCarryOut tables views (commands.Insert n rows) = IsThere n tables × AllByRecursion IsStored rows
+CanCarryOut tables views (commands.Delete n c) = IsThere n tables × AllByRecursion (IsNarrowAt c) (rows_in tables n)
+CanCarryOut tables views (commands.Select header q order) = CanRead tables views q × (order ≡ record { keys = []; limit = None })
+CanCarryOut tables views command = ⊥
+
+-- ---- Commands that are carried out
+-- whether so many rows fit the table of a number
+abbrev pub room_for : ℕ → List TableOf → ℕ → List Row → Option Fault
+room_for max_rows tables n rows = fault_if (nat_lt max_rows (length (rows_in tables n) + length rows)) TableFull
+
+-- INSERT asks for room, and no other command does
+abbrev pub room : State → Bound → Option Fault
+room s (commands.Insert n rows) = room_for s.max_rows s.tables n rows
+room s command = None
+
+-- a command is done, after which each view is taken to the present
+pub record IsDone (old : State) (command : Bound) (answer : Answer) (new : State) : Type 0 where
+  pub on_the_way : State
+  pub accepts : Accepts old command answer on_the_way
+  pub trims : Trims (at_present on_the_way) new
+
+-- why a command is not carried out: there is no room, a total cannot be shown, or memory is wanting
+abbrev pub IsRefused : State → Bound → Fault → Type 0
+IsRefused s command f = MayRefuse (room s command) f ⊎ ((f ≡ SumOutOfRange) × IsTooLarge s command)
+
+-- from old, the command may answer this and leave new
+abbrev pub CarriesOut : State → Bound → Result Answer Fault → State → Type 0
+CarriesOut old command (Ok answer) new = (room old command ≡ None) × IsDone old command answer new
+CarriesOut old command (Err f) new = IsRefused old command f × (new ≡ old)
+
+-- ---- SELECT
+-- the bags that the names in FROM stand for
+abbrev pub sources_in : List TableOf → List ViewOf → Tables
+sources_in tables views = with_views (tables_now (alone tables views)) (queries_of (alone tables views))
+
+-- the totals of the answer can be shown
+abbrev pub IsInRange : List TableOf → List ViewOf → Query → Type 0
+IsInRange tables views q = AnswerInRange (tables_now (alone tables views)) (queries_of (alone tables views)) q
+
+-- SELECT answers the listing of the query's bag, or tells that a total cannot be shown
+abbrev pub Selects : List TableOf → List ViewOf → Query → Result (List Row) Fault → Type 0
+Selects tables views q (Ok rows) = IsListing [] None (meaning q (sources_in tables views)) rows × IsInRange tables views q
+Selects tables views q (Err f) = (f ≡ Memory) ⊎ ((f ≡ SumOutOfRange) × (IsInRange tables views q → ⊥))
+
+-- it does so from what a view keeps, which is the bag of the view's query on each tables that it stands for
+abbrev pub SelectsKept : Query → NamedView → Result (List Row) Fault → Type 0
+SelectsKept q v (Ok rows) = (tables : Tables) → StandsFor v.kept tables
+    → IsListing [] None (meaning (plain q.first q.filter q.items) (λ source. meaning (query_of v.kept.def) tables)) rows × MeaningInRange (query_of v.kept.def) tables
+SelectsKept q v (Err f) = (f ≡ Memory) ⊎ ((f ≡ SumOutOfRange) × ((tables : Tables) → StandsFor v.kept tables → MeaningInRange (query_of v.kept.def) tables → ⊥))
+
+-- why the rows of a view cannot be told
+abbrev pub told_as : ToldFault → Fault
+told_as told.Memory = Memory
+told_as told.SumOutOfRange = SumOutOfRange

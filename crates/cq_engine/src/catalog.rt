@@ -1,0 +1,78 @@
+//! The names of the engine's tables and views.
+ghost use Rattle.std.specs.Prelude.{◌≡◌};
+ghost use Rattle.cq_engine.specs.Views.{views_of};
+
+use crate::table::Table;
+use crate::tables::place_of;
+use crate::view::View;
+use crate::views;
+use cq_binder::{Catalog, TableEntry, ViewEntry};
+use std::alloc::{AllocError, Global};
+use std::marker::Model;
+
+/// The tables and views of an engine, as statements find them.
+#[derive(Drop)]
+pub struct EngineCatalog<'a> {
+    tables: &'a [Table],
+    views: &'a [View],
+}
+
+impl<'a> Model for EngineCatalog<'a> {
+    ghost use Rattle.std.specs.Coded.{codes};
+    ghost use Rattle.std.specs.Prelude.{List};
+    ghost use Rattle.cq_model.specs.contracts.expr.Cond as cond;
+    ghost use Rattle.cq_model.specs.contracts.expr.Expr as expr;
+    ghost use Rattle.cq_steps.specs.State.{TableOf, ViewOf};
+    ghost use Rattle.cq_engine.specs.Views.{views_of};
+
+    ghost Value = { List TableOf × List ViewOf };
+
+    ghost coded = { Prim.hlevel (codes, expr.the_row.coded, cond.the_row.coded) };
+
+    ghost view = { λ c. (c.tables.now, views_of c.views.now) };
+}
+
+impl<'a> EngineCatalog<'a> {
+    pub(crate) fn new(tables: &'a [Table], views: &'a [View]) -> EngineCatalog<'a>
+        ensures { result ≡ (tables.now, views_of views.now) }
+    {
+        EngineCatalog { tables, views }
+    }
+}
+
+impl Catalog for EngineCatalog<'_> {
+    ghost tables = { λ c. c.0 };
+
+    ghost views = { λ c. c.1 };
+
+    fn table(&self, name: &str) -> Option<TableEntry<'_>> {
+        let place = place_of(self.tables, name)?;
+        let table = &self.tables[place];
+        Some(TableEntry {
+            number: table.number(),
+            name: table.name(),
+            columns: table.columns(),
+        })
+    }
+
+    fn view(&self, alloc: Global, name: &str) -> Result<Option<ViewEntry<'_>>, AllocError> {
+        let Some(place) = views::view_place(self.views, name) else {
+            return Ok(None);
+        };
+        let view = &self.views[place];
+        Ok(Some(ViewEntry {
+            place: place as u64,
+            name: view.name(),
+            columns: view.columns(),
+            sizes: view.column_sizes(alloc)?,
+        }))
+    }
+
+    fn view_place(&self, name: &str) -> Option<usize> {
+        views::view_place(self.views, name)
+    }
+
+    fn is_used(&self, table: u64) -> bool {
+        views::is_used(self.views, table)
+    }
+}
