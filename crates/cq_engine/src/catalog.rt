@@ -1,5 +1,7 @@
 //! The names of the engine's tables and views.
-ghost use Rattle.std.specs.Prelude.{◌≡◌};
+ghost use Rattle.std.specs.Prelude.{◌≡◌, option_map};
+ghost use Rattle.cq_steps.specs.State.{view_named};
+ghost use Rattle.cq_views.specs.View.{query_of};
 ghost use Rattle.cq_engine.specs.Views.{views_of};
 
 use crate::table::Table;
@@ -7,6 +9,7 @@ use crate::tables::place_of;
 use crate::view::View;
 use crate::views;
 use cq_binder::{Catalog, TableEntry, ViewEntry};
+use cq_views::ViewDef;
 use std::alloc::{AllocError, Global};
 use std::marker::Model;
 
@@ -37,6 +40,14 @@ impl<'a> EngineCatalog<'a> {
         ensures { result ≡ (tables.now, views_of views.now) }
     {
         EngineCatalog { tables, views }
+    }
+
+    /// The query of the view of a name, if there is one.
+    pub fn query(&self, name: &str) -> Option<&ViewDef>
+        ensures { option_map (λ def. query_of def.now) result ≡ option_map (λ v. v.query) (view_named name.now self.now.1) }
+    {
+        let place = views::view_place(self.views, name)?;
+        Some(self.views[place].query())
     }
 }
 

@@ -197,6 +197,9 @@ fn the_catalog_tells_a_table_and_its_view(rt: HostRuntime) -> Result<(), Fail> {
     assert_eq!(rt; view.place, 0);
     assert_eq!(rt; view.columns.len(), 1);
     assert_eq!(rt; view.sizes.as_slice(), [1u128 << 96].as_slice());
+    let query = catalog.query("v").ok_or("no query")?;
+    assert_eq!(rt; query.table, 0);
+    assert_eq!(rt; query.keys.as_slice(), [0].as_slice());
     Ok(())
 }
 

@@ -13,7 +13,7 @@ ghost use Rattle.cq_engine.specs.Views.{CanTake, HasTaken, IsReady, IsSame};
 use cq_deltas::ToldFault;
 use cq_model::ColumnDef;
 use cq_values::{Row, Seq, Text};
-use cq_views::{Pending, ViewState};
+use cq_views::{Pending, ViewDef, ViewState};
 use std::alloc::{AllocError, Global};
 use std::marker::Model;
 
@@ -79,6 +79,13 @@ impl View {
         ensures { result ≡ (self.now.kept.def.table == table) }
     {
         self.state.is_on(table)
+    }
+
+    /// The view's query.
+    pub fn query(&self) -> &ViewDef
+        ensures { result.now ≡ self.now.kept.def }
+    {
+        self.state.def()
     }
 
     /// How many writes the view has taken in.

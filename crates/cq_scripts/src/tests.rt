@@ -1,6 +1,7 @@
 //! Runs of whole scripts.
 mod beginnings;
 mod conditions;
+mod full_tables;
 mod items;
 mod limits;
 mod refusals;
@@ -18,8 +19,13 @@ use std::alloc::Global;
 
 /// The exit status of a run over a sink of this plan, and the sink.
 fn ended(alloc: Global, script: &[u8], plan: Plan) -> (u8, TestSink) {
+    ended_within(alloc, Limits::MAX_ROWS, script, plan)
+}
+
+/// The same where a table may have so many rows.
+fn ended_within(alloc: Global, max_rows: u64, script: &[u8], plan: Plan) -> (u8, TestSink) {
     let mut sink = TestSink::new(alloc, plan);
-    let Some(limits) = Limits::new(16_777_216) else {
+    let Some(limits) = Limits::new(max_rows) else {
         return (2, sink);
     };
     let mut sources = NoSources::default();
