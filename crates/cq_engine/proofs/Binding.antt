@@ -30,13 +30,14 @@ use Rattle.cq_steps.specs.Step.{AreBetween, IsTooLarge, Refuses, by_walk, for_me
 use Rattle.cq_exprs.specs.Expressions.{KeepSizes}
 use Rattle.cq_binder.specs.Catalog.{alone, binding_places, rows_walk}
 use Rattle.cq_binder.proofs.Faults.{first_fault_append, or_next, single}
+use Rattle.cq_binder.proofs.Found.{has_place}
 use Rattle.cq_engine.specs.Bound.{IsNarrowAt, IsWithin}
 use Rattle.cq_engine.specs.Commands.{CanCarryOut, CarriesOut, IsRefused, IsThere, IsWithinSource, present, room}
 use Rattle.cq_engine.specs.Views.{AreStored, IsStored}
 use Rattle.cq_engine.proofs.Creating.{def_fits, def_on}
 use Rattle.cq_engine.proofs.Fitting.{back_free, first_free, front_free, narrow_rows, narrow_values, narrow_where, stored_keep, stored_keeps}
 use Rattle.cq_engine.proofs.Numbers.{Above}
-use Rattle.cq_engine.proofs.Places.{found_there, same_presence}
+use Rattle.cq_engine.proofs.Places.{found_there}
 use Rattle.cq_engine.proofs.Stored.{rows_stored}
 use Rattle.cq_engine.proofs.Steps.{AreAt, all_between}
 
@@ -92,7 +93,7 @@ view_at_place name views v named = at_place (view_place name views) refl
     at_place (Some i) is =
         let there : slice_get views i ≡ view_named name views = subst (λ (p : Option ℕ). IfSome p (λ j. slice_get views j ≡ view_named name views)) is (found_there (λ w. is_text w.name name) views) in
         ap (λ (p : Option ℕ). slice_get views (unwrap_or p 0)) is ∙ there ∙ named
-    at_place None is = absurd (let both : false ≡ true = sym (ap is_some is) ∙ same_presence (λ w. is_text w.name name) views ∙ ap is_some named in cc)
+    at_place None is = absurd (let both : false ≡ true = sym (ap is_some is) ∙ has_place name views ∙ ap is_some named in cc)
 
 -- ---- Queries that were bound
 -- a row with numbers of a source's sizes keeps them

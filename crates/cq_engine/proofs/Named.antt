@@ -12,7 +12,8 @@ use Rattle.cq_steps.specs.Refusal.{is_used}
 use Rattle.cq_steps.specs.State.{TableOf, ViewOf, view_named, view_place}
 use Rattle.cq_views.specs.declared.view_def.ViewDef.{ViewDef}
 use Rattle.cq_engine.specs.Views.{NamedView, view_of, views_of, IsRight, AreRight, IsSame, AreSame, IsReady, AreReady, CanTake, CanAllTake, HasTaken, HaveTaken}
-use Rattle.cq_engine.proofs.Places.{found_there, same_presence}
+use Rattle.cq_binder.proofs.Found.{has_place}
+use Rattle.cq_engine.proofs.Places.{found_there}
 use Rattle.cq_engine.proofs.Turns.{same_set, ready_more, taken_more, rest_same, rest_left, can_take_at, as_many}
 
 -- ---- Tests of images
@@ -43,10 +44,6 @@ all_left P (x ∷ xs) (suc i) h = (h.0, all_left P xs i h.1)
 -- the view of a name stands where it stands among those that are kept
 pub place_named : (name : List ℕ) (vs : List NamedView) → view_place name (views_of vs) ≡ position (λ v. is_text v.name name) vs
 place_named name vs = position-map view_of (λ v. is_text v.name name) vs
-
--- it has a place exactly if it is there
-pub has_place : (name : List ℕ) (views : List ViewOf) → is_some (view_place name views) ≡ is_some (view_named name views)
-has_place name views = same_presence (λ v. is_text v.name name) views
 
 -- a table is used exactly if a kept view is on it
 pub used_by : (n : ℕ) (vs : List NamedView) → is_used n (views_of vs) ≡ list_any (λ v. v.kept.def.table == n) vs
