@@ -1,51 +1,66 @@
-//! Fields of CSV lines, with their quotes.
-ghost use Rattle.std.specs.Prelude.{◌++◌, ◌==◌, ◌∷◌, ◌≡◌, [], List, OnOk, if◌then◌else◌, ℕ};
-ghost use Rattle.std.specs.List.{flat_map, list_any};
-ghost use Rattle.cq_steps.specs.Printed.{field_text, wants_quotes};
+//! Texts and values as fields.
+ghost use Rattle.std.specs.Prelude.{◌≡◌, List, OnOk, ℕ};
+ghost use Rattle.cq_csvio.specs.Lines.{Adds};
+ghost use Rattle.cq_steps.specs.Printed.{date_text, two_digits, value_text};
 
+use crate::lines::Lines;
+use cq_values::{Day, Text, Value};
+use itoa::Buffer;
 use std::alloc::AllocError;
 
 /// What can be printed as a field of a line.
 pub trait Field {
     ghost text: { Self → List ℕ };
 
-    /// Adds the field, in quotes where it wants them.
-    fn push_to(&self, out: &mut Vec<u8>) -> Result<(), AllocError>
-        ensures { OnOk result (out.new.items ≡ out.old.items ++ field_text (text self.now)) };
+    /// Adds the field to the line that is written.
+    fn add_to(&self, lines: &mut Lines) -> Result<(), AllocError>
+        ensures { OnOk result (Adds (text self.now) lines.old lines.new) };
 }
 
-fn wants_quotes(bytes: &[u8]) -> bool
-    ensures { result ≡ list_any wants_quotes bytes.now }
-{
-    bytes
-        .iter()
-        .any(|byte| matches!(*byte, b',' | b'"' | b'\r' | b'\n'))
+impl Field for Text {
+    ghost text = { λ t. t };
+
+    fn add_to(&self, lines: &mut Lines) -> Result<(), AllocError> {
+        lines.add(self.as_str().as_bytes())
+    }
 }
 
-fn push_doubled(out: &mut Vec<u8>, bytes: &[u8]) -> Result<(), AllocError>
-    ensures { OnOk result (out.new.items ≡ out.old.items ++ flat_map (λ b. if b == 34 then 34 ∷ 34 ∷ [] else b ∷ []) bytes.now) }
-{
-    for byte in bytes {
-        if *byte == b'"' {
-            out.push(b'"')?;
+impl Field for Value {
+    ghost text = { value_text };
+
+    fn add_to(&self, lines: &mut Lines) -> Result<(), AllocError> {
+        match self {
+            Value::Number(n) => {
+                let mut buffer = Buffer::new();
+                lines.add(buffer.format(*n).as_bytes())
+            }
+            Value::Day(day) => lines.add(&date_bytes(*day)),
+            // A text that begins with a backslash gets one more, so that it is not taken for NULL.
+            Value::Text(text) => match text.as_str().as_bytes() {
+                bytes @ [b'\\', ..] => lines.add_escaped(bytes),
+                bytes => lines.add(bytes),
+            },
+            Value::Null => lines.add(b"\\N"),
         }
-        out.push(*byte)?;
     }
-    Ok(())
 }
 
-/// Adds a field that is a front and the rest of it, in quotes where it wants them.
-pub fn push_field(out: &mut Vec<u8>, front: &[u8], rest: &[u8]) -> Result<(), AllocError>
-    ensures { OnOk result (out.new.items ≡ out.old.items ++ field_text (front.now ++ rest.now)) }
+#[tactic(auto, unfolding(cq_steps::specs::Printed::date_text))]
+fn date_bytes(day: Day) -> [u8; 10]
+    ensures { result ≡ date_text day }
 {
-    if wants_quotes(front) || wants_quotes(rest) {
-        out.push(b'"')?;
-        push_doubled(out, front)?;
-        push_doubled(out, rest)?;
-        out.push(b'"')?;
-    } else {
-        out.extend_from_slice(front)?;
-        out.extend_from_slice(rest)?;
-    }
-    Ok(())
+    let date = day.date();
+    let [thousands, hundreds] = two_digits((date.year / 100) as u8);
+    let [tens, ones] = two_digits((date.year % 100) as u8);
+    let month = two_digits(date.month);
+    let day = two_digits(date.day);
+    [
+        thousands, hundreds, tens, ones, b'-', month[0], month[1], b'-', day[0], day[1],
+    ]
+}
+
+fn two_digits(n: u8) -> [u8; 2]
+    ensures { result ≡ two_digits n }
+{
+    [b'0' + n / 10, b'0' + n % 10]
 }

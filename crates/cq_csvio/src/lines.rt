@@ -1,70 +1,63 @@
-//! Lines of fields, and the text of a result.
-ghost use Rattle.std.specs.Prelude.{◌++◌, ◌==◌, ◌∷◌, ◌≡◌, [], IfOk, OnOk, if◌then◌else◌, length, map};
-ghost use Rattle.std.specs.List.{flat_map};
-ghost use Rattle.cq_steps.specs.Printed.{field_text, line_text, row_text, rows_text};
+//! Lines of fields, by `csv`'s writer.
+ghost use Rattle.std.specs.Prelude.{◌∷◌, [], IfOk, OnOk};
+ghost use Rattle.cq_csvio.specs.Lines.{Adds, Ends, HasText, Holds};
 
-use crate::fields::Field;
-use cq_values::{Row, Seq, Text};
-use itoa::Buffer;
+use csv::{Writer, WriterBuilder};
 use std::alloc::{AllocError, Global};
 
-/// The text of a result: how many rows there are, the header, and the rows as CSV.
-#[tactic(auto, unfolding(cq_steps::specs::Printed::rows_text))]
-pub fn print_result(alloc: Global, header: &[Text], rows: &[Row]) -> Result<Seq<u8>, AllocError>
-    ensures { IfOk result (λ t. t ≡ rows_text header.now rows.now) }
-{
-    let mut buffer = Buffer::new();
-    let mut out = Vec::from_slice(alloc, b"rows ")?;
-    out.extend_from_slice(buffer.format(rows.len()).as_bytes())?;
-    out.push(b'\n')?;
-    push_line(&mut out, header)?;
-    push_rows(&mut out, rows)?;
-    Ok(Seq::from_vec(out))
+/// A text to whose end lines are added, field by field.
+#[derive(Drop)]
+pub struct Lines {
+    writer: Writer<Vec<u8>>,
+    // A field with one more byte in front. Its memory is used again.
+    longer: Vec<u8>,
 }
 
-fn push_rows(out: &mut Vec<u8>, rows: &[Row]) -> Result<(), AllocError>
-    ensures { OnOk result (out.new.items ≡ out.old.items ++ flat_map row_text rows.now) }
-{
-    for row in rows {
-        push_line(out, row.as_slice())?;
-    }
-    Ok(())
-}
-
-#[tactic(auto, unfolding(cq_steps::specs::Printed::line_text))]
-fn push_line<F: Field>(out: &mut Vec<u8>, fields: &[F]) -> Result<(), AllocError>
-    ensures { OnOk result (out.new.items ≡ out.old.items ++ line_text (map F.text fields.now)) }
-{
-    match fields {
-        [] => {}
-        [only] => push_alone(out, only)?,
-        [first, rest @ ..] => {
-            first.push_to(out)?;
-            push_rest(out, rest)?;
+impl Lines {
+    /// Lines behind a text.
+    pub fn new(alloc: Global, text: Vec<u8>) -> Lines
+        ensures { Holds result.writer text.items [] }
+    {
+        Lines {
+            writer: WriterBuilder::new().flexible(true).from_writer(text),
+            longer: Vec::new(alloc),
         }
     }
-    out.push(b'\n')?;
-    Ok(())
-}
 
-// An empty field that is alone in its line is quoted, since an empty line is no record.
-fn push_alone<F: Field>(out: &mut Vec<u8>, field: &F) -> Result<(), AllocError>
-    ensures { OnOk result (out.new.items ≡ out.old.items ++ (if length (F.text field.now) == 0 then 34 ∷ 34 ∷ [] else field_text (F.text field.now))) }
-{
-    let start = out.len();
-    field.push_to(out)?;
-    if out.len() == start {
-        out.extend_from_slice(b"\"\"")?;
+    /// Adds a field to the line that is written, in quotes where it wants them.
+    pub fn add(&mut self, field: &[u8]) -> Result<(), AllocError>
+        ensures { OnOk result (Adds field.now self.old self.new) }
+    {
+        self.writer.write_field(field).map_err(|_| AllocError)?;
+        Ok(())
     }
-    Ok(())
-}
 
-fn push_rest<F: Field>(out: &mut Vec<u8>, fields: &[F]) -> Result<(), AllocError>
-    ensures { OnOk result (out.new.items ≡ out.old.items ++ flat_map (λ h. 44 ∷ field_text h) (map F.text fields.now)) }
-{
-    for field in fields {
-        out.push(b',')?;
-        field.push_to(out)?;
+    /// Adds a field of these bytes with a backslash in front of them.
+    pub fn add_escaped(&mut self, field: &[u8]) -> Result<(), AllocError>
+        ensures { OnOk result (Adds (92 ∷ field.now) self.old self.new) }
+    {
+        self.longer.clear();
+        self.longer.push(b'\\')?;
+        self.longer.extend_from_slice(field)?;
+        self.writer
+            .write_field(self.longer.as_slice())
+            .map_err(|_| AllocError)?;
+        Ok(())
     }
-    Ok(())
+
+    /// Ends the line.
+    pub fn end(&mut self) -> Result<(), AllocError>
+        ensures { OnOk result (Ends self.old self.new) }
+    {
+        self.writer.end_record().map_err(|_| AllocError)?;
+        Ok(())
+    }
+
+    /// The text with the lines that were ended.
+    pub fn into_text(self) -> Result<Vec<u8>, AllocError>
+        ensures { IfOk result (λ text. HasText self text.items) }
+    {
+        let Lines { writer, longer: _ } = self;
+        writer.into_inner().map_err(|_| AllocError)
+    }
 }

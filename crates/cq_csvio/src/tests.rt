@@ -1,5 +1,5 @@
 //! Printed results beside texts that were written by hand.
-use crate::lines::print_result;
+use crate::result::print_result;
 use cq_values::{Day, Row, Text, Value};
 use std::alloc::Global;
 use std::test::Fail;
@@ -67,7 +67,7 @@ fn a_row_alone_is_printed_below_its_header(rt: HostRuntime) -> Result<(), Fail> 
             &[Number(-170_141_183_460_469_231_731_687_303_715_884_105_728)],
             "rows 1\nv\n-170141183460469231731687303715884105728\n",
         ),
-        (&[], "rows 1\nv\n\n"),
+        (&[], "rows 1\nv\n\"\"\n"),
     ];
     for (cells, text) in cases {
         let header = [Text::new(rt.alloc(), "v")?];

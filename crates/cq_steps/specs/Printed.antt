@@ -39,9 +39,9 @@ in_quotes field = 34 ∷ flat_map (λ b. if b == 34 then 34 ∷ 34 ∷ [] else b
 abbrev pub field_text : List ℕ → List ℕ
 field_text field = if list_any wants_quotes field then in_quotes field else field
 
--- fields with commas between them and an LF; an empty field that is alone is quoted
+-- fields with commas between them and an LF; a line in which nothing would stand has two quotes
 unfoldable pub line_text : List (List ℕ) → List ℕ
-line_text [] = 10 ∷ []
+line_text [] = 34 ∷ 34 ∷ 10 ∷ []
 line_text (f ∷ []) = (if length f == 0 then 34 ∷ 34 ∷ [] else field_text f) ++ 10 ∷ []
 line_text (f ∷ g ∷ fs) = field_text f ++ flat_map (λ h. 44 ∷ field_text h) (g ∷ fs) ++ 10 ∷ []
 

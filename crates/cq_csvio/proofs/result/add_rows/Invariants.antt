@@ -1,0 +1,10 @@
+use Rattle.std.proofs.Common.{◌++◌, [], ℕ, List, take}
+use Rattle.std.specs.List.{flat_map}
+use Rattle.cq_steps.specs.Printed.{row_text}
+use Rattle.cq_csvio.specs.Lines.{Holds}
+use Rattle.cq_csvio.proofs.result.add_rows.Given as goal
+
+-- the rows so far stand, each as its line
+abbrev pub invariant-loop-row : goal.invariant-loop-row
+invariant-loop-row l =
+    (text : List ℕ) → Holds l.fn.lines.writer text [] → Holds l.lines.writer (text ++ flat_map row_text (take l.row-index l.rows)) []

@@ -1,0 +1,44 @@
+//! The text of a result.
+ghost use Rattle.std.specs.Prelude.{◌≡◌, IfOk, OnOk, map};
+ghost use Rattle.std.specs.List.{flat_map};
+ghost use Rattle.cq_csvio.specs.Lines.{AddsLines};
+ghost use Rattle.cq_steps.specs.Printed.{line_text, row_text, rows_text};
+
+use crate::fields::Field;
+use crate::lines::Lines;
+use cq_values::{Row, Seq, Text};
+use itoa::Buffer;
+use std::alloc::{AllocError, Global};
+
+/// The text of a result: how many rows there are, the header, and the rows as CSV.
+#[tactic(auto, unfolding(cq_steps::specs::Printed::rows_text))]
+pub fn print_result(alloc: Global, header: &[Text], rows: &[Row]) -> Result<Seq<u8>, AllocError>
+    ensures { IfOk result (λ t. t ≡ rows_text header.now rows.now) }
+{
+    let mut buffer = Buffer::new();
+    let mut text = Vec::from_slice(alloc, b"rows ")?;
+    text.extend_from_slice(buffer.format(rows.len()).as_bytes())?;
+    text.push(b'\n')?;
+    let mut lines = Lines::new(alloc, text);
+    add_line(&mut lines, header)?;
+    add_rows(&mut lines, rows)?;
+    Ok(Seq::from_vec(lines.into_text()?))
+}
+
+fn add_rows(lines: &mut Lines, rows: &[Row]) -> Result<(), AllocError>
+    ensures { OnOk result (AddsLines (flat_map row_text rows.now) lines.old lines.new) }
+{
+    for row in rows {
+        add_line(lines, row.as_slice())?;
+    }
+    Ok(())
+}
+
+fn add_line<F: Field>(lines: &mut Lines, fields: &[F]) -> Result<(), AllocError>
+    ensures { OnOk result (AddsLines (line_text (map F.text fields.now)) lines.old lines.new) }
+{
+    for field in fields {
+        field.add_to(lines)?;
+    }
+    lines.end()
+}
