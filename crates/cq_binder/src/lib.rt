@@ -16,8 +16,6 @@ mod names;
 mod reading;
 mod scopes;
 mod select;
-#[cfg(test)]
-mod tests;
 mod view;
 mod writing;
 

@@ -18,8 +18,6 @@ mod selection;
 mod sources;
 mod table;
 mod tables;
-#[cfg(test)]
-mod tests;
 mod view;
 mod views;
 

@@ -7,6 +7,7 @@ mod limits;
 mod refusals;
 mod rows;
 mod sinks;
+mod syntax;
 mod values;
 mod view_items;
 mod views;

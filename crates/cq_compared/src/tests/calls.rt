@@ -1,5 +1,10 @@
 //! What the engine tells beside its answers.
 use super::{answer, engine};
+use cq_binder::{Catalog, bind};
+use cq_engine::{AnswerSource, Engine};
+use cq_sql::parse;
+use std::alloc::Global;
+use std::process::Abort;
 use std::test::Fail;
 
 #[test]
@@ -26,5 +31,46 @@ fn a_view_is_at_the_present(rt: HostRuntime) -> Result<(), Fail> {
         assert_eq!(rt; engine.view_epoch("v"), epoch, "{statement}");
     }
     assert_eq!(rt; engine.drawn(), 6);
+    Ok(())
+}
+
+/// An engine with a table and a view on it.
+fn filled(rt: &impl Abort, alloc: Global) -> Result<Engine, Fail> {
+    let mut engine = engine(alloc)?;
+    let table = "CREATE TABLE t(a TEXT, b INTEGER)";
+    let view = "CREATE VIEW v AS SELECT COUNT(*) FROM t GROUP BY b";
+    answer(rt, alloc, &mut engine, table)?;
+    answer(rt, alloc, &mut engine, view)?;
+    Ok(engine)
+}
+
+#[test]
+fn the_catalog_tells_a_table_and_its_view(rt: HostRuntime) -> Result<(), Fail> {
+    let engine = filled(&rt, rt.alloc())?;
+    let catalog = engine.catalog();
+    let table = catalog.table("t").ok_or("no table")?;
+    assert_eq!(rt; table.number, 0);
+    assert_eq!(rt; table.columns.len(), 2);
+    assert!(rt; catalog.is_used(0));
+    let view = catalog.view(rt.alloc(), "v")?.ok_or("no view")?;
+    assert_eq!(rt; view.place, 0);
+    assert_eq!(rt; view.columns.len(), 1);
+    assert_eq!(rt; view.sizes.as_slice(), [1u128 << 96].as_slice());
+    let query = catalog.query("v").ok_or("no query")?;
+    assert_eq!(rt; query.table, 0);
+    assert_eq!(rt; query.keys.as_slice(), [1].as_slice());
+    Ok(())
+}
+
+fn source_of_answers(alloc: Global, engine: &Engine) -> Result<AnswerSource<'_>, Fail> {
+    let bound = bind(alloc, &parse(alloc, "SELECT a FROM t")?, &engine.catalog())?;
+    Ok(engine.answer_source(&bound))
+}
+
+#[test]
+fn a_query_is_answered_from_its_tables(rt: HostRuntime) -> Result<(), Fail> {
+    let engine = filled(&rt, rt.alloc())?;
+    let source = source_of_answers(rt.alloc(), &engine)?;
+    assert_eq!(rt; source, AnswerSource::Tables);
     Ok(())
 }

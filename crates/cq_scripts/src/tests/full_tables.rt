@@ -21,8 +21,9 @@ fn check(
 ) -> Result<(), Fail> {
     let script = format!(in alloc; "{BEFORE} {statement}; {AFTER}")?;
     let output = format!(in alloc; "ok\nok 1\nok\n{answer}\n{left}")?;
-    let (_exit, sink) = ended_within(alloc, 2, script.as_bytes(), Plan::TakesAll);
+    let (exit, sink) = ended_within(alloc, 2, script.as_bytes(), Plan::TakesAll);
     assert_eq!(rt; sink.taken(), output.as_bytes(), "{statement}");
+    assert_eq!(rt; exit == 1, answer.starts_with("error"), "{statement}");
     Ok(())
 }
 

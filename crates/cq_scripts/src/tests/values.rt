@@ -53,6 +53,7 @@ fn a_row_has_what_its_columns_ask_for(rt: HostRuntime) -> Result<(), Fail> {
         ("(1, 'x', NULL)", "error 20 NULL in a NOT NULL column"),
         ("(1, 'x', DATE '2023-02-29')", "error 25 bad date"),
         ("(1, 'x', DATE '2024-1-01')", "error 25 bad date"),
+        ("(1, 'x', DATE '0000-12-31')", "error 25 bad date"),
         (
             "(1, NULL, DATE '2024-02-29'), (2, 'y', DATE '1900-02-29')",
             "error 25 bad date",

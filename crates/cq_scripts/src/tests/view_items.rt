@@ -18,10 +18,10 @@ fn keys_are_worked_out_as_rows_come_and_go(rt: HostRuntime) -> Result<(), Fail> 
         INSERT INTO t VALUES (1, DATE '2024-02-29', 'x'), (1, DATE '2024-02-29', 'x'), (NULL, NULL, NULL), (-3, DATE '0001-01-31', '');
         SELECT dd, c2, c3, c4, s, n FROM w;
         DELETE FROM t WHERE k = 1 OR k IS NULL; INSERT INTO t VALUES (7, DATE '9999-12-31', 'y');
-        SELECT dd * 1000, c2 - 1, n FROM w WHERE dd > 30;";
+        SELECT dd * 1000, c2 - 1, n FROM w WHERE dd > 30 AND c3 = 'is'; SELECT n FROM w WHERE c3 = 1;";
     let output = "ok\nerror 12 unknown column\nok\nok 4\n\
         rows 3\ndd,c2,c3,c4,s,n\n29,-1,is,x,x,2\n31,3,is,,,1\n\\N,\\N,is,\\N,\\N,1\n\
-        ok 3\nok 1\nrows 2\nc1,c2,n\n31000,-8,1\n31000,2,1\n";
+        ok 3\nok 1\nrows 2\nc1,c2,n\n31000,-8,1\n31000,2,1\nerror 15 type mismatch\n";
     check(&rt, rt.alloc(), script, output);
     Ok(())
 }
@@ -78,6 +78,7 @@ fn the_walk_of_an_item(rt: HostRuntime) -> Result<(), Fail> {
             "error 16 aggregate misplaced or column not grouped\n",
         ),
         ("a * a * a, b", "error 17 expression too wide\n"),
+        ("a * a * 2, b", "error 17 expression too wide\n"),
         (
             "a * a, b",
             "error 16 aggregate misplaced or column not grouped\n",
@@ -98,6 +99,7 @@ fn the_walk_of_an_item(rt: HostRuntime) -> Result<(), Fail> {
         ("SUM(COUNT(*))", "error 10 syntax\n"),
         ("COUNT()", "error 10 syntax\n"),
         ("SUM(b), COUNT(b), COUNT(*), t.a + 1, NULL + 1, c", "ok\n"),
+        ("COUNT(c), COUNT(NULL), SUM(NULL), a * a", "ok\n"),
     ];
     for (items, answer) in rows {
         let script = format!(in rt.alloc();
