@@ -10,8 +10,6 @@ mod no_sources;
 mod printing;
 mod running;
 mod sink;
-#[cfg(test)]
-mod tests;
 
 pub use endings::{RunFault, Status, exit_of};
 pub use laws::same_output;

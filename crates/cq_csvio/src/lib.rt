@@ -7,7 +7,5 @@
 mod fields;
 mod lines;
 mod result;
-#[cfg(test)]
-mod tests;
 
 pub use result::print_result;

@@ -11,8 +11,6 @@ mod group;
 mod groups;
 mod kept;
 mod laws;
-#[cfg(test)]
-mod tests;
 
 pub use change::{Addition, GroupChange};
 pub use fault::ToldFault;

@@ -12,8 +12,6 @@ mod expr;
 mod pattern;
 mod query;
 mod statement;
-#[cfg(test)]
-mod tests;
 mod token;
 mod truth;
 mod width;

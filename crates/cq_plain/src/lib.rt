@@ -15,8 +15,6 @@ mod groups;
 mod joining;
 mod lists;
 mod repeats;
-#[cfg(test)]
-mod tests;
 mod write;
 
 pub use answering::{answer, answer_listed};

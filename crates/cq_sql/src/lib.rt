@@ -18,8 +18,6 @@ mod select_item;
 mod sentences;
 mod source;
 mod table;
-#[cfg(test)]
-mod tests;
 mod view;
 
 pub use cq_tokens::{Piece, Pieces, split};

@@ -7,8 +7,6 @@
 
 mod answer;
 mod fault;
-#[cfg(test)]
-mod tests;
 mod typing;
 
 pub use answer::Answer;

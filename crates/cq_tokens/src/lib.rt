@@ -14,8 +14,6 @@ mod pieces;
 mod quotes;
 mod reading;
 mod symbols;
-#[cfg(test)]
-mod tests;
 mod words;
 
 pub use fault::TokenFault;

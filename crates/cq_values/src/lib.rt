@@ -11,8 +11,6 @@ mod order;
 mod product;
 mod row;
 mod seq;
-#[cfg(test)]
-mod tests;
 mod text;
 mod total;
 mod truth;

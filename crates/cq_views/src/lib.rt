@@ -9,8 +9,6 @@ mod items;
 mod laws;
 mod pending;
 mod state;
-#[cfg(test)]
-mod tests;
 mod view_def;
 
 pub use laws::{small_changes_hold, small_rows_change, standing_depends_on_bag};

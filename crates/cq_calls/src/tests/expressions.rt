@@ -1,5 +1,5 @@
 //! Expressions as they are read, and lists of tokens that are none.
-use crate::expression_of;
+use cq_sql::expression_of;
 use cq_tokens::tokens;
 use std::test::Fail;
 

@@ -3,9 +3,7 @@ ghost use Rattle.std.specs.Prelude.{[]};
 ghost use Rattle.cq_deltas.specs.Additions.{AreTotals};
 ghost use Rattle.cq_deltas.specs.Laws.{AreSmall};
 
-use crate::change::GroupChange;
-use crate::fault::ToldFault;
-use crate::groups::Groups;
+use cq_deltas::{GroupChange, Groups, ToldFault};
 use cq_model::{Aggregate, Expr};
 use cq_values::Value;
 use std::alloc::{AllocError, Global};

@@ -1,5 +1,5 @@
 //! Scripts and the pieces that they are cut into.
-use crate::pieces::split;
+use cq_tokens::split;
 
 /// Whether the script has these pieces: of each its text, whether it is closed, and whether it is blank.
 fn is_cut_into(script: &str, wanted: &[(&str, bool, bool)]) -> bool {

@@ -1,5 +1,5 @@
 //! Each refusal as it is shown by `Display`.
-use crate::fault::Fault;
+use cq_steps::Fault;
 use std::test::Fail;
 
 #[test]

@@ -1,5 +1,5 @@
 //! Which texts name days, and which do not.
-use crate::dates::{DateFault, date_of};
+use cq_values::{DateFault, date_of};
 use std::test::Fail;
 
 #[test]

@@ -1,5 +1,5 @@
 //! The exit statuses that runs end with.
-use super::{RunFault, Status, exit_of};
+use cq_cli::{RunFault, Status, exit_of};
 
 #[test]
 fn a_run_ends_with_0_1_or_3(rt: HostRuntime) {

@@ -1,10 +1,7 @@
 //! Queries built by hand.
-use crate::answering::{answer, answer_listed};
-use crate::database::Database;
-use crate::fault::PlainFault;
-use crate::lists::listing;
 use cq_bags::SortKey;
 use cq_model::{Aggregate, Expr, Order, Query, Shape, Source};
+use cq_plain::{Database, PlainFault, answer, answer_listed, listing};
 use cq_values::{Row, Seq, Value};
 use std::alloc::{AllocError, Global};
 use std::test::Fail;

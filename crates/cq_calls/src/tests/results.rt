@@ -1,5 +1,5 @@
 //! Printed results beside texts that were written by hand.
-use crate::result::print_result;
+use cq_csvio::print_result;
 use cq_values::{Day, Row, Text, Value};
 use std::alloc::Global;
 use std::test::Fail;

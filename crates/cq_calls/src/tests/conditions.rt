@@ -3,12 +3,8 @@ ghost use Rattle.std.specs.Prelude.{◌^◌, ◌≤◌, []};
 ghost use Rattle.cq_model.specs.Trees.{cond_of, expr_of};
 ghost use Rattle.cq_model.specs.Width.{sizes_of, value_size, widest, widest_at};
 
-use crate::expr::{Cond, CondTree, Expr, ExprTree};
-use crate::pattern::like;
-use crate::statement::Comparison;
-use crate::truth::{between, compare, holds_row, is_in, is_like};
-use crate::width::width_of;
-use cq_values::{Lent, Truth, Value};
+use cq_model::{Comparison, Cond, CondTree, Expr, ExprTree, compare, holds_row, like, width_of};
+use cq_values::{Lent, Text, Truth, Value};
 use std::alloc::{AllocError, Global};
 use std::test::Fail;
 
@@ -76,7 +72,7 @@ fn between_is_two_comparisons(rt: HostRuntime) -> Result<(), Fail> {
         (Some(0), Some(1), None, Truth::False),
     ];
     for (value, least, greatest, truth) in cases {
-        let found = between(&lent(value), &lent(least), &lent(greatest));
+        let found = between(value, least, greatest);
         assert_eq!(rt;
             found,
             truth,
@@ -88,8 +84,12 @@ fn between_is_two_comparisons(rt: HostRuntime) -> Result<(), Fail> {
 
 #[test]
 fn like_of_null_is_unknown(rt: HostRuntime) -> Result<(), Fail> {
-    assert_eq!(rt; is_like(&Lent::Null, "%"), Truth::Unknown);
-    assert_eq!(rt; is_like(&Lent::Text("a"), "%"), Truth::True);
+    let alloc = rt.alloc();
+    assert_eq!(rt; is_like(alloc, Value::Null)?, Truth::Unknown);
+    assert_eq!(rt;
+        is_like(alloc, Value::Text(Text::new(alloc, "a")?))?,
+        Truth::True
+    );
     Ok(())
 }
 
@@ -174,7 +174,20 @@ fn one_of(
     b: Option<i64>,
 ) -> Result<Truth, AllocError> {
     let choices = vec![in alloc; literal(a), literal(b)]?;
-    Ok(is_in(&lent(value), &choices, &[]))
+    Ok(holds_row(&Cond::new(CondTree::In(literal(value), choices)), &[]))
+}
+
+fn between(value: Option<i64>, least: Option<i64>, greatest: Option<i64>) -> Truth {
+    let tree = CondTree::Between(literal(value), literal(least), literal(greatest));
+    holds_row(&Cond::new(tree), &[])
+}
+
+/// Whether the text is like any text.
+fn is_like(alloc: Global, text: Value) -> Result<Truth, AllocError>
+    requires { value_size text ≤ 2 }
+{
+    let tree = CondTree::Like(ExprTree::Literal(text), Text::new(alloc, "%")?);
+    Ok(holds_row(&Cond::new(tree), &[]))
 }
 
 fn literal(number: Option<i64>) -> ExprTree

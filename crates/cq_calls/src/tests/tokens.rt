@@ -1,8 +1,6 @@
 //! Texts and their tokens.
-use crate::fault::TokenFault;
-use crate::limits::is_past_limits;
-use crate::reading::tokens;
 use cq_model::Token;
+use cq_tokens::{TokenFault, is_past_limits, tokens};
 use std::alloc::Global;
 use std::test::Fail;
 

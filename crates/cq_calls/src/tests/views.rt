@@ -12,11 +12,10 @@ ghost use Rattle.cq_values.specs.Value.{Row as Values};
 ghost use Rattle.cq_views.specs.Small.{CanBeKept};
 ghost use Rattle.cq_views.specs.View.{IsNarrowFor, Stands};
 
-use crate::state::ViewState;
-use crate::view_def::ViewDef;
 use cq_deltas::ToldFault;
 use cq_model::{Aggregate, Comparison, Cond, CondTree, Expr, ExprTree};
 use cq_values::{Row, Seq, Value, copy_row};
+use cq_views::{ViewDef, ViewState};
 use std::alloc::{AllocError, Global};
 use std::test::Fail;
 

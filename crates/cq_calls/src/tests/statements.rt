@@ -1,7 +1,5 @@
 //! The texts of statements and of expressions. That the trees are right is seen by what scripts answer, in cq_scripts.
-mod expressions;
-
-use crate::{SqlFault, parse};
+use cq_sql::{SqlFault, parse};
 use std::test::Fail;
 
 #[test]
