@@ -1,3 +1,1 @@
-CREATE TABLE t(a INTEGER);
-INSERT INTO t VALUES (3), (1), (2);
-SELECT a FROM t WHERE a >= 2;
+../crates/colview/data/first.sql

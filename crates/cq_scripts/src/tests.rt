@@ -1,17 +1,7 @@
-//! Runs of whole scripts.
+//! Runs of scripts that need more than a script: each beginning of one, limits handed in, sinks of the test.
 mod beginnings;
-mod conditions;
 mod full_tables;
-mod items;
-mod limits;
-mod refusals;
-mod rows;
 mod sinks;
-mod syntax;
-mod values;
-mod view_items;
-mod views;
-mod walk;
 
 use crate::test_sink::{Plan, TestSink};
 use cq_cli::{NoSources, exit_of, run};

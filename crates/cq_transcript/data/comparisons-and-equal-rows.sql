@@ -1,0 +1,6 @@
+CREATE TABLE t(a INTEGER, b INTEGER);
+INSERT INTO t VALUES (7, -1), (-7, 2), (7, -1), (0, 0);
+SELECT a, b FROM t WHERE a > -7;
+SELECT b FROM t WHERE a = 7;
+SELECT a, a FROM t WHERE b <= 0;
+SELECT a FROM t WHERE a < -7;

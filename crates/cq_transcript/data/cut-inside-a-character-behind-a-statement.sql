@@ -1,0 +1,1 @@
+CREATE TABLE t(a INTEGER); Ã

@@ -1,0 +1,2 @@
+CREATE TABLE t(a INTEGER, b TEXT);
+SELECT a, b FROM t;

@@ -1,0 +1,3 @@
+CREATE TABLE t(b TEXT);
+INSERT INTO t VALUES (NULL), (''), ('\N');
+SELECT b FROM t;

@@ -1,0 +1,18 @@
+-- Two views over one table and one over another
+CREATE TABLE t(k INTEGER, a INTEGER);
+CREATE TABLE u(k INTEGER, a INTEGER);
+CREATE VIEW v AS SELECT k, SUM(a) AS s FROM t GROUP BY k;
+INSERT INTO t VALUES (1, 10), (2, 20), (1, -10);
+CREATE VIEW w AS SELECT COUNT(*), a FROM t WHERE a > 0 GROUP BY a;
+CREATE VIEW x AS SELECT k, k AS again, COUNT(*) FROM u GROUP BY k, a;
+INSERT INTO u VALUES (5, 1), (5, 1), (5, 2);
+DELETE FROM t WHERE a = 10;
+INSERT INTO t VALUES (2, 20), (3, 0);
+SELECT k, s FROM v;
+SELECT c1, a FROM w;
+SELECT k, again, c3 FROM x;
+DELETE FROM u WHERE a = 1;
+DELETE FROM t;
+SELECT s FROM v;
+SELECT a FROM w;
+SELECT c3, k FROM x;

@@ -1,0 +1,45 @@
+//! The transcript of a script.
+use crate::answers::Answers;
+use cq_cli::{NoSources, exit_of, run};
+use cq_engine::Limits;
+use cq_sql::split;
+use std::alloc::Global;
+use std::io;
+use std::io::Write;
+
+/// Runs a script over memory, and writes its name, each statement with its answer, and the exit status. A script that is
+/// not UTF-8 has no statements, but an answer.
+pub fn write_transcript<W: Write>(
+    alloc: Global,
+    name: &str,
+    script: &[u8],
+    out: &mut W,
+) -> io::Result<()> {
+    let limits = Limits {
+        max_rows: Limits::MAX_ROWS,
+    };
+    let mut answers = Answers::new(alloc);
+    let mut sources = NoSources::default();
+    let ended = run(alloc, script, limits, &mut sources, &mut answers);
+    writeln!(out, "== {name}")?;
+    match str::from_utf8(script) {
+        Ok(text) => write_statements(text, &answers, out)?,
+        Err(_) => out.write_all(answers.taken())?,
+    }
+    writeln!(out, "status {}", exit_of(&ended))
+}
+
+fn write_statements<W: Write>(script: &str, answers: &Answers, out: &mut W) -> io::Result<()> {
+    let mut begin = 0;
+    let mut ends = answers.ends().iter();
+    for piece in split(script) {
+        if !piece.blank {
+            let semicolon = if piece.closed { ";" } else { "" };
+            writeln!(out, "{}{semicolon}", piece.text.trim())?;
+            let end = ends.next().copied().unwrap_or(begin);
+            out.write_all(answers.taken().get(begin..end).unwrap_or(&[]))?;
+            begin = end;
+        }
+    }
+    Ok(())
+}
