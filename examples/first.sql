@@ -1,1 +1,3 @@
-../crates/colview/data/first.sql
+CREATE TABLE t(a INTEGER);
+INSERT INTO t VALUES (3), (1), (2);
+SELECT a FROM t WHERE a >= 2;

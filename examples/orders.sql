@@ -1,1 +1,0 @@
-../crates/cq_transcript/data/orders.sql
