@@ -1,15 +1,15 @@
 -- A chain of one part is that part, and a chain of several is no column, so it has no name of its own.
 use Rattle.std.proofs.Common.{arith, ◌≡◌, ◌⊎◌, inl, inr, ◌<◌, List, [], ◌∷◌, map, length, None, refl, ap, sym, ◌∙◌, Box, Vec, Global}
 use Rattle.std.specs.List.{fold}
-use Rattle.cq_model.specs.declared.written.ExprNode.{ExprNode}
-use Rattle.cq_model.specs.declared.written.ExprNode.TheFolds.{fold-roll-ExprNode}
-use Rattle.cq_model.specs.declared.written.ExprNode.TheOpen as node
-use Rattle.cq_model.specs.declared.written.ExprNode.TheVariants.{rolls-And, rolls-Or, rolls-Product, rolls-Sum}
-use Rattle.cq_model.specs.declared.written.ExprNode.TheViews as nodes
-use Rattle.cq_model.specs.declared.written.Sign.{Sign}
-use Rattle.cq_model.specs.declared.written.Sign.TheVariants as signs
-use Rattle.cq_model.specs.Written.{Written, And, Or, Times, signed, terms, written, written_step}
-use Rattle.cq_steps.specs.Bound.{bare_name}
+use Rattle.cq_language.specs.declared.written.ExprNode.{ExprNode}
+use Rattle.cq_language.specs.declared.written.ExprNode.TheFolds.{fold-roll-ExprNode}
+use Rattle.cq_language.specs.declared.written.ExprNode.TheOpen as node
+use Rattle.cq_language.specs.declared.written.ExprNode.TheVariants.{rolls-And, rolls-Or, rolls-Product, rolls-Sum}
+use Rattle.cq_language.specs.declared.written.ExprNode.TheViews as nodes
+use Rattle.cq_language.specs.declared.written.Sign.{Sign}
+use Rattle.cq_language.specs.declared.written.Sign.TheVariants as signs
+use Rattle.cq_language.specs.Written.{Written, And, Or, Times, signed, terms, written, written_step}
+use Rattle.cq_binding.specs.Bound.{bare_name}
 
 -- what is no column
 abbrev IsNameless : Written → Type 0

@@ -4,12 +4,12 @@ use Rattle.std.specs.List.{flat_map}
 use Rattle.std.specs.Option.{option_or}
 use Rattle.std.proofs.lemmas.List.{at_drop_more}
 use Rattle.cq_model.specs.declared.query.Aggregate.{Aggregate}
-use Rattle.cq_model.specs.declared.statement.Item.{Item}
-use Rattle.cq_model.specs.declared.statement.ItemValue.{ItemValue}
+use Rattle.cq_language.specs.declared.statement.Item.{Item}
+use Rattle.cq_language.specs.declared.statement.ItemValue.{ItemValue}
 use Rattle.cq_model.specs.Expr.{Expr}
-use Rattle.cq_steps.specs.Bound.{aggregates_in, group_items, in_groups}
-use Rattle.cq_steps.specs.Refusal.{first_fault, item_place}
-use Rattle.cq_steps.specs.Typing.{Scope}
+use Rattle.cq_binding.specs.Bound.{aggregates_in, group_items, in_groups}
+use Rattle.cq_binding.specs.Refusal.{first_fault, item_place}
+use Rattle.cq_binding.specs.Typing.{Scope}
 use Rattle.cq_binder.proofs.Faults.{first_fault_cons}
 
 -- what these items show

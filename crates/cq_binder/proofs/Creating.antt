@@ -1,19 +1,19 @@
 -- How the stretches of CREATE TABLE and CREATE VIEW make up the whole.
 use Rattle.std.proofs.Common.{◌≡◌, ℕ, Bool, false, List, [], ◌∷◌, ◌++◌, length, Option, Some, None, Result, Ok, refl, ap, ◌∙◌}
 use Rattle.std.specs.Prelude.{option_map}
-use Rattle.cq_model.specs.declared.bound.Bound.{Bound}
-use Rattle.cq_model.specs.declared.bound.Bound.TheVariants as commands
+use Rattle.cq_binding.specs.declared.bound.Bound.{Bound}
+use Rattle.cq_binding.specs.declared.bound.Bound.TheVariants as commands
 use Rattle.cq_model.specs.declared.query.Shape.TheVariants.{Grouped}
 use Rattle.cq_model.specs.declared.query.Join.{Join}
 use Rattle.cq_model.specs.declared.query.Source.TheVariants.{Table}
-use Rattle.cq_model.specs.declared.statement.ColumnDef.{ColumnDef}
-use Rattle.cq_model.specs.declared.statement.Statement.TheVariants as statements
-use Rattle.cq_model.specs.declared.statement.ViewSelect.{ViewSelect}
-use Rattle.cq_steps.specs.declared.fault.Fault.{Fault}
-use Rattle.cq_steps.specs.declared.fault.Fault.TheVariants.{NameTaken}
-use Rattle.cq_steps.specs.Bound.{grouped_query, view_columns, view_source}
-use Rattle.cq_steps.specs.Refusal.{column_places, create_places, create_view_places, fault_if, first_fault, sort_places, too_long, view_select_places, MayRefuse}
-use Rattle.cq_steps.specs.State.{TableOf, ViewOf, is_taken, table_named}
+use Rattle.cq_values.specs.declared.column.ColumnDef.{ColumnDef}
+use Rattle.cq_language.specs.declared.statement.Statement.TheVariants as statements
+use Rattle.cq_language.specs.declared.statement.ViewSelect.{ViewSelect}
+use Rattle.cq_binding.specs.declared.fault.Fault.{Fault}
+use Rattle.cq_binding.specs.declared.fault.Fault.TheVariants.{NameTaken}
+use Rattle.cq_binding.specs.Bound.{grouped_query, view_columns, view_source}
+use Rattle.cq_binding.specs.Refusal.{column_places, create_places, create_view_places, fault_if, first_fault, sort_places, too_long, view_select_places, MayRefuse}
+use Rattle.cq_states.specs.State.{TableOf, ViewOf, is_taken, table_named}
 use Rattle.cq_binder.specs.Catalog.{alone, heading, shown_heading, Binds}
 use Rattle.cq_binder.specs.View.{IsBoundView}
 use Rattle.cq_binder.specs.Walk.{Walked}

@@ -2,14 +2,14 @@
 use Rattle.std.proofs.Common.{◌≡◌, ℕ, List, [], ◌∷◌, Option, Some, ap, ap₂, sym, ◌∙◌}
 use Rattle.std.specs.Prelude.{if◌then◌else◌, is_some, ok_or, option_map}
 use Rattle.cq_model.specs.Expr.{Cond}
-use Rattle.cq_model.specs.Written.{Written}
-use Rattle.cq_model.specs.declared.bound.Bound.{Bound}
-use Rattle.cq_model.specs.declared.bound.Bound.TheVariants as commands
-use Rattle.cq_steps.specs.declared.fault.Fault.{Fault}
-use Rattle.cq_steps.specs.declared.fault.Fault.TheVariants.{UnknownTable, ViewNotWritten}
-use Rattle.cq_steps.specs.Bound.{bound_condition, from_table, scope_of}
-use Rattle.cq_steps.specs.Refusal.{delete_places, first_fault, where_place, written_table, MayRefuse}
-use Rattle.cq_steps.specs.State.{TableOf, ViewOf, table_named, view_named}
+use Rattle.cq_language.specs.Written.{Written}
+use Rattle.cq_binding.specs.declared.bound.Bound.{Bound}
+use Rattle.cq_binding.specs.declared.bound.Bound.TheVariants as commands
+use Rattle.cq_binding.specs.declared.fault.Fault.{Fault}
+use Rattle.cq_binding.specs.declared.fault.Fault.TheVariants.{UnknownTable, ViewNotWritten}
+use Rattle.cq_binding.specs.Bound.{bound_condition, from_table, scope_of}
+use Rattle.cq_binding.specs.Refusal.{delete_places, first_fault, where_place, written_table, MayRefuse}
+use Rattle.cq_states.specs.State.{TableOf, ViewOf, table_named, view_named}
 use Rattle.cq_binder.specs.Catalog.{alone}
 use Rattle.cq_binder.proofs.Faults.{refused_same}
 

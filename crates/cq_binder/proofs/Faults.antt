@@ -4,11 +4,11 @@ use Rattle.std.proofs.lemmas.List.{take_more, at_drop_more}
 use Rattle.std.specs.List.{flat_map, list_any}
 use Rattle.std.specs.Option.{option_or}
 use Rattle.cq_values.specs.Texts.{is_text}
-use Rattle.cq_model.specs.declared.statement.ColumnDef.{ColumnDef}
-use Rattle.cq_model.specs.declared.statement.Constant.{Constant}
-use Rattle.cq_steps.specs.declared.fault.Fault.{Fault}
-use Rattle.cq_steps.specs.declared.fault.Fault.TheVariants as faults
-use Rattle.cq_steps.specs.Refusal.{first_fault, fault_if, column_places, row_places, MayRefuse}
+use Rattle.cq_values.specs.declared.column.ColumnDef.{ColumnDef}
+use Rattle.cq_language.specs.declared.statement.Constant.{Constant}
+use Rattle.cq_binding.specs.declared.fault.Fault.{Fault}
+use Rattle.cq_binding.specs.declared.fault.Fault.TheVariants as faults
+use Rattle.cq_binding.specs.Refusal.{first_fault, fault_if, column_places, row_places, MayRefuse}
 use Rattle.cq_binder.specs.Walk.{Walked}
 
 -- a stretch of one place

@@ -6,7 +6,7 @@ use Rattle.std.proofs.lemmas.Bool.{lt-ltb, le-ltb}
 use Rattle.std.proofs.lemmas.Option.{slice_get_cases}
 use Rattle.std.proofs.lemmas.List.Folds.{find_at}
 use Rattle.cq_values.specs.Texts.{is_text}
-use Rattle.cq_steps.specs.State.{TableOf, ViewOf, view_named, view_place}
+use Rattle.cq_states.specs.State.{TableOf, ViewOf, view_named, view_place}
 use Rattle.cq_binder.specs.Catalog.{heading, shown_heading}
 use Rattle.cq_binder.specs.declared.catalog.TableEntry.{TableEntry}
 

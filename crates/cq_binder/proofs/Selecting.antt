@@ -4,17 +4,17 @@ use Rattle.std.specs.Prelude.{option_map}
 use Rattle.std.specs.Option.{option_or}
 use Rattle.cq_bags.specs.declared.sort_key.SortKey.{SortKey}
 use Rattle.cq_model.specs.Expr.{Cond, Expr}
-use Rattle.cq_model.specs.declared.bound.Bound.{Bound}
-use Rattle.cq_model.specs.declared.bound.Bound.TheVariants as commands
+use Rattle.cq_binding.specs.declared.bound.Bound.{Bound}
+use Rattle.cq_binding.specs.declared.bound.Bound.TheVariants as commands
 use Rattle.cq_model.specs.declared.query.Join.{Join}
 use Rattle.cq_model.specs.declared.query.Shape.TheVariants.{Plain}
 use Rattle.cq_model.specs.declared.query.Source.{Source}
-use Rattle.cq_model.specs.declared.statement.Select.{Select}
-use Rattle.cq_steps.specs.declared.fault.Fault.{Fault}
-use Rattle.cq_steps.specs.Bound.{Named, bound_condition, bound_select, bound_value, from_table, header as header_of, scope_as, shown_by, source_named}
-use Rattle.cq_steps.specs.Refusal.{first_fault, select_places, source_places, too_long, value_place, where_place, MayRefuse}
-use Rattle.cq_steps.specs.State.{TableOf, ViewOf, table_named}
-use Rattle.cq_steps.specs.Typing.{Scope}
+use Rattle.cq_language.specs.declared.statement.Select.{Select}
+use Rattle.cq_binding.specs.declared.fault.Fault.{Fault}
+use Rattle.cq_binding.specs.Bound.{Named, bound_condition, bound_select, bound_value, from_table, header as header_of, scope_as, shown_by, source_named}
+use Rattle.cq_binding.specs.Refusal.{first_fault, select_places, source_places, too_long, value_place, where_place, MayRefuse}
+use Rattle.cq_states.specs.State.{TableOf, ViewOf, table_named}
+use Rattle.cq_binding.specs.Typing.{Scope}
 use Rattle.cq_binder.specs.Catalog.{alone, heading, shown_view, view_source_named}
 use Rattle.cq_binder.specs.Select.{AreBoundParts}
 use Rattle.cq_binder.specs.Walk.{Walked}

@@ -5,11 +5,11 @@ use Rattle.std.specs.List.{list_any}
 use Rattle.std.specs.Option.{option_or}
 use Rattle.std.proofs.lemmas.List.{at_drop_more, map-append, take_more}
 use Rattle.cq_values.specs.Texts.{is_text}
-use Rattle.cq_model.specs.declared.statement.ColumnDef.{ColumnDef}
-use Rattle.cq_steps.specs.declared.fault.Fault.{Fault}
-use Rattle.cq_steps.specs.declared.fault.Fault.TheVariants.{NameTaken}
-use Rattle.cq_steps.specs.Bound.{column_place, place_in}
-use Rattle.cq_steps.specs.Refusal.{first_fault, fault_if, name_place, sort_places}
+use Rattle.cq_values.specs.declared.column.ColumnDef.{ColumnDef}
+use Rattle.cq_binding.specs.declared.fault.Fault.{Fault}
+use Rattle.cq_binding.specs.declared.fault.Fault.TheVariants.{NameTaken}
+use Rattle.cq_binding.specs.Bound.{column_place, place_in}
+use Rattle.cq_binding.specs.Refusal.{first_fault, fault_if, name_place, sort_places}
 use Rattle.cq_binder.proofs.Faults.{first_fault_append, single}
 
 module _ (columns : List ColumnDef) where

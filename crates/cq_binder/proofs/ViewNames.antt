@@ -4,13 +4,13 @@ use Rattle.std.specs.Prelude.{◌||◌, unwrap_or}
 use Rattle.std.specs.List.{list_any}
 use Rattle.std.proofs.lemmas.List.{map-append}
 use Rattle.cq_values.specs.Texts.{is_text}
-use Rattle.cq_model.specs.declared.statement.ColumnDef.{ColumnDef}
-use Rattle.cq_model.specs.declared.statement.Item.{Item}
-use Rattle.cq_steps.specs.declared.fault.Fault.{Fault}
-use Rattle.cq_steps.specs.declared.fault.Fault.TheVariants.{NameTaken}
-use Rattle.cq_steps.specs.Bound.{item_columns, item_names, own_name}
-use Rattle.cq_steps.specs.Typing.{Scope}
-use Rattle.cq_steps.specs.Refusal.{first_fault, fault_if, column_places, repeats, too_long, MayRefuse}
+use Rattle.cq_values.specs.declared.column.ColumnDef.{ColumnDef}
+use Rattle.cq_language.specs.declared.statement.Item.{Item}
+use Rattle.cq_binding.specs.declared.fault.Fault.{Fault}
+use Rattle.cq_binding.specs.declared.fault.Fault.TheVariants.{NameTaken}
+use Rattle.cq_binding.specs.Bound.{item_columns, item_names, own_name}
+use Rattle.cq_binding.specs.Typing.{Scope}
+use Rattle.cq_binding.specs.Refusal.{first_fault, fault_if, column_places, repeats, too_long, MayRefuse}
 use Rattle.cq_binder.proofs.Faults.{first_fault_cons, or_next, refused_first, refused_next, refused_same}
 
 -- what columns are called

@@ -1,11 +1,11 @@
 -- How the stretches of a view's walk make up the whole.
 use Rattle.std.proofs.Common.{◌≡◌, List, [], ◌∷◌, ◌++◌, map, length, Option, None, ap, sym, ◌∙◌}
 use Rattle.std.proofs.lemmas.List.{append_assoc}
-use Rattle.cq_model.specs.declared.statement.ColumnDef.{ColumnDef}
-use Rattle.cq_model.specs.declared.statement.ViewSelect.{ViewSelect}
-use Rattle.cq_steps.specs.declared.fault.Fault.{Fault}
-use Rattle.cq_steps.specs.Refusal.{first_fault, name_place, query_places, too_long, where_place, MayRefuse}
-use Rattle.cq_steps.specs.Typing.{Scope}
+use Rattle.cq_values.specs.declared.column.ColumnDef.{ColumnDef}
+use Rattle.cq_language.specs.declared.statement.ViewSelect.{ViewSelect}
+use Rattle.cq_binding.specs.declared.fault.Fault.{Fault}
+use Rattle.cq_binding.specs.Refusal.{first_fault, name_place, query_places, too_long, where_place, MayRefuse}
+use Rattle.cq_binding.specs.Typing.{Scope}
 use Rattle.cq_binder.specs.View.{group_walk, item_walk, name_walk}
 use Rattle.cq_binder.proofs.Faults.{none_append, refused_back, refused_front, refused_same}
 

@@ -1,16 +1,16 @@
 -- The tables and views that statements find under their names, and what binding a statement gives.
 use Rattle.std.specs.Prelude.{◌≡◌, ℕ, List, [], ◌∷◌, Option, Some, option_map, unwrap_or, Result, Ok, Err}
 use Rattle.std.specs.List.{flat_map}
-use Rattle.cq_model.specs.declared.bound.Bound.{Bound}
+use Rattle.cq_binding.specs.declared.bound.Bound.{Bound}
 use Rattle.cq_model.specs.declared.query.Source.TheVariants.{View}
-use Rattle.cq_model.specs.declared.statement.ColumnDef.{ColumnDef}
-use Rattle.cq_model.specs.declared.statement.Constant.{Constant}
-use Rattle.cq_model.specs.declared.statement.Statement.{Statement}
-use Rattle.cq_model.specs.declared.statement.Statement.TheVariants as statements
-use Rattle.cq_steps.specs.declared.fault.Fault.{Fault}
-use Rattle.cq_steps.specs.Bound.{Named, bound, from_view}
-use Rattle.cq_steps.specs.Refusal.{places, row_places, written_table}
-use Rattle.cq_steps.specs.State.{TableOf, ViewOf, State, view_named, view_place}
+use Rattle.cq_values.specs.declared.column.ColumnDef.{ColumnDef}
+use Rattle.cq_language.specs.declared.statement.Constant.{Constant}
+use Rattle.cq_language.specs.declared.statement.Statement.{Statement}
+use Rattle.cq_language.specs.declared.statement.Statement.TheVariants as statements
+use Rattle.cq_binding.specs.declared.fault.Fault.{Fault}
+use Rattle.cq_binding.specs.Bound.{Named, bound, from_view}
+use Rattle.cq_binding.specs.Refusal.{places, row_places, written_table}
+use Rattle.cq_states.specs.State.{TableOf, ViewOf, State, view_named, view_place}
 use Rattle.cq_binder.specs.declared.catalog.TableEntry.{TableEntry}
 use Rattle.cq_binder.specs.declared.catalog.ViewEntry.{ViewEntry}
 use Rattle.cq_binder.specs.Walk.{Walked}

@@ -4,16 +4,16 @@ use Rattle.std.specs.List.{flat_map}
 use Rattle.cq_model.specs.Expr.{Expr}
 use Rattle.cq_model.specs.declared.query.Aggregate.{Aggregate}
 use Rattle.cq_model.specs.declared.query.Aggregate.TheVariants as aggregates
-use Rattle.cq_model.specs.declared.statement.ColumnDef.{ColumnDef}
-use Rattle.cq_model.specs.declared.statement.Item.{Item}
-use Rattle.cq_model.specs.declared.statement.ItemValue.{ItemValue}
-use Rattle.cq_model.specs.declared.statement.ItemValue.TheVariants as values
-use Rattle.cq_model.specs.declared.statement.ViewSelect.{ViewSelect}
-use Rattle.cq_steps.specs.declared.fault.Fault.{Fault}
-use Rattle.cq_steps.specs.declared.fault.Fault.TheVariants.{NameTaken}
-use Rattle.cq_steps.specs.Bound.{aggregates_in, bound_condition, bound_value, group_items, in_groups, item_names, place_in, values_in, view_columns}
-use Rattle.cq_steps.specs.Refusal.{fault_if, item_place, name_place, repeats, too_long}
-use Rattle.cq_steps.specs.Typing.{Scope}
+use Rattle.cq_values.specs.declared.column.ColumnDef.{ColumnDef}
+use Rattle.cq_language.specs.declared.statement.Item.{Item}
+use Rattle.cq_language.specs.declared.statement.ItemValue.{ItemValue}
+use Rattle.cq_language.specs.declared.statement.ItemValue.TheVariants as values
+use Rattle.cq_language.specs.declared.statement.ViewSelect.{ViewSelect}
+use Rattle.cq_binding.specs.declared.fault.Fault.{Fault}
+use Rattle.cq_binding.specs.declared.fault.Fault.TheVariants.{NameTaken}
+use Rattle.cq_binding.specs.Bound.{aggregates_in, bound_condition, bound_value, group_items, in_groups, item_names, place_in, values_in, view_columns}
+use Rattle.cq_binding.specs.Refusal.{fault_if, item_place, name_place, repeats, too_long}
+use Rattle.cq_binding.specs.Typing.{Scope}
 use Rattle.cq_binder.specs.declared.items.BoundItem.{BoundItem}
 use Rattle.cq_binder.specs.declared.items.BoundItem.TheVariants.{Shown, Told}
 use Rattle.cq_binder.specs.declared.view.BoundView.{BoundView}

@@ -1,7 +1,7 @@
 -- What a stretch of the walk through a statement's places gives.
 use Rattle.std.specs.Prelude.{◌≡◌, List, Option, None, Result, MatchResult}
-use Rattle.cq_steps.specs.declared.fault.Fault.{Fault}
-use Rattle.cq_steps.specs.Refusal.{first_fault, MayRefuse}
+use Rattle.cq_binding.specs.declared.fault.Fault.{Fault}
+use Rattle.cq_binding.specs.Refusal.{first_fault, MayRefuse}
 
 -- a result of this kind where no place has a fault, and otherwise a refusal that may come
 abbrev pub Walked : {X : Type 0} → List (Option Fault) → (X → Type 0) → Result X Fault → Type 0

@@ -1,10 +1,10 @@
 //! Statements become commands.
 ghost use Rattle.std.specs.Prelude.{◌≡◌, if◌then◌else◌, is_some, map};
-ghost use Rattle.cq_model.specs.declared.statement.Statement.TheVariants as statements;
-ghost use Rattle.cq_steps.specs.Bound.{place_in};
-ghost use Rattle.cq_steps.specs.declared.fault.Fault.TheVariants.{ClauseInView, UnknownTable, ViewNotWritten};
-ghost use Rattle.cq_steps.specs.Refusal.{create_places};
-ghost use Rattle.cq_steps.specs.State.{is_taken, view_named};
+ghost use Rattle.cq_language.specs.declared.statement.Statement.TheVariants as statements;
+ghost use Rattle.cq_binding.specs.Bound.{place_in};
+ghost use Rattle.cq_binding.specs.declared.fault.Fault.TheVariants.{ClauseInView, UnknownTable, ViewNotWritten};
+ghost use Rattle.cq_binding.specs.Refusal.{create_places};
+ghost use Rattle.cq_states.specs.State.{is_taken, view_named};
 ghost use Rattle.cq_binder.specs.Catalog.{Binds, alone};
 ghost use Rattle.cq_binder.specs.Walk.{Walked};
 
@@ -12,9 +12,9 @@ use crate::catalog::Catalog;
 use crate::columns::{check_length, check_names, copy_columns, sort_columns};
 use crate::reading::{bind_select, bind_view};
 use crate::writing::{bind_delete, bind_insert};
-use cq_model::{Bound, ColumnDef, Statement};
-use cq_steps::Fault;
-use cq_values::{Seq, Text};
+use cq_binding::{Bound, Fault};
+use cq_language::Statement;
+use cq_values::{ColumnDef, Seq, Text};
 use std::alloc::Global;
 
 /// Why a statement is not bound: the first fault of its walk, or want of memory.

@@ -1,10 +1,10 @@
 //! The tables and views that statements find under their names.
 ghost use Rattle.std.specs.Prelude.{◌≡◌, List, IfOk, option_map};
-ghost use Rattle.cq_steps.specs.Refusal.{is_used};
-ghost use Rattle.cq_steps.specs.State.{TableOf, ViewOf, table_named, view_place};
+ghost use Rattle.cq_binding.specs.Refusal.{is_used};
+ghost use Rattle.cq_states.specs.State.{TableOf, ViewOf, table_named, view_place};
 ghost use Rattle.cq_binder.specs.Catalog.{heading, shown_heading, shown_view, view_source_named};
 
-use cq_model::ColumnDef;
+use cq_values::ColumnDef;
 use std::alloc::{AllocError, Global};
 
 /// A table as statements see it.

@@ -2,14 +2,13 @@
 ghost use Rattle.std.specs.Prelude.{◌≡◌, ◌∷◌, IfOk, [], map};
 ghost use Rattle.std.specs.List.{list_any};
 ghost use Rattle.cq_values.specs.Texts.{is_text};
-ghost use Rattle.cq_steps.specs.Bound.{place_in};
-ghost use Rattle.cq_steps.specs.Refusal.{column_places, sort_places, too_long};
+ghost use Rattle.cq_binding.specs.Bound.{place_in};
+ghost use Rattle.cq_binding.specs.Refusal.{column_places, sort_places, too_long};
 ghost use Rattle.cq_binder.specs.Walk.{Passes, Walked};
 
+use cq_binding::Fault;
 use cq_exprs::column_place;
-use cq_model::ColumnDef;
-use cq_steps::Fault;
-use cq_values::{Seq, Text};
+use cq_values::{ColumnDef, Seq, Text};
 use std::alloc::{AllocError, Global};
 
 /// A list of columns or of items has at most so many entries.

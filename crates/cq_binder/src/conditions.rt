@@ -1,13 +1,14 @@
 //! WHERE.
 ghost use Rattle.std.specs.Prelude.{◌≡◌, ◌∷◌, [], option_map};
-ghost use Rattle.cq_steps.specs.Bound.{bound_condition};
-ghost use Rattle.cq_steps.specs.Refusal.{where_place};
+ghost use Rattle.cq_binding.specs.Bound.{bound_condition};
+ghost use Rattle.cq_binding.specs.Refusal.{where_place};
 ghost use Rattle.cq_exprs.specs.Expressions.{scope_of};
 ghost use Rattle.cq_binder.specs.Walk.{Walked};
 
+use cq_binding::Fault;
 use cq_exprs::{Scope, bind_condition};
-use cq_model::{Cond, SqlExpr};
-use cq_steps::Fault;
+use cq_language::SqlExpr;
+use cq_model::Cond;
 use std::alloc::Global;
 
 /// WHERE on a source, if it is there, once it has been walked through.

@@ -1,14 +1,14 @@
 //! The constants of an INSERT, each for the column at its place.
 ghost use Rattle.std.specs.Prelude.{◌≡◌, ◌∷◌, []};
-ghost use Rattle.cq_model.specs.declared.statement.Constant.TheVariants as constants;
-ghost use Rattle.cq_steps.specs.Bound.{constant_value, row_of};
-ghost use Rattle.cq_steps.specs.Refusal.{constant_place, row_places};
+ghost use Rattle.cq_language.specs.declared.statement.Constant.TheVariants as constants;
+ghost use Rattle.cq_binding.specs.Bound.{constant_value, row_of};
+ghost use Rattle.cq_binding.specs.Refusal.{constant_place, row_places};
 ghost use Rattle.cq_binder.specs.Walk.{Walked};
 
 use crate::literals::{fits_column, literal_number};
-use cq_model::{ColumnDef, Constant, Literal};
-use cq_steps::Fault;
-use cq_values::{Row, Text, Ty, Value, date_of};
+use cq_binding::Fault;
+use cq_language::{Constant, Literal};
+use cq_values::{ColumnDef, Row, Text, Ty, Value, date_of};
 use std::alloc::Global;
 
 /// A stored text has at most so many bytes.

@@ -1,13 +1,14 @@
 //! The items of a view: what they show of the keys of its groups, or what they tell of each group.
 ghost use Rattle.std.specs.Prelude.{◌≡◌, MatchResult, None};
-ghost use Rattle.cq_steps.specs.Refusal.{MayRefuse, item_place};
+ghost use Rattle.cq_binding.specs.Refusal.{MayRefuse, item_place};
 ghost use Rattle.cq_exprs.specs.Expressions.{scope_of};
 ghost use Rattle.cq_binder.specs.View.{AreBoundItems, bound_item, item_walk};
 ghost use Rattle.cq_binder.specs.Walk.{Walked};
 
+use cq_binding::Fault;
 use cq_exprs::{Scope, bind_kept, bind_number, bind_value};
-use cq_model::{Aggregate, Expr, ItemValue, ViewSelect};
-use cq_steps::Fault;
+use cq_language::{ItemValue, ViewSelect};
+use cq_model::{Aggregate, Expr};
 use cq_values::{Seq, Text};
 use std::alloc::Global;
 

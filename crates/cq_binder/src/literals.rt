@@ -1,9 +1,9 @@
 //! Whole numbers as they are written.
 ghost use Rattle.std.specs.Prelude.{◌≡◌, ◌<◌, ◌^◌};
-ghost use Rattle.cq_steps.specs.Bound.{literal_value};
-ghost use Rattle.cq_steps.specs.Refusal.{fits_column};
+ghost use Rattle.cq_binding.specs.Bound.{literal_value};
+ghost use Rattle.cq_binding.specs.Refusal.{fits_column};
 
-use cq_model::Literal;
+use cq_language::Literal;
 
 /// Whether a column can hold it: stored numbers have 64 bits with a sign.
 pub(crate) fn fits_column(literal: &Literal) -> bool

@@ -1,16 +1,16 @@
 //! The columns of a view: what its items are called, and their types.
 ghost use Rattle.std.specs.Prelude.{◌≡◌, IfOk, unwrap_or};
-ghost use Rattle.cq_steps.specs.Bound.{item_columns, item_type, own_name};
+ghost use Rattle.cq_binding.specs.Bound.{item_columns, item_type, own_name};
 ghost use Rattle.cq_exprs.specs.Expressions.{scope_of};
 ghost use Rattle.cq_binder.specs.View.{name_walk};
 ghost use Rattle.cq_binder.specs.Walk.{Walked};
 
 use crate::columns::{check_length, check_names};
 use crate::select::{name_by_place, shown_name};
+use cq_binding::Fault;
 use cq_exprs::{Scope, type_of};
-use cq_model::{ColumnDef, Item, ItemValue};
-use cq_steps::Fault;
-use cq_values::{Seq, Text, Ty};
+use cq_language::{Item, ItemValue};
+use cq_values::{ColumnDef, Seq, Text, Ty};
 use std::alloc::{AllocError, Global};
 
 /// The columns that the items of groups show, of different names and not too many.

@@ -1,10 +1,10 @@
 //! SELECT, and the query of a view.
 ghost use Rattle.std.specs.Prelude.{◌≡◌, Ok, Some};
-ghost use Rattle.cq_model.specs.declared.bound.Bound.TheVariants as commands;
-ghost use Rattle.cq_model.specs.declared.statement.Statement.TheVariants as statements;
-ghost use Rattle.cq_steps.specs.Bound.{Named, bound_select, grouped_query, scope_as, view_columns, view_source};
-ghost use Rattle.cq_steps.specs.Refusal.{select_places, source_places, view_select_places};
-ghost use Rattle.cq_steps.specs.State.{TableOf};
+ghost use Rattle.cq_binding.specs.declared.bound.Bound.TheVariants as commands;
+ghost use Rattle.cq_language.specs.declared.statement.Statement.TheVariants as statements;
+ghost use Rattle.cq_binding.specs.Bound.{Named, bound_select, grouped_query, scope_as, view_columns, view_source};
+ghost use Rattle.cq_binding.specs.Refusal.{select_places, source_places, view_select_places};
+ghost use Rattle.cq_states.specs.State.{TableOf};
 ghost use Rattle.cq_exprs.specs.Expressions.{scope_of};
 ghost use Rattle.cq_binder.specs.Catalog.{Binds, alone, heading, shown_heading};
 ghost use Rattle.cq_binder.specs.Select.{AreBoundParts};
@@ -17,9 +17,10 @@ use crate::conditions::bound_where;
 use crate::scopes::{stored_sizes, table_scope_as, view_scope_as};
 use crate::select::{bound_values, header};
 use crate::view::{BoundView, bound_view};
+use cq_binding::{Bound, Fault};
 use cq_exprs::Scope;
-use cq_model::{Bound, Cond, Expr, Order, Query, Select, Shape, Source, ViewSelect};
-use cq_steps::Fault;
+use cq_language::{Select, ViewSelect};
+use cq_model::{Cond, Expr, Order, Query, Shape, Source};
 use cq_values::{Seq, Text};
 use std::alloc::Global;
 

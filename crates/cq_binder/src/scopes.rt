@@ -1,14 +1,15 @@
 //! What expressions over a table or a view see of it.
 ghost use Rattle.std.specs.Prelude.{◌≡◌, IfOk, unwrap_or};
 ghost use Rattle.cq_model.specs.Sizes.{stored_sizes};
-ghost use Rattle.cq_steps.specs.Bound.{from_table, scope_as, scope_of as scope_of_source};
-ghost use Rattle.cq_steps.specs.State.{TableOf};
+ghost use Rattle.cq_binding.specs.Bound.{from_table, scope_as, scope_of as scope_of_source};
+ghost use Rattle.cq_states.specs.State.{TableOf};
 ghost use Rattle.cq_exprs.specs.Expressions.{scope_of};
 ghost use Rattle.cq_binder.specs.Catalog.{heading, shown_heading, shown_view};
 
 use crate::catalog::{TableEntry, ViewEntry};
 use cq_exprs::Scope;
-use cq_model::{ColumnDef, FromSource};
+use cq_language::FromSource;
+use cq_values::ColumnDef;
 use std::alloc::{AllocError, Global};
 
 /// A stored number has 64 bits with a sign.

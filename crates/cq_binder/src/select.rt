@@ -1,14 +1,15 @@
 //! The items of a SELECT: their values, and what stands above them.
 ghost use Rattle.std.specs.Prelude.{◌≡◌, IfOk, map, option_map, unwrap_or};
-ghost use Rattle.cq_model.specs.Written.{written};
-ghost use Rattle.cq_steps.specs.Bound.{bare_name, bound_value, header, name_by_place, shown_by, shown_name};
-ghost use Rattle.cq_steps.specs.Refusal.{value_place};
+ghost use Rattle.cq_language.specs.Written.{written};
+ghost use Rattle.cq_binding.specs.Bound.{bare_name, bound_value, header, name_by_place, shown_by, shown_name};
+ghost use Rattle.cq_binding.specs.Refusal.{value_place};
 ghost use Rattle.cq_exprs.specs.Expressions.{scope_of};
 ghost use Rattle.cq_binder.specs.Walk.{Walked};
 
+use cq_binding::Fault;
 use cq_exprs::{Scope, bind_value};
-use cq_model::{Expr, ExprNode, SelectItem, SqlExpr};
-use cq_steps::Fault;
+use cq_language::{ExprNode, SelectItem, SqlExpr};
+use cq_model::Expr;
 use cq_values::{Seq, Text};
 use std::alloc::{AllocError, Global};
 

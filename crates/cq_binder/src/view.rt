@@ -1,7 +1,7 @@
 //! Views with their names resolved.
 ghost use Rattle.std.specs.Prelude.{◌≡◌, map};
-ghost use Rattle.cq_steps.specs.Bound.{place_in};
-ghost use Rattle.cq_steps.specs.Refusal.{name_place, query_places};
+ghost use Rattle.cq_binding.specs.Bound.{place_in};
+ghost use Rattle.cq_binding.specs.Refusal.{name_place, query_places};
 ghost use Rattle.cq_exprs.specs.Expressions.{scope_of};
 ghost use Rattle.cq_binder.specs.View.{IsBoundView, group_walk};
 ghost use Rattle.cq_binder.specs.Walk.{Walked};
@@ -10,10 +10,11 @@ use crate::columns::check_length;
 use crate::conditions::bound_where;
 use crate::items::bound_items;
 use crate::names::view_columns;
+use cq_binding::Fault;
 use cq_exprs::{Scope, column_place};
-use cq_model::{Aggregate, ColumnDef, Cond, Expr, ViewSelect};
-use cq_steps::Fault;
-use cq_values::{Seq, Text};
+use cq_language::ViewSelect;
+use cq_model::{Aggregate, Cond, Expr};
+use cq_values::{ColumnDef, Seq, Text};
 use std::alloc::Global;
 
 /// The query of a view with its names resolved, and the columns that the view shows.

@@ -1,10 +1,10 @@
 //! INSERT and DELETE.
 ghost use Rattle.std.specs.Prelude.{◌≡◌, ◌∷◌, [], map, option_map};
 ghost use Rattle.std.specs.List.{flat_map};
-ghost use Rattle.cq_model.specs.declared.statement.Statement.TheVariants as statements;
-ghost use Rattle.cq_steps.specs.Bound.{bound_condition, from_table, row_of, scope_of};
-ghost use Rattle.cq_steps.specs.Refusal.{row_places, where_place};
-ghost use Rattle.cq_steps.specs.State.{TableOf};
+ghost use Rattle.cq_language.specs.declared.statement.Statement.TheVariants as statements;
+ghost use Rattle.cq_binding.specs.Bound.{bound_condition, from_table, row_of, scope_of};
+ghost use Rattle.cq_binding.specs.Refusal.{row_places, where_place};
+ghost use Rattle.cq_states.specs.State.{TableOf};
 ghost use Rattle.cq_binder.specs.Catalog.{Binds, alone, heading, shown_heading};
 ghost use Rattle.cq_binder.specs.Walk.{Walked};
 
@@ -13,8 +13,10 @@ use crate::catalog::{Catalog, TableEntry};
 use crate::conditions::bound_where;
 use crate::constants::bound_row;
 use crate::scopes::{stored_sizes, table_scope};
-use cq_model::{Bound, ColumnDef, Cond, Constant, SqlExpr};
-use cq_values::{Row, Seq, Text};
+use cq_binding::Bound;
+use cq_language::{Constant, SqlExpr};
+use cq_model::Cond;
+use cq_values::{ColumnDef, Row, Seq, Text};
 use std::alloc::Global;
 
 /// INSERT.

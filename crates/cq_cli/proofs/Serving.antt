@@ -1,18 +1,18 @@
 -- What is printed for a piece is the text of an outcome that the piece may have.
 use Rattle.std.proofs.Common.{◌≡◌, ℕ, ◌+◌, ◌≤◌, Bool, true, false, List, [], ◌∷◌, Result, Ok, Err, refl, ap, arith, if◌then◌else◌}
 use Rattle.cq_values.specs.Value.{Row}
-use Rattle.cq_model.specs.Pieces.{PieceOf}
-use Rattle.cq_model.specs.declared.bound.Bound.{Bound}
-use Rattle.cq_model.specs.declared.bound.Bound.TheVariants as commands
-use Rattle.cq_model.specs.declared.statement.Statement.{Statement}
+use Rattle.cq_language.specs.Pieces.{PieceOf}
+use Rattle.cq_binding.specs.declared.bound.Bound.{Bound}
+use Rattle.cq_binding.specs.declared.bound.Bound.TheVariants as commands
+use Rattle.cq_language.specs.declared.statement.Statement.{Statement}
 use Rattle.cq_steps.specs.declared.answer.Answer.{Answer}
 use Rattle.cq_steps.specs.declared.answer.Answer.TheVariants.{Done, Count, Rows}
-use Rattle.cq_steps.specs.declared.fault.Fault.{Fault}
-use Rattle.cq_steps.specs.declared.fault.Fault.TheVariants as faults
-use Rattle.cq_steps.specs.State.{State}
+use Rattle.cq_binding.specs.declared.fault.Fault.{Fault}
+use Rattle.cq_binding.specs.declared.fault.Fault.TheVariants as faults
+use Rattle.cq_states.specs.State.{State}
 use Rattle.cq_steps.specs.Step.{Leads, Does, Refuses, by_walk, for_memory, source_failed, memory_on_the_way, too_large, Step}
 use Rattle.cq_steps.specs.Output.{Serves, rest_without_semicolon, sentence, no_sentence, past_limits, out_of_memory, no_text}
-use Rattle.cq_steps.specs.Printed.{outcome_text}
+use Rattle.cq_steps.specs.Output.{outcome_text}
 use Rattle.cq_cli.specs.declared.printing.Printed.{Printed}
 use Rattle.cq_cli.specs.declared.printing.Printed.TheVariants as prints
 use Rattle.cq_cli.specs.Printing.{Shows, printed_status, printed_text}

@@ -2,11 +2,11 @@
 use Rattle.std.specs.Prelude.{◌≡◌, ℕ, Bool, true, false, if◌then◌else◌, List, [], ◌∷◌, Option, Result, Ok, Err, IfOk}
 use Rattle.std.specs.List.{list_all}
 use Rattle.cq_steps.specs.declared.answer.Answer.{Answer}
-use Rattle.cq_steps.specs.declared.fault.Fault.{Fault}
+use Rattle.cq_binding.specs.declared.fault.Fault.{Fault}
 use Rattle.cq_steps.specs.Output.{HasOutcomes, Serves, output_of}
-use Rattle.cq_steps.specs.Printed.{outcome_text}
-use Rattle.cq_steps.specs.State.{State}
-use Rattle.cq_model.specs.Pieces.{PieceOf}
+use Rattle.cq_steps.specs.Output.{outcome_text}
+use Rattle.cq_states.specs.State.{State}
+use Rattle.cq_language.specs.Pieces.{PieceOf}
 use Rattle.cq_cli.specs.declared.endings.Status.{Status}
 use Rattle.cq_cli.specs.declared.endings.Status.TheVariants.{AllAccepted, SomeRefused}
 use Rattle.cq_cli.specs.declared.endings.RunFault.{RunFault}

@@ -6,8 +6,9 @@ ghost use Rattle.cq_cli.specs.Printing.{Shows, printed_status, printed_text};
 
 use crate::endings::{RunFault, Status};
 use crate::sink::{Sink, put_all};
+use cq_binding::Fault;
 use cq_csvio::print_result;
-use cq_steps::{Answer, Fault};
+use cq_steps::Answer;
 use cq_values::Seq;
 use itoa::Buffer;
 use std::alloc::Global;

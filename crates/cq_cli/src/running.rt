@@ -7,9 +7,10 @@ ghost use Rattle.cq_cli.specs.Running.{RunsScript, ServesPiece};
 use crate::endings::{RunFault, Status};
 use crate::printing::{Printed, print, shown};
 use crate::sink::Sink;
+use cq_binding::Fault;
 use cq_engine::{Engine, Limits, Sources};
 use cq_sql::{Piece, SqlFault, parse, split};
-use cq_steps::{Answer, Fault};
+use cq_steps::Answer;
 use cq_tokens::closed_pieces_fit;
 use std::alloc::Global;
 

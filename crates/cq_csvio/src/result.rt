@@ -2,7 +2,7 @@
 ghost use Rattle.std.specs.Prelude.{◌≡◌, IfOk, OnOk, map};
 ghost use Rattle.std.specs.List.{flat_map};
 ghost use Rattle.cq_csvio.specs.Lines.{AddsLines};
-ghost use Rattle.cq_steps.specs.Printed.{line_text, row_text, rows_text};
+ghost use Rattle.cq_printed.specs.Printed.{line_text, row_text, rows_text};
 
 use crate::fields::Field;
 use crate::lines::Lines;
@@ -11,7 +11,7 @@ use itoa::Buffer;
 use std::alloc::{AllocError, Global};
 
 /// The text of a result: how many rows there are, the header, and the rows as CSV.
-#[tactic(auto, unfolding(cq_steps::specs::Printed::rows_text))]
+#[tactic(auto, unfolding(cq_printed::specs::Printed::rows_text))]
 pub fn print_result(alloc: Global, header: &[Text], rows: &[Row]) -> Result<Seq<u8>, AllocError>
     ensures { IfOk result (λ t. t ≡ rows_text header.now rows.now) }
 {

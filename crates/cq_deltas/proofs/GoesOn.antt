@@ -9,7 +9,7 @@ use Rattle.cq_bags.proofs.Positives.{filtered-bag}
 use Rattle.cq_model.specs.declared.query.Aggregate.{Aggregate}
 use Rattle.cq_model.specs.declared.query.Shape.TheVariants.{Grouped}
 use Rattle.cq_model.specs.Group.{key_of, rows_of_key}
-use Rattle.cq_model.specs.Kept.{Group, GroupStands, Groups, group_of, group_after}
+use Rattle.cq_kept.specs.Kept.{Group, GroupStands, Groups, group_of, group_after}
 use Rattle.cq_laws.proofs.Keeps.{last-goes_on}
 use Rattle.cq_deltas.specs.declared.change.Addition.{Addition}
 use Rattle.cq_deltas.specs.Additions.{AreTotals}

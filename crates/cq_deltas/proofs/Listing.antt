@@ -9,8 +9,8 @@ use Rattle.cq_values.specs.Keys.{same_row-refl, same_row-equiv, same_row-same}
 use Rattle.cq_bags.specs.Bag.{weight_of, once_each}
 use Rattle.cq_bags.proofs.Totals.{by_test}
 use Rattle.cq_model.specs.declared.query.Aggregate.{Aggregate}
-use Rattle.cq_model.specs.Kept.{Group, Groups, told_row}
-use Rattle.cq_model.specs.Told.{ListsKeys}
+use Rattle.cq_kept.specs.Kept.{Group, Groups, told_row}
+use Rattle.cq_kept.specs.Told.{ListsKeys}
 use Rattle.cq_deltas.specs.Table.{Table, group_at}
 use Rattle.std.proofs.Math.Seq.{take-suc, take-length}
 use Rattle.std.proofs.lemmas.Option.{get_or_from_slice_get, slice_get_within}

@@ -7,7 +7,7 @@ use Rattle.cq_values.specs.Value.{Row}
 use Rattle.cq_values.specs.Order.{same_row}
 use Rattle.cq_values.specs.Keys.{same_row-refl, same_row-same}
 use Rattle.cq_bags.proofs.Totals.{by_test}
-use Rattle.cq_model.specs.Kept.{Group}
+use Rattle.cq_kept.specs.Kept.{Group}
 use Rattle.cq_deltas.specs.declared.change.Addition.{Addition}
 use Rattle.cq_deltas.specs.Table.{Table, stored_at, is_met, group_with_all, settled, HasKeys, Takes}
 

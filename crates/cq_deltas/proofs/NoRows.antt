@@ -12,7 +12,7 @@ use Rattle.cq_bags.proofs.Entries.{weighed, bag-entries, image-there}
 use Rattle.cq_model.specs.declared.query.Aggregate.{Aggregate}
 use Rattle.cq_model.specs.declared.query.Aggregate.TheVariants.{CountAll, Count, Sum, Min, Max}
 use Rattle.cq_model.specs.Group.{count_all}
-use Rattle.cq_model.specs.Kept.{AreKept, GroupStands, group_of, kept_of}
+use Rattle.cq_kept.specs.Kept.{AreKept, GroupStands, group_of, kept_of}
 use Rattle.cq_laws.proofs.Groups.{count_all-respects, count-respects, sum-respects}
 use Rattle.cq_deltas.specs.Additions.{AreTotals}
 

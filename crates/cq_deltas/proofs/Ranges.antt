@@ -7,7 +7,7 @@ use Rattle.std.proofs.lemmas.List.Sums.{sum_by-cons, sum_by_more_le}
 use Rattle.cq_values.specs.Value.{Row}
 use Rattle.cq_values.specs.Order.{same_row}
 use Rattle.cq_bags.proofs.Totals.{by_test}
-use Rattle.cq_model.specs.Kept.{Kept, Counted, Totalled, Listed, Group}
+use Rattle.cq_kept.specs.Kept.{Kept, Counted, Totalled, Listed, Group}
 use Rattle.cq_deltas.specs.declared.change.Addition.{Addition}
 use Rattle.cq_deltas.specs.Kept.{kept_with, all_kept_with, total_move, total_moves, KeptHolds, GroupHolds}
 use Rattle.cq_deltas.specs.Table.{Table, stored_at, group_met, group_with_all, count_moves, all_total_moves, HoldsFor}

@@ -13,7 +13,7 @@ use Rattle.cq_model.specs.declared.query.Aggregate.TheVariants.{CountAll, Count,
 use Rattle.cq_model.specs.Condition.{is_null}
 use Rattle.cq_model.specs.Eval.{eval}
 use Rattle.cq_model.specs.Group.{addend, count_all, count_values, sum_values, key_of, rows_of_key}
-use Rattle.cq_model.specs.Kept.{Kept, Counted, Totalled, Listed, AreKept, Group, kept_after, all_kept_after, group_after}
+use Rattle.cq_kept.specs.Kept.{Kept, Counted, Totalled, Listed, AreKept, Group, kept_after, all_kept_after, group_after}
 use Rattle.cq_deltas.specs.Additions.{addend_of, additions, AreTotals}
 use Rattle.cq_deltas.specs.Kept.{kept_with, all_kept_with, group_with}
 use Rattle.cq_deltas.specs.Table.{group_with_all}

@@ -7,7 +7,7 @@ use Rattle.cq_bags.specs.Bag.{Weighted}
 use Rattle.cq_model.specs.declared.query.Aggregate.{Aggregate}
 use Rattle.cq_model.specs.declared.query.Aggregate.TheVariants.{CountAll, Count, Sum, Min, Max}
 use Rattle.cq_model.specs.Group.{rows_of_key, count_all, InRange, SumInRange}
-use Rattle.cq_model.specs.Kept.{Kept, Counted, Totalled, Listed, IsKept, AreKept, Group, GroupStands, group_of, kept_of, kept_after, all_kept_after, group_after}
+use Rattle.cq_kept.specs.Kept.{Kept, Counted, Totalled, Listed, IsKept, AreKept, Group, GroupStands, group_of, kept_of, kept_after, all_kept_after, group_after}
 use Rattle.cq_deltas.specs.declared.change.Addition.{Addition}
 use Rattle.cq_deltas.specs.Additions.{AreTotals, IsTotal, additions}
 use Rattle.cq_deltas.specs.Kept.{KeptHolds, GroupHolds}

@@ -6,7 +6,7 @@ use Rattle.cq_values.specs.Order.{same_row}
 use Rattle.cq_values.specs.Keys.{same_row-refl, same_row-same}
 use Rattle.cq_bags.proofs.Totals.{by_test}
 use Rattle.cq_model.specs.declared.query.Aggregate.{Aggregate}
-use Rattle.cq_model.specs.Kept.{Group, group_of}
+use Rattle.cq_kept.specs.Kept.{Group, group_of}
 use Rattle.cq_deltas.specs.declared.change.Addition.{Addition}
 use Rattle.cq_deltas.specs.Kept.{group_with}
 use Rattle.cq_deltas.specs.Table.{Table, stored_at, group_at, group_met, settled}

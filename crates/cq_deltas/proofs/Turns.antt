@@ -3,7 +3,7 @@ use Rattle.std.proofs.Common.{◌≡◌, ℕ, zero, suc, ◌+◌, ◌<◌, ◌�
 use Rattle.std.specs.List.{AllByRecursion}
 use Rattle.std.proofs.lemmas.List.{length-map, get_or-map, map-set}
 use Rattle.std.proofs.lemmas.List.Sums.{get_or-le-sum_by}
-use Rattle.cq_model.specs.Kept.{Kept, Counted, Totalled, Listed}
+use Rattle.cq_kept.specs.Kept.{Kept, Counted, Totalled, Listed}
 use Rattle.cq_deltas.specs.declared.kept.Kept.{Kept as Stored}
 use Rattle.cq_deltas.specs.Kept.{seen, kept_with, all_kept_with, total_move, total_moves, KeptHolds}
 

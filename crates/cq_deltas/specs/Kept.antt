@@ -1,7 +1,7 @@
 -- What is kept of a group, and what a changed row adds to it.
 use Rattle.std.specs.Prelude.{◌≤◌, ◌<◌, ◌^◌, ℕ, ◌+◌, ℤ, ◌+ℤ◌, ◌*ℤ◌, nat_abs, List, ◌∷◌, Option, None, Some}
 use Rattle.std.specs.List.{AllByRecursion, sum_by}
-use Rattle.cq_model.specs.Kept.{Kept, Counted, Totalled, Listed, Group}
+use Rattle.cq_kept.specs.Kept.{Kept, Counted, Totalled, Listed, Group}
 use Rattle.cq_deltas.specs.declared.kept.Kept.{Kept as Stored}
 use Rattle.cq_deltas.specs.declared.kept.Kept.TheVariants as stored
 

@@ -7,7 +7,7 @@ use Rattle.cq_model.specs.declared.query.Aggregate.{Aggregate}
 use Rattle.cq_model.specs.declared.query.Query.{Query}
 use Rattle.cq_model.specs.declared.query.Shape.TheVariants.{Grouped}
 use Rattle.cq_model.specs.Group.{SumInRange}
-use Rattle.cq_model.specs.Kept.{Group, GroupStands, Groups, LastStands}
+use Rattle.cq_kept.specs.Kept.{Group, GroupStands, Groups, LastStands}
 use Rattle.cq_deltas.specs.declared.change.Addition.{Addition}
 use Rattle.cq_deltas.specs.Additions.{AreTotals, additions}
 use Rattle.cq_deltas.specs.Table.{Table, group_at, count_moves, all_total_moves, HoldsFor}

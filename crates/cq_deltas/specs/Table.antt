@@ -11,7 +11,7 @@ use Rattle.cq_model.specs.Expr.{Cond}
 use Rattle.cq_model.specs.declared.query.Aggregate.{Aggregate}
 use Rattle.cq_model.specs.declared.query.Query.{Query}
 use Rattle.cq_model.specs.declared.query.Shape.TheVariants.{Grouped}
-use Rattle.cq_model.specs.Kept.{Group, Groups, LastStands, group_of}
+use Rattle.cq_kept.specs.Kept.{Group, Groups, LastStands, group_of}
 use Rattle.cq_deltas.specs.declared.change.Addition.{Addition}
 use Rattle.cq_deltas.specs.Additions.{AreTotals, additions}
 use Rattle.cq_deltas.specs.Kept.{GroupHolds, group_with, total_moves}

@@ -5,7 +5,8 @@ ghost use Rattle.cq_model.specs.Group.{key_of};
 ghost use Rattle.cq_values.specs.Value.{column};
 ghost use Rattle.cq_deltas.specs.Additions.{IsNarrow, IsSmall, addend_of, addition, additions};
 
-use cq_model::{Aggregate, eval_row};
+use cq_eval::eval_row;
+use cq_model::Aggregate;
 use cq_values::{Lent, Row, Seq, Value};
 use std::alloc::{AllocError, Global};
 use std::marker::Model;

@@ -1,7 +1,7 @@
 //! A group: how many rows it has, and what is kept of its aggregates.
 ghost use Rattle.std.specs.List.{AllByRecursion};
 ghost use Rattle.std.specs.Prelude.{nat_abs, ◌≡◌, [], IfErr, IfOk, OnOk, map};
-ghost use Rattle.cq_model.specs.Kept.{group_of, told_row};
+ghost use Rattle.cq_kept.specs.Kept.{group_of, told_row};
 ghost use Rattle.cq_deltas.specs.declared.fault.ToldFault.TheVariants.{SumOutOfRange};
 ghost use Rattle.cq_deltas.specs.Told.{AllCanBeTold};
 ghost use Rattle.cq_deltas.specs.Additions.{AreTotals};
@@ -23,7 +23,7 @@ pub struct Group {
 
 impl Model for Group {
     ghost use Rattle.std.specs.Prelude.{map};
-    ghost use Rattle.cq_model.specs.Kept.{Group as Counted};
+    ghost use Rattle.cq_kept.specs.Kept.{Group as Counted};
     ghost use Rattle.cq_deltas.specs.Kept.{seen};
 
     ghost Value = { Counted };

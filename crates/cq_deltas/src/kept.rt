@@ -3,7 +3,7 @@ ghost use Rattle.std.specs.Ordering.{int_eq};
 ghost use Rattle.std.specs.Prelude.{nat_abs, pos, ◌*ℤ◌, ◌+ℤ◌, ◌+◌, ◌<◌, ◌^◌, ◌≡◌, ◌↔◌, ◌≤◌, IfSome, IsSome, if◌then◌else◌, []};
 ghost use Rattle.cq_values.specs.declared.value.Value.TheVariants.{Null, Number};
 ghost use Rattle.cq_model.specs.Group.{InRange};
-ghost use Rattle.cq_model.specs.Kept.{kept_of, kept_value};
+ghost use Rattle.cq_kept.specs.Kept.{kept_of, kept_value};
 ghost use Rattle.cq_deltas.specs.Additions.{IsTotal};
 ghost use Rattle.cq_deltas.specs.Kept.{KeptHolds, kept_with, seen, total_move};
 ghost use Rattle.cq_deltas.specs.Told.{CanBeTold};

@@ -10,22 +10,22 @@ use Rattle.cq_values.specs.Texts.{is_text}
 use Rattle.cq_values.specs.Value.{Row}
 use Rattle.cq_bags.proofs.Totals.{by_test}
 use Rattle.cq_laws.specs.Sizes.{IsSized}
-use Rattle.cq_model.specs.declared.bound.Bound.{Bound}
-use Rattle.cq_model.specs.declared.bound.Bound.TheVariants as commands
-use Rattle.cq_model.specs.declared.statement.Constant.{Constant}
-use Rattle.cq_model.specs.declared.statement.FromSource.{FromSource}
-use Rattle.cq_model.specs.declared.statement.Select.{Select}
-use Rattle.cq_model.specs.declared.statement.Statement.{Statement}
-use Rattle.cq_model.specs.declared.statement.Statement.TheVariants as statements
-use Rattle.cq_model.specs.declared.statement.ViewSelect.{ViewSelect}
+use Rattle.cq_binding.specs.declared.bound.Bound.{Bound}
+use Rattle.cq_binding.specs.declared.bound.Bound.TheVariants as commands
+use Rattle.cq_language.specs.declared.statement.Constant.{Constant}
+use Rattle.cq_language.specs.declared.statement.FromSource.{FromSource}
+use Rattle.cq_language.specs.declared.statement.Select.{Select}
+use Rattle.cq_language.specs.declared.statement.Statement.{Statement}
+use Rattle.cq_language.specs.declared.statement.Statement.TheVariants as statements
+use Rattle.cq_language.specs.declared.statement.ViewSelect.{ViewSelect}
 use Rattle.cq_model.specs.Width.{sizes_of}
-use Rattle.cq_model.specs.Written.{Written}
+use Rattle.cq_language.specs.Written.{Written}
 use Rattle.cq_steps.specs.declared.answer.Answer.{Answer}
-use Rattle.cq_steps.specs.declared.fault.Fault.{Fault}
-use Rattle.cq_steps.specs.declared.fault.Fault.TheVariants as faults
-use Rattle.cq_steps.specs.Bound.{Named, bound, bound_condition, bound_query, bound_select, from_table, from_view, grouped_query, place_in, row_of, scope_as, scope_of, shown_by, source_named, view_columns, view_source}
-use Rattle.cq_steps.specs.Refusal.{first_fault, fault_if, is_used, delete_places, drop_table_places, create_view_places, insert_places, places, query_places, refusal, row_places, select_places, source_places, too_long, value_place, view_select_places, where_place, written_table, MayRefuse}
-use Rattle.cq_steps.specs.State.{TableOf, ViewOf, State, is_taken, rows_in, table_named, view_named, view_place, AreNumbered}
+use Rattle.cq_binding.specs.declared.fault.Fault.{Fault}
+use Rattle.cq_binding.specs.declared.fault.Fault.TheVariants as faults
+use Rattle.cq_binding.specs.Bound.{Named, bound, bound_condition, bound_query, bound_select, from_table, from_view, grouped_query, place_in, row_of, scope_as, scope_of, shown_by, source_named, view_columns, view_source}
+use Rattle.cq_binding.specs.Refusal.{first_fault, fault_if, is_used, delete_places, drop_table_places, create_view_places, insert_places, places, query_places, refusal, row_places, select_places, source_places, too_long, value_place, view_select_places, where_place, written_table, MayRefuse}
+use Rattle.cq_states.specs.State.{TableOf, ViewOf, State, is_taken, rows_in, table_named, view_named, view_place, AreNumbered}
 use Rattle.cq_steps.specs.Step.{AreBetween, IsTooLarge, Refuses, by_walk, for_memory, too_large, Step, reach, with_all_views}
 use Rattle.cq_exprs.specs.Expressions.{KeepSizes}
 use Rattle.cq_binder.specs.Catalog.{alone, binding_places, rows_walk}

@@ -15,19 +15,19 @@ use Rattle.cq_model.specs.declared.query.Shape.{Shape}
 use Rattle.cq_model.specs.declared.query.Shape.TheVariants.{Grouped}
 use Rattle.cq_model.specs.declared.query.Source.{Source}
 use Rattle.cq_model.specs.declared.query.Source.TheVariants.{Table, View}
-use Rattle.cq_model.specs.declared.statement.ColumnDef.{ColumnDef}
-use Rattle.cq_model.specs.declared.statement.ViewSelect.{ViewSelect}
-use Rattle.cq_steps.specs.declared.fault.Fault.{Fault}
-use Rattle.cq_steps.specs.declared.fault.Fault.TheVariants.{NameTaken}
-use Rattle.cq_steps.specs.Bound.{aggregates_in, bound_condition, group_items, in_groups, item_names, place_in, values_in, view_source}
-use Rattle.cq_steps.specs.Refusal.{fault_if, first_fault, item_place, name_place, query_places, repeats, too_long, where_place}
-use Rattle.cq_steps.specs.State.{TableOf}
+use Rattle.cq_values.specs.declared.column.ColumnDef.{ColumnDef}
+use Rattle.cq_language.specs.declared.statement.ViewSelect.{ViewSelect}
+use Rattle.cq_binding.specs.declared.fault.Fault.{Fault}
+use Rattle.cq_binding.specs.declared.fault.Fault.TheVariants.{NameTaken}
+use Rattle.cq_binding.specs.Bound.{aggregates_in, bound_condition, group_items, in_groups, item_names, place_in, values_in, view_source}
+use Rattle.cq_binding.specs.Refusal.{fault_if, first_fault, item_place, name_place, query_places, repeats, too_long, where_place}
+use Rattle.cq_states.specs.State.{TableOf}
 use Rattle.cq_views.specs.declared.view_def.ViewDef.{ViewDef}
 use Rattle.cq_views.specs.Laws.{StandingDependsOnBag}
 use Rattle.cq_views.specs.Small.{IsItemNarrow}
 use Rattle.cq_views.specs.View.{KeptView, IsNarrowFor, Stands, query_of}
 use Rattle.cq_engine.specs.Views.{Fits, IsStored}
-use Rattle.cq_steps.specs.Typing.{Scope}
+use Rattle.cq_binding.specs.Typing.{Scope}
 use Rattle.cq_engine.proofs.Fitting.{back_free, few_told, first_free, front_free, items_narrow, narrow_items, narrow_where, second_free, small_items, stored_keeps, totals}
 use Rattle.cq_engine.proofs.Stored.{all_of_rows}
 

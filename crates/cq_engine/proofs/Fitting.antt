@@ -10,23 +10,23 @@ use Rattle.cq_values.specs.declared.value.Value.{Value}
 use Rattle.cq_values.specs.declared.value.Value.TheVariants.{Null, Number, Day, Text}
 use Rattle.cq_values.specs.Value.{Row}
 use Rattle.cq_deltas.specs.Additions.{AreTotals, IsNarrow, IsSmall, counted_addend}
-use Rattle.cq_model.specs.declared.expr.DayPart.TheVariants as parts
+use Rattle.cq_values.specs.declared.day_part.DayPart.TheVariants as parts
 use Rattle.cq_model.specs.Expr.{Expr}
 use Rattle.cq_model.specs.Expr as exprs
-use Rattle.cq_model.specs.declared.statement.ColumnDef.{ColumnDef}
-use Rattle.cq_model.specs.declared.statement.ItemValue.{ItemValue}
-use Rattle.cq_model.specs.declared.statement.ItemValue.TheVariants as values
-use Rattle.cq_model.specs.declared.statement.ViewSelect.{ViewSelect}
+use Rattle.cq_values.specs.declared.column.ColumnDef.{ColumnDef}
+use Rattle.cq_language.specs.declared.statement.ItemValue.{ItemValue}
+use Rattle.cq_language.specs.declared.statement.ItemValue.TheVariants as values
+use Rattle.cq_language.specs.declared.statement.ViewSelect.{ViewSelect}
 use Rattle.cq_model.specs.Eval.{eval}
 use Rattle.cq_model.specs.Sizes.{stored_size, stored_sizes}
 use Rattle.cq_model.specs.Width.{extent, sizes_of, value_size, width}
-use Rattle.cq_model.specs.Written.{Written}
-use Rattle.cq_steps.specs.declared.fault.Fault.{Fault}
-use Rattle.cq_steps.specs.declared.typing.Typing.{Typing}
-use Rattle.cq_steps.specs.Bound.{aggregates_in, bound_condition, bound_value, column_place, from_table, group_items, group_place, in_groups, place_in, scope_of, view_source}
-use Rattle.cq_steps.specs.Refusal.{first_fault, item_place, value_place, where_place}
-use Rattle.cq_steps.specs.State.{TableOf}
-use Rattle.cq_steps.specs.Typing.{◌and_then◌, Scope, added, fault_in, kept_value, negation_of, tested, typed}
+use Rattle.cq_language.specs.Written.{Written}
+use Rattle.cq_binding.specs.declared.fault.Fault.{Fault}
+use Rattle.cq_binding.specs.declared.typing.Typing.{Typing}
+use Rattle.cq_binding.specs.Bound.{aggregates_in, bound_condition, bound_value, column_place, from_table, group_items, group_place, in_groups, place_in, scope_of, view_source}
+use Rattle.cq_binding.specs.Refusal.{first_fault, item_place, value_place, where_place}
+use Rattle.cq_states.specs.State.{TableOf}
+use Rattle.cq_binding.specs.Typing.{◌and_then◌, Scope, added, fault_in, kept_value, negation_of, tested, typed}
 use Rattle.cq_binder.proofs.Faults.{first_fault_append, or_next}
 use Rattle.cq_exprs.proofs.Narrow.{typed_is_narrow}
 use Rattle.cq_exprs.specs.Expressions.{IsNarrow as IsNarrowIn, KeepSizes}

@@ -8,8 +8,8 @@ use Rattle.std.proofs.lemmas.Option.{slice_get-map, slice_get_read}
 use Rattle.cq_values.specs.Texts.{is_text}
 use Rattle.cq_bags.specs.Bag.{Weighted}
 use Rattle.cq_deltas.specs.declared.change.Addition.{Addition}
-use Rattle.cq_steps.specs.Refusal.{is_used}
-use Rattle.cq_steps.specs.State.{TableOf, ViewOf, view_named, view_place}
+use Rattle.cq_binding.specs.Refusal.{is_used}
+use Rattle.cq_states.specs.State.{TableOf, ViewOf, view_named, view_place}
 use Rattle.cq_views.specs.declared.view_def.ViewDef.{ViewDef}
 use Rattle.cq_engine.specs.Views.{NamedView, view_of, views_of, IsRight, AreRight, IsSame, AreSame, IsReady, AreReady, CanTake, CanAllTake, HasTaken, HaveTaken}
 use Rattle.cq_binder.proofs.Found.{has_place}

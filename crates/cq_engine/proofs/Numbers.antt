@@ -5,7 +5,7 @@ use Rattle.std.specs.List.{AllByRecursion, remove}
 use Rattle.std.proofs.lemmas.Bool.{eq-eqb, ne_eqb}
 use Rattle.cq_values.specs.Value.{Row}
 use Rattle.cq_bags.proofs.Totals.{by_test}
-use Rattle.cq_steps.specs.State.{TableOf, with_rows, holding, AreNumbered}
+use Rattle.cq_states.specs.State.{TableOf, with_rows, holding, AreNumbered}
 
 -- tables with numbers above another
 abbrev pub Above : ℕ → List TableOf → Type 0

@@ -19,8 +19,8 @@ use Rattle.cq_model.specs.declared.query.Source.TheVariants.{Table, View}
 use Rattle.cq_model.specs.Meaning.{Tables, MeaningInRange, items_of, keeps, meaning}
 use Rattle.cq_model.specs.Sizes.{column_sizes}
 use Rattle.cq_model.specs.Views.{tables_alone, view_bag, ViewInRange}
-use Rattle.cq_steps.specs.declared.fault.Fault.{Fault}
-use Rattle.cq_steps.specs.State.{TableOf, ViewOf, State, rows_in, tables_now, queries_of}
+use Rattle.cq_binding.specs.declared.fault.Fault.{Fault}
+use Rattle.cq_states.specs.State.{TableOf, ViewOf, State, rows_in, tables_now, queries_of}
 use Rattle.cq_deltas.specs.Additions.{AreTotals}
 use Rattle.cq_laws.specs.Sizes.{CountsOrAdds, IsSized, RowsKeepSizes}
 use Rattle.cq_binder.specs.Catalog.{alone}

@@ -11,10 +11,10 @@ use Rattle.cq_bags.proofs.Totals.{by_test}
 use Rattle.cq_bags.proofs.Bags.{same-sym, same-trans, filtered-respects, projected-respects}
 use Rattle.cq_bags.proofs.Canonicals.{bag_of-again, bag_of-weights, length-bag_of, same-bag_of}
 use Rattle.cq_model.specs.Expr.{Cond, Expr}
-use Rattle.cq_model.specs.declared.statement.ColumnDef.{ColumnDef}
+use Rattle.cq_values.specs.declared.column.ColumnDef.{ColumnDef}
 use Rattle.cq_model.specs.declared.query.Source.{Source}
 use Rattle.cq_model.specs.Meaning.{Tables, keeps, items_of, meaning}
-use Rattle.cq_steps.specs.State.{TableOf, empty_table, holding}
+use Rattle.cq_states.specs.State.{TableOf, empty_table, holding}
 use Rattle.cq_engine.specs.Commands.{plain}
 
 -- no rows are the empty bag

@@ -5,8 +5,8 @@ use Rattle.std.specs.List.{AllByRecursion}
 use Rattle.std.proofs.lemmas.Bool.{eq-eqb, eqb-false, eqb-true, ne_eqb}
 use Rattle.cq_values.specs.Value.{Row}
 use Rattle.cq_bags.proofs.Totals.{by_test}
-use Rattle.cq_steps.specs.Refusal.{is_used}
-use Rattle.cq_steps.specs.State.{TableOf, rows_in, AreNumbered}
+use Rattle.cq_binding.specs.Refusal.{is_used}
+use Rattle.cq_states.specs.State.{TableOf, rows_in, AreNumbered}
 use Rattle.cq_engine.specs.Views.{NamedView, views_of, IsStored, AreStored}
 use Rattle.cq_engine.proofs.Numbers.{above_at, others}
 

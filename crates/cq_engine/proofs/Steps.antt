@@ -7,19 +7,19 @@ use Rattle.cq_values.specs.Value.{Row}
 use Rattle.cq_bags.specs.Bag.{Weighted, once_each, difference}
 use Rattle.cq_bags.proofs.Bags.{same-refl}
 use Rattle.cq_bags.proofs.Totals.{by_test}
-use Rattle.cq_model.specs.declared.bound.Bound.{Bound}
-use Rattle.cq_model.specs.declared.bound.Bound.TheVariants as commands
+use Rattle.cq_binding.specs.declared.bound.Bound.{Bound}
+use Rattle.cq_binding.specs.declared.bound.Bound.TheVariants as commands
 use Rattle.cq_model.specs.Expr.{Cond}
 use Rattle.cq_model.specs.declared.query.Order.{Order}
 use Rattle.cq_model.specs.declared.query.Query.{Query}
-use Rattle.cq_model.specs.declared.statement.ColumnDef.{ColumnDef}
+use Rattle.cq_values.specs.declared.column.ColumnDef.{ColumnDef}
 use Rattle.cq_model.specs.Views.{is_view, sources_of}
 use Rattle.cq_model.specs.Write.{chosen, left_by}
 use Rattle.cq_steps.specs.declared.answer.Answer.{Answer}
 use Rattle.cq_steps.specs.declared.answer.Answer.TheVariants.{Done, Count, Rows}
-use Rattle.cq_steps.specs.declared.fault.Fault.{Fault}
-use Rattle.cq_steps.specs.Refusal.{MayRefuse}
-use Rattle.cq_steps.specs.State.{TableOf, ViewOf, State, rows_in, empty_table, with_rows, tables_now}
+use Rattle.cq_binding.specs.declared.fault.Fault.{Fault}
+use Rattle.cq_binding.specs.Refusal.{MayRefuse}
+use Rattle.cq_states.specs.State.{TableOf, ViewOf, State, rows_in, empty_table, with_rows, tables_now}
 use Rattle.cq_steps.specs.Step.{at_epoch, new_view, reach, taken_on, written, AreBetween, Leads, Writes}
 use Rattle.cq_engine.specs.Commands.{present, IsDone, IsRefused, Selects}
 

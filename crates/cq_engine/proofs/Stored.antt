@@ -13,14 +13,14 @@ use Rattle.cq_values.specs.Order.{row_cmp}
 use Rattle.cq_values.specs.Value.{Row}
 use Rattle.cq_bags.specs.Canonical.{bag_of, with_row, sorted_by}
 use Rattle.cq_bags.proofs.Totals.{by_test}
-use Rattle.cq_model.specs.declared.statement.ColumnDef.{ColumnDef}
-use Rattle.cq_model.specs.declared.statement.Constant.{Constant}
-use Rattle.cq_model.specs.declared.statement.Constant.TheVariants as constants
-use Rattle.cq_model.specs.declared.statement.Literal.{Literal}
+use Rattle.cq_values.specs.declared.column.ColumnDef.{ColumnDef}
+use Rattle.cq_language.specs.declared.statement.Constant.{Constant}
+use Rattle.cq_language.specs.declared.statement.Constant.TheVariants as constants
+use Rattle.cq_language.specs.declared.statement.Literal.{Literal}
 use Rattle.cq_model.specs.Width.{value_size}
-use Rattle.cq_steps.specs.declared.fault.Fault.{Fault}
-use Rattle.cq_steps.specs.Bound.{constant_value, literal_value, row_of}
-use Rattle.cq_steps.specs.Refusal.{first_fault, fits_column, is_type, constant_place, constant_places, row_places}
+use Rattle.cq_binding.specs.declared.fault.Fault.{Fault}
+use Rattle.cq_binding.specs.Bound.{constant_value, literal_value, row_of}
+use Rattle.cq_binding.specs.Refusal.{first_fault, fits_column, is_type, constant_place, constant_places, row_places}
 use Rattle.cq_engine.specs.Views.{IsStored}
 use Rattle.cq_binder.proofs.Faults.{first_fault_append}
 

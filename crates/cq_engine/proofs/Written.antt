@@ -10,7 +10,7 @@ use Rattle.cq_bags.specs.Canonical.{bag_of}
 use Rattle.cq_bags.proofs.Canonicals.{length-bag_of}
 use Rattle.cq_bags.proofs.Totals.{by_test}
 use Rattle.cq_deltas.specs.declared.change.Addition.{Addition}
-use Rattle.cq_steps.specs.State.{TableOf, ViewOf, AreNumbered, holding, rows_in, with_rows}
+use Rattle.cq_states.specs.State.{TableOf, ViewOf, AreNumbered, holding, rows_in, with_rows}
 use Rattle.cq_views.specs.declared.view_def.ViewDef.{ViewDef}
 use Rattle.cq_views.specs.Small.{AreSmallFor, IsSmallFor}
 use Rattle.cq_views.specs.View.{IsNarrowFor, changed}

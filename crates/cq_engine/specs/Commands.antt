@@ -5,8 +5,8 @@ use Rattle.cq_values.specs.Value.{Row}
 use Rattle.cq_bags.specs.Listing.{IsListing}
 use Rattle.cq_deltas.specs.declared.fault.ToldFault.{ToldFault}
 use Rattle.cq_deltas.specs.declared.fault.ToldFault.TheVariants as told
-use Rattle.cq_model.specs.declared.bound.Bound.{Bound}
-use Rattle.cq_model.specs.declared.bound.Bound.TheVariants as commands
+use Rattle.cq_binding.specs.declared.bound.Bound.{Bound}
+use Rattle.cq_binding.specs.declared.bound.Bound.TheVariants as commands
 use Rattle.cq_model.specs.Expr.{Cond, Expr}
 use Rattle.cq_model.specs.declared.query.Query.{Query}
 use Rattle.cq_model.specs.declared.query.Shape.TheVariants.{Plain}
@@ -16,10 +16,10 @@ use Rattle.cq_model.specs.Meaning.{Tables, MeaningInRange, meaning}
 use Rattle.cq_model.specs.Sizes.{column_sizes}
 use Rattle.cq_model.specs.Views.{with_views, AnswerInRange}
 use Rattle.cq_steps.specs.declared.answer.Answer.{Answer}
-use Rattle.cq_steps.specs.declared.fault.Fault.{Fault}
-use Rattle.cq_steps.specs.declared.fault.Fault.TheVariants.{Memory, SumOutOfRange, TableFull}
-use Rattle.cq_steps.specs.Refusal.{fault_if, is_used, MayRefuse}
-use Rattle.cq_steps.specs.State.{TableOf, ViewOf, State, rows_in, tables_now, queries_of}
+use Rattle.cq_binding.specs.declared.fault.Fault.{Fault}
+use Rattle.cq_binding.specs.declared.fault.Fault.TheVariants.{Memory, SumOutOfRange, TableFull}
+use Rattle.cq_binding.specs.Refusal.{fault_if, is_used, MayRefuse}
+use Rattle.cq_states.specs.State.{TableOf, ViewOf, State, rows_in, tables_now, queries_of}
 use Rattle.cq_steps.specs.Step.{Accepts, IsTooLarge, Trims, at_present}
 use Rattle.cq_binder.specs.Catalog.{alone}
 use Rattle.cq_views.specs.declared.view_def.ViewDef.{ViewDef}

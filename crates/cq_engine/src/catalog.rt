@@ -1,6 +1,6 @@
 //! The names of the engine's tables and views.
 ghost use Rattle.std.specs.Prelude.{◌≡◌, option_map};
-ghost use Rattle.cq_steps.specs.State.{view_named};
+ghost use Rattle.cq_states.specs.State.{view_named};
 ghost use Rattle.cq_views.specs.View.{query_of};
 ghost use Rattle.cq_engine.specs.Views.{views_of};
 
@@ -25,7 +25,7 @@ impl<'a> Model for EngineCatalog<'a> {
     ghost use Rattle.std.specs.Prelude.{List};
     ghost use Rattle.cq_model.specs.contracts.expr.Cond as cond;
     ghost use Rattle.cq_model.specs.contracts.expr.Expr as expr;
-    ghost use Rattle.cq_steps.specs.State.{TableOf, ViewOf};
+    ghost use Rattle.cq_states.specs.State.{TableOf, ViewOf};
     ghost use Rattle.cq_engine.specs.Views.{views_of};
 
     ghost Value = { List TableOf × List ViewOf };

@@ -4,7 +4,8 @@ ghost use Rattle.cq_values.specs.Truth.{is_true};
 ghost use Rattle.cq_model.specs.Meaning.{keeps};
 ghost use Rattle.cq_engine.specs.Bound.{IsNarrowAt};
 
-use cq_model::{Cond, holds_row};
+use cq_eval::holds_row;
+use cq_model::Cond;
 use cq_values::{Truth, Value};
 
 /// Whether WHERE keeps the row, as it does each where it is absent.

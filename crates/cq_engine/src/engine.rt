@@ -1,7 +1,7 @@
 //! The engine, and one step of it.
 ghost use Rattle.std.specs.Prelude.{◌≡◌, ◌<◌, ◌+◌, ◌-◌, ◌^◌, Ok, option_map};
-ghost use Rattle.cq_model.specs.declared.bound.Bound.TheVariants as commands;
-ghost use Rattle.cq_steps.specs.State.{first_state, view_named};
+ghost use Rattle.cq_binding.specs.declared.bound.Bound.TheVariants as commands;
+ghost use Rattle.cq_states.specs.State.{first_state, view_named};
 ghost use Rattle.cq_steps.specs.Step.{Step};
 ghost use Rattle.cq_engine.specs.declared.answer_source.AnswerSource.TheVariants.{Tables};
 ghost use Rattle.cq_engine.specs.Commands.{CanCarryOut, CarriesOut};
@@ -17,9 +17,11 @@ use crate::tables::{delete_in, drop_in, insert_in};
 use crate::view::View;
 use crate::views::{drop_view_at, view_place};
 use cq_binder::bind;
-use cq_model::{Bound, ColumnDef, Cond, Order, Query, Statement};
-use cq_steps::{Answer, Fault};
-use cq_values::{Row, Seq, Text};
+use cq_binding::{Bound, Fault};
+use cq_language::Statement;
+use cq_model::{Cond, Order, Query};
+use cq_steps::Answer;
+use cq_values::{ColumnDef, Row, Seq, Text};
 use std::alloc::Global;
 use std::marker::Model;
 
@@ -42,7 +44,7 @@ impl Model for Engine {
     ghost use Rattle.std.specs.Prelude.{◌≤◌};
     ghost use Rattle.cq_model.specs.contracts.expr.Cond as cond;
     ghost use Rattle.cq_model.specs.contracts.expr.Expr as expr;
-    ghost use Rattle.cq_steps.specs.State.{State, AreNumbered};
+    ghost use Rattle.cq_states.specs.State.{State, AreNumbered};
     ghost use Rattle.cq_engine.specs.Commands.{present};
     ghost use Rattle.cq_engine.specs.Views.{AreRight, AreStored, views_of};
 

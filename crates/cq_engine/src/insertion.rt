@@ -2,7 +2,7 @@
 ghost use Rattle.std.specs.Prelude.{◌≡◌, ◌++◌, IfOk, OnErr, OnOk, map};
 ghost use Rattle.std.specs.List.{AllByRecursion};
 ghost use Rattle.cq_bags.specs.Bag.{once_each};
-ghost use Rattle.cq_steps.specs.State.{holding};
+ghost use Rattle.cq_states.specs.State.{holding};
 ghost use Rattle.cq_views.specs.View.{IsNarrowFor};
 ghost use Rattle.cq_engine.specs.Views.{AreReady, AreSame, Follow, IsStored, StandOn};
 

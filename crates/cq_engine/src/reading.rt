@@ -1,7 +1,7 @@
 //! SELECT from a table or from a view.
 ghost use Rattle.std.specs.Prelude.{◌≡◌, ℕ};
 ghost use Rattle.cq_model.specs.Sizes.{column_sizes};
-ghost use Rattle.cq_steps.specs.State.{AreNumbered};
+ghost use Rattle.cq_states.specs.State.{AreNumbered};
 ghost use Rattle.cq_views.specs.View.{query_of};
 ghost use Rattle.cq_engine.specs.Bound.{IsWithinSized};
 ghost use Rattle.cq_engine.specs.Commands.{CanRead, Selects, SelectsKept, told_as};
@@ -11,10 +11,10 @@ use crate::selection::list;
 use crate::table::Table;
 use crate::tables::place_numbered;
 use crate::view::View;
+use cq_binding::Fault;
 use cq_deltas::ToldFault;
 use cq_laws::rows_keep_sizes;
 use cq_model::{Query, Source};
-use cq_steps::Fault;
 use cq_values::{Row, Seq};
 use std::alloc::Global;
 

@@ -8,7 +8,8 @@ ghost use Rattle.cq_engine.specs.Bound.{AreNarrowAt, IsWithin};
 
 use crate::condition::keeps;
 use cq_bags::listed;
-use cq_model::{Expr, Query, eval_row};
+use cq_eval::eval_row;
+use cq_model::{Expr, Query};
 use cq_values::{Row, Seq, Value};
 use std::alloc::{AllocError, Global};
 

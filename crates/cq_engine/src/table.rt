@@ -3,13 +3,13 @@ ghost use Rattle.std.specs.List.{AllByRecursion};
 ghost use Rattle.std.specs.Prelude.{◌++◌, ◌≡◌, ◌<◌, ◌^◌, IfOk, OnErr, OnOk, filter, length, map, not};
 ghost use Rattle.cq_values.specs.Texts.{is_text};
 ghost use Rattle.cq_bags.specs.Canonical.{bag_of};
-ghost use Rattle.cq_steps.specs.State.{empty_table, holding};
+ghost use Rattle.cq_states.specs.State.{empty_table, holding};
 ghost use Rattle.cq_model.specs.Meaning.{keeps};
 ghost use Rattle.cq_engine.specs.Bound.{IsNarrowAt};
 
 use crate::condition::keeps;
-use cq_model::{ColumnDef, Cond};
-use cq_values::{Row, Seq, Text};
+use cq_model::Cond;
+use cq_values::{ColumnDef, Row, Seq, Text};
 use std::alloc::{AllocError, Global};
 use std::marker::Model;
 
@@ -25,7 +25,7 @@ pub struct Table {
 
 impl Model for Table {
     ghost use Rattle.cq_bags.specs.Canonical.{bag_of};
-    ghost use Rattle.cq_steps.specs.State.{TableOf};
+    ghost use Rattle.cq_states.specs.State.{TableOf};
 
     ghost Value = { TableOf };
 

@@ -3,9 +3,9 @@ ghost use Rattle.std.specs.Prelude.{◌≡◌, ◌<◌, ◌+◌, ◌++◌, ◌==
 ghost use Rattle.std.specs.List.{AllByRecursion};
 ghost use Rattle.cq_values.specs.Texts.{is_text};
 ghost use Rattle.cq_model.specs.Write.{chosen, left_by};
-ghost use Rattle.cq_steps.specs.declared.fault.Fault.TheVariants.{TableFull};
-ghost use Rattle.cq_steps.specs.Refusal.{MayRefuse, fault_if};
-ghost use Rattle.cq_steps.specs.State.{AreNumbered, TableOf, rows_in, table_named, with_rows};
+ghost use Rattle.cq_binding.specs.declared.fault.Fault.TheVariants.{TableFull};
+ghost use Rattle.cq_binding.specs.Refusal.{MayRefuse, fault_if};
+ghost use Rattle.cq_states.specs.State.{AreNumbered, TableOf, rows_in, table_named, with_rows};
 ghost use Rattle.cq_engine.specs.Bound.{IsNarrowAt};
 ghost use Rattle.cq_engine.specs.Commands.{IsThere, room_for};
 ghost use Rattle.cq_engine.specs.Views.{AreRight, AreSame, AreStored, IsStored, Moved};
@@ -14,8 +14,8 @@ use crate::deletion::delete_from;
 use crate::insertion::insert_into;
 use crate::table::Table;
 use crate::view::View;
+use cq_binding::Fault;
 use cq_model::Cond;
-use cq_steps::Fault;
 use cq_values::Row;
 use std::alloc::{AllocError, Global};
 

@@ -11,8 +11,7 @@ ghost use Rattle.cq_views.specs.View.{IsNarrowFor, StandsFor, changed, query_of}
 ghost use Rattle.cq_engine.specs.Views.{CanTake, HasTaken, IsReady, IsSame};
 
 use cq_deltas::ToldFault;
-use cq_model::ColumnDef;
-use cq_values::{Row, Seq, Text};
+use cq_values::{ColumnDef, Row, Seq, Text};
 use cq_views::{Pending, ViewDef, ViewState};
 use std::alloc::{AllocError, Global};
 use std::marker::Model;

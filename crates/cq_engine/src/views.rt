@@ -2,8 +2,8 @@
 ghost use Rattle.std.specs.Prelude.{◌≡◌, ◌<◌, ◌==◌, IfOk, length, map, position};
 ghost use Rattle.std.specs.List.{AllByRecursion, list_any, remove};
 ghost use Rattle.cq_values.specs.Texts.{is_text};
-ghost use Rattle.cq_steps.specs.Refusal.{is_used};
-ghost use Rattle.cq_steps.specs.State.{view_place};
+ghost use Rattle.cq_binding.specs.Refusal.{is_used};
+ghost use Rattle.cq_states.specs.State.{view_place};
 ghost use Rattle.cq_views.specs.View.{IsNarrowFor, changed};
 ghost use Rattle.cq_engine.specs.Views.{AreReady, AreSame, CanAllTake, HaveTaken, views_of};
 

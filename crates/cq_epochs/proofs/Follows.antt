@@ -9,12 +9,12 @@ use Rattle.cq_values.specs.Value.{Row}
 use Rattle.cq_bags.specs.Bag.{Weighted, weight_of, SameBag, IsBag, once_each, negative, difference}
 use Rattle.cq_bags.proofs.Totals.{by_test}
 use Rattle.cq_bags.proofs.Listings.{weight_of-once_each}
-use Rattle.cq_model.specs.declared.bound.Bound.{Bound}
-use Rattle.cq_model.specs.declared.bound.Bound.TheVariants as commands
-use Rattle.cq_model.specs.declared.statement.ColumnDef.{ColumnDef}
+use Rattle.cq_binding.specs.declared.bound.Bound.{Bound}
+use Rattle.cq_binding.specs.declared.bound.Bound.TheVariants as commands
+use Rattle.cq_values.specs.declared.column.ColumnDef.{ColumnDef}
 use Rattle.cq_model.specs.Write.{left_by, updated}
 use Rattle.cq_steps.specs.declared.answer.Answer.{Answer}
-use Rattle.cq_steps.specs.State.{ViewOf, State, rows_in, with_rows, tables_now, change_of, above, tables_at}
+use Rattle.cq_states.specs.State.{ViewOf, State, rows_in, with_rows, tables_now, change_of, above, tables_at}
 use Rattle.cq_steps.specs.Step.{with_tables, with_all_views, created, new_view, written, Writes, reach, taken_on, refreshed, Leads, without_front, Trims, Accepts}
 use Rattle.cq_epochs.specs.Sound.{IsThere, Fits, IsInTime, IsSound}
 use Rattle.cq_epochs.specs.Laws.{IsNewTable}

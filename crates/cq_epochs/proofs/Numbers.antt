@@ -5,8 +5,8 @@ use Rattle.std.specs.List.{AllByRecursion}
 use Rattle.cq_values.specs.Value.{Row}
 use Rattle.cq_bags.specs.Canonical.{bag_of}
 use Rattle.cq_bags.proofs.Totals.{by_test}
-use Rattle.cq_model.specs.declared.statement.ColumnDef.{ColumnDef}
-use Rattle.cq_steps.specs.State.{TableOf, rows_in, empty_table, with_rows, AreNumbered}
+use Rattle.cq_values.specs.declared.column.ColumnDef.{ColumnDef}
+use Rattle.cq_states.specs.State.{TableOf, rows_in, empty_table, with_rows, AreNumbered}
 use Rattle.cq_epochs.specs.Sound.{IsThere}
 use Rattle.cq_epochs.proofs.Each.{each-append, each-filter}
 

@@ -11,11 +11,11 @@ use Rattle.cq_bags.proofs.Canonicals.{same-bag_of}
 use Rattle.cq_model.specs.declared.query.Query.{Query}
 use Rattle.cq_model.specs.declared.query.Source.{Source}
 use Rattle.cq_model.specs.declared.query.Source.TheVariants.{Table, View}
-use Rattle.cq_model.specs.Delta.{SameTables, changed, joined_change}
+use Rattle.cq_kept.specs.Delta.{SameTables, changed, joined_change}
 use Rattle.cq_model.specs.Meaning.{joined_rows}
 use Rattle.cq_model.specs.Views.{tables_alone}
 use Rattle.cq_laws.proofs.Meanings.{joined_rows-respects, joined_rows-changed}
-use Rattle.cq_steps.specs.State.{ChangeOf, State, rows_in, tables_now, change_of, above, tables_at}
+use Rattle.cq_states.specs.State.{ChangeOf, State, rows_in, tables_now, change_of, above, tables_at}
 use Rattle.cq_steps.specs.Step.{written, Writes, without_front}
 use Rattle.cq_epochs.specs.Sound.{IsThere, IsSound}
 use Rattle.cq_epochs.specs.Laws.{LeadsOn, IsNext, GoesOneOn}

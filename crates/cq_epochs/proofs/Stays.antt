@@ -3,14 +3,14 @@ use Rattle.std.proofs.Common.{◌≡◌, ℕ, List, [], ◌∷◌, map, Option, 
 use Rattle.std.specs.Prelude.{option_map}
 use Rattle.cq_values.specs.Texts.{is_text}
 use Rattle.cq_bags.proofs.Totals.{by_test}
-use Rattle.cq_model.specs.declared.bound.Bound.{Bound}
-use Rattle.cq_model.specs.declared.bound.Bound.TheVariants as commands
-use Rattle.cq_model.specs.declared.statement.Statement.{Statement}
-use Rattle.cq_model.specs.declared.statement.Statement.TheVariants as statements
+use Rattle.cq_binding.specs.declared.bound.Bound.{Bound}
+use Rattle.cq_binding.specs.declared.bound.Bound.TheVariants as commands
+use Rattle.cq_language.specs.declared.statement.Statement.{Statement}
+use Rattle.cq_language.specs.declared.statement.Statement.TheVariants as statements
 use Rattle.cq_steps.specs.declared.answer.Answer.{Answer}
-use Rattle.cq_steps.specs.declared.fault.Fault.{Fault}
-use Rattle.cq_steps.specs.Bound.{place_in, row_of, bound_condition, Named, source_named, bound_select, bound, from_table, grouped_query, scope_of, view_columns, view_source}
-use Rattle.cq_steps.specs.State.{TableOf, State, table_named, view_place, first_state}
+use Rattle.cq_binding.specs.declared.fault.Fault.{Fault}
+use Rattle.cq_binding.specs.Bound.{place_in, row_of, bound_condition, Named, source_named, bound_select, bound, from_table, grouped_query, scope_of, view_columns, view_source}
+use Rattle.cq_states.specs.State.{TableOf, State, table_named, view_place, first_state}
 use Rattle.cq_steps.specs.Step.{reach, at_epoch, Does, at_present, Trims, GivesUp, Refuses, by_walk, for_memory, source_failed, memory_on_the_way, too_large, Step}
 use Rattle.cq_epochs.specs.Sound.{IsThere, Fits, IsSound}
 use Rattle.cq_epochs.proofs.Numbers.{there-behind}

@@ -3,10 +3,10 @@ use Rattle.std.proofs.Common.{ℕ, ◌+◌, ◌≤◌, List, [], ◌∷◌, map,
 use Rattle.std.specs.List.{AllByRecursion, list_any}
 use Rattle.std.proofs.lemmas.Bool.Decides.{nat_tests}
 use Rattle.cq_bags.proofs.Totals.{by_test}
-use Rattle.cq_model.specs.declared.bound.Bound.{Bound}
-use Rattle.cq_model.specs.declared.bound.Bound.TheVariants as commands
+use Rattle.cq_binding.specs.declared.bound.Bound.{Bound}
+use Rattle.cq_binding.specs.declared.bound.Bound.TheVariants as commands
 use Rattle.cq_model.specs.Views.{sources_of, is_view}
-use Rattle.cq_steps.specs.State.{ViewOf, State}
+use Rattle.cq_states.specs.State.{ViewOf, State}
 use Rattle.cq_steps.specs.Step.{reach, at_epoch, taken_on, AreBetween}
 use Rattle.cq_epochs.specs.Sound.{IsInTime}
 

@@ -2,17 +2,17 @@
 use Rattle.std.specs.Prelude.{◌≡◌, ◌≢◌, ℕ, ◌+◌, ◌-◌, ◌≤◌, ◌<◌, List, [], ◌∷◌, ◌++◌, Some, Result, slice_get}
 use Rattle.cq_values.specs.Value.{Row}
 use Rattle.cq_bags.specs.Bag.{Weighted, SameBag}
-use Rattle.cq_model.specs.declared.bound.Bound.{Bound}
-use Rattle.cq_model.specs.declared.bound.Bound.TheVariants as commands
+use Rattle.cq_binding.specs.declared.bound.Bound.{Bound}
+use Rattle.cq_binding.specs.declared.bound.Bound.TheVariants as commands
 use Rattle.cq_model.specs.declared.query.Query.{Query}
-use Rattle.cq_model.specs.declared.statement.ColumnDef.{ColumnDef}
-use Rattle.cq_model.specs.declared.statement.Statement.{Statement}
-use Rattle.cq_model.specs.Delta.{joined_change}
+use Rattle.cq_values.specs.declared.column.ColumnDef.{ColumnDef}
+use Rattle.cq_language.specs.declared.statement.Statement.{Statement}
+use Rattle.cq_kept.specs.Delta.{joined_change}
 use Rattle.cq_model.specs.Meaning.{joined_rows}
 use Rattle.cq_model.specs.Views.{tables_alone}
 use Rattle.cq_steps.specs.declared.answer.Answer.{Answer}
-use Rattle.cq_steps.specs.declared.fault.Fault.{Fault}
-use Rattle.cq_steps.specs.State.{ChangeOf, State, rows_in, tables_now, change_of, tables_at, first_state}
+use Rattle.cq_binding.specs.declared.fault.Fault.{Fault}
+use Rattle.cq_states.specs.State.{ChangeOf, State, rows_in, tables_now, change_of, tables_at, first_state}
 use Rattle.cq_steps.specs.Step.{Writes, Accepts, Step}
 use Rattle.cq_epochs.specs.Sound.{IsThere, Fits, IsSound}
 

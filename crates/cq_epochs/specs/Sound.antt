@@ -2,9 +2,9 @@
 use Rattle.std.specs.Prelude.{◌≡◌, ℕ, ◌+◌, ◌≤◌, ◌<◌, ◌==◌, true, List, length}
 use Rattle.std.specs.List.{AllByRecursion, list_any}
 use Rattle.cq_bags.specs.Bag.{IsBag}
-use Rattle.cq_model.specs.declared.bound.Bound.{Bound}
-use Rattle.cq_model.specs.declared.bound.Bound.TheVariants as commands
-use Rattle.cq_steps.specs.State.{TableOf, ViewOf, State, AreNumbered, tables_at}
+use Rattle.cq_binding.specs.declared.bound.Bound.{Bound}
+use Rattle.cq_binding.specs.declared.bound.Bound.TheVariants as commands
+use Rattle.cq_states.specs.State.{TableOf, ViewOf, State, AreNumbered, tables_at}
 
 -- a table of this number is there
 abbrev pub IsThere : ℕ → List TableOf → Type 0

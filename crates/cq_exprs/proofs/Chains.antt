@@ -1,13 +1,13 @@
 -- What a chain gives, walked through from the left.
 use Rattle.std.proofs.Common.{◌≡◌, List, [], ◌∷◌, Result, Ok, Err, length, take, refl, ap, ◌∙◌}
 use Rattle.std.specs.List.{fold}
-use Rattle.cq_model.specs.declared.written.Sign.{Sign}
-use Rattle.cq_model.specs.declared.written.Sign.TheVariants as signs
-use Rattle.cq_model.specs.Written as tree
-use Rattle.cq_model.specs.Written.{Written, signed, terms}
-use Rattle.cq_steps.specs.declared.fault.Fault.{Fault}
-use Rattle.cq_steps.specs.declared.typing.Typing.{Typing}
-use Rattle.cq_steps.specs.Typing.{◌and_then◌, Scope, typed}
+use Rattle.cq_language.specs.declared.written.Sign.{Sign}
+use Rattle.cq_language.specs.declared.written.Sign.TheVariants as signs
+use Rattle.cq_language.specs.Written as tree
+use Rattle.cq_language.specs.Written.{Written, signed, terms}
+use Rattle.cq_binding.specs.declared.fault.Fault.{Fault}
+use Rattle.cq_binding.specs.declared.typing.Typing.{Typing}
+use Rattle.cq_binding.specs.Typing.{◌and_then◌, Scope, typed}
 use Rattle.cq_exprs.specs.declared.walk.Operator.{Operator}
 use Rattle.cq_exprs.specs.declared.walk.Operator.TheVariants.{Times, Plus, Connect}
 use Rattle.cq_exprs.specs.Chains.{chained, joined}

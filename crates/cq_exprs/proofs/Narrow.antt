@@ -7,17 +7,17 @@ use Rattle.std.proofs.lemmas.Nat.{mul-le}
 use Rattle.cq_values.specs.Dates.{day_named}
 use Rattle.cq_values.specs.declared.ty.Ty.TheVariants as types
 use Rattle.cq_values.specs.declared.value.Value.TheVariants as values
-use Rattle.cq_model.specs.declared.expr.DayPart.{DayPart}
-use Rattle.cq_model.specs.declared.written.ColumnName.{ColumnName}
+use Rattle.cq_values.specs.declared.day_part.DayPart.{DayPart}
+use Rattle.cq_language.specs.declared.written.ColumnName.{ColumnName}
 use Rattle.cq_model.specs.Expr.{Cond}
-use Rattle.cq_model.specs.Placed.{named_day, placed_expr, placed_exprs, turned, written_number}
+use Rattle.cq_binding.specs.Placed.{named_day, placed_expr, placed_exprs, turned, written_number}
 use Rattle.cq_model.specs.Width.{part_limit, value_size, widest, widest_in, width}
-use Rattle.cq_model.specs.Written.{Written, Choices, Number, Text, Date, Null, Column, Extract, Parens, Negative, Times, Plus, Minus, Compare, IsNull, Between, In, Like, Not, And, Or, NoChoice, Choice}
-use Rattle.cq_steps.specs.declared.fault.Fault.{Fault}
-use Rattle.cq_steps.specs.declared.fault.Fault.TheVariants.{AggregateMisplaced, TooWide, TypeMismatch, UnknownTable}
-use Rattle.cq_steps.specs.declared.typing.Typing.{Typing}
-use Rattle.cq_steps.specs.Typing.{◌and_then◌, Scope, agree, arithmetic, between_them, column_at, column_typing, compared_with, connected, is_of, knows, like_of, listed, may_read, negation_of, negative, number_of, part_of, product_of, sum_of, tested, text_of, type_at, typed, unless, value_of}
-use Rattle.cq_steps.specs.Bound.{place_of}
+use Rattle.cq_language.specs.Written.{Written, Choices, Number, Text, Date, Null, Column, Extract, Parens, Negative, Times, Plus, Minus, Compare, IsNull, Between, In, Like, Not, And, Or, NoChoice, Choice}
+use Rattle.cq_binding.specs.declared.fault.Fault.{Fault}
+use Rattle.cq_binding.specs.declared.fault.Fault.TheVariants.{AggregateMisplaced, TooWide, TypeMismatch, UnknownTable}
+use Rattle.cq_binding.specs.declared.typing.Typing.{Typing}
+use Rattle.cq_binding.specs.Typing.{◌and_then◌, Scope, agree, arithmetic, between_them, column_at, column_typing, compared_with, connected, is_of, knows, like_of, listed, may_read, negation_of, negative, number_of, part_of, product_of, sum_of, tested, text_of, type_at, typed, unless, value_of}
+use Rattle.cq_binding.specs.Bound.{place_of}
 use Rattle.cq_exprs.specs.Expressions.{IsNarrow, KeepSizes, TypedIsNarrow}
 
 -- what stands behind a first step, stands behind what that step gives

@@ -2,15 +2,15 @@
 use Rattle.std.proofs.Common.{arith, ◌≡◌, ℕ, ◌≤◌, List, [], ◌∷◌, length, min, take, map, Ok, Err, zero, suc, sym, ◌∙◌, ap, ap₂, Vec, Box, Global, ◌⊎◌, inl, inr}
 use Rattle.std.proofs.lemmas.List.{take-map, take_min}
 use denote.Param.Weighed.{most}
-use Rattle.cq_model.specs.declared.written.ExprNode.{ExprNode}
-use Rattle.cq_model.specs.declared.written.ExprNode.TheFolds.{fold-roll-ExprNode}
-use Rattle.cq_model.specs.declared.written.ExprNode.TheOpen as node
-use Rattle.cq_model.specs.declared.written.ExprNode.TheVariants as nodes
-use Rattle.cq_model.specs.declared.written.Sign.{Sign}
-use Rattle.cq_model.specs.Written.{Written, written, written_step}
-use Rattle.cq_steps.specs.declared.fault.Fault.{Fault}
-use Rattle.cq_steps.specs.declared.typing.Typing.{Typing}
-use Rattle.cq_steps.specs.Typing.{◌and_then◌, Scope, typed}
+use Rattle.cq_language.specs.declared.written.ExprNode.{ExprNode}
+use Rattle.cq_language.specs.declared.written.ExprNode.TheFolds.{fold-roll-ExprNode}
+use Rattle.cq_language.specs.declared.written.ExprNode.TheOpen as node
+use Rattle.cq_language.specs.declared.written.ExprNode.TheVariants as nodes
+use Rattle.cq_language.specs.declared.written.Sign.{Sign}
+use Rattle.cq_language.specs.Written.{Written, written, written_step}
+use Rattle.cq_binding.specs.declared.fault.Fault.{Fault}
+use Rattle.cq_binding.specs.declared.typing.Typing.{Typing}
+use Rattle.cq_binding.specs.Typing.{◌and_then◌, Scope, typed}
 use Rattle.cq_exprs.specs.declared.walk.Operator.{Operator}
 use Rattle.cq_exprs.specs.declared.walk.Operator.TheVariants.{Times, Plus, Connect}
 use Rattle.cq_exprs.specs.Chains.{chained}

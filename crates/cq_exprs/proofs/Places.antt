@@ -17,20 +17,20 @@ use Rattle.cq_model.specs.declared.expr.ExprTree.TheVariants as trees
 use Rattle.cq_model.specs.declared.expr.ExprTree.TheVariants.{rolls-Literal}
 use Rattle.cq_model.specs.declared.expr.CondTree.TheVariants as conds
 use Rattle.cq_model.specs.declared.expr.ExprTree.TheViews as view
-use Rattle.cq_model.specs.declared.written.ColumnName.{ColumnName}
-use Rattle.cq_model.specs.declared.written.ExprNode.{ExprNode}
-use Rattle.cq_model.specs.declared.written.ExprNode.TheOpen as node
-use Rattle.cq_model.specs.declared.written.ExprNode.TheViews as nodes
-use Rattle.cq_model.specs.declared.written.ExprNode.TheFolds.{fold-roll-ExprNode}
-use Rattle.cq_model.specs.declared.written.ExprNode.TheVariants.{rolls-And, rolls-In, rolls-Or, rolls-Product, rolls-Sum}
-use Rattle.cq_model.specs.declared.written.Sign.{Sign}
-use Rattle.cq_model.specs.declared.written.Sign.TheVariants as signs
+use Rattle.cq_language.specs.declared.written.ColumnName.{ColumnName}
+use Rattle.cq_language.specs.declared.written.ExprNode.{ExprNode}
+use Rattle.cq_language.specs.declared.written.ExprNode.TheOpen as node
+use Rattle.cq_language.specs.declared.written.ExprNode.TheViews as nodes
+use Rattle.cq_language.specs.declared.written.ExprNode.TheFolds.{fold-roll-ExprNode}
+use Rattle.cq_language.specs.declared.written.ExprNode.TheVariants.{rolls-And, rolls-In, rolls-Or, rolls-Product, rolls-Sum}
+use Rattle.cq_language.specs.declared.written.Sign.{Sign}
+use Rattle.cq_language.specs.declared.written.Sign.TheVariants as signs
 use Rattle.cq_model.specs.Expr.{Cond, Expr}
 use Rattle.cq_model.specs.Expr as placed
-use Rattle.cq_model.specs.Placed.{placed_cond, placed_expr, placed_exprs, turned}
+use Rattle.cq_binding.specs.Placed.{placed_cond, placed_expr, placed_exprs, turned}
 use Rattle.cq_model.specs.Trees.{cond_of, cond_step, expr_of, expr_step}
-use Rattle.cq_model.specs.Written.{Written, choices, signed, terms, written, written_step, Times, And, In, Or}
-use Rattle.cq_model.proofs.Trees.{through, tree-And, tree-Or, tree-Product, tree-Sum}
+use Rattle.cq_language.specs.Written.{Written, choices, signed, terms, written, written_step, Times, And, In, Or}
+use Rattle.cq_eval.proofs.Trees.{through, tree-And, tree-Or, tree-Product, tree-Sum}
 use Rattle.cq_exprs.specs.Terms.{later_terms, signed_term}
 
 module _ (first : Box ExprNode Global) (rest : Vec ExprNode Global) where

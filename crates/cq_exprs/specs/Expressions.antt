@@ -1,11 +1,11 @@
 -- Expressions whose names become places.
 use Rattle.std.specs.Prelude.{◌≡◌, ◌<◌, ◌≤◌, ◌^◌, ℕ, true, Some, option_map, Ok, slice_index_or}
-use Rattle.cq_model.specs.declared.written.ColumnName.{ColumnName}
+use Rattle.cq_language.specs.declared.written.ColumnName.{ColumnName}
 use Rattle.cq_model.specs.Width.{width, widest_in}
-use Rattle.cq_model.specs.Written.{Written}
-use Rattle.cq_steps.specs.declared.typing.Typing.{Typing}
-use Rattle.cq_steps.specs.Bound.{bound_condition, bound_value, place_of}
-use Rattle.cq_steps.specs.Typing.{Scope, column_at, may_read, typed}
+use Rattle.cq_language.specs.Written.{Written}
+use Rattle.cq_binding.specs.declared.typing.Typing.{Typing}
+use Rattle.cq_binding.specs.Bound.{bound_condition, bound_value, place_of}
+use Rattle.cq_binding.specs.Typing.{Scope, column_at, may_read, typed}
 use Rattle.cq_exprs.specs.declared.scope.Scope.{Scope as Source}
 
 -- the source with its name, its columns, their sizes and GROUP BY as lists

@@ -1,11 +1,11 @@
 -- The later terms of a sum, each with its sign.
 use Rattle.std.specs.Prelude.{ℕ, List, [], ◌∷◌}
-use Rattle.cq_model.specs.declared.written.ColumnName.{ColumnName}
-use Rattle.cq_model.specs.declared.written.Sign.{Sign}
-use Rattle.cq_model.specs.declared.written.Sign.TheVariants as signs
+use Rattle.cq_language.specs.declared.written.ColumnName.{ColumnName}
+use Rattle.cq_language.specs.declared.written.Sign.{Sign}
+use Rattle.cq_language.specs.declared.written.Sign.TheVariants as signs
 use Rattle.cq_model.specs.Expr.{Expr, Negate}
-use Rattle.cq_model.specs.Placed.{placed_expr}
-use Rattle.cq_model.specs.Written.{Written}
+use Rattle.cq_binding.specs.Placed.{placed_expr}
+use Rattle.cq_language.specs.Written.{Written}
 
 -- a term behind a minus is negated
 abbrev pub signed_term : Sign → Expr → Expr

@@ -1,16 +1,17 @@
 //! Expressions that are asked for as a whole: a condition as behind WHERE, a value as an item or behind an aggregate.
 ghost use Rattle.std.specs.Prelude.{◌≡◌, IfOk, MatchResult, None};
-ghost use Rattle.cq_steps.specs.Bound.{bound_condition, bound_value};
-ghost use Rattle.cq_steps.specs.Refusal.{MayRefuse};
-ghost use Rattle.cq_steps.specs.Typing.{condition_fault, kept_fault, kind_type, number_fault, type_of, typed, value_fault};
+ghost use Rattle.cq_binding.specs.Bound.{bound_condition, bound_value};
+ghost use Rattle.cq_binding.specs.Refusal.{MayRefuse};
+ghost use Rattle.cq_binding.specs.Typing.{condition_fault, kept_fault, kind_type, number_fault, type_of, typed, value_fault};
 ghost use Rattle.cq_exprs.specs.Expressions.{scope_of};
 
 use crate::placing::{cond_tree, expr_tree};
 use crate::scope::Scope;
 use crate::typings;
 use crate::walk::typing_of;
-use cq_model::{Cond, Expr, SqlExpr};
-use cq_steps::{Fault, Kind};
+use cq_binding::{Fault, Kind};
+use cq_language::SqlExpr;
+use cq_model::{Cond, Expr};
 use cq_values::Ty;
 use std::alloc::{AllocError, Global};
 

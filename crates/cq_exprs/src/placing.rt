@@ -1,15 +1,16 @@
 //! What is written with places for names.
 ghost use Rattle.std.specs.Prelude.{◌==◌, ◌||◌, ◌≡◌, IfOk, length, map};
 ghost use Rattle.cq_model.specs.Expr as terms;
-ghost use Rattle.cq_model.specs.Placed.{named_day, placed_cond, placed_expr, turned, written_number};
+ghost use Rattle.cq_binding.specs.Placed.{named_day, placed_cond, placed_expr, turned, written_number};
 ghost use Rattle.cq_model.specs.Trees.{cond_of, expr_of};
-ghost use Rattle.cq_model.specs.Written.{written};
-ghost use Rattle.cq_steps.specs.Bound.{place_of};
+ghost use Rattle.cq_language.specs.Written.{written};
+ghost use Rattle.cq_binding.specs.Bound.{place_of};
 ghost use Rattle.cq_exprs.specs.Expressions.{scope_of};
 ghost use Rattle.cq_exprs.specs.Terms.{later_terms, signed_term};
 
 use crate::scope::Scope;
-use cq_model::{CondTree, ExprNode, ExprTree, Sign};
+use cq_language::{ExprNode, Sign};
+use cq_model::{CondTree, ExprTree};
 use cq_values::{Value, date_of};
 use std::alloc::{AllocError, Global};
 

@@ -2,12 +2,12 @@
 ghost use Rattle.std.specs.List.{list_any};
 ghost use Rattle.std.specs.Prelude.{◌≡◌, position};
 ghost use Rattle.cq_values.specs.Texts.{is_text};
-ghost use Rattle.cq_steps.specs.Bound.{column_place, in_groups, place_of};
-ghost use Rattle.cq_steps.specs.Typing.{may_read};
+ghost use Rattle.cq_binding.specs.Bound.{column_place, in_groups, place_of};
+ghost use Rattle.cq_binding.specs.Typing.{may_read};
 ghost use Rattle.cq_exprs.specs.Expressions.{scope_of};
 
-use cq_model::{ColumnDef, ColumnName};
-use cq_values::Text;
+use cq_language::ColumnName;
+use cq_values::{ColumnDef, Text};
 
 /// The one source whose columns expressions name: what it is known by, its columns, and the size that each one's numbers
 /// never exceed.

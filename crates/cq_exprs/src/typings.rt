@@ -1,12 +1,11 @@
 //! What operators and tests ask of their operands, and what they give.
 ghost use Rattle.std.specs.Prelude.{◌≡◌, ◌&&◌};
 ghost use Rattle.cq_model.specs.Width.{part_limit};
-ghost use Rattle.cq_steps.specs.Typing.{a_condition, added, agree, between_them, compared_with, connected, is_condition, is_of, is_value, kept_value, like_of, negation_of, negative, number_of, part_of, product_of, sum_of, tested, text_of, unless, value_of};
-ghost use Rattle.cq_steps.specs.declared.fault.Fault.TheVariants.{TypeMismatch};
+ghost use Rattle.cq_binding.specs.Typing.{a_condition, added, agree, between_them, compared_with, connected, is_condition, is_of, is_value, kept_value, like_of, negation_of, negative, number_of, part_of, product_of, sum_of, tested, text_of, unless, value_of};
+ghost use Rattle.cq_binding.specs.declared.fault.Fault.TheVariants.{TypeMismatch};
 
-use cq_model::DayPart;
-use cq_steps::{Fault, Kind, Typing};
-use cq_values::{Text, Ty};
+use cq_binding::{Fault, Kind, Typing};
+use cq_values::{DayPart, Text, Ty};
 
 /// The least size that is too wide for a number that is written or worked out.
 const TOO_WIDE: u128 = 1 << 127;

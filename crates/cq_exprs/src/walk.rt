@@ -4,17 +4,17 @@
 ghost use Rattle.std.specs.Prelude.{◌≡◌, is_none, map, not, slice_index_or, true};
 ghost use Rattle.cq_values.specs.declared.ty.Ty.TheVariants.{Date};
 ghost use Rattle.cq_values.specs.Dates.{day_named};
-ghost use Rattle.cq_model.specs.Written.{choices, written};
-ghost use Rattle.cq_model.specs.Written as tree;
-ghost use Rattle.cq_steps.specs.declared.fault.Fault.TheVariants.{BadDate};
-ghost use Rattle.cq_steps.specs.Typing.{knows, listed, type_at, typed, unless, value_of};
+ghost use Rattle.cq_language.specs.Written.{choices, written};
+ghost use Rattle.cq_language.specs.Written as tree;
+ghost use Rattle.cq_binding.specs.declared.fault.Fault.TheVariants.{BadDate};
+ghost use Rattle.cq_binding.specs.Typing.{knows, listed, type_at, typed, unless, value_of};
 ghost use Rattle.cq_exprs.specs.Chains.{chained, joined};
 ghost use Rattle.cq_exprs.specs.Expressions.{scope_of};
 
 use crate::scope::{Scope, column_place};
 use crate::typings;
-use cq_model::{ColumnName, ExprNode, SqlExpr};
-use cq_steps::{Fault, Kind, Typing};
+use cq_binding::{Fault, Kind, Typing};
+use cq_language::{ColumnName, ExprNode, SqlExpr};
 use cq_values::{Text, Ty, date_of};
 
 /// What stands between the parts of a chain.

@@ -13,7 +13,7 @@ use Rattle.cq_bags.specs.Bag.{Weighted, SameBag, IsBag, distinct_rows}
 use Rattle.cq_model.specs.declared.query.Aggregate.{Aggregate}
 use Rattle.cq_model.specs.declared.query.Aggregate.TheVariants.{CountAll, Count, Sum, Min, Max}
 use Rattle.cq_model.specs.Group.{values_of, value_bag, extreme_of, extreme, lower, higher, aggregate, group_row}
-use Rattle.cq_model.specs.Kept.{Kept, Counted, Totalled, Listed, IsKept, kept_value, told_values, AreKept, Group, GroupStands, told_row}
+use Rattle.cq_kept.specs.Kept.{Kept, Counted, Totalled, Listed, IsKept, kept_value, told_values, AreKept, Group, GroupStands, told_row}
 use Rattle.cq_bags.proofs.Totals.{by_test}
 use Rattle.cq_bags.proofs.Bags.{same-sym}
 use Rattle.cq_bags.proofs.Distincts.{is_among-distinct}

@@ -5,9 +5,9 @@ use Rattle.cq_values.specs.declared.value.Value.{Value}
 use Rattle.cq_values.specs.declared.value.Value.TheVariants.{Null, Number, Day, Text}
 use Rattle.cq_values.proofs.Parts.{days, months, years}
 use Rattle.cq_values.specs.Value.{Row}
-use Rattle.cq_model.specs.declared.expr.DayPart.{DayPart}
-use Rattle.cq_model.specs.declared.expr.DayPart.TheVariants as parts
-use Rattle.cq_model.proofs.Chains.{size-negated, size-plus, size-times}
+use Rattle.cq_values.specs.declared.day_part.DayPart.{DayPart}
+use Rattle.cq_values.specs.declared.day_part.DayPart.TheVariants as parts
+use Rattle.cq_model.proofs.Sizes.{size-negated, size-plus, size-times}
 use Rattle.cq_model.specs.Eval.{eval, extracted, part_of}
 use Rattle.cq_model.specs.Expr.{Expr, Column, Literal, Negate, Plus, Times, Extract}
 use Rattle.cq_model.specs.Width.{part_limit, value_size, width}

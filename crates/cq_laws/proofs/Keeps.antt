@@ -14,7 +14,7 @@ use Rattle.cq_model.specs.declared.query.Shape.TheVariants.{Plain, Grouped}
 use Rattle.cq_model.specs.Eval.{eval}
 use Rattle.cq_model.specs.Group.{count_all, count_values, sum_values, value_bag, key_of, rows_of_key}
 use Rattle.cq_model.specs.Meaning.{items_of}
-use Rattle.cq_model.specs.Kept.{Kept, Counted, Totalled, Listed, IsKept, AreKept, Group, GroupStands, Last, Images, Groups, LastStands, kept_after, all_kept_after, group_after, last_after, kept_of, built_last}
+use Rattle.cq_kept.specs.Kept.{Kept, Counted, Totalled, Listed, IsKept, AreKept, Group, GroupStands, Last, Images, Groups, LastStands, kept_after, all_kept_after, group_after, last_after, kept_of, built_last}
 use Rattle.cq_laws.proofs.Groups.{count-append, sum-append, count_all-respects, count-respects, sum-respects}
 
 -- counted values go on with the rows

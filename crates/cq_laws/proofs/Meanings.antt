@@ -6,7 +6,7 @@ use Rattle.cq_model.specs.declared.query.Query.{Query}
 use Rattle.cq_bags.specs.Bag.{Weighted, weight_of, SameBag}
 use Rattle.cq_model.specs.Group.{grouped}
 use Rattle.cq_model.specs.Meaning.{Tables, chain, keeps, joined_rows, items_of, shaped, shown, meaning}
-use Rattle.cq_model.specs.Delta.{SameTables, chain_change, changed, joined_change}
+use Rattle.cq_kept.specs.Delta.{SameTables, chain_change, changed, joined_change}
 use Rattle.cq_bags.proofs.Totals.{by_test}
 use Rattle.cq_bags.proofs.Bags.{filtered-respects, projected-respects}
 use Rattle.cq_bags.proofs.Linears.{filtered-append}

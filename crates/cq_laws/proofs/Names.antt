@@ -4,12 +4,12 @@ use Rattle.std.specs.List.{list_all}
 use Rattle.cq_values.specs.declared.value.Value.{Value}
 use Rattle.cq_values.specs.Truth.{not_truth, and_truth, or_truth, truth_of}
 use Rattle.cq_values.specs.Value.{Row, column}
-use Rattle.cq_model.specs.declared.statement.Comparison.TheVariants.{Equal}
-use Rattle.cq_model.specs.Comparison.{compared}
+use Rattle.cq_values.specs.declared.comparison.Comparison.TheVariants.{Equal}
+use Rattle.cq_values.specs.Comparison.{compared}
 use Rattle.cq_model.specs.Condition.{is_null, liked, between, any_of, holds}
 use Rattle.cq_model.specs.Eval.{negated, plus, times, extracted, eval}
 use Rattle.cq_model.specs.Expr.{Expr, Column, Literal, Negate, Plus, Times, Extract, Cond, Compare, IsNull, Between, In, Like, Not, And, Or}
-use Rattle.cq_model.specs.Own.{is_within, names_only, tests_only}
+use Rattle.cq_kept.specs.Own.{is_within, names_only, tests_only}
 
 -- what holds of both holds of each
 pub both-first : (a b : Bool) → a && b ≡ true → a ≡ true

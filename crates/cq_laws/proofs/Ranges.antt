@@ -13,7 +13,7 @@ use Rattle.cq_model.specs.declared.query.Aggregate.TheVariants.{CountAll, Count,
 use Rattle.cq_model.specs.declared.query.Query.{Query}
 use Rattle.cq_model.specs.declared.query.Shape.{Shape}
 use Rattle.cq_model.specs.declared.query.Shape.TheVariants.{Plain, Grouped}
-use Rattle.cq_model.specs.Delta.{SameTables}
+use Rattle.cq_kept.specs.Delta.{SameTables}
 use Rattle.cq_model.specs.Group.{count_all, key_of, rows_of_key, keys_of, InRange, SumInRange, SumsInRange}
 use Rattle.cq_model.specs.declared.query.Source.{Source}
 use Rattle.cq_model.specs.declared.query.Source.TheVariants.{Table, View}

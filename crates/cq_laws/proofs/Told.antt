@@ -13,9 +13,9 @@ use Rattle.cq_model.specs.declared.query.Query.{Query}
 use Rattle.cq_model.specs.declared.query.Shape.{Shape}
 use Rattle.cq_model.specs.declared.query.Shape.TheVariants.{Plain, Grouped}
 use Rattle.cq_model.specs.Group.{key_of, rows_of_key, group_row, keys_of, grouped}
-use Rattle.cq_model.specs.Kept.{Group, GroupStands, Last, Images, Groups, LastStands, told_row}
+use Rattle.cq_kept.specs.Kept.{Group, GroupStands, Last, Images, Groups, LastStands, told_row}
 use Rattle.cq_model.specs.Meaning.{keeps, items_of, shaped}
-use Rattle.cq_model.specs.Told.{told_rows, ListsKeys}
+use Rattle.cq_kept.specs.Told.{told_rows, ListsKeys}
 use Rattle.cq_laws.proofs.Counted.{group-tells}
 use Rattle.cq_laws.proofs.Groups.{projected-same}
 use Rattle.cq_laws.proofs.Ranges.{key-weight}

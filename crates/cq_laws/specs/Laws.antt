@@ -13,12 +13,12 @@ use Rattle.cq_model.specs.declared.query.Source.{Source}
 use Rattle.cq_model.specs.Group.{count_all, count_values, sum_values, aggregate, value_bag, extreme_of, lower, higher, group_row, rows_of_key, keys_of, grouped}
 use Rattle.cq_model.specs.Meaning.{Tables, chain, keeps, joined_rows, shown, meaning, MeaningInRange}
 use Rattle.cq_model.specs.Views.{with_views, AnswerInRange}
-use Rattle.cq_model.specs.Delta.{SameTables, changed, chain_change, joined_change, view_work}
-use Rattle.cq_model.specs.Pushed.{Pushed, pushed_rows, HaveWidths, IsImplied, AreBelow}
-use Rattle.cq_model.specs.Own.{passes_own, AreOwn}
-use Rattle.cq_model.specs.Kept.{Kept, IsKept, kept_value, Group, GroupStands, Last, LastStands, told_row}
-use Rattle.cq_model.specs.Told.{told_rows, ListsKeys}
-use Rattle.cq_model.specs.Standing.{Stored, Stands, built, stored_change, stored_after, stored_work}
+use Rattle.cq_kept.specs.Delta.{SameTables, changed, chain_change, joined_change, view_work}
+use Rattle.cq_kept.specs.Pushed.{Pushed, pushed_rows, HaveWidths, IsImplied, AreBelow}
+use Rattle.cq_kept.specs.Own.{passes_own, AreOwn}
+use Rattle.cq_kept.specs.Kept.{Kept, IsKept, kept_value, Group, GroupStands, Last, LastStands, told_row}
+use Rattle.cq_kept.specs.Told.{told_rows, ListsKeys}
+use Rattle.cq_kept.specs.Standing.{Stored, Stands, built, stored_change, stored_after, stored_work}
 
 -- the chain over changed sources is the old chain with its change
 abbrev pub ChainLaw : Type 0

@@ -7,9 +7,9 @@ use Rattle.cq_values.specs.declared.truth.Truth.{Truth}
 use Rattle.cq_values.specs.declared.truth.Truth.TheVariants.{True, False, Unknown}
 use Rattle.cq_values.specs.Truth.{not_truth, and_truth, or_truth, truth_of}
 use Rattle.cq_values.specs.Value.{Row}
-use Rattle.cq_model.specs.declared.statement.Comparison.TheVariants.{Equal, LessOrEqual, GreaterOrEqual}
+use Rattle.cq_values.specs.declared.comparison.Comparison.TheVariants.{Equal, LessOrEqual, GreaterOrEqual}
 use Rattle.cq_model.specs.Expr.{Cond, Compare, IsNull, Between, In, Like, Not, And, Or}
-use Rattle.cq_model.specs.Comparison.{compared}
+use Rattle.cq_values.specs.Comparison.{compared}
 use Rattle.cq_model.specs.Eval.{eval}
 use Rattle.cq_model.specs.Like.{like}
 

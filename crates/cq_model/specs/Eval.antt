@@ -4,8 +4,8 @@ use Rattle.cq_values.specs.declared.value.Value.{Value}
 use Rattle.cq_values.specs.declared.value.Value.TheVariants.{Null, Number, Day}
 use Rattle.cq_values.specs.Days.{year_of, month_of, day_of_month}
 use Rattle.cq_values.specs.Value.{Row, column}
-use Rattle.cq_model.specs.declared.expr.DayPart.{DayPart}
-use Rattle.cq_model.specs.declared.expr.DayPart.TheVariants as parts
+use Rattle.cq_values.specs.declared.day_part.DayPart.{DayPart}
+use Rattle.cq_values.specs.declared.day_part.DayPart.TheVariants as parts
 use Rattle.cq_model.specs.Expr.{Expr, Column, Literal, Negate, Plus, Times, Extract}
 
 -- minus is exact, and of NULL it is NULL

@@ -1,8 +1,8 @@
 -- Expressions and conditions over the columns of a row, by their places. Chains group to the left.
 use Rattle.std.specs.Prelude.{ℕ, List}
 use Rattle.cq_values.specs.declared.value.Value.{Value}
-use Rattle.cq_model.specs.declared.expr.DayPart.{DayPart}
-use Rattle.cq_model.specs.declared.statement.Comparison.{Comparison}
+use Rattle.cq_values.specs.declared.day_part.DayPart.{DayPart}
+use Rattle.cq_values.specs.declared.comparison.Comparison.{Comparison}
 
 -- an expression with a value
 pub data Expr : Type 0 where

@@ -4,8 +4,8 @@ use Rattle.std.proofs.Common.{ap}
 use Rattle.std.specs.Coded.{Coded, code_by, coded_list}
 use Rattle.cq_values.specs.declared.value.Value.{Value}
 use Rattle.cq_values.specs.declared.value.Value.TheVariants.{Null}
-use Rattle.cq_model.specs.declared.expr.DayPart.{DayPart}
-use Rattle.cq_model.specs.declared.statement.Comparison.{Comparison}
+use Rattle.cq_values.specs.declared.day_part.DayPart.{DayPart}
+use Rattle.cq_values.specs.declared.comparison.Comparison.{Comparison}
 use Rattle.cq_model.specs.Expr.{Expr, Cond}
 use Rattle.cq_model.specs.Expr as tree
 

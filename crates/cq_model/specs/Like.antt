@@ -1,4 +1,4 @@
--- LIKE, on characters: the relation, and the test that decides it (ISO 9075-2, 8.5).
+-- LIKE, on characters: the relation, and the test for it (ISO 9075-2, 8.5).
 use Rattle.std.specs.Prelude.{◌≡◌, ℕ, ◌==◌, Bool, true, false, ◌&&◌, MatchBool, if◌then◌else◌, List, [], ◌∷◌, ◌++◌, length}
 use Rattle.std.specs.List.{list_any}
 
@@ -45,7 +45,3 @@ like (p ∷ pattern) text =
 -- whether the pattern fits some end of the text
 abbrev pub fits_some_end : List ℕ → List ℕ → Bool
 fits_some_end pattern text = list_any (like pattern) (ends_of text)
-
--- the test answers true exactly where the pattern fits
-abbrev pub LikeDecides : Type 0
-LikeDecides = (pattern text : List ℕ) → (like pattern text ≡ true → Fits pattern text) × (Fits pattern text → like pattern text ≡ true)

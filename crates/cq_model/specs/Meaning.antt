@@ -11,11 +11,11 @@ use Rattle.cq_model.specs.declared.query.Query.{Query}
 use Rattle.cq_model.specs.declared.query.Shape.{Shape}
 use Rattle.cq_model.specs.declared.query.Shape.TheVariants.{Plain, Grouped}
 use Rattle.cq_model.specs.declared.query.Source.{Source}
-use Rattle.cq_model.specs.declared.statement.Comparison.TheVariants.{Equal}
+use Rattle.cq_values.specs.declared.comparison.Comparison.TheVariants.{Equal}
 use Rattle.cq_model.specs.Condition.{holds}
 use Rattle.cq_model.specs.Eval.{eval}
 use Rattle.cq_model.specs.Group.{grouped, SumsInRange}
-use Rattle.cq_model.specs.Comparison.{compared}
+use Rattle.cq_values.specs.Comparison.{compared}
 
 -- the bag of each table and of each view, by its number
 abbrev pub Tables : Type 0

@@ -3,8 +3,8 @@ use Rattle.std.specs.Prelude.{◌≤◌, ◌<◌, ℕ, ◌+◌, ◌*◌, ◌^◌
 use Rattle.cq_values.specs.declared.value.Value.{Value}
 use Rattle.cq_values.specs.declared.value.Value.TheVariants.{Number}
 use Rattle.cq_values.specs.Value.{Row, column}
-use Rattle.cq_model.specs.declared.expr.DayPart.{DayPart}
-use Rattle.cq_model.specs.declared.expr.DayPart.TheVariants as parts
+use Rattle.cq_values.specs.declared.day_part.DayPart.{DayPart}
+use Rattle.cq_values.specs.declared.day_part.DayPart.TheVariants as parts
 use Rattle.cq_model.specs.Expr.{Expr, Column, Literal, Negate, Plus, Times, Extract, Cond, Compare, IsNull, Between, In, Like, Not, And, Or}
 
 -- a number's distance from zero, and zero for what is no number
@@ -99,11 +99,3 @@ KeepsBounds columns row = (i : ℕ) → sizes_of row i ≤ bounds_of columns i
 pub record IsWithin (small large : Extent) : Type 0 where
   pub size : small.size ≤ large.size
   pub widest : small.widest ≤ large.widest
-
--- at each row that keeps the bounds, an expression's extent is within its bound
-abbrev pub BoundHolds : Type 0
-BoundHolds = (e : Expr) (columns : List ℕ) (row : Row) → KeepsBounds columns row → IsWithin (extent e row) (bound e columns)
-
--- at each row that keeps the bounds, no number written or worked out in a condition is wider than its bound
-abbrev pub BoundHoldsIn : Type 0
-BoundHoldsIn = (c : Cond) (columns : List ℕ) (row : Row) → KeepsBounds columns row → widest_at c row ≤ widest_bound c columns

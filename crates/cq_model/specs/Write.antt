@@ -1,7 +1,7 @@
 -- What a write makes of a table's rows (ISO 9075-2, 14.9 and 14.14).
 use Rattle.std.specs.Prelude.{not, if◌then◌else◌, List, [], ◌∷◌, map, filter, slice_set, Option}
 use Rattle.cq_values.specs.Value.{Row}
-use Rattle.cq_model.specs.declared.bound.Assignment.{Assignment}
+use Rattle.cq_model.specs.declared.assignment.Assignment.{Assignment}
 use Rattle.cq_model.specs.Expr.{Cond}
 use Rattle.cq_model.specs.Eval.{eval}
 use Rattle.cq_model.specs.Meaning.{keeps}

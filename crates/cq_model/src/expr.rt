@@ -3,17 +3,8 @@ ghost use Rattle.std.specs.Prelude.{◌≡◌};
 ghost use Rattle.cq_model.specs.Expr as terms;
 ghost use Rattle.cq_model.specs.Trees.{cond_of, expr_of};
 
-use crate::statement::Comparison;
-use cq_values::{Text, Value};
+use cq_values::{Comparison, DayPart, Text, Value};
 use std::marker::Model;
-
-/// What EXTRACT takes from a day.
-#[derive(Clone, Copy, Debug, PartialEq, Eq)]
-pub enum DayPart {
-    Year,
-    Month,
-    Day,
-}
 
 /// An expression with a value, as a tree. A chain has its first part and those behind it, so that a long one is not deep. A
 /// difference `a - b` is the sum of `a` and the negated `b`.

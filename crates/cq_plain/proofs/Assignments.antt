@@ -4,7 +4,7 @@ use Rattle.std.specs.Prelude.{slice_index_or, slice_set, Option}
 use Rattle.std.specs.List.{Any}
 use Rattle.std.proofs.lemmas.List.{take_more}
 use Rattle.cq_values.specs.Value.{Row}
-use Rattle.cq_model.specs.declared.bound.Assignment.{Assignment}
+use Rattle.cq_model.specs.declared.assignment.Assignment.{Assignment}
 use Rattle.cq_model.specs.Expr.{Cond}
 use Rattle.cq_model.specs.Eval.{eval}
 use Rattle.cq_model.specs.Meaning.{keeps}

@@ -2,7 +2,7 @@
 use Rattle.std.specs.Prelude.{◌≡◌, true, List, Option}
 use Rattle.std.specs.List.{Any}
 use Rattle.cq_values.specs.Value.{Row}
-use Rattle.cq_model.specs.declared.bound.Assignment.{Assignment}
+use Rattle.cq_model.specs.declared.assignment.Assignment.{Assignment}
 use Rattle.cq_model.specs.Expr.{Cond}
 use Rattle.cq_model.specs.Meaning.{keeps}
 use Rattle.cq_plain.specs.Wide.{IsWideAt, IsWideIn}

@@ -9,7 +9,8 @@ ghost use Rattle.cq_plain.specs.Faults.{Tells};
 ghost use Rattle.cq_plain.specs.Wide.{IsWideAt, IsWideIn};
 
 use crate::fault::PlainFault;
-use cq_model::{Cond, Expr, eval_row, fits, holds_row, width_of};
+use cq_eval::{eval_row, fits, holds_row, width_of};
+use cq_model::{Cond, Expr};
 use cq_values::Value;
 use std::alloc::{AllocError, Global};
 

@@ -9,7 +9,8 @@ ghost use Rattle.cq_plain.specs.Wide.{IsWideOver};
 use crate::aggregates::aggregate;
 use crate::fault::PlainFault;
 use crate::repeats::firsts;
-use cq_model::{Aggregate, lend_column};
+use cq_eval::lend_column;
+use cq_model::Aggregate;
 use cq_values::{Row, Seq, Value, copy_row};
 use std::alloc::{AllocError, Global};
 

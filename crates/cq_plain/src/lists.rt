@@ -5,7 +5,8 @@ ghost use Rattle.cq_bags.specs.Bag.{once_each};
 ghost use Rattle.cq_bags.specs.Listing.{IsListing, Lists, directed, first_rows, listing_cmp};
 
 use cq_bags::SortKey;
-use cq_model::{Order, lend_column};
+use cq_eval::lend_column;
+use cq_model::Order;
 use cq_values::{Row, Value, cmp_lent};
 use std::alloc::AllocError;
 use std::cmp::Ordering;

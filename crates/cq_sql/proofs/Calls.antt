@@ -1,13 +1,13 @@
 -- What stands behind COUNT and SUM is read exactly.
 use Rattle.std.proofs.Common.{◌≡◌, List, [], ◌∷◌, ◌++◌, Option, Some, None, refl, sym, ap, subst, ◌∙◌, arith}
-use Rattle.cq_model.specs.declared.token.Symbol.TheVariants as symbols
-use Rattle.cq_model.specs.declared.token.Token.{Token}
-use Rattle.cq_model.specs.declared.token.Token.TheVariants as tokens
-use Rattle.cq_model.specs.declared.statement.ItemValue.{ItemValue}
-use Rattle.cq_model.specs.declared.statement.ItemValue.TheVariants as values
-use Rattle.cq_model.specs.Expression.{IsSum}
-use Rattle.cq_model.specs.Sentence.{IsItemValue}
-use Rattle.cq_model.specs.Written.{Written}
+use Rattle.cq_language.specs.declared.token.Symbol.TheVariants as symbols
+use Rattle.cq_language.specs.declared.token.Token.{Token}
+use Rattle.cq_language.specs.declared.token.Token.TheVariants as tokens
+use Rattle.cq_language.specs.declared.statement.ItemValue.{ItemValue}
+use Rattle.cq_language.specs.declared.statement.ItemValue.TheVariants as values
+use Rattle.cq_language.specs.Expression.{IsSum}
+use Rattle.cq_language.specs.Sentence.{IsItemValue}
+use Rattle.cq_language.specs.Written.{Written}
 use Rattle.cq_sql.specs.Chains.{joined_at}
 use Rattle.cq_sql.specs.Expressions.{primary_of, factor_of, product_of, sum_of, argument_at}
 use Rattle.cq_sql.specs.Grammar.{counted_at, count_at, sum_at}

@@ -1,8 +1,8 @@
 -- A chain whose parts are read exactly is read exactly, from the left.
 use Rattle.std.proofs.Common.{◌≡◌, ℕ, zero, suc, ◌+◌, ◌<◌, ◌≤◌, List, [], ◌∷◌, ◌++◌, length, Option, Some, None, refl, sym, ap, ap₂, subst, ◌∙◌, append_assoc, arith, length-append, ◌⊎◌, inl, inr}
-use Rattle.cq_model.specs.declared.token.Token.{Token}
-use Rattle.cq_model.specs.Written.{Written}
-use Rattle.cq_model.specs.Expression.{spelled}
+use Rattle.cq_language.specs.declared.token.Token.{Token}
+use Rattle.cq_language.specs.Written.{Written}
+use Rattle.cq_language.specs.Expression.{spelled}
 use Rattle.cq_sql.specs.Read.{◌>>=◌, Reader}
 use Rattle.cq_sql.specs.Chains.{chain_from}
 use Rattle.cq_sql.proofs.Exact.{bind_some, parts_of}

@@ -1,6 +1,6 @@
 -- Chains of parts: how a turn goes, and what a chain reads.
 use Rattle.std.proofs.Common.{◌≡◌, ℕ, zero, suc, ◌-◌, ◌+◌, ◌<◌, List, Option, Some, None, refl, sym, ap, ◌∙◌, arith}
-use Rattle.cq_model.specs.declared.token.Token.{Token}
+use Rattle.cq_language.specs.declared.token.Token.{Token}
 use Rattle.cq_sql.specs.declared.fault.SqlFault.{SqlFault}
 use Rattle.cq_sql.specs.declared.fault.SqlFault.TheVariants as errors
 use Rattle.cq_sql.specs.Gives.{Fails}

@@ -2,11 +2,11 @@
 use Rattle.std.proofs.Common.{◌≡◌, ℕ, zero, suc, ◌≤◌, ◌<◌, true, List, [], ◌∷◌, ◌++◌, length, Option, Some, None, refl, sym, ap, ◌∙◌, append_assoc, arith, length-append}
 use Rattle.std.proofs.lemmas.Bool.{and_from}
 use Rattle.std.proofs.lemmas.List.{append-nil}
-use Rattle.cq_model.specs.declared.token.Symbol.TheVariants as symbols
-use Rattle.cq_model.specs.declared.token.Token.{Token}
-use Rattle.cq_model.specs.declared.token.Token.TheVariants as tokens
-use Rattle.cq_model.specs.Written.{Written, Choices, NoChoice, Choice}
-use Rattle.cq_model.specs.Expression.{spelled, spelled_choices, spelled_more, fits, is_in_order, are_in_order, has_entries}
+use Rattle.cq_language.specs.declared.token.Symbol.TheVariants as symbols
+use Rattle.cq_language.specs.declared.token.Token.{Token}
+use Rattle.cq_language.specs.declared.token.Token.TheVariants as tokens
+use Rattle.cq_language.specs.Written.{Written, Choices, NoChoice, Choice}
+use Rattle.cq_language.specs.Expression.{spelled, spelled_choices, spelled_more, fits, is_in_order, are_in_order, has_entries}
 use Rattle.cq_sql.specs.declared.links.Link.TheVariants as links
 use Rattle.cq_sql.specs.Read.{Reader, done, behind, followed_by, after_symbol}
 use Rattle.cq_sql.specs.Chains.{chain_from, linked_part, more_parts}

@@ -2,12 +2,12 @@
 use Rattle.std.proofs.Common.{◌≡◌, Result, Ok, Err, ℕ, zero, suc, ◌≤◌, ◌<◌, List, [], ◌∷◌, ◌++◌, length, Option, Some, None, refl, sym, ap, subst, ◌∙◌, arith, length-append}
 use Rattle.std.specs.Prelude.{IfOk}
 use Rattle.std.proofs.lemmas.List.{append-nil}
-use Rattle.cq_model.specs.declared.token.Keyword.TheVariants as keywords
-use Rattle.cq_model.specs.declared.token.Token.{Token}
-use Rattle.cq_model.specs.declared.token.Token.TheVariants as tokens
-use Rattle.cq_model.specs.declared.written.ExprNode.{ExprNode}
-use Rattle.cq_model.specs.Written.{Written, Not, written}
-use Rattle.cq_model.specs.Expression.{spelled, IsTight, IsExpression, IsSum}
+use Rattle.cq_language.specs.declared.token.Keyword.TheVariants as keywords
+use Rattle.cq_language.specs.declared.token.Token.{Token}
+use Rattle.cq_language.specs.declared.token.Token.TheVariants as tokens
+use Rattle.cq_language.specs.declared.written.ExprNode.{ExprNode}
+use Rattle.cq_language.specs.Written.{Written, Not, written}
+use Rattle.cq_language.specs.Expression.{spelled, IsTight, IsExpression, IsSum}
 use Rattle.cq_sql.specs.declared.links.Operator.TheVariants as operators
 use Rattle.cq_sql.specs.declared.fault.SqlFault.{SqlFault}
 use Rattle.cq_sql.specs.declared.fault.SqlFault.TheVariants as errors

@@ -1,7 +1,7 @@
 -- What may be read in a pair of parentheses, by how many more pairs may open.
 use Rattle.std.proofs.Common.{◌≡◌, ℕ, zero, suc, ◌-◌, ◌<◌, List, [], ◌∷◌, None, refl, ap, arith}
-use Rattle.cq_model.specs.declared.token.Token.{Token}
-use Rattle.cq_model.specs.Written.{Written}
+use Rattle.cq_language.specs.declared.token.Token.{Token}
+use Rattle.cq_language.specs.Written.{Written}
 use Rattle.cq_sql.specs.declared.atoms.Opening.{Opening}
 use Rattle.cq_sql.specs.declared.atoms.Opening.TheVariants as openings
 use Rattle.cq_sql.specs.declared.links.Operator.TheVariants as operators

@@ -2,12 +2,12 @@
 use Rattle.std.proofs.Common.{◌≡◌, Bool, true, false, List, [], ◌∷◌, ◌++◌, Option, Some, None, refl, sym, ap, subst, ◌∙◌, append_assoc, ◌⊎◌, inl, inr}
 use Rattle.std.specs.Prelude.{if◌then◌else◌}
 use denote.Enum.Bare.{sameb, same_true, true_same}
-use Rattle.cq_model.specs.contracts.token.Keyword as keyword
-use Rattle.cq_model.specs.contracts.token.Symbol as symbol
-use Rattle.cq_model.specs.declared.token.Keyword.{Keyword}
-use Rattle.cq_model.specs.declared.token.Symbol.{Symbol}
-use Rattle.cq_model.specs.declared.token.Token.{Token}
-use Rattle.cq_model.specs.declared.token.Token.TheVariants as tokens
+use Rattle.cq_language.specs.contracts.token.Keyword as keyword
+use Rattle.cq_language.specs.contracts.token.Symbol as symbol
+use Rattle.cq_language.specs.declared.token.Keyword.{Keyword}
+use Rattle.cq_language.specs.declared.token.Symbol.{Symbol}
+use Rattle.cq_language.specs.declared.token.Token.{Token}
+use Rattle.cq_language.specs.declared.token.Token.TheVariants as tokens
 use Rattle.cq_sql.specs.Read.{◌>>=◌, Reader, done, followed_by, behind, after_keyword, after_symbol, some_or_none, tail_at, read_or, tail_or}
 
 -- the reader finds exactly what the relation says, where what follows ends it

@@ -1,16 +1,16 @@
 -- Names with and without AS, constants, rows and the conditions behind WHERE are read exactly.
 use Rattle.std.proofs.Common.{◌≡◌, ℕ, ◌<◌, Bool, true, false, List, [], ◌∷◌, ◌++◌, length, Option, Some, None, refl, sym, ap, subst, ◌∙◌, arith, length-append}
 use Rattle.std.proofs.lemmas.List.{append-nil}
-use Rattle.cq_model.specs.declared.token.Keyword.TheVariants as keywords
-use Rattle.cq_model.specs.declared.token.Symbol.TheVariants as symbols
-use Rattle.cq_model.specs.declared.token.Token.{Token}
-use Rattle.cq_model.specs.declared.token.Token.TheVariants as tokens
-use Rattle.cq_model.specs.declared.statement.Constant.{Constant}
-use Rattle.cq_model.specs.declared.statement.Constant.TheVariants as constants
-use Rattle.cq_model.specs.declared.statement.Literal.{Literal}
-use Rattle.cq_model.specs.Expression.{IsExpression}
-use Rattle.cq_model.specs.Sentence.{Separated, IsName, IsAlias, IsLiteral, IsConstant, IsRow, IsWhere, sign_tokens}
-use Rattle.cq_model.specs.Written.{Written}
+use Rattle.cq_language.specs.declared.token.Keyword.TheVariants as keywords
+use Rattle.cq_language.specs.declared.token.Symbol.TheVariants as symbols
+use Rattle.cq_language.specs.declared.token.Token.{Token}
+use Rattle.cq_language.specs.declared.token.Token.TheVariants as tokens
+use Rattle.cq_language.specs.declared.statement.Constant.{Constant}
+use Rattle.cq_language.specs.declared.statement.Constant.TheVariants as constants
+use Rattle.cq_language.specs.declared.statement.Literal.{Literal}
+use Rattle.cq_language.specs.Expression.{IsExpression}
+use Rattle.cq_language.specs.Sentence.{Separated, IsName, IsAlias, IsLiteral, IsConstant, IsRow, IsWhere, sign_tokens}
+use Rattle.cq_language.specs.Written.{Written}
 use Rattle.cq_sql.specs.Grammar.{name_at, alias_at, literal_at, number_at, constant_at, row_at, where_at}
 use Rattle.cq_sql.proofs.Exact.{Reads, Anything, Done, After, Then, Tail, EndsTail, parts_of, symbol_takes, by_same, done_reads, behind_reads, then_reads, next_reads, tail_reads}
 use Rattle.cq_sql.proofs.Lists.{list_reads}

@@ -1,10 +1,10 @@
 -- Factors, products, sums and conditions are read exactly, each level over the tighter one.
 use Rattle.std.proofs.Common.{◌≡◌, ℕ, ◌≤◌, ◌<◌, List, ◌∷◌, ◌++◌, length, Option, Some, None, refl, sym, ap, subst, ◌∙◌, arith}
-use Rattle.cq_model.specs.declared.token.Symbol.TheVariants as symbols
-use Rattle.cq_model.specs.declared.token.Token.{Token}
-use Rattle.cq_model.specs.declared.token.Token.TheVariants as tokens
-use Rattle.cq_model.specs.Written.{Written, Number, Text, Date, Null, Column, Extract, Parens, Negative}
-use Rattle.cq_model.specs.Expression.{spelled, column_tokens}
+use Rattle.cq_language.specs.declared.token.Symbol.TheVariants as symbols
+use Rattle.cq_language.specs.declared.token.Token.{Token}
+use Rattle.cq_language.specs.declared.token.Token.TheVariants as tokens
+use Rattle.cq_language.specs.Written.{Written, Number, Text, Date, Null, Column, Extract, Parens, Negative}
+use Rattle.cq_language.specs.Expression.{spelled, column_tokens}
 use Rattle.cq_sql.specs.Read.{Reader, after_symbol}
 use Rattle.cq_sql.specs.Expressions.{Inside, prefixed, factor_of, primary_of}
 use Rattle.cq_sql.proofs.Exact.{bind_some, parts_of, symbol_takes}

@@ -4,14 +4,14 @@ use Rattle.std.specs.Prelude.{fold}
 use Rattle.std.specs.Option.{option_map}
 use Rattle.std.proofs.lemmas.Bool.{and_from, and_parts}
 use Rattle.std.proofs.lemmas.List.Sums.{fold-append}
-use Rattle.cq_model.specs.declared.token.Keyword.TheVariants as keywords
-use Rattle.cq_model.specs.declared.token.Symbol.TheVariants as symbols
-use Rattle.cq_model.specs.declared.token.Token.{Token}
-use Rattle.cq_model.specs.declared.token.Token.TheVariants as tokens
-use Rattle.cq_model.specs.declared.written.Sign.{Sign}
-use Rattle.cq_model.specs.declared.written.Sign.TheVariants as signs
-use Rattle.cq_model.specs.Written.{Written, Times, Plus, Minus, And, Or, signed}
-use Rattle.cq_model.specs.Expression.{spelled, fits, is_in_order}
+use Rattle.cq_language.specs.declared.token.Keyword.TheVariants as keywords
+use Rattle.cq_language.specs.declared.token.Symbol.TheVariants as symbols
+use Rattle.cq_language.specs.declared.token.Token.{Token}
+use Rattle.cq_language.specs.declared.token.Token.TheVariants as tokens
+use Rattle.cq_language.specs.declared.written.Sign.{Sign}
+use Rattle.cq_language.specs.declared.written.Sign.TheVariants as signs
+use Rattle.cq_language.specs.Written.{Written, Times, Plus, Minus, And, Or, signed}
+use Rattle.cq_language.specs.Expression.{spelled, fits, is_in_order}
 use Rattle.cq_sql.specs.declared.links.Operator.{Operator}
 use Rattle.cq_sql.specs.declared.links.Operator.TheVariants as operators
 use Rattle.cq_sql.specs.declared.links.Link.TheVariants as links

@@ -1,8 +1,8 @@
 -- Reading parts behind their links, and terms behind their signs, as a loop does.
 use Rattle.std.proofs.Common.{◌≡◌, ℕ, ◌-◌, ◌+◌, ◌<◌, List, [], ◌∷◌, ◌++◌, Option, Some, None, refl, ap, ◌∙◌, length}
-use Rattle.cq_model.specs.declared.token.Token.{Token}
-use Rattle.cq_model.specs.declared.written.Sign.{Sign}
-use Rattle.cq_model.specs.Written.{Written, signed, terms}
+use Rattle.cq_language.specs.declared.token.Token.{Token}
+use Rattle.cq_language.specs.declared.written.Sign.{Sign}
+use Rattle.cq_language.specs.Written.{Written, signed, terms}
 use Rattle.cq_sql.specs.declared.fault.SqlFault.{SqlFault}
 use Rattle.cq_sql.specs.declared.links.Link.{Link}
 use Rattle.cq_sql.specs.declared.links.Operator.TheVariants as operators

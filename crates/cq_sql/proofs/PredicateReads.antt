@@ -3,13 +3,13 @@ use Rattle.std.proofs.Common.{◌≡◌, ℕ, suc, ◌+◌, ◌≤◌, ◌<◌, 
 use Rattle.std.specs.Prelude.{◌&&◌}
 use Rattle.std.proofs.lemmas.Bool.{and_from, and_parts}
 use Rattle.std.proofs.lemmas.List.{append-nil}
-use Rattle.cq_model.specs.declared.statement.Comparison.{Comparison}
-use Rattle.cq_model.specs.declared.token.Keyword.{Keyword}
-use Rattle.cq_model.specs.declared.token.Keyword.TheVariants as keywords
-use Rattle.cq_model.specs.declared.token.Token.{Token}
-use Rattle.cq_model.specs.declared.token.Token.TheVariants as tokens
-use Rattle.cq_model.specs.Written.{Written, Choices, NoChoice, Choice, choices, Compare, IsNull, Between, In, Like}
-use Rattle.cq_model.specs.Expression.{spelled, spelled_choices, spelled_more, comparison_sign, not_tokens, fits, is_in_order, are_in_order, has_entries}
+use Rattle.cq_values.specs.declared.comparison.Comparison.{Comparison}
+use Rattle.cq_language.specs.declared.token.Keyword.{Keyword}
+use Rattle.cq_language.specs.declared.token.Keyword.TheVariants as keywords
+use Rattle.cq_language.specs.declared.token.Token.{Token}
+use Rattle.cq_language.specs.declared.token.Token.TheVariants as tokens
+use Rattle.cq_language.specs.Written.{Written, Choices, NoChoice, Choice, choices, Compare, IsNull, Between, In, Like}
+use Rattle.cq_language.specs.Expression.{spelled, spelled_choices, spelled_more, comparison_sign, not_tokens, fits, is_in_order, are_in_order, has_entries}
 use Rattle.cq_sql.specs.declared.predicates.Test.{Test}
 use Rattle.cq_sql.specs.declared.predicates.Test.TheVariants as tests
 use Rattle.cq_sql.specs.Read.{done, behind, followed_by, after_keyword}

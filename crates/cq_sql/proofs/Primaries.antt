@@ -1,14 +1,14 @@
 -- Expressions that stand for themselves are read exactly, where what stands in their parentheses is.
 use Rattle.std.proofs.Common.{◌≡◌, ℕ, suc, ◌≤◌, ◌<◌, List, [], ◌∷◌, ◌++◌, length, Option, Some, None, refl, sym, ap, ap₂, subst, ◌∙◌, append_assoc, arith, length-append}
-use Rattle.cq_model.specs.declared.expr.DayPart.{DayPart}
-use Rattle.cq_model.specs.declared.expr.DayPart.TheVariants as parts
-use Rattle.cq_model.specs.declared.token.Keyword.{Keyword}
-use Rattle.cq_model.specs.declared.token.Keyword.TheVariants as keywords
-use Rattle.cq_model.specs.declared.token.Symbol.TheVariants as symbols
-use Rattle.cq_model.specs.declared.token.Token.{Token}
-use Rattle.cq_model.specs.declared.token.Token.TheVariants as tokens
-use Rattle.cq_model.specs.Written.{Written, Number, Text, Date, Null, Column, Extract, Parens}
-use Rattle.cq_model.specs.Expression.{spelled, column_tokens, part_word}
+use Rattle.cq_values.specs.declared.day_part.DayPart.{DayPart}
+use Rattle.cq_values.specs.declared.day_part.DayPart.TheVariants as parts
+use Rattle.cq_language.specs.declared.token.Keyword.{Keyword}
+use Rattle.cq_language.specs.declared.token.Keyword.TheVariants as keywords
+use Rattle.cq_language.specs.declared.token.Symbol.TheVariants as symbols
+use Rattle.cq_language.specs.declared.token.Token.{Token}
+use Rattle.cq_language.specs.declared.token.Token.TheVariants as tokens
+use Rattle.cq_language.specs.Written.{Written, Number, Text, Date, Null, Column, Extract, Parens}
+use Rattle.cq_language.specs.Expression.{spelled, column_tokens, part_word}
 use Rattle.cq_sql.specs.declared.atoms.Opening.{Opening}
 use Rattle.cq_sql.specs.declared.atoms.Opening.TheVariants as openings
 use Rattle.cq_sql.specs.Read.{done, behind, after_symbol}

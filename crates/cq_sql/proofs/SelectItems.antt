@@ -1,12 +1,12 @@
 -- The items of a SELECT are read exactly.
 use Rattle.std.proofs.Common.{◌≡◌, ℕ, ◌<◌, List, [], ◌∷◌, ◌++◌, length, Option, Some, None, refl, sym, ap, subst, ◌∙◌, arith, length-append}
 use Rattle.std.proofs.lemmas.List.{append-nil}
-use Rattle.cq_model.specs.declared.token.Keyword.TheVariants as keywords
-use Rattle.cq_model.specs.declared.token.Token.{Token}
-use Rattle.cq_model.specs.declared.statement.SelectItem.{SelectItem}
-use Rattle.cq_model.specs.Expression.{IsExpression}
-use Rattle.cq_model.specs.Sentence.{IsAlias, IsSelectItem}
-use Rattle.cq_model.specs.Written.{Written}
+use Rattle.cq_language.specs.declared.token.Keyword.TheVariants as keywords
+use Rattle.cq_language.specs.declared.token.Token.{Token}
+use Rattle.cq_language.specs.declared.statement.SelectItem.{SelectItem}
+use Rattle.cq_language.specs.Expression.{IsExpression}
+use Rattle.cq_language.specs.Sentence.{IsAlias, IsSelectItem}
+use Rattle.cq_language.specs.Written.{Written}
 use Rattle.cq_sql.specs.Chains.{joined_at}
 use Rattle.cq_sql.specs.Expressions.{primary_of, factor_of, product_of, sum_of, predicate_of, negation_of, operand_of, expression_of, expression_at}
 use Rattle.cq_sql.specs.Grammar.{select_item_at}

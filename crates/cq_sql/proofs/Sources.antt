@@ -1,12 +1,12 @@
 -- What FROM names is read exactly.
 use Rattle.std.proofs.Common.{◌≡◌, ℕ, List, [], ◌∷◌, ◌++◌, Option, Some, None, refl, sym, ap, subst, ◌∙◌, inl, inr}
 use Rattle.std.proofs.lemmas.List.{append-nil}
-use Rattle.cq_model.specs.declared.token.Keyword.TheVariants as keywords
-use Rattle.cq_model.specs.declared.token.Token.{Token}
-use Rattle.cq_model.specs.declared.token.Token.TheVariants as tokens
-use Rattle.cq_model.specs.declared.statement.FromSource.{FromSource}
-use Rattle.cq_model.specs.Sentence.{IsName, IsAlias, IsKnownAs, IsSource, IsWhere}
-use Rattle.cq_model.specs.Written.{Written}
+use Rattle.cq_language.specs.declared.token.Keyword.TheVariants as keywords
+use Rattle.cq_language.specs.declared.token.Token.{Token}
+use Rattle.cq_language.specs.declared.token.Token.TheVariants as tokens
+use Rattle.cq_language.specs.declared.statement.FromSource.{FromSource}
+use Rattle.cq_language.specs.Sentence.{IsName, IsAlias, IsKnownAs, IsSource, IsWhere}
+use Rattle.cq_language.specs.Written.{Written}
 use Rattle.cq_sql.specs.Read.{after_keyword}
 use Rattle.cq_sql.specs.Grammar.{name_at, alias_at, known_as_at, source_at}
 use Rattle.cq_sql.proofs.Exact.{Reads, Done, Then, parts_of, by_same, done_reads, then_reads, next_reads}

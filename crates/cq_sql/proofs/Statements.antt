@@ -2,18 +2,18 @@
 use Rattle.std.proofs.Common.{◌≡◌, ℕ, List, [], ◌∷◌, ◌++◌, Option, Some, None, refl, sym, ap, subst, ◌∙◌, append_assoc}
 use Rattle.std.specs.Prelude.{Result, Ok, Err, IfOk}
 use Rattle.std.proofs.lemmas.List.{append-nil}
-use Rattle.cq_model.specs.declared.token.Keyword.TheVariants as keywords
-use Rattle.cq_model.specs.declared.token.Symbol.TheVariants as symbols
-use Rattle.cq_model.specs.declared.token.Token.{Token}
-use Rattle.cq_model.specs.declared.token.Token.TheVariants as tokens
-use Rattle.cq_model.specs.declared.statement.Constant.{Constant}
-use Rattle.cq_model.specs.declared.statement.FromSource.{FromSource}
-use Rattle.cq_model.specs.declared.statement.Select.{Select}
-use Rattle.cq_model.specs.declared.statement.SelectItem.{SelectItem}
-use Rattle.cq_model.specs.declared.statement.Statement.{Statement}
-use Rattle.cq_model.specs.declared.statement.Statement.TheVariants as statements
-use Rattle.cq_model.specs.Sentence.{Separated, IsName, IsRow, IsWhere, IsSelectItem, IsSource, IsStatement}
-use Rattle.cq_model.specs.Written.{Written}
+use Rattle.cq_language.specs.declared.token.Keyword.TheVariants as keywords
+use Rattle.cq_language.specs.declared.token.Symbol.TheVariants as symbols
+use Rattle.cq_language.specs.declared.token.Token.{Token}
+use Rattle.cq_language.specs.declared.token.Token.TheVariants as tokens
+use Rattle.cq_language.specs.declared.statement.Constant.{Constant}
+use Rattle.cq_language.specs.declared.statement.FromSource.{FromSource}
+use Rattle.cq_language.specs.declared.statement.Select.{Select}
+use Rattle.cq_language.specs.declared.statement.SelectItem.{SelectItem}
+use Rattle.cq_language.specs.declared.statement.Statement.{Statement}
+use Rattle.cq_language.specs.declared.statement.Statement.TheVariants as statements
+use Rattle.cq_language.specs.Sentence.{Separated, IsName, IsRow, IsWhere, IsSelectItem, IsSource, IsStatement}
+use Rattle.cq_language.specs.Written.{Written}
 use Rattle.cq_sql.specs.declared.fault.SqlFault.{SqlFault}
 use Rattle.cq_sql.specs.declared.fault.SqlFault.TheVariants as errors
 use Rattle.cq_sql.specs.Gives.{Gives}

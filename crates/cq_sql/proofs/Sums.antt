@@ -1,8 +1,8 @@
 -- Sums and products of lists: one more part at the end.
 use Rattle.std.proofs.Common.{◌≡◌, List, [], ◌∷◌, ◌++◌, length, refl, sym, arith, map}
-use Rattle.cq_model.specs.declared.written.Sign.{Sign}
-use Rattle.cq_model.specs.declared.written.ExprNode.{ExprNode}
-use Rattle.cq_model.specs.Written.{Written, signed, terms, written}
+use Rattle.cq_language.specs.declared.written.Sign.{Sign}
+use Rattle.cq_language.specs.declared.written.ExprNode.{ExprNode}
+use Rattle.cq_language.specs.Written.{Written, signed, terms, written}
 
 -- a sum with no later term is its first term
 pub terms_nil : (first : Written) (signs : List Sign) → terms first signs [] ≡ first

@@ -3,15 +3,15 @@ use Rattle.std.proofs.Common.{◌≡◌, ℕ, ◌<◌, Bool, true, false, List, 
 use Rattle.std.proofs.lemmas.List.{append-nil}
 use Rattle.cq_values.specs.declared.ty.Ty.{Ty}
 use Rattle.cq_values.specs.declared.ty.Ty.TheVariants as types
-use Rattle.cq_model.specs.declared.token.Keyword.{Keyword}
-use Rattle.cq_model.specs.declared.token.Keyword.TheVariants as keywords
-use Rattle.cq_model.specs.declared.token.Symbol.TheVariants as symbols
-use Rattle.cq_model.specs.declared.token.Token.{Token}
-use Rattle.cq_model.specs.declared.token.Token.TheVariants as tokens
-use Rattle.cq_model.specs.declared.statement.ColumnDef.{ColumnDef}
-use Rattle.cq_model.specs.declared.statement.Statement.{Statement}
-use Rattle.cq_model.specs.declared.statement.Statement.TheVariants as statements
-use Rattle.cq_model.specs.Sentence.{Separated, IsName, IsColumn, IsSort, IsStatement, type_word, not_null_tokens}
+use Rattle.cq_language.specs.declared.token.Keyword.{Keyword}
+use Rattle.cq_language.specs.declared.token.Keyword.TheVariants as keywords
+use Rattle.cq_language.specs.declared.token.Symbol.TheVariants as symbols
+use Rattle.cq_language.specs.declared.token.Token.{Token}
+use Rattle.cq_language.specs.declared.token.Token.TheVariants as tokens
+use Rattle.cq_values.specs.declared.column.ColumnDef.{ColumnDef}
+use Rattle.cq_language.specs.declared.statement.Statement.{Statement}
+use Rattle.cq_language.specs.declared.statement.Statement.TheVariants as statements
+use Rattle.cq_language.specs.Sentence.{Separated, IsName, IsColumn, IsSort, IsStatement, type_word, not_null_tokens}
 use Rattle.cq_sql.specs.Read.{after_keyword, after_symbol}
 use Rattle.cq_sql.specs.Grammar.{name_at, type_of, type_at, not_null_at, column_at, sort_at, create_table_at}
 use Rattle.cq_sql.proofs.Exact.{Reads, Anything, Nothing, Done, After, Then, TailOr, EndsTail, at_end, bind_some, parts_of, keyword_takes, symbol_takes, by_same, done_reads, behind_reads, then_reads, next_reads, tail_or_reads}

@@ -2,12 +2,12 @@
 use Rattle.std.proofs.Common.{◌≡◌, ℕ, ◌≤◌, ◌<◌, true, List, [], ◌∷◌, ◌++◌, length, Some}
 use Rattle.std.specs.Prelude.{nat_le}
 use Rattle.std.proofs.lemmas.Bool.{leb-true, le-leb, and_from, and_parts}
-use Rattle.cq_model.specs.declared.token.Keyword.TheVariants as keywords
-use Rattle.cq_model.specs.declared.token.Symbol.TheVariants as symbols
-use Rattle.cq_model.specs.declared.token.Token.{Token}
-use Rattle.cq_model.specs.declared.token.Token.TheVariants as tokens
-use Rattle.cq_model.specs.Written.{Written}
-use Rattle.cq_model.specs.Expression.{spelled, tightness, fits, is_in_order}
+use Rattle.cq_language.specs.declared.token.Keyword.TheVariants as keywords
+use Rattle.cq_language.specs.declared.token.Symbol.TheVariants as symbols
+use Rattle.cq_language.specs.declared.token.Token.{Token}
+use Rattle.cq_language.specs.declared.token.Token.TheVariants as tokens
+use Rattle.cq_language.specs.Written.{Written}
+use Rattle.cq_language.specs.Expression.{spelled, tightness, fits, is_in_order}
 use Rattle.cq_sql.specs.Read.{Reader}
 
 -- from which tightness on an expression ends in front of the token

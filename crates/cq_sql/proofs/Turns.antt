@@ -1,9 +1,9 @@
 -- Reading items with commas between them, as a loop does.
 use Rattle.std.proofs.Common.{◌≡◌, ℕ, zero, suc, ◌-◌, ◌+◌, ◌<◌, List, [], ◌∷◌, ◌++◌, Option, Some, None, refl, sym, ap, ◌∙◌, append_assoc, arith}
-use Rattle.cq_model.specs.declared.token.Token.{Token}
+use Rattle.cq_language.specs.declared.token.Token.{Token}
 use Rattle.cq_sql.specs.declared.fault.SqlFault.{SqlFault}
 use Rattle.cq_sql.specs.declared.fault.SqlFault.TheVariants as errors
-use Rattle.cq_model.specs.declared.token.Symbol.TheVariants as symbols
+use Rattle.cq_language.specs.declared.token.Symbol.TheVariants as symbols
 use Rattle.cq_sql.specs.Gives.{Fails}
 use Rattle.cq_sql.specs.Read.{◌>>=◌, Reader, separated, after_symbol, onto}
 

@@ -2,16 +2,16 @@
 use Rattle.std.proofs.Common.{◌≡◌, ℕ, zero, suc, ◌≤◌, ◌<◌, Bool, true, false, List, [], ◌∷◌, ◌++◌, length, Some, None, refl, sym, ap, ap₂, ◌∙◌, append_assoc, arith, length-append}
 use Rattle.std.proofs.lemmas.Bool.{and_parts}
 use Rattle.std.proofs.lemmas.List.{append-nil}
-use Rattle.cq_model.specs.declared.statement.Comparison.{Comparison}
-use Rattle.cq_model.specs.declared.statement.Comparison.TheVariants as comparisons
-use Rattle.cq_model.specs.declared.token.Keyword.{Keyword}
-use Rattle.cq_model.specs.declared.token.Keyword.TheVariants as keywords
-use Rattle.cq_model.specs.declared.token.Symbol.{Symbol}
-use Rattle.cq_model.specs.declared.token.Symbol.TheVariants as symbols
-use Rattle.cq_model.specs.declared.token.Token.{Token}
-use Rattle.cq_model.specs.declared.token.Token.TheVariants as tokens
-use Rattle.cq_model.specs.Written.{Written, Choices, NoChoice, Choice, choices}
-use Rattle.cq_model.specs.Expression.{spelled, spelled_more, comparison_sign, not_tokens, fits, is_in_order, are_in_order}
+use Rattle.cq_values.specs.declared.comparison.Comparison.{Comparison}
+use Rattle.cq_values.specs.declared.comparison.Comparison.TheVariants as comparisons
+use Rattle.cq_language.specs.declared.token.Keyword.{Keyword}
+use Rattle.cq_language.specs.declared.token.Keyword.TheVariants as keywords
+use Rattle.cq_language.specs.declared.token.Symbol.{Symbol}
+use Rattle.cq_language.specs.declared.token.Symbol.TheVariants as symbols
+use Rattle.cq_language.specs.declared.token.Token.{Token}
+use Rattle.cq_language.specs.declared.token.Token.TheVariants as tokens
+use Rattle.cq_language.specs.Written.{Written, Choices, NoChoice, Choice, choices}
+use Rattle.cq_language.specs.Expression.{spelled, spelled_more, comparison_sign, not_tokens, fits, is_in_order, are_in_order}
 use Rattle.cq_sql.specs.declared.links.Link.TheVariants as links
 use Rattle.cq_sql.specs.declared.predicates.Test.{Test}
 use Rattle.cq_sql.specs.declared.predicates.Test.TheVariants as tests

@@ -1,14 +1,14 @@
 -- The items of a view are read exactly.
 use Rattle.std.proofs.Common.{◌≡◌, ◌<◌, List, [], ◌∷◌, ◌++◌, length, Option, Some, None, refl, sym, ap, subst, ◌∙◌, arith, length-append}
 use Rattle.std.proofs.lemmas.List.{append-nil}
-use Rattle.cq_model.specs.declared.token.Keyword.TheVariants as keywords
-use Rattle.cq_model.specs.declared.token.Token.{Token}
-use Rattle.cq_model.specs.declared.token.Token.TheVariants as tokens
-use Rattle.cq_model.specs.declared.statement.Item.{Item}
-use Rattle.cq_model.specs.declared.statement.ItemValue.{ItemValue}
-use Rattle.cq_model.specs.declared.statement.ItemValue.TheVariants as values
-use Rattle.cq_model.specs.Sentence.{IsAlias, IsItem, IsItemValue}
-use Rattle.cq_model.specs.Written.{Written}
+use Rattle.cq_language.specs.declared.token.Keyword.TheVariants as keywords
+use Rattle.cq_language.specs.declared.token.Token.{Token}
+use Rattle.cq_language.specs.declared.token.Token.TheVariants as tokens
+use Rattle.cq_language.specs.declared.statement.Item.{Item}
+use Rattle.cq_language.specs.declared.statement.ItemValue.{ItemValue}
+use Rattle.cq_language.specs.declared.statement.ItemValue.TheVariants as values
+use Rattle.cq_language.specs.Sentence.{IsAlias, IsItem, IsItemValue}
+use Rattle.cq_language.specs.Written.{Written}
 use Rattle.cq_sql.specs.Chains.{joined_at}
 use Rattle.cq_sql.specs.Expressions.{primary_of, factor_of, product_of, sum_of, predicate_of, negation_of, operand_of, expression_of, expression_at}
 use Rattle.cq_sql.specs.Grammar.{item_value_at, item_at}

@@ -1,17 +1,17 @@
 -- Queries of views are read exactly, and so are the statements that create and drop a view.
 use Rattle.std.proofs.Common.{◌≡◌, ℕ, List, [], ◌∷◌, ◌++◌, Option, refl, sym, ap, subst, ◌∙◌, append_assoc}
 use Rattle.std.proofs.lemmas.List.{append-nil}
-use Rattle.cq_model.specs.declared.token.Keyword.TheVariants as keywords
-use Rattle.cq_model.specs.declared.token.Symbol.TheVariants as symbols
-use Rattle.cq_model.specs.declared.token.Token.{Token}
-use Rattle.cq_model.specs.declared.token.Token.TheVariants as tokens
-use Rattle.cq_model.specs.declared.statement.FromSource.{FromSource}
-use Rattle.cq_model.specs.declared.statement.Item.{Item}
-use Rattle.cq_model.specs.declared.statement.Statement.{Statement}
-use Rattle.cq_model.specs.declared.statement.Statement.TheVariants as statements
-use Rattle.cq_model.specs.declared.statement.ViewSelect.{ViewSelect}
-use Rattle.cq_model.specs.Written.{Written}
-use Rattle.cq_model.specs.Sentence.{Separated, IsName, IsSource, IsWhere, IsItem, IsViewSelect, IsStatement}
+use Rattle.cq_language.specs.declared.token.Keyword.TheVariants as keywords
+use Rattle.cq_language.specs.declared.token.Symbol.TheVariants as symbols
+use Rattle.cq_language.specs.declared.token.Token.{Token}
+use Rattle.cq_language.specs.declared.token.Token.TheVariants as tokens
+use Rattle.cq_language.specs.declared.statement.FromSource.{FromSource}
+use Rattle.cq_language.specs.declared.statement.Item.{Item}
+use Rattle.cq_language.specs.declared.statement.Statement.{Statement}
+use Rattle.cq_language.specs.declared.statement.Statement.TheVariants as statements
+use Rattle.cq_language.specs.declared.statement.ViewSelect.{ViewSelect}
+use Rattle.cq_language.specs.Written.{Written}
+use Rattle.cq_language.specs.Sentence.{Separated, IsName, IsSource, IsWhere, IsItem, IsViewSelect, IsStatement}
 use Rattle.cq_sql.specs.Read.{after_symbol}
 use Rattle.cq_sql.specs.Grammar.{name_at, item_at, groups_at, view_select_at, create_view_at, drop_view_at}
 use Rattle.cq_sql.proofs.Exact.{Reads, Anything, Nothing, Done, After, Then, EndsTail, at_end, keyword_takes, by_same, done_reads, behind_reads, then_reads, next_reads}

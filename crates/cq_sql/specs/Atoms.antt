@@ -1,12 +1,12 @@
 -- Expressions that have no parts, and what opens a pair of parentheses, as readers on lists.
 use Rattle.std.specs.Prelude.{ℕ, List, ◌∷◌, Option, Some, None}
-use Rattle.cq_model.specs.declared.expr.DayPart.{DayPart}
-use Rattle.cq_model.specs.declared.expr.DayPart.TheVariants as parts
-use Rattle.cq_model.specs.declared.token.Keyword.{Keyword}
-use Rattle.cq_model.specs.declared.token.Keyword.TheVariants as keywords
-use Rattle.cq_model.specs.declared.token.Symbol.TheVariants as symbols
-use Rattle.cq_model.specs.declared.token.Token.TheVariants as tokens
-use Rattle.cq_model.specs.Written.{Written, Number, Text, Date, Null, Column}
+use Rattle.cq_values.specs.declared.day_part.DayPart.{DayPart}
+use Rattle.cq_values.specs.declared.day_part.DayPart.TheVariants as parts
+use Rattle.cq_language.specs.declared.token.Keyword.{Keyword}
+use Rattle.cq_language.specs.declared.token.Keyword.TheVariants as keywords
+use Rattle.cq_language.specs.declared.token.Symbol.TheVariants as symbols
+use Rattle.cq_language.specs.declared.token.Token.TheVariants as tokens
+use Rattle.cq_language.specs.Written.{Written, Number, Text, Date, Null, Column}
 use Rattle.cq_sql.specs.declared.atoms.Opening.{Opening}
 use Rattle.cq_sql.specs.declared.atoms.Opening.TheVariants as openings
 use Rattle.cq_sql.specs.Read.{◌>>=◌, Reader}

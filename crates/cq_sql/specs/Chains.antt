@@ -1,13 +1,13 @@
 -- Chains of parts, as readers on lists: what stands between the parts, and what they make.
 use Rattle.std.specs.Prelude.{ℕ, zero, suc, List, [], ◌∷◌, ◌++◌, length, fold, Option, Some, None}
 use Rattle.std.specs.Option.{option_map}
-use Rattle.cq_model.specs.declared.token.Keyword.TheVariants as keywords
-use Rattle.cq_model.specs.declared.token.Symbol.TheVariants as symbols
-use Rattle.cq_model.specs.declared.token.Token.{Token}
-use Rattle.cq_model.specs.declared.token.Token.TheVariants as tokens
-use Rattle.cq_model.specs.declared.written.Sign.{Sign}
-use Rattle.cq_model.specs.declared.written.Sign.TheVariants as signs
-use Rattle.cq_model.specs.Written.{Written, Parens, Extract, Times, And, Or, signed}
+use Rattle.cq_language.specs.declared.token.Keyword.TheVariants as keywords
+use Rattle.cq_language.specs.declared.token.Symbol.TheVariants as symbols
+use Rattle.cq_language.specs.declared.token.Token.{Token}
+use Rattle.cq_language.specs.declared.token.Token.TheVariants as tokens
+use Rattle.cq_language.specs.declared.written.Sign.{Sign}
+use Rattle.cq_language.specs.declared.written.Sign.TheVariants as signs
+use Rattle.cq_language.specs.Written.{Written, Parens, Extract, Times, And, Or, signed}
 use Rattle.cq_sql.specs.declared.atoms.Opening.{Opening}
 use Rattle.cq_sql.specs.declared.atoms.Opening.TheVariants as openings
 use Rattle.cq_sql.specs.declared.links.Operator.{Operator}

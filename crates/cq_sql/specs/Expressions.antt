@@ -1,9 +1,9 @@
 -- How the readers of expressions go, as functions on lists: what an expression is, the model says.
 use Rattle.std.specs.Prelude.{Bool, ℕ, zero, suc, List, [], ◌∷◌, length, Option, Some, None}
-use Rattle.cq_model.specs.declared.token.Keyword.TheVariants as keywords
-use Rattle.cq_model.specs.declared.token.Symbol.TheVariants as symbols
-use Rattle.cq_model.specs.declared.token.Token.{Token}
-use Rattle.cq_model.specs.Written.{Written, Negative, Compare, IsNull, Between, In, Like, Not, choices}
+use Rattle.cq_language.specs.declared.token.Keyword.TheVariants as keywords
+use Rattle.cq_language.specs.declared.token.Symbol.TheVariants as symbols
+use Rattle.cq_language.specs.declared.token.Token.{Token}
+use Rattle.cq_language.specs.Written.{Written, Negative, Compare, IsNull, Between, In, Like, Not, choices}
 use Rattle.cq_sql.specs.declared.atoms.Opening.{Opening}
 use Rattle.cq_sql.specs.declared.atoms.Opening.TheVariants as openings
 use Rattle.cq_sql.specs.declared.links.Operator.{Operator}

@@ -2,24 +2,24 @@
 use Rattle.std.specs.Prelude.{ℕ, Bool, true, false, List, [], ◌∷◌, Option, Some, None}
 use Rattle.cq_values.specs.declared.ty.Ty.{Ty}
 use Rattle.cq_values.specs.declared.ty.Ty.TheVariants as types
-use Rattle.cq_model.specs.declared.token.Keyword.{Keyword}
-use Rattle.cq_model.specs.declared.token.Keyword.TheVariants as keywords
-use Rattle.cq_model.specs.declared.token.Symbol.TheVariants as symbols
-use Rattle.cq_model.specs.declared.token.Token.{Token}
-use Rattle.cq_model.specs.declared.token.Token.TheVariants as tokens
-use Rattle.cq_model.specs.declared.statement.ColumnDef.{ColumnDef}
-use Rattle.cq_model.specs.declared.statement.Constant.{Constant}
-use Rattle.cq_model.specs.declared.statement.Constant.TheVariants as constants
-use Rattle.cq_model.specs.declared.statement.FromSource.{FromSource}
-use Rattle.cq_model.specs.declared.statement.Item.{Item}
-use Rattle.cq_model.specs.declared.statement.ItemValue.{ItemValue}
-use Rattle.cq_model.specs.declared.statement.ItemValue.TheVariants as values
-use Rattle.cq_model.specs.declared.statement.Literal.{Literal}
-use Rattle.cq_model.specs.declared.statement.SelectItem.{SelectItem}
-use Rattle.cq_model.specs.declared.statement.Statement.{Statement}
-use Rattle.cq_model.specs.declared.statement.Statement.TheVariants as statements
-use Rattle.cq_model.specs.declared.statement.ViewSelect.{ViewSelect}
-use Rattle.cq_model.specs.Written.{Written}
+use Rattle.cq_language.specs.declared.token.Keyword.{Keyword}
+use Rattle.cq_language.specs.declared.token.Keyword.TheVariants as keywords
+use Rattle.cq_language.specs.declared.token.Symbol.TheVariants as symbols
+use Rattle.cq_language.specs.declared.token.Token.{Token}
+use Rattle.cq_language.specs.declared.token.Token.TheVariants as tokens
+use Rattle.cq_values.specs.declared.column.ColumnDef.{ColumnDef}
+use Rattle.cq_language.specs.declared.statement.Constant.{Constant}
+use Rattle.cq_language.specs.declared.statement.Constant.TheVariants as constants
+use Rattle.cq_language.specs.declared.statement.FromSource.{FromSource}
+use Rattle.cq_language.specs.declared.statement.Item.{Item}
+use Rattle.cq_language.specs.declared.statement.ItemValue.{ItemValue}
+use Rattle.cq_language.specs.declared.statement.ItemValue.TheVariants as values
+use Rattle.cq_language.specs.declared.statement.Literal.{Literal}
+use Rattle.cq_language.specs.declared.statement.SelectItem.{SelectItem}
+use Rattle.cq_language.specs.declared.statement.Statement.{Statement}
+use Rattle.cq_language.specs.declared.statement.Statement.TheVariants as statements
+use Rattle.cq_language.specs.declared.statement.ViewSelect.{ViewSelect}
+use Rattle.cq_language.specs.Written.{Written}
 use Rattle.cq_sql.specs.Expressions.{expression_at, argument_at}
 use Rattle.cq_sql.specs.Read.{◌>>=◌, Reader, done, followed_by, behind, after_keyword, after_symbol, list_at, tail_at, tail_or}
 

@@ -1,7 +1,7 @@
 -- What a piece is read as.
 use Rattle.std.specs.Prelude.{ℕ, List, Result, Ok, Err}
-use Rattle.cq_model.specs.declared.statement.Statement.{Statement}
-use Rattle.cq_model.specs.Sentence.{IsSentence, IsNoSentence, IsPastLimits}
+use Rattle.cq_language.specs.declared.statement.Statement.{Statement}
+use Rattle.cq_language.specs.Sentence.{IsSentence, IsNoSentence, IsPastLimits}
 use Rattle.cq_sql.specs.declared.fault.SqlFault.{SqlFault}
 use Rattle.cq_sql.specs.declared.fault.SqlFault.TheVariants.{Memory, Syntax, LimitExceeded}
 

@@ -1,12 +1,12 @@
 -- The words that begin a test of a value, as a reader on lists.
 use Rattle.std.specs.Prelude.{Bool, true, false, ◌∷◌, Option, Some, None}
-use Rattle.cq_model.specs.declared.statement.Comparison.{Comparison}
-use Rattle.cq_model.specs.declared.statement.Comparison.TheVariants as comparisons
-use Rattle.cq_model.specs.declared.token.Keyword.{Keyword}
-use Rattle.cq_model.specs.declared.token.Keyword.TheVariants as keywords
-use Rattle.cq_model.specs.declared.token.Symbol.{Symbol}
-use Rattle.cq_model.specs.declared.token.Symbol.TheVariants as symbols
-use Rattle.cq_model.specs.declared.token.Token.TheVariants as tokens
+use Rattle.cq_values.specs.declared.comparison.Comparison.{Comparison}
+use Rattle.cq_values.specs.declared.comparison.Comparison.TheVariants as comparisons
+use Rattle.cq_language.specs.declared.token.Keyword.{Keyword}
+use Rattle.cq_language.specs.declared.token.Keyword.TheVariants as keywords
+use Rattle.cq_language.specs.declared.token.Symbol.{Symbol}
+use Rattle.cq_language.specs.declared.token.Symbol.TheVariants as symbols
+use Rattle.cq_language.specs.declared.token.Token.TheVariants as tokens
 use Rattle.cq_sql.specs.declared.predicates.Test.{Test}
 use Rattle.cq_sql.specs.declared.predicates.Test.TheVariants as tests
 use Rattle.cq_sql.specs.Read.{◌>>=◌, Reader}

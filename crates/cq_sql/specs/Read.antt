@@ -1,13 +1,13 @@
 -- How readers go, as functions on lists, and how they are put together: what a sentence is, the model says.
 use Rattle.std.specs.Prelude.{ℕ, zero, suc, List, [], ◌∷◌, length, Option, Some, None, if◌then◌else◌}
 use denote.Enum.Bare.{sameb}
-use Rattle.cq_model.specs.contracts.token.Keyword as keyword
-use Rattle.cq_model.specs.contracts.token.Symbol as symbol
-use Rattle.cq_model.specs.declared.token.Keyword.{Keyword}
-use Rattle.cq_model.specs.declared.token.Symbol.{Symbol}
-use Rattle.cq_model.specs.declared.token.Symbol.TheVariants as symbols
-use Rattle.cq_model.specs.declared.token.Token.{Token}
-use Rattle.cq_model.specs.declared.token.Token.TheVariants as tokens
+use Rattle.cq_language.specs.contracts.token.Keyword as keyword
+use Rattle.cq_language.specs.contracts.token.Symbol as symbol
+use Rattle.cq_language.specs.declared.token.Keyword.{Keyword}
+use Rattle.cq_language.specs.declared.token.Symbol.{Symbol}
+use Rattle.cq_language.specs.declared.token.Symbol.TheVariants as symbols
+use Rattle.cq_language.specs.declared.token.Token.{Token}
+use Rattle.cq_language.specs.declared.token.Token.TheVariants as tokens
 
 infixl 10 ◌>>=◌
 -- goes on with what there is, as `?` does

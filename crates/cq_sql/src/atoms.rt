@@ -1,13 +1,13 @@
 //! Expressions that have no parts, and what opens a pair of parentheses.
 ghost use Rattle.std.specs.Prelude.{◌≡◌};
 ghost use Rattle.std.specs.Option.{option_map};
-ghost use Rattle.cq_model.specs.Written.{written};
+ghost use Rattle.cq_language.specs.Written.{written};
 ghost use Rattle.cq_sql.specs.Atoms.{atom_at, day_part_of, opening_at, text_at};
 ghost use Rattle.cq_sql.specs.Gives.{Gives};
 
 use crate::fault::SqlFault;
-use cq_model::{ColumnName, DayPart, ExprNode, Keyword, Symbol, Token};
-use cq_values::Text;
+use cq_language::{ColumnName, ExprNode, Keyword, Symbol, Token};
+use cq_values::{DayPart, Text};
 use std::alloc::Global;
 
 /// What opens a pair of parentheses.

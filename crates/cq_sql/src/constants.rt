@@ -5,7 +5,7 @@ ghost use Rattle.cq_sql.specs.Grammar.{literal_at, number_at, constant_at, row_a
 
 use crate::fault::SqlFault;
 use crate::read::{Readable, expect_symbol, list_of};
-use cq_model::{Constant, Keyword, Literal, Symbol, Token};
+use cq_language::{Constant, Keyword, Literal, Symbol, Token};
 use cq_values::Seq;
 use std::alloc::Global;
 

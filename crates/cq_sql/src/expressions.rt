@@ -3,8 +3,8 @@
 //! One function reads each level of the grammar. A chain is read by a loop, so that a long one takes no deep recursion;
 //! `depth` is how many pairs of parentheses may still open.
 ghost use Rattle.std.specs.Prelude.{◌≡◌, Err, IfOk, length, map};
-ghost use Rattle.cq_model.specs.Expression.{IsExpression};
-ghost use Rattle.cq_model.specs.Written.{Written, written};
+ghost use Rattle.cq_language.specs.Expression.{IsExpression};
+ghost use Rattle.cq_language.specs.Written.{Written, written};
 ghost use Rattle.cq_sql.specs.declared.fault.SqlFault.TheVariants.{LimitExceeded, Syntax};
 ghost use Rattle.cq_sql.specs.Chains.{joined_at, more_parts, more_terms};
 ghost use Rattle.cq_sql.specs.Expressions.{argument_at, between_of, choices_of, content_of, enclosed_choices, expression_at, factor_of, negation_of, operand_of, part_of, predicate_of, primary_of, product_of, readers, sum_of, tested, whole_expression};
@@ -18,7 +18,7 @@ use crate::nodes::{
 };
 use crate::predicates::{Test, test_at};
 use crate::read::{Readable, after_keyword, after_symbol, expect_keyword, expect_symbol};
-use cq_model::{ExprNode, Keyword, SqlExpr, Symbol, Token};
+use cq_language::{ExprNode, Keyword, SqlExpr, Symbol, Token};
 use std::alloc::Global;
 
 /// The expression at the front of tokens, and the tokens behind it: as much as makes one.

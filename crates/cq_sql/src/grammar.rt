@@ -1,7 +1,7 @@
 //! Tokens as statements.
 ghost use Rattle.std.specs.Prelude.{◌≡◌, IfOk};
-ghost use Rattle.cq_model.specs.Sentence.{IsStatement};
-ghost use Rattle.cq_model.specs.declared.statement.Statement.{Statement};
+ghost use Rattle.cq_language.specs.Sentence.{IsStatement};
+ghost use Rattle.cq_language.specs.declared.statement.Statement.{Statement};
 ghost use Rattle.cq_sql.specs.declared.fault.SqlFault.TheVariants.{LimitExceeded, Syntax};
 ghost use Rattle.cq_sql.specs.Gives.{Gives};
 ghost use Rattle.cq_sql.specs.Grammar.{name_at, drop_table_at, create_view_at, drop_view_at, insert_at, delete_at, select_at, statement_at, whole_statement};
@@ -9,7 +9,7 @@ ghost use Rattle.cq_sql.specs.Grammar.{name_at, drop_table_at, create_view_at, d
 use crate::fault::SqlFault;
 use crate::read::{Readable, expect_keyword, list_of, tail_of};
 use crate::table::create_table_at;
-use cq_model::{
+use cq_language::{
     Constant, FromSource, Keyword, Select, SelectItem, SqlExpr, Statement, Token, ViewSelect,
 };
 use cq_values::{Seq, Text};

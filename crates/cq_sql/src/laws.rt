@@ -1,10 +1,10 @@
 //! What holds of every tree.
 ghost use Rattle.std.specs.Prelude.{◌≡◌, List};
-ghost use Rattle.cq_model.specs.Expression.{IsExpression};
-ghost use Rattle.cq_model.specs.Sentence.{IsStatement};
-ghost use Rattle.cq_model.specs.Written.{Written};
-ghost use Rattle.cq_model.specs.declared.statement.Statement.{Statement};
-ghost use Rattle.cq_model.specs.declared.token.Token.{Token};
+ghost use Rattle.cq_language.specs.Expression.{IsExpression};
+ghost use Rattle.cq_language.specs.Sentence.{IsStatement};
+ghost use Rattle.cq_language.specs.Written.{Written};
+ghost use Rattle.cq_language.specs.declared.statement.Statement.{Statement};
+ghost use Rattle.cq_language.specs.declared.token.Token.{Token};
 
 /// A list of tokens has at most one tree.
 pub fn one_tree()

@@ -4,7 +4,7 @@ ghost use Rattle.std.specs.Option.{option_map};
 ghost use Rattle.cq_sql.specs.Chains.{after_link, sign_at};
 
 use crate::read::{after_keyword, after_symbol};
-use cq_model::{Keyword, Sign, Symbol, Token};
+use cq_language::{Keyword, Sign, Symbol, Token};
 
 /// What makes one value of a chain of parts.
 #[derive(Clone, Copy, Debug, PartialEq, Eq)]

@@ -1,13 +1,13 @@
 //! Expressions put together from their parts.
 ghost use Rattle.std.specs.Prelude.{◌≡◌, ◌∷◌, [], IfOk, fold, map};
-ghost use Rattle.cq_model.specs.Written.{choices, terms, written};
-ghost use Rattle.cq_model.specs.Written as spelling;
+ghost use Rattle.cq_language.specs.Written.{choices, terms, written};
+ghost use Rattle.cq_language.specs.Written as spelling;
 ghost use Rattle.cq_sql.specs.Chains.{enclosed, join};
 
 use crate::atoms::Opening;
 use crate::links::Operator;
-use cq_model::{Comparison, ExprNode, Sign};
-use cq_values::Text;
+use cq_language::{ExprNode, Sign};
+use cq_values::{Comparison, Text};
 use std::alloc::{AllocFailed, Global};
 
 /// A chain of parts. One part alone is that part itself.

@@ -3,7 +3,8 @@ ghost use Rattle.std.specs.Prelude.{◌≡◌};
 ghost use Rattle.std.specs.Option.{option_map};
 ghost use Rattle.cq_sql.specs.Predicates.{comparison_of, test_at, worded};
 
-use cq_model::{Comparison, Keyword, Symbol, Token};
+use cq_language::{Keyword, Symbol, Token};
+use cq_values::Comparison;
 
 /// What a test asks. The `bool` tells whether NOT stands in it.
 #[derive(Clone, Copy, Debug, PartialEq, Eq)]

@@ -1,12 +1,12 @@
 //! What stands at the front of tokens, and the tokens behind it.
 ghost use Rattle.std.specs.Prelude.{◌≡◌, List, Option};
 ghost use Rattle.std.specs.Option.{option_map};
-ghost use Rattle.cq_model.specs.declared.token.Token.{Token};
+ghost use Rattle.cq_language.specs.declared.token.Token.{Token};
 ghost use Rattle.cq_sql.specs.Gives.{Gives};
 ghost use Rattle.cq_sql.specs.Read.{after_keyword, after_symbol, list_at, tail_at};
 
 use crate::fault::SqlFault;
-use cq_model::{Keyword, Symbol, Token};
+use cq_language::{Keyword, Symbol, Token};
 use cq_values::Seq;
 use std::alloc::Global;
 

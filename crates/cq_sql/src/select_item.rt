@@ -3,7 +3,7 @@ ghost use Rattle.cq_sql.specs.Grammar.{select_item_at};
 
 use crate::fault::SqlFault;
 use crate::read::{Readable, tail_of};
-use cq_model::{Keyword, SelectItem, SqlExpr, Token};
+use cq_language::{Keyword, SelectItem, SqlExpr, Token};
 use cq_values::Text;
 use std::alloc::Global;
 

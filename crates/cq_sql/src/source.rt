@@ -5,7 +5,7 @@ ghost use Rattle.cq_sql.specs.Grammar.{known_as_at, source_at};
 
 use crate::fault::SqlFault;
 use crate::read::{Readable, tail_of};
-use cq_model::{FromSource, Keyword, Token};
+use cq_language::{FromSource, Keyword, Token};
 use cq_values::Text;
 use std::alloc::Global;
 

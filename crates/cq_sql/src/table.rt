@@ -5,8 +5,8 @@ ghost use Rattle.cq_sql.specs.Grammar.{type_of, type_at, not_null_at, column_at,
 
 use crate::fault::SqlFault;
 use crate::read::{Readable, after_keyword, expect_keyword, expect_symbol, list_of};
-use cq_model::{ColumnDef, Keyword, Statement, Symbol, Token};
-use cq_values::{Seq, Text, Ty};
+use cq_language::{Keyword, Statement, Symbol, Token};
+use cq_values::{ColumnDef, Seq, Text, Ty};
 use std::alloc::Global;
 
 fn type_of(word: Keyword) -> Option<Ty>

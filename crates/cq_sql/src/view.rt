@@ -6,7 +6,7 @@ ghost use Rattle.cq_sql.specs.Grammar.{counted_at, count_at, sum_at, item_value_
 use crate::expressions::argument_at;
 use crate::fault::SqlFault;
 use crate::read::{Readable, expect_keyword, expect_symbol, list_of, tail_of};
-use cq_model::{FromSource, Item, ItemValue, Keyword, SqlExpr, Symbol, Token, ViewSelect};
+use cq_language::{FromSource, Item, ItemValue, Keyword, SqlExpr, Symbol, Token, ViewSelect};
 use cq_values::{Seq, Text};
 use std::alloc::Global;
 

@@ -3,10 +3,10 @@ use Rattle.std.proofs.Common.{◌≡◌, ℕ, suc, ◌+◌, not, List, [], ◌�
 use Rattle.std.specs.Prelude.{slice_get, length, filter, ◌==◌, ◌||◌, Bool, is_some, option_map, unwrap_or}
 use Rattle.cq_values.specs.Texts.{is_text}
 use Rattle.cq_bags.proofs.Totals.{by_test}
-use Rattle.cq_model.specs.declared.statement.Statement.{Statement}
-use Rattle.cq_model.specs.declared.statement.Statement.TheVariants as statements
-use Rattle.cq_steps.specs.Bound.{Named, from_table, from_view, source_named, bound, bound_select}
-use Rattle.cq_steps.specs.Refusal.{first_fault, is_used, drop_table_places, select_places, refusal}
+use Rattle.cq_language.specs.declared.statement.Statement.{Statement}
+use Rattle.cq_language.specs.declared.statement.Statement.TheVariants as statements
+use Rattle.cq_binding.specs.Bound.{Named, from_table, from_view, source_named, bound, bound_select}
+use Rattle.cq_binding.specs.Refusal.{first_fault, is_used, drop_table_places, select_places, refusal}
 use Rattle.std.specs.List.{remove, prefix_len, list_any}
 use Rattle.std.proofs.lemmas.List.{map-append, take-map, drop-map, length-map}
 use Rattle.std.specs.Option.{option_or}
@@ -14,17 +14,17 @@ use Rattle.cq_values.specs.Value.{Row}
 use Rattle.cq_bags.specs.Bag.{Weighted, once_each}
 use Rattle.cq_bags.specs.Listing.{IsListing}
 use Rattle.cq_bags.specs.declared.sort_key.SortKey.{SortKey}
-use Rattle.cq_model.specs.declared.bound.Bound.{Bound}
-use Rattle.cq_model.specs.declared.bound.Bound.TheVariants as commands
+use Rattle.cq_binding.specs.declared.bound.Bound.{Bound}
+use Rattle.cq_binding.specs.declared.bound.Bound.TheVariants as commands
 use Rattle.cq_model.specs.declared.query.Order.{Order}
 use Rattle.cq_model.specs.declared.query.Query.{Query}
-use Rattle.cq_model.specs.declared.statement.ColumnDef.{ColumnDef}
+use Rattle.cq_values.specs.declared.column.ColumnDef.{ColumnDef}
 use Rattle.cq_model.specs.Meaning.{meaning}
 use Rattle.cq_model.specs.Views.{with_views, sources_of, is_table, AnswerInRange}
 use Rattle.cq_model.specs.Write.{chosen, left_by, updated}
 use Rattle.cq_steps.specs.declared.answer.Answer.{Answer}
 use Rattle.cq_steps.specs.declared.answer.Answer.TheVariants.{Count, Rows}
-use Rattle.cq_steps.specs.State.{TableOf, ViewOf, State, table_named, view_place, view_named, empty_table, rows_in, with_rows, tables_now, queries_of}
+use Rattle.cq_states.specs.State.{TableOf, ViewOf, State, table_named, view_place, view_named, empty_table, rows_in, with_rows, tables_now, queries_of}
 use Rattle.cq_steps.specs.Step.{with_all_views, created, new_view, Writes, at_epoch, taken_on, reach, refreshed, Shows, Leads, Trims, at_present, Accepts, AreBetween, GivesUp, IsTooLarge}
 
 -- the view without its epoch

@@ -4,19 +4,19 @@ use Rattle.cq_values.specs.Value.{Row}
 use Rattle.cq_bags.specs.Bag.{Weighted}
 use Rattle.cq_bags.specs.Listing.{IsListing}
 use Rattle.cq_bags.specs.declared.sort_key.SortKey.{SortKey}
-use Rattle.cq_model.specs.declared.bound.Bound.{Bound}
-use Rattle.cq_model.specs.declared.statement.Statement.{Statement}
-use Rattle.cq_model.specs.declared.token.Token.{Token}
-use Rattle.cq_model.specs.Tokens.{HasTokens, is_past_limits}
-use Rattle.cq_model.specs.Sentence.{IsStatement, IsSentence, IsNoSentence, IsPastLimits}
-use Rattle.cq_model.specs.Pieces.{PieceOf, HasPieces}
+use Rattle.cq_binding.specs.declared.bound.Bound.{Bound}
+use Rattle.cq_language.specs.declared.statement.Statement.{Statement}
+use Rattle.cq_language.specs.declared.token.Token.{Token}
+use Rattle.cq_language.specs.Tokens.{HasTokens, is_past_limits}
+use Rattle.cq_language.specs.Sentence.{IsStatement, IsSentence, IsNoSentence, IsPastLimits}
+use Rattle.cq_language.specs.Pieces.{PieceOf, HasPieces}
 use Rattle.cq_steps.specs.declared.answer.Answer.{Answer}
 use Rattle.cq_steps.specs.declared.answer.Answer.TheVariants.{Rows}
-use Rattle.cq_steps.specs.declared.fault.Fault.{Fault}
-use Rattle.cq_steps.specs.declared.fault.Fault.TheVariants as faults
-use Rattle.cq_steps.specs.State.{State, first_state}
-use Rattle.cq_steps.specs.Bound.{bound}
-use Rattle.cq_steps.specs.Refusal.{refusal}
+use Rattle.cq_binding.specs.declared.fault.Fault.{Fault}
+use Rattle.cq_binding.specs.declared.fault.Fault.TheVariants as faults
+use Rattle.cq_states.specs.State.{State, first_state}
+use Rattle.cq_binding.specs.Bound.{bound}
+use Rattle.cq_binding.specs.Refusal.{refusal}
 use Rattle.cq_steps.specs.Step.{Step, Does, Accepts, IsTooLarge, Refuses, by_walk, for_memory, source_failed, memory_on_the_way, too_large}
 use Rattle.cq_steps.specs.Output.{Serves, rest_without_semicolon, sentence, no_sentence, past_limits, out_of_memory, no_text, Runs, statements_among, not_utf8, answered, outside, RefusalsDecide}
 use Rattle.cq_steps.proofs.Alike.{Alike, alike_same, alike_turned, alike_then, refusal-alike, bound-alike, gives-up-alike, SameAnswer, accepts-rows, accepts-alike, not-too-large, present-alike}

@@ -1,18 +1,20 @@
 -- The output of a script: the texts of its statements' outcomes, one after the other (docs/LANGUAGE.md, Scripts and tokens).
-use Rattle.std.specs.Prelude.{◌≡◌, ℕ, true, false, not, List, [], ◌∷◌, map, filter, Option, Some, None, Result, Ok, Err}
+use Rattle.std.specs.Prelude.{◌≡◌, ℕ, true, false, not, List, [], ◌∷◌, ◌++◌, codes, map, filter, Option, Some, None, Result, Ok, Err}
+use Rattle.std.specs.Fmt.{decimal}
 use Rattle.std.specs.List.{flat_map}
 use Rattle.std.specs.Str.{IsUtf8}
 use Rattle.cq_values.specs.Value.{Row}
-use Rattle.cq_model.specs.declared.statement.Statement.{Statement}
-use Rattle.cq_model.specs.Sentence.{IsSentence, IsNoSentence, IsPastLimits}
-use Rattle.cq_model.specs.Pieces.{PieceOf, HasPieces}
+use Rattle.cq_language.specs.declared.statement.Statement.{Statement}
+use Rattle.cq_language.specs.Sentence.{IsSentence, IsNoSentence, IsPastLimits}
+use Rattle.cq_language.specs.Pieces.{PieceOf, HasPieces}
 use Rattle.cq_steps.specs.declared.answer.Answer.{Answer}
-use Rattle.cq_steps.specs.declared.answer.Answer.TheVariants.{Rows}
-use Rattle.cq_steps.specs.declared.fault.Fault.{Fault}
-use Rattle.cq_steps.specs.declared.fault.Fault.TheVariants.{Memory, SourceFailed, NotUtf8, Syntax, LimitExceeded}
-use Rattle.cq_steps.specs.State.{State, first_state}
+use Rattle.cq_steps.specs.declared.answer.Answer.TheVariants.{Done, Count, Rows}
+use Rattle.cq_binding.specs.declared.fault.Fault.{Fault}
+use Rattle.cq_binding.specs.declared.fault.Fault.TheVariants.{Memory, SourceFailed, NotUtf8, Syntax, LimitExceeded}
+use Rattle.cq_binding.specs.FaultText.{fault_text}
+use Rattle.cq_printed.specs.Printed.{rows_text}
+use Rattle.cq_states.specs.State.{State, first_state}
 use Rattle.cq_steps.specs.Step.{Step}
-use Rattle.cq_steps.specs.Printed.{outcome_text}
 
 -- what a statement of a script, or what stands in its place, is answered with, and what state it leaves; rows may find
 -- no memory for their text
@@ -39,6 +41,13 @@ statements_among pieces = filter (λ p. not p.blank) pieces
 pub data HasOutcomes (max_rows : ℕ) (script : List ℕ) (outcomes : List (Result Answer Fault)) : Type 0 where
   not_utf8 : (IsUtf8 script → ⊥) → outcomes ≡ Err NotUtf8 ∷ [] → HasOutcomes max_rows script outcomes
   answered : IsUtf8 script → (pieces : List PieceOf) → HasPieces script pieces → (last : State) → Runs (first_state max_rows) (statements_among pieces) outcomes last → HasOutcomes max_rows script outcomes
+
+-- what is written for a statement
+abbrev pub outcome_text : Result Answer Fault → List ℕ
+outcome_text (Ok Done) = codes "ok\n"
+outcome_text (Ok (Count n)) = codes "ok " ++ (decimal n ++ 10 ∷ [])
+outcome_text (Ok (Rows header rows)) = rows_text header rows
+outcome_text (Err f) = codes "error " ++ (fault_text f ++ 10 ∷ [])
 
 -- the output that outcomes make
 abbrev pub output_of : List (Result Answer Fault) → List ℕ

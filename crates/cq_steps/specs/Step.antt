@@ -5,22 +5,22 @@ use Rattle.std.specs.List.{AllByRecursion, list_any, remove}
 use Rattle.cq_values.specs.Value.{Row}
 use Rattle.cq_bags.specs.Bag.{Weighted, SameBag, once_each, difference}
 use Rattle.cq_bags.specs.Listing.{IsListing}
-use Rattle.cq_model.specs.declared.bound.Bound.{Bound}
-use Rattle.cq_model.specs.declared.bound.Bound.TheVariants as commands
+use Rattle.cq_binding.specs.declared.bound.Bound.{Bound}
+use Rattle.cq_binding.specs.declared.bound.Bound.TheVariants as commands
 use Rattle.cq_model.specs.declared.query.Order.{Order}
 use Rattle.cq_model.specs.declared.query.Query.{Query}
-use Rattle.cq_model.specs.declared.statement.ColumnDef.{ColumnDef}
-use Rattle.cq_model.specs.declared.statement.Statement.{Statement}
+use Rattle.cq_values.specs.declared.column.ColumnDef.{ColumnDef}
+use Rattle.cq_language.specs.declared.statement.Statement.{Statement}
 use Rattle.cq_model.specs.Meaning.{meaning}
 use Rattle.cq_model.specs.Views.{with_views, sources_of, is_view, AnswerInRange}
 use Rattle.cq_model.specs.Write.{chosen, left_by, updated}
 use Rattle.cq_steps.specs.declared.answer.Answer.{Answer}
 use Rattle.cq_steps.specs.declared.answer.Answer.TheVariants.{Done, Count, Rows}
-use Rattle.cq_steps.specs.declared.fault.Fault.{Fault}
-use Rattle.cq_steps.specs.declared.fault.Fault.TheVariants as faults
-use Rattle.cq_steps.specs.Bound.{bound}
-use Rattle.cq_steps.specs.Refusal.{refusal}
-use Rattle.cq_steps.specs.State.{TableOf, ViewOf, State, empty_table, rows_in, with_rows, tables_now, queries_of}
+use Rattle.cq_binding.specs.declared.fault.Fault.{Fault}
+use Rattle.cq_binding.specs.declared.fault.Fault.TheVariants as faults
+use Rattle.cq_binding.specs.Bound.{bound}
+use Rattle.cq_binding.specs.Refusal.{refusal}
+use Rattle.cq_states.specs.State.{TableOf, ViewOf, State, empty_table, rows_in, with_rows, tables_now, queries_of}
 
 -- the state with these tables in place of its own
 abbrev pub with_tables : List TableOf → State → State

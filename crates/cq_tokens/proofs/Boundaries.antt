@@ -2,7 +2,7 @@
 use Rattle.std.proofs.Common.{◌≡◌, ℕ, zero, suc, ◌<◌, Bool, true, false, not, ◌==◌, List, ◌++◌, length, take, get_or, refl, sym, ap, ◌∙◌, subst, add-one, arith}
 use Rattle.std.specs.List.{prefix_len}
 use Rattle.std.proofs.lemmas.Bool.Decides.{nat_tests}
-use Rattle.cq_model.specs.Characters.{is_blank, is_digit, is_word_byte}
+use Rattle.cq_language.specs.Characters.{is_blank, is_digit, is_word_byte}
 use Rattle.std.specs.Str.{IsUtf8, IsCharBoundary, IsAscii}
 use Rattle.std.proofs.lemmas.List.{take_at, length-append}
 use Rattle.std.proofs.lemmas.List.Sums.{prefix_len-le-length, prefix_len_passes, prefix_len_stops}

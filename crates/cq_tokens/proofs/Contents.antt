@@ -1,8 +1,8 @@
 -- The content of a quoted text, part by part.
 use Rattle.std.proofs.Common.{◌≡◌, ◌≢◌, ℕ, suc, ◌<◌, Bool, true, false, cond, List, [], ◌∷◌, ◌++◌, length, get_or, Option, Some, None, refl, sym, ap, ◌∙◌, append_assoc, arith}
 use Rattle.std.proofs.lemmas.List.{append-nil}
-use Rattle.cq_model.specs.Characters.{is_quote, begins, doubled}
-use Rattle.cq_model.specs.declared.token.Token.TheVariants as tokens
+use Rattle.cq_language.specs.Characters.{is_quote, begins, doubled}
+use Rattle.cq_language.specs.declared.token.Token.TheVariants as tokens
 use Rattle.cq_tokens.proofs.Decisions.{byte_is, byte_is_not}
 use Rattle.cq_tokens.specs.Lexing.{onto, content_at, quoted_at}
 

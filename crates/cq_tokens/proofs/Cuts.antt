@@ -2,9 +2,9 @@
 use Rattle.std.proofs.Common.{◌≡◌, ℕ, ◌<◌, ◌==◌, true, false, List, [], ◌∷◌, ◌++◌, length, Option, Some, None, Err, refl, sym, ap, ◌∙◌, subst, append_assoc, arith}
 use Rattle.std.proofs.lemmas.Bool.Decides.{nat_tests}
 use Rattle.std.proofs.lemmas.List.{append-nil}
-use Rattle.cq_model.specs.declared.token.Token.{Token}
-use Rattle.cq_model.specs.Lexemes.{Lexeme, blank, comment, word, digits, quoted, symbol, AreLexemesOf}
-use Rattle.cq_model.specs.Tokens.{tokens_of, HasTokens}
+use Rattle.cq_language.specs.declared.token.Token.{Token}
+use Rattle.cq_language.specs.Lexemes.{Lexeme, blank, comment, word, digits, quoted, symbol, AreLexemesOf}
+use Rattle.cq_language.specs.Tokens.{tokens_of, HasTokens}
 use Rattle.cq_tokens.specs.declared.fault.TokenFault.{TokenFault}
 use Rattle.cq_tokens.specs.declared.fault.TokenFault.TheVariants as faults
 use Rattle.cq_tokens.specs.Lexing.{Gives, gap_at, token_at}

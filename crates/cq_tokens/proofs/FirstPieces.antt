@@ -1,7 +1,7 @@
 -- The first piece of a script, and the pieces after it.
 use Rattle.std.proofs.Common.{◌≡◌, ℕ, suc, ◌+◌, ◌<◌, ◌≤◌, Bool, true, false, ◌&&◌, cond, List, [], ◌∷◌, length, take, drop, refl, ap, arith, ◌∙◌}
 use Rattle.std.proofs.Math.Numerals.{one-add, add-one}
-use Rattle.cq_model.specs.Pieces.{PieceOf}
+use Rattle.cq_language.specs.Pieces.{PieceOf}
 use Rattle.cq_tokens.specs.declared.cutting.Context.{Context}
 use Rattle.cq_tokens.specs.declared.cutting.Context.TheVariants.{Outside}
 use Rattle.cq_tokens.specs.Cutting.{ends_piece, cut_end, cut_blank, is_blank_end, stays_blank, context_after, pieces_from, pieces_of, with_text}

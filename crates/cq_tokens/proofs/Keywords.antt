@@ -7,7 +7,7 @@ use Rattle.std.proofs.lemmas.Bool.Decides.{same_from_decides}
 use Rattle.std.proofs.lemmas.List.{at_drop_more}
 use denote.Ref.{Bor}
 use Rattle.cq_values.specs.Texts.{is_text}
-use Rattle.cq_model.specs.declared.token.Keyword.{Keyword}
+use Rattle.cq_language.specs.declared.token.Keyword.{Keyword}
 use Rattle.cq_tokens.specs.Lexing.{found_in}
 
 abbrev Entry : Type 0

@@ -2,10 +2,10 @@
 use Rattle.std.proofs.Common.{◌≡◌, ℕ, ◌<◌, ◌==◌, ◌||◌, ◌&&◌, true, false, cond, List, [], ◌∷◌, ◌++◌, length, drop, Option, Some, None, refl, sym, ap, ◌∙◌, subst, arith}
 use Rattle.std.specs.Str.{IsUtf8, IsCharBoundary, IsAscii}
 use Rattle.std.proofs.lemmas.Str.Ascii.{IsAscii-nil, IsAscii-cons}
-use Rattle.cq_model.specs.declared.token.Symbol.{Symbol}
-use Rattle.cq_model.specs.declared.token.Symbol.TheVariants as symbols
-use Rattle.cq_model.specs.Characters.{begins, is_blank, is_dash}
-use Rattle.cq_model.specs.Lexemes.{symbol_spelling, lengthens}
+use Rattle.cq_language.specs.declared.token.Symbol.{Symbol}
+use Rattle.cq_language.specs.declared.token.Symbol.TheVariants as symbols
+use Rattle.cq_language.specs.Characters.{begins, is_blank, is_dash}
+use Rattle.cq_language.specs.Lexemes.{symbol_spelling, lengthens}
 use Rattle.cq_tokens.specs.Lexing.{symbol_at, less_at, greater_at, gap_at}
 use Rattle.cq_tokens.proofs.Decisions.{either, both_false, second_false, neither, byte_is}
 use Rattle.cq_tokens.proofs.Boundaries.{after_ascii_part}

@@ -3,13 +3,13 @@ use Rattle.std.proofs.Common.{◌≡◌, ℕ, ◌==◌, ◌&&◌, not, true, fal
 use Rattle.std.specs.List.{prefix_len, list_all}
 use Rattle.std.proofs.lemmas.List.{drop_at}
 use Rattle.std.proofs.lemmas.Bool.Decides.{nat_tests}
-use Rattle.cq_model.specs.declared.token.Symbol.{Symbol}
-use Rattle.cq_model.specs.declared.token.Symbol.TheVariants as symbols
-use Rattle.cq_model.specs.declared.token.Token.{Token}
-use Rattle.cq_model.specs.declared.token.Token.TheVariants as tokens
-use Rattle.cq_model.specs.Characters.{is_blank, is_letter, is_digit, is_word_byte, is_quote, is_dash, begins, is_end_of_line, doubled}
-use Rattle.cq_model.specs.Lexemes.{Lexeme, blank, comment, word, digits, quoted, symbol, symbol_spelling, spelling, lengthens, Stands}
-use Rattle.cq_model.specs.Tokens.{word_token, number_token}
+use Rattle.cq_language.specs.declared.token.Symbol.{Symbol}
+use Rattle.cq_language.specs.declared.token.Symbol.TheVariants as symbols
+use Rattle.cq_language.specs.declared.token.Token.{Token}
+use Rattle.cq_language.specs.declared.token.Token.TheVariants as tokens
+use Rattle.cq_language.specs.Characters.{is_blank, is_letter, is_digit, is_word_byte, is_quote, is_dash, begins, is_end_of_line, doubled}
+use Rattle.cq_language.specs.Lexemes.{Lexeme, blank, comment, word, digits, quoted, symbol, symbol_spelling, spelling, lengthens, Stands}
+use Rattle.cq_language.specs.Tokens.{word_token, number_token}
 use Rattle.cq_tokens.specs.Lexing.{◌>>=◌, content_at, word_at, number_at, sign_at, gap_at, token_at}
 use Rattle.cq_tokens.proofs.Decisions.{taken, passed, is_false, first_false}
 use Rattle.cq_tokens.proofs.Prefixes.{prefix_cut}

@@ -5,8 +5,8 @@ use Rattle.std.proofs.Math.Bool.{or-false}
 use Rattle.std.proofs.lemmas.Bool.{eqb-true, cases_Bool, and_parts, not-true, cond-false}
 use Rattle.std.proofs.lemmas.List.{append-nil}
 use Rattle.std.proofs.lemmas.List.Sums.{sum_by-cons}
-use Rattle.cq_model.specs.Characters.{is_quote, is_dash, begins, is_end_of_line, doubled}
-use Rattle.cq_model.specs.Pieces.{PieceOf, Stretch, quoted, unclosed, comment, single, stretch_spelling, StretchStands, AreStretchesOf, is_blank_stretch, is_semicolon, with_stretch, empty_piece, pieces_at, HasPieces}
+use Rattle.cq_language.specs.Characters.{is_quote, is_dash, begins, is_end_of_line, doubled}
+use Rattle.cq_language.specs.Pieces.{PieceOf, Stretch, quoted, unclosed, comment, single, stretch_spelling, StretchStands, AreStretchesOf, is_blank_stretch, is_semicolon, with_stretch, empty_piece, pieces_at, HasPieces}
 use Rattle.cq_tokens.specs.declared.cutting.Context.{Context}
 use Rattle.cq_tokens.specs.declared.cutting.Context.TheVariants.{Outside, AfterDash, InText, InComment}
 use Rattle.cq_tokens.specs.Cutting.{context_after, ends_piece, stays_blank, is_blank_end, pieces_from, pieces_of, with_text}

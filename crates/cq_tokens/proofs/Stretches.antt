@@ -3,8 +3,8 @@ use Rattle.std.proofs.Common.{◌≡◌, ℕ, zero, suc, ◌+◌, ◌≤◌, tru
 use Rattle.std.specs.List.{list_all}
 use Rattle.std.proofs.lemmas.Bool.{eqb-true, cases_Bool, and_from, and_left, and_right, not_from_false}
 use Rattle.std.proofs.lemmas.List.{append-nil}
-use Rattle.cq_model.specs.Characters.{is_quote, is_dash, begins, is_end_of_line, doubled}
-use Rattle.cq_model.specs.Pieces.{Stretch, quoted, unclosed, comment, single, stretch_spelling, StretchStands, AreStretchesOf}
+use Rattle.cq_language.specs.Characters.{is_quote, is_dash, begins, is_end_of_line, doubled}
+use Rattle.cq_language.specs.Pieces.{Stretch, quoted, unclosed, comment, single, stretch_spelling, StretchStands, AreStretchesOf}
 
 -- ---- how far a quoted text and a comment go
 

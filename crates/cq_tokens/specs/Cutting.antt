@@ -1,7 +1,7 @@
 -- How the splitter goes over a script, byte by byte. What the pieces of a script are, `HasPieces` says.
 use Rattle.std.specs.Prelude.{ℕ, ◌+◌, Bool, true, false, Option, Some, None, ◌&&◌, ◌||◌, ◌==◌, if◌then◌else◌, List, [], ◌∷◌, ◌++◌}
-use Rattle.cq_model.specs.Characters.{is_blank, is_quote, is_dash}
-use Rattle.cq_model.specs.Pieces.{PieceOf}
+use Rattle.cq_language.specs.Characters.{is_blank, is_quote, is_dash}
+use Rattle.cq_language.specs.Pieces.{PieceOf}
 use Rattle.cq_tokens.specs.declared.cutting.Context.{Context}
 use Rattle.cq_tokens.specs.declared.cutting.Context.TheVariants.{Outside, AfterDash, InText, InComment}
 

@@ -1,5 +1,5 @@
 -- What a piece in the code is.
-use Rattle.cq_model.specs.Pieces.{PieceOf}
+use Rattle.cq_language.specs.Pieces.{PieceOf}
 use Rattle.cq_tokens.specs.declared.pieces.Piece.{Piece}
 
 -- its text, whether a semicolon ended it, and whether it is blank

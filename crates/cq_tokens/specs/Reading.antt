@@ -1,7 +1,7 @@
 -- What the reader of tokens gives.
 use Rattle.std.specs.Prelude.{ℕ, List, Result, Ok, Err}
-use Rattle.cq_model.specs.declared.token.Token.{Token}
-use Rattle.cq_model.specs.Tokens.{HasTokens}
+use Rattle.cq_language.specs.declared.token.Token.{Token}
+use Rattle.cq_language.specs.Tokens.{HasTokens}
 use Rattle.cq_tokens.specs.declared.fault.TokenFault.{TokenFault}
 use Rattle.cq_tokens.specs.declared.fault.TokenFault.TheVariants.{Memory, Syntax}
 

@@ -1,5 +1,5 @@
 //! Kinds of bytes, and how far a kind goes on.
-ghost use Rattle.cq_model.specs.Characters.{is_blank, is_letter, is_digit, is_word_byte, begins};
+ghost use Rattle.cq_language.specs.Characters.{is_blank, is_letter, is_digit, is_word_byte, begins};
 ghost use Rattle.std.specs.List.{prefix_len};
 ghost use Rattle.std.specs.Prelude.{◌≡◌, ◌==◌, not};
 

@@ -1,7 +1,7 @@
 //! What holds of the pieces of a script and of the tokens of a text.
-ghost use Rattle.cq_model.specs.Pieces.{HasPieces, PieceOf};
-ghost use Rattle.cq_model.specs.Tokens.{HasTokens};
-ghost use Rattle.cq_model.specs.declared.token.Token.{Token};
+ghost use Rattle.cq_language.specs.Pieces.{HasPieces, PieceOf};
+ghost use Rattle.cq_language.specs.Tokens.{HasTokens};
+ghost use Rattle.cq_language.specs.declared.token.Token.{Token};
 ghost use Rattle.std.specs.Prelude.{◌≡◌, ◌≤◌, List, count_by, length, ℕ};
 
 /// A script has one list of pieces.

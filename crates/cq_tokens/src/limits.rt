@@ -1,8 +1,8 @@
 //! The limits of the reader.
-ghost use Rattle.cq_model.specs.Tokens.{opens, closes, is_long_name, is_past_limits};
+ghost use Rattle.cq_language.specs.Tokens.{opens, closes, is_long_name, is_past_limits};
 ghost use Rattle.std.specs.Prelude.{◌≡◌};
 
-use cq_model::{Symbol, Token};
+use cq_language::{Symbol, Token};
 
 const MAX_NAME_LEN: usize = 63;
 
@@ -36,7 +36,7 @@ fn is_long_name(token: &Token) -> bool
 }
 
 /// Whether a name has more than 63 bytes, or more than 64 parentheses are open at once.
-#[tactic(auto, unfolding(cq_model::specs::Tokens::is_past_limits))]
+#[tactic(auto, unfolding(cq_language::specs::Tokens::is_past_limits))]
 pub fn is_past_limits(tokens: &[Token]) -> bool
     ensures { result ≡ is_past_limits tokens.now }
 {

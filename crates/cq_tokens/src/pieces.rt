@@ -2,7 +2,7 @@
 ghost use Rattle.std.specs.Prelude.{◌≡◌, ◌∷◌};
 ghost use Rattle.std.specs.Option.{option_map};
 ghost use Rattle.std.specs.Iterator.{YieldsFirstBy, item_count};
-ghost use Rattle.cq_model.specs.Pieces.{HasPieces};
+ghost use Rattle.cq_language.specs.Pieces.{HasPieces};
 ghost use Rattle.cq_tokens.specs.Cutting.{pieces_of, pieces_left};
 ghost use Rattle.cq_tokens.specs.Piece.{piece_of};
 
@@ -28,7 +28,7 @@ pub struct Pieces<'a> {
 impl<'a> Model for Pieces<'a> {
     ghost use Rattle.std.specs.Prelude.{List};
     ghost use Rattle.std.specs.Option.{option_map};
-    ghost use Rattle.cq_model.specs.Pieces.{PieceOf};
+    ghost use Rattle.cq_language.specs.Pieces.{PieceOf};
     ghost use Rattle.cq_tokens.specs.Cutting.{pieces_left};
 
     ghost Value = { List PieceOf };

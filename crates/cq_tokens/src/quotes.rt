@@ -2,7 +2,7 @@
 ghost use Rattle.cq_tokens.specs.Lexing.{Gives, quoted_at};
 
 use crate::fault::TokenFault;
-use cq_model::Token;
+use cq_language::Token;
 use cq_values::Text;
 use std::alloc::Global;
 

@@ -9,7 +9,7 @@ use crate::fault::TokenFault;
 use crate::quotes::quoted_at;
 use crate::symbols::sign_at;
 use crate::words::{number_at, word_at};
-use cq_model::Token;
+use cq_language::Token;
 use cq_values::Seq;
 use std::alloc::Global;
 

@@ -3,7 +3,7 @@ ghost use Rattle.cq_tokens.specs.Lexing.{Gives, sign_at, symbol_at};
 ghost use Rattle.std.specs.Prelude.{◌≡◌};
 
 use crate::fault::TokenFault;
-use cq_model::{Symbol, Token};
+use cq_language::{Symbol, Token};
 
 /// The symbol that a text begins with, as long as it can be, and its length.
 #[tactic(auto, unfolding(crate::specs::Lexing::symbol_at))]

@@ -1,6 +1,6 @@
 //! Words as keywords and names, and digits as numbers.
-ghost use Rattle.cq_model.specs.Characters.{is_digit};
-ghost use Rattle.cq_model.specs.Tokens.{decimal, keyword_of, word_token};
+ghost use Rattle.cq_language.specs.Characters.{is_digit};
+ghost use Rattle.cq_language.specs.Tokens.{decimal, keyword_of, word_token};
 ghost use Rattle.cq_tokens.specs.Lexing.{Gives, found_in, number_at, word_at};
 ghost use Rattle.std.specs.Char.{to_ascii_lowercase};
 ghost use Rattle.std.specs.List.{list_all};
@@ -8,7 +8,7 @@ ghost use Rattle.std.specs.Prelude.{◌-◌, ◌^◌, ◌≡◌, IfOk, IsTrue, m
 
 use crate::characters::{begins_word_byte, digits_len, word_len};
 use crate::fault::TokenFault;
-use cq_model::{Keyword, Token};
+use cq_language::{Keyword, Token};
 use cq_values::Text;
 use std::alloc::{AllocError, Global};
 

@@ -6,3 +6,4 @@ pub mod Order
 pub mod Keys
 pub mod Truth
 pub mod Lent
+pub mod Comparison

@@ -4,8 +4,11 @@
 //! sees a buffer. Two values tie in the total order only where they are one value.
 #![tactic(auto)]
 
+mod column;
+mod comparison;
 mod dates;
 mod day;
+mod day_part;
 mod lent;
 mod order;
 mod product;
@@ -17,8 +20,11 @@ mod truth;
 mod ty;
 mod value;
 
+pub use column::ColumnDef;
+pub use comparison::Comparison;
 pub use dates::{DateFault, calendar_ends, date_of};
 pub use day::{CivilDay, Day};
+pub use day_part::DayPart;
 pub use lent::{Lent, cmp_lent};
 pub use order::cmp_total;
 pub use row::{Row, copy_row};

@@ -5,10 +5,10 @@ use Rattle.cq_values.specs.Value.{Row}
 use Rattle.cq_bags.specs.Bag.{once_each, distinct_rows}
 use Rattle.cq_bags.proofs.Distincts.{once_each-filter, once_each-map}
 use Rattle.cq_model.specs.Group.{key_of, keys_of}
-use Rattle.cq_model.specs.Kept.{Groups, told_row, told_values}
+use Rattle.cq_kept.specs.Kept.{Groups, told_row, told_values}
 use Rattle.cq_model.specs.Meaning.{keeps}
 use Rattle.cq_model.specs.Sizes.{stored_size}
-use Rattle.cq_model.specs.Told.{ListsKeys}
+use Rattle.cq_kept.specs.Told.{ListsKeys}
 use Rattle.cq_model.specs.Width.{sizes_of}
 use Rattle.cq_laws.proofs.Fits.{FitBeside, IsStored, all-filter, all-map, row-of-bag}
 use Rattle.cq_laws.proofs.Groups.{IsRowOf}

@@ -6,7 +6,7 @@ use Rattle.cq_values.specs.Value.{Row}
 use Rattle.cq_laws.specs.Sizes.{IsSized}
 use Rattle.cq_model.specs.declared.query.Aggregate.{Aggregate}
 use Rattle.cq_model.specs.declared.query.Aggregate.TheVariants.{CountAll, Sum}
-use Rattle.cq_model.specs.declared.statement.Comparison.{Comparison}
+use Rattle.cq_values.specs.declared.comparison.Comparison.{Comparison}
 use Rattle.cq_model.specs.Expr.{Cond, Compare, Column, Literal, Plus, Times}
 use Rattle.cq_model.specs.Sizes.{stored_size}
 use Rattle.cq_model.specs.Width.{widest_at}

@@ -6,7 +6,7 @@ use Rattle.cq_bags.proofs.Bags.{filtered-respects}
 use Rattle.cq_bags.proofs.Linears.{filtered-append}
 use Rattle.cq_bags.proofs.Positives.{filtered-bag}
 use Rattle.cq_model.specs.Group.{rows_of_key}
-use Rattle.cq_model.specs.Kept.{GroupStands, Groups}
+use Rattle.cq_kept.specs.Kept.{GroupStands, Groups}
 use Rattle.cq_model.specs.Meaning.{keeps}
 use Rattle.cq_laws.proofs.Keeps.{built_last-stands, last-respects}
 use Rattle.cq_deltas.specs.declared.change.Addition.{Addition}

@@ -12,9 +12,9 @@ use Rattle.cq_bags.proofs.Totals.{by_test}
 use Rattle.cq_model.specs.declared.query.Aggregate.{Aggregate}
 use Rattle.cq_model.specs.declared.query.Source.TheVariants.{Table as FromTable}
 use Rattle.cq_model.specs.Group.{SumInRange, SumsInRange, keys_of, rows_of_key}
-use Rattle.cq_model.specs.Kept.{GroupStands, Groups}
+use Rattle.cq_kept.specs.Kept.{GroupStands, Groups}
 use Rattle.cq_model.specs.Meaning.{MeaningInRange, Tables, items_of, keeps, meaning}
-use Rattle.cq_model.specs.Told.{ListsKeys}
+use Rattle.cq_kept.specs.Told.{ListsKeys}
 use Rattle.cq_laws.proofs.Groups.{IsRowOf, row-from-test, row-to-test}
 use Rattle.cq_laws.proofs.Ranges.{all-at, all-from, key-counted}
 use Rattle.cq_laws.proofs.Told.{last-told}

@@ -8,7 +8,7 @@ use Rattle.cq_model.specs.declared.query.Query.{Query}
 use Rattle.cq_model.specs.declared.query.Shape.{Shape}
 use Rattle.cq_model.specs.declared.query.Shape.TheVariants.{Grouped}
 use Rattle.cq_model.specs.declared.query.Source.TheVariants.{Table as FromTable}
-use Rattle.cq_model.specs.Kept.{Groups, LastStands}
+use Rattle.cq_kept.specs.Kept.{Groups, LastStands}
 use Rattle.cq_model.specs.Meaning.{Tables, keeps}
 use Rattle.cq_model.specs.Width.{extent, widest_at}
 use Rattle.cq_deltas.specs.declared.change.Addition.{Addition}

@@ -4,7 +4,8 @@ ghost use Rattle.std.specs.Prelude.{◌≡◌, IfOk, map};
 ghost use Rattle.cq_model.specs.Meaning.{items_of};
 ghost use Rattle.cq_views.specs.View.{AreNarrowAt};
 
-use cq_model::{Expr, eval_row};
+use cq_eval::eval_row;
+use cq_model::Expr;
 use cq_values::{Row, Value};
 use std::alloc::{AllocError, Global};
 

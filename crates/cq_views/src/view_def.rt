@@ -8,7 +8,8 @@ ghost use Rattle.cq_model.specs.Width.{bound, widest_at};
 ghost use Rattle.cq_views.specs.Small.{CanBeKept};
 ghost use Rattle.cq_views.specs.View.{query_of};
 
-use cq_model::{Aggregate, Cond, Expr, holds_row, width_of};
+use cq_eval::{holds_row, width_of};
+use cq_model::{Aggregate, Cond, Expr};
 use cq_values::{Seq, Value};
 use std::alloc::{AllocError, Global};
 

@@ -3,8 +3,9 @@ ghost use Rattle.std.specs.Prelude.{◌^◌, ◌≤◌, []};
 ghost use Rattle.cq_model.specs.Trees.{cond_of, expr_of};
 ghost use Rattle.cq_model.specs.Width.{sizes_of, value_size, widest, widest_at};
 
-use cq_model::{Comparison, Cond, CondTree, Expr, ExprTree, compare, holds_row, like, width_of};
-use cq_values::{Lent, Text, Truth, Value};
+use cq_eval::{compare, holds_row, like, width_of};
+use cq_model::{Cond, CondTree, Expr, ExprTree};
+use cq_values::{Comparison, Lent, Text, Truth, Value};
 use std::alloc::{AllocError, Global};
 use std::test::Fail;
 

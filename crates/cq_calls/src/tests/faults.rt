@@ -1,5 +1,5 @@
 //! Each refusal as it is shown by `Display`.
-use cq_steps::Fault;
+use cq_binding::Fault;
 use std::test::Fail;
 
 #[test]

@@ -1,4 +1,4 @@
-//! The texts of statements and of expressions. That the trees are right is seen by what scripts answer, in cq_scripts.
+//! The texts of statements and of expressions. That the trees are right is seen by what the scripts of cq_transcript answer.
 use cq_sql::{SqlFault, parse};
 use std::test::Fail;
 

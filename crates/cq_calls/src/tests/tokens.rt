@@ -1,5 +1,5 @@
 //! Texts and their tokens.
-use cq_model::Token;
+use cq_language::Token;
 use cq_tokens::{TokenFault, is_past_limits, tokens};
 use std::alloc::Global;
 use std::test::Fail;

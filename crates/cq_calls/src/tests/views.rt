@@ -6,15 +6,15 @@ ghost use Rattle.cq_laws.specs.Sizes.{IsSized};
 ghost use Rattle.cq_model.specs.Expr.{Column, Compare, Literal, Plus, Times};
 ghost use Rattle.cq_model.specs.Sizes.{stored_size};
 ghost use Rattle.cq_model.specs.Width.{value_size};
-ghost use Rattle.cq_model.specs.declared.statement.Comparison.TheVariants.{NotEqual};
+ghost use Rattle.cq_values.specs.declared.comparison.Comparison.TheVariants.{NotEqual};
 ghost use Rattle.cq_values.specs.declared.value.Value.TheVariants.{Number};
 ghost use Rattle.cq_values.specs.Value.{Row as Values};
 ghost use Rattle.cq_views.specs.Small.{CanBeKept};
 ghost use Rattle.cq_views.specs.View.{IsNarrowFor, Stands};
 
 use cq_deltas::ToldFault;
-use cq_model::{Aggregate, Comparison, Cond, CondTree, Expr, ExprTree};
-use cq_values::{Row, Seq, Value, copy_row};
+use cq_model::{Aggregate, Cond, CondTree, Expr, ExprTree};
+use cq_values::{Comparison, Row, Seq, Value, copy_row};
 use cq_views::{ViewDef, ViewState};
 use std::alloc::{AllocError, Global};
 use std::test::Fail;

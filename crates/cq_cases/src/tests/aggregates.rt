@@ -6,8 +6,8 @@ use super::asked::Told::{Count, CountAll, Max, Min, Sum};
 use super::asked::{Asked, Groups};
 use super::groups::{BY_K, OF_EACH_K, T};
 use super::judge::{ALL, Answered, Stored, check};
-use cq_model::Comparison::{Equal, Greater};
 use cq_model::Source::Table;
+use cq_values::Comparison::{Equal, Greater};
 use std::test::Fail;
 
 const OF_ALL: Groups<'static> = Groups { keys: None, ..BY_K };

@@ -1,10 +1,9 @@
 //! Queries as cases write them, and the trees that they stand for.
 use cq_bags::SortKey;
 use cq_model::{
-    Aggregate, Comparison, Cond, CondTree, DayPart, Equality, Expr, ExprTree, Join, Order, Query,
-    Shape, Source,
+    Aggregate, Cond, CondTree, Equality, Expr, ExprTree, Join, Order, Query, Shape, Source,
 };
-use cq_values::{Day, Row, Seq, Text, Value};
+use cq_values::{Comparison, Day, DayPart, Row, Seq, Text, Value};
 use std::alloc::{AllocError, Global};
 
 /// A value. A day goes by its number, and 1970-01-01 is 0.

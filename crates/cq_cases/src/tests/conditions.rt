@@ -4,7 +4,7 @@ use super::asked::Term;
 use super::asked::Term::{Column, Literal};
 use super::asked::Test::{self, And, Between, Compare, In, IsNull, Like, Not, Or};
 use super::judge::check_truths;
-use cq_model::Comparison::{Equal, Greater, GreaterOrEqual, Less, LessOrEqual, NotEqual};
+use cq_values::Comparison::{Equal, Greater, GreaterOrEqual, Less, LessOrEqual, NotEqual};
 use cq_values::Truth::{self, False, True, Unknown};
 use std::test::Fail;
 

@@ -2,7 +2,7 @@
 use super::asked::Datum::{self, Day, Null, Number};
 use super::asked::Term::{self, Column, Extract, Literal, Minus, Product, Sum};
 use super::judge::check_values;
-use cq_model::DayPart;
+use cq_values::DayPart;
 use std::test::Fail;
 
 /// 3, -4 and NULL.

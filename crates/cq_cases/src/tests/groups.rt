@@ -5,7 +5,7 @@ use super::asked::Test::{Compare, IsNull};
 use super::asked::Told::{Count, CountAll, Max, Min, Sum};
 use super::asked::{Asked, Groups};
 use super::judge::{ALL, Answered, Stored, check};
-use cq_model::Comparison::Greater;
+use cq_values::Comparison::Greater;
 use std::test::Fail;
 
 /// t(k, a), an empty table, and a table u(b) of NULLs alone.

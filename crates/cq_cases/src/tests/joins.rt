@@ -4,8 +4,8 @@ use super::asked::Datum::{Null, Number};
 use super::asked::Term::{Column, Literal};
 use super::asked::Test::Compare;
 use super::judge::{ALL, Answered, Stored, check};
-use cq_model::Comparison::Greater;
 use cq_model::Source::Table;
+use cq_values::Comparison::Greater;
 use std::test::Fail;
 
 /// t(k, a) and u(k, b), and an empty table.

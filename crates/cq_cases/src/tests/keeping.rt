@@ -4,7 +4,7 @@ use super::asked::Term::{self, Column, Literal};
 use super::asked::Test::{self, Between, Compare, In, IsNull, Not};
 use super::asked::{Asked, Rows};
 use super::judge::{ALL, Stored, check};
-use cq_model::Comparison::{Equal, Greater, NotEqual};
+use cq_values::Comparison::{Equal, Greater, NotEqual};
 use std::alloc::Global;
 use std::process::Abort;
 use std::test::Fail;

@@ -5,9 +5,9 @@ use super::asked::Test::Compare;
 use super::asked::Told::{Count, Sum};
 use super::asked::{Asked, Groups};
 use super::judge::{ALL, Answered, Refused, Stored, check, check_refused};
-use cq_model::Comparison::{Equal, Less};
 use cq_model::Source::{Table, View};
 use cq_plain::PlainFault::{SumOutOfRange, TooWide};
+use cq_values::Comparison::{Equal, Less};
 use std::test::Fail;
 
 /// The greatest number that 128 bits hold, and the least.

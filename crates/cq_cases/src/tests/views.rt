@@ -5,8 +5,8 @@ use super::asked::Test::Compare;
 use super::asked::Told::{CountAll, Max, Sum};
 use super::asked::{Asked, Groups};
 use super::judge::{ALL, Answered, Stored, check};
-use cq_model::Comparison::Greater;
 use cq_model::Source::{Table, View};
+use cq_values::Comparison::Greater;
 use std::test::Fail;
 
 /// CREATE VIEW counts AS SELECT k, COUNT(*) FROM t GROUP BY k.

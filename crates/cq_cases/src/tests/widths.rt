@@ -4,9 +4,9 @@ use super::asked::Term::{self, Column, Literal, Minus, Product, Sum};
 use super::asked::Test::{And, Compare};
 use super::asked::{Asked, Groups, Told};
 use super::judge::{ALL, Answered, Refused, Stored, check, check_refused};
-use cq_model::Comparison::{Equal, Greater, Less};
 use cq_model::Source::{Table, View};
 use cq_plain::PlainFault::TooWide;
+use cq_values::Comparison::{Equal, Greater, Less};
 use std::test::Fail;
 
 /// 2^127 - 1, 2^64, 2^63, and 2^127 - 2^64, which is their product where 2^63 is one less.

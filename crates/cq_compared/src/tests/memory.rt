@@ -1,10 +1,11 @@
 //! One growth that is refused, wherever it comes: the statement is refused and changes nothing, and goes well when it is
 //! given once more. tools/fail-alloc runs this with each growth refused in turn.
 use super::engine;
+use cq_binding::Fault;
 use cq_cli::NoSources;
 use cq_engine::Engine;
 use cq_sql::{SqlFault, parse};
-use cq_steps::{Answer, Fault};
+use cq_steps::Answer;
 use cq_values::{Row, Value};
 use std::alloc::Global;
 use std::process::Abort;

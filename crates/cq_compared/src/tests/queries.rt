@@ -1,9 +1,7 @@
 //! The views of the random scripts, as queries for the plain evaluator.
-use cq_model::{
-    Aggregate, Comparison, Cond, CondTree, Expr, ExprTree, Order, Query, Shape, Source,
-};
+use cq_model::{Aggregate, Cond, CondTree, Expr, ExprTree, Order, Query, Shape, Source};
 use cq_plain::{Database, PlainFault, answer_listed};
-use cq_values::{Row, Seq, Value};
+use cq_values::{Comparison, Row, Seq, Value};
 use std::alloc::{AllocError, Global};
 
 fn two<T: Drop>(alloc: Global, first: T, second: T) -> Result<Seq<T>, AllocError> {

@@ -1,6 +1,6 @@
 //! Values and conditions made at random over t(k INTEGER, a INTEGER, b TEXT, d DATE), each as a text and as a tree.
-use cq_model::{Comparison, CondTree, DayPart, ExprTree};
-use cq_values::{Text, Value, date_of};
+use cq_model::{CondTree, ExprTree};
+use cq_values::{Comparison, DayPart, Text, Value, date_of};
 use rand_core::Rng;
 use rand_pcg::Pcg32;
 use std::alloc::{AllocError, Global};

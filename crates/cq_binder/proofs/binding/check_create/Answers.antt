@@ -1,8 +1,8 @@
 use Rattle.std.proofs.Common.{◌≡◌, ℕ, false, rules, List, [], map}
 use Rattle.std.proofs.lemmas.Result.{err_from_is_err_and}
-use Rattle.cq_steps.specs.Bound.{place_in}
-use Rattle.cq_steps.specs.Refusal.{create_places, sort_places}
-use Rattle.cq_steps.specs.State.{is_taken}
+use Rattle.cq_binding.specs.Bound.{place_in}
+use Rattle.cq_binding.specs.Refusal.{create_places, sort_places}
+use Rattle.cq_states.specs.State.{is_taken}
 use Rattle.cq_binder.specs.Catalog.{alone}
 use Rattle.cq_binder.proofs.Creating.{columns_refused, length_refused, sort_decides}
 use Rattle.cq_binder.proofs.Faults.{walked_same}

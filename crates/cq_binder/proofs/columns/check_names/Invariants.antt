@@ -1,5 +1,5 @@
 use Rattle.std.proofs.Common.{◌≡◌, [], take, drop}
-use Rattle.cq_steps.specs.Refusal.{first_fault, column_places}
+use Rattle.cq_binding.specs.Refusal.{first_fault, column_places}
 use Rattle.cq_binder.proofs.columns.check_names.Given as goal
 
 -- the columns that are left have the first fault of all

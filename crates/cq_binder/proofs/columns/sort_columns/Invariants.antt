@@ -1,6 +1,6 @@
 use Rattle.std.proofs.Common.{◌≡◌, [], map, take, drop}
-use Rattle.cq_steps.specs.Bound.{place_in}
-use Rattle.cq_steps.specs.Refusal.{first_fault, sort_places}
+use Rattle.cq_binding.specs.Bound.{place_in}
+use Rattle.cq_binding.specs.Refusal.{first_fault, sort_places}
 use Rattle.cq_binder.proofs.columns.sort_columns.Given as goal
 
 -- the places so far are those of the names so far, and the names that are left have the first fault of all

@@ -1,6 +1,6 @@
 use Rattle.std.proofs.Common.{◌≡◌, take, drop}
-use Rattle.cq_steps.specs.Bound.{row_of}
-use Rattle.cq_steps.specs.Refusal.{constant_places, first_fault}
+use Rattle.cq_binding.specs.Bound.{row_of}
+use Rattle.cq_binding.specs.Refusal.{constant_places, first_fault}
 use Rattle.cq_binder.proofs.constants.bound_row.Given as goal
 
 -- the values so far are those of the constants so far, and the constants that are left have the first fault of all

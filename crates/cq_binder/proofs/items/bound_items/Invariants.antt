@@ -1,6 +1,6 @@
 use Rattle.std.proofs.Common.{◌≡◌, ◌≤◌, map, length, drop}
-use Rattle.cq_steps.specs.Bound.{values_in}
-use Rattle.cq_steps.specs.Refusal.{first_fault, item_place}
+use Rattle.cq_binding.specs.Bound.{values_in}
+use Rattle.cq_binding.specs.Refusal.{first_fault, item_place}
 use Rattle.cq_exprs.specs.Expressions.{scope_of}
 use Rattle.cq_binder.proofs.BoundItems.{AreBoundUpTo, values_of}
 use Rattle.cq_binder.proofs.items.bound_items.Given as goal

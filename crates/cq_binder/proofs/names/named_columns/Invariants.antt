@@ -1,5 +1,5 @@
 use Rattle.std.proofs.Common.{◌≡◌, ◌+◌, ◌++◌, drop}
-use Rattle.cq_steps.specs.Bound.{item_columns}
+use Rattle.cq_binding.specs.Bound.{item_columns}
 use Rattle.cq_exprs.specs.Expressions.{scope_of}
 use Rattle.cq_binder.proofs.names.named_columns.Given as goal
 

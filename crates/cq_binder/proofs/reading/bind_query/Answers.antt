@@ -1,6 +1,6 @@
 use Rattle.std.proofs.Common.{◌∙◌, sym, ap}
-use Rattle.cq_steps.specs.Refusal.{first_fault, source_places}
-use Rattle.cq_steps.specs.Typing.{Scope}
+use Rattle.cq_binding.specs.Refusal.{first_fault, source_places}
+use Rattle.cq_binding.specs.Typing.{Scope}
 use Rattle.cq_exprs.specs.Expressions.{scope_of}
 use Rattle.cq_binder.proofs.Selecting.{select_made}
 use Rattle.cq_binder.proofs.reading.bind_query.Goals as goal

@@ -1,5 +1,5 @@
 use Rattle.std.proofs.Common.{◌≡◌, false, rules}
-use Rattle.cq_steps.specs.State.{is_taken}
+use Rattle.cq_states.specs.State.{is_taken}
 use Rattle.cq_binder.specs.Catalog.{alone}
 use Rattle.cq_binder.proofs.Creating.{view_created}
 use Rattle.cq_binder.proofs.reading.bind_view.Goals as goal

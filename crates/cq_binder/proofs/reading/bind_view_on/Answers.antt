@@ -1,8 +1,8 @@
 use Rattle.std.proofs.Common.{◌≡◌, None, ap, subst}
 use Rattle.std.proofs.lemmas.Result.{err_from_is_err_and}
-use Rattle.cq_model.specs.declared.statement.ViewSelect.{ViewSelect}
-use Rattle.cq_steps.specs.Refusal.{first_fault, query_places, MayRefuse}
-use Rattle.cq_steps.specs.Typing.{Scope}
+use Rattle.cq_language.specs.declared.statement.ViewSelect.{ViewSelect}
+use Rattle.cq_binding.specs.Refusal.{first_fault, query_places, MayRefuse}
+use Rattle.cq_binding.specs.Typing.{Scope}
 use Rattle.cq_binder.specs.View.{IsBoundView}
 use Rattle.cq_binder.specs.declared.view.BoundView.{BoundView}
 use Rattle.cq_binder.proofs.Creating.{view_made}

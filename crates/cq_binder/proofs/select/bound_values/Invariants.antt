@@ -1,6 +1,6 @@
 use Rattle.std.proofs.Common.{◌≡◌, map, take, drop}
-use Rattle.cq_steps.specs.Bound.{bound_value, shown_by}
-use Rattle.cq_steps.specs.Refusal.{first_fault, value_place}
+use Rattle.cq_binding.specs.Bound.{bound_value, shown_by}
+use Rattle.cq_binding.specs.Refusal.{first_fault, value_place}
 use Rattle.cq_exprs.specs.Expressions.{scope_of}
 use Rattle.cq_binder.proofs.select.bound_values.Given as goal
 

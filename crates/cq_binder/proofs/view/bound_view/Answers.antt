@@ -1,6 +1,6 @@
 use Rattle.std.proofs.Common.{◌∙◌, ap}
 use Rattle.std.proofs.lemmas.Result.{err_from_is_err_and}
-use Rattle.cq_steps.specs.Bound.{item_columns}
+use Rattle.cq_binding.specs.Bound.{item_columns}
 use Rattle.cq_exprs.specs.Expressions.{scope_of}
 use Rattle.cq_binder.proofs.Walks.{group_refused, items_refused, names_refused, view_passes}
 use Rattle.cq_binder.proofs.view.bound_view.Goals as goal

@@ -1,8 +1,8 @@
 use Rattle.std.proofs.Common.{List, sym, ap, ◌∙◌, arith}
 use Rattle.std.proofs.lemmas.Grind.{common_steps}
 use Rattle.std.proofs.lemmas.Result.{err_from_is_err_and}
-use Rattle.cq_model.specs.declared.statement.Constant.{Constant}
-use Rattle.cq_steps.specs.Refusal.{first_fault, row_places}
+use Rattle.cq_language.specs.declared.statement.Constant.{Constant}
+use Rattle.cq_binding.specs.Refusal.{first_fault, row_places}
 use Rattle.cq_binder.proofs.Faults.{rows_more, passed, refused_first, refused_same}
 use Rattle.cq_binder.proofs.writing.bound_rows.Goals as goal
 

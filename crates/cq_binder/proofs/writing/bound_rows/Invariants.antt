@@ -1,7 +1,7 @@
 use Rattle.std.proofs.Common.{◌≡◌, map, take, drop}
 use Rattle.std.specs.List.{flat_map}
-use Rattle.cq_steps.specs.Bound.{row_of}
-use Rattle.cq_steps.specs.Refusal.{first_fault, row_places}
+use Rattle.cq_binding.specs.Bound.{row_of}
+use Rattle.cq_binding.specs.Refusal.{first_fault, row_places}
 use Rattle.cq_binder.proofs.writing.bound_rows.Given as goal
 
 -- the rows so far are made, and those that are left have the first fault of all

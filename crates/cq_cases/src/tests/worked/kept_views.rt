@@ -6,8 +6,8 @@ use crate::tests::asked::Told::Min;
 use crate::tests::asked::{Asked, Groups};
 use crate::tests::judge::Stored;
 use crate::tests::worked::{COUNT, FIRST, FIRST_TWO, Worked, check};
-use cq_model::Comparison::{Equal, Greater};
 use cq_model::Source::{Table, View};
+use cq_values::Comparison::{Equal, Greater};
 use std::test::Fail;
 
 /// CREATE VIEW v AS SELECT k, MIN(a) AS m FROM t GROUP BY k.

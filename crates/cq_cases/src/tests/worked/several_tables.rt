@@ -6,8 +6,8 @@ use crate::tests::asked::Told::{self, CountAll, Min};
 use crate::tests::asked::{Asked, Groups};
 use crate::tests::judge::{ALL, Stored};
 use crate::tests::worked::{COUNT, FIRST, FIRST_TWO, Worked, check};
-use cq_model::Comparison::Equal;
 use cq_model::Source::{Table, View};
+use cq_values::Comparison::Equal;
 use std::test::Fail;
 
 /// The least number of 64 bits, and the greatest.

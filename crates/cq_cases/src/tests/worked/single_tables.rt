@@ -6,9 +6,9 @@ use crate::tests::asked::Told::{self, CountAll};
 use crate::tests::asked::{Asked, Groups};
 use crate::tests::judge::{ALL, Stored};
 use crate::tests::worked::{FIRST, FIRST_TWO, Worked, check};
-use cq_model::Comparison::{GreaterOrEqual, NotEqual};
-use cq_model::DayPart;
 use cq_model::Source::View;
+use cq_values::Comparison::{GreaterOrEqual, NotEqual};
+use cq_values::DayPart;
 use std::test::Fail;
 
 const ONE_TABLE: &[Worked<'static>] = &[

@@ -6,8 +6,8 @@ use crate::tests::asked::Told::{self, CountAll, Min};
 use crate::tests::asked::{Asked, Groups};
 use crate::tests::judge::{ALL, Stored};
 use crate::tests::worked::{FIRST, FIRST_TWO, Worked, check};
-use cq_model::Comparison::Greater;
 use cq_model::Source::Table;
+use cq_values::Comparison::Greater;
 use std::test::Fail;
 
 /// t(k, b) and u(k, c) of the row on joins.

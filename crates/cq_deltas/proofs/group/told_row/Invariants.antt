@@ -1,5 +1,5 @@
 use Rattle.std.proofs.Common.{◌≡◌, map, take}
-use Rattle.cq_model.specs.Kept.{told_row}
+use Rattle.cq_kept.specs.Kept.{told_row}
 use Rattle.cq_deltas.specs.Kept.{seen}
 use Rattle.cq_deltas.specs.Told.{AllCanBeTold}
 use Rattle.cq_deltas.proofs.group.told_row.Given as goal

@@ -2,7 +2,7 @@ use Rattle.std.proofs.Common.{List, subst, sym}
 use Rattle.std.specs.List.{AllByRecursion}
 use Rattle.cq_values.specs.Value.{Row}
 use Rattle.cq_bags.specs.Bag.{once_each}
-use Rattle.cq_steps.specs.State.{TableOf}
+use Rattle.cq_states.specs.State.{TableOf}
 use Rattle.cq_views.specs.View.{Stands}
 use Rattle.cq_engine.specs.Views.{IsStored}
 use Rattle.cq_engine.proofs.Creating.{stands_for_bag, stored_narrow}

@@ -1,6 +1,6 @@
 use Rattle.std.proofs.Common.{◌≡◌, sym, ◌∙◌, subst}
 use Rattle.cq_bags.specs.Bag.{once_each}
-use Rattle.cq_steps.specs.State.{rows_in}
+use Rattle.cq_states.specs.State.{rows_in}
 use Rattle.cq_views.specs.declared.view_def.ViewDef.{ViewDef}
 use Rattle.cq_views.specs.View.{Stands}
 use Rattle.cq_engine.specs.Views.{Fits, IsRight, NamedView}

@@ -4,7 +4,7 @@ use Rattle.std.specs.List.{AllByRecursion}
 use Rattle.std.proofs.lemmas.Int.{ints}
 use Rattle.cq_values.specs.Value.{Row}
 use Rattle.cq_model.specs.Meaning.{keeps}
-use Rattle.cq_steps.specs.State.{TableOf}
+use Rattle.cq_states.specs.State.{TableOf}
 use Rattle.cq_engine.specs.Views.{IsStored}
 use Rattle.cq_engine.proofs.Stored.{all_of_bag, all_of_kept}
 use Rattle.cq_engine.proofs.Turns.{all_same}

@@ -1,7 +1,7 @@
 use Rattle.std.proofs.Common.{◌<◌, ◌^◌, ◌++◌, length, pos, sym, subst, arith}
 use Rattle.std.specs.List.{AllByRecursion}
 use Rattle.std.proofs.lemmas.Int.{ints}
-use Rattle.cq_steps.specs.State.{TableOf}
+use Rattle.cq_states.specs.State.{TableOf}
 use Rattle.cq_engine.specs.Views.{IsStored}
 use Rattle.cq_engine.proofs.Stored.{all_of_bag, all_of_both}
 use Rattle.cq_engine.proofs.Written.{all_narrow, can_take_rows, inserted-follow}

@@ -3,7 +3,7 @@ use Rattle.std.specs.List.{AllByRecursion}
 use Rattle.std.proofs.lemmas.Option.{slice_get_read}
 use Rattle.cq_model.specs.Sizes.{column_sizes}
 use Rattle.cq_model.specs.declared.query.Source.{Source}
-use Rattle.cq_steps.specs.State.{ViewOf}
+use Rattle.cq_states.specs.State.{ViewOf}
 use Rattle.cq_engine.specs.Bound.{IsWithin, IsWithinSized}
 use Rattle.cq_engine.specs.Commands.{IsWithinSource}
 use Rattle.cq_engine.specs.Views.{views_of}

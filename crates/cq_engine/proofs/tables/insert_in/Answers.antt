@@ -1,9 +1,9 @@
 use Rattle.std.proofs.Common.{◌≡◌, ◌+◌, ◌++◌, None, length, refl, ap, subst, arith}
 use Rattle.std.specs.Prelude.{nat_lt}
 use Rattle.std.proofs.lemmas.Result.{err_from_is_err_and}
-use Rattle.cq_steps.specs.declared.fault.Fault.TheVariants.{TableFull}
-use Rattle.cq_steps.specs.Refusal.{fault_if, MayRefuse}
-use Rattle.cq_steps.specs.State.{TableOf, rows_in}
+use Rattle.cq_binding.specs.declared.fault.Fault.TheVariants.{TableFull}
+use Rattle.cq_binding.specs.Refusal.{fault_if, MayRefuse}
+use Rattle.cq_states.specs.State.{TableOf, rows_in}
 use Rattle.cq_engine.proofs.Rows.{rows_numbered}
 use Rattle.cq_engine.proofs.Turns.{all_same}
 use Rattle.cq_engine.proofs.Written.{moved_at, stand_at, where_refused, written_here}

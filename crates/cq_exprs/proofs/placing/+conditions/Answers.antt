@@ -1,9 +1,9 @@
 use Rattle.std.proofs.Common.{rules, tests, arith, sym, ◌≡◌, ◌∙◌, ap, map}
-use Rattle.cq_model.specs.Placed.{placed_expr}
+use Rattle.cq_binding.specs.Placed.{placed_expr}
 use Rattle.cq_model.specs.Trees.{expr_of}
-use Rattle.cq_model.specs.Written.{written}
-use Rattle.cq_model.specs.declared.written.ExprNode.TheViews.{the_lemmas}
-use Rattle.cq_steps.specs.Bound.{place_of}
+use Rattle.cq_language.specs.Written.{written}
+use Rattle.cq_language.specs.declared.written.ExprNode.TheViews.{the_lemmas}
+use Rattle.cq_binding.specs.Bound.{place_of}
 use Rattle.cq_exprs.specs.Expressions.{scope_of}
 use Rattle.cq_exprs.proofs.Places.{and_placed, factors_tested, in_placed, one_term, or_placed, terms_tested}
 use Rattle.cq_exprs.proofs.placing.+conditions.Goals as goal

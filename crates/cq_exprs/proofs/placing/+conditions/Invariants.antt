@@ -1,8 +1,8 @@
 use Rattle.std.proofs.Common.{◌≡◌, map, take}
-use Rattle.cq_model.specs.Placed.{placed_cond}
+use Rattle.cq_binding.specs.Placed.{placed_cond}
 use Rattle.cq_model.specs.Trees.{cond_of}
-use Rattle.cq_model.specs.Written.{written}
-use Rattle.cq_steps.specs.Bound.{place_of}
+use Rattle.cq_language.specs.Written.{written}
+use Rattle.cq_binding.specs.Bound.{place_of}
 use Rattle.cq_exprs.specs.Expressions.{scope_of}
 use Rattle.cq_exprs.proofs.placing.+conditions.Given as goal
 

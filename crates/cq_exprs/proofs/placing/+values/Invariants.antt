@@ -1,10 +1,10 @@
 use Rattle.std.proofs.Common.{◌≡◌, ◌++◌, map, take}
 use Rattle.std.specs.Iterator.Adapters.{zip_first, zip_second}
 use Rattle.std.specs.Slice.Iter.{iter_rest}
-use Rattle.cq_model.specs.Placed.{placed_expr}
+use Rattle.cq_binding.specs.Placed.{placed_expr}
 use Rattle.cq_model.specs.Trees.{expr_of}
-use Rattle.cq_model.specs.Written.{written}
-use Rattle.cq_steps.specs.Bound.{place_of}
+use Rattle.cq_language.specs.Written.{written}
+use Rattle.cq_binding.specs.Bound.{place_of}
 use Rattle.cq_exprs.specs.Expressions.{scope_of}
 use Rattle.cq_exprs.specs.Terms.{later_terms}
 use Rattle.cq_exprs.proofs.placing.+values.Given as goal

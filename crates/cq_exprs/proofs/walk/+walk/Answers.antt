@@ -1,8 +1,8 @@
 use Rattle.std.proofs.Common.{◌≡◌, ◌∙◌, ◌<◌, map, ap, rules, arith, min, length, refl}
 use denote.Param.Weighed.{most}
-use Rattle.cq_model.proofs.written.ExprNode.TheLaws.{the_size}
-use Rattle.cq_model.specs.declared.written.ExprNode.TheViews.{the_lemmas}
-use Rattle.cq_model.specs.Written.{written}
+use Rattle.cq_language.proofs.written.ExprNode.TheLaws.{the_size}
+use Rattle.cq_language.specs.declared.written.ExprNode.TheViews.{the_lemmas}
+use Rattle.cq_language.specs.Written.{written}
 use Rattle.cq_exprs.specs.declared.walk.Operator.TheVariants.{Times, Connect}
 use Rattle.cq_exprs.specs.Chains.{chained}
 use Rattle.cq_exprs.specs.Expressions.{scope_of}

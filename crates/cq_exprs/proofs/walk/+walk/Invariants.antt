@@ -1,6 +1,6 @@
 use Rattle.std.proofs.Common.{◌≡◌, drop, map, true}
-use Rattle.cq_model.specs.Written.{choices, written}
-use Rattle.cq_steps.specs.Typing.{listed}
+use Rattle.cq_language.specs.Written.{choices, written}
+use Rattle.cq_binding.specs.Typing.{listed}
 use Rattle.cq_exprs.specs.Chains.{chained}
 use Rattle.cq_exprs.specs.Expressions.{scope_of}
 use Rattle.cq_exprs.proofs.walk.+walk.Given as goal

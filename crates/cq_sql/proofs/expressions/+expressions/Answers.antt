@@ -1,8 +1,8 @@
 use Rattle.std.proofs.Common.{◌≡◌, ◌-◌, Option, List, ◌∷◌, ◌++◌, [], length, map, arith, rules, sym, subst, ◌∙◌, length-append}
 use Rattle.std.proofs.lemmas.Result.{err_from_is_err_and}
 use Rattle.std.proofs.lemmas.List.{map-append, length-map}
-use Rattle.cq_model.specs.declared.token.Token.{Token}
-use Rattle.cq_model.specs.Written.{Written, written, terms}
+use Rattle.cq_language.specs.declared.token.Token.{Token}
+use Rattle.cq_language.specs.Written.{Written, written, terms}
 use Rattle.cq_sql.specs.Gives.{Fails}
 use Rattle.cq_sql.specs.Chains.{linked_part, more_parts, signed_term, more_terms}
 use Rattle.cq_sql.specs.Expressions.{part_of, product_of, readers}

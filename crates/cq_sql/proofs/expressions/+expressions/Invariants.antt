@@ -1,5 +1,5 @@
 use Rattle.std.proofs.Common.{◌≡◌, ◌+◌, ◌-◌, ◌*◌, map, length}
-use Rattle.cq_model.specs.Written.{written, terms}
+use Rattle.cq_language.specs.Written.{written, terms}
 use Rattle.cq_sql.specs.Chains.{chain_from, linked_part, more_parts, signed_term, more_terms}
 use Rattle.cq_sql.specs.Expressions.{part_of, product_of, readers}
 use Rattle.cq_sql.proofs.Ranks.{operand_rank, part_rank}

@@ -1,5 +1,5 @@
 use Rattle.std.proofs.Common.{◌≡◌, ◌≤◌, drop}
-use Rattle.cq_model.specs.Tokens.{goes_past}
+use Rattle.cq_language.specs.Tokens.{goes_past}
 use Rattle.cq_tokens.proofs.limits.is_past_limits.Given as goal
 
 -- what the rest says from here on is what all of them say

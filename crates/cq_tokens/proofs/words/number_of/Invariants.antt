@@ -1,5 +1,5 @@
 use Rattle.std.proofs.Common.{◌≡◌, ◌-◌, ◌^◌, min, take}
-use Rattle.cq_model.specs.Tokens.{decimal}
+use Rattle.cq_language.specs.Tokens.{decimal}
 use Rattle.cq_tokens.proofs.words.number_of.Given as goal
 
 -- the number so far is that of the digits so far

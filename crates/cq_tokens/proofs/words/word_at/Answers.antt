@@ -1,6 +1,6 @@
 use Rattle.std.proofs.Common.{ap, ◌∙◌}
 use Rattle.std.specs.List.{prefix_len}
-use Rattle.cq_model.specs.Characters.{is_word_byte}
+use Rattle.cq_language.specs.Characters.{is_word_byte}
 use Rattle.cq_tokens.proofs.Boundaries.{after_prefix, word_is_ascii}
 use Rattle.cq_tokens.proofs.words.word_at.Goals as goal
 

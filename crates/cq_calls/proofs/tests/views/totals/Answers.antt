@@ -3,7 +3,7 @@ use Rattle.cq_values.specs.declared.value.Value.TheVariants.{Number}
 use Rattle.cq_model.specs.Expr.{Expr, Column, Cond, Literal, Plus, Times}
 use Rattle.cq_model.specs.declared.query.Aggregate.{Aggregate}
 use Rattle.cq_model.specs.declared.query.Aggregate.TheVariants.{CountAll, Sum}
-use Rattle.cq_model.specs.declared.statement.Comparison.TheVariants.{NotEqual}
+use Rattle.cq_values.specs.declared.comparison.Comparison.TheVariants.{NotEqual}
 use Rattle.cq_deltas.specs.Additions.{AreTotals}
 use Rattle.cq_views.specs.declared.view_def.ViewDef.{ViewDef}
 use Rattle.cq_views.proofs.Narrow.{items-are-narrow, totals-narrow}

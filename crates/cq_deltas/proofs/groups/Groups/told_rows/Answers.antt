@@ -1,7 +1,7 @@
 use Rattle.std.proofs.Common.{◌≡◌, ◌∙◌, Some, length, slice_get, rules}
 use Rattle.cq_values.specs.Order.{same_row}
 use Rattle.cq_values.specs.Value.{Row}
-use Rattle.cq_model.specs.Kept.{Group}
+use Rattle.cq_kept.specs.Kept.{Group}
 use Rattle.std.specs.List.{IsDistinct}
 use Rattle.std.specs.Map.{keys_of}
 use Rattle.cq_deltas.specs.declared.fault.ToldFault.TheVariants.{SumOutOfRange}

@@ -1,5 +1,5 @@
 use Rattle.std.proofs.Common.{arith, refl}
-use Rattle.cq_steps.specs.State.{empty_table}
+use Rattle.cq_states.specs.State.{empty_table}
 use Rattle.cq_engine.specs.Views.{views_of}
 use Rattle.cq_engine.proofs.Kept.{all_at, right_everywhere}
 use Rattle.cq_engine.proofs.Numbers.{numbered-behind}

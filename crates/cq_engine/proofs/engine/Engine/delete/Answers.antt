@@ -1,7 +1,7 @@
 use Rattle.std.proofs.Common.{◌+◌, arith, inl, refl}
 use Rattle.std.proofs.lemmas.Result.{err_from_is_err_and}
 use Rattle.cq_model.specs.Write.{left_by}
-use Rattle.cq_steps.specs.State.{rows_in}
+use Rattle.cq_states.specs.State.{rows_in}
 use Rattle.cq_engine.specs.Views.{views_of}
 use Rattle.cq_engine.proofs.Kept.{all_at, all_right_same}
 use Rattle.cq_engine.proofs.Numbers.{numbered-later, numbered-with_rows}

@@ -1,5 +1,5 @@
 use Rattle.std.proofs.Common.{◌≡◌, false, refl}
-use Rattle.cq_steps.specs.Refusal.{is_used}
+use Rattle.cq_binding.specs.Refusal.{is_used}
 use Rattle.cq_engine.specs.Views.{views_of}
 use Rattle.cq_engine.proofs.Kept.{all_at, right_dropped}
 use Rattle.cq_engine.proofs.Numbers.{numbered-others}

@@ -6,7 +6,7 @@ use Rattle.cq_bags.specs.Canonical.{bag_of}
 use Rattle.cq_bags.proofs.Canonicals.{length-bag_of}
 use Rattle.cq_model.specs.Meaning.{keeps}
 use Rattle.std.specs.List.{AllByRecursion}
-use Rattle.cq_steps.specs.State.{TableOf}
+use Rattle.cq_states.specs.State.{TableOf}
 use Rattle.cq_engine.specs.Bound.{IsNarrowAt}
 use Rattle.cq_engine.proofs.Results.{bag_of_kept}
 use Rattle.cq_engine.proofs.Stored.{all_at, all_of_rows}

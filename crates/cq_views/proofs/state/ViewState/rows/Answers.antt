@@ -3,9 +3,9 @@ use Rattle.cq_values.specs.Value.{Row}
 use Rattle.cq_bags.specs.Bag.{SameBag, once_each}
 use Rattle.cq_model.specs.Expr.{Expr}
 use Rattle.cq_model.specs.declared.query.Aggregate.{Aggregate}
-use Rattle.cq_model.specs.Kept.{Groups}
+use Rattle.cq_kept.specs.Kept.{Groups}
 use Rattle.cq_model.specs.Meaning.{MeaningInRange, Tables, items_of, meaning}
-use Rattle.cq_model.specs.Told.{ListsKeys}
+use Rattle.cq_kept.specs.Told.{ListsKeys}
 use Rattle.cq_deltas.specs.declared.fault.ToldFault.TheVariants.{SumOutOfRange}
 use Rattle.cq_deltas.specs.Table.{group_at}
 use Rattle.cq_deltas.specs.Told.{GroupsCanBeTold, counted_keys, group_rows}

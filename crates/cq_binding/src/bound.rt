@@ -1,0 +1,50 @@
+//! Statements with their names resolved.
+use cq_model::{Assignment, Cond, Expr, Order, Query};
+use cq_values::{ColumnDef, Row, Seq, Text};
+
+/// What an accepted statement tells the engine to do. A table goes by its number, and a view by its place among the
+/// views. INSERT and COPY are both `Insert`, since the rows of a file are read while it is walked through.
+#[derive(Debug, Drop)]
+pub enum Bound {
+    CreateTable {
+        name: Text,
+        columns: Seq<ColumnDef>,
+        sort: Seq<usize>,
+    },
+    DropTable(u64),
+    CreateView {
+        name: Text,
+        columns: Seq<ColumnDef>,
+        query: Query,
+    },
+    DropView(usize),
+    Insert {
+        table: u64,
+        rows: Seq<Row>,
+    },
+    Delete {
+        table: u64,
+        condition: Option<Cond>,
+    },
+    Update {
+        table: u64,
+        assignments: Seq<Assignment>,
+        condition: Option<Cond>,
+    },
+    Select {
+        header: Seq<Text>,
+        query: Query,
+        order: Order,
+    },
+    /// Brings so many rows of the write store to the read store.
+    Move {
+        table: u64,
+        rows: u64,
+    },
+    Merge(u64),
+    /// Takes a view so many changes on.
+    Refresh {
+        view: usize,
+        changes: u64,
+    },
+}

@@ -1,0 +1,98 @@
+//! Why a statement is refused.
+ghost use Rattle.std.specs.Prelude.{◌≡◌};
+ghost use Rattle.cq_binding.specs.FaultText.{fault_text};
+ghost use Rattle.cq_binding.specs.declared.fault.Fault.TheVariants.{Memory};
+
+use std::alloc::{AllocError, AllocFailed};
+use thiserror::Error;
+
+/// A refusal. A refused statement changes no table.
+#[derive(Clone, Copy, Debug, PartialEq, Eq, Error)]
+pub enum Fault {
+    #[error("1 out of memory")]
+    Memory,
+    #[error("3 source failed")]
+    SourceFailed,
+    #[error("9 script not UTF-8")]
+    NotUtf8,
+    #[error("10 syntax")]
+    Syntax,
+    #[error("11 unknown table or view")]
+    UnknownTable,
+    #[error("12 unknown column")]
+    UnknownColumn,
+    #[error("14 name taken")]
+    NameTaken,
+    #[error("15 type mismatch")]
+    TypeMismatch,
+    #[error("16 aggregate misplaced or column not grouped")]
+    AggregateMisplaced,
+    #[error("17 expression too wide")]
+    TooWide,
+    #[error("19 number outside 64 bits")]
+    NumberOutside,
+    #[error("20 NULL in a NOT NULL column")]
+    NullNotAllowed,
+    #[error("21 table full")]
+    TableFull,
+    #[error("22 table used by a view")]
+    TableInUse,
+    #[error("23 views are not written")]
+    ViewNotWritten,
+    #[error("24 text too long")]
+    TextTooLong,
+    #[error("25 bad date")]
+    BadDate,
+    #[error("27 sum beyond 128 bits")]
+    SumOutOfRange,
+    #[error("28 clause not allowed in a view")]
+    ClauseInView,
+    #[error("29 limit exceeded")]
+    LimitExceeded,
+}
+
+impl Fault {
+    /// The number of the refusal and its text, as they stand behind `error`.
+    pub fn text(self) -> &'static str
+        ensures { result.now ≡ fault_text self }
+    {
+        match self {
+            Fault::Memory => "1 out of memory",
+            Fault::SourceFailed => "3 source failed",
+            Fault::NotUtf8 => "9 script not UTF-8",
+            Fault::Syntax => "10 syntax",
+            Fault::UnknownTable => "11 unknown table or view",
+            Fault::UnknownColumn => "12 unknown column",
+            Fault::NameTaken => "14 name taken",
+            Fault::TypeMismatch => "15 type mismatch",
+            Fault::AggregateMisplaced => "16 aggregate misplaced or column not grouped",
+            Fault::TooWide => "17 expression too wide",
+            Fault::NumberOutside => "19 number outside 64 bits",
+            Fault::NullNotAllowed => "20 NULL in a NOT NULL column",
+            Fault::TableFull => "21 table full",
+            Fault::TableInUse => "22 table used by a view",
+            Fault::ViewNotWritten => "23 views are not written",
+            Fault::TextTooLong => "24 text too long",
+            Fault::BadDate => "25 bad date",
+            Fault::SumOutOfRange => "27 sum beyond 128 bits",
+            Fault::ClauseInView => "28 clause not allowed in a view",
+            Fault::LimitExceeded => "29 limit exceeded",
+        }
+    }
+}
+
+impl From<AllocError> for Fault {
+    ghost from_gives = { λ _ e. e ≡ Memory };
+
+    fn from(_e: AllocError) -> Fault {
+        Fault::Memory
+    }
+}
+
+impl<T: Drop> From<AllocFailed<T>> for Fault {
+    ghost from_gives = { λ _ e. e ≡ Memory };
+
+    fn from(_e: AllocFailed<T>) -> Fault {
+        Fault::Memory
+    }
+}

@@ -1,0 +1,7 @@
+pub mod Likes
+pub mod Fronts
+pub mod Trees
+pub mod Chains
+pub mod Conditions
+pub mod Bounds
+pub mod Widths

@@ -1,0 +1,109 @@
+//! The value of an expression in a row, without a copy of a text.
+ghost use Rattle.std.specs.Prelude.{◌*◌, ◌+◌, ◌<◌, ◌^◌, ◌≡◌, ◌≤◌};
+ghost use Rattle.cq_values.specs.Lent.{owned};
+ghost use Rattle.cq_values.specs.Value.{column};
+ghost use Rattle.cq_model.specs.Eval.{eval, extracted, negated, plus, times};
+ghost use Rattle.cq_model.specs.Trees.{expr_of};
+ghost use Rattle.cq_eval.specs.Laws.{BoundHolds, BoundHoldsIn};
+ghost use Rattle.cq_model.specs.Width.{extent, part_limit, value_size};
+
+use cq_model::{Expr, ExprTree};
+use cq_values::{DayPart, Lent, Value};
+
+/// The value in a column of a row, and NULL past the end.
+pub fn lend_column(row: &[Value], place: usize) -> Lent<'_>
+    ensures { owned result ≡ column row.now place }
+{
+    match row.get(place) {
+        Some(value) => value.lend(),
+        None => Lent::Null,
+    }
+}
+
+/// The value of the expression in the row. It takes no memory.
+pub fn eval_row<'a>(expr: &'a Expr, row: &'a [Value]) -> Lent<'a>
+    requires { (extent expr.now row.now).widest < 2 ^ 127 }
+    ensures { owned result ≡ eval expr.now row.now }
+{
+    eval_tree(expr.tree(), row)
+}
+
+pub(crate) fn eval_tree<'a>(tree: &'a ExprTree, row: &'a [Value]) -> Lent<'a>
+    requires { (extent (expr_of tree.now) row.now).widest < 2 ^ 127 }
+    ensures value { owned result ≡ eval (expr_of tree.now) row.now }
+    ensures small { value_size (owned result) ≤ (extent (expr_of tree.now) row.now).size }
+{
+    match tree {
+        ExprTree::Column(place) => lend_column(row, *place),
+        ExprTree::Literal(value) => value.lend(),
+        ExprTree::Negate(part) => negate(&eval_tree(part, row)),
+        ExprTree::Sum(first, rest) => {
+            let mut sum = eval_tree(first, row);
+            for term in rest {
+                sum = add(&sum, &eval_tree(term, row));
+            }
+            sum
+        }
+        ExprTree::Product(first, rest) => {
+            let mut product = eval_tree(first, row);
+            for factor in rest {
+                product = multiply(&product, &eval_tree(factor, row));
+            }
+            product
+        }
+        ExprTree::Extract(day_part, part) => extract(*day_part, &eval_tree(part, row)),
+    }
+}
+
+fn negate<'a>(a: &Lent<'_>) -> Lent<'a>
+    requires { value_size (owned a.now) < 2 ^ 127 }
+    ensures { owned result ≡ negated (owned a.now) }
+{
+    match a {
+        Lent::Number(n) => Lent::Number(-*n),
+        _ => Lent::Null,
+    }
+}
+
+fn add<'a>(a: &Lent<'_>, b: &Lent<'_>) -> Lent<'a>
+    requires { value_size (owned a.now) + value_size (owned b.now) < 2 ^ 127 }
+    ensures { owned result ≡ plus (owned a.now) (owned b.now) }
+{
+    match (a, b) {
+        (Lent::Number(m), Lent::Number(n)) => Lent::Number(*m + *n),
+        _ => Lent::Null,
+    }
+}
+
+fn multiply<'a>(a: &Lent<'_>, b: &Lent<'_>) -> Lent<'a>
+    requires { value_size (owned a.now) * value_size (owned b.now) < 2 ^ 127 }
+    ensures { owned result ≡ times (owned a.now) (owned b.now) }
+{
+    match (a, b) {
+        (Lent::Number(m), Lent::Number(n)) => Lent::Number(*m * *n),
+        _ => Lent::Null,
+    }
+}
+
+fn extract<'a>(part: DayPart, value: &Lent<'_>) -> Lent<'a>
+    ensures value { owned result ≡ extracted part (owned value.now) }
+    ensures small { value_size (owned result) ≤ part_limit part }
+{
+    match value {
+        Lent::Day(day) => {
+            let date = day.date();
+            match part {
+                DayPart::Year => Lent::Number(i128::from(date.year)),
+                DayPart::Month => Lent::Number(i128::from(date.month)),
+                DayPart::Day => Lent::Number(i128::from(date.day)),
+            }
+        }
+        _ => Lent::Null,
+    }
+}
+
+/// The bounds of the columns bound each value of an expression and of a condition.
+pub fn bound_holds()
+    ensures expressions { BoundHolds }
+    ensures conditions { BoundHoldsIn }
+{}

@@ -1,0 +1,6 @@
+pub mod Delta
+pub mod Pushed
+pub mod Own
+pub mod Kept
+pub mod Told
+pub mod Standing

@@ -1,0 +1,15 @@
+//! The language: tokens, expressions and statements as trees, and how all of them are spelled.
+//!
+//! A text is cut into lexemes that make tokens, and a list of tokens is what at most one tree is spelled as. The
+//! reader is proved against these definitions.
+#![tactic(auto)]
+
+mod statement;
+mod token;
+mod written;
+
+pub use statement::{
+    Constant, FromSource, Item, ItemValue, Literal, Select, SelectItem, Statement, ViewSelect,
+};
+pub use token::{Keyword, Symbol, Token};
+pub use written::{ColumnName, ExprNode, Sign, SqlExpr};
