@@ -1,16 +1,14 @@
 //! The program `colview`: runs a script and writes its answers to standard output.
 #![tactic(auto)]
 
-use cq_cli::{NoSources, Writer, exit_of, run};
-use cq_engine::Limits;
+use cq_cli::{Writer, run_program};
 use cq_options::{LineFault, Options, options_of};
-use cq_values::Text;
 use std::io::BufWriter;
 use std::process::ExitCode;
 use std::{env, fs, io};
 
-/// How many live rows a table may have.
-const MAX_ROWS: u64 = 16_777_216;
+/// The exit status where the output failed or nothing was run.
+const STOPPED: u8 = 3;
 
 fn main(rt: HostRuntime) -> ExitCode {
     ExitCode::from(status(&rt))
@@ -37,21 +35,20 @@ fn options(rt: &HostRuntime) -> Result<Options, LineFault> {
 
 /// What is told where the words cannot be had.
 fn refused<T>(rt: &HostRuntime, error: &io::Error) -> Result<T, LineFault> {
-    if error.kind() == io::ErrorKind::OutOfMemory {
-        return Err(LineFault::Memory);
+    match error.kind() {
+        io::ErrorKind::OutOfMemory => Err(LineFault::Memory),
+        _ => {
+            let text = "error: a word of the command line is not UTF-8\n";
+            Err(LineFault::Refused(text.to_string(rt.alloc())?))
+        }
     }
-    let text = Text::new(
-        rt.alloc(),
-        "error: a word of the command line is not UTF-8\n",
-    )?;
-    Err(LineFault::Refused(text))
 }
 
 /// Tells why there is nothing to run.
 fn told(rt: &HostRuntime, fault: &LineFault) -> u8 {
     let printed = match fault {
-        LineFault::Help(text) => print!(rt; "{}", text.as_str()),
-        LineFault::Refused(text) => eprint!(rt; "{}", text.as_str()),
+        LineFault::Help(text) => print!(rt; "{text}"),
+        LineFault::Refused(text) => eprint!(rt; "{text}"),
         LineFault::Memory => return stopped(rt, "out of memory"),
     };
     match printed {
@@ -65,19 +62,17 @@ fn run_script(rt: &HostRuntime, script: &[u8]) -> u8 {
     let Ok(buffer) = BufWriter::new(rt.alloc(), io::writer(rt)) else {
         return stopped(rt, "out of memory");
     };
-    let limits = Limits { max_rows: MAX_ROWS };
-    let mut sources = NoSources::default();
     let mut out = Writer::new(buffer);
-    let ended = run(rt.alloc(), script, limits, &mut sources, &mut out);
+    let exit = run_program(rt.alloc(), script, &mut out);
     drop(out.into_inner().into_parts());
-    match ended {
-        Ok(_) => exit_of(&ended),
-        Err(_) => stopped(rt, "output failed"),
+    if exit == STOPPED {
+        return stopped(rt, "output failed");
     }
+    exit
 }
 
 /// Says on standard error why the program stopped. Where that fails there is nowhere left to say it.
 fn stopped(rt: &HostRuntime, why: &str) -> u8 {
     let _ = eprintln!(rt; "colview: {why}");
-    3
+    STOPPED
 }

@@ -7,8 +7,10 @@ use Rattle.cq_model.specs.declared.query.Aggregate.{Aggregate}
 use Rattle.cq_language.specs.declared.statement.Item.{Item}
 use Rattle.cq_language.specs.declared.statement.ItemValue.{ItemValue}
 use Rattle.cq_model.specs.Expr.{Expr}
-use Rattle.cq_binding.specs.Bound.{aggregates_in, group_items, in_groups}
-use Rattle.cq_binding.specs.Refusal.{first_fault, item_place}
+use Rattle.cq_binding.specs.Scopes.{in_groups}
+use Rattle.cq_binding.specs.Bound.{aggregates_in, group_items}
+use Rattle.cq_binding.specs.Checks.{first_fault}
+use Rattle.cq_binding.specs.Refusal.{item_check}
 use Rattle.cq_binding.specs.Typing.{Scope}
 use Rattle.cq_binder.proofs.Faults.{first_fault_cons}
 
@@ -24,8 +26,8 @@ AreBoundUpTo s group all left aggregates items =
 
 -- the first fault of the items from one on: its own, or else that of the items behind it
 pub items_more : (s : Scope) (group : List (List ℕ)) (items : List Item) (i : ℕ) (item : Item) → i < length items → item ≡ get_or items i item
-    → first_fault (map (item_place s group) (values_of (drop i items))) ≡ option_or (item_place s group item.value) (first_fault (map (item_place s group) (values_of (drop (i + 1) items))))
+    → first_fault (map (item_check s group) (values_of (drop i items))) ≡ option_or (item_check s group item.value) (first_fault (map (item_check s group) (values_of (drop (i + 1) items))))
 items_more s group items i item lt is =
-    at_drop_more (λ xs. first_fault (map (item_place s group) (values_of xs))) items i item lt
-    ∙ ap (λ (x : Item). first_fault (map (item_place s group) (values_of (x ∷ drop (i + 1) items)))) (sym is)
-    ∙ first_fault_cons (item_place s group item.value) (map (item_place s group) (values_of (drop (i + 1) items)))
+    at_drop_more (λ xs. first_fault (map (item_check s group) (values_of xs))) items i item lt
+    ∙ ap (λ (x : Item). first_fault (map (item_check s group) (values_of (x ∷ drop (i + 1) items)))) (sym is)
+    ∙ first_fault_cons (item_check s group item.value) (map (item_check s group) (values_of (drop (i + 1) items)))

@@ -12,7 +12,8 @@ use Rattle.cq_language.specs.declared.statement.ViewSelect.{ViewSelect}
 use Rattle.cq_binding.specs.declared.fault.Fault.{Fault}
 use Rattle.cq_binding.specs.declared.fault.Fault.TheVariants.{NameTaken}
 use Rattle.cq_binding.specs.Bound.{grouped_query, view_columns, view_source}
-use Rattle.cq_binding.specs.Refusal.{column_places, create_places, create_view_places, fault_if, first_fault, sort_places, too_long, view_select_places, MayRefuse}
+use Rattle.cq_binding.specs.Checks.{fault_if, first_fault, too_long, MayRefuse}
+use Rattle.cq_binding.specs.Refusal.{column_checks, create_checks, create_view_checks, sort_checks, view_select_checks}
 use Rattle.cq_states.specs.State.{TableOf, ViewOf, is_taken, table_named}
 use Rattle.cq_binder.specs.Catalog.{alone, heading, shown_heading, Binds}
 use Rattle.cq_binder.specs.View.{IsBoundView}
@@ -28,32 +29,32 @@ module _ (name : List ℕ) (columns : List ColumnDef) (sort : List (List ℕ)) (
   entries = too_long (length columns) ∷ []
 
   abbrev sort_walk : List (Option Fault)
-  sort_walk = sort_places columns [] sort
+  sort_walk = sort_checks columns [] sort
 
   -- the name is no fault
-  create_goes_on : first_fault (create_places name columns sort (alone tables views)) ≡ first_fault (column_places [] columns ++ (entries ++ sort_walk))
-  create_goes_on = ap (λ (b : Bool). first_fault (fault_if b NameTaken ∷ column_places [] columns ++ (entries ++ sort_walk))) free
+  create_goes_on : first_fault (create_checks name columns sort (alone tables views)) ≡ first_fault (column_checks [] columns ++ (entries ++ sort_walk))
+  create_goes_on = ap (λ (b : Bool). first_fault (fault_if b NameTaken ∷ column_checks [] columns ++ (entries ++ sort_walk))) free
 
   -- a column refuses
-  pub columns_refused : (f : Fault) → MayRefuse (first_fault (column_places [] columns)) f → MayRefuse (first_fault (create_places name columns sort (alone tables views))) f
+  pub columns_refused : (f : Fault) → MayRefuse (first_fault (column_checks [] columns)) f → MayRefuse (first_fault (create_checks name columns sort (alone tables views))) f
   columns_refused f m =
-      refused_same (first_fault (column_places [] columns ++ (entries ++ sort_walk))) (first_fault (create_places name columns sort (alone tables views))) f create_goes_on
-      (refused_front (column_places [] columns) (entries ++ sort_walk) f m)
+      refused_same (first_fault (column_checks [] columns ++ (entries ++ sort_walk))) (first_fault (create_checks name columns sort (alone tables views))) f create_goes_on
+      (refused_front (column_checks [] columns) (entries ++ sort_walk) f m)
 
   -- behind the columns only their number and SORT BY are left
-  create_ends : first_fault (column_places [] columns) ≡ None → first_fault (create_places name columns sort (alone tables views)) ≡ first_fault (entries ++ sort_walk)
+  create_ends : first_fault (column_checks [] columns) ≡ None → first_fault (create_checks name columns sort (alone tables views)) ≡ first_fault (entries ++ sort_walk)
   create_ends distinct =
       create_goes_on
-      ∙ first_fault_append (column_places [] columns) (entries ++ sort_walk)
-      ∙ or_next (first_fault (column_places [] columns)) (first_fault (entries ++ sort_walk)) distinct
+      ∙ first_fault_append (column_checks [] columns) (entries ++ sort_walk)
+      ∙ or_next (first_fault (column_checks [] columns)) (first_fault (entries ++ sort_walk)) distinct
 
   -- there are too many columns
-  pub length_refused : (f : Fault) → first_fault (column_places [] columns) ≡ None → MayRefuse (first_fault entries) f → MayRefuse (first_fault (create_places name columns sort (alone tables views))) f
+  pub length_refused : (f : Fault) → first_fault (column_checks [] columns) ≡ None → MayRefuse (first_fault entries) f → MayRefuse (first_fault (create_checks name columns sort (alone tables views))) f
   length_refused f distinct m =
-      refused_same (first_fault (entries ++ sort_walk)) (first_fault (create_places name columns sort (alone tables views))) f (create_ends distinct) (refused_front entries sort_walk f m)
+      refused_same (first_fault (entries ++ sort_walk)) (first_fault (create_checks name columns sort (alone tables views))) f (create_ends distinct) (refused_front entries sort_walk f m)
 
   -- behind the number of the columns SORT BY decides
-  pub sort_decides : first_fault (column_places [] columns) ≡ None → first_fault entries ≡ None → first_fault (create_places name columns sort (alone tables views)) ≡ first_fault sort_walk
+  pub sort_decides : first_fault (column_checks [] columns) ≡ None → first_fault entries ≡ None → first_fault (create_checks name columns sort (alone tables views)) ≡ first_fault sort_walk
   sort_decides distinct few = create_ends distinct ∙ first_fault_append entries sort_walk ∙ or_next (first_fault entries) (first_fault sort_walk) few
 
 -- ---- CREATE VIEW
@@ -69,13 +70,13 @@ view_made name shown v t number joins b is_name is_number none is = λ i.
 
 -- ---- Under a free name the query decides
 module _ (name : List ℕ) (v : ViewSelect) (tables : List TableOf) (views : List ViewOf) (free : is_taken name (alone tables views) ≡ false) where
-  create_view_goes_on : (t : TableOf) → table_named v.source.name tables ≡ Some t → first_fault (create_view_places name v (alone tables views)) ≡ first_fault (view_select_places v (Ok t))
+  create_view_goes_on : (t : TableOf) → table_named v.source.name tables ≡ Some t → first_fault (create_view_checks name v (alone tables views)) ≡ first_fault (view_select_checks v (Ok t))
   create_view_goes_on t found = rw (free, found) refl
 
   -- on the table that was found
   pub view_created : (e : TableEntry) (result : Result Bound Fault) → Some (shown_heading e) ≡ option_map heading (table_named v.source.name tables)
-      → ((t : TableOf) → shown_heading e ≡ heading t → Walked (view_select_places v (Ok t)) (λ command. command ≡ view_command name v t) result) → Binds (alone tables views) (statements.CreateView name v) result
+      → ((t : TableOf) → shown_heading e ≡ heading t → Walked (view_select_checks v (Ok t)) (λ command. command ≡ view_command name v t) result) → Binds (alone tables views) (statements.CreateView name v) result
   view_created e result found walked =
       let t = table_there e (table_named v.source.name tables) found in
-      walked_as (view_select_places v (Ok t.0)) (create_view_places name v (alone tables views)) (view_command name v t.0) (option_map (view_command name v) (table_named v.source.name tables)) result (create_view_goes_on t.0 t.1)
+      walked_as (view_select_checks v (Ok t.0)) (create_view_checks name v (alone tables views)) (view_command name v t.0) (option_map (view_command name v) (table_named v.source.name tables)) result (create_view_goes_on t.0 t.1)
       (ap (option_map (view_command name v)) t.1) (walked t.0 t.2)

@@ -7,8 +7,9 @@ use Rattle.cq_binding.specs.declared.bound.Bound.{Bound}
 use Rattle.cq_binding.specs.declared.bound.Bound.TheVariants as commands
 use Rattle.cq_binding.specs.declared.fault.Fault.{Fault}
 use Rattle.cq_binding.specs.declared.fault.Fault.TheVariants.{UnknownTable, ViewNotWritten}
-use Rattle.cq_binding.specs.Bound.{bound_condition, from_table, scope_of}
-use Rattle.cq_binding.specs.Refusal.{delete_places, first_fault, where_place, written_table, MayRefuse}
+use Rattle.cq_binding.specs.Scopes.{bound_condition, from_table, scope_of}
+use Rattle.cq_binding.specs.Checks.{first_fault, MayRefuse}
+use Rattle.cq_binding.specs.Refusal.{delete_checks, where_check, written_table}
 use Rattle.cq_states.specs.State.{TableOf, ViewOf, table_named, view_named}
 use Rattle.cq_binder.specs.Catalog.{alone}
 use Rattle.cq_binder.proofs.Faults.{refused_same}
@@ -19,12 +20,12 @@ delete_command condition t = commands.Delete t.number (option_map (bound_conditi
 
 module _ (name : List ℕ) (condition : Option Written) (tables : List TableOf) (views : List ViewOf) (t : TableOf) (found : table_named name tables ≡ Some t) where
   -- WHERE decides
-  pub where_decides : first_fault (delete_places condition (written_table name (alone tables views))) ≡ first_fault (where_place (scope_of (from_table t)) condition ∷ [])
-  where_decides = ap (λ (o : Option TableOf). first_fault (delete_places condition (ok_or o (if is_some (view_named name views) then ViewNotWritten else UnknownTable)))) found
+  pub where_decides : first_fault (delete_checks condition (written_table name (alone tables views))) ≡ first_fault (where_check (scope_of (from_table t)) condition ∷ [])
+  where_decides = ap (λ (o : Option TableOf). first_fault (delete_checks condition (ok_or o (if is_some (view_named name views) then ViewNotWritten else UnknownTable)))) found
 
   -- it refuses
-  pub where_refused : (f : Fault) → MayRefuse (first_fault (where_place (scope_of (from_table t)) condition ∷ [])) f → MayRefuse (first_fault (delete_places condition (written_table name (alone tables views)))) f
-  where_refused f m = refused_same (first_fault (where_place (scope_of (from_table t)) condition ∷ [])) (first_fault (delete_places condition (written_table name (alone tables views)))) f where_decides m
+  pub where_refused : (f : Fault) → MayRefuse (first_fault (where_check (scope_of (from_table t)) condition ∷ [])) f → MayRefuse (first_fault (delete_checks condition (written_table name (alone tables views)))) f
+  where_refused f m = refused_same (first_fault (where_check (scope_of (from_table t)) condition ∷ [])) (first_fault (delete_checks condition (written_table name (alone tables views)))) f where_decides m
 
   -- the command is the one on the table
   pub deleted : (number : ℕ) (kept : Option Cond) → number ≡ t.number → kept ≡ option_map (bound_condition (scope_of (from_table t))) condition → option_map (delete_command condition) (table_named name tables) ≡ Some (commands.Delete number kept)

@@ -8,7 +8,9 @@ use Rattle.cq_values.specs.declared.column.ColumnDef.{ColumnDef}
 use Rattle.cq_language.specs.declared.statement.Constant.{Constant}
 use Rattle.cq_binding.specs.declared.fault.Fault.{Fault}
 use Rattle.cq_binding.specs.declared.fault.Fault.TheVariants as faults
-use Rattle.cq_binding.specs.Refusal.{first_fault, fault_if, column_places, row_places, MayRefuse}
+use Rattle.cq_binding.specs.Checks.{first_fault, fault_if, MayRefuse}
+use Rattle.cq_binding.specs.RowChecks.{row_checks}
+use Rattle.cq_binding.specs.Refusal.{column_checks}
 use Rattle.cq_binder.specs.Walk.{Walked}
 
 -- a stretch of one place
@@ -75,20 +77,20 @@ walked_as part whole x o (Ok y) same is w = (same ∙ w.0, is ∙ ap Some (sym w
 walked_as part whole x o (Err f) same is m = refused_same (first_fault part) (first_fault whole) f same m
 
 -- the first fault of the rows from one on: its own, or else that of the rows behind it
-pub rows_more : (columns : List ColumnDef) (rows : List (List Constant)) (i : ℕ) (row : List Constant) → i < length rows → row ≡ get_or rows i row → first_fault (flat_map (row_places columns) (drop i rows)) ≡ option_or (first_fault (row_places columns row)) (first_fault (flat_map (row_places columns) (drop (i + 1) rows)))
+pub rows_more : (columns : List ColumnDef) (rows : List (List Constant)) (i : ℕ) (row : List Constant) → i < length rows → row ≡ get_or rows i row → first_fault (flat_map (row_checks columns) (drop i rows)) ≡ option_or (first_fault (row_checks columns row)) (first_fault (flat_map (row_checks columns) (drop (i + 1) rows)))
 rows_more columns rows i row lt is =
-    at_drop_more (λ xs. first_fault (flat_map (row_places columns) xs)) rows i row lt
-    ∙ ap (λ (r : List Constant). first_fault (row_places columns r ++ flat_map (row_places columns) (drop (i + 1) rows))) (sym is)
-    ∙ first_fault_append (row_places columns row) (flat_map (row_places columns) (drop (i + 1) rows))
+    at_drop_more (λ xs. first_fault (flat_map (row_checks columns) xs)) rows i row lt
+    ∙ ap (λ (r : List Constant). first_fault (row_checks columns r ++ flat_map (row_checks columns) (drop (i + 1) rows))) (sym is)
+    ∙ first_fault_append (row_checks columns row) (flat_map (row_checks columns) (drop (i + 1) rows))
 
 -- the same of columns: is it declared before, or else the columns behind it
 pub columns_more : (columns : List ColumnDef) (i : ℕ) (c : ColumnDef) → i < length columns → c ≡ get_or columns i c
-    → first_fault (column_places (take i columns) (drop i columns)) ≡ option_or (fault_if (list_any (λ b. is_text b.name c.name) (take i columns)) faults.NameTaken) (first_fault (column_places (take (i + 1) columns) (drop (i + 1) columns)))
+    → first_fault (column_checks (take i columns) (drop i columns)) ≡ option_or (fault_if (list_any (λ b. is_text b.name c.name) (take i columns)) faults.NameTaken) (first_fault (column_checks (take (i + 1) columns) (drop (i + 1) columns)))
 columns_more columns i c lt is =
-    at_drop_more (λ xs. first_fault (column_places (take i columns) xs)) columns i c lt
-    ∙ ap (λ (x : ColumnDef). first_fault (column_places (take i columns) (x ∷ drop (i + 1) columns))) (sym is)
-    ∙ first_fault_cons (fault_if (list_any (λ b. is_text b.name c.name) (take i columns)) faults.NameTaken) (column_places (take i columns ++ c ∷ []) (drop (i + 1) columns))
-    ∙ ap (λ (before : List ColumnDef). option_or (fault_if (list_any (λ b. is_text b.name c.name) (take i columns)) faults.NameTaken) (first_fault (column_places before (drop (i + 1) columns)))) (ap (λ (x : ColumnDef). take i columns ++ x ∷ []) is ∙ sym (take_more columns i c lt))
+    at_drop_more (λ xs. first_fault (column_checks (take i columns) xs)) columns i c lt
+    ∙ ap (λ (x : ColumnDef). first_fault (column_checks (take i columns) (x ∷ drop (i + 1) columns))) (sym is)
+    ∙ first_fault_cons (fault_if (list_any (λ b. is_text b.name c.name) (take i columns)) faults.NameTaken) (column_checks (take i columns ++ c ∷ []) (drop (i + 1) columns))
+    ∙ ap (λ (before : List ColumnDef). option_or (fault_if (list_any (λ b. is_text b.name c.name) (take i columns)) faults.NameTaken) (first_fault (column_checks before (drop (i + 1) columns)))) (ap (λ (x : ColumnDef). take i columns ++ x ∷ []) is ∙ sym (take_more columns i c lt))
 
 -- the first place of those that are left has a fault
 pub found : (o : Option Fault) (f : Fault) (before rest whole : Option Fault) → o ≡ Some f → before ≡ option_or o rest → before ≡ whole → whole ≡ Some f

@@ -11,8 +11,10 @@ use Rattle.cq_model.specs.declared.query.Shape.TheVariants.{Plain}
 use Rattle.cq_model.specs.declared.query.Source.{Source}
 use Rattle.cq_language.specs.declared.statement.Select.{Select}
 use Rattle.cq_binding.specs.declared.fault.Fault.{Fault}
-use Rattle.cq_binding.specs.Bound.{Named, bound_condition, bound_select, bound_value, from_table, header as header_of, scope_as, shown_by, source_named}
-use Rattle.cq_binding.specs.Refusal.{first_fault, select_places, source_places, too_long, value_place, where_place, MayRefuse}
+use Rattle.cq_binding.specs.Scopes.{Named, bound_condition, bound_value, from_table, scope_as, source_named}
+use Rattle.cq_binding.specs.Bound.{bound_select, header as header_of, shown_by}
+use Rattle.cq_binding.specs.Checks.{first_fault, too_long, MayRefuse}
+use Rattle.cq_binding.specs.Refusal.{select_checks, source_checks, value_check, where_check}
 use Rattle.cq_states.specs.State.{TableOf, ViewOf, table_named}
 use Rattle.cq_binding.specs.Typing.{Scope}
 use Rattle.cq_binder.specs.Catalog.{alone, heading, shown_view, view_source_named}
@@ -25,24 +27,24 @@ use Rattle.cq_binder.proofs.Found.{table_absent}
 -- ---- WHERE decides, then the items, and then their number
 module _ (q : Select) (source : Scope) where
   abbrev where_walk : List (Option Fault)
-  where_walk = where_place source q.condition ∷ []
+  where_walk = where_check source q.condition ∷ []
 
   abbrev item_walk : List (Option Fault)
-  item_walk = map (value_place source) (shown_by q.items)
+  item_walk = map (value_check source) (shown_by q.items)
 
   abbrev number : Option Fault
   number = too_long (length q.items)
 
   -- an item refuses
-  pub items_refused : (f : Fault) → first_fault where_walk ≡ None → MayRefuse (first_fault item_walk) f → MayRefuse (first_fault (source_places q source)) f
+  pub items_refused : (f : Fault) → first_fault where_walk ≡ None → MayRefuse (first_fault item_walk) f → MayRefuse (first_fault (source_checks q source)) f
   items_refused f kept m = refused_front (where_walk ++ item_walk) (number ∷ []) f (refused_back where_walk item_walk f kept m)
 
   -- there are too many items
-  pub number_refused : (f : Fault) → first_fault where_walk ≡ None → first_fault item_walk ≡ None → MayRefuse (first_fault (number ∷ [])) f → MayRefuse (first_fault (source_places q source)) f
+  pub number_refused : (f : Fault) → first_fault where_walk ≡ None → first_fault item_walk ≡ None → MayRefuse (first_fault (number ∷ [])) f → MayRefuse (first_fault (source_checks q source)) f
   number_refused f kept named m = refused_back (where_walk ++ item_walk) (number ∷ []) f (none_append where_walk item_walk kept named) m
 
   -- no place refuses
-  pub select_passes : first_fault where_walk ≡ None → first_fault item_walk ≡ None → first_fault (number ∷ []) ≡ None → first_fault (source_places q source) ≡ None
+  pub select_passes : first_fault where_walk ≡ None → first_fault item_walk ≡ None → first_fault (number ∷ []) ≡ None → first_fault (source_checks q source) ≡ None
   select_passes kept named short = none_append (where_walk ++ item_walk) (number ∷ []) (none_append where_walk item_walk kept named) short
 
 -- ---- The command of a query on a source
@@ -56,10 +58,10 @@ select_made q named s header source joins filter items keys same is_header is_so
     λ i. commands.Select (is_header i) (record { first = is_source i; joins = no_joins i; filter = kept i; shape = Plain; items = shown i; distinct = false }) (record { keys = no_keys i; limit = None })
 
 -- what is bound on a source is bound where the name has that source
-pub selected : (q : Select) (o : Option Named) (named : Named) (result : Result Bound Fault) → o ≡ Some named → Walked (select_places q (Some named)) (λ command. command ≡ bound_select q named) result
-    → Walked (select_places q o) (λ command. option_map (bound_select q) o ≡ Some command) result
+pub selected : (q : Select) (o : Option Named) (named : Named) (result : Result Bound Fault) → o ≡ Some named → Walked (select_checks q (Some named)) (λ command. command ≡ bound_select q named) result
+    → Walked (select_checks q o) (λ command. option_map (bound_select q) o ≡ Some command) result
 selected q o named result is walked =
-    walked_as (select_places q (Some named)) (select_places q o) (bound_select q named) (option_map (bound_select q) o) result (ap (λ (x : Option Named). first_fault (select_places q x)) is) (ap (option_map (bound_select q)) is) walked
+    walked_as (select_checks q (Some named)) (select_checks q o) (bound_select q named) (option_map (bound_select q) o) result (ap (λ (x : Option Named). first_fault (select_checks q x)) is) (ap (option_map (bound_select q)) is) walked
 
 -- ---- The source of a name
 module _ (name : List ℕ) (tables : List TableOf) (views : List ViewOf) where

@@ -8,14 +8,15 @@ use Rattle.cq_values.specs.Texts.{is_text}
 use Rattle.cq_values.specs.declared.column.ColumnDef.{ColumnDef}
 use Rattle.cq_binding.specs.declared.fault.Fault.{Fault}
 use Rattle.cq_binding.specs.declared.fault.Fault.TheVariants.{NameTaken}
-use Rattle.cq_binding.specs.Bound.{column_place, place_in}
-use Rattle.cq_binding.specs.Refusal.{first_fault, fault_if, name_place, sort_places}
+use Rattle.cq_binding.specs.Scopes.{column_place, place_in}
+use Rattle.cq_binding.specs.Checks.{first_fault, fault_if}
+use Rattle.cq_binding.specs.Refusal.{name_check, sort_checks}
 use Rattle.cq_binder.proofs.Faults.{first_fault_append, single}
 
 module _ (columns : List ColumnDef) where
   -- the places of a name behind others
   abbrev name_walk : List (List ℕ) → List ℕ → List (Option Fault)
-  name_walk before name = name_place columns name ∷ fault_if (list_any (λ b. is_text b name) before) NameTaken ∷ []
+  name_walk before name = name_check columns name ∷ fault_if (list_any (λ b. is_text b name) before) NameTaken ∷ []
 
   -- of a column that is there it decides whether it was named before
   pub repeat_decides : (before : List (List ℕ)) (name : List ℕ) (place : ℕ) (b : Bool) → column_place columns name ≡ Some place → list_any (λ n. is_text n name) before ≡ b → first_fault (name_walk before name) ≡ fault_if b NameTaken
@@ -27,12 +28,12 @@ module _ (columns : List ColumnDef) where
     so_far = ap (λ (n : List ℕ). take i names ++ n ∷ []) is ∙ sym (take_more names i name lt)
 
     -- the first fault of the names from one on: its own, or else that of the names behind it
-    pub names_more : first_fault (sort_places columns (take i names) (drop i names)) ≡ option_or (first_fault (name_walk (take i names) name)) (first_fault (sort_places columns (take (i + 1) names) (drop (i + 1) names)))
+    pub names_more : first_fault (sort_checks columns (take i names) (drop i names)) ≡ option_or (first_fault (name_walk (take i names) name)) (first_fault (sort_checks columns (take (i + 1) names) (drop (i + 1) names)))
     names_more =
-        at_drop_more (λ xs. first_fault (sort_places columns (take i names) xs)) names i name lt
-        ∙ ap (λ (n : List ℕ). first_fault (sort_places columns (take i names) (n ∷ drop (i + 1) names))) (sym is)
-        ∙ first_fault_append (name_walk (take i names) name) (sort_places columns (take i names ++ name ∷ []) (drop (i + 1) names))
-        ∙ ap (λ (before : List (List ℕ)). option_or (first_fault (name_walk (take i names) name)) (first_fault (sort_places columns before (drop (i + 1) names)))) so_far
+        at_drop_more (λ xs. first_fault (sort_checks columns (take i names) xs)) names i name lt
+        ∙ ap (λ (n : List ℕ). first_fault (sort_checks columns (take i names) (n ∷ drop (i + 1) names))) (sym is)
+        ∙ first_fault_append (name_walk (take i names) name) (sort_checks columns (take i names ++ name ∷ []) (drop (i + 1) names))
+        ∙ ap (λ (before : List (List ℕ)). option_or (first_fault (name_walk (take i names) name)) (first_fault (sort_checks columns before (drop (i + 1) names)))) so_far
 
     -- one place more behind those of the names before
     pub places_more : (place : ℕ) (old new : List ℕ) → column_place columns name ≡ Some place → old ≡ map (place_in columns) (take i names) → new ≡ old ++ place ∷ [] → new ≡ map (place_in columns) (take (i + 1) names)

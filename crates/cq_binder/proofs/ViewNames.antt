@@ -10,7 +10,8 @@ use Rattle.cq_binding.specs.declared.fault.Fault.{Fault}
 use Rattle.cq_binding.specs.declared.fault.Fault.TheVariants.{NameTaken}
 use Rattle.cq_binding.specs.Bound.{item_columns, item_names, own_name}
 use Rattle.cq_binding.specs.Typing.{Scope}
-use Rattle.cq_binding.specs.Refusal.{first_fault, fault_if, column_places, repeats, too_long, MayRefuse}
+use Rattle.cq_binding.specs.Checks.{first_fault, fault_if, too_long, MayRefuse}
+use Rattle.cq_binding.specs.Refusal.{column_checks, repeats}
 use Rattle.cq_binder.proofs.Faults.{first_fault_cons, or_next, refused_first, refused_next, refused_same}
 
 -- what columns are called
@@ -28,12 +29,12 @@ fault_or true b rest same = refl
 fault_or false b rest same = same
 
 -- columns are walked through as their names are
-pub names_walked : (before columns : List ColumnDef) → first_fault (column_places before columns) ≡ fault_if (repeats (names_of before) (names_of columns)) NameTaken
+pub names_walked : (before columns : List ColumnDef) → first_fault (column_checks before columns) ≡ fault_if (repeats (names_of before) (names_of columns)) NameTaken
 names_walked before [] = refl
 names_walked before (c ∷ columns) =
     let behind = ap (λ (ns : List (List ℕ)). fault_if (repeats ns (names_of columns)) NameTaken) (map-append (λ d. d.name) before (c ∷ [])) in
-    ap (λ (t : Bool). first_fault (fault_if t NameTaken ∷ column_places (before ++ c ∷ []) columns)) (taken_same before c.name)
-    ∙ fault_or (list_any (λ b. is_text b c.name) (names_of before)) (repeats (names_of before ++ c.name ∷ []) (names_of columns)) (column_places (before ++ c ∷ []) columns) (names_walked (before ++ c ∷ []) columns ∙ behind)
+    ap (λ (t : Bool). first_fault (fault_if t NameTaken ∷ column_checks (before ++ c ∷ []) columns)) (taken_same before c.name)
+    ∙ fault_or (list_any (λ b. is_text b c.name) (names_of before)) (repeats (names_of before ++ c.name ∷ []) (names_of columns)) (column_checks (before ++ c ∷ []) columns) (names_walked (before ++ c ∷ []) columns ∙ behind)
 
 -- the columns of items are called as the items are
 names_kept : (table : Scope) (place : ℕ) (items : List Item) → names_of (item_columns table place items) ≡ item_names place items
@@ -49,19 +50,19 @@ module _ (table : Scope) (items : List Item) (columns : List ColumnDef) (named :
   number = too_long (length items) ∷ []
 
   -- the columns are walked through as the names
-  same_walk : first_fault (column_places [] columns) ≡ repeated
+  same_walk : first_fault (column_checks [] columns) ≡ repeated
   same_walk =
-      ap (λ (cs : List ColumnDef). first_fault (column_places [] cs)) named ∙ names_walked [] (item_columns table 1 items)
+      ap (λ (cs : List ColumnDef). first_fault (column_checks [] cs)) named ∙ names_walked [] (item_columns table 1 items)
       ∙ ap (λ (ns : List (List ℕ)). fault_if (repeats [] ns) NameTaken) (names_kept table 1 items)
 
   -- a name refuses
-  pub name_refused : (f : Fault) → MayRefuse (first_fault (column_places [] columns)) f → MayRefuse (first_fault (repeated ∷ number)) f
-  name_refused f m = rw first_fault_cons (refused_first repeated (first_fault number) f (refused_same (first_fault (column_places [] columns)) repeated f (sym same_walk) m))
+  pub name_refused : (f : Fault) → MayRefuse (first_fault (column_checks [] columns)) f → MayRefuse (first_fault (repeated ∷ number)) f
+  name_refused f m = rw first_fault_cons (refused_first repeated (first_fault number) f (refused_same (first_fault (column_checks [] columns)) repeated f (sym same_walk) m))
 
   -- there are too many items
-  pub number_refused : (f : Fault) → first_fault (column_places [] columns) ≡ None → MayRefuse (first_fault number) f → MayRefuse (first_fault (repeated ∷ number)) f
+  pub number_refused : (f : Fault) → first_fault (column_checks [] columns) ≡ None → MayRefuse (first_fault number) f → MayRefuse (first_fault (repeated ∷ number)) f
   number_refused f distinct m = rw first_fault_cons (refused_next repeated (first_fault number) f (sym same_walk ∙ distinct) m)
 
   -- no place refuses
-  pub names_pass : first_fault (column_places [] columns) ≡ None → first_fault number ≡ None → first_fault (repeated ∷ number) ≡ None
+  pub names_pass : first_fault (column_checks [] columns) ≡ None → first_fault number ≡ None → first_fault (repeated ∷ number) ≡ None
   names_pass distinct short = first_fault_cons repeated number ∙ or_next repeated (first_fault number) (sym same_walk ∙ distinct) ∙ short

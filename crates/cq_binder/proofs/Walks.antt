@@ -4,7 +4,8 @@ use Rattle.std.proofs.lemmas.List.{append_assoc}
 use Rattle.cq_values.specs.declared.column.ColumnDef.{ColumnDef}
 use Rattle.cq_language.specs.declared.statement.ViewSelect.{ViewSelect}
 use Rattle.cq_binding.specs.declared.fault.Fault.{Fault}
-use Rattle.cq_binding.specs.Refusal.{first_fault, name_place, query_places, too_long, where_place, MayRefuse}
+use Rattle.cq_binding.specs.Checks.{first_fault, too_long, MayRefuse}
+use Rattle.cq_binding.specs.Refusal.{name_check, query_checks, where_check}
 use Rattle.cq_binding.specs.Typing.{Scope}
 use Rattle.cq_binder.specs.View.{group_walk, item_walk, name_walk}
 use Rattle.cq_binder.proofs.Faults.{none_append, refused_back, refused_front, refused_same}
@@ -15,46 +16,46 @@ module _ (s : Scope) (v : ViewSelect) where
   columns = s.columns
 
   abbrev where_walk : List (Option Fault)
-  where_walk = where_place s v.condition ∷ []
+  where_walk = where_check s v.condition ∷ []
 
   abbrev walk : List (Option Fault)
   walk = where_walk ++ (group_walk columns v.group ++ (item_walk s v ++ name_walk v.items))
 
   -- the stretches in their order
-  stretches : query_places s v ≡ walk
+  stretches : query_checks s v ≡ walk
   stretches =
-      let key_walk : List (Option Fault) = map (name_place columns) v.group in
+      let key_walk : List (Option Fault) = map (name_check columns) v.group in
       let number : List (Option Fault) = too_long (length v.group) ∷ [] in
       append_assoc (where_walk ++ key_walk) (too_long (length v.group) ∷ item_walk s v) (name_walk v.items)
       ∙ append_assoc where_walk key_walk (number ++ (item_walk s v ++ name_walk v.items))
       ∙ ap (λ (places : List (Option Fault)). where_walk ++ places) (sym (append_assoc key_walk number (item_walk s v ++ name_walk v.items)))
 
   -- what refuses the stretches refuses the query
-  refused_whole : (f : Fault) → MayRefuse (first_fault walk) f → MayRefuse (first_fault (query_places s v)) f
-  refused_whole f m = refused_same (first_fault walk) (first_fault (query_places s v)) f (ap first_fault stretches) m
+  refused_whole : (f : Fault) → MayRefuse (first_fault walk) f → MayRefuse (first_fault (query_checks s v)) f
+  refused_whole f m = refused_same (first_fault walk) (first_fault (query_checks s v)) f (ap first_fault stretches) m
 
   module _ (kept : first_fault where_walk ≡ None) where
     -- GROUP BY refuses
-    pub group_refused : (f : Fault) → MayRefuse (first_fault (group_walk columns v.group)) f → MayRefuse (first_fault (query_places s v)) f
+    pub group_refused : (f : Fault) → MayRefuse (first_fault (group_walk columns v.group)) f → MayRefuse (first_fault (query_checks s v)) f
     group_refused f m =
         refused_whole f (refused_back where_walk (group_walk columns v.group ++ (item_walk s v ++ name_walk v.items)) f kept (refused_front (group_walk columns v.group) (item_walk s v ++ name_walk v.items) f m))
 
     module _ (grouped : first_fault (group_walk columns v.group) ≡ None) where
       -- what refuses the stretches behind GROUP BY refuses the query
-      refused_behind : (f : Fault) → MayRefuse (first_fault (item_walk s v ++ name_walk v.items)) f → MayRefuse (first_fault (query_places s v)) f
+      refused_behind : (f : Fault) → MayRefuse (first_fault (item_walk s v ++ name_walk v.items)) f → MayRefuse (first_fault (query_checks s v)) f
       refused_behind f m =
           refused_whole f (refused_back where_walk (group_walk columns v.group ++ (item_walk s v ++ name_walk v.items)) f kept (refused_back (group_walk columns v.group) (item_walk s v ++ name_walk v.items) f grouped m))
 
       -- an item refuses
-      pub items_refused : (f : Fault) → MayRefuse (first_fault (item_walk s v)) f → MayRefuse (first_fault (query_places s v)) f
+      pub items_refused : (f : Fault) → MayRefuse (first_fault (item_walk s v)) f → MayRefuse (first_fault (query_checks s v)) f
       items_refused f m = refused_behind f (refused_front (item_walk s v) (name_walk v.items) f m)
 
       -- the names or their number refuse
-      pub names_refused : (f : Fault) → first_fault (item_walk s v) ≡ None → MayRefuse (first_fault (name_walk v.items)) f → MayRefuse (first_fault (query_places s v)) f
+      pub names_refused : (f : Fault) → first_fault (item_walk s v) ≡ None → MayRefuse (first_fault (name_walk v.items)) f → MayRefuse (first_fault (query_checks s v)) f
       names_refused f bound m = refused_behind f (refused_back (item_walk s v) (name_walk v.items) f bound m)
 
       -- no place refuses
-      pub view_passes : first_fault (item_walk s v) ≡ None → first_fault (name_walk v.items) ≡ None → first_fault (query_places s v) ≡ None
+      pub view_passes : first_fault (item_walk s v) ≡ None → first_fault (name_walk v.items) ≡ None → first_fault (query_checks s v) ≡ None
       view_passes bound named =
           ap first_fault stretches
           ∙ none_append where_walk (group_walk columns v.group ++ (item_walk s v ++ name_walk v.items)) kept

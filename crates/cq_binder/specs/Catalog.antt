@@ -8,8 +8,10 @@ use Rattle.cq_language.specs.declared.statement.Constant.{Constant}
 use Rattle.cq_language.specs.declared.statement.Statement.{Statement}
 use Rattle.cq_language.specs.declared.statement.Statement.TheVariants as statements
 use Rattle.cq_binding.specs.declared.fault.Fault.{Fault}
-use Rattle.cq_binding.specs.Bound.{Named, bound, from_view}
-use Rattle.cq_binding.specs.Refusal.{places, row_places, written_table}
+use Rattle.cq_binding.specs.Scopes.{Named, from_view}
+use Rattle.cq_binding.specs.Bound.{bound}
+use Rattle.cq_binding.specs.RowChecks.{row_checks}
+use Rattle.cq_binding.specs.Refusal.{checks, written_table}
 use Rattle.cq_states.specs.State.{TableOf, ViewOf, State, view_named, view_place}
 use Rattle.cq_binder.specs.declared.catalog.TableEntry.{TableEntry}
 use Rattle.cq_binder.specs.declared.catalog.ViewEntry.{ViewEntry}
@@ -42,13 +44,13 @@ view_source_named name views = option_map (λ v. from_view v (unwrap_or (view_pl
 -- INSERT: the name, then each row
 abbrev pub rows_walk : List (List Constant) → Result TableOf Fault → List (Option Fault)
 rows_walk rows (Err f) = Some f ∷ []
-rows_walk rows (Ok t) = flat_map (row_places t.columns) rows
+rows_walk rows (Ok t) = flat_map (row_checks t.columns) rows
 
--- the places of a statement that are seen without any row of a table: all but whether the rows of an INSERT fit
-abbrev pub binding_places : State → Statement → List (Option Fault)
-binding_places s (statements.Insert name rows) = rows_walk rows (written_table name s)
-binding_places s statement = places s statement
+-- the checks of a statement that are seen without any row of a table: all but whether the rows of an INSERT fit
+abbrev pub binding_checks : State → Statement → List (Option Fault)
+binding_checks s (statements.Insert name rows) = rows_walk rows (written_table name s)
+binding_checks s statement = checks s statement
 
--- a statement becomes its command where none of these places has a fault
+-- a statement becomes its command where none of these checks has a fault
 abbrev pub Binds : State → Statement → Result Bound Fault → Type 0
-Binds s statement result = Walked (binding_places s statement) (λ command. bound s statement ≡ Some command) result
+Binds s statement result = Walked (binding_checks s statement) (λ command. bound s statement ≡ Some command) result

@@ -2,7 +2,8 @@
 use Rattle.std.specs.Prelude.{◌≡◌, List, map, Option, option_map}
 use Rattle.cq_model.specs.Expr.{Cond, Expr}
 use Rattle.cq_language.specs.declared.statement.Select.{Select}
-use Rattle.cq_binding.specs.Bound.{bound_condition, bound_value, shown_by}
+use Rattle.cq_binding.specs.Scopes.{bound_condition, bound_value}
+use Rattle.cq_binding.specs.Bound.{shown_by}
 use Rattle.cq_binding.specs.Typing.{Scope}
 
 -- the condition behind WHERE and the values of the items, by their places among the columns

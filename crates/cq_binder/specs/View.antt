@@ -11,8 +11,10 @@ use Rattle.cq_language.specs.declared.statement.ItemValue.TheVariants as values
 use Rattle.cq_language.specs.declared.statement.ViewSelect.{ViewSelect}
 use Rattle.cq_binding.specs.declared.fault.Fault.{Fault}
 use Rattle.cq_binding.specs.declared.fault.Fault.TheVariants.{NameTaken}
-use Rattle.cq_binding.specs.Bound.{aggregates_in, bound_condition, bound_value, group_items, in_groups, item_names, place_in, values_in, view_columns}
-use Rattle.cq_binding.specs.Refusal.{fault_if, item_place, name_place, repeats, too_long}
+use Rattle.cq_binding.specs.Scopes.{bound_condition, bound_value, in_groups, place_in}
+use Rattle.cq_binding.specs.Bound.{aggregates_in, group_items, item_names, values_in, view_columns}
+use Rattle.cq_binding.specs.Checks.{fault_if, too_long}
+use Rattle.cq_binding.specs.Refusal.{item_check, name_check, repeats}
 use Rattle.cq_binding.specs.Typing.{Scope}
 use Rattle.cq_binder.specs.declared.items.BoundItem.{BoundItem}
 use Rattle.cq_binder.specs.declared.items.BoundItem.TheVariants.{Shown, Told}
@@ -27,11 +29,11 @@ bound_item s group (values.Sum w) = Told (aggregates.Sum (bound_value s w))
 
 -- GROUP BY: each name, then their number
 abbrev pub group_walk : List ColumnDef → List (List ℕ) → List (Option Fault)
-group_walk columns group = map (name_place columns) group ++ too_long (length group) ∷ []
+group_walk columns group = map (name_check columns) group ++ too_long (length group) ∷ []
 
 -- the items, one after the other
 abbrev pub item_walk : Scope → ViewSelect → List (Option Fault)
-item_walk s v = map (item_place s v.group) (values_in v)
+item_walk s v = map (item_check s v.group) (values_in v)
 
 -- the names of all items, then their number
 abbrev pub name_walk : List Item → List (Option Fault)

@@ -1,9 +1,9 @@
 //! Statements become commands.
 ghost use Rattle.std.specs.Prelude.{◌≡◌, if◌then◌else◌, is_some, map};
 ghost use Rattle.cq_language.specs.declared.statement.Statement.TheVariants as statements;
-ghost use Rattle.cq_binding.specs.Bound.{place_in};
+ghost use Rattle.cq_binding.specs.Scopes.{place_in};
 ghost use Rattle.cq_binding.specs.declared.fault.Fault.TheVariants.{ClauseInView, UnknownTable, ViewNotWritten};
-ghost use Rattle.cq_binding.specs.Refusal.{create_places};
+ghost use Rattle.cq_binding.specs.Refusal.{create_checks};
 ghost use Rattle.cq_states.specs.State.{is_taken, view_named};
 ghost use Rattle.cq_binder.specs.Catalog.{Binds, alone};
 ghost use Rattle.cq_binder.specs.Walk.{Walked};
@@ -70,7 +70,7 @@ fn check_create<C: Catalog>(
     columns: &[ColumnDef],
     sort: &[Text],
 ) -> Result<Seq<usize>, BindFault>
-    ensures { Walked (create_places name.now columns.now sort.now (alone (C.tables catalog.now) (C.views catalog.now))) (λ places. places ≡ map (place_in columns.now) sort.now) result }
+    ensures { Walked (create_checks name.now columns.now sort.now (alone (C.tables catalog.now) (C.views catalog.now))) (λ places. places ≡ map (place_in columns.now) sort.now) result }
 {
     if is_taken(catalog, name) {
         return Err(Fault::NameTaken);

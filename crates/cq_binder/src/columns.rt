@@ -2,8 +2,9 @@
 ghost use Rattle.std.specs.Prelude.{◌≡◌, ◌∷◌, IfOk, [], map};
 ghost use Rattle.std.specs.List.{list_any};
 ghost use Rattle.cq_values.specs.Texts.{is_text};
-ghost use Rattle.cq_binding.specs.Bound.{place_in};
-ghost use Rattle.cq_binding.specs.Refusal.{column_places, sort_places, too_long};
+ghost use Rattle.cq_binding.specs.Scopes.{place_in};
+ghost use Rattle.cq_binding.specs.Checks.{too_long};
+ghost use Rattle.cq_binding.specs.Refusal.{column_checks, sort_checks};
 ghost use Rattle.cq_binder.specs.Walk.{Passes, Walked};
 
 use cq_binding::Fault;
@@ -20,7 +21,7 @@ pub(crate) fn sort_columns(
     columns: &[ColumnDef],
     names: &[Text],
 ) -> Result<Seq<usize>, Fault>
-    ensures { Walked (sort_places columns.now [] names.now) (λ places. places ≡ map (place_in columns.now) names.now) result }
+    ensures { Walked (sort_checks columns.now [] names.now) (λ places. places ≡ map (place_in columns.now) names.now) result }
 {
     let mut places = Seq::new(alloc);
     for (i, name) in names.iter().enumerate() {
@@ -37,7 +38,7 @@ pub(crate) fn sort_columns(
 
 /// Refuses a name that an earlier column has.
 pub(crate) fn check_names(columns: &[ColumnDef]) -> Result<(), Fault>
-    ensures { Passes (column_places [] columns.now) result }
+    ensures { Passes (column_checks [] columns.now) result }
 {
     for (i, column) in columns.iter().enumerate() {
         if is_declared(&columns[..i], column) {

@@ -2,7 +2,7 @@
 ghost use Rattle.std.specs.Prelude.{◌≡◌, ◌∷◌, []};
 ghost use Rattle.cq_language.specs.declared.statement.Constant.TheVariants as constants;
 ghost use Rattle.cq_binding.specs.Bound.{constant_value, row_of};
-ghost use Rattle.cq_binding.specs.Refusal.{constant_place, row_places};
+ghost use Rattle.cq_binding.specs.RowChecks.{constant_check, row_checks};
 ghost use Rattle.cq_binder.specs.Walk.{Walked};
 
 use crate::literals::{fits_column, literal_number};
@@ -20,7 +20,7 @@ pub(crate) fn bound_row(
     columns: &[ColumnDef],
     constants: &[Constant],
 ) -> Result<Row, Fault>
-    ensures { Walked (row_places columns.now constants.now) (λ row. row ≡ row_of constants.now) result }
+    ensures { Walked (row_checks columns.now constants.now) (λ row. row ≡ row_of constants.now) result }
 {
     if constants.len() != columns.len() {
         return Err(Fault::TypeMismatch);
@@ -33,7 +33,7 @@ pub(crate) fn bound_row(
 }
 
 fn bound_constant(alloc: Global, column: &ColumnDef, constant: &Constant) -> Result<Value, Fault>
-    ensures { Walked (constant_place column.now constant.now ∷ []) (λ value. value ≡ constant_value constant.now) result }
+    ensures { Walked (constant_check column.now constant.now ∷ []) (λ value. value ≡ constant_value constant.now) result }
 {
     match constant {
         Constant::Null => bound_null(column),
@@ -44,7 +44,7 @@ fn bound_constant(alloc: Global, column: &ColumnDef, constant: &Constant) -> Res
 }
 
 fn bound_null(column: &ColumnDef) -> Result<Value, Fault>
-    ensures { Walked (constant_place column.now constants.Null ∷ []) (λ value. value ≡ constant_value constants.Null) result }
+    ensures { Walked (constant_check column.now constants.Null ∷ []) (λ value. value ≡ constant_value constants.Null) result }
 {
     if column.not_null {
         return Err(Fault::NullNotAllowed);
@@ -53,7 +53,7 @@ fn bound_null(column: &ColumnDef) -> Result<Value, Fault>
 }
 
 fn bound_number(column: &ColumnDef, literal: &Literal) -> Result<Value, Fault>
-    ensures { Walked (constant_place column.now (constants.Number literal.now) ∷ []) (λ value. value ≡ constant_value (constants.Number literal.now)) result }
+    ensures { Walked (constant_check column.now (constants.Number literal.now) ∷ []) (λ value. value ≡ constant_value (constants.Number literal.now)) result }
 {
     if column.ty != Ty::Integer {
         return Err(Fault::TypeMismatch);
@@ -65,7 +65,7 @@ fn bound_number(column: &ColumnDef, literal: &Literal) -> Result<Value, Fault>
 }
 
 fn bound_text(alloc: Global, column: &ColumnDef, text: &Text) -> Result<Value, Fault>
-    ensures { Walked (constant_place column.now (constants.Text text.now) ∷ []) (λ value. value ≡ constant_value (constants.Text text.now)) result }
+    ensures { Walked (constant_check column.now (constants.Text text.now) ∷ []) (λ value. value ≡ constant_value (constants.Text text.now)) result }
 {
     if column.ty != Ty::Text {
         return Err(Fault::TypeMismatch);
@@ -77,7 +77,7 @@ fn bound_text(alloc: Global, column: &ColumnDef, text: &Text) -> Result<Value, F
 }
 
 fn bound_date(column: &ColumnDef, text: &str) -> Result<Value, Fault>
-    ensures { Walked (constant_place column.now (constants.Date text.now) ∷ []) (λ value. value ≡ constant_value (constants.Date text.now)) result }
+    ensures { Walked (constant_check column.now (constants.Date text.now) ∷ []) (λ value. value ≡ constant_value (constants.Date text.now)) result }
 {
     if column.ty != Ty::Date {
         return Err(Fault::TypeMismatch);

@@ -1,6 +1,7 @@
 //! The items of a view: what they show of the keys of its groups, or what they tell of each group.
 ghost use Rattle.std.specs.Prelude.{◌≡◌, MatchResult, None};
-ghost use Rattle.cq_binding.specs.Refusal.{MayRefuse, item_place};
+ghost use Rattle.cq_binding.specs.Checks.{MayRefuse};
+ghost use Rattle.cq_binding.specs.Refusal.{item_check};
 ghost use Rattle.cq_exprs.specs.Expressions.{scope_of};
 ghost use Rattle.cq_binder.specs.View.{AreBoundItems, bound_item, item_walk};
 ghost use Rattle.cq_binder.specs.Walk.{Walked};
@@ -49,8 +50,8 @@ fn bound_item(
     group: &[Text],
     value: &ItemValue,
 ) -> Result<BoundItem, Fault>
-    ensures { MatchResult result (λ item. (item_place (scope_of table.now) group.now value.now ≡ None) × (item ≡ bound_item (scope_of table.now) group.now value.now))
-        (MayRefuse (item_place (scope_of table.now) group.now value.now)) }
+    ensures { MatchResult result (λ item. (item_check (scope_of table.now) group.now value.now ≡ None) × (item ≡ bound_item (scope_of table.now) group.now value.now))
+        (MayRefuse (item_check (scope_of table.now) group.now value.now)) }
 {
     match value {
         ItemValue::Value(value) => {

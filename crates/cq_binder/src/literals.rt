@@ -1,7 +1,7 @@
 //! Whole numbers as they are written.
 ghost use Rattle.std.specs.Prelude.{◌≡◌, ◌<◌, ◌^◌};
 ghost use Rattle.cq_binding.specs.Bound.{literal_value};
-ghost use Rattle.cq_binding.specs.Refusal.{fits_column};
+ghost use Rattle.cq_binding.specs.RowChecks.{fits_column};
 
 use cq_language::Literal;
 

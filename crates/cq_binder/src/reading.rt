@@ -2,8 +2,9 @@
 ghost use Rattle.std.specs.Prelude.{◌≡◌, Ok, Some};
 ghost use Rattle.cq_binding.specs.declared.bound.Bound.TheVariants as commands;
 ghost use Rattle.cq_language.specs.declared.statement.Statement.TheVariants as statements;
-ghost use Rattle.cq_binding.specs.Bound.{Named, bound_select, grouped_query, scope_as, view_columns, view_source};
-ghost use Rattle.cq_binding.specs.Refusal.{select_places, source_places, view_select_places};
+ghost use Rattle.cq_binding.specs.Scopes.{Named, scope_as};
+ghost use Rattle.cq_binding.specs.Bound.{bound_select, grouped_query, view_columns, view_source};
+ghost use Rattle.cq_binding.specs.Refusal.{select_checks, source_checks, view_select_checks};
 ghost use Rattle.cq_states.specs.State.{TableOf};
 ghost use Rattle.cq_exprs.specs.Expressions.{scope_of};
 ghost use Rattle.cq_binder.specs.Catalog.{Binds, alone, heading, shown_heading};
@@ -51,7 +52,7 @@ fn bind_view_on(
     view: &ViewSelect,
 ) -> Result<Bound, BindFault>
     ensures { (t : TableOf) → shown_heading table.now ≡ heading t
-        → Walked (view_select_places view.now (Ok t)) (λ command. command ≡ commands.CreateView name.now (view_columns (view_source view.now t) view.now) (grouped_query view.now t)) result }
+        → Walked (view_select_checks view.now (Ok t)) (λ command. command ≡ commands.CreateView name.now (view_columns (view_source view.now t) view.now) (grouped_query view.now t)) result }
 {
     let sizes = stored_sizes(alloc, table.columns)?;
     let BoundView {
@@ -108,7 +109,7 @@ fn bind_query(
     select: &Select,
 ) -> Result<Bound, BindFault>
     ensures { (named : Named) → scope_of scope.now ≡ scope_as select.now.source named → source ≡ named.source
-        → Walked (select_places select.now (Some named)) (λ command. command ≡ bound_select select.now named) result }
+        → Walked (select_checks select.now (Some named)) (λ command. command ≡ bound_select select.now named) result }
 {
     let header = header(alloc, select.items.as_slice())?;
     let (filter, items) = bound_parts(alloc, scope, select)?;
@@ -135,7 +136,7 @@ fn bound_parts(
     scope: &Scope<'_>,
     select: &Select,
 ) -> Result<(Option<Cond>, Seq<Expr>), BindFault>
-    ensures { Walked (source_places select.now (scope_of scope.now)) (AreBoundParts (scope_of scope.now) select.now) result }
+    ensures { Walked (source_checks select.now (scope_of scope.now)) (AreBoundParts (scope_of scope.now) select.now) result }
 {
     let filter = bound_where(alloc, scope, &select.condition)?;
     let items = bound_values(alloc, scope, select.items.as_slice())?;

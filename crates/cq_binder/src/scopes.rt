@@ -1,7 +1,7 @@
 //! What expressions over a table or a view see of it.
 ghost use Rattle.std.specs.Prelude.{◌≡◌, IfOk, unwrap_or};
 ghost use Rattle.cq_model.specs.Sizes.{stored_sizes};
-ghost use Rattle.cq_binding.specs.Bound.{from_table, scope_as, scope_of as scope_of_source};
+ghost use Rattle.cq_binding.specs.Scopes.{from_table, scope_as, scope_of as scope_of_source};
 ghost use Rattle.cq_states.specs.State.{TableOf};
 ghost use Rattle.cq_exprs.specs.Expressions.{scope_of};
 ghost use Rattle.cq_binder.specs.Catalog.{heading, shown_heading, shown_view};

@@ -1,8 +1,9 @@
 //! The items of a SELECT: their values, and what stands above them.
 ghost use Rattle.std.specs.Prelude.{◌≡◌, IfOk, map, option_map, unwrap_or};
 ghost use Rattle.cq_language.specs.Written.{written};
-ghost use Rattle.cq_binding.specs.Bound.{bare_name, bound_value, header, name_by_place, shown_by, shown_name};
-ghost use Rattle.cq_binding.specs.Refusal.{value_place};
+ghost use Rattle.cq_binding.specs.Scopes.{bound_value};
+ghost use Rattle.cq_binding.specs.Bound.{bare_name, header, name_by_place, shown_by, shown_name};
+ghost use Rattle.cq_binding.specs.Refusal.{value_check};
 ghost use Rattle.cq_exprs.specs.Expressions.{scope_of};
 ghost use Rattle.cq_binder.specs.Walk.{Walked};
 
@@ -19,7 +20,7 @@ pub(crate) fn bound_values(
     scope: &Scope<'_>,
     items: &[SelectItem],
 ) -> Result<Vec<Expr>, Fault>
-    ensures { Walked (map (value_place (scope_of scope.now)) (shown_by items.now)) (λ v. v.items ≡ map (bound_value (scope_of scope.now)) (shown_by items.now)) result }
+    ensures { Walked (map (value_check (scope_of scope.now)) (shown_by items.now)) (λ v. v.items ≡ map (bound_value (scope_of scope.now)) (shown_by items.now)) result }
 {
     let mut values = Vec::with_capacity(alloc, items.len())?;
     for item in items {

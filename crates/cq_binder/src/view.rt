@@ -1,7 +1,7 @@
 //! Views with their names resolved.
 ghost use Rattle.std.specs.Prelude.{◌≡◌, map};
-ghost use Rattle.cq_binding.specs.Bound.{place_in};
-ghost use Rattle.cq_binding.specs.Refusal.{name_place, query_places};
+ghost use Rattle.cq_binding.specs.Scopes.{place_in};
+ghost use Rattle.cq_binding.specs.Refusal.{name_check, query_checks};
 ghost use Rattle.cq_exprs.specs.Expressions.{scope_of};
 ghost use Rattle.cq_binder.specs.View.{IsBoundView, group_walk};
 ghost use Rattle.cq_binder.specs.Walk.{Walked};
@@ -34,7 +34,7 @@ pub(crate) fn bound_view(
     table: &Scope<'_>,
     view: &ViewSelect,
 ) -> Result<BoundView, Fault>
-    ensures { Walked (query_places (scope_of table.now) view.now) (IsBoundView (scope_of table.now) view.now) result }
+    ensures { Walked (query_checks (scope_of table.now) view.now) (IsBoundView (scope_of table.now) view.now) result }
 {
     let group = view.group.as_slice();
     let filter = bound_where(alloc, table, &view.condition)?;
@@ -60,7 +60,7 @@ fn group_keys(alloc: Global, columns: &[ColumnDef], names: &[Text]) -> Result<Se
 }
 
 fn name_places(alloc: Global, columns: &[ColumnDef], names: &[Text]) -> Result<Seq<usize>, Fault>
-    ensures { Walked (map (name_place columns.now) names.now) (λ places. places ≡ map (place_in columns.now) names.now) result }
+    ensures { Walked (map (name_check columns.now) names.now) (λ places. places ≡ map (place_in columns.now) names.now) result }
 {
     let mut places = Seq::new(alloc);
     for name in names {

@@ -2,8 +2,10 @@
 ghost use Rattle.std.specs.Prelude.{◌≡◌, ◌∷◌, [], map, option_map};
 ghost use Rattle.std.specs.List.{flat_map};
 ghost use Rattle.cq_language.specs.declared.statement.Statement.TheVariants as statements;
-ghost use Rattle.cq_binding.specs.Bound.{bound_condition, from_table, row_of, scope_of};
-ghost use Rattle.cq_binding.specs.Refusal.{row_places, where_place};
+ghost use Rattle.cq_binding.specs.Scopes.{bound_condition, from_table, scope_of};
+ghost use Rattle.cq_binding.specs.Bound.{row_of};
+ghost use Rattle.cq_binding.specs.RowChecks.{row_checks};
+ghost use Rattle.cq_binding.specs.Refusal.{where_check};
 ghost use Rattle.cq_states.specs.State.{TableOf};
 ghost use Rattle.cq_binder.specs.Catalog.{Binds, alone, heading, shown_heading};
 ghost use Rattle.cq_binder.specs.Walk.{Walked};
@@ -43,7 +45,7 @@ fn bound_rows(
     columns: &[ColumnDef],
     rows: &[Seq<Constant>],
 ) -> Result<Seq<Row>, BindFault>
-    ensures { Walked (flat_map (row_places columns.now) rows.now) (λ made. made ≡ map row_of rows.now) result }
+    ensures { Walked (flat_map (row_checks columns.now) rows.now) (λ made. made ≡ map row_of rows.now) result }
 {
     let mut made = Vec::with_capacity(alloc, rows.len())?;
     for row in rows {
@@ -78,7 +80,7 @@ fn where_on(
     condition: &Option<SqlExpr>,
 ) -> Result<Option<Cond>, BindFault>
     ensures { (t : TableOf) → shown_heading table.now ≡ heading t
-        → Walked (where_place (scope_of (from_table t)) condition.now ∷ []) (λ c. c ≡ option_map (bound_condition (scope_of (from_table t))) condition.now) result }
+        → Walked (where_check (scope_of (from_table t)) condition.now ∷ []) (λ c. c ≡ option_map (bound_condition (scope_of (from_table t))) condition.now) result }
 {
     let sizes = stored_sizes(alloc, table.columns)?;
     let scope = table_scope(table.name, table.columns, &sizes);

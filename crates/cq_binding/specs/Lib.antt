@@ -1,5 +1,9 @@
 pub mod Placed
+pub mod Kinds
 pub mod Typing
+pub mod Scopes
 pub mod Bound
 pub mod FaultText
+pub mod Checks
+pub mod RowChecks
 pub mod Refusal

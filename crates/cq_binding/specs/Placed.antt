@@ -16,7 +16,7 @@ named_day t = elim (day_named t) [ None ↦ values.Null | Some d ↦ values.Day 
 abbrev pub written_number : ℕ → Value
 written_number n = if nat_lt n (2 ^ 127) then values.Number (pos n) else values.Null
 
--- the value that is written; a condition has none, and NULL stands for it
+-- the value that is written. For a condition, which is no value, NULL stands: the walk refuses it, so it is never reached
 abbrev pub placed_expr : (ColumnName → ℕ) → Written → Expr
 placed_expr place (Number n) = placed.Literal (written_number n)
 placed_expr place (Text t) = placed.Literal (values.Text t)
@@ -39,7 +39,8 @@ placed_exprs place (Choice a bs) = placed_expr place a ∷ placed_exprs place bs
 abbrev pub turned : Bool → Cond → Cond
 turned negated c = if negated then placed.Not c else c
 
--- the condition that is written; a value is none, and whether it is NULL stands for it
+-- the condition that is written. For a value, which is no condition, IS NULL stands: the walk refuses it, so it is never
+-- reached
 abbrev pub placed_cond : (ColumnName → ℕ) → Written → Cond
 placed_cond place (Parens a) = placed_cond place a
 placed_cond place (Compare c a b) = placed.Compare c (placed_expr place a) (placed_expr place b)

@@ -1,32 +1,18 @@
 -- The walk through an expression: each operand from left to right, and then the node that needs them. The first fault
 -- refuses, and what has none gives a value of a type or a condition (docs/LANGUAGE.md, Expressions).
-use Rattle.std.specs.Prelude.{ℕ, ◌+◌, ◌*◌, ◌^◌, nat_lt, nat_le, Bool, true, false, ◌&&◌, not, if◌then◌else◌, List, length, map, Option, Some, None, Result, Ok, Err, is_none, position, slice_index_or}
+use Rattle.std.specs.Prelude.{ℕ, Bool, true, ◌&&◌, not, if◌then◌else◌, List, map, Option, Some, None, Result, Ok, Err, is_none, position, slice_index_or}
 use Rattle.std.specs.List.{list_any}
-use denote.Enum.Bare.{sameb}
-use Rattle.cq_values.specs.contracts.ty.Ty as ty
 use Rattle.cq_values.specs.declared.ty.Ty.{Ty}
 use Rattle.cq_values.specs.declared.ty.Ty.TheVariants as types
 use Rattle.cq_values.specs.Dates.{day_named}
 use Rattle.cq_values.specs.Texts.{is_text}
-use Rattle.cq_values.specs.declared.day_part.DayPart.{DayPart}
 use Rattle.cq_values.specs.declared.column.ColumnDef.{ColumnDef}
-use Rattle.cq_model.specs.Width.{part_limit}
 use Rattle.cq_language.specs.Written.{Written, Choices, Number, Text, Date, Null, Column, Extract, Parens, Negative, Times, Plus, Minus, Compare, IsNull, Between, In, Like, Not, And, Or, NoChoice, Choice}
 use Rattle.cq_binding.specs.declared.fault.Fault.{Fault}
-use Rattle.cq_binding.specs.declared.fault.Fault.TheVariants.{UnknownTable, UnknownColumn, TypeMismatch, AggregateMisplaced, TooWide, TextTooLong, BadDate}
-use Rattle.cq_binding.specs.declared.typing.Kind.{Kind}
+use Rattle.cq_binding.specs.declared.fault.Fault.TheVariants.{UnknownTable, UnknownColumn, TypeMismatch, AggregateMisplaced, BadDate}
 use Rattle.cq_binding.specs.declared.typing.Kind.TheVariants as kinds
 use Rattle.cq_binding.specs.declared.typing.Typing.{Typing}
-
-infixl 10 ◌and_then◌
--- goes on with what stands, and stays with the first fault
-abbrev pub ◌and_then◌ : {A B : Type 0} → Result A Fault → (A → Result B Fault) → Result B Fault
-(Ok x) and_then f = f x
-(Err e) and_then f = Err e
-
--- a fault where the condition is not met
-abbrev pub unless : {A : Type 0} → Bool → Fault → A → Result A Fault
-unless met f x = if met then Ok x else Err f
+use Rattle.cq_binding.specs.Kinds.{◌and_then◌, unless, value_of, a_condition, agree, number_of, negative, sum_of, product_of, part_of, compared_with, tested, between_them, text_of, like_of, negation_of, connected, added, kept_value, kind_type}
 
 -- the source that expressions read: the name that it is known by, its columns, and the size that each one's numbers never exceed;
 -- the items of groups read the columns behind GROUP BY alone
@@ -54,94 +40,10 @@ abbrev pub may_read : Option (List (List ℕ)) → List ℕ → Bool
 may_read None name = true
 may_read (Some group) name = list_any (λ g. is_text g name) group
 
--- a value of a type
-abbrev pub value_of : Ty → ℕ → Typing
-value_of t size = record { kind = kinds.Value t; size = size }
-
--- a condition
-abbrev pub a_condition : Typing
-a_condition = record { kind = kinds.Condition; size = 0 }
-
 -- a column: its name, and then whether it is grouped
 abbrev pub column_typing : Scope → List ℕ → Option ℕ → Result Typing Fault
 column_typing s name None = Err UnknownColumn
 column_typing s name (Some i) = unless (may_read s.grouped name) AggregateMisplaced (value_of (type_at s.columns i) (slice_index_or s.sizes i 0))
-
--- whether something is a value of this type; NULL is one of any type
-abbrev pub is_of : Ty → Kind → Bool
-is_of t kinds.Condition = false
-is_of t (kinds.Value u) = sameb ty.the_type u t
-is_of t kinds.Null = true
-
-abbrev pub is_value : Kind → Bool
-is_value kinds.Condition = false
-is_value k = true
-
-abbrev pub is_condition : Kind → Bool
-is_condition kinds.Condition = true
-is_condition k = false
-
--- whether something has a type of its own, which NULL alone has not
-abbrev pub has_type : Kind → Bool
-has_type (kinds.Value t) = true
-has_type k = false
-
--- two values that can be compared: one type, or a NULL
-abbrev pub agree : Kind → Kind → Bool
-agree kinds.Condition l = false
-agree (kinds.Value t) l = is_of t l
-agree kinds.Null l = is_value l
-
--- a number that is written or worked out is below 2^127
-abbrev pub number_of : ℕ → Result Typing Fault
-number_of size = unless (nat_lt size (2 ^ 127)) TooWide (value_of types.Integer size)
-
--- minus of a number
-abbrev pub negative : Typing → Result Typing Fault
-negative x = if is_of types.Integer x.kind then number_of x.size else Err TypeMismatch
-
--- arithmetic of two numbers, of which the size is given
-abbrev pub arithmetic : Typing → Typing → ℕ → Result Typing Fault
-arithmetic x y size = if is_of types.Integer x.kind && is_of types.Integer y.kind then number_of size else Err TypeMismatch
-
--- a sum or a difference
-abbrev pub sum_of : Typing → Typing → Result Typing Fault
-sum_of x y = arithmetic x y (x.size + y.size)
-
-abbrev pub product_of : Typing → Typing → Result Typing Fault
-product_of x y = arithmetic x y (x.size * y.size)
-
--- a part of a day
-abbrev pub part_of : DayPart → Typing → Result Typing Fault
-part_of part x = unless (is_of types.Date x.kind) TypeMismatch (value_of types.Integer (part_limit part))
-
--- two values that agree are compared
-abbrev pub compared_with : Typing → Typing → Result Typing Fault
-compared_with x y = unless (agree x.kind y.kind) TypeMismatch a_condition
-
--- IS NULL asks for a value
-abbrev pub tested : Typing → Result Typing Fault
-tested x = unless (is_value x.kind) TypeMismatch a_condition
-
--- a value between two others
-abbrev pub between_them : Typing → Typing → Typing → Result Typing Fault
-between_them x least greatest = unless (agree x.kind least.kind && agree x.kind greatest.kind) TypeMismatch a_condition
-
--- a pattern is a text of at most 4,096 bytes
-abbrev pub text_of : List ℕ → Result Typing Fault
-text_of t = unless (nat_le (length t) 4096) TextTooLong (value_of types.Text 0)
-
--- LIKE asks for a text
-abbrev pub like_of : Typing → Typing → Result Typing Fault
-like_of x pattern = unless (is_of types.Text x.kind) TypeMismatch a_condition
-
--- NOT asks for a condition
-abbrev pub negation_of : Typing → Result Typing Fault
-negation_of x = unless (is_condition x.kind) TypeMismatch a_condition
-
--- AND and OR ask for two conditions
-abbrev pub connected : Typing → Typing → Result Typing Fault
-connected x y = unless (is_condition x.kind && is_condition y.kind) TypeMismatch a_condition
 
 abbrev mutual
   -- what an expression gives, or its first fault
@@ -171,14 +73,6 @@ abbrev mutual
   listed s x all_agree NoChoice = unless all_agree TypeMismatch a_condition
   listed s x all_agree (Choice b bs) = typed s b and_then λ y. listed s x (all_agree && agree x.kind y.kind) bs
 
--- SUM asks for a number
-abbrev pub added : Typing → Result Typing Fault
-added x = unless (is_of types.Integer x.kind) TypeMismatch x
-
--- a column of a view asks for a value with a type
-abbrev pub kept_value : Typing → Result Typing Fault
-kept_value x = unless (has_type x.kind) TypeMismatch x
-
 -- the fault of an expression, if it has one
 abbrev pub fault_in : {A : Type 0} → Result A Fault → Option Fault
 fault_in (Ok x) = None
@@ -199,11 +93,6 @@ number_fault t = fault_in (t and_then added)
 -- a value with a type that is asked for as a whole, as an item of a view
 abbrev pub kept_fault : Result Typing Fault → Option Fault
 kept_fault t = fault_in (t and_then kept_value)
-
--- the type of a value that has one
-abbrev pub kind_type : Kind → Ty
-kind_type (kinds.Value t) = t
-kind_type k = types.Integer
 
 -- the type of what has no fault
 abbrev pub type_of : Result Typing Fault → Ty

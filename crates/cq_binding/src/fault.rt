@@ -1,6 +1,6 @@
 //! Why a statement is refused.
 ghost use Rattle.std.specs.Prelude.{◌≡◌};
-ghost use Rattle.cq_binding.specs.FaultText.{fault_text};
+ghost use Rattle.cq_binding.specs.FaultText.{fault_words, record_of};
 ghost use Rattle.cq_binding.specs.declared.fault.Fault.TheVariants.{Memory};
 
 use std::alloc::{AllocError, AllocFailed};
@@ -43,6 +43,9 @@ pub enum Fault {
     TextTooLong,
     #[error("25 bad date")]
     BadDate,
+    /// The number of the record, from 1.
+    #[error("26 bad CSV record {0}")]
+    BadRecord(u64),
     #[error("27 sum beyond 128 bits")]
     SumOutOfRange,
     #[error("28 clause not allowed in a view")]
@@ -52,9 +55,9 @@ pub enum Fault {
 }
 
 impl Fault {
-    /// The number of the refusal and its text, as they stand behind `error`.
-    pub fn text(self) -> &'static str
-        ensures { result.now ≡ fault_text self }
+    /// The number of the refusal and its text, as they stand behind `error` and before the number of a record.
+    pub fn words(self) -> &'static str
+        ensures { result.now ≡ fault_words self }
     {
         match self {
             Fault::Memory => "1 out of memory",
@@ -74,9 +77,20 @@ impl Fault {
             Fault::ViewNotWritten => "23 views are not written",
             Fault::TextTooLong => "24 text too long",
             Fault::BadDate => "25 bad date",
+            Fault::BadRecord(_) => "26 bad CSV record ",
             Fault::SumOutOfRange => "27 sum beyond 128 bits",
             Fault::ClauseInView => "28 clause not allowed in a view",
             Fault::LimitExceeded => "29 limit exceeded",
+        }
+    }
+
+    /// The record that the refusal names, counted from 1.
+    pub fn record(self) -> Option<u64>
+        ensures { result ≡ record_of self }
+    {
+        match self {
+            Fault::BadRecord(record) => Some(record),
+            _ => None,
         }
     }
 }

@@ -10,12 +10,11 @@ use Rattle.cq_language.specs.Pieces.{PieceOf, HasPieces}
 use Rattle.cq_steps.specs.declared.answer.Answer.{Answer}
 use Rattle.cq_binding.specs.declared.fault.Fault.{Fault}
 use Rattle.cq_states.specs.State.{State, first_state}
-use Rattle.cq_steps.specs.Output.{answered, not_utf8, Runs, Serves, output_of, statements_among}
-use Rattle.cq_steps.specs.Output.{outcome_text}
+use Rattle.cq_steps.specs.Output.{answered, is_source_failure, not_utf8, Runs, Serves, outcome_text, output_of, source_failures, statements_among}
 use Rattle.cq_cli.specs.declared.endings.Status.{Status}
 use Rattle.cq_cli.specs.declared.endings.Status.TheVariants.{AllAccepted, SomeRefused}
 use Rattle.cq_cli.specs.declared.endings.RunFault.{RunFault}
-use Rattle.cq_cli.specs.Running.{RunsScript, ServesPiece, both, status_of}
+use Rattle.cq_cli.specs.Running.{Counted, RunsScript, ServesPiece, both, status_of}
 use Rattle.cq_cli.specs.Writing.{Wrote, WroteFront}
 use Rattle.cq_cli.proofs.Serving.{refused_somehow, serves_draws}
 use Rattle.cq_cli.proofs.Writes.{all_then_failed, appends_kept, appends_more, appends_nothing, front_of_more, wrote_then}
@@ -64,35 +63,41 @@ status_more [] o = refl
 status_more (Ok a ∷ os) o = status_more os o
 status_more (Err f ∷ os) o = refl
 
+-- how often a source failed, with one outcome more
+failures_more : (os : List (Result Answer Fault)) (o : Result Answer Fault) (asked failed after : ℕ) → failed ≡ asked + source_failures os → after ≡ failed + source_failures (o ∷ []) → after ≡ asked + source_failures (os ++ o ∷ [])
+failures_more os o asked failed after h k = omega (arith, h, k, sum_by-append (λ (x : Result Answer Fault). if is_source_failure x then 1 else 0) os (o ∷ []))
+
 -- how many pieces were ended by a semicolon, with one piece more
 closed_more : (ps : List PieceOf) (p : PieceOf) → count_by (λ (q : PieceOf). q.closed) (ps ++ p ∷ []) ≡ count_by (λ (q : PieceOf). q.closed) ps + (if p.closed then 1 else 0)
 closed_more ps p = grind (arith, sum_by-append (λ (q : PieceOf). if q.closed then 1 else 0) ps (p ∷ []))
 
 -- how far a script has come
-pub record HasRun (max_rows : ℕ) (script : List ℕ) (left : List PieceOf) (old new : Option (List ℕ)) (before after : ℕ) (state : State) (status : Status) : Type 0 where
+pub record HasRun (max_rows : ℕ) (script : List ℕ) (left : List PieceOf) (old new : Option (List ℕ)) (before after asked failed : ℕ) (state : State) (status : Status) : Type 0 where
   pub served : List PieceOf
   pub outcomes : List (Result Answer Fault)
   pub cut : HasPieces script (served ++ left)
   pub run : Runs (first_state max_rows) (statements_among served) outcomes state
   pub written : Appends old new (output_of outcomes)
   pub count : after ≡ before
+  pub sources : failed ≡ asked + source_failures outcomes
   pub told : status ≡ status_of outcomes
   pub drawn : state.drawn ≤ count_by (λ p. p.closed) served
 
 -- before the first piece
-pub starts : (max_rows : ℕ) (script : List ℕ) (left : List PieceOf) (a : Option (List ℕ)) (f : ℕ) (state : State) → HasPieces script left → state ≡ first_state max_rows → HasRun max_rows script left a a f f state AllAccepted
-starts max_rows script left a f state cut first = record {
+pub starts : (max_rows : ℕ) (script : List ℕ) (left : List PieceOf) (a : Option (List ℕ)) (f s : ℕ) (state : State) → HasPieces script left → state ≡ first_state max_rows → HasRun max_rows script left a a f f s s state AllAccepted
+starts max_rows script left a f s state cut first = record {
   served = [];
   outcomes = [];
   cut = cut;
   run = first;
   written = appends_nothing a;
   count = refl;
+  sources = omega arith;
   told = refl;
   drawn = rw first (omega arith);
 }
 
-module _ (max_rows : ℕ) (script : List ℕ) (a b : Option (List ℕ)) (f g : ℕ) (state : State) (status : Status) (p : PieceOf) (ps left : List PieceOf) (same : left ≡ p ∷ ps) (so_far : HasRun max_rows script left a b f g state status) where
+module _ (max_rows : ℕ) (script : List ℕ) (a b : Option (List ℕ)) (f g u v : ℕ) (state : State) (status : Status) (p : PieceOf) (ps left : List PieceOf) (same : left ≡ p ∷ ps) (so_far : HasRun max_rows script left a b f g u v state status) where
   regrouped : HasPieces script ((so_far.served ++ p ∷ []) ++ ps)
   regrouped = subst (HasPieces script) (ap (λ (xs : List PieceOf). so_far.served ++ xs) same ∙ sym (append_assoc so_far.served (p ∷ []) ps)) so_far.cut
 
@@ -106,7 +111,7 @@ module _ (max_rows : ℕ) (script : List ℕ) (a b : Option (List ℕ)) (f g : �
       omega (arith, all, one, fits ((so_far.served ++ p ∷ []) ++ ps) regrouped, so_far.drawn, short)
 
   -- a blank piece is passed over
-  pub passes : p.blank ≡ true → HasRun max_rows script ps a b f g state status
+  pub passes : p.blank ≡ true → HasRun max_rows script ps a b f g u v state status
   passes blank = record {
     served = so_far.served ++ p ∷ [];
     outcomes = so_far.outcomes;
@@ -114,26 +119,28 @@ module _ (max_rows : ℕ) (script : List ℕ) (a b : Option (List ℕ)) (f g : �
     run = subst (λ (xs : List PieceOf). Runs (first_state max_rows) xs so_far.outcomes state) (sym (statements_more so_far.served p true blank)) so_far.run;
     written = so_far.written;
     count = so_far.count;
+    sources = so_far.sources;
     told = so_far.told;
     drawn = omega (arith, closed_more so_far.served p, so_far.drawn);
   }
 
   -- a statement is served
-  pub serves : (c : Option (List ℕ)) (h : ℕ) (next : State) (one : Status) → p.blank ≡ false → ServesPiece state p next b c g h (Ok one) → HasRun max_rows script ps a c f h next (both status one)
-  serves c h next one said served = record {
+  pub serves : (c : Option (List ℕ)) (h w : ℕ) (next : State) (one : Status) → p.blank ≡ false → ServesPiece state p next b c g h v w (Ok one) → HasRun max_rows script ps a c f h u w next (both status one)
+  serves c h w next one said served = record {
     served = so_far.served ++ p ∷ [];
     outcomes = so_far.outcomes ++ served.outcome ∷ [];
     cut = regrouped;
     run = subst (λ (xs : List PieceOf). Runs (first_state max_rows) xs (so_far.outcomes ++ served.outcome ∷ []) next) (sym (statements_more so_far.served p false said)) (runs_more (statements_among so_far.served) so_far.outcomes (first_state max_rows) state next p served.outcome so_far.run served.answered);
     written = subst (λ (t : List ℕ). Appends a c t) (sym (output_more so_far.outcomes served.outcome)) (appends_more a b c (output_of so_far.outcomes) (outcome_text served.outcome) so_far.written served.written.0);
     count = served.written.1 ∙ so_far.count;
+    sources = failures_more so_far.outcomes served.outcome u v w so_far.sources served.counted;
     told = rw (so_far.told, served.told) (sym (status_more so_far.outcomes served.outcome));
     drawn = omega (arith, closed_more so_far.served p, so_far.drawn, serves_draws state next p served.outcome served.answered);
   }
 
   -- the sink fails: the rest of the script may still be answered so that what was written begins its output
-  pub cut_off : (c : Option (List ℕ)) (h : ℕ) (next : State) (cause e : RunFault) → IsUtf8 script → p.blank ≡ false → ServesPiece state p next b c g h (Err cause) → RunsScript max_rows script a c f h (Err e)
-  cut_off c h next cause e utf8 said served =
+  pub cut_off : (c : Option (List ℕ)) (h w : ℕ) (next : State) (cause e : RunFault) → IsUtf8 script → p.blank ≡ false → ServesPiece state p next b c g h v w (Err cause) → RunsScript max_rows script a c f h u w (Err e)
+  cut_off c h w next cause e utf8 said served =
       let o = served.outcome in
       let rest = rest_refused next (statements_among ps) in
       let first = runs_more (statements_among so_far.served) so_far.outcomes (first_state max_rows) state next p o so_far.run served.answered in
@@ -150,43 +157,53 @@ module _ (max_rows : ℕ) (script : List ℕ) (a b : Option (List ℕ)) (f g : �
         outcomes = (so_far.outcomes ++ o ∷ []) ++ rest.0;
         answered = answered utf8 ((so_far.served ++ p ∷ []) ++ ps) regrouped next run;
         written = subst (λ (t : List ℕ). WroteFront t a c f h) (sym text) (front_of_more (output_of so_far.outcomes ++ outcome_text o) (output_of rest.0) a c f h front);
+        counted = (so_far.outcomes ++ o ∷ [], rest.0, refl, failures_more so_far.outcomes o u v w so_far.sources served.counted);
         told = tt;
       }
 
 -- nothing is left
-pub ends : (max_rows : ℕ) (script : List ℕ) (left : List PieceOf) (a b : Option (List ℕ)) (f g : ℕ) (state : State) (status : Status) → IsUtf8 script → left ≡ [] → HasRun max_rows script left a b f g state status → RunsScript max_rows script a b f g (Ok status)
-ends max_rows script left a b f g state status utf8 empty h =
+pub ends : (max_rows : ℕ) (script : List ℕ) (left : List PieceOf) (a b : Option (List ℕ)) (f g u v : ℕ) (state : State) (status : Status) → IsUtf8 script → left ≡ [] → HasRun max_rows script left a b f g u v state status → RunsScript max_rows script a b f g u v (Ok status)
+ends max_rows script left a b f g u v state status utf8 empty h =
     let all : h.served ++ left ≡ h.served = ap (λ (xs : List PieceOf). h.served ++ xs) empty ∙ append-nil h.served in record {
       outcomes = h.outcomes;
       answered = answered utf8 h.served (subst (HasPieces script) all h.cut) state h.run;
       written = (h.written, h.count);
+      counted = h.sources;
       told = h.told;
     }
 
+-- no source failed before the line of a script that is not UTF-8
+no_source : (u : ℕ) (r : Result Status RunFault) → Counted (Err NotUtf8 ∷ []) u u r
+no_source u (Ok status) = omega arith
+no_source u (Err e) = (Err NotUtf8 ∷ [], [], refl, omega arith)
+
 -- a script that is not UTF-8 is answered by one line
-pub refuses_bytes : (max_rows : ℕ) (script : List ℕ) (a b : Option (List ℕ)) (f g : ℕ) (r : Result Status RunFault) → (IsUtf8 script → ⊥) → Wrote (outcome_text (Err NotUtf8)) a b f g r → IfOk r (λ status. status ≡ SomeRefused) → RunsScript max_rows script a b f g r
-refuses_bytes max_rows script a b f g r bad written told = record {
+pub refuses_bytes : (max_rows : ℕ) (script : List ℕ) (a b : Option (List ℕ)) (f g u : ℕ) (r : Result Status RunFault) → (IsUtf8 script → ⊥) → Wrote (outcome_text (Err NotUtf8)) a b f g r → IfOk r (λ status. status ≡ SomeRefused) → RunsScript max_rows script a b f g u u r
+refuses_bytes max_rows script a b f g u r bad written told = record {
   outcomes = Err NotUtf8 ∷ [];
   answered = not_utf8 bad refl;
   written = subst (λ (t : List ℕ). Wrote t a b f g r) (sym (append-nil (outcome_text (Err NotUtf8)))) written;
+  counted = no_source u r;
   told = told;
 }
 
-module _ (max_rows : ℕ) (script : List ℕ) (a b c : Option (List ℕ)) (f g h : ℕ) (status : Status) (ran : RunsScript max_rows script a b f g (Ok status)) (kept : Keeps b c) where
+module _ (max_rows : ℕ) (script : List ℕ) (a b c : Option (List ℕ)) (f g h u v : ℕ) (status : Status) (ran : RunsScript max_rows script a b f g u v (Ok status)) (kept : Keeps b c) where
   -- the flush succeeds
-  pub flushes : h ≡ g → RunsScript max_rows script a c f h (Ok status)
+  pub flushes : h ≡ g → RunsScript max_rows script a c f h u v (Ok status)
   flushes same = record {
     outcomes = ran.outcomes;
     answered = ran.answered;
     written = (appends_kept a b c (output_of ran.outcomes) ran.written.0 kept, same ∙ ran.written.1);
+    counted = ran.counted;
     told = ran.told;
   }
 
   -- the flush fails, after all of the output was put
-  pub flush_fails : (e : RunFault) → h ≡ g + 1 → RunsScript max_rows script a c f h (Err e)
+  pub flush_fails : (e : RunFault) → h ≡ g + 1 → RunsScript max_rows script a c f h u v (Err e)
   flush_fails e more = record {
     outcomes = ran.outcomes;
     answered = ran.answered;
     written = all_then_failed (output_of ran.outcomes) a b c f g h ran.written kept more;
+    counted = (ran.outcomes, [], sym (append-nil ran.outcomes), ran.counted);
     told = tt;
   }

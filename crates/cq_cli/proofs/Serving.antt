@@ -11,31 +11,31 @@ use Rattle.cq_binding.specs.declared.fault.Fault.{Fault}
 use Rattle.cq_binding.specs.declared.fault.Fault.TheVariants as faults
 use Rattle.cq_states.specs.State.{State}
 use Rattle.cq_steps.specs.Step.{Leads, Does, Refuses, by_walk, for_memory, source_failed, memory_on_the_way, too_large, Step}
-use Rattle.cq_steps.specs.Output.{Serves, rest_without_semicolon, sentence, no_sentence, past_limits, out_of_memory, no_text}
-use Rattle.cq_steps.specs.Output.{outcome_text}
+use Rattle.cq_steps.specs.Output.{Serves, rest_without_semicolon, sentence, no_sentence, past_limits, out_of_memory}
+use Rattle.cq_steps.specs.Output.{outcome_text, source_failures}
+use Rattle.cq_engine.specs.Commands.{OnlyShows}
 use Rattle.cq_cli.specs.declared.printing.Printed.{Printed}
 use Rattle.cq_cli.specs.declared.printing.Printed.TheVariants as prints
 use Rattle.cq_cli.specs.Printing.{Shows, printed_status, printed_text}
 use Rattle.cq_cli.specs.Running.{status_of}
 
 -- a result whose text finds no memory is refused for it
-pub memory_instead : (old new : State) (p : PieceOf) (header : List (List ℕ)) (rows : List Row) → Serves old p (Ok (Rows header rows)) new → Serves old p (Err faults.Memory) new
-memory_instead old new p header rows (rest_without_semicolon unclosed is same) = absurd cc
-memory_instead old new p header rows (sentence closed s is step) = no_text closed s is header rows step refl
-memory_instead old new p header rows (no_sentence closed none is same) = absurd cc
-memory_instead old new p header rows (past_limits closed past is same) = absurd cc
-memory_instead old new p header rows (out_of_memory closed is same) = absurd cc
-memory_instead old new p header rows (no_text closed s is names listed step e) = absurd cc
+pub memory_instead : (old new : State) (p : PieceOf) (header : List (List ℕ)) (rows : List Row) → Serves old p (Ok (Rows header rows)) new → new ≡ old → Serves old p (Err faults.Memory) new
+memory_instead old new p header rows (rest_without_semicolon unclosed is same) stays = absurd cc
+memory_instead old new p header rows (sentence closed s is step) stays = sentence closed s is (for_memory refl stays)
+memory_instead old new p header rows (no_sentence closed none is same) stays = absurd cc
+memory_instead old new p header rows (past_limits closed past is same) stays = absurd cc
+memory_instead old new p header rows (out_of_memory closed is same) stays = absurd cc
 
 -- what is shown for an outcome is the text and the status of an outcome of the same piece
-pub shown_serves : (old new : State) (p : PieceOf) (o : Result Answer Fault) (shown : Printed) → Serves old p o new → Shows o shown
-    → (told : Result Answer Fault) × Serves old p told new × (printed_text shown ≡ outcome_text told) × (printed_status shown ≡ status_of (told ∷ []))
-shown_serves old new p (Ok Done) prints.Done h s = (Ok Done, h, refl, refl)
-shown_serves old new p (Ok (Count n)) (prints.Count m) h s = (Ok (Count n), h, rw s refl, refl)
-shown_serves old new p (Ok (Rows header rows)) (prints.Rows text) h s = (Ok (Rows header rows), h, s, refl)
-shown_serves old new p (Ok (Rows header rows)) (prints.Refused faults.Memory) h s = (Err faults.Memory, memory_instead old new p header rows h, refl, refl)
-shown_serves old new p (Err f) (prints.Refused g) h s = (Err f, h, rw s refl, refl)
-shown_serves old new p o shown h s = absurd s
+pub shown_serves : (old new : State) (p : PieceOf) (o : Result Answer Fault) (shown : Printed) → Serves old p o new → OnlyShows old o new → Shows o shown
+    → (told : Result Answer Fault) × Serves old p told new × (printed_text shown ≡ outcome_text told) × (printed_status shown ≡ status_of (told ∷ [])) × (source_failures (o ∷ []) ≡ source_failures (told ∷ []))
+shown_serves old new p (Ok Done) prints.Done h k s = (Ok Done, h, refl, refl, refl)
+shown_serves old new p (Ok (Count n)) (prints.Count m) h k s = (Ok (Count n), h, rw s refl, refl, refl)
+shown_serves old new p (Ok (Rows header rows)) (prints.Rows text) h k s = (Ok (Rows header rows), h, s, refl, refl)
+shown_serves old new p (Ok (Rows header rows)) (prints.Refused faults.Memory) h k s = (Err faults.Memory, memory_instead old new p header rows h k, refl, refl, refl)
+shown_serves old new p (Err f) (prints.Refused g) h k s = (Err f, h, rw s refl, refl, refl)
+shown_serves old new p o shown h k s = absurd s
 
 -- memory may be wanting for any closed piece, and any other is refused; either way the state stays
 pub refused_somehow : (s : State) (p : PieceOf) (closed : Bool) → p.closed ≡ closed → (o : Result Answer Fault) × Serves s p o s
@@ -84,4 +84,3 @@ serves_draws old new p o (sentence closed s is step) = rw closed (step_draws old
 serves_draws old new p o (no_sentence closed none is same) = rw (same, closed) (omega arith)
 serves_draws old new p o (past_limits closed past is same) = rw (same, closed) (omega arith)
 serves_draws old new p o (out_of_memory closed is same) = rw (same, closed) (omega arith)
-serves_draws old new p o (no_text closed s is header rows step e) = rw closed (step_draws old new s (Ok (Rows header rows)) step)

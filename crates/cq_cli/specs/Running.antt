@@ -1,10 +1,9 @@
 -- What a run of a script does.
-use Rattle.std.specs.Prelude.{◌≡◌, ℕ, Bool, true, false, if◌then◌else◌, List, [], ◌∷◌, Option, Result, Ok, Err, IfOk}
+use Rattle.std.specs.Prelude.{◌≡◌, ℕ, ◌+◌, ◌^◌, Bool, true, false, if◌then◌else◌, List, [], ◌∷◌, ◌++◌, Option, Result, Ok, Err, IfOk}
 use Rattle.std.specs.List.{list_all}
 use Rattle.cq_steps.specs.declared.answer.Answer.{Answer}
 use Rattle.cq_binding.specs.declared.fault.Fault.{Fault}
-use Rattle.cq_steps.specs.Output.{HasOutcomes, Serves, output_of}
-use Rattle.cq_steps.specs.Output.{outcome_text}
+use Rattle.cq_steps.specs.Output.{HasOutcomes, Serves, outcome_text, output_of, source_failures}
 use Rattle.cq_states.specs.State.{State}
 use Rattle.cq_language.specs.Pieces.{PieceOf}
 use Rattle.cq_cli.specs.declared.endings.Status.{Status}
@@ -27,18 +26,27 @@ abbrev pub both : Status → Status → Status
 both AllAccepted other = other
 both SomeRefused other = SomeRefused
 
--- the output of the script's outcomes was written, or a front where the sink failed
-pub record RunsScript (max_rows : ℕ) (script : List ℕ) (old new : Option (List ℕ)) (before after : ℕ) (result : Result Status RunFault) : Type 0 where
+-- the sources' count grew by one for each statement that tells so: of the whole script, or of those that were answered
+-- before the sink failed
+abbrev pub Counted : List (Result Answer Fault) → ℕ → ℕ → Result Status RunFault → Type 0
+Counted outcomes asked failed (Ok status) = failed ≡ asked + source_failures outcomes
+Counted outcomes asked failed (Err e) =
+    (answered later : List (Result Answer Fault)) × (outcomes ≡ answered ++ later) × (failed ≡ asked + source_failures answered)
+
+-- the output of the script's outcomes was written, or a front where the sink failed, and the sources' failures are told
+pub record RunsScript (max_rows : ℕ) (script : List ℕ) (old new : Option (List ℕ)) (before after asked failed : ℕ) (result : Result Status RunFault) : Type 0 where
   pub outcomes : List (Result Answer Fault)
   pub answered : HasOutcomes max_rows script outcomes
   pub written : Wrote (output_of outcomes) old new before after result
+  pub counted : Counted outcomes asked failed result
   pub told : IfOk result (λ status. status ≡ status_of outcomes)
 
--- the text of the piece's outcome was written, or a front where the sink failed
-pub record ServesPiece (state : State) (piece : PieceOf) (next : State) (old new : Option (List ℕ)) (before after : ℕ) (result : Result Status RunFault) : Type 0 where
+-- the text of the piece's outcome was written, or a front where the sink failed; it tells whether a source failed
+pub record ServesPiece (state : State) (piece : PieceOf) (next : State) (old new : Option (List ℕ)) (before after asked failed : ℕ) (result : Result Status RunFault) : Type 0 where
   pub outcome : Result Answer Fault
   pub answered : Serves state piece outcome next
   pub written : Wrote (outcome_text outcome) old new before after result
+  pub counted : failed ≡ asked + source_failures (outcome ∷ [])
   pub told : IfOk result (λ status. status ≡ status_of (outcome ∷ []))
 
 -- the exit status of the program after a run
@@ -46,3 +54,12 @@ abbrev pub exit_number : Result Status RunFault → ℕ
 exit_number (Ok AllAccepted) = 0
 exit_number (Ok SomeRefused) = 1
 exit_number (Err Output) = 3
+
+-- the program ran a script over the greatest limits, and ends with this status; at 0 and 1 the output is flushed
+pub record EndsProgram (script : List ℕ) (old new : Option (List ℕ)) (before after : ℕ) (is_flushed : Bool) (exit : ℕ) : Type 0 where
+  pub ended : Result Status RunFault
+  pub asked : ℕ
+  pub failed : ℕ
+  pub ran : RunsScript (2 ^ 24) script old new before after asked failed ended
+  pub flushed : IfOk ended (λ status. is_flushed ≡ true)
+  pub told : exit ≡ exit_number ended

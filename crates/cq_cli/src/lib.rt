@@ -8,11 +8,13 @@ mod endings;
 mod laws;
 mod no_sources;
 mod printing;
+mod program;
 mod running;
 mod sink;
 
 pub use endings::{RunFault, Status, exit_of};
 pub use laws::same_output;
 pub use no_sources::NoSources;
+pub use program::run_program;
 pub use running::run;
 pub use sink::{Sink, Writer};

@@ -2,6 +2,7 @@
 ghost use Rattle.std.specs.Prelude.{[]};
 
 use cq_engine::{SourceFault, Sources};
+use std::alloc::Global;
 
 /// Every read fails. The failures are counted.
 #[derive(Debug, Default, Drop)]
@@ -14,11 +15,8 @@ impl Sources for NoSources {
 
     ghost failures = { λ s. s.failures };
 
-    fn read(&mut self, _name: &str) -> Result<Vec<u8>, SourceFault> {
-        let Some(failures) = self.failures.checked_add(1) else {
-            return Err(SourceFault::Memory);
-        };
-        self.failures = failures;
+    fn read(&mut self, _alloc: Global, _name: &str) -> Result<Vec<u8>, SourceFault> {
+        self.failures += 1;
         Err(SourceFault::Failed)
     }
 }

@@ -1,13 +1,14 @@
 //! Answers on their way out.
 ghost use Rattle.std.specs.Prelude.{◌≡◌, ◌<◌, ◌-◌, ◌^◌, ◌++◌, ◌∷◌, [], IfOk, codes};
 ghost use Rattle.std.specs.Fmt.{decimal};
+ghost use Rattle.cq_binding.specs.FaultText.{fault_text, number_text};
 ghost use Rattle.cq_cli.specs.Writing.{Wrote};
 ghost use Rattle.cq_cli.specs.Printing.{Shows, printed_status, printed_text};
 
 use crate::endings::{RunFault, Status};
 use crate::sink::{Sink, put_all};
 use cq_binding::Fault;
-use cq_csvio::print_result;
+use cq_csvio::{TextFault, print_result};
 use cq_steps::Answer;
 use cq_values::Seq;
 use itoa::Buffer;
@@ -44,7 +45,7 @@ pub fn shown(alloc: Global, outcome: Result<Answer, Fault>) -> Printed
         Ok(Answer::Rows { header, rows }) => {
             match print_result(alloc, header.as_slice(), rows.as_slice()) {
                 Ok(text) => Printed::Rows(text),
-                Err(_) => Printed::Refused(Fault::Memory),
+                Err(TextFault::Memory) => Printed::Refused(Fault::Memory),
             }
         }
         Err(fault) => Printed::Refused(fault),
@@ -69,8 +70,36 @@ fn put_printed<K: Sink>(out: &mut K, printed: &Printed) -> Result<(), RunFault>
         Printed::Done => put_all(out, b"ok\n"),
         Printed::Count(n) => put_count(out, *n),
         Printed::Rows(text) => put_all(out, text.as_slice()),
-        Printed::Refused(fault) => put_three(out, b"error ", fault.text().as_bytes(), b"\n"),
+        Printed::Refused(fault) => put_fault(out, *fault),
     }
+}
+
+fn put_fault<K: Sink>(out: &mut K, fault: Fault) -> Result<(), RunFault>
+    requires { K.failures out.old < 2 ^ 64 - 1 }
+    ensures { Wrote (codes "error " ++ (fault_text fault ++ 10 ∷ [])) (K.contents out.old) (K.contents out.new) (K.failures out.old) (K.failures out.new) result }
+{
+    let mut buffer = Buffer::new();
+    let number = number_text(&mut buffer, fault.record());
+    put_all(out, b"error ")?;
+    put_line(out, fault.words().as_bytes(), number.as_bytes())
+}
+
+/// The digits of the number, and none where there is no number.
+fn number_text(buffer: &mut Buffer, number: Option<u64>) -> &str
+    ensures { result.now ≡ number_text number }
+{
+    match number {
+        Some(number) => buffer.format(number),
+        None => "",
+    }
+}
+
+fn put_line<K: Sink>(out: &mut K, first: &[u8], second: &[u8]) -> Result<(), RunFault>
+    requires { K.failures out.old < 2 ^ 64 - 1 }
+    ensures { Wrote ((first.now ++ second.now) ++ 10 ∷ []) (K.contents out.old) (K.contents out.new) (K.failures out.old) (K.failures out.new) result }
+{
+    put_two(out, first, second)?;
+    put_all(out, b"\n")
 }
 
 fn put_count<K: Sink>(out: &mut K, n: u64) -> Result<(), RunFault>

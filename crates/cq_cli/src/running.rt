@@ -1,7 +1,8 @@
 //! Scripts from bytes to bytes.
-ghost use Rattle.std.specs.Prelude.{◌≡◌, ◌<◌, ◌-◌, ◌^◌, true};
-ghost use Rattle.cq_steps.specs.Output.{Serves};
+ghost use Rattle.std.specs.Prelude.{◌≡◌, ◌<◌, ◌+◌, ◌-◌, ◌^◌, ◌∷◌, [], OnOk, true};
+ghost use Rattle.cq_steps.specs.Output.{Serves, source_failures};
 ghost use Rattle.cq_tokens.specs.Piece.{piece_of};
+ghost use Rattle.cq_engine.specs.Commands.{OnlyShows};
 ghost use Rattle.cq_cli.specs.Running.{RunsScript, ServesPiece};
 
 use crate::endings::{RunFault, Status};
@@ -22,7 +23,10 @@ fn answer<S: Sources>(
     sources: &mut S,
 ) -> Result<Answer, Fault>
     requires { piece.now.closed ≡ true → engine.old.drawn < 2 ^ 64 - 1 }
-    ensures { Serves engine.old (piece_of piece.now) result engine.new }
+    ensures served { Serves engine.old (piece_of piece.now) result engine.new }
+    ensures rows { OnlyShows engine.old result engine.new }
+    ensures files { S.files sources.new ≡ S.files sources.old }
+    ensures failures { S.failures sources.new ≡ S.failures sources.old + source_failures (result ∷ []) }
 {
     if !piece.closed {
         return Err(Fault::Syntax);
@@ -45,7 +49,8 @@ fn serve<S: Sources, K: Sink>(
 ) -> Result<Status, RunFault>
     requires room { piece.now.closed ≡ true → engine.old.drawn < 2 ^ 64 - 1 }
     requires countable { K.failures out.old < 2 ^ 64 - 1 }
-    ensures { ServesPiece engine.old (piece_of piece.now) engine.new (K.contents out.old) (K.contents out.new) (K.failures out.old) (K.failures out.new) result }
+    ensures served { ServesPiece engine.old (piece_of piece.now) engine.new (K.contents out.old) (K.contents out.new) (K.failures out.old) (K.failures out.new) (S.failures sources.old) (S.failures sources.new) result }
+    ensures files { S.files sources.new ≡ S.files sources.old }
 {
     let outcome = answer(alloc, engine, piece, sources);
     print(out, &shown(alloc, outcome))
@@ -60,7 +65,8 @@ fn run_text<S: Sources, K: Sink>(
     out: &mut K,
 ) -> Result<Status, RunFault>
     requires { K.failures out.old < 2 ^ 64 - 1 }
-    ensures { RunsScript limits.max_rows script.now (K.contents out.old) (K.contents out.new) (K.failures out.old) (K.failures out.new) result }
+    ensures ran { RunsScript limits.max_rows script.now (K.contents out.old) (K.contents out.new) (K.failures out.old) (K.failures out.new) (S.failures sources.old) (S.failures sources.new) result }
+    ensures files { S.files sources.new ≡ S.files sources.old }
 {
     closed_pieces_fit();
     let mut engine = Engine::new(alloc, limits);
@@ -84,7 +90,8 @@ fn run_bytes<S: Sources, K: Sink>(
     out: &mut K,
 ) -> Result<Status, RunFault>
     requires { K.failures out.old < 2 ^ 64 - 1 }
-    ensures { RunsScript limits.max_rows script.now (K.contents out.old) (K.contents out.new) (K.failures out.old) (K.failures out.new) result }
+    ensures ran { RunsScript limits.max_rows script.now (K.contents out.old) (K.contents out.new) (K.failures out.old) (K.failures out.new) (S.failures sources.old) (S.failures sources.new) result }
+    ensures files { S.files sources.new ≡ S.files sources.old }
 {
     match str::from_utf8(script) {
         Ok(text) => run_text(alloc, text, limits, sources, out),
@@ -102,7 +109,9 @@ pub fn run<S: Sources, K: Sink>(
     out: &mut K,
 ) -> Result<Status, RunFault>
     requires { K.failures out.old < 2 ^ 64 - 1 }
-    ensures { RunsScript limits.max_rows script.now (K.contents out.old) (K.contents out.new) (K.failures out.old) (K.failures out.new) result }
+    ensures ran { RunsScript limits.max_rows script.now (K.contents out.old) (K.contents out.new) (K.failures out.old) (K.failures out.new) (S.failures sources.old) (S.failures sources.new) result }
+    ensures flushed { OnOk result (K.is_flushed out.new ≡ true) }
+    ensures files { S.files sources.new ≡ S.files sources.old }
 {
     let status = run_bytes(alloc, script, limits, sources, out)?;
     match out.flush() {

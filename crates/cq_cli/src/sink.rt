@@ -1,5 +1,5 @@
 //! Where the output goes.
-ghost use Rattle.std.specs.Prelude.{◌≡◌, ◌≤◌, ◌<◌, ◌+◌, ◌-◌, ◌^◌, ℕ, List, Option, IfOk, length};
+ghost use Rattle.std.specs.Prelude.{◌≡◌, ◌≤◌, ◌<◌, ◌+◌, ◌-◌, ◌^◌, ℕ, Bool, true, false, List, Option, IfOk, OnOk, length};
 ghost use Rattle.std.specs.Io.KnownBytes.{Keeps, WriteAppends};
 ghost use Rattle.cq_cli.specs.Writing.{Wrote, failures_after, failures_of};
 
@@ -8,13 +8,16 @@ use std::io;
 use std::io::Write;
 use std::marker::Model;
 
-/// A writer that counts its failures.
+/// A writer that counts its failures, and knows whether it was flushed last.
 pub trait Sink {
     /// The bytes taken, where they are known.
     ghost contents: { Self → Option (List ℕ) };
 
     /// How often a put or a flush failed.
     ghost failures: { Self → ℕ };
+
+    /// Nothing was put since it was flushed.
+    ghost is_flushed: { Self → Bool };
 
     /// Takes a front of the bytes. To take nothing of some bytes is a failure.
     fn put(&mut self, bytes: &[u8]) -> io::Result<usize>
@@ -27,6 +30,7 @@ pub trait Sink {
     fn flush(&mut self) -> io::Result<()>
         requires { failures self.old < 2 ^ 64 - 1 }
         ensures kept { Keeps (contents self.old) (contents self.new) }
+        ensures flushed { OnOk result (is_flushed self.new ≡ true) }
         ensures failed { failures self.new ≡ failures self.old + failures_of result };
 }
 
@@ -35,23 +39,25 @@ pub trait Sink {
 pub struct Writer<W: Write> {
     writer: W,
     failures: u64,
+    is_flushed: bool,
 }
 
 impl<W: Write> Model for Writer<W> {
-    ghost use Rattle.std.specs.Prelude.{ℕ, List, Option};
+    ghost use Rattle.std.specs.Prelude.{ℕ, Bool, List, Option};
 
-    ghost Value = { Option (List ℕ) × ℕ };
+    ghost Value = { Option (List ℕ) × ℕ × Bool };
 
-    ghost view = { λ s. (W.contents s.writer, s.failures) };
+    ghost view = { λ s. (W.contents s.writer, s.failures, s.is_flushed) };
 }
 
 impl<W: Write> Writer<W> {
     pub fn new(writer: W) -> Writer<W>
-        ensures { result ≡ (W.contents writer, 0) }
+        ensures { result ≡ (W.contents writer, 0, false) }
     {
         Writer {
             writer,
             failures: 0,
+            is_flushed: false,
         }
     }
 
@@ -69,7 +75,10 @@ impl<W: Write> Sink for Writer<W> {
 
     ghost failures = { λ s. s.1 };
 
+    ghost is_flushed = { λ s. s.2 };
+
     fn put(&mut self, bytes: &[u8]) -> io::Result<usize> {
+        self.is_flushed = false;
         let taken = self.writer.write(bytes);
         let failed = match &taken {
             Ok(n) => *n == 0 && !bytes.is_empty(),
@@ -83,8 +92,9 @@ impl<W: Write> Sink for Writer<W> {
 
     fn flush(&mut self) -> io::Result<()> {
         let flushed = self.writer.flush();
-        if flushed.is_err() {
-            self.failures += 1;
+        match &flushed {
+            Ok(()) => self.is_flushed = true,
+            Err(_) => self.failures += 1,
         }
         flushed
     }

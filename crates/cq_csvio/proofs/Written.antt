@@ -2,7 +2,7 @@
 use Rattle.std.proofs.Common.{◌≡◌, ◌≢◌, ◌==◌, ◌||◌, ◌∙◌, ◌++◌, ◌+◌, ◌-◌, ◌^◌, ◌<◌, ◌∷◌, [], ℕ, List, Bool, true, false, not, refl, sym, ap, length, append_assoc, length-append, arith}
 use Rattle.std.proofs.lemmas.Bool.{eqb-true, ne_eqb}
 use Rattle.std.proofs.lemmas.List.{append-nil}
-use Rattle.std.specs.Prelude.{if◌then◌else◌, min, Result, Ok, Err, OnOk, is_ok, Vec}
+use Rattle.std.specs.Prelude.{if◌then◌else◌, min, Vec}
 use Rattle.std.specs.Global.{Global}
 use Rattle.std.specs.List.{flat_map, list_any}
 use Rattle.csv.specs.Writing as csv
@@ -109,9 +109,3 @@ ends old new bytes none clean same text fields (is, stands, many, blank) =
       none,
       rw clean refl,
     )
-
--- what holds at Ok, where the error alone was exchanged
-pub given : {T E F : Type 0} {P : Type 0} (r : Result T E) (s : Result T F) (x : T) → is_ok s ≡ is_ok r → s ≡ Ok x → OnOk r P → P
-given (Ok y) s x same is h = h
-given (Err e) (Ok y) x same is h = absurd (cc same)
-given (Err e) (Err f) x same is h = absurd (cc is)

@@ -3,24 +3,24 @@ ghost use Rattle.std.specs.Prelude.{◌≡◌, List, OnOk, ℕ};
 ghost use Rattle.cq_csvio.specs.Lines.{Adds};
 ghost use Rattle.cq_printed.specs.Printed.{date_text, two_digits, value_text};
 
+use crate::fault::TextFault;
 use crate::lines::Lines;
 use cq_values::{Day, Text, Value};
 use itoa::Buffer;
-use std::alloc::AllocError;
 
 /// What can be printed as a field of a line.
 pub trait Field {
     ghost text: { Self → List ℕ };
 
     /// Adds the field to the line that is written.
-    fn add_to(&self, lines: &mut Lines) -> Result<(), AllocError>
+    fn add_to(&self, lines: &mut Lines) -> Result<(), TextFault>
         ensures { OnOk result (Adds (text self.now) lines.old lines.new) };
 }
 
 impl Field for Text {
     ghost text = { λ t. t };
 
-    fn add_to(&self, lines: &mut Lines) -> Result<(), AllocError> {
+    fn add_to(&self, lines: &mut Lines) -> Result<(), TextFault> {
         lines.add(self.as_str().as_bytes())
     }
 }
@@ -28,7 +28,7 @@ impl Field for Text {
 impl Field for Value {
     ghost text = { value_text };
 
-    fn add_to(&self, lines: &mut Lines) -> Result<(), AllocError> {
+    fn add_to(&self, lines: &mut Lines) -> Result<(), TextFault> {
         match self {
             Value::Number(n) => {
                 let mut buffer = Buffer::new();

@@ -4,8 +4,10 @@
 //! result as the model defines it, `rows_text`.
 #![tactic(auto)]
 
+mod fault;
 mod fields;
 mod lines;
 mod result;
 
+pub use fault::TextFault;
 pub use result::print_result;

@@ -2,8 +2,9 @@
 ghost use Rattle.std.specs.Prelude.{◌∷◌, [], IfOk, OnOk};
 ghost use Rattle.cq_csvio.specs.Lines.{Adds, Ends, HasText, Holds};
 
+use crate::fault::TextFault;
 use csv::{Writer, WriterBuilder};
-use std::alloc::{AllocError, Global};
+use std::alloc::Global;
 
 /// A text to whose end lines are added, field by field.
 #[derive(Drop)]
@@ -25,39 +26,37 @@ impl Lines {
     }
 
     /// Adds a field to the line that is written, in quotes where it wants them.
-    pub fn add(&mut self, field: &[u8]) -> Result<(), AllocError>
+    pub fn add(&mut self, field: &[u8]) -> Result<(), TextFault>
         ensures { OnOk result (Adds field.now self.old self.new) }
     {
-        self.writer.write_field(field).map_err(|_| AllocError)?;
+        self.writer.write_field(field)?;
         Ok(())
     }
 
     /// Adds a field of these bytes with a backslash in front of them.
-    pub fn add_escaped(&mut self, field: &[u8]) -> Result<(), AllocError>
+    pub fn add_escaped(&mut self, field: &[u8]) -> Result<(), TextFault>
         ensures { OnOk result (Adds (92 ∷ field.now) self.old self.new) }
     {
         self.longer.clear();
         self.longer.push(b'\\')?;
         self.longer.extend_from_slice(field)?;
-        self.writer
-            .write_field(self.longer.as_slice())
-            .map_err(|_| AllocError)?;
+        self.writer.write_field(self.longer.as_slice())?;
         Ok(())
     }
 
     /// Ends the line.
-    pub fn end(&mut self) -> Result<(), AllocError>
+    pub fn end(&mut self) -> Result<(), TextFault>
         ensures { OnOk result (Ends self.old self.new) }
     {
-        self.writer.end_record().map_err(|_| AllocError)?;
+        self.writer.end_record()?;
         Ok(())
     }
 
     /// The text with the lines that were ended.
-    pub fn into_text(self) -> Result<Vec<u8>, AllocError>
+    pub fn into_text(self) -> Result<Vec<u8>, TextFault>
         ensures { IfOk result (λ text. HasText self text.items) }
     {
         let Lines { writer, longer: _ } = self;
-        writer.into_inner().map_err(|_| AllocError)
+        Ok(writer.into_inner()?)
     }
 }

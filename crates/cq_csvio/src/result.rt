@@ -4,15 +4,16 @@ ghost use Rattle.std.specs.List.{flat_map};
 ghost use Rattle.cq_csvio.specs.Lines.{AddsLines};
 ghost use Rattle.cq_printed.specs.Printed.{line_text, row_text, rows_text};
 
+use crate::fault::TextFault;
 use crate::fields::Field;
 use crate::lines::Lines;
 use cq_values::{Row, Seq, Text};
 use itoa::Buffer;
-use std::alloc::{AllocError, Global};
+use std::alloc::Global;
 
 /// The text of a result: how many rows there are, the header, and the rows as CSV.
 #[tactic(auto, unfolding(cq_printed::specs::Printed::rows_text))]
-pub fn print_result(alloc: Global, header: &[Text], rows: &[Row]) -> Result<Seq<u8>, AllocError>
+pub fn print_result(alloc: Global, header: &[Text], rows: &[Row]) -> Result<Seq<u8>, TextFault>
     ensures { IfOk result (λ t. t ≡ rows_text header.now rows.now) }
 {
     let mut buffer = Buffer::new();
@@ -25,7 +26,7 @@ pub fn print_result(alloc: Global, header: &[Text], rows: &[Row]) -> Result<Seq<
     Ok(Seq::from_vec(lines.into_text()?))
 }
 
-fn add_rows(lines: &mut Lines, rows: &[Row]) -> Result<(), AllocError>
+fn add_rows(lines: &mut Lines, rows: &[Row]) -> Result<(), TextFault>
     ensures { OnOk result (AddsLines (flat_map row_text rows.now) lines.old lines.new) }
 {
     for row in rows {
@@ -34,7 +35,7 @@ fn add_rows(lines: &mut Lines, rows: &[Row]) -> Result<(), AllocError>
     Ok(())
 }
 
-fn add_line<F: Field>(lines: &mut Lines, fields: &[F]) -> Result<(), AllocError>
+fn add_line<F: Field>(lines: &mut Lines, fields: &[F]) -> Result<(), TextFault>
     ensures { OnOk result (AddsLines (line_text (map F.text fields.now)) lines.old lines.new) }
 {
     for field in fields {

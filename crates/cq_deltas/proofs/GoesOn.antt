@@ -13,7 +13,7 @@ use Rattle.cq_kept.specs.Kept.{Group, GroupStands, Groups, group_of, group_after
 use Rattle.cq_laws.proofs.Keeps.{last-goes_on}
 use Rattle.cq_deltas.specs.declared.change.Addition.{Addition}
 use Rattle.cq_deltas.specs.Additions.{AreTotals}
-use Rattle.cq_deltas.specs.Table.{Table, stored_at, group_at, is_met, group_with_all, settled, HasKeys, Takes, GroupsGoOn}
+use Rattle.cq_deltas.specs.Keyed.{Table, stored_at, group_at, is_met, group_with_all, settled, HasKeys, Takes, GroupsGoOn}
 use Rattle.cq_deltas.proofs.MetKeys.{unmet-stays}
 use Rattle.cq_deltas.proofs.NoRows.{empty-stands}
 use Rattle.cq_deltas.proofs.Rowwise.{shaped, change-rowwise}

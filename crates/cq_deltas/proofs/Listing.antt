@@ -11,7 +11,7 @@ use Rattle.cq_bags.proofs.Totals.{by_test}
 use Rattle.cq_model.specs.declared.query.Aggregate.{Aggregate}
 use Rattle.cq_kept.specs.Kept.{Group, Groups, told_row}
 use Rattle.cq_kept.specs.Told.{ListsKeys}
-use Rattle.cq_deltas.specs.Table.{Table, group_at}
+use Rattle.cq_deltas.specs.Keyed.{Table, group_at}
 use Rattle.std.proofs.Math.Seq.{take-suc, take-length}
 use Rattle.std.proofs.lemmas.Option.{get_or_from_slice_get, slice_get_within}
 use Rattle.cq_deltas.specs.Told.{AllCanBeTold, EntriesCanBeTold, GroupsCanBeTold, counted_keys, entry_rows, group_rows}

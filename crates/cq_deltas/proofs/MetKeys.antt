@@ -9,7 +9,7 @@ use Rattle.cq_values.specs.Keys.{same_row-refl, same_row-same}
 use Rattle.cq_bags.proofs.Totals.{by_test}
 use Rattle.cq_kept.specs.Kept.{Group}
 use Rattle.cq_deltas.specs.declared.change.Addition.{Addition}
-use Rattle.cq_deltas.specs.Table.{Table, stored_at, is_met, group_with_all, settled, HasKeys, Takes}
+use Rattle.cq_deltas.specs.Keyed.{Table, stored_at, is_met, group_with_all, settled, HasKeys, Takes}
 
 -- a change meets the key of each of its rows
 met-at : (xs : List Addition) (i : ℕ) (d : Addition) → i < length xs → is_met xs (get_or xs i d).key ≡ true

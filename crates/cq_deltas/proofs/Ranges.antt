@@ -10,7 +10,7 @@ use Rattle.cq_bags.proofs.Totals.{by_test}
 use Rattle.cq_kept.specs.Kept.{Kept, Counted, Totalled, Listed, Group}
 use Rattle.cq_deltas.specs.declared.change.Addition.{Addition}
 use Rattle.cq_deltas.specs.Kept.{kept_with, all_kept_with, total_move, total_moves, KeptHolds, GroupHolds}
-use Rattle.cq_deltas.specs.Table.{Table, stored_at, group_met, group_with_all, count_moves, all_total_moves, HoldsFor}
+use Rattle.cq_deltas.specs.Keyed.{Table, stored_at, group_met, group_with_all, count_moves, all_total_moves, HoldsFor}
 use Rattle.cq_deltas.proofs.Turns.{holds-less}
 
 all-holds-less : (counts totals c t : ℕ) (ks : List Kept) → c ≤ counts → t ≤ totals → AllByRecursion (KeptHolds counts totals) ks → AllByRecursion (KeptHolds c t) ks

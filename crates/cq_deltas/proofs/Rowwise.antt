@@ -16,7 +16,7 @@ use Rattle.cq_model.specs.Group.{addend, count_all, count_values, sum_values, ke
 use Rattle.cq_kept.specs.Kept.{Kept, Counted, Totalled, Listed, AreKept, Group, kept_after, all_kept_after, group_after}
 use Rattle.cq_deltas.specs.Additions.{addend_of, additions, AreTotals}
 use Rattle.cq_deltas.specs.Kept.{kept_with, all_kept_with, group_with}
-use Rattle.cq_deltas.specs.Table.{group_with_all}
+use Rattle.cq_deltas.specs.Keyed.{group_with_all}
 
 -- what is kept is of the aggregate's kind
 abbrev pub IsShaped : Aggregate → Kept → Type 0

@@ -12,7 +12,7 @@ use Rattle.cq_deltas.specs.declared.change.Addition.{Addition}
 use Rattle.cq_deltas.specs.Additions.{AreTotals, IsTotal, additions}
 use Rattle.cq_deltas.specs.Kept.{KeptHolds, GroupHolds}
 use Rattle.cq_deltas.specs.Laws.{AreSmall}
-use Rattle.cq_deltas.specs.Table.{Table, group_at, group_with_all, count_moves, all_total_moves, HoldsFor}
+use Rattle.cq_deltas.specs.Keyed.{Table, group_at, group_with_all, count_moves, all_total_moves, HoldsFor}
 use Rattle.cq_deltas.specs.Told.{CanBeTold, AllCanBeTold}
 use Rattle.cq_deltas.proofs.NoRows.{all_kept-none}
 use Rattle.cq_deltas.proofs.Ranges.{group_with_all-holds}

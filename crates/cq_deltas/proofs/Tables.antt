@@ -9,7 +9,7 @@ use Rattle.cq_model.specs.declared.query.Aggregate.{Aggregate}
 use Rattle.cq_kept.specs.Kept.{Group, group_of}
 use Rattle.cq_deltas.specs.declared.change.Addition.{Addition}
 use Rattle.cq_deltas.specs.Kept.{group_with}
-use Rattle.cq_deltas.specs.Table.{Table, stored_at, group_at, group_met, settled}
+use Rattle.cq_deltas.specs.Keyed.{Table, stored_at, group_at, group_met, settled}
 
 -- new is old with something else at a key
 abbrev pub SetsAt : Table → Row → Option Group → Table → Type 0

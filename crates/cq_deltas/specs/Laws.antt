@@ -10,7 +10,7 @@ use Rattle.cq_model.specs.Group.{SumInRange}
 use Rattle.cq_kept.specs.Kept.{Group, GroupStands, Groups, LastStands}
 use Rattle.cq_deltas.specs.declared.change.Addition.{Addition}
 use Rattle.cq_deltas.specs.Additions.{AreTotals, additions}
-use Rattle.cq_deltas.specs.Table.{Table, group_at, count_moves, all_total_moves, HoldsFor}
+use Rattle.cq_deltas.specs.Keyed.{Table, group_at, count_moves, all_total_moves, HoldsFor}
 use Rattle.cq_deltas.specs.Told.{AllCanBeTold}
 
 -- what rows and a change can move counts and totals together is in range

@@ -1,5 +1,5 @@
 pub mod Additions
 pub mod Kept
 pub mod Laws
-pub mod Table
+pub mod Keyed
 pub mod Told

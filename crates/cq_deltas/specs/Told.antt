@@ -6,7 +6,7 @@ use Rattle.cq_model.specs.declared.query.Aggregate.{Aggregate}
 use Rattle.cq_model.specs.declared.query.Aggregate.TheVariants.{Sum}
 use Rattle.cq_model.specs.Group.{InRange}
 use Rattle.cq_kept.specs.Kept.{Kept, Totalled, told_row}
-use Rattle.cq_deltas.specs.Table.{Table, group_at}
+use Rattle.cq_deltas.specs.Keyed.{Table, group_at}
 
 -- what is kept can be shown: a SUM's total fits
 abbrev pub CanBeTold : Aggregate → Kept → Type 0

@@ -3,12 +3,15 @@ ghost use Rattle.std.specs.Prelude.{◌≡◌};
 ghost use Rattle.cq_deltas.specs.declared.fault.ToldFault.TheVariants.{Memory};
 
 use std::alloc::{AllocError, AllocFailed};
+use thiserror::Error;
 
 /// Why there is no row.
-#[derive(Clone, Copy, Debug, PartialEq, Eq)]
+#[derive(Clone, Copy, Debug, PartialEq, Eq, Error)]
 pub enum ToldFault {
+    #[error("out of memory")]
     Memory,
     /// The total of a SUM does not fit 127 bits and a sign.
+    #[error("sum beyond 128 bits")]
     SumOutOfRange,
 }
 

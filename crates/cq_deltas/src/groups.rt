@@ -11,7 +11,7 @@ ghost use Rattle.cq_deltas.specs.Additions.{AreTotals};
 ghost use Rattle.cq_deltas.specs.declared.fault.ToldFault.TheVariants.{SumOutOfRange};
 ghost use Rattle.cq_deltas.specs.Told.{EntriesCanBeTold, GroupsCanBeTold, counted_keys, entry_rows, group_rows};
 ghost use Rattle.cq_deltas.specs.Kept.{GroupHolds, total_moves};
-ghost use Rattle.cq_deltas.specs.Table.{GroupsGoOn, HasKeys, HoldsFor, Takes, group_at, group_met, group_with_all, is_met, settled, stored_at};
+ghost use Rattle.cq_deltas.specs.Keyed.{GroupsGoOn, HasKeys, HoldsFor, Takes, group_at, group_met, group_with_all, is_met, settled, stored_at};
 
 use crate::change::{Addition, GroupChange};
 use crate::fault::ToldFault;
@@ -30,7 +30,7 @@ pub struct Groups {
 }
 
 impl Model for Groups {
-    ghost use Rattle.cq_deltas.specs.Table.{Table};
+    ghost use Rattle.cq_deltas.specs.Keyed.{Table};
 
     ghost Value = { Table };
 

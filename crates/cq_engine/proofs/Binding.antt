@@ -23,15 +23,19 @@ use Rattle.cq_language.specs.Written.{Written}
 use Rattle.cq_steps.specs.declared.answer.Answer.{Answer}
 use Rattle.cq_binding.specs.declared.fault.Fault.{Fault}
 use Rattle.cq_binding.specs.declared.fault.Fault.TheVariants as faults
-use Rattle.cq_binding.specs.Bound.{Named, bound, bound_condition, bound_query, bound_select, from_table, from_view, grouped_query, place_in, row_of, scope_as, scope_of, shown_by, source_named, view_columns, view_source}
-use Rattle.cq_binding.specs.Refusal.{first_fault, fault_if, is_used, delete_places, drop_table_places, create_view_places, insert_places, places, query_places, refusal, row_places, select_places, source_places, too_long, value_place, view_select_places, where_place, written_table, MayRefuse}
+use Rattle.cq_binding.specs.Scopes.{Named, bound_condition, from_table, from_view, place_in, scope_as, scope_of, source_named}
+use Rattle.cq_binding.specs.Bound.{bound, bound_query, bound_select, grouped_query, row_of, shown_by, view_columns, view_source}
+use Rattle.cq_binding.specs.Checks.{first_fault, fault_if, too_long, MayRefuse}
+use Rattle.cq_binding.specs.RowChecks.{row_checks}
+use Rattle.cq_binding.specs.Refusal.{is_used, delete_checks, drop_table_checks, create_view_checks, insert_checks, checks, query_checks, refusal, select_checks, source_checks, value_check, view_select_checks, where_check, written_table}
 use Rattle.cq_states.specs.State.{TableOf, ViewOf, State, is_taken, rows_in, table_named, view_named, view_place, AreNumbered}
-use Rattle.cq_steps.specs.Step.{AreBetween, IsTooLarge, Refuses, by_walk, for_memory, too_large, Step, reach, with_all_views}
+use Rattle.cq_steps.specs.Next.{reach, with_all_views}
+use Rattle.cq_steps.specs.Step.{AreBetween, IsTooLarge, Refuses, by_walk, for_memory, too_large, Step}
 use Rattle.cq_exprs.specs.Expressions.{KeepSizes}
-use Rattle.cq_binder.specs.Catalog.{alone, binding_places, rows_walk}
+use Rattle.cq_binder.specs.Catalog.{alone, binding_checks, rows_walk}
 use Rattle.cq_binder.proofs.Faults.{first_fault_append, or_next, single}
 use Rattle.cq_binder.proofs.Found.{has_place}
-use Rattle.cq_engine.specs.Bound.{IsNarrowAt, IsWithin}
+use Rattle.cq_engine.specs.Narrow.{IsNarrowAt, IsWithin}
 use Rattle.cq_engine.specs.Commands.{CanCarryOut, CarriesOut, IsRefused, IsThere, IsWithinSource, present, room}
 use Rattle.cq_engine.specs.Views.{AreStored, IsStored}
 use Rattle.cq_engine.proofs.Creating.{def_fits, def_on}
@@ -103,18 +107,18 @@ sized_keeps f source row sized c i at may =
     subst (λ p. sizes_of row (place_in source.columns c.name) ≤ slice_index_or source.sizes p 0) place (sized (place_in source.columns c.name))
 
 -- a query whose walk has no fault can be worked out on a row that keeps the sizes of its source
-within_for : (q : Select) (source : Named) (row : Row) → first_fault (source_places q (scope_as q.source source)) ≡ None → KeepSizes (scope_as q.source source) (sizes_of row) → IsWithin (bound_query q source) row
+within_for : (q : Select) (source : Named) (row : Row) → first_fault (source_checks q (scope_as q.source source)) ≡ None → KeepSizes (scope_as q.source source) (sizes_of row) → IsWithin (bound_query q source) row
 within_for q source row free kept =
     let s = scope_as q.source source in
-    let item_walk : List (Option Fault) = map (value_place s) (shown_by q.items) in
+    let item_walk : List (Option Fault) = map (value_check s) (shown_by q.items) in
     let number_walk : List (Option Fault) = too_long (length q.items) ∷ [] in
     record {
-      condition = narrow_where s q.condition row (first_free (where_place s q.condition) (item_walk ++ number_walk) free) kept;
-      items = narrow_values s (shown_by q.items) row (front_free item_walk number_walk (back_free (where_place s q.condition ∷ []) (item_walk ++ number_walk) free)) kept;
+      condition = narrow_where s q.condition row (first_free (where_check s q.condition) (item_walk ++ number_walk) free) kept;
+      items = narrow_values s (shown_by q.items) row (front_free item_walk number_walk (back_free (where_check s q.condition ∷ []) (item_walk ++ number_walk) free)) kept;
     }
 
 -- so it can on stored rows of a table
-within_stored : (q : Select) (t : TableOf) (rows : List Row) → first_fault (source_places q (scope_as q.source (from_table t))) ≡ None → AllByRecursion IsStored rows → AllByRecursion (IsWithin (bound_query q (from_table t))) rows
+within_stored : (q : Select) (t : TableOf) (rows : List Row) → first_fault (source_checks q (scope_as q.source (from_table t))) ≡ None → AllByRecursion IsStored rows → AllByRecursion (IsWithin (bound_query q (from_table t))) rows
 within_stored q t [] free stored = tt
 within_stored q t (row ∷ rows) free stored = (within_for q (from_table t) row free (stored_keeps t row stored.0), within_stored q t rows free stored.1)
 
@@ -126,34 +130,34 @@ module _ (tables : List TableOf) (views : List ViewOf) (next : ℕ) (numbered : 
   abbrev Can : Bound → Type 0
   Can command = CanCarryOut tables views command
 
-  drop_can : (name : List ℕ) (t : TableOf) → table_named name tables ≡ Some t → first_fault (drop_table_places views (table_named name tables)) ≡ None → Can (commands.DropTable t.number)
+  drop_can : (name : List ℕ) (t : TableOf) → table_named name tables ≡ Some t → first_fault (drop_table_checks views (table_named name tables)) ≡ None → Can (commands.DropTable t.number)
   drop_can name t found free =
-      let walk : first_fault (drop_table_places views (Some t)) ≡ None = subst (λ (o : Option TableOf). first_fault (drop_table_places views o) ≡ None) found free in
+      let walk : first_fault (drop_table_checks views (Some t)) ≡ None = subst (λ (o : Option TableOf). first_fault (drop_table_checks views o) ≡ None) found free in
       (there-found name t tables found, unused (is_used t.number views) refl walk)
     where
       unused : (b : Bool) → is_used t.number views ≡ b → first_fault (fault_if b faults.TableInUse ∷ []) ≡ None → is_used t.number views ≡ false
       unused false e w = e
       unused true e w = absurd (cc w)
 
-  create_view_can : (name : List ℕ) (view : ViewSelect) (t : TableOf) → table_named view.source.name tables ≡ Some t → first_fault (create_view_places name view here) ≡ None → Can (commands.CreateView name (view_columns (view_source view t) view) (grouped_query view t))
+  create_view_can : (name : List ℕ) (view : ViewSelect) (t : TableOf) → table_named view.source.name tables ≡ Some t → first_fault (create_view_checks name view here) ≡ None → Can (commands.CreateView name (view_columns (view_source view t) view) (grouped_query view t))
   create_view_can name view t found free =
       let fault = if is_some (view_named view.source.name views) then faults.ClauseInView else faults.UnknownTable in
       let taken = fault_if (is_taken name here) faults.NameTaken in
-      let walk : first_fault (taken ∷ query_places (view_source view t) view) ≡ None = subst (λ (o : Option TableOf). first_fault (taken ∷ view_select_places view (ok_or o fault)) ≡ None) found free in
-      record { def = def_on view t; query = refl; fits = def_fits view t (back_free (taken ∷ []) (query_places (view_source view t) view) walk); there = there-found view.source.name t tables found }
+      let walk : first_fault (taken ∷ query_checks (view_source view t) view) ≡ None = subst (λ (o : Option TableOf). first_fault (taken ∷ view_select_checks view (ok_or o fault)) ≡ None) found free in
+      record { def = def_on view t; query = refl; fits = def_fits view t (back_free (taken ∷ []) (query_checks (view_source view t) view) walk); there = there-found view.source.name t tables found }
 
   insert_can : (name : List ℕ) (rows : List (List Constant)) (t : TableOf) → table_named name tables ≡ Some t → first_fault (rows_walk rows (written_table name here)) ≡ None → Can (commands.Insert t.number (map row_of rows))
   insert_can name rows t found free =
       let fault = if is_some (view_named name views) then faults.ViewNotWritten else faults.UnknownTable in
-      let walk : first_fault (flat_map (row_places t.columns) rows) ≡ None = subst (λ (o : Option TableOf). first_fault (rows_walk rows (ok_or o fault)) ≡ None) found free in
+      let walk : first_fault (flat_map (row_checks t.columns) rows) ≡ None = subst (λ (o : Option TableOf). first_fault (rows_walk rows (ok_or o fault)) ≡ None) found free in
       (there-found name t tables found, rows_stored t.columns rows walk)
 
-  delete_can : (name : List ℕ) (condition : Option Written) (t : TableOf) → table_named name tables ≡ Some t → first_fault (delete_places condition (written_table name here)) ≡ None → Can (commands.Delete t.number (option_map (bound_condition (scope_of (from_table t))) condition))
+  delete_can : (name : List ℕ) (condition : Option Written) (t : TableOf) → table_named name tables ≡ Some t → first_fault (delete_checks condition (written_table name here)) ≡ None → Can (commands.Delete t.number (option_map (bound_condition (scope_of (from_table t))) condition))
   delete_can name condition t found free =
       let fault = if is_some (view_named name views) then faults.ViewNotWritten else faults.UnknownTable in
       let s = scope_of (from_table t) in
-      let walk : first_fault (where_place s condition ∷ []) ≡ None = subst (λ (o : Option TableOf). first_fault (delete_places condition (ok_or o fault)) ≡ None) found free in
-      let narrow = narrow_rows s condition t.rows (first_free (where_place s condition) [] walk) (stored_keep t t.rows (stored-found name t tables stored found)) in
+      let walk : first_fault (where_check s condition ∷ []) ≡ None = subst (λ (o : Option TableOf). first_fault (delete_checks condition (ok_or o fault)) ≡ None) found free in
+      let narrow = narrow_rows s condition t.rows (first_free (where_check s condition) [] walk) (stored_keep t t.rows (stored-found name t tables stored found)) in
       (there-found name t tables found, subst (λ (rs : List Row). AllByRecursion (IsNarrowAt (option_map (bound_condition s) condition)) rs) (sym (rows-found name t tables next numbered found)) narrow)
 
   -- a query that was bound on a source can be worked out on the source's rows
@@ -162,7 +166,7 @@ module _ (tables : List TableOf) (views : List ViewOf) (next : ℕ) (numbered : 
     asked = q.source.name
 
     abbrev Within : Named → Type 0
-    Within source = first_fault (source_places q (scope_as q.source source)) ≡ None → IsWithinSource tables views (bound_query q source) source.source
+    Within source = first_fault (source_checks q (scope_as q.source source)) ≡ None → IsWithinSource tables views (bound_query q source) source.source
 
     on_table : (t : TableOf) → table_named asked tables ≡ Some t → Within (from_table t)
     on_table t found free =
@@ -183,12 +187,12 @@ module _ (tables : List TableOf) (views : List ViewOf) (next : ℕ) (numbered : 
         by_table None (Some v) e f is = let same : from_view v (unwrap_or (view_place asked views) 0) ≡ source = cc is in subst Within same (on_view v f)
         by_table None None e f is = absurd (cc is)
 
-    select_can : (source : Named) → source_named asked here ≡ Some source → first_fault (select_places q (source_named asked here)) ≡ None → Can (bound_select q source)
+    select_can : (source : Named) → source_named asked here ≡ Some source → first_fault (select_checks q (source_named asked here)) ≡ None → Can (bound_select q source)
     select_can source found free =
-        let walk : first_fault (source_places q (scope_as q.source source)) ≡ None = subst (λ (o : Option Named). first_fault (select_places q o) ≡ None) found free in
+        let walk : first_fault (source_checks q (scope_as q.source source)) ≡ None = subst (λ (o : Option Named). first_fault (select_checks q o) ≡ None) found free in
         (record { plain = refl; within = on_source source found walk }, refl)
 
-  pub bound_can : (statement : Statement) (command : Bound) → first_fault (binding_places here statement) ≡ None → bound here statement ≡ Some command → Can command
+  pub bound_can : (statement : Statement) (command : Bound) → first_fault (binding_checks here statement) ≡ None → bound here statement ≡ Some command → Can command
   bound_can (statements.CreateTable name columns sort) command free is =
       let same : commands.CreateTable name columns (map (place_in columns) sort) ≡ command = cc is in
       subst Can same tt
@@ -213,7 +217,7 @@ module _ (tables : List TableOf) (views : List ViewOf) (next : ℕ) (numbered : 
 
 -- ---- From commands to statements
 -- nothing but the tables and views is asked
-same_places : (s : State) (statement : Statement) → binding_places (alone s.tables s.views) statement ≡ binding_places s statement
+same_places : (s : State) (statement : Statement) → binding_checks (alone s.tables s.views) statement ≡ binding_checks s statement
 same_places s (statements.CreateTable name columns sort) = refl
 same_places s (statements.DropTable name) = refl
 same_places s (statements.CreateView name view) = refl
@@ -232,10 +236,10 @@ same_bound s (statements.Delete name condition) = refl
 same_bound s (statements.Select q) = refl
 
 -- a fault of the rows comes before the room for them
-insert_refuses : (max_rows : ℕ) (rows : List (List Constant)) (table : Result TableOf Fault) (f : Fault) → first_fault (rows_walk rows table) ≡ Some f → first_fault (insert_places max_rows rows table) ≡ Some f
+insert_refuses : (max_rows : ℕ) (rows : List (List Constant)) (table : Result TableOf Fault) (f : Fault) → first_fault (rows_walk rows table) ≡ Some f → first_fault (insert_checks max_rows rows table) ≡ Some f
 insert_refuses max_rows rows (Err g) f e = e
 insert_refuses max_rows rows (Ok t) f e =
-    let walk = flat_map (row_places t.columns) rows in
+    let walk = flat_map (row_checks t.columns) rows in
     let fits : List (Option Fault) = fault_if (nat_lt max_rows (length t.rows + length rows)) faults.TableFull ∷ [] in
     first_fault_append walk fits ∙ ap (λ (o : Option Fault). option_or o (first_fault fits)) e
 
@@ -243,7 +247,7 @@ module _ (tables : List TableOf) (views : List ViewOf) (now drawn max_rows : ℕ
   abbrev old : State
   old = present tables views now drawn max_rows
 
-  walk_refuses : (statement : Statement) (f : Fault) → first_fault (binding_places old statement) ≡ Some f → refusal old statement ≡ Some f
+  walk_refuses : (statement : Statement) (f : Fault) → first_fault (binding_checks old statement) ≡ Some f → refusal old statement ≡ Some f
   walk_refuses (statements.CreateTable name columns sort) f e = e
   walk_refuses (statements.DropTable name) f e = e
   walk_refuses (statements.CreateView name view) f e = e
@@ -252,16 +256,16 @@ module _ (tables : List TableOf) (views : List ViewOf) (now drawn max_rows : ℕ
   walk_refuses (statements.Delete name condition) f e = e
   walk_refuses (statements.Select q) f e = e
 
-  refused_along_walk : (statement : Statement) (f : Fault) → MayRefuse (first_fault (binding_places old statement)) f → Refuses old statement f old
+  refused_along_walk : (statement : Statement) (f : Fault) → MayRefuse (first_fault (binding_checks old statement)) f → Refuses old statement f old
   refused_along_walk statement faults.Memory m = for_memory refl refl
   refused_along_walk statement f m = by_walk (walk_refuses statement f m) refl
 
   -- a statement that is not bound is refused
-  pub bind_refused : (statement : Statement) (f : Fault) → MayRefuse (first_fault (binding_places (alone tables views) statement)) f → Refuses old statement f old
-  bind_refused statement f m = refused_along_walk statement f (subst (λ (places : List (Option Fault)). MayRefuse (first_fault places) f) (same_places old statement) m)
+  pub bind_refused : (statement : Statement) (f : Fault) → MayRefuse (first_fault (binding_checks (alone tables views) statement)) f → Refuses old statement f old
+  bind_refused statement f m = refused_along_walk statement f (subst (λ (cs : List (Option Fault)). MayRefuse (first_fault cs) f) (same_places old statement) m)
 
-  module _ (statement : Statement) (command : Bound) (free_alone : first_fault (binding_places (alone tables views) statement) ≡ None) (is_alone : bound (alone tables views) statement ≡ Some command) where
-    free : first_fault (binding_places old statement) ≡ None
+  module _ (statement : Statement) (command : Bound) (free_alone : first_fault (binding_checks (alone tables views) statement) ≡ None) (is_alone : bound (alone tables views) statement ≡ Some command) where
+    free : first_fault (binding_checks old statement) ≡ None
     free = sym (ap first_fault (same_places old statement)) ∙ free_alone
 
     is : bound old statement ≡ Some command
@@ -272,20 +276,20 @@ module _ (tables : List TableOf) (views : List ViewOf) (now drawn max_rows : ℕ
       → refusal old (statements.Insert name rows) ≡ room old (commands.Insert t.number (map row_of rows))
   insert_room name rows t found none =
       let fault = if is_some (view_named name views) then faults.ViewNotWritten else faults.UnknownTable in
-      let walk = flat_map (row_places t.columns) rows in
+      let walk = flat_map (row_checks t.columns) rows in
       let asked : ℕ → Option Fault = λ n. fault_if (nat_lt max_rows n) faults.TableFull in
       let passed : first_fault walk ≡ None = subst (λ (o : Option TableOf). first_fault (rows_walk rows (ok_or o fault)) ≡ None) found none in
       let count : length t.rows + length rows ≡ length (rows_in tables t.number) + length (map row_of rows) = λ i. length (sym (rows-found name t tables drawn numbered found) i) + sym (length-map rows row_of) i in
-      ap (λ (o : Option TableOf). first_fault (insert_places max_rows rows (ok_or o fault))) found
+      ap (λ (o : Option TableOf). first_fault (insert_checks max_rows rows (ok_or o fault))) found
       ∙ first_fault_append walk (asked (length t.rows + length rows) ∷ [])
       ∙ or_next (first_fault walk) (first_fault (asked (length t.rows + length rows) ∷ [])) passed
       ∙ single (nat_lt max_rows (length t.rows + length rows)) faults.TableFull
       ∙ ap asked count
 
-  room_decides : (statement : Statement) (command : Bound) → first_fault (binding_places old statement) ≡ None → bound old statement ≡ Some command → refusal old statement ≡ room old command
+  room_decides : (statement : Statement) (command : Bound) → first_fault (binding_checks old statement) ≡ None → bound old statement ≡ Some command → refusal old statement ≡ room old command
   room_decides (statements.CreateTable name columns sort) command none is =
       let same : commands.CreateTable name columns (map (place_in columns) sort) ≡ command = cc is in
-      subst (λ (c : Bound). first_fault (places old (statements.CreateTable name columns sort)) ≡ room old c) same none
+      subst (λ (c : Bound). first_fault (checks old (statements.CreateTable name columns sort)) ≡ room old c) same none
   room_decides (statements.DropTable name) command none is =
       let m = mapped (λ t. commands.DropTable t.number) (table_named name tables) command is in
       subst (λ (c : Bound). refusal old (statements.DropTable name) ≡ room old c) m.2 none
@@ -310,7 +314,7 @@ module _ (tables : List TableOf) (views : List ViewOf) (now drawn max_rows : ℕ
   only_select (commands.Select header q order) large = (refl, all_between tables views now drawn max_rows at header q order 0 views at)
   only_select command large = absurd large
 
-  module _ (statement : Statement) (command : Bound) (free_alone : first_fault (binding_places (alone tables views) statement) ≡ None) (is_alone : bound (alone tables views) statement ≡ Some command) where
+  module _ (statement : Statement) (command : Bound) (free_alone : first_fault (binding_checks (alone tables views) statement) ≡ None) (is_alone : bound (alone tables views) statement ≡ Some command) where
     decides : refusal old statement ≡ room old command
     decides = room_decides statement command (free statement command free_alone is_alone) (is statement command free_alone is_alone)
 

@@ -19,8 +19,10 @@ use Rattle.cq_values.specs.declared.column.ColumnDef.{ColumnDef}
 use Rattle.cq_language.specs.declared.statement.ViewSelect.{ViewSelect}
 use Rattle.cq_binding.specs.declared.fault.Fault.{Fault}
 use Rattle.cq_binding.specs.declared.fault.Fault.TheVariants.{NameTaken}
-use Rattle.cq_binding.specs.Bound.{aggregates_in, bound_condition, group_items, in_groups, item_names, place_in, values_in, view_source}
-use Rattle.cq_binding.specs.Refusal.{fault_if, first_fault, item_place, name_place, query_places, repeats, too_long, where_place}
+use Rattle.cq_binding.specs.Scopes.{bound_condition, in_groups, place_in}
+use Rattle.cq_binding.specs.Bound.{aggregates_in, group_items, item_names, values_in, view_source}
+use Rattle.cq_binding.specs.Checks.{fault_if, first_fault, too_long}
+use Rattle.cq_binding.specs.Refusal.{item_check, name_check, query_checks, repeats, where_check}
 use Rattle.cq_states.specs.State.{TableOf}
 use Rattle.cq_views.specs.declared.view_def.ViewDef.{ViewDef}
 use Rattle.cq_views.specs.Laws.{StandingDependsOnBag}
@@ -38,33 +40,33 @@ short n e = by_test (nat_lt 64 n)
     (λ k. absurd (cc (rw k at e)))
     (λ k. ltb-false 64 n k)
 
-module _ (s : Scope) (v : ViewSelect) (free : first_fault (query_places s v) ≡ None) where
+module _ (s : Scope) (v : ViewSelect) (free : first_fault (query_checks s v) ≡ None) where
   abbrev columns : List ColumnDef
   columns = s.columns
 
   abbrev keys_walk : List (Option Fault)
-  keys_walk = map (name_place columns) v.group
+  keys_walk = map (name_check columns) v.group
 
   abbrev items_walk : List (Option Fault)
-  items_walk = too_long (length v.group) ∷ map (item_place s v.group) (values_in v)
+  items_walk = too_long (length v.group) ∷ map (item_check s v.group) (values_in v)
 
   abbrev names_walk : List (Option Fault)
   names_walk = fault_if (repeats [] (item_names 1 v.items)) NameTaken ∷ too_long (length v.items) ∷ []
 
   -- WHERE has no fault
-  where_free : where_place s v.condition ≡ None
-  where_free = first_free (where_place s v.condition) (keys_walk ++ items_walk ++ names_walk) free
+  where_free : where_check s v.condition ≡ None
+  where_free = first_free (where_check s v.condition) (keys_walk ++ items_walk ++ names_walk) free
 
   -- nor has an item
-  items_free : first_fault (map (item_place s v.group) (values_in v)) ≡ None
+  items_free : first_fault (map (item_check s v.group) (values_in v)) ≡ None
   items_free =
-      let where_walk : List (Option Fault) = where_place s v.condition ∷ [] in
-      back_free (too_long (length v.group) ∷ []) (map (item_place s v.group) (values_in v)) (back_free (where_walk ++ keys_walk) items_walk (front_free ((where_walk ++ keys_walk) ++ items_walk) names_walk free))
+      let where_walk : List (Option Fault) = where_check s v.condition ∷ [] in
+      back_free (too_long (length v.group) ∷ []) (map (item_check s v.group) (values_in v)) (back_free (where_walk ++ keys_walk) items_walk (front_free ((where_walk ++ keys_walk) ++ items_walk) names_walk free))
 
   -- there are not too many items
   few_items : length v.items ≤ 64
   few_items =
-      let where_walk : List (Option Fault) = where_place s v.condition ∷ [] in
+      let where_walk : List (Option Fault) = where_check s v.condition ∷ [] in
       short (length v.items)
       (second_free (fault_if (repeats [] (item_names 1 v.items)) NameTaken) (too_long (length v.items)) [] (back_free ((where_walk ++ keys_walk) ++ items_walk) names_walk free))
 
@@ -79,7 +81,7 @@ def_on v t = record {
   items = group_items (in_groups v.group (view_source v t)) (length v.group) (values_in v);
 }
 
-module _ (v : ViewSelect) (t : TableOf) (free : first_fault (query_places (view_source v t) v) ≡ None) where
+module _ (v : ViewSelect) (t : TableOf) (free : first_fault (query_checks (view_source v t) v) ≡ None) where
   abbrev source : Scope
   source = view_source v t
 

@@ -23,17 +23,20 @@ use Rattle.cq_model.specs.Width.{extent, sizes_of, value_size, width}
 use Rattle.cq_language.specs.Written.{Written}
 use Rattle.cq_binding.specs.declared.fault.Fault.{Fault}
 use Rattle.cq_binding.specs.declared.typing.Typing.{Typing}
-use Rattle.cq_binding.specs.Bound.{aggregates_in, bound_condition, bound_value, column_place, from_table, group_items, group_place, in_groups, place_in, scope_of, view_source}
-use Rattle.cq_binding.specs.Refusal.{first_fault, item_place, value_place, where_place}
+use Rattle.cq_binding.specs.Scopes.{bound_condition, bound_value, column_place, from_table, group_place, in_groups, place_in, scope_of}
+use Rattle.cq_binding.specs.Bound.{aggregates_in, group_items, view_source}
+use Rattle.cq_binding.specs.Checks.{first_fault}
+use Rattle.cq_binding.specs.Refusal.{item_check, value_check, where_check}
 use Rattle.cq_states.specs.State.{TableOf}
-use Rattle.cq_binding.specs.Typing.{◌and_then◌, Scope, added, fault_in, kept_value, negation_of, tested, typed}
+use Rattle.cq_binding.specs.Kinds.{◌and_then◌, added, kept_value, negation_of, tested}
+use Rattle.cq_binding.specs.Typing.{Scope, fault_in, typed}
 use Rattle.cq_binder.proofs.Faults.{first_fault_append, or_next}
 use Rattle.cq_exprs.proofs.Narrow.{typed_is_narrow}
 use Rattle.cq_exprs.specs.Expressions.{IsNarrow as IsNarrowIn, KeepSizes}
 use Rattle.cq_views.specs.Small.{IsItemNarrow}
 use Rattle.cq_laws.proofs.Extents.{value-within}
 use Rattle.cq_engine.proofs.Places.{found_within}
-use Rattle.cq_engine.specs.Bound.{AreNarrowAt, IsNarrowAt}
+use Rattle.cq_engine.specs.Narrow.{AreNarrowAt, IsNarrowAt}
 use Rattle.cq_engine.specs.Views.{IsStored}
 
 -- ---- Expressions that pass
@@ -49,12 +52,12 @@ narrow_whole ask s w sizes free kept =
     (p.0, typed_is_narrow s w p.0 sizes p.1 kept)
 
 -- ---- WHERE
-pub narrow_where : (s : Scope) (c : Option Written) (row : Row) → where_place s c ≡ None → KeepSizes s (sizes_of row) → IsNarrowAt (option_map (bound_condition s) c) row
+pub narrow_where : (s : Scope) (c : Option Written) (row : Row) → where_check s c ≡ None → KeepSizes s (sizes_of row) → IsNarrowAt (option_map (bound_condition s) c) row
 narrow_where s None row free kept = tt
 narrow_where s (Some w) row free kept = (narrow_whole negation_of s w (sizes_of row) free kept).1.condition
 
 -- so it is at each of several rows
-pub narrow_rows : (s : Scope) (c : Option Written) (rows : List Row) → where_place s c ≡ None → AllByRecursion (λ row. KeepSizes s (sizes_of row)) rows → AllByRecursion (IsNarrowAt (option_map (bound_condition s) c)) rows
+pub narrow_rows : (s : Scope) (c : Option Written) (rows : List Row) → where_check s c ≡ None → AllByRecursion (λ row. KeepSizes s (sizes_of row)) rows → AllByRecursion (IsNarrowAt (option_map (bound_condition s) c)) rows
 narrow_rows s c [] free kept = tt
 narrow_rows s c (row ∷ rows) free kept = (narrow_where s c row free kept.0, narrow_rows s c rows free kept.1)
 
@@ -101,11 +104,11 @@ first_free (Some f) places e = absurd (cc)
 
 -- ---- Items
 -- the values of several items are narrow at a row that keeps the sizes
-pub narrow_values : (s : Scope) (ws : List Written) (row : Row) → first_fault (map (value_place s) ws) ≡ None → KeepSizes s (sizes_of row) → AreNarrowAt (map (bound_value s) ws) row
+pub narrow_values : (s : Scope) (ws : List Written) (row : Row) → first_fault (map (value_check s) ws) ≡ None → KeepSizes s (sizes_of row) → AreNarrowAt (map (bound_value s) ws) row
 narrow_values s [] row free kept = tt
 narrow_values s (w ∷ ws) row free kept =
-    let places = map (value_place s) ws in
-    ((narrow_whole tested s w (sizes_of row) (first_free (value_place s w) places free) kept).1.value, narrow_values s ws row (back_free (value_place s w ∷ []) places free) kept)
+    let places = map (value_check s) ws in
+    ((narrow_whole tested s w (sizes_of row) (first_free (value_check s w) places free) kept).1.value, narrow_values s ws row (back_free (value_check s w ∷ []) places free) kept)
 
 -- ---- What the items of a view tell and show
 -- nothing is larger than a column can be where nothing on the way to it is too wide
@@ -144,7 +147,7 @@ grouped_at group name among =
 module _ (s : Scope) (group : List (List ℕ)) where
   -- the walk through these items
   abbrev walk : List ItemValue → List (Option Fault)
-  walk items = map (item_place s group) items
+  walk items = map (item_check s group) items
 
   pub totals : (items : List ItemValue) → AreTotals (flat_map (aggregates_in s) items)
   totals [] = tt
@@ -161,8 +164,8 @@ module _ (s : Scope) (group : List (List ℕ)) where
   few_told (values.Sum w ∷ items) = omega (arith, few_told items)
 
   -- an item has no fault, and neither have those behind it
-  rest_free : (item : ItemValue) (items : List ItemValue) → first_fault (walk (item ∷ items)) ≡ None → (item_place s group item ≡ None) × (first_fault (walk items) ≡ None)
-  rest_free item items free = (first_free (item_place s group item) (walk items) free, back_free (item_place s group item ∷ []) (walk items) free)
+  rest_free : (item : ItemValue) (items : List ItemValue) → first_fault (walk (item ∷ items)) ≡ None → (item_check s group item ≡ None) × (first_fault (walk items) ≡ None)
+  rest_free item items free = (first_free (item_check s group item) (walk items) free, back_free (item_check s group item ∷ []) (walk items) free)
 
   module _ (row : Row) (stored : IsStored row) (kept : KeepSizes s (sizes_of row)) where
     -- no argument is too wide at a stored row
@@ -198,7 +201,7 @@ module _ (v : ViewSelect) (t : TableOf) where
   key_sizes sizes kept c i at may =
       omega (arith, kept (group_place v.group c.name) (grouped_at v.group c.name may), size_there t.columns i (column_there t.columns c.name i at))
 
-  pub items_narrow : (next : ℕ) (items : List ItemValue) → first_fault (map (item_place (view_source v t) v.group) items) ≡ None → AllByRecursion (IsItemNarrow (length v.group)) (group_items groups next items)
+  pub items_narrow : (next : ℕ) (items : List ItemValue) → first_fault (map (item_check (view_source v t) v.group) items) ≡ None → AllByRecursion (IsItemNarrow (length v.group)) (group_items groups next items)
   items_narrow next [] free = tt
   items_narrow next (values.Value w ∷ items) free =
       let p = rest_free (view_source v t) v.group (values.Value w) items free in

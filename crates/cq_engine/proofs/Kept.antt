@@ -7,10 +7,10 @@ use Rattle.cq_values.specs.Value.{Row}
 use Rattle.cq_bags.specs.Bag.{Weighted, SameBag, IsBag, once_each}
 use Rattle.cq_bags.proofs.Totals.{by_test}
 use Rattle.cq_deltas.specs.declared.change.Addition.{Addition}
-use Rattle.cq_deltas.specs.Table.{HoldsFor}
+use Rattle.cq_deltas.specs.Keyed.{HoldsFor}
 use Rattle.cq_binding.specs.Refusal.{is_used}
 use Rattle.cq_states.specs.State.{TableOf, rows_in}
-use Rattle.cq_steps.specs.Step.{at_epoch}
+use Rattle.cq_steps.specs.Next.{at_epoch}
 use Rattle.cq_views.specs.declared.view_def.ViewDef.{ViewDef}
 use Rattle.cq_views.specs.Laws.{SmallChangesHold}
 use Rattle.cq_views.specs.Small.{AreSmallFor, CanBeKept}

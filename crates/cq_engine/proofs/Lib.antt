@@ -14,3 +14,4 @@ pub mod Creating
 pub mod Written
 pub mod Leaving
 pub mod Binding
+pub mod Counting

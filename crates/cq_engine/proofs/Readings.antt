@@ -25,7 +25,7 @@ use Rattle.cq_deltas.specs.Additions.{AreTotals}
 use Rattle.cq_laws.specs.Sizes.{CountsOrAdds, IsSized, RowsKeepSizes}
 use Rattle.cq_binder.specs.Catalog.{alone}
 use Rattle.cq_views.specs.View.{StandsFor, query_of}
-use Rattle.cq_engine.specs.Bound.{IsWithin, IsWithinSized}
+use Rattle.cq_engine.specs.Narrow.{IsWithin, IsWithinSized}
 use Rattle.cq_engine.specs.Commands.{Selects, SelectsKept, IsInRange, plain, sources_in}
 use Rattle.cq_engine.specs.Views.{NamedView, AreFew, AreStored, IsBacked, IsRight, IsStored, AreRight, view_of, views_of}
 use Rattle.cq_engine.proofs.Changes.{once_each-bag}

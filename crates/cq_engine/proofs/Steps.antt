@@ -18,9 +18,10 @@ use Rattle.cq_model.specs.Write.{chosen, left_by}
 use Rattle.cq_steps.specs.declared.answer.Answer.{Answer}
 use Rattle.cq_steps.specs.declared.answer.Answer.TheVariants.{Done, Count, Rows}
 use Rattle.cq_binding.specs.declared.fault.Fault.{Fault}
-use Rattle.cq_binding.specs.Refusal.{MayRefuse}
+use Rattle.cq_binding.specs.Checks.{MayRefuse}
 use Rattle.cq_states.specs.State.{TableOf, ViewOf, State, rows_in, empty_table, with_rows, tables_now}
-use Rattle.cq_steps.specs.Step.{at_epoch, new_view, reach, taken_on, written, AreBetween, Leads, Writes}
+use Rattle.cq_steps.specs.Next.{at_epoch, new_view, reach, taken_on, written, Writes}
+use Rattle.cq_steps.specs.Step.{AreBetween, Leads}
 use Rattle.cq_engine.specs.Commands.{present, IsDone, IsRefused, Selects}
 
 -- ---- Views at one epoch

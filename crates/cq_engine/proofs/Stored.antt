@@ -20,7 +20,8 @@ use Rattle.cq_language.specs.declared.statement.Literal.{Literal}
 use Rattle.cq_model.specs.Width.{value_size}
 use Rattle.cq_binding.specs.declared.fault.Fault.{Fault}
 use Rattle.cq_binding.specs.Bound.{constant_value, literal_value, row_of}
-use Rattle.cq_binding.specs.Refusal.{first_fault, fits_column, is_type, constant_place, constant_places, row_places}
+use Rattle.cq_binding.specs.Checks.{first_fault}
+use Rattle.cq_binding.specs.RowChecks.{fits_column, is_type, constant_check, constant_checks, row_checks}
 use Rattle.cq_engine.specs.Views.{IsStored}
 use Rattle.cq_binder.proofs.Faults.{first_fault_append}
 
@@ -86,7 +87,7 @@ day_small None = omega arith
 day_small (Some d) = omega arith
 
 -- a value that its column takes has at most 64 bits
-constant_small : (d : ColumnDef) (c : Constant) → constant_place d c ≡ None → value_size (constant_value c) ≤ 2 ^ 63
+constant_small : (d : ColumnDef) (c : Constant) → constant_check d c ≡ None → value_size (constant_value c) ≤ 2 ^ 63
 constant_small d constants.Null free = omega arith
 constant_small d (constants.Number l) free =
     by_test (is_type d.ty types.Integer)
@@ -96,31 +97,31 @@ constant_small d (constants.Text t) free = omega arith
 constant_small d (constants.Date t) free = day_small (day_named t)
 
 -- constants that their columns take are stored
-constants_stored : (columns : List ColumnDef) (row : List Constant) → length row ≡ length columns → first_fault (constant_places columns row) ≡ None → IsStored (row_of row)
+constants_stored : (columns : List ColumnDef) (row : List Constant) → length row ≡ length columns → first_fault (constant_checks columns row) ≡ None → IsStored (row_of row)
 constants_stored columns [] same free = λ i. omega arith
 constants_stored [] (c ∷ row) same free = absurd (omega (arith, same))
-constants_stored (d ∷ columns) (c ∷ row) same free = by_place (constant_place d c) refl (λ e. constants_stored columns row (omega (arith, same)) e)
+constants_stored (d ∷ columns) (c ∷ row) same free = by_place (constant_check d c) refl (λ e. constants_stored columns row (omega (arith, same)) e)
   where
-    by_place : (o : Option Fault) → constant_place d c ≡ o → (first_fault (constant_places columns row) ≡ None → IsStored (row_of row)) → IsStored (row_of (c ∷ row))
+    by_place : (o : Option Fault) → constant_check d c ≡ o → (first_fault (constant_checks columns row) ≡ None → IsStored (row_of row)) → IsStored (row_of (c ∷ row))
     by_place None e later zero = constant_small d c e
-    by_place None e later (suc i) = later (ap (λ (p : Option Fault). first_fault (p ∷ constant_places columns row)) (sym e) ∙ free) i
-    by_place (Some f) e later i = absurd (let both : Some f ≡ None = sym (ap (λ (p : Option Fault). first_fault (p ∷ constant_places columns row)) e) ∙ free in cc)
+    by_place None e later (suc i) = later (ap (λ (p : Option Fault). first_fault (p ∷ constant_checks columns row)) (sym e) ∙ free) i
+    by_place (Some f) e later i = absurd (let both : Some f ≡ None = sym (ap (λ (p : Option Fault). first_fault (p ∷ constant_checks columns row)) e) ∙ free in cc)
 
 -- a row that has no fault is stored
-row_stored : (columns : List ColumnDef) (row : List Constant) → first_fault (row_places columns row) ≡ None → IsStored (row_of row)
+row_stored : (columns : List ColumnDef) (row : List Constant) → first_fault (row_checks columns row) ≡ None → IsStored (row_of row)
 row_stored columns row free =
     by_test (length row == length columns)
     (λ k. constants_stored columns row (eqb-true _ _ k) (rw k at free))
     (λ k. absurd (cc (rw k at free)))
 
 -- rows that have no fault are stored
-pub rows_stored : (columns : List ColumnDef) (rows : List (List Constant)) → first_fault (flat_map (row_places columns) rows) ≡ None → AllByRecursion IsStored (map row_of rows)
+pub rows_stored : (columns : List ColumnDef) (rows : List (List Constant)) → first_fault (flat_map (row_checks columns) rows) ≡ None → AllByRecursion IsStored (map row_of rows)
 rows_stored columns [] free = tt
-rows_stored columns (row ∷ rows) free = by_row (first_fault (row_places columns row)) refl (λ e. rows_stored columns rows e)
+rows_stored columns (row ∷ rows) free = by_row (first_fault (row_checks columns row)) refl (λ e. rows_stored columns rows e)
   where
-    split : first_fault (flat_map (row_places columns) (row ∷ rows)) ≡ option_or (first_fault (row_places columns row)) (first_fault (flat_map (row_places columns) rows))
-    split = first_fault_append (row_places columns row) (flat_map (row_places columns) rows)
+    split : first_fault (flat_map (row_checks columns) (row ∷ rows)) ≡ option_or (first_fault (row_checks columns row)) (first_fault (flat_map (row_checks columns) rows))
+    split = first_fault_append (row_checks columns row) (flat_map (row_checks columns) rows)
 
-    by_row : (o : Option Fault) → first_fault (row_places columns row) ≡ o → (first_fault (flat_map (row_places columns) rows) ≡ None → AllByRecursion IsStored (map row_of rows)) → AllByRecursion IsStored (map row_of (row ∷ rows))
-    by_row None e later = (row_stored columns row e, later (sym (split ∙ ap (λ (o : Option Fault). option_or o (first_fault (flat_map (row_places columns) rows))) e) ∙ free))
-    by_row (Some f) e later = absurd (let both : Some f ≡ None = sym (split ∙ ap (λ (o : Option Fault). option_or o (first_fault (flat_map (row_places columns) rows))) e) ∙ free in cc)
+    by_row : (o : Option Fault) → first_fault (row_checks columns row) ≡ o → (first_fault (flat_map (row_checks columns) rows) ≡ None → AllByRecursion IsStored (map row_of rows)) → AllByRecursion IsStored (map row_of (row ∷ rows))
+    by_row None e later = (row_stored columns row e, later (sym (split ∙ ap (λ (o : Option Fault). option_or o (first_fault (flat_map (row_checks columns) rows))) e) ∙ free))
+    by_row (Some f) e later = absurd (let both : Some f ≡ None = sym (split ∙ ap (λ (o : Option Fault). option_or o (first_fault (flat_map (row_checks columns) rows))) e) ∙ free in cc)

@@ -16,15 +16,18 @@ use Rattle.cq_model.specs.Meaning.{Tables, MeaningInRange, meaning}
 use Rattle.cq_model.specs.Sizes.{column_sizes}
 use Rattle.cq_model.specs.Views.{with_views, AnswerInRange}
 use Rattle.cq_steps.specs.declared.answer.Answer.{Answer}
+use Rattle.cq_steps.specs.declared.answer.Answer.TheVariants.{Rows}
 use Rattle.cq_binding.specs.declared.fault.Fault.{Fault}
 use Rattle.cq_binding.specs.declared.fault.Fault.TheVariants.{Memory, SumOutOfRange, TableFull}
-use Rattle.cq_binding.specs.Refusal.{fault_if, is_used, MayRefuse}
+use Rattle.cq_binding.specs.Checks.{fault_if, MayRefuse}
+use Rattle.cq_binding.specs.Refusal.{is_used}
 use Rattle.cq_states.specs.State.{TableOf, ViewOf, State, rows_in, tables_now, queries_of}
-use Rattle.cq_steps.specs.Step.{Accepts, IsTooLarge, Trims, at_present}
+use Rattle.cq_steps.specs.Next.{Trims, at_present}
+use Rattle.cq_steps.specs.Step.{Accepts, IsTooLarge}
 use Rattle.cq_binder.specs.Catalog.{alone}
 use Rattle.cq_views.specs.declared.view_def.ViewDef.{ViewDef}
 use Rattle.cq_views.specs.View.{StandsFor, query_of}
-use Rattle.cq_engine.specs.Bound.{IsNarrowAt, IsWithin, IsWithinSized}
+use Rattle.cq_engine.specs.Narrow.{IsNarrowAt, IsWithin, IsWithinSized}
 use Rattle.cq_engine.specs.Views.{NamedView, Fits, IsStored}
 
 -- a state in which no change waits
@@ -100,6 +103,11 @@ IsRefused s command f = MayRefuse (room s command) f ⊎ ((f ≡ SumOutOfRange) 
 abbrev pub CarriesOut : State → Bound → Result Answer Fault → State → Type 0
 CarriesOut old command (Ok answer) new = (room old command ≡ None) × IsDone old command answer new
 CarriesOut old command (Err f) new = IsRefused old command f × (new ≡ old)
+
+-- an answer of rows changes nothing
+abbrev pub OnlyShows : State → Result Answer Fault → State → Type 0
+OnlyShows old (Ok (Rows header rows)) new = new ≡ old
+OnlyShows old outcome new = Unit {0}
 
 -- ---- SELECT
 -- the bags that the names in FROM stand for

@@ -1,4 +1,4 @@
-pub mod Given
-pub mod Bound
+pub mod Sources
+pub mod Narrow
 pub mod Views
 pub mod Commands

@@ -5,11 +5,11 @@ use Rattle.cq_values.specs.Value.{Row, column}
 use Rattle.cq_bags.specs.Bag.{Weighted, once_each}
 use Rattle.cq_deltas.specs.Additions.{AreTotals}
 use Rattle.cq_deltas.specs.declared.change.Addition.{Addition}
-use Rattle.cq_deltas.specs.Table.{HasKeys, HoldsFor}
+use Rattle.cq_deltas.specs.Keyed.{HasKeys, HoldsFor}
 use Rattle.cq_values.specs.declared.column.ColumnDef.{ColumnDef}
 use Rattle.cq_model.specs.Width.{value_size}
 use Rattle.cq_states.specs.State.{TableOf, ViewOf, rows_in}
-use Rattle.cq_steps.specs.Step.{at_epoch}
+use Rattle.cq_steps.specs.Next.{at_epoch}
 use Rattle.cq_views.specs.declared.view_def.ViewDef.{ViewDef}
 use Rattle.cq_views.specs.Small.{CanBeKept, IsSmallFor}
 use Rattle.cq_views.specs.View.{KeptView, SameView, GoesOn, IsNarrowFor, Stands, change_of, query_of}

@@ -2,7 +2,7 @@
 ghost use Rattle.std.specs.Prelude.{◌≡◌};
 ghost use Rattle.cq_values.specs.Truth.{is_true};
 ghost use Rattle.cq_model.specs.Meaning.{keeps};
-ghost use Rattle.cq_engine.specs.Bound.{IsNarrowAt};
+ghost use Rattle.cq_engine.specs.Narrow.{IsNarrowAt};
 
 use cq_eval::holds_row;
 use cq_model::Cond;

@@ -5,7 +5,7 @@ ghost use Rattle.cq_model.specs.declared.query.Aggregate.{Aggregate};
 ghost use Rattle.cq_model.specs.declared.query.Shape.TheVariants.{Grouped};
 ghost use Rattle.cq_model.specs.declared.query.Source.TheVariants.{Table};
 ghost use Rattle.cq_states.specs.State.{AreNumbered, rows_in};
-ghost use Rattle.cq_steps.specs.Step.{new_view};
+ghost use Rattle.cq_steps.specs.Next.{new_view};
 ghost use Rattle.cq_views.specs.declared.view_def.ViewDef.{ViewDef};
 ghost use Rattle.cq_views.specs.View.{Stands, query_of};
 ghost use Rattle.cq_engine.specs.Commands.{CanBuild, IsThere};

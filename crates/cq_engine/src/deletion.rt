@@ -3,7 +3,7 @@ ghost use Rattle.std.specs.List.{AllByRecursion};
 ghost use Rattle.std.specs.Prelude.{◌≡◌, IfOk, OnErr, OnOk, length};
 ghost use Rattle.cq_model.specs.Write.{chosen, left_by};
 ghost use Rattle.cq_states.specs.State.{holding};
-ghost use Rattle.cq_engine.specs.Bound.{IsNarrowAt};
+ghost use Rattle.cq_engine.specs.Narrow.{IsNarrowAt};
 ghost use Rattle.cq_engine.specs.Views.{AreSame, Follow, IsStored, StandOn};
 
 use crate::table::Table;

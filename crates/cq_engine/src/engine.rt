@@ -1,10 +1,11 @@
 //! The engine, and one step of it.
-ghost use Rattle.std.specs.Prelude.{◌≡◌, ◌<◌, ◌+◌, ◌-◌, ◌^◌, Ok, option_map};
+ghost use Rattle.std.specs.Prelude.{◌≡◌, ◌<◌, ◌+◌, ◌-◌, ◌^◌, ◌∷◌, [], Ok, option_map};
 ghost use Rattle.cq_binding.specs.declared.bound.Bound.TheVariants as commands;
 ghost use Rattle.cq_states.specs.State.{first_state, view_named};
+ghost use Rattle.cq_steps.specs.Output.{source_failures};
 ghost use Rattle.cq_steps.specs.Step.{Step};
 ghost use Rattle.cq_engine.specs.declared.answer_source.AnswerSource.TheVariants.{Tables};
-ghost use Rattle.cq_engine.specs.Commands.{CanCarryOut, CarriesOut};
+ghost use Rattle.cq_engine.specs.Commands.{CanCarryOut, CarriesOut, OnlyShows};
 
 use crate::answer_source::AnswerSource;
 use crate::catalog::EngineCatalog;
@@ -107,10 +108,14 @@ impl Engine {
         AnswerSource::Tables
     }
 
-    /// Carries out one statement, or refuses it and leaves every table and view as it was.
+    /// Carries out one statement, or refuses it and leaves every table and view as it was. A result leaves them too. No
+    /// statement reads a source yet.
     pub fn step<S: Sources>(&mut self, command: &Command, _sources: &mut S) -> Result<Answer, Fault>
         requires { self.old.drawn < 2 ^ 64 - 1 }
-        ensures { Step self.old command.now result self.new }
+        ensures step { Step self.old command.now result self.new }
+        ensures rows { OnlyShows self.old result self.new }
+        ensures files { S.files _sources.new ≡ S.files _sources.old }
+        ensures failures { S.failures _sources.new ≡ S.failures _sources.old + source_failures (result ∷ []) }
     {
         let bound = bind(self.alloc, command, &self.catalog())?;
         self.carry_out(bound)
@@ -120,7 +125,8 @@ impl Engine {
     fn carry_out(&mut self, command: Bound) -> Result<Answer, Fault>
         requires drawn { self.old.drawn < 2 ^ 64 - 1 }
         requires bound { CanCarryOut self.old.tables self.old.views command }
-        ensures { CarriesOut self.old command result self.new }
+        ensures done { CarriesOut self.old command result self.new }
+        ensures rows { OnlyShows self.old result self.new }
     {
         match command {
             Bound::CreateTable {
@@ -155,7 +161,8 @@ impl Engine {
         sort: Seq<usize>,
     ) -> Result<Answer, Fault>
         requires { self.old.drawn < 2 ^ 64 - 1 }
-        ensures { CarriesOut self.old (commands.CreateTable name columns sort) result self.new }
+        ensures done { CarriesOut self.old (commands.CreateTable name columns sort) result self.new }
+        ensures rows { OnlyShows self.old result self.new }
     {
         let table = Table::new(self.alloc, self.drawn, name, columns, sort);
         self.tables.push(table)?;
@@ -165,7 +172,8 @@ impl Engine {
 
     fn drop_table(&mut self, number: u64) -> Answer
         requires { CanCarryOut self.old.tables self.old.views (commands.DropTable number) }
-        ensures { CarriesOut self.old (commands.DropTable number) (Ok result) self.new }
+        ensures done { CarriesOut self.old (commands.DropTable number) (Ok result) self.new }
+        ensures rows { OnlyShows self.old (Ok result) self.new }
     {
         drop_in(&mut self.tables, number);
         Answer::Done
@@ -178,7 +186,8 @@ impl Engine {
         query: Query,
     ) -> Result<Answer, Fault>
         requires { CanCarryOut self.old.tables self.old.views (commands.CreateView name columns query) }
-        ensures { CarriesOut self.old (commands.CreateView name columns query) result self.new }
+        ensures done { CarriesOut self.old (commands.CreateView name columns query) result self.new }
+        ensures rows { OnlyShows self.old result self.new }
     {
         let now = self.writes;
         create_view_in(
@@ -195,7 +204,8 @@ impl Engine {
 
     fn drop_view(&mut self, place: usize) -> Answer
         requires { CanCarryOut self.old.tables self.old.views (commands.DropView place) }
-        ensures { CarriesOut self.old (commands.DropView place) (Ok result) self.new }
+        ensures done { CarriesOut self.old (commands.DropView place) (Ok result) self.new }
+        ensures rows { OnlyShows self.old (Ok result) self.new }
     {
         drop_view_at(&mut self.views, place);
         Answer::Done
@@ -204,7 +214,8 @@ impl Engine {
     fn insert(&mut self, table: u64, rows: Seq<Row>) -> Result<Answer, Fault>
         requires drawn { self.old.drawn < 2 ^ 64 - 1 }
         requires bound { CanCarryOut self.old.tables self.old.views (commands.Insert table rows) }
-        ensures { CarriesOut self.old (commands.Insert table rows) result self.new }
+        ensures done { CarriesOut self.old (commands.Insert table rows) result self.new }
+        ensures rows { OnlyShows self.old result self.new }
     {
         let max_rows = self.limits.max_rows;
         let epoch = self.writes + 1;
@@ -226,7 +237,8 @@ impl Engine {
     fn delete(&mut self, table: u64, condition: Option<Cond>) -> Result<Answer, Fault>
         requires drawn { self.old.drawn < 2 ^ 64 - 1 }
         requires bound { CanCarryOut self.old.tables self.old.views (commands.Delete table condition) }
-        ensures { CarriesOut self.old (commands.Delete table condition) result self.new }
+        ensures done { CarriesOut self.old (commands.Delete table condition) result self.new }
+        ensures rows { OnlyShows self.old result self.new }
     {
         let epoch = self.writes + 1;
         let rows = delete_in(

@@ -3,7 +3,7 @@ ghost use Rattle.std.specs.Prelude.{◌≡◌, ℕ};
 ghost use Rattle.cq_model.specs.Sizes.{column_sizes};
 ghost use Rattle.cq_states.specs.State.{AreNumbered};
 ghost use Rattle.cq_views.specs.View.{query_of};
-ghost use Rattle.cq_engine.specs.Bound.{IsWithinSized};
+ghost use Rattle.cq_engine.specs.Narrow.{IsWithinSized};
 ghost use Rattle.cq_engine.specs.Commands.{CanRead, Selects, SelectsKept, told_as};
 ghost use Rattle.cq_engine.specs.Views.{AreFew, AreRight, AreStored, IsBacked, views_of};
 

@@ -4,7 +4,7 @@ ghost use Rattle.std.specs.Prelude.{◌≡◌, IfOk, [], filter, map};
 ghost use Rattle.cq_bags.specs.Bag.{once_each};
 ghost use Rattle.cq_bags.specs.Listing.{Lists};
 ghost use Rattle.cq_model.specs.Meaning.{items_of, keeps};
-ghost use Rattle.cq_engine.specs.Bound.{AreNarrowAt, IsWithin};
+ghost use Rattle.cq_engine.specs.Narrow.{AreNarrowAt, IsWithin};
 
 use crate::condition::keeps;
 use cq_bags::listed;

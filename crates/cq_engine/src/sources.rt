@@ -1,7 +1,8 @@
 //! Where COPY finds its files.
-ghost use Rattle.std.specs.Prelude.{◌≡◌, List, ℕ};
-ghost use Rattle.cq_engine.specs.Given.{Reads};
+ghost use Rattle.std.specs.Prelude.{◌≡◌, ◌<◌, ◌-◌, ◌^◌, List, ℕ};
+ghost use Rattle.cq_engine.specs.Sources.{Reads};
 
+use std::alloc::Global;
 use thiserror::Error;
 
 /// Why a source gave nothing.
@@ -21,7 +22,9 @@ pub trait Sources {
     /// How often a read failed.
     ghost failures: { Self → ℕ };
 
-    fn read(&mut self, name: &str) -> Result<Vec<u8>, SourceFault>
+    /// The bytes that the name stands for.
+    fn read(&mut self, alloc: Global, name: &str) -> Result<Vec<u8>, SourceFault>
+        requires { failures self.old < 2 ^ 64 - 1 }
         ensures files { files self.new ≡ files self.old }
         ensures read { Reads (files self.old name.now) (failures self.old) (failures self.new) result };
 }

@@ -5,7 +5,7 @@ ghost use Rattle.cq_values.specs.Texts.{is_text};
 ghost use Rattle.cq_bags.specs.Canonical.{bag_of};
 ghost use Rattle.cq_states.specs.State.{empty_table, holding};
 ghost use Rattle.cq_model.specs.Meaning.{keeps};
-ghost use Rattle.cq_engine.specs.Bound.{IsNarrowAt};
+ghost use Rattle.cq_engine.specs.Narrow.{IsNarrowAt};
 
 use crate::condition::keeps;
 use cq_model::Cond;

@@ -4,9 +4,9 @@ ghost use Rattle.std.specs.List.{AllByRecursion};
 ghost use Rattle.cq_values.specs.Texts.{is_text};
 ghost use Rattle.cq_model.specs.Write.{chosen, left_by};
 ghost use Rattle.cq_binding.specs.declared.fault.Fault.TheVariants.{TableFull};
-ghost use Rattle.cq_binding.specs.Refusal.{MayRefuse, fault_if};
+ghost use Rattle.cq_binding.specs.Checks.{MayRefuse, fault_if};
 ghost use Rattle.cq_states.specs.State.{AreNumbered, TableOf, rows_in, table_named, with_rows};
-ghost use Rattle.cq_engine.specs.Bound.{IsNarrowAt};
+ghost use Rattle.cq_engine.specs.Narrow.{IsNarrowAt};
 ghost use Rattle.cq_engine.specs.Commands.{IsThere, room_for};
 ghost use Rattle.cq_engine.specs.Views.{AreRight, AreSame, AreStored, IsStored, Moved};
 

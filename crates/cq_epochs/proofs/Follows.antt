@@ -15,7 +15,8 @@ use Rattle.cq_values.specs.declared.column.ColumnDef.{ColumnDef}
 use Rattle.cq_model.specs.Write.{left_by, updated}
 use Rattle.cq_steps.specs.declared.answer.Answer.{Answer}
 use Rattle.cq_states.specs.State.{ViewOf, State, rows_in, with_rows, tables_now, change_of, above, tables_at}
-use Rattle.cq_steps.specs.Step.{with_tables, with_all_views, created, new_view, written, Writes, reach, taken_on, refreshed, Leads, without_front, Trims, Accepts}
+use Rattle.cq_steps.specs.Next.{with_tables, with_all_views, created, new_view, written, Writes, reach, taken_on, refreshed, without_front, Trims}
+use Rattle.cq_steps.specs.Step.{Leads, Accepts}
 use Rattle.cq_epochs.specs.Sound.{IsThere, Fits, IsInTime, IsSound}
 use Rattle.cq_epochs.specs.Laws.{IsNewTable}
 use Rattle.cq_epochs.proofs.Each.{each-append, each-remove, each-drop, each-weaker, each-both}

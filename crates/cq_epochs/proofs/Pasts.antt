@@ -16,7 +16,7 @@ use Rattle.cq_model.specs.Meaning.{joined_rows}
 use Rattle.cq_model.specs.Views.{tables_alone}
 use Rattle.cq_laws.proofs.Meanings.{joined_rows-respects, joined_rows-changed}
 use Rattle.cq_states.specs.State.{ChangeOf, State, rows_in, tables_now, change_of, above, tables_at}
-use Rattle.cq_steps.specs.Step.{written, Writes, without_front}
+use Rattle.cq_steps.specs.Next.{written, Writes, without_front}
 use Rattle.cq_epochs.specs.Sound.{IsThere, IsSound}
 use Rattle.cq_epochs.specs.Laws.{LeadsOn, IsNext, GoesOneOn}
 use Rattle.cq_epochs.proofs.Numbers.{rows_in-with_rows, rows_in-others}

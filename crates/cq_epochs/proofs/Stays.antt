@@ -9,9 +9,11 @@ use Rattle.cq_language.specs.declared.statement.Statement.{Statement}
 use Rattle.cq_language.specs.declared.statement.Statement.TheVariants as statements
 use Rattle.cq_steps.specs.declared.answer.Answer.{Answer}
 use Rattle.cq_binding.specs.declared.fault.Fault.{Fault}
-use Rattle.cq_binding.specs.Bound.{place_in, row_of, bound_condition, Named, source_named, bound_select, bound, from_table, grouped_query, scope_of, view_columns, view_source}
+use Rattle.cq_binding.specs.Scopes.{place_in, bound_condition, Named, source_named, from_table, scope_of}
+use Rattle.cq_binding.specs.Bound.{row_of, bound_select, bound, grouped_query, view_columns, view_source}
 use Rattle.cq_states.specs.State.{TableOf, State, table_named, view_place, first_state}
-use Rattle.cq_steps.specs.Step.{reach, at_epoch, Does, at_present, Trims, GivesUp, Refuses, by_walk, for_memory, source_failed, memory_on_the_way, too_large, Step}
+use Rattle.cq_steps.specs.Next.{reach, at_epoch, at_present, Trims}
+use Rattle.cq_steps.specs.Step.{Does, GivesUp, Refuses, by_walk, for_memory, source_failed, memory_on_the_way, too_large, Step}
 use Rattle.cq_epochs.specs.Sound.{IsThere, Fits, IsSound}
 use Rattle.cq_epochs.proofs.Numbers.{there-behind}
 use Rattle.cq_epochs.proofs.Times.{reach-in_time, between-in_time, present-in_time}

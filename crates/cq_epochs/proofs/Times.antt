@@ -7,7 +7,8 @@ use Rattle.cq_binding.specs.declared.bound.Bound.{Bound}
 use Rattle.cq_binding.specs.declared.bound.Bound.TheVariants as commands
 use Rattle.cq_model.specs.Views.{sources_of, is_view}
 use Rattle.cq_states.specs.State.{ViewOf, State}
-use Rattle.cq_steps.specs.Step.{reach, at_epoch, taken_on, AreBetween}
+use Rattle.cq_steps.specs.Next.{reach, at_epoch, taken_on}
+use Rattle.cq_steps.specs.Step.{AreBetween}
 use Rattle.cq_epochs.specs.Sound.{IsInTime}
 
 -- a view that stands in time is to go no further back, and not beyond the last epoch

@@ -13,7 +13,8 @@ use Rattle.cq_model.specs.Views.{tables_alone}
 use Rattle.cq_steps.specs.declared.answer.Answer.{Answer}
 use Rattle.cq_binding.specs.declared.fault.Fault.{Fault}
 use Rattle.cq_states.specs.State.{ChangeOf, State, rows_in, tables_now, change_of, tables_at, first_state}
-use Rattle.cq_steps.specs.Step.{Writes, Accepts, Step}
+use Rattle.cq_steps.specs.Next.{Writes}
+use Rattle.cq_steps.specs.Step.{Accepts, Step}
 use Rattle.cq_epochs.specs.Sound.{IsThere, Fits, IsSound}
 
 -- the table of a number has the change in its bag, and each other one the rows that it had

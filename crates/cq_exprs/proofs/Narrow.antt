@@ -16,8 +16,9 @@ use Rattle.cq_language.specs.Written.{Written, Choices, Number, Text, Date, Null
 use Rattle.cq_binding.specs.declared.fault.Fault.{Fault}
 use Rattle.cq_binding.specs.declared.fault.Fault.TheVariants.{AggregateMisplaced, TooWide, TypeMismatch, UnknownTable}
 use Rattle.cq_binding.specs.declared.typing.Typing.{Typing}
-use Rattle.cq_binding.specs.Typing.{◌and_then◌, Scope, agree, arithmetic, between_them, column_at, column_typing, compared_with, connected, is_of, knows, like_of, listed, may_read, negation_of, negative, number_of, part_of, product_of, sum_of, tested, text_of, type_at, typed, unless, value_of}
-use Rattle.cq_binding.specs.Bound.{place_of}
+use Rattle.cq_binding.specs.Kinds.{◌and_then◌, agree, arithmetic, between_them, compared_with, connected, is_of, like_of, negation_of, negative, number_of, part_of, product_of, sum_of, tested, text_of, unless, value_of}
+use Rattle.cq_binding.specs.Typing.{Scope, column_at, column_typing, knows, listed, may_read, type_at, typed}
+use Rattle.cq_binding.specs.Scopes.{place_of}
 use Rattle.cq_exprs.specs.Expressions.{IsNarrow, KeepSizes, TypedIsNarrow}
 
 -- what stands behind a first step, stands behind what that step gives

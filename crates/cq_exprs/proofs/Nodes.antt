@@ -10,7 +10,8 @@ use Rattle.cq_language.specs.declared.written.Sign.{Sign}
 use Rattle.cq_language.specs.Written.{Written, written, written_step}
 use Rattle.cq_binding.specs.declared.fault.Fault.{Fault}
 use Rattle.cq_binding.specs.declared.typing.Typing.{Typing}
-use Rattle.cq_binding.specs.Typing.{◌and_then◌, Scope, typed}
+use Rattle.cq_binding.specs.Kinds.{◌and_then◌}
+use Rattle.cq_binding.specs.Typing.{Scope, typed}
 use Rattle.cq_exprs.specs.declared.walk.Operator.{Operator}
 use Rattle.cq_exprs.specs.declared.walk.Operator.TheVariants.{Times, Plus, Connect}
 use Rattle.cq_exprs.specs.Chains.{chained}

@@ -3,7 +3,8 @@ use Rattle.std.specs.Prelude.{List, [], ◌∷◌, Result, Ok}
 use Rattle.cq_language.specs.Written.{Written}
 use Rattle.cq_binding.specs.declared.fault.Fault.{Fault}
 use Rattle.cq_binding.specs.declared.typing.Typing.{Typing}
-use Rattle.cq_binding.specs.Typing.{◌and_then◌, Scope, connected, product_of, sum_of, typed}
+use Rattle.cq_binding.specs.Kinds.{◌and_then◌, connected, product_of, sum_of}
+use Rattle.cq_binding.specs.Typing.{Scope, typed}
 use Rattle.cq_exprs.specs.declared.walk.Operator.{Operator}
 use Rattle.cq_exprs.specs.declared.walk.Operator.TheVariants.{Times, Plus, Connect}
 

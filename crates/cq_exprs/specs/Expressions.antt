@@ -4,7 +4,7 @@ use Rattle.cq_language.specs.declared.written.ColumnName.{ColumnName}
 use Rattle.cq_model.specs.Width.{width, widest_in}
 use Rattle.cq_language.specs.Written.{Written}
 use Rattle.cq_binding.specs.declared.typing.Typing.{Typing}
-use Rattle.cq_binding.specs.Bound.{bound_condition, bound_value, place_of}
+use Rattle.cq_binding.specs.Scopes.{bound_condition, bound_value, place_of}
 use Rattle.cq_binding.specs.Typing.{Scope, column_at, may_read, typed}
 use Rattle.cq_exprs.specs.declared.scope.Scope.{Scope as Source}
 

@@ -1,8 +1,9 @@
 //! Expressions that are asked for as a whole: a condition as behind WHERE, a value as an item or behind an aggregate.
 ghost use Rattle.std.specs.Prelude.{◌≡◌, IfOk, MatchResult, None};
-ghost use Rattle.cq_binding.specs.Bound.{bound_condition, bound_value};
-ghost use Rattle.cq_binding.specs.Refusal.{MayRefuse};
-ghost use Rattle.cq_binding.specs.Typing.{condition_fault, kept_fault, kind_type, number_fault, type_of, typed, value_fault};
+ghost use Rattle.cq_binding.specs.Scopes.{bound_condition, bound_value};
+ghost use Rattle.cq_binding.specs.Checks.{MayRefuse};
+ghost use Rattle.cq_binding.specs.Kinds.{kind_type};
+ghost use Rattle.cq_binding.specs.Typing.{condition_fault, kept_fault, number_fault, type_of, typed, value_fault};
 ghost use Rattle.cq_exprs.specs.Expressions.{scope_of};
 
 use crate::placing::{cond_tree, expr_tree};

@@ -4,7 +4,7 @@ ghost use Rattle.cq_model.specs.Expr as terms;
 ghost use Rattle.cq_binding.specs.Placed.{named_day, placed_cond, placed_expr, turned, written_number};
 ghost use Rattle.cq_model.specs.Trees.{cond_of, expr_of};
 ghost use Rattle.cq_language.specs.Written.{written};
-ghost use Rattle.cq_binding.specs.Bound.{place_of};
+ghost use Rattle.cq_binding.specs.Scopes.{place_of};
 ghost use Rattle.cq_exprs.specs.Expressions.{scope_of};
 ghost use Rattle.cq_exprs.specs.Terms.{later_terms, signed_term};
 

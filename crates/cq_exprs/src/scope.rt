@@ -2,7 +2,7 @@
 ghost use Rattle.std.specs.List.{list_any};
 ghost use Rattle.std.specs.Prelude.{◌≡◌, position};
 ghost use Rattle.cq_values.specs.Texts.{is_text};
-ghost use Rattle.cq_binding.specs.Bound.{column_place, in_groups, place_of};
+ghost use Rattle.cq_binding.specs.Scopes.{column_place, in_groups, place_of};
 ghost use Rattle.cq_binding.specs.Typing.{may_read};
 ghost use Rattle.cq_exprs.specs.Expressions.{scope_of};
 

@@ -1,7 +1,7 @@
 //! What operators and tests ask of their operands, and what they give.
 ghost use Rattle.std.specs.Prelude.{◌≡◌, ◌&&◌};
 ghost use Rattle.cq_model.specs.Width.{part_limit};
-ghost use Rattle.cq_binding.specs.Typing.{a_condition, added, agree, between_them, compared_with, connected, is_condition, is_of, is_value, kept_value, like_of, negation_of, negative, number_of, part_of, product_of, sum_of, tested, text_of, unless, value_of};
+ghost use Rattle.cq_binding.specs.Kinds.{a_condition, added, agree, between_them, compared_with, connected, is_condition, is_of, is_value, kept_value, like_of, negation_of, negative, number_of, part_of, product_of, sum_of, tested, text_of, unless, value_of};
 ghost use Rattle.cq_binding.specs.declared.fault.Fault.TheVariants.{TypeMismatch};
 
 use cq_binding::{Fault, Kind, Typing};

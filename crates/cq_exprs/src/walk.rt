@@ -7,7 +7,8 @@ ghost use Rattle.cq_values.specs.Dates.{day_named};
 ghost use Rattle.cq_language.specs.Written.{choices, written};
 ghost use Rattle.cq_language.specs.Written as tree;
 ghost use Rattle.cq_binding.specs.declared.fault.Fault.TheVariants.{BadDate};
-ghost use Rattle.cq_binding.specs.Typing.{knows, listed, type_at, typed, unless, value_of};
+ghost use Rattle.cq_binding.specs.Kinds.{unless, value_of};
+ghost use Rattle.cq_binding.specs.Typing.{knows, listed, type_at, typed};
 ghost use Rattle.cq_exprs.specs.Chains.{chained, joined};
 ghost use Rattle.cq_exprs.specs.Expressions.{scope_of};
 

@@ -74,7 +74,8 @@ abbrev mutual
   spelled_more NoChoice = []
   spelled_more (Choice a bs) = tokens.Symbol symbols.Comma ∷ spelled a ++ spelled_more bs
 
--- how tightly a node holds its parts together: from OR, the loosest, to what stands for itself
+-- how tightly a node holds its parts together, by the rules of the grammar (docs/ARCHITECTURE.md, The grammar):
+-- 0 expr (OR), 1 conj (AND), 2 neg (NOT), 3 pred (a test), 4 sum, 5 prod, 6 a minus, 7 what stands for itself
 abbrev pub tightness : Written → ℕ
 tightness (Or a b) = 0
 tightness (And a b) = 1
@@ -99,7 +100,9 @@ has_entries NoChoice = false
 has_entries (Choice a bs) = true
 
 abbrev mutual
-  -- each part is as tight as its place asks; the left part of a chain may be a chain
+  -- each part is as tight as its rule asks: `sum := prod {(+ | -) prod}` asks for a prod on the right, and on the left for
+  -- the sum so far; `pred := sum [test]` for sums on both sides; `neg := [NOT] pred`, `conj := neg {AND neg}` and
+  -- `expr := conj {OR conj}` likewise
   pub is_in_order : Written → Bool
   is_in_order (Extract part a) = fits 4 a (is_in_order a)
   is_in_order (Parens a) = is_in_order a
@@ -130,6 +133,6 @@ IsTight level w ts = (fits level w (is_in_order w) ≡ true) × (ts ≡ spelled 
 abbrev pub IsExpression : Written → List Token → Type 0
 IsExpression w ts = IsTight 0 w ts
 
--- an expression that is a test in parentheses alone
+-- a sum: an expression that is no test, no NOT, AND or OR, unless these stand in parentheses
 abbrev pub IsSum : Written → List Token → Type 0
 IsSum w ts = IsTight 4 w ts

@@ -46,7 +46,8 @@ lengthens symbols.Greater b = b == 61
 lengthens symbols.Minus b = is_dash b
 lengthens s b = false
 
--- it is one, and the rest of the text does not make it longer; a number is not followed by a letter
+-- it is one, and the longest that begins there: what stands behind it does not go on with it. Digits before a letter are
+-- no number, and so no text with them has tokens
 abbrev pub Stands : Lexeme → List ℕ → Type 0
 Stands (blank b) rest = IsTrue (is_blank b)
 Stands (comment c) rest = IsTrue (list_all (λ b. not (b == 10)) c) × IsTrue (is_end_of_line rest)

@@ -166,7 +166,8 @@ abbrev pub is_long_name : Token → Bool
 is_long_name (tokens.Name n) = nat_lt 63 (length n)
 is_long_name t = false
 
--- from here on a name has more than 63 bytes, or more than 64 parentheses are open at once
+-- of these tokens, before which so many parentheses were opened and closed: a name has more than 63 bytes, or a
+-- parenthesis is opened while 64 are open
 abbrev pub goes_past : ℕ → ℕ → List Token → Bool
 goes_past opened closed [] = false
 goes_past opened closed (t ∷ ts) = is_long_name t || nat_lt (closed + closes t + 64) (opened + opens t) || goes_past (opened + opens t) (closed + closes t) ts

@@ -35,7 +35,8 @@ part_limit parts.Year = 9999
 part_limit parts.Month = 12
 part_limit parts.Day = 31
 
--- the extent of an expression over columns of these sizes; a column and a part of a day are neither written nor worked out
+-- the extent of an expression over columns of these sizes. What is written or worked out counts for the widest: a column
+-- adds nothing of its own, and neither does a part of a day
 abbrev pub width : Expr → (ℕ → ℕ) → Extent
 width (Column i) sizes = record { size = sizes i; widest = 0 }
 width (Literal v) sizes = extent_of (value_size v) 0

@@ -5,9 +5,10 @@ ghost use Rattle.cq_options.specs.Line.{AnswersBy, IsFaultOf, colview, fault_exi
 ghost use Rattle.cq_options.specs.declared.options.LineFault.TheVariants.{Memory};
 
 use clap::error::ErrorKind;
-use clap::{Arg, ArgMatches, Command, Error};
+use clap::{Arg, ArgMatches, Command};
 use cq_values::Text;
 use std::alloc::{AllocError, Global};
+use thiserror::Error;
 
 /// What the command line asks for.
 #[derive(Debug, Drop)]
@@ -17,13 +18,16 @@ pub struct Options {
 }
 
 /// Why a command line asks for no run.
-#[derive(Debug, Drop)]
+#[derive(Debug, Drop, Error)]
 pub enum LineFault {
     /// Help was asked for. This is its text.
-    Help(Text),
+    #[error("{0}")]
+    Help(String),
+    #[error("out of memory")]
     Memory,
     /// The words are no command. This says why.
-    Refused(Text),
+    #[error("{0}")]
+    Refused(String),
 }
 
 impl LineFault {
@@ -38,18 +42,16 @@ impl LineFault {
         }
     }
 
-    fn new(alloc: Global, error: Error) -> LineFault
-        ensures { IsFaultOf (kind_of error) result }
+    /// What clap's error tells.
+    fn told(alloc: Global, error: clap::Error) -> Result<LineFault, AllocError>
+        ensures { IfOk result (IsFaultOf (kind_of error)) }
     {
-        let kind = error.kind();
-        let Ok(text) = error.to_string(alloc) else {
-            return LineFault::Memory;
-        };
-        match kind {
+        let text = error.to_string(alloc)?;
+        Ok(match error.kind() {
             ErrorKind::OutOfMemory => LineFault::Memory,
-            ErrorKind::DisplayHelp => LineFault::Help(Text::from_string(text)),
-            _ => LineFault::Refused(Text::from_string(text)),
-        }
+            ErrorKind::DisplayHelp => LineFault::Help(text),
+            _ => LineFault::Refused(text),
+        })
     }
 }
 
@@ -72,7 +74,7 @@ pub fn options_of<'a>(alloc: Global, words: &'a [&'a str]) -> Result<Options, Li
             let script = Text::new(alloc, script_of(&matches))?;
             Ok(Options { script })
         }
-        Err(error) => Err(LineFault::new(alloc, error)),
+        Err(error) => Err(LineFault::told(alloc, error)?),
     }
 }
 
@@ -86,7 +88,7 @@ fn command<'a>(alloc: Global) -> Result<Command<'a>, AllocError>
         .subcommand(run)
 }
 
-fn matches_from<'a>(alloc: Global, words: &'a [&'a str]) -> Result<ArgMatches<'a>, Error>
+fn matches_from<'a>(alloc: Global, words: &'a [&'a str]) -> Result<ArgMatches<'a>, clap::Error>
     ensures rows { IfOk result (λ matches. subcommand_rows_of matches ≡ subcommand_of colview (map (λ s. s.now) words.entry.now)) }
     ensures memory { IfErr result (λ error. takes colview (map (λ s. s.now) words.entry.now) ≡ true → kind_of error ≡ ErrorKind.OutOfMemory) }
     ensures fault { FailsBy (fault_of colview (map (λ s. s.now) words.entry.now)) result }

@@ -1,5 +1,5 @@
 //! A sink in memory that fails on purpose.
-ghost use Rattle.std.specs.Prelude.{◌≡◌, [], Some};
+ghost use Rattle.std.specs.Prelude.{◌≡◌, [], Some, false};
 
 use cq_cli::Sink;
 use std::alloc::Global;
@@ -25,25 +25,27 @@ pub struct TestSink {
     taken: Vec<u8>,
     puts: u64,
     failures: u64,
+    is_flushed: bool,
     plan: Plan,
 }
 
 impl Model for TestSink {
-    ghost use Rattle.std.specs.Prelude.{ℕ, List};
+    ghost use Rattle.std.specs.Prelude.{ℕ, Bool, List};
 
-    ghost Value = { List ℕ × ℕ };
+    ghost Value = { List ℕ × ℕ × Bool };
 
-    ghost view = { λ s. (s.taken.items, s.failures) };
+    ghost view = { λ s. (s.taken.items, s.failures, s.is_flushed) };
 }
 
 impl TestSink {
     pub fn new(alloc: Global, plan: Plan) -> TestSink
-        ensures { result ≡ ([], 0) }
+        ensures { result ≡ ([], 0, false) }
     {
         TestSink {
             taken: Vec::new(alloc),
             puts: 0,
             failures: 0,
+            is_flushed: false,
             plan,
         }
     }
@@ -61,6 +63,13 @@ impl TestSink {
     {
         self.failures
     }
+
+    /// Whether nothing was put since the last flush.
+    pub fn is_flushed(&self) -> bool
+        ensures { result ≡ self.now.2 }
+    {
+        self.is_flushed
+    }
 }
 
 fn broken() -> Error {
@@ -72,7 +81,10 @@ impl Sink for TestSink {
 
     ghost failures = { λ s. s.1 };
 
+    ghost is_flushed = { λ s. s.2 };
+
     fn put(&mut self, bytes: &[u8]) -> io::Result<usize> {
+        self.is_flushed = false;
         let at = self.puts;
         self.puts = at.wrapping_add(1);
         let offered = match self.plan {
@@ -99,6 +111,7 @@ impl Sink for TestSink {
             self.failures += 1;
             return Err(broken());
         }
+        self.is_flushed = true;
         Ok(())
     }
 }

@@ -5,8 +5,10 @@ use Rattle.cq_values.specs.Texts.{is_text}
 use Rattle.cq_bags.proofs.Totals.{by_test}
 use Rattle.cq_language.specs.declared.statement.Statement.{Statement}
 use Rattle.cq_language.specs.declared.statement.Statement.TheVariants as statements
-use Rattle.cq_binding.specs.Bound.{Named, from_table, from_view, source_named, bound, bound_select}
-use Rattle.cq_binding.specs.Refusal.{first_fault, is_used, drop_table_places, select_places, refusal}
+use Rattle.cq_binding.specs.Scopes.{Named, from_table, from_view, source_named}
+use Rattle.cq_binding.specs.Bound.{bound, bound_select}
+use Rattle.cq_binding.specs.Checks.{first_fault}
+use Rattle.cq_binding.specs.Refusal.{is_used, drop_table_checks, select_checks, refusal}
 use Rattle.std.specs.List.{remove, prefix_len, list_any}
 use Rattle.std.proofs.lemmas.List.{map-append, take-map, drop-map, length-map}
 use Rattle.std.specs.Option.{option_or}
@@ -25,7 +27,8 @@ use Rattle.cq_model.specs.Write.{chosen, left_by, updated}
 use Rattle.cq_steps.specs.declared.answer.Answer.{Answer}
 use Rattle.cq_steps.specs.declared.answer.Answer.TheVariants.{Count, Rows}
 use Rattle.cq_states.specs.State.{TableOf, ViewOf, State, table_named, view_place, view_named, empty_table, rows_in, with_rows, tables_now, queries_of}
-use Rattle.cq_steps.specs.Step.{with_all_views, created, new_view, Writes, at_epoch, taken_on, reach, refreshed, Shows, Leads, Trims, at_present, Accepts, AreBetween, GivesUp, IsTooLarge}
+use Rattle.cq_steps.specs.Next.{with_all_views, created, new_view, Writes, at_epoch, taken_on, reach, refreshed, Trims, at_present}
+use Rattle.cq_steps.specs.Step.{Shows, Leads, Accepts, AreBetween, GivesUp, IsTooLarge}
 
 -- the view without its epoch
 abbrev pub timeless : ViewOf → ViewOf
@@ -93,14 +96,14 @@ refusal-seen : (x : State) (s : Statement) → refusal (seen x) s ≡ refusal x 
 refusal-seen x (statements.CreateTable name columns sort) = rw (there-timeless name x.views) refl
 refusal-seen x (statements.DropTable name) = used (table_named name x.tables)
   where
-    used : (o : Option TableOf) → first_fault (drop_table_places (map timeless x.views) o) ≡ first_fault (drop_table_places x.views o)
+    used : (o : Option TableOf) → first_fault (drop_table_checks (map timeless x.views) o) ≡ first_fault (drop_table_checks x.views o)
     used None = refl
     used (Some t) = rw (used-timeless t.number x.views) refl
 refusal-seen x (statements.CreateView name view) = rw (there-timeless name x.views, there-timeless view.source.name x.views) refl
 refusal-seen x (statements.DropView name) = rw (place-timeless name x.views) refl
 refusal-seen x (statements.Insert name rows) = rw (there-timeless name x.views) refl
 refusal-seen x (statements.Delete name condition) = rw (there-timeless name x.views) refl
-refusal-seen x (statements.Select q) = ap (λ (o : Option Named). first_fault (select_places q o)) (source-timeless q.source.name x)
+refusal-seen x (statements.Select q) = ap (λ (o : Option Named). first_fault (select_checks q o)) (source-timeless q.source.name x)
 
 -- and names are resolved without one
 bound-seen : (x : State) (s : Statement) → bound (seen x) s ≡ bound x s
@@ -216,23 +219,6 @@ trims-alike whole new t = record {
   drawn = ap (λ (s : State). s.drawn) t.state;
   max_rows = ap (λ (s : State). s.max_rows) t.state;
 }
-
--- a command that answers rows leads to a state that is alike
-leads-rows : (x : State) (command : Bound) (header : List (List ℕ)) (rows : List Row) (w : State) → Leads x command (Rows header rows) w → Alike w x
-leads-rows x (commands.CreateTable name columns sort) header rows w p = absurd (let e = p.0 in cc)
-leads-rows x (commands.DropTable n) header rows w p = absurd (let e = p.0 in cc)
-leads-rows x (commands.CreateView name columns q) header rows w p = absurd (let e = p.0 in cc)
-leads-rows x (commands.DropView place) header rows w p = absurd (let e = p.0 in cc)
-leads-rows x (commands.Insert n more) header rows w p = absurd (let e = p.0 in cc)
-leads-rows x (commands.Delete n c) header rows w p = absurd (let e = p.0 in cc)
-leads-rows x (commands.Update n assignments c) header rows w p = absurd (let e = p.0 in cc)
-leads-rows x (commands.Select names q order) header rows w p = alike_then w (refreshed (commands.Select names q order) x) x (alike_same w (refreshed (commands.Select names q order) x) p.1) (refreshed-alike (commands.Select names q order) x)
-leads-rows x (commands.Move n count) header rows w p = absurd (let e = p.0 in cc)
-leads-rows x (commands.Merge n) header rows w p = absurd (let e = p.0 in cc)
-leads-rows x (commands.Refresh place changes) header rows w p = absurd (let e = p.0 in cc)
-
-pub accepts-rows : (x : State) (command : Bound) (header : List (List ℕ)) (rows : List Row) (w : State) → Accepts x command (Rows header rows) w → Alike w x
-accepts-rows x command header rows w p = alike_then w p.whole x (trims-alike p.whole w p.trims) (leads-rows x command header rows p.whole p.leads)
 
 module _ (one_listing : (keys : List SortKey) (limit : Option ℕ) (bag : Weighted) (rows others : List Row) → IsListing keys limit bag rows → IsListing keys limit bag others → rows ≡ others) where
   shows-alike : (x y : State) (header : List (List ℕ)) (q : Query) (order : Order) (a b : Answer) → Alike x y → Shows x header q order a → Shows y header q order b → a ≡ b

@@ -11,15 +11,14 @@ use Rattle.cq_language.specs.Tokens.{HasTokens, is_past_limits}
 use Rattle.cq_language.specs.Sentence.{IsStatement, IsSentence, IsNoSentence, IsPastLimits}
 use Rattle.cq_language.specs.Pieces.{PieceOf, HasPieces}
 use Rattle.cq_steps.specs.declared.answer.Answer.{Answer}
-use Rattle.cq_steps.specs.declared.answer.Answer.TheVariants.{Rows}
 use Rattle.cq_binding.specs.declared.fault.Fault.{Fault}
 use Rattle.cq_binding.specs.declared.fault.Fault.TheVariants as faults
 use Rattle.cq_states.specs.State.{State, first_state}
 use Rattle.cq_binding.specs.Bound.{bound}
 use Rattle.cq_binding.specs.Refusal.{refusal}
 use Rattle.cq_steps.specs.Step.{Step, Does, Accepts, IsTooLarge, Refuses, by_walk, for_memory, source_failed, memory_on_the_way, too_large}
-use Rattle.cq_steps.specs.Output.{Serves, rest_without_semicolon, sentence, no_sentence, past_limits, out_of_memory, no_text, Runs, statements_among, not_utf8, answered, outside, RefusalsDecide}
-use Rattle.cq_steps.proofs.Alike.{Alike, alike_same, alike_turned, alike_then, refusal-alike, bound-alike, gives-up-alike, SameAnswer, accepts-rows, accepts-alike, not-too-large, present-alike}
+use Rattle.cq_steps.specs.Output.{Serves, rest_without_semicolon, sentence, no_sentence, past_limits, out_of_memory, Runs, statements_among, not_utf8, answered, outside, RefusalsDecide}
+use Rattle.cq_steps.proofs.Alike.{Alike, alike_same, alike_turned, alike_then, refusal-alike, bound-alike, gives-up-alike, SameAnswer, accepts-alike, not-too-large, present-alike}
 
 abbrev Outcome : Type 0
 Outcome = Result Answer Fault
@@ -126,10 +125,6 @@ module _ (one_listing : (keys : List SortKey) (limit : Option ℕ) (bag : Weight
       states = alike_then v x w (alike_same v x h) (alike_then x y w same (alike_turned w y (alike_same w y j)));
     }
 
-    -- rows leave a state that is alike
-    step_rows : (x : State) (s : Statement) (header : List (List ℕ)) (rows : List Row) (v : State) → Step x s (Ok (Rows header rows)) v → Alike v x
-    step_rows x s header rows v h = alike_then v h.on_the_way x (present-alike h.on_the_way v h.trims) (accepts-rows x h.does.command header rows h.on_the_way h.does.accepts)
-
     -- an outcome for memory leaves a state that is alike
     memory_alike : (x : State) (p : PieceOf) (o : Outcome) (v : State) → Serves x p o v → o ≡ Err faults.Memory → Alike v x
     memory_alike x p o v (rest_without_semicolon c e h) m = alike_same v x h
@@ -137,7 +132,6 @@ module _ (one_listing : (keys : List SortKey) (limit : Option ℕ) (bag : Weight
     memory_alike x p o v (no_sentence c n e h) m = alike_same v x h
     memory_alike x p o v (past_limits c n e h) m = alike_same v x h
     memory_alike x p o v (out_of_memory c e h) m = alike_same v x h
-    memory_alike x p o v (no_text c s t header rows h e) m = step_rows x s header rows v h
 
     -- the outcome that is told as one for memory is one
     told_memory : (o : Outcome) → outside o ≡ Some faults.Memory → o ≡ Err faults.Memory
@@ -175,15 +169,10 @@ module _ (one_listing : (keys : List SortKey) (limit : Option ℕ) (bag : Weight
     serves_same x y p o q v w a (past_limits c n e h) (no_sentence d l k j) m = absurd (within_or_past p.text n.tokens n.told (l.within n.tokens n.told) n)
     serves_same x y p o q v w a (past_limits c n e h) (past_limits d l k j) m = same_refusal faults.LimitExceeded o q x y v w a e k h j
     serves_same x y p o q v w a (rest_without_semicolon c e h) (out_of_memory d k j) m = same_turned q o w v (both_for_memory y x p q o w v (alike_turned x y a) (out_of_memory d k j) (rest_without_semicolon c e h) k (sym m))
-    serves_same x y p o q v w a (rest_without_semicolon c e h) (no_text d r u header rows j k) m = same_turned q o w v (both_for_memory y x p q o w v (alike_turned x y a) (no_text d r u header rows j k) (rest_without_semicolon c e h) k (sym m))
     serves_same x y p o q v w a (sentence c s t h) (out_of_memory d k j) m = same_turned q o w v (both_for_memory y x p q o w v (alike_turned x y a) (out_of_memory d k j) (sentence c s t h) k (sym m))
-    serves_same x y p o q v w a (sentence c s t h) (no_text d r u header rows j k) m = same_turned q o w v (both_for_memory y x p q o w v (alike_turned x y a) (no_text d r u header rows j k) (sentence c s t h) k (sym m))
     serves_same x y p o q v w a (no_sentence c n e h) (out_of_memory d k j) m = same_turned q o w v (both_for_memory y x p q o w v (alike_turned x y a) (out_of_memory d k j) (no_sentence c n e h) k (sym m))
-    serves_same x y p o q v w a (no_sentence c n e h) (no_text d r u header rows j k) m = same_turned q o w v (both_for_memory y x p q o w v (alike_turned x y a) (no_text d r u header rows j k) (no_sentence c n e h) k (sym m))
     serves_same x y p o q v w a (past_limits c n e h) (out_of_memory d k j) m = same_turned q o w v (both_for_memory y x p q o w v (alike_turned x y a) (out_of_memory d k j) (past_limits c n e h) k (sym m))
-    serves_same x y p o q v w a (past_limits c n e h) (no_text d r u header rows j k) m = same_turned q o w v (both_for_memory y x p q o w v (alike_turned x y a) (no_text d r u header rows j k) (past_limits c n e h) k (sym m))
     serves_same x y p o q v w a (out_of_memory c e h) k m = both_for_memory x y p o q v w a (out_of_memory c e h) k e m
-    serves_same x y p o q v w a (no_text c s t header rows h e) k m = both_for_memory x y p o q v w a (no_text c s t header rows h e) k e m
 
     runs_same : (x y : State) (ps : List PieceOf) (os qs : List Outcome) (v w : State) → Alike x y → Runs x ps os v → Runs y ps qs w → map outside os ≡ map outside qs → os ≡ qs
     runs_same x y [] [] [] v w a h k m = refl

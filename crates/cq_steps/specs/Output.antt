@@ -1,9 +1,8 @@
 -- The output of a script: the texts of its statements' outcomes, one after the other (docs/LANGUAGE.md, Scripts and tokens).
-use Rattle.std.specs.Prelude.{◌≡◌, ℕ, true, false, not, List, [], ◌∷◌, ◌++◌, codes, map, filter, Option, Some, None, Result, Ok, Err}
+use Rattle.std.specs.Prelude.{◌≡◌, ℕ, Bool, true, false, not, List, [], ◌∷◌, ◌++◌, codes, map, filter, Option, Some, None, Result, Ok, Err}
 use Rattle.std.specs.Fmt.{decimal}
-use Rattle.std.specs.List.{flat_map}
+use Rattle.std.specs.List.{count_by, flat_map}
 use Rattle.std.specs.Str.{IsUtf8}
-use Rattle.cq_values.specs.Value.{Row}
 use Rattle.cq_language.specs.declared.statement.Statement.{Statement}
 use Rattle.cq_language.specs.Sentence.{IsSentence, IsNoSentence, IsPastLimits}
 use Rattle.cq_language.specs.Pieces.{PieceOf, HasPieces}
@@ -16,15 +15,14 @@ use Rattle.cq_printed.specs.Printed.{rows_text}
 use Rattle.cq_states.specs.State.{State, first_state}
 use Rattle.cq_steps.specs.Step.{Step}
 
--- what a statement of a script, or what stands in its place, is answered with, and what state it leaves; rows may find
--- no memory for their text
+-- what a statement of a script, or what stands in its place, is answered with, and what state it leaves; where rows
+-- find no memory for their text the statement is refused for it
 pub data Serves (old : State) (p : PieceOf) (outcome : Result Answer Fault) (new : State) : Type 0 where
   rest_without_semicolon : p.closed ≡ false → outcome ≡ Err Syntax → new ≡ old → Serves old p outcome new
   sentence : p.closed ≡ true → (s : Statement) → IsSentence p.text s → Step old s outcome new → Serves old p outcome new
   no_sentence : p.closed ≡ true → IsNoSentence p.text → outcome ≡ Err Syntax → new ≡ old → Serves old p outcome new
   past_limits : p.closed ≡ true → IsPastLimits p.text → outcome ≡ Err LimitExceeded → new ≡ old → Serves old p outcome new
   out_of_memory : p.closed ≡ true → outcome ≡ Err Memory → new ≡ old → Serves old p outcome new
-  no_text : p.closed ≡ true → (s : Statement) → IsSentence p.text s → (header : List (List ℕ)) (rows : List Row) → Step old s (Ok (Rows header rows)) new → outcome ≡ Err Memory → Serves old p outcome new
 
 -- the statements are answered one after the other, each in the state that the one before it left
 abbrev pub Runs : State → List PieceOf → List (Result Answer Fault) → State → Type 0
@@ -52,6 +50,15 @@ outcome_text (Err f) = codes "error " ++ (fault_text f ++ 10 ∷ [])
 -- the output that outcomes make
 abbrev pub output_of : List (Result Answer Fault) → List ℕ
 output_of outcomes = flat_map outcome_text outcomes
+
+-- a refusal for a source that failed
+abbrev pub is_source_failure : Result Answer Fault → Bool
+is_source_failure (Err SourceFailed) = true
+is_source_failure outcome = false
+
+-- how often a source failed, as outcomes tell it
+abbrev pub source_failures : List (Result Answer Fault) → ℕ
+source_failures outcomes = count_by is_source_failure outcomes
 
 -- a refusal that neither the script nor its files decide: memory was wanting, or the source failed
 abbrev pub outside : Result Answer Fault → Option Fault

@@ -1,5 +1,5 @@
 //! A sink in memory that keeps answer from answer.
-ghost use Rattle.std.specs.Prelude.{◌≡◌, ◌++◌, [], Some, IfOk, IfErr};
+ghost use Rattle.std.specs.Prelude.{◌≡◌, ◌++◌, [], Some, IfOk, IfErr, false};
 
 use cq_cli::Sink;
 use std::alloc::{AllocError, Global};
@@ -13,24 +13,26 @@ pub struct Answers {
     taken: Vec<u8>,
     ends: Vec<usize>,
     failures: u64,
+    is_flushed: bool,
 }
 
 impl Model for Answers {
-    ghost use Rattle.std.specs.Prelude.{ℕ, List};
+    ghost use Rattle.std.specs.Prelude.{ℕ, Bool, List};
 
-    ghost Value = { List ℕ × ℕ };
+    ghost Value = { List ℕ × ℕ × Bool };
 
-    ghost view = { λ s. (s.taken.items, s.failures) };
+    ghost view = { λ s. (s.taken.items, s.failures, s.is_flushed) };
 }
 
 impl Answers {
     pub fn new(alloc: Global) -> Answers
-        ensures { result ≡ ([], 0) }
+        ensures { result ≡ ([], 0, false) }
     {
         Answers {
             taken: Vec::new(alloc),
             ends: Vec::new(alloc),
             failures: 0,
+            is_flushed: false,
         }
     }
 
@@ -66,7 +68,10 @@ impl Sink for Answers {
 
     ghost failures = { λ s. s.1 };
 
+    ghost is_flushed = { λ s. s.2 };
+
     fn put(&mut self, bytes: &[u8]) -> io::Result<usize> {
+        self.is_flushed = false;
         if self.take(bytes).is_err() {
             self.failures += 1;
             return Err(Error::from(ErrorKind::OutOfMemory));
@@ -75,6 +80,7 @@ impl Sink for Answers {
     }
 
     fn flush(&mut self) -> io::Result<()> {
+        self.is_flushed = true;
         Ok(())
     }
 }

@@ -1,7 +1,6 @@
 //! The transcript of a script.
 use crate::answers::Answers;
-use cq_cli::{NoSources, exit_of, run};
-use cq_engine::Limits;
+use cq_cli::run_program;
 use cq_sql::split;
 use std::alloc::Global;
 use std::io;
@@ -15,18 +14,14 @@ pub fn write_transcript<W: Write>(
     script: &[u8],
     out: &mut W,
 ) -> io::Result<()> {
-    let limits = Limits {
-        max_rows: Limits::MAX_ROWS,
-    };
     let mut answers = Answers::new(alloc);
-    let mut sources = NoSources::default();
-    let ended = run(alloc, script, limits, &mut sources, &mut answers);
+    let exit = run_program(alloc, script, &mut answers);
     writeln!(out, "== {name}")?;
     match str::from_utf8(script) {
         Ok(text) => write_statements(text, &answers, out)?,
         Err(_) => out.write_all(answers.taken())?,
     }
-    writeln!(out, "status {}", exit_of(&ended))
+    writeln!(out, "status {exit}")
 }
 
 fn write_statements<W: Write>(script: &str, answers: &Answers, out: &mut W) -> io::Result<()> {

@@ -6,7 +6,7 @@ use Rattle.cq_values.specs.Value.{Row}
 use Rattle.cq_bags.specs.Bag.{IsBag, Weighted, once_each}
 use Rattle.cq_bags.proofs.Bags.{same-refl}
 use Rattle.cq_bags.proofs.Listings.{weight_of-once_each}
-use Rattle.cq_deltas.specs.Table.{HoldsFor}
+use Rattle.cq_deltas.specs.Keyed.{HoldsFor}
 use Rattle.cq_views.specs.declared.view_def.ViewDef.{ViewDef}
 use Rattle.cq_views.specs.Small.{AreSmallFor, CanBeKept, IsSmallFor}
 use Rattle.cq_views.specs.View.{GoesOn, KeptView, SameView, Stands, change_of}

@@ -13,7 +13,7 @@ use Rattle.cq_model.specs.Width.{sizes_of}
 use Rattle.cq_laws.proofs.Fits.{FitBeside, IsStored, all-filter, all-map, row-of-bag}
 use Rattle.cq_laws.proofs.Groups.{IsRowOf}
 use Rattle.cq_laws.proofs.Ranges.{all-at, all-from}
-use Rattle.cq_deltas.specs.Table.{group_at}
+use Rattle.cq_deltas.specs.Keyed.{group_at}
 use Rattle.cq_deltas.specs.Told.{counted_keys, group_rows}
 use Rattle.cq_views.specs.Small.{CanBeKept, StandsOnStored}
 use Rattle.cq_views.specs.View.{AreNarrowAt, KeptView, kept_rows}

@@ -13,7 +13,7 @@ use Rattle.cq_model.specs.Meaning.{keeps}
 use Rattle.cq_deltas.specs.declared.change.Addition.{Addition}
 use Rattle.cq_deltas.specs.Additions.{IsSmall, addend_of, addition}
 use Rattle.cq_deltas.specs.Kept.{total_move, total_moves}
-use Rattle.cq_deltas.specs.Table.{all_total_moves, count_moves}
+use Rattle.cq_deltas.specs.Keyed.{all_total_moves, count_moves}
 use Rattle.cq_deltas.proofs.Small.{small-hold}
 use Rattle.cq_views.specs.declared.view_def.ViewDef.{ViewDef}
 use Rattle.cq_views.specs.Laws.{SmallChangesHold, SmallRowsChange}

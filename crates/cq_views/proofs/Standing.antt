@@ -11,7 +11,7 @@ use Rattle.cq_model.specs.Meaning.{keeps}
 use Rattle.cq_laws.proofs.Keeps.{built_last-stands, last-respects}
 use Rattle.cq_deltas.specs.declared.change.Addition.{Addition}
 use Rattle.cq_deltas.specs.Additions.{AreTotals}
-use Rattle.cq_deltas.specs.Table.{GroupsGoOn, Table, group_at}
+use Rattle.cq_deltas.specs.Keyed.{GroupsGoOn, Table, group_at}
 use Rattle.cq_views.specs.declared.view_def.ViewDef.{ViewDef}
 use Rattle.cq_views.specs.Laws.{StandingDependsOnBag}
 use Rattle.cq_views.specs.View.{GoesOn, KeptView, SameView, Stands, kept_rows, query_of, shape_of}

@@ -19,7 +19,7 @@ use Rattle.cq_laws.proofs.Groups.{IsRowOf, row-from-test, row-to-test}
 use Rattle.cq_laws.proofs.Ranges.{all-at, all-from, key-counted}
 use Rattle.cq_laws.proofs.Told.{last-told}
 use Rattle.cq_deltas.proofs.Small.{ranges-tell}
-use Rattle.cq_deltas.specs.Table.{Table, group_at}
+use Rattle.cq_deltas.specs.Keyed.{Table, group_at}
 use Rattle.cq_deltas.specs.Told.{AllCanBeTold, GroupsCanBeTold, counted_keys, group_rows}
 use Rattle.cq_views.specs.View.{KeptView, StandsFor, kept_rows, query_of, shape_of}
 

@@ -3,7 +3,7 @@ use Rattle.std.specs.Prelude.{◌≤◌, ◌<◌, ◌^◌, ℤ, nat_abs, List, l
 use Rattle.std.specs.List.{AllByRecursion}
 use Rattle.cq_values.specs.Value.{Row}
 use Rattle.cq_bags.specs.Bag.{Weighted, SameBag}
-use Rattle.cq_deltas.specs.Table.{HoldsFor}
+use Rattle.cq_deltas.specs.Keyed.{HoldsFor}
 use Rattle.cq_views.specs.declared.view_def.ViewDef.{ViewDef}
 use Rattle.cq_views.specs.Small.{CanBeKept, IsSmallFor, AreSmallFor}
 use Rattle.cq_views.specs.View.{KeptView, Stands, change_of, changed}

@@ -13,7 +13,7 @@ use Rattle.cq_model.specs.Meaning.{Tables, keeps}
 use Rattle.cq_model.specs.Width.{extent, widest_at}
 use Rattle.cq_deltas.specs.declared.change.Addition.{Addition}
 use Rattle.cq_deltas.specs.Additions.{IsNarrow, additions}
-use Rattle.cq_deltas.specs.Table.{Table, group_at}
+use Rattle.cq_deltas.specs.Keyed.{Table, group_at}
 use Rattle.cq_views.specs.declared.view_def.ViewDef.{ViewDef}
 
 -- the groups of the rows, without HAVING

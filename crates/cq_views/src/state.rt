@@ -3,7 +3,7 @@ ghost use Rattle.std.specs.List.{AllByRecursion};
 ghost use Rattle.std.specs.Prelude.{◌==◌, ◌≡◌, IfErr, IfOk, OnOk, [], map};
 ghost use Rattle.cq_bags.specs.Bag.{SameBag, once_each};
 ghost use Rattle.cq_deltas.specs.declared.fault.ToldFault.TheVariants.{SumOutOfRange};
-ghost use Rattle.cq_deltas.specs.Table.{HasKeys, HoldsFor};
+ghost use Rattle.cq_deltas.specs.Keyed.{HasKeys, HoldsFor};
 ghost use Rattle.cq_model.specs.Meaning.{MeaningInRange, Tables, meaning};
 ghost use Rattle.cq_model.specs.Sizes.{column_sizes};
 ghost use Rattle.cq_values.specs.Value.{Row as Values};

@@ -32,7 +32,17 @@ fn display_agrees_with_the_text(rt: HostRuntime) -> Result<(), Fail> {
     for (fault, text) in faults {
         let shown = format!(in rt.alloc(); "{fault}")?;
         assert_eq!(rt; shown.as_str(), text);
-        assert_eq!(rt; fault.text(), text);
+        assert_eq!(rt; fault.words(), text);
     }
+    Ok(())
+}
+
+#[test]
+fn the_record_stands_behind_the_words(rt: HostRuntime) -> Result<(), Fail> {
+    let fault = Fault::BadRecord(70);
+    let shown = format!(in rt.alloc(); "{fault}")?;
+    assert_eq!(rt; shown.as_str(), "26 bad CSV record 70");
+    assert_eq!(rt; fault.words(), "26 bad CSV record ");
+    assert_eq!(rt; fault.record(), Some(70));
     Ok(())
 }

@@ -14,6 +14,7 @@ fn one_byte_a_put_ends_as_usual(rt: HostRuntime) -> Result<(), Fail> {
     assert_eq!(rt; sink.taken(), OUTPUT.as_bytes());
     assert_eq!(rt; exit, 1);
     assert_eq!(rt; sink.failures(), 0);
+    assert!(rt; sink.is_flushed());
     Ok(())
 }
 
@@ -43,6 +44,7 @@ fn a_flush_that_fails_is_told_after_the_whole_output(rt: HostRuntime) -> Result<
         assert_eq!(rt; exit, 3, "{script}");
         assert_eq!(rt; sink.taken(), output.as_bytes(), "{script}");
         assert_eq!(rt; sink.failures(), 1, "{script}");
+        assert!(rt; !sink.is_flushed(), "{script}");
     }
     Ok(())
 }

@@ -1,7 +1,7 @@
 use Rattle.std.proofs.Common.{◌≡◌, ℕ, false, rules, List, [], map}
 use Rattle.std.proofs.lemmas.Result.{err_from_is_err_and}
-use Rattle.cq_binding.specs.Bound.{place_in}
-use Rattle.cq_binding.specs.Refusal.{create_places, sort_places}
+use Rattle.cq_binding.specs.Scopes.{place_in}
+use Rattle.cq_binding.specs.Refusal.{create_checks, sort_checks}
 use Rattle.cq_states.specs.State.{is_taken}
 use Rattle.cq_binder.specs.Catalog.{alone}
 use Rattle.cq_binder.proofs.Creating.{columns_refused, length_refused, sort_decides}
@@ -30,5 +30,5 @@ returns g c =
     let tables = g.C.Catalog.tables c.args.catalog.now in
     let views = g.C.Catalog.views c.args.catalog.now in
     let free : is_taken c.args.name.now (alone tables views) ≡ false = search rules in
-    walked_same (sort_places columns [] c.args.sort.now) (create_places c.args.name.now columns c.args.sort.now (alone tables views)) (λ (places : List ℕ). places ≡ map (place_in columns) c.args.sort.now) c.sort_columns.result
+    walked_same (sort_checks columns [] c.args.sort.now) (create_checks c.args.name.now columns c.args.sort.now (alone tables views)) (λ (places : List ℕ). places ≡ map (place_in columns) c.args.sort.now) c.sort_columns.result
     (sort_decides c.args.name.now columns c.args.sort.now tables views free c.in_ok-check_names.ensures.0 c.in_ok-check_length.ensures.0) c.sort_columns.ensures

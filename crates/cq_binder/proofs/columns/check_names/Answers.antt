@@ -1,6 +1,6 @@
 use Rattle.std.proofs.Common.{Bool, sym, ap}
 use Rattle.cq_binding.specs.declared.fault.Fault.TheVariants.{NameTaken}
-use Rattle.cq_binding.specs.Refusal.{fault_if}
+use Rattle.cq_binding.specs.Checks.{fault_if}
 use Rattle.cq_binder.proofs.Faults.{columns_more, found, passed}
 use Rattle.cq_binder.proofs.columns.check_names.Goals as goal
 

@@ -1,6 +1,6 @@
 use Rattle.std.proofs.Common.{refl, ap}
 use Rattle.cq_model.specs.declared.query.Source.TheVariants.{Table}
-use Rattle.cq_binding.specs.Bound.{from_table, source_named}
+use Rattle.cq_binding.specs.Scopes.{from_table, source_named}
 use Rattle.cq_states.specs.State.{table_named}
 use Rattle.cq_binder.specs.Catalog.{alone, shown_view}
 use Rattle.cq_binder.proofs.Found.{table_there}

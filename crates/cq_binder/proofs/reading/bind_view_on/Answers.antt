@@ -1,7 +1,8 @@
 use Rattle.std.proofs.Common.{◌≡◌, None, ap, subst}
 use Rattle.std.proofs.lemmas.Result.{err_from_is_err_and}
 use Rattle.cq_language.specs.declared.statement.ViewSelect.{ViewSelect}
-use Rattle.cq_binding.specs.Refusal.{first_fault, query_places, MayRefuse}
+use Rattle.cq_binding.specs.Checks.{first_fault, MayRefuse}
+use Rattle.cq_binding.specs.Refusal.{query_checks}
 use Rattle.cq_binding.specs.Typing.{Scope}
 use Rattle.cq_binder.specs.View.{IsBoundView}
 use Rattle.cq_binder.specs.declared.view.BoundView.{BoundView}
@@ -9,13 +10,13 @@ use Rattle.cq_binder.proofs.Creating.{view_made}
 use Rattle.cq_binder.proofs.reading.bind_view_on.Goals as goal
 
 -- the walk over the table is that over what it is as a source
-in_scope : (v : ViewSelect) (b : BoundView) (s u : Scope) → s ≡ u → (first_fault (query_places s v) ≡ None) × IsBoundView s v b → (first_fault (query_places u v) ≡ None) × IsBoundView u v b
-in_scope v b s u same bound = subst (λ (x : Scope). (first_fault (query_places x v) ≡ None) × IsBoundView x v b) same bound
+in_scope : (v : ViewSelect) (b : BoundView) (s u : Scope) → s ≡ u → (first_fault (query_checks s v) ≡ None) × IsBoundView s v b → (first_fault (query_checks u v) ≡ None) × IsBoundView u v b
+in_scope v b s u same bound = subst (λ (x : Scope). (first_fault (query_checks x v) ≡ None) × IsBoundView x v b) same bound
 
 pub returns-in_err-columns : goal.returns-in_err-columns
 returns-in_err-columns c = λ t same.
     let p = err_from_is_err_and c.from_residual-in_err-columns.result c.from_residual-in_err-columns.ensures.1 in
-    let e = subst (λ (s : Scope). MayRefuse (first_fault (query_places s c.args.view.now)) c.in_err-columns.field-0.0) (c.table_scope_as.ensures t same) c.in_err-columns.ensures in
+    let e = subst (λ (s : Scope). MayRefuse (first_fault (query_checks s c.args.view.now)) c.in_err-columns.field-0.0) (c.table_scope_as.ensures t same) c.in_err-columns.ensures in
     rw (p.1, p.2) e
 
 pub returns : goal.returns

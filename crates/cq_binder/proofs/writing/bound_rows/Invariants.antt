@@ -1,11 +1,12 @@
 use Rattle.std.proofs.Common.{◌≡◌, map, take, drop}
 use Rattle.std.specs.List.{flat_map}
 use Rattle.cq_binding.specs.Bound.{row_of}
-use Rattle.cq_binding.specs.Refusal.{first_fault, row_places}
+use Rattle.cq_binding.specs.Checks.{first_fault}
+use Rattle.cq_binding.specs.RowChecks.{row_checks}
 use Rattle.cq_binder.proofs.writing.bound_rows.Given as goal
 
 -- the rows so far are made, and those that are left have the first fault of all
 abbrev pub invariant-loop-row : goal.invariant-loop-row
 invariant-loop-row l =
     (l.made.items ≡ map row_of (take l.row-index l.rows))
-    × (first_fault (flat_map (row_places l.columns) (drop l.row-index l.rows)) ≡ first_fault (flat_map (row_places l.columns) l.rows))
+    × (first_fault (flat_map (row_checks l.columns) (drop l.row-index l.rows)) ≡ first_fault (flat_map (row_checks l.columns) l.rows))

@@ -1,29 +1,33 @@
-use Rattle.std.proofs.Common.{rules, arith}
+use Rattle.std.proofs.Common.{rules, arith, refl, ◌∙◌}
 use Rattle.std.proofs.lemmas.Result.{err_from_is_err_and}
 use Rattle.cq_tokens.specs.Piece.{piece_of}
 use Rattle.cq_cli.proofs.Runs.{cut_off, ends, has_room, passes, serves, starts}
 use Rattle.cq_cli.proofs.running.run_text.Goals as goal
 
 pub loop-piece-init : goal.loop-piece-init
-loop-piece-init g c = starts c.args.limits.max_rows c.args.script.now _ _ _ c.new-engine.result c.split-pieces.ensures c.new-engine.ensures
+loop-piece-init g c = (starts c.args.limits.max_rows c.args.script.now _ _ _ _ c.new-engine.result c.split-pieces.ensures c.new-engine.ensures, refl)
 
 pub serve-requires-clause-room : goal.serve-requires-clause-room
 serve-requires-clause-room g c =
-    has_room c.args.limits.max_rows c.args.script.now _ _ _ _ c.loop-piece.engine c.loop-piece.status (piece_of c.in-Some.piece) _ _ c.in-Some.ensures.steps c.loop-piece.invariant (c.closed_pieces_fit.ensures c.args.script.now) (omega arith)
+    has_room c.args.limits.max_rows c.args.script.now _ _ _ _ _ _ c.loop-piece.engine c.loop-piece.status (piece_of c.in-Some.piece) _ _ c.in-Some.ensures.steps c.loop-piece.invariant.0 (c.closed_pieces_fit.ensures c.args.script.now) (omega arith)
 
 pub loop-piece-preserved-then-not-piece : goal.loop-piece-preserved-then-not-piece
-loop-piece-preserved-then-not-piece g c =
-    rw c.and-status.ensures (serves c.args.limits.max_rows c.args.script.now _ _ _ _ c.loop-piece.engine c.loop-piece.status (piece_of c.in-Some.piece) _ _ c.in-Some.ensures.steps c.loop-piece.invariant _ _ c.serve.new.engine c.in_ok-served.served (search rules) c.in_ok-served.ensures)
+loop-piece-preserved-then-not-piece g c = (
+  rw c.and-status.ensures (serves c.args.limits.max_rows c.args.script.now _ _ _ _ _ _ c.loop-piece.engine c.loop-piece.status (piece_of c.in-Some.piece) _ _ c.in-Some.ensures.steps c.loop-piece.invariant.0 _ _ _ c.serve.new.engine c.in_ok-served.served (search rules) c.in_ok-served.ensures.served),
+  c.serve.ensures.files ∙ c.loop-piece.invariant.1,
+)
 
-pub returns-in_err-served : goal.returns-in_err-served
-returns-in_err-served g c =
+pub returns-in_err-served-clause-ran : goal.returns-in_err-served-clause-ran
+returns-in_err-served-clause-ran g c =
     let p = err_from_is_err_and c.from_residual.result c.from_residual.ensures.1 in
-    rw p.1 (cut_off c.args.limits.max_rows c.args.script.now _ _ _ _ c.loop-piece.engine c.loop-piece.status (piece_of c.in-Some.piece) _ _ c.in-Some.ensures.steps c.loop-piece.invariant _ _ c.serve.new.engine c.in_err-served.field-0.0 _ c.utf8.script (search rules) c.in_err-served.ensures)
+    rw p.1 (cut_off c.args.limits.max_rows c.args.script.now _ _ _ _ _ _ c.loop-piece.engine c.loop-piece.status (piece_of c.in-Some.piece) _ _ c.in-Some.ensures.steps c.loop-piece.invariant.0 _ _ _ c.serve.new.engine c.in_err-served.field-0.0 _ c.utf8.script (search rules) c.in_err-served.ensures.served)
 
 pub loop-piece-preserved : goal.loop-piece-preserved
-loop-piece-preserved g c =
-    passes c.args.limits.max_rows c.args.script.now _ _ _ _ c.loop-piece.engine c.loop-piece.status (piece_of c.in-Some.piece) _ _ c.in-Some.ensures.steps c.loop-piece.invariant (search rules)
+loop-piece-preserved g c = (
+  passes c.args.limits.max_rows c.args.script.now _ _ _ _ _ _ c.loop-piece.engine c.loop-piece.status (piece_of c.in-Some.piece) _ _ c.in-Some.ensures.steps c.loop-piece.invariant.0 (search rules),
+  c.loop-piece.invariant.1,
+)
 
-pub returns : goal.returns
-returns g c =
-    ends c.args.limits.max_rows c.args.script.now _ _ _ _ _ c.loop-piece.engine c.loop-piece.status c.utf8.script c.in_default.ensures.steps.0 c.loop-piece.invariant
+pub returns-clause-ran : goal.returns-clause-ran
+returns-clause-ran g c =
+    ends c.args.limits.max_rows c.args.script.now _ _ _ _ _ _ _ c.loop-piece.engine c.loop-piece.status c.utf8.script c.in_default.ensures.steps.0 c.loop-piece.invariant.0

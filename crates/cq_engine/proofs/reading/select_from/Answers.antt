@@ -4,7 +4,7 @@ use Rattle.std.proofs.lemmas.Option.{slice_get_read}
 use Rattle.cq_model.specs.Sizes.{column_sizes}
 use Rattle.cq_model.specs.declared.query.Source.{Source}
 use Rattle.cq_states.specs.State.{ViewOf}
-use Rattle.cq_engine.specs.Bound.{IsWithin, IsWithinSized}
+use Rattle.cq_engine.specs.Narrow.{IsWithin, IsWithinSized}
 use Rattle.cq_engine.specs.Commands.{IsWithinSource}
 use Rattle.cq_engine.specs.Views.{views_of}
 use Rattle.cq_engine.proofs.Readings.{backed, from_kept, from_rows, place_there, same_view_there}

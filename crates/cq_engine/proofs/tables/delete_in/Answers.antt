@@ -3,7 +3,7 @@ use Rattle.std.specs.Prelude.{IfOk}
 use Rattle.std.specs.List.{AllByRecursion}
 use Rattle.cq_values.specs.Value.{Row}
 use Rattle.cq_model.specs.Write.{chosen, left_by}
-use Rattle.cq_engine.specs.Bound.{IsNarrowAt}
+use Rattle.cq_engine.specs.Narrow.{IsNarrowAt}
 use Rattle.cq_engine.proofs.Rows.{rows_numbered}
 use Rattle.cq_engine.proofs.Written.{stand_at, written-moved, written-number}
 use Rattle.cq_engine.proofs.tables.delete_in.Goals as goal

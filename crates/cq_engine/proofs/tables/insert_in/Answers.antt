@@ -2,7 +2,7 @@ use Rattle.std.proofs.Common.{◌≡◌, ◌+◌, ◌++◌, None, length, refl, 
 use Rattle.std.specs.Prelude.{nat_lt}
 use Rattle.std.proofs.lemmas.Result.{err_from_is_err_and}
 use Rattle.cq_binding.specs.declared.fault.Fault.TheVariants.{TableFull}
-use Rattle.cq_binding.specs.Refusal.{fault_if, MayRefuse}
+use Rattle.cq_binding.specs.Checks.{fault_if, MayRefuse}
 use Rattle.cq_states.specs.State.{TableOf, rows_in}
 use Rattle.cq_engine.proofs.Rows.{rows_numbered}
 use Rattle.cq_engine.proofs.Turns.{all_same}

@@ -3,7 +3,7 @@ use Rattle.cq_binding.specs.Placed.{placed_expr}
 use Rattle.cq_model.specs.Trees.{expr_of}
 use Rattle.cq_language.specs.Written.{written}
 use Rattle.cq_language.specs.declared.written.ExprNode.TheViews.{the_lemmas}
-use Rattle.cq_binding.specs.Bound.{place_of}
+use Rattle.cq_binding.specs.Scopes.{place_of}
 use Rattle.cq_exprs.specs.Expressions.{scope_of}
 use Rattle.cq_exprs.proofs.Places.{and_placed, factors_tested, in_placed, one_term, or_placed, terms_tested}
 use Rattle.cq_exprs.proofs.placing.+conditions.Goals as goal

@@ -2,7 +2,7 @@ use Rattle.std.proofs.Common.{◌≡◌, map, take}
 use Rattle.cq_binding.specs.Placed.{placed_cond}
 use Rattle.cq_model.specs.Trees.{cond_of}
 use Rattle.cq_language.specs.Written.{written}
-use Rattle.cq_binding.specs.Bound.{place_of}
+use Rattle.cq_binding.specs.Scopes.{place_of}
 use Rattle.cq_exprs.specs.Expressions.{scope_of}
 use Rattle.cq_exprs.proofs.placing.+conditions.Given as goal
 

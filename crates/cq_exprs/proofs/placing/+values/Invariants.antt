@@ -4,7 +4,7 @@ use Rattle.std.specs.Slice.Iter.{iter_rest}
 use Rattle.cq_binding.specs.Placed.{placed_expr}
 use Rattle.cq_model.specs.Trees.{expr_of}
 use Rattle.cq_language.specs.Written.{written}
-use Rattle.cq_binding.specs.Bound.{place_of}
+use Rattle.cq_binding.specs.Scopes.{place_of}
 use Rattle.cq_exprs.specs.Expressions.{scope_of}
 use Rattle.cq_exprs.specs.Terms.{later_terms}
 use Rattle.cq_exprs.proofs.placing.+values.Given as goal

@@ -1,5 +1,5 @@
 use Rattle.std.proofs.Common.{◌∙◌, ap}
-use Rattle.cq_deltas.specs.Table.{Table, group_at}
+use Rattle.cq_deltas.specs.Keyed.{Table, group_at}
 use Rattle.cq_deltas.proofs.Small.{first-hold}
 use Rattle.cq_calls.proofs.tests.groups.first_groups.Goals as goal
 

@@ -1,7 +1,7 @@
 use Rattle.std.proofs.Common.{◌≡◌, take}
 use Rattle.std.specs.Option.{option_map}
 use Rattle.cq_values.specs.Value.{Row}
-use Rattle.cq_deltas.specs.Table.{group_with_all, stored_at}
+use Rattle.cq_deltas.specs.Keyed.{group_with_all, stored_at}
 use Rattle.cq_deltas.proofs.groups.Groups.put_all.Given as goal
 
 -- the rows so far are in their groups

@@ -1,6 +1,6 @@
 use Rattle.std.proofs.Common.{◌≡◌, take}
 use Rattle.cq_values.specs.Value.{Row}
-use Rattle.cq_deltas.specs.Table.{HasKeys, group_at}
+use Rattle.cq_deltas.specs.Keyed.{HasKeys, group_at}
 use Rattle.cq_deltas.proofs.groups.Groups.ready.Given as goal
 
 -- the keys so far are there, and no group is another

@@ -1,4 +1,4 @@
-use Rattle.cq_deltas.specs.Table.{Takes}
+use Rattle.cq_deltas.specs.Keyed.{Takes}
 use Rattle.cq_deltas.proofs.MetKeys.{taken}
 use Rattle.cq_deltas.proofs.GoesOn.{groups-go-on}
 use Rattle.cq_deltas.proofs.groups.Groups.take.Goals as goal

@@ -1,7 +1,7 @@
 use Rattle.std.proofs.Common.{Some, sym, ap, ◌∙◌}
 use Rattle.std.specs.Prelude.{option_map, unwrap_or}
 use Rattle.cq_model.specs.declared.query.Source.TheVariants.{View}
-use Rattle.cq_binding.specs.Bound.{from_view}
+use Rattle.cq_binding.specs.Scopes.{from_view}
 use Rattle.cq_states.specs.State.{view_place}
 use Rattle.cq_engine.specs.Views.{NamedView, view_of, views_of}
 use Rattle.cq_engine.proofs.Named.{view_absent, view_there}

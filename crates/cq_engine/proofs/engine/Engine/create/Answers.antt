@@ -17,8 +17,8 @@ invariant_of-self-2 c =
       rw (c.in_ok-push.ensures.items, c.new-table.ensures) (right_everywhere tables _ c.self.inside.writes c.self.inside.views.items (λ n. rows_before tables made n refl) c.self.invariant.3),
     )
 
-pub returns : goal.returns
-returns c =
+pub returns-clause-done : goal.returns-clause-done
+returns-clause-done c =
     let tables = c.self.inside.tables.items in
     let views = c.self.inside.views.items in
     rw (← c.self.view_is) (

@@ -4,8 +4,8 @@ use Rattle.cq_engine.proofs.Kept.{all_at}
 use Rattle.cq_engine.proofs.Steps.{create_view_done}
 use Rattle.cq_engine.proofs.engine.Engine.create_view.Goals as goal
 
-pub returns : goal.returns
-returns c =
+pub returns-clause-done : goal.returns-clause-done
+returns-clause-done c =
     let tables = c.self.inside.tables.items in
     let views = c.self.inside.views.items in
     rw (← c.self.view_is) (

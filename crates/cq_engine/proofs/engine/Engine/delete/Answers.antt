@@ -20,8 +20,8 @@ invariant_of-self c =
       rw same.0 (all_right_same tables c.self.inside.writes views c.delete_in.new.views.items same.1 c.self.invariant.3),
     )
 
-pub returns-in_err-rows : goal.returns-in_err-rows
-returns-in_err-rows c =
+pub returns-in_err-rows-clause-done : goal.returns-in_err-rows-clause-done
+returns-in_err-rows-clause-done c =
     let p = err_from_is_err_and c.from_residual.result c.from_residual.ensures.1 in
     let same = c.in_err-rows.ensures.err in
     let tables = c.self.inside.tables.items in
@@ -39,8 +39,8 @@ invariant_of-self-2 c =
       c.in_ok-rows.ensures.moved.right,
     )
 
-pub returns : goal.returns
-returns c =
+pub returns-clause-done : goal.returns-clause-done
+returns-clause-done c =
     let tables = c.self.inside.tables.items in
     let views = c.self.inside.views.items in
     rw (← c.self.view_is) (

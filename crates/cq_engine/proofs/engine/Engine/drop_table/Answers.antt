@@ -17,8 +17,8 @@ invariant_of-self c =
       rw c.drop_in.ensures (right_dropped c.args.number tables c.self.inside.writes c.self.inside.views.items unused c.self.invariant.3),
     )
 
-pub returns : goal.returns
-returns c =
+pub returns-clause-done : goal.returns-clause-done
+returns-clause-done c =
     let tables = c.self.inside.tables.items in
     let views = c.self.inside.views.items in
     rw (← c.self.view_is) (

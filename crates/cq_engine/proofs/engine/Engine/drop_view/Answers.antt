@@ -13,8 +13,8 @@ invariant_of-self c = (
   rw c.drop_view_at.ensures (right_without c.self.inside.views.items c.args.place c.self.inside.tables.items c.self.inside.writes c.self.invariant.3),
 )
 
-pub returns : goal.returns
-returns c =
+pub returns-clause-done : goal.returns-clause-done
+returns-clause-done c =
     let tables = c.self.inside.tables.items in
     let views = c.self.inside.views.items in
     let now = c.self.inside.writes in

@@ -19,8 +19,8 @@ invariant_of-self c =
       rw same.0 (all_right_same tables c.self.inside.writes views c.insert_in.new.views.items same.1 c.self.invariant.3),
     )
 
-pub returns-in_err-insert_in : goal.returns-in_err-insert_in
-returns-in_err-insert_in c =
+pub returns-in_err-insert_in-clause-done : goal.returns-in_err-insert_in-clause-done
+returns-in_err-insert_in-clause-done c =
     let p = err_from_is_err_and c.from_residual.result c.from_residual.ensures.1 in
     let walk = rw c.into_vec.ensures at c.in_err-insert_in.ensures.walk in
     let same = c.in_err-insert_in.ensures.err in
@@ -40,8 +40,8 @@ invariant_of-self-2 c =
       c.in_ok-insert_in.ensures.moved.right,
     )
 
-pub returns : goal.returns
-returns c =
+pub returns-clause-done : goal.returns-clause-done
+returns-clause-done c =
     let walk = rw c.into_vec.ensures at c.in_ok-insert_in.ensures.walk in
     let tables = c.self.inside.tables.items in
     let views = c.self.inside.views.items in

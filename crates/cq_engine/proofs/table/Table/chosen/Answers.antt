@@ -7,7 +7,7 @@ use Rattle.cq_bags.proofs.Canonicals.{length-bag_of}
 use Rattle.cq_model.specs.Meaning.{keeps}
 use Rattle.std.specs.List.{AllByRecursion}
 use Rattle.cq_states.specs.State.{TableOf}
-use Rattle.cq_engine.specs.Bound.{IsNarrowAt}
+use Rattle.cq_engine.specs.Narrow.{IsNarrowAt}
 use Rattle.cq_engine.proofs.Results.{bag_of_kept}
 use Rattle.cq_engine.proofs.Stored.{all_at, all_of_rows}
 use Rattle.cq_engine.proofs.table.Table.chosen.Goals as goal

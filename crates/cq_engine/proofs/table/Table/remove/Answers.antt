@@ -3,7 +3,7 @@ use Rattle.std.specs.List.{AllByRecursion}
 use Rattle.cq_bags.specs.Canonical.{bag_of}
 use Rattle.cq_model.specs.Meaning.{keeps}
 use Rattle.cq_states.specs.State.{TableOf}
-use Rattle.cq_engine.specs.Bound.{IsNarrowAt}
+use Rattle.cq_engine.specs.Narrow.{IsNarrowAt}
 use Rattle.cq_engine.proofs.Results.{taken_as_stored, taken_count}
 use Rattle.cq_engine.proofs.Stored.{all_of_rows}
 use Rattle.cq_engine.proofs.table.Table.remove.Goals as goal

@@ -7,7 +7,7 @@ use Rattle.cq_kept.specs.Kept.{Groups}
 use Rattle.cq_model.specs.Meaning.{MeaningInRange, Tables, items_of, meaning}
 use Rattle.cq_kept.specs.Told.{ListsKeys}
 use Rattle.cq_deltas.specs.declared.fault.ToldFault.TheVariants.{SumOutOfRange}
-use Rattle.cq_deltas.specs.Table.{group_at}
+use Rattle.cq_deltas.specs.Keyed.{group_at}
 use Rattle.cq_deltas.specs.Told.{GroupsCanBeTold, counted_keys, group_rows}
 use Rattle.cq_views.specs.Small.{StandsOnStored}
 use Rattle.cq_views.specs.View.{KeptView, StandsFor, query_of}

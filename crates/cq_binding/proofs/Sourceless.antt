@@ -1,0 +1,231 @@
+-- No check of the walk tells that a source failed.
+use Rattle.std.proofs.Common.{◌≡◌, ℕ, ◌^◌, Bool, true, false, if◌then◌else◌, List, [], ◌∷◌, ◌++◌, map, Option, Some, None, Result, Ok, Err, refl}
+use Rattle.std.specs.Prelude.{nat_lt, ok_or, not, is_none, length}
+use Rattle.std.specs.List.{AllByRecursion, flat_map}
+use Rattle.cq_values.specs.declared.column.ColumnDef.{ColumnDef}
+use Rattle.cq_values.specs.declared.ty.Ty.TheVariants as types
+use Rattle.cq_values.specs.Dates.{day_named}
+use Rattle.cq_language.specs.declared.statement.Constant.{Constant}
+use Rattle.cq_language.specs.declared.statement.Constant.TheVariants as constants
+use Rattle.cq_language.specs.declared.statement.Item.{Item}
+use Rattle.cq_language.specs.declared.statement.ItemValue.{ItemValue}
+use Rattle.cq_language.specs.declared.statement.ItemValue.TheVariants as values
+use Rattle.cq_language.specs.declared.statement.Select.{Select}
+use Rattle.cq_language.specs.declared.statement.Statement.{Statement}
+use Rattle.cq_language.specs.declared.statement.Statement.TheVariants as statements
+use Rattle.cq_language.specs.declared.statement.ViewSelect.{ViewSelect}
+use Rattle.cq_language.specs.Written.{Written, Choices, Number, Text, Date, Null, Column, Extract, Parens, Negative, Times, Plus, Minus, Compare, IsNull, Between, In, Like, Not, And, Or, NoChoice, Choice}
+use Rattle.cq_binding.specs.declared.fault.Fault.{Fault}
+use Rattle.cq_binding.specs.declared.fault.Fault.TheVariants as faults
+use Rattle.cq_binding.specs.declared.typing.Typing.{Typing}
+use Rattle.cq_binding.specs.Scopes.{Named, scope_as}
+use Rattle.cq_binding.specs.Bound.{item_names, shown_by, values_in, view_source}
+use Rattle.cq_binding.specs.Checks.{first_fault, fault_if, too_long}
+use Rattle.cq_binding.specs.RowChecks.{fits_column, is_type, constant_check, constant_checks, row_checks}
+use Rattle.cq_binding.specs.Refusal.{column_checks, name_check, sort_checks, create_checks, drop_table_checks, written_table, insert_checks, where_check, delete_checks, value_check, source_checks, select_checks, read_table, item_check, repeats, query_checks, view_select_checks, create_view_checks, drop_view_checks, checks, refusal}
+use Rattle.cq_binding.specs.Kinds.{◌and_then◌, unless, number_of, negative, arithmetic, sum_of, product_of, part_of, compared_with, tested, between_them, like_of, negation_of, connected, added, kept_value}
+use Rattle.cq_binding.specs.Typing.{Scope, column_at, knows, column_typing, typed, listed, fault_in}
+use Rattle.cq_states.specs.State.{State, TableOf, ViewOf, is_taken}
+
+-- whether a refusal tells that a source failed
+abbrev pub is_source : Fault → Bool
+is_source faults.SourceFailed = true
+is_source f = false
+
+abbrev pub tells_source : Option Fault → Bool
+tells_source None = false
+tells_source (Some f) = is_source f
+
+abbrev fails_by_source : {A : Type 0} → Result A Fault → Bool
+fails_by_source (Ok x) = false
+fails_by_source (Err f) = is_source f
+
+abbrev Clean : List (Option Fault) → Type 0
+Clean cs = AllByRecursion (λ c. tells_source c ≡ false) cs
+
+-- ---- Results
+module _ {A : Type 0} where
+  unless_clean : (met : Bool) (f : Fault) (x : A) → is_source f ≡ false → fails_by_source (unless met f x) ≡ false
+  unless_clean true f x h = refl
+  unless_clean false f x h = h
+
+  branch_clean : (b : Bool) (r t : Result A Fault) → fails_by_source r ≡ false → fails_by_source t ≡ false → fails_by_source (if b then r else t) ≡ false
+  branch_clean true r t h k = h
+  branch_clean false r t h k = k
+
+  found_clean : (o : Option A) (f : Fault) → is_source f ≡ false → fails_by_source (ok_or o f) ≡ false
+  found_clean (Some x) f h = refl
+  found_clean None f h = h
+
+  fault_clean : (r : Result A Fault) → fails_by_source r ≡ false → tells_source (fault_in r) ≡ false
+  fault_clean (Ok x) h = refl
+  fault_clean (Err f) h = h
+
+then_clean : {A B : Type 0} (r : Result A Fault) (f : A → Result B Fault) → fails_by_source r ≡ false → ((x : A) → fails_by_source (f x) ≡ false) → fails_by_source (r and_then f) ≡ false
+then_clean (Ok x) f h k = k x
+then_clean (Err e) f h k = h
+
+-- ---- Expressions
+column_clean : (s : Scope) (name : List ℕ) (o : Option ℕ) → fails_by_source (column_typing s name o) ≡ false
+column_clean s name None = refl
+column_clean s name (Some i) = unless_clean _ faults.AggregateMisplaced _ refl
+
+number_clean : (size : ℕ) → fails_by_source (number_of size) ≡ false
+number_clean size = unless_clean (nat_lt size (2 ^ 127)) faults.TooWide _ refl
+
+negative_clean : (x : Typing) → fails_by_source (negative x) ≡ false
+negative_clean x = branch_clean _ (number_of x.size) (Err faults.TypeMismatch) (number_clean x.size) refl
+
+arithmetic_clean : (x y : Typing) (size : ℕ) → fails_by_source (arithmetic x y size) ≡ false
+arithmetic_clean x y size = branch_clean _ (number_of size) (Err faults.TypeMismatch) (number_clean size) refl
+
+mutual
+  typed_clean : (s : Scope) (w : Written) → fails_by_source (typed s w) ≡ false
+  typed_clean s (Number n) = number_clean n
+  typed_clean s (Text t) = unless_clean _ faults.TextTooLong _ refl
+  typed_clean s (Date t) = unless_clean _ faults.BadDate _ refl
+  typed_clean s Null = refl
+  typed_clean s (Column c) = branch_clean (knows s c.source) (column_typing s c.name (column_at s c.name)) (Err faults.UnknownTable) (column_clean s c.name (column_at s c.name)) refl
+  typed_clean s (Extract part a) = then_clean (typed s a) (part_of part) (typed_clean s a) (λ x. unless_clean _ faults.TypeMismatch _ refl)
+  typed_clean s (Parens a) = typed_clean s a
+  typed_clean s (Negative a) = then_clean (typed s a) negative (typed_clean s a) negative_clean
+  typed_clean s (Times a b) = then_clean (typed s a) _ (typed_clean s a) (λ x. then_clean (typed s b) (product_of x) (typed_clean s b) (λ y. arithmetic_clean x y _))
+  typed_clean s (Plus a b) = then_clean (typed s a) _ (typed_clean s a) (λ x. then_clean (typed s b) (sum_of x) (typed_clean s b) (λ y. arithmetic_clean x y _))
+  typed_clean s (Minus a b) = then_clean (typed s a) _ (typed_clean s a) (λ x. then_clean (typed s b) (sum_of x) (typed_clean s b) (λ y. arithmetic_clean x y _))
+  typed_clean s (Compare c a b) = then_clean (typed s a) _ (typed_clean s a) (λ x. then_clean (typed s b) (compared_with x) (typed_clean s b) (λ y. unless_clean _ faults.TypeMismatch _ refl))
+  typed_clean s (IsNull negated a) = then_clean (typed s a) tested (typed_clean s a) (λ x. unless_clean _ faults.TypeMismatch _ refl)
+  typed_clean s (Between negated a least greatest) =
+      then_clean (typed s a) _ (typed_clean s a)
+      (λ x. then_clean (typed s least) _ (typed_clean s least) (λ l. then_clean (typed s greatest) (between_them x l) (typed_clean s greatest) (λ g. unless_clean _ faults.TypeMismatch _ refl)))
+  typed_clean s (In negated a bs) = then_clean (typed s a) _ (typed_clean s a) (λ x. listed_clean s x true bs)
+  typed_clean s (Like negated a pattern) =
+      then_clean (typed s a) _ (typed_clean s a) (λ x. then_clean (typed s (Text pattern)) (like_of x) (unless_clean _ faults.TextTooLong _ refl) (λ y. unless_clean _ faults.TypeMismatch _ refl))
+  typed_clean s (Not a) = then_clean (typed s a) negation_of (typed_clean s a) (λ x. unless_clean _ faults.TypeMismatch _ refl)
+  typed_clean s (And a b) = then_clean (typed s a) _ (typed_clean s a) (λ x. then_clean (typed s b) (connected x) (typed_clean s b) (λ y. unless_clean _ faults.TypeMismatch _ refl))
+  typed_clean s (Or a b) = then_clean (typed s a) _ (typed_clean s a) (λ x. then_clean (typed s b) (connected x) (typed_clean s b) (λ y. unless_clean _ faults.TypeMismatch _ refl))
+
+  listed_clean : (s : Scope) (x : Typing) (all_agree : Bool) (bs : Choices) → fails_by_source (listed s x all_agree bs) ≡ false
+  listed_clean s x all_agree NoChoice = unless_clean all_agree faults.TypeMismatch _ refl
+  listed_clean s x all_agree (Choice b bs) = then_clean (typed s b) _ (typed_clean s b) (λ y. listed_clean s x _ bs)
+
+value_clean : (s : Scope) (w : Written) → tells_source (value_check s w) ≡ false
+value_clean s w = fault_clean _ (then_clean (typed s w) tested (typed_clean s w) (λ x. unless_clean _ faults.TypeMismatch _ refl))
+
+where_clean : (s : Scope) (o : Option Written) → tells_source (where_check s o) ≡ false
+where_clean s None = refl
+where_clean s (Some w) = fault_clean _ (then_clean (typed s w) negation_of (typed_clean s w) (λ x. unless_clean _ faults.TypeMismatch _ refl))
+
+item_clean : (s : Scope) (group : List (List ℕ)) (v : ItemValue) → tells_source (item_check s group v) ≡ false
+item_clean s group (values.Value w) = fault_clean _ (then_clean (typed _ w) kept_value (typed_clean _ w) (λ x. unless_clean _ faults.TypeMismatch _ refl))
+item_clean s group values.CountAll = refl
+item_clean s group (values.Count w) = value_clean s w
+item_clean s group (values.Sum w) = fault_clean _ (then_clean (typed s w) added (typed_clean s w) (λ x. unless_clean _ faults.TypeMismatch _ refl))
+
+-- ---- Lists of checks
+if_clean : (b : Bool) (f : Fault) → is_source f ≡ false → tells_source (fault_if b f) ≡ false
+if_clean true f h = h
+if_clean false f h = refl
+
+either_clean : (b : Bool) (c d : Option Fault) → tells_source c ≡ false → tells_source d ≡ false → tells_source (if b then c else d) ≡ false
+either_clean true c d h k = h
+either_clean false c d h k = k
+
+both_clean : (cs ds : List (Option Fault)) → Clean cs → Clean ds → Clean (cs ++ ds)
+both_clean [] ds h k = k
+both_clean (c ∷ cs) ds h k = (h.0, both_clean cs ds h.1 k)
+
+map_clean : {X : Type 0} (f : X → Option Fault) → ((x : X) → tells_source (f x) ≡ false) → (xs : List X) → Clean (map f xs)
+map_clean f h [] = tt
+map_clean f h (x ∷ xs) = (h x, map_clean f h xs)
+
+flat_clean : {X : Type 0} (f : X → List (Option Fault)) → ((x : X) → Clean (f x)) → (xs : List X) → Clean (flat_map f xs)
+flat_clean f h [] = tt
+flat_clean f h (x ∷ xs) = both_clean (f x) (flat_map f xs) (h x) (flat_clean f h xs)
+
+long_clean : (entries : ℕ) → tells_source (too_long entries) ≡ false
+long_clean entries = if_clean (nat_lt 64 entries) faults.LimitExceeded refl
+
+name_clean : (columns : List ColumnDef) (name : List ℕ) → tells_source (name_check columns name) ≡ false
+name_clean columns name = if_clean _ faults.UnknownColumn refl
+
+columns_clean : (before cs : List ColumnDef) → Clean (column_checks before cs)
+columns_clean before [] = tt
+columns_clean before (c ∷ cs) = (if_clean _ faults.NameTaken refl, columns_clean _ cs)
+
+sort_clean : (columns : List ColumnDef) (before names : List (List ℕ)) → Clean (sort_checks columns before names)
+sort_clean columns before [] = tt
+sort_clean columns before (name ∷ names) = (name_clean columns name, (if_clean _ faults.NameTaken refl, sort_clean columns _ names))
+
+create_clean : (name : List ℕ) (columns : List ColumnDef) (sort : List (List ℕ)) (s : State) → Clean (create_checks name columns sort s)
+create_clean name columns sort s = (if_clean (is_taken name s) faults.NameTaken refl, both_clean (column_checks [] columns) (too_long (length columns) ∷ sort_checks columns [] sort) (columns_clean [] columns) (long_clean (length columns), sort_clean columns [] sort))
+
+drop_clean : (views : List ViewOf) (o : Option TableOf) → Clean (drop_table_checks views o)
+drop_clean views None = (refl, tt)
+drop_clean views (Some t) = (if_clean _ faults.TableInUse refl, tt)
+
+constant_clean : (d : ColumnDef) (c : Constant) → tells_source (constant_check d c) ≡ false
+constant_clean d constants.Null = if_clean d.not_null faults.NullNotAllowed refl
+constant_clean d (constants.Number l) = either_clean (is_type d.ty types.Integer) (fault_if (not (fits_column l)) faults.NumberOutside) (Some faults.TypeMismatch) (if_clean (not (fits_column l)) faults.NumberOutside refl) refl
+constant_clean d (constants.Text t) = either_clean (is_type d.ty types.Text) (fault_if (nat_lt 4096 (length t)) faults.TextTooLong) (Some faults.TypeMismatch) (if_clean (nat_lt 4096 (length t)) faults.TextTooLong refl) refl
+constant_clean d (constants.Date t) = either_clean (is_type d.ty types.Date) (fault_if (is_none (day_named t)) faults.BadDate) (Some faults.TypeMismatch) (if_clean (is_none (day_named t)) faults.BadDate refl) refl
+
+constants_clean : (ds : List ColumnDef) (cs : List Constant) → Clean (constant_checks ds cs)
+constants_clean [] cs = tt
+constants_clean (d ∷ ds) [] = tt
+constants_clean (d ∷ ds) (c ∷ cs) = (constant_clean d c, constants_clean ds cs)
+
+row_clean : (columns : List ColumnDef) (row : List Constant) → Clean (row_checks columns row)
+row_clean columns row = (if_clean _ faults.TypeMismatch refl, constants_clean columns row)
+
+insert_clean : (max_rows : ℕ) (rows : List (List Constant)) (r : Result TableOf Fault) → fails_by_source r ≡ false → Clean (insert_checks max_rows rows r)
+insert_clean max_rows rows (Err f) h = (h, tt)
+insert_clean max_rows rows (Ok t) h = both_clean (flat_map (row_checks t.columns) rows) _ (flat_clean (row_checks t.columns) (row_clean t.columns) rows) (if_clean _ faults.TableFull refl, tt)
+
+delete_clean : (condition : Option Written) (r : Result TableOf Fault) → fails_by_source r ≡ false → Clean (delete_checks condition r)
+delete_clean condition (Err f) h = (h, tt)
+delete_clean condition (Ok t) h = (where_clean _ condition, tt)
+
+source_clean : (q : Select) (s : Scope) → Clean (source_checks q s)
+source_clean q s =
+    (where_clean s q.condition, both_clean (map (value_check s) (shown_by q.items)) (too_long (length q.items) ∷ []) (map_clean (value_check s) (value_clean s) (shown_by q.items)) (long_clean (length q.items), tt))
+
+select_clean : (q : Select) (o : Option Named) → Clean (select_checks q o)
+select_clean q None = (refl, tt)
+select_clean q (Some source) = source_clean q (scope_as q.source source)
+
+query_clean : (s : Scope) (v : ViewSelect) → Clean (query_checks s v)
+query_clean s v =
+    let last : List (Option Fault) = fault_if (repeats [] (item_names 1 v.items)) faults.NameTaken ∷ too_long (length v.items) ∷ [] in
+    let group : List (Option Fault) = map (name_check s.columns) v.group in
+    let items : List (Option Fault) = too_long (length v.group) ∷ map (item_check s v.group) (values_in v) in
+    let named : Clean group = map_clean (name_check s.columns) (name_clean s.columns) v.group in
+    let shown : Clean items = (long_clean (length v.group), map_clean (item_check s v.group) (item_clean s v.group) (values_in v)) in (
+      where_clean s v.condition,
+      both_clean (group ++ items) last (both_clean group items named shown) (if_clean (repeats [] (item_names 1 v.items)) faults.NameTaken refl, (long_clean (length v.items), tt)),
+    )
+
+view_clean : (v : ViewSelect) (r : Result TableOf Fault) → fails_by_source r ≡ false → Clean (view_select_checks v r)
+view_clean v (Err f) h = (h, tt)
+view_clean v (Ok t) h = query_clean (view_source v t) v
+
+table_clean : (b : Bool) (o : Option TableOf) (f : Fault) → is_source f ≡ false → fails_by_source (ok_or o (if b then f else faults.UnknownTable)) ≡ false
+table_clean true o f h = found_clean o f h
+table_clean false o f h = found_clean o faults.UnknownTable refl
+
+all_clean : (s : State) (statement : Statement) → Clean (checks s statement)
+all_clean s (statements.CreateTable name columns sort) = create_clean name columns sort s
+all_clean s (statements.DropTable name) = drop_clean s.views _
+all_clean s (statements.CreateView name v) = (if_clean _ faults.NameTaken refl, view_clean v (read_table v.source.name s) (table_clean _ _ faults.ClauseInView refl))
+all_clean s (statements.DropView name) = (if_clean _ faults.UnknownTable refl, tt)
+all_clean s (statements.Insert name rows) = insert_clean s.max_rows rows (written_table name s) (table_clean _ _ faults.ViewNotWritten refl)
+all_clean s (statements.Delete name condition) = delete_clean condition (written_table name s) (table_clean _ _ faults.ViewNotWritten refl)
+all_clean s (statements.Select q) = select_clean q _
+
+first_clean : (cs : List (Option Fault)) → Clean cs → tells_source (first_fault cs) ≡ false
+first_clean [] h = refl
+first_clean (Some f ∷ cs) h = h.0
+first_clean (None ∷ cs) h = first_clean cs h.1
+
+-- the refusal of a statement tells of no source
+pub sourceless : (s : State) (statement : Statement) → tells_source (refusal s statement) ≡ false
+sourceless s statement = first_clean (checks s statement) (all_clean s statement)

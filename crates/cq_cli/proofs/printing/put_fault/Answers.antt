@@ -1,0 +1,15 @@
+use Rattle.std.proofs.Common.{rules, ◌≡◌, ◌++◌, ◌∷◌, [], codes}
+use Rattle.std.proofs.lemmas.Result.{err_from_is_err_and}
+use Rattle.cq_binding.specs.FaultText.{fault_text}
+use Rattle.cq_cli.proofs.Writes.{wrote_then, front_of_more}
+use Rattle.cq_cli.proofs.printing.put_fault.Goals as goal
+
+pub returns-in_err-put_all : goal.returns-in_err-put_all
+returns-in_err-put_all g c =
+    let p = err_from_is_err_and c.from_residual.result c.from_residual.ensures.1 in
+    rw p.1 (front_of_more (codes "error ") (fault_text c.args.fault ++ 10 ∷ []) _ _ _ _ c.in_err-put_all.ensures)
+
+pub returns : goal.returns
+returns g c =
+    let text : c.as_bytes.result.now ++ c.as_bytes-2.result.now ≡ fault_text c.args.fault = search rules in
+    wrote_then (codes "error ") (fault_text c.args.fault ++ 10 ∷ []) _ _ _ _ _ _ c.put_line.result c.in_ok-put_all.ensures (rw text at c.put_line.ensures)
