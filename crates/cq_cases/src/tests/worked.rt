@@ -9,7 +9,7 @@ use super::asked::Term::Column;
 use super::asked::Told::CountAll;
 use super::asked::{Asked, Groups};
 use super::judge::{ALL, Stored, listed};
-use cq_csvio::print_result;
+use cq_csvio::{TextFault, print_result};
 use cq_plain::PlainFault;
 use cq_values::{Row, Seq, Text};
 use std::alloc::{AllocError, Global};
@@ -33,8 +33,11 @@ fn names(alloc: Global, header: &[&str]) -> Result<Vec<Text>, AllocError> {
 }
 
 /// The answer as the program prints it.
-pub(crate) fn printed(alloc: Global, header: &[&str], rows: &[Row]) -> Result<Seq<u8>, AllocError> {
-    print_result(alloc, &names(alloc, header)?, rows)
+pub(crate) fn printed(alloc: Global, header: &[&str], rows: &[Row]) -> Result<Seq<u8>, PlainFault> {
+    match print_result(alloc, &names(alloc, header)?, rows) {
+        Ok(text) => Ok(text),
+        Err(TextFault::Memory) => Err(PlainFault::Memory),
+    }
 }
 
 /// Each row prints what it must.
