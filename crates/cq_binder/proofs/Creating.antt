@@ -1,5 +1,5 @@
 -- How the stretches of CREATE TABLE and CREATE VIEW make up the whole.
-use Rattle.std.proofs.Common.{◌≡◌, ℕ, Bool, false, List, [], ◌∷◌, ◌++◌, length, Option, Some, None, Result, Ok, refl, ap, ◌∙◌}
+use Rattle.std.proofs.Common.{◌≡◌, ℕ, Bool, true, false, List, [], ◌∷◌, ◌++◌, length, Option, Some, None, Result, Ok, refl, ap, ◌∙◌}
 use Rattle.std.specs.Prelude.{option_map}
 use Rattle.cq_binding.specs.declared.bound.Bound.{Bound}
 use Rattle.cq_binding.specs.declared.bound.Bound.TheVariants as commands
@@ -8,16 +8,17 @@ use Rattle.cq_model.specs.declared.query.Join.{Join}
 use Rattle.cq_model.specs.declared.query.Source.TheVariants.{Table}
 use Rattle.cq_values.specs.declared.column.ColumnDef.{ColumnDef}
 use Rattle.cq_language.specs.declared.statement.Statement.TheVariants as statements
-use Rattle.cq_language.specs.declared.statement.ViewSelect.{ViewSelect}
+use Rattle.cq_language.specs.declared.statement.Select.{Select}
 use Rattle.cq_binding.specs.declared.fault.Fault.{Fault}
 use Rattle.cq_binding.specs.declared.fault.Fault.TheVariants.{NameTaken}
-use Rattle.cq_binding.specs.Bound.{grouped_query, view_columns, view_source}
+use Rattle.cq_binding.specs.Bound.{view_source}
 use Rattle.cq_binding.specs.Checks.{fault_if, first_fault, too_long, MayRefuse}
-use Rattle.cq_binding.specs.Refusal.{column_checks, create_checks, create_view_checks, sort_checks, view_select_checks}
+use Rattle.cq_binding.specs.Open.{may_be_kept}
+use Rattle.cq_binding.specs.ViewChecks.{create_view_checks, view_select_checks}
+use Rattle.cq_binding.specs.Refusal.{column_checks, create_checks, sort_checks}
 use Rattle.cq_states.specs.State.{TableOf, ViewOf, is_taken, table_named}
-use Rattle.cq_binder.specs.Catalog.{alone, heading, shown_heading, Binds}
-use Rattle.cq_binder.specs.View.{IsBoundView}
-use Rattle.cq_binder.specs.Walk.{Walked}
+use Rattle.cq_binder.specs.Catalog.{alone, heading, shown_heading, Binds, Describes}
+use Rattle.cq_binder.specs.View.{CreatesView, IsBoundView, view_command}
 use Rattle.cq_binder.specs.declared.catalog.TableEntry.{TableEntry}
 use Rattle.cq_binder.specs.declared.view.BoundView.{BoundView}
 use Rattle.cq_binder.proofs.Faults.{first_fault_append, or_next, refused_front, refused_same, walked_as}
@@ -58,25 +59,21 @@ module _ (name : List ℕ) (columns : List ColumnDef) (sort : List (List ℕ)) (
   sort_decides distinct few = create_ends distinct ∙ first_fault_append entries sort_walk ∙ or_next (first_fault entries) (first_fault sort_walk) few
 
 -- ---- CREATE VIEW
--- the command for a view on this table
-abbrev pub view_command : List ℕ → ViewSelect → TableOf → Bound
-view_command name v t = commands.CreateView name (view_columns (view_source v t) v) (grouped_query v t)
-
--- it is what the bound view makes
-pub view_made : (name shown : List ℕ) (v : ViewSelect) (t : TableOf) (number : ℕ) (joins : List Join) (b : BoundView) → shown ≡ name → number ≡ t.number → joins ≡ [] → IsBoundView (view_source v t) v b
+-- the command for a view on this table is what the bound view makes
+pub view_made : (name shown : List ℕ) (v : Select) (t : TableOf) (number : ℕ) (joins : List Join) (b : BoundView) → shown ≡ name → number ≡ t.number → joins ≡ [] → IsBoundView (view_source v t) v b
     → commands.CreateView shown b.columns (record { first = Table number; joins = joins; filter = b.filter; shape = Grouped (Some b.keys) b.aggregates None; items = b.items; distinct = false }) ≡ view_command name v t
 view_made name shown v t number joins b is_name is_number none is = λ i.
     commands.CreateView (is_name i) (is.columns i) (record { first = Table (is_number i); joins = none i; filter = is.filter i; shape = Grouped (Some (is.keys i)) (is.aggregates i) None; items = is.items i; distinct = false })
 
 -- ---- Under a free name the query decides
-module _ (name : List ℕ) (v : ViewSelect) (tables : List TableOf) (views : List ViewOf) (free : is_taken name (alone tables views) ≡ false) where
-  create_view_goes_on : (t : TableOf) → table_named v.source.name tables ≡ Some t → first_fault (create_view_checks name v (alone tables views)) ≡ first_fault (view_select_checks v (Ok t))
-  create_view_goes_on t found = rw (free, found) refl
+module _ (name : List ℕ) (v : Select) (tables : List TableOf) (views : List ViewOf) (opened : may_be_kept v ≡ true) (free : is_taken name (alone tables views) ≡ false) where
+  create_view_goes_on : (t : TableOf) → table_named v.first.name tables ≡ Some t → first_fault (create_view_checks name v (alone tables views)) ≡ first_fault (view_select_checks v (Ok t))
+  create_view_goes_on t found = rw (opened, free, found) refl
 
   -- on the table that was found
-  pub view_created : (e : TableEntry) (result : Result Bound Fault) → Some (shown_heading e) ≡ option_map heading (table_named v.source.name tables)
-      → ((t : TableOf) → shown_heading e ≡ heading t → Walked (view_select_checks v (Ok t)) (λ command. command ≡ view_command name v t) result) → Binds (alone tables views) (statements.CreateView name v) result
+  pub view_created : (e : TableEntry) (result : Result Bound Fault) → Some (shown_heading e) ≡ option_map heading (table_named v.first.name tables)
+      → ((t : TableOf) → Describes e t → CreatesView t name v result) → Binds (alone tables views) (statements.CreateView name v) result
   view_created e result found walked =
-      let t = table_there e (table_named v.source.name tables) found in
-      walked_as (view_select_checks v (Ok t.0)) (create_view_checks name v (alone tables views)) (view_command name v t.0) (option_map (view_command name v) (table_named v.source.name tables)) result (create_view_goes_on t.0 t.1)
+      let t = table_there e (table_named v.first.name tables) found in
+      walked_as (view_select_checks v (Ok t.0)) (create_view_checks name v (alone tables views)) (view_command name v t.0) (option_map (view_command name v) (table_named v.first.name tables)) result (create_view_goes_on t.0 t.1)
       (ap (option_map (view_command name v)) t.1) (walked t.0 t.2)

@@ -11,7 +11,7 @@ use Rattle.cq_binder.specs.Catalog.{heading, shown_heading}
 use Rattle.cq_binder.specs.declared.catalog.TableEntry.{TableEntry}
 
 -- whether something is read at a place is whether the place is within the list
-is_there : {X : Type 0} (xs : List X) (n : ℕ) → is_some {T = ℕ} (cond (nat_lt n (length xs)) (Some n) None) ≡ is_some (slice_get xs n)
+pub is_there : {X : Type 0} (xs : List X) (n : ℕ) → is_some {T = ℕ} (cond (nat_lt n (length xs)) (Some n) None) ≡ is_some (slice_get xs n)
 is_there xs n =
     elim (slice_get_cases xs n).1 [
       | inl h ↦ let lt : nat_lt n (length xs) ≡ true = lt-ltb _ _ h.1 in rw (lt, h.2) refl

@@ -8,3 +8,4 @@ pub mod ViewNames
 pub mod BoundItems
 pub mod Sorting
 pub mod BareNames
+pub mod Fitting

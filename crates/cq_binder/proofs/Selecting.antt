@@ -1,5 +1,5 @@
 -- How the stretches of SELECT make up the whole.
-use Rattle.std.proofs.Common.{◌≡◌, ℕ, List, [], ◌∷◌, ◌++◌, map, length, Option, Some, None, Result, sym, ap, ◌∙◌, false}
+use Rattle.std.proofs.Common.{◌≡◌, ℕ, List, [], ◌∷◌, ◌++◌, map, length, Option, Some, None, Result, refl, sym, ap, ◌∙◌, true, false}
 use Rattle.std.specs.Prelude.{option_map}
 use Rattle.std.specs.Option.{option_or}
 use Rattle.cq_bags.specs.declared.sort_key.SortKey.{SortKey}
@@ -12,9 +12,12 @@ use Rattle.cq_model.specs.declared.query.Source.{Source}
 use Rattle.cq_language.specs.declared.statement.Select.{Select}
 use Rattle.cq_binding.specs.declared.fault.Fault.{Fault}
 use Rattle.cq_binding.specs.Scopes.{Named, bound_condition, bound_value, from_table, scope_as, source_named}
-use Rattle.cq_binding.specs.Bound.{bound_select, header as header_of, shown_by}
+use Rattle.cq_binding.specs.Headers.{header as header_of, shown_by}
+use Rattle.cq_binding.specs.Bound.{bound_select}
 use Rattle.cq_binding.specs.Checks.{first_fault, too_long, MayRefuse}
-use Rattle.cq_binding.specs.Refusal.{select_checks, source_checks, value_check, where_check}
+use Rattle.cq_binding.specs.Open.{is_plain}
+use Rattle.cq_binding.specs.SourceChecks.{value_check, where_check}
+use Rattle.cq_binding.specs.Refusal.{from_checks, select_checks, source_checks}
 use Rattle.cq_states.specs.State.{TableOf, ViewOf, table_named}
 use Rattle.cq_binding.specs.Typing.{Scope}
 use Rattle.cq_binder.specs.Catalog.{alone, heading, shown_view, view_source_named}
@@ -49,7 +52,7 @@ module _ (q : Select) (source : Scope) where
 
 -- ---- The command of a query on a source
 -- it is what its bound parts make
-pub select_made : (q : Select) (named : Named) (s : Scope) (header : List (List ℕ)) (source : Source) (joins : List Join) (filter : Option Cond) (items : List Expr) (keys : List SortKey) → s ≡ scope_as q.source named → header ≡ header_of 1 q.items
+pub select_made : (q : Select) (named : Named) (s : Scope) (header : List (List ℕ)) (source : Source) (joins : List Join) (filter : Option Cond) (items : List Expr) (keys : List SortKey) → s ≡ scope_as q.first named → header ≡ header_of 1 q.items
     → source ≡ named.source → joins ≡ [] → keys ≡ [] → AreBoundParts s q (filter, items)
     → commands.Select header (record { first = source; joins = joins; filter = filter; shape = Plain; items = items; distinct = false }) (record { keys = keys; limit = None }) ≡ bound_select q named
 select_made q named s header source joins filter items keys same is_header is_source no_joins no_keys parts =
@@ -58,10 +61,10 @@ select_made q named s header source joins filter items keys same is_header is_so
     λ i. commands.Select (is_header i) (record { first = is_source i; joins = no_joins i; filter = kept i; shape = Plain; items = shown i; distinct = false }) (record { keys = no_keys i; limit = None })
 
 -- what is bound on a source is bound where the name has that source
-pub selected : (q : Select) (o : Option Named) (named : Named) (result : Result Bound Fault) → o ≡ Some named → Walked (select_checks q (Some named)) (λ command. command ≡ bound_select q named) result
+pub selected : (q : Select) (o : Option Named) (named : Named) (result : Result Bound Fault) → is_plain q ≡ true → o ≡ Some named → Walked (from_checks q (Some named)) (λ command. command ≡ bound_select q named) result
     → Walked (select_checks q o) (λ command. option_map (bound_select q) o ≡ Some command) result
-selected q o named result is walked =
-    walked_as (select_checks q (Some named)) (select_checks q o) (bound_select q named) (option_map (bound_select q) o) result (ap (λ (x : Option Named). first_fault (select_checks q x)) is) (ap (option_map (bound_select q)) is) walked
+selected q o named result opened is walked =
+    walked_as (from_checks q (Some named)) (select_checks q o) (bound_select q named) (option_map (bound_select q) o) result (rw (opened, is) refl) (ap (option_map (bound_select q)) is) walked
 
 -- ---- The source of a name
 module _ (name : List ℕ) (tables : List TableOf) (views : List ViewOf) where

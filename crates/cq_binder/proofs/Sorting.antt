@@ -10,7 +10,8 @@ use Rattle.cq_binding.specs.declared.fault.Fault.{Fault}
 use Rattle.cq_binding.specs.declared.fault.Fault.TheVariants.{NameTaken}
 use Rattle.cq_binding.specs.Scopes.{column_place, place_in}
 use Rattle.cq_binding.specs.Checks.{first_fault, fault_if}
-use Rattle.cq_binding.specs.Refusal.{name_check, sort_checks}
+use Rattle.cq_binding.specs.SourceChecks.{name_check}
+use Rattle.cq_binding.specs.Refusal.{sort_checks}
 use Rattle.cq_binder.proofs.Faults.{first_fault_append, single}
 
 module _ (columns : List ColumnDef) where

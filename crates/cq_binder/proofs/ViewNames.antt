@@ -5,13 +5,15 @@ use Rattle.std.specs.List.{list_any}
 use Rattle.std.proofs.lemmas.List.{map-append}
 use Rattle.cq_values.specs.Texts.{is_text}
 use Rattle.cq_values.specs.declared.column.ColumnDef.{ColumnDef}
-use Rattle.cq_language.specs.declared.statement.Item.{Item}
+use Rattle.cq_language.specs.declared.statement.SelectItem.{SelectItem}
 use Rattle.cq_binding.specs.declared.fault.Fault.{Fault}
 use Rattle.cq_binding.specs.declared.fault.Fault.TheVariants.{NameTaken}
-use Rattle.cq_binding.specs.Bound.{item_columns, item_names, own_name}
+use Rattle.cq_binding.specs.Headers.{header, shown_name}
+use Rattle.cq_binding.specs.Bound.{item_columns}
 use Rattle.cq_binding.specs.Typing.{Scope}
 use Rattle.cq_binding.specs.Checks.{first_fault, fault_if, too_long, MayRefuse}
-use Rattle.cq_binding.specs.Refusal.{column_checks, repeats}
+use Rattle.cq_binding.specs.ViewChecks.{repeats}
+use Rattle.cq_binding.specs.Refusal.{column_checks}
 use Rattle.cq_binder.proofs.Faults.{first_fault_cons, or_next, refused_first, refused_next, refused_same}
 
 -- what columns are called
@@ -37,14 +39,14 @@ names_walked before (c ∷ columns) =
     ∙ fault_or (list_any (λ b. is_text b c.name) (names_of before)) (repeats (names_of before ++ c.name ∷ []) (names_of columns)) (column_checks (before ++ c ∷ []) columns) (names_walked (before ++ c ∷ []) columns ∙ behind)
 
 -- the columns of items are called as the items are
-names_kept : (table : Scope) (place : ℕ) (items : List Item) → names_of (item_columns table place items) ≡ item_names place items
+names_kept : (table : Scope) (place : ℕ) (items : List SelectItem) → names_of (item_columns table place items) ≡ header place items
 names_kept table place [] = refl
-names_kept table place (item ∷ items) = ap (λ (ns : List (List ℕ)). unwrap_or item.alias (own_name place item.value) ∷ ns) (names_kept table (place + 1) items)
+names_kept table place (item ∷ items) = ap (λ (ns : List (List ℕ)). unwrap_or item.alias (shown_name place item.value) ∷ ns) (names_kept table (place + 1) items)
 
 -- ---- The columns of the items: their names decide, and then their number
-module _ (table : Scope) (items : List Item) (columns : List ColumnDef) (named : columns ≡ item_columns table 1 items) where
+module _ (table : Scope) (items : List SelectItem) (columns : List ColumnDef) (named : columns ≡ item_columns table 1 items) where
   abbrev repeated : Option Fault
-  repeated = fault_if (repeats [] (item_names 1 items)) NameTaken
+  repeated = fault_if (repeats [] (header 1 items)) NameTaken
 
   abbrev number : List (Option Fault)
   number = too_long (length items) ∷ []

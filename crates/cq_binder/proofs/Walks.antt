@@ -2,16 +2,17 @@
 use Rattle.std.proofs.Common.{◌≡◌, List, [], ◌∷◌, ◌++◌, map, length, Option, None, ap, sym, ◌∙◌}
 use Rattle.std.proofs.lemmas.List.{append_assoc}
 use Rattle.cq_values.specs.declared.column.ColumnDef.{ColumnDef}
-use Rattle.cq_language.specs.declared.statement.ViewSelect.{ViewSelect}
+use Rattle.cq_language.specs.declared.statement.Select.{Select}
 use Rattle.cq_binding.specs.declared.fault.Fault.{Fault}
 use Rattle.cq_binding.specs.Checks.{first_fault, too_long, MayRefuse}
-use Rattle.cq_binding.specs.Refusal.{name_check, query_checks, where_check}
+use Rattle.cq_binding.specs.SourceChecks.{where_check}
+use Rattle.cq_binding.specs.ViewChecks.{group_check, query_checks}
 use Rattle.cq_binding.specs.Typing.{Scope}
 use Rattle.cq_binder.specs.View.{group_walk, item_walk, name_walk}
 use Rattle.cq_binder.proofs.Faults.{none_append, refused_back, refused_front, refused_same}
 
 -- ---- WHERE decides, then GROUP BY, then the items, and then their names and number
-module _ (s : Scope) (v : ViewSelect) where
+module _ (s : Scope) (v : Select) where
   abbrev columns : List ColumnDef
   columns = s.columns
 
@@ -24,7 +25,7 @@ module _ (s : Scope) (v : ViewSelect) where
   -- the stretches in their order
   stretches : query_checks s v ≡ walk
   stretches =
-      let key_walk : List (Option Fault) = map (name_check columns) v.group in
+      let key_walk : List (Option Fault) = map (group_check columns) v.group in
       let number : List (Option Fault) = too_long (length v.group) ∷ [] in
       append_assoc (where_walk ++ key_walk) (too_long (length v.group) ∷ item_walk s v) (name_walk v.items)
       ∙ append_assoc where_walk key_walk (number ++ (item_walk s v ++ name_walk v.items))

@@ -1,5 +1,5 @@
 -- The tables and views that statements find under their names, and what binding a statement gives.
-use Rattle.std.specs.Prelude.{◌≡◌, ℕ, List, [], ◌∷◌, Option, Some, option_map, unwrap_or, Result, Ok, Err}
+use Rattle.std.specs.Prelude.{◌≡◌, ℕ, Bool, List, [], ◌∷◌, Option, Some, is_some, option_map, unwrap_or, Result, Ok, Err}
 use Rattle.std.specs.List.{flat_map}
 use Rattle.cq_binding.specs.declared.bound.Bound.{Bound}
 use Rattle.cq_model.specs.declared.query.Source.TheVariants.{View}
@@ -21,6 +21,10 @@ use Rattle.cq_binder.specs.Walk.{Walked}
 abbrev pub alone : List TableOf → List ViewOf → State
 alone tables views = record { tables = tables; views = views; now = 0; drawn = 0; passed = 0; queue = []; max_rows = 0 }
 
+-- the state that a catalog shows: its tables and its views
+abbrev pub state_of : {C : Type 0} → (C → List TableOf) → (C → List ViewOf) → C → State
+state_of tables views catalog = alone (tables catalog) (views catalog)
+
 -- a table but for its rows and its order
 pub record Heading : Type 0 where
   pub number : ℕ
@@ -33,9 +37,17 @@ heading t = record { number = t.number; name = t.name; columns = t.columns }
 abbrev pub shown_heading : TableEntry → Heading
 shown_heading e = record { number = e.number; name = e.name.now; columns = e.columns.now }
 
+-- an entry tells of this table
+abbrev pub Describes : TableEntry → TableOf → Type 0
+Describes e t = shown_heading e ≡ heading t
+
 -- a view as FROM names it
 abbrev pub shown_view : ViewEntry → Named
 shown_view e = record { known = e.name.now; columns = e.columns.now; sizes = e.sizes.items; source = View e.place }
+
+-- whether a view has the name
+abbrev pub names_view : List ℕ → List ViewOf → Bool
+names_view name views = is_some (view_named name views)
 
 -- the view of a name as FROM names it, if there is one
 abbrev pub view_source_named : List ℕ → List ViewOf → Option Named

@@ -1,4 +1,9 @@
 pub mod Walk
+pub mod Scopes
+pub mod Columns
+pub mod Conditions
+pub mod Constants
 pub mod View
 pub mod Catalog
 pub mod Select
+pub mod Laws

@@ -1,52 +1,100 @@
 -- Views whose names have become places.
-use Rattle.std.specs.Prelude.{◌≡◌, ℕ, List, [], ◌∷◌, ◌++◌, map, length, Option, option_map}
+use Rattle.std.specs.Prelude.{◌≡◌, ℕ, List, [], ◌∷◌, ◌++◌, map, length, Option, Some, None, option_map, Result, Ok, MatchResult}
 use Rattle.std.specs.List.{flat_map}
 use Rattle.cq_model.specs.Expr.{Expr}
 use Rattle.cq_model.specs.declared.query.Aggregate.{Aggregate}
 use Rattle.cq_model.specs.declared.query.Aggregate.TheVariants as aggregates
 use Rattle.cq_values.specs.declared.column.ColumnDef.{ColumnDef}
-use Rattle.cq_language.specs.declared.statement.Item.{Item}
-use Rattle.cq_language.specs.declared.statement.ItemValue.{ItemValue}
-use Rattle.cq_language.specs.declared.statement.ItemValue.TheVariants as values
-use Rattle.cq_language.specs.declared.statement.ViewSelect.{ViewSelect}
+use Rattle.cq_language.specs.declared.statement.Select.{Select}
+use Rattle.cq_language.specs.declared.statement.SelectItem.{SelectItem}
+use Rattle.cq_language.specs.declared.written.AggregateFunction.{AggregateFunction}
+use Rattle.cq_language.specs.declared.written.ColumnName.{ColumnName}
+use Rattle.cq_language.specs.Written.{Written, written}
+use Rattle.cq_language.specs.Written as tree
+use Rattle.cq_binding.specs.declared.bound.Bound.{Bound}
+use Rattle.cq_binding.specs.declared.bound.Bound.TheVariants as commands
 use Rattle.cq_binding.specs.declared.fault.Fault.{Fault}
 use Rattle.cq_binding.specs.declared.fault.Fault.TheVariants.{NameTaken}
-use Rattle.cq_binding.specs.Scopes.{bound_condition, bound_value, in_groups, place_in}
-use Rattle.cq_binding.specs.Bound.{aggregates_in, group_items, item_names, values_in, view_columns}
-use Rattle.cq_binding.specs.Checks.{fault_if, too_long}
-use Rattle.cq_binding.specs.Refusal.{item_check, name_check, repeats}
+use Rattle.cq_binding.specs.Scopes.{bound_condition, bound_value, in_groups}
+use Rattle.cq_binding.specs.Headers.{header, shown_by}
+use Rattle.cq_binding.specs.Bound.{aggregate_of, aggregates_in, group_items, group_places, grouped_query, view_columns, view_source}
+use Rattle.cq_binding.specs.Checks.{fault_if, too_long, MayRefuse}
+use Rattle.cq_binding.specs.ViewChecks.{group_check, item_check, query_checks, repeats, view_select_checks}
 use Rattle.cq_binding.specs.Typing.{Scope}
+use Rattle.cq_states.specs.State.{TableOf}
 use Rattle.cq_binder.specs.declared.items.BoundItem.{BoundItem}
 use Rattle.cq_binder.specs.declared.items.BoundItem.TheVariants.{Shown, Told}
+use Rattle.cq_binder.specs.declared.told.ItemAggregate.{ItemAggregate}
+use Rattle.cq_binder.specs.declared.told.ItemAggregate.TheVariants.{Rows, Values}
 use Rattle.cq_binder.specs.declared.view.BoundView.{BoundView}
+use Rattle.cq_binder.specs.Walk.{Walked, WalksTo}
+
+-- the aggregate that an item is: COUNT(*), or one of an argument's values
+abbrev pub told_in : Written → Option (Option (AggregateFunction × Written))
+told_in tree.CountAll = Some None
+told_in (tree.Aggregate function w) = Some (Some (function, w))
+told_in w = None
+
+-- the same, as it was found
+abbrev pub seen : ItemAggregate → Option (AggregateFunction × Written)
+seen Rows = None
+seen (Values function argument) = Some (function, written argument.now)
 
 -- an item of a view: a value of the group's key, or what it tells of the group
-abbrev pub bound_item : Scope → List (List ℕ) → ItemValue → BoundItem
-bound_item s group (values.Value w) = Shown (bound_value (in_groups group s) w)
-bound_item s group values.CountAll = Told aggregates.CountAll
-bound_item s group (values.Count w) = Told (aggregates.Count (bound_value s w))
-bound_item s group (values.Sum w) = Told (aggregates.Sum (bound_value s w))
+abbrev pub bound_item : Scope → List ColumnName → Written → BoundItem
+bound_item s group tree.CountAll = Told aggregates.CountAll
+bound_item s group (tree.Aggregate function w) = Told (aggregate_of function (bound_value s w))
+bound_item s group w = Shown (bound_value (in_groups group s) w)
+
+-- an item is bound where it has no fault, and else refused with its first
+abbrev pub BindsItem : Scope → List ColumnName → Written → Result BoundItem Fault → Type 0
+BindsItem s group w result =
+    MatchResult result (λ item. (item_check s group w ≡ None) × (item ≡ bound_item s group w)) (MayRefuse (item_check s group w))
 
 -- GROUP BY: each name, then their number
-abbrev pub group_walk : List ColumnDef → List (List ℕ) → List (Option Fault)
-group_walk columns group = map (name_check columns) group ++ too_long (length group) ∷ []
+abbrev pub group_walk : List ColumnDef → List ColumnName → List (Option Fault)
+group_walk columns group = map (group_check columns) group ++ too_long (length group) ∷ []
 
 -- the items, one after the other
-abbrev pub item_walk : Scope → ViewSelect → List (Option Fault)
-item_walk s v = map (item_check s v.group) (values_in v)
+abbrev pub item_walk : Scope → Select → List (Option Fault)
+item_walk s v = map (item_check s v.group) (shown_by v.items)
 
 -- the names of all items, then their number
-abbrev pub name_walk : List Item → List (Option Fault)
-name_walk items = fault_if (repeats [] (item_names 1 items)) NameTaken ∷ too_long (length items) ∷ []
+abbrev pub name_walk : List SelectItem → List (Option Fault)
+name_walk items = fault_if (repeats [] (header 1 items)) NameTaken ∷ too_long (length items) ∷ []
+
+-- what the items tell of a group
+abbrev pub told_by : Scope → Select → List Aggregate
+told_by s v = flat_map (aggregates_in s) (shown_by v.items)
+
+-- what the items show of a group's row
+abbrev pub shown_of_groups : Scope → Select → List Expr
+shown_of_groups s v = group_items (in_groups v.group s) (length v.group) (shown_by v.items)
 
 -- what the items tell of a group, and what they show of its row
-abbrev pub AreBoundItems : Scope → ViewSelect → (List Aggregate × List Expr) → Type 0
-AreBoundItems s v told = (told.0 ≡ flat_map (aggregates_in s) (values_in v)) × (told.1 ≡ group_items (in_groups v.group s) (length v.group) (values_in v))
+abbrev pub AreBoundItems : Scope → Select → (List Aggregate × List Expr) → Type 0
+AreBoundItems s v told = (told.0 ≡ told_by s v) × (told.1 ≡ shown_of_groups s v)
+
+-- the items are bound where none has a fault
+abbrev pub BindsItems : Scope → Select → Result (List Aggregate × List Expr) Fault → Type 0
+BindsItems s v result = Walked (item_walk s v) (AreBoundItems s v) result
 
 -- what a view shows, and its query by places among the columns of the table
-pub record IsBoundView (table : Scope) (v : ViewSelect) (b : BoundView) : Type 0 where
+pub record IsBoundView (table : Scope) (v : Select) (b : BoundView) : Type 0 where
   pub columns : b.columns ≡ view_columns table v
   pub filter : b.filter ≡ option_map (bound_condition table) v.condition
-  pub keys : b.keys ≡ map (place_in table.columns) v.group
-  pub aggregates : b.aggregates ≡ flat_map (aggregates_in table) (values_in v)
-  pub items : b.items ≡ group_items (in_groups v.group table) (length v.group) (values_in v)
+  pub keys : b.keys ≡ group_places table.columns v.group
+  pub aggregates : b.aggregates ≡ told_by table v
+  pub items : b.items ≡ shown_of_groups table v
+
+-- a view on this table is bound where its query has no fault
+abbrev pub BindsView : Scope → Select → Result BoundView Fault → Type 0
+BindsView table v result = Walked (query_checks table v) (IsBoundView table v) result
+
+-- the command for a view on this table
+abbrev pub view_command : List ℕ → Select → TableOf → Bound
+view_command name v t = commands.CreateView name (view_columns (view_source v t) v) (grouped_query v t)
+
+-- a view on this table becomes its command where its query has no fault
+abbrev pub CreatesView : TableOf → List ℕ → Select → Result Bound Fault → Type 0
+CreatesView t name v result = WalksTo (view_select_checks v (Ok t)) (view_command name v t) result

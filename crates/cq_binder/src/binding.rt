@@ -1,12 +1,10 @@
 //! Statements become commands.
-ghost use Rattle.std.specs.Prelude.{◌≡◌, if◌then◌else◌, is_some, map};
-ghost use Rattle.cq_language.specs.declared.statement.Statement.TheVariants as statements;
-ghost use Rattle.cq_binding.specs.Scopes.{place_in};
+ghost use Rattle.std.specs.Prelude.{◌≡◌, if◌then◌else◌};
+ghost use Rattle.cq_language.specs.declared.statement.Statement.TheVariants.{CreateTable, DropTable, DropView};
 ghost use Rattle.cq_binding.specs.declared.fault.Fault.TheVariants.{ClauseInView, UnknownTable, ViewNotWritten};
-ghost use Rattle.cq_binding.specs.Refusal.{create_checks};
-ghost use Rattle.cq_states.specs.State.{is_taken, view_named};
-ghost use Rattle.cq_binder.specs.Catalog.{Binds, alone};
-ghost use Rattle.cq_binder.specs.Walk.{Walked};
+ghost use Rattle.cq_states.specs.State.{is_taken};
+ghost use Rattle.cq_binder.specs.Catalog.{Binds, names_view, state_of};
+ghost use Rattle.cq_binder.specs.Columns.{WalksCreate};
 
 use crate::catalog::Catalog;
 use crate::columns::{check_length, check_names, copy_columns, sort_columns};
@@ -27,7 +25,7 @@ pub fn bind<C: Catalog>(
     statement: &Statement,
     catalog: &C,
 ) -> Result<Bound, BindFault>
-    ensures { Binds (alone (C.tables catalog.now) (C.views catalog.now)) statement.now result }
+    ensures { Binds (state_of C.tables C.views catalog.now) statement.now result }
 {
     match statement {
         Statement::CreateTable {
@@ -36,11 +34,15 @@ pub fn bind<C: Catalog>(
             sort,
         } => bind_create(alloc, catalog, name, columns, sort),
         Statement::DropTable(name) => bind_drop(catalog, name),
-        Statement::CreateView { name, view } => bind_view(alloc, catalog, name, view),
+        Statement::CreateView { name, query } => bind_view(alloc, catalog, name, query),
         Statement::DropView(name) => bind_drop_view(catalog, name),
         Statement::Insert { table, rows } => bind_insert(alloc, catalog, table, rows),
         Statement::Delete { table, condition } => bind_delete(alloc, catalog, table, condition),
         Statement::Select(select) => bind_select(alloc, catalog, select),
+        Statement::Update { .. }
+        | Statement::Move { .. }
+        | Statement::Merge(_)
+        | Statement::Refresh { .. } => Err(Fault::Syntax),
     }
 }
 
@@ -51,7 +53,7 @@ fn bind_create<C: Catalog>(
     columns: &Seq<ColumnDef>,
     sort: &Seq<Text>,
 ) -> Result<Bound, BindFault>
-    ensures { Binds (alone (C.tables catalog.now) (C.views catalog.now)) (statements.CreateTable name.now columns.now sort.now) result }
+    ensures { Binds (state_of C.tables C.views catalog.now) (CreateTable name.now columns.now sort.now) result }
 {
     let columns = columns.as_slice();
     let sort = check_create(alloc, catalog, name.as_str(), columns, sort.as_slice())?;
@@ -70,7 +72,7 @@ fn check_create<C: Catalog>(
     columns: &[ColumnDef],
     sort: &[Text],
 ) -> Result<Seq<usize>, BindFault>
-    ensures { Walked (create_checks name.now columns.now sort.now (alone (C.tables catalog.now) (C.views catalog.now))) (λ places. places ≡ map (place_in columns.now) sort.now) result }
+    ensures { WalksCreate (state_of C.tables C.views catalog.now) name.now columns.now sort.now result }
 {
     if is_taken(catalog, name) {
         return Err(Fault::NameTaken);
@@ -81,7 +83,7 @@ fn check_create<C: Catalog>(
 }
 
 fn bind_drop<C: Catalog>(catalog: &C, name: &Text) -> Result<Bound, BindFault>
-    ensures { Binds (alone (C.tables catalog.now) (C.views catalog.now)) (statements.DropTable name.now) result }
+    ensures { Binds (state_of C.tables C.views catalog.now) (DropTable name.now) result }
 {
     let Some(table) = catalog.table(name.as_str()) else {
         return Err(Fault::UnknownTable);
@@ -93,7 +95,7 @@ fn bind_drop<C: Catalog>(catalog: &C, name: &Text) -> Result<Bound, BindFault>
 }
 
 fn bind_drop_view<C: Catalog>(catalog: &C, name: &Text) -> Result<Bound, BindFault>
-    ensures { Binds (alone (C.tables catalog.now) (C.views catalog.now)) (statements.DropView name.now) result }
+    ensures { Binds (state_of C.tables C.views catalog.now) (DropView name.now) result }
 {
     match catalog.view_place(name.as_str()) {
         Some(place) => Ok(Bound::DropView(place)),
@@ -103,14 +105,14 @@ fn bind_drop_view<C: Catalog>(catalog: &C, name: &Text) -> Result<Bound, BindFau
 
 /// Whether a table or a view has the name.
 pub(crate) fn is_taken<C: Catalog>(catalog: &C, name: &str) -> bool
-    ensures { result ≡ is_taken name.now (alone (C.tables catalog.now) (C.views catalog.now)) }
+    ensures { result ≡ is_taken name.now (state_of C.tables C.views catalog.now) }
 {
     catalog.table(name).is_some() || is_view(catalog, name)
 }
 
 /// Why a name that no table has cannot be written.
 pub(crate) fn unwritten<C: Catalog>(catalog: &C, name: &str) -> BindFault
-    ensures { result ≡ (if is_some (view_named name.now (C.views catalog.now)) then ViewNotWritten else UnknownTable) }
+    ensures { result ≡ (if names_view name.now (C.views catalog.now) then ViewNotWritten else UnknownTable) }
 {
     if is_view(catalog, name) {
         Fault::ViewNotWritten
@@ -121,7 +123,7 @@ pub(crate) fn unwritten<C: Catalog>(catalog: &C, name: &str) -> BindFault
 
 /// Why a name that no table has cannot be read by a view.
 pub(crate) fn unread<C: Catalog>(catalog: &C, name: &str) -> BindFault
-    ensures { result ≡ (if is_some (view_named name.now (C.views catalog.now)) then ClauseInView else UnknownTable) }
+    ensures { result ≡ (if names_view name.now (C.views catalog.now) then ClauseInView else UnknownTable) }
 {
     if is_view(catalog, name) {
         Fault::ClauseInView
@@ -131,7 +133,7 @@ pub(crate) fn unread<C: Catalog>(catalog: &C, name: &str) -> BindFault
 }
 
 fn is_view<C: Catalog>(catalog: &C, name: &str) -> bool
-    ensures { result ≡ is_some (view_named name.now (C.views catalog.now)) }
+    ensures { result ≡ names_view name.now (C.views catalog.now) }
 {
     catalog.view_place(name).is_some()
 }

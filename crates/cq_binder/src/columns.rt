@@ -1,11 +1,11 @@
 //! The columns of a table: where a name stands, and what CREATE TABLE may not declare.
-ghost use Rattle.std.specs.Prelude.{◌≡◌, ◌∷◌, IfOk, [], map};
+ghost use Rattle.std.specs.Prelude.{◌≡◌, ◌∷◌, IfOk, []};
 ghost use Rattle.std.specs.List.{list_any};
 ghost use Rattle.cq_values.specs.Texts.{is_text};
-ghost use Rattle.cq_binding.specs.Scopes.{place_in};
 ghost use Rattle.cq_binding.specs.Checks.{too_long};
 ghost use Rattle.cq_binding.specs.Refusal.{column_checks, sort_checks};
-ghost use Rattle.cq_binder.specs.Walk.{Passes, Walked};
+ghost use Rattle.cq_binder.specs.Columns.{sort_places};
+ghost use Rattle.cq_binder.specs.Walk.{Passes, WalksTo};
 
 use cq_binding::Fault;
 use cq_exprs::column_place;
@@ -21,7 +21,7 @@ pub(crate) fn sort_columns(
     columns: &[ColumnDef],
     names: &[Text],
 ) -> Result<Seq<usize>, Fault>
-    ensures { Walked (sort_checks columns.now [] names.now) (λ places. places ≡ map (place_in columns.now) names.now) result }
+    ensures { WalksTo (sort_checks columns.now [] names.now) (sort_places columns.now names.now) result }
 {
     let mut places = Seq::new(alloc);
     for (i, name) in names.iter().enumerate() {

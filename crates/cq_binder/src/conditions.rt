@@ -1,9 +1,6 @@
 //! WHERE.
-ghost use Rattle.std.specs.Prelude.{◌≡◌, ◌∷◌, [], option_map};
-ghost use Rattle.cq_binding.specs.Scopes.{bound_condition};
-ghost use Rattle.cq_binding.specs.Refusal.{where_check};
 ghost use Rattle.cq_exprs.specs.Expressions.{scope_of};
-ghost use Rattle.cq_binder.specs.Walk.{Walked};
+ghost use Rattle.cq_binder.specs.Conditions.{BindsWhere};
 
 use cq_binding::Fault;
 use cq_exprs::{Scope, bind_condition};
@@ -17,7 +14,7 @@ pub(crate) fn bound_where(
     scope: &Scope<'_>,
     condition: &Option<SqlExpr>,
 ) -> Result<Option<Cond>, Fault>
-    ensures { Walked (where_check (scope_of scope.now) condition.now ∷ []) (λ c. c ≡ option_map (bound_condition (scope_of scope.now)) condition.now) result }
+    ensures { BindsWhere (scope_of scope.now) condition.now result }
 {
     match condition {
         Some(condition) => Ok(Some(bind_condition(alloc, scope, condition)?)),

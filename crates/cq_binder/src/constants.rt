@@ -1,9 +1,9 @@
 //! The constants of an INSERT, each for the column at its place.
-ghost use Rattle.std.specs.Prelude.{◌≡◌, ◌∷◌, []};
 ghost use Rattle.cq_language.specs.declared.statement.Constant.TheVariants as constants;
-ghost use Rattle.cq_binding.specs.Bound.{constant_value, row_of};
-ghost use Rattle.cq_binding.specs.RowChecks.{constant_check, row_checks};
-ghost use Rattle.cq_binder.specs.Walk.{Walked};
+ghost use Rattle.cq_binding.specs.Bound.{row_of};
+ghost use Rattle.cq_binding.specs.RowChecks.{row_checks};
+ghost use Rattle.cq_binder.specs.Constants.{BindsConstant};
+ghost use Rattle.cq_binder.specs.Walk.{WalksTo};
 
 use crate::literals::{fits_column, literal_number};
 use cq_binding::Fault;
@@ -20,7 +20,7 @@ pub(crate) fn bound_row(
     columns: &[ColumnDef],
     constants: &[Constant],
 ) -> Result<Row, Fault>
-    ensures { Walked (row_checks columns.now constants.now) (λ row. row ≡ row_of constants.now) result }
+    ensures { WalksTo (row_checks columns.now constants.now) (row_of constants.now) result }
 {
     if constants.len() != columns.len() {
         return Err(Fault::TypeMismatch);
@@ -33,7 +33,7 @@ pub(crate) fn bound_row(
 }
 
 fn bound_constant(alloc: Global, column: &ColumnDef, constant: &Constant) -> Result<Value, Fault>
-    ensures { Walked (constant_check column.now constant.now ∷ []) (λ value. value ≡ constant_value constant.now) result }
+    ensures { BindsConstant column.now constant.now result }
 {
     match constant {
         Constant::Null => bound_null(column),
@@ -44,7 +44,7 @@ fn bound_constant(alloc: Global, column: &ColumnDef, constant: &Constant) -> Res
 }
 
 fn bound_null(column: &ColumnDef) -> Result<Value, Fault>
-    ensures { Walked (constant_check column.now constants.Null ∷ []) (λ value. value ≡ constant_value constants.Null) result }
+    ensures { BindsConstant column.now constants.Null result }
 {
     if column.not_null {
         return Err(Fault::NullNotAllowed);
@@ -53,7 +53,7 @@ fn bound_null(column: &ColumnDef) -> Result<Value, Fault>
 }
 
 fn bound_number(column: &ColumnDef, literal: &Literal) -> Result<Value, Fault>
-    ensures { Walked (constant_check column.now (constants.Number literal.now) ∷ []) (λ value. value ≡ constant_value (constants.Number literal.now)) result }
+    ensures { BindsConstant column.now (constants.Number literal.now) result }
 {
     if column.ty != Ty::Integer {
         return Err(Fault::TypeMismatch);
@@ -65,7 +65,7 @@ fn bound_number(column: &ColumnDef, literal: &Literal) -> Result<Value, Fault>
 }
 
 fn bound_text(alloc: Global, column: &ColumnDef, text: &Text) -> Result<Value, Fault>
-    ensures { Walked (constant_check column.now (constants.Text text.now) ∷ []) (λ value. value ≡ constant_value (constants.Text text.now)) result }
+    ensures { BindsConstant column.now (constants.Text text.now) result }
 {
     if column.ty != Ty::Text {
         return Err(Fault::TypeMismatch);
@@ -77,7 +77,7 @@ fn bound_text(alloc: Global, column: &ColumnDef, text: &Text) -> Result<Value, F
 }
 
 fn bound_date(column: &ColumnDef, text: &str) -> Result<Value, Fault>
-    ensures { Walked (constant_check column.now (constants.Date text.now) ∷ []) (λ value. value ≡ constant_value (constants.Date text.now)) result }
+    ensures { BindsConstant column.now (constants.Date text.now) result }
 {
     if column.ty != Ty::Date {
         return Err(Fault::TypeMismatch);

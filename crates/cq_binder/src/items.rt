@@ -1,16 +1,15 @@
 //! The items of a view: what they show of the keys of its groups, or what they tell of each group.
-ghost use Rattle.std.specs.Prelude.{◌≡◌, MatchResult, None};
-ghost use Rattle.cq_binding.specs.Checks.{MayRefuse};
-ghost use Rattle.cq_binding.specs.Refusal.{item_check};
+ghost use Rattle.cq_language.specs.Written as tree;
+ghost use Rattle.cq_language.specs.Written.{written};
 ghost use Rattle.cq_exprs.specs.Expressions.{scope_of};
-ghost use Rattle.cq_binder.specs.View.{AreBoundItems, bound_item, item_walk};
-ghost use Rattle.cq_binder.specs.Walk.{Walked};
+ghost use Rattle.cq_binder.specs.View.{BindsItem, BindsItems};
 
+use crate::told::{ItemAggregate, told_by};
 use cq_binding::Fault;
 use cq_exprs::{Scope, bind_kept, bind_number, bind_value};
-use cq_language::{ItemValue, ViewSelect};
+use cq_language::{AggregateFunction, ColumnName, ExprNode, Select, SqlExpr};
 use cq_model::{Aggregate, Expr};
-use cq_values::{Seq, Text};
+use cq_values::Seq;
 use std::alloc::Global;
 
 /// An item with its names resolved.
@@ -25,9 +24,9 @@ pub(crate) enum BoundItem {
 pub(crate) fn bound_items(
     alloc: Global,
     table: &Scope<'_>,
-    view: &ViewSelect,
+    view: &Select,
 ) -> Result<(Seq<Aggregate>, Seq<Expr>), Fault>
-    ensures { Walked (item_walk (scope_of table.now) view.now) (AreBoundItems (scope_of table.now) view.now) result }
+    ensures { BindsItems (scope_of table.now) view.now result }
 {
     let group = view.group.as_slice();
     let mut aggregates = Seq::new(alloc);
@@ -47,25 +46,42 @@ pub(crate) fn bound_items(
 fn bound_item(
     alloc: Global,
     table: &Scope<'_>,
-    group: &[Text],
-    value: &ItemValue,
+    group: &[ColumnName],
+    value: &SqlExpr,
 ) -> Result<BoundItem, Fault>
-    ensures { MatchResult result (λ item. (item_check (scope_of table.now) group.now value.now ≡ None) × (item ≡ bound_item (scope_of table.now) group.now value.now))
-        (MayRefuse (item_check (scope_of table.now) group.now value.now)) }
+    ensures { BindsItem (scope_of table.now) group.now value.now result }
 {
-    match value {
-        ItemValue::Value(value) => {
-            let value = bind_kept(alloc, &table.in_groups(group), value)?;
+    match told_by(value.node()) {
+        Some(ItemAggregate::Rows) => Ok(BoundItem::Told(Aggregate::CountAll)),
+        Some(ItemAggregate::Values(function, argument)) => {
+            bound_aggregate(alloc, table, group, function, argument)
+        }
+        None => {
+            let value = bind_kept(alloc, &table.in_groups(group), value.node())?;
             Ok(BoundItem::Shown(value))
         }
-        ItemValue::CountAll => Ok(BoundItem::Told(Aggregate::CountAll)),
-        ItemValue::Count(value) => {
-            let value = bind_value(alloc, table, value)?;
+    }
+}
+
+/// An aggregate of a value over the table. MIN and MAX are not kept yet.
+fn bound_aggregate(
+    alloc: Global,
+    table: &Scope<'_>,
+    group: &[ColumnName],
+    function: AggregateFunction,
+    argument: &ExprNode,
+) -> Result<BoundItem, Fault>
+    ensures { BindsItem (scope_of table.now) group.now (tree.Aggregate function (written argument.now)) result }
+{
+    match function {
+        AggregateFunction::Count => {
+            let value = bind_value(alloc, table, argument)?;
             Ok(BoundItem::Told(Aggregate::Count(value)))
         }
-        ItemValue::Sum(value) => {
-            let value = bind_number(alloc, table, value)?;
+        AggregateFunction::Sum => {
+            let value = bind_number(alloc, table, argument)?;
             Ok(BoundItem::Told(Aggregate::Sum(value)))
         }
+        AggregateFunction::Min | AggregateFunction::Max => Err(Fault::Syntax),
     }
 }

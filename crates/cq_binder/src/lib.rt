@@ -11,13 +11,17 @@ mod columns;
 mod conditions;
 mod constants;
 mod items;
+mod laws;
 mod literals;
 mod names;
+mod open;
 mod reading;
 mod scopes;
 mod select;
+mod told;
 mod view;
 mod writing;
 
 pub use binding::{BindFault, bind};
 pub use catalog::{Catalog, TableEntry, ViewEntry};
+pub use laws::checked_rows_fit;

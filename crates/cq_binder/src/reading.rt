@@ -1,26 +1,22 @@
 //! SELECT, and the query of a view.
-ghost use Rattle.std.specs.Prelude.{◌≡◌, Ok, Some};
-ghost use Rattle.cq_binding.specs.declared.bound.Bound.TheVariants as commands;
 ghost use Rattle.cq_language.specs.declared.statement.Statement.TheVariants as statements;
-ghost use Rattle.cq_binding.specs.Scopes.{Named, scope_as};
-ghost use Rattle.cq_binding.specs.Bound.{bound_select, grouped_query, view_columns, view_source};
-ghost use Rattle.cq_binding.specs.Refusal.{select_checks, source_checks, view_select_checks};
 ghost use Rattle.cq_states.specs.State.{TableOf};
 ghost use Rattle.cq_exprs.specs.Expressions.{scope_of};
-ghost use Rattle.cq_binder.specs.Catalog.{Binds, alone, heading, shown_heading};
-ghost use Rattle.cq_binder.specs.Select.{AreBoundParts};
-ghost use Rattle.cq_binder.specs.Walk.{Walked};
+ghost use Rattle.cq_binder.specs.Catalog.{Binds, Describes, state_of};
+ghost use Rattle.cq_binder.specs.Select.{BindsParts, BindsQuery};
+ghost use Rattle.cq_binder.specs.View.{CreatesView};
 
 use crate::binding::{BindFault, is_taken, unread};
 use crate::catalog::{Catalog, TableEntry};
 use crate::columns::check_length;
 use crate::conditions::bound_where;
+use crate::open::{is_plain, may_be_kept};
 use crate::scopes::{stored_sizes, table_scope_as, view_scope_as};
 use crate::select::{bound_values, header};
 use crate::view::{BoundView, bound_view};
 use cq_binding::{Bound, Fault};
 use cq_exprs::Scope;
-use cq_language::{Select, ViewSelect};
+use cq_language::Select;
 use cq_model::{Cond, Expr, Order, Query, Shape, Source};
 use cq_values::{Seq, Text};
 use std::alloc::Global;
@@ -30,14 +26,17 @@ pub(crate) fn bind_view<C: Catalog>(
     alloc: Global,
     catalog: &C,
     name: &Text,
-    view: &ViewSelect,
+    view: &Select,
 ) -> Result<Bound, BindFault>
-    ensures { Binds (alone (C.tables catalog.now) (C.views catalog.now)) (statements.CreateView name.now view.now) result }
+    ensures { Binds (state_of C.tables C.views catalog.now) (statements.CreateView name.now view.now) result }
 {
+    if !may_be_kept(view) {
+        return Err(Fault::Syntax);
+    }
     if is_taken(catalog, name.as_str()) {
         return Err(Fault::NameTaken);
     }
-    let source = view.source.name.as_str();
+    let source = view.first.name.as_str();
     let Some(table) = catalog.table(source) else {
         return Err(unread(catalog, source));
     };
@@ -49,10 +48,9 @@ fn bind_view_on(
     alloc: Global,
     table: &TableEntry<'_>,
     name: &Text,
-    view: &ViewSelect,
+    view: &Select,
 ) -> Result<Bound, BindFault>
-    ensures { (t : TableOf) → shown_heading table.now ≡ heading t
-        → Walked (view_select_checks view.now (Ok t)) (λ command. command ≡ commands.CreateView name.now (view_columns (view_source view.now t) view.now) (grouped_query view.now t)) result }
+    ensures { (t : TableOf) → Describes table.now t → CreatesView t name.now view.now result }
 {
     let sizes = stored_sizes(alloc, table.columns)?;
     let BoundView {
@@ -61,7 +59,7 @@ fn bind_view_on(
         keys,
         aggregates,
         items,
-    } = bound_view(alloc, &table_scope_as(&view.source, table, &sizes), view)?;
+    } = bound_view(alloc, &table_scope_as(&view.first, table, &sizes), view)?;
     Ok(Bound::CreateView {
         name: name.copy(alloc)?,
         columns,
@@ -86,18 +84,21 @@ pub(crate) fn bind_select<C: Catalog>(
     catalog: &C,
     select: &Select,
 ) -> Result<Bound, BindFault>
-    ensures { Binds (alone (C.tables catalog.now) (C.views catalog.now)) (statements.Select select.now) result }
+    ensures { Binds (state_of C.tables C.views catalog.now) (statements.Select select.now) result }
 {
-    let name = select.source.name.as_str();
+    if !is_plain(select) {
+        return Err(Fault::Syntax);
+    }
+    let name = select.first.name.as_str();
     if let Some(table) = catalog.table(name) {
         let sizes = stored_sizes(alloc, table.columns)?;
-        let scope = table_scope_as(&select.source, &table, &sizes);
+        let scope = table_scope_as(&select.first, &table, &sizes);
         return bind_query(alloc, &scope, Source::Table(table.number), select);
     }
     let Some(view) = catalog.view(alloc, name)? else {
         return Err(Fault::UnknownTable);
     };
-    let scope = view_scope_as(&select.source, &view);
+    let scope = view_scope_as(&select.first, &view);
     bind_query(alloc, &scope, Source::View(view.place), select)
 }
 
@@ -108,8 +109,7 @@ fn bind_query(
     source: Source,
     select: &Select,
 ) -> Result<Bound, BindFault>
-    ensures { (named : Named) → scope_of scope.now ≡ scope_as select.now.source named → source ≡ named.source
-        → Walked (select_checks select.now (Some named)) (λ command. command ≡ bound_select select.now named) result }
+    ensures { BindsQuery (scope_of scope.now) source select.now result }
 {
     let header = header(alloc, select.items.as_slice())?;
     let (filter, items) = bound_parts(alloc, scope, select)?;
@@ -136,7 +136,7 @@ fn bound_parts(
     scope: &Scope<'_>,
     select: &Select,
 ) -> Result<(Option<Cond>, Seq<Expr>), BindFault>
-    ensures { Walked (source_checks select.now (scope_of scope.now)) (AreBoundParts (scope_of scope.now) select.now) result }
+    ensures { BindsParts (scope_of scope.now) select.now result }
 {
     let filter = bound_where(alloc, scope, &select.condition)?;
     let items = bound_values(alloc, scope, select.items.as_slice())?;

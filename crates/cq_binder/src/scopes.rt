@@ -1,10 +1,11 @@
 //! What expressions over a table or a view see of it.
 ghost use Rattle.std.specs.Prelude.{◌≡◌, IfOk, unwrap_or};
 ghost use Rattle.cq_model.specs.Sizes.{stored_sizes};
-ghost use Rattle.cq_binding.specs.Scopes.{from_table, scope_as, scope_of as scope_of_source};
+ghost use Rattle.cq_binding.specs.Scopes.{from_table, scope_as};
 ghost use Rattle.cq_states.specs.State.{TableOf};
 ghost use Rattle.cq_exprs.specs.Expressions.{scope_of};
-ghost use Rattle.cq_binder.specs.Catalog.{heading, shown_heading, shown_view};
+ghost use Rattle.cq_binder.specs.Catalog.{Describes, shown_view};
+ghost use Rattle.cq_binder.specs.Scopes.{table_scope};
 
 use crate::catalog::{TableEntry, ViewEntry};
 use cq_exprs::Scope;
@@ -33,7 +34,7 @@ pub(crate) fn table_scope<'a>(
     sizes: &'a [u128],
 ) -> Scope<'a>
     requires { sizes.now ≡ stored_sizes columns.now }
-    ensures { (t : TableOf) → name.now ≡ t.name → columns.now ≡ t.columns → scope_of result ≡ scope_of_source (from_table t) }
+    ensures { (t : TableOf) → name.now ≡ t.name → columns.now ≡ t.columns → scope_of result ≡ table_scope t }
 {
     Scope {
         known: name,
@@ -50,7 +51,7 @@ pub(crate) fn table_scope_as<'a>(
     sizes: &'a [u128],
 ) -> Scope<'a>
     requires { sizes.now ≡ stored_sizes table.now.columns.now }
-    ensures { (t : TableOf) → shown_heading table.now ≡ heading t → scope_of result ≡ scope_as from.now (from_table t) }
+    ensures { (t : TableOf) → Describes table.now t → scope_of result ≡ scope_as from.now (from_table t) }
 {
     Scope {
         known: known_as(from, table.name),

@@ -1,11 +1,9 @@
 //! The items of a SELECT: their values, and what stands above them.
-ghost use Rattle.std.specs.Prelude.{◌≡◌, IfOk, map, option_map, unwrap_or};
+ghost use Rattle.std.specs.Prelude.{◌≡◌, IfOk, option_map, unwrap_or};
 ghost use Rattle.cq_language.specs.Written.{written};
-ghost use Rattle.cq_binding.specs.Scopes.{bound_value};
-ghost use Rattle.cq_binding.specs.Bound.{bare_name, header, name_by_place, shown_by, shown_name};
-ghost use Rattle.cq_binding.specs.Refusal.{value_check};
+ghost use Rattle.cq_binding.specs.Headers.{bare_name, header, name_by_place, shown_name};
 ghost use Rattle.cq_exprs.specs.Expressions.{scope_of};
-ghost use Rattle.cq_binder.specs.Walk.{Walked};
+ghost use Rattle.cq_binder.specs.Select.{BindsValues};
 
 use cq_binding::Fault;
 use cq_exprs::{Scope, bind_value};
@@ -20,11 +18,11 @@ pub(crate) fn bound_values(
     scope: &Scope<'_>,
     items: &[SelectItem],
 ) -> Result<Vec<Expr>, Fault>
-    ensures { Walked (map (value_check (scope_of scope.now)) (shown_by items.now)) (λ v. v.items ≡ map (bound_value (scope_of scope.now)) (shown_by items.now)) result }
+    ensures { BindsValues (scope_of scope.now) items.now result }
 {
     let mut values = Vec::with_capacity(alloc, items.len())?;
     for item in items {
-        values.push(bind_value(alloc, scope, &item.value)?)?;
+        values.push(bind_value(alloc, scope, item.value.node())?)?;
     }
     Ok(values)
 }
@@ -41,7 +39,7 @@ pub(crate) fn header(alloc: Global, items: &[SelectItem]) -> Result<Seq<Text>, A
 }
 
 /// The name behind AS, or else the item's own. Places are counted from 1.
-fn item_name(alloc: Global, place: usize, item: &SelectItem) -> Result<Text, AllocError>
+pub(crate) fn item_name(alloc: Global, place: usize, item: &SelectItem) -> Result<Text, AllocError>
     ensures { IfOk result (λ name. name ≡ unwrap_or item.now.alias (shown_name place item.now.value)) }
 {
     match &item.alias {
@@ -51,7 +49,7 @@ fn item_name(alloc: Global, place: usize, item: &SelectItem) -> Result<Text, All
 }
 
 /// What an item is called by itself: a bare column by its name, and any other by its place.
-pub(crate) fn shown_name(alloc: Global, place: usize, value: &SqlExpr) -> Result<Text, AllocError>
+fn shown_name(alloc: Global, place: usize, value: &SqlExpr) -> Result<Text, AllocError>
     ensures { IfOk result (λ name. name ≡ shown_name place value.now) }
 {
     match bare_name(value.node()) {
@@ -61,7 +59,7 @@ pub(crate) fn shown_name(alloc: Global, place: usize, value: &SqlExpr) -> Result
 }
 
 /// The name that an item has from its place.
-pub(crate) fn name_by_place(alloc: Global, place: usize) -> Result<Text, AllocError>
+fn name_by_place(alloc: Global, place: usize) -> Result<Text, AllocError>
     ensures { IfOk result (λ name. name ≡ name_by_place place) }
 {
     let name = format!(in alloc; "c{place}")?;

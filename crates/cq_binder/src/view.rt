@@ -1,10 +1,10 @@
 //! Views with their names resolved.
-ghost use Rattle.std.specs.Prelude.{◌≡◌, map};
-ghost use Rattle.cq_binding.specs.Scopes.{place_in};
-ghost use Rattle.cq_binding.specs.Refusal.{name_check, query_checks};
+ghost use Rattle.std.specs.Prelude.{map};
+ghost use Rattle.cq_binding.specs.Bound.{group_places};
+ghost use Rattle.cq_binding.specs.ViewChecks.{group_check};
 ghost use Rattle.cq_exprs.specs.Expressions.{scope_of};
-ghost use Rattle.cq_binder.specs.View.{IsBoundView, group_walk};
-ghost use Rattle.cq_binder.specs.Walk.{Walked};
+ghost use Rattle.cq_binder.specs.View.{BindsView, group_walk};
+ghost use Rattle.cq_binder.specs.Walk.{WalksTo};
 
 use crate::columns::check_length;
 use crate::conditions::bound_where;
@@ -12,9 +12,9 @@ use crate::items::bound_items;
 use crate::names::view_columns;
 use cq_binding::Fault;
 use cq_exprs::{Scope, column_place};
-use cq_language::ViewSelect;
+use cq_language::{ColumnName, Select};
 use cq_model::{Aggregate, Cond, Expr};
-use cq_values::{ColumnDef, Seq, Text};
+use cq_values::{ColumnDef, Seq};
 use std::alloc::Global;
 
 /// The query of a view with its names resolved, and the columns that the view shows.
@@ -32,9 +32,9 @@ pub(crate) struct BoundView {
 pub(crate) fn bound_view(
     alloc: Global,
     table: &Scope<'_>,
-    view: &ViewSelect,
+    view: &Select,
 ) -> Result<BoundView, Fault>
-    ensures { Walked (query_checks (scope_of table.now) view.now) (IsBoundView (scope_of table.now) view.now) result }
+    ensures { BindsView (scope_of table.now) view.now result }
 {
     let group = view.group.as_slice();
     let filter = bound_where(alloc, table, &view.condition)?;
@@ -51,20 +51,28 @@ pub(crate) fn bound_view(
 }
 
 /// GROUP BY by the places of its columns.
-fn group_keys(alloc: Global, columns: &[ColumnDef], names: &[Text]) -> Result<Seq<usize>, Fault>
-    ensures { Walked (group_walk columns.now names.now) (λ keys. keys ≡ map (place_in columns.now) names.now) result }
+fn group_keys(
+    alloc: Global,
+    columns: &[ColumnDef],
+    names: &[ColumnName],
+) -> Result<Seq<usize>, Fault>
+    ensures { WalksTo (group_walk columns.now names.now) (group_places columns.now names.now) result }
 {
     let keys = name_places(alloc, columns, names)?;
     check_length(names.len())?;
     Ok(keys)
 }
 
-fn name_places(alloc: Global, columns: &[ColumnDef], names: &[Text]) -> Result<Seq<usize>, Fault>
-    ensures { Walked (map (name_check columns.now) names.now) (λ places. places ≡ map (place_in columns.now) names.now) result }
+fn name_places(
+    alloc: Global,
+    columns: &[ColumnDef],
+    names: &[ColumnName],
+) -> Result<Seq<usize>, Fault>
+    ensures { WalksTo (map (group_check columns.now) names.now) (group_places columns.now names.now) result }
 {
     let mut places = Seq::new(alloc);
     for name in names {
-        let Some(place) = column_place(columns, name.as_str()) else {
+        let Some(place) = column_place(columns, name.name.as_str()) else {
             return Err(Fault::UnknownColumn);
         };
         places.push(place)?;

@@ -1,21 +1,22 @@
 //! INSERT and DELETE.
-ghost use Rattle.std.specs.Prelude.{◌≡◌, ◌∷◌, [], map, option_map};
+ghost use Rattle.std.specs.Prelude.{map};
 ghost use Rattle.std.specs.List.{flat_map};
 ghost use Rattle.cq_language.specs.declared.statement.Statement.TheVariants as statements;
-ghost use Rattle.cq_binding.specs.Scopes.{bound_condition, from_table, scope_of};
 ghost use Rattle.cq_binding.specs.Bound.{row_of};
 ghost use Rattle.cq_binding.specs.RowChecks.{row_checks};
-ghost use Rattle.cq_binding.specs.Refusal.{where_check};
 ghost use Rattle.cq_states.specs.State.{TableOf};
-ghost use Rattle.cq_binder.specs.Catalog.{Binds, alone, heading, shown_heading};
-ghost use Rattle.cq_binder.specs.Walk.{Walked};
+ghost use Rattle.cq_binder.specs.Catalog.{Binds, Describes, state_of};
+ghost use Rattle.cq_binder.specs.Conditions.{BindsWhere};
+ghost use Rattle.cq_binder.specs.Scopes.{table_scope};
+ghost use Rattle.cq_binder.specs.Walk.{WalksTo};
 
 use crate::binding::{BindFault, unwritten};
 use crate::catalog::{Catalog, TableEntry};
 use crate::conditions::bound_where;
 use crate::constants::bound_row;
+use crate::open::is_of_rows;
 use crate::scopes::{stored_sizes, table_scope};
-use cq_binding::Bound;
+use cq_binding::{Bound, Fault};
 use cq_language::{Constant, SqlExpr};
 use cq_model::Cond;
 use cq_values::{ColumnDef, Row, Seq, Text};
@@ -28,7 +29,7 @@ pub(crate) fn bind_insert<C: Catalog>(
     name: &Text,
     rows: &Seq<Seq<Constant>>,
 ) -> Result<Bound, BindFault>
-    ensures { Binds (alone (C.tables catalog.now) (C.views catalog.now)) (statements.Insert name.now rows.now) result }
+    ensures { Binds (state_of C.tables C.views catalog.now) (statements.Insert name.now rows.now) result }
 {
     let Some(table) = catalog.table(name.as_str()) else {
         return Err(unwritten(catalog, name.as_str()));
@@ -45,7 +46,7 @@ fn bound_rows(
     columns: &[ColumnDef],
     rows: &[Seq<Constant>],
 ) -> Result<Seq<Row>, BindFault>
-    ensures { Walked (flat_map (row_checks columns.now) rows.now) (λ made. made ≡ map row_of rows.now) result }
+    ensures { WalksTo (flat_map (row_checks columns.now) rows.now) (map row_of rows.now) result }
 {
     let mut made = Vec::with_capacity(alloc, rows.len())?;
     for row in rows {
@@ -62,8 +63,11 @@ pub(crate) fn bind_delete<C: Catalog>(
     name: &Text,
     condition: &Option<SqlExpr>,
 ) -> Result<Bound, BindFault>
-    ensures { Binds (alone (C.tables catalog.now) (C.views catalog.now)) (statements.Delete name.now condition.now) result }
+    ensures { Binds (state_of C.tables C.views catalog.now) (statements.Delete name.now condition.now) result }
 {
+    if !is_of_rows(condition) {
+        return Err(Fault::Syntax);
+    }
     let Some(table) = catalog.table(name.as_str()) else {
         return Err(unwritten(catalog, name.as_str()));
     };
@@ -79,8 +83,7 @@ fn where_on(
     table: &TableEntry<'_>,
     condition: &Option<SqlExpr>,
 ) -> Result<Option<Cond>, BindFault>
-    ensures { (t : TableOf) → shown_heading table.now ≡ heading t
-        → Walked (where_check (scope_of (from_table t)) condition.now ∷ []) (λ c. c ≡ option_map (bound_condition (scope_of (from_table t))) condition.now) result }
+    ensures { (t : TableOf) → Describes table.now t → BindsWhere (table_scope t) condition.now result }
 {
     let sizes = stored_sizes(alloc, table.columns)?;
     let scope = table_scope(table.name, table.columns, &sizes);

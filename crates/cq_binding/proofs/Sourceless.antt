@@ -7,22 +7,26 @@ use Rattle.cq_values.specs.declared.ty.Ty.TheVariants as types
 use Rattle.cq_values.specs.Dates.{day_named}
 use Rattle.cq_language.specs.declared.statement.Constant.{Constant}
 use Rattle.cq_language.specs.declared.statement.Constant.TheVariants as constants
-use Rattle.cq_language.specs.declared.statement.Item.{Item}
-use Rattle.cq_language.specs.declared.statement.ItemValue.{ItemValue}
-use Rattle.cq_language.specs.declared.statement.ItemValue.TheVariants as values
 use Rattle.cq_language.specs.declared.statement.Select.{Select}
 use Rattle.cq_language.specs.declared.statement.Statement.{Statement}
 use Rattle.cq_language.specs.declared.statement.Statement.TheVariants as statements
-use Rattle.cq_language.specs.declared.statement.ViewSelect.{ViewSelect}
-use Rattle.cq_language.specs.Written.{Written, Choices, Number, Text, Date, Null, Column, Extract, Parens, Negative, Times, Plus, Minus, Compare, IsNull, Between, In, Like, Not, And, Or, NoChoice, Choice}
+use Rattle.cq_language.specs.declared.written.ColumnName.{ColumnName}
+use Rattle.cq_language.specs.declared.written.AggregateFunction.{AggregateFunction}
+use Rattle.cq_language.specs.declared.written.AggregateFunction.TheVariants as functions
+use Rattle.cq_language.specs.Written.{Written, Choices, Number, Text, Date, Null, Column, Extract, CountAll, Aggregate, Parens, Negative, Times, Plus, Minus, Compare, IsNull, Between, In, Like, Not, And, Or, NoChoice, Choice}
 use Rattle.cq_binding.specs.declared.fault.Fault.{Fault}
 use Rattle.cq_binding.specs.declared.fault.Fault.TheVariants as faults
 use Rattle.cq_binding.specs.declared.typing.Typing.{Typing}
-use Rattle.cq_binding.specs.Scopes.{Named, scope_as}
-use Rattle.cq_binding.specs.Bound.{item_names, shown_by, values_in, view_source}
+use Rattle.cq_binding.specs.Scopes.{Named, in_groups, scope_as}
+use Rattle.cq_language.specs.Written as tree
+use Rattle.cq_binding.specs.Headers.{header, shown_by}
+use Rattle.cq_binding.specs.Bound.{view_source}
+use Rattle.cq_binding.specs.Open.{is_of_rows, is_plain, may_be_kept}
 use Rattle.cq_binding.specs.Checks.{first_fault, fault_if, too_long}
 use Rattle.cq_binding.specs.RowChecks.{fits_column, is_type, constant_check, constant_checks, row_checks}
-use Rattle.cq_binding.specs.Refusal.{column_checks, name_check, sort_checks, create_checks, drop_table_checks, written_table, insert_checks, where_check, delete_checks, value_check, source_checks, select_checks, read_table, item_check, repeats, query_checks, view_select_checks, create_view_checks, drop_view_checks, checks, refusal}
+use Rattle.cq_binding.specs.SourceChecks.{name_check, where_check, value_check}
+use Rattle.cq_binding.specs.ViewChecks.{read_table, item_check, group_check, repeats, query_checks, view_select_checks, create_view_checks}
+use Rattle.cq_binding.specs.Refusal.{column_checks, sort_checks, create_checks, drop_table_checks, written_table, insert_checks, rows_checks, delete_checks, source_checks, from_checks, select_checks, drop_view_checks, checks, refusal}
 use Rattle.cq_binding.specs.Kinds.{◌and_then◌, unless, number_of, negative, arithmetic, sum_of, product_of, part_of, compared_with, tested, between_them, like_of, negation_of, connected, added, kept_value}
 use Rattle.cq_binding.specs.Typing.{Scope, column_at, knows, column_typing, typed, listed, fault_in}
 use Rattle.cq_states.specs.State.{State, TableOf, ViewOf, is_taken}
@@ -87,6 +91,8 @@ mutual
   typed_clean s Null = refl
   typed_clean s (Column c) = branch_clean (knows s c.source) (column_typing s c.name (column_at s c.name)) (Err faults.UnknownTable) (column_clean s c.name (column_at s c.name)) refl
   typed_clean s (Extract part a) = then_clean (typed s a) (part_of part) (typed_clean s a) (λ x. unless_clean _ faults.TypeMismatch _ refl)
+  typed_clean s CountAll = refl
+  typed_clean s (Aggregate function a) = refl
   typed_clean s (Parens a) = typed_clean s a
   typed_clean s (Negative a) = then_clean (typed s a) negative (typed_clean s a) negative_clean
   typed_clean s (Times a b) = then_clean (typed s a) _ (typed_clean s a) (λ x. then_clean (typed s b) (product_of x) (typed_clean s b) (λ y. arithmetic_clean x y _))
@@ -115,11 +121,19 @@ where_clean : (s : Scope) (o : Option Written) → tells_source (where_check s o
 where_clean s None = refl
 where_clean s (Some w) = fault_clean _ (then_clean (typed s w) negation_of (typed_clean s w) (λ x. unless_clean _ faults.TypeMismatch _ refl))
 
-item_clean : (s : Scope) (group : List (List ℕ)) (v : ItemValue) → tells_source (item_check s group v) ≡ false
-item_clean s group (values.Value w) = fault_clean _ (then_clean (typed _ w) kept_value (typed_clean _ w) (λ x. unless_clean _ faults.TypeMismatch _ refl))
-item_clean s group values.CountAll = refl
-item_clean s group (values.Count w) = value_clean s w
-item_clean s group (values.Sum w) = fault_clean _ (then_clean (typed s w) added (typed_clean s w) (λ x. unless_clean _ faults.TypeMismatch _ refl))
+kept_clean : (s : Scope) (group : List ColumnName) (w : Written) → tells_source (fault_in (typed (in_groups group s) w and_then kept_value)) ≡ false
+kept_clean s group w = fault_clean _ (then_clean (typed _ w) kept_value (typed_clean _ w) (λ x. unless_clean _ faults.TypeMismatch _ refl))
+
+aggregate_clean : (s : Scope) (group : List ColumnName) (function : AggregateFunction) (w : Written) → tells_source (item_check s group (tree.Aggregate function w)) ≡ false
+aggregate_clean s group functions.Count w = value_clean s w
+aggregate_clean s group functions.Sum w = fault_clean _ (then_clean (typed s w) added (typed_clean s w) (λ x. unless_clean _ faults.TypeMismatch _ refl))
+aggregate_clean s group functions.Min w = refl
+aggregate_clean s group functions.Max w = refl
+
+item_clean : (s : Scope) (group : List ColumnName) (w : Written) → tells_source (item_check s group w) ≡ false
+item_clean s group tree.CountAll = refl
+item_clean s group (tree.Aggregate function w) = aggregate_clean s group function w
+item_clean s group w = kept_clean s group w
 
 -- ---- Lists of checks
 if_clean : (b : Bool) (f : Fault) → is_source f ≡ false → tells_source (fault_if b f) ≡ false
@@ -181,30 +195,36 @@ insert_clean : (max_rows : ℕ) (rows : List (List Constant)) (r : Result TableO
 insert_clean max_rows rows (Err f) h = (h, tt)
 insert_clean max_rows rows (Ok t) h = both_clean (flat_map (row_checks t.columns) rows) _ (flat_clean (row_checks t.columns) (row_clean t.columns) rows) (if_clean _ faults.TableFull refl, tt)
 
+rows_clean : (condition : Option Written) (r : Result TableOf Fault) → fails_by_source r ≡ false → Clean (rows_checks condition r)
+rows_clean condition (Err f) h = (h, tt)
+rows_clean condition (Ok t) h = (where_clean _ condition, tt)
+
 delete_clean : (condition : Option Written) (r : Result TableOf Fault) → fails_by_source r ≡ false → Clean (delete_checks condition r)
-delete_clean condition (Err f) h = (h, tt)
-delete_clean condition (Ok t) h = (where_clean _ condition, tt)
+delete_clean condition r h = (if_clean (not (is_of_rows condition)) faults.Syntax refl, rows_clean condition r h)
 
 source_clean : (q : Select) (s : Scope) → Clean (source_checks q s)
 source_clean q s =
     (where_clean s q.condition, both_clean (map (value_check s) (shown_by q.items)) (too_long (length q.items) ∷ []) (map_clean (value_check s) (value_clean s) (shown_by q.items)) (long_clean (length q.items), tt))
 
-select_clean : (q : Select) (o : Option Named) → Clean (select_checks q o)
-select_clean q None = (refl, tt)
-select_clean q (Some source) = source_clean q (scope_as q.source source)
+from_clean : (q : Select) (o : Option Named) → Clean (from_checks q o)
+from_clean q None = (refl, tt)
+from_clean q (Some source) = source_clean q (scope_as q.first source)
 
-query_clean : (s : Scope) (v : ViewSelect) → Clean (query_checks s v)
+select_clean : (q : Select) (o : Option Named) → Clean (select_checks q o)
+select_clean q o = (if_clean (not (is_plain q)) faults.Syntax refl, from_clean q o)
+
+query_clean : (s : Scope) (v : Select) → Clean (query_checks s v)
 query_clean s v =
-    let last : List (Option Fault) = fault_if (repeats [] (item_names 1 v.items)) faults.NameTaken ∷ too_long (length v.items) ∷ [] in
-    let group : List (Option Fault) = map (name_check s.columns) v.group in
-    let items : List (Option Fault) = too_long (length v.group) ∷ map (item_check s v.group) (values_in v) in
-    let named : Clean group = map_clean (name_check s.columns) (name_clean s.columns) v.group in
-    let shown : Clean items = (long_clean (length v.group), map_clean (item_check s v.group) (item_clean s v.group) (values_in v)) in (
+    let last : List (Option Fault) = fault_if (repeats [] (header 1 v.items)) faults.NameTaken ∷ too_long (length v.items) ∷ [] in
+    let group : List (Option Fault) = map (group_check s.columns) v.group in
+    let items : List (Option Fault) = too_long (length v.group) ∷ map (item_check s v.group) (shown_by v.items) in
+    let named : Clean group = map_clean (group_check s.columns) (λ c. name_clean s.columns c.name) v.group in
+    let shown : Clean items = (long_clean (length v.group), map_clean (item_check s v.group) (item_clean s v.group) (shown_by v.items)) in (
       where_clean s v.condition,
-      both_clean (group ++ items) last (both_clean group items named shown) (if_clean (repeats [] (item_names 1 v.items)) faults.NameTaken refl, (long_clean (length v.items), tt)),
+      both_clean (group ++ items) last (both_clean group items named shown) (if_clean (repeats [] (header 1 v.items)) faults.NameTaken refl, (long_clean (length v.items), tt)),
     )
 
-view_clean : (v : ViewSelect) (r : Result TableOf Fault) → fails_by_source r ≡ false → Clean (view_select_checks v r)
+view_clean : (v : Select) (r : Result TableOf Fault) → fails_by_source r ≡ false → Clean (view_select_checks v r)
 view_clean v (Err f) h = (h, tt)
 view_clean v (Ok t) h = query_clean (view_source v t) v
 
@@ -215,11 +235,13 @@ table_clean false o f h = found_clean o faults.UnknownTable refl
 all_clean : (s : State) (statement : Statement) → Clean (checks s statement)
 all_clean s (statements.CreateTable name columns sort) = create_clean name columns sort s
 all_clean s (statements.DropTable name) = drop_clean s.views _
-all_clean s (statements.CreateView name v) = (if_clean _ faults.NameTaken refl, view_clean v (read_table v.source.name s) (table_clean _ _ faults.ClauseInView refl))
+all_clean s (statements.CreateView name v) =
+    (if_clean (not (may_be_kept v)) faults.Syntax refl, (if_clean _ faults.NameTaken refl, view_clean v (read_table v.first.name s) (table_clean _ _ faults.ClauseInView refl)))
 all_clean s (statements.DropView name) = (if_clean _ faults.UnknownTable refl, tt)
 all_clean s (statements.Insert name rows) = insert_clean s.max_rows rows (written_table name s) (table_clean _ _ faults.ViewNotWritten refl)
 all_clean s (statements.Delete name condition) = delete_clean condition (written_table name s) (table_clean _ _ faults.ViewNotWritten refl)
 all_clean s (statements.Select q) = select_clean q _
+all_clean s statement = (refl, tt)
 
 first_clean : (cs : List (Option Fault)) → Clean cs → tells_source (first_fault cs) ≡ false
 first_clean [] h = refl

@@ -2,8 +2,12 @@ pub mod Placed
 pub mod Kinds
 pub mod Typing
 pub mod Scopes
+pub mod Headers
 pub mod Bound
 pub mod FaultText
 pub mod Checks
 pub mod RowChecks
+pub mod Open
+pub mod SourceChecks
+pub mod ViewChecks
 pub mod Refusal

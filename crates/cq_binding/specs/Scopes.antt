@@ -24,11 +24,11 @@ abbrev pub place_in : List ColumnDef → List ℕ → ℕ
 place_in columns name = unwrap_or (column_place columns name) 0
 
 -- where a column of GROUP BY stands in a group's row
-abbrev pub group_place : List (List ℕ) → List ℕ → ℕ
-group_place group name = unwrap_or (position (λ g. is_text g name) group) 0
+abbrev pub group_place : List ColumnName → List ℕ → ℕ
+group_place group name = unwrap_or (position (λ g. is_text g.name name) group) 0
 
 -- where a column stands in the rows that expressions read: among the source's columns, or in a group's key
-abbrev pub read_place : Option (List (List ℕ)) → List ColumnDef → List ℕ → ℕ
+abbrev pub read_place : Option (List ColumnName) → List ColumnDef → List ℕ → ℕ
 read_place None columns name = place_in columns name
 read_place (Some group) columns name = group_place group name
 
@@ -74,5 +74,5 @@ abbrev pub scope_as : FromSource → Named → Scope
 scope_as f source = record { known = unwrap_or f.alias source.known; columns = source.columns; sizes = source.sizes; grouped = None }
 
 -- what the items of a source's groups see of it
-abbrev pub in_groups : List (List ℕ) → Scope → Scope
+abbrev pub in_groups : List ColumnName → Scope → Scope
 in_groups group s = record s { grouped = Some group }

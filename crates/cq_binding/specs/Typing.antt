@@ -7,9 +7,10 @@ use Rattle.cq_values.specs.declared.ty.Ty.TheVariants as types
 use Rattle.cq_values.specs.Dates.{day_named}
 use Rattle.cq_values.specs.Texts.{is_text}
 use Rattle.cq_values.specs.declared.column.ColumnDef.{ColumnDef}
-use Rattle.cq_language.specs.Written.{Written, Choices, Number, Text, Date, Null, Column, Extract, Parens, Negative, Times, Plus, Minus, Compare, IsNull, Between, In, Like, Not, And, Or, NoChoice, Choice}
+use Rattle.cq_language.specs.declared.written.ColumnName.{ColumnName}
+use Rattle.cq_language.specs.Written.{Written, Choices, Number, Text, Date, Null, Column, Extract, CountAll, Aggregate, Parens, Negative, Times, Plus, Minus, Compare, IsNull, Between, In, Like, Not, And, Or, NoChoice, Choice}
 use Rattle.cq_binding.specs.declared.fault.Fault.{Fault}
-use Rattle.cq_binding.specs.declared.fault.Fault.TheVariants.{UnknownTable, UnknownColumn, TypeMismatch, AggregateMisplaced, BadDate}
+use Rattle.cq_binding.specs.declared.fault.Fault.TheVariants.{Syntax, UnknownTable, UnknownColumn, TypeMismatch, AggregateMisplaced, BadDate}
 use Rattle.cq_binding.specs.declared.typing.Kind.TheVariants as kinds
 use Rattle.cq_binding.specs.declared.typing.Typing.{Typing}
 use Rattle.cq_binding.specs.Kinds.{◌and_then◌, unless, value_of, a_condition, agree, number_of, negative, sum_of, product_of, part_of, compared_with, tested, between_them, text_of, like_of, negation_of, connected, added, kept_value, kind_type}
@@ -20,7 +21,7 @@ pub record Scope : Type 0 where
   pub known : List ℕ
   pub columns : List ColumnDef
   pub sizes : List ℕ
-  pub grouped : Option (List (List ℕ))
+  pub grouped : Option (List ColumnName)
 
 -- where the column of a name stands
 abbrev pub column_at : Scope → List ℕ → Option ℕ
@@ -36,9 +37,9 @@ abbrev pub type_at : List ColumnDef → ℕ → Ty
 type_at cs i = slice_index_or (map (λ c. c.ty) cs) i types.Integer
 
 -- whether a column that is there may be read: all of a source's may, and of a group's those behind GROUP BY
-abbrev pub may_read : Option (List (List ℕ)) → List ℕ → Bool
+abbrev pub may_read : Option (List ColumnName) → List ℕ → Bool
 may_read None name = true
-may_read (Some group) name = list_any (λ g. is_text g name) group
+may_read (Some group) name = list_any (λ g. is_text g.name name) group
 
 -- a column: its name, and then whether it is grouped
 abbrev pub column_typing : Scope → List ℕ → Option ℕ → Result Typing Fault
@@ -54,6 +55,9 @@ abbrev mutual
   typed s Null = Ok (record { kind = kinds.Null; size = 0 })
   typed s (Column c) = if knows s c.source then column_typing s c.name (column_at s c.name) else Err UnknownTable
   typed s (Extract part a) = typed s a and_then part_of part
+  -- an aggregate is no part of an expression yet, so that it is never reached
+  typed s CountAll = Err Syntax
+  typed s (Aggregate function a) = Err Syntax
   typed s (Parens a) = typed s a
   typed s (Negative a) = typed s a and_then negative
   typed s (Times a b) = typed s a and_then λ x. typed s b and_then product_of x

@@ -14,9 +14,9 @@ use Rattle.cq_steps.specs.Output.{answered, is_source_failure, not_utf8, Runs, S
 use Rattle.cq_cli.specs.declared.endings.Status.{Status}
 use Rattle.cq_cli.specs.declared.endings.Status.TheVariants.{AllAccepted, SomeRefused}
 use Rattle.cq_cli.specs.declared.endings.RunFault.{RunFault}
-use Rattle.cq_cli.specs.Running.{Counted, RunsScript, ServesPiece, both, status_of}
+use Rattle.cq_cli.specs.Running.{Counted, RunsScript, both, status_of}
 use Rattle.cq_cli.specs.Writing.{Wrote, WroteFront}
-use Rattle.cq_cli.proofs.Serving.{refused_somehow, serves_draws}
+use Rattle.cq_cli.proofs.Serving.{ServesPiece, refused_somehow, serves_draws}
 use Rattle.cq_cli.proofs.Writes.{all_then_failed, appends_kept, appends_more, appends_nothing, front_of_more, wrote_then}
 
 -- a run goes on by one piece

@@ -1,5 +1,5 @@
 -- What is printed for a piece is the text of an outcome that the piece may have.
-use Rattle.std.proofs.Common.{◌≡◌, ℕ, ◌+◌, ◌≤◌, Bool, true, false, List, [], ◌∷◌, Result, Ok, Err, refl, ap, arith, if◌then◌else◌}
+use Rattle.std.proofs.Common.{◌≡◌, ℕ, ◌+◌, ◌≤◌, Bool, true, false, List, [], ◌∷◌, Option, Result, Ok, Err, IfOk, refl, ap, arith, if◌then◌else◌}
 use Rattle.cq_values.specs.Value.{Row}
 use Rattle.cq_language.specs.Pieces.{PieceOf}
 use Rattle.cq_binding.specs.declared.bound.Bound.{Bound}
@@ -16,7 +16,11 @@ use Rattle.cq_steps.specs.Output.{outcome_text, source_failures}
 use Rattle.cq_engine.specs.Commands.{OnlyShows}
 use Rattle.cq_cli.specs.declared.printing.Printed.{Printed}
 use Rattle.cq_cli.specs.declared.printing.Printed.TheVariants as prints
-use Rattle.cq_cli.specs.Printing.{Shows, printed_status, printed_text}
+use Rattle.cq_cli.specs.declared.endings.Status.{Status}
+use Rattle.cq_cli.specs.declared.endings.RunFault.{RunFault}
+use Rattle.cq_cli.specs.declared.sink.Sink.{Ghosts as Sink}
+use Rattle.cq_cli.specs.Writing.{Wrote}
+use Rattle.cq_cli.specs.Printing.{Shows, Tells, printed_status, printed_text}
 use Rattle.cq_cli.specs.Running.{status_of}
 
 -- a result whose text finds no memory is refused for it
@@ -36,6 +40,28 @@ shown_serves old new p (Ok (Rows header rows)) (prints.Rows text) h k s = (Ok (R
 shown_serves old new p (Ok (Rows header rows)) (prints.Refused faults.Memory) h k s = (Err faults.Memory, memory_instead old new p header rows h k, refl, refl, refl)
 shown_serves old new p (Err f) (prints.Refused g) h k s = (Err f, h, rw s refl, refl, refl)
 shown_serves old new p o shown h k s = absurd s
+
+-- the text of the piece's outcome was written, or a front where the sink failed; it tells whether a source failed
+pub record ServesPiece (state : State) (piece : PieceOf) (next : State) (old new : Option (List ℕ)) (before after asked failed : ℕ) (result : Result Status RunFault) : Type 0 where
+  pub outcome : Result Answer Fault
+  pub answered : Serves state piece outcome next
+  pub written : Wrote (outcome_text outcome) old new before after result
+  pub counted : failed ≡ asked + source_failures (outcome ∷ [])
+  pub told : IfOk result (λ status. status ≡ status_of (outcome ∷ []))
+
+-- what a piece was answered with was told, and so it was served
+pub serves_piece : {K : Type 0} (sink : Sink K) (state : State) (piece : PieceOf) (next : State) (old new : K) (asked failed : ℕ) (outcome : Result Answer Fault) (result : Result Status RunFault)
+    → Serves state piece outcome next → OnlyShows state outcome next → failed ≡ asked + source_failures (outcome ∷ []) → Tells outcome sink old new result
+    → ServesPiece state piece next (sink.contents old) (sink.contents new) (sink.failures old) (sink.failures new) asked failed result
+serves_piece sink state piece next old new asked failed outcome result served rows counted tells =
+    let told = shown_serves state next piece outcome tells.printed served rows tells.shows in
+    record {
+      outcome = told.0;
+      answered = told.1;
+      written = rw (← told.2) tells.written;
+      counted = rw (← told.4) counted;
+      told = rw (← told.3) tells.told;
+    }
 
 -- memory may be wanting for any closed piece, and any other is refused; either way the state stays
 pub refused_somehow : (s : State) (p : PieceOf) (closed : Bool) → p.closed ≡ closed → (o : Result Answer Fault) × Serves s p o s

@@ -1,3 +1,4 @@
 pub mod Writing
+pub mod Sinks
 pub mod Printing
 pub mod Running

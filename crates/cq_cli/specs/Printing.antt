@@ -1,5 +1,5 @@
 -- What is printed for a statement.
-use Rattle.std.specs.Prelude.{◌≡◌, ℕ, List, [], ◌∷◌, ◌++◌, codes, Result, Ok, Err}
+use Rattle.std.specs.Prelude.{◌≡◌, ℕ, List, [], ◌∷◌, ◌++◌, codes, Result, Ok, Err, IfOk}
 use Rattle.std.specs.Fmt.{decimal}
 use Rattle.cq_steps.specs.declared.answer.Answer.{Answer}
 use Rattle.cq_steps.specs.declared.answer.Answer.TheVariants.{Done, Count, Rows}
@@ -11,6 +11,9 @@ use Rattle.cq_cli.specs.declared.endings.Status.{Status}
 use Rattle.cq_cli.specs.declared.endings.Status.TheVariants.{AllAccepted, SomeRefused}
 use Rattle.cq_cli.specs.declared.printing.Printed.{Printed}
 use Rattle.cq_cli.specs.declared.printing.Printed.TheVariants as prints
+use Rattle.cq_cli.specs.declared.endings.RunFault.{RunFault}
+use Rattle.cq_cli.specs.declared.sink.Sink.{Ghosts as Sink}
+use Rattle.cq_cli.specs.Sinks.{Writes}
 
 -- the text that is printed for a statement
 abbrev pub printed_text : Printed → List ℕ
@@ -32,3 +35,10 @@ Shows outcome printed = ⊥
 abbrev pub printed_status : Printed → Status
 printed_status (prints.Refused f) = SomeRefused
 printed_status printed = AllAccepted
+
+-- what is shown for an outcome was written, and its status is told
+pub record Tells {K : Type 0} (outcome : Result Answer Fault) (sink : Sink K) (old new : K) (result : Result Status RunFault) : Type 0 where
+  pub printed : Printed
+  pub shows : Shows outcome printed
+  pub written : Writes (printed_text printed) sink old new result
+  pub told : IfOk result (λ status. status ≡ printed_status printed)

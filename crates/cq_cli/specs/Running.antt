@@ -3,13 +3,13 @@ use Rattle.std.specs.Prelude.{◌≡◌, ℕ, ◌+◌, ◌^◌, Bool, true, fals
 use Rattle.std.specs.List.{list_all}
 use Rattle.cq_steps.specs.declared.answer.Answer.{Answer}
 use Rattle.cq_binding.specs.declared.fault.Fault.{Fault}
-use Rattle.cq_steps.specs.Output.{HasOutcomes, Serves, outcome_text, output_of, source_failures}
-use Rattle.cq_states.specs.State.{State}
-use Rattle.cq_language.specs.Pieces.{PieceOf}
+use Rattle.cq_steps.specs.Output.{HasOutcomes, output_of, source_failures}
 use Rattle.cq_cli.specs.declared.endings.Status.{Status}
 use Rattle.cq_cli.specs.declared.endings.Status.TheVariants.{AllAccepted, SomeRefused}
 use Rattle.cq_cli.specs.declared.endings.RunFault.{RunFault}
 use Rattle.cq_cli.specs.declared.endings.RunFault.TheVariants.{Output}
+use Rattle.cq_cli.specs.declared.sink.Sink.{Ghosts as Sink}
+use Rattle.cq_engine.specs.declared.sources.Sources.{Ghosts as Sources}
 use Rattle.cq_cli.specs.Writing.{Wrote}
 
 -- whether the outcome of a statement is an answer
@@ -41,13 +41,10 @@ pub record RunsScript (max_rows : ℕ) (script : List ℕ) (old new : Option (Li
   pub counted : Counted outcomes asked failed result
   pub told : IfOk result (λ status. status ≡ status_of outcomes)
 
--- the text of the piece's outcome was written, or a front where the sink failed; it tells whether a source failed
-pub record ServesPiece (state : State) (piece : PieceOf) (next : State) (old new : Option (List ℕ)) (before after asked failed : ℕ) (result : Result Status RunFault) : Type 0 where
-  pub outcome : Result Answer Fault
-  pub answered : Serves state piece outcome next
-  pub written : Wrote (outcome_text outcome) old new before after result
-  pub counted : failed ≡ asked + source_failures (outcome ∷ [])
-  pub told : IfOk result (λ status. status ≡ status_of (outcome ∷ []))
+-- the same of a sink and of sources
+abbrev pub Answers : {K S : Type 0} → ℕ → List ℕ → Sink K → K → K → Sources S → S → S → Result Status RunFault → Type 0
+Answers max_rows script sink old new sources asked failed result =
+    RunsScript max_rows script (sink.contents old) (sink.contents new) (sink.failures old) (sink.failures new) (sources.failures asked) (sources.failures failed) result
 
 -- the exit status of the program after a run
 abbrev pub exit_number : Result Status RunFault → ℕ
@@ -56,10 +53,10 @@ exit_number (Ok SomeRefused) = 1
 exit_number (Err Output) = 3
 
 -- the program ran a script over the greatest limits, and ends with this status; at 0 and 1 the output is flushed
-pub record EndsProgram (script : List ℕ) (old new : Option (List ℕ)) (before after : ℕ) (is_flushed : Bool) (exit : ℕ) : Type 0 where
+pub record EndsProgram {K : Type 0} (script : List ℕ) (sink : Sink K) (old new : K) (exit : ℕ) : Type 0 where
   pub ended : Result Status RunFault
   pub asked : ℕ
   pub failed : ℕ
-  pub ran : RunsScript (2 ^ 24) script old new before after asked failed ended
-  pub flushed : IfOk ended (λ status. is_flushed ≡ true)
+  pub ran : RunsScript (2 ^ 24) script (sink.contents old) (sink.contents new) (sink.failures old) (sink.failures new) asked failed ended
+  pub flushed : IfOk ended (λ status. sink.is_flushed new ≡ true)
   pub told : exit ≡ exit_number ended

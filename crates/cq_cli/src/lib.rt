@@ -9,6 +9,7 @@ mod laws;
 mod no_sources;
 mod printing;
 mod program;
+mod putting;
 mod running;
 mod sink;
 

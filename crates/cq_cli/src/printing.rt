@@ -2,11 +2,12 @@
 ghost use Rattle.std.specs.Prelude.{◌≡◌, ◌<◌, ◌-◌, ◌^◌, ◌++◌, ◌∷◌, [], IfOk, codes};
 ghost use Rattle.std.specs.Fmt.{decimal};
 ghost use Rattle.cq_binding.specs.FaultText.{fault_text, number_text};
-ghost use Rattle.cq_cli.specs.Writing.{Wrote};
+ghost use Rattle.cq_cli.specs.Sinks.{Writes};
 ghost use Rattle.cq_cli.specs.Printing.{Shows, printed_status, printed_text};
 
 use crate::endings::{RunFault, Status};
-use crate::sink::{Sink, put_all};
+use crate::putting::put_all;
+use crate::sink::Sink;
 use cq_binding::Fault;
 use cq_csvio::{TextFault, print_result};
 use cq_steps::Answer;
@@ -55,7 +56,7 @@ pub fn shown(alloc: Global, outcome: Result<Answer, Fault>) -> Printed
 /// Writes what is printed. Takes no memory.
 pub fn print<K: Sink>(out: &mut K, printed: &Printed) -> Result<Status, RunFault>
     requires { K.failures out.old < 2 ^ 64 - 1 }
-    ensures written { Wrote (printed_text printed.now) (K.contents out.old) (K.contents out.new) (K.failures out.old) (K.failures out.new) result }
+    ensures written { Writes (printed_text printed.now) K.Sink out.old out.new result }
     ensures status { IfOk result (λ status. status ≡ printed_status printed.now) }
 {
     put_printed(out, printed)?;
@@ -64,7 +65,7 @@ pub fn print<K: Sink>(out: &mut K, printed: &Printed) -> Result<Status, RunFault
 
 fn put_printed<K: Sink>(out: &mut K, printed: &Printed) -> Result<(), RunFault>
     requires { K.failures out.old < 2 ^ 64 - 1 }
-    ensures { Wrote (printed_text printed.now) (K.contents out.old) (K.contents out.new) (K.failures out.old) (K.failures out.new) result }
+    ensures { Writes (printed_text printed.now) K.Sink out.old out.new result }
 {
     match printed {
         Printed::Done => put_all(out, b"ok\n"),
@@ -76,7 +77,7 @@ fn put_printed<K: Sink>(out: &mut K, printed: &Printed) -> Result<(), RunFault>
 
 fn put_fault<K: Sink>(out: &mut K, fault: Fault) -> Result<(), RunFault>
     requires { K.failures out.old < 2 ^ 64 - 1 }
-    ensures { Wrote (codes "error " ++ (fault_text fault ++ 10 ∷ [])) (K.contents out.old) (K.contents out.new) (K.failures out.old) (K.failures out.new) result }
+    ensures { Writes (codes "error " ++ (fault_text fault ++ 10 ∷ [])) K.Sink out.old out.new result }
 {
     let mut buffer = Buffer::new();
     let number = number_text(&mut buffer, fault.record());
@@ -96,7 +97,7 @@ fn number_text(buffer: &mut Buffer, number: Option<u64>) -> &str
 
 fn put_line<K: Sink>(out: &mut K, first: &[u8], second: &[u8]) -> Result<(), RunFault>
     requires { K.failures out.old < 2 ^ 64 - 1 }
-    ensures { Wrote ((first.now ++ second.now) ++ 10 ∷ []) (K.contents out.old) (K.contents out.new) (K.failures out.old) (K.failures out.new) result }
+    ensures { Writes ((first.now ++ second.now) ++ 10 ∷ []) K.Sink out.old out.new result }
 {
     put_two(out, first, second)?;
     put_all(out, b"\n")
@@ -104,7 +105,7 @@ fn put_line<K: Sink>(out: &mut K, first: &[u8], second: &[u8]) -> Result<(), Run
 
 fn put_count<K: Sink>(out: &mut K, n: u64) -> Result<(), RunFault>
     requires { K.failures out.old < 2 ^ 64 - 1 }
-    ensures { Wrote (codes "ok " ++ (decimal n ++ 10 ∷ [])) (K.contents out.old) (K.contents out.new) (K.failures out.old) (K.failures out.new) result }
+    ensures { Writes (codes "ok " ++ (decimal n ++ 10 ∷ [])) K.Sink out.old out.new result }
 {
     let mut buffer = Buffer::new();
     let digits = buffer.format(n);
@@ -118,7 +119,7 @@ fn put_three<K: Sink>(
     third: &[u8],
 ) -> Result<(), RunFault>
     requires { K.failures out.old < 2 ^ 64 - 1 }
-    ensures { Wrote (first.now ++ (second.now ++ third.now)) (K.contents out.old) (K.contents out.new) (K.failures out.old) (K.failures out.new) result }
+    ensures { Writes (first.now ++ (second.now ++ third.now)) K.Sink out.old out.new result }
 {
     put_all(out, first)?;
     put_two(out, second, third)
@@ -126,7 +127,7 @@ fn put_three<K: Sink>(
 
 fn put_two<K: Sink>(out: &mut K, first: &[u8], second: &[u8]) -> Result<(), RunFault>
     requires { K.failures out.old < 2 ^ 64 - 1 }
-    ensures { Wrote (first.now ++ second.now) (K.contents out.old) (K.contents out.new) (K.failures out.old) (K.failures out.new) result }
+    ensures { Writes (first.now ++ second.now) K.Sink out.old out.new result }
 {
     put_all(out, first)?;
     put_all(out, second)

@@ -13,7 +13,7 @@ use std::alloc::Global;
 /// every statement was accepted, 1 where some were refused, 3 where the sink failed.
 pub fn run_program<K: Sink>(alloc: Global, script: &[u8], out: &mut K) -> u8
     requires { K.failures out.old < 2 ^ 64 - 1 }
-    ensures { EndsProgram script.now (K.contents out.old) (K.contents out.new) (K.failures out.old) (K.failures out.new) (K.is_flushed out.new) result }
+    ensures { EndsProgram script.now K.Sink out.old out.new result }
 {
     let limits = Limits {
         max_rows: Limits::MAX_ROWS,

@@ -3,7 +3,8 @@ ghost use Rattle.std.specs.Prelude.{◌≡◌, ◌<◌, ◌+◌, ◌-◌, ◌^�
 ghost use Rattle.cq_steps.specs.Output.{Serves, source_failures};
 ghost use Rattle.cq_tokens.specs.Piece.{piece_of};
 ghost use Rattle.cq_engine.specs.Commands.{OnlyShows};
-ghost use Rattle.cq_cli.specs.Running.{RunsScript, ServesPiece};
+ghost use Rattle.cq_cli.specs.Printing.{Tells};
+ghost use Rattle.cq_cli.specs.Running.{Answers};
 
 use crate::endings::{RunFault, Status};
 use crate::printing::{Printed, print, shown};
@@ -39,20 +40,15 @@ fn answer<S: Sources>(
     }
 }
 
-/// Answers a piece, and writes the answer.
-fn serve<S: Sources, K: Sink>(
+/// Writes what a piece was answered with.
+fn tell<K: Sink>(
     alloc: Global,
-    engine: &mut Engine,
-    piece: &Piece<'_>,
-    sources: &mut S,
+    outcome: Result<Answer, Fault>,
     out: &mut K,
 ) -> Result<Status, RunFault>
-    requires room { piece.now.closed ≡ true → engine.old.drawn < 2 ^ 64 - 1 }
-    requires countable { K.failures out.old < 2 ^ 64 - 1 }
-    ensures served { ServesPiece engine.old (piece_of piece.now) engine.new (K.contents out.old) (K.contents out.new) (K.failures out.old) (K.failures out.new) (S.failures sources.old) (S.failures sources.new) result }
-    ensures files { S.files sources.new ≡ S.files sources.old }
+    requires { K.failures out.old < 2 ^ 64 - 1 }
+    ensures { Tells outcome K.Sink out.old out.new result }
 {
-    let outcome = answer(alloc, engine, piece, sources);
     print(out, &shown(alloc, outcome))
 }
 
@@ -65,7 +61,7 @@ fn run_text<S: Sources, K: Sink>(
     out: &mut K,
 ) -> Result<Status, RunFault>
     requires { K.failures out.old < 2 ^ 64 - 1 }
-    ensures ran { RunsScript limits.max_rows script.now (K.contents out.old) (K.contents out.new) (K.failures out.old) (K.failures out.new) (S.failures sources.old) (S.failures sources.new) result }
+    ensures ran { Answers limits.max_rows script.now K.Sink out.old out.new S.Sources sources.old sources.new result }
     ensures files { S.files sources.new ≡ S.files sources.old }
 {
     closed_pieces_fit();
@@ -74,7 +70,8 @@ fn run_text<S: Sources, K: Sink>(
     let mut pieces = split(script);
     while let Some(piece) = pieces.next() {
         if !piece.blank {
-            let served = serve(alloc, &mut engine, &piece, sources, out)?;
+            let outcome = answer(alloc, &mut engine, &piece, sources);
+            let served = tell(alloc, outcome, out)?;
             status = status.and(served);
         }
     }
@@ -90,7 +87,7 @@ fn run_bytes<S: Sources, K: Sink>(
     out: &mut K,
 ) -> Result<Status, RunFault>
     requires { K.failures out.old < 2 ^ 64 - 1 }
-    ensures ran { RunsScript limits.max_rows script.now (K.contents out.old) (K.contents out.new) (K.failures out.old) (K.failures out.new) (S.failures sources.old) (S.failures sources.new) result }
+    ensures ran { Answers limits.max_rows script.now K.Sink out.old out.new S.Sources sources.old sources.new result }
     ensures files { S.files sources.new ≡ S.files sources.old }
 {
     match str::from_utf8(script) {
@@ -109,7 +106,7 @@ pub fn run<S: Sources, K: Sink>(
     out: &mut K,
 ) -> Result<Status, RunFault>
     requires { K.failures out.old < 2 ^ 64 - 1 }
-    ensures ran { RunsScript limits.max_rows script.now (K.contents out.old) (K.contents out.new) (K.failures out.old) (K.failures out.new) (S.failures sources.old) (S.failures sources.new) result }
+    ensures ran { Answers limits.max_rows script.now K.Sink out.old out.new S.Sources sources.old sources.new result }
     ensures flushed { OnOk result (K.is_flushed out.new ≡ true) }
     ensures files { S.files sources.new ≡ S.files sources.old }
 {

@@ -1,9 +1,8 @@
 //! Where the output goes.
 ghost use Rattle.std.specs.Prelude.{◌≡◌, ◌≤◌, ◌<◌, ◌+◌, ◌-◌, ◌^◌, ℕ, Bool, true, false, List, Option, IfOk, OnOk, length};
 ghost use Rattle.std.specs.Io.KnownBytes.{Keeps, WriteAppends};
-ghost use Rattle.cq_cli.specs.Writing.{Wrote, failures_after, failures_of};
+ghost use Rattle.cq_cli.specs.Writing.{failures_after, failures_of};
 
-use crate::endings::RunFault;
 use std::io;
 use std::io::Write;
 use std::marker::Model;
@@ -98,22 +97,4 @@ impl<W: Write> Sink for Writer<W> {
         }
         flushed
     }
-}
-
-/// Puts the bytes again and again until all of them are taken.
-pub fn put_all<K: Sink>(out: &mut K, bytes: &[u8]) -> Result<(), RunFault>
-    requires { K.failures out.old < 2 ^ 64 - 1 }
-    ensures { Wrote bytes.now (K.contents out.old) (K.contents out.new) (K.failures out.old) (K.failures out.new) result }
-{
-    let mut rest = bytes;
-    while !rest.is_empty() {
-        match out.put(rest) {
-            Ok(n) if n > 0 => {
-                let (_, after) = rest.split_at(n);
-                rest = after;
-            }
-            _ => return Err(RunFault::Output),
-        }
-    }
-    Ok(())
 }

@@ -57,6 +57,22 @@ pub record Takes (old : Table) (change : List Addition) (new : Table) : Type 0 w
 pub record HasKeys (change : List Addition) (table : Table) : Type 0 where
   pub at : (k : Row) → is_met change k ≡ true → is_some (stored_at table k) ≡ true
 
+-- each stored group has the changed rows put in, and none is dropped
+abbrev pub ArePut : Table → List Addition → Table → Type 0
+ArePut old change new = (k : Row) → stored_at new k ≡ option_map (group_with_all change k) (stored_at old k)
+
+-- so it is for one changed row
+abbrev pub IsPut : Table → Addition → Table → Type 0
+IsPut old x new = (k : Row) → stored_at new k ≡ option_map (λ g. group_met k g x) (stored_at old k)
+
+-- of these keys, groups without rows are dropped, and nothing else changes
+abbrev pub AreSettled : (Row → Bool) → Table → Table → Type 0
+AreSettled keys old new = (k : Row) → stored_at new k ≡ (if keys k then settled (stored_at old k) else stored_at old k)
+
+-- a changed row leaves its key's group in range
+abbrev pub HoldsOne : Addition → Table → Type 0
+HoldsOne x table = (g : Group) → stored_at table x.key ≡ Some g → GroupHolds (nat_abs x.weight) (total_moves x.weight x.addends) g
+
 -- how far a change can move a count
 abbrev pub count_moves : List Addition → ℕ
 count_moves change = sum_by (λ x. nat_abs x.weight) change

@@ -1,11 +1,11 @@
 -- What the stored groups tell.
-use Rattle.std.specs.Prelude.{pos, int_lt, List, ◌∷◌, map, filter}
+use Rattle.std.specs.Prelude.{pos, int_lt, List, [], ◌∷◌, map, filter}
 use Rattle.std.specs.List.{AllByRecursion}
 use Rattle.cq_values.specs.Value.{Row}
 use Rattle.cq_model.specs.declared.query.Aggregate.{Aggregate}
 use Rattle.cq_model.specs.declared.query.Aggregate.TheVariants.{Sum}
 use Rattle.cq_model.specs.Group.{InRange}
-use Rattle.cq_kept.specs.Kept.{Kept, Totalled, told_row}
+use Rattle.cq_kept.specs.Kept.{Group, Kept, Totalled, told_row}
 use Rattle.cq_deltas.specs.Keyed.{Table, group_at}
 
 -- what is kept can be shown: a SUM's total fits
@@ -41,3 +41,11 @@ entry_rows aggregates table = map (λ e. told_row aggregates e.0 e.1.kept) (coun
 -- these groups can be shown as they stand in a list
 abbrev pub EntriesCanBeTold : List Aggregate → Table → Type 0
 EntriesCanBeTold aggregates table = AllByRecursion (λ e. AllCanBeTold aggregates e.1.kept) (counted table)
+
+-- the row of one group, if the group has rows
+abbrev pub entry_row : List Aggregate → Row → Group → List Row
+entry_row aggregates k group = entry_rows aggregates ((k, group) ∷ [])
+
+-- this group can be shown, if it has rows
+abbrev pub EntryCanBeTold : List Aggregate → Row → Group → Type 0
+EntryCanBeTold aggregates k group = EntriesCanBeTold aggregates ((k, group) ∷ [])

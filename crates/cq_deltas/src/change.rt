@@ -5,7 +5,7 @@ ghost use Rattle.cq_model.specs.Group.{key_of};
 ghost use Rattle.cq_values.specs.Value.{column};
 ghost use Rattle.cq_deltas.specs.Additions.{IsNarrow, IsSmall, addend_of, addition, additions};
 
-use cq_eval::eval_row;
+use cq_eval::{eval_row, narrow_is_exact};
 use cq_model::Aggregate;
 use cq_values::{Lent, Row, Seq, Value};
 use std::alloc::{AllocError, Global};
@@ -134,6 +134,7 @@ fn addend_of(aggregate: &Aggregate, row: &[Value]) -> Option<i128>
     ensures value { result ≡ addend_of row.now aggregate.now }
     ensures small { IsSmall row.now aggregate.now }
 {
+    narrow_is_exact();
     match aggregate {
         Aggregate::CountAll => Some(0),
         Aggregate::Count(argument) | Aggregate::Sum(argument) => match eval_row(argument, row) {

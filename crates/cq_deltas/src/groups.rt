@@ -1,17 +1,16 @@
 //! Groups by key.
 ghost use Rattle.std.specs.Map.Iter.{ShowsInOrder, deref_pair};
-ghost use Rattle.std.specs.Option.{option_map, option_map_or};
+ghost use Rattle.std.specs.Option.{option_map_or};
 ghost use Rattle.std.specs.Ordering.{int_eq};
-ghost use Rattle.std.specs.Prelude.{nat_abs, ◌++◌, ◌∷◌, ◌≡◌, Bool, IfErr, IfOk, OnOk, Some, [], if◌then◌else◌, is_some, true, false, pos};
+ghost use Rattle.std.specs.Prelude.{◌++◌, ◌≡◌, IfErr, IfOk, OnOk, Some, [], is_some, true, false, pos};
 ghost use Rattle.cq_kept.specs.Kept.{Group as Counted, Groups as ByKey};
 ghost use Rattle.cq_kept.specs.Told.{ListsKeys};
 ghost use Rattle.cq_values.specs.Order.{same_row};
 ghost use Rattle.cq_values.specs.Value.{Row as Values};
 ghost use Rattle.cq_deltas.specs.Additions.{AreTotals};
 ghost use Rattle.cq_deltas.specs.declared.fault.ToldFault.TheVariants.{SumOutOfRange};
-ghost use Rattle.cq_deltas.specs.Told.{EntriesCanBeTold, GroupsCanBeTold, counted_keys, entry_rows, group_rows};
-ghost use Rattle.cq_deltas.specs.Kept.{GroupHolds, total_moves};
-ghost use Rattle.cq_deltas.specs.Keyed.{GroupsGoOn, HasKeys, HoldsFor, Takes, group_at, group_met, group_with_all, is_met, settled, stored_at};
+ghost use Rattle.cq_deltas.specs.Told.{EntryCanBeTold, GroupsCanBeTold, counted_keys, entry_row, group_rows};
+ghost use Rattle.cq_deltas.specs.Keyed.{ArePut, AreSettled, GroupsGoOn, HasKeys, HoldsFor, HoldsOne, IsPut, Takes, group_at, is_met, stored_at};
 
 use crate::change::{Addition, GroupChange};
 use crate::fault::ToldFault;
@@ -119,7 +118,7 @@ impl Groups {
     fn put_all(&mut self, additions: &[Addition])
         requires keys { HasKeys additions.now self.old }
         requires holds { HoldsFor additions.now self.old }
-        ensures { (k : Values) → stored_at self.new k ≡ option_map (group_with_all additions.now k) (stored_at self.old k) }
+        ensures { ArePut self.old additions.now self.new }
     {
         for addition in additions {
             self.put(addition);
@@ -128,8 +127,8 @@ impl Groups {
 
     fn put(&mut self, addition: &Addition)
         requires there { is_some (stored_at self.old addition.now.key) ≡ true }
-        requires holds { (g : Counted) → stored_at self.old addition.now.key ≡ Some g → GroupHolds (nat_abs addition.now.weight) (total_moves addition.now.weight addition.now.addends) g }
-        ensures { (k : Values) → stored_at self.new k ≡ option_map (λ g. group_met k g addition.now) (stored_at self.old k) }
+        requires holds { HoldsOne addition.now self.old }
+        ensures { IsPut self.old addition.now self.new }
     {
         match self.groups.get_mut(&addition.key) {
             Some(group) => group.add(addition.weight, addition.addends.as_slice()),
@@ -139,7 +138,7 @@ impl Groups {
 
     /// Drops those groups of a change that it leaves without rows.
     fn drop_empty(&mut self, additions: &[Addition])
-        ensures { (k : Values) → stored_at self.new k ≡ (if is_met additions.now k then settled (stored_at self.old k) else stored_at self.old k) }
+        ensures { AreSettled (is_met additions.now) self.old self.new }
     {
         for addition in additions {
             self.drop_if_empty(&addition.key);
@@ -147,7 +146,7 @@ impl Groups {
     }
 
     fn drop_if_empty(&mut self, key: &Row)
-        ensures { (k : Values) → stored_at self.new k ≡ (if same_row key.now k then settled (stored_at self.old k) else stored_at self.old k) }
+        ensures { AreSettled (same_row key.now) self.old self.new }
     {
         if self.is_empty_at(key) {
             drop(self.groups.swap_remove(key));
@@ -172,9 +171,9 @@ fn push_told(
     group: &Group,
     rows: &mut Vec<Row>,
 ) -> Result<(), ToldFault>
-    ensures rows { OnOk result (rows.new.items ≡ rows.old.items ++ entry_rows aggregates.now ((key.now, group.now) ∷ [])) }
-    ensures range { OnOk result (EntriesCanBeTold aggregates.now ((key.now, group.now) ∷ [])) }
-    ensures fault { IfErr result (λ e. e ≡ SumOutOfRange → EntriesCanBeTold aggregates.now ((key.now, group.now) ∷ []) → ⊥) }
+    ensures rows { OnOk result (rows.new.items ≡ rows.old.items ++ entry_row aggregates.now key.now group.now) }
+    ensures range { OnOk result (EntryCanBeTold aggregates.now key.now group.now) }
+    ensures fault { IfErr result (λ e. e ≡ SumOutOfRange → EntryCanBeTold aggregates.now key.now group.now → ⊥) }
 {
     if group.count() > 0 {
         rows.push(group.told(alloc, aggregates, key)?)?;

@@ -1,11 +1,12 @@
 -- Commands that were bound: what is known of them, and that carrying them out is the step of their statement.
-use Rattle.std.proofs.Common.{◌≡◌, ℕ, ◌+◌, ◌<◌, Bool, true, false, List, [], ◌∷◌, ◌++◌, map, length, Option, Some, None, refl, sym, ap, ◌∙◌, inl, inr, arith, subst, Result, Ok, Err}
+use Rattle.std.proofs.Common.{◌≡◌, ℕ, ◌+◌, ◌<◌, Bool, true, false, List, [], ◌∷◌, ◌++◌, map, length, not, Option, Some, None, refl, sym, ap, ◌∙◌, inl, inr, arith, subst, Result, Ok, Err}
 use Rattle.std.specs.Prelude.{◌≤◌, ◌==◌, nat_lt, IfSome, is_some, ok_or, option_map, slice_get, slice_index_or, unwrap_or, if◌then◌else◌}
 use Rattle.std.specs.List.{AllByRecursion, flat_map}
 use Rattle.std.specs.Option.{option_or}
 use Rattle.std.proofs.lemmas.Bool.{eq-eqb, ne_eqb}
 use Rattle.std.proofs.lemmas.List.{length-map}
 use Rattle.std.proofs.lemmas.List.Quantifiers.{position-Some}
+use Rattle.cq_values.specs.declared.column.ColumnDef.{ColumnDef}
 use Rattle.cq_values.specs.Texts.{is_text}
 use Rattle.cq_values.specs.Value.{Row}
 use Rattle.cq_bags.proofs.Totals.{by_test}
@@ -17,28 +18,33 @@ use Rattle.cq_language.specs.declared.statement.FromSource.{FromSource}
 use Rattle.cq_language.specs.declared.statement.Select.{Select}
 use Rattle.cq_language.specs.declared.statement.Statement.{Statement}
 use Rattle.cq_language.specs.declared.statement.Statement.TheVariants as statements
-use Rattle.cq_language.specs.declared.statement.ViewSelect.{ViewSelect}
 use Rattle.cq_model.specs.Width.{sizes_of}
 use Rattle.cq_language.specs.Written.{Written}
 use Rattle.cq_steps.specs.declared.answer.Answer.{Answer}
 use Rattle.cq_binding.specs.declared.fault.Fault.{Fault}
 use Rattle.cq_binding.specs.declared.fault.Fault.TheVariants as faults
 use Rattle.cq_binding.specs.Scopes.{Named, bound_condition, from_table, from_view, place_in, scope_as, scope_of, source_named}
-use Rattle.cq_binding.specs.Bound.{bound, bound_query, bound_select, grouped_query, row_of, shown_by, view_columns, view_source}
+use Rattle.cq_binding.specs.Headers.{shown_by}
+use Rattle.cq_binding.specs.Bound.{bound, bound_query, bound_select, grouped_query, row_of, view_columns, view_source}
 use Rattle.cq_binding.specs.Checks.{first_fault, fault_if, too_long, MayRefuse}
 use Rattle.cq_binding.specs.RowChecks.{row_checks}
-use Rattle.cq_binding.specs.Refusal.{is_used, delete_checks, drop_table_checks, create_view_checks, insert_checks, checks, query_checks, refusal, select_checks, source_checks, value_check, view_select_checks, where_check, written_table}
-use Rattle.cq_states.specs.State.{TableOf, ViewOf, State, is_taken, rows_in, table_named, view_named, view_place, AreNumbered}
+use Rattle.cq_binding.specs.Open.{is_of_rows, is_plain, may_be_kept}
+use Rattle.cq_binding.specs.SourceChecks.{value_check, where_check}
+use Rattle.cq_binding.specs.ViewChecks.{create_view_checks, query_checks, view_select_checks}
+use Rattle.cq_binding.specs.Refusal.{from_checks, is_used, rows_checks, delete_checks, drop_table_checks, insert_checks, checks, refusal, select_checks, source_checks, written_table}
+use Rattle.cq_states.specs.Fitting.{FitsColumns, AreFitting}
+use Rattle.cq_states.specs.State.{TableOf, ViewOf, State, columns_in, is_taken, rows_in, table_named, view_named, view_place, AreNumbered}
 use Rattle.cq_steps.specs.Next.{reach, with_all_views}
 use Rattle.cq_steps.specs.Step.{AreBetween, IsTooLarge, Refuses, by_walk, for_memory, too_large, Step}
 use Rattle.cq_exprs.specs.Expressions.{KeepSizes}
 use Rattle.cq_binder.specs.Catalog.{alone, binding_checks, rows_walk}
 use Rattle.cq_binder.proofs.Faults.{first_fault_append, or_next, single}
+use Rattle.cq_binder.proofs.Fitting.{rows_fit}
 use Rattle.cq_binder.proofs.Found.{has_place}
 use Rattle.cq_engine.specs.Narrow.{IsNarrowAt, IsWithin}
 use Rattle.cq_engine.specs.Commands.{CanCarryOut, CarriesOut, IsRefused, IsThere, IsWithinSource, present, room}
-use Rattle.cq_engine.specs.Views.{AreStored, IsStored}
-use Rattle.cq_engine.proofs.Creating.{def_fits, def_on}
+use Rattle.cq_engine.specs.Views.{IsStored}
+use Rattle.cq_engine.proofs.Creating.{query_fits}
 use Rattle.cq_engine.proofs.Fitting.{back_free, first_free, front_free, narrow_rows, narrow_values, narrow_where, stored_keep, stored_keeps}
 use Rattle.cq_engine.proofs.Numbers.{Above}
 use Rattle.cq_engine.proofs.Places.{found_there}
@@ -76,12 +82,22 @@ module _ (name : List ℕ) (t : TableOf) where
       (λ k. let same : x ≡ t = cc in subst (λ (y : TableOf). IsThere y.number (x ∷ ts)) same (rw (eq-eqb x.number x.number refl) refl))
       (λ k. by_test (x.number == t.number) (λ j. rw j refl) (λ j. rw j (there-found ts (rw k at found))))
 
-  -- its rows are stored
-  stored-found : (ts : List TableOf) → AreStored ts → table_named name ts ≡ Some t → AllByRecursion IsStored t.rows
-  stored-found [] stored found = absurd (cc found)
-  stored-found (x ∷ ts) stored found = by_test (is_text x.name name)
-      (λ k. let same : x ≡ t = cc in subst (λ (y : TableOf). AllByRecursion IsStored y.rows) same stored.0)
-      (λ k. stored-found ts stored.1 (rw k at found))
+  -- and its columns
+  columns-found : (ts : List TableOf) (next : ℕ) → AreNumbered ts next → table_named name ts ≡ Some t → columns_in ts t.number ≡ t.columns
+  columns-found [] next numbered found = absurd (cc found)
+  columns-found (x ∷ ts) next numbered found = by_test (is_text x.name name)
+      (λ k. let same : x ≡ t = cc in subst (λ (y : TableOf). columns_in (x ∷ ts) y.number ≡ y.columns) same (rw (eq-eqb x.number x.number refl) refl))
+      (λ k.
+      let later = rw k at found in
+      let other : (x.number == t.number) ≡ false = ne_eqb x.number t.number (λ e. absurd (omega (arith, e, found_above x.number ts numbered.1 later))) in
+      rw other (columns-found ts next numbered.2 later))
+
+  -- no number in its rows is larger than a stored one can be
+  stored-found : (ts : List TableOf) → AreFitting ts → table_named name ts ≡ Some t → AllByRecursion IsStored t.rows
+  stored-found [] fitting found = absurd (cc found)
+  stored-found (x ∷ ts) fitting found = by_test (is_text x.name name)
+      (λ k. let same : x ≡ t = cc in subst (λ (y : TableOf). AllByRecursion IsStored y.rows) same (rows_stored x.columns x.rows fitting.0))
+      (λ k. stored-found ts fitting.1 (rw k at found))
 
 -- ---- Views that were found by their names
 -- a view that has a place is among them
@@ -107,9 +123,9 @@ sized_keeps f source row sized c i at may =
     subst (λ p. sizes_of row (place_in source.columns c.name) ≤ slice_index_or source.sizes p 0) place (sized (place_in source.columns c.name))
 
 -- a query whose walk has no fault can be worked out on a row that keeps the sizes of its source
-within_for : (q : Select) (source : Named) (row : Row) → first_fault (source_checks q (scope_as q.source source)) ≡ None → KeepSizes (scope_as q.source source) (sizes_of row) → IsWithin (bound_query q source) row
+within_for : (q : Select) (source : Named) (row : Row) → first_fault (source_checks q (scope_as q.first source)) ≡ None → KeepSizes (scope_as q.first source) (sizes_of row) → IsWithin (bound_query q source) row
 within_for q source row free kept =
-    let s = scope_as q.source source in
+    let s = scope_as q.first source in
     let item_walk : List (Option Fault) = map (value_check s) (shown_by q.items) in
     let number_walk : List (Option Fault) = too_long (length q.items) ∷ [] in
     record {
@@ -118,12 +134,12 @@ within_for q source row free kept =
     }
 
 -- so it can on stored rows of a table
-within_stored : (q : Select) (t : TableOf) (rows : List Row) → first_fault (source_checks q (scope_as q.source (from_table t))) ≡ None → AllByRecursion IsStored rows → AllByRecursion (IsWithin (bound_query q (from_table t))) rows
+within_stored : (q : Select) (t : TableOf) (rows : List Row) → first_fault (source_checks q (scope_as q.first (from_table t))) ≡ None → AllByRecursion IsStored rows → AllByRecursion (IsWithin (bound_query q (from_table t))) rows
 within_stored q t [] free stored = tt
 within_stored q t (row ∷ rows) free stored = (within_for q (from_table t) row free (stored_keeps t row stored.0), within_stored q t rows free stored.1)
 
 -- ---- What is known of a command that was bound
-module _ (tables : List TableOf) (views : List ViewOf) (next : ℕ) (numbered : AreNumbered tables next) (stored : AreStored tables) where
+module _ (tables : List TableOf) (views : List ViewOf) (next : ℕ) (numbered : AreNumbered tables next) (fitting : AreFitting tables) where
   abbrev here : State
   here = alone tables views
 
@@ -139,44 +155,47 @@ module _ (tables : List TableOf) (views : List ViewOf) (next : ℕ) (numbered : 
       unused false e w = e
       unused true e w = absurd (cc w)
 
-  create_view_can : (name : List ℕ) (view : ViewSelect) (t : TableOf) → table_named view.source.name tables ≡ Some t → first_fault (create_view_checks name view here) ≡ None → Can (commands.CreateView name (view_columns (view_source view t) view) (grouped_query view t))
+  create_view_can : (name : List ℕ) (view : Select) (t : TableOf) → table_named view.first.name tables ≡ Some t → first_fault (create_view_checks name view here) ≡ None → Can (commands.CreateView name (view_columns (view_source view t) view) (grouped_query view t))
   create_view_can name view t found free =
-      let fault = if is_some (view_named view.source.name views) then faults.ClauseInView else faults.UnknownTable in
+      let fault = if is_some (view_named view.first.name views) then faults.ClauseInView else faults.UnknownTable in
       let taken = fault_if (is_taken name here) faults.NameTaken in
-      let walk : first_fault (taken ∷ query_checks (view_source view t) view) ≡ None = subst (λ (o : Option TableOf). first_fault (taken ∷ view_select_checks view (ok_or o fault)) ≡ None) found free in
-      record { def = def_on view t; query = refl; fits = def_fits view t (back_free (taken ∷ []) (query_checks (view_source view t) view) walk); there = there-found view.source.name t tables found }
+      let opened = fault_if (not (may_be_kept view)) faults.Syntax in
+      let behind : first_fault (taken ∷ view_select_checks view (ok_or (table_named view.first.name tables) fault)) ≡ None = back_free (opened ∷ []) (taken ∷ view_select_checks view (ok_or (table_named view.first.name tables) fault)) free in
+      let walk : first_fault (taken ∷ query_checks (view_source view t) view) ≡ None = subst (λ (o : Option TableOf). first_fault (taken ∷ view_select_checks view (ok_or o fault)) ≡ None) found behind in
+      record { fits = query_fits view t (back_free (taken ∷ []) (query_checks (view_source view t) view) walk); there = there-found view.first.name t tables found }
 
   insert_can : (name : List ℕ) (rows : List (List Constant)) (t : TableOf) → table_named name tables ≡ Some t → first_fault (rows_walk rows (written_table name here)) ≡ None → Can (commands.Insert t.number (map row_of rows))
   insert_can name rows t found free =
       let fault = if is_some (view_named name views) then faults.ViewNotWritten else faults.UnknownTable in
       let walk : first_fault (flat_map (row_checks t.columns) rows) ≡ None = subst (λ (o : Option TableOf). first_fault (rows_walk rows (ok_or o fault)) ≡ None) found free in
-      (there-found name t tables found, rows_stored t.columns rows walk)
+      (there-found name t tables found, subst (λ (cs : List ColumnDef). AllByRecursion (FitsColumns cs) (map row_of rows)) (sym (columns-found name t tables next numbered found)) (rows_fit t.columns rows walk))
 
   delete_can : (name : List ℕ) (condition : Option Written) (t : TableOf) → table_named name tables ≡ Some t → first_fault (delete_checks condition (written_table name here)) ≡ None → Can (commands.Delete t.number (option_map (bound_condition (scope_of (from_table t))) condition))
   delete_can name condition t found free =
       let fault = if is_some (view_named name views) then faults.ViewNotWritten else faults.UnknownTable in
       let s = scope_of (from_table t) in
-      let walk : first_fault (where_check s condition ∷ []) ≡ None = subst (λ (o : Option TableOf). first_fault (delete_checks condition (ok_or o fault)) ≡ None) found free in
-      let narrow = narrow_rows s condition t.rows (first_free (where_check s condition) [] walk) (stored_keep t t.rows (stored-found name t tables stored found)) in
+      let behind : first_fault (rows_checks condition (written_table name here)) ≡ None = back_free (fault_if (not (is_of_rows condition)) faults.Syntax ∷ []) (rows_checks condition (written_table name here)) free in
+      let walk : first_fault (where_check s condition ∷ []) ≡ None = subst (λ (o : Option TableOf). first_fault (rows_checks condition (ok_or o fault)) ≡ None) found behind in
+      let narrow = narrow_rows s condition t.rows (first_free (where_check s condition) [] walk) (stored_keep t t.rows (stored-found name t tables fitting found)) in
       (there-found name t tables found, subst (λ (rs : List Row). AllByRecursion (IsNarrowAt (option_map (bound_condition s) condition)) rs) (sym (rows-found name t tables next numbered found)) narrow)
 
   -- a query that was bound on a source can be worked out on the source's rows
   module _ (q : Select) where
     abbrev asked : List ℕ
-    asked = q.source.name
+    asked = q.first.name
 
     abbrev Within : Named → Type 0
-    Within source = first_fault (source_checks q (scope_as q.source source)) ≡ None → IsWithinSource tables views (bound_query q source) source.source
+    Within source = first_fault (source_checks q (scope_as q.first source)) ≡ None → IsWithinSource tables views (bound_query q source) source.source
 
     on_table : (t : TableOf) → table_named asked tables ≡ Some t → Within (from_table t)
     on_table t found free =
-        let rows = stored-found asked t tables stored found in
+        let rows = stored-found asked t tables fitting found in
         (there-found asked t tables found, subst (λ (rs : List Row). AllByRecursion (IsWithin (bound_query q (from_table t))) rs) (sym (rows-found asked t tables next numbered found)) (within_stored q t t.rows free rows))
 
     on_view : (v : ViewOf) → view_named asked views ≡ Some v → Within (from_view v (unwrap_or (view_place asked views) 0))
     on_view v named free =
         let source = from_view v (unwrap_or (view_place asked views) 0) in
-        (v, view_at_place asked views v named, λ row sized. within_for q source row free (sized_keeps q.source source row sized))
+        (v, view_at_place asked views v named, λ row sized. within_for q source row free (sized_keeps q.first source row sized))
 
     on_source : (source : Named) → source_named asked here ≡ Some source → Within source
     on_source source found = by_table (table_named asked tables) (view_named asked views) refl refl found
@@ -189,7 +208,8 @@ module _ (tables : List TableOf) (views : List ViewOf) (next : ℕ) (numbered : 
 
     select_can : (source : Named) → source_named asked here ≡ Some source → first_fault (select_checks q (source_named asked here)) ≡ None → Can (bound_select q source)
     select_can source found free =
-        let walk : first_fault (source_checks q (scope_as q.source source)) ≡ None = subst (λ (o : Option Named). first_fault (select_checks q o) ≡ None) found free in
+        let behind : first_fault (from_checks q (source_named asked here)) ≡ None = back_free (fault_if (not (is_plain q)) faults.Syntax ∷ []) (from_checks q (source_named asked here)) free in
+        let walk : first_fault (source_checks q (scope_as q.first source)) ≡ None = subst (λ (o : Option Named). first_fault (from_checks q o) ≡ None) found behind in
         (record { plain = refl; within = on_source source found walk }, refl)
 
   pub bound_can : (statement : Statement) (command : Bound) → first_fault (binding_checks here statement) ≡ None → bound here statement ≡ Some command → Can command
@@ -200,7 +220,7 @@ module _ (tables : List TableOf) (views : List ViewOf) (next : ℕ) (numbered : 
       let m = mapped (λ t. commands.DropTable t.number) (table_named name tables) command is in
       subst Can m.2 (drop_can name m.0 m.1 free)
   bound_can (statements.CreateView name view) command free is =
-      let m = mapped (λ t. commands.CreateView name (view_columns (view_source view t) view) (grouped_query view t)) (table_named view.source.name tables) command is in
+      let m = mapped (λ t. commands.CreateView name (view_columns (view_source view t) view) (grouped_query view t)) (table_named view.first.name tables) command is in
       subst Can m.2 (create_view_can name view m.0 m.1 free)
   bound_can (statements.DropView name) command free is =
       let m = mapped commands.DropView (view_place name views) command is in
@@ -212,8 +232,9 @@ module _ (tables : List TableOf) (views : List ViewOf) (next : ℕ) (numbered : 
       let m = mapped (λ t. commands.Delete t.number (option_map (bound_condition (scope_of (from_table t))) condition)) (table_named name tables) command is in
       subst Can m.2 (delete_can name condition m.0 m.1 free)
   bound_can (statements.Select q) command free is =
-      let m = mapped (bound_select q) (source_named q.source.name here) command is in
+      let m = mapped (bound_select q) (source_named q.first.name here) command is in
       subst Can m.2 (select_can q m.0 m.1 free)
+  bound_can statement command free is = absurd (cc is)
 
 -- ---- From commands to statements
 -- nothing but the tables and views is asked
@@ -225,6 +246,7 @@ same_places s (statements.DropView name) = refl
 same_places s (statements.Insert name rows) = refl
 same_places s (statements.Delete name condition) = refl
 same_places s (statements.Select q) = refl
+same_places s statement = refl
 
 same_bound : (s : State) (statement : Statement) → bound (alone s.tables s.views) statement ≡ bound s statement
 same_bound s (statements.CreateTable name columns sort) = refl
@@ -234,6 +256,7 @@ same_bound s (statements.DropView name) = refl
 same_bound s (statements.Insert name rows) = refl
 same_bound s (statements.Delete name condition) = refl
 same_bound s (statements.Select q) = refl
+same_bound s statement = refl
 
 -- a fault of the rows comes before the room for them
 insert_refuses : (max_rows : ℕ) (rows : List (List Constant)) (table : Result TableOf Fault) (f : Fault) → first_fault (rows_walk rows table) ≡ Some f → first_fault (insert_checks max_rows rows table) ≡ Some f
@@ -255,6 +278,7 @@ module _ (tables : List TableOf) (views : List ViewOf) (now drawn max_rows : ℕ
   walk_refuses (statements.Insert name rows) f e = insert_refuses max_rows rows (written_table name old) f e
   walk_refuses (statements.Delete name condition) f e = e
   walk_refuses (statements.Select q) f e = e
+  walk_refuses statement f e = e
 
   refused_along_walk : (statement : Statement) (f : Fault) → MayRefuse (first_fault (binding_checks old statement)) f → Refuses old statement f old
   refused_along_walk statement faults.Memory m = for_memory refl refl
@@ -294,7 +318,7 @@ module _ (tables : List TableOf) (views : List ViewOf) (now drawn max_rows : ℕ
       let m = mapped (λ t. commands.DropTable t.number) (table_named name tables) command is in
       subst (λ (c : Bound). refusal old (statements.DropTable name) ≡ room old c) m.2 none
   room_decides (statements.CreateView name view) command none is =
-      let m = mapped (λ t. commands.CreateView name (view_columns (view_source view t) view) (grouped_query view t)) (table_named view.source.name tables) command is in
+      let m = mapped (λ t. commands.CreateView name (view_columns (view_source view t) view) (grouped_query view t)) (table_named view.first.name tables) command is in
       subst (λ (c : Bound). refusal old (statements.CreateView name view) ≡ room old c) m.2 none
   room_decides (statements.DropView name) command none is =
       let m = mapped commands.DropView (view_place name views) command is in
@@ -306,8 +330,9 @@ module _ (tables : List TableOf) (views : List ViewOf) (now drawn max_rows : ℕ
       let m = mapped (λ t. commands.Delete t.number (option_map (bound_condition (scope_of (from_table t))) condition)) (table_named name tables) command is in
       subst (λ (c : Bound). refusal old (statements.Delete name condition) ≡ room old c) m.2 none
   room_decides (statements.Select q) command none is =
-      let m = mapped (bound_select q) (source_named q.source.name old) command is in
+      let m = mapped (bound_select q) (source_named q.first.name old) command is in
       subst (λ (c : Bound). refusal old (statements.Select q) ≡ room old c) m.2 none
+  room_decides statement command none is = absurd (cc is)
 
   -- a total that cannot be shown is one of a SELECT
   only_select : (command : Bound) → IsTooLarge old command → (room old command ≡ None) × AreBetween (reach old command) 0 views views

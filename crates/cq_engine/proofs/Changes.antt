@@ -1,21 +1,16 @@
 -- The bag of a table behind a write is the one before it with the change.
-use Rattle.std.proofs.Common.{◌≡◌, pos, ◌+ℤ◌, ◌≤ℤ◌, neg_ℤ, Bool, not, List, [], ◌∷◌, ◌++◌, sym, arith, subst}
+use Rattle.std.proofs.Common.{◌≡◌, pos, ◌+ℤ◌, neg_ℤ, Bool, not, List, [], ◌∷◌, ◌++◌, sym, arith, subst}
 use Rattle.std.specs.Prelude.{filter}
 use Rattle.std.proofs.lemmas.Int.{ints}
 use Rattle.std.proofs.lemmas.List.{map-append}
 use Rattle.cq_values.specs.Order.{same_row}
 use Rattle.cq_values.specs.Value.{Row}
-use Rattle.cq_bags.specs.Bag.{Weighted, SameBag, IsBag, weight_of, once_each}
+use Rattle.cq_bags.specs.Bag.{Weighted, SameBag, weight_of, once_each}
 use Rattle.cq_bags.specs.Canonical.{bag_of}
 use Rattle.cq_bags.proofs.Bags.{same-sym, same-trans}
 use Rattle.cq_bags.proofs.Canonicals.{same-bag_of}
-use Rattle.cq_bags.proofs.Listings.{weight_of-once_each}
 use Rattle.cq_bags.proofs.Totals.{by_test, weight_of-append}
 use Rattle.cq_views.specs.View.{changed}
-
--- rows that stand once each are a bag
-pub once_each-bag : (rows : List Row) → IsBag (once_each rows)
-once_each-bag rows = record { at = λ r. subst (λ n. pos 0 ≤ℤ n) (sym (weight_of-once_each rows r)) (omega (arith, ints)) }
 
 -- rows that come
 pub with_more : (rows more : List Row) → SameBag (once_each (bag_of (rows ++ more))) (once_each rows ++ once_each more)

@@ -1,7 +1,7 @@
 -- CREATE VIEW: what its walk lets pass is a view that can be kept, and stands for its query on its table.
-use Rattle.std.proofs.Common.{◌≡◌, ℕ, ◌≤◌, List, [], ◌∷◌, ◌++◌, map, length, Option, Some, None, sym, arith, subst}
-use Rattle.std.specs.Prelude.{nat_lt, option_map}
-use Rattle.std.specs.List.{AllByRecursion, flat_map}
+use Rattle.std.proofs.Common.{◌≡◌, ℕ, ◌≤◌, List, [], ◌∷◌, ◌++◌, map, length, Option, None, refl, sym, arith, subst}
+use Rattle.std.specs.Prelude.{nat_lt}
+use Rattle.std.specs.List.{AllByRecursion}
 use Rattle.std.proofs.lemmas.Bool.{ltb-false}
 use Rattle.std.proofs.lemmas.List.{length-map}
 use Rattle.cq_values.specs.Value.{Row}
@@ -10,24 +10,21 @@ use Rattle.cq_bags.specs.Canonical.{bag_of}
 use Rattle.cq_bags.proofs.Bags.{same-sym}
 use Rattle.cq_bags.proofs.Canonicals.{same-bag_of}
 use Rattle.cq_bags.proofs.Totals.{by_test}
-use Rattle.cq_model.specs.declared.query.Aggregate.{Aggregate}
-use Rattle.cq_model.specs.declared.query.Shape.{Shape}
-use Rattle.cq_model.specs.declared.query.Shape.TheVariants.{Grouped}
-use Rattle.cq_model.specs.declared.query.Source.{Source}
-use Rattle.cq_model.specs.declared.query.Source.TheVariants.{Table, View}
+use Rattle.cq_model.specs.declared.query.Query.{Query}
 use Rattle.cq_values.specs.declared.column.ColumnDef.{ColumnDef}
-use Rattle.cq_language.specs.declared.statement.ViewSelect.{ViewSelect}
+use Rattle.cq_language.specs.declared.statement.Select.{Select}
 use Rattle.cq_binding.specs.declared.fault.Fault.{Fault}
 use Rattle.cq_binding.specs.declared.fault.Fault.TheVariants.{NameTaken}
-use Rattle.cq_binding.specs.Scopes.{bound_condition, in_groups, place_in}
-use Rattle.cq_binding.specs.Bound.{aggregates_in, group_items, item_names, values_in, view_source}
+use Rattle.cq_binding.specs.Scopes.{place_in}
+use Rattle.cq_binding.specs.Headers.{header, shown_by}
+use Rattle.cq_binding.specs.Bound.{grouped_query, view_source}
 use Rattle.cq_binding.specs.Checks.{fault_if, first_fault, too_long}
-use Rattle.cq_binding.specs.Refusal.{item_check, name_check, query_checks, repeats, where_check}
+use Rattle.cq_binding.specs.SourceChecks.{where_check}
+use Rattle.cq_binding.specs.ViewChecks.{group_check, item_check, query_checks, repeats}
 use Rattle.cq_states.specs.State.{TableOf}
-use Rattle.cq_views.specs.declared.view_def.ViewDef.{ViewDef}
 use Rattle.cq_views.specs.Laws.{StandingDependsOnBag}
 use Rattle.cq_views.specs.Small.{IsItemNarrow}
-use Rattle.cq_views.specs.View.{KeptView, IsNarrowFor, Stands, query_of}
+use Rattle.cq_views.specs.View.{KeptView, IsNarrowFor, Stands}
 use Rattle.cq_engine.specs.Views.{Fits, IsStored}
 use Rattle.cq_binding.specs.Typing.{Scope}
 use Rattle.cq_engine.proofs.Fitting.{back_free, few_told, first_free, front_free, items_narrow, narrow_items, narrow_where, second_free, small_items, stored_keeps, totals}
@@ -40,96 +37,70 @@ short n e = by_test (nat_lt 64 n)
     (λ k. absurd (cc (rw k at e)))
     (λ k. ltb-false 64 n k)
 
-module _ (s : Scope) (v : ViewSelect) (free : first_fault (query_checks s v) ≡ None) where
+module _ (s : Scope) (v : Select) (free : first_fault (query_checks s v) ≡ None) where
   abbrev columns : List ColumnDef
   columns = s.columns
 
   abbrev keys_walk : List (Option Fault)
-  keys_walk = map (name_check columns) v.group
+  keys_walk = map (group_check columns) v.group
 
   abbrev items_walk : List (Option Fault)
-  items_walk = too_long (length v.group) ∷ map (item_check s v.group) (values_in v)
+  items_walk = too_long (length v.group) ∷ map (item_check s v.group) (shown_by v.items)
 
   abbrev names_walk : List (Option Fault)
-  names_walk = fault_if (repeats [] (item_names 1 v.items)) NameTaken ∷ too_long (length v.items) ∷ []
+  names_walk = fault_if (repeats [] (header 1 v.items)) NameTaken ∷ too_long (length v.items) ∷ []
 
   -- WHERE has no fault
   where_free : where_check s v.condition ≡ None
   where_free = first_free (where_check s v.condition) (keys_walk ++ items_walk ++ names_walk) free
 
   -- nor has an item
-  items_free : first_fault (map (item_check s v.group) (values_in v)) ≡ None
+  items_free : first_fault (map (item_check s v.group) (shown_by v.items)) ≡ None
   items_free =
       let where_walk : List (Option Fault) = where_check s v.condition ∷ [] in
-      back_free (too_long (length v.group) ∷ []) (map (item_check s v.group) (values_in v)) (back_free (where_walk ++ keys_walk) items_walk (front_free ((where_walk ++ keys_walk) ++ items_walk) names_walk free))
+      back_free (too_long (length v.group) ∷ []) (map (item_check s v.group) (shown_by v.items)) (back_free (where_walk ++ keys_walk) items_walk (front_free ((where_walk ++ keys_walk) ++ items_walk) names_walk free))
 
   -- there are not too many items
   few_items : length v.items ≤ 64
   few_items =
       let where_walk : List (Option Fault) = where_check s v.condition ∷ [] in
       short (length v.items)
-      (second_free (fault_if (repeats [] (item_names 1 v.items)) NameTaken) (too_long (length v.items)) [] (back_free ((where_walk ++ keys_walk) ++ items_walk) names_walk free))
+      (second_free (fault_if (repeats [] (header 1 v.items)) NameTaken) (too_long (length v.items)) [] (back_free ((where_walk ++ keys_walk) ++ items_walk) names_walk free))
 
 -- ---- The view's query
--- the query with its names as places among the columns of the table
-abbrev pub def_on : ViewSelect → TableOf → ViewDef
-def_on v t = record {
-  table = t.number;
-  filter = option_map (bound_condition (view_source v t)) v.condition;
-  keys = map (place_in t.columns) v.group;
-  aggregates = flat_map (aggregates_in (view_source v t)) (values_in v);
-  items = group_items (in_groups v.group (view_source v t)) (length v.group) (values_in v);
-}
-
-module _ (v : ViewSelect) (t : TableOf) (free : first_fault (query_checks (view_source v t) v) ≡ None) where
+module _ (v : Select) (t : TableOf) (free : first_fault (query_checks (view_source v t) v) ≡ None) where
   abbrev source : Scope
   source = view_source v t
 
   -- it fits the rows that a table stores
-  pub def_fits : Fits (def_on v t)
-  def_fits = record {
+  pub query_fits : Fits (grouped_query v t)
+  query_fits = record {
     can_be_kept = record {
-      totals = totals source v.group (values_in v);
-      few = omega (arith, few_told source v.group (values_in v), length-map v.items (λ item. item.value), few_items source v free);
-      items = subst (λ n. AllByRecursion (IsItemNarrow n) (def_on v t).items) (sym (length-map v.group (place_in t.columns))) (items_narrow v t (length v.group) (values_in v) (items_free source v free));
+      grouped = refl;
+      totals = totals source v.group (shown_by v.items) (items_free source v free);
+      few = omega (arith, few_told source v.group (shown_by v.items), length-map v.items (λ item. item.value), few_items source v free);
+      items = subst (λ n. AllByRecursion (IsItemNarrow n) (grouped_query v t).items) (sym (length-map v.group (λ c. place_in t.columns c.name))) (items_narrow v t (length v.group) (shown_by v.items) (items_free source v free));
     };
     narrow = λ row stored. record {
       filter = narrow_where source v.condition row (where_free source v free) (stored_keeps t row stored);
-      aggregates = narrow_items source v.group row stored (stored_keeps t row stored) (values_in v) (items_free source v free);
+      aggregates = narrow_items source v.group row stored (stored_keeps t row stored) (shown_by v.items) (items_free source v free);
     };
-    small = λ row stored kept. small_items source v.group row stored (stored_keeps t row stored) (values_in v) (items_free source v free);
+    small = λ row stored kept. small_items source v.group row stored (stored_keeps t row stored) (shown_by v.items) (items_free source v free);
   }
 
 -- ---- A view that is built
 -- rows that are stored are narrow for what fits them
-all_narrow : (def : ViewDef) (rows : List Row) → Fits def → AllByRecursion IsStored rows → AllByRecursion (IsNarrowFor def) rows
-all_narrow def [] fits stored = tt
-all_narrow def (r ∷ rows) fits stored = (fits.narrow r stored.0, all_narrow def rows fits stored.1)
+all_narrow : (q : Query) (rows : List Row) → Fits q → AllByRecursion IsStored rows → AllByRecursion (IsNarrowFor q) rows
+all_narrow q [] fits stored = tt
+all_narrow q (r ∷ rows) fits stored = (fits.narrow r stored.0, all_narrow q rows fits stored.1)
 
 module _ (t : TableOf) (rows : List Row) (same : bag_of rows ≡ t.rows) where
   -- the rows of a table are narrow as they are stored
-  pub stored_narrow : (def : ViewDef) → Fits def → AllByRecursion IsStored t.rows → AllByRecursion (IsNarrowFor def) rows
-  stored_narrow def fits stored = all_narrow def rows fits (all_of_rows IsStored rows (subst (λ (rs : List Row). AllByRecursion IsStored rs) (sym same) stored))
+  pub stored_narrow : (q : Query) → Fits q → AllByRecursion IsStored t.rows → AllByRecursion (IsNarrowFor q) rows
+  stored_narrow q fits stored = all_narrow q rows fits (all_of_rows IsStored rows (subst (λ (rs : List Row). AllByRecursion IsStored rs) (sym same) stored))
 
   -- what stands for the rows as they are stored stands for the table's bag
   pub stands_for_bag : StandingDependsOnBag → (v : KeptView) → Stands v (once_each rows) → Stands v (once_each t.rows)
   stands_for_bag law v stands =
       let listed : SameBag (once_each rows) (once_each t.rows) = subst (λ (rs : List Row). SameBag (once_each rows) (once_each rs)) same (same-sym (once_each (bag_of rows)) (once_each rows) (same-bag_of rows)) in
       law v (once_each rows) (once_each t.rows) listed stands
-
--- ---- The query as what is kept of a view
-abbrev table_in : Source → ℕ
-table_in (Table n) = n
-table_in (View place) = place
-
-abbrev keys_in : Shape → List ℕ
-keys_in (Grouped (Some keys) aggregates having) = keys
-keys_in shape = []
-
-abbrev aggregates_in_shape : Shape → List Aggregate
-aggregates_in_shape (Grouped keys aggregates having) = aggregates
-aggregates_in_shape shape = []
-
--- a query is that of one definition
-pub one_def : (a b : ViewDef) → query_of a ≡ query_of b → a ≡ b
-one_def a b same = λ i. record { table = table_in (same i).first; filter = (same i).filter; keys = keys_in (same i).shape; aggregates = aggregates_in_shape (same i).shape; items = (same i).items }

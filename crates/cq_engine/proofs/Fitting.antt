@@ -14,19 +14,21 @@ use Rattle.cq_values.specs.declared.day_part.DayPart.TheVariants as parts
 use Rattle.cq_model.specs.Expr.{Expr}
 use Rattle.cq_model.specs.Expr as exprs
 use Rattle.cq_values.specs.declared.column.ColumnDef.{ColumnDef}
-use Rattle.cq_language.specs.declared.statement.ItemValue.{ItemValue}
-use Rattle.cq_language.specs.declared.statement.ItemValue.TheVariants as values
-use Rattle.cq_language.specs.declared.statement.ViewSelect.{ViewSelect}
+use Rattle.cq_language.specs.declared.statement.Select.{Select}
+use Rattle.cq_language.specs.declared.written.AggregateFunction.TheVariants as functions
+use Rattle.cq_language.specs.declared.written.ColumnName.{ColumnName}
 use Rattle.cq_model.specs.Eval.{eval}
 use Rattle.cq_model.specs.Sizes.{stored_size, stored_sizes}
 use Rattle.cq_model.specs.Width.{extent, sizes_of, value_size, width}
 use Rattle.cq_language.specs.Written.{Written}
+use Rattle.cq_language.specs.Written as tree
 use Rattle.cq_binding.specs.declared.fault.Fault.{Fault}
 use Rattle.cq_binding.specs.declared.typing.Typing.{Typing}
 use Rattle.cq_binding.specs.Scopes.{bound_condition, bound_value, column_place, from_table, group_place, in_groups, place_in, scope_of}
 use Rattle.cq_binding.specs.Bound.{aggregates_in, group_items, view_source}
 use Rattle.cq_binding.specs.Checks.{first_fault}
-use Rattle.cq_binding.specs.Refusal.{item_check, value_check, where_check}
+use Rattle.cq_binding.specs.SourceChecks.{value_check, where_check}
+use Rattle.cq_binding.specs.ViewChecks.{item_check}
 use Rattle.cq_states.specs.State.{TableOf}
 use Rattle.cq_binding.specs.Kinds.{◌and_then◌, added, kept_value, negation_of, tested}
 use Rattle.cq_binding.specs.Typing.{Scope, fault_in, typed}
@@ -34,7 +36,7 @@ use Rattle.cq_binder.proofs.Faults.{first_fault_append, or_next}
 use Rattle.cq_exprs.proofs.Narrow.{typed_is_narrow}
 use Rattle.cq_exprs.specs.Expressions.{IsNarrow as IsNarrowIn, KeepSizes}
 use Rattle.cq_views.specs.Small.{IsItemNarrow}
-use Rattle.cq_laws.proofs.Extents.{value-within}
+use Rattle.cq_model.proofs.Extents.{value-within}
 use Rattle.cq_engine.proofs.Places.{found_within}
 use Rattle.cq_engine.specs.Narrow.{AreNarrowAt, IsNarrowAt}
 use Rattle.cq_engine.specs.Views.{IsStored}
@@ -139,61 +141,66 @@ place_within true i n within e = ltb-true i n within
 place_within false i n within e = absurd (cc e)
 
 -- where GROUP BY names a column, it has a place there
-grouped_at : (group : List (List ℕ)) (name : List ℕ) → list_any (λ g. is_text g name) group ≡ true → group_place group name < length group
+grouped_at : (group : List ColumnName) (name : List ℕ) → list_any (λ g. is_text g.name name) group ≡ true → group_place group name < length group
 grouped_at group name among =
-    let p : List ℕ → Bool = λ g. is_text g name in
+    let p : ColumnName → Bool = λ g. is_text g.name name in
     place_within (nat_lt (position_or_len p group) (length group)) (position_or_len p group) (length group) refl (found_within p group ∙ among)
 
-module _ (s : Scope) (group : List (List ℕ)) where
+module _ (s : Scope) (group : List ColumnName) where
   -- the walk through these items
-  abbrev walk : List ItemValue → List (Option Fault)
+  abbrev walk : List Written → List (Option Fault)
   walk items = map (item_check s group) items
 
-  pub totals : (items : List ItemValue) → AreTotals (flat_map (aggregates_in s) items)
-  totals [] = tt
-  totals (values.Value w ∷ items) = totals items
-  totals (values.CountAll ∷ items) = (tt, totals items)
-  totals (values.Count w ∷ items) = (tt, totals items)
-  totals (values.Sum w ∷ items) = (tt, totals items)
-
-  pub few_told : (items : List ItemValue) → length (flat_map (aggregates_in s) items) ≤ length items
-  few_told [] = omega arith
-  few_told (values.Value w ∷ items) = omega (arith, few_told items)
-  few_told (values.CountAll ∷ items) = omega (arith, few_told items)
-  few_told (values.Count w ∷ items) = omega (arith, few_told items)
-  few_told (values.Sum w ∷ items) = omega (arith, few_told items)
-
   -- an item has no fault, and neither have those behind it
-  rest_free : (item : ItemValue) (items : List ItemValue) → first_fault (walk (item ∷ items)) ≡ None → (item_check s group item ≡ None) × (first_fault (walk items) ≡ None)
+  rest_free : (item : Written) (items : List Written) → first_fault (walk (item ∷ items)) ≡ None → (item_check s group item ≡ None) × (first_fault (walk items) ≡ None)
   rest_free item items free = (first_free (item_check s group item) (walk items) free, back_free (item_check s group item ∷ []) (walk items) free)
+
+  pub totals : (items : List Written) → first_fault (walk items) ≡ None → AreTotals (flat_map (aggregates_in s) items)
+  totals [] free = tt
+  totals (tree.CountAll ∷ items) free = (tt, totals items (rest_free tree.CountAll items free).1)
+  totals (tree.Aggregate functions.Count w ∷ items) free = (tt, totals items (rest_free (tree.Aggregate functions.Count w) items free).1)
+  totals (tree.Aggregate functions.Sum w ∷ items) free = (tt, totals items (rest_free (tree.Aggregate functions.Sum w) items free).1)
+  totals (tree.Aggregate functions.Min w ∷ items) free = absurd (cc free)
+  totals (tree.Aggregate functions.Max w ∷ items) free = absurd (cc free)
+  totals (w ∷ items) free = totals items (rest_free w items free).1
+
+  pub few_told : (items : List Written) → length (flat_map (aggregates_in s) items) ≤ length items
+  few_told [] = omega arith
+  few_told (tree.CountAll ∷ items) = omega (arith, few_told items)
+  few_told (tree.Aggregate function w ∷ items) = omega (arith, few_told items)
+  few_told (w ∷ items) = omega (arith, few_told items)
 
   module _ (row : Row) (stored : IsStored row) (kept : KeepSizes s (sizes_of row)) where
     -- no argument is too wide at a stored row
-    pub narrow_items : (items : List ItemValue) → first_fault (walk items) ≡ None → AllByRecursion (IsNarrow row) (flat_map (aggregates_in s) items)
+    pub narrow_items : (items : List Written) → first_fault (walk items) ≡ None → AllByRecursion (IsNarrow row) (flat_map (aggregates_in s) items)
     narrow_items [] free = tt
-    narrow_items (values.Value w ∷ items) free = narrow_items items (rest_free (values.Value w) items free).1
-    narrow_items (values.CountAll ∷ items) free = (tt, narrow_items items (rest_free values.CountAll items free).1)
-    narrow_items (values.Count w ∷ items) free =
-        let p = rest_free (values.Count w) items free in
+    narrow_items (tree.CountAll ∷ items) free = (tt, narrow_items items (rest_free tree.CountAll items free).1)
+    narrow_items (tree.Aggregate functions.Count w ∷ items) free =
+        let p = rest_free (tree.Aggregate functions.Count w) items free in
         ((narrow_whole tested s w (sizes_of row) p.0 kept).1.value, narrow_items items p.1)
-    narrow_items (values.Sum w ∷ items) free =
-        let p = rest_free (values.Sum w) items free in
+    narrow_items (tree.Aggregate functions.Sum w ∷ items) free =
+        let p = rest_free (tree.Aggregate functions.Sum w) items free in
         ((narrow_whole added s w (sizes_of row) p.0 kept).1.value, narrow_items items p.1)
+    narrow_items (tree.Aggregate functions.Min w ∷ items) free = absurd (cc free)
+    narrow_items (tree.Aggregate functions.Max w ∷ items) free = absurd (cc free)
+    narrow_items (w ∷ items) free = narrow_items items (rest_free w items free).1
 
     -- nor too large
-    pub small_items : (items : List ItemValue) → first_fault (walk items) ≡ None → AllByRecursion (IsSmall row) (flat_map (aggregates_in s) items)
+    pub small_items : (items : List Written) → first_fault (walk items) ≡ None → AllByRecursion (IsSmall row) (flat_map (aggregates_in s) items)
     small_items [] free = tt
-    small_items (values.Value w ∷ items) free = small_items items (rest_free (values.Value w) items free).1
-    small_items (values.CountAll ∷ items) free = (omega arith, small_items items (rest_free values.CountAll items free).1)
-    small_items (values.Count w ∷ items) free =
-        let p = rest_free (values.Count w) items free in
+    small_items (tree.CountAll ∷ items) free = (omega arith, small_items items (rest_free tree.CountAll items free).1)
+    small_items (tree.Aggregate functions.Count w ∷ items) free =
+        let p = rest_free (tree.Aggregate functions.Count w) items free in
         (small_argument (bound_value s w) row stored (narrow_whole tested s w (sizes_of row) p.0 kept).1.value, small_items items p.1)
-    small_items (values.Sum w ∷ items) free =
-        let p = rest_free (values.Sum w) items free in
+    small_items (tree.Aggregate functions.Sum w ∷ items) free =
+        let p = rest_free (tree.Aggregate functions.Sum w) items free in
         (small_argument (bound_value s w) row stored (narrow_whole added s w (sizes_of row) p.0 kept).1.value, small_items items p.1)
+    small_items (tree.Aggregate functions.Min w ∷ items) free = absurd (cc free)
+    small_items (tree.Aggregate functions.Max w ∷ items) free = absurd (cc free)
+    small_items (w ∷ items) free = small_items items (rest_free w items free).1
 
 -- over groups whose keys are stored numbers, what is shown of them is narrow
-module _ (v : ViewSelect) (t : TableOf) where
+module _ (v : Select) (t : TableOf) where
   abbrev groups : Scope
   groups = in_groups v.group (view_source v t)
 
@@ -201,11 +208,17 @@ module _ (v : ViewSelect) (t : TableOf) where
   key_sizes sizes kept c i at may =
       omega (arith, kept (group_place v.group c.name) (grouped_at v.group c.name may), size_there t.columns i (column_there t.columns c.name i at))
 
-  pub items_narrow : (next : ℕ) (items : List ItemValue) → first_fault (map (item_check (view_source v t) v.group) items) ≡ None → AllByRecursion (IsItemNarrow (length v.group)) (group_items groups next items)
+  abbrev item_free : (item : Written) (items : List Written) → first_fault (map (item_check (view_source v t) v.group) (item ∷ items)) ≡ None
+      → (item_check (view_source v t) v.group item ≡ None) × (first_fault (map (item_check (view_source v t) v.group) items) ≡ None)
+  item_free item items free = rest_free (view_source v t) v.group item items free
+
+  shown_narrow : (w : Written) → fault_in (typed groups w and_then kept_value) ≡ None → IsItemNarrow (length v.group) (bound_value groups w)
+  shown_narrow w free = λ sizes kept. (narrow_whole kept_value groups w sizes free (key_sizes sizes kept)).1.value
+
+  pub items_narrow : (next : ℕ) (items : List Written) → first_fault (map (item_check (view_source v t) v.group) items) ≡ None → AllByRecursion (IsItemNarrow (length v.group)) (group_items groups next items)
   items_narrow next [] free = tt
-  items_narrow next (values.Value w ∷ items) free =
-      let p = rest_free (view_source v t) v.group (values.Value w) items free in
-      ((λ sizes kept. (narrow_whole kept_value groups w sizes p.0 (key_sizes sizes kept)).1.value), items_narrow next items p.1)
-  items_narrow next (values.CountAll ∷ items) free = ((λ sizes kept. omega arith), items_narrow (next + 1) items (rest_free (view_source v t) v.group values.CountAll items free).1)
-  items_narrow next (values.Count w ∷ items) free = ((λ sizes kept. omega arith), items_narrow (next + 1) items (rest_free (view_source v t) v.group (values.Count w) items free).1)
-  items_narrow next (values.Sum w ∷ items) free = ((λ sizes kept. omega arith), items_narrow (next + 1) items (rest_free (view_source v t) v.group (values.Sum w) items free).1)
+  items_narrow next (tree.CountAll ∷ items) free = ((λ sizes kept. omega arith), items_narrow (next + 1) items (item_free tree.CountAll items free).1)
+  items_narrow next (tree.Aggregate function w ∷ items) free = ((λ sizes kept. omega arith), items_narrow (next + 1) items (item_free (tree.Aggregate function w) items free).1)
+  items_narrow next (w ∷ items) free =
+      let p = item_free w items free in
+      (shown_narrow w p.0, items_narrow next items p.1)

@@ -1,8 +1,9 @@
 -- Lists of views: what stays the same of them, what they are ready for, and how they follow a write.
-use Rattle.std.proofs.Common.{◌≡◌, ℕ, true, false, List, [], ◌∷◌, ◌++◌, map, Option, Some, None, refl, sym, ap, ◌∙◌, subst}
+use Rattle.std.proofs.Common.{◌≡◌, ℕ, true, false, List, [], ◌∷◌, ◌++◌, Option, Some, None, sym, ap, ◌∙◌, subst}
 use Rattle.std.specs.Prelude.{◌==◌}
 use Rattle.std.specs.List.{AllByRecursion}
 use Rattle.std.proofs.lemmas.Bool.{eqb-true}
+use Rattle.std.proofs.lemmas.Simd.{map-map}
 use Rattle.cq_values.specs.Value.{Row}
 use Rattle.cq_bags.specs.Bag.{Weighted, SameBag, IsBag, once_each}
 use Rattle.cq_bags.proofs.Totals.{by_test}
@@ -11,39 +12,36 @@ use Rattle.cq_deltas.specs.Keyed.{HoldsFor}
 use Rattle.cq_binding.specs.Refusal.{is_used}
 use Rattle.cq_states.specs.State.{TableOf, rows_in}
 use Rattle.cq_steps.specs.Next.{at_epoch}
-use Rattle.cq_views.specs.declared.view_def.ViewDef.{ViewDef}
+use Rattle.cq_model.specs.declared.query.Query.{Query}
+use Rattle.cq_views.specs.Query.{table_of}
 use Rattle.cq_views.specs.Laws.{SmallChangesHold}
 use Rattle.cq_views.specs.Small.{AreSmallFor, CanBeKept}
-use Rattle.cq_views.specs.View.{Stands, query_of}
-use Rattle.cq_engine.specs.Views.{NamedView, view_of, views_of, Fits, IsRight, AreRight, StandsOn, StandOn, IsSame, AreSame, IsReady, AreReady, CanTake, CanAllTake, HasTaken, HaveTaken, Follows, Follow, Moved}
+use Rattle.cq_views.specs.View.{Stands}
+use Rattle.cq_engine.specs.Taking.{StandsOn, StandOn, IsSame, AreSame, IsReady, AreReady, CanTake, CanAllTake, HasTaken, HaveTaken, Follows, Follow, Moved}
+use Rattle.cq_engine.specs.Views.{NamedView, view_of, views_of, Fits, IsRight, AreRight}
 use Rattle.cq_engine.proofs.Numbers.{others}
+use Rattle.cq_engine.proofs.Pairs.{pointwise_all, pointwise_map}
 use Rattle.cq_engine.proofs.Rows.{rows_left, unused}
 use Rattle.cq_engine.proofs.Steps.{AreAt}
 
 -- ---- The same views
 -- a view of which nothing is changed is the same view
 same_view : (v w : NamedView) → IsSame v w → view_of w ≡ view_of v
-same_view v w s = λ i. record { name = s.name i; columns = s.columns i; query = query_of (s.kept.def i); epoch = s.kept.epoch i; built = s.kept.built i }
+same_view v w s = λ i. record { name = s.name i; columns = s.columns i; query = s.kept.query i; epoch = s.kept.epoch i; built = s.kept.built i }
 
 pub same_views : (vs ws : List NamedView) → AreSame vs ws → views_of ws ≡ views_of vs
-same_views [] [] s = refl
-same_views [] (w ∷ ws) s = absurd s
-same_views (v ∷ vs) [] s = absurd s
-same_views (v ∷ vs) (w ∷ ws) s = λ i. same_view v w s.0 i ∷ same_views vs ws s.1 i
+same_views vs ws s = pointwise_map IsSame view_of view_of same_view vs ws s
 
 -- it is right where it was
 right_same : (tables : List TableOf) (now : ℕ) (v w : NamedView) → IsSame v w → IsRight tables now v → IsRight tables now w
 right_same tables now v w s r = record {
-  fits = subst Fits (sym s.kept.def) r.fits;
+  fits = subst Fits (sym s.kept.query) r.fits;
   epoch = s.kept.epoch ∙ r.epoch;
-  stands = subst (λ (d : ViewDef). Stands w.kept (once_each (rows_in tables d.table))) (sym s.kept.def) (s.kept.stands (once_each (rows_in tables v.kept.def.table)) r.stands);
+  stands = subst (λ (d : Query). Stands w.kept (once_each (rows_in tables (table_of d)))) (sym s.kept.query) (s.kept.stands (once_each (rows_in tables (table_of v.kept.query))) r.stands);
 }
 
 pub all_right_same : (tables : List TableOf) (now : ℕ) (vs ws : List NamedView) → AreSame vs ws → AreRight tables now vs → AreRight tables now ws
-all_right_same tables now [] [] s r = tt
-all_right_same tables now [] (w ∷ ws) s r = absurd s
-all_right_same tables now (v ∷ vs) [] s r = absurd s
-all_right_same tables now (v ∷ vs) (w ∷ ws) s r = (right_same tables now v w s.0 r.0, all_right_same tables now vs ws s.1 r.1)
+all_right_same tables now vs ws s r = pointwise_all IsSame (IsRight tables now) (IsRight tables now) (right_same tables now) vs ws s r
 
 -- ---- Views of one table
 -- views that are right stand on each of the tables
@@ -51,22 +49,22 @@ pub stand_on : (tables : List TableOf) (now : ℕ) (t : TableOf) (vs : List Name
 stand_on tables now t [] rows r = tt
 stand_on tables now t (v ∷ vs) rows r = ((r.0.fits, on), stand_on tables now t vs rows r.1)
   where
-    on : (v.kept.def.table == t.number) ≡ true → Stands v.kept (once_each t.rows)
+    on : (table_of v.kept.query == t.number) ≡ true → Stands v.kept (once_each t.rows)
     on e =
-        let n : v.kept.def.table ≡ t.number = eqb-true v.kept.def.table t.number e in
+        let n : (table_of v.kept.query) ≡ t.number = eqb-true (table_of v.kept.query) t.number e in
         subst (λ (rs : List Row). Stands v.kept (once_each rs)) (ap (rows_in tables) n ∙ rows) r.0.stands
 
 -- views that are ready for a small change can take it
 module _ (law : SmallChangesHold) (t : TableOf) (dxs : Weighted) where
   abbrev pub AreSmall : NamedView → Type 0
-  AreSmall v = AreSmallFor v.kept.def (once_each t.rows) × AreSmallFor v.kept.def dxs
+  AreSmall v = AreSmallFor v.kept.query (once_each t.rows) × AreSmallFor v.kept.query dxs
 
   can_take : (v w : NamedView) (p : Option (List Addition)) → StandsOn t v → AreSmall v → IsSame v w → IsReady t.number dxs w p → CanTake w p
   can_take v w None on small s ready = tt
   can_take v w (Some change) on small s ready =
-      let here : (v.kept.def.table == t.number) ≡ true = ap (λ (d : ViewDef). d.table == t.number) (sym s.kept.def) ∙ ready.0 in
-      let holds = law w.kept (once_each t.rows) dxs (subst (λ (d : ViewDef). CanBeKept d) (sym s.kept.def) on.0.can_be_kept) (s.kept.stands (once_each t.rows) (on.1 here))
-      (subst (λ (d : ViewDef). AreSmallFor d (once_each t.rows)) (sym s.kept.def) small.0) (subst (λ (d : ViewDef). AreSmallFor d dxs) (sym s.kept.def) small.1) in
+      let here : (table_of v.kept.query == t.number) ≡ true = ap (λ (d : Query). table_of d == t.number) (sym s.kept.query) ∙ ready.0 in
+      let holds = law w.kept (once_each t.rows) dxs (subst (λ (d : Query). CanBeKept d) (sym s.kept.query) on.0.can_be_kept) (s.kept.stands (once_each t.rows) (on.1 here))
+      (subst (λ (d : Query). AreSmallFor d (once_each t.rows)) (sym s.kept.query) small.0) (subst (λ (d : Query). AreSmallFor d dxs) (sym s.kept.query) small.1) in
       (ready.2, subst (λ (c : List Addition). HoldsFor c w.kept.groups) (sym ready.1) holds)
 
   pub can_all_take : (vs ws : List NamedView) (ps : List (Option (List Addition))) → StandOn t vs → AllByRecursion AreSmall vs → AreSame vs ws → AreReady t.number dxs ws ps → CanAllTake ws ps
@@ -83,22 +81,22 @@ module _ (epoch : ℕ) (t u : TableOf) (dxs : Weighted) (number : u.number ≡ t
   follows v w x None on s ready taken = record {
     name = taken.name ∙ s.name;
     columns = taken.columns ∙ s.columns;
-    def = taken.def ∙ s.kept.def;
+    query = taken.query ∙ s.kept.query;
     built = taken.built ∙ s.kept.built;
     epoch = taken.epoch;
-    on = λ e. absurd (let both : true ≡ false = sym e ∙ ap (λ (n : ℕ). x.kept.def.table == n) number ∙ ap (λ (d : ViewDef). d.table == t.number) taken.def ∙ ready in cc);
+    on = λ e. absurd (let both : true ≡ false = sym e ∙ ap (λ (n : ℕ). table_of x.kept.query == n) number ∙ ap (λ (d : Query). table_of d == t.number) taken.query ∙ ready in cc);
     off = λ e xs h. taken.groups xs (s.kept.stands xs h);
   }
   follows v w x (Some change) on s ready taken = record {
     name = taken.name ∙ s.name;
     columns = taken.columns ∙ s.columns;
-    def = taken.def ∙ s.kept.def;
+    query = taken.query ∙ s.kept.query;
     built = taken.built ∙ s.kept.built;
     epoch = taken.epoch;
     on = λ e.
-        let here : (v.kept.def.table == t.number) ≡ true = ap (λ (d : ViewDef). d.table == t.number) (sym s.kept.def) ∙ ready.0 in
+        let here : (table_of v.kept.query == t.number) ≡ true = ap (λ (d : Query). table_of d == t.number) (sym s.kept.query) ∙ ready.0 in
         taken.groups (once_each t.rows) dxs (once_each u.rows) ready.1 rows bag (s.kept.stands (once_each t.rows) (on.1 here));
-    off = λ e. absurd (let both : false ≡ true = sym e ∙ ap (λ (n : ℕ). x.kept.def.table == n) number ∙ ap (λ (d : ViewDef). d.table == t.number) taken.def ∙ ready.0 in cc);
+    off = λ e. absurd (let both : false ≡ true = sym e ∙ ap (λ (n : ℕ). table_of x.kept.query == n) number ∙ ap (λ (d : Query). table_of d == t.number) taken.query ∙ ready.0 in cc);
   }
 
   pub follow : (vs ws xs : List NamedView) (ps : List (Option (List Addition))) → StandOn t vs → AreSame vs ws → AreReady t.number dxs ws ps → HaveTaken epoch ws ps xs → Follow epoch u vs xs
@@ -114,39 +112,30 @@ module _ (epoch : ℕ) (t u : TableOf) (dxs : Weighted) (number : u.number ≡ t
 -- ---- Views of all tables, where one table was written
 module _ (epoch now : ℕ) (old new : List TableOf) (u : TableOf) (written : rows_in new u.number ≡ u.rows) (others : (n : ℕ) → (n == u.number) ≡ false → rows_in new n ≡ rows_in old n) where
   moved_view : (v w : NamedView) → Follows epoch u v w → view_of w ≡ at_epoch epoch (view_of v)
-  moved_view v w f = λ i. record { name = f.name i; columns = f.columns i; query = query_of (f.def i); epoch = f.epoch i; built = f.built i }
+  moved_view v w f = λ i. record { name = f.name i; columns = f.columns i; query = f.query i; epoch = f.epoch i; built = f.built i }
 
   moved_right : (v w : NamedView) → Follows epoch u v w → IsRight old now v → IsRight new epoch w
   moved_right v w f r = record {
-    fits = subst Fits (sym f.def) r.fits;
+    fits = subst Fits (sym f.query) r.fits;
     epoch = f.epoch;
-    stands = by_test (w.kept.def.table == u.number) on off;
+    stands = by_test (table_of w.kept.query == u.number) on off;
   }
     where
-      on : (w.kept.def.table == u.number) ≡ true → Stands w.kept (once_each (rows_in new w.kept.def.table))
+      on : (table_of w.kept.query == u.number) ≡ true → Stands w.kept (once_each (rows_in new (table_of w.kept.query)))
       on e =
-          let n : w.kept.def.table ≡ u.number = eqb-true w.kept.def.table u.number e in
+          let n : (table_of w.kept.query) ≡ u.number = eqb-true (table_of w.kept.query) u.number e in
           subst (λ (rs : List Row). Stands w.kept (once_each rs)) (sym (ap (rows_in new) n ∙ written)) (f.on e)
 
-      off : (w.kept.def.table == u.number) ≡ false → Stands w.kept (once_each (rows_in new w.kept.def.table))
+      off : (table_of w.kept.query == u.number) ≡ false → Stands w.kept (once_each (rows_in new (table_of w.kept.query)))
       off e =
-          let same : rows_in new w.kept.def.table ≡ rows_in old v.kept.def.table = others w.kept.def.table e ∙ ap (λ (d : ViewDef). rows_in old d.table) f.def in
-          subst (λ (rs : List Row). Stands w.kept (once_each rs)) (sym same) (f.off e (once_each (rows_in old v.kept.def.table)) r.stands)
-
-  moved_views : (vs ws : List NamedView) → Follow epoch u vs ws → views_of ws ≡ map (at_epoch epoch) (views_of vs)
-  moved_views [] [] f = refl
-  moved_views [] (w ∷ ws) f = absurd f
-  moved_views (v ∷ vs) [] f = absurd f
-  moved_views (v ∷ vs) (w ∷ ws) f = λ i. moved_view v w f.0 i ∷ moved_views vs ws f.1 i
-
-  all_moved_right : (vs ws : List NamedView) → Follow epoch u vs ws → AreRight old now vs → AreRight new epoch ws
-  all_moved_right [] [] f r = tt
-  all_moved_right [] (w ∷ ws) f r = absurd f
-  all_moved_right (v ∷ vs) [] f r = absurd f
-  all_moved_right (v ∷ vs) (w ∷ ws) f r = (moved_right v w f.0 r.0, all_moved_right vs ws f.1 r.1)
+          let same : rows_in new (table_of w.kept.query) ≡ rows_in old (table_of v.kept.query) = others (table_of w.kept.query) e ∙ ap (λ (d : Query). rows_in old (table_of d)) f.query in
+          subst (λ (rs : List Row). Stands w.kept (once_each rs)) (sym same) (f.off e (once_each (rows_in old (table_of v.kept.query))) r.stands)
 
   pub moved : (vs ws : List NamedView) → Follow epoch u vs ws → AreRight old now vs → Moved epoch new vs ws
-  moved vs ws f r = record { views = moved_views vs ws f; right = all_moved_right vs ws f r }
+  moved vs ws f r = record {
+    views = pointwise_map (Follows epoch u) (λ v. at_epoch epoch (view_of v)) view_of moved_view vs ws f ∙ sym (map-map (at_epoch epoch) view_of vs);
+    right = pointwise_all (Follows epoch u) (IsRight old now) (IsRight new epoch) moved_right vs ws f r;
+  }
 
 -- ---- Views of other tables, and other views
 -- views that are right are at the present
@@ -155,7 +144,7 @@ all_at tables now [] r = tt
 all_at tables now (v ∷ vs) r = (r.0.epoch, all_at tables now vs r.1)
 
 -- they are right wherever the tables that they stand on have their rows
-pub right_elsewhere : (old new : List TableOf) (now : ℕ) (vs : List NamedView) → AllByRecursion (λ v. rows_in new v.kept.def.table ≡ rows_in old v.kept.def.table) vs → AreRight old now vs → AreRight new now vs
+pub right_elsewhere : (old new : List TableOf) (now : ℕ) (vs : List NamedView) → AllByRecursion (λ v. rows_in new (table_of v.kept.query) ≡ rows_in old (table_of v.kept.query)) vs → AreRight old now vs → AreRight new now vs
 right_elsewhere old new now [] same r = tt
 right_elsewhere old new now (v ∷ vs) same r = (
   record { fits = r.0.fits; epoch = r.0.epoch; stands = subst (λ (rs : List Row). Stands v.kept (once_each rs)) (sym same.0) r.0.stands },
@@ -169,18 +158,18 @@ right_behind tables now (w ∷ ws) v r one = (r.0, right_behind tables now ws v 
 pub right_everywhere : (old new : List TableOf) (now : ℕ) (vs : List NamedView) → ((n : ℕ) → rows_in new n ≡ rows_in old n) → AreRight old now vs → AreRight new now vs
 right_everywhere old new now [] same r = tt
 right_everywhere old new now (v ∷ vs) same r = (
-  record { fits = r.0.fits; epoch = r.0.epoch; stands = subst (λ (rs : List Row). Stands v.kept (once_each rs)) (sym (same v.kept.def.table)) r.0.stands },
+  record { fits = r.0.fits; epoch = r.0.epoch; stands = subst (λ (rs : List Row). Stands v.kept (once_each rs)) (sym (same (table_of v.kept.query))) r.0.stands },
   right_everywhere old new now vs same r.1,
 )
 
 -- without a table that no view stands on
 module _ (n : ℕ) (tables : List TableOf) (now : ℕ) where
-  right_left : (vs : List NamedView) → AllByRecursion (λ v. (v.kept.def.table == n) ≡ false) vs → AreRight tables now vs → AreRight (others n tables) now vs
+  right_left : (vs : List NamedView) → AllByRecursion (λ v. (table_of v.kept.query == n) ≡ false) vs → AreRight tables now vs → AreRight (others n tables) now vs
   right_left [] free r = tt
   right_left (v ∷ vs) free r = (
-    record { fits = r.0.fits; epoch = r.0.epoch; stands = subst (λ (rs : List Row). Stands v.kept (once_each rs)) (sym (rows_left n tables v.kept.def.table free.0)) r.0.stands },
+    record { fits = r.0.fits; epoch = r.0.epoch; stands = subst (λ (rs : List Row). Stands v.kept (once_each rs)) (sym (rows_left n tables (table_of v.kept.query) free.0)) r.0.stands },
     right_left vs free.1 r.1,
   )
 
   pub right_dropped : (vs : List NamedView) → is_used n (views_of vs) ≡ false → AreRight tables now vs → AreRight (others n tables) now vs
-  right_dropped vs free r = right_left vs (unused n vs free) r
+  right_dropped vs free r = right_left vs (unused n tables now vs r free) r

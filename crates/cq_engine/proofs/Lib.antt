@@ -1,3 +1,4 @@
+pub mod Pairs
 pub mod Places
 pub mod Results
 pub mod Numbers

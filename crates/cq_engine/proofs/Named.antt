@@ -10,11 +10,15 @@ use Rattle.cq_bags.specs.Bag.{Weighted}
 use Rattle.cq_deltas.specs.declared.change.Addition.{Addition}
 use Rattle.cq_binding.specs.Refusal.{is_used}
 use Rattle.cq_states.specs.State.{TableOf, ViewOf, view_named, view_place}
-use Rattle.cq_views.specs.declared.view_def.ViewDef.{ViewDef}
-use Rattle.cq_engine.specs.Views.{NamedView, view_of, views_of, IsRight, AreRight, IsSame, AreSame, IsReady, AreReady, CanTake, CanAllTake, HasTaken, HaveTaken}
+use Rattle.cq_model.specs.declared.query.Query.{Query}
+use Rattle.cq_views.specs.Query.{reads}
+use Rattle.cq_engine.specs.Taking.{IsSame, AreSame, IsReady, AreReady, CanTake, CanAllTake, HasTaken, HaveTaken}
+use Rattle.cq_engine.specs.Views.{NamedView, view_of, views_of, IsRight, AreRight}
 use Rattle.cq_binder.proofs.Found.{has_place}
 use Rattle.cq_engine.proofs.Places.{found_there}
-use Rattle.cq_engine.proofs.Turns.{same_set, ready_more, taken_more, rest_same, rest_left, can_take_at, as_many}
+use Rattle.cq_engine.proofs.Pairs.{pointwise_all, pointwise_at, pointwise_length, pointwise_more}
+use Rattle.cq_engine.proofs.Rows.{all_there}
+use Rattle.cq_engine.proofs.Turns.{same_set, taken_more, rest_same, rest_left}
 
 -- ---- Tests of images
 module _ {X Y : Type 0} (f : X → Y) where
@@ -45,14 +49,10 @@ all_left P (x ∷ xs) (suc i) h = (h.0, all_left P xs i h.1)
 pub place_named : (name : List ℕ) (vs : List NamedView) → view_place name (views_of vs) ≡ position (λ v. is_text v.name name) vs
 place_named name vs = position-map view_of (λ v. is_text v.name name) vs
 
--- a table is used exactly if a kept view is on it
-pub used_by : (n : ℕ) (vs : List NamedView) → is_used n (views_of vs) ≡ list_any (λ v. v.kept.def.table == n) vs
+-- a table is used exactly if the query of a kept view reads it
+pub used_by : (n : ℕ) (vs : List NamedView) → is_used n (views_of vs) ≡ list_any (λ v. reads n v.kept.query) vs
 used_by n [] = refl
-used_by n (v ∷ vs) = here (v.kept.def.table == n) (used_by n vs)
-  where
-    here : (b : Bool) → is_used n (views_of vs) ≡ list_any (λ w. w.kept.def.table == n) vs → ((b || false) || is_used n (views_of vs)) ≡ (b || list_any (λ w. w.kept.def.table == n) vs)
-    here true more = refl
-    here false more = more
+used_by n (v ∷ vs) = ap (λ b. reads n v.kept.query || b) (used_by n vs)
 
 -- ---- A view that was found
 some_same : (n m : ℕ) → Some n ≡ Some m → n ≡ m
@@ -93,28 +93,19 @@ view_absent name views missing = absent (view_named name views) (sym (has_place 
     absent None e = refl
 
 -- ---- Views at a place, where all are the same as others
-same_length : (vs ws : List NamedView) → AreSame vs ws → length ws ≡ length vs
-same_length [] [] s = refl
-same_length [] (w ∷ ws) s = absurd s
-same_length (v ∷ vs) [] s = absurd s
-same_length (v ∷ vs) (w ∷ ws) s = ap suc (same_length vs ws s.1)
-
-def_of_all : (P : ViewDef → Type 0) (vs ws : List NamedView) (i : ℕ) (d : NamedView) → i < length ws → AreSame vs ws → AllByRecursion (λ v. P v.kept.def) vs → P (get_or ws i d).kept.def
-def_of_all P [] [] i d h s all = absurd (omega (arith, h))
-def_of_all P [] (w ∷ ws) i d h s all = absurd s
-def_of_all P (v ∷ vs) [] i d h s all = absurd s
-def_of_all P (v ∷ vs) (w ∷ ws) zero d h s all = subst P (sym s.0.kept.def) all.0
-def_of_all P (v ∷ vs) (w ∷ ws) (suc i) d h s all = def_of_all P vs ws i d (omega (arith, h)) s.1 all.1
+query_of_all : (P : Query → Type 0) (vs ws : List NamedView) (i : ℕ) (d : NamedView) → i < length ws → AreSame vs ws → AllByRecursion (λ v. P v.kept.query) vs → P (get_or ws i d).kept.query
+query_of_all P vs ws i d h s all =
+    all_there (λ w. P w.kept.query) ws i d (pointwise_all IsSame (λ v. P v.kept.query) (λ w. P w.kept.query) (λ v w one p. subst P (sym one.kept.query) p) vs ws s all) h
 
 module _ (vs now : List NamedView) (i : ℕ) (h : i < length vs) (same : AreSame vs now) where
   -- the place is there
   pub within_same : i < length now
-  within_same = omega (arith, h, same_length vs now same)
+  within_same = omega (arith, h, pointwise_length IsSame vs now same)
 
   module _ (v : NamedView) (is : v ≡ get_or now i v) where
-    -- what holds of each view's definition holds of the one that is there
-    pub def_there : (P : ViewDef → Type 0) → AllByRecursion (λ u. P u.kept.def) vs → P v.kept.def
-    def_there P all = subst (λ (u : NamedView). P u.kept.def) (sym is) (def_of_all P vs now i v within_same same all)
+    -- what holds of each view's query holds of the one that is there
+    pub query_there : (P : Query → Type 0) → AllByRecursion (λ u. P u.kept.query) vs → P v.kept.query
+    query_there P all = subst (λ (u : NamedView). P u.kept.query) (sym is) (query_of_all P vs now i v within_same same all)
 
     -- the same view is written there
     pub same_written : (x : NamedView) → IsSame v x → AreSame vs (set now i x)
@@ -124,14 +115,14 @@ module _ (vs now : List NamedView) (i : ℕ) (h : i < length vs) (same : AreSame
   pub ready_written : (table : ℕ) (dxs : Weighted) (ps qs : List (Option (List Addition))) (x : NamedView) (p : Option (List Addition)) → AreReady table dxs (take i now) ps → IsReady table dxs x p → qs ≡ ps ++ p ∷ []
       → AreReady table dxs (take (i + 1) (set now i x)) qs
   ready_written table dxs ps qs x p ready one is =
-      let more : AreReady table dxs (take (suc i) (set now i x)) (ps ++ p ∷ []) = ready_more table dxs now ps i x p within_same ready one in
+      let more : AreReady table dxs (take (suc i) (set now i x)) (ps ++ p ∷ []) = pointwise_more (IsReady table dxs) now ps i x p within_same ready one in
       let next : suc i ≡ i + 1 = omega arith in
       rw is (subst (λ (n : ℕ). AreReady table dxs (take n (set now i x)) (ps ++ p ∷ [])) next more)
 
 -- all of them are ready
 pub ready_all : (table : ℕ) (dxs : Weighted) (vs now : List NamedView) (ps : List (Option (List Addition))) (i : ℕ) → i ≡ length vs → AreSame vs now → AreReady table dxs (take i now) ps → AreReady table dxs now ps
 ready_all table dxs vs now ps i e same ready =
-    let whole : take i now ≡ now = ap (λ (n : ℕ). take n now) (e ∙ sym (same_length vs now same)) ∙ take_all (length now) now (omega arith) in
+    let whole : take i now ≡ now = ap (λ (n : ℕ). take n now) (e ∙ sym (pointwise_length IsSame vs now same)) ∙ take_all (length now) now (omega arith) in
     subst (λ (ws : List NamedView). AreReady table dxs ws ps) whole ready
 
 -- ---- Views that take their changes in, one after the other
@@ -160,24 +151,24 @@ module _ (epoch : ℕ) (vs now : List NamedView) (ps : List (Option (List Additi
   module _ (h : i < length ps) where
     -- the place is there
     pub within_taken : i < length now
-    within_taken = omega (arith, h, long, as_many vs ps can)
+    within_taken = omega (arith, h, long, pointwise_length CanTake vs ps can)
 
     module _ (v : NamedView) (is : v ≡ get_or now i v) (p : Option (List Addition)) (that : p ≡ get_or ps i p) (rest : drop i now ≡ drop i vs) where
       as_it_was : v ≡ get_or vs i v
       as_it_was =
-          let within : i < length vs = omega (arith, h, as_many vs ps can) in
+          let within : i < length vs = omega (arith, h, pointwise_length CanTake vs ps can) in
           is ∙ rest_same vs now i v within rest
 
       -- the view that is there can take its change
       pub can_take_there : CanTake v p
       can_take_there =
-          let change : CanTake (get_or vs i v) p = subst (λ (o : Option (List Addition)). CanTake (get_or vs i v) o) (sym that) (can_take_at vs ps i v p h can) in
+          let change : CanTake (get_or vs i v) p = subst (λ (o : Option (List Addition)). CanTake (get_or vs i v) o) (sym that) (pointwise_at CanTake vs ps i v p h can) in
           subst (λ (u : NamedView). CanTake u p) (sym as_it_was) change
 
       -- one view more has taken its change in
       pub taken_written : (x : NamedView) → HaveTaken epoch (take i vs) (take i ps) (take i now) → HasTaken epoch v p x → HaveTaken epoch (take (i + 1) vs) (take (i + 1) ps) (take (i + 1) (set now i x))
       taken_written x taken one =
-          let within : i < length vs = omega (arith, h, as_many vs ps can) in
+          let within : i < length vs = omega (arith, h, pointwise_length CanTake vs ps can) in
           let change : HasTaken epoch v (get_or ps i p) x = subst (λ (o : Option (List Addition)). HasTaken epoch v o x) that one in
           let more = taken_more epoch vs ps now i x v p within h within_taken taken (subst (λ (u : NamedView). HasTaken epoch u (get_or ps i p) x) as_it_was change) in
           let next : suc i ≡ i + 1 = omega arith in
@@ -193,8 +184,8 @@ module _ (epoch : ℕ) (vs now : List NamedView) (ps : List (Option (List Additi
   pub all_taken : length (drop i ps) ≡ 0 → HaveTaken epoch (take i vs) (take i ps) (take i now) → HaveTaken epoch vs ps now
   all_taken e taken =
       let end = none_left ps i e in
-      let one = take_all i vs (omega (arith, end, as_many vs ps can)) in
+      let one = take_all i vs (omega (arith, end, pointwise_length CanTake vs ps can)) in
       let two = take_all i ps end in
-      let three = take_all i now (omega (arith, end, long, as_many vs ps can)) in
+      let three = take_all i now (omega (arith, end, long, pointwise_length CanTake vs ps can)) in
       subst (λ (us : List NamedView). HaveTaken epoch us ps now) one
       (subst (λ (os : List (Option (List Addition))). HaveTaken epoch (take i vs) os now) two (subst (λ (ws : List NamedView). HaveTaken epoch (take i vs) (take i ps) ws) three taken))

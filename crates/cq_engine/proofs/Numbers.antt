@@ -25,7 +25,7 @@ numbered-later (x ∷ ts) next later bound numbered = (omega (arith, bound, numb
 -- ---- Other rows
 module _ (n : ℕ) (all : List Row) where
   -- tables with greater numbers stay as they are
-  above_stay : (ts : List TableOf) → Above n ts → with_rows n all ts ≡ ts
+  pub above_stay : (ts : List TableOf) → Above n ts → with_rows n all ts ≡ ts
   above_stay [] above = refl
   above_stay (x ∷ ts) above =
       let other : (x.number == n) ≡ false = ne_eqb x.number n (λ e. absurd (omega (arith, e, above.0))) in

@@ -1,10 +1,10 @@
 -- The first that passes a test, and its place.
-use Rattle.std.proofs.Common.{◌≡◌, ℕ, Bool, true, false, cond, List, [], ◌∷◌, length, Option, Some, None, refl, sym, ap, ◌∙◌, inl, inr, arith}
+use Rattle.std.proofs.Common.{◌≡◌, ℕ, Bool, true, false, cond, List, [], ◌∷◌, length, Option, Some, None, refl, sym, ap, ◌∙◌, arith}
 use Rattle.std.specs.Prelude.{slice_get, is_some, IfSome, position, nat_lt}
-use Rattle.std.proofs.lemmas.Bool.{lt-ltb, le-ltb}
-use Rattle.std.proofs.lemmas.Option.{slice_get_cases}
+use Rattle.std.proofs.lemmas.Bool.{lt-ltb}
 use Rattle.std.specs.List.{find, list_any, position_or_len}
 use Rattle.std.proofs.lemmas.List.Folds.{find_at}
+use Rattle.cq_binder.proofs.Found.{is_there}
 use Rattle.std.proofs.Math.Numerals.{one-add}
 use Prim.Native.Nat.compare
 
@@ -16,14 +16,6 @@ there xs n o false e = tt
 -- the first that passes is found where `position` says
 pub found_there : {X : Type 0} (p : X → Bool) (xs : List X) → IfSome (position p xs) (λ i. slice_get xs i ≡ find p xs)
 found_there p xs = there xs (position_or_len p xs) (find p xs) (nat_lt (position_or_len p xs) (length xs)) (find_at p xs)
-
--- whether something is read at a place is whether the place is within the list
-is_there : {X : Type 0} (xs : List X) (n : ℕ) → is_some {T = ℕ} (cond (nat_lt n (length xs)) (Some n) None) ≡ is_some (slice_get xs n)
-is_there xs n =
-    elim (slice_get_cases xs n).1 [
-      | inl h ↦ let lt : nat_lt n (length xs) ≡ true = lt-ltb _ _ h.1 in rw (lt, h.2) refl
-      | inr h ↦ let le : nat_lt n (length xs) ≡ false = le-ltb _ _ h.0 in rw (le, h.1) refl
-    ]
 
 -- `position` finds a place where `find` finds an element
 pub same_presence : {X : Type 0} (p : X → Bool) (xs : List X) → is_some (position p xs) ≡ is_some (find p xs)

@@ -1,6 +1,6 @@
 -- What SELECT reads: the rows of a table, or those that a view keeps, are the bag that its name in FROM stands for.
-use Rattle.std.proofs.Common.{◌≡◌, ℕ, zero, suc, ◌<◌, ◌^◌, true, false, List, [], ◌∷◌, map, length, Option, Some, None, refl, sym, ap, ◌∙◌, inl, inr, arith, subst, Result, Ok, Err}
-use Rattle.std.specs.Prelude.{◌==◌, filter, option_map, slice_get, slice_index_or}
+use Rattle.std.proofs.Common.{◌≡◌, ℕ, zero, suc, ◌<◌, ◌≤◌, ◌^◌, true, false, List, [], ◌∷◌, map, length, Option, Some, None, refl, sym, ap, ◌∙◌, inl, inr, arith, subst, Result, Ok, Err}
+use Rattle.std.specs.Prelude.{filter, option_map, slice_get, slice_index_or}
 use Rattle.std.specs.List.{AllByRecursion}
 use Rattle.std.specs.Result.{MatchResult, is_ok}
 use Rattle.std.proofs.lemmas.Option.{slice_get-map}
@@ -10,7 +10,6 @@ use Rattle.cq_bags.specs.Canonical.{bag_of}
 use Rattle.cq_bags.specs.Listing.{IsListing, Lists}
 use Rattle.cq_bags.proofs.Bags.{same-sym}
 use Rattle.cq_bags.proofs.Canonicals.{same-bag_of}
-use Rattle.cq_bags.proofs.Totals.{by_test}
 use Rattle.cq_model.specs.declared.query.Aggregate.{Aggregate}
 use Rattle.cq_model.specs.declared.query.Aggregate.TheVariants.{CountAll, Count, Sum, Min, Max}
 use Rattle.cq_model.specs.declared.query.Query.{Query}
@@ -20,16 +19,22 @@ use Rattle.cq_model.specs.Meaning.{Tables, MeaningInRange, items_of, keeps, mean
 use Rattle.cq_model.specs.Sizes.{column_sizes}
 use Rattle.cq_model.specs.Views.{tables_alone, view_bag, ViewInRange}
 use Rattle.cq_binding.specs.declared.fault.Fault.{Fault}
+use Rattle.cq_states.specs.Fitting.{AreBounded, AreFitting}
 use Rattle.cq_states.specs.State.{TableOf, ViewOf, State, rows_in, tables_now, queries_of}
 use Rattle.cq_deltas.specs.Additions.{AreTotals}
+use Rattle.cq_laws.proofs.Positives.{once_each-bag}
 use Rattle.cq_laws.specs.Sizes.{CountsOrAdds, IsSized, RowsKeepSizes}
 use Rattle.cq_binder.specs.Catalog.{alone}
-use Rattle.cq_views.specs.View.{StandsFor, query_of}
+use Rattle.cq_views.specs.Query.{aggregates_of, key_columns, table_of}
+use Rattle.cq_views.specs.View.{StandsFor}
 use Rattle.cq_engine.specs.Narrow.{IsWithin, IsWithinSized}
-use Rattle.cq_engine.specs.Commands.{Selects, SelectsKept, IsInRange, plain, sources_in}
-use Rattle.cq_engine.specs.Views.{NamedView, AreFew, AreStored, IsBacked, IsRight, IsStored, AreRight, view_of, views_of}
-use Rattle.cq_engine.proofs.Changes.{once_each-bag}
+use Rattle.cq_engine.specs.Commands.{plain}
+use Rattle.cq_engine.specs.Selects.{Selects, SelectsKept, IsInRange, sources_in}
+use Rattle.cq_views.specs.Told.{AreRowsOf, IsShown}
+use Rattle.cq_engine.specs.Views.{NamedView, IsBacked, IsRight, IsStored, AreRight, view_of, views_of}
 use Rattle.cq_engine.proofs.Results.{listing_plain}
+use Rattle.cq_engine.proofs.Rows.{rows_have}
+use Rattle.cq_engine.proofs.Stored.{tables_stored}
 
 -- a result that is no error was none before errors were told as others
 pub ok_before : {X E F : Type 0} (before : Result X E) (after : Result X F) (P : E → Type 0) (x : X) → MatchResult before (λ y. after ≡ Ok y) P → is_ok after ≡ is_ok before → after ≡ Ok x → before ≡ Ok x
@@ -47,13 +52,12 @@ counts_or_adds (Max e ∷ aggregates) h = absurd h.0
 
 -- the rows that a view tells keep the sizes of its columns
 pub told_sized : (v : NamedView) (rows : List Row) → IsBacked v → RowsKeepSizes
-    → ((tables : Tables) → StandsFor v.kept tables → SameBag (once_each rows) (meaning (query_of v.kept.def) tables))
-    → ((tables : Tables) → StandsFor v.kept tables → MeaningInRange (query_of v.kept.def) tables) → AllByRecursion (IsSized (λ i. slice_index_or (column_sizes (query_of v.kept.def)) i 0)) rows
+    → AreRowsOf v.kept rows → IsShown v.kept → AllByRecursion (IsSized (λ i. slice_index_or (column_sizes v.kept.query) i 0)) rows
 told_sized v rows backed law bag range =
     let tables : Tables = λ source. once_each backed.rows in
     let stands : StandsFor v.kept tables = record { bag = once_each-bag backed.rows; stands = backed.stands } in
-    law (query_of v.kept.def) v.kept.def.keys v.kept.def.aggregates tables backed.rows rows refl refl refl refl
-    (counts_or_adds v.kept.def.aggregates backed.totals) backed.stored backed.few (range tables stands) (bag tables stands)
+    law v.kept.query (key_columns v.kept.query) (aggregates_of v.kept.query) tables backed.rows rows (ap (λ q. q.shape) backed.grouped) (ap (λ q. q.joins) backed.grouped) (ap (λ q. q.distinct) backed.grouped) refl
+    (counts_or_adds (aggregates_of v.kept.query) backed.totals) backed.stored backed.few (range tables stands) (bag tables stands)
 
 -- so a query can be worked out on each of them
 pub within_told : (sizes : List ℕ) (q : Query) (rows : List Row) → IsWithinSized sizes q → AllByRecursion (IsSized (λ i. slice_index_or sizes i 0)) rows → AllByRecursion (IsWithin q) rows
@@ -65,13 +69,6 @@ right_there : (tables : List TableOf) (now : ℕ) (views : List NamedView) (plac
 right_there tables now [] place v right at = absurd cc
 right_there tables now (w ∷ ws) zero v right at = let same : w ≡ v = cc in subst (IsRight tables now) same right.0
 right_there tables now (w ∷ ws) (suc place) v right at = right_there tables now ws place v right.1 at
-
--- what the rows of all tables have, those of a number have
-rows_have : (P : List Row → Type 0) → P [] → (tables : List TableOf) (n : ℕ) → AllByRecursion (λ t. P t.rows) tables → P (rows_in tables n)
-rows_have P none [] n all = none
-rows_have P none (t ∷ tables) n all = by_test (t.number == n)
-    (λ k. rw k all.0)
-    (λ k. rw k (rows_have P none tables n all.1))
 
 -- the place of a view that is there is within the list
 pub place_there : (views : List NamedView) (place : ℕ) (v : ViewOf) → slice_get (views_of views) place ≡ Some v → place < length views
@@ -110,25 +107,26 @@ module _ (tables : List TableOf) (views : List NamedView) (q : Query) where
   -- from a view at its place
   module _ (now place : ℕ) (v : NamedView) (right : AreRight tables now views) (at : slice_get views place ≡ Some v) where
     -- it is backed by the rows of its table
-    pub backed : AreStored tables → AreFew tables → IsBacked v
-    backed stored few =
+    pub backed : AreFitting tables → AreBounded (2 ^ 24) tables → IsBacked v
+    backed fitting few =
         let r = right_there tables now views place v right at in
-        let n = v.kept.def.table in
+        let n = (table_of v.kept.query) in
         record {
+          grouped = r.fits.can_be_kept.grouped;
           totals = r.fits.can_be_kept.totals;
           rows = rows_in tables n;
-          stored = rows_have (λ rs. AllByRecursion IsStored rs) tt tables n stored;
-          few = omega (arith, rows_have (λ rs. length rs < 2 ^ 64) (omega arith) tables n few);
+          stored = rows_have (λ rs. AllByRecursion IsStored rs) tt tables n (tables_stored tables fitting);
+          few = omega (arith, rows_have (λ rs. length rs ≤ 2 ^ 24) (omega arith) tables n few);
           stands = r.stands;
         }
 
     -- its place has its query
-    query_there : queries_of (alone tables (views_of views)) place ≡ Some (query_of v.kept.def)
+    query_there : queries_of (alone tables (views_of views)) place ≡ Some v.kept.query
     query_there = slice_get-map (λ w. w.query) (views_of views) place ∙ ap (option_map (λ w. w.query)) (slice_get-map view_of views place ∙ ap (option_map view_of) at)
 
     -- it stands for the tables
     stands_for : StandsFor v.kept bases
-    stands_for = record { bag = once_each-bag (rows_in tables v.kept.def.table); stands = (right_there tables now views place v right at).stands }
+    stands_for = record { bag = once_each-bag (rows_in tables (table_of v.kept.query)); stands = (right_there tables now views place v right at).stands }
 
     pub from_kept : (result : Result (List Row) Fault) → q ≡ plain q.first q.filter q.items → q.first ≡ View place → SelectsKept q v result → Selects tables (views_of views) q result
     from_kept (Ok list) is first w = subst Answered (sym shape) (
@@ -145,7 +143,7 @@ module _ (tables : List TableOf) (views : List NamedView) (q : Query) where
         shape : q ≡ plain (View place) q.filter q.items
         shape = is ∙ ap (λ (source : Source). plain source q.filter q.items) first
 
-        told : IsListing [] None (meaning (plain q.first q.filter q.items) (λ source. meaning (query_of v.kept.def) bases)) list × MeaningInRange (query_of v.kept.def) bases
+        told : IsListing [] None (meaning (plain q.first q.filter q.items) (λ source. meaning v.kept.query bases)) list × MeaningInRange v.kept.query bases
         told = w bases stands_for
     from_kept (Err f) is first (inl m) = inl m
     from_kept (Err f) is first (inr w) = inr (w.0, λ range. w.1 bases stands_for (subst (λ (o : Option Query). ViewInRange (tables_now (alone tables (views_of views))) o) query_there (subst (IsInRange tables (views_of views)) shape range).named.0))

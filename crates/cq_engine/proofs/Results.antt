@@ -1,5 +1,5 @@
 -- Stored rows, the bag that they are, and what a query makes of it.
-use Rattle.std.proofs.Common.{◌≡◌, ℕ, ◌+◌, Bool, cond, not, List, [], ◌∷◌, ◌++◌, map, length, pos, arith, refl, sym, ap, ◌∙◌, subst, Result, Ok, Err}
+use Rattle.std.proofs.Common.{◌≡◌, ℕ, ◌+◌, Bool, cond, not, List, [], ◌++◌, map, length, arith, refl, sym, ap, ◌∙◌, subst, Result, Ok, Err}
 use Rattle.std.specs.Result.{OnOk, is_ok}
 use Rattle.std.specs.Prelude.{filter, Option, None}
 use Rattle.std.proofs.lemmas.List.Filters.{length-filter_both}
@@ -7,13 +7,14 @@ use Rattle.cq_values.specs.Value.{Row}
 use Rattle.cq_bags.specs.Bag.{Weighted, SameBag, once_each, filtered, projected}
 use Rattle.cq_bags.specs.Canonical.{bag_of}
 use Rattle.cq_bags.specs.Listing.{Lists, IsListing}
-use Rattle.cq_bags.proofs.Totals.{by_test}
 use Rattle.cq_bags.proofs.Bags.{same-sym, same-trans, filtered-respects, projected-respects}
+use Rattle.cq_bags.proofs.Distincts.{once_each-filter, once_each-map}
 use Rattle.cq_bags.proofs.Canonicals.{bag_of-again, bag_of-weights, length-bag_of, same-bag_of}
 use Rattle.cq_model.specs.Expr.{Cond, Expr}
 use Rattle.cq_values.specs.declared.column.ColumnDef.{ColumnDef}
 use Rattle.cq_model.specs.declared.query.Source.{Source}
 use Rattle.cq_model.specs.Meaning.{Tables, keeps, items_of, meaning}
+use Rattle.cq_model.specs.Write.{chosen}
 use Rattle.cq_states.specs.State.{TableOf, empty_table, holding}
 use Rattle.cq_engine.specs.Commands.{plain}
 
@@ -44,18 +45,6 @@ pub append_as_stored : {E : Type 0} (t : TableOf) (stored more all : List Row) (
 append_as_stored t stored more all (Ok x) rows is = more_as_stored t stored more all rows is
 append_as_stored t stored more all (Err e) rows is = tt
 
--- the rows that are kept, each once
-once_each-filter : (keep : Row → Bool) (rows : List Row) → once_each (filter keep rows) ≡ filtered keep (once_each rows)
-once_each-filter keep [] = refl
-once_each-filter keep (r ∷ rows) = by_test (keep r)
-    (λ k. rw k (ap (λ (xs : Weighted). (r, pos 1) ∷ xs) (once_each-filter keep rows)))
-    (λ k. rw k (once_each-filter keep rows))
-
--- the images of rows, each once
-once_each-map : (f : Row → Row) (rows : List Row) → once_each (map f rows) ≡ projected f (once_each rows)
-once_each-map f [] = refl
-once_each-map f (r ∷ rows) = ap (λ (xs : Weighted). (f r, pos 1) ∷ xs) (once_each-map f rows)
-
 -- what is kept of the stored rows is what is kept of their bag
 same_kept : (keep : Row → Bool) (stored : List Row) → SameBag (filtered keep (once_each stored)) (filtered keep (once_each (bag_of stored)))
 same_kept keep stored = filtered-respects keep (once_each stored) (once_each (bag_of stored)) (same-sym (once_each (bag_of stored)) (once_each stored) (same-bag_of stored))
@@ -84,20 +73,16 @@ module _ (keep : Row → Bool) (stored left : List Row) (is_left : left ≡ filt
       let both = length-filter_both keep (λ row. not (keep row)) (λ row. refl) stored in
       omega (arith, ap length is_left, both, length-kept keep stored)
 
--- the rows that WHERE keeps
-abbrev kept : Option Cond → List Row → List Row
-kept condition rows = filter (keeps condition) rows
-
 -- what items show of them
 module _ (filter : Option Cond) (items : List Expr) where
   abbrev shown : Weighted → Weighted
   shown xs = projected (items_of items) (filtered (keeps filter) xs)
 
-  shown_rows : (rows : List Row) → once_each (map (items_of items) (kept filter rows)) ≡ shown (once_each rows)
-  shown_rows rows = once_each-map (items_of items) (kept filter rows) ∙ ap (projected (items_of items)) (once_each-filter (keeps filter) rows)
+  shown_rows : (rows : List Row) → once_each (map (items_of items) (chosen filter rows)) ≡ shown (once_each rows)
+  shown_rows rows = once_each-map (items_of items) (chosen filter rows) ∙ ap (projected (items_of items)) (once_each-filter (keeps filter) rows)
 
   -- the sorted results are the listing of the query on a source whose bag the rows are
-  pub listing_plain : (source : Source) (tables : Tables) (rows list : List Row) → SameBag (once_each rows) (tables source) → Lists [] (once_each (map (items_of items) (kept filter rows))) list
+  pub listing_plain : (source : Source) (tables : Tables) (rows list : List Row) → SameBag (once_each rows) (tables source) → Lists [] (once_each (map (items_of items) (chosen filter rows))) list
       → IsListing [] None (meaning (plain source filter items) tables) list
   listing_plain source tables rows list same listed =
       let l = subst (λ (xs : Weighted). Lists [] xs list) (shown_rows rows) listed in (

@@ -1,61 +1,69 @@
 -- A write of one table: what comes or goes is small for the views on it, and they follow.
-use Rattle.std.proofs.Common.{◌≡◌, ◌≤◌, ◌<◌, ◌^◌, ℕ, ℤ, pos, neg_ℤ, nat_abs, Bool, not, List, [], ◌∷◌, ◌++◌, map, length, get_or, set, Option, Result, Ok, Err, refl, sym, ap, ap₂, ◌∙◌, arith, subst}
-use Rattle.std.specs.Prelude.{filter}
+use Rattle.std.proofs.Common.{◌≡◌, ◌+◌, ◌≤◌, ◌<◌, ◌^◌, ℕ, ℤ, pos, neg_ℤ, nat_abs, Bool, not, List, [], ◌∷◌, ◌++◌, map, length, get_or, set, Option, Result, Ok, Err, refl, sym, ap, ap₂, ◌∙◌, arith, subst}
+use Rattle.std.specs.Prelude.{filter, nat_lt, None}
 use Rattle.std.specs.Result.{OnErr, OnOk}
 use Rattle.std.specs.List.{AllByRecursion}
+use Rattle.std.proofs.lemmas.Bool.{ltb-false}
 use Rattle.std.proofs.lemmas.Int.{ints}
+use Rattle.std.proofs.lemmas.List.{length-append}
 use Rattle.cq_values.specs.Value.{Row}
 use Rattle.cq_bags.specs.Bag.{once_each}
 use Rattle.cq_bags.specs.Canonical.{bag_of}
 use Rattle.cq_bags.proofs.Canonicals.{length-bag_of}
 use Rattle.cq_bags.proofs.Totals.{by_test}
 use Rattle.cq_deltas.specs.declared.change.Addition.{Addition}
-use Rattle.cq_states.specs.State.{TableOf, ViewOf, AreNumbered, holding, rows_in, with_rows}
-use Rattle.cq_views.specs.declared.view_def.ViewDef.{ViewDef}
+use Rattle.cq_laws.proofs.Positives.{once_each-bag}
+use Rattle.cq_model.specs.Expr.{Cond}
+use Rattle.cq_model.specs.Meaning.{keeps}
+use Rattle.cq_model.specs.Write.{left_by}
+use Rattle.cq_states.specs.Fitting.{FitsColumns, AreBounded, AreFitting}
+use Rattle.cq_states.specs.State.{TableOf, ViewOf, AreNumbered, columns_in, holding, rows_in, with_rows}
+use Rattle.cq_model.specs.declared.query.Query.{Query}
 use Rattle.cq_views.specs.Small.{AreSmallFor, IsSmallFor}
 use Rattle.cq_views.specs.View.{IsNarrowFor, changed}
 use Rattle.cq_views.proofs.Moves.{small-changes, small-rows}
-use Rattle.cq_engine.specs.Commands.{present}
-use Rattle.cq_engine.specs.Views.{NamedView, views_of, Fits, IsStored, AreRight, StandOn, AreSame, AreReady, CanAllTake, HaveTaken, Follow, Moved}
-use Rattle.cq_engine.proofs.Changes.{once_each-bag, with_fewer, with_more}
+use Rattle.cq_engine.specs.Commands.{deleted_from, inserted_into, present, room_for}
+use Rattle.cq_engine.specs.Taking.{StandOn, AreSame, AreReady, CanAllTake, HaveTaken, Follow, Moved}
+use Rattle.cq_engine.specs.Views.{NamedView, views_of, Fits, IsStored, AreRight}
+use Rattle.cq_engine.proofs.Changes.{with_fewer, with_more}
 use Rattle.cq_engine.proofs.Kept.{can_all_take, follow, moved, same_views, stand_on}
 use Rattle.cq_engine.proofs.Numbers.{set-number}
-use Rattle.cq_engine.proofs.Rows.{rows_at, rows_elsewhere, rows_numbered, rows_there}
-use Rattle.cq_engine.proofs.Stored.{all_of_bag, all_of_kept, all_of_rows}
+use Rattle.cq_engine.proofs.Rows.{bounded-with_rows, fitting-with_rows, fitting_in, rows_at, rows_elsewhere, rows_have, rows_numbered, rows_there}
+use Rattle.cq_engine.proofs.Stored.{all_of_bag, all_of_both, all_of_kept, all_of_rows}
 
 -- ---- Rows that fit views
-module _ (def : ViewDef) (fits : Fits def) where
-  narrow_rows : (rows : List Row) → AllByRecursion IsStored rows → AllByRecursion (IsNarrowFor def) rows
+module _ (q : Query) (fits : Fits q) where
+  narrow_rows : (rows : List Row) → AllByRecursion IsStored rows → AllByRecursion (IsNarrowFor q) rows
   narrow_rows [] stored = tt
   narrow_rows (r ∷ rows) stored = (fits.narrow r stored.0, narrow_rows rows stored.1)
 
-  small_stored : (rows : List Row) → AllByRecursion IsStored rows → AllByRecursion (IsSmallFor def) rows
+  small_stored : (rows : List Row) → AllByRecursion IsStored rows → AllByRecursion (IsSmallFor q) rows
   small_stored [] stored = tt
   small_stored (r ∷ rows) stored = (fits.small r stored.0, small_stored rows stored.1)
 
 -- stored rows are narrow for each view
-pub all_narrow : (t : TableOf) (vs : List NamedView) (rows : List Row) → StandOn t vs → AllByRecursion IsStored rows → AllByRecursion (λ v. AllByRecursion (IsNarrowFor v.kept.def) rows) vs
+pub all_narrow : (t : TableOf) (vs : List NamedView) (rows : List Row) → StandOn t vs → AllByRecursion IsStored rows → AllByRecursion (λ v. AllByRecursion (IsNarrowFor v.kept.query) rows) vs
 all_narrow t [] rows stand stored = tt
-all_narrow t (v ∷ vs) rows stand stored = (narrow_rows v.kept.def stand.0.0 rows stored, all_narrow t vs rows stand.1 stored)
+all_narrow t (v ∷ vs) rows stand stored = (narrow_rows v.kept.query stand.0.0 rows stored, all_narrow t vs rows stand.1 stored)
 
 -- so they are where they are lent
 module _ {X : Type 0} (here : X → Row) where
-  narrow_here : (def : ViewDef) (xs : List X) → AllByRecursion (IsNarrowFor def) (map here xs) → AllByRecursion (λ x. IsNarrowFor def (here x)) xs
-  narrow_here def [] narrow = tt
-  narrow_here def (x ∷ xs) narrow = (narrow.0, narrow_here def xs narrow.1)
+  narrow_here : (q : Query) (xs : List X) → AllByRecursion (IsNarrowFor q) (map here xs) → AllByRecursion (λ x. IsNarrowFor q (here x)) xs
+  narrow_here q [] narrow = tt
+  narrow_here q (x ∷ xs) narrow = (narrow.0, narrow_here q xs narrow.1)
 
-  pub all_narrow_here : (vs : List NamedView) (xs : List X) → AllByRecursion (λ v. AllByRecursion (IsNarrowFor v.kept.def) (map here xs)) vs → AllByRecursion (λ v. AllByRecursion (λ x. IsNarrowFor v.kept.def (here x)) xs) vs
+  pub all_narrow_here : (vs : List NamedView) (xs : List X) → AllByRecursion (λ v. AllByRecursion (IsNarrowFor v.kept.query) (map here xs)) vs → AllByRecursion (λ v. AllByRecursion (λ x. IsNarrowFor v.kept.query (here x)) xs) vs
   all_narrow_here [] xs narrow = tt
-  all_narrow_here (v ∷ vs) xs narrow = (narrow_here v.kept.def xs narrow.0, all_narrow_here vs xs narrow.1)
+  all_narrow_here (v ∷ vs) xs narrow = (narrow_here v.kept.query xs narrow.0, all_narrow_here vs xs narrow.1)
 
 -- ---- Rows that all come, or all go
 module _ (t : TableOf) (rows : List Row) (weight : ℤ) (once : nat_abs weight ≤ 1) (few : length t.rows < 2 ^ 64) (few_rows : length rows < 2 ^ 64) (stored : AllByRecursion IsStored t.rows) (stored_rows : AllByRecursion IsStored rows) where
-  all_small : (vs : List NamedView) → StandOn t vs → AllByRecursion (λ v. AreSmallFor v.kept.def (once_each t.rows) × AreSmallFor v.kept.def (changed rows weight)) vs
+  all_small : (vs : List NamedView) → StandOn t vs → AllByRecursion (λ v. AreSmallFor v.kept.query (once_each t.rows) × AreSmallFor v.kept.query (changed rows weight)) vs
   all_small [] stand = tt
   all_small (v ∷ vs) stand = (
     (
-      small-rows v.kept.def t.rows (pos 1) few (small_stored v.kept.def stand.0.0 t.rows stored) (omega (arith, ints)),
-      small-rows v.kept.def rows weight few_rows (small_stored v.kept.def stand.0.0 rows stored_rows) once,
+      small-rows v.kept.query t.rows (pos 1) few (small_stored v.kept.query stand.0.0 t.rows stored) (omega (arith, ints)),
+      small-rows v.kept.query rows weight few_rows (small_stored v.kept.query stand.0.0 rows stored_rows) once,
     ),
     all_small vs stand.1,
   )
@@ -124,6 +132,31 @@ module _ (next : ℕ) (tables : List TableOf) (i : ℕ) (t : TableOf) (numbered 
   pub written-number : {X E : Type 0} (u : TableOf) (rows : List Row → List Row) (result : Result X E) → OnOk result (u ≡ holding (rows t.rows) t) → OnOk result (set tables i u ≡ with_rows n (rows (rows_in tables n)) tables)
   written-number u rows (Ok x) w = written_here u rows w
   written-number u rows (Err e) w = tt
+
+-- ---- The rows of the table of a number, with those that come and without those that go
+module _ (n : ℕ) where
+  module _ (rows : List Row) (tables : List TableOf) where
+    pub inserted_fit : (next : ℕ) → AreNumbered tables next → AreFitting tables → AllByRecursion (FitsColumns (columns_in tables n)) rows → AreFitting (inserted_into n rows tables)
+    inserted_fit next numbered fitting own =
+        fitting-with_rows n (rows_in tables n ++ rows) tables next numbered fitting (all_of_both (FitsColumns (columns_in tables n)) (rows_in tables n) rows (fitting_in n tables fitting) own)
+
+    pub inserted_bounded : (most : ℕ) → room_for most tables n rows ≡ None → AreBounded most tables → AreBounded most (inserted_into n rows tables)
+    inserted_bounded most room bounded = by_test (nat_lt most (length (rows_in tables n) + length rows))
+        (λ k. absurd (cc (rw k at room)))
+        (λ k. bounded-with_rows n (rows_in tables n ++ rows) most tables (omega (arith, ltb-false most (length (rows_in tables n) + length rows) k, length-append (rows_in tables n) rows)) bounded)
+
+  module _ (condition : Option Cond) (tables : List TableOf) where
+    abbrev stay : Row → Bool
+    stay row = not (keeps condition row)
+
+    pub left_fit : (next : ℕ) → AreNumbered tables next → AreFitting tables → AreFitting (deleted_from n condition tables)
+    left_fit next numbered fitting =
+        fitting-with_rows n (left_by condition (rows_in tables n)) tables next numbered fitting (all_of_kept (FitsColumns (columns_in tables n)) stay (rows_in tables n) (fitting_in n tables fitting))
+
+    pub left_bounded : (most : ℕ) → AreBounded most tables → AreBounded most (deleted_from n condition tables)
+    left_bounded most bounded =
+        bounded-with_rows n (left_by condition (rows_in tables n)) most tables
+        (omega (arith, kept_few stay (rows_in tables n), rows_have (λ rs. length rs ≤ most) (omega arith) tables n bounded)) bounded
 
 -- ---- A write that is refused
 -- nothing is changed that is seen

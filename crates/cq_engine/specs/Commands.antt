@@ -1,9 +1,7 @@
 -- What each command does with tables and views that it was bound to, or else is refused.
-use Rattle.std.specs.Prelude.{◌≡◌, ◌⊎◌, ◌<◌, ◌+◌, ◌==◌, nat_lt, ℕ, true, false, List, [], length, Option, Some, None, Result, Ok, Err, slice_get}
+use Rattle.std.specs.Prelude.{◌≡◌, ◌⊎◌, ◌<◌, ◌+◌, ◌==◌, nat_lt, ℕ, true, false, List, [], ◌++◌, length, Option, Some, None, Result, Ok, Err, MatchResult, slice_get}
 use Rattle.std.specs.List.{AllByRecursion, list_any}
 use Rattle.cq_values.specs.Value.{Row}
-use Rattle.cq_bags.specs.Listing.{IsListing}
-use Rattle.cq_deltas.specs.declared.fault.ToldFault.{ToldFault}
 use Rattle.cq_deltas.specs.declared.fault.ToldFault.TheVariants as told
 use Rattle.cq_binding.specs.declared.bound.Bound.{Bound}
 use Rattle.cq_binding.specs.declared.bound.Bound.TheVariants as commands
@@ -12,23 +10,21 @@ use Rattle.cq_model.specs.declared.query.Query.{Query}
 use Rattle.cq_model.specs.declared.query.Shape.TheVariants.{Plain}
 use Rattle.cq_model.specs.declared.query.Source.{Source}
 use Rattle.cq_model.specs.declared.query.Source.TheVariants.{Table, View}
-use Rattle.cq_model.specs.Meaning.{Tables, MeaningInRange, meaning}
 use Rattle.cq_model.specs.Sizes.{column_sizes}
-use Rattle.cq_model.specs.Views.{with_views, AnswerInRange}
+use Rattle.cq_model.specs.Write.{left_by}
 use Rattle.cq_steps.specs.declared.answer.Answer.{Answer}
 use Rattle.cq_steps.specs.declared.answer.Answer.TheVariants.{Rows}
 use Rattle.cq_binding.specs.declared.fault.Fault.{Fault}
-use Rattle.cq_binding.specs.declared.fault.Fault.TheVariants.{Memory, SumOutOfRange, TableFull}
+use Rattle.cq_binding.specs.declared.fault.Fault.TheVariants.{SumOutOfRange, TableFull}
 use Rattle.cq_binding.specs.Checks.{fault_if, MayRefuse}
 use Rattle.cq_binding.specs.Refusal.{is_used}
-use Rattle.cq_states.specs.State.{TableOf, ViewOf, State, rows_in, tables_now, queries_of}
+use Rattle.cq_states.specs.Fitting.{FitsColumns}
+use Rattle.cq_states.specs.State.{TableOf, ViewOf, State, columns_in, rows_in, with_rows}
 use Rattle.cq_steps.specs.Next.{Trims, at_present}
 use Rattle.cq_steps.specs.Step.{Accepts, IsTooLarge}
-use Rattle.cq_binder.specs.Catalog.{alone}
-use Rattle.cq_views.specs.declared.view_def.ViewDef.{ViewDef}
-use Rattle.cq_views.specs.View.{StandsFor, query_of}
+use Rattle.cq_views.specs.Query.{table_of}
 use Rattle.cq_engine.specs.Narrow.{IsNarrowAt, IsWithin, IsWithinSized}
-use Rattle.cq_engine.specs.Views.{NamedView, Fits, IsStored}
+use Rattle.cq_engine.specs.Views.{Fits}
 
 -- a state in which no change waits
 abbrev pub present : List TableOf → List ViewOf → ℕ → ℕ → ℕ → State
@@ -63,10 +59,8 @@ pub record CanRead (tables : List TableOf) (views : List ViewOf) (q : Query) : T
 
 -- a query that a view can be built and kept for
 pub record CanBuild (tables : List TableOf) (q : Query) : Type 0 where
-  pub def : ViewDef
-  pub query : q ≡ query_of def
-  pub fits : Fits def
-  pub there : IsThere def.table tables
+  pub fits : Fits q
+  pub there : IsThere (table_of q) tables
 
 -- what is known of a command that was bound to these tables and views
 abbrev pub CanCarryOut : List TableOf → List ViewOf → Bound → Type 0
@@ -74,15 +68,19 @@ CanCarryOut tables views (commands.CreateTable name columns sort) = Unit {0}
 CanCarryOut tables views (commands.DropTable n) = IsThere n tables × (is_used n views ≡ false)
 CanCarryOut tables views (commands.CreateView name columns q) = CanBuild tables q
 CanCarryOut tables views (commands.DropView place) = place < length views
-CanCarryOut tables views (commands.Insert n rows) = IsThere n tables × AllByRecursion IsStored rows
+CanCarryOut tables views (commands.Insert n rows) = IsThere n tables × AllByRecursion (FitsColumns (columns_in tables n)) rows
 CanCarryOut tables views (commands.Delete n c) = IsThere n tables × AllByRecursion (IsNarrowAt c) (rows_in tables n)
 CanCarryOut tables views (commands.Select header q order) = CanRead tables views q × (order ≡ record { keys = []; limit = None })
 CanCarryOut tables views command = ⊥
 
 -- ---- Commands that are carried out
--- whether so many rows fit the table of a number
+-- whether so many rows are too many for a table
+abbrev pub too_many : ℕ → ℕ → Option Fault
+too_many max_rows count = fault_if (nat_lt max_rows count) TableFull
+
+-- whether the rows are too many for the table of a number
 abbrev pub room_for : ℕ → List TableOf → ℕ → List Row → Option Fault
-room_for max_rows tables n rows = fault_if (nat_lt max_rows (length (rows_in tables n) + length rows)) TableFull
+room_for max_rows tables n rows = too_many max_rows (length (rows_in tables n) + length rows)
 
 -- INSERT asks for room, and no other command does
 abbrev pub room : State → Bound → Option Fault
@@ -99,6 +97,23 @@ pub record IsDone (old : State) (command : Bound) (answer : Answer) (new : State
 abbrev pub IsRefused : State → Bound → Fault → Type 0
 IsRefused s command f = MayRefuse (room s command) f ⊎ ((f ≡ SumOutOfRange) × IsTooLarge s command)
 
+-- the tables with the rows put into the table of a number
+abbrev pub inserted_into : ℕ → List Row → List TableOf → List TableOf
+inserted_into n rows tables = with_rows n (rows_in tables n ++ rows) tables
+
+-- the tables without the rows that WHERE keeps in the table of a number
+abbrev pub deleted_from : ℕ → Option Cond → List TableOf → List TableOf
+deleted_from n condition tables = with_rows n (left_by condition (rows_in tables n)) tables
+
+-- a check is passed, or it refuses
+abbrev pub IsChecked : Option Fault → Result (Unit {0}) Fault → Type 0
+IsChecked check result = MatchResult result (λ x. check ≡ None) (MayRefuse check)
+
+-- rows are put into the table of a number, where there is room for them
+abbrev pub Inserts : ℕ → ℕ → List Row → List TableOf → Result (Unit {0}) Fault → List TableOf → Type 0
+Inserts max_rows n rows old (Ok x) new = (room_for max_rows old n rows ≡ None) × (new ≡ inserted_into n rows old)
+Inserts max_rows n rows old (Err f) new = MayRefuse (room_for max_rows old n rows) f
+
 -- from old, the command may answer this and leave new
 abbrev pub CarriesOut : State → Bound → Result Answer Fault → State → Type 0
 CarriesOut old command (Ok answer) new = (room old command ≡ None) × IsDone old command answer new
@@ -108,28 +123,3 @@ CarriesOut old command (Err f) new = IsRefused old command f × (new ≡ old)
 abbrev pub OnlyShows : State → Result Answer Fault → State → Type 0
 OnlyShows old (Ok (Rows header rows)) new = new ≡ old
 OnlyShows old outcome new = Unit {0}
-
--- ---- SELECT
--- the bags that the names in FROM stand for
-abbrev pub sources_in : List TableOf → List ViewOf → Tables
-sources_in tables views = with_views (tables_now (alone tables views)) (queries_of (alone tables views))
-
--- the totals of the answer can be shown
-abbrev pub IsInRange : List TableOf → List ViewOf → Query → Type 0
-IsInRange tables views q = AnswerInRange (tables_now (alone tables views)) (queries_of (alone tables views)) q
-
--- SELECT answers the listing of the query's bag, or tells that a total cannot be shown
-abbrev pub Selects : List TableOf → List ViewOf → Query → Result (List Row) Fault → Type 0
-Selects tables views q (Ok rows) = IsListing [] None (meaning q (sources_in tables views)) rows × IsInRange tables views q
-Selects tables views q (Err f) = (f ≡ Memory) ⊎ ((f ≡ SumOutOfRange) × (IsInRange tables views q → ⊥))
-
--- it does so from what a view keeps, which is the bag of the view's query on each tables that it stands for
-abbrev pub SelectsKept : Query → NamedView → Result (List Row) Fault → Type 0
-SelectsKept q v (Ok rows) = (tables : Tables) → StandsFor v.kept tables
-    → IsListing [] None (meaning (plain q.first q.filter q.items) (λ source. meaning (query_of v.kept.def) tables)) rows × MeaningInRange (query_of v.kept.def) tables
-SelectsKept q v (Err f) = (f ≡ Memory) ⊎ ((f ≡ SumOutOfRange) × ((tables : Tables) → StandsFor v.kept tables → MeaningInRange (query_of v.kept.def) tables → ⊥))
-
--- why the rows of a view cannot be told
-abbrev pub told_as : ToldFault → Fault
-told_as told.Memory = Memory
-told_as told.SumOutOfRange = SumOutOfRange

@@ -1,15 +1,13 @@
 //! The names of the engine's tables and views.
 ghost use Rattle.std.specs.Prelude.{◌≡◌, option_map};
-ghost use Rattle.cq_states.specs.State.{view_named};
-ghost use Rattle.cq_views.specs.View.{query_of};
-ghost use Rattle.cq_engine.specs.Views.{views_of};
+ghost use Rattle.cq_engine.specs.Views.{query_named, views_of};
 
 use crate::table::Table;
 use crate::tables::place_of;
 use crate::view::View;
 use crate::views;
 use cq_binder::{Catalog, TableEntry, ViewEntry};
-use cq_views::ViewDef;
+use cq_model::Query;
 use std::alloc::{AllocError, Global};
 use std::marker::Model;
 
@@ -43,8 +41,8 @@ impl<'a> EngineCatalog<'a> {
     }
 
     /// The query of the view of a name, if there is one.
-    pub fn query(&self, name: &str) -> Option<&ViewDef>
-        ensures { option_map (λ def. query_of def.now) result ≡ option_map (λ v. v.query) (view_named name.now self.now.1) }
+    pub fn query(&self, name: &str) -> Option<&Query>
+        ensures { option_map (λ q. q.now) result ≡ query_named name.now self.now.1 }
     {
         let place = views::view_place(self.views, name)?;
         Some(self.views[place].query())

@@ -4,7 +4,7 @@ ghost use Rattle.cq_values.specs.Truth.{is_true};
 ghost use Rattle.cq_model.specs.Meaning.{keeps};
 ghost use Rattle.cq_engine.specs.Narrow.{IsNarrowAt};
 
-use cq_eval::holds_row;
+use cq_eval::{holds_row, narrow_is_exact};
 use cq_model::Cond;
 use cq_values::{Truth, Value};
 
@@ -13,6 +13,7 @@ pub fn keeps(condition: &Option<Cond>, row: &[Value]) -> bool
     requires { IsNarrowAt condition.now row.now }
     ensures { result ≡ keeps condition.now row.now }
 {
+    narrow_is_exact();
     match condition {
         Some(condition) => is_true(holds_row(condition, row)),
         None => true,

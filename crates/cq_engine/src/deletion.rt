@@ -2,9 +2,10 @@
 ghost use Rattle.std.specs.List.{AllByRecursion};
 ghost use Rattle.std.specs.Prelude.{◌≡◌, IfOk, OnErr, OnOk, length};
 ghost use Rattle.cq_model.specs.Write.{chosen, left_by};
+ghost use Rattle.cq_states.specs.Fitting.{IsFitting};
 ghost use Rattle.cq_states.specs.State.{holding};
 ghost use Rattle.cq_engine.specs.Narrow.{IsNarrowAt};
-ghost use Rattle.cq_engine.specs.Views.{AreSame, Follow, IsStored, StandOn};
+ghost use Rattle.cq_engine.specs.Taking.{AreSame, Follow, StandOn};
 
 use crate::table::Table;
 use crate::view::View;
@@ -20,12 +21,11 @@ pub fn delete_from(
     condition: &Option<Cond>,
     epoch: u64,
 ) -> Result<usize, AllocError>
-    requires stored { AllByRecursion IsStored table.old.rows }
+    requires fitting { IsFitting table.old }
     requires stand { StandOn table.old views.old.items }
     requires narrow { AllByRecursion (IsNarrowAt condition.now) table.old.rows }
     ensures count { IfOk result (λ count. count ≡ length (chosen condition.now table.old.rows)) }
     ensures left { OnOk result (table.new ≡ holding (left_by condition.now table.old.rows) table.old) }
-    ensures stored { AllByRecursion IsStored table.new.rows }
     ensures follow { OnOk result (Follow epoch table.new views.old.items views.new.items) }
     ensures err { OnErr result ((table.new ≡ table.old) × AreSame views.old.items views.new.items) }
 {

@@ -1,6 +1,7 @@
 //! The engine, and one step of it.
 ghost use Rattle.std.specs.Prelude.{◌≡◌, ◌<◌, ◌+◌, ◌-◌, ◌^◌, ◌∷◌, [], Ok, option_map};
 ghost use Rattle.cq_binding.specs.declared.bound.Bound.TheVariants as commands;
+ghost use Rattle.cq_states.specs.Fitting.{AreBounded, AreFitting};
 ghost use Rattle.cq_states.specs.State.{first_state, view_named};
 ghost use Rattle.cq_steps.specs.Output.{source_failures};
 ghost use Rattle.cq_steps.specs.Step.{Step};
@@ -45,9 +46,10 @@ impl Model for Engine {
     ghost use Rattle.std.specs.Prelude.{◌≤◌};
     ghost use Rattle.cq_model.specs.contracts.expr.Cond as cond;
     ghost use Rattle.cq_model.specs.contracts.expr.Expr as expr;
+    ghost use Rattle.cq_states.specs.Fitting.{AreBounded, AreFitting};
     ghost use Rattle.cq_states.specs.State.{State, AreNumbered};
     ghost use Rattle.cq_engine.specs.Commands.{present};
-    ghost use Rattle.cq_engine.specs.Views.{AreRight, AreStored, views_of};
+    ghost use Rattle.cq_engine.specs.Views.{AreRight, views_of};
 
     ghost Value = { State };
 
@@ -55,7 +57,7 @@ impl Model for Engine {
 
     ghost view = { λ e. present e.tables.items (views_of e.views.items) e.writes e.drawn e.limits.max_rows };
 
-    ghost invariant = { λ e. (e.writes ≤ e.drawn) × AreNumbered e.tables.items e.drawn × AreStored e.tables.items × AreRight e.tables.items e.writes e.views.items };
+    ghost invariant = { λ e. (e.writes ≤ e.drawn) × AreNumbered e.tables.items e.drawn × AreFitting e.tables.items × AreRight e.tables.items e.writes e.views.items × AreBounded e.limits.max_rows e.tables.items };
 }
 
 impl Engine {
@@ -96,7 +98,9 @@ impl Engine {
 
     /// The tables and views under their names. It takes no memory.
     pub fn catalog(&self) -> EngineCatalog<'_>
-        ensures { result ≡ (self.now.tables, self.now.views) }
+        ensures told { result ≡ (self.now.tables, self.now.views) }
+        ensures fitting { AreFitting self.now.tables }
+        ensures bounded { AreBounded self.now.max_rows self.now.tables }
     {
         EngineCatalog::new(&self.tables, &self.views)
     }

@@ -1,10 +1,11 @@
 //! The rows that an INSERT brings.
-ghost use Rattle.std.specs.Prelude.{◌≡◌, ◌++◌, IfOk, OnErr, OnOk, map};
+ghost use Rattle.std.specs.Prelude.{◌≡◌, ◌<◌, ◌^◌, ◌++◌, IfOk, OnErr, OnOk, length, map};
 ghost use Rattle.std.specs.List.{AllByRecursion};
 ghost use Rattle.cq_bags.specs.Bag.{once_each};
+ghost use Rattle.cq_states.specs.Fitting.{FitsColumns, IsFitting};
 ghost use Rattle.cq_states.specs.State.{holding};
 ghost use Rattle.cq_views.specs.View.{IsNarrowFor};
-ghost use Rattle.cq_engine.specs.Views.{AreReady, AreSame, Follow, IsStored, StandOn};
+ghost use Rattle.cq_engine.specs.Taking.{AreReady, AreSame, Follow, StandOn};
 
 use crate::table::Table;
 use crate::view::View;
@@ -21,15 +22,14 @@ pub fn insert_into(
     rows: Vec<Row>,
     epoch: u64,
 ) -> Result<(), AllocError>
-    requires stored { AllByRecursion IsStored table.old.rows }
+    requires fitting { IsFitting table.old }
+    requires few { length table.old.rows < 2 ^ 64 }
     requires stand { StandOn table.old views.old.items }
-    requires rows { AllByRecursion IsStored rows.items }
+    requires rows { AllByRecursion (FitsColumns table.old.columns) rows.items }
     ensures added { OnOk result (table.new ≡ holding (table.old.rows ++ rows.items) table.old) }
-    ensures stored { AllByRecursion IsStored table.new.rows }
     ensures follow { OnOk result (Follow epoch table.new views.old.items views.new.items) }
     ensures err { OnErr result ((table.new ≡ table.old) × AreSame views.old.items views.new.items) }
 {
-    let _few = table.len();
     let pendings = prepared(alloc, views, table.number(), &rows)?;
     table.append(rows)?;
     commit_all(views, pendings, epoch);
@@ -43,7 +43,7 @@ fn prepared(
     table: u64,
     rows: &[Row],
 ) -> Result<Vec<Option<Pending>>, AllocError>
-    requires { AllByRecursion (λ v. AllByRecursion (IsNarrowFor v.kept.def) rows.now) views.old.items }
+    requires { AllByRecursion (λ v. AllByRecursion (IsNarrowFor v.kept.query) rows.now) views.old.items }
     ensures kept { AreSame views.old.items views.new.items }
     ensures ready { IfOk result (λ ps. AreReady table (once_each rows.now) views.new.items ps.items) }
 {

@@ -1,11 +1,12 @@
 //! SELECT from a table or from a view.
-ghost use Rattle.std.specs.Prelude.{◌≡◌, ℕ};
+ghost use Rattle.std.specs.Prelude.{◌≡◌, ◌^◌, ℕ};
 ghost use Rattle.cq_model.specs.Sizes.{column_sizes};
+ghost use Rattle.cq_states.specs.Fitting.{AreBounded, AreFitting};
 ghost use Rattle.cq_states.specs.State.{AreNumbered};
-ghost use Rattle.cq_views.specs.View.{query_of};
 ghost use Rattle.cq_engine.specs.Narrow.{IsWithinSized};
-ghost use Rattle.cq_engine.specs.Commands.{CanRead, Selects, SelectsKept, told_as};
-ghost use Rattle.cq_engine.specs.Views.{AreFew, AreRight, AreStored, IsBacked, views_of};
+ghost use Rattle.cq_engine.specs.Commands.{CanRead};
+ghost use Rattle.cq_engine.specs.Selects.{Selects, SelectsKept, told_as};
+ghost use Rattle.cq_engine.specs.Views.{AreRight, IsBacked, views_of};
 
 use crate::selection::list;
 use crate::table::Table;
@@ -26,7 +27,8 @@ pub fn select_from(
     query: &Query,
 ) -> Result<Seq<Row>, Fault>
     requires numbered { (next : ℕ) × AreNumbered tables.now next }
-    requires stored { AreStored tables.now }
+    requires fitting { AreFitting tables.now }
+    requires few { AreBounded (2 ^ 24) tables.now }
     requires right { (now : ℕ) × AreRight tables.now now views.now }
     requires can_read { CanRead tables.now (views_of views.now) query.now }
     ensures { Selects tables.now (views_of views.now) query.now result }
@@ -36,26 +38,14 @@ pub fn select_from(
             let place = place_numbered(tables, number);
             Ok(list(alloc, query, tables[place].rows())?)
         }
-        Source::View(place) => {
-            all_few(tables);
-            select_from_view(alloc, &views[place as usize], query)
-        }
-    }
-}
-
-/// No table has more rows than can be counted.
-fn all_few(tables: &[Table])
-    ensures { AreFew tables.now }
-{
-    for table in tables {
-        let _few = table.len();
+        Source::View(place) => select_from_view(alloc, &views[place as usize], query),
     }
 }
 
 /// The listing of a query on the rows that a view keeps.
 fn select_from_view(alloc: Global, view: &View, query: &Query) -> Result<Seq<Row>, Fault>
     requires backed { IsBacked view.now }
-    requires within { IsWithinSized (column_sizes (query_of view.now.kept.def)) query.now }
+    requires within { IsWithinSized (column_sizes view.now.kept.query) query.now }
     ensures { SelectsKept query.now view.now result }
 {
     let rows = view.rows(alloc).map_err(told_fault)?;

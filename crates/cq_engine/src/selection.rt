@@ -1,14 +1,15 @@
 //! Queries answered from the rows of one source.
 ghost use Rattle.std.specs.List.{AllByRecursion};
-ghost use Rattle.std.specs.Prelude.{◌≡◌, IfOk, [], filter, map};
+ghost use Rattle.std.specs.Prelude.{◌≡◌, IfOk, []};
 ghost use Rattle.cq_bags.specs.Bag.{once_each};
 ghost use Rattle.cq_bags.specs.Listing.{Lists};
-ghost use Rattle.cq_model.specs.Meaning.{items_of, keeps};
+ghost use Rattle.cq_model.specs.Meaning.{items_of};
 ghost use Rattle.cq_engine.specs.Narrow.{AreNarrowAt, IsWithin};
+ghost use Rattle.cq_engine.specs.Selects.{shown_rows};
 
 use crate::condition::keeps;
 use cq_bags::listed;
-use cq_eval::eval_row;
+use cq_eval::{eval_row, narrow_is_exact};
 use cq_model::{Expr, Query};
 use cq_values::{Row, Seq, Value};
 use std::alloc::{AllocError, Global};
@@ -16,7 +17,7 @@ use std::alloc::{AllocError, Global};
 /// The listing of what the items show of the rows that WHERE keeps.
 pub fn list(alloc: Global, query: &Query, rows: &[Row]) -> Result<Seq<Row>, AllocError>
     requires { AllByRecursion (IsWithin query.now) rows.now }
-    ensures { IfOk result (Lists [] (once_each (map (items_of query.now.items) (filter (keeps query.now.filter) rows.now)))) }
+    ensures { IfOk result (Lists [] (once_each (shown_rows query.now rows.now))) }
 {
     let results = results(alloc, query, rows)?;
     let sorted = listed(results)?;
@@ -26,7 +27,7 @@ pub fn list(alloc: Global, query: &Query, rows: &[Row]) -> Result<Seq<Row>, Allo
 /// The rows of the result, as these rows give them one after the other.
 fn results(alloc: Global, query: &Query, rows: &[Row]) -> Result<Vec<Row>, AllocError>
     requires { AllByRecursion (IsWithin query.now) rows.now }
-    ensures { IfOk result (λ v. v.items ≡ map (items_of query.now.items) (filter (keeps query.now.filter) rows.now)) }
+    ensures { IfOk result (λ v. v.items ≡ shown_rows query.now rows.now) }
 {
     let items = query.items.as_slice();
     let mut results = Vec::new(alloc);
@@ -44,6 +45,7 @@ fn values(alloc: Global, items: &[Expr], row: &[Value]) -> Result<Row, AllocErro
     requires { AreNarrowAt items.now row.now }
     ensures { IfOk result (λ values. values ≡ items_of items.now row.now) }
 {
+    narrow_is_exact();
     let mut values = Row::new(alloc);
     for item in items {
         values.push(eval_row(item, row).to_value(alloc)?)?;

@@ -1,11 +1,12 @@
 //! A table in memory.
 ghost use Rattle.std.specs.List.{AllByRecursion};
-ghost use Rattle.std.specs.Prelude.{◌++◌, ◌≡◌, ◌<◌, ◌^◌, IfOk, OnErr, OnOk, filter, length, map, not};
+ghost use Rattle.std.specs.Prelude.{◌++◌, ◌≡◌, ◌<◌, ◌^◌, IfOk, OnErr, OnOk, length, map};
 ghost use Rattle.cq_values.specs.Texts.{is_text};
 ghost use Rattle.cq_bags.specs.Canonical.{bag_of};
 ghost use Rattle.cq_states.specs.State.{empty_table, holding};
-ghost use Rattle.cq_model.specs.Meaning.{keeps};
+ghost use Rattle.cq_model.specs.Write.{chosen, left_by};
 ghost use Rattle.cq_engine.specs.Narrow.{IsNarrowAt};
+ghost use Rattle.cq_engine.specs.Views.{SameRows};
 
 use crate::condition::keeps;
 use cq_model::Cond;
@@ -79,7 +80,7 @@ impl Table {
     /// The rows that WHERE keeps, where they are stored.
     pub fn chosen(&self, alloc: Global, condition: &Option<Cond>) -> Result<Vec<&Row>, AllocError>
         requires { AllByRecursion (IsNarrowAt condition.now) self.now.rows }
-        ensures bag { IfOk result (λ rows. bag_of (map (λ r. r.now) rows.items) ≡ bag_of (filter (keeps condition.now) self.now.rows)) }
+        ensures bag { IfOk result (λ rows. SameRows (map (λ r. r.now) rows.items) (chosen condition.now self.now.rows)) }
         ensures few { OnOk result (length self.now.rows < 2 ^ 64) }
     {
         let mut rows = Vec::new(alloc);
@@ -116,8 +117,8 @@ impl Table {
     /// Takes the rows that WHERE keeps away, and tells how many they were.
     pub fn remove(&mut self, condition: &Option<Cond>) -> usize
         requires { AllByRecursion (IsNarrowAt condition.now) self.old.rows }
-        ensures count { result ≡ length (filter (keeps condition.now) self.old.rows) }
-        ensures left { self.new ≡ holding (filter (λ row. not (keeps condition.now row)) self.old.rows) self.old }
+        ensures count { result ≡ length (chosen condition.now self.old.rows) }
+        ensures left { self.new ≡ holding (left_by condition.now self.old.rows) self.old }
     {
         let before = self.rows.len();
         take_away(&mut self.rows, condition);
@@ -128,7 +129,7 @@ impl Table {
 /// Takes the rows that WHERE keeps away, and leaves the others in their order. It takes no memory.
 fn take_away(rows: &mut Vec<Row>, condition: &Option<Cond>)
     requires { AllByRecursion (IsNarrowAt condition.now) rows.old.items }
-    ensures { rows.new.items ≡ filter (λ row. not (keeps condition.now row)) rows.old.items }
+    ensures { rows.new.items ≡ left_by condition.now rows.old.items }
 {
     let mut left = 0;
     for place in 0..rows.len() {

@@ -1,14 +1,14 @@
 //! Tables under their names and numbers, and the commands on them.
-ghost use Rattle.std.specs.Prelude.{◌≡◌, ◌<◌, ◌+◌, ◌++◌, ◌==◌, ℕ, IfOk, IfSome, MatchResult, None, OnErr, OnOk, filter, get_or, is_some, length, nat_lt, not, position, slice_get};
+ghost use Rattle.std.specs.Prelude.{◌≡◌, ◌<◌, ◌+◌, ◌==◌, ℕ, IfOk, IfSome, OnErr, OnOk, filter, get_or, is_some, length, not, position, slice_get};
 ghost use Rattle.std.specs.List.{AllByRecursion};
 ghost use Rattle.cq_values.specs.Texts.{is_text};
-ghost use Rattle.cq_model.specs.Write.{chosen, left_by};
-ghost use Rattle.cq_binding.specs.declared.fault.Fault.TheVariants.{TableFull};
-ghost use Rattle.cq_binding.specs.Checks.{MayRefuse, fault_if};
-ghost use Rattle.cq_states.specs.State.{AreNumbered, TableOf, rows_in, table_named, with_rows};
+ghost use Rattle.cq_model.specs.Write.{chosen};
+ghost use Rattle.cq_states.specs.Fitting.{AreFitting, FitsColumns};
+ghost use Rattle.cq_states.specs.State.{AreNumbered, TableOf, columns_in, rows_in, table_named};
 ghost use Rattle.cq_engine.specs.Narrow.{IsNarrowAt};
-ghost use Rattle.cq_engine.specs.Commands.{IsThere, room_for};
-ghost use Rattle.cq_engine.specs.Views.{AreRight, AreSame, AreStored, IsStored, Moved};
+ghost use Rattle.cq_engine.specs.Commands.{Inserts, IsChecked, IsThere, too_many, deleted_from};
+ghost use Rattle.cq_engine.specs.Taking.{AreSame, Moved};
+ghost use Rattle.cq_engine.specs.Views.{AreRight};
 
 use crate::deletion::delete_from;
 use crate::insertion::insert_into;
@@ -40,14 +40,11 @@ pub fn insert_in(
     epoch: u64,
 ) -> Result<(), Fault>
     requires numbered { (next : ℕ) × AreNumbered tables.old.items next }
-    requires stored { AreStored tables.old.items }
+    requires fitting { AreFitting tables.old.items }
     requires right { (now : ℕ) × AreRight tables.old.items now views.old.items }
     requires there { IsThere number tables.old.items }
-    requires rows { AllByRecursion IsStored rows.items }
-    ensures walk { MatchResult result
-        (λ x. (room_for max_rows tables.old.items number rows.items ≡ None) × (tables.new.items ≡ with_rows number (rows_in tables.old.items number ++ rows.items) tables.old.items))
-        (MayRefuse (room_for max_rows tables.old.items number rows.items)) }
-    ensures stored { AreStored tables.new.items }
+    requires rows { AllByRecursion (FitsColumns (columns_in tables.old.items number)) rows.items }
+    ensures inserts { Inserts max_rows number rows.items tables.old.items result tables.new.items }
     ensures moved { OnOk result (Moved epoch tables.new.items views.old.items views.new.items) }
     ensures err { OnErr result ((tables.new.items ≡ tables.old.items) × AreSame views.old.items views.new.items) }
 {
@@ -68,13 +65,12 @@ pub fn delete_in(
     epoch: u64,
 ) -> Result<usize, AllocError>
     requires numbered { (next : ℕ) × AreNumbered tables.old.items next }
-    requires stored { AreStored tables.old.items }
+    requires fitting { AreFitting tables.old.items }
     requires right { (now : ℕ) × AreRight tables.old.items now views.old.items }
     requires there { IsThere number tables.old.items }
     requires narrow { AllByRecursion (IsNarrowAt condition.now) (rows_in tables.old.items number) }
     ensures count { IfOk result (λ count. count ≡ length (chosen condition.now (rows_in tables.old.items number))) }
-    ensures left { OnOk result (tables.new.items ≡ with_rows number (left_by condition.now (rows_in tables.old.items number)) tables.old.items) }
-    ensures stored { AreStored tables.new.items }
+    ensures left { OnOk result (tables.new.items ≡ deleted_from number condition.now tables.old.items) }
     ensures moved { OnOk result (Moved epoch tables.new.items views.old.items views.new.items) }
     ensures err { OnErr result ((tables.new.items ≡ tables.old.items) × AreSame views.old.items views.new.items) }
 {
@@ -105,7 +101,7 @@ pub fn place_numbered(tables: &[Table], number: u64) -> usize
 
 /// Refuses more rows than a table may have.
 fn check_room(max_rows: u64, stored: usize, added: usize) -> Result<(), Fault>
-    ensures { MatchResult result (λ x. fault_if (nat_lt max_rows (stored + added)) TableFull ≡ None) (MayRefuse (fault_if (nat_lt max_rows (stored + added)) TableFull)) }
+    ensures { IsChecked (too_many max_rows (stored + added)) result }
 {
     if u128::from(max_rows) < stored as u128 + added as u128 {
         Err(Fault::TableFull)

@@ -1,18 +1,19 @@
 //! A view under its name.
 ghost use Rattle.std.specs.Prelude.{◌≡◌, ◌==◌, IfErr, IfOk, OnOk, map};
 ghost use Rattle.std.specs.List.{AllByRecursion};
-ghost use Rattle.cq_bags.specs.Bag.{SameBag, once_each};
 ghost use Rattle.cq_deltas.specs.declared.fault.ToldFault.TheVariants.{SumOutOfRange};
-ghost use Rattle.cq_model.specs.Meaning.{MeaningInRange, Tables, meaning};
 ghost use Rattle.cq_model.specs.Sizes.{column_sizes};
 ghost use Rattle.cq_values.specs.Texts.{is_text};
 ghost use Rattle.cq_views.specs.Small.{StandsOnStored};
-ghost use Rattle.cq_views.specs.View.{IsNarrowFor, StandsFor, changed, query_of};
-ghost use Rattle.cq_engine.specs.Views.{CanTake, HasTaken, IsReady, IsSame};
+ghost use Rattle.cq_views.specs.Query.{reads, table_of};
+ghost use Rattle.cq_views.specs.View.{IsNarrowFor, changed};
+ghost use Rattle.cq_views.specs.Told.{AreRowsOf, IsNotShown, IsShown};
+ghost use Rattle.cq_engine.specs.Taking.{CanTake, HasTaken, IsReady, IsSame};
 
 use cq_deltas::ToldFault;
+use cq_model::Query;
 use cq_values::{ColumnDef, Row, Seq, Text};
-use cq_views::{Pending, ViewDef, ViewState};
+use cq_views::{Pending, ViewState};
 use std::alloc::{AllocError, Global};
 use std::marker::Model;
 
@@ -62,7 +63,7 @@ impl View {
 
     /// How large the numbers in the columns of the view can be.
     pub fn column_sizes(&self, alloc: Global) -> Result<Vec<u128>, AllocError>
-        ensures { IfOk result (λ v. v.items ≡ column_sizes (query_of self.now.kept.def)) }
+        ensures { IfOk result (λ v. v.items ≡ column_sizes self.now.kept.query) }
     {
         self.state.column_sizes(alloc)
     }
@@ -75,16 +76,17 @@ impl View {
 
     /// Whether the view stands on the table of a number.
     pub fn is_on(&self, table: u64) -> bool
-        ensures { result ≡ (self.now.kept.def.table == table) }
+        ensures value { result ≡ (table_of self.now.kept.query == table) }
+        ensures named { result ≡ reads table self.now.kept.query }
     {
         self.state.is_on(table)
     }
 
     /// The view's query.
-    pub fn query(&self) -> &ViewDef
-        ensures { result.now ≡ self.now.kept.def }
+    pub fn query(&self) -> &Query
+        ensures { result.now ≡ self.now.kept.query }
     {
-        self.state.def()
+        self.state.query()
     }
 
     /// How many writes the view has taken in.
@@ -97,9 +99,9 @@ impl View {
     /// The rows of the view. It costs what the view holds.
     pub fn rows(&self, alloc: Global) -> Result<Vec<Row>, ToldFault>
         requires { StandsOnStored self.now.kept }
-        ensures bag { IfOk result (λ rows. (tables : Tables) → StandsFor self.now.kept tables → SameBag (once_each rows.items) (meaning (query_of self.now.kept.def) tables)) }
-        ensures range { OnOk result ((tables : Tables) → StandsFor self.now.kept tables → MeaningInRange (query_of self.now.kept.def) tables) }
-        ensures fault { IfErr result (λ e. e ≡ SumOutOfRange → (tables : Tables) → StandsFor self.now.kept tables → MeaningInRange (query_of self.now.kept.def) tables → ⊥) }
+        ensures bag { IfOk result (λ rows. AreRowsOf self.now.kept rows.items) }
+        ensures range { OnOk result (IsShown self.now.kept) }
+        ensures fault { IfErr result (λ e. e ≡ SumOutOfRange → IsNotShown self.now.kept) }
     {
         self.state.rows(alloc)
     }
@@ -113,7 +115,7 @@ impl View {
         rows: &[&Row],
         weight: i128,
     ) -> Result<Option<Pending>, AllocError>
-        requires { AllByRecursion (λ r. IsNarrowFor self.old.kept.def r.now) rows.now }
+        requires { AllByRecursion (λ r. IsNarrowFor self.old.kept.query r.now) rows.now }
         ensures kept { IsSame self.old self.new }
         ensures ready { IfOk result (IsReady table (changed (map (λ r. r.now) rows.now) weight) self.new) }
     {

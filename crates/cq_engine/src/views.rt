@@ -4,8 +4,10 @@ ghost use Rattle.std.specs.List.{AllByRecursion, list_any, remove};
 ghost use Rattle.cq_values.specs.Texts.{is_text};
 ghost use Rattle.cq_binding.specs.Refusal.{is_used};
 ghost use Rattle.cq_states.specs.State.{view_place};
-ghost use Rattle.cq_views.specs.View.{IsNarrowFor, changed};
-ghost use Rattle.cq_engine.specs.Views.{AreReady, AreSame, CanAllTake, HaveTaken, views_of};
+ghost use Rattle.cq_views.specs.Query.{reads};
+ghost use Rattle.cq_views.specs.View.{IsNarrowFor};
+ghost use Rattle.cq_engine.specs.Taking.{AreReadyFor, AreSame, CanAllTake, HaveTaken};
+ghost use Rattle.cq_engine.specs.Views.{views_of};
 
 use crate::view::View;
 use cq_values::Row;
@@ -44,9 +46,9 @@ pub fn prepare_all(
     rows: &[&Row],
     weight: i128,
 ) -> Result<Vec<Option<Pending>>, AllocError>
-    requires { AllByRecursion (λ v. AllByRecursion (λ r. IsNarrowFor v.kept.def r.now) rows.now) views.old.items }
+    requires { AllByRecursion (λ v. AllByRecursion (λ r. IsNarrowFor v.kept.query r.now) rows.now) views.old.items }
     ensures kept { AreSame views.old.items views.new.items }
-    ensures ready { IfOk result (λ ps. AreReady table (changed (map (λ r. r.now) rows.now) weight) views.new.items ps.items) }
+    ensures ready { IfOk result (λ ps. AreReadyFor table (map (λ r. r.now) rows.now) weight views.new.items ps.items) }
 {
     let mut pendings = Vec::with_capacity(alloc, views.len())?;
     for place in 0..views.len() {
@@ -74,7 +76,7 @@ fn position_of(views: &[View], name: &str) -> Option<usize>
 }
 
 fn is_any_on(views: &[View], table: u64) -> bool
-    ensures { result ≡ list_any (λ v. v.kept.def.table == table) views.now }
+    ensures { result ≡ list_any (λ v. reads table v.kept.query) views.now }
 {
     views.iter().any(|v| v.is_on(table))
 }

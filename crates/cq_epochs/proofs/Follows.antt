@@ -2,13 +2,12 @@
 use Rattle.std.proofs.Common.{◌≡◌, ℕ, ◌+◌, ◌-◌, ◌≤◌, ◌<◌, pos, ◌≤ℤ◌, not, eqb, nat_le, List, [], ◌∷◌, ◌++◌, length, inl, inr, refl, sym, ◌∙◌, ap, ap₂, subst, arith}
 use Rattle.std.specs.Prelude.{filter}
 use Rattle.std.specs.List.{AllByRecursion, remove}
-use Rattle.std.proofs.lemmas.Int.{ints}
 use Rattle.std.proofs.lemmas.Bool.Decides.{nat_tests}
 use Rattle.std.proofs.lemmas.List.{length-append, length-drop}
 use Rattle.cq_values.specs.Value.{Row}
 use Rattle.cq_bags.specs.Bag.{Weighted, weight_of, SameBag, IsBag, once_each, negative, difference}
 use Rattle.cq_bags.proofs.Totals.{by_test}
-use Rattle.cq_bags.proofs.Listings.{weight_of-once_each}
+use Rattle.cq_laws.proofs.Positives.{once_each-bag}
 use Rattle.cq_binding.specs.declared.bound.Bound.{Bound}
 use Rattle.cq_binding.specs.declared.bound.Bound.TheVariants as commands
 use Rattle.cq_values.specs.declared.column.ColumnDef.{ColumnDef}
@@ -37,10 +36,6 @@ same-equal xs ys e = record { at = λ r. ap (λ zs. weight_of zs r) e }
 -- what names a bag is one
 bag-same : (xs ys : Weighted) → SameBag xs ys → IsBag ys → IsBag xs
 bag-same xs ys s b = record { at = λ r. subst (λ w. pos 0 ≤ℤ w) (sym (s.at r)) (b.at r) }
-
--- rows that stand once each are a bag
-once_each-bag : (rows : List Row) → IsBag (once_each rows)
-once_each-bag rows = record { at = λ r. subst (λ w. pos 0 ≤ℤ w) (sym (weight_of-once_each rows r)) (omega (arith, ints)) }
 
 -- the number that is drawn next has no row at any epoch
 pub at-drawn : (s : State) → IsSound s → (epoch : ℕ) → tables_at s epoch s.drawn ≡ []

@@ -40,7 +40,7 @@ pub bound-fits : (s : State) (statement : Statement) (command : Bound) → bound
 bound-fits s (statements.CreateTable name columns sort) command e =
     let is : commands.CreateTable name columns (map (place_in columns) sort) ≡ command = cc in subst (Fits s) is tt
 bound-fits s (statements.DropTable name) command e = of_table s name command (λ t. commands.DropTable t.number) (λ t there. there) e
-bound-fits s (statements.CreateView name view) command e = of_table s view.source.name command (λ t. commands.CreateView name (view_columns (view_source view t) view) (grouped_query view t)) (λ t there. tt) e
+bound-fits s (statements.CreateView name view) command e = of_table s view.first.name command (λ t. commands.CreateView name (view_columns (view_source view t) view) (grouped_query view t)) (λ t there. tt) e
 bound-fits s (statements.DropView name) command e = placed (view_place name s.views) e
   where
     placed : (o : Option ℕ) → option_map commands.DropView o ≡ Some command → Fits s command
@@ -49,11 +49,12 @@ bound-fits s (statements.DropView name) command e = placed (view_place name s.vi
 bound-fits s (statements.Insert name rows) command e = of_table s name command (λ t. commands.Insert t.number (map row_of rows)) (λ t there. there) e
 bound-fits s (statements.Delete name condition) command e =
     of_table s name command (λ t. commands.Delete t.number (option_map (bound_condition (scope_of (from_table t))) condition)) (λ t there. there) e
-bound-fits s (statements.Select q) command e = found (source_named q.source.name s) e
+bound-fits s (statements.Select q) command e = found (source_named q.first.name s) e
   where
     found : (o : Option Named) → option_map (bound_select q) o ≡ Some command → Fits s command
     found None e = absurd (cc)
     found (Some source) e = let is : bound_select q source ≡ command = cc in subst (Fits s) is tt
+bound-fits s statement command e = absurd (cc e)
 
 -- the state in which nothing is there
 pub first-sound : (max_rows : ℕ) → IsSound (first_state max_rows)

@@ -1,18 +1,16 @@
--- Chains of sums and products: what is left of one completes its value and its extent.
-use Rattle.std.proofs.Common.{◌≡◌, ℕ, ◌+◌, ◌*◌, ◌≤◌, ◌<◌, max, List, [], ◌∷◌, map, drop, length, get_or, drop-cons, add-one, refl, sym, ◌∙◌, ap, arith, Vec, Box, Global}
+-- Chains of sums and products: what is left of one completes it, in value and in extent.
+use Rattle.std.proofs.Common.{◌≡◌, ℕ, ◌+◌, ◌≤◌, ◌<◌, max, List, [], ◌∷◌, map, drop, length, get_or, drop-cons, add-one, refl, sym, ◌∙◌, ap, arith, Vec, Box, Global}
 use Rattle.std.proofs.lemmas.List.{drop_all}
-use Rattle.std.proofs.lemmas.Nat.{mul-le}
-use Rattle.std.proofs.Math.Nat.{le_trans}
 use Rattle.std.specs.List.{fold}
 use Rattle.cq_values.specs.Value.{Row}
 use Rattle.cq_values.specs.declared.value.Value.{Value}
 use Rattle.cq_model.specs.declared.expr.ExprTree.{ExprTree}
 use Rattle.cq_model.specs.declared.expr.ExprTree.TheViews as view
-use Rattle.cq_model.specs.Expr.{Expr, Negate, Plus, Times}
+use Rattle.cq_model.specs.Expr.{Expr, Plus, Times}
 use Rattle.cq_model.specs.Eval.{plus, times, negated, eval}
+use Rattle.cq_model.specs.Exact.{IsExactAt, ValueInRange}
 use Rattle.cq_model.specs.Trees.{expr_of}
-use Rattle.cq_model.specs.Width.{Extent, extent, extent_of, extent_plus, extent_times, sizes_of, value_size, width}
-use Rattle.cq_model.proofs.Sizes.{size-plus, size-times}
+use Rattle.cq_model.specs.Width.{Extent, extent_of, extent_plus, extent_times, width}
 use Rattle.cq_eval.proofs.Trees.{through, tree-Negate, tree-Product, tree-Sum}
 
 -- the next of what is left
@@ -38,102 +36,76 @@ pub widest-front : (need : ℕ → ℕ → ℕ) (a : Extent) (xs : List Extent) 
 widest-front need a [] = omega arith
 widest-front need a (x ∷ xs) = omega (arith, widest-front need (extend need a x) xs)
 
--- Of a chain a front is worked out to v: what is left completes its value and its extent.
-pub record Evaluating (need : ℕ → ℕ → ℕ) (op : Value → Value → Value) (row : Row) (left : List ExprTree) (v : Value) (whole : Expr) : Type 0 where
-  pub so_far : Extent
-  pub extents : fold (extend need) so_far (map (λ t. extent (expr_of t) row) left) ≡ extent whole row
-  pub values : fold op v (map (λ t. eval (expr_of t) row) left) ≡ eval whole row
-  pub small : value_size v ≤ so_far.size
+-- Of a chain a front is worked out to v, and what is left completes the expression.
+pub record Evaluating (node : Expr → Expr → Expr) (row : Row) (left : List ExprTree) (v : Value) (whole : Expr) : Type 0 where
+  pub front : Expr
+  pub completes : fold node front (map expr_of left) ≡ whole
+  pub value : v ≡ eval front row
 
--- larger parts need more, and what is worked out of two values is no larger than they need
-pub record IsBounded (need : ℕ → ℕ → ℕ) (op : Value → Value → Value) : Type 0 where
-  pub grows : (a b c d : ℕ) → a ≤ b → c ≤ d → need a c ≤ need b d
-  pub small : (v w : Value) → value_size (op v w) ≤ need (value_size v) (value_size w)
+-- a node of arithmetic: it works out its parts' values, and where it is exact, so are they, and its result fits
+pub record IsArithmetic (node : Expr → Expr → Expr) (op : Value → Value → Value) : Type 0 where
+  pub means : (a b : Expr) (row : Row) → op (eval a row) (eval b row) ≡ eval (node a b) row
+  pub exact : (a b : Expr) (row : Row) → IsExactAt (node a b) row → IsExactAt a row × IsExactAt b row × ValueInRange (op (eval a row) (eval b row))
 
-pub sums : IsBounded ◌+◌ plus
-sums = record { grows = λ a b c d h k. omega (arith, h, k); small = size-plus }
+pub sums : IsArithmetic Plus plus
+sums = record { means = λ a b row. refl; exact = λ a b row exact. exact }
 
-pub products : IsBounded ◌*◌ times
-products = record { grows = λ a b c d h k. mul-le a c b d h k; small = size-times }
+pub products : IsArithmetic Times times
+products = record { means = λ a b row. refl; exact = λ a b row exact. exact }
 
-module _ (need : ℕ → ℕ → ℕ) (op : Value → Value → Value) (bounded : IsBounded need op) (row : Row) (whole : Expr) where
-  -- the first part is worked out
-  start : (first : ExprTree) (items : List ExprTree) (v : Value)
-      → extent whole row ≡ fold (extend need) (extent (expr_of first) row) (map (λ t. extent (expr_of t) row) items)
-      → eval whole row ≡ fold op (eval (expr_of first) row) (map (λ t. eval (expr_of t) row) items)
-      → v ≡ eval (expr_of first) row → value_size v ≤ (extent (expr_of first) row).size → Evaluating need op row items v whole
-  start first items v wide is same small = record {
-    so_far = extent (expr_of first) row;
-    extents = sym wide;
-    values = rw same (sym is);
-    small = small;
-  }
+module _ (node : Expr → Expr → Expr) (op : Value → Value → Value) (arithmetic : IsArithmetic node op) (row : Row) where
+  -- where a chain is exact, so is its front
+  front-exact : (front : Expr) (es : List Expr) → IsExactAt (fold node front es) row → IsExactAt front row
+  front-exact front [] exact = exact
+  front-exact front (e ∷ es) exact = (arithmetic.exact front e row (front-exact (node front e) es exact)).0
 
-  module _ (items : List ExprTree) (i : ℕ) (part : ExprTree) (v : Value) (more : i < length items) (is : part ≡ get_or items i part) where
+  module _ (whole : Expr) (items : List ExprTree) (i : ℕ) (part : ExprTree) (v : Value) (more : i < length items) (is : part ≡ get_or items i part) where
+    -- where the whole is exact, so is the next part, and what it makes of the front fits
+    pub within : IsExactAt whole row → Evaluating node row (drop i items) v whole → IsExactAt (expr_of part) row × ValueInRange (op v (eval (expr_of part) row))
+    within exact e =
+        let left = chain-next node expr_of items i part e.front whole more is e.completes in
+        let both = arithmetic.exact e.front (expr_of part) row (front-exact (node e.front (expr_of part)) (map expr_of (drop (i + 1) items)) (rw left exact)) in
+        (both.1, rw e.value both.2)
+
     -- one part more
-    pub next : (w : Value) → w ≡ eval (expr_of part) row → value_size w ≤ (extent (expr_of part) row).size → Evaluating need op row (drop i items) v whole → Evaluating need op row (drop (i + 1) items) (op v w) whole
-    next w same small e = record {
-      so_far = extend need e.so_far (extent (expr_of part) row);
-      extents = chain-next (extend need) (λ t. extent (expr_of t) row) items i part e.so_far (extent whole row) more is e.extents;
-      values = rw same (chain-next op (λ t. eval (expr_of t) row) items i part v (eval whole row) more is e.values);
-      small = le_trans (bounded.small v w) (bounded.grows (value_size v) e.so_far.size (value_size w) (extent (expr_of part) row).size e.small small);
+    pub next : (w : Value) → w ≡ eval (expr_of part) row → Evaluating node row (drop i items) v whole → Evaluating node row (drop (i + 1) items) (op v w) whole
+    next w is_value e = record {
+      front = node e.front (expr_of part);
+      completes = chain-next node expr_of items i part e.front whole more is e.completes;
+      value = rw (e.value, is_value) (arithmetic.means e.front (expr_of part) row);
     }
 
-    -- the next part, and what it makes of the front, are within the whole
-    pub within : Evaluating need op row (drop i items) v whole → ((extent (expr_of part) row).widest ≤ (extent whole row).widest) × (need (value_size v) (extent (expr_of part) row).size ≤ (extent whole row).widest)
-    within e =
-        let whole_is = ap {B = ℕ} (λ (x : Extent). x.widest) (chain-next (extend need) (λ t. extent (expr_of t) row) items i part e.so_far (extent whole row) more is e.extents) in
-        let front = widest-front need (extend need e.so_far (extent (expr_of part) row)) (map (λ t. extent (expr_of t) row) (drop (i + 1) items)) in
-        let both = bounded.grows (value_size v) e.so_far.size (extent (expr_of part) row).size (extent (expr_of part) row).size e.small (omega arith) in
-        (omega (arith, front, whole_is), omega (arith, front, whole_is, both))
-
   -- at the end the front is the whole
-  pub finish : (items : List ExprTree) (i : ℕ) (v : Value) → length items ≤ i → Evaluating need op row (drop i items) v whole → (v ≡ eval whole row) × (value_size v ≤ (extent whole row).size)
-  finish items i v h e =
-      let wide = chain-end (extend need) (λ t. extent (expr_of t) row) items i e.so_far (extent whole row) h e.extents in
-      (chain-end op (λ t. eval (expr_of t) row) items i v (eval whole row) h e.values, omega (arith, e.small, ap {B = ℕ} (λ (x : Extent). x.size) wide))
+  pub finish : (whole : Expr) (items : List ExprTree) (i : ℕ) (v : Value) → length items ≤ i → Evaluating node row (drop i items) v whole → v ≡ eval whole row
+  finish whole items i v h e = e.value ∙ ap (λ x. eval x row) (chain-end node expr_of items i e.front whole h e.completes)
+
+module _ (row : Row) (tree : ExprTree) (first : Box ExprTree Global) (rest : Vec ExprTree Global) (head : ExprTree) (one : head ≡ first.value) where
+  module _ (items : List ExprTree) (same : items ≡ rest.items) (v : Value) (is_value : v ≡ eval (expr_of head) row) where
+    -- a sum begins with its first term
+    pub sum-start : tree ≡ view.Sum first rest → Evaluating Plus row items v (expr_of tree)
+    sum-start is = record { front = expr_of head; completes = rw (is, one, same) (sym (tree-Sum first rest)); value = is_value }
+
+    -- and a product with its first factor
+    pub product-start : tree ≡ view.Product first rest → Evaluating Times row items v (expr_of tree)
+    product-start is = record { front = expr_of head; completes = rw (is, one, same) (sym (tree-Product first rest)); value = is_value }
+
+  -- where a chain is exact, so is its first part
+  pub first-term : tree ≡ view.Sum first rest → IsExactAt (expr_of tree) row → IsExactAt (expr_of head) row
+  first-term is exact = rw one (front-exact Plus plus sums row (expr_of first.value) (map expr_of rest.items) (rw (is, tree-Sum first rest) at exact))
+
+  pub first-factor : tree ≡ view.Product first rest → IsExactAt (expr_of tree) row → IsExactAt (expr_of head) row
+  first-factor is exact = rw one (front-exact Times times products row (expr_of first.value) (map expr_of rest.items) (rw (is, tree-Product first rest) at exact))
+
+-- where a minus is exact, so is its part, and the negated number fits
+pub negated-part : (row : Row) (tree : ExprTree) (part : Box ExprTree Global) (x : ExprTree) → tree ≡ view.Negate part → x ≡ part.value
+    → IsExactAt (expr_of tree) row → IsExactAt (expr_of x) row × ValueInRange (negated (eval (expr_of x) row))
+negated-part row tree part x is same exact = rw same (rw (is, tree-Negate part) at exact)
 
 module _ (first : Box ExprTree Global) (rest : Vec ExprTree Global) where
-  -- the value and the extent of a sum
-  pub eval-Sum : (row : Row) → eval (expr_of (view.Sum first rest)) row ≡ fold plus (eval (expr_of first.value) row) (map (λ t. eval (expr_of t) row) rest.items)
-  eval-Sum row = ap (λ e. eval e row) (tree-Sum first rest) ∙ through expr_of (λ e. eval e row) Plus plus (λ a b. refl) (expr_of first.value) rest.items
-
+  -- the extent of a sum
   pub width-Sum : (z : ℕ → ℕ) → width (expr_of (view.Sum first rest)) z ≡ fold extent_plus (width (expr_of first.value) z) (map (λ t. width (expr_of t) z) rest.items)
   width-Sum z = ap (λ e. width e z) (tree-Sum first rest) ∙ through expr_of (λ e. width e z) Plus extent_plus (λ a b. refl) (expr_of first.value) rest.items
 
   -- and of a product
-  pub eval-Product : (row : Row) → eval (expr_of (view.Product first rest)) row ≡ fold times (eval (expr_of first.value) row) (map (λ t. eval (expr_of t) row) rest.items)
-  eval-Product row = ap (λ e. eval e row) (tree-Product first rest) ∙ through expr_of (λ e. eval e row) Times times (λ a b. refl) (expr_of first.value) rest.items
-
   pub width-Product : (z : ℕ → ℕ) → width (expr_of (view.Product first rest)) z ≡ fold extent_times (width (expr_of first.value) z) (map (λ t. width (expr_of t) z) rest.items)
   width-Product z = ap (λ e. width e z) (tree-Product first rest) ∙ through expr_of (λ e. width e z) Times extent_times (λ a b. refl) (expr_of first.value) rest.items
-
-module _ (row : Row) (tree : ExprTree) (first : Box ExprTree Global) (rest : Vec ExprTree Global) (head : ExprTree) (items : List ExprTree) (one : head ≡ first.value) (same : items ≡ rest.items) (v : Value) where
-  -- a sum begins with its first term
-  pub sum-start : tree ≡ view.Sum first rest → v ≡ eval (expr_of head) row → value_size v ≤ (extent (expr_of head) row).size → Evaluating ◌+◌ plus row items v (expr_of tree)
-  sum-start is value small = rw (is, same) (start ◌+◌ plus sums row (expr_of (view.Sum first rest)) first.value rest.items v (width-Sum first rest (sizes_of row)) (eval-Sum first rest row) (value ∙ ap (λ t. eval (expr_of t) row) one) (omega (arith, small, ap (λ t. (extent (expr_of t) row).size) one)))
-
-  -- and a product with its first factor
-  pub product-start : tree ≡ view.Product first rest → v ≡ eval (expr_of head) row → value_size v ≤ (extent (expr_of head) row).size → Evaluating ◌*◌ times row items v (expr_of tree)
-  product-start is value small = rw (is, same) (start ◌*◌ times products row (expr_of (view.Product first rest)) first.value rest.items v (width-Product first rest (sizes_of row)) (eval-Product first rest row) (value ∙ ap (λ t. eval (expr_of t) row) one) (omega (arith, small, ap (λ t. (extent (expr_of t) row).size) one)))
-
-module _ (row : Row) (tree : ExprTree) (first : Box ExprTree Global) (rest : Vec ExprTree Global) (head : ExprTree) (one : head ≡ first.value) where
-  -- the first part of a chain is within it
-  pub first-term : tree ≡ view.Sum first rest → (extent (expr_of head) row).widest ≤ (extent (expr_of tree) row).widest
-  first-term is =
-      let e = ap {B = ℕ} (λ (x : Extent). x.widest) (ap (λ t. extent (expr_of t) row) is ∙ width-Sum first rest (sizes_of row)) in
-      omega (arith, e, ap (λ t. (extent (expr_of t) row).widest) one, widest-front ◌+◌ (extent (expr_of first.value) row) (map (λ t. extent (expr_of t) row) rest.items))
-
-  pub first-factor : tree ≡ view.Product first rest → (extent (expr_of head) row).widest ≤ (extent (expr_of tree) row).widest
-  first-factor is =
-      let e = ap {B = ℕ} (λ (x : Extent). x.widest) (ap (λ t. extent (expr_of t) row) is ∙ width-Product first rest (sizes_of row)) in
-      omega (arith, e, ap (λ t. (extent (expr_of t) row).widest) one, widest-front ◌*◌ (extent (expr_of first.value) row) (map (λ t. extent (expr_of t) row) rest.items))
-
--- a negated part is as large as the part
-pub negated-within : (row : Row) (tree : ExprTree) (part : Box ExprTree Global) (x : ExprTree) → tree ≡ view.Negate part → x ≡ part.value
-    → ((extent (expr_of x) row).widest ≤ (extent (expr_of tree) row).widest) × ((extent (expr_of x) row).size ≤ (extent (expr_of tree) row).widest) × ((extent (expr_of x) row).size ≡ (extent (expr_of tree) row).size)
-negated-within row tree part x is same =
-    let h : extent (expr_of tree) row ≡ extent_of (extent (expr_of x) row).size (extent (expr_of x) row).widest =
-    ap (λ t. extent (expr_of t) row) is ∙ ap (λ e. extent e row) (tree-Negate part) ∙ ap (λ t. extent_of (extent (expr_of t) row).size (extent (expr_of t) row).widest) (sym same) in
-    let w = ap {B = ℕ} (λ (y : Extent). y.widest) h in
-    (omega (arith, w), omega (arith, w), sym (ap {B = ℕ} (λ (y : Extent). y.size) h))

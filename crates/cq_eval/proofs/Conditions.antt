@@ -1,6 +1,6 @@
 -- Conditions over several parts: what is left of a chain completes its truth.
-use Rattle.std.proofs.Common.{◌≡◌, ℕ, zero, suc, ◌≤◌, ◌<◌, max, List, [], ◌∷◌, map, drop, length, get_or, refl, sym, ◌∙◌, ap, arith, Vec, Box, Global}
-use Rattle.std.specs.List.{fold}
+use Rattle.std.proofs.Common.{◌≡◌, ℕ, zero, suc, ◌<◌, max, List, [], ◌∷◌, map, length, get_or, refl, sym, ◌∙◌, ap, arith, Vec, Box, Global}
+use Rattle.std.specs.List.{AllByRecursion, fold}
 use Rattle.cq_values.specs.Value.{Row}
 use Rattle.cq_values.specs.declared.truth.Truth.{Truth}
 use Rattle.cq_values.specs.declared.truth.Truth.TheVariants.{True, False}
@@ -8,7 +8,8 @@ use Rattle.cq_values.specs.Truth.{and_truth, or_truth}
 use Rattle.cq_model.specs.declared.expr.CondTree.{CondTree}
 use Rattle.cq_model.specs.declared.expr.CondTree.TheViews as view
 use Rattle.cq_model.specs.Condition.{holds}
-use Rattle.cq_model.specs.Expr.{And, Or}
+use Rattle.cq_model.specs.Exact.{AreExactIn}
+use Rattle.cq_model.specs.Expr.{Cond, And, Or}
 use Rattle.cq_model.specs.Trees.{cond_of}
 use Rattle.cq_model.specs.Width.{widest_in}
 use Rattle.cq_eval.proofs.Trees.{through, tree-And, tree-Or}
@@ -30,16 +31,11 @@ pub map-map : {X Y Z : Type 0} (f : X → Y) (g : Y → Z) (xs : List X) → map
 map-map f g [] = refl
 map-map f g (x ∷ xs) = ap (λ zs. g (f x) ∷ zs) (map-map f g xs)
 
--- the greatest is at least what it begins with
-pub max-start : (n : ℕ) (ns : List ℕ) → n ≤ fold max n ns
-max-start n [] = omega arith
-max-start n (m ∷ ns) = omega (arith, max-start (max n m) ns)
-
--- and at least each of the numbers
-pub max-part : {X : Type 0} (f : X → ℕ) (n : ℕ) (xs : List X) (i : ℕ) (d x : X) → i < length xs → x ≡ get_or xs i d → f x ≤ fold max n (map f xs)
-max-part f n [] i d x h is = absurd (omega arith)
-max-part f n (y ∷ ys) zero d x h is = omega (arith, ap f is, max-start (max n (f y)) (map f ys))
-max-part f n (y ∷ ys) (suc i) d x h is = max-part f (max n (f y)) ys i d x (omega arith) is
+-- what holds of each holds of the one at a place
+pub at-place : {X Y : Type 0} (P : Y → Type 0) (f : X → Y) (xs : List X) (i : ℕ) (d x : X) → i < length xs → x ≡ get_or xs i d → AllByRecursion P (map f xs) → P (f x)
+at-place P f [] i d x h is all = absurd (omega arith)
+at-place P f (y ∷ ys) zero d x h is all = rw is all.0
+at-place P f (y ∷ ys) (suc i) d x h is all = at-place P f ys i d x (omega arith) is all.1
 
 false-stays : (ts : List Truth) → fold and_truth False ts ≡ False
 false-stays [] = refl
@@ -57,25 +53,31 @@ false-found so_far whole left found e = found ∙ sym (false-stays left) ∙ ap 
 pub true-found : (so_far whole : Truth) (left : List Truth) → so_far ≡ True → fold or_truth so_far left ≡ whole → so_far ≡ whole
 true-found so_far whole left found e = found ∙ sym (true-stays left) ∙ ap (λ t. fold or_truth t left) (sym found) ∙ e
 
--- one part of a condition is not wider than the condition
-module _ (z : ℕ → ℕ) (whole : CondTree) (first : Box CondTree Global) (rest : Vec CondTree Global) (head : CondTree) (items : List CondTree) (one : head ≡ first.value) (same : items ≡ rest.items) where
-  and-is : whole ≡ view.And first rest → widest_in (cond_of whole) z ≡ fold max (widest_in (cond_of head) z) (map (λ t. widest_in (cond_of t) z) items)
-  and-is is = rw (one, same) (ap (λ t. widest_in (cond_of t) z) is ∙ widest-And first rest z)
+-- where a chain of two-part nodes is exact, so is each of its parts
+parts-exact : (node : Cond → Cond → Cond) (r : Row) → ((a b : Cond) → AreExactIn (node a b) r → AreExactIn a r × AreExactIn b r) → (c : Cond) (cs : List Cond)
+    → AreExactIn (fold node c cs) r → AreExactIn c r × AllByRecursion (λ x. AreExactIn x r) cs
+parts-exact node r both c [] exact = (exact, tt)
+parts-exact node r both c (d ∷ ds) exact =
+    let later = parts-exact node r both (node c d) ds exact in
+    let first = both c d later.0 in
+    (first.0, (first.1, later.1))
 
-  or-is : whole ≡ view.Or first rest → widest_in (cond_of whole) z ≡ fold max (widest_in (cond_of head) z) (map (λ t. widest_in (cond_of t) z) items)
-  or-is is = rw (one, same) (ap (λ t. widest_in (cond_of t) z) is ∙ widest-Or first rest z)
+module _ (r : Row) (whole : CondTree) (first : Box CondTree Global) (rest : Vec CondTree Global) (head : CondTree) (items : List CondTree) (one : head ≡ first.value) (same : items ≡ rest.items) (exact : AreExactIn (cond_of whole) r) where
+  -- the parts of a chain of AND are exact where the chain is
+  pub and-exact : whole ≡ view.And first rest → AreExactIn (cond_of head) r × AllByRecursion (λ c. AreExactIn c r) (map cond_of items)
+  and-exact is = rw (one, same) (parts-exact And r (λ a b h. h) (cond_of first.value) (map cond_of rest.items) (rw (is, tree-And first rest) at exact))
 
-  pub and-first : whole ≡ view.And first rest → widest_in (cond_of head) z ≤ widest_in (cond_of whole) z
-  and-first is = omega (arith, and-is is, max-start (widest_in (cond_of head) z) (map (λ t. widest_in (cond_of t) z) items))
+  -- and those of OR
+  pub or-exact : whole ≡ view.Or first rest → AreExactIn (cond_of head) r × AllByRecursion (λ c. AreExactIn c r) (map cond_of items)
+  or-exact is = rw (one, same) (parts-exact Or r (λ a b h. h) (cond_of first.value) (map cond_of rest.items) (rw (is, tree-Or first rest) at exact))
 
-  pub or-first : whole ≡ view.Or first rest → widest_in (cond_of head) z ≤ widest_in (cond_of whole) z
-  or-first is = omega (arith, or-is is, max-start (widest_in (cond_of head) z) (map (λ t. widest_in (cond_of t) z) items))
+  -- in particular the one at a place
+  module _ (i : ℕ) (part : CondTree) (more : i < length items) (at : part ≡ get_or items i part) where
+    pub and-part : whole ≡ view.And first rest → AreExactIn (cond_of part) r
+    and-part is = at-place (λ c. AreExactIn c r) cond_of items i part part more at (and-exact is).1
 
-  pub and-within : (i : ℕ) (part : CondTree) → whole ≡ view.And first rest → i < length items → part ≡ get_or items i part → widest_in (cond_of part) z ≤ widest_in (cond_of whole) z
-  and-within i part is h at = omega (arith, and-is is, max-part (λ t. widest_in (cond_of t) z) (widest_in (cond_of head) z) items i part part h at)
-
-  pub or-within : (i : ℕ) (part : CondTree) → whole ≡ view.Or first rest → i < length items → part ≡ get_or items i part → widest_in (cond_of part) z ≤ widest_in (cond_of whole) z
-  or-within i part is h at = omega (arith, or-is is, max-part (λ t. widest_in (cond_of t) z) (widest_in (cond_of head) z) items i part part h at)
+    pub or-part : whole ≡ view.Or first rest → AreExactIn (cond_of part) r
+    or-part is = at-place (λ c. AreExactIn c r) cond_of items i part part more at (or-exact is).1
 
 -- before its second part a chain has the truth of its first, and the rest to come
 module _ (r : Row) (whole : CondTree) (first : Box CondTree Global) (rest : Vec CondTree Global) (head : CondTree) (items : List CondTree) (truth : Truth) (one : head ≡ first.value) (same : items ≡ rest.items) (is_truth : truth ≡ holds (cond_of head) r) where

@@ -5,3 +5,4 @@ pub mod Chains
 pub mod Conditions
 pub mod Bounds
 pub mod Widths
+pub mod Exact

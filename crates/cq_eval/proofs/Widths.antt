@@ -1,5 +1,5 @@
 -- Which expressions and conditions have a value too wide on the way.
-use Rattle.std.proofs.Common.{◌≡◌, ℕ, ◌+◌, ◌*◌, ◌^◌, ◌<◌, ◌≤◌, max, nat_lt, if◌then◌else◌, ◌&&◌, Bool, true, false, Some, None, List, [], ◌∷◌, map, drop, length, get_or, refl, sym, ◌∙◌, ap, arith, Vec, Box, Global, ◌⊎◌, inl, inr}
+use Rattle.std.proofs.Common.{◌≡◌, ℕ, ◌+◌, ◌*◌, ◌^◌, ◌<◌, ◌≤◌, max, nat_lt, if◌then◌else◌, ◌&&◌, true, false, Some, None, List, [], ◌∷◌, map, drop, length, get_or, sym, ◌∙◌, ap, arith, Vec, Box, Global, ◌⊎◌, inl, inr}
 use Rattle.std.specs.List.{fold, list_all}
 use Rattle.cq_model.specs.declared.expr.ExprTree.{ExprTree}
 use Rattle.cq_model.specs.declared.expr.ExprTree.TheViews as view
@@ -8,7 +8,7 @@ use Rattle.cq_model.specs.declared.expr.CondTree.TheViews as cond_view
 use Rattle.cq_model.specs.Expr.{Expr}
 use Rattle.cq_model.specs.Trees.{cond_of, expr_of}
 use Rattle.cq_model.specs.Width.{Extent, extent_of, fitting, width, widest_in}
-use Rattle.cq_eval.proofs.Chains.{IsBounded, chain-next, extend, widest-front, width-Product, width-Sum}
+use Rattle.cq_eval.proofs.Chains.{chain-next, extend, widest-front, width-Product, width-Sum}
 use Rattle.cq_eval.proofs.Conditions.{map-map, widest-And, widest-Or}
 use Rattle.cq_eval.proofs.Trees.{tree-Negate}
 

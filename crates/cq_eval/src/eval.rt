@@ -1,11 +1,11 @@
 //! The value of an expression in a row, without a copy of a text.
-ghost use Rattle.std.specs.Prelude.{◌*◌, ◌+◌, ◌<◌, ◌^◌, ◌≡◌, ◌≤◌};
+ghost use Rattle.std.specs.Prelude.{◌≡◌};
 ghost use Rattle.cq_values.specs.Lent.{owned};
 ghost use Rattle.cq_values.specs.Value.{column};
 ghost use Rattle.cq_model.specs.Eval.{eval, extracted, negated, plus, times};
+ghost use Rattle.cq_model.specs.Exact.{IsExactAt, ValueInRange};
 ghost use Rattle.cq_model.specs.Trees.{expr_of};
-ghost use Rattle.cq_eval.specs.Laws.{BoundHolds, BoundHoldsIn};
-ghost use Rattle.cq_model.specs.Width.{extent, part_limit, value_size};
+ghost use Rattle.cq_eval.specs.Laws.{BoundHolds, BoundHoldsIn, NarrowIsExact, NarrowIsExactIn};
 
 use cq_model::{Expr, ExprTree};
 use cq_values::{DayPart, Lent, Value};
@@ -22,16 +22,15 @@ pub fn lend_column(row: &[Value], place: usize) -> Lent<'_>
 
 /// The value of the expression in the row. It takes no memory.
 pub fn eval_row<'a>(expr: &'a Expr, row: &'a [Value]) -> Lent<'a>
-    requires { (extent expr.now row.now).widest < 2 ^ 127 }
+    requires { IsExactAt expr.now row.now }
     ensures { owned result ≡ eval expr.now row.now }
 {
     eval_tree(expr.tree(), row)
 }
 
 pub(crate) fn eval_tree<'a>(tree: &'a ExprTree, row: &'a [Value]) -> Lent<'a>
-    requires { (extent (expr_of tree.now) row.now).widest < 2 ^ 127 }
-    ensures value { owned result ≡ eval (expr_of tree.now) row.now }
-    ensures small { value_size (owned result) ≤ (extent (expr_of tree.now) row.now).size }
+    requires { IsExactAt (expr_of tree.now) row.now }
+    ensures { owned result ≡ eval (expr_of tree.now) row.now }
 {
     match tree {
         ExprTree::Column(place) => lend_column(row, *place),
@@ -56,7 +55,7 @@ pub(crate) fn eval_tree<'a>(tree: &'a ExprTree, row: &'a [Value]) -> Lent<'a>
 }
 
 fn negate<'a>(a: &Lent<'_>) -> Lent<'a>
-    requires { value_size (owned a.now) < 2 ^ 127 }
+    requires { ValueInRange (negated (owned a.now)) }
     ensures { owned result ≡ negated (owned a.now) }
 {
     match a {
@@ -66,7 +65,7 @@ fn negate<'a>(a: &Lent<'_>) -> Lent<'a>
 }
 
 fn add<'a>(a: &Lent<'_>, b: &Lent<'_>) -> Lent<'a>
-    requires { value_size (owned a.now) + value_size (owned b.now) < 2 ^ 127 }
+    requires { ValueInRange (plus (owned a.now) (owned b.now)) }
     ensures { owned result ≡ plus (owned a.now) (owned b.now) }
 {
     match (a, b) {
@@ -76,7 +75,7 @@ fn add<'a>(a: &Lent<'_>, b: &Lent<'_>) -> Lent<'a>
 }
 
 fn multiply<'a>(a: &Lent<'_>, b: &Lent<'_>) -> Lent<'a>
-    requires { value_size (owned a.now) * value_size (owned b.now) < 2 ^ 127 }
+    requires { ValueInRange (times (owned a.now) (owned b.now)) }
     ensures { owned result ≡ times (owned a.now) (owned b.now) }
 {
     match (a, b) {
@@ -86,8 +85,7 @@ fn multiply<'a>(a: &Lent<'_>, b: &Lent<'_>) -> Lent<'a>
 }
 
 fn extract<'a>(part: DayPart, value: &Lent<'_>) -> Lent<'a>
-    ensures value { owned result ≡ extracted part (owned value.now) }
-    ensures small { value_size (owned result) ≤ part_limit part }
+    ensures { owned result ≡ extracted part (owned value.now) }
 {
     match value {
         Lent::Day(day) => {
@@ -106,4 +104,10 @@ fn extract<'a>(part: DayPart, value: &Lent<'_>) -> Lent<'a>
 pub fn bound_holds()
     ensures expressions { BoundHolds }
     ensures conditions { BoundHoldsIn }
+{}
+
+/// In a row where nothing is too wide, each exact result of arithmetic fits.
+pub fn narrow_is_exact()
+    ensures expressions { NarrowIsExact }
+    ensures conditions { NarrowIsExactIn }
 {}

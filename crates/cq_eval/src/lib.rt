@@ -6,7 +6,7 @@ mod pattern;
 mod truth;
 mod width;
 
-pub use eval::{bound_holds, eval_row, lend_column};
+pub use eval::{bound_holds, eval_row, lend_column, narrow_is_exact};
 pub use pattern::{like, like_decides};
 pub use truth::{compare, holds_row};
 pub use width::{fits, width_of};

@@ -1,13 +1,13 @@
 //! The truth of a condition in a row.
-ghost use Rattle.std.specs.Prelude.{◌<◌, ◌^◌, ◌≡◌, map};
+ghost use Rattle.std.specs.Prelude.{◌≡◌, map};
 ghost use Rattle.std.specs.Str.{chars};
 ghost use Rattle.cq_values.specs.Lent.{owned};
 ghost use Rattle.cq_values.specs.Truth.{truth_of};
 ghost use Rattle.cq_values.specs.Comparison.{compared, passes};
-ghost use Rattle.cq_model.specs.Condition.{any_of, between, holds, is_null, liked};
-ghost use Rattle.cq_model.specs.Eval.{eval};
+ghost use Rattle.cq_model.specs.Condition.{between, holds, is_null, liked};
+ghost use Rattle.cq_model.specs.Exact.{AreExactAt, AreExactIn};
 ghost use Rattle.cq_model.specs.Trees.{cond_of, expr_of};
-ghost use Rattle.cq_model.specs.Width.{sizes_of, widest_at, widest_of};
+ghost use Rattle.cq_eval.specs.Choices.{equals_one};
 
 use crate::eval::eval_tree;
 use crate::pattern::like;
@@ -17,14 +17,14 @@ use std::cmp::Ordering;
 
 /// The truth of the condition in the row. It takes no memory, and a chain is left as soon as its truth is known.
 pub fn holds_row(cond: &Cond, row: &[Value]) -> Truth
-    requires { widest_at cond.now row.now < 2 ^ 127 }
+    requires { AreExactIn cond.now row.now }
     ensures { result ≡ holds cond.now row.now }
 {
     holds_tree(cond.tree(), row)
 }
 
 fn holds_tree(tree: &CondTree, row: &[Value]) -> Truth
-    requires { widest_at (cond_of tree.now) row.now < 2 ^ 127 }
+    requires { AreExactIn (cond_of tree.now) row.now }
     ensures { result ≡ holds (cond_of tree.now) row.now }
 {
     match tree {
@@ -81,8 +81,8 @@ pub(crate) fn between(value: &Lent<'_>, least: &Lent<'_>, greatest: &Lent<'_>) -
 }
 
 pub(crate) fn is_in(value: &Lent<'_>, choices: &[ExprTree], row: &[Value]) -> Truth
-    requires { widest_of (sizes_of row.now) (map expr_of choices.now) < 2 ^ 127 }
-    ensures { result ≡ any_of (map (λ x. compared Comparison.Equal (owned value.now) (eval x row.now)) (map expr_of choices.now)) }
+    requires { AreExactAt (map expr_of choices.now) row.now }
+    ensures { result ≡ equals_one (owned value.now) (map expr_of choices.now) row.now }
 {
     let mut truth = Truth::False;
     for choice in choices {

@@ -2,3 +2,4 @@ pub mod Chains
 pub mod Nodes
 pub mod Narrow
 pub mod Places
+pub mod Standing

@@ -12,7 +12,7 @@ use Rattle.cq_language.specs.declared.written.ColumnName.{ColumnName}
 use Rattle.cq_model.specs.Expr.{Cond}
 use Rattle.cq_binding.specs.Placed.{named_day, placed_expr, placed_exprs, turned, written_number}
 use Rattle.cq_model.specs.Width.{part_limit, value_size, widest, widest_in, width}
-use Rattle.cq_language.specs.Written.{Written, Choices, Number, Text, Date, Null, Column, Extract, Parens, Negative, Times, Plus, Minus, Compare, IsNull, Between, In, Like, Not, And, Or, NoChoice, Choice}
+use Rattle.cq_language.specs.Written.{Written, Choices, Number, Text, Date, Null, Column, Extract, CountAll, Aggregate, Parens, Negative, Times, Plus, Minus, Compare, IsNull, Between, In, Like, Not, And, Or, NoChoice, Choice}
 use Rattle.cq_binding.specs.declared.fault.Fault.{Fault}
 use Rattle.cq_binding.specs.declared.fault.Fault.TheVariants.{AggregateMisplaced, TooWide, TypeMismatch, UnknownTable}
 use Rattle.cq_binding.specs.declared.typing.Typing.{Typing}
@@ -99,6 +99,8 @@ module _ (s : Scope) (sizes : ℕ → ℕ) (kept : KeepSizes s sizes) where
         let p = stood (typed s a) (part_of part) t e in
         let x = narrow a p.0 p.1 in
         record { value = x.value; size = omega (arith, is_part part p.0 t p.2); condition = x.value }
+    narrow CountAll t e = absurd (cc e)
+    narrow (Aggregate function a) t e = absurd (cc e)
     narrow (Parens a) t e =
         let x = narrow a t e in
         record { value = x.value; size = x.size; condition = x.condition }

@@ -52,7 +52,7 @@ tree-Literal v = ap expr_of (sym (rolls-Literal v)) ∙ fold-roll-ExprTree Expr 
 tree-In : (e : ExprTree) (es : Vec ExprTree Global) → cond_of (conds.In e es) ≡ placed.In (expr_of e) (map expr_of es.items)
 tree-In e es = ap cond_of (sym (rolls-In-tree e es)) ∙ fold-roll-CondTree Cond cond_step (cond_node.In e es)
 
-written-In : (negated : Bool) (value : Box ExprNode Global) (among : Vec ExprNode Global) → written (nodes.In negated value among) ≡ In negated (written value.value) (choices (map written among.items))
+pub written-In : (negated : Bool) (value : Box ExprNode Global) (among : Vec ExprNode Global) → written (nodes.In negated value among) ≡ In negated (written value.value) (choices (map written among.items))
 written-In negated value among = ap written (sym (rolls-In negated value among)) ∙ fold-roll-ExprNode Written written_step (node.In negated value among)
 
 module _ (place : ColumnName → ℕ) where

@@ -1,9 +1,11 @@
 -- Expressions whose names become places.
-use Rattle.std.specs.Prelude.{◌≡◌, ◌<◌, ◌≤◌, ◌^◌, ℕ, true, Some, option_map, Ok, slice_index_or}
+use Rattle.std.specs.Prelude.{◌≡◌, ◌<◌, ◌≤◌, ◌^◌, ℕ, true, Option, Some, None, option_map, Result, Ok, MatchResult, slice_index_or}
 use Rattle.cq_language.specs.declared.written.ColumnName.{ColumnName}
 use Rattle.cq_model.specs.Width.{width, widest_in}
 use Rattle.cq_language.specs.Written.{Written}
+use Rattle.cq_binding.specs.declared.fault.Fault.{Fault}
 use Rattle.cq_binding.specs.declared.typing.Typing.{Typing}
+use Rattle.cq_binding.specs.Checks.{MayRefuse}
 use Rattle.cq_binding.specs.Scopes.{bound_condition, bound_value, place_of}
 use Rattle.cq_binding.specs.Typing.{Scope, column_at, may_read, typed}
 use Rattle.cq_exprs.specs.declared.scope.Scope.{Scope as Source}
@@ -11,6 +13,10 @@ use Rattle.cq_exprs.specs.declared.scope.Scope.{Scope as Source}
 -- the source with its name, its columns, their sizes and GROUP BY as lists
 abbrev pub scope_of : Source → Scope
 scope_of s = record { known = s.known.now; columns = s.columns.now; sizes = s.sizes.now; grouped = option_map (λ group. group.now) s.grouped }
+
+-- an expression that is asked for as a whole is put in places where it has no fault, and else refused with its first
+abbrev pub Places : {X : Type 0} → (Scope → Written → X) → (Result Typing Fault → Option Fault) → Scope → Written → Result X Fault → Type 0
+Places put fault s w result = MatchResult result (λ x. (fault (typed s w) ≡ None) × (x ≡ put s w)) (MayRefuse (fault (typed s w)))
 
 -- what a column is that may be read is no larger than the source promises
 abbrev pub KeepSizes : Scope → (ℕ → ℕ) → Type 0

@@ -1,3 +1,4 @@
 pub mod Chains
 pub mod Expressions
 pub mod Terms
+pub mod Nodes

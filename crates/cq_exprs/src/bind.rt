@@ -1,25 +1,24 @@
 //! Expressions that are asked for as a whole: a condition as behind WHERE, a value as an item or behind an aggregate.
-ghost use Rattle.std.specs.Prelude.{◌≡◌, IfOk, MatchResult, None};
+ghost use Rattle.std.specs.Prelude.{◌≡◌, IfOk};
 ghost use Rattle.cq_binding.specs.Scopes.{bound_condition, bound_value};
-ghost use Rattle.cq_binding.specs.Checks.{MayRefuse};
 ghost use Rattle.cq_binding.specs.Kinds.{kind_type};
 ghost use Rattle.cq_binding.specs.Typing.{condition_fault, kept_fault, number_fault, type_of, typed, value_fault};
-ghost use Rattle.cq_exprs.specs.Expressions.{scope_of};
+ghost use Rattle.cq_exprs.specs.Expressions.{Places, scope_of};
+ghost use Rattle.cq_language.specs.Written.{written};
 
 use crate::placing::{cond_tree, expr_tree};
 use crate::scope::Scope;
 use crate::typings;
-use crate::walk::typing_of;
+use crate::walk::{node_typing, typing_of};
 use cq_binding::{Fault, Kind};
-use cq_language::SqlExpr;
+use cq_language::{ExprNode, SqlExpr};
 use cq_model::{Cond, Expr};
 use cq_values::Ty;
 use std::alloc::{AllocError, Global};
 
 /// The condition with places for names. It is refused with its first fault, and last for being none.
 pub fn bind_condition(alloc: Global, scope: &Scope<'_>, condition: &SqlExpr) -> Result<Cond, Fault>
-    ensures { MatchResult result (λ c. (condition_fault (typed (scope_of scope.now) condition.now) ≡ None)
-        × (c ≡ bound_condition (scope_of scope.now) condition.now)) (MayRefuse (condition_fault (typed (scope_of scope.now) condition.now))) }
+    ensures { Places bound_condition condition_fault (scope_of scope.now) condition.now result }
 {
     let typing = typing_of(scope, condition)?;
     typings::negation_of(typing)?;
@@ -28,32 +27,29 @@ pub fn bind_condition(alloc: Global, scope: &Scope<'_>, condition: &SqlExpr) -> 
 }
 
 /// The value with places for names. It is refused with its first fault, and last for being none.
-pub fn bind_value(alloc: Global, scope: &Scope<'_>, value: &SqlExpr) -> Result<Expr, Fault>
-    ensures { MatchResult result (λ e. (value_fault (typed (scope_of scope.now) value.now) ≡ None)
-        × (e ≡ bound_value (scope_of scope.now) value.now)) (MayRefuse (value_fault (typed (scope_of scope.now) value.now))) }
+pub fn bind_value(alloc: Global, scope: &Scope<'_>, value: &ExprNode) -> Result<Expr, Fault>
+    ensures { Places bound_value value_fault (scope_of scope.now) (written value.now) result }
 {
-    let typing = typing_of(scope, value)?;
+    let typing = node_typing(scope, value)?;
     typings::tested(typing)?;
     Ok(placed(alloc, scope, value)?)
 }
 
 /// The number with places for names, as SUM adds it. It is refused with its first fault, and last for being none.
-pub fn bind_number(alloc: Global, scope: &Scope<'_>, value: &SqlExpr) -> Result<Expr, Fault>
-    ensures { MatchResult result (λ e. (number_fault (typed (scope_of scope.now) value.now) ≡ None)
-        × (e ≡ bound_value (scope_of scope.now) value.now)) (MayRefuse (number_fault (typed (scope_of scope.now) value.now))) }
+pub fn bind_number(alloc: Global, scope: &Scope<'_>, value: &ExprNode) -> Result<Expr, Fault>
+    ensures { Places bound_value number_fault (scope_of scope.now) (written value.now) result }
 {
-    let typing = typing_of(scope, value)?;
+    let typing = node_typing(scope, value)?;
     typings::added(typing)?;
     Ok(placed(alloc, scope, value)?)
 }
 
 /// The value with places for names, as a column of a view keeps it. It is refused with its first fault, and last for being
 /// none, or NULL alone.
-pub fn bind_kept(alloc: Global, scope: &Scope<'_>, value: &SqlExpr) -> Result<Expr, Fault>
-    ensures { MatchResult result (λ e. (kept_fault (typed (scope_of scope.now) value.now) ≡ None)
-        × (e ≡ bound_value (scope_of scope.now) value.now)) (MayRefuse (kept_fault (typed (scope_of scope.now) value.now))) }
+pub fn bind_kept(alloc: Global, scope: &Scope<'_>, value: &ExprNode) -> Result<Expr, Fault>
+    ensures { Places bound_value kept_fault (scope_of scope.now) (written value.now) result }
 {
-    let typing = typing_of(scope, value)?;
+    let typing = node_typing(scope, value)?;
     typings::kept_value(typing)?;
     Ok(placed(alloc, scope, value)?)
 }
@@ -77,9 +73,9 @@ fn kind_type(kind: Kind) -> Ty
     }
 }
 
-fn placed(alloc: Global, scope: &Scope<'_>, value: &SqlExpr) -> Result<Expr, AllocError>
-    ensures { IfOk result (λ e. e ≡ bound_value (scope_of scope.now) value.now) }
+fn placed(alloc: Global, scope: &Scope<'_>, value: &ExprNode) -> Result<Expr, AllocError>
+    ensures { IfOk result (λ e. e ≡ bound_value (scope_of scope.now) (written value.now)) }
 {
-    let tree = expr_tree(alloc, scope, value.node())?;
+    let tree = expr_tree(alloc, scope, value)?;
     Ok(Expr::new(tree))
 }

@@ -1,12 +1,13 @@
 //! What is written with places for names.
 ghost use Rattle.std.specs.Prelude.{◌==◌, ◌||◌, ◌≡◌, IfOk, length, map};
 ghost use Rattle.cq_model.specs.Expr as terms;
-ghost use Rattle.cq_binding.specs.Placed.{named_day, placed_cond, placed_expr, turned, written_number};
+ghost use Rattle.cq_binding.specs.Placed.{named_day, turned, written_number};
 ghost use Rattle.cq_model.specs.Trees.{cond_of, expr_of};
 ghost use Rattle.cq_language.specs.Written.{written};
-ghost use Rattle.cq_binding.specs.Scopes.{place_of};
+ghost use Rattle.cq_binding.specs.Scopes.{bound_condition, bound_value};
 ghost use Rattle.cq_exprs.specs.Expressions.{scope_of};
-ghost use Rattle.cq_exprs.specs.Terms.{later_terms, signed_term};
+ghost use Rattle.cq_exprs.specs.Nodes.{bound_conditions, bound_terms, bound_values};
+ghost use Rattle.cq_exprs.specs.Terms.{signed_term};
 
 use crate::scope::Scope;
 use cq_language::{ExprNode, Sign};
@@ -21,7 +22,7 @@ pub(crate) fn expr_tree(
     scope: &Scope<'_>,
     node: &ExprNode,
 ) -> Result<ExprTree, AllocError>
-    ensures { IfOk result (λ t. expr_of t ≡ placed_expr (place_of (scope_of scope.now)) (written node.now)) }
+    ensures { IfOk result (λ t. expr_of t ≡ bound_value (scope_of scope.now) (written node.now)) }
 {
     match node {
         ExprNode::Number(n) => Ok(ExprTree::Literal(whole(*n))),
@@ -53,6 +54,8 @@ pub(crate) fn expr_tree(
             }
         }
         ExprNode::Null
+        | ExprNode::CountAll
+        | ExprNode::Aggregate(..)
         | ExprNode::Compare(..)
         | ExprNode::IsNull(..)
         | ExprNode::Between(..)
@@ -69,7 +72,7 @@ fn expr_trees(
     scope: &Scope<'_>,
     nodes: &[ExprNode],
 ) -> Result<Vec<ExprTree>, AllocError>
-    ensures { IfOk result (λ v. map expr_of v.items ≡ map (λ n. placed_expr (place_of (scope_of scope.now)) (written n)) nodes.now) }
+    ensures { IfOk result (λ v. map expr_of v.items ≡ bound_values (scope_of scope.now) nodes.now) }
 {
     let mut trees = Vec::with_capacity(alloc, nodes.len())?;
     for node in nodes {
@@ -86,7 +89,7 @@ fn term_trees(
     signs: &[Sign],
     nodes: &[ExprNode],
 ) -> Result<Vec<ExprTree>, AllocError>
-    ensures { IfOk result (λ v. map expr_of v.items ≡ later_terms (place_of (scope_of scope.now)) signs.now (map written nodes.now)) }
+    ensures { IfOk result (λ v. map expr_of v.items ≡ bound_terms (scope_of scope.now) signs.now nodes.now) }
 {
     let mut terms = Vec::with_capacity(alloc, nodes.len())?;
     for (sign, node) in signs.iter().zip(nodes) {
@@ -133,7 +136,7 @@ pub(crate) fn cond_tree(
     scope: &Scope<'_>,
     node: &ExprNode,
 ) -> Result<CondTree, AllocError>
-    ensures { IfOk result (λ t. cond_of t ≡ placed_cond (place_of (scope_of scope.now)) (written node.now)) }
+    ensures { IfOk result (λ t. cond_of t ≡ bound_condition (scope_of scope.now) (written node.now)) }
 {
     match node {
         ExprNode::Parens(inner) => cond_tree(alloc, scope, inner),
@@ -193,6 +196,8 @@ pub(crate) fn cond_tree(
         | ExprNode::Null
         | ExprNode::Column(_)
         | ExprNode::Extract(..)
+        | ExprNode::CountAll
+        | ExprNode::Aggregate(..)
         | ExprNode::Negative(_) => null_test(alloc, scope, node),
     }
 }
@@ -206,7 +211,7 @@ fn is_one_term(signs: &[Sign], rest: &[ExprNode]) -> bool
 
 /// Whether the value that is written is NULL.
 fn null_test(alloc: Global, scope: &Scope<'_>, node: &ExprNode) -> Result<CondTree, AllocError>
-    ensures { IfOk result (λ t. cond_of t ≡ terms.IsNull (placed_expr (place_of (scope_of scope.now)) (written node.now))) }
+    ensures { IfOk result (λ t. cond_of t ≡ terms.IsNull (bound_value (scope_of scope.now) (written node.now))) }
 {
     Ok(CondTree::IsNull(expr_tree(alloc, scope, node)?))
 }
@@ -218,7 +223,7 @@ fn cond_trees(
     scope: &Scope<'_>,
     nodes: &[ExprNode],
 ) -> Result<Vec<CondTree>, AllocError>
-    ensures { IfOk result (λ v. map cond_of v.items ≡ map (λ n. placed_cond (place_of (scope_of scope.now)) (written n)) nodes.now) }
+    ensures { IfOk result (λ v. map cond_of v.items ≡ bound_conditions (scope_of scope.now) nodes.now) }
 {
     let mut trees = Vec::with_capacity(alloc, nodes.len())?;
     for node in nodes {

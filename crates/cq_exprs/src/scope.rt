@@ -7,7 +7,7 @@ ghost use Rattle.cq_binding.specs.Typing.{may_read};
 ghost use Rattle.cq_exprs.specs.Expressions.{scope_of};
 
 use cq_language::ColumnName;
-use cq_values::{ColumnDef, Text};
+use cq_values::ColumnDef;
 
 /// The one source whose columns expressions name: what it is known by, its columns, and the size that each one's numbers
 /// never exceed.
@@ -17,12 +17,12 @@ pub struct Scope<'a> {
     pub columns: &'a [ColumnDef],
     pub sizes: &'a [u128],
     /// The columns behind GROUP BY, where the items of its groups are read.
-    pub grouped: Option<&'a [Text]>,
+    pub grouped: Option<&'a [ColumnName]>,
 }
 
 impl<'a> Scope<'a> {
     /// What the items of groups see of a source: the columns behind GROUP BY.
-    pub fn in_groups(&self, group: &'a [Text]) -> Scope<'a>
+    pub fn in_groups(&self, group: &'a [ColumnName]) -> Scope<'a>
         ensures { scope_of result ≡ in_groups group.now (scope_of self.now) }
     {
         Scope {
@@ -57,17 +57,17 @@ impl<'a> Scope<'a> {
 }
 
 /// Whether a column stands in GROUP BY.
-fn is_grouped(group: &[Text], name: &str) -> bool
-    ensures { result ≡ list_any (λ g. is_text g name.now) group.now }
+fn is_grouped(group: &[ColumnName], name: &str) -> bool
+    ensures { result ≡ list_any (λ g. is_text g.name name.now) group.now }
 {
-    group.iter().any(|g| g.as_str() == name)
+    group.iter().any(|g| g.name.as_str() == name)
 }
 
 /// Where a column stands in GROUP BY.
-fn group_place(group: &[Text], name: &str) -> Option<usize>
-    ensures { result ≡ position (λ g. is_text g name.now) group.now }
+fn group_place(group: &[ColumnName], name: &str) -> Option<usize>
+    ensures { result ≡ position (λ g. is_text g.name name.now) group.now }
 {
-    group.iter().position(|g| g.as_str() == name)
+    group.iter().position(|g| g.name.as_str() == name)
 }
 
 /// Where the column of a name stands.

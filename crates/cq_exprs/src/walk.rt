@@ -42,7 +42,7 @@ pub fn typing_of(scope: &Scope<'_>, expr: &SqlExpr) -> Result<Typing, Fault>
 }
 
 #[cycle(walk)]
-fn node_typing(scope: &Scope<'_>, node: &ExprNode) -> Result<Typing, Fault>
+pub(crate) fn node_typing(scope: &Scope<'_>, node: &ExprNode) -> Result<Typing, Fault>
     ensures { result ≡ typed (scope_of scope.now) (written node.now) }
 {
     match node {
@@ -52,6 +52,7 @@ fn node_typing(scope: &Scope<'_>, node: &ExprNode) -> Result<Typing, Fault>
         ExprNode::Null => Ok(A_NULL),
         ExprNode::Column(column) => column_typing(scope, column),
         ExprNode::Extract(part, day) => typings::part_of(*part, node_typing(scope, day)?),
+        ExprNode::CountAll | ExprNode::Aggregate(..) => Err(Fault::Syntax),
         ExprNode::Parens(inner) => node_typing(scope, inner),
         ExprNode::Negative(number) => typings::negative(node_typing(scope, number)?),
         ExprNode::Product(first, others) => {

@@ -1,8 +1,12 @@
 pub mod Characters
 pub mod Lexemes
+pub mod Keywords
 pub mod Tokens
 pub mod Written
 pub mod Codes
+pub mod Spelling
 pub mod Expression
+pub mod Parts
+pub mod Query
 pub mod Sentence
 pub mod Pieces

@@ -2,6 +2,7 @@
 use Rattle.std.specs.Prelude.{ℕ, Bool, List, [], ◌∷◌, fold}
 use Rattle.cq_values.specs.declared.day_part.DayPart.{DayPart}
 use Rattle.cq_values.specs.declared.comparison.Comparison.{Comparison}
+use Rattle.cq_language.specs.declared.written.AggregateFunction.{AggregateFunction}
 use Rattle.cq_language.specs.declared.written.ColumnName.{ColumnName}
 use Rattle.cq_language.specs.declared.written.Sign.{Sign}
 use Rattle.cq_language.specs.declared.written.Sign.TheVariants as signs
@@ -18,6 +19,8 @@ mutual
     Null : Written
     Column : ColumnName → Written
     Extract : DayPart → Written → Written
+    CountAll : Written
+    Aggregate : AggregateFunction → Written → Written
     Parens : Written → Written
     Negative : Written → Written
     Times : Written → Written → Written
@@ -61,6 +64,8 @@ written_step (node.Date t) = Date t
 written_step node.Null = Null
 written_step (node.Column c) = Column c
 written_step (node.Extract part e) = Extract part e.value
+written_step node.CountAll = CountAll
+written_step (node.Aggregate function e) = Aggregate function e.value
 written_step (node.Parens e) = Parens e.value
 written_step (node.Negative e) = Negative e.value
 written_step (node.Product e es) = fold Times e.value es.items

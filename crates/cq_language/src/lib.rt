@@ -9,7 +9,8 @@ mod token;
 mod written;
 
 pub use statement::{
-    Constant, FromSource, Item, ItemValue, Literal, Select, SelectItem, Statement, ViewSelect,
+    Constant, FromSource, JoinedSource, Literal, OnEquality, OrderKey, OutputColumn, Select,
+    SelectItem, SetClause, Statement,
 };
 pub use token::{Keyword, Symbol, Token};
-pub use written::{ColumnName, ExprNode, Sign, SqlExpr};
+pub use written::{AggregateFunction, ColumnName, ExprNode, Sign, SqlExpr};

@@ -1,5 +1,5 @@
 //! Statements as trees.
-use crate::written::SqlExpr;
+use crate::written::{ColumnName, SqlExpr};
 use cq_values::{ColumnDef, Seq, Text, Ty};
 
 /// A whole number with its sign. The greatest magnitude stands for every number from it on.
@@ -26,6 +26,20 @@ pub struct FromSource {
     pub alias: Option<Text>,
 }
 
+/// An equality of ON.
+#[derive(Debug, Drop)]
+pub struct OnEquality {
+    pub left: ColumnName,
+    pub right: ColumnName,
+}
+
+/// A source that is joined to those before it where each equality holds.
+#[derive(Debug, Drop)]
+pub struct JoinedSource {
+    pub source: FromSource,
+    pub on: Seq<OnEquality>,
+}
+
 /// An item of a SELECT, with the name behind AS.
 #[derive(Debug, Drop)]
 pub struct SelectItem {
@@ -33,37 +47,43 @@ pub struct SelectItem {
     pub alias: Option<Text>,
 }
 
-/// Values of the rows of one source that the condition keeps.
+/// A column of the result.
+#[derive(Debug, Drop)]
+pub enum OutputColumn {
+    Named(Text),
+    /// By its place, from 1.
+    At(u128),
+}
+
+/// What ORDER BY sorts by.
+#[derive(Debug, Drop)]
+pub struct OrderKey {
+    pub column: OutputColumn,
+    pub is_descending: bool,
+}
+
+/// A query. Lists that may be left out are empty then.
 #[derive(Debug, Drop)]
 pub struct Select {
+    pub is_distinct: bool,
     pub items: Seq<SelectItem>,
-    pub source: FromSource,
+    pub first: FromSource,
+    pub joins: Seq<JoinedSource>,
+    /// WHERE.
     pub condition: Option<SqlExpr>,
+    /// The columns behind GROUP BY.
+    pub group: Seq<ColumnName>,
+    pub having: Option<SqlExpr>,
+    pub order: Seq<OrderKey>,
+    /// The number behind LIMIT.
+    pub limit: Option<u128>,
 }
 
-/// What an item of a view shows.
+/// What UPDATE sets a column to.
 #[derive(Debug, Drop)]
-pub enum ItemValue {
-    Value(SqlExpr),
-    CountAll,
-    Count(SqlExpr),
-    Sum(SqlExpr),
-}
-
-/// An item of a view, with the name behind AS.
-#[derive(Debug, Drop)]
-pub struct Item {
-    pub value: ItemValue,
-    pub alias: Option<Text>,
-}
-
-/// The query of a view: items of the groups of one table's rows.
-#[derive(Debug, Drop)]
-pub struct ViewSelect {
-    pub items: Seq<Item>,
-    pub source: FromSource,
-    pub condition: Option<SqlExpr>,
-    pub group: Seq<Text>,
+pub struct SetClause {
+    pub column: Text,
+    pub value: SqlExpr,
 }
 
 /// A statement, as it was written.
@@ -78,7 +98,7 @@ pub enum Statement {
     DropTable(Text),
     CreateView {
         name: Text,
-        view: ViewSelect,
+        query: Select,
     },
     DropView(Text),
     Insert {
@@ -89,5 +109,21 @@ pub enum Statement {
         table: Text,
         condition: Option<SqlExpr>,
     },
+    Update {
+        table: Text,
+        assignments: Seq<SetClause>,
+        condition: Option<SqlExpr>,
+    },
     Select(Select),
+    /// Brings so many rows of the write store to the read store.
+    Move {
+        table: Text,
+        rows: u128,
+    },
+    Merge(Text),
+    /// Takes a view so many changes on.
+    Refresh {
+        view: Text,
+        changes: u128,
+    },
 }

@@ -12,6 +12,15 @@ pub struct ColumnName {
     pub name: Text,
 }
 
+/// What an aggregate tells of the values of its argument.
+#[derive(Clone, Copy, Debug, PartialEq, Eq)]
+pub enum AggregateFunction {
+    Count,
+    Sum,
+    Min,
+    Max,
+}
+
 /// What stands before a later term of a sum.
 #[derive(Clone, Copy, Debug, PartialEq, Eq)]
 pub enum Sign {
@@ -19,8 +28,8 @@ pub enum Sign {
     Minus,
 }
 
-/// An expression as it is written, a value or a condition. A chain has its first part and those behind it, so that a long one is not deep; a pair of
-/// parentheses is a node. The `bool` in a test tells whether NOT stands in it.
+/// An expression as it is written, a value or a condition. A chain has its first part and those behind it, so that a
+/// long one is not deep; a pair of parentheses is a node. The `bool` in a test tells whether NOT stands in it.
 #[derive(Debug, Drop)]
 pub enum ExprNode {
     Number(u128),
@@ -29,6 +38,9 @@ pub enum ExprNode {
     Null,
     Column(ColumnName),
     Extract(DayPart, Box<ExprNode>),
+    /// COUNT(*).
+    CountAll,
+    Aggregate(AggregateFunction, Box<ExprNode>),
     Parens(Box<ExprNode>),
     Negative(Box<ExprNode>),
     Product(Box<ExprNode>, Vec<ExprNode>),

@@ -14,5 +14,4 @@ pub mod Works
 pub mod Lessened
 pub mod Told
 pub mod Fits
-pub mod Extents
 pub mod Sizes

@@ -16,7 +16,7 @@ use Rattle.cq_model.specs.Group.{grouped, group_row, rows_of_key, keys_of}
 use Rattle.cq_model.specs.Meaning.{Tables, meets, chain, keeps, joined_rows, items_of, shaped, shown, meaning}
 
 -- rows that stand once each are a bag
-once_each-bag : (rows : List Row) → IsBag (once_each rows)
+pub once_each-bag : (rows : List Row) → IsBag (once_each rows)
 once_each-bag rows = record { at = λ r. subst (λ n. pos 0 ≤ℤ n) (sym (weight_of-once_each rows r)) (omega (arith, ints)) }
 
 -- a chain over bags is a bag

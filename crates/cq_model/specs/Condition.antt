@@ -4,7 +4,7 @@ use Rattle.std.specs.Str.{chars}
 use Rattle.cq_values.specs.declared.value.Value.{Value}
 use Rattle.cq_values.specs.declared.value.Value.TheVariants.{Null, Text}
 use Rattle.cq_values.specs.declared.truth.Truth.{Truth}
-use Rattle.cq_values.specs.declared.truth.Truth.TheVariants.{True, False, Unknown}
+use Rattle.cq_values.specs.declared.truth.Truth.TheVariants.{False, Unknown}
 use Rattle.cq_values.specs.Truth.{not_truth, and_truth, or_truth, truth_of}
 use Rattle.cq_values.specs.Value.{Row}
 use Rattle.cq_values.specs.declared.comparison.Comparison.TheVariants.{Equal, LessOrEqual, GreaterOrEqual}

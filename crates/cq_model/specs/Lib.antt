@@ -6,6 +6,7 @@ pub mod Like
 pub mod Condition
 pub mod Width
 pub mod Group
+pub mod Exact
 pub mod Meaning
 pub mod Write
 pub mod Sizes

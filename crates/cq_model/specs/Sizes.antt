@@ -1,5 +1,5 @@
 -- How large the numbers in the columns of tables and of queries can be (docs/LANGUAGE.md, Width).
-use Rattle.std.specs.Prelude.{ℕ, ◌^◌, List, ◌++◌, map, Option, slice_index_or, unwrap_or, []}
+use Rattle.std.specs.Prelude.{ℕ, ◌^◌, List, ◌++◌, map, slice_index_or, unwrap_or, []}
 use Rattle.cq_model.specs.declared.query.Aggregate.{Aggregate}
 use Rattle.cq_model.specs.declared.query.Aggregate.TheVariants.{CountAll, Count, Sum, Min, Max}
 use Rattle.cq_model.specs.declared.query.Query.{Query}

@@ -1,5 +1,5 @@
 -- How large the values of an expression can be, at a row and while the columns keep bounds.
-use Rattle.std.specs.Prelude.{◌≤◌, ◌<◌, ℕ, ◌+◌, ◌*◌, ◌^◌, if◌then◌else◌, nat_lt, max, nat_abs, Option, Some, None, List, map, fold, slice_index_or}
+use Rattle.std.specs.Prelude.{◌≤◌, ℕ, ◌+◌, ◌*◌, ◌^◌, if◌then◌else◌, nat_lt, max, nat_abs, Option, Some, None, List, map, fold, slice_index_or}
 use Rattle.cq_values.specs.declared.value.Value.{Value}
 use Rattle.cq_values.specs.declared.value.Value.TheVariants.{Number}
 use Rattle.cq_values.specs.Value.{Row, column}

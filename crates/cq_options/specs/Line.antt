@@ -1,6 +1,8 @@
 -- The command line `colview run SCRIPT`.
-use Rattle.std.specs.Prelude.{◌≡◌, ◌≢◌, ℕ, true, List, [], Result, Ok, Err, codes, unwrap_or, option_and_then}
-use Rattle.clap.specs.Words.{App, IsAmong, Kinds, Rule, Text, first_of, new_app, new_rule, subcommand_of, with_rule, with_subcommand}
+use Rattle.std.specs.Prelude.{◌≡◌, ◌≢◌, ℕ, true, List, [], map, Option, Result, Ok, Err, codes, unwrap_or, option_and_then}
+use Rattle.std.specs.Borrow.{Bor}
+use Rattle.clap.specs.Words.{App, IsAmong, Kinds, Row, Rule, Text, first_of, kind_of, new_app, new_rule, subcommand_of, with_rule, with_subcommand}
+use Rattle.clap.specs.declared.error.Error.{Error}
 use Rattle.clap.specs.declared.error.kind.ErrorKind.{ErrorKind}
 use Rattle.clap.specs.declared.error.kind.ErrorKind.TheVariants as kinds
 use Rattle.cq_options.specs.declared.options.LineFault.{LineFault}
@@ -23,9 +25,25 @@ required a = record a { top = record a.top { subcommand_required = true } }
 abbrev pub colview : App
 colview = with_subcommand (required (new_app (codes "colview"))) run.top
 
+-- the texts of the words
+abbrev pub texts : List (Bor Text) → List Text
+texts words = map (λ word. word.now) words
+
+-- the subcommand that clap finds in the words, with what it takes
+abbrev pub subcommand_in : List Text → Option (Text × List Row)
+subcommand_in words = subcommand_of colview words
+
+-- the script that a subcommand takes, empty where there is none
+abbrev pub script_of_rows : Option (Text × List Row) → List ℕ
+script_of_rows entered = unwrap_or (option_and_then (λ found. first_of (codes "SCRIPT") found.1) entered) []
+
 -- the script that clap finds in the words, empty where there is none
 abbrev pub script_in : List Text → List ℕ
-script_in words = unwrap_or (option_and_then (λ found. first_of (codes "SCRIPT") found.1) (subcommand_of colview words)) []
+script_in words = script_of_rows (subcommand_in words)
+
+-- clap's error is that memory was wanting
+abbrev pub IsMemory : Error → Type 0
+IsMemory error = kind_of error ≡ kinds.OutOfMemory
 
 -- help where help was asked for, a refusal for other kinds; memory may be wanting
 abbrev pub IsFaultOf : ErrorKind → LineFault → Type 0

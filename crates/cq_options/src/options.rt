@@ -1,7 +1,7 @@
 //! The command line.
-ghost use Rattle.std.specs.Prelude.{◌≡◌, IfErr, IfOk, List, ℕ, [], codes, map, option_and_then, true, unwrap_or};
-ghost use Rattle.clap.specs.Words.{FailsBy, app_of, fault_of, first_of, kind_of, subcommand_of, subcommand_rows_of, takes};
-ghost use Rattle.cq_options.specs.Line.{AnswersBy, IsFaultOf, colview, fault_exit, script_in};
+ghost use Rattle.std.specs.Prelude.{◌≡◌, IfErr, IfOk, true};
+ghost use Rattle.clap.specs.Words.{FailsBy, app_of, fault_of, kind_of, subcommand_rows_of, takes};
+ghost use Rattle.cq_options.specs.Line.{AnswersBy, IsFaultOf, IsMemory, colview, fault_exit, script_in, script_of_rows, subcommand_in, texts};
 ghost use Rattle.cq_options.specs.declared.options.LineFault.TheVariants.{Memory};
 
 use clap::error::ErrorKind;
@@ -65,9 +65,9 @@ impl From<AllocError> for LineFault {
 
 /// Reads the words of a command line. The first is the program's name.
 pub fn options_of<'a>(alloc: Global, words: &'a [&'a str]) -> Result<Options, LineFault>
-    ensures script { IfOk result (λ options. options.script ≡ script_in (map (λ s. s.now) words.entry.now)) }
-    ensures memory { IfErr result (λ fault. takes colview (map (λ s. s.now) words.entry.now) ≡ true → fault ≡ Memory) }
-    ensures fault { AnswersBy (fault_of colview (map (λ s. s.now) words.entry.now)) result }
+    ensures script { IfOk result (λ options. options.script ≡ script_in (texts words.entry.now)) }
+    ensures memory { IfErr result (λ fault. takes colview (texts words.entry.now) ≡ true → fault ≡ Memory) }
+    ensures fault { AnswersBy (fault_of colview (texts words.entry.now)) result }
 {
     match matches_from(alloc, words) {
         Ok(matches) => {
@@ -89,16 +89,16 @@ fn command<'a>(alloc: Global) -> Result<Command<'a>, AllocError>
 }
 
 fn matches_from<'a>(alloc: Global, words: &'a [&'a str]) -> Result<ArgMatches<'a>, clap::Error>
-    ensures rows { IfOk result (λ matches. subcommand_rows_of matches ≡ subcommand_of colview (map (λ s. s.now) words.entry.now)) }
-    ensures memory { IfErr result (λ error. takes colview (map (λ s. s.now) words.entry.now) ≡ true → kind_of error ≡ ErrorKind.OutOfMemory) }
-    ensures fault { FailsBy (fault_of colview (map (λ s. s.now) words.entry.now)) result }
+    ensures rows { IfOk result (λ matches. subcommand_rows_of matches ≡ subcommand_in (texts words.entry.now)) }
+    ensures memory { IfErr result (λ error. takes colview (texts words.entry.now) ≡ true → IsMemory error) }
+    ensures fault { FailsBy (fault_of colview (texts words.entry.now)) result }
 {
     let command = command(alloc)?;
     command.try_get_matches_from(words)
 }
 
 fn script_of<'a>(matches: &ArgMatches<'a>) -> &'a str
-    ensures { result.now ≡ unwrap_or (option_and_then (λ found. first_of (codes "SCRIPT") found.1) (subcommand_rows_of matches.now)) [] }
+    ensures { result.now ≡ script_of_rows (subcommand_rows_of matches.now) }
 {
     match matches.subcommand() {
         Some((_, entered)) => entered.get_str("SCRIPT").unwrap_or(""),

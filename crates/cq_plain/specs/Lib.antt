@@ -1,6 +1,13 @@
 pub mod Faults
+pub mod Rows
+pub mod Joins
+pub mod Repeats
+pub mod OfGroups
 pub mod Wide
 pub mod Stored
 pub mod Named
+pub mod Databases
 pub mod Totals
 pub mod WideWrites
+pub mod Replacements
+pub mod FaultsOf

@@ -1,5 +1,5 @@
 -- Where a query meets a number, written or worked out, that does not fit 127 bits and a sign.
-use Rattle.std.specs.Prelude.{ℕ, ◌^◌, ◌≤◌, pos, ◌<ℤ◌, Option, Some, None, ◌⊎◌}
+use Rattle.std.specs.Prelude.{ℕ, ◌^◌, ◌≤◌, pos, ◌<ℤ◌, List, Option, Some, None, ◌⊎◌}
 use Rattle.std.specs.List.{Any}
 use Rattle.cq_values.specs.Value.{Row}
 use Rattle.cq_bags.specs.Bag.{Weighted, weight_of}
@@ -12,9 +12,10 @@ use Rattle.cq_model.specs.declared.query.Shape.TheVariants.{Plain, Grouped}
 use Rattle.cq_model.specs.declared.query.Source.{Source}
 use Rattle.cq_model.specs.declared.query.Source.TheVariants.{Table, View}
 use Rattle.cq_model.specs.Group.{grouped}
-use Rattle.cq_model.specs.Meaning.{Tables, chain, joined_rows, shaped}
+use Rattle.cq_model.specs.Meaning.{Tables, joined_rows, shaped}
 use Rattle.cq_model.specs.Views.{tables_alone, with_views, sources_of}
 use Rattle.cq_model.specs.Width.{extent, widest_at}
+use Rattle.cq_plain.specs.Joins.{all_joined}
 
 -- in this row some number is too wide that is written or worked out on the way to the expression's value
 abbrev pub IsWideAt : Expr → Row → Type 0
@@ -29,6 +30,14 @@ IsWideIn (Some c) row = 2 ^ 127 ≤ widest_at c row
 abbrev pub AtSomeRow : (Row → Type 0) → Weighted → Type 0
 AtSomeRow P xs = (row : Row) × (pos 0 <ℤ weight_of xs row) × P row
 
+-- a condition is too wide in some row
+abbrev pub IsWideAmong : Option Cond → Weighted → Type 0
+IsWideAmong condition xs = AtSomeRow (IsWideIn condition) xs
+
+-- one of several items is too wide in some row
+abbrev pub IsItemWide : List Expr → Weighted → Type 0
+IsItemWide items xs = Any (λ e. AtSomeRow (IsWideAt e) xs) items
+
 -- the argument of an aggregate is too wide in some row
 abbrev pub IsWideOver : Weighted → Aggregate → Type 0
 IsWideOver xs CountAll = ⊥
@@ -40,15 +49,19 @@ IsWideOver xs (Max e) = AtSomeRow (IsWideAt e) xs
 -- an aggregate over these rows is too wide, or HAVING over their groups
 abbrev pub IsShapeWide : Shape → Weighted → Type 0
 IsShapeWide Plain xs = ⊥
-IsShapeWide (Grouped keys aggregates having) xs = Any (IsWideOver xs) aggregates ⊎ AtSomeRow (IsWideIn having) (grouped keys aggregates xs)
+IsShapeWide (Grouped keys aggregates having) xs = Any (IsWideOver xs) aggregates ⊎ IsWideAmong having (grouped keys aggregates xs)
 
 -- an aggregate, HAVING or an item is too wide over these joined rows
 abbrev pub IsShownWide : Query → Weighted → Type 0
-IsShownWide q xs = IsShapeWide q.shape xs ⊎ Any (λ e. AtSomeRow (IsWideAt e) (shaped q.shape xs)) q.items
+IsShownWide q xs = IsShapeWide q.shape xs ⊎ IsItemWide q.items (shaped q.shape xs)
 
--- a query is too wide in a row that WHERE tests, or over those that it keeps
+-- WHERE is too wide in a row that it tests
+abbrev pub IsFilterWide : Query → Tables → Type 0
+IsFilterWide q tables = IsWideAmong q.filter (all_joined q tables)
+
+-- a query is too wide in WHERE, or over the rows that WHERE keeps
 abbrev pub IsQueryWide : Query → Tables → Type 0
-IsQueryWide q tables = AtSomeRow (IsWideIn q.filter) (chain tables (tables q.first) q.joins) ⊎ IsShownWide q (joined_rows q tables)
+IsQueryWide q tables = IsFilterWide q tables ⊎ IsShownWide q (joined_rows q tables)
 
 -- the query of a view is too wide
 abbrev pub IsViewWide : (ℕ → Weighted) → Option Query → Type 0

@@ -1,12 +1,12 @@
 //! What is told of a group's rows.
-ghost use Rattle.std.specs.Prelude.{◌+ℤ◌, ◌+◌, ◌^◌, ◌≡◌, ◌≤◌, IfErr, IfOk, filter, length, map, nat_abs, not, pos};
+ghost use Rattle.std.specs.Prelude.{◌+ℤ◌, ◌+◌, ◌^◌, ◌≡◌, ◌≤◌, IfErr, IfOk, OnOk, length, nat_abs, pos};
 ghost use Rattle.cq_bags.specs.Bag.{once_each};
-ghost use Rattle.cq_model.specs.Condition.{is_null};
-ghost use Rattle.cq_model.specs.Eval.{eval};
 ghost use Rattle.cq_model.specs.Group.{InRange, SumInRange, addend, aggregate, extreme, higher, lower};
 ghost use Rattle.cq_plain.specs.Faults.{Tells};
+ghost use Rattle.cq_plain.specs.FaultsOf.{IsAggregateFault};
+ghost use Rattle.cq_plain.specs.OfGroups.{known_values};
 ghost use Rattle.cq_plain.specs.Totals.{shown_total, total_of};
-ghost use Rattle.cq_plain.specs.Wide.{AtSomeRow, IsWideAt, IsWideOver};
+ghost use Rattle.cq_plain.specs.Wide.{AtSomeRow, IsWideAt};
 
 use crate::evaluation::value_at;
 use crate::fault::PlainFault;
@@ -17,8 +17,8 @@ use std::alloc::{AllocError, Global};
 /// An aggregate over these rows.
 pub(crate) fn aggregate(alloc: Global, kind: &Aggregate, rows: &[Row]) -> Result<Value, PlainFault>
     ensures ok { IfOk result (λ v. v ≡ aggregate kind.now (once_each rows.now)) }
-    ensures range { IfOk result (λ v. SumInRange kind.now (once_each rows.now)) }
-    ensures fault { IfErr result (Tells (IsWideOver (once_each rows.now) kind.now) (SumInRange kind.now (once_each rows.now) → ⊥)) }
+    ensures range { OnOk result (SumInRange kind.now (once_each rows.now)) }
+    ensures fault { IfErr result (IsAggregateFault kind.now rows.now) }
 {
     match kind {
         Aggregate::CountAll => Ok(count(rows)),
@@ -31,7 +31,7 @@ pub(crate) fn aggregate(alloc: Global, kind: &Aggregate, rows: &[Row]) -> Result
 
 /// The values of the expression in the rows, one by one, without NULL.
 fn values_of(alloc: Global, expr: &Expr, rows: &[Row]) -> Result<Vec<Value>, PlainFault>
-    ensures ok { IfOk result (λ values. values.items ≡ filter (λ v. not (is_null v)) (map (eval expr.now) rows.now)) }
+    ensures ok { IfOk result (λ values. values.items ≡ known_values expr.now rows.now) }
     ensures fault { IfErr result (Tells (AtSomeRow (IsWideAt expr.now) (once_each rows.now)) ⊥) }
 {
     let mut values = Vec::new(alloc);
@@ -53,7 +53,7 @@ fn count<T>(items: &[T]) -> Value
 /// The exact total, of values without NULL.
 fn sum(values: &[Value]) -> Result<Value, PlainFault>
     ensures ok { IfOk result (λ v. v ≡ shown_total values.now) }
-    ensures range { IfOk result (λ v. InRange (total_of values.now)) }
+    ensures range { OnOk result (InRange (total_of values.now)) }
     ensures fault { IfErr result (Tells ⊥ (InRange (total_of values.now) → ⊥)) }
 {
     let mut total = Total::new();

@@ -9,7 +9,7 @@ ghost use Rattle.cq_plain.specs.Faults.{Tells};
 ghost use Rattle.cq_plain.specs.Wide.{IsWideAt, IsWideIn};
 
 use crate::fault::PlainFault;
-use cq_eval::{eval_row, fits, holds_row, width_of};
+use cq_eval::{eval_row, fits, holds_row, narrow_is_exact, width_of};
 use cq_model::{Cond, Expr};
 use cq_values::Value;
 use std::alloc::{AllocError, Global};
@@ -22,6 +22,7 @@ pub(crate) fn value_at(alloc: Global, expr: &Expr, row: &[Value]) -> Result<Valu
     if !is_narrow(alloc, expr, row)? {
         return Err(PlainFault::TooWide);
     }
+    narrow_is_exact();
     Ok(eval_row(expr, row).to_value(alloc)?)
 }
 
@@ -43,6 +44,7 @@ fn makes_true(alloc: Global, cond: &Cond, row: &[Value]) -> Result<bool, PlainFa
     if !is_cond_narrow(alloc, cond, row)? {
         return Err(PlainFault::TooWide);
     }
+    narrow_is_exact();
     Ok(holds_row(cond, row).is_true())
 }
 

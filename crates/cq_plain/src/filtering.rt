@@ -3,7 +3,7 @@ ghost use Rattle.std.specs.Prelude.{◌≡◌, IfErr, IfOk, filter};
 ghost use Rattle.cq_bags.specs.Bag.{once_each};
 ghost use Rattle.cq_model.specs.Meaning.{keeps};
 ghost use Rattle.cq_plain.specs.Faults.{Tells};
-ghost use Rattle.cq_plain.specs.Wide.{AtSomeRow, IsWideIn};
+ghost use Rattle.cq_plain.specs.Wide.{IsWideAmong};
 
 use crate::evaluation::keeps;
 use crate::fault::PlainFault;
@@ -18,7 +18,7 @@ pub(crate) fn filtered(
     rows: &[Row],
 ) -> Result<Vec<Row>, PlainFault>
     ensures ok { IfOk result (λ kept. kept.items ≡ filter (keeps condition.now) rows.now) }
-    ensures fault { IfErr result (Tells (AtSomeRow (IsWideIn condition.now) (once_each rows.now)) ⊥) }
+    ensures fault { IfErr result (Tells (IsWideAmong condition.now (once_each rows.now)) ⊥) }
 {
     let mut kept = Vec::new(alloc);
     for row in rows {

@@ -1,10 +1,10 @@
 //! GROUP BY, by looking through a list of keys.
-ghost use Rattle.std.specs.Prelude.{◌≡◌, IfErr, IfOk, Some};
-ghost use Rattle.std.specs.List.{AllByRecursion, Any};
+ghost use Rattle.std.specs.Prelude.{◌≡◌, IfErr, IfOk, OnOk, Some};
 ghost use Rattle.cq_bags.specs.Bag.{once_each};
-ghost use Rattle.cq_model.specs.Group.{SumInRange, SumsInRange, group_row, grouped, key_of, keys_of, rows_of_key};
-ghost use Rattle.cq_plain.specs.Faults.{Tells};
-ghost use Rattle.cq_plain.specs.Wide.{IsWideOver};
+ghost use Rattle.cq_model.specs.Group.{group_row, key_of, keys_of, rows_of_key};
+ghost use Rattle.cq_plain.specs.FaultsOf.{IsGroupFault, IsGroupsFault, IsKeyFault};
+ghost use Rattle.cq_plain.specs.OfGroups.{GroupInRange, GroupsInRange, KeyInRange, groups_of, row_of_key};
+ghost use Rattle.cq_plain.specs.Rows.{MakeUp};
 
 use crate::aggregates::aggregate;
 use crate::fault::PlainFault;
@@ -21,9 +21,9 @@ pub(crate) fn grouped(
     aggregates: &[Aggregate],
     rows: &[Row],
 ) -> Result<Vec<Row>, PlainFault>
-    ensures ok { IfOk result (λ groups. once_each groups.items ≡ grouped keys.now aggregates.now (once_each rows.now)) }
-    ensures range { IfOk result (λ groups. SumsInRange keys.now aggregates.now (once_each rows.now)) }
-    ensures fault { IfErr result (Tells (Any (IsWideOver (once_each rows.now)) aggregates.now) (SumsInRange keys.now aggregates.now (once_each rows.now) → ⊥)) }
+    ensures ok { IfOk result (MakeUp (groups_of keys.now aggregates.now rows.now)) }
+    ensures range { OnOk result (GroupsInRange keys.now aggregates.now rows.now) }
+    ensures fault { IfErr result (IsGroupsFault keys.now aggregates.now rows.now) }
 {
     match keys {
         Some(columns) => grouped_by(alloc, columns.as_slice(), aggregates, rows),
@@ -42,9 +42,9 @@ fn grouped_by(
     aggregates: &[Aggregate],
     rows: &[Row],
 ) -> Result<Vec<Row>, PlainFault>
-    ensures ok { IfOk result (λ groups. once_each groups.items ≡ grouped (Some columns.now) aggregates.now (once_each rows.now)) }
-    ensures range { IfOk result (λ groups. SumsInRange (Some columns.now) aggregates.now (once_each rows.now)) }
-    ensures fault { IfErr result (Tells (Any (IsWideOver (once_each rows.now)) aggregates.now) (SumsInRange (Some columns.now) aggregates.now (once_each rows.now) → ⊥)) }
+    ensures ok { IfOk result (MakeUp (groups_of (Some columns.now) aggregates.now rows.now)) }
+    ensures range { OnOk result (GroupsInRange (Some columns.now) aggregates.now rows.now) }
+    ensures fault { IfErr result (IsGroupsFault (Some columns.now) aggregates.now rows.now) }
 {
     let keys = keys_of(alloc, columns, rows)?;
     let mut groups = Vec::new(alloc);
@@ -62,10 +62,9 @@ fn group_of_key(
     key: &Row,
     rows: &[Row],
 ) -> Result<Row, PlainFault>
-    ensures ok { IfOk result (λ row. row ≡ group_row aggregates.now key.now (rows_of_key columns.now key.now (once_each rows.now))) }
-    ensures range { IfOk result (λ row. AllByRecursion (λ a. SumInRange a (rows_of_key columns.now key.now (once_each rows.now))) aggregates.now) }
-    ensures fault { IfErr result (Tells (Any (IsWideOver (once_each rows.now)) aggregates.now)
-        (AllByRecursion (λ a. SumInRange a (rows_of_key columns.now key.now (once_each rows.now))) aggregates.now → ⊥)) }
+    ensures ok { IfOk result (λ row. row ≡ row_of_key columns.now aggregates.now key.now rows.now) }
+    ensures range { OnOk result (KeyInRange columns.now aggregates.now key.now rows.now) }
+    ensures fault { IfErr result (IsKeyFault columns.now aggregates.now key.now rows.now) }
 {
     let own = rows_of_key(alloc, columns, key, rows)?;
     group_row(alloc, aggregates, key, &own)
@@ -79,8 +78,8 @@ fn group_row(
     rows: &[Row],
 ) -> Result<Row, PlainFault>
     ensures ok { IfOk result (λ row. row ≡ group_row aggregates.now key.now (once_each rows.now)) }
-    ensures range { IfOk result (λ row. AllByRecursion (λ a. SumInRange a (once_each rows.now)) aggregates.now) }
-    ensures fault { IfErr result (Tells (Any (IsWideOver (once_each rows.now)) aggregates.now) (AllByRecursion (λ a. SumInRange a (once_each rows.now)) aggregates.now → ⊥)) }
+    ensures range { OnOk result (GroupInRange aggregates.now (once_each rows.now)) }
+    ensures fault { IfErr result (IsGroupFault aggregates.now rows.now) }
 {
     let mut row = copy_row(alloc, key.as_slice())?;
     for each in aggregates {
@@ -107,7 +106,7 @@ fn rows_of_key(
     key: &Row,
     rows: &[Row],
 ) -> Result<Vec<Row>, AllocError>
-    ensures { IfOk result (λ own. once_each own.items ≡ rows_of_key columns.now key.now (once_each rows.now)) }
+    ensures { IfOk result (MakeUp (rows_of_key columns.now key.now (once_each rows.now))) }
 {
     let mut own = Vec::new(alloc);
     for row in rows {

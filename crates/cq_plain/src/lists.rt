@@ -2,7 +2,8 @@
 ghost use Rattle.std.specs.Prelude.{◌≡◌, IfOk};
 ghost use Rattle.cq_values.specs.Value.{column};
 ghost use Rattle.cq_bags.specs.Bag.{once_each};
-ghost use Rattle.cq_bags.specs.Listing.{IsListing, Lists, directed, first_rows, listing_cmp};
+ghost use Rattle.cq_bags.specs.Listing.{Lists, directed, first_rows, listing_cmp};
+ghost use Rattle.cq_plain.specs.Rows.{AreListed};
 
 use cq_bags::SortKey;
 use cq_eval::lend_column;
@@ -13,7 +14,7 @@ use std::cmp::Ordering;
 
 /// The rows in the order of the keys, then of all columns, and of these as many as LIMIT allows.
 pub fn listing(rows: Vec<Row>, order: &Order) -> Result<Vec<Row>, AllocError>
-    ensures { IfOk result (λ list. IsListing order.now.keys order.now.limit (once_each rows.items) list.items) }
+    ensures { IfOk result (AreListed order.now (once_each rows.items)) }
 {
     let list = sorted(rows, order.keys.as_slice())?;
     Ok(limited(list, order.limit))

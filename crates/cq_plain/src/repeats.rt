@@ -1,8 +1,7 @@
 //! DISTINCT, by looking through a list.
-ghost use Rattle.std.specs.List.{list_any};
-ghost use Rattle.std.specs.Prelude.{◌++◌, ◌∷◌, ◌≡◌, IfOk, OnOk, [], if◌then◌else◌};
-ghost use Rattle.cq_values.specs.Order.{same_row};
+ghost use Rattle.std.specs.Prelude.{◌≡◌, IfOk, OnOk};
 ghost use Rattle.cq_bags.specs.Bag.{firsts};
+ghost use Rattle.cq_plain.specs.Repeats.{is_among, with_new};
 
 use cq_values::{Row, copy_row};
 use std::alloc::{AllocError, Global};
@@ -20,8 +19,7 @@ pub(crate) fn firsts(alloc: Global, rows: &[Row]) -> Result<Vec<Row>, AllocError
 
 /// Adds the row, unless it is among these.
 fn push_new(alloc: Global, row: &Row, rows: &mut Vec<Row>) -> Result<(), AllocError>
-    ensures { OnOk result (rows.new.items ≡ (if list_any (λ other. same_row other row.now) rows.old.items
-        then rows.old.items else rows.old.items ++ row.now ∷ [])) }
+    ensures { OnOk result (rows.new.items ≡ with_new row.now rows.old.items) }
 {
     if is_among(row, rows) {
         return Ok(());
@@ -31,7 +29,7 @@ fn push_new(alloc: Global, row: &Row, rows: &mut Vec<Row>) -> Result<(), AllocEr
 }
 
 fn is_among(row: &Row, rows: &[Row]) -> bool
-    ensures { result ≡ list_any (λ other. same_row other row.now) rows.now }
+    ensures { result ≡ is_among row.now rows.now }
 {
     rows.iter().any(|other| other == row)
 }

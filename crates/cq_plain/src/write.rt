@@ -1,9 +1,10 @@
 //! DELETE and UPDATE.
-ghost use Rattle.std.specs.Prelude.{◌≡◌, IfErr, IfOk, if◌then◌else◌, slice_set};
+ghost use Rattle.std.specs.Prelude.{◌≡◌, IfErr, IfOk, slice_set};
 ghost use Rattle.std.specs.List.{Any};
-ghost use Rattle.cq_model.specs.Meaning.{keeps};
 ghost use Rattle.cq_model.specs.Write.{image_of, left_by, updated};
 ghost use Rattle.cq_plain.specs.Faults.{Tells};
+ghost use Rattle.cq_plain.specs.FaultsOf.{IsUpdateFault};
+ghost use Rattle.cq_plain.specs.Replacements.{replacement};
 ghost use Rattle.cq_plain.specs.Wide.{IsWideIn};
 ghost use Rattle.cq_plain.specs.WideWrites.{IsSetWide, IsUpdateWide};
 
@@ -40,7 +41,7 @@ pub fn updated(
     condition: &Option<Cond>,
 ) -> Result<Vec<Row>, PlainFault>
     ensures ok { IfOk result (λ new. new.items ≡ updated assignments.now condition.now rows.now) }
-    ensures fault { IfErr result (Tells (Any (IsUpdateWide assignments.now condition.now) rows.now) ⊥) }
+    ensures fault { IfErr result (IsUpdateFault assignments.now condition.now rows.now) }
 {
     let mut new = Vec::new(alloc);
     for row in rows {
@@ -57,7 +58,7 @@ fn replaced(
     condition: &Option<Cond>,
     old: &[Value],
 ) -> Result<Row, PlainFault>
-    ensures ok { IfOk result (λ row. row ≡ (if keeps condition.now old.now then image_of assignments.now old.now else old.now)) }
+    ensures ok { IfOk result (λ row. row ≡ replacement assignments.now condition.now old.now) }
     ensures fault { IfErr result (Tells (IsUpdateWide assignments.now condition.now old.now) ⊥) }
 {
     if keeps(alloc, condition, old)? {

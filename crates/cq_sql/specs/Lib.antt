@@ -1,8 +1,4 @@
-pub mod Gives
-pub mod Read
+pub mod Parts
+pub mod Queries
 pub mod Grammar
-pub mod Chains
-pub mod Atoms
-pub mod Predicates
-pub mod Expressions
 pub mod Parses

@@ -1,43 +1,44 @@
 //! Constants and the rows of an INSERT.
 ghost use Rattle.std.specs.Prelude.{◌≡◌};
-ghost use Rattle.cq_sql.specs.Gives.{Gives};
-ghost use Rattle.cq_sql.specs.Grammar.{literal_at, number_at, constant_at, row_at};
+ghost use Rattle.cq_reader.specs.Gives.{Gives};
+ghost use Rattle.cq_sql.specs.Parts.{constant_at, literal_at, number_constant_at, row_at};
 
-use crate::fault::SqlFault;
-use crate::read::{Readable, expect_symbol, list_of};
 use cq_language::{Constant, Keyword, Literal, Symbol, Token};
+use cq_reader::{Lead, Readable, SqlFault, expect_symbol, list_of};
 use cq_values::Seq;
 use std::alloc::Global;
 
-impl Readable for Literal {
-    ghost reads = { literal_at };
-
-    fn read(_alloc: Global, tokens: &[Token]) -> Result<(Literal, &[Token]), SqlFault> {
-        let (is_negative, magnitude, rest) = match tokens {
-            [Token::Number(n), rest @ ..] => (false, *n, rest),
-            [Token::Symbol(Symbol::Minus), Token::Number(n), rest @ ..] => (true, *n, rest),
-            _ => return Err(SqlFault::Syntax),
-        };
-        let literal = Literal {
-            is_negative,
-            magnitude,
-        };
-        Ok((literal, rest))
-    }
+fn literal_at(tokens: &[Token]) -> Result<(Literal, &[Token]), SqlFault>
+    ensures { Gives (λ x. (x.0, x.1.now)) result (literal_at tokens.now) }
+{
+    let (is_negative, magnitude, rest) = match tokens {
+        [Token::Number(n), rest @ ..] => (false, *n, rest),
+        [Token::Symbol(Symbol::Minus), Token::Number(n), rest @ ..] => (true, *n, rest),
+        _ => return Err(SqlFault::Syntax),
+    };
+    let literal = Literal {
+        is_negative,
+        magnitude,
+    };
+    Ok((literal, rest))
 }
 
-#[tactic(auto, unfolding(crate::specs::Grammar::number_at))]
-fn number_at(alloc: Global, tokens: &[Token]) -> Result<(Constant, &[Token]), SqlFault>
-    ensures { Gives (λ x. (x.0, x.1.now)) result (number_at tokens.now) }
+#[tactic(auto, unfolding(crate::specs::Parts::number_constant_at))]
+fn number_constant_at(tokens: &[Token]) -> Result<(Constant, &[Token]), SqlFault>
+    ensures { Gives (λ x. (x.0, x.1.now)) result (number_constant_at tokens.now) }
 {
-    let (literal, rest) = Literal::read(alloc, tokens)?;
+    let (literal, rest) = literal_at(tokens)?;
     Ok((Constant::Number(literal), rest))
 }
 
-impl Readable for Constant {
+pub struct Constants;
+
+impl Readable for Constants {
+    type Item = Constant;
+
     ghost reads = { constant_at };
 
-    #[tactic(auto, unfolding(crate::specs::Grammar::constant_at))]
+    #[tactic(auto, unfolding(crate::specs::Parts::constant_at))]
     fn read(alloc: Global, tokens: &[Token]) -> Result<(Constant, &[Token]), SqlFault> {
         match tokens {
             [Token::Keyword(Keyword::Null), rest @ ..] => Ok((Constant::Null, rest)),
@@ -45,18 +46,22 @@ impl Readable for Constant {
             [Token::Keyword(Keyword::Date), Token::Text(text), rest @ ..] => {
                 Ok((Constant::Date(text.copy(alloc)?), rest))
             }
-            _ => number_at(alloc, tokens),
+            _ => number_constant_at(tokens),
         }
     }
 }
 
-impl Readable for Seq<Constant> {
+pub struct Rows;
+
+impl Readable for Rows {
+    type Item = Seq<Constant>;
+
     ghost reads = { row_at };
 
-    #[tactic(auto, unfolding(crate::specs::Grammar::row_at))]
+    #[tactic(auto, unfolding(crate::specs::Parts::row_at))]
     fn read(alloc: Global, tokens: &[Token]) -> Result<(Seq<Constant>, &[Token]), SqlFault> {
         let rest = expect_symbol(Symbol::Open, tokens)?;
-        let (row, rest) = list_of::<Constant>(alloc, rest)?;
+        let (row, rest) = list_of::<Constants>(alloc, Lead::Comma, rest)?;
         let rest = expect_symbol(Symbol::Close, rest)?;
         Ok((row, rest))
     }

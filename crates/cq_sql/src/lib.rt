@@ -4,25 +4,24 @@
 //! most one tree.
 #![tactic(auto)]
 
-mod atoms;
 mod constants;
-mod expressions;
-mod fault;
 mod grammar;
+mod joins;
+mod later;
 mod laws;
-mod links;
-mod nodes;
-mod predicates;
-mod read;
+mod names;
+mod order;
+mod query;
 mod select_item;
 mod sentences;
 mod source;
 mod table;
+mod update;
 mod view;
 
+pub use cq_expr_reader::{expression_of, one_expression};
+pub use cq_reader::SqlFault;
 pub use cq_tokens::{Piece, Pieces, split};
-pub use expressions::expression_of;
-pub use fault::SqlFault;
 pub use grammar::tree_of;
-pub use laws::{one_expression, one_tree};
+pub use laws::one_tree;
 pub use sentences::parse;

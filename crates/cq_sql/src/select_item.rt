@@ -1,19 +1,23 @@
 //! The items of a SELECT.
-ghost use Rattle.cq_sql.specs.Grammar.{select_item_at};
+ghost use Rattle.cq_sql.specs.Queries.{select_item_at};
 
-use crate::fault::SqlFault;
-use crate::read::{Readable, tail_of};
-use cq_language::{Keyword, SelectItem, SqlExpr, Token};
-use cq_values::Text;
+use crate::names::Names;
+use cq_expr_reader::SqlExpressions;
+use cq_language::{Keyword, SelectItem, Token};
+use cq_reader::{Readable, SqlFault, tail_of};
 use std::alloc::Global;
 
-impl Readable for SelectItem {
+pub struct SelectItems;
+
+impl Readable for SelectItems {
+    type Item = SelectItem;
+
     ghost reads = { select_item_at };
 
-    #[tactic(auto, unfolding(crate::specs::Grammar::select_item_at))]
+    #[tactic(auto, unfolding(crate::specs::Queries::select_item_at))]
     fn read(alloc: Global, tokens: &[Token]) -> Result<(SelectItem, &[Token]), SqlFault> {
-        let (value, rest) = SqlExpr::read(alloc, tokens)?;
-        let (alias, rest) = tail_of::<Text>(alloc, Keyword::As, rest)?;
+        let (value, rest) = SqlExpressions::read(alloc, tokens)?;
+        let (alias, rest) = tail_of::<Names>(alloc, Keyword::As, rest)?;
         Ok((SelectItem { value, alias }, rest))
     }
 }

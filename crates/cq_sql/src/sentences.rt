@@ -1,9 +1,9 @@
 //! Texts as statements.
 ghost use Rattle.cq_sql.specs.Parses.{Parses};
 
-use crate::fault::SqlFault;
 use crate::grammar::tree_of;
 use cq_language::Statement;
+use cq_reader::SqlFault;
 use cq_tokens::{TokenFault, is_past_limits, one_cut, tokens};
 use std::alloc::Global;
 

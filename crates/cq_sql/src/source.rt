@@ -1,31 +1,35 @@
 //! What FROM names, and the name that it is known by.
 ghost use Rattle.std.specs.Prelude.{◌≡◌};
-ghost use Rattle.cq_sql.specs.Gives.{Gives};
-ghost use Rattle.cq_sql.specs.Grammar.{known_as_at, source_at};
+ghost use Rattle.cq_reader.specs.Gives.{Gives};
+ghost use Rattle.cq_sql.specs.Queries.{known_as_at, source_at};
 
-use crate::fault::SqlFault;
-use crate::read::{Readable, tail_of};
+use crate::names::Names;
 use cq_language::{FromSource, Keyword, Token};
+use cq_reader::{Readable, SqlFault, tail_of};
 use cq_values::Text;
 use std::alloc::Global;
 
 /// The name by which a source is known: AS may stand in front of it, and it may be left out.
-#[tactic(auto, unfolding(crate::specs::Grammar::known_as_at))]
+#[tactic(auto, unfolding(crate::specs::Queries::known_as_at))]
 fn known_as_at(alloc: Global, tokens: &[Token]) -> Result<(Option<Text>, &[Token]), SqlFault>
     ensures { Gives (λ x. (x.0, x.1.now)) result (known_as_at tokens.now) }
 {
     match tokens {
         [Token::Name(name), rest @ ..] => Ok((Some(name.copy(alloc)?), rest)),
-        _ => tail_of::<Text>(alloc, Keyword::As, tokens),
+        _ => tail_of::<Names>(alloc, Keyword::As, tokens),
     }
 }
 
-impl Readable for FromSource {
+pub struct Sources;
+
+impl Readable for Sources {
+    type Item = FromSource;
+
     ghost reads = { source_at };
 
-    #[tactic(auto, unfolding(crate::specs::Grammar::source_at))]
+    #[tactic(auto, unfolding(crate::specs::Queries::source_at))]
     fn read(alloc: Global, tokens: &[Token]) -> Result<(FromSource, &[Token]), SqlFault> {
-        let (name, rest) = Text::read(alloc, tokens)?;
+        let (name, rest) = Names::read(alloc, tokens)?;
         let (alias, rest) = known_as_at(alloc, rest)?;
         Ok((FromSource { name, alias }, rest))
     }

@@ -1,12 +1,15 @@
 //! The columns of a table, and the order that its rows are kept in.
 ghost use Rattle.std.specs.Prelude.{◌≡◌};
-ghost use Rattle.cq_sql.specs.Gives.{Gives};
-ghost use Rattle.cq_sql.specs.Grammar.{type_of, type_at, not_null_at, column_at, sort_at, create_table_at};
+ghost use Rattle.cq_reader.specs.Gives.{Gives};
+ghost use Rattle.cq_sql.specs.Grammar.{create_table_at, drop_table_at};
+ghost use Rattle.cq_sql.specs.Parts.{column_at, not_null_at, type_at, type_of};
 
-use crate::fault::SqlFault;
-use crate::read::{Readable, after_keyword, expect_keyword, expect_symbol, list_of};
+use crate::names::Names;
 use cq_language::{Keyword, Statement, Symbol, Token};
-use cq_values::{ColumnDef, Seq, Text, Ty};
+use cq_reader::{
+    Lead, Readable, SqlFault, after_keyword, expect_keyword, expect_symbol, list_behind, list_of,
+};
+use cq_values::{ColumnDef, Ty};
 use std::alloc::Global;
 
 fn type_of(word: Keyword) -> Option<Ty>
@@ -32,7 +35,7 @@ fn type_at(tokens: &[Token]) -> Result<(Ty, &[Token]), SqlFault>
     }
 }
 
-#[tactic(auto, unfolding(crate::specs::Read::tail_or))]
+#[tactic(auto, unfolding(cq_reader::specs::Lists::tail_or))]
 fn not_null_at(tokens: &[Token]) -> Result<(bool, &[Token]), SqlFault>
     ensures { Gives (λ x. (x.0, x.1.now)) result (not_null_at tokens.now) }
 {
@@ -45,29 +48,20 @@ fn not_null_at(tokens: &[Token]) -> Result<(bool, &[Token]), SqlFault>
     }
 }
 
-impl Readable for ColumnDef {
+pub struct Columns;
+
+impl Readable for Columns {
+    type Item = ColumnDef;
+
     ghost reads = { column_at };
 
-    #[tactic(auto, unfolding(crate::specs::Grammar::column_at))]
+    #[tactic(auto, unfolding(crate::specs::Parts::column_at))]
     fn read(alloc: Global, tokens: &[Token]) -> Result<(ColumnDef, &[Token]), SqlFault> {
-        let (name, rest) = Text::read(alloc, tokens)?;
+        let (name, rest) = Names::read(alloc, tokens)?;
         let (ty, rest) = type_at(rest)?;
         let (not_null, rest) = not_null_at(rest)?;
         let column = ColumnDef { name, ty, not_null };
         Ok((column, rest))
-    }
-}
-
-#[tactic(auto, unfolding(crate::specs::Read::tail_or))]
-fn sort_at(alloc: Global, tokens: &[Token]) -> Result<(Seq<Text>, &[Token]), SqlFault>
-    ensures { Gives (λ x. (x.0, x.1.now)) result (sort_at tokens.now) }
-{
-    match after_keyword(Keyword::Sort, tokens) {
-        Some(rest) => {
-            let rest = expect_keyword(Keyword::By, rest)?;
-            list_of::<Text>(alloc, rest)
-        }
-        None => Ok((Seq::new(alloc), tokens)),
     }
 }
 
@@ -76,15 +70,24 @@ fn sort_at(alloc: Global, tokens: &[Token]) -> Result<(Seq<Text>, &[Token]), Sql
 pub fn create_table_at(alloc: Global, tokens: &[Token]) -> Result<(Statement, &[Token]), SqlFault>
     ensures { Gives (λ x. (x.0, x.1.now)) result (create_table_at tokens.now) }
 {
-    let (name, rest) = Text::read(alloc, tokens)?;
+    let (name, rest) = Names::read(alloc, tokens)?;
     let rest = expect_symbol(Symbol::Open, rest)?;
-    let (columns, rest) = list_of::<ColumnDef>(alloc, rest)?;
+    let (columns, rest) = list_of::<Columns>(alloc, Lead::Comma, rest)?;
     let rest = expect_symbol(Symbol::Close, rest)?;
-    let (sort, rest) = sort_at(alloc, rest)?;
+    let (sort, rest) = list_behind::<Names>(alloc, Keyword::Sort, rest)?;
     let statement = Statement::CreateTable {
         name,
         columns,
         sort,
     };
     Ok((statement, rest))
+}
+
+/// What follows DROP TABLE.
+#[tactic(auto, unfolding(crate::specs::Grammar::drop_table_at))]
+pub fn drop_table_at(alloc: Global, tokens: &[Token]) -> Result<(Statement, &[Token]), SqlFault>
+    ensures { Gives (λ x. (x.0, x.1.now)) result (drop_table_at tokens.now) }
+{
+    let (name, rest) = Names::read(alloc, tokens)?;
+    Ok((Statement::DropTable(name), rest))
 }

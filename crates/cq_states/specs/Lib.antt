@@ -1,1 +1,3 @@
+pub mod Pointwise
 pub mod State
+pub mod Fitting

@@ -62,6 +62,11 @@ abbrev pub rows_in : List TableOf → ℕ → List Row
 rows_in [] n = []
 rows_in (t ∷ ts) n = if t.number == n then t.rows else rows_in ts n
 
+-- and its columns
+abbrev pub columns_in : List TableOf → ℕ → List ColumnDef
+columns_in [] n = []
+columns_in (t ∷ ts) n = if t.number == n then t.columns else columns_in ts n
+
 -- a new table
 abbrev pub empty_table : ℕ → List ℕ → List ColumnDef → List ℕ → TableOf
 empty_table number name columns sort = record { number = number; name = name; columns = columns; sort = sort; rows = [] }

@@ -99,11 +99,12 @@ refusal-seen x (statements.DropTable name) = used (table_named name x.tables)
     used : (o : Option TableOf) → first_fault (drop_table_checks (map timeless x.views) o) ≡ first_fault (drop_table_checks x.views o)
     used None = refl
     used (Some t) = rw (used-timeless t.number x.views) refl
-refusal-seen x (statements.CreateView name view) = rw (there-timeless name x.views, there-timeless view.source.name x.views) refl
+refusal-seen x (statements.CreateView name view) = rw (there-timeless name x.views, there-timeless view.first.name x.views) refl
 refusal-seen x (statements.DropView name) = rw (place-timeless name x.views) refl
 refusal-seen x (statements.Insert name rows) = rw (there-timeless name x.views) refl
 refusal-seen x (statements.Delete name condition) = rw (there-timeless name x.views) refl
-refusal-seen x (statements.Select q) = ap (λ (o : Option Named). first_fault (select_checks q o)) (source-timeless q.source.name x)
+refusal-seen x (statements.Select q) = ap (λ (o : Option Named). first_fault (select_checks q o)) (source-timeless q.first.name x)
+refusal-seen x s = refl
 
 -- and names are resolved without one
 bound-seen : (x : State) (s : Statement) → bound (seen x) s ≡ bound x s
@@ -113,7 +114,8 @@ bound-seen x (statements.CreateView name view) = refl
 bound-seen x (statements.DropView name) = ap (option_map commands.DropView) (place-timeless name x.views)
 bound-seen x (statements.Insert name rows) = refl
 bound-seen x (statements.Delete name condition) = refl
-bound-seen x (statements.Select q) = ap (option_map (bound_select q)) (source-timeless q.source.name x)
+bound-seen x (statements.Select q) = ap (option_map (bound_select q)) (source-timeless q.first.name x)
+bound-seen x s = refl
 
 pub refusal-alike : (x y : State) (s : Statement) → Alike x y → refusal x s ≡ refusal y s
 refusal-alike x y s a = sym (refusal-seen x s) ∙ ap (λ (z : State). refusal z s) (seen-alike x y a) ∙ refusal-seen y s

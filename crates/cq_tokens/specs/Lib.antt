@@ -2,3 +2,4 @@ pub mod Reading
 pub mod Lexing
 pub mod Cutting
 pub mod Piece
+pub mod Laws

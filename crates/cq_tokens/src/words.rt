@@ -1,6 +1,7 @@
 //! Words as keywords and names, and digits as numbers.
 ghost use Rattle.cq_language.specs.Characters.{is_digit};
-ghost use Rattle.cq_language.specs.Tokens.{decimal, keyword_of, word_token};
+ghost use Rattle.cq_language.specs.Keywords.{keyword_of};
+ghost use Rattle.cq_language.specs.Tokens.{decimal, word_token};
 ghost use Rattle.cq_tokens.specs.Lexing.{Gives, found_in, number_at, word_at};
 ghost use Rattle.std.specs.Char.{to_ascii_lowercase};
 ghost use Rattle.std.specs.List.{list_all};

@@ -15,6 +15,7 @@ use Rattle.cq_laws.proofs.Groups.{IsRowOf}
 use Rattle.cq_laws.proofs.Ranges.{all-at, all-from}
 use Rattle.cq_deltas.specs.Keyed.{group_at}
 use Rattle.cq_deltas.specs.Told.{counted_keys, group_rows}
+use Rattle.cq_views.specs.Query.{aggregates_of, key_columns}
 use Rattle.cq_views.specs.Small.{CanBeKept, StandsOnStored}
 use Rattle.cq_views.specs.View.{AreNarrowAt, KeptView, kept_rows}
 use Rattle.cq_views.proofs.Sizes.{items-narrow}
@@ -39,29 +40,29 @@ keys-fit columns rows stored k among =
     let fit = all-map IsStored (λ k. FitBeside k (map (λ c. stored_size) columns)) (key_of columns) (key-fits columns) rows stored in
     all-at (λ k. FitBeside k (map (λ c. stored_size) columns)) (map (key_of columns) rows) fit k (row-of-bag (map (key_of columns) rows) k one_of)
 
-module _ (v : KeptView) (can : CanBeKept v.def) (on : StandsOnStored v) (lists : ListsKeys (counted_keys v.groups) (Groups (group_at v.def.aggregates v.groups))) where
+module _ (v : KeptView) (can : CanBeKept v.query) (on : StandsOnStored v) (lists : ListsKeys (counted_keys v.groups) (Groups (group_at (aggregates_of v.query) v.groups))) where
   -- the rows that WHERE keeps
   abbrev kept : List Row
-  kept = filter (keeps v.def.filter) on.rows
+  kept = filter (keeps v.query.filter) on.rows
 
   -- each key that is told is one of theirs
-  told-fits : (k : Row) → IsRowOf k (counted_keys v.groups) → FitBeside k (map (λ c. stored_size) v.def.keys)
+  told-fits : (k : Row) → IsRowOf k (counted_keys v.groups) → FitBeside k (map (λ c. stored_size) (key_columns v.query))
   told-fits k among =
-      let there = occurs v.def.keys v.def.aggregates v.groups (kept_rows v.def (once_each on.rows)) lists on.stands k among in
-      keys-fit v.def.keys kept (all-filter IsStored (keeps v.def.filter) on.rows on.stored) k
-      (subst (λ xs. IsRowOf k (keys_of v.def.keys xs)) (sym (once_each-filter (keeps v.def.filter) on.rows)) there)
+      let there = occurs (key_columns v.query) (aggregates_of v.query) v.groups (kept_rows v.query (once_each on.rows)) lists on.stands k among in
+      keys-fit (key_columns v.query) kept (all-filter IsStored (keeps v.query.filter) on.rows on.stored) k
+      (subst (λ xs. IsRowOf k (keys_of (key_columns v.query) xs)) (sym (once_each-filter (keeps v.query.filter) on.rows)) there)
 
   -- the row that is told of a key
   abbrev told_of : Row → Row
-  told_of k = told_row v.def.aggregates k (group_at v.def.aggregates v.groups k).kept
+  told_of k = told_row (aggregates_of v.query) k (group_at (aggregates_of v.query) v.groups k).kept
 
-  told-narrow : (k : Row) → IsRowOf k (counted_keys v.groups) → AreNarrowAt v.def.items (told_of k)
+  told-narrow : (k : Row) → IsRowOf k (counted_keys v.groups) → AreNarrowAt v.query.items (told_of k)
   told-narrow k among =
-      items-narrow (length v.def.keys) (sizes_of (told_of k)) (key-first v.def.keys k (told_values v.def.aggregates (group_at v.def.aggregates v.groups k).kept) (told-fits k among))
-      v.def.items can.items
+      items-narrow (length (key_columns v.query)) (sizes_of (told_of k)) (key-first (key_columns v.query) k (told_values (aggregates_of v.query) (group_at (aggregates_of v.query) v.groups k).kept) (told-fits k among))
+      v.query.items can.items
 
   -- so the items are narrow in the row of each group that is told
-  pub groups-narrow : AllByRecursion (AreNarrowAt v.def.items) (group_rows v.def.aggregates v.groups)
+  pub groups-narrow : AllByRecursion (AreNarrowAt v.query.items) (group_rows (aggregates_of v.query) v.groups)
   groups-narrow =
-      all-map (λ k. AreNarrowAt v.def.items (told_of k)) (AreNarrowAt v.def.items) told_of (λ k h. h) (counted_keys v.groups)
-      (all-from (λ k. AreNarrowAt v.def.items (told_of k)) (counted_keys v.groups) told-narrow)
+      all-map (λ k. AreNarrowAt v.query.items (told_of k)) (AreNarrowAt v.query.items) told_of (λ k h. h) (counted_keys v.groups)
+      (all-from (λ k. AreNarrowAt v.query.items (told_of k)) (counted_keys v.groups) told-narrow)

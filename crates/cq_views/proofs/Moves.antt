@@ -15,8 +15,9 @@ use Rattle.cq_deltas.specs.Additions.{IsSmall, addend_of, addition}
 use Rattle.cq_deltas.specs.Kept.{total_move, total_moves}
 use Rattle.cq_deltas.specs.Keyed.{all_total_moves, count_moves}
 use Rattle.cq_deltas.proofs.Small.{small-hold}
-use Rattle.cq_views.specs.declared.view_def.ViewDef.{ViewDef}
+use Rattle.cq_model.specs.declared.query.Query.{Query}
 use Rattle.cq_views.specs.Laws.{SmallChangesHold, SmallRowsChange}
+use Rattle.cq_views.specs.Query.{aggregates_of, key_columns}
 use Rattle.cq_views.specs.Small.{IsSmallFor}
 use Rattle.cq_views.specs.View.{change_of, changed, kept_rows}
 
@@ -31,46 +32,46 @@ row-moves r w [] once small = omega arith
 row-moves r w (a ∷ aggregates) once small =
     omega (arith, sum_by-cons (total_move w) (addend_of r a) (map (addend_of r) aggregates), one-move w (addend_of r a) once small.0, row-moves r w aggregates once small.1)
 
-module _ (def : ViewDef) (few : length def.aggregates ≤ 2 ^ 32) where
+module _ (query : Query) (few : length (aggregates_of query) ≤ 2 ^ 32) where
   -- rows that come or go once move counts no further than their number
-  count-moves : (xs : Weighted) → AllByRecursion (λ x. nat_abs x.1 ≤ 1) xs → count_moves (change_of def xs) ≤ length xs
+  count-moves : (xs : Weighted) → AllByRecursion (λ x. nat_abs x.1 ≤ 1) xs → count_moves (change_of query xs) ≤ length xs
   count-moves [] once = omega arith
-  count-moves (x ∷ xs) once = by_test (keeps def.filter x.0)
-      (λ k. rw k (omega (arith, sum_by-cons (λ (y : Addition). nat_abs y.weight) (addition def.keys def.aggregates x) (change_of def xs), once.0, count-moves xs once.1)))
+  count-moves (x ∷ xs) once = by_test (keeps query.filter x.0)
+      (λ k. rw k (omega (arith, sum_by-cons (λ (y : Addition). nat_abs y.weight) (addition (key_columns query) (aggregates_of query) x) (change_of query xs), once.0, count-moves xs once.1)))
       (λ k. rw k (omega (arith, count-moves xs once.1)))
 
   -- and small ones move totals no further than so many numbers
-  totals-move : (xs : Weighted) → AllByRecursion (λ x. nat_abs x.1 ≤ 1) xs → AllByRecursion (λ x. IsSmallFor def x.0) xs → all_total_moves (change_of def xs) ≤ length xs * 2 ^ 159
+  totals-move : (xs : Weighted) → AllByRecursion (λ x. nat_abs x.1 ≤ 1) xs → AllByRecursion (λ x. IsSmallFor query x.0) xs → all_total_moves (change_of query xs) ≤ length xs * 2 ^ 159
   totals-move [] once small = omega arith
-  totals-move (x ∷ xs) once small = by_test (keeps def.filter x.0)
+  totals-move (x ∷ xs) once small = by_test (keeps query.filter x.0)
       (λ k.
-      let here = row-moves x.0 x.1 def.aggregates once.0 (small.0 k) in
+      let here = row-moves x.0 x.1 (aggregates_of query) once.0 (small.0 k) in
       let rest = totals-move xs once.1 small.1 in
-      rw k (omega (arith, few, sum_by-cons (λ (y : Addition). total_moves y.weight y.addends) (addition def.keys def.aggregates x) (change_of def xs), here, rest)))
+      rw k (omega (arith, few, sum_by-cons (λ (y : Addition). total_moves y.weight y.addends) (addition (key_columns query) (aggregates_of query) x) (change_of query xs), here, rest)))
       (λ k. rw k (omega (arith, totals-move xs once.1 small.1)))
 
 -- so counts and totals stay in range
 pub small-changes : SmallChangesHold
 small-changes v xs dxs can stands small change =
-    let def = v.def in
-    small-hold def.keys def.aggregates (kept_rows def xs) v.groups (change_of def dxs) can.totals stands (record {
-      counts = omega (arith, small.few, change.few, count-moves def can.few xs small.once, count-moves def can.few dxs change.once);
-      totals = omega (arith, small.few, change.few, totals-move def can.few xs small.once small.small, totals-move def can.few dxs change.once change.small);
+    let query = v.query in
+    small-hold (key_columns query) (aggregates_of query) (kept_rows query xs) v.groups (change_of query dxs) can.totals stands (record {
+      counts = omega (arith, small.few, change.few, count-moves query can.few xs small.once, count-moves query can.few dxs change.once);
+      totals = omega (arith, small.few, change.few, totals-move query can.few xs small.once small.small, totals-move query can.few dxs change.once change.small);
     })
 
-module _ (def : ViewDef) (weight : ℤ) (once : nat_abs weight ≤ 1) where
+module _ (query : Query) (weight : ℤ) (once : nat_abs weight ≤ 1) where
   all-once : (rows : List Row) → AllByRecursion (λ x. nat_abs x.1 ≤ 1) (changed rows weight)
   all-once [] = tt
   all-once (r ∷ rows) = (once, all-once rows)
 
-  all-small : (rows : List Row) → AllByRecursion (IsSmallFor def) rows → AllByRecursion (λ x. IsSmallFor def x.0) (changed rows weight)
+  all-small : (rows : List Row) → AllByRecursion (IsSmallFor query) rows → AllByRecursion (λ x. IsSmallFor query x.0) (changed rows weight)
   all-small [] small = tt
   all-small (r ∷ rows) small = (small.0, all-small rows small.1)
 
 -- rows that all come, or all go
 pub small-rows : SmallRowsChange
-small-rows def rows weight few small once = record {
+small-rows query rows weight few small once = record {
   few = omega (arith, few, length-map {B = Row × ℤ} rows (λ r. (r, weight)));
-  once = all-once def weight once rows;
-  small = all-small def weight once rows small;
+  once = all-once query weight once rows;
+  small = all-small query weight once rows small;
 }

@@ -11,24 +11,25 @@ use Rattle.cq_model.specs.Expr.{Cond, Compare, Column, Literal, Plus, Times}
 use Rattle.cq_model.specs.Sizes.{stored_size}
 use Rattle.cq_model.specs.Width.{widest_at}
 use Rattle.cq_deltas.specs.Additions.{IsNarrow}
-use Rattle.cq_views.specs.declared.view_def.ViewDef.{ViewDef}
+use Rattle.cq_model.specs.declared.query.Query.{Query}
+use Rattle.cq_views.specs.Query.{aggregates_of}
 use Rattle.cq_views.specs.Small.{IsItemNarrow}
 use Rattle.cq_views.specs.View.{IsNarrowFor}
 
 module _ (r : Row) where
   -- the rows whose second column is not 9, with their number and their total
-  pub totals-narrow : (def : ViewDef) (c : Comparison) → def.filter ≡ Some (Compare c (Column 1) (Literal (Number (pos 9)))) → def.aggregates ≡ CountAll ∷ Sum (Column 1) ∷ []
-      → IsSized (λ i. stored_size) r → IsNarrowFor def r
-  totals-narrow def c filter aggregates h = record {
+  pub totals-narrow : (query : Query) (c : Comparison) → query.filter ≡ Some (Compare c (Column 1) (Literal (Number (pos 9)))) → (aggregates_of query) ≡ CountAll ∷ Sum (Column 1) ∷ []
+      → IsSized (λ i. stored_size) r → IsNarrowFor query r
+  totals-narrow query c filter aggregates h = record {
     filter = subst (λ (f : Option Cond). IfSome f (λ w. widest_at w r < 2 ^ 127)) (sym filter) (omega arith);
     aggregates = subst (λ (xs : List Aggregate). AllByRecursion (IsNarrow r) xs) (sym aggregates) (tt, (omega arith, tt));
   }
 
 -- so at each of several rows
-pub all-narrow : (def : ViewDef) (rows : List Row) → ((r : Row) → IsSized (λ i. stored_size) r → IsNarrowFor def r)
-    → AllByRecursion (IsSized (λ i. stored_size)) rows → AllByRecursion (IsNarrowFor def) rows
-all-narrow def [] narrow small = tt
-all-narrow def (r ∷ rows) narrow small = (narrow r small.0, all-narrow def rows narrow small.1)
+pub all-narrow : (query : Query) (rows : List Row) → ((r : Row) → IsSized (λ i. stored_size) r → IsNarrowFor query r)
+    → AllByRecursion (IsSized (λ i. stored_size)) rows → AllByRecursion (IsNarrowFor query) rows
+all-narrow query [] narrow small = tt
+all-narrow query (r ∷ rows) narrow small = (narrow r small.0, all-narrow query rows narrow small.1)
 
 -- twice the key, and one more, is far from too wide
 twice-narrow : IsItemNarrow 1 (Plus (Times (Column 0) (Literal (Number (pos 2)))) (Literal (Number (pos 1))))

@@ -5,9 +5,9 @@ use Rattle.std.specs.Prelude.{slice_index_or}
 use Rattle.cq_model.specs.Expr.{Expr}
 use Rattle.cq_model.specs.Sizes.{row_size, stored_size, told_size}
 use Rattle.cq_model.specs.Width.{widest}
-use Rattle.cq_views.specs.declared.view_def.ViewDef.{ViewDef}
+use Rattle.cq_model.specs.declared.query.Query.{Query}
+use Rattle.cq_views.specs.Query.{aggregates_of, groups_shape, key_columns}
 use Rattle.cq_views.specs.Small.{CanBeKept, IsItemNarrow}
-use Rattle.cq_views.specs.View.{shape_of}
 
 -- a key is as large as a stored number
 key-size : (keys rest : List ℕ) (i : ℕ) → i < length keys → slice_index_or (map (λ k. stored_size) keys ++ rest) i 0 ≤ stored_size
@@ -22,5 +22,5 @@ items-narrow keys sizes stored [] narrow = tt
 items-narrow keys sizes stored (e ∷ items) narrow = (narrow.0 sizes stored, items-narrow keys sizes stored items narrow.1)
 
 -- so over a group's row
-pub sizes-narrow : (def : ViewDef) → CanBeKept def → AllByRecursion (λ e. widest (row_size (shape_of def)) e < 2 ^ 127) def.items
-sizes-narrow def can = items-narrow (length def.keys) (row_size (shape_of def)) (key-size def.keys (map told_size def.aggregates)) def.items can.items
+pub sizes-narrow : (query : Query) → CanBeKept query → AllByRecursion (λ e. widest (row_size (groups_shape query)) e < 2 ^ 127) query.items
+sizes-narrow query can = items-narrow (length (key_columns query)) (row_size (groups_shape query)) (key-size (key_columns query) (map told_size (aggregates_of query))) query.items can.items

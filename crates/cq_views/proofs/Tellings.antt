@@ -1,5 +1,5 @@
 -- What the groups tell is what the query means, and can be told where the query's totals are in range.
-use Rattle.std.proofs.Common.{◌≡◌, ℕ, Bool, pos, ◌<ℤ◌, int_lt, cond, true, List, [], ◌∷◌, map, Some, None, refl, sym, ◌∙◌, ap, arith}
+use Rattle.std.proofs.Common.{◌≡◌, ℕ, Bool, pos, ◌<ℤ◌, int_lt, cond, true, List, [], ◌∷◌, map, Some, None, refl, sym, ◌∙◌, ap, subst, arith}
 use Rattle.std.specs.List.{AllByRecursion}
 use Rattle.std.proofs.lemmas.Int.{ints}
 use Rattle.cq_values.specs.Order.{same_row}
@@ -10,6 +10,7 @@ use Rattle.cq_bags.proofs.Listings.{weight_of-once_each}
 use Rattle.cq_bags.proofs.Positives.{filtered-bag}
 use Rattle.cq_bags.proofs.Totals.{by_test}
 use Rattle.cq_model.specs.declared.query.Aggregate.{Aggregate}
+use Rattle.cq_model.specs.declared.query.Query.{Query}
 use Rattle.cq_model.specs.declared.query.Source.TheVariants.{Table as FromTable}
 use Rattle.cq_model.specs.Group.{SumInRange, SumsInRange, keys_of, rows_of_key}
 use Rattle.cq_kept.specs.Kept.{GroupStands, Groups}
@@ -21,7 +22,8 @@ use Rattle.cq_laws.proofs.Told.{last-told}
 use Rattle.cq_deltas.proofs.Small.{ranges-tell}
 use Rattle.cq_deltas.specs.Keyed.{Table, group_at}
 use Rattle.cq_deltas.specs.Told.{AllCanBeTold, GroupsCanBeTold, counted_keys, group_rows}
-use Rattle.cq_views.specs.View.{KeptView, StandsFor, kept_rows, query_of, shape_of}
+use Rattle.cq_views.specs.Query.{IsGrouped, aggregates_of, groups_shape, key_columns, table_of}
+use Rattle.cq_views.specs.View.{KeptView, StandsFor, kept_rows}
 
 -- without HAVING each row is kept
 all-kept : (xs : Weighted) → filtered (keeps None) xs ≡ xs
@@ -72,19 +74,24 @@ module _ (columns : List ℕ) (aggregates : List Aggregate) (table : Table) (xs 
       (ranges-tell aggregates (rows_of_key columns k xs) (group_at aggregates table k) (stands k)).1
       (all-at (λ q. AllByRecursion (λ a. SumInRange a (rows_of_key columns q xs)) aggregates) (keys_of columns xs) all k (occurs k among)))
 
-module _ (v : KeptView) (lists : ListsKeys (counted_keys v.groups) (Groups (group_at v.def.aggregates v.groups))) (tables : Tables) (stands : StandsFor v tables) where
-  -- the totals of the query are in range where the groups can be told
-  pub range-told : GroupsCanBeTold v.def.aggregates v.groups → MeaningInRange (query_of v.def) tables
-  range-told = in-range v.def.keys v.def.aggregates v.groups (kept_rows v.def (tables (FromTable v.def.table))) lists stands.stands
+module _ (v : KeptView) (grouped : IsGrouped v.query) (lists : ListsKeys (counted_keys v.groups) (Groups (group_at (aggregates_of v.query) v.groups))) (tables : Tables) (stands : StandsFor v tables) where
+  -- the rows of the view's table that WHERE keeps
+  abbrev kept : Weighted
+  kept = kept_rows v.query (tables (FromTable (table_of v.query)))
 
-  pub told-range : MeaningInRange (query_of v.def) tables → GroupsCanBeTold v.def.aggregates v.groups
-  told-range = can-be-told v.def.keys v.def.aggregates v.groups (kept_rows v.def (tables (FromTable v.def.table))) lists stands.stands
+  -- the totals of the query are in range where the groups can be told
+  pub range-told : GroupsCanBeTold (aggregates_of v.query) v.groups → MeaningInRange v.query tables
+  range-told can = subst (λ (q : Query). MeaningInRange q tables) (sym grouped) (in-range (key_columns v.query) (aggregates_of v.query) v.groups kept lists stands.stands can)
+
+  pub told-range : MeaningInRange v.query tables → GroupsCanBeTold (aggregates_of v.query) v.groups
+  told-range range = can-be-told (key_columns v.query) (aggregates_of v.query) v.groups kept lists stands.stands (subst (λ (q : Query). MeaningInRange q tables) grouped range)
 
   -- the items of the groups are the query's bag
-  pub meaning-told : SameBag (once_each (map (items_of (query_of v.def).items) (group_rows v.def.aggregates v.groups))) (meaning (query_of v.def) tables)
+  pub meaning-told : SameBag (once_each (map (items_of v.query.items) (group_rows (aggregates_of v.query) v.groups))) (meaning v.query tables)
   meaning-told =
-      let q = query_of v.def in
-      let rows = group_rows v.def.aggregates v.groups in
-      let told = last-told q (shape_of v.def) (kept_rows v.def (tables (FromTable v.def.table))) (counted_keys v.groups) (Groups (group_at v.def.aggregates v.groups))
-      (filtered-bag (keeps v.def.filter) (tables (FromTable v.def.table)) stands.bag) stands.stands lists in
-      record { at = λ r. ap (λ xs. weight_of xs r) (once_each-map (items_of q.items) rows ∙ ap (projected (items_of q.items)) (sym (all-kept (once_each rows)))) ∙ told.at r }
+      let items = items_of v.query.items in
+      let rows = group_rows (aggregates_of v.query) v.groups in
+      let told = last-told v.query (groups_shape v.query) kept (counted_keys v.groups) (Groups (group_at (aggregates_of v.query) v.groups))
+      (filtered-bag (keeps v.query.filter) (tables (FromTable (table_of v.query))) stands.bag) stands.stands lists in
+      subst (λ (q : Query). SameBag (once_each (map items rows)) (meaning q tables)) (sym grouped)
+      (record { at = λ r. ap (λ xs. weight_of xs r) (once_each-map items rows ∙ ap (projected items) (sym (all-kept (once_each rows)))) ∙ told.at r })

@@ -4,7 +4,7 @@ ghost use Rattle.std.specs.Prelude.{◌≡◌, IfOk, map};
 ghost use Rattle.cq_model.specs.Meaning.{items_of};
 ghost use Rattle.cq_views.specs.View.{AreNarrowAt};
 
-use cq_eval::eval_row;
+use cq_eval::{eval_row, narrow_is_exact};
 use cq_model::Expr;
 use cq_values::{Row, Value};
 use std::alloc::{AllocError, Global};
@@ -29,6 +29,7 @@ fn item_row(alloc: Global, items: &[Expr], group: &[Value]) -> Result<Row, Alloc
     requires { AreNarrowAt items.now group.now }
     ensures { IfOk result (λ row. row ≡ items_of items.now group.now) }
 {
+    narrow_is_exact();
     let mut row = Row::new(alloc);
     for item in items {
         row.push(eval_row(item, group).to_value(alloc)?)?;

@@ -5,13 +5,14 @@
 //! which cannot fail. Then the groups stand for the changed table, and [`ViewState::rows`] tells the bag of the query.
 #![tactic(auto)]
 
+mod columns;
 mod items;
 mod laws;
 mod pending;
+mod query;
 mod state;
-mod view_def;
 
 pub use laws::{small_changes_hold, small_rows_change, standing_depends_on_bag};
 pub use pending::Pending;
+pub use query::table_of;
 pub use state::ViewState;
-pub use view_def::ViewDef;

@@ -4,8 +4,9 @@ ghost use Rattle.std.specs.Prelude.{◌++◌, ◌∷◌, ◌≡◌, IfOk, OnErr,
 ghost use Rattle.cq_views.specs.Small.{IsSmallFor};
 ghost use Rattle.cq_views.specs.View.{IsNarrowFor, change_of, changed};
 
-use crate::view_def::ViewDef;
+use crate::query::{aggregates_of, keeps, key_columns};
 use cq_deltas::GroupChange;
+use cq_model::Query;
 use cq_values::{Row, Value};
 use std::alloc::{AllocError, Global};
 use std::marker::Model;
@@ -37,17 +38,17 @@ impl Pending {
     /// What these rows change, all with one weight.
     pub fn of(
         alloc: Global,
-        def: &ViewDef,
+        query: &Query,
         rows: &[&Row],
         weight: i128,
     ) -> Result<Pending, AllocError>
-        requires { AllByRecursion (λ r. IsNarrowFor def.now r.now) rows.now }
-        ensures ok { IfOk result (λ pending. pending ≡ change_of def.now (changed (map (λ r. r.now) rows.now) weight)) }
-        ensures small { OnOk result (AllByRecursion (λ r. IsSmallFor def.now r.now) rows.now) }
+        requires { AllByRecursion (λ r. IsNarrowFor query.now r.now) rows.now }
+        ensures ok { IfOk result (λ pending. pending ≡ change_of query.now (changed (map (λ r. r.now) rows.now) weight)) }
+        ensures small { OnOk result (AllByRecursion (λ r. IsSmallFor query.now r.now) rows.now) }
     {
         let mut pending = Pending::new(alloc);
         for row in rows {
-            pending.push(alloc, def, row.as_slice(), weight)?;
+            pending.push(alloc, query, row.as_slice(), weight)?;
         }
         Ok(pending)
     }
@@ -56,19 +57,19 @@ impl Pending {
     pub fn push(
         &mut self,
         alloc: Global,
-        def: &ViewDef,
+        query: &Query,
         row: &[Value],
         weight: i128,
     ) -> Result<(), AllocError>
-        requires { IsNarrowFor def.now row.now }
-        ensures ok { OnOk result (self.new ≡ self.old ++ change_of def.now ((row.now, weight) ∷ [])) }
-        ensures small { OnOk result (IsSmallFor def.now row.now) }
+        requires { IsNarrowFor query.now row.now }
+        ensures ok { OnOk result (self.new ≡ self.old ++ change_of query.now ((row.now, weight) ∷ [])) }
+        ensures small { OnOk result (IsSmallFor query.now row.now) }
         ensures err { OnErr result (self.new ≡ self.old) }
     {
-        if !def.keeps(row) {
+        if !keeps(query, row) {
             return Ok(());
         }
-        let (keys, aggregates) = (def.keys.as_slice(), def.aggregates.as_slice());
+        let (keys, aggregates) = (key_columns(query), aggregates_of(query));
         self.change.push(alloc, keys, aggregates, row, weight)
     }
 

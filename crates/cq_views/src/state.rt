@@ -1,19 +1,22 @@
 //! A view as it is kept.
 ghost use Rattle.std.specs.List.{AllByRecursion};
 ghost use Rattle.std.specs.Prelude.{◌==◌, ◌≡◌, IfErr, IfOk, OnOk, [], map};
-ghost use Rattle.cq_bags.specs.Bag.{SameBag, once_each};
+ghost use Rattle.cq_bags.specs.Bag.{once_each};
 ghost use Rattle.cq_deltas.specs.declared.fault.ToldFault.TheVariants.{SumOutOfRange};
 ghost use Rattle.cq_deltas.specs.Keyed.{HasKeys, HoldsFor};
-ghost use Rattle.cq_model.specs.Meaning.{MeaningInRange, Tables, meaning};
 ghost use Rattle.cq_model.specs.Sizes.{column_sizes};
 ghost use Rattle.cq_values.specs.Value.{Row as Values};
 ghost use Rattle.cq_views.specs.Small.{CanBeKept, IsSmallFor, StandsOnStored};
-ghost use Rattle.cq_views.specs.View.{GoesOn, IsNarrowFor, SameView, Stands, StandsFor, change_of, changed, query_of};
+ghost use Rattle.cq_views.specs.Query.{reads, table_of};
+ghost use Rattle.cq_views.specs.Told.{AreRowsOf, IsNotShown, IsShown};
+ghost use Rattle.cq_views.specs.View.{GoesOn, IsNarrowFor, SameView, Stands, change_of, changed};
 
+use crate::columns::column_sizes;
 use crate::items::item_rows;
 use crate::pending::Pending;
-use crate::view_def::ViewDef;
+use crate::query::{aggregates_of, table_of};
 use cq_deltas::{Groups, ToldFault};
+use cq_model::Query;
 use cq_values::Row;
 use std::alloc::{AllocError, Global};
 use std::marker::Model;
@@ -21,7 +24,7 @@ use std::marker::Model;
 /// A view as it is kept: its query, its epochs and its groups.
 #[derive(Drop)]
 pub struct ViewState {
-    def: ViewDef,
+    query: Query,
     epoch: u64,
     built: u64,
     groups: Groups,
@@ -38,44 +41,44 @@ impl Model for ViewState {
 
     ghost coded = { Prim.hlevel (codes, expr.the_row.coded, cond.the_row.coded) };
 
-    ghost view = { λ v. record { def = v.def; epoch = v.epoch; built = v.built; groups = v.groups } };
+    ghost view = { λ v. record { query = v.query; epoch = v.epoch; built = v.built; groups = v.groups } };
 
-    ghost invariant = { λ v. CanBeKept v.def };
+    ghost invariant = { λ v. CanBeKept v.query };
 }
 
 impl ViewState {
     /// The view of this query as its table stands at the epoch.
     pub fn build(
         alloc: Global,
-        def: ViewDef,
+        query: Query,
         rows: &[Row],
         epoch: u64,
     ) -> Result<ViewState, AllocError>
-        requires can_be_kept { CanBeKept def }
-        requires narrow { AllByRecursion (IsNarrowFor def) rows.now }
-        ensures def { IfOk result (λ v. v.def ≡ def) }
+        requires can_be_kept { CanBeKept query }
+        requires narrow { AllByRecursion (IsNarrowFor query) rows.now }
+        ensures query { IfOk result (λ v. v.query ≡ query) }
         ensures epoch { IfOk result (λ v. v.epoch ≡ epoch) }
         ensures built { IfOk result (λ v. v.built ≡ epoch) }
         ensures stands { IfOk result (λ v. Stands v (once_each rows.now)) }
-        ensures small { OnOk result (AllByRecursion (IsSmallFor def) rows.now) }
+        ensures small { OnOk result (AllByRecursion (IsSmallFor query) rows.now) }
     {
         let mut pending = Pending::new(alloc);
         for row in rows {
-            pending.push(alloc, &def, row.as_slice(), 1)?;
+            pending.push(alloc, &query, row.as_slice(), 1)?;
         }
-        let mut view = ViewState::empty(alloc, def, epoch);
+        let mut view = ViewState::empty(alloc, query, epoch);
         view.ready(alloc, &pending)?;
         view.commit(pending, epoch);
         Ok(view)
     }
 
     /// The view of an empty table.
-    fn empty(alloc: Global, def: ViewDef, epoch: u64) -> ViewState
-        requires { CanBeKept def }
-        ensures { result ≡ record { def = def; epoch = epoch; built = epoch; groups = [] } }
+    fn empty(alloc: Global, query: Query, epoch: u64) -> ViewState
+        requires { CanBeKept query }
+        ensures { result ≡ record { query = query; epoch = epoch; built = epoch; groups = [] } }
     {
         ViewState {
-            def,
+            query,
             epoch,
             built: epoch,
             groups: Groups::new(alloc),
@@ -83,18 +86,18 @@ impl ViewState {
     }
 
     /// The view's query.
-    pub fn def(&self) -> &ViewDef
-        ensures value { result.now ≡ self.now.def }
-        ensures can_be_kept { CanBeKept self.now.def }
+    pub fn query(&self) -> &Query
+        ensures value { result.now ≡ self.now.query }
+        ensures can_be_kept { CanBeKept self.now.query }
     {
-        &self.def
+        &self.query
     }
 
     /// How large the numbers in the columns of the view can be.
     pub fn column_sizes(&self, alloc: Global) -> Result<Vec<u128>, AllocError>
-        ensures { IfOk result (λ v. v.items ≡ column_sizes (query_of self.now.def)) }
+        ensures { IfOk result (λ v. v.items ≡ column_sizes self.now.query) }
     {
-        self.def.column_sizes(alloc)
+        column_sizes(alloc, &self.query)
     }
 
     /// How many writes there were when the view last took one in.
@@ -113,9 +116,10 @@ impl ViewState {
 
     /// Whether a write of the table changes the view.
     pub fn is_on(&self, table: u64) -> bool
-        ensures { result ≡ (self.now.def.table == table) }
+        ensures value { result ≡ (table_of self.now.query == table) }
+        ensures named { result ≡ reads table self.now.query }
     {
-        self.def.table == table
+        table_of(&self.query) == table
     }
 
     /// Works out what these rows change, all with one weight, and makes all growth for it. No group changes.
@@ -125,14 +129,14 @@ impl ViewState {
         rows: &[&Row],
         weight: i128,
     ) -> Result<Pending, AllocError>
-        requires { AllByRecursion (λ r. IsNarrowFor self.old.def r.now) rows.now }
+        requires { AllByRecursion (λ r. IsNarrowFor self.old.query r.now) rows.now }
         ensures kept { SameView self.old self.new }
-        ensures change { IfOk result (λ pending. pending ≡ change_of self.old.def (changed (map (λ r. r.now) rows.now) weight)) }
+        ensures change { IfOk result (λ p. p ≡ change_of self.old.query (changed (map (λ r. r.now) rows.now) weight)) }
         ensures keys { IfOk result (λ pending. HasKeys pending self.new.groups) }
-        ensures small { OnOk result (AllByRecursion (λ r. IsSmallFor self.old.def r.now) rows.now) }
-        ensures can_be_kept { CanBeKept self.old.def }
+        ensures small { OnOk result (AllByRecursion (λ r. IsSmallFor self.old.query r.now) rows.now) }
+        ensures can_be_kept { CanBeKept self.old.query }
     {
-        let pending = Pending::of(alloc, &self.def, rows, weight)?;
+        let pending = Pending::of(alloc, &self.query, rows, weight)?;
         self.ready(alloc, &pending)?;
         Ok(pending)
     }
@@ -142,7 +146,7 @@ impl ViewState {
         ensures kept { SameView self.old self.new }
         ensures keys { OnOk result (HasKeys pending.now self.new.groups) }
     {
-        let aggregates = self.def.aggregates.as_slice();
+        let aggregates = aggregates_of(&self.query);
         self.groups.ready(alloc, aggregates, pending.change())
     }
 
@@ -150,7 +154,7 @@ impl ViewState {
     pub fn commit(&mut self, pending: Pending, epoch: u64)
         requires keys { HasKeys pending self.old.groups }
         requires holds { HoldsFor pending self.old.groups }
-        ensures def { self.new.def ≡ self.old.def }
+        ensures query { self.new.query ≡ self.old.query }
         ensures epoch { self.new.epoch ≡ epoch }
         ensures built { self.new.built ≡ self.old.built }
         ensures goes_on { GoesOn self.old pending self.new }
@@ -169,12 +173,12 @@ impl ViewState {
     /// The rows of the view, in no order that is promised. It costs what the view holds, and the table is not read.
     pub fn rows(&self, alloc: Global) -> Result<Vec<Row>, ToldFault>
         requires { StandsOnStored self.now }
-        ensures bag { IfOk result (λ rows. (tables : Tables) → StandsFor self.now tables → SameBag (once_each rows.items) (meaning (query_of self.now.def) tables)) }
-        ensures range { OnOk result ((tables : Tables) → StandsFor self.now tables → MeaningInRange (query_of self.now.def) tables) }
-        ensures fault { IfErr result (λ e. e ≡ SumOutOfRange → (tables : Tables) → StandsFor self.now tables → MeaningInRange (query_of self.now.def) tables → ⊥) }
+        ensures bag { IfOk result (λ rows. AreRowsOf self.now rows.items) }
+        ensures range { OnOk result (IsShown self.now) }
+        ensures fault { IfErr result (λ e. e ≡ SumOutOfRange → IsNotShown self.now) }
     {
-        let aggregates = self.def.aggregates.as_slice();
+        let aggregates = aggregates_of(&self.query);
         let groups = self.groups.told_rows(alloc, aggregates)?;
-        Ok(item_rows(alloc, self.def.items.as_slice(), &groups)?)
+        Ok(item_rows(alloc, self.query.items.as_slice(), &groups)?)
     }
 }

@@ -1,9 +1,9 @@
 //! LIKE and the truth of conditions, with NULL in each place; and which numbers are too wide.
-ghost use Rattle.std.specs.Prelude.{◌^◌, ◌≤◌, []};
+ghost use Rattle.std.specs.Prelude.{[]};
+ghost use Rattle.cq_model.specs.Exact.{AreExactIn, IsExactAt};
 ghost use Rattle.cq_model.specs.Trees.{cond_of, expr_of};
-ghost use Rattle.cq_model.specs.Width.{sizes_of, value_size, widest, widest_at};
 
-use cq_eval::{compare, holds_row, like, width_of};
+use cq_eval::{compare, eval_row, holds_row, like, width_of};
 use cq_model::{Cond, CondTree, Expr, ExprTree};
 use cq_values::{Comparison, Lent, Text, Truth, Value};
 use std::alloc::{AllocError, Global};
@@ -168,6 +168,20 @@ fn minus_counts_with_its_own_size(rt: HostRuntime) -> Result<(), Fail> {
     Ok(())
 }
 
+#[test]
+fn a_sum_is_asked_for_by_its_exact_result(rt: HostRuntime) -> Result<(), Fail> {
+    let half: i128 = 1 << 126;
+    let first = Box::new(rt.alloc(), ExprTree::Literal(Value::Number(half)))?;
+    let rest = vec![in rt.alloc(); ExprTree::Literal(Value::Number(-half))]?;
+    let sum = Expr::new(ExprTree::Sum(first, rest));
+    let zero = Lent::Number(0);
+    assert_eq!(rt;
+        compare(Comparison::Equal, &eval_row(&sum, &[]), &zero),
+        Truth::True
+    );
+    Ok(())
+}
+
 fn one_of(
     alloc: Global,
     value: Option<i64>,
@@ -184,15 +198,13 @@ fn between(value: Option<i64>, least: Option<i64>, greatest: Option<i64>) -> Tru
 }
 
 /// Whether the text is like any text.
-fn is_like(alloc: Global, text: Value) -> Result<Truth, AllocError>
-    requires { value_size text ≤ 2 }
-{
+fn is_like(alloc: Global, text: Value) -> Result<Truth, AllocError> {
     let tree = CondTree::Like(ExprTree::Literal(text), Text::new(alloc, "%")?);
     Ok(holds_row(&Cond::new(tree), &[]))
 }
 
 fn literal(number: Option<i64>) -> ExprTree
-    ensures { widest (sizes_of []) (expr_of result) ≤ 2 ^ 63 }
+    ensures { IsExactAt (expr_of result) [] }
 {
     match number {
         Some(number) => ExprTree::Literal(Value::Number(i128::from(number))),
@@ -208,7 +220,7 @@ fn lent<'a>(number: Option<i64>) -> Lent<'a> {
 }
 
 fn condition(truth: Truth) -> CondTree
-    ensures { widest_at (cond_of result) [] ≤ 2 }
+    ensures { AreExactIn (cond_of result) [] }
 {
     match truth {
         Truth::True => one_equals(Value::Number(1)),
@@ -218,8 +230,7 @@ fn condition(truth: Truth) -> CondTree
 }
 
 fn one_equals(value: Value) -> CondTree
-    requires { value_size value ≤ 2 }
-    ensures { widest_at (cond_of result) [] ≤ 2 }
+    ensures { AreExactIn (cond_of result) [] }
 {
     let one = ExprTree::Literal(Value::Number(1));
     CondTree::Compare(Comparison::Equal, one, ExprTree::Literal(value))

@@ -13,9 +13,9 @@ ghost use Rattle.cq_views.specs.Small.{CanBeKept};
 ghost use Rattle.cq_views.specs.View.{IsNarrowFor, Stands};
 
 use cq_deltas::ToldFault;
-use cq_model::{Aggregate, Cond, CondTree, Expr, ExprTree};
+use cq_model::{Aggregate, Cond, CondTree, Expr, ExprTree, Query, Shape, Source};
 use cq_values::{Comparison, Row, Seq, Value, copy_row};
-use cq_views::{ViewDef, ViewState};
+use cq_views::ViewState;
 use std::alloc::{AllocError, Global};
 use std::test::Fail;
 
@@ -42,23 +42,28 @@ fn twice_and_one(alloc: Global) -> Result<Expr, AllocError>
 }
 
 /// Each key, what is worked out from it, and the total of its numbers, of the rows whose number is not 9.
-fn totals(alloc: Global) -> Result<ViewDef, AllocError>
+fn totals(alloc: Global) -> Result<Query, AllocError>
     ensures can_be_kept { IfOk result CanBeKept }
-    ensures narrow { IfOk result (λ def. (r : Values) → IsSized (λ i. stored_size) r → IsNarrowFor def r) }
+    ensures narrow { IfOk result (λ q. (r : Values) → IsSized (λ i. stored_size) r → IsNarrowFor q r) }
 {
-    Ok(ViewDef {
-        table: 7,
+    Ok(Query {
+        first: Source::Table(7),
+        joins: Seq::new(alloc),
         filter: Some(not_nine()),
-        keys: Seq::from_vec(vec![in alloc; 0]?),
-        aggregates: Seq::from_vec(vec![in alloc;
-            Aggregate::CountAll,
-            Aggregate::Sum(Expr::column(1)),
-        ]?),
+        shape: Shape::Grouped {
+            keys: Some(Seq::from_vec(vec![in alloc; 0]?)),
+            aggregates: Seq::from_vec(vec![in alloc;
+                Aggregate::CountAll,
+                Aggregate::Sum(Expr::column(1)),
+            ]?),
+            having: None,
+        },
         items: Seq::from_vec(vec![in alloc;
             Expr::column(0),
             twice_and_one(alloc)?,
             Expr::column(2),
         ]?),
+        distinct: false,
     })
 }
 

@@ -2,6 +2,7 @@
 use super::{answer, engine};
 use cq_binder::{Catalog, bind};
 use cq_engine::{AnswerSource, Engine};
+use cq_model::{Query, Shape, Source};
 use cq_sql::parse;
 use std::alloc::Global;
 use std::process::Abort;
@@ -44,6 +45,17 @@ fn filled(rt: &impl Abort, alloc: Global) -> Result<Engine, Fail> {
     Ok(engine)
 }
 
+/// The columns of GROUP BY.
+fn key_columns(query: &Query) -> Option<&[usize]> {
+    match &query.shape {
+        Shape::Grouped {
+            keys: Some(keys),
+            ..
+        } => Some(keys.as_slice()),
+        _ => None,
+    }
+}
+
 #[test]
 fn the_catalog_tells_a_table_and_its_view(rt: HostRuntime) -> Result<(), Fail> {
     let engine = filled(&rt, rt.alloc())?;
@@ -57,8 +69,9 @@ fn the_catalog_tells_a_table_and_its_view(rt: HostRuntime) -> Result<(), Fail> {
     assert_eq!(rt; view.columns.len(), 1);
     assert_eq!(rt; view.sizes.as_slice(), [1u128 << 96].as_slice());
     let query = catalog.query("v").ok_or("no query")?;
-    assert_eq!(rt; query.table, 0);
-    assert_eq!(rt; query.keys.as_slice(), [1].as_slice());
+    assert_eq!(rt; query.first, Source::Table(0));
+    let keys = key_columns(query).ok_or("no key")?;
+    assert_eq!(rt; keys, [1].as_slice());
     Ok(())
 }
 

@@ -1,8 +1,8 @@
 use Rattle.std.proofs.Common.{◌≡◌, None, ap, subst}
 use Rattle.std.proofs.lemmas.Result.{err_from_is_err_and}
-use Rattle.cq_language.specs.declared.statement.ViewSelect.{ViewSelect}
+use Rattle.cq_language.specs.declared.statement.Select.{Select}
 use Rattle.cq_binding.specs.Checks.{first_fault, MayRefuse}
-use Rattle.cq_binding.specs.Refusal.{query_checks}
+use Rattle.cq_binding.specs.ViewChecks.{query_checks}
 use Rattle.cq_binding.specs.Typing.{Scope}
 use Rattle.cq_binder.specs.View.{IsBoundView}
 use Rattle.cq_binder.specs.declared.view.BoundView.{BoundView}
@@ -10,7 +10,7 @@ use Rattle.cq_binder.proofs.Creating.{view_made}
 use Rattle.cq_binder.proofs.reading.bind_view_on.Goals as goal
 
 -- the walk over the table is that over what it is as a source
-in_scope : (v : ViewSelect) (b : BoundView) (s u : Scope) → s ≡ u → (first_fault (query_checks s v) ≡ None) × IsBoundView s v b → (first_fault (query_checks u v) ≡ None) × IsBoundView u v b
+in_scope : (v : Select) (b : BoundView) (s u : Scope) → s ≡ u → (first_fault (query_checks s v) ≡ None) × IsBoundView s v b → (first_fault (query_checks u v) ≡ None) × IsBoundView u v b
 in_scope v b s u same bound = subst (λ (x : Scope). (first_fault (query_checks x v) ≡ None) × IsBoundView x v b) same bound
 
 pub returns-in_err-columns : goal.returns-in_err-columns

@@ -1,8 +1,8 @@
 use Rattle.std.proofs.Common.{◌≡◌, map, take, drop}
 use Rattle.cq_binding.specs.Scopes.{bound_value}
-use Rattle.cq_binding.specs.Bound.{shown_by}
+use Rattle.cq_binding.specs.Headers.{shown_by}
 use Rattle.cq_binding.specs.Checks.{first_fault}
-use Rattle.cq_binding.specs.Refusal.{value_check}
+use Rattle.cq_binding.specs.SourceChecks.{value_check}
 use Rattle.cq_exprs.specs.Expressions.{scope_of}
 use Rattle.cq_binder.proofs.select.bound_values.Given as goal
 

@@ -1,5 +1,5 @@
 use Rattle.std.proofs.Common.{◌≡◌, ◌+◌, ◌++◌, drop}
-use Rattle.cq_binding.specs.Bound.{header}
+use Rattle.cq_binding.specs.Headers.{header}
 use Rattle.cq_binder.proofs.select.header.Given as goal
 
 -- the names so far and those of the items that are left make up all

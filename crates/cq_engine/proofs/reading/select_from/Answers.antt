@@ -49,7 +49,7 @@ select_from_view-requires-clause-backed c =
     let v = c.index-views-place.result in
     let within = subst (λ (s : Source). IsWithinSource c.args.tables.now (views_of views) c.args.query.now s) c.in-View.is c.requires.can_read.within in
     let at = slice_get_read views (length views) c.in-View.place v refl (place_there views c.in-View.place within.0 within.1) c.index-views-place.is in
-    backed c.args.tables.now views c.args.query.now c.requires.right.0 c.in-View.place v c.requires.right.1 at c.requires.stored c.all_few.ensures
+    backed c.args.tables.now views c.args.query.now c.requires.right.0 c.in-View.place v c.requires.right.1 at c.requires.fitting c.requires.few
 
 -- the query can be worked out on rows of its sizes
 pub select_from_view-requires-clause-within : goal.select_from_view-requires-clause-within

@@ -1,6 +1,5 @@
 use Rattle.cq_model.specs.Meaning.{meaning}
 use Rattle.cq_model.specs.Sizes.{column_sizes}
-use Rattle.cq_views.specs.View.{query_of}
 use Rattle.cq_engine.proofs.Readings.{ok_before, told_sized, within_told}
 use Rattle.cq_engine.proofs.Results.{listing_plain}
 use Rattle.cq_engine.proofs.reading.select_from_view.Goals as goal
@@ -18,7 +17,7 @@ list-requires c =
     let bag = rw is at c.rows.ensures.bag in
     let range = rw is at c.rows.ensures.range in
     let told = told_sized v rows.items c.requires.backed c.rows_keep_sizes.ensures bag range in
-    rw c.deref.ensures.value (within_told (column_sizes (query_of v.kept.def)) c.args.query.now rows.items c.requires.within told)
+    rw c.deref.ensures.value (within_told (column_sizes v.kept.query) c.args.query.now rows.items c.requires.within told)
 
 -- the listing of the rows that the view tells is that of its bag
 pub returns : goal.returns
@@ -30,6 +29,6 @@ returns c =
     let range = rw is at c.rows.ensures.range in
     let listed = rw c.deref.ensures.value at c.in_ok-list.ensures in
     λ tables stands. (
-      listing_plain q.filter q.items q.first (λ source. meaning (query_of c.args.view.now.kept.def) tables) rows.items c.in_ok-list.field-0 (bag tables stands) listed,
+      listing_plain q.filter q.items q.first (λ source. meaning c.args.view.now.kept.query tables) rows.items c.in_ok-list.field-0 (bag tables stands) listed,
       range tables stands,
     )

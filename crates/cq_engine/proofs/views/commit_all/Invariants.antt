@@ -1,5 +1,5 @@
 use Rattle.std.proofs.Common.{◌≡◌, length, take, drop}
-use Rattle.cq_engine.specs.Views.{HaveTaken}
+use Rattle.cq_engine.specs.Taking.{HaveTaken}
 use Rattle.cq_engine.proofs.views.commit_all.Given as goal
 
 -- the views so far have taken their changes in, and the others are as they were

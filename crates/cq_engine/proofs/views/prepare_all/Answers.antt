@@ -3,7 +3,7 @@ use Rattle.std.specs.List.{AllByRecursion}
 use Rattle.std.specs.Int.{w128}
 use Rattle.std.proofs.lemmas.Int.{to_z-of_z}
 use Rattle.cq_views.specs.View.{IsNarrowFor, changed}
-use Rattle.cq_engine.proofs.Named.{def_there, ready_all, ready_written, same_written, within_same}
+use Rattle.cq_engine.proofs.Named.{query_there, ready_all, ready_written, same_written, within_same}
 use Rattle.cq_engine.proofs.Turns.{all_same}
 use Rattle.cq_engine.proofs.views.prepare_all.Goals as goal
 
@@ -24,7 +24,7 @@ pub prepare-requires : goal.prepare-requires
 prepare-requires c =
     let vs = c.args.views.now in
     let h : c.loop-place.place < length vs.items = omega (arith, c.loop-place-test.true, c.len-place-end.ensures, vs.ok.0) in
-    def_there vs.items c.loop-place.views.items c.loop-place.place h c.loop-place.invariant.0 c.index_mut.result.now c.index_mut.ensures.value (λ def. AllByRecursion (λ r. IsNarrowFor def r.now) c.args.rows.now) c.requires
+    query_there vs.items c.loop-place.views.items c.loop-place.place h c.loop-place.invariant.0 c.index_mut.result.now c.index_mut.ensures.value (λ q. AllByRecursion (λ r. IsNarrowFor q r.now) c.args.rows.now) c.requires
 
 pub returns-in_err-prepare-clause-kept : goal.returns-in_err-prepare-clause-kept
 returns-in_err-prepare-clause-kept c =

@@ -1,6 +1,6 @@
 use Rattle.std.proofs.Common.{map, take}
 use Rattle.cq_views.specs.View.{changed}
-use Rattle.cq_engine.specs.Views.{AreReady, AreSame}
+use Rattle.cq_engine.specs.Taking.{AreReady, AreSame}
 use Rattle.cq_engine.proofs.views.prepare_all.Given as goal
 
 -- the views are the same, and those so far are ready

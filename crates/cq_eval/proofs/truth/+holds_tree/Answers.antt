@@ -1,20 +1,19 @@
-use Rattle.std.proofs.Common.{rules, arith, drop, map, refl}
+use Rattle.std.proofs.Common.{rules, drop, map, refl}
 use Rattle.cq_model.specs.declared.expr.CondTree.TheViews.{the_lemmas}
 use Rattle.cq_model.specs.Condition.{holds}
 use Rattle.cq_model.specs.Trees.{cond_of}
-use Rattle.cq_model.specs.Width.{sizes_of}
-use Rattle.cq_eval.proofs.Conditions.{and-first, and-start, and-within, false-found, or-first, or-start, or-within, true-found}
+use Rattle.cq_eval.proofs.Conditions.{and-exact, and-part, and-start, false-found, or-exact, or-part, or-start, true-found}
 use Rattle.cq_eval.proofs.truth.+holds_tree.Goals as goal
 
 pub holds_tree-truth-requires : goal.holds_tree-truth-requires
 holds_tree-truth-requires t c =
-    let w = and-first (sizes_of c.args.row.now) c.args.tree.now c.in-And.first c.in-And.rest c.deref-in-And.result.now c.in-And.rest.items c.deref-in-And.ensures refl c.in-And.is in
-    (search (rules, the_lemmas), omega (arith, w, c.requires))
+    let parts = and-exact c.args.row.now c.args.tree.now c.in-And.first c.in-And.rest c.deref-in-And.result.now c.in-And.rest.items c.deref-in-And.ensures refl c.requires c.in-And.is in
+    (search (rules, the_lemmas), parts.0)
 
 pub holds_tree-truth-requires-in-Or : goal.holds_tree-truth-requires-in-Or
 holds_tree-truth-requires-in-Or t c =
-    let w = or-first (sizes_of c.args.row.now) c.args.tree.now c.in-Or.first c.in-Or.rest c.deref-in-Or.result.now c.in-Or.rest.items c.deref-in-Or.ensures refl c.in-Or.is in
-    (search (rules, the_lemmas), omega (arith, w, c.requires))
+    let parts = or-exact c.args.row.now c.args.tree.now c.in-Or.first c.in-Or.rest c.deref-in-Or.result.now c.in-Or.rest.items c.deref-in-Or.ensures refl c.requires c.in-Or.is in
+    (search (rules, the_lemmas), parts.0)
 
 pub loop-part-init : goal.loop-part-init
 loop-part-init t c =
@@ -34,10 +33,10 @@ returns-then-eq-2 t c =
 
 pub holds_tree-requires-in-loop-part : goal.holds_tree-requires-in-loop-part
 holds_tree-requires-in-loop-part t c =
-    let w = and-within (sizes_of c.args.row.now) c.args.tree.now c.in-And.first c.in-And.rest c.deref-in-And.result.now c.deref-part-items.result.now c.deref-in-And.ensures c.deref-part-items.ensures.value c.loop-part.part-index c.part-item.result c.in-And.is c.loop-part-test.true c.part-item.is in
-    (search (rules, the_lemmas), omega (arith, w, c.requires))
+    let part = and-part c.args.row.now c.args.tree.now c.in-And.first c.in-And.rest c.deref-in-And.result.now c.deref-part-items.result.now c.deref-in-And.ensures c.deref-part-items.ensures.value c.requires c.loop-part.part-index c.part-item.result c.loop-part-test.true c.part-item.is c.in-And.is in
+    (search (rules, the_lemmas), part)
 
 pub holds_tree-requires-in-loop-choice : goal.holds_tree-requires-in-loop-choice
 holds_tree-requires-in-loop-choice t c =
-    let w = or-within (sizes_of c.args.row.now) c.args.tree.now c.in-Or.first c.in-Or.rest c.deref-in-Or.result.now c.deref-choice-items.result.now c.deref-in-Or.ensures c.deref-choice-items.ensures.value c.loop-choice.choice-index c.choice-item.result c.in-Or.is c.loop-choice-test.true c.choice-item.is in
-    (search (rules, the_lemmas), omega (arith, w, c.requires))
+    let part = or-part c.args.row.now c.args.tree.now c.in-Or.first c.in-Or.rest c.deref-in-Or.result.now c.deref-choice-items.result.now c.deref-in-Or.ensures c.deref-choice-items.ensures.value c.requires c.loop-choice.choice-index c.choice-item.result c.loop-choice-test.true c.choice-item.is c.in-Or.is in
+    (search (rules, the_lemmas), part)

@@ -1,6 +1,5 @@
-use Rattle.std.proofs.Common.{rules, tests, inl, inr, ap, ◌∙◌, sym, true, false, nat_lt, ◌^◌}
-use Rattle.cq_model.specs.Trees.{cond_of}
-use Rattle.cq_model.specs.Width.{bounds_of, widest_bound}
+use Rattle.std.proofs.Common.{rules, tests}
+use Rattle.cq_model.specs.Width.{bounds_of}
 use Rattle.cq_eval.proofs.Widths.{first-narrow, first-wide}
 use Rattle.cq_eval.proofs.width.+tree_fits.Goals as goal
 

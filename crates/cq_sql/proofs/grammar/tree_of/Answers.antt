@@ -1,4 +1,4 @@
-use Rattle.cq_sql.proofs.Statements.{tree_read, no_tree_read}
+use Rattle.cq_sql.proofs.Trees.{tree_read, no_tree_read}
 use Rattle.cq_sql.proofs.grammar.tree_of.Goals as goal
 
 pub returns-clause-tree : goal.returns-clause-tree

@@ -1,4 +1,4 @@
-use Rattle.cq_language.specs.Tokens.{keyword_of}
+use Rattle.cq_language.specs.Keywords.{keyword_of}
 use Rattle.cq_tokens.proofs.words.keyword_of.Goals as goal
 
 -- the table has each keyword with its spelling

@@ -1,7 +1,6 @@
 use Rattle.std.proofs.Common.{Some, sym, ap, ◌∙◌}
 use Rattle.std.specs.Prelude.{option_map}
-use Rattle.cq_views.specs.View.{query_of}
-use Rattle.cq_views.specs.declared.view_def.ViewDef.{ViewDef}
+use Rattle.cq_model.specs.declared.query.Query.{Query}
 use Rattle.cq_engine.specs.Views.{NamedView, view_of, views_of}
 use Rattle.cq_engine.proofs.Named.{view_absent, view_there}
 use Rattle.cq_engine.proofs.catalog.EngineCatalog.query.Goals as goal
@@ -15,4 +14,4 @@ pub returns : goal.returns
 returns c =
     let v = c.index-self-place.result in
     let there = view_there c.args.name.now c.self.inside.views.now c.in_ok-place.place (sym c.in_ok-place.ensures) v c.index-self-place.is ∙ ap (λ (u : NamedView). Some (view_of u)) c.index-self-place.is in
-    rw (← c.self.view_is) (ap (λ (d : ViewDef). Some (query_of d)) c.query.ensures ∙ sym (ap (option_map (λ w. w.query)) there))
+    rw (← c.self.view_is) (ap (λ (q : Query). Some q) c.query.ensures ∙ sym (ap (option_map (λ w. w.query)) there))

@@ -1,9 +1,10 @@
-use Rattle.std.proofs.Common.{arith, refl}
+use Rattle.std.proofs.Common.{◌≤◌, length, arith, refl}
+use Rattle.cq_states.specs.Fitting.{IsFitting}
 use Rattle.cq_states.specs.State.{empty_table}
 use Rattle.cq_engine.specs.Views.{views_of}
 use Rattle.cq_engine.proofs.Kept.{all_at, right_everywhere}
 use Rattle.cq_engine.proofs.Numbers.{numbered-behind}
-use Rattle.cq_engine.proofs.Rows.{rows_before, stored_before}
+use Rattle.cq_engine.proofs.Rows.{all_behind, rows_before}
 use Rattle.cq_engine.proofs.Steps.{create_done}
 use Rattle.cq_engine.proofs.engine.Engine.create.Goals as goal
 
@@ -13,8 +14,9 @@ invariant_of-self-2 c =
     let tables = c.self.inside.tables.items in (
       omega (arith, c.self.invariant.0),
       rw (c.in_ok-push.ensures.items, c.new-table.ensures) (numbered-behind made tables c.self.invariant.1),
-      rw (c.in_ok-push.ensures.items, c.new-table.ensures) (stored_before tables made refl c.self.invariant.2),
+      rw (c.in_ok-push.ensures.items, c.new-table.ensures) (all_behind IsFitting tables made c.self.invariant.2 tt),
       rw (c.in_ok-push.ensures.items, c.new-table.ensures) (right_everywhere tables _ c.self.inside.writes c.self.inside.views.items (λ n. rows_before tables made n refl) c.self.invariant.3),
+      rw (c.in_ok-push.ensures.items, c.new-table.ensures) (all_behind (λ t. length t.rows ≤ c.self.inside.limits.max_rows) tables made c.self.invariant.4 (omega arith)),
     )
 
 pub returns-clause-done : goal.returns-clause-done

@@ -6,7 +6,7 @@ use Rattle.cq_engine.specs.Views.{views_of}
 use Rattle.cq_engine.proofs.Kept.{all_at, all_right_same}
 use Rattle.cq_engine.proofs.Numbers.{numbered-later, numbered-with_rows}
 use Rattle.cq_engine.proofs.Steps.{delete_done}
-use Rattle.cq_engine.proofs.Written.{unchanged}
+use Rattle.cq_engine.proofs.Written.{left_bounded, left_fit, unchanged}
 use Rattle.cq_engine.proofs.engine.Engine.delete.Goals as goal
 
 pub invariant_of-self : goal.invariant_of-self
@@ -18,6 +18,7 @@ invariant_of-self c =
       rw same.0 c.self.invariant.1,
       rw same.0 c.self.invariant.2,
       rw same.0 (all_right_same tables c.self.inside.writes views c.delete_in.new.views.items same.1 c.self.invariant.3),
+      rw same.0 c.self.invariant.4,
     )
 
 pub returns-in_err-rows-clause-done : goal.returns-in_err-rows-clause-done
@@ -35,8 +36,9 @@ invariant_of-self-2 c =
     let tables = c.self.inside.tables.items in (
       omega (arith, c.self.invariant.0),
       rw c.in_ok-rows.ensures.left (numbered-later _ drawn (drawn + 1) (omega arith) (numbered-with_rows c.args.table (left_by c.args.condition (rows_in tables c.args.table)) tables drawn c.self.invariant.1)),
-      c.in_ok-rows.ensures.stored,
+      rw c.in_ok-rows.ensures.left (left_fit c.args.table c.args.condition tables drawn c.self.invariant.1 c.self.invariant.2),
       c.in_ok-rows.ensures.moved.right,
+      rw c.in_ok-rows.ensures.left (left_bounded c.args.table c.args.condition tables c.self.inside.limits.max_rows c.self.invariant.4),
     )
 
 pub returns-clause-done : goal.returns-clause-done

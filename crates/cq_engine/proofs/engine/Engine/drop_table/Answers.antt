@@ -1,9 +1,10 @@
-use Rattle.std.proofs.Common.{◌≡◌, false, refl}
+use Rattle.std.proofs.Common.{◌≡◌, ◌≤◌, false, length, refl}
 use Rattle.cq_binding.specs.Refusal.{is_used}
+use Rattle.cq_states.specs.Fitting.{IsFitting}
 use Rattle.cq_engine.specs.Views.{views_of}
 use Rattle.cq_engine.proofs.Kept.{all_at, right_dropped}
 use Rattle.cq_engine.proofs.Numbers.{numbered-others}
-use Rattle.cq_engine.proofs.Rows.{stored_left}
+use Rattle.cq_engine.proofs.Rows.{all_left}
 use Rattle.cq_engine.proofs.Steps.{drop_done}
 use Rattle.cq_engine.proofs.engine.Engine.drop_table.Goals as goal
 
@@ -13,8 +14,9 @@ invariant_of-self c =
     let unused : is_used c.args.number (views_of c.self.inside.views.items) ≡ false = (rw (← c.self.view_is) at c.requires).1 in (
       c.self.invariant.0,
       rw c.drop_in.ensures (numbered-others c.args.number tables c.self.inside.drawn c.self.invariant.1),
-      rw c.drop_in.ensures (stored_left c.args.number tables c.self.invariant.2),
+      rw c.drop_in.ensures (all_left c.args.number IsFitting tables c.self.invariant.2),
       rw c.drop_in.ensures (right_dropped c.args.number tables c.self.inside.writes c.self.inside.views.items unused c.self.invariant.3),
+      rw c.drop_in.ensures (all_left c.args.number (λ t. length t.rows ≤ c.self.inside.limits.max_rows) tables c.self.invariant.4),
     )
 
 pub returns-clause-done : goal.returns-clause-done

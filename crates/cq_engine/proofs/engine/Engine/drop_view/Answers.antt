@@ -11,6 +11,7 @@ invariant_of-self c = (
   c.self.invariant.1,
   c.self.invariant.2,
   rw c.drop_view_at.ensures (right_without c.self.inside.views.items c.args.place c.self.inside.tables.items c.self.inside.writes c.self.invariant.3),
+  c.self.invariant.4,
 )
 
 pub returns-clause-done : goal.returns-clause-done

@@ -5,7 +5,7 @@ use Rattle.cq_engine.specs.Views.{views_of}
 use Rattle.cq_engine.proofs.Kept.{all_at, all_right_same}
 use Rattle.cq_engine.proofs.Numbers.{numbered-later, numbered-with_rows}
 use Rattle.cq_engine.proofs.Steps.{insert_done}
-use Rattle.cq_engine.proofs.Written.{unchanged}
+use Rattle.cq_engine.proofs.Written.{inserted_bounded, inserted_fit, unchanged}
 use Rattle.cq_engine.proofs.engine.Engine.insert.Goals as goal
 
 pub invariant_of-self : goal.invariant_of-self
@@ -17,12 +17,13 @@ invariant_of-self c =
       rw same.0 c.self.invariant.1,
       rw same.0 c.self.invariant.2,
       rw same.0 (all_right_same tables c.self.inside.writes views c.insert_in.new.views.items same.1 c.self.invariant.3),
+      rw same.0 c.self.invariant.4,
     )
 
 pub returns-in_err-insert_in-clause-done : goal.returns-in_err-insert_in-clause-done
 returns-in_err-insert_in-clause-done c =
     let p = err_from_is_err_and c.from_residual.result c.from_residual.ensures.1 in
-    let walk = rw c.into_vec.ensures at c.in_err-insert_in.ensures.walk in
+    let walk = rw c.into_vec.ensures at c.in_err-insert_in.ensures.inserts in
     let same = c.in_err-insert_in.ensures.err in
     let tables = c.self.inside.tables.items in
     let views = c.self.inside.views.items in
@@ -31,18 +32,19 @@ returns-in_err-insert_in-clause-done c =
 
 pub invariant_of-self-2 : goal.invariant_of-self-2
 invariant_of-self-2 c =
-    let walk = rw c.into_vec.ensures at c.in_ok-insert_in.ensures.walk in
+    let walk = rw c.into_vec.ensures at c.in_ok-insert_in.ensures.inserts in
     let tables = c.self.inside.tables.items in
     let drawn = c.self.inside.drawn in (
       omega (arith, c.self.invariant.0),
       rw walk.1 (numbered-later _ drawn (drawn + 1) (omega arith) (numbered-with_rows c.args.table (rows_in tables c.args.table ++ c.args.rows) tables drawn c.self.invariant.1)),
-      c.in_ok-insert_in.ensures.stored,
+      rw walk.1 (inserted_fit c.args.table c.args.rows tables drawn c.self.invariant.1 c.self.invariant.2 (rw (← c.self.view_is) at c.requires.bound).1),
       c.in_ok-insert_in.ensures.moved.right,
+      rw walk.1 (inserted_bounded c.args.table c.args.rows tables c.self.inside.limits.max_rows walk.0 c.self.invariant.4),
     )
 
 pub returns-clause-done : goal.returns-clause-done
 returns-clause-done c =
-    let walk = rw c.into_vec.ensures at c.in_ok-insert_in.ensures.walk in
+    let walk = rw c.into_vec.ensures at c.in_ok-insert_in.ensures.inserts in
     let tables = c.self.inside.tables.items in
     let views = c.self.inside.views.items in
     rw (← c.self.view_is, c.len-count.ensures) (

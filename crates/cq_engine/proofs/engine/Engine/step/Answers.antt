@@ -8,7 +8,7 @@ use Rattle.cq_engine.proofs.engine.Engine.step.Goals as goal
 pub returns-in_err-bound-clause-step : goal.returns-in_err-bound-clause-step
 returns-in_err-bound-clause-step g c =
     let p = err_from_is_err_and c.from_residual.result c.from_residual.ensures.1 in
-    let refused = rw (c.catalog.ensures, ← c.self.view_is) at c.in_err-bound.ensures in
+    let refused = rw (c.catalog.ensures.told, ← c.self.view_is) at c.in_err-bound.ensures in
     let tables = c.self.inside.tables.items in
     let views = c.self.inside.views.items in
     rw (p.1, p.2, ← c.self.view_is)
@@ -16,12 +16,12 @@ returns-in_err-bound-clause-step g c =
 
 pub carry_out-requires-clause-bound : goal.carry_out-requires-clause-bound
 carry_out-requires-clause-bound g c =
-    let bound = rw (c.catalog.ensures, ← c.self.view_is) at c.in_ok-bound.ensures in
+    let bound = rw (c.catalog.ensures.told, ← c.self.view_is) at c.in_ok-bound.ensures in
     rw (← c.self.view_is) (bound_can c.self.inside.tables.items (views_of c.self.inside.views.items) c.self.inside.drawn c.self.invariant.1 c.self.invariant.2 c.args.command.now c.in_ok-bound.bound bound.0 bound.1)
 
 pub returns-clause-step : goal.returns-clause-step
 returns-clause-step g c =
-    let bound = rw (c.catalog.ensures, ← c.self.view_is) at c.in_ok-bound.ensures in
+    let bound = rw (c.catalog.ensures.told, ← c.self.view_is) at c.in_ok-bound.ensures in
     let done = rw (← c.self.view_is) at c.carry_out.ensures.done in
     let tables = c.self.inside.tables.items in
     let views = c.self.inside.views.items in

@@ -8,6 +8,6 @@ use Rattle.cq_views.proofs.state.ViewState.build.Given as goal
 -- what the rows so far add to no groups, each of them small
 abbrev pub invariant-loop-row : goal.invariant-loop-row
 invariant-loop-row l = record {
-  change : l.pending ≡ change_of l.def (once_each (take l.row-index l.rows));
-  small : AllByRecursion (IsSmallFor l.def) (take l.row-index l.rows);
+  change : l.pending ≡ change_of l.query (once_each (take l.row-index l.rows));
+  small : AllByRecursion (IsSmallFor l.query) (take l.row-index l.rows);
 }

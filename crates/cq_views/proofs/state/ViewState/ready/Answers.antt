@@ -4,5 +4,5 @@ use Rattle.cq_views.proofs.state.ViewState.ready.Goals as goal
 
 pub returns-clause-kept : goal.returns-clause-kept
 returns-clause-kept c =
-    let v : KeptView = record { def = c.self.inside.def; epoch = c.self.inside.epoch; built = c.self.inside.built; groups = c.self.inside.groups } in
-    rw (← c.self.view_is) (same-view v c.ready.new.self (rw c.as_slice-aggregates.ensures at c.ready.ensures.groups))
+    let v : KeptView = record { query = c.self.inside.query; epoch = c.self.inside.epoch; built = c.self.inside.built; groups = c.self.inside.groups } in
+    rw (← c.self.view_is) (same-view v c.ready.new.self (rw c.aggregates_of-aggregates.ensures at c.ready.ensures.groups))

@@ -1,0 +1,16 @@
+-- CREATE TABLE, and the columns behind SORT BY.
+use Rattle.std.specs.Prelude.{ℕ, List, map, Result}
+use Rattle.cq_values.specs.declared.column.ColumnDef.{ColumnDef}
+use Rattle.cq_binding.specs.declared.fault.Fault.{Fault}
+use Rattle.cq_binding.specs.Scopes.{place_in}
+use Rattle.cq_binding.specs.Refusal.{create_checks}
+use Rattle.cq_states.specs.State.{State}
+use Rattle.cq_binder.specs.Walk.{WalksTo}
+
+-- where the columns of these names stand
+abbrev pub sort_places : List ColumnDef → List (List ℕ) → List ℕ
+sort_places columns names = map (place_in columns) names
+
+-- the walk through a CREATE TABLE gives where the columns behind SORT BY stand
+abbrev pub WalksCreate : State → List ℕ → List ColumnDef → List (List ℕ) → Result (List ℕ) Fault → Type 0
+WalksCreate s name columns sort result = WalksTo (create_checks name columns sort s) (sort_places columns sort) result

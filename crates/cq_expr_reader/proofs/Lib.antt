@@ -1,0 +1,13 @@
+pub mod Ranks
+pub mod Sums
+pub mod Parts
+pub mod Depths
+pub mod Tight
+pub mod ChainReads
+pub mod Primaries
+pub mod Levels
+pub mod Operators
+pub mod ValueTests
+pub mod Choices
+pub mod PredicateReads
+pub mod Conditions

@@ -1,0 +1,5 @@
+pub mod Trees
+pub mod Chains
+pub mod Atoms
+pub mod Predicates
+pub mod Expressions

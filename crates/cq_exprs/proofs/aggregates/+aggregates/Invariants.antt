@@ -1,0 +1,10 @@
+use Rattle.std.proofs.Common.{◌≡◌, drop, map}
+use Rattle.std.specs.List.{list_any}
+use Rattle.cq_language.specs.Written.{written}
+use Rattle.cq_binding.specs.Open.{has_aggregate}
+use Rattle.cq_exprs.proofs.aggregates.+aggregates.Given as goal
+
+-- an aggregate stands in one of the nodes that are left, or in none
+abbrev pub invariant-any_has_aggregate-loop-node : goal.invariant-any_has_aggregate-loop-node
+invariant-any_has_aggregate-loop-node l =
+    list_any has_aggregate (map written (drop l.node-index l.nodes)) ≡ list_any has_aggregate (map written l.nodes)

@@ -1,0 +1,6 @@
+pub mod Chains
+pub mod Turns
+pub mod Exact
+pub mod Steps
+pub mod Lists
+pub mod Tails

@@ -1,0 +1,42 @@
+//! The clauses of a query from WHERE on.
+ghost use Rattle.std.specs.Prelude.{◌≡◌};
+ghost use Rattle.cq_reader.specs.Gives.{Gives};
+ghost use Rattle.cq_sql.specs.Queries.{later_at};
+
+use crate::names::{ColumnNames, Numbers};
+use crate::order::OrderKeys;
+use cq_expr_reader::SqlExpressions;
+use cq_language::{ColumnName, Keyword, OrderKey, SqlExpr, Token};
+use cq_reader::{SqlFault, list_behind, tail_of};
+use cq_values::Seq;
+use std::alloc::Global;
+
+/// The clauses of a query from WHERE on. Lists that may be left out are empty then.
+#[derive(Drop)]
+pub struct LaterClauses {
+    pub condition: Option<SqlExpr>,
+    pub group: Seq<ColumnName>,
+    pub having: Option<SqlExpr>,
+    pub order: Seq<OrderKey>,
+    pub limit: Option<u128>,
+}
+
+/// The clauses from WHERE on, as far as they are there.
+#[tactic(auto, unfolding(crate::specs::Queries::later_at))]
+pub fn later_at(alloc: Global, tokens: &[Token]) -> Result<(LaterClauses, &[Token]), SqlFault>
+    ensures { Gives (λ x. (x.0, x.1.now)) result (later_at tokens.now) }
+{
+    let (condition, rest) = tail_of::<SqlExpressions>(alloc, Keyword::Where, tokens)?;
+    let (group, rest) = list_behind::<ColumnNames>(alloc, Keyword::Group, rest)?;
+    let (having, rest) = tail_of::<SqlExpressions>(alloc, Keyword::Having, rest)?;
+    let (order, rest) = list_behind::<OrderKeys>(alloc, Keyword::Order, rest)?;
+    let (limit, rest) = tail_of::<Numbers>(alloc, Keyword::Limit, rest)?;
+    let later = LaterClauses {
+        condition,
+        group,
+        having,
+        order,
+        limit,
+    };
+    Ok((later, rest))
+}

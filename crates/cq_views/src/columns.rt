@@ -1,0 +1,77 @@
+//! How large the numbers in the columns of a view can be.
+ghost use Rattle.std.specs.List.{AllByRecursion};
+ghost use Rattle.std.specs.Prelude.{◌<◌, ◌^◌, ◌≡◌, IfOk, map};
+ghost use Rattle.cq_deltas.specs.Additions.{AreTotals, IsTotal};
+ghost use Rattle.cq_model.specs.Sizes.{column_sizes, told_size};
+ghost use Rattle.cq_model.specs.Width.{bound};
+ghost use Rattle.cq_views.specs.Query.{aggregates_of};
+ghost use Rattle.cq_views.specs.Small.{CanBeKept, group_sizes};
+
+use crate::query::{aggregates_of, key_columns};
+use cq_eval::width_of;
+use cq_model::{Aggregate, Expr, Query};
+use std::alloc::{AllocError, Global};
+
+/// A stored number has 64 bits with a sign.
+const STORED_SIZE: u128 = 1 << 63;
+
+/// A count is never larger.
+const COUNT_SIZE: u128 = 1 << 96;
+
+/// A total that is shown is never larger.
+const TOTAL_SIZE: u128 = 1 << 127;
+
+/// How large the numbers in each column of a view of the query can be.
+pub(crate) fn column_sizes(alloc: Global, query: &Query) -> Result<Vec<u128>, AllocError>
+    requires { CanBeKept query.now }
+    ensures { IfOk result (λ v. v.items ≡ column_sizes query.now) }
+{
+    let group = group_sizes(alloc, query)?;
+    item_sizes(alloc, query.items.as_slice(), &group)
+}
+
+/// How large the numbers in a group's row can be.
+fn group_sizes(alloc: Global, query: &Query) -> Result<Vec<u128>, AllocError>
+    requires { AreTotals (aggregates_of query.now) }
+    ensures { IfOk result (λ v. v.items ≡ group_sizes query.now) }
+{
+    let mut sizes = vec![in alloc; STORED_SIZE; key_columns(query).len()]?;
+    for aggregate in aggregates_of(query) {
+        sizes.push(told_size(aggregate))?;
+    }
+    Ok(sizes)
+}
+
+/// How large the items can be over a group's row with numbers of these sizes.
+fn item_sizes(alloc: Global, items: &[Expr], group: &[u128]) -> Result<Vec<u128>, AllocError>
+    requires { AllByRecursion (λ e. (bound e group.now).widest < 2 ^ 127) items.now }
+    ensures { IfOk result (λ v. v.items ≡ map (λ e. (bound e group.now).size) items.now) }
+{
+    let mut sizes = Vec::new(alloc);
+    for item in items {
+        sizes.push(item_size(item, group))?;
+    }
+    Ok(sizes)
+}
+
+/// How large an item can be over a group's row with numbers of these sizes.
+fn item_size(item: &Expr, group: &[u128]) -> u128
+    requires { (bound item.now group.now).widest < 2 ^ 127 }
+    ensures { result ≡ (bound item.now group.now).size }
+{
+    match width_of(item, group) {
+        Some(size) => size,
+        None => unreachable!(),
+    }
+}
+
+/// How large a count or a total can be.
+fn told_size(aggregate: &Aggregate) -> u128
+    requires { IsTotal aggregate.now }
+    ensures { result ≡ told_size aggregate.now }
+{
+    match aggregate {
+        Aggregate::CountAll | Aggregate::Count(_) => COUNT_SIZE,
+        Aggregate::Sum(_) | Aggregate::Min(_) | Aggregate::Max(_) => TOTAL_SIZE,
+    }
+}
