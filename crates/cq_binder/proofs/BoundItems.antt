@@ -5,7 +5,6 @@ use Rattle.std.specs.Option.{option_or}
 use Rattle.std.proofs.lemmas.List.{at_drop_more}
 use Rattle.cq_model.specs.declared.query.Aggregate.{Aggregate}
 use Rattle.cq_language.specs.declared.statement.SelectItem.{SelectItem}
-use Rattle.cq_language.specs.declared.written.AggregateFunction.{AggregateFunction}
 use Rattle.cq_language.specs.declared.written.ColumnName.{ColumnName}
 use Rattle.cq_language.specs.Written.{Written}
 use Rattle.cq_language.specs.Written as tree

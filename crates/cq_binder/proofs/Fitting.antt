@@ -1,5 +1,5 @@
 -- The rows of an INSERT that have no fault fit their columns.
-use Rattle.std.proofs.Common.{◌≡◌, ◌≤◌, ◌<◌, ◌^◌, ℕ, ℤ, Bool, true, false, List, [], ◌∷◌, ◌++◌, map, length, Option, Some, None, refl, sym, ap, ◌∙◌, arith, FitsSigned}
+use Rattle.std.proofs.Common.{◌≡◌, ◌^◌, ℤ, Bool, true, false, List, [], ◌∷◌, map, length, Option, Some, None, refl, sym, ap, ◌∙◌, arith, FitsSigned}
 use Rattle.std.specs.Prelude.{◌==◌, nat_lt, is_none}
 use Rattle.std.specs.Int.{w64}
 use Rattle.std.specs.Option.{option_or}

@@ -8,6 +8,7 @@ ghost use Rattle.cq_binder.specs.Columns.{WalksCreate};
 
 use crate::catalog::Catalog;
 use crate::columns::{check_length, check_names, copy_columns, sort_columns};
+use crate::moving::{bind_merge, bind_move, bind_refresh};
 use crate::reading::{bind_select, bind_view};
 use crate::writing::{bind_delete, bind_insert};
 use cq_binding::{Bound, Fault};
@@ -39,10 +40,10 @@ pub fn bind<C: Catalog>(
         Statement::Insert { table, rows } => bind_insert(alloc, catalog, table, rows),
         Statement::Delete { table, condition } => bind_delete(alloc, catalog, table, condition),
         Statement::Select(select) => bind_select(alloc, catalog, select),
-        Statement::Update { .. }
-        | Statement::Move { .. }
-        | Statement::Merge(_)
-        | Statement::Refresh { .. } => Err(Fault::Syntax),
+        Statement::Move { table, rows } => bind_move(catalog, table, *rows),
+        Statement::Merge(table) => bind_merge(catalog, table),
+        Statement::Refresh { view, changes } => bind_refresh(catalog, view, *changes),
+        Statement::Update { .. } => Err(Fault::Syntax),
     }
 }
 

@@ -8,11 +8,9 @@ ghost use Rattle.cq_binder.specs.Walk.{WalksTo};
 use crate::literals::{fits_column, literal_number};
 use cq_binding::Fault;
 use cq_language::{Constant, Literal};
+use cq_model::MAX_TEXT;
 use cq_values::{ColumnDef, Row, Text, Ty, Value, date_of};
 use std::alloc::Global;
-
-/// A stored text has at most so many bytes.
-const MAX_TEXT: usize = 4096;
 
 /// The row that the constants make, where each can stand in its column.
 pub(crate) fn bound_row(

@@ -13,6 +13,7 @@ mod constants;
 mod items;
 mod laws;
 mod literals;
+mod moving;
 mod names;
 mod open;
 mod reading;

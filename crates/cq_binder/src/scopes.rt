@@ -10,11 +10,9 @@ ghost use Rattle.cq_binder.specs.Scopes.{table_scope};
 use crate::catalog::{TableEntry, ViewEntry};
 use cq_exprs::Scope;
 use cq_language::FromSource;
+use cq_model::STORED_SIZE;
 use cq_values::ColumnDef;
 use std::alloc::{AllocError, Global};
-
-/// A stored number has 64 bits with a sign.
-const STORED_SIZE: u128 = 1 << 63;
 
 /// How large the numbers in the columns of a table can be.
 pub(crate) fn stored_sizes(alloc: Global, columns: &[ColumnDef]) -> Result<Vec<u128>, AllocError>

@@ -25,8 +25,8 @@ use Rattle.cq_binding.specs.Open.{is_of_rows, is_plain, may_be_kept}
 use Rattle.cq_binding.specs.Checks.{first_fault, fault_if, too_long}
 use Rattle.cq_binding.specs.RowChecks.{fits_column, is_type, constant_check, constant_checks, row_checks}
 use Rattle.cq_binding.specs.SourceChecks.{name_check, where_check, value_check}
-use Rattle.cq_binding.specs.ViewChecks.{read_table, item_check, group_check, repeats, query_checks, view_select_checks, create_view_checks}
-use Rattle.cq_binding.specs.Refusal.{column_checks, sort_checks, create_checks, drop_table_checks, written_table, insert_checks, rows_checks, delete_checks, source_checks, from_checks, select_checks, drop_view_checks, checks, refusal}
+use Rattle.cq_binding.specs.ViewChecks.{read_table, item_check, group_check, repeats, query_checks, view_select_checks}
+use Rattle.cq_binding.specs.Refusal.{column_checks, sort_checks, create_checks, drop_table_checks, written_table, insert_checks, rows_checks, delete_checks, source_checks, from_checks, select_checks, checks, refusal, table_checks}
 use Rattle.cq_binding.specs.Kinds.{◌and_then◌, unless, number_of, negative, arithmetic, sum_of, product_of, part_of, compared_with, tested, between_them, like_of, negation_of, connected, added, kept_value}
 use Rattle.cq_binding.specs.Typing.{Scope, column_at, knows, column_typing, typed, listed, fault_in}
 use Rattle.cq_states.specs.State.{State, TableOf, ViewOf, is_taken}
@@ -232,6 +232,10 @@ table_clean : (b : Bool) (o : Option TableOf) (f : Fault) → is_source f ≡ fa
 table_clean true o f h = found_clean o f h
 table_clean false o f h = found_clean o faults.UnknownTable refl
 
+moved_clean : (r : Result TableOf Fault) → fails_by_source r ≡ false → Clean (table_checks r)
+moved_clean (Err f) h = (h, tt)
+moved_clean (Ok t) h = tt
+
 all_clean : (s : State) (statement : Statement) → Clean (checks s statement)
 all_clean s (statements.CreateTable name columns sort) = create_clean name columns sort s
 all_clean s (statements.DropTable name) = drop_clean s.views _
@@ -241,6 +245,9 @@ all_clean s (statements.DropView name) = (if_clean _ faults.UnknownTable refl, t
 all_clean s (statements.Insert name rows) = insert_clean s.max_rows rows (written_table name s) (table_clean _ _ faults.ViewNotWritten refl)
 all_clean s (statements.Delete name condition) = delete_clean condition (written_table name s) (table_clean _ _ faults.ViewNotWritten refl)
 all_clean s (statements.Select q) = select_clean q _
+all_clean s (statements.Move name rows) = moved_clean (written_table name s) (table_clean _ _ faults.ViewNotWritten refl)
+all_clean s (statements.Merge name) = moved_clean (written_table name s) (table_clean _ _ faults.ViewNotWritten refl)
+all_clean s (statements.Refresh view changes) = (if_clean _ faults.UnknownTable refl, tt)
 all_clean s statement = (refl, tt)
 
 first_clean : (cs : List (Option Fault)) → Clean cs → tells_source (first_fault cs) ≡ false

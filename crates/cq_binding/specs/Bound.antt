@@ -131,5 +131,8 @@ bound s (statements.Insert name rows) = option_map (λ t. commands.Insert t.numb
 bound s (statements.Delete name condition) =
     option_map (λ t. commands.Delete t.number (option_map (bound_condition (scope_of (from_table t))) condition)) (table_named name s.tables)
 bound s (statements.Select q) = option_map (bound_select q) (source_named q.first.name s)
--- UPDATE, MOVE, MERGE and REFRESH are no commands yet
+bound s (statements.Move name rows) = option_map (λ t. commands.Move t.number rows) (table_named name s.tables)
+bound s (statements.Merge name) = option_map (λ t. commands.Merge t.number) (table_named name s.tables)
+bound s (statements.Refresh name changes) = option_map (λ place. commands.Refresh place changes) (view_place name s.views)
+-- UPDATE is no command yet
 bound s statement = None

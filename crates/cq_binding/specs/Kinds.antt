@@ -1,17 +1,18 @@
 -- What the nodes of an expression ask of their operands and give: a value of a type or a condition, or a fault
 -- (docs/LANGUAGE.md, Expressions).
-use Rattle.std.specs.Prelude.{ℕ, ◌+◌, ◌*◌, ◌^◌, nat_lt, nat_le, Bool, true, false, ◌&&◌, not, if◌then◌else◌, List, length, Result, Ok, Err}
+use Rattle.std.specs.Prelude.{ℕ, ◌+◌, ◌*◌, nat_lt, nat_le, Bool, true, false, ◌&&◌, not, if◌then◌else◌, List, length, Result, Ok, Err}
 use denote.Enum.Bare.{sameb}
 use Rattle.cq_values.specs.contracts.ty.Ty as ty
 use Rattle.cq_values.specs.declared.ty.Ty.{Ty}
 use Rattle.cq_values.specs.declared.ty.Ty.TheVariants as types
 use Rattle.cq_values.specs.declared.day_part.DayPart.{DayPart}
-use Rattle.cq_model.specs.Width.{part_limit}
+use Rattle.cq_model.specs.Width.{number_limit, part_limit}
 use Rattle.cq_binding.specs.declared.fault.Fault.{Fault}
 use Rattle.cq_binding.specs.declared.fault.Fault.TheVariants.{TypeMismatch, TooWide, TextTooLong}
 use Rattle.cq_binding.specs.declared.typing.Kind.{Kind}
 use Rattle.cq_binding.specs.declared.typing.Kind.TheVariants as kinds
 use Rattle.cq_binding.specs.declared.typing.Typing.{Typing}
+use Rattle.cq_model.specs.Sizes.{text_limit}
 
 infixl 10 ◌and_then◌
 -- goes on with what stands, and stays with the first fault
@@ -58,7 +59,7 @@ agree kinds.Null l = is_value l
 
 -- a number that is written or worked out is below 2^127
 abbrev pub number_of : ℕ → Result Typing Fault
-number_of size = unless (nat_lt size (2 ^ 127)) TooWide (value_of types.Integer size)
+number_of size = unless (nat_lt size number_limit) TooWide (value_of types.Integer size)
 
 -- minus of a number
 abbrev pub negative : Typing → Result Typing Fault
@@ -93,7 +94,7 @@ between_them x least greatest = unless (agree x.kind least.kind && agree x.kind 
 
 -- a pattern is a text of at most 4,096 bytes
 abbrev pub text_of : List ℕ → Result Typing Fault
-text_of t = unless (nat_le (length t) 4096) TextTooLong (value_of types.Text 0)
+text_of t = unless (nat_le (length t) text_limit) TextTooLong (value_of types.Text 0)
 
 -- LIKE asks for a text
 abbrev pub like_of : Typing → Typing → Result Typing Fault

@@ -1,5 +1,5 @@
 -- Which statements are carried out today; the others are read, and refused as syntax (docs/LANGUAGE.md).
-use Rattle.std.specs.Prelude.{ℕ, ◌==◌, Bool, true, false, ◌&&◌, ◌||◌, not, List, length, map, Option, Some, None, is_none}
+use Rattle.std.specs.Prelude.{◌==◌, Bool, true, false, ◌&&◌, ◌||◌, not, List, length, Option, Some, None, is_none}
 use Rattle.std.specs.List.{list_all}
 use Rattle.cq_language.specs.declared.statement.Select.{Select}
 use Rattle.cq_language.specs.declared.statement.SelectItem.{SelectItem}

@@ -1,5 +1,5 @@
 -- What is written as an expression over the columns of a row: places stand for names (ISO 9075-2, 6.28, 6.39 and 8.1 to 8.5).
-use Rattle.std.specs.Prelude.{ℕ, pos, ◌^◌, nat_lt, Bool, if◌then◌else◌, List, [], ◌∷◌, Some, None}
+use Rattle.std.specs.Prelude.{ℕ, pos, nat_lt, Bool, if◌then◌else◌, List, [], ◌∷◌, Some, None}
 use Rattle.cq_values.specs.declared.value.Value.{Value}
 use Rattle.cq_values.specs.declared.value.Value.TheVariants as values
 use Rattle.cq_values.specs.Dates.{day_named}
@@ -7,6 +7,7 @@ use Rattle.cq_language.specs.declared.written.ColumnName.{ColumnName}
 use Rattle.cq_model.specs.Expr.{Expr, Cond}
 use Rattle.cq_model.specs.Expr as placed
 use Rattle.cq_language.specs.Written.{Written, Choices, Number, Text, Date, Null, Column, Extract, Parens, Negative, Times, Plus, Minus, Compare, IsNull, Between, In, Like, Not, And, Or, NoChoice, Choice}
+use Rattle.cq_model.specs.Width.{number_limit}
 
 -- the day that a text names, and NULL where it names none
 abbrev pub named_day : List ℕ → Value
@@ -14,7 +15,7 @@ named_day t = elim (day_named t) [ None ↦ values.Null | Some d ↦ values.Day 
 
 -- a whole number, and NULL where it has more than 127 bits; the walk refuses such a number, as it does a text that names no day
 abbrev pub written_number : ℕ → Value
-written_number n = if nat_lt n (2 ^ 127) then values.Number (pos n) else values.Null
+written_number n = if nat_lt n number_limit then values.Number (pos n) else values.Null
 
 -- the value that is written. For a condition, which is no value, NULL stands: the walk refuses it, so it is never reached
 abbrev pub placed_expr : (ColumnName → ℕ) → Written → Expr

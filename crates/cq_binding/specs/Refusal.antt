@@ -78,20 +78,28 @@ from_checks q (Some source) = source_checks q (scope_as q.first source)
 abbrev pub select_checks : Select → Option Named → List (Option Fault)
 select_checks q source = fault_if (not (is_plain q)) Syntax ∷ from_checks q source
 
--- DROP VIEW: the name
-abbrev pub drop_view_checks : Option ℕ → List (Option Fault)
-drop_view_checks place = fault_if (is_none place) UnknownTable ∷ []
+-- MOVE and MERGE: the name
+abbrev pub table_checks : Result TableOf Fault → List (Option Fault)
+table_checks (Err f) = Some f ∷ []
+table_checks (Ok t) = []
+
+-- DROP VIEW and REFRESH: the name
+abbrev pub view_checks : Option ℕ → List (Option Fault)
+view_checks place = fault_if (is_none place) UnknownTable ∷ []
 
 -- the checks of a statement, in the order of the walk
 abbrev pub checks : State → Statement → List (Option Fault)
 checks s (statements.CreateTable name columns sort) = create_checks name columns sort s
 checks s (statements.DropTable name) = drop_table_checks s.views (table_named name s.tables)
 checks s (statements.CreateView name query) = create_view_checks name query s
-checks s (statements.DropView name) = drop_view_checks (view_place name s.views)
+checks s (statements.DropView name) = view_checks (view_place name s.views)
 checks s (statements.Insert name rows) = insert_checks s.max_rows rows (written_table name s)
 checks s (statements.Delete name condition) = delete_checks condition (written_table name s)
 checks s (statements.Select q) = select_checks q (source_named q.first.name s)
--- UPDATE, MOVE, MERGE and REFRESH are read, and not carried out yet
+checks s (statements.Move name rows) = table_checks (written_table name s)
+checks s (statements.Merge name) = table_checks (written_table name s)
+checks s (statements.Refresh name changes) = view_checks (view_place name s.views)
+-- UPDATE is read, and not carried out yet
 checks s statement = Some Syntax ∷ []
 
 -- the refusal of a statement, if it has one; want of memory is no part of the walk

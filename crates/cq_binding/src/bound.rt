@@ -39,12 +39,12 @@ pub enum Bound {
     /// Brings so many rows of the write store to the read store.
     Move {
         table: u64,
-        rows: u64,
+        rows: u128,
     },
     Merge(u64),
     /// Takes a view so many changes on.
     Refresh {
         view: usize,
-        changes: u64,
+        changes: u128,
     },
 }

@@ -15,9 +15,9 @@ use Rattle.cq_cli.specs.declared.endings.Status.{Status}
 use Rattle.cq_cli.specs.declared.endings.Status.TheVariants.{AllAccepted, SomeRefused}
 use Rattle.cq_cli.specs.declared.endings.RunFault.{RunFault}
 use Rattle.cq_cli.specs.Running.{Counted, RunsScript, both, status_of}
-use Rattle.cq_cli.specs.Writing.{Wrote, WroteFront}
+use Rattle.cq_cli.specs.Writing.{Wrote, WrotePrefix}
 use Rattle.cq_cli.proofs.Serving.{ServesPiece, refused_somehow, serves_draws}
-use Rattle.cq_cli.proofs.Writes.{all_then_failed, appends_kept, appends_more, appends_nothing, front_of_more, wrote_then}
+use Rattle.cq_cli.proofs.Writes.{all_then_failed, appends_kept, appends_more, appends_nothing, prefix_of_more, wrote_then}
 
 -- a run goes on by one piece
 runs_more : (ps : List PieceOf) (os : List (Result Answer Fault)) (a b c : State) (p : PieceOf) (o : Result Answer Fault) → Runs a ps os b → Serves b p o c → Runs a (ps ++ p ∷ []) (os ++ o ∷ []) c
@@ -151,12 +151,12 @@ module _ (max_rows : ℕ) (script : List ℕ) (a b : Option (List ℕ)) (f g u v
       (runs_then (statements_among so_far.served ++ p ∷ []) (statements_among ps) (so_far.outcomes ++ o ∷ []) rest.0 (first_state max_rows) next next first rest.1) in
       let text : output_of ((so_far.outcomes ++ o ∷ []) ++ rest.0) ≡ (output_of so_far.outcomes ++ outcome_text o) ++ output_of rest.0 =
       flat_map-append outcome_text (so_far.outcomes ++ o ∷ []) rest.0 ∙ ap (λ (t : List ℕ). t ++ output_of rest.0) (output_more so_far.outcomes o) in
-      let front : WroteFront (output_of so_far.outcomes ++ outcome_text o) a c f h =
+      let prefix : WrotePrefix (output_of so_far.outcomes ++ outcome_text o) a c f h =
       wrote_then {A = Status} (output_of so_far.outcomes) (outcome_text o) a b c f g h (Err e) (so_far.written, so_far.count) served.written in
       record {
         outcomes = (so_far.outcomes ++ o ∷ []) ++ rest.0;
         answered = answered utf8 ((so_far.served ++ p ∷ []) ++ ps) regrouped next run;
-        written = subst (λ (t : List ℕ). WroteFront t a c f h) (sym text) (front_of_more (output_of so_far.outcomes ++ outcome_text o) (output_of rest.0) a c f h front);
+        written = subst (λ (t : List ℕ). WrotePrefix t a c f h) (sym text) (prefix_of_more (output_of so_far.outcomes ++ outcome_text o) (output_of rest.0) a c f h prefix);
         counted = (so_far.outcomes ++ o ∷ [], rest.0, refl, failures_more so_far.outcomes o u v w so_far.sources served.counted);
         told = tt;
       }

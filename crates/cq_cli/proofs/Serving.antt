@@ -41,7 +41,7 @@ shown_serves old new p (Ok (Rows header rows)) (prints.Refused faults.Memory) h 
 shown_serves old new p (Err f) (prints.Refused g) h k s = (Err f, h, rw s refl, refl, refl)
 shown_serves old new p o shown h k s = absurd s
 
--- the text of the piece's outcome was written, or a front where the sink failed; it tells whether a source failed
+-- the text of the piece's outcome was written, or a prefix where the sink failed; it tells whether a source failed
 pub record ServesPiece (state : State) (piece : PieceOf) (next : State) (old new : Option (List ℕ)) (before after asked failed : ℕ) (result : Result Status RunFault) : Type 0 where
   pub outcome : Result Answer Fault
   pub answered : Serves state piece outcome next

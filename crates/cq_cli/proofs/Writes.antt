@@ -2,7 +2,7 @@
 use Rattle.std.proofs.Common.{◌≡◌, ℕ, ◌+◌, List, [], ◌++◌, take, drop, Option, Some, None, Result, Ok, Err, sym, ap, ◌∙◌, append_assoc, ◌<◌, arith}
 use Rattle.std.proofs.lemmas.List.{append-nil, take-append-drop}
 use Rattle.std.specs.Io.KnownBytes.{Appends, Keeps}
-use Rattle.cq_cli.specs.Writing.{Wrote, WroteFront, failures_at}
+use Rattle.cq_cli.specs.Writing.{Wrote, WrotePrefix, failures_at}
 use Rattle.std.proofs.lemmas.Bool.Decides.{nat_tests}
 
 -- nothing was written
@@ -25,8 +25,8 @@ appends_kept (Some xs) (Some ys) None x p q = absurd q
 appends_kept (Some xs) (Some ys) (Some zs) x p q = q ∙ p
 
 -- some bytes of the rest are taken
-pub more : (bytes rest after : List ℕ) (n : ℕ) (a b c : Option (List ℕ)) (f0 f1 f2 : ℕ) → (front : List ℕ) × (bytes ≡ front ++ rest) × Appends a b front × (f1 ≡ f0) → Appends b c (take n rest) → f2 ≡ f1 → after ≡ drop n rest
-    → (front : List ℕ) × (bytes ≡ front ++ after) × Appends a c front × (f2 ≡ f0)
+pub more : (bytes rest after : List ℕ) (n : ℕ) (a b c : Option (List ℕ)) (f0 f1 f2 : ℕ) → (prefix : List ℕ) × (bytes ≡ prefix ++ rest) × Appends a b prefix × (f1 ≡ f0) → Appends b c (take n rest) → f2 ≡ f1 → after ≡ drop n rest
+    → (prefix : List ℕ) × (bytes ≡ prefix ++ after) × Appends a c prefix × (f2 ≡ f0)
 more bytes rest after n a b c f0 f1 f2 so_far taken same is = (
   so_far.0 ++ take n rest,
   so_far.1 ∙ ap (λ (t : List ℕ). so_far.0 ++ t) (sym (take-append-drop n rest)) ∙ sym (append_assoc so_far.0 (take n rest) (drop n rest)) ∙ ap (λ (t : List ℕ). (so_far.0 ++ take n rest) ++ t) (sym is),
@@ -44,10 +44,10 @@ wrote_then x y a b c f0 f1 f2 (Ok u) first second = (appends_more a b c x y firs
 wrote_then x y a b c f0 f1 f2 (Err e) first second =
     (x ++ second.0, second.1, ap (λ (t : List ℕ). x ++ t) second.2 ∙ sym (append_assoc x second.0 second.1), appends_more a b c x second.0 first.0 second.3, second.4 ∙ ap (λ n. n + 1) first.1)
 
--- a front of a text is a front of a longer one
-pub front_of_more : (x y : List ℕ) (a b : Option (List ℕ)) (f0 f1 : ℕ) → WroteFront x a b f0 f1 → WroteFront (x ++ y) a b f0 f1
-front_of_more x y a b f0 f1 w = (w.0, w.1 ++ y, ap (λ (t : List ℕ). t ++ y) w.2 ∙ append_assoc w.0 w.1 y, w.3, w.4)
+-- a prefix of a text is a prefix of a longer one
+pub prefix_of_more : (x y : List ℕ) (a b : Option (List ℕ)) (f0 f1 : ℕ) → WrotePrefix x a b f0 f1 → WrotePrefix (x ++ y) a b f0 f1
+prefix_of_more x y a b f0 f1 w = (w.0, w.1 ++ y, ap (λ (t : List ℕ). t ++ y) w.2 ∙ append_assoc w.0 w.1 y, w.3, w.4)
 
 -- all of a text was written, and then the sink failed
-pub all_then_failed : (x : List ℕ) (a b c : Option (List ℕ)) (f0 f1 f2 : ℕ) → Appends a b x × (f1 ≡ f0) → Keeps b c → f2 ≡ f1 + 1 → WroteFront x a c f0 f2
+pub all_then_failed : (x : List ℕ) (a b c : Option (List ℕ)) (f0 f1 f2 : ℕ) → Appends a b x × (f1 ≡ f0) → Keeps b c → f2 ≡ f1 + 1 → WrotePrefix x a c f0 f2
 all_then_failed x a b c f0 f1 f2 written kept failed = (x, [], sym (append-nil x), appends_kept a b c x written.0 kept, failed ∙ ap (λ n. n + 1) written.1)

@@ -1,5 +1,5 @@
 -- What a run of a script does.
-use Rattle.std.specs.Prelude.{◌≡◌, ℕ, ◌+◌, ◌^◌, Bool, true, false, if◌then◌else◌, List, [], ◌∷◌, ◌++◌, Option, Result, Ok, Err, IfOk}
+use Rattle.std.specs.Prelude.{◌≡◌, ℕ, ◌+◌, ◌^◌, Bool, true, false, if◌then◌else◌, List, ◌++◌, Option, Result, Ok, Err, IfOk}
 use Rattle.std.specs.List.{list_all}
 use Rattle.cq_steps.specs.declared.answer.Answer.{Answer}
 use Rattle.cq_binding.specs.declared.fault.Fault.{Fault}
@@ -33,7 +33,7 @@ Counted outcomes asked failed (Ok status) = failed ≡ asked + source_failures o
 Counted outcomes asked failed (Err e) =
     (answered later : List (Result Answer Fault)) × (outcomes ≡ answered ++ later) × (failed ≡ asked + source_failures answered)
 
--- the output of the script's outcomes was written, or a front where the sink failed, and the sources' failures are told
+-- the output of the script's outcomes was written, or a prefix where the sink failed, and the sources' failures are told
 pub record RunsScript (max_rows : ℕ) (script : List ℕ) (old new : Option (List ℕ)) (before after asked failed : ℕ) (result : Result Status RunFault) : Type 0 where
   pub outcomes : List (Result Answer Fault)
   pub answered : HasOutcomes max_rows script outcomes

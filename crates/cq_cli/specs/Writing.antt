@@ -16,11 +16,11 @@ abbrev pub failures_of : {A E : Type 0} → Result A E → ℕ
 failures_of (Ok a) = 0
 failures_of (Err e) = 1
 
--- a front of a text was written, and the sink failed once
-abbrev pub WroteFront : List ℕ → Option (List ℕ) → Option (List ℕ) → ℕ → ℕ → Type 0
-WroteFront text old new before after = (front back : List ℕ) × (text ≡ front ++ back) × Appends old new front × (after ≡ before + 1)
+-- a prefix of a text was written, and the sink failed once
+abbrev pub WrotePrefix : List ℕ → Option (List ℕ) → Option (List ℕ) → ℕ → ℕ → Type 0
+WrotePrefix text old new before after = (prefix back : List ℕ) × (text ≡ prefix ++ back) × Appends old new prefix × (after ≡ before + 1)
 
--- all of a text was written and nothing failed, or a front of it was
+-- all of a text was written and nothing failed, or a prefix of it was
 abbrev pub Wrote : {A E : Type 0} → List ℕ → Option (List ℕ) → Option (List ℕ) → ℕ → ℕ → Result A E → Type 0
 Wrote text old new before after (Ok a) = Appends old new text × (after ≡ before)
-Wrote text old new before after (Err e) = WroteFront text old new before after
+Wrote text old new before after (Err e) = WrotePrefix text old new before after

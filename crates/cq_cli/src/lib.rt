@@ -1,7 +1,7 @@
 //! The program as a library: scripts from bytes to bytes.
 //!
 //! [`run`] writes the answer of each statement before the next one runs. What it writes is the output of the script's
-//! outcomes, or a front of it where the [`Sink`] failed.
+//! outcomes, or a prefix of it where the [`Sink`] failed.
 #![tactic(auto)]
 
 mod endings;

@@ -18,7 +18,7 @@ pub trait Sink {
     /// Nothing was put since it was flushed.
     ghost is_flushed: { Self → Bool };
 
-    /// Takes a front of the bytes. To take nothing of some bytes is a failure.
+    /// Takes a prefix of the bytes. To take nothing of some bytes is a failure.
     fn put(&mut self, bytes: &[u8]) -> io::Result<usize>
         requires { failures self.old < 2 ^ 64 - 1 }
         ensures count { IfOk result (λ n. n ≤ length bytes.now) }

@@ -6,8 +6,11 @@ mod random;
 mod selects;
 mod written;
 
+ghost use Rattle.std.specs.Prelude.{◌<◌};
+
 use cq_cli::NoSources;
 use cq_engine::{Engine, Limits};
+use cq_language::Statement;
 use cq_sql::parse;
 use cq_steps::Answer;
 use cq_values::{Row, Seq};
@@ -24,7 +27,13 @@ fn engine(alloc: Global) -> Result<Engine, Fail> {
 fn answer(rt: &impl Abort, alloc: Global, engine: &mut Engine, text: &str) -> Result<Answer, Fail> {
     assert!(rt; engine.drawn() < 1000);
     let statement = parse(alloc, text)?;
-    Ok(engine.step(&statement, &mut NoSources::default())?)
+    step(engine, &statement)
+}
+
+fn step(engine: &mut Engine, statement: &Statement) -> Result<Answer, Fail>
+    requires { engine.old.drawn < 1000 }
+{
+    Ok(engine.step(statement, &mut NoSources::default())?)
 }
 
 /// The rows that the engine answers a query.

@@ -1,5 +1,5 @@
 -- What changed rows add to the groups of a view.
-use Rattle.std.specs.Prelude.{◌<◌, ◌≤◌, ◌^◌, ℕ, ℤ, if◌then◌else◌, List, map, Option, None, Some, IfSome, nat_abs, pos}
+use Rattle.std.specs.Prelude.{◌≤◌, ℕ, ℤ, if◌then◌else◌, List, map, Option, None, Some, IfSome, nat_abs, pos}
 use Rattle.std.specs.List.{AllByRecursion}
 use Rattle.cq_values.specs.declared.value.Value.{Value}
 use Rattle.cq_values.specs.Value.{Row}
@@ -9,7 +9,7 @@ use Rattle.cq_model.specs.declared.query.Aggregate.TheVariants.{CountAll, Count,
 use Rattle.cq_model.specs.Condition.{is_null}
 use Rattle.cq_model.specs.Eval.{eval}
 use Rattle.cq_model.specs.Group.{addend, key_of}
-use Rattle.cq_model.specs.Width.{extent}
+use Rattle.cq_model.specs.Width.{IsNarrowAt, number_limit}
 use Rattle.cq_deltas.specs.declared.change.Addition.{Addition}
 
 -- what a value adds to a total; NULL is not even counted
@@ -33,13 +33,13 @@ additions columns aggregates dxs = map (addition columns aggregates) dxs
 
 -- no number that is written or worked out on the way to an aggregate's argument is too wide
 abbrev pub IsNarrow : Row → Aggregate → Type 0
-IsNarrow r (Count e) = (extent e r).widest < 2 ^ 127
-IsNarrow r (Sum e) = (extent e r).widest < 2 ^ 127
+IsNarrow r (Count e) = IsNarrowAt e r
+IsNarrow r (Sum e) = IsNarrowAt e r
 IsNarrow r a = Unit {0}
 
 -- what a row adds to an aggregate is no larger than a number can be
 abbrev pub IsSmall : Row → Aggregate → Type 0
-IsSmall r a = IfSome (addend_of r a) (λ n. nat_abs n ≤ 2 ^ 127)
+IsSmall r a = IfSome (addend_of r a) (λ n. nat_abs n ≤ number_limit)
 
 -- COUNT and SUM, which are told by counts and totals
 abbrev pub IsTotal : Aggregate → Type 0

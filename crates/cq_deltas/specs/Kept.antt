@@ -4,6 +4,7 @@ use Rattle.std.specs.List.{AllByRecursion, sum_by}
 use Rattle.cq_kept.specs.Kept.{Kept, Counted, Totalled, Listed, Group}
 use Rattle.cq_deltas.specs.declared.kept.Kept.{Kept as Stored}
 use Rattle.cq_deltas.specs.declared.kept.Kept.TheVariants as stored
+use Rattle.cq_model.specs.Width.{number_limit}
 
 -- what is stored of an aggregate tells so much
 abbrev pub seen : Stored → Kept
@@ -37,11 +38,11 @@ total_moves weight addends = sum_by (total_move weight) addends
 
 -- a count stays in range while it moves so far, and a total while it does
 abbrev pub KeptHolds : ℕ → ℕ → Kept → Type 0
-KeptHolds counts totals (Counted n) = nat_abs n + counts < 2 ^ 127
-KeptHolds counts totals (Totalled n total) = (nat_abs n + counts < 2 ^ 127) × (nat_abs total + totals ≤ 2 ^ 250)
+KeptHolds counts totals (Counted n) = nat_abs n + counts < number_limit
+KeptHolds counts totals (Totalled n total) = (nat_abs n + counts < number_limit) × (nat_abs total + totals ≤ 2 ^ 250)
 KeptHolds counts totals (Listed values) = Unit {0}
 
 -- so do all of a group
 pub record GroupHolds (counts totals : ℕ) (group : Group) : Type 0 where
-  pub count : nat_abs group.count + counts < 2 ^ 127
+  pub count : nat_abs group.count + counts < number_limit
   pub kept : AllByRecursion (KeptHolds counts totals) group.kept

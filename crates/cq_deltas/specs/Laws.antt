@@ -12,10 +12,11 @@ use Rattle.cq_deltas.specs.declared.change.Addition.{Addition}
 use Rattle.cq_deltas.specs.Additions.{AreTotals, additions}
 use Rattle.cq_deltas.specs.Keyed.{Table, group_at, count_moves, all_total_moves, HoldsFor}
 use Rattle.cq_deltas.specs.Told.{AllCanBeTold}
+use Rattle.cq_model.specs.Width.{number_limit}
 
 -- what rows and a change can move counts and totals together is in range
 pub record AreSmall (rows change : List Addition) : Type 0 where
-  pub counts : count_moves rows + count_moves change < 2 ^ 127
+  pub counts : count_moves rows + count_moves change < number_limit
   pub totals : all_total_moves rows + all_total_moves change ≤ 2 ^ 250
 
 -- groups that stand for such rows hold while the change is put in

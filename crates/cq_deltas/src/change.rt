@@ -1,11 +1,9 @@
 //! What changed rows add to groups.
 ghost use Rattle.std.specs.List.{AllByRecursion};
 ghost use Rattle.std.specs.Prelude.{◌++◌, ◌∷◌, ◌≡◌, IfOk, OnErr, OnOk, [], map};
-ghost use Rattle.cq_model.specs.Group.{key_of};
-ghost use Rattle.cq_values.specs.Value.{column};
 ghost use Rattle.cq_deltas.specs.Additions.{IsNarrow, IsSmall, addend_of, addition, additions};
 
-use cq_eval::{eval_row, narrow_is_exact};
+use cq_eval::{eval_row, key_of, narrow_is_exact};
 use cq_model::Aggregate;
 use cq_values::{Lent, Row, Seq, Value};
 use std::alloc::{AllocError, Global};
@@ -88,26 +86,6 @@ impl GroupChange {
         ensures { result.now ≡ self.now }
     {
         self.additions.as_slice()
-    }
-}
-
-/// The values of a row in these columns.
-fn key_of(alloc: Global, columns: &[usize], row: &[Value]) -> Result<Row, AllocError>
-    ensures { IfOk result (λ key. key ≡ key_of columns.now row.now) }
-{
-    let mut key = Row::new(alloc);
-    for place in columns {
-        key.push(copy_column(alloc, row, *place)?)?;
-    }
-    Ok(key)
-}
-
-fn copy_column(alloc: Global, row: &[Value], place: usize) -> Result<Value, AllocError>
-    ensures { IfOk result (λ v. v ≡ column row.now place) }
-{
-    match row.get(place) {
-        Some(value) => value.copy(alloc),
-        None => Ok(Value::Null),
     }
 }
 

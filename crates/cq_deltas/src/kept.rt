@@ -7,6 +7,7 @@ ghost use Rattle.cq_kept.specs.Kept.{kept_of, kept_value};
 ghost use Rattle.cq_deltas.specs.Additions.{IsTotal};
 ghost use Rattle.cq_deltas.specs.Kept.{KeptHolds, kept_with, seen, total_move};
 ghost use Rattle.cq_deltas.specs.Told.{CanBeTold};
+ghost use Rattle.cq_model.specs.Width.{number_limit};
 
 use cq_model::Aggregate;
 use cq_values::{Total, Value};
@@ -72,7 +73,7 @@ impl Kept {
 
 impl CountedTotal {
     fn add(&mut self, weight: i128, value: i128)
-        requires count { nat_abs self.old.values + nat_abs weight < 2 ^ 127 }
+        requires count { nat_abs self.old.values + nat_abs weight < number_limit }
         requires total { nat_abs self.old.total + nat_abs (value *ℤ weight) ≤ 2 ^ 250 }
         ensures count { self.new.values ≡ self.old.values +ℤ weight }
         ensures total { self.new.total ≡ self.old.total +ℤ value *ℤ weight }

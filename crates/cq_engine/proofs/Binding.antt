@@ -10,7 +10,7 @@ use Rattle.cq_values.specs.declared.column.ColumnDef.{ColumnDef}
 use Rattle.cq_values.specs.Texts.{is_text}
 use Rattle.cq_values.specs.Value.{Row}
 use Rattle.cq_bags.proofs.Totals.{by_test}
-use Rattle.cq_laws.specs.Sizes.{IsSized}
+use Rattle.cq_laws.specs.Sizes.{IsSized, IsStored}
 use Rattle.cq_binding.specs.declared.bound.Bound.{Bound}
 use Rattle.cq_binding.specs.declared.bound.Bound.TheVariants as commands
 use Rattle.cq_language.specs.declared.statement.Constant.{Constant}
@@ -18,7 +18,7 @@ use Rattle.cq_language.specs.declared.statement.FromSource.{FromSource}
 use Rattle.cq_language.specs.declared.statement.Select.{Select}
 use Rattle.cq_language.specs.declared.statement.Statement.{Statement}
 use Rattle.cq_language.specs.declared.statement.Statement.TheVariants as statements
-use Rattle.cq_model.specs.Width.{sizes_of}
+use Rattle.cq_model.specs.Width.{IsNarrowIn, sizes_of}
 use Rattle.cq_language.specs.Written.{Written}
 use Rattle.cq_steps.specs.declared.answer.Answer.{Answer}
 use Rattle.cq_binding.specs.declared.fault.Fault.{Fault}
@@ -41,9 +41,8 @@ use Rattle.cq_binder.specs.Catalog.{alone, binding_checks, rows_walk}
 use Rattle.cq_binder.proofs.Faults.{first_fault_append, or_next, single}
 use Rattle.cq_binder.proofs.Fitting.{rows_fit}
 use Rattle.cq_binder.proofs.Found.{has_place}
-use Rattle.cq_engine.specs.Narrow.{IsNarrowAt, IsWithin}
+use Rattle.cq_engine.specs.Narrow.{IsWithin}
 use Rattle.cq_engine.specs.Commands.{CanCarryOut, CarriesOut, IsRefused, IsThere, IsWithinSource, present, room}
-use Rattle.cq_engine.specs.Views.{IsStored}
 use Rattle.cq_engine.proofs.Creating.{query_fits}
 use Rattle.cq_engine.proofs.Fitting.{back_free, first_free, front_free, narrow_rows, narrow_values, narrow_where, stored_keep, stored_keeps}
 use Rattle.cq_engine.proofs.Numbers.{Above}
@@ -177,7 +176,7 @@ module _ (tables : List TableOf) (views : List ViewOf) (next : ℕ) (numbered : 
       let behind : first_fault (rows_checks condition (written_table name here)) ≡ None = back_free (fault_if (not (is_of_rows condition)) faults.Syntax ∷ []) (rows_checks condition (written_table name here)) free in
       let walk : first_fault (where_check s condition ∷ []) ≡ None = subst (λ (o : Option TableOf). first_fault (rows_checks condition (ok_or o fault)) ≡ None) found behind in
       let narrow = narrow_rows s condition t.rows (first_free (where_check s condition) [] walk) (stored_keep t t.rows (stored-found name t tables fitting found)) in
-      (there-found name t tables found, subst (λ (rs : List Row). AllByRecursion (IsNarrowAt (option_map (bound_condition s) condition)) rs) (sym (rows-found name t tables next numbered found)) narrow)
+      (there-found name t tables found, subst (λ (rs : List Row). AllByRecursion (IsNarrowIn (option_map (bound_condition s) condition)) rs) (sym (rows-found name t tables next numbered found)) narrow)
 
   -- a query that was bound on a source can be worked out on the source's rows
   module _ (q : Select) where
@@ -234,6 +233,15 @@ module _ (tables : List TableOf) (views : List ViewOf) (next : ℕ) (numbered : 
   bound_can (statements.Select q) command free is =
       let m = mapped (bound_select q) (source_named q.first.name here) command is in
       subst Can m.2 (select_can q m.0 m.1 free)
+  bound_can (statements.Move name rows) command free is =
+      let m = mapped (λ t. commands.Move t.number rows) (table_named name tables) command is in
+      subst Can m.2 (there-found name m.0 tables m.1)
+  bound_can (statements.Merge name) command free is =
+      let m = mapped (λ t. commands.Merge t.number) (table_named name tables) command is in
+      subst Can m.2 (there-found name m.0 tables m.1)
+  bound_can (statements.Refresh view changes) command free is =
+      let m = mapped (λ place. commands.Refresh place changes) (view_place view views) command is in
+      subst Can m.2 (within_views view views m.0 m.1)
   bound_can statement command free is = absurd (cc is)
 
 -- ---- From commands to statements
@@ -246,6 +254,9 @@ same_places s (statements.DropView name) = refl
 same_places s (statements.Insert name rows) = refl
 same_places s (statements.Delete name condition) = refl
 same_places s (statements.Select q) = refl
+same_places s (statements.Move name rows) = refl
+same_places s (statements.Merge name) = refl
+same_places s (statements.Refresh view changes) = refl
 same_places s statement = refl
 
 same_bound : (s : State) (statement : Statement) → bound (alone s.tables s.views) statement ≡ bound s statement
@@ -256,6 +267,9 @@ same_bound s (statements.DropView name) = refl
 same_bound s (statements.Insert name rows) = refl
 same_bound s (statements.Delete name condition) = refl
 same_bound s (statements.Select q) = refl
+same_bound s (statements.Move name rows) = refl
+same_bound s (statements.Merge name) = refl
+same_bound s (statements.Refresh view changes) = refl
 same_bound s statement = refl
 
 -- a fault of the rows comes before the room for them
@@ -278,6 +292,9 @@ module _ (tables : List TableOf) (views : List ViewOf) (now drawn max_rows : ℕ
   walk_refuses (statements.Insert name rows) f e = insert_refuses max_rows rows (written_table name old) f e
   walk_refuses (statements.Delete name condition) f e = e
   walk_refuses (statements.Select q) f e = e
+  walk_refuses (statements.Move name rows) f e = e
+  walk_refuses (statements.Merge name) f e = e
+  walk_refuses (statements.Refresh view changes) f e = e
   walk_refuses statement f e = e
 
   refused_along_walk : (statement : Statement) (f : Fault) → MayRefuse (first_fault (binding_checks old statement)) f → Refuses old statement f old
@@ -332,6 +349,15 @@ module _ (tables : List TableOf) (views : List ViewOf) (now drawn max_rows : ℕ
   room_decides (statements.Select q) command none is =
       let m = mapped (bound_select q) (source_named q.first.name old) command is in
       subst (λ (c : Bound). refusal old (statements.Select q) ≡ room old c) m.2 none
+  room_decides (statements.Move name rows) command none is =
+      let m = mapped (λ t. commands.Move t.number rows) (table_named name tables) command is in
+      subst (λ (c : Bound). refusal old (statements.Move name rows) ≡ room old c) m.2 none
+  room_decides (statements.Merge name) command none is =
+      let m = mapped (λ t. commands.Merge t.number) (table_named name tables) command is in
+      subst (λ (c : Bound). refusal old (statements.Merge name) ≡ room old c) m.2 none
+  room_decides (statements.Refresh view changes) command none is =
+      let m = mapped (λ place. commands.Refresh place changes) (view_place view views) command is in
+      subst (λ (c : Bound). refusal old (statements.Refresh view changes) ≡ room old c) m.2 none
   room_decides statement command none is = absurd (cc is)
 
   -- a total that cannot be shown is one of a SELECT

@@ -25,10 +25,11 @@ use Rattle.cq_states.specs.State.{TableOf}
 use Rattle.cq_views.specs.Laws.{StandingDependsOnBag}
 use Rattle.cq_views.specs.Small.{IsItemNarrow}
 use Rattle.cq_views.specs.View.{KeptView, IsNarrowFor, Stands}
-use Rattle.cq_engine.specs.Views.{Fits, IsStored}
+use Rattle.cq_engine.specs.Views.{Fits}
 use Rattle.cq_binding.specs.Typing.{Scope}
 use Rattle.cq_engine.proofs.Fitting.{back_free, few_told, first_free, front_free, items_narrow, narrow_items, narrow_where, second_free, small_items, stored_keeps, totals}
 use Rattle.cq_engine.proofs.Stored.{all_of_rows}
+use Rattle.cq_laws.specs.Sizes.{IsStored}
 
 -- ---- What the walk through a view's query says
 -- a list that is not too long has at most 64 entries

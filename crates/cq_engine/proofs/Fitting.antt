@@ -19,7 +19,7 @@ use Rattle.cq_language.specs.declared.written.AggregateFunction.TheVariants as f
 use Rattle.cq_language.specs.declared.written.ColumnName.{ColumnName}
 use Rattle.cq_model.specs.Eval.{eval}
 use Rattle.cq_model.specs.Sizes.{stored_size, stored_sizes}
-use Rattle.cq_model.specs.Width.{extent, sizes_of, value_size, width}
+use Rattle.cq_model.specs.Width.{AreNarrowAt, IsNarrowIn, extent, sizes_of, value_size, width}
 use Rattle.cq_language.specs.Written.{Written}
 use Rattle.cq_language.specs.Written as tree
 use Rattle.cq_binding.specs.declared.fault.Fault.{Fault}
@@ -34,12 +34,11 @@ use Rattle.cq_binding.specs.Kinds.{◌and_then◌, added, kept_value, negation_o
 use Rattle.cq_binding.specs.Typing.{Scope, fault_in, typed}
 use Rattle.cq_binder.proofs.Faults.{first_fault_append, or_next}
 use Rattle.cq_exprs.proofs.Narrow.{typed_is_narrow}
-use Rattle.cq_exprs.specs.Expressions.{IsNarrow as IsNarrowIn, KeepSizes}
+use Rattle.cq_exprs.specs.Expressions.{IsNarrow as IsTypedNarrow, KeepSizes}
 use Rattle.cq_views.specs.Small.{IsItemNarrow}
 use Rattle.cq_model.proofs.Extents.{value-within}
 use Rattle.cq_engine.proofs.Places.{found_within}
-use Rattle.cq_engine.specs.Narrow.{AreNarrowAt, IsNarrowAt}
-use Rattle.cq_engine.specs.Views.{IsStored}
+use Rattle.cq_laws.specs.Sizes.{IsStored}
 
 -- ---- Expressions that pass
 -- what is asked for as a whole stands where it passes
@@ -48,18 +47,18 @@ passed ask (Ok t) free = (t, refl)
 passed ask (Err f) free = absurd (cc free)
 
 -- and it is narrow wherever the columns keep their sizes
-narrow_whole : (ask : Typing → Result Typing Fault) (s : Scope) (w : Written) (sizes : ℕ → ℕ) → fault_in (typed s w and_then ask) ≡ None → KeepSizes s sizes → (t : Typing) × IsNarrowIn s w t sizes
+narrow_whole : (ask : Typing → Result Typing Fault) (s : Scope) (w : Written) (sizes : ℕ → ℕ) → fault_in (typed s w and_then ask) ≡ None → KeepSizes s sizes → (t : Typing) × IsTypedNarrow s w t sizes
 narrow_whole ask s w sizes free kept =
     let p = passed ask (typed s w) free in
     (p.0, typed_is_narrow s w p.0 sizes p.1 kept)
 
 -- ---- WHERE
-pub narrow_where : (s : Scope) (c : Option Written) (row : Row) → where_check s c ≡ None → KeepSizes s (sizes_of row) → IsNarrowAt (option_map (bound_condition s) c) row
+pub narrow_where : (s : Scope) (c : Option Written) (row : Row) → where_check s c ≡ None → KeepSizes s (sizes_of row) → IsNarrowIn (option_map (bound_condition s) c) row
 narrow_where s None row free kept = tt
 narrow_where s (Some w) row free kept = (narrow_whole negation_of s w (sizes_of row) free kept).1.condition
 
 -- so it is at each of several rows
-pub narrow_rows : (s : Scope) (c : Option Written) (rows : List Row) → where_check s c ≡ None → AllByRecursion (λ row. KeepSizes s (sizes_of row)) rows → AllByRecursion (IsNarrowAt (option_map (bound_condition s) c)) rows
+pub narrow_rows : (s : Scope) (c : Option Written) (rows : List Row) → where_check s c ≡ None → AllByRecursion (λ row. KeepSizes s (sizes_of row)) rows → AllByRecursion (IsNarrowIn (option_map (bound_condition s) c)) rows
 narrow_rows s c [] free kept = tt
 narrow_rows s c (row ∷ rows) free kept = (narrow_where s c row free kept.0, narrow_rows s c rows free kept.1)
 

@@ -19,11 +19,11 @@ use Rattle.cq_model.specs.Meaning.{Tables, MeaningInRange, items_of, keeps, mean
 use Rattle.cq_model.specs.Sizes.{column_sizes}
 use Rattle.cq_model.specs.Views.{tables_alone, view_bag, ViewInRange}
 use Rattle.cq_binding.specs.declared.fault.Fault.{Fault}
-use Rattle.cq_states.specs.Fitting.{AreBounded, AreFitting}
+use Rattle.cq_states.specs.Fitting.{AreLimited, AreFitting}
 use Rattle.cq_states.specs.State.{TableOf, ViewOf, State, rows_in, tables_now, queries_of}
 use Rattle.cq_deltas.specs.Additions.{AreTotals}
 use Rattle.cq_laws.proofs.Positives.{once_each-bag}
-use Rattle.cq_laws.specs.Sizes.{CountsOrAdds, IsSized, RowsKeepSizes}
+use Rattle.cq_laws.specs.Sizes.{CountsOrAdds, IsSized, RowsKeepSizes, IsStored}
 use Rattle.cq_binder.specs.Catalog.{alone}
 use Rattle.cq_views.specs.Query.{aggregates_of, key_columns, table_of}
 use Rattle.cq_views.specs.View.{StandsFor}
@@ -31,7 +31,7 @@ use Rattle.cq_engine.specs.Narrow.{IsWithin, IsWithinSized}
 use Rattle.cq_engine.specs.Commands.{plain}
 use Rattle.cq_engine.specs.Selects.{Selects, SelectsKept, IsInRange, sources_in}
 use Rattle.cq_views.specs.Told.{AreRowsOf, IsShown}
-use Rattle.cq_engine.specs.Views.{NamedView, IsBacked, IsRight, IsStored, AreRight, view_of, views_of}
+use Rattle.cq_engine.specs.Views.{NamedView, IsBacked, IsRight, AreRight, view_of, views_of}
 use Rattle.cq_engine.proofs.Results.{listing_plain}
 use Rattle.cq_engine.proofs.Rows.{rows_have}
 use Rattle.cq_engine.proofs.Stored.{tables_stored}
@@ -107,7 +107,7 @@ module _ (tables : List TableOf) (views : List NamedView) (q : Query) where
   -- from a view at its place
   module _ (now place : ℕ) (v : NamedView) (right : AreRight tables now views) (at : slice_get views place ≡ Some v) where
     -- it is backed by the rows of its table
-    pub backed : AreFitting tables → AreBounded (2 ^ 24) tables → IsBacked v
+    pub backed : AreFitting tables → AreLimited (2 ^ 24) tables → IsBacked v
     backed fitting few =
         let r = right_there tables now views place v right at in
         let n = (table_of v.kept.query) in

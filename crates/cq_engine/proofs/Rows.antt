@@ -8,7 +8,7 @@ use Rattle.cq_bags.proofs.Canonicals.{length-bag_of}
 use Rattle.cq_bags.proofs.Totals.{by_test}
 use Rattle.cq_model.specs.declared.query.Query.{Query}
 use Rattle.cq_binding.specs.Refusal.{is_used}
-use Rattle.cq_states.specs.Fitting.{FitsColumns, AreBounded, AreFitting}
+use Rattle.cq_states.specs.Fitting.{FitsColumns, AreLimited, AreFitting}
 use Rattle.cq_states.specs.State.{TableOf, columns_in, rows_in, with_rows, AreNumbered}
 use Rattle.cq_views.specs.Query.{reads, table_of}
 use Rattle.cq_engine.specs.Views.{AreRight, NamedView, views_of}
@@ -95,14 +95,14 @@ module _ (n : ℕ) where
         (λ k. rw k (fitting.0, fitting-with_rows xs next numbered.2 fitting.1 (rw k at own)))
 
     -- none has too many where these are not too many
-    pub bounded-with_rows : (most : ℕ) (ts : List TableOf) → length rows ≤ most → AreBounded most ts → AreBounded most (with_rows n rows ts)
+    pub bounded-with_rows : (most : ℕ) (ts : List TableOf) → length rows ≤ most → AreLimited most ts → AreLimited most (with_rows n rows ts)
     bounded-with_rows most [] few bounded = tt
     bounded-with_rows most (x ∷ xs) few bounded = by_test (x.number == n)
         (λ k. rw k (omega (arith, few, length-bag_of rows), bounded-with_rows most xs few bounded.1))
         (λ k. rw k (bounded.0, bounded-with_rows most xs few bounded.1))
 
 -- a greater bound holds too
-pub bounded_more : (few most : ℕ) (ts : List TableOf) → few ≤ most → AreBounded few ts → AreBounded most ts
+pub bounded_more : (few most : ℕ) (ts : List TableOf) → few ≤ most → AreLimited few ts → AreLimited most ts
 bounded_more few most [] le bounded = tt
 bounded_more few most (x ∷ xs) le bounded = (omega (arith, le, bounded.0), bounded_more few most xs le bounded.1)
 

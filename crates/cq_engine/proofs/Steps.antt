@@ -1,6 +1,6 @@
 -- What the engine does with its tables and views is what the command says.
 use Rattle.std.proofs.Common.{◌≡◌, ℕ, ◌+◌, ◌≤◌, not, List, [], ◌∷◌, ◌++◌, map, length, Option, None, refl, sym, ap, ◌∙◌, inl, inr, arith, subst}
-use Rattle.std.specs.Prelude.{◌==◌, Bool, Err, Ok, filter, if◌then◌else◌}
+use Rattle.std.specs.Prelude.{◌==◌, Bool, Err, Ok, filter, if◌then◌else◌, min}
 use Rattle.std.specs.List.{AllByRecursion, list_any, remove}
 use Rattle.std.proofs.Math.Nat.{add-zero}
 use Rattle.cq_values.specs.Value.{Row}
@@ -119,6 +119,30 @@ module _ (tables : List TableOf) (views : List ViewOf) (now drawn max_rows : ℕ
       → others ≡ map (at_epoch (now + 1)) views → IsDone old (commands.Delete n c) (Count count) (present new others (now + 1) (drawn + 1) max_rows)
   delete_done n c new others count counted is moved = write_done n (left_by c (rows_in tables n)) (commands.Delete n c) (Count count) new others (λ w. (ap Count counted, w)) is moved
 
+  -- views at the present stay where they are, as long as nothing takes them beyond it
+  none_taken : (to : ℕ → ViewOf → ℕ) → ((place : ℕ) (v : ViewOf) → v.epoch ≡ now → to place v ≡ now) → (place : ℕ) (vs : List ViewOf) → AreAt now vs → taken_on to place vs ≡ vs
+  none_taken to present_stays place [] h = refl
+  none_taken to present_stays place (v ∷ vs) h =
+      λ i. (ap (λ (n : ℕ). at_epoch n v) (present_stays place v h.0) ∙ stays now v h.0) i ∷ none_taken to present_stays (place + 1) vs h.1 i
+
+  -- MOVE and MERGE
+  pub move_done : (n rows : ℕ) → IsDone old (commands.Move n rows) Done old
+  move_done n rows = unwritten (commands.Move n rows) Done tables views drawn here (refl, refl)
+
+  pub merge_done : (n : ℕ) → IsDone old (commands.Merge n) Done old
+  merge_done n = unwritten (commands.Merge n) Done tables views drawn here (refl, refl)
+
+  -- a view that is at the present has no change to be taken on by
+  none_left : (changes : ℕ) (b : Bool) (v : ViewOf) → v.epoch ≡ now → (if b then min (v.epoch + changes) now else v.epoch) ≡ now
+  none_left changes b v e = by_test b (λ k. rw k (omega (arith, e))) (λ k. rw k e)
+
+  -- REFRESH
+  pub refresh_done : (place changes : ℕ) → IsDone old (commands.Refresh place changes) Done old
+  refresh_done place changes =
+      let command = commands.Refresh place changes in
+      unwritten command Done tables views drawn here
+      (refl, ap (λ (vs : List ViewOf). present tables vs now drawn max_rows) (sym (none_taken (reach old command) (λ p v e. none_left changes (place == p) v e) 0 views here)))
+
   -- a view that is at the present is not taken on by a SELECT
   reaches : (b : Bool) (v : ViewOf) → v.epoch ≡ now → (if b then now else v.epoch) ≡ now
   reaches b v e = by_test b (λ k. rw k refl) (λ k. rw k e)
@@ -127,17 +151,11 @@ module _ (tables : List TableOf) (views : List ViewOf) (now drawn max_rows : ℕ
     abbrev command : Bound
     command = commands.Select header q order
 
-    none_taken : (place : ℕ) (vs : List ViewOf) → AreAt now vs → taken_on (reach old command) place vs ≡ vs
-    none_taken place [] h = refl
-    none_taken place (v ∷ vs) h =
-        let epoch = reaches (list_any (is_view place) (sources_of q)) v h.0 in
-        λ i. (ap (λ (n : ℕ). at_epoch n v) epoch ∙ stays now v h.0) i ∷ none_taken (place + 1) vs h.1 i
-
     -- SELECT, which leaves everything as it was
     pub select_done : (rows : List Row) → order ≡ record { keys = []; limit = None } → Selects tables views q (Ok rows) → IsDone old command (Rows header rows) old
     select_done rows all s =
         unwritten command (Rows header rows) tables views drawn here
-        (record { rows = rows; answered = refl; listed = rw all s.0; in_range = s.1 }, ap (λ (vs : List ViewOf). present tables vs now drawn max_rows) (sym (none_taken 0 views here)))
+        (record { rows = rows; answered = refl; listed = rw all s.0; in_range = s.1 }, ap (λ (vs : List ViewOf). present tables vs now drawn max_rows) (sym (none_taken (reach old command) (λ place v e. reaches (list_any (is_view place) (sources_of q)) v e) 0 views here)))
 
     -- a view stands where it is on its way to
     on_its_way : (b : Bool) (v : ViewOf) → v.epoch ≡ now → v.epoch ≤ (if b then now else v.epoch)

@@ -14,7 +14,7 @@ use Rattle.cq_bags.proofs.Totals.{by_test}
 use Rattle.cq_model.specs.Width.{value_size}
 use Rattle.cq_states.specs.Fitting.{FitsColumn, FitsColumns, AreFitting}
 use Rattle.cq_states.specs.State.{TableOf}
-use Rattle.cq_engine.specs.Views.{IsStored}
+use Rattle.cq_laws.specs.Sizes.{IsStored}
 
 -- ---- What all rows of a list have
 module _ (P : Row → Type 0) where

@@ -16,7 +16,7 @@ use Rattle.cq_laws.proofs.Positives.{once_each-bag}
 use Rattle.cq_model.specs.Expr.{Cond}
 use Rattle.cq_model.specs.Meaning.{keeps}
 use Rattle.cq_model.specs.Write.{left_by}
-use Rattle.cq_states.specs.Fitting.{FitsColumns, AreBounded, AreFitting}
+use Rattle.cq_states.specs.Fitting.{FitsColumns, AreLimited, AreFitting}
 use Rattle.cq_states.specs.State.{TableOf, ViewOf, AreNumbered, columns_in, holding, rows_in, with_rows}
 use Rattle.cq_model.specs.declared.query.Query.{Query}
 use Rattle.cq_views.specs.Small.{AreSmallFor, IsSmallFor}
@@ -24,12 +24,13 @@ use Rattle.cq_views.specs.View.{IsNarrowFor, changed}
 use Rattle.cq_views.proofs.Moves.{small-changes, small-rows}
 use Rattle.cq_engine.specs.Commands.{deleted_from, inserted_into, present, room_for}
 use Rattle.cq_engine.specs.Taking.{StandOn, AreSame, AreReady, CanAllTake, HaveTaken, Follow, Moved}
-use Rattle.cq_engine.specs.Views.{NamedView, views_of, Fits, IsStored, AreRight}
+use Rattle.cq_engine.specs.Views.{NamedView, views_of, Fits, AreRight}
 use Rattle.cq_engine.proofs.Changes.{with_fewer, with_more}
 use Rattle.cq_engine.proofs.Kept.{can_all_take, follow, moved, same_views, stand_on}
 use Rattle.cq_engine.proofs.Numbers.{set-number}
 use Rattle.cq_engine.proofs.Rows.{bounded-with_rows, fitting-with_rows, fitting_in, rows_at, rows_elsewhere, rows_have, rows_numbered, rows_there}
 use Rattle.cq_engine.proofs.Stored.{all_of_bag, all_of_both, all_of_kept, all_of_rows}
+use Rattle.cq_laws.specs.Sizes.{IsStored}
 
 -- ---- Rows that fit views
 module _ (q : Query) (fits : Fits q) where
@@ -140,7 +141,7 @@ module _ (n : ℕ) where
     inserted_fit next numbered fitting own =
         fitting-with_rows n (rows_in tables n ++ rows) tables next numbered fitting (all_of_both (FitsColumns (columns_in tables n)) (rows_in tables n) rows (fitting_in n tables fitting) own)
 
-    pub inserted_bounded : (most : ℕ) → room_for most tables n rows ≡ None → AreBounded most tables → AreBounded most (inserted_into n rows tables)
+    pub inserted_bounded : (most : ℕ) → room_for most tables n rows ≡ None → AreLimited most tables → AreLimited most (inserted_into n rows tables)
     inserted_bounded most room bounded = by_test (nat_lt most (length (rows_in tables n) + length rows))
         (λ k. absurd (cc (rw k at room)))
         (λ k. bounded-with_rows n (rows_in tables n ++ rows) most tables (omega (arith, ltb-false most (length (rows_in tables n) + length rows) k, length-append (rows_in tables n) rows)) bounded)
@@ -153,7 +154,7 @@ module _ (n : ℕ) where
     left_fit next numbered fitting =
         fitting-with_rows n (left_by condition (rows_in tables n)) tables next numbered fitting (all_of_kept (FitsColumns (columns_in tables n)) stay (rows_in tables n) (fitting_in n tables fitting))
 
-    pub left_bounded : (most : ℕ) → AreBounded most tables → AreBounded most (deleted_from n condition tables)
+    pub left_bounded : (most : ℕ) → AreLimited most tables → AreLimited most (deleted_from n condition tables)
     left_bounded most bounded =
         bounded-with_rows n (left_by condition (rows_in tables n)) most tables
         (omega (arith, kept_few stay (rows_in tables n), rows_have (λ rs. length rs ≤ most) (omega arith) tables n bounded)) bounded

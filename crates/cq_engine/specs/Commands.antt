@@ -23,7 +23,8 @@ use Rattle.cq_states.specs.State.{TableOf, ViewOf, State, columns_in, rows_in, w
 use Rattle.cq_steps.specs.Next.{Trims, at_present}
 use Rattle.cq_steps.specs.Step.{Accepts, IsTooLarge}
 use Rattle.cq_views.specs.Query.{table_of}
-use Rattle.cq_engine.specs.Narrow.{IsNarrowAt, IsWithin, IsWithinSized}
+use Rattle.cq_model.specs.Width.{IsNarrowIn}
+use Rattle.cq_engine.specs.Narrow.{IsWithin, IsWithinSized}
 use Rattle.cq_engine.specs.Views.{Fits}
 
 -- a state in which no change waits
@@ -69,8 +70,11 @@ CanCarryOut tables views (commands.DropTable n) = IsThere n tables × (is_used n
 CanCarryOut tables views (commands.CreateView name columns q) = CanBuild tables q
 CanCarryOut tables views (commands.DropView place) = place < length views
 CanCarryOut tables views (commands.Insert n rows) = IsThere n tables × AllByRecursion (FitsColumns (columns_in tables n)) rows
-CanCarryOut tables views (commands.Delete n c) = IsThere n tables × AllByRecursion (IsNarrowAt c) (rows_in tables n)
+CanCarryOut tables views (commands.Delete n c) = IsThere n tables × AllByRecursion (IsNarrowIn c) (rows_in tables n)
 CanCarryOut tables views (commands.Select header q order) = CanRead tables views q × (order ≡ record { keys = []; limit = None })
+CanCarryOut tables views (commands.Move n rows) = IsThere n tables
+CanCarryOut tables views (commands.Merge n) = IsThere n tables
+CanCarryOut tables views (commands.Refresh place changes) = place < length views
 CanCarryOut tables views command = ⊥
 
 -- ---- Commands that are carried out

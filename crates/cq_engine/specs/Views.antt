@@ -1,17 +1,18 @@
 -- Views under their names, and tables that they stand for.
-use Rattle.std.specs.Prelude.{◌≡◌, ◌≤◌, ◌^◌, ℕ, List, [], ◌∷◌, ◌++◌, length, map, Option, option_map}
+use Rattle.std.specs.Prelude.{◌≡◌, ◌≤◌, ℕ, List, [], ◌∷◌, ◌++◌, length, map, Option, option_map}
 use Rattle.std.specs.List.{AllByRecursion}
-use Rattle.cq_values.specs.Value.{Row, column}
+use Rattle.cq_values.specs.Value.{Row}
 use Rattle.cq_bags.specs.Bag.{once_each}
 use Rattle.cq_bags.specs.Canonical.{bag_of}
 use Rattle.cq_deltas.specs.Additions.{AreTotals}
 use Rattle.cq_values.specs.declared.column.ColumnDef.{ColumnDef}
 use Rattle.cq_model.specs.declared.query.Query.{Query}
-use Rattle.cq_model.specs.Width.{value_size}
 use Rattle.cq_states.specs.State.{TableOf, ViewOf, rows_in, view_named}
 use Rattle.cq_views.specs.Query.{IsGrouped, aggregates_of, table_of}
 use Rattle.cq_views.specs.Small.{CanBeKept, IsSmallFor}
 use Rattle.cq_views.specs.View.{KeptView, IsNarrowFor, Stands}
+use Rattle.cq_laws.specs.Sizes.{IsStored}
+use Rattle.cq_model.specs.Sizes.{count_size}
 
 -- a view under its name, with its columns
 pub record NamedView : Type 0 where
@@ -39,17 +40,13 @@ IsAdded v old new = views_of new ≡ views_of old ++ v ∷ []
 abbrev pub SameRows : List Row → List Row → Type 0
 SameRows rows others = bag_of rows ≡ bag_of others
 
--- no number is larger than a stored one can be
-abbrev pub IsStored : Row → Type 0
-IsStored row = (i : ℕ) → value_size (column row i) ≤ 2 ^ 63
-
 -- the view counts and adds, and stands for the rows of its table, all of which are stored; there are not too many to be counted
 pub record IsBacked (v : NamedView) : Type 0 where
   pub grouped : IsGrouped v.kept.query
   pub totals : AreTotals (aggregates_of v.kept.query)
   pub rows : List Row
   pub stored : AllByRecursion IsStored rows
-  pub few : length rows ≤ 2 ^ 96
+  pub few : length rows ≤ count_size
   pub stands : Stands v.kept (once_each rows)
 
 -- ---- Views that stand

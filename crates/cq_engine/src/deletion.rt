@@ -4,7 +4,7 @@ ghost use Rattle.std.specs.Prelude.{◌≡◌, IfOk, OnErr, OnOk, length};
 ghost use Rattle.cq_model.specs.Write.{chosen, left_by};
 ghost use Rattle.cq_states.specs.Fitting.{IsFitting};
 ghost use Rattle.cq_states.specs.State.{holding};
-ghost use Rattle.cq_engine.specs.Narrow.{IsNarrowAt};
+ghost use Rattle.cq_model.specs.Width.{IsNarrowIn};
 ghost use Rattle.cq_engine.specs.Taking.{AreSame, Follow, StandOn};
 
 use crate::table::Table;
@@ -23,7 +23,7 @@ pub fn delete_from(
 ) -> Result<usize, AllocError>
     requires fitting { IsFitting table.old }
     requires stand { StandOn table.old views.old.items }
-    requires narrow { AllByRecursion (IsNarrowAt condition.now) table.old.rows }
+    requires narrow { AllByRecursion (IsNarrowIn condition.now) table.old.rows }
     ensures count { IfOk result (λ count. count ≡ length (chosen condition.now table.old.rows)) }
     ensures left { OnOk result (table.new ≡ holding (left_by condition.now table.old.rows) table.old) }
     ensures follow { OnOk result (Follow epoch table.new views.old.items views.new.items) }

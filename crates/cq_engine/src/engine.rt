@@ -1,7 +1,7 @@
 //! The engine, and one step of it.
 ghost use Rattle.std.specs.Prelude.{◌≡◌, ◌<◌, ◌+◌, ◌-◌, ◌^◌, ◌∷◌, [], Ok, option_map};
 ghost use Rattle.cq_binding.specs.declared.bound.Bound.TheVariants as commands;
-ghost use Rattle.cq_states.specs.Fitting.{AreBounded, AreFitting};
+ghost use Rattle.cq_states.specs.Fitting.{AreLimited, AreFitting};
 ghost use Rattle.cq_states.specs.State.{first_state, view_named};
 ghost use Rattle.cq_steps.specs.Output.{source_failures};
 ghost use Rattle.cq_steps.specs.Step.{Step};
@@ -46,7 +46,7 @@ impl Model for Engine {
     ghost use Rattle.std.specs.Prelude.{◌≤◌};
     ghost use Rattle.cq_model.specs.contracts.expr.Cond as cond;
     ghost use Rattle.cq_model.specs.contracts.expr.Expr as expr;
-    ghost use Rattle.cq_states.specs.Fitting.{AreBounded, AreFitting};
+    ghost use Rattle.cq_states.specs.Fitting.{AreLimited, AreFitting};
     ghost use Rattle.cq_states.specs.State.{State, AreNumbered};
     ghost use Rattle.cq_engine.specs.Commands.{present};
     ghost use Rattle.cq_engine.specs.Views.{AreRight, views_of};
@@ -57,7 +57,7 @@ impl Model for Engine {
 
     ghost view = { λ e. present e.tables.items (views_of e.views.items) e.writes e.drawn e.limits.max_rows };
 
-    ghost invariant = { λ e. (e.writes ≤ e.drawn) × AreNumbered e.tables.items e.drawn × AreFitting e.tables.items × AreRight e.tables.items e.writes e.views.items × AreBounded e.limits.max_rows e.tables.items };
+    ghost invariant = { λ e. (e.writes ≤ e.drawn) × AreNumbered e.tables.items e.drawn × AreFitting e.tables.items × AreRight e.tables.items e.writes e.views.items × AreLimited e.limits.max_rows e.tables.items };
 }
 
 impl Engine {
@@ -100,7 +100,7 @@ impl Engine {
     pub fn catalog(&self) -> EngineCatalog<'_>
         ensures told { result ≡ (self.now.tables, self.now.views) }
         ensures fitting { AreFitting self.now.tables }
-        ensures bounded { AreBounded self.now.max_rows self.now.tables }
+        ensures bounded { AreLimited self.now.max_rows self.now.tables }
     {
         EngineCatalog::new(&self.tables, &self.views)
     }
@@ -152,9 +152,10 @@ impl Engine {
                 query,
                 order,
             } => self.select(header, query, order),
-            Bound::Update { .. } | Bound::Move { .. } | Bound::Merge(_) | Bound::Refresh { .. } => {
-                unreachable!()
-            }
+            Bound::Move { table, rows } => Ok(self.move_rows(table, rows)),
+            Bound::Merge(table) => Ok(self.merge(table)),
+            Bound::Refresh { view, changes } => Ok(self.refresh(view, changes)),
+            Bound::Update { .. } => unreachable!(),
         }
     }
 
@@ -256,6 +257,30 @@ impl Engine {
         self.writes = epoch;
         self.drawn += 1;
         Ok(Answer::Count(rows as u64))
+    }
+
+    /// Each row is in the one store that there is, so that nothing has to be moved.
+    fn move_rows(&self, _table: u64, _rows: u128) -> Answer
+        ensures { CarriesOut self.now (commands.Move _table _rows) (Ok result) self.now }
+    {
+        let _views = &self.views;
+        Answer::Done
+    }
+
+    /// The one store has nothing to be merged.
+    fn merge(&self, _table: u64) -> Answer
+        ensures { CarriesOut self.now (commands.Merge _table) (Ok result) self.now }
+    {
+        let _views = &self.views;
+        Answer::Done
+    }
+
+    /// Each view has taken in each write, so that none has to be taken on.
+    fn refresh(&self, _view: usize, _changes: u128) -> Answer
+        ensures { CarriesOut self.now (commands.Refresh _view _changes) (Ok result) self.now }
+    {
+        let _views = &self.views;
+        Answer::Done
     }
 
     fn select(&self, header: Seq<Text>, query: Query, order: Order) -> Result<Answer, Fault>

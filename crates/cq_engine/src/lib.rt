@@ -7,7 +7,6 @@
 
 mod answer_source;
 mod catalog;
-mod condition;
 mod creation;
 mod deletion;
 mod engine;

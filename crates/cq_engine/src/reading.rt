@@ -1,7 +1,7 @@
 //! SELECT from a table or from a view.
 ghost use Rattle.std.specs.Prelude.{◌≡◌, ◌^◌, ℕ};
 ghost use Rattle.cq_model.specs.Sizes.{column_sizes};
-ghost use Rattle.cq_states.specs.Fitting.{AreBounded, AreFitting};
+ghost use Rattle.cq_states.specs.Fitting.{AreLimited, AreFitting};
 ghost use Rattle.cq_states.specs.State.{AreNumbered};
 ghost use Rattle.cq_engine.specs.Narrow.{IsWithinSized};
 ghost use Rattle.cq_engine.specs.Commands.{CanRead};
@@ -28,7 +28,7 @@ pub fn select_from(
 ) -> Result<Seq<Row>, Fault>
     requires numbered { (next : ℕ) × AreNumbered tables.now next }
     requires fitting { AreFitting tables.now }
-    requires few { AreBounded (2 ^ 24) tables.now }
+    requires few { AreLimited (2 ^ 24) tables.now }
     requires right { (now : ℕ) × AreRight tables.now now views.now }
     requires can_read { CanRead tables.now (views_of views.now) query.now }
     ensures { Selects tables.now (views_of views.now) query.now result }

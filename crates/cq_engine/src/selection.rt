@@ -3,15 +3,13 @@ ghost use Rattle.std.specs.List.{AllByRecursion};
 ghost use Rattle.std.specs.Prelude.{◌≡◌, IfOk, []};
 ghost use Rattle.cq_bags.specs.Bag.{once_each};
 ghost use Rattle.cq_bags.specs.Listing.{Lists};
-ghost use Rattle.cq_model.specs.Meaning.{items_of};
-ghost use Rattle.cq_engine.specs.Narrow.{AreNarrowAt, IsWithin};
+ghost use Rattle.cq_engine.specs.Narrow.{IsWithin};
 ghost use Rattle.cq_engine.specs.Selects.{shown_rows};
 
-use crate::condition::keeps;
 use cq_bags::listed;
-use cq_eval::{eval_row, narrow_is_exact};
-use cq_model::{Expr, Query};
-use cq_values::{Row, Seq, Value};
+use cq_eval::{items_of, keeps};
+use cq_model::Query;
+use cq_values::{Row, Seq};
 use std::alloc::{AllocError, Global};
 
 /// The listing of what the items show of the rows that WHERE keeps.
@@ -34,21 +32,8 @@ fn results(alloc: Global, query: &Query, rows: &[Row]) -> Result<Vec<Row>, Alloc
     for row in rows {
         let row = row.as_slice();
         if keeps(&query.filter, row) {
-            results.push(values(alloc, items, row)?)?;
+            results.push(items_of(alloc, items, row)?)?;
         }
     }
     Ok(results)
-}
-
-/// The values of the items in a row.
-fn values(alloc: Global, items: &[Expr], row: &[Value]) -> Result<Row, AllocError>
-    requires { AreNarrowAt items.now row.now }
-    ensures { IfOk result (λ values. values ≡ items_of items.now row.now) }
-{
-    narrow_is_exact();
-    let mut values = Row::new(alloc);
-    for item in items {
-        values.push(eval_row(item, row).to_value(alloc)?)?;
-    }
-    Ok(values)
 }

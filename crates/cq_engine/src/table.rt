@@ -5,10 +5,10 @@ ghost use Rattle.cq_values.specs.Texts.{is_text};
 ghost use Rattle.cq_bags.specs.Canonical.{bag_of};
 ghost use Rattle.cq_states.specs.State.{empty_table, holding};
 ghost use Rattle.cq_model.specs.Write.{chosen, left_by};
-ghost use Rattle.cq_engine.specs.Narrow.{IsNarrowAt};
+ghost use Rattle.cq_model.specs.Width.{IsNarrowIn};
 ghost use Rattle.cq_engine.specs.Views.{SameRows};
 
-use crate::condition::keeps;
+use cq_eval::keeps;
 use cq_model::Cond;
 use cq_values::{ColumnDef, Row, Seq, Text};
 use std::alloc::{AllocError, Global};
@@ -79,7 +79,7 @@ impl Table {
 
     /// The rows that WHERE keeps, where they are stored.
     pub fn chosen(&self, alloc: Global, condition: &Option<Cond>) -> Result<Vec<&Row>, AllocError>
-        requires { AllByRecursion (IsNarrowAt condition.now) self.now.rows }
+        requires { AllByRecursion (IsNarrowIn condition.now) self.now.rows }
         ensures bag { IfOk result (λ rows. SameRows (map (λ r. r.now) rows.items) (chosen condition.now self.now.rows)) }
         ensures few { OnOk result (length self.now.rows < 2 ^ 64) }
     {
@@ -116,7 +116,7 @@ impl Table {
 
     /// Takes the rows that WHERE keeps away, and tells how many they were.
     pub fn remove(&mut self, condition: &Option<Cond>) -> usize
-        requires { AllByRecursion (IsNarrowAt condition.now) self.old.rows }
+        requires { AllByRecursion (IsNarrowIn condition.now) self.old.rows }
         ensures count { result ≡ length (chosen condition.now self.old.rows) }
         ensures left { self.new ≡ holding (left_by condition.now self.old.rows) self.old }
     {
@@ -128,7 +128,7 @@ impl Table {
 
 /// Takes the rows that WHERE keeps away, and leaves the others in their order. It takes no memory.
 fn take_away(rows: &mut Vec<Row>, condition: &Option<Cond>)
-    requires { AllByRecursion (IsNarrowAt condition.now) rows.old.items }
+    requires { AllByRecursion (IsNarrowIn condition.now) rows.old.items }
     ensures { rows.new.items ≡ left_by condition.now rows.old.items }
 {
     let mut left = 0;

@@ -5,7 +5,7 @@ ghost use Rattle.cq_values.specs.Texts.{is_text};
 ghost use Rattle.cq_model.specs.Write.{chosen};
 ghost use Rattle.cq_states.specs.Fitting.{AreFitting, FitsColumns};
 ghost use Rattle.cq_states.specs.State.{AreNumbered, TableOf, columns_in, rows_in, table_named};
-ghost use Rattle.cq_engine.specs.Narrow.{IsNarrowAt};
+ghost use Rattle.cq_model.specs.Width.{IsNarrowIn};
 ghost use Rattle.cq_engine.specs.Commands.{Inserts, IsChecked, IsThere, too_many, deleted_from};
 ghost use Rattle.cq_engine.specs.Taking.{AreSame, Moved};
 ghost use Rattle.cq_engine.specs.Views.{AreRight};
@@ -68,7 +68,7 @@ pub fn delete_in(
     requires fitting { AreFitting tables.old.items }
     requires right { (now : ℕ) × AreRight tables.old.items now views.old.items }
     requires there { IsThere number tables.old.items }
-    requires narrow { AllByRecursion (IsNarrowAt condition.now) (rows_in tables.old.items number) }
+    requires narrow { AllByRecursion (IsNarrowIn condition.now) (rows_in tables.old.items number) }
     ensures count { IfOk result (λ count. count ≡ length (chosen condition.now (rows_in tables.old.items number))) }
     ensures left { OnOk result (tables.new.items ≡ deleted_from number condition.now tables.old.items) }
     ensures moved { OnOk result (Moved epoch tables.new.items views.old.items views.new.items) }

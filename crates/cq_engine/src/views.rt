@@ -1,5 +1,5 @@
 //! Views under their names, and the writes that they take in.
-ghost use Rattle.std.specs.Prelude.{◌≡◌, ◌<◌, ◌==◌, IfOk, length, map, position};
+ghost use Rattle.std.specs.Prelude.{◌≡◌, ◌<◌, IfOk, length, map, position};
 ghost use Rattle.std.specs.List.{AllByRecursion, list_any, remove};
 ghost use Rattle.cq_values.specs.Texts.{is_text};
 ghost use Rattle.cq_binding.specs.Refusal.{is_used};

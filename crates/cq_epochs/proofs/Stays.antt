@@ -54,6 +54,13 @@ bound-fits s (statements.Select q) command e = found (source_named q.first.name 
     found : (o : Option Named) → option_map (bound_select q) o ≡ Some command → Fits s command
     found None e = absurd (cc)
     found (Some source) e = let is : bound_select q source ≡ command = cc in subst (Fits s) is tt
+bound-fits s (statements.Move name rows) command e = of_table s name command (λ t. commands.Move t.number rows) (λ t there. there) e
+bound-fits s (statements.Merge name) command e = of_table s name command (λ t. commands.Merge t.number) (λ t there. there) e
+bound-fits s (statements.Refresh view changes) command e = placed (view_place view s.views) e
+  where
+    placed : (o : Option ℕ) → option_map (λ place. commands.Refresh place changes) o ≡ Some command → Fits s command
+    placed None e = absurd (cc)
+    placed (Some place) e = let is : commands.Refresh place changes ≡ command = cc in subst (Fits s) is tt
 bound-fits s statement command e = absurd (cc e)
 
 -- the state in which nothing is there

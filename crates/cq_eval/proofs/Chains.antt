@@ -31,12 +31,12 @@ chain-end {X = X} join f xs i so_far whole h e = sym (ap (λ (left : List X). fo
 abbrev pub extend : (ℕ → ℕ → ℕ) → Extent → Extent → Extent
 extend need a b = extent_of (need a.size b.size) (max a.widest b.widest)
 
--- a chain is at least as wide as its front
+-- a chain is at least as wide as its prefix
 pub widest-front : (need : ℕ → ℕ → ℕ) (a : Extent) (xs : List Extent) → a.widest ≤ (fold (extend need) a xs).widest
 widest-front need a [] = omega arith
 widest-front need a (x ∷ xs) = omega (arith, widest-front need (extend need a x) xs)
 
--- Of a chain a front is worked out to v, and what is left completes the expression.
+-- Of a chain a prefix is worked out to v, and what is left completes the expression.
 pub record Evaluating (node : Expr → Expr → Expr) (row : Row) (left : List ExprTree) (v : Value) (whole : Expr) : Type 0 where
   pub front : Expr
   pub completes : fold node front (map expr_of left) ≡ whole
@@ -54,13 +54,13 @@ pub products : IsArithmetic Times times
 products = record { means = λ a b row. refl; exact = λ a b row exact. exact }
 
 module _ (node : Expr → Expr → Expr) (op : Value → Value → Value) (arithmetic : IsArithmetic node op) (row : Row) where
-  -- where a chain is exact, so is its front
+  -- where a chain is exact, so is its prefix
   front-exact : (front : Expr) (es : List Expr) → IsExactAt (fold node front es) row → IsExactAt front row
   front-exact front [] exact = exact
   front-exact front (e ∷ es) exact = (arithmetic.exact front e row (front-exact (node front e) es exact)).0
 
   module _ (whole : Expr) (items : List ExprTree) (i : ℕ) (part : ExprTree) (v : Value) (more : i < length items) (is : part ≡ get_or items i part) where
-    -- where the whole is exact, so is the next part, and what it makes of the front fits
+    -- where the whole is exact, so is the next part, and what it makes of the prefix fits
     pub within : IsExactAt whole row → Evaluating node row (drop i items) v whole → IsExactAt (expr_of part) row × ValueInRange (op v (eval (expr_of part) row))
     within exact e =
         let left = chain-next node expr_of items i part e.front whole more is e.completes in
@@ -75,7 +75,7 @@ module _ (node : Expr → Expr → Expr) (op : Value → Value → Value) (arith
       value = rw (e.value, is_value) (arithmetic.means e.front (expr_of part) row);
     }
 
-  -- at the end the front is the whole
+  -- at the end the prefix is the whole
   pub finish : (whole : Expr) (items : List ExprTree) (i : ℕ) (v : Value) → length items ≤ i → Evaluating node row (drop i items) v whole → v ≡ eval whole row
   finish whole items i v h e = e.value ∙ ap (λ x. eval x row) (chain-end node expr_of items i e.front whole h e.completes)
 

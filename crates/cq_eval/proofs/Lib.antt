@@ -1,8 +1,8 @@
 pub mod Likes
-pub mod Fronts
+pub mod Prefixes
 pub mod Trees
 pub mod Chains
 pub mod Conditions
-pub mod Bounds
+pub mod Limits
 pub mod Widths
 pub mod Exact

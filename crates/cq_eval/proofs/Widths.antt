@@ -21,7 +21,7 @@ fitting-None x e = grind (arith, e)
 pub fitting-wide : (x : Extent) → 2 ^ 127 ≤ x.widest → None ≡ fitting x
 fitting-wide x h = grind (arith, h)
 
--- In a chain of which a front is joined: what is left completes the whole extent, and nothing in the front is too wide.
+-- In a chain of which a prefix is joined: what is left completes the whole extent, and nothing in the prefix is too wide.
 pub record Sizing (need : ℕ → ℕ → ℕ) (z : ℕ → ℕ) (left : List ExprTree) (size : ℕ) (whole : Expr) : Type 0 where
   pub so_far : Extent
   pub extents : fold (extend need) so_far (map (λ t. width (expr_of t) z) left) ≡ width whole z
@@ -29,7 +29,7 @@ pub record Sizing (need : ℕ → ℕ → ℕ) (z : ℕ → ℕ) (left : List Ex
   pub fits : so_far.widest < 2 ^ 127
 
 module _ (need : ℕ → ℕ → ℕ) (z : ℕ → ℕ) (items : List ExprTree) (i : ℕ) (part : ExprTree) (size : ℕ) (whole : Expr) (more : i < length items) (is : part ≡ get_or items i part) where
-  -- the next part, and what it makes of the front, are on the way to the whole
+  -- the next part, and what it makes of the prefix, are on the way to the whole
   pub size-within : Sizing need z (drop i items) size whole → ((width (expr_of part) z).widest ≤ (width whole z).widest) × (need size (width (expr_of part) z).size ≤ (width whole z).widest)
   size-within j =
       let e = ap {B = ℕ} (λ (x : Extent). x.widest) (chain-next (extend need) (λ t. width (expr_of t) z) items i part j.so_far (width whole z) more is j.extents) in

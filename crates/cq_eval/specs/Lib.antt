@@ -1,3 +1,3 @@
 pub mod Choices
-pub mod Front
+pub mod PatternPrefix
 pub mod Laws

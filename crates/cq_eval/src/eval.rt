@@ -5,7 +5,7 @@ ghost use Rattle.cq_values.specs.Value.{column};
 ghost use Rattle.cq_model.specs.Eval.{eval, extracted, negated, plus, times};
 ghost use Rattle.cq_model.specs.Exact.{IsExactAt, ValueInRange};
 ghost use Rattle.cq_model.specs.Trees.{expr_of};
-ghost use Rattle.cq_eval.specs.Laws.{BoundHolds, BoundHoldsIn, NarrowIsExact, NarrowIsExactIn};
+ghost use Rattle.cq_eval.specs.Laws.{LimitHolds, LimitHoldsIn, NarrowIsExact, NarrowIsExactIn};
 
 use cq_model::{Expr, ExprTree};
 use cq_values::{DayPart, Lent, Value};
@@ -100,10 +100,10 @@ fn extract<'a>(part: DayPart, value: &Lent<'_>) -> Lent<'a>
     }
 }
 
-/// The bounds of the columns bound each value of an expression and of a condition.
-pub fn bound_holds()
-    ensures expressions { BoundHolds }
-    ensures conditions { BoundHoldsIn }
+/// The limits of the columns limit each value of an expression and of a condition.
+pub fn limit_holds()
+    ensures expressions { LimitHolds }
+    ensures conditions { LimitHoldsIn }
 {}
 
 /// In a row where nothing is too wide, each exact result of arithmetic fits.

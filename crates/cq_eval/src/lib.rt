@@ -2,11 +2,15 @@
 #![tactic(auto)]
 
 mod eval;
+mod keeping;
 mod pattern;
+mod rows;
 mod truth;
 mod width;
 
-pub use eval::{bound_holds, eval_row, lend_column, narrow_is_exact};
+pub use eval::{eval_row, lend_column, limit_holds, narrow_is_exact};
+pub use keeping::keeps;
 pub use pattern::{like, like_decides};
+pub use rows::{items_of, key_of};
 pub use truth::{compare, holds_row};
 pub use width::{fits, width_of};

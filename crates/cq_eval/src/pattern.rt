@@ -1,13 +1,13 @@
 //! LIKE: patterns of texts.
 ghost use Rattle.std.specs.Prelude.{◌∷◌, ◌≡◌, MatchOption, []};
 ghost use Rattle.std.specs.Str.{chars};
-ghost use Rattle.cq_eval.specs.Front.{front_of, seen};
+ghost use Rattle.cq_eval.specs.PatternPrefix.{prefix_match, seen};
 ghost use Rattle.cq_eval.specs.Laws.{LikeDecides};
 ghost use Rattle.cq_model.specs.Like.{fits_some_end, like};
 
 /// What a text begins with, where the characters of a pattern before its first `%` are matched one by one.
 #[derive(Clone, Copy)]
-enum Front<'a> {
+enum PrefixMatch<'a> {
     Misfit,
     Whole,
     /// What is left of the pattern and of the text.
@@ -16,14 +16,14 @@ enum Front<'a> {
 
 /// Whether the text fits the pattern: `%` stands for any characters and `_` for one. It takes no memory, and at most as
 /// many steps as the text's length times the pattern's.
-#[tactic(auto, using(crate::proofs::Fronts::like_front))]
+#[tactic(auto, using(crate::proofs::Prefixes::like_prefix))]
 pub fn like(pattern: &str, text: &str) -> bool
     ensures { result ≡ like (chars pattern.now) (chars text.now) }
 {
-    match match_front(pattern, text) {
-        Front::Misfit => false,
-        Front::Whole => true,
-        Front::Open(signs, rest) => some_end_fits(signs, rest),
+    match match_prefix(pattern, text) {
+        PrefixMatch::Misfit => false,
+        PrefixMatch::Whole => true,
+        PrefixMatch::Open(signs, rest) => some_end_fits(signs, rest),
     }
 }
 
@@ -35,13 +35,13 @@ fn some_end_fits(pattern: &str, text: &str) -> bool
         if pattern.is_empty() {
             return true;
         }
-        match match_front(pattern, text) {
-            Front::Whole => return true,
-            Front::Open(signs, rest) => {
+        match match_prefix(pattern, text) {
+            PrefixMatch::Whole => return true,
+            PrefixMatch::Open(signs, rest) => {
                 pattern = signs;
                 text = rest;
             }
-            Front::Misfit => match first_char(text) {
+            PrefixMatch::Misfit => match first_char(text) {
                 Some((_, rest)) => text = rest,
                 None => return false,
             },
@@ -49,25 +49,25 @@ fn some_end_fits(pattern: &str, text: &str) -> bool
     }
 }
 
-fn match_front<'a>(pattern: &'a str, text: &'a str) -> Front<'a>
-    ensures { seen result ≡ front_of (chars pattern.now) (chars text.now) }
+fn match_prefix<'a>(pattern: &'a str, text: &'a str) -> PrefixMatch<'a>
+    ensures { seen result ≡ prefix_match (chars pattern.now) (chars text.now) }
 {
     let (mut pattern, mut text) = (pattern, text);
     while let Some((sign, signs)) = first_char(pattern) {
         if sign == '%' {
-            return Front::Open(signs, text);
+            return PrefixMatch::Open(signs, text);
         }
         match first_char(text) {
             Some((letter, rest)) if sign == '_' || letter == sign => {
                 pattern = signs;
                 text = rest;
             }
-            _ => return Front::Misfit,
+            _ => return PrefixMatch::Misfit,
         }
     }
     match first_char(text) {
-        Some(_) => Front::Misfit,
-        None => Front::Whole,
+        Some(_) => PrefixMatch::Misfit,
+        None => PrefixMatch::Whole,
     }
 }
 

@@ -1,6 +1,5 @@
 //! The truth of a condition in a row.
 ghost use Rattle.std.specs.Prelude.{◌≡◌, map};
-ghost use Rattle.std.specs.Str.{chars};
 ghost use Rattle.cq_values.specs.Lent.{owned};
 ghost use Rattle.cq_values.specs.Truth.{truth_of};
 ghost use Rattle.cq_values.specs.Comparison.{compared, passes};

@@ -1,26 +1,23 @@
 //! The size that the value of an expression never exceeds while the columns keep theirs, and what is too wide on the way.
-ghost use Rattle.std.specs.Prelude.{None, Some, if◌then◌else◌, map, nat_lt, ◌^◌, ◌≡◌};
+ghost use Rattle.std.specs.Prelude.{None, Some, if◌then◌else◌, map, nat_lt, ◌≡◌};
 ghost use Rattle.cq_model.specs.Trees.{cond_of, expr_of};
-ghost use Rattle.cq_model.specs.Width.{bound, bounds_of, fitting, part_limit, value_size, widest, widest_bound, widest_of};
+ghost use Rattle.cq_model.specs.Width.{extent_limit, limits_of, fitting, number_limit, part_limit, value_size, widest, widest_limit, widest_of};
 
-use cq_model::{Cond, CondTree, Expr, ExprTree};
+use cq_model::{Cond, CondTree, Expr, ExprTree, TOO_WIDE};
 use cq_values::{DayPart, Value};
-
-/// The least size that is too wide for a number that is written or worked out.
-const TOO_WIDE: u128 = 1 << 127;
 
 /// The size that the expression's value never exceeds, or None where a number written or worked out on the way may be too
 /// wide. That of a column alone is any size.
 ///
 /// The columns' values are of these sizes at most.
 pub fn width_of(expr: &Expr, sizes: &[u128]) -> Option<u128>
-    ensures { result ≡ fitting (bound expr.now sizes.now) }
+    ensures { result ≡ fitting (extent_limit expr.now sizes.now) }
 {
     tree_width(expr.tree(), sizes)
 }
 
 fn tree_width(tree: &ExprTree, sizes: &[u128]) -> Option<u128>
-    ensures { result ≡ fitting (bound (expr_of tree.now) sizes.now) }
+    ensures { result ≡ fitting (extent_limit (expr_of tree.now) sizes.now) }
 {
     match tree {
         ExprTree::Column(place) => Some(sizes.get(*place).copied().unwrap_or(0)),
@@ -49,13 +46,13 @@ fn tree_width(tree: &ExprTree, sizes: &[u128]) -> Option<u128>
 
 /// Whether no number written or worked out in the condition can be too wide. The columns' values are of these sizes at most.
 pub fn fits(cond: &Cond, sizes: &[u128]) -> bool
-    ensures { result ≡ nat_lt (widest_bound cond.now sizes.now) (2 ^ 127) }
+    ensures { result ≡ nat_lt (widest_limit cond.now sizes.now) number_limit }
 {
     tree_fits(cond.tree(), sizes)
 }
 
 fn tree_fits(tree: &CondTree, sizes: &[u128]) -> bool
-    ensures { result ≡ nat_lt (widest_bound (cond_of tree.now) sizes.now) (2 ^ 127) }
+    ensures { result ≡ nat_lt (widest_limit (cond_of tree.now) sizes.now) number_limit }
 {
     match tree {
         CondTree::Compare(_, a, b) => expr_fits(a, sizes) && expr_fits(b, sizes),
@@ -81,19 +78,19 @@ fn tree_fits(tree: &CondTree, sizes: &[u128]) -> bool
 }
 
 fn expr_fits(tree: &ExprTree, sizes: &[u128]) -> bool
-    ensures { result ≡ nat_lt (widest (bounds_of sizes.now) (expr_of tree.now)) (2 ^ 127) }
+    ensures { result ≡ nat_lt (widest (limits_of sizes.now) (expr_of tree.now)) number_limit }
 {
     tree_width(tree, sizes).is_some()
 }
 
 fn exprs_fit(trees: &[ExprTree], sizes: &[u128]) -> bool
-    ensures { result ≡ nat_lt (widest_of (bounds_of sizes.now) (map expr_of trees.now)) (2 ^ 127) }
+    ensures { result ≡ nat_lt (widest_of (limits_of sizes.now) (map expr_of trees.now)) number_limit }
 {
     trees.iter().all(|tree| expr_fits(tree, sizes))
 }
 
 fn fit(size: u128) -> Option<u128>
-    ensures { result ≡ (if nat_lt size (2 ^ 127) then Some size else None) }
+    ensures { result ≡ (if nat_lt size number_limit then Some size else None) }
 {
     if size < TOO_WIDE { Some(size) } else { None }
 }

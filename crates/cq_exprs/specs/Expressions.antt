@@ -1,7 +1,7 @@
 -- Expressions whose names become places.
-use Rattle.std.specs.Prelude.{◌≡◌, ◌<◌, ◌≤◌, ◌^◌, ℕ, true, Option, Some, None, option_map, Result, Ok, MatchResult, slice_index_or}
+use Rattle.std.specs.Prelude.{◌≡◌, ◌<◌, ◌≤◌, ℕ, true, Option, Some, None, option_map, Result, Ok, MatchResult, slice_index_or}
 use Rattle.cq_language.specs.declared.written.ColumnName.{ColumnName}
-use Rattle.cq_model.specs.Width.{width, widest_in}
+use Rattle.cq_model.specs.Width.{number_limit, widest_in, width}
 use Rattle.cq_language.specs.Written.{Written}
 use Rattle.cq_binding.specs.declared.fault.Fault.{Fault}
 use Rattle.cq_binding.specs.declared.typing.Typing.{Typing}
@@ -24,9 +24,9 @@ KeepSizes s sizes = (c : ColumnName) (i : ℕ) → column_at s c.name ≡ Some i
 
 -- over columns of these sizes nothing that is written or worked out is too wide, and a value is no larger than its typing says
 pub record IsNarrow (s : Scope) (w : Written) (t : Typing) (sizes : ℕ → ℕ) : Type 0 where
-  pub value : (width (bound_value s w) sizes).widest < 2 ^ 127
+  pub value : (width (bound_value s w) sizes).widest < number_limit
   pub size : (width (bound_value s w) sizes).size ≤ t.size
-  pub condition : widest_in (bound_condition s w) sizes < 2 ^ 127
+  pub condition : widest_in (bound_condition s w) sizes < number_limit
 
 -- what has no fault is narrow wherever the columns keep their sizes
 abbrev pub TypedIsNarrow : Type 0

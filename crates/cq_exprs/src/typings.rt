@@ -5,13 +5,8 @@ ghost use Rattle.cq_binding.specs.Kinds.{a_condition, added, agree, between_them
 ghost use Rattle.cq_binding.specs.declared.fault.Fault.TheVariants.{TypeMismatch};
 
 use cq_binding::{Fault, Kind, Typing};
+use cq_model::{MAX_TEXT, TOO_WIDE};
 use cq_values::{DayPart, Text, Ty};
-
-/// The least size that is too wide for a number that is written or worked out.
-const TOO_WIDE: u128 = 1 << 127;
-
-/// A text has at most so many bytes.
-const MAX_TEXT: usize = 4096;
 
 /// A condition.
 const A_CONDITION: Typing = Typing {

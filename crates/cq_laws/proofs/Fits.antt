@@ -18,7 +18,7 @@ use Rattle.cq_model.specs.declared.query.Aggregate.TheVariants.{CountAll, Count,
 use Rattle.cq_model.specs.Condition.{is_null}
 use Rattle.cq_model.specs.Eval.{eval}
 use Rattle.cq_model.specs.Group.{count_values, sum_values, aggregate, InRange, SumInRange}
-use Rattle.cq_model.specs.Sizes.{stored_size, told_size}
+use Rattle.cq_model.specs.Sizes.{told_size}
 use Rattle.cq_model.specs.Width.{value_size}
 use Rattle.cq_laws.specs.Sizes.{CountsOrAdds}
 use Rattle.cq_laws.proofs.Groups.{IsRowOf, row-to-test}
@@ -117,10 +117,6 @@ count-fits n m h few = omega (arith, ints, h.0, h.1, few)
 -- and so is a total that can be shown
 sum-fits : (n : ℤ) → InRange n → Fits (Number n) (2 ^ 127)
 sum-fits n h = omega (arith, ints, h.low, h.high)
-
--- a row of a table
-abbrev pub IsStored : Row → Type 0
-IsStored row = (i : ℕ) → Fits (column row i) stored_size
 
 module _ (rows : List Row) (few : length rows ≤ 2 ^ 96) where
   -- what is told fits its size

@@ -1,5 +1,5 @@
 -- What a group of rows gives (ISO 9075-2, 10.9), and how rows fall into groups (7.13).
-use Rattle.std.specs.Prelude.{ℕ, ◌^◌, ℤ, pos, neg_ℤ, ◌≤ℤ◌, ◌<ℤ◌, not, if◌then◌else◌, List, [], ◌∷◌, ◌++◌, map, filter, Option, Some, None}
+use Rattle.std.specs.Prelude.{ℕ, ℤ, pos, neg_ℤ, ◌≤ℤ◌, ◌<ℤ◌, not, if◌then◌else◌, List, [], ◌∷◌, ◌++◌, map, filter, Option, Some, None}
 use Rattle.std.specs.Ordering.{int_eq, is_gt}
 use Rattle.std.specs.List.{AllByRecursion}
 use Rattle.cq_values.specs.declared.value.Value.{Value}
@@ -12,6 +12,7 @@ use Rattle.cq_model.specs.declared.query.Aggregate.{Aggregate}
 use Rattle.cq_model.specs.declared.query.Aggregate.TheVariants.{CountAll, Count, Sum, Min, Max}
 use Rattle.cq_model.specs.Condition.{is_null}
 use Rattle.cq_model.specs.Eval.{eval}
+use Rattle.cq_model.specs.Width.{number_limit}
 
 -- what a value adds to a sum: NULL adds nothing
 abbrev pub addend : Value → ℤ
@@ -87,8 +88,8 @@ grouped (Some columns) aggregates xs = once_each (map (λ k. group_row aggregate
 
 -- a total that an answer can show: it fits 128 bits
 pub record InRange (n : ℤ) : Type 0 where
-  pub low : neg_ℤ (pos (2 ^ 127)) ≤ℤ n
-  pub high : n <ℤ pos (2 ^ 127)
+  pub low : neg_ℤ (pos number_limit) ≤ℤ n
+  pub high : n <ℤ pos number_limit
 
 -- a SUM's total over these rows can be shown
 abbrev pub SumInRange : Aggregate → Weighted → Type 0

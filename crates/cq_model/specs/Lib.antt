@@ -1,4 +1,5 @@
 pub mod Expr
+pub mod ExprNodes
 pub mod ExprCodes
 pub mod Trees
 pub mod Eval

@@ -1,4 +1,4 @@
--- How large the numbers in the columns of tables and of queries can be (docs/LANGUAGE.md, Width).
+-- How large texts can be, and the numbers in the columns of tables and of queries (docs/LANGUAGE.md, Width).
 use Rattle.std.specs.Prelude.{ℕ, ◌^◌, List, ◌++◌, map, slice_index_or, unwrap_or, []}
 use Rattle.cq_model.specs.declared.query.Aggregate.{Aggregate}
 use Rattle.cq_model.specs.declared.query.Aggregate.TheVariants.{CountAll, Count, Sum, Min, Max}
@@ -6,21 +6,29 @@ use Rattle.cq_model.specs.declared.query.Query.{Query}
 use Rattle.cq_model.specs.declared.query.Shape.{Shape}
 use Rattle.cq_model.specs.declared.query.Shape.TheVariants.{Plain, Grouped}
 use Rattle.cq_values.specs.declared.column.ColumnDef.{ColumnDef}
-use Rattle.cq_model.specs.Width.{width}
+use Rattle.cq_model.specs.Width.{number_limit, width}
 
 -- a stored number has 64 bits with a sign
 abbrev pub stored_size : ℕ
 stored_size = 2 ^ 63
 
+-- a text that is stored or written has at most so many bytes
+abbrev pub text_limit : ℕ
+text_limit = 4096
+
+-- a count is at most so large, as more rows than this have no place in memory
+abbrev pub count_size : ℕ
+count_size = 2 ^ 96
+
 -- the columns of a table
 abbrev pub stored_sizes : List ColumnDef → List ℕ
 stored_sizes columns = map (λ c. stored_size) columns
 
--- what is told of a group: a count is at most 2^96, and a total that is shown at most 2^127
+-- what is told of a group: a count, or a total that is shown
 abbrev pub told_size : Aggregate → ℕ
-told_size CountAll = 2 ^ 96
-told_size (Count e) = 2 ^ 96
-told_size (Sum e) = 2 ^ 127
+told_size CountAll = count_size
+told_size (Count e) = count_size
+told_size (Sum e) = number_limit
 told_size (Min e) = (width e (λ i. stored_size)).size
 told_size (Max e) = (width e (λ i. stored_size)).size
 

@@ -1,11 +1,16 @@
--- How large the values of an expression can be, at a row and while the columns keep bounds.
-use Rattle.std.specs.Prelude.{◌≤◌, ℕ, ◌+◌, ◌*◌, ◌^◌, if◌then◌else◌, nat_lt, max, nat_abs, Option, Some, None, List, map, fold, slice_index_or}
+-- How large the values of an expression can be, at a row and while the columns keep limits.
+use Rattle.std.specs.Prelude.{◌≤◌, ◌<◌, ℕ, ◌+◌, ◌*◌, ◌^◌, if◌then◌else◌, nat_lt, max, nat_abs, Option, Some, None, IfSome, List, map, fold, slice_index_or}
+use Rattle.std.specs.List.{AllByRecursion}
 use Rattle.cq_values.specs.declared.value.Value.{Value}
 use Rattle.cq_values.specs.declared.value.Value.TheVariants.{Number}
 use Rattle.cq_values.specs.Value.{Row, column}
 use Rattle.cq_values.specs.declared.day_part.DayPart.{DayPart}
 use Rattle.cq_values.specs.declared.day_part.DayPart.TheVariants as parts
 use Rattle.cq_model.specs.Expr.{Expr, Column, Literal, Negate, Plus, Times, Extract, Cond, Compare, IsNull, Between, In, Like, Not, And, Or}
+
+-- a number that is written or worked out stays below this size, so that it fits 127 bits and a sign
+abbrev pub number_limit : ℕ
+number_limit = 2 ^ 127
 
 -- a number's distance from zero, and zero for what is no number
 abbrev pub value_size : Value → ℕ
@@ -76,25 +81,37 @@ extent e row = width e (sizes_of row)
 abbrev pub widest_at : Cond → Row → ℕ
 widest_at c row = widest_in c (sizes_of row)
 
--- the bound of a column, and zero past the end
-abbrev pub bounds_of : List ℕ → ℕ → ℕ
-bounds_of columns i = slice_index_or columns i 0
+-- no number that is written or worked out on the way to an expression's value is too wide at a row
+abbrev pub IsNarrowAt : Expr → Row → Type 0
+IsNarrowAt e row = (extent e row).widest < number_limit
 
--- the extent that an expression never exceeds while the columns keep their bounds
-abbrev pub bound : Expr → List ℕ → Extent
-bound e columns = width e (bounds_of columns)
+-- nor on the way to the values of several expressions
+abbrev pub AreNarrowAt : List Expr → Row → Type 0
+AreNarrowAt es row = AllByRecursion (λ e. IsNarrowAt e row) es
 
--- the width that no number written or worked out in a condition exceeds while the columns keep their bounds
-abbrev pub widest_bound : Cond → List ℕ → ℕ
-widest_bound c columns = widest_in c (bounds_of columns)
+-- nor on the way to the truth of a condition, where there is one
+abbrev pub IsNarrowIn : Option Cond → Row → Type 0
+IsNarrowIn condition row = IfSome condition (λ c. widest_at c row < number_limit)
+
+-- the limit of a column, and zero past the end
+abbrev pub limits_of : List ℕ → ℕ → ℕ
+limits_of columns i = slice_index_or columns i 0
+
+-- the extent that an expression never exceeds while the columns keep their limits
+abbrev pub extent_limit : Expr → List ℕ → Extent
+extent_limit e columns = width e (limits_of columns)
+
+-- the width that no number written or worked out in a condition exceeds while the columns keep their limits
+abbrev pub widest_limit : Cond → List ℕ → ℕ
+widest_limit c columns = widest_in c (limits_of columns)
 
 -- the size of what has nothing too wide on the way to it
 abbrev pub fitting : Extent → Option ℕ
-fitting x = if nat_lt x.widest (2 ^ 127) then Some x.size else None
+fitting x = if nat_lt x.widest number_limit then Some x.size else None
 
--- each value of the row is within the bound of its column
-abbrev pub KeepsBounds : List ℕ → Row → Type 0
-KeepsBounds columns row = (i : ℕ) → sizes_of row i ≤ bounds_of columns i
+-- each value of the row is within the limit of its column
+abbrev pub KeepsLimits : List ℕ → Row → Type 0
+KeepsLimits columns row = (i : ℕ) → sizes_of row i ≤ limits_of columns i
 
 -- an extent is within another in size and in width
 pub record IsWithin (small large : Extent) : Type 0 where

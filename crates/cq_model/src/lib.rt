@@ -5,8 +5,10 @@
 
 mod assignment;
 mod expr;
+mod limits;
 mod query;
 
 pub use assignment::Assignment;
 pub use expr::{Cond, CondTree, Expr, ExprTree};
+pub use limits::{COUNT_SIZE, MAX_TEXT, STORED_SIZE, TOO_WIDE};
 pub use query::{Aggregate, Equality, Join, Order, Query, Shape, Source};

@@ -1,5 +1,5 @@
 -- Where a query meets a number, written or worked out, that does not fit 127 bits and a sign.
-use Rattle.std.specs.Prelude.{ℕ, ◌^◌, ◌≤◌, pos, ◌<ℤ◌, List, Option, Some, None, ◌⊎◌}
+use Rattle.std.specs.Prelude.{ℕ, ◌≤◌, pos, ◌<ℤ◌, List, Option, Some, None, ◌⊎◌}
 use Rattle.std.specs.List.{Any}
 use Rattle.cq_values.specs.Value.{Row}
 use Rattle.cq_bags.specs.Bag.{Weighted, weight_of}
@@ -14,17 +14,17 @@ use Rattle.cq_model.specs.declared.query.Source.TheVariants.{Table, View}
 use Rattle.cq_model.specs.Group.{grouped}
 use Rattle.cq_model.specs.Meaning.{Tables, joined_rows, shaped}
 use Rattle.cq_model.specs.Views.{tables_alone, with_views, sources_of}
-use Rattle.cq_model.specs.Width.{extent, widest_at}
+use Rattle.cq_model.specs.Width.{extent, number_limit, widest_at}
 use Rattle.cq_plain.specs.Joins.{all_joined}
 
 -- in this row some number is too wide that is written or worked out on the way to the expression's value
 abbrev pub IsWideAt : Expr → Row → Type 0
-IsWideAt e row = 2 ^ 127 ≤ (extent e row).widest
+IsWideAt e row = number_limit ≤ (extent e row).widest
 
 -- in this row some number written or worked out in the condition is too wide
 abbrev pub IsWideIn : Option Cond → Row → Type 0
 IsWideIn None row = ⊥
-IsWideIn (Some c) row = 2 ^ 127 ≤ widest_at c row
+IsWideIn (Some c) row = number_limit ≤ widest_at c row
 
 -- a row is there for which this holds
 abbrev pub AtSomeRow : (Row → Type 0) → Weighted → Type 0

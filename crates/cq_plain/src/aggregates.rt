@@ -7,6 +7,7 @@ ghost use Rattle.cq_plain.specs.FaultsOf.{IsAggregateFault};
 ghost use Rattle.cq_plain.specs.OfGroups.{known_values};
 ghost use Rattle.cq_plain.specs.Totals.{shown_total, total_of};
 ghost use Rattle.cq_plain.specs.Wide.{AtSomeRow, IsWideAt};
+ghost use Rattle.cq_model.specs.Width.{number_limit};
 
 use crate::evaluation::value_at;
 use crate::fault::PlainFault;
@@ -74,7 +75,7 @@ fn sum(values: &[Value]) -> Result<Value, PlainFault>
 fn add_value(total: &mut Total, value: &Value)
     requires { nat_abs total.old ≤ 2 ^ 249 }
     ensures sum { total.new ≡ total.old +ℤ addend value.now }
-    ensures small { nat_abs total.new ≤ nat_abs total.old + 2 ^ 127 }
+    ensures small { nat_abs total.new ≤ nat_abs total.old + number_limit }
 {
     if let Value::Number(n) = value {
         total.add(*n);

@@ -1,15 +1,13 @@
 //! Expressions and conditions in a row, once no number that is written or worked out on the way is too wide.
-ghost use Rattle.std.specs.Prelude.{◌^◌, ◌≡◌, ◌≤◌, IfErr, IfOk, map, nat_lt};
-ghost use Rattle.cq_values.specs.Truth.{is_true};
-ghost use Rattle.cq_model.specs.Condition.{holds};
+ghost use Rattle.std.specs.Prelude.{◌≡◌, IfErr, IfOk, map, nat_lt};
 ghost use Rattle.cq_model.specs.Eval.{eval};
 ghost use Rattle.cq_model.specs.Meaning.{keeps};
-ghost use Rattle.cq_model.specs.Width.{extent, value_size, widest_at};
+ghost use Rattle.cq_model.specs.Width.{extent, number_limit, value_size, widest_at};
 ghost use Rattle.cq_plain.specs.Faults.{Tells};
 ghost use Rattle.cq_plain.specs.Wide.{IsWideAt, IsWideIn};
 
 use crate::fault::PlainFault;
-use cq_eval::{eval_row, fits, holds_row, narrow_is_exact, width_of};
+use cq_eval::{eval_row, fits, keeps, narrow_is_exact, width_of};
 use cq_model::{Cond, Expr};
 use cq_values::Value;
 use std::alloc::{AllocError, Global};
@@ -27,36 +25,31 @@ pub(crate) fn value_at(alloc: Global, expr: &Expr, row: &[Value]) -> Result<Valu
 }
 
 /// Whether the condition keeps the row. Where there is none, each row is kept.
-pub(crate) fn keeps(alloc: Global, filter: &Option<Cond>, row: &[Value]) -> Result<bool, PlainFault>
+pub(crate) fn is_kept(
+    alloc: Global,
+    filter: &Option<Cond>,
+    row: &[Value],
+) -> Result<bool, PlainFault>
     ensures ok { IfOk result (λ kept. kept ≡ keeps filter.now row.now) }
     ensures fault { IfErr result (Tells (IsWideIn filter.now row.now) ⊥) }
 {
-    match filter {
-        Some(cond) => makes_true(alloc, cond, row),
-        None => Ok(true),
+    if let Some(cond) = filter {
+        if !is_cond_narrow(alloc, cond, row)? {
+            return Err(PlainFault::TooWide);
+        }
     }
-}
-
-fn makes_true(alloc: Global, cond: &Cond, row: &[Value]) -> Result<bool, PlainFault>
-    ensures ok { IfOk result (λ kept. kept ≡ is_true (holds cond.now row.now)) }
-    ensures fault { IfErr result (Tells (2 ^ 127 ≤ widest_at cond.now row.now) ⊥) }
-{
-    if !is_cond_narrow(alloc, cond, row)? {
-        return Err(PlainFault::TooWide);
-    }
-    narrow_is_exact();
-    Ok(holds_row(cond, row).is_true())
+    Ok(keeps(filter, row))
 }
 
 fn is_narrow(alloc: Global, expr: &Expr, row: &[Value]) -> Result<bool, AllocError>
-    ensures { IfOk result (λ narrow. narrow ≡ nat_lt (extent expr.now row.now).widest (2 ^ 127)) }
+    ensures { IfOk result (λ narrow. narrow ≡ nat_lt (extent expr.now row.now).widest number_limit) }
 {
     let sizes = sizes_of(alloc, row)?;
     Ok(width_of(expr, &sizes).is_some())
 }
 
 fn is_cond_narrow(alloc: Global, cond: &Cond, row: &[Value]) -> Result<bool, AllocError>
-    ensures { IfOk result (λ narrow. narrow ≡ nat_lt (widest_at cond.now row.now) (2 ^ 127)) }
+    ensures { IfOk result (λ narrow. narrow ≡ nat_lt (widest_at cond.now row.now) number_limit) }
 {
     let sizes = sizes_of(alloc, row)?;
     Ok(fits(cond, &sizes))

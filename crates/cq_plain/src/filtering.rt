@@ -5,7 +5,7 @@ ghost use Rattle.cq_model.specs.Meaning.{keeps};
 ghost use Rattle.cq_plain.specs.Faults.{Tells};
 ghost use Rattle.cq_plain.specs.Wide.{IsWideAmong};
 
-use crate::evaluation::keeps;
+use crate::evaluation::is_kept;
 use crate::fault::PlainFault;
 use cq_model::Cond;
 use cq_values::{Row, copy_row};
@@ -23,7 +23,7 @@ pub(crate) fn filtered(
     let mut kept = Vec::new(alloc);
     for row in rows {
         let values = row.as_slice();
-        if keeps(alloc, condition, values)? {
+        if is_kept(alloc, condition, values)? {
             kept.push(copy_row(alloc, values)?)?;
         }
     }

@@ -1,7 +1,7 @@
 //! GROUP BY, by looking through a list of keys.
 ghost use Rattle.std.specs.Prelude.{◌≡◌, IfErr, IfOk, OnOk, Some};
 ghost use Rattle.cq_bags.specs.Bag.{once_each};
-ghost use Rattle.cq_model.specs.Group.{group_row, key_of, keys_of, rows_of_key};
+ghost use Rattle.cq_model.specs.Group.{group_row, keys_of, rows_of_key};
 ghost use Rattle.cq_plain.specs.FaultsOf.{IsGroupFault, IsGroupsFault, IsKeyFault};
 ghost use Rattle.cq_plain.specs.OfGroups.{GroupInRange, GroupsInRange, KeyInRange, groups_of, row_of_key};
 ghost use Rattle.cq_plain.specs.Rows.{MakeUp};
@@ -9,9 +9,9 @@ ghost use Rattle.cq_plain.specs.Rows.{MakeUp};
 use crate::aggregates::aggregate;
 use crate::fault::PlainFault;
 use crate::repeats::firsts;
-use cq_eval::lend_column;
+use cq_eval::key_of;
 use cq_model::Aggregate;
-use cq_values::{Row, Seq, Value, copy_row};
+use cq_values::{Row, Seq, copy_row};
 use std::alloc::{AllocError, Global};
 
 /// A row for each group. Without GROUP BY all rows are one group, also where there is none.
@@ -116,14 +116,4 @@ fn rows_of_key(
         }
     }
     Ok(own)
-}
-
-fn key_of(alloc: Global, columns: &[usize], row: &[Value]) -> Result<Row, AllocError>
-    ensures { IfOk result (λ key. key ≡ key_of columns.now row.now) }
-{
-    let mut key = Row::new(alloc);
-    for column in columns {
-        key.push(lend_column(row, *column).to_value(alloc)?)?;
-    }
-    Ok(key)
 }

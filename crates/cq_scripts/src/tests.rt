@@ -1,6 +1,6 @@
-//! Runs of scripts that need more than a script: each beginning of one, limits handed in, sinks of the test.
-mod beginnings;
+//! Runs of scripts that need more than a script: each prefix of one, limits handed in, sinks of the test.
 mod full_tables;
+mod prefixes;
 mod sinks;
 
 use crate::test_sink::{Plan, TestSink};

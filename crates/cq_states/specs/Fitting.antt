@@ -9,12 +9,13 @@ use Rattle.cq_values.specs.declared.value.Value.TheVariants.{Null, Number, Day, 
 use Rattle.cq_values.specs.Value.{Row}
 use Rattle.cq_states.specs.Pointwise.{Pointwise}
 use Rattle.cq_states.specs.State.{TableOf}
+use Rattle.cq_model.specs.Sizes.{text_limit}
 
 -- a value of the column's type, a number of 64 bits or a text that is not too long; NULL but where NOT NULL stands
 abbrev pub FitsColumn : ColumnDef → Value → Type 0
 FitsColumn d (Number n) = (d.ty ≡ types.Integer) × FitsSigned w64 n
 FitsColumn d (Day n) = d.ty ≡ types.Date
-FitsColumn d (Text t) = (d.ty ≡ types.Text) × (length t ≤ 4096)
+FitsColumn d (Text t) = (d.ty ≡ types.Text) × (length t ≤ text_limit)
 FitsColumn d Null = d.not_null ≡ false
 
 -- a row of as many values as there are columns, each of which fits the column at its place
@@ -29,5 +30,5 @@ abbrev pub AreFitting : List TableOf → Type 0
 AreFitting tables = AllByRecursion IsFitting tables
 
 -- no table has more rows than it may
-abbrev pub AreBounded : ℕ → List TableOf → Type 0
-AreBounded max_rows tables = AllByRecursion (λ t. length t.rows ≤ max_rows) tables
+abbrev pub AreLimited : ℕ → List TableOf → Type 0
+AreLimited max_rows tables = AllByRecursion (λ t. length t.rows ≤ max_rows) tables

@@ -104,6 +104,9 @@ refusal-seen x (statements.DropView name) = rw (place-timeless name x.views) ref
 refusal-seen x (statements.Insert name rows) = rw (there-timeless name x.views) refl
 refusal-seen x (statements.Delete name condition) = rw (there-timeless name x.views) refl
 refusal-seen x (statements.Select q) = ap (λ (o : Option Named). first_fault (select_checks q o)) (source-timeless q.first.name x)
+refusal-seen x (statements.Move name rows) = rw (there-timeless name x.views) refl
+refusal-seen x (statements.Merge name) = rw (there-timeless name x.views) refl
+refusal-seen x (statements.Refresh view changes) = rw (place-timeless view x.views) refl
 refusal-seen x s = refl
 
 -- and names are resolved without one
@@ -115,6 +118,9 @@ bound-seen x (statements.DropView name) = ap (option_map commands.DropView) (pla
 bound-seen x (statements.Insert name rows) = refl
 bound-seen x (statements.Delete name condition) = refl
 bound-seen x (statements.Select q) = ap (option_map (bound_select q)) (source-timeless q.first.name x)
+bound-seen x (statements.Move name rows) = refl
+bound-seen x (statements.Merge name) = refl
+bound-seen x (statements.Refresh view changes) = ap (option_map (λ place. commands.Refresh place changes)) (place-timeless view x.views)
 bound-seen x s = refl
 
 pub refusal-alike : (x y : State) (s : Statement) → Alike x y → refusal x s ≡ refusal y s

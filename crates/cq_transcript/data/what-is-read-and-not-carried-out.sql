@@ -40,12 +40,6 @@ CREATE VIEW w AS SELECT k FROM t GROUP BY k ORDER BY k;
 CREATE VIEW w AS SELECT k FROM t GROUP BY k LIMIT 1;
 -- UPDATE
 UPDATE t SET a = a + 1, k = a WHERE k = 1;
--- MOVE
-MOVE t 1;
--- MERGE
-MERGE t;
--- REFRESH
-REFRESH v 1;
 -- nothing of it was done
 SELECT k, a FROM t;
 SELECT k, n FROM v;

@@ -10,16 +10,18 @@ use Rattle.cq_model.specs.Meaning.{keeps}
 use Rattle.cq_model.specs.Sizes.{stored_size}
 use Rattle.cq_kept.specs.Told.{ListsKeys}
 use Rattle.cq_model.specs.Width.{sizes_of}
-use Rattle.cq_laws.proofs.Fits.{FitBeside, IsStored, all-filter, all-map, row-of-bag}
+use Rattle.cq_laws.proofs.Fits.{FitBeside, all-filter, all-map, row-of-bag}
 use Rattle.cq_laws.proofs.Groups.{IsRowOf}
 use Rattle.cq_laws.proofs.Ranges.{all-at, all-from}
 use Rattle.cq_deltas.specs.Keyed.{group_at}
 use Rattle.cq_deltas.specs.Told.{counted_keys, group_rows}
 use Rattle.cq_views.specs.Query.{aggregates_of, key_columns}
 use Rattle.cq_views.specs.Small.{CanBeKept, StandsOnStored}
-use Rattle.cq_views.specs.View.{AreNarrowAt, KeptView, kept_rows}
+use Rattle.cq_model.specs.Width.{AreNarrowAt}
+use Rattle.cq_views.specs.View.{KeptView, kept_rows}
 use Rattle.cq_views.proofs.Sizes.{items-narrow}
 use Rattle.cq_views.proofs.Tellings.{occurs}
+use Rattle.cq_laws.specs.Sizes.{IsStored}
 
 -- a key's columns are of a row
 key-fits : (columns : List ℕ) (r : Row) → IsStored r → FitBeside (key_of columns r) (map (λ c. stored_size) columns)

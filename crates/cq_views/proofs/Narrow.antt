@@ -3,12 +3,11 @@ use Rattle.std.proofs.Common.{◌≡◌, pos, ◌<◌, ◌^◌, List, [], ◌∷
 use Rattle.std.specs.List.{AllByRecursion}
 use Rattle.cq_values.specs.declared.value.Value.TheVariants.{Number}
 use Rattle.cq_values.specs.Value.{Row}
-use Rattle.cq_laws.specs.Sizes.{IsSized}
+use Rattle.cq_laws.specs.Sizes.{IsStored}
 use Rattle.cq_model.specs.declared.query.Aggregate.{Aggregate}
 use Rattle.cq_model.specs.declared.query.Aggregate.TheVariants.{CountAll, Sum}
 use Rattle.cq_values.specs.declared.comparison.Comparison.{Comparison}
 use Rattle.cq_model.specs.Expr.{Cond, Compare, Column, Literal, Plus, Times}
-use Rattle.cq_model.specs.Sizes.{stored_size}
 use Rattle.cq_model.specs.Width.{widest_at}
 use Rattle.cq_deltas.specs.Additions.{IsNarrow}
 use Rattle.cq_model.specs.declared.query.Query.{Query}
@@ -19,15 +18,15 @@ use Rattle.cq_views.specs.View.{IsNarrowFor}
 module _ (r : Row) where
   -- the rows whose second column is not 9, with their number and their total
   pub totals-narrow : (query : Query) (c : Comparison) → query.filter ≡ Some (Compare c (Column 1) (Literal (Number (pos 9)))) → (aggregates_of query) ≡ CountAll ∷ Sum (Column 1) ∷ []
-      → IsSized (λ i. stored_size) r → IsNarrowFor query r
+      → IsStored r → IsNarrowFor query r
   totals-narrow query c filter aggregates h = record {
     filter = subst (λ (f : Option Cond). IfSome f (λ w. widest_at w r < 2 ^ 127)) (sym filter) (omega arith);
     aggregates = subst (λ (xs : List Aggregate). AllByRecursion (IsNarrow r) xs) (sym aggregates) (tt, (omega arith, tt));
   }
 
 -- so at each of several rows
-pub all-narrow : (query : Query) (rows : List Row) → ((r : Row) → IsSized (λ i. stored_size) r → IsNarrowFor query r)
-    → AllByRecursion (IsSized (λ i. stored_size)) rows → AllByRecursion (IsNarrowFor query) rows
+pub all-narrow : (query : Query) (rows : List Row) → ((r : Row) → IsStored r → IsNarrowFor query r)
+    → AllByRecursion IsStored rows → AllByRecursion (IsNarrowFor query) rows
 all-narrow query [] narrow small = tt
 all-narrow query (r ∷ rows) narrow small = (narrow r small.0, all-narrow query rows narrow small.1)
 

@@ -3,11 +3,11 @@ use Rattle.std.specs.Prelude.{◌≡◌, ◌≤◌, ◌<◌, ◌^◌, ℕ, true,
 use Rattle.std.specs.List.{AllByRecursion}
 use Rattle.cq_values.specs.Value.{Row}
 use Rattle.cq_bags.specs.Bag.{Weighted, once_each}
-use Rattle.cq_laws.specs.Sizes.{IsSized}
+use Rattle.cq_laws.specs.Sizes.{IsStored}
 use Rattle.cq_model.specs.Expr.{Expr}
 use Rattle.cq_model.specs.Meaning.{keeps}
 use Rattle.cq_model.specs.Sizes.{stored_size, told_size}
-use Rattle.cq_model.specs.Width.{widest}
+use Rattle.cq_model.specs.Width.{number_limit, widest}
 use Rattle.cq_deltas.specs.Additions.{AreTotals, IsSmall}
 use Rattle.cq_model.specs.declared.query.Query.{Query}
 use Rattle.cq_views.specs.Query.{IsGrouped, aggregates_of, key_columns}
@@ -15,7 +15,7 @@ use Rattle.cq_views.specs.View.{KeptView, Stands}
 
 -- over groups whose keys, so many, are stored numbers, an item works out nothing too wide; a count or a total may be any
 abbrev pub IsItemNarrow : ℕ → Expr → Type 0
-IsItemNarrow keys item = (sizes : ℕ → ℕ) → ((i : ℕ) → i < keys → sizes i ≤ stored_size) → widest sizes item < 2 ^ 127
+IsItemNarrow keys item = (sizes : ℕ → ℕ) → ((i : ℕ) → i < keys → sizes i ≤ stored_size) → widest sizes item < number_limit
 
 -- groups that counts and totals tell: COUNT and SUM alone, and not too many of them, and items of the keys or of one of these
 pub record CanBeKept (query : Query) : Type 0 where
@@ -31,7 +31,7 @@ group_sizes query = map (λ k. stored_size) (key_columns query) ++ map told_size
 -- the groups stand for rows of stored numbers
 pub record StandsOnStored (v : KeptView) : Type 0 where
   pub rows : List Row
-  pub stored : AllByRecursion (IsSized (λ i. stored_size)) rows
+  pub stored : AllByRecursion IsStored rows
   pub stands : Stands v (once_each rows)
 
 -- if WHERE keeps the row, it adds to no aggregate more than a number can be

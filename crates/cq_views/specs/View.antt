@@ -1,18 +1,17 @@
 -- A grouped view of one table as it is kept, and the rows that its groups stand for.
-use Rattle.std.specs.Prelude.{◌≡◌, ℕ, ◌<◌, ◌^◌, ℤ, List, ◌++◌, map, IfSome}
+use Rattle.std.specs.Prelude.{◌≡◌, ℕ, ℤ, List, ◌++◌, map}
 use Rattle.std.specs.List.{AllByRecursion}
 use Rattle.cq_values.specs.Value.{Row}
 use Rattle.cq_bags.specs.Bag.{Weighted, SameBag, IsBag, filtered}
-use Rattle.cq_model.specs.Expr.{Expr}
 use Rattle.cq_model.specs.declared.query.Query.{Query}
 use Rattle.cq_model.specs.declared.query.Source.TheVariants.{Table as FromTable}
 use Rattle.cq_kept.specs.Kept.{Groups, LastStands}
 use Rattle.cq_model.specs.Meaning.{Tables, keeps}
-use Rattle.cq_model.specs.Width.{extent, widest_at}
+use Rattle.cq_model.specs.Width.{IsNarrowIn}
 use Rattle.cq_deltas.specs.declared.change.Addition.{Addition}
 use Rattle.cq_deltas.specs.Additions.{IsNarrow, additions}
 use Rattle.cq_deltas.specs.Keyed.{Table, group_at}
-use Rattle.cq_views.specs.Query.{aggregates_of, groups_of, groups_shape, key_columns, table_of}
+use Rattle.cq_views.specs.Query.{aggregates_of, groups_shape, key_columns, table_of}
 
 -- a view as it is kept: its query, its epoch, the epoch it was built at, and its groups by their keys
 pub record KeptView : Type 0 where
@@ -44,12 +43,8 @@ change_of query dxs = additions (key_columns query) (aggregates_of query) (kept_
 
 -- no value in WHERE, or on the way to an aggregate's argument, is too wide at the row
 pub record IsNarrowFor (query : Query) (row : Row) : Type 0 where
-  pub filter : IfSome query.filter (λ c. widest_at c row < 2 ^ 127)
+  pub filter : IsNarrowIn query.filter row
   pub aggregates : AllByRecursion (IsNarrow row) (aggregates_of query)
-
--- no number that is written or worked out on the way to an item is too wide at a group's row
-abbrev pub AreNarrowAt : List Expr → Row → Type 0
-AreNarrowAt items group = AllByRecursion (λ e. (extent e group).widest < 2 ^ 127) items
 
 -- nothing of a view has changed: each key has its group, and they stand for what they stood for
 pub record SameView (old new : KeptView) : Type 0 where

@@ -1,25 +1,16 @@
 //! How large the numbers in the columns of a view can be.
 ghost use Rattle.std.specs.List.{AllByRecursion};
-ghost use Rattle.std.specs.Prelude.{◌<◌, ◌^◌, ◌≡◌, IfOk, map};
+ghost use Rattle.std.specs.Prelude.{◌<◌, ◌≡◌, IfOk, map};
 ghost use Rattle.cq_deltas.specs.Additions.{AreTotals, IsTotal};
 ghost use Rattle.cq_model.specs.Sizes.{column_sizes, told_size};
-ghost use Rattle.cq_model.specs.Width.{bound};
+ghost use Rattle.cq_model.specs.Width.{extent_limit, number_limit};
 ghost use Rattle.cq_views.specs.Query.{aggregates_of};
 ghost use Rattle.cq_views.specs.Small.{CanBeKept, group_sizes};
 
 use crate::query::{aggregates_of, key_columns};
 use cq_eval::width_of;
-use cq_model::{Aggregate, Expr, Query};
+use cq_model::{Aggregate, COUNT_SIZE, Expr, Query, STORED_SIZE, TOO_WIDE};
 use std::alloc::{AllocError, Global};
-
-/// A stored number has 64 bits with a sign.
-const STORED_SIZE: u128 = 1 << 63;
-
-/// A count is never larger.
-const COUNT_SIZE: u128 = 1 << 96;
-
-/// A total that is shown is never larger.
-const TOTAL_SIZE: u128 = 1 << 127;
 
 /// How large the numbers in each column of a view of the query can be.
 pub(crate) fn column_sizes(alloc: Global, query: &Query) -> Result<Vec<u128>, AllocError>
@@ -44,8 +35,8 @@ fn group_sizes(alloc: Global, query: &Query) -> Result<Vec<u128>, AllocError>
 
 /// How large the items can be over a group's row with numbers of these sizes.
 fn item_sizes(alloc: Global, items: &[Expr], group: &[u128]) -> Result<Vec<u128>, AllocError>
-    requires { AllByRecursion (λ e. (bound e group.now).widest < 2 ^ 127) items.now }
-    ensures { IfOk result (λ v. v.items ≡ map (λ e. (bound e group.now).size) items.now) }
+    requires { AllByRecursion (λ e. (extent_limit e group.now).widest < number_limit) items.now }
+    ensures { IfOk result (λ v. v.items ≡ map (λ e. (extent_limit e group.now).size) items.now) }
 {
     let mut sizes = Vec::new(alloc);
     for item in items {
@@ -56,8 +47,8 @@ fn item_sizes(alloc: Global, items: &[Expr], group: &[u128]) -> Result<Vec<u128>
 
 /// How large an item can be over a group's row with numbers of these sizes.
 fn item_size(item: &Expr, group: &[u128]) -> u128
-    requires { (bound item.now group.now).widest < 2 ^ 127 }
-    ensures { result ≡ (bound item.now group.now).size }
+    requires { (extent_limit item.now group.now).widest < number_limit }
+    ensures { result ≡ (extent_limit item.now group.now).size }
 {
     match width_of(item, group) {
         Some(size) => size,
@@ -72,6 +63,6 @@ fn told_size(aggregate: &Aggregate) -> u128
 {
     match aggregate {
         Aggregate::CountAll | Aggregate::Count(_) => COUNT_SIZE,
-        Aggregate::Sum(_) | Aggregate::Min(_) | Aggregate::Max(_) => TOTAL_SIZE,
+        Aggregate::Sum(_) | Aggregate::Min(_) | Aggregate::Max(_) => TOO_WIDE,
     }
 }

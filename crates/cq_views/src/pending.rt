@@ -4,8 +4,9 @@ ghost use Rattle.std.specs.Prelude.{◌++◌, ◌∷◌, ◌≡◌, IfOk, OnErr,
 ghost use Rattle.cq_views.specs.Small.{IsSmallFor};
 ghost use Rattle.cq_views.specs.View.{IsNarrowFor, change_of, changed};
 
-use crate::query::{aggregates_of, keeps, key_columns};
+use crate::query::{aggregates_of, key_columns};
 use cq_deltas::GroupChange;
+use cq_eval::keeps;
 use cq_model::Query;
 use cq_values::{Row, Value};
 use std::alloc::{AllocError, Global};
@@ -66,7 +67,7 @@ impl Pending {
         ensures small { OnOk result (IsSmallFor query.now row.now) }
         ensures err { OnErr result (self.new ≡ self.old) }
     {
-        if !keeps(query, row) {
+        if !keeps(&query.filter, row) {
             return Ok(());
         }
         let (keys, aggregates) = (key_columns(query), aggregates_of(query));

@@ -5,7 +5,6 @@ ghost use Rattle.cq_bags.specs.Bag.{once_each};
 ghost use Rattle.cq_deltas.specs.declared.fault.ToldFault.TheVariants.{SumOutOfRange};
 ghost use Rattle.cq_deltas.specs.Keyed.{HasKeys, HoldsFor};
 ghost use Rattle.cq_model.specs.Sizes.{column_sizes};
-ghost use Rattle.cq_values.specs.Value.{Row as Values};
 ghost use Rattle.cq_views.specs.Small.{CanBeKept, IsSmallFor, StandsOnStored};
 ghost use Rattle.cq_views.specs.Query.{reads, table_of};
 ghost use Rattle.cq_views.specs.Told.{AreRowsOf, IsNotShown, IsShown};

@@ -2,7 +2,7 @@
 ghost use Rattle.std.specs.List.{AllByRecursion};
 ghost use Rattle.std.specs.Prelude.{◌≡◌, ◌++◌, ◌∷◌, ◌<◌, ◌≤◌, IfOk, List, [], length, nat_abs, pos};
 ghost use Rattle.cq_bags.specs.Bag.{SameBag, once_each};
-ghost use Rattle.cq_laws.specs.Sizes.{IsSized};
+ghost use Rattle.cq_laws.specs.Sizes.{IsStored};
 ghost use Rattle.cq_model.specs.Expr.{Column, Compare, Literal, Plus, Times};
 ghost use Rattle.cq_model.specs.Sizes.{stored_size};
 ghost use Rattle.cq_model.specs.Width.{value_size};
@@ -44,7 +44,7 @@ fn twice_and_one(alloc: Global) -> Result<Expr, AllocError>
 /// Each key, what is worked out from it, and the total of its numbers, of the rows whose number is not 9.
 fn totals(alloc: Global) -> Result<Query, AllocError>
     ensures can_be_kept { IfOk result CanBeKept }
-    ensures narrow { IfOk result (λ q. (r : Values) → IsSized (λ i. stored_size) r → IsNarrowFor q r) }
+    ensures narrow { IfOk result (λ q. (r : Values) → IsStored r → IsNarrowFor q r) }
 {
     Ok(Query {
         first: Source::Table(7),
@@ -69,7 +69,7 @@ fn totals(alloc: Global) -> Result<Query, AllocError>
 
 fn row(alloc: Global, key: Value, number: i64) -> Result<Row, AllocError>
     requires { value_size key ≤ stored_size }
-    ensures { IfOk result (IsSized (λ i. stored_size)) }
+    ensures { IfOk result IsStored }
 {
     copy_row(alloc, &[key, Value::Number(i128::from(number))])
 }
@@ -81,8 +81,8 @@ fn view_after(
     changed: &Row,
     weight: i128,
 ) -> Result<ViewState, AllocError>
-    requires table { AllByRecursion (IsSized (λ i. stored_size)) table.now }
-    requires changed { IsSized (λ i. stored_size) changed.now }
+    requires table { AllByRecursion IsStored table.now }
+    requires changed { IsStored changed.now }
     requires once { nat_abs weight ≤ 1 }
     ensures { IfOk result (λ v. (rows : List Values) → SameBag (once_each rows) (once_each table.now ++ (changed.now, weight) ∷ []) → Stands v (once_each rows)) }
 {
@@ -94,8 +94,8 @@ fn view_after(
 
 /// What the view tells once a row has come.
 fn told_with(alloc: Global, table: &[Row], row: &Row) -> Result<Vec<Row>, ToldFault>
-    requires table { AllByRecursion (IsSized (λ i. stored_size)) table.now }
-    requires row { IsSized (λ i. stored_size) row.now }
+    requires table { AllByRecursion IsStored table.now }
+    requires row { IsStored row.now }
 {
     let view = view_after(alloc, table, row, 1)?;
     view.rows(alloc)
@@ -103,7 +103,7 @@ fn told_with(alloc: Global, table: &[Row], row: &Row) -> Result<Vec<Row>, ToldFa
 
 /// What the view tells once the first row of its table has gone.
 fn told_without_first(alloc: Global, table: &[Row]) -> Result<Vec<Row>, ToldFault>
-    requires table { AllByRecursion (IsSized (λ i. stored_size)) table.now }
+    requires table { AllByRecursion IsStored table.now }
     requires some { 0 < length table.now }
 {
     let view = view_after(alloc, table, &table[0], -1)?;

@@ -1,4 +1,4 @@
-use Rattle.std.proofs.Common.{◌≡◌, sym, ◌∙◌, subst}
+use Rattle.std.proofs.Common.{sym, subst}
 use Rattle.cq_bags.specs.Bag.{once_each}
 use Rattle.cq_states.specs.State.{rows_in}
 use Rattle.cq_model.specs.declared.query.Query.{Query}

@@ -3,7 +3,7 @@ use Rattle.std.specs.Prelude.{IfOk}
 use Rattle.std.specs.List.{AllByRecursion}
 use Rattle.cq_values.specs.Value.{Row}
 use Rattle.cq_model.specs.Write.{chosen, left_by}
-use Rattle.cq_engine.specs.Narrow.{IsNarrowAt}
+use Rattle.cq_model.specs.Width.{IsNarrowIn}
 use Rattle.cq_engine.proofs.Rows.{rows_numbered}
 use Rattle.cq_engine.proofs.Written.{stand_at, written-moved, written-number}
 use Rattle.cq_engine.proofs.tables.delete_in.Goals as goal
@@ -19,7 +19,7 @@ delete_from-requires-clause-narrow c =
     let t = c.index_mut.result.now in
     let at = rw c.deref.ensures.value at c.place_numbered-place.ensures in
     let rows = rows_numbered c.args.tables.now.items c.place_numbered-place.result t c.requires.numbered.0 c.args.number c.requires.numbered.1 at.within c.index_mut.ensures.value (at.numbered t) in
-    subst (λ (rs : List Row). AllByRecursion (IsNarrowAt c.args.condition.now) rs) rows c.requires.narrow
+    subst (λ (rs : List Row). AllByRecursion (IsNarrowIn c.args.condition.now) rs) rows c.requires.narrow
 
 pub returns-clause-count : goal.returns-clause-count
 returns-clause-count c =

@@ -1,4 +1,4 @@
-use Rattle.std.proofs.Common.{◌≡◌, ◌∙◌, ◌<◌, map, ap, rules, arith, min, length, refl}
+use Rattle.std.proofs.Common.{◌≡◌, ◌∙◌, ◌<◌, map, ap, rules, arith, min, length}
 use Rattle.std.specs.List.{list_any}
 use denote.Param.Weighed.{most}
 use Rattle.cq_language.proofs.written.ExprNode.TheLaws.{the_size}

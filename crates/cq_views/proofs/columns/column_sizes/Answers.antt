@@ -1,5 +1,4 @@
-use Rattle.std.proofs.Common.{◌≡◌, ◌∙◌, sym, ap}
-use Rattle.cq_model.specs.Sizes.{column_sizes}
+use Rattle.std.proofs.Common.{◌≡◌, ◌∙◌}
 use Rattle.cq_views.specs.Small.{group_sizes}
 use Rattle.cq_views.proofs.Sizes.{sizes-narrow}
 use Rattle.cq_views.proofs.columns.column_sizes.Goals as goal

@@ -1,12 +1,11 @@
 use Rattle.std.proofs.Common.{[], ◌∷◌, ◌++◌}
-use Rattle.cq_laws.specs.Sizes.{IsSized}
-use Rattle.cq_model.specs.Sizes.{stored_size}
+use Rattle.cq_laws.specs.Sizes.{IsStored}
 use Rattle.cq_views.proofs.Comings.{all-and-one, row-comes}
 use Rattle.cq_calls.proofs.tests.views.told_with.Goals as goal
 
 pub rows-requires : goal.rows-requires
 rows-requires c = record {
   rows = c.args.table.now ++ c.args.row.now ∷ [];
-  stored = all-and-one (IsSized (λ i. stored_size)) c.args.table.now c.args.row.now c.requires.table c.requires.row;
+  stored = all-and-one IsStored c.args.table.now c.args.row.now c.requires.table c.requires.row;
   stands = c.in_ok-view.ensures (c.args.table.now ++ c.args.row.now ∷ []) (row-comes c.args.table.now c.args.row.now);
 }

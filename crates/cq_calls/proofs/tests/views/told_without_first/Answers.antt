@@ -1,12 +1,11 @@
 use Rattle.std.proofs.Common.{drop}
-use Rattle.cq_laws.specs.Sizes.{IsSized}
-use Rattle.cq_model.specs.Sizes.{stored_size}
+use Rattle.cq_laws.specs.Sizes.{IsStored}
 use Rattle.cq_views.proofs.Comings.{all-behind, without-first}
 use Rattle.cq_calls.proofs.tests.views.told_without_first.Goals as goal
 
 pub rows-requires : goal.rows-requires
 rows-requires c = record {
   rows = drop 1 c.args.table.now;
-  stored = all-behind (IsSized (λ i. stored_size)) c.args.table.now c.requires.table;
+  stored = all-behind IsStored c.args.table.now c.requires.table;
   stands = c.in_ok-view.ensures (drop 1 c.args.table.now) (without-first c.args.table.now c.index-table-0.result c.requires.some c.index-table-0.is);
 }

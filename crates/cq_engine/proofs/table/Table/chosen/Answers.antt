@@ -7,7 +7,7 @@ use Rattle.cq_bags.proofs.Canonicals.{length-bag_of}
 use Rattle.cq_model.specs.Meaning.{keeps}
 use Rattle.std.specs.List.{AllByRecursion}
 use Rattle.cq_states.specs.State.{TableOf}
-use Rattle.cq_engine.specs.Narrow.{IsNarrowAt}
+use Rattle.cq_model.specs.Width.{IsNarrowIn}
 use Rattle.cq_engine.proofs.Results.{bag_of_kept}
 use Rattle.cq_engine.proofs.Stored.{all_at, all_of_rows}
 use Rattle.cq_engine.proofs.table.Table.chosen.Goals as goal
@@ -26,6 +26,6 @@ returns-clause-few c =
 
 pub keeps-requires : goal.keeps-requires
 keeps-requires c =
-    let narrow = all_of_rows (IsNarrowAt c.args.condition.now) c.self.inside.rows.items (subst (λ (t : TableOf). AllByRecursion (IsNarrowAt c.args.condition.now) t.rows) (sym c.self.view_is) c.requires) in
-    let there = all_at (IsNarrowAt c.args.condition.now) c.deref-row-items.result.now (rw c.deref-row-items.ensures.value narrow) c.loop-row.row-index c.row-item.result c.loop-row-test.true c.row-item.is in
+    let narrow = all_of_rows (IsNarrowIn c.args.condition.now) c.self.inside.rows.items (subst (λ (t : TableOf). AllByRecursion (IsNarrowIn c.args.condition.now) t.rows) (sym c.self.view_is) c.requires) in
+    let there = all_at (IsNarrowIn c.args.condition.now) c.deref-row-items.result.now (rw c.deref-row-items.ensures.value narrow) c.loop-row.row-index c.row-item.result c.loop-row-test.true c.row-item.is in
     rw c.as_slice.ensures there

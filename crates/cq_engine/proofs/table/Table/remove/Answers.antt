@@ -3,13 +3,13 @@ use Rattle.std.specs.List.{AllByRecursion}
 use Rattle.cq_bags.specs.Canonical.{bag_of}
 use Rattle.cq_model.specs.Meaning.{keeps}
 use Rattle.cq_states.specs.State.{TableOf}
-use Rattle.cq_engine.specs.Narrow.{IsNarrowAt}
+use Rattle.cq_model.specs.Width.{IsNarrowIn}
 use Rattle.cq_engine.proofs.Results.{taken_as_stored, taken_count}
 use Rattle.cq_engine.proofs.Stored.{all_of_rows}
 use Rattle.cq_engine.proofs.table.Table.remove.Goals as goal
 
 pub take_away-requires : goal.take_away-requires
-take_away-requires c = all_of_rows (IsNarrowAt c.args.condition.now) c.self.inside.rows.items (subst (λ (t : TableOf). AllByRecursion (IsNarrowAt c.args.condition.now) t.rows) (sym c.self.view_is) c.requires)
+take_away-requires c = all_of_rows (IsNarrowIn c.args.condition.now) c.self.inside.rows.items (subst (λ (t : TableOf). AllByRecursion (IsNarrowIn c.args.condition.now) t.rows) (sym c.self.view_is) c.requires)
 
 pub overflow_sub-result : goal.overflow_sub-result
 overflow_sub-result c =
