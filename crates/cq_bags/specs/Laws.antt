@@ -1,11 +1,19 @@
 -- What holds of bags and of the operators on them. Each statement is the contract of a function in laws.rt.
-use Rattle.std.specs.Prelude.{◌≡◌, ℤ, pos, ◌*ℤ◌, int_lt, Bool, if◌then◌else◌, length, filter, ◌++◌}
+use Rattle.std.specs.Prelude.{◌≡◌, ℕ, ℤ, pos, ◌*ℤ◌, int_lt, Bool, if◌then◌else◌, List, length, filter, ◌++◌, Option}
 use Rattle.std.specs.List.{sum_by}
 use Rattle.cq_values.specs.Value.{Row}
 use Rattle.cq_values.specs.Order.{same_row}
 use Rattle.cq_bags.specs.Bag.{Weighted, weight_of, SameBag, IsBag, negative, difference, filtered, projected, joined, distinct, total}
 use Rattle.cq_bags.specs.Join.{join_change, HasWidth}
 use Rattle.cq_bags.specs.Size.{size, pairs_met, IsClean, LooksUp}
+use Rattle.cq_bags.specs.Listing.{IsListing}
+use Rattle.cq_bags.specs.declared.sort_key.SortKey.{SortKey}
+
+-- a bag has one listing in each order, also cut by LIMIT
+abbrev pub OneListing : Type 0
+OneListing =
+    (keys : List SortKey) (limit : Option ℕ) (bag : Weighted) (rows others : List Row)
+    → IsListing keys limit bag rows → IsListing keys limit bag others → rows ≡ others
 
 -- a sum over weighted rows depends on the bag alone, whatever is summed
 abbrev pub SumsDependOnBag : Type 0

@@ -5,7 +5,6 @@
 #![tactic(auto)]
 
 mod laws;
-mod listing;
 mod sort_key;
 
 pub use laws::{
@@ -13,5 +12,4 @@ pub use laws::{
     linear_operators, look_ups_cost, one_listing, operators_keep_bags, projected_weight,
     sizes_depend_on_bag, sums_depend_on_bag,
 };
-pub use listing::listed;
 pub use sort_key::SortKey;

@@ -10,7 +10,7 @@ use Rattle.cq_language.specs.declared.written.Sign.{Sign}
 use Rattle.cq_language.specs.declared.written.Sign.TheVariants as signs
 use Rattle.cq_language.specs.Written.{Written, And, Or, Times, Plus, Minus, signed, terms, written, written_step}
 use Rattle.cq_binding.specs.Headers.{bare_name}
-use Rattle.cq_binder.specs.View.{told_in}
+use Rattle.cq_binder.specs.View.{aggregate_in}
 
 -- something that is found in no chain of several parts
 pub record SeesNoChain {A : Type 0} (found : Written → Option A) : Type 0 where
@@ -25,8 +25,8 @@ pub no_chain_named : SeesNoChain bare_name
 no_chain_named = record { product = λ a b. refl; both = λ a b. refl; either = λ a b. refl; sum = λ a b. refl; difference = λ a b. refl }
 
 -- and an aggregate
-pub no_chain_told : SeesNoChain told_in
-no_chain_told = record { product = λ a b. refl; both = λ a b. refl; either = λ a b. refl; sum = λ a b. refl; difference = λ a b. refl }
+pub no_chain_aggregate : SeesNoChain aggregate_in
+no_chain_aggregate = record { product = λ a b. refl; both = λ a b. refl; either = λ a b. refl; sum = λ a b. refl; difference = λ a b. refl }
 
 -- an expression is a chain of these parts behind its first, with an operator between them
 pub record IsChain {A : Type 0} (found : Written → Option A) (e first : ExprNode) (parts : List ExprNode) : Type 0 where

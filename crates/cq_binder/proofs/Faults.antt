@@ -1,5 +1,5 @@
 -- The first fault of a list of places, and refusals that go on from a part to the whole.
-use Rattle.std.proofs.Common.{◌≡◌, ℕ, ◌+◌, ◌<◌, Bool, true, false, List, [], ◌∷◌, ◌++◌, length, get_or, take, drop, Option, Some, None, refl, sym, ap, ◌∙◌, subst, Result, Ok, Err}
+use Rattle.std.proofs.Common.{◌≡◌, ℕ, ◌+◌, ◌<◌, Bool, true, false, List, [], ◌∷◌, ◌++◌, map, length, get_or, take, drop, Option, Some, None, refl, sym, ap, ◌∙◌, subst, Result, Ok, Err}
 use Rattle.std.proofs.lemmas.List.{take_more, at_drop_more}
 use Rattle.std.specs.List.{flat_map, list_any}
 use Rattle.std.specs.Option.{option_or}
@@ -75,6 +75,19 @@ walked_same part whole Is (Err f) same m = refused_same (first_fault part) (firs
 pub walked_as : {X : Type 0} (part whole : List (Option Fault)) (x : X) (o : Option X) (result : Result X Fault) → first_fault whole ≡ first_fault part → o ≡ Some x → Walked part (λ made. made ≡ x) result → Walked whole (λ made. o ≡ Some made) result
 walked_as part whole x o (Ok y) same is w = (same ∙ w.0, is ∙ ap Some (sym w.1))
 walked_as part whole x o (Err f) same is m = refused_same (first_fault part) (first_fault whole) f same m
+
+-- a stretch of one check has its fault
+pub one_check : (o : Option Fault) → first_fault (o ∷ []) ≡ o
+one_check None = refl
+one_check (Some f) = refl
+
+-- the first fault of what is left of a list: that of the next, or else that of what is behind it
+pub checks_more : {X : Type 0} (check : X → Option Fault) (xs : List X) (i : ℕ) (x : X) → i < length xs → x ≡ get_or xs i x
+    → first_fault (map check (drop i xs)) ≡ option_or (check x) (first_fault (map check (drop (i + 1) xs)))
+checks_more check xs i x lt is =
+    at_drop_more (λ ys. first_fault (map check ys)) xs i x lt
+    ∙ ap (λ y. first_fault (check y ∷ map check (drop (i + 1) xs))) (sym is)
+    ∙ first_fault_cons (check x) (map check (drop (i + 1) xs))
 
 -- the first fault of the rows from one on: its own, or else that of the rows behind it
 pub rows_more : (columns : List ColumnDef) (rows : List (List Constant)) (i : ℕ) (row : List Constant) → i < length rows → row ≡ get_or rows i row → first_fault (flat_map (row_checks columns) (drop i rows)) ≡ option_or (first_fault (row_checks columns row)) (first_fault (flat_map (row_checks columns) (drop (i + 1) rows)))

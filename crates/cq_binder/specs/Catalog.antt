@@ -1,14 +1,20 @@
 -- The tables and views that statements find under their names, and what binding a statement gives.
-use Rattle.std.specs.Prelude.{◌≡◌, ℕ, Bool, List, [], ◌∷◌, Option, Some, is_some, option_map, unwrap_or, Result, Ok, Err}
+use Rattle.std.specs.Prelude.{◌≡◌, ℕ, Bool, not, List, [], ◌∷◌, Option, Some, is_some, option_map, unwrap_or, Result, Ok, Err}
 use Rattle.std.specs.List.{flat_map}
 use Rattle.cq_binding.specs.declared.bound.Bound.{Bound}
-use Rattle.cq_model.specs.declared.query.Source.TheVariants.{View}
+use Rattle.cq_model.specs.declared.query.Source.TheVariants.{Table, View}
+use Rattle.cq_model.specs.Sizes.{stored_sizes}
 use Rattle.cq_values.specs.declared.column.ColumnDef.{ColumnDef}
 use Rattle.cq_language.specs.declared.statement.Constant.{Constant}
+use Rattle.cq_language.specs.declared.statement.SetClause.{SetClause}
 use Rattle.cq_language.specs.declared.statement.Statement.{Statement}
 use Rattle.cq_language.specs.declared.statement.Statement.TheVariants as statements
+use Rattle.cq_language.specs.Written.{Written}
 use Rattle.cq_binding.specs.declared.fault.Fault.{Fault}
-use Rattle.cq_binding.specs.Scopes.{Named, from_view}
+use Rattle.cq_binding.specs.declared.fault.Fault.TheVariants.{Syntax}
+use Rattle.cq_binding.specs.Scopes.{Named, from_table, from_view, scope_of}
+use Rattle.cq_binding.specs.Checks.{fault_if}
+use Rattle.cq_binding.specs.UpdateChecks.{sets_rows, update_walk}
 use Rattle.cq_binding.specs.Bound.{bound}
 use Rattle.cq_binding.specs.RowChecks.{row_checks}
 use Rattle.cq_binding.specs.Refusal.{checks, written_table}
@@ -43,7 +49,23 @@ Describes e t = shown_heading e ≡ heading t
 
 -- a view as FROM names it
 abbrev pub shown_view : ViewEntry → Named
-shown_view e = record { known = e.name.now; columns = e.columns.now; sizes = e.sizes.items; source = View e.place }
+shown_view e = record {
+  known = e.name.now;
+  columns = e.columns.now;
+  sizes = e.sizes.items;
+  source = View e.place;
+  bases = e.bases;
+}
+
+-- a table as FROM names it
+abbrev pub shown_table : TableEntry → Named
+shown_table e = record {
+  known = e.name.now;
+  columns = e.columns.now;
+  sizes = stored_sizes e.columns.now;
+  source = Table e.number;
+  bases = 1;
+}
 
 -- whether a view has the name
 abbrev pub names_view : List ℕ → List ViewOf → Bool
@@ -58,9 +80,19 @@ abbrev pub rows_walk : List (List Constant) → Result TableOf Fault → List (O
 rows_walk rows (Err f) = Some f ∷ []
 rows_walk rows (Ok t) = flat_map (row_checks t.columns) rows
 
--- the checks of a statement that are seen without any row of a table: all but whether the rows of an INSERT fit
+-- UPDATE: what it may have today, the table, and the walk through WHERE and SET
+abbrev pub table_walk : Option Written → List SetClause → Result TableOf Fault → List (Option Fault)
+table_walk condition sets (Err f) = Some f ∷ []
+table_walk condition sets (Ok t) = update_walk condition sets (scope_of (from_table t))
+
+abbrev pub sets_walk : Option Written → List SetClause → Result TableOf Fault → List (Option Fault)
+sets_walk condition sets table = fault_if (not (sets_rows condition sets)) Syntax ∷ table_walk condition sets table
+
+-- the checks of a statement that are seen without any row of a table: all but whether the rows of an INSERT fit, and the
+-- values that an UPDATE gives
 abbrev pub binding_checks : State → Statement → List (Option Fault)
 binding_checks s (statements.Insert name rows) = rows_walk rows (written_table name s)
+binding_checks s (statements.Update name sets condition) = sets_walk condition sets (written_table name s)
 binding_checks s statement = checks s statement
 
 -- a statement becomes its command where none of these checks has a fault

@@ -1,9 +1,10 @@
 pub mod Walk
-pub mod Scopes
 pub mod Columns
 pub mod Conditions
 pub mod Constants
 pub mod View
+pub mod Update
 pub mod Catalog
+pub mod From
 pub mod Select
 pub mod Laws

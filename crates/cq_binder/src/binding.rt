@@ -10,6 +10,7 @@ use crate::catalog::Catalog;
 use crate::columns::{check_length, check_names, copy_columns, sort_columns};
 use crate::moving::{bind_merge, bind_move, bind_refresh};
 use crate::reading::{bind_select, bind_view};
+use crate::updating::bind_update;
 use crate::writing::{bind_delete, bind_insert};
 use cq_binding::{Bound, Fault};
 use cq_language::Statement;
@@ -20,7 +21,7 @@ use std::alloc::Global;
 pub type BindFault = Fault;
 
 /// The command that a statement is, with the names of the catalog resolved. Whether the rows of an INSERT fit their table
-/// is not asked.
+/// is not asked, nor which values an UPDATE gives.
 pub fn bind<C: Catalog>(
     alloc: Global,
     statement: &Statement,
@@ -39,11 +40,15 @@ pub fn bind<C: Catalog>(
         Statement::DropView(name) => bind_drop_view(catalog, name),
         Statement::Insert { table, rows } => bind_insert(alloc, catalog, table, rows),
         Statement::Delete { table, condition } => bind_delete(alloc, catalog, table, condition),
+        Statement::Update {
+            table,
+            assignments,
+            condition,
+        } => bind_update(alloc, catalog, table, assignments, condition),
         Statement::Select(select) => bind_select(alloc, catalog, select),
         Statement::Move { table, rows } => bind_move(catalog, table, *rows),
         Statement::Merge(table) => bind_merge(catalog, table),
         Statement::Refresh { view, changes } => bind_refresh(catalog, view, *changes),
-        Statement::Update { .. } => Err(Fault::Syntax),
     }
 }
 

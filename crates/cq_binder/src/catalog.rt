@@ -24,6 +24,8 @@ pub struct ViewEntry<'a> {
     pub columns: &'a [ColumnDef],
     /// How large the numbers in each column can be.
     pub sizes: Vec<u128>,
+    /// How many base tables its query reads.
+    pub bases: usize,
 }
 
 /// Tables and views under their names.

@@ -84,7 +84,7 @@ fn is_declared(columns: &[ColumnDef], column: &ColumnDef) -> bool
     columns.iter().any(|c| c.name.as_str() == name)
 }
 
-fn is_named(names: &[Text], name: &str) -> bool
+pub(crate) fn is_named(names: &[Text], name: &str) -> bool
     ensures { result ≡ list_any (λ n. is_text n name.now) names.now }
 {
     names.iter().any(|n| n.as_str() == name)

@@ -5,21 +5,24 @@
 //! its first fault (`Walked`); want of memory may come at any point.
 #![tactic(auto)]
 
+mod aggregate;
 mod binding;
 mod catalog;
 mod columns;
 mod conditions;
 mod constants;
+mod from;
 mod items;
 mod laws;
 mod literals;
 mod moving;
 mod names;
 mod open;
+mod order;
 mod reading;
 mod scopes;
 mod select;
-mod told;
+mod updating;
 mod view;
 mod writing;
 

@@ -5,9 +5,9 @@ ghost use Rattle.cq_exprs.specs.Expressions.{scope_of};
 ghost use Rattle.cq_binder.specs.View.{name_walk};
 ghost use Rattle.cq_binder.specs.Walk.{WalksTo};
 
+use crate::aggregate::item_aggregate;
 use crate::columns::{check_length, check_names};
 use crate::select::item_name;
-use crate::told::told_by;
 use cq_binding::Fault;
 use cq_exprs::{Scope, type_of};
 use cq_language::{SelectItem, SqlExpr};
@@ -49,7 +49,7 @@ fn named_columns(
 fn item_type(groups: &Scope<'_>, value: &SqlExpr) -> Ty
     ensures { result ≡ item_type (scope_of groups.now) value.now }
 {
-    match told_by(value.node()) {
+    match item_aggregate(value.node()) {
         Some(_) => Ty::Integer,
         None => type_of(groups, value),
     }

@@ -2,24 +2,26 @@
 ghost use Rattle.std.specs.Prelude.{◌≡◌};
 ghost use Rattle.std.specs.List.{list_all};
 ghost use Rattle.cq_language.specs.Written.{written};
-ghost use Rattle.cq_binding.specs.Open.{is_bare, is_of_one_source, is_of_rows, is_plain, may_be_kept, may_be_shown, shows_group, shows_row};
+ghost use Rattle.cq_binding.specs.Open.{is_bare, is_of_one_source, is_of_rows, is_plain, is_without_having, is_unordered, may_be_kept, may_be_shown, shows_group, shows_row};
 
-use crate::told::{ItemAggregate, told_by};
+use crate::aggregate::{ItemAggregate, item_aggregate};
 use cq_exprs::has_aggregate;
 use cq_language::{AggregateFunction, ColumnName, ExprNode, Select, SelectItem, SqlExpr};
 
-/// Whether SELECT may have this query: rows of one source, without groups and aggregates.
+/// Whether SELECT may have this query: rows of its sources, without groups and aggregates.
 pub(crate) fn is_plain(query: &Select) -> bool
     ensures { result ≡ is_plain query.now }
 {
-    is_of_one_source(query) && query.group.is_empty() && show_rows(query.items.as_slice())
+    is_without_having(query) && query.group.is_empty() && show_rows(query.items.as_slice())
 }
 
-/// Whether a view may have this query: the groups of one table's rows, by columns that are named without their source.
+/// Whether a view may have this query: the groups of one table's rows, by columns that are named without their source,
+/// in no order.
 pub(crate) fn may_be_kept(query: &Select) -> bool
     ensures { result ≡ may_be_kept query.now }
 {
     is_of_one_source(query)
+        && is_unordered(query)
         && !query.group.is_empty()
         && are_bare(query.group.as_slice())
         && show_groups(query.items.as_slice())
@@ -38,12 +40,19 @@ pub(crate) fn is_of_rows(condition: &Option<SqlExpr>) -> bool
 fn is_of_one_source(query: &Select) -> bool
     ensures { result ≡ is_of_one_source query.now }
 {
-    !query.is_distinct
-        && query.joins.is_empty()
-        && is_of_rows(&query.condition)
-        && query.having.is_none()
-        && query.order.is_empty()
-        && query.limit.is_none()
+    !query.is_distinct && query.joins.is_empty() && is_without_having(query)
+}
+
+fn is_without_having(query: &Select) -> bool
+    ensures { result ≡ is_without_having query.now }
+{
+    is_of_rows(&query.condition) && query.having.is_none()
+}
+
+fn is_unordered(query: &Select) -> bool
+    ensures { result ≡ is_unordered query.now }
+{
+    query.order.is_empty() && query.limit.is_none()
 }
 
 fn show_rows(items: &[SelectItem]) -> bool
@@ -74,7 +83,7 @@ fn shows_group(item: &SelectItem) -> bool
 fn may_be_shown(node: &ExprNode) -> bool
     ensures { result ≡ may_be_shown (written node.now) }
 {
-    match told_by(node) {
+    match item_aggregate(node) {
         Some(ItemAggregate::Rows) => true,
         Some(ItemAggregate::Values(AggregateFunction::Count | AggregateFunction::Sum, argument)) =>
             { !has_aggregate(argument) }

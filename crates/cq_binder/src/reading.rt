@@ -3,6 +3,7 @@ ghost use Rattle.cq_language.specs.declared.statement.Statement.TheVariants as s
 ghost use Rattle.cq_states.specs.State.{TableOf};
 ghost use Rattle.cq_exprs.specs.Expressions.{scope_of};
 ghost use Rattle.cq_binder.specs.Catalog.{Binds, Describes, state_of};
+ghost use Rattle.cq_binder.specs.From.{shown_from};
 ghost use Rattle.cq_binder.specs.Select.{BindsParts, BindsQuery};
 ghost use Rattle.cq_binder.specs.View.{CreatesView};
 
@@ -10,8 +11,10 @@ use crate::binding::{BindFault, is_taken, unread};
 use crate::catalog::{Catalog, TableEntry};
 use crate::columns::check_length;
 use crate::conditions::bound_where;
+use crate::from::{FromClause, bound_from};
 use crate::open::{is_plain, may_be_kept};
-use crate::scopes::{stored_sizes, table_scope_as, view_scope_as};
+use crate::order::sort_keys;
+use crate::scopes::{known_as, table_columns};
 use crate::select::{bound_values, header};
 use crate::view::{BoundView, bound_view};
 use cq_binding::{Bound, Fault};
@@ -52,14 +55,14 @@ fn bind_view_on(
 ) -> Result<Bound, BindFault>
     ensures { (t : TableOf) → Describes table.now t → CreatesView t name.now view.now result }
 {
-    let sizes = stored_sizes(alloc, table.columns)?;
+    let read = table_columns(alloc, known_as(&view.first, table.name), table)?;
     let BoundView {
         columns,
         filter,
         keys,
         aggregates,
         items,
-    } = bound_view(alloc, &table_scope_as(&view.first, table, &sizes), view)?;
+    } = bound_view(alloc, &Scope::of_rows(&read), view)?;
     Ok(Bound::CreateView {
         name: name.copy(alloc)?,
         columns,
@@ -89,43 +92,30 @@ pub(crate) fn bind_select<C: Catalog>(
     if !is_plain(select) {
         return Err(Fault::Syntax);
     }
-    let name = select.first.name.as_str();
-    if let Some(table) = catalog.table(name) {
-        let sizes = stored_sizes(alloc, table.columns)?;
-        let scope = table_scope_as(&select.first, &table, &sizes);
-        return bind_query(alloc, &scope, Source::Table(table.number), select);
-    }
-    let Some(view) = catalog.view(alloc, name)? else {
-        return Err(Fault::UnknownTable);
-    };
-    let scope = view_scope_as(&select.first, &view);
-    bind_query(alloc, &scope, Source::View(view.place), select)
+    let from = bound_from(alloc, catalog, select)?;
+    bind_query(alloc, from, select)
 }
 
-/// The query on a source, with the names above its columns.
-fn bind_query(
-    alloc: Global,
-    scope: &Scope<'_>,
-    source: Source,
-    select: &Select,
-) -> Result<Bound, BindFault>
-    ensures { BindsQuery (scope_of scope.now) source select.now result }
+/// The query over what FROM has joined, with the names above its columns.
+fn bind_query(alloc: Global, from: FromClause<'_>, select: &Select) -> Result<Bound, BindFault>
+    ensures { BindsQuery (shown_from from.entry) select.now result }
 {
     let header = header(alloc, select.items.as_slice())?;
-    let (filter, items) = bound_parts(alloc, scope, select)?;
+    let (filter, items) = bound_parts(alloc, &Scope::of_rows(&from.columns), select)?;
+    let keys = sort_keys(alloc, header.as_slice(), select.order.as_slice())?;
     Ok(Bound::Select {
         header,
         query: Query {
-            first: source,
-            joins: Seq::new(alloc),
+            first: from.first,
+            joins: from.joins,
             filter,
             shape: Shape::Plain,
             items,
-            distinct: false,
+            distinct: select.is_distinct,
         },
         order: Order {
-            keys: Seq::new(alloc),
-            limit: None,
+            keys,
+            limit: select.limit,
         },
     })
 }

@@ -1,78 +1,57 @@
-//! What expressions over a table or a view see of it.
-ghost use Rattle.std.specs.Prelude.{◌≡◌, IfOk, unwrap_or};
-ghost use Rattle.cq_model.specs.Sizes.{stored_sizes};
-ghost use Rattle.cq_binding.specs.Scopes.{from_table, scope_as};
-ghost use Rattle.cq_states.specs.State.{TableOf};
-ghost use Rattle.cq_exprs.specs.Expressions.{scope_of};
-ghost use Rattle.cq_binder.specs.Catalog.{Describes, shown_view};
-ghost use Rattle.cq_binder.specs.Scopes.{table_scope};
+//! The columns of a table or of a view, as expressions read them.
+ghost use Rattle.std.specs.Prelude.{◌≡◌, IfOk, OnOk, unwrap_or};
+ghost use Rattle.cq_binder.specs.Catalog.{shown_table, shown_view};
+ghost use Rattle.cq_binder.specs.From.{AreBehind, AreOf};
 
 use crate::catalog::{TableEntry, ViewEntry};
-use cq_exprs::Scope;
+use cq_exprs::ScopeColumn;
 use cq_language::FromSource;
 use cq_model::STORED_SIZE;
-use cq_values::ColumnDef;
 use std::alloc::{AllocError, Global};
 
-/// How large the numbers in the columns of a table can be.
-pub(crate) fn stored_sizes(alloc: Global, columns: &[ColumnDef]) -> Result<Vec<u128>, AllocError>
-    ensures { IfOk result (λ v. v.items ≡ stored_sizes columns.now) }
-{
-    let mut sizes = Vec::new(alloc);
-    for _ in columns {
-        sizes.push(STORED_SIZE)?;
-    }
-    Ok(sizes)
-}
-
-/// A table, whose numbers are of these sizes.
-pub(crate) fn table_scope<'a>(
-    name: &'a str,
-    columns: &'a [ColumnDef],
-    sizes: &'a [u128],
-) -> Scope<'a>
-    requires { sizes.now ≡ stored_sizes columns.now }
-    ensures { (t : TableOf) → name.now ≡ t.name → columns.now ≡ t.columns → scope_of result ≡ table_scope t }
-{
-    Scope {
-        known: name,
-        columns,
-        sizes,
-        grouped: None,
-    }
-}
-
-/// A table as FROM names it, whose numbers are of these sizes.
-pub(crate) fn table_scope_as<'a>(
-    from: &'a FromSource,
+/// The columns of a table that is known by this name.
+pub(crate) fn table_columns<'a>(
+    alloc: Global,
+    known: &'a str,
     table: &TableEntry<'a>,
-    sizes: &'a [u128],
-) -> Scope<'a>
-    requires { sizes.now ≡ stored_sizes table.now.columns.now }
-    ensures { (t : TableOf) → Describes table.now t → scope_of result ≡ scope_as from.now (from_table t) }
+) -> Result<Vec<ScopeColumn<'a>>, AllocError>
+    ensures { IfOk result (λ columns. AreOf known.now table.now columns.items) }
 {
-    Scope {
-        known: known_as(from, table.name),
-        columns: table.columns,
-        sizes,
-        grouped: None,
-    }
+    let mut columns = Vec::new(alloc);
+    push_stored(&mut columns, known, table)?;
+    Ok(columns)
 }
 
-/// A view as FROM names it.
-pub(crate) fn view_scope_as<'a>(from: &'a FromSource, view: &'a ViewEntry<'_>) -> Scope<'a>
-    ensures { scope_of result ≡ scope_as from.now (shown_view view.now) }
+/// Puts the columns of a table that is known by this name behind these.
+pub(crate) fn push_stored<'a>(
+    columns: &mut Vec<ScopeColumn<'a>>,
+    known: &'a str,
+    table: &TableEntry<'a>,
+) -> Result<(), AllocError>
+    ensures { OnOk result (AreBehind columns.old.items known.now (shown_table table.now) columns.new.items) }
 {
-    Scope {
-        known: known_as(from, view.name),
-        columns: view.columns,
-        sizes: view.sizes.as_slice(),
-        grouped: None,
+    for column in table.columns {
+        columns.push(ScopeColumn::new(known, column, STORED_SIZE))?;
     }
+    Ok(())
+}
+
+/// Puts the columns of a view that is known by this name behind these.
+pub(crate) fn push_shown<'a>(
+    columns: &mut Vec<ScopeColumn<'a>>,
+    known: &'a str,
+    view: &ViewEntry<'a>,
+) -> Result<(), AllocError>
+    ensures { OnOk result (AreBehind columns.old.items known.now (shown_view view.now) columns.new.items) }
+{
+    for (column, size) in view.columns.iter().zip(view.sizes.as_slice()) {
+        columns.push(ScopeColumn::new(known, column, *size))?;
+    }
+    Ok(())
 }
 
 /// The alias of a source, or else its own name.
-fn known_as<'a>(from: &'a FromSource, name: &'a str) -> &'a str
+pub(crate) fn known_as<'a>(from: &'a FromSource, name: &'a str) -> &'a str
     ensures { result.now ≡ unwrap_or from.now.alias name.now }
 {
     match &from.alias {

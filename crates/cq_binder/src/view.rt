@@ -1,7 +1,7 @@
 //! Views with their names resolved.
 ghost use Rattle.std.specs.Prelude.{map};
-ghost use Rattle.cq_binding.specs.Bound.{group_places};
-ghost use Rattle.cq_binding.specs.ViewChecks.{group_check};
+ghost use Rattle.cq_binding.specs.Scopes.{group_places};
+ghost use Rattle.cq_binding.specs.SourceChecks.{group_check};
 ghost use Rattle.cq_exprs.specs.Expressions.{scope_of};
 ghost use Rattle.cq_binder.specs.View.{BindsView, group_walk};
 ghost use Rattle.cq_binder.specs.Walk.{WalksTo};
@@ -11,7 +11,7 @@ use crate::conditions::bound_where;
 use crate::items::bound_items;
 use crate::names::view_columns;
 use cq_binding::Fault;
-use cq_exprs::{Scope, column_place};
+use cq_exprs::{Scope, ScopeColumn, resolved};
 use cq_language::{ColumnName, Select};
 use cq_model::{Aggregate, Cond, Expr};
 use cq_values::{ColumnDef, Seq};
@@ -24,7 +24,7 @@ pub(crate) struct BoundView {
     pub filter: Option<Cond>,
     pub keys: Seq<usize>,
     pub aggregates: Seq<Aggregate>,
-    /// What is shown of a group's row, which has its keys and then what is told of it.
+    /// The items over a group's row, which has its key and then its aggregates.
     pub items: Seq<Expr>,
 }
 
@@ -39,8 +39,9 @@ pub(crate) fn bound_view(
     let group = view.group.as_slice();
     let filter = bound_where(alloc, table, &view.condition)?;
     let keys = group_keys(alloc, table.columns, group)?;
-    let (aggregates, items) = bound_items(alloc, table, view)?;
-    let columns = view_columns(alloc, &table.in_groups(group), view.items.as_slice())?;
+    let groups = Scope::of_groups(table.columns, keys.as_slice());
+    let (aggregates, items) = bound_items(alloc, table, &groups, view)?;
+    let columns = view_columns(alloc, &groups, view.items.as_slice())?;
     Ok(BoundView {
         columns,
         filter,
@@ -53,7 +54,7 @@ pub(crate) fn bound_view(
 /// GROUP BY by the places of its columns.
 fn group_keys(
     alloc: Global,
-    columns: &[ColumnDef],
+    columns: &[ScopeColumn<'_>],
     names: &[ColumnName],
 ) -> Result<Seq<usize>, Fault>
     ensures { WalksTo (group_walk columns.now names.now) (group_places columns.now names.now) result }
@@ -65,17 +66,14 @@ fn group_keys(
 
 fn name_places(
     alloc: Global,
-    columns: &[ColumnDef],
+    columns: &[ScopeColumn<'_>],
     names: &[ColumnName],
 ) -> Result<Seq<usize>, Fault>
     ensures { WalksTo (map (group_check columns.now) names.now) (group_places columns.now names.now) result }
 {
     let mut places = Seq::new(alloc);
     for name in names {
-        let Some(place) = column_place(columns, name.name.as_str()) else {
-            return Err(Fault::UnknownColumn);
-        };
-        places.push(place)?;
+        places.push(resolved(columns, name)?)?;
     }
     Ok(places)
 }

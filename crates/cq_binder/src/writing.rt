@@ -4,10 +4,10 @@ ghost use Rattle.std.specs.List.{flat_map};
 ghost use Rattle.cq_language.specs.declared.statement.Statement.TheVariants as statements;
 ghost use Rattle.cq_binding.specs.Bound.{row_of};
 ghost use Rattle.cq_binding.specs.RowChecks.{row_checks};
+ghost use Rattle.cq_binding.specs.Scopes.{from_table, scope_of};
 ghost use Rattle.cq_states.specs.State.{TableOf};
 ghost use Rattle.cq_binder.specs.Catalog.{Binds, Describes, state_of};
 ghost use Rattle.cq_binder.specs.Conditions.{BindsWhere};
-ghost use Rattle.cq_binder.specs.Scopes.{table_scope};
 ghost use Rattle.cq_binder.specs.Walk.{WalksTo};
 
 use crate::binding::{BindFault, unwritten};
@@ -15,8 +15,9 @@ use crate::catalog::{Catalog, TableEntry};
 use crate::conditions::bound_where;
 use crate::constants::bound_row;
 use crate::open::is_of_rows;
-use crate::scopes::{stored_sizes, table_scope};
+use crate::scopes::table_columns;
 use cq_binding::{Bound, Fault};
+use cq_exprs::Scope;
 use cq_language::{Constant, SqlExpr};
 use cq_model::Cond;
 use cq_values::{ColumnDef, Row, Seq, Text};
@@ -83,9 +84,8 @@ fn where_on(
     table: &TableEntry<'_>,
     condition: &Option<SqlExpr>,
 ) -> Result<Option<Cond>, BindFault>
-    ensures { (t : TableOf) → Describes table.now t → BindsWhere (table_scope t) condition.now result }
+    ensures { (t : TableOf) → Describes table.now t → BindsWhere (scope_of (from_table t)) condition.now result }
 {
-    let sizes = stored_sizes(alloc, table.columns)?;
-    let scope = table_scope(table.name, table.columns, &sizes);
-    bound_where(alloc, &scope, condition)
+    let columns = table_columns(alloc, table.name, table)?;
+    bound_where(alloc, &Scope::of_rows(&columns), condition)
 }

@@ -1,13 +1,21 @@
 -- No check of the walk tells that a source failed.
 use Rattle.std.proofs.Common.{◌≡◌, ℕ, ◌^◌, Bool, true, false, if◌then◌else◌, List, [], ◌∷◌, ◌++◌, map, Option, Some, None, Result, Ok, Err, refl}
-use Rattle.std.specs.Prelude.{nat_lt, ok_or, not, is_none, length}
+use Rattle.std.specs.Prelude.{nat_lt, ok_or, not, is_none, length, position}
 use Rattle.std.specs.List.{AllByRecursion, flat_map}
 use Rattle.cq_values.specs.declared.column.ColumnDef.{ColumnDef}
 use Rattle.cq_values.specs.declared.ty.Ty.TheVariants as types
 use Rattle.cq_values.specs.Dates.{day_named}
+use Rattle.cq_values.specs.Texts.{is_text}
+use Rattle.cq_values.specs.Value.{Row}
+use Rattle.cq_model.specs.declared.assignment.Assignment.{Assignment}
+use Rattle.cq_model.specs.Write.{chosen}
 use Rattle.cq_language.specs.declared.statement.Constant.{Constant}
 use Rattle.cq_language.specs.declared.statement.Constant.TheVariants as constants
+use Rattle.cq_language.specs.declared.statement.OrderKey.{OrderKey}
+use Rattle.cq_language.specs.declared.statement.OutputColumn.{OutputColumn}
+use Rattle.cq_language.specs.declared.statement.OutputColumn.TheVariants as outputs
 use Rattle.cq_language.specs.declared.statement.Select.{Select}
+use Rattle.cq_language.specs.declared.statement.SetClause.{SetClause}
 use Rattle.cq_language.specs.declared.statement.Statement.{Statement}
 use Rattle.cq_language.specs.declared.statement.Statement.TheVariants as statements
 use Rattle.cq_language.specs.declared.written.ColumnName.{ColumnName}
@@ -17,18 +25,25 @@ use Rattle.cq_language.specs.Written.{Written, Choices, Number, Text, Date, Null
 use Rattle.cq_binding.specs.declared.fault.Fault.{Fault}
 use Rattle.cq_binding.specs.declared.fault.Fault.TheVariants as faults
 use Rattle.cq_binding.specs.declared.typing.Typing.{Typing}
-use Rattle.cq_binding.specs.Scopes.{Named, in_groups, scope_as}
+use Rattle.cq_binding.specs.Scopes.{Named, from_table, in_groups, of_rows, scope_of}
+use Rattle.cq_binding.specs.From.{From, equality_check, first_walk, from_walk, join_checks, join_walk, joins_walk, passing}
+use Rattle.cq_language.specs.declared.statement.FromSource.{FromSource}
+use Rattle.cq_language.specs.declared.statement.JoinedSource.{JoinedSource}
+use Rattle.cq_language.specs.declared.statement.OnEquality.{OnEquality}
 use Rattle.cq_language.specs.Written as tree
 use Rattle.cq_binding.specs.Headers.{header, shown_by}
 use Rattle.cq_binding.specs.Bound.{view_source}
+use Rattle.cq_binding.specs.Sets.{bound_sets, bound_where}
 use Rattle.cq_binding.specs.Open.{is_of_rows, is_plain, may_be_kept}
+use Rattle.cq_binding.specs.Orders.{is_no_place, key_checks, named_check, order_checks, output_check}
 use Rattle.cq_binding.specs.Checks.{first_fault, fault_if, too_long}
 use Rattle.cq_binding.specs.RowChecks.{fits_column, is_type, constant_check, constant_checks, row_checks}
-use Rattle.cq_binding.specs.SourceChecks.{name_check, where_check, value_check}
-use Rattle.cq_binding.specs.ViewChecks.{read_table, item_check, group_check, repeats, query_checks, view_select_checks}
-use Rattle.cq_binding.specs.Refusal.{column_checks, sort_checks, create_checks, drop_table_checks, written_table, insert_checks, rows_checks, delete_checks, source_checks, from_checks, select_checks, checks, refusal, table_checks}
-use Rattle.cq_binding.specs.Kinds.{◌and_then◌, unless, number_of, negative, arithmetic, sum_of, product_of, part_of, compared_with, tested, between_them, like_of, negation_of, connected, added, kept_value}
-use Rattle.cq_binding.specs.Typing.{Scope, column_at, knows, column_typing, typed, listed, fault_in}
+use Rattle.cq_binding.specs.SourceChecks.{group_check, name_check, where_check, value_check}
+use Rattle.cq_binding.specs.ViewChecks.{read_table, item_check, repeats, query_checks, view_select_checks}
+use Rattle.cq_binding.specs.Refusal.{column_checks, sort_checks, create_checks, drop_table_checks, written_table, insert_checks, rows_checks, delete_checks, bag_checks, source_checks, from_checks, select_checks, checks, refusal, table_checks}
+use Rattle.cq_binding.specs.Kinds.{◌and_then◌, unless, number_of, negative, arithmetic, sum_of, product_of, part_of, compared_with, tested, between_them, like_of, negation_of, connected, added, kept_value, of_type}
+use Rattle.cq_binding.specs.Typing.{Scope, ScopeColumn, column_typing, fault_in, is_meant, knows, listed, one_meant, resolved, typed}
+use Rattle.cq_binding.specs.UpdateChecks.{column_type, is_set, row_checks_of, set_check, set_checks, sets_rows, table_update_checks, update_checks, update_walk, value_checks}
 use Rattle.cq_states.specs.State.{State, TableOf, ViewOf, is_taken}
 
 -- whether a refusal tells that a source failed
@@ -70,9 +85,16 @@ then_clean (Ok x) f h k = k x
 then_clean (Err e) f h k = h
 
 -- ---- Expressions
-column_clean : (s : Scope) (name : List ℕ) (o : Option ℕ) → fails_by_source (column_typing s name o) ≡ false
-column_clean s name None = refl
-column_clean s name (Some i) = unless_clean _ faults.AggregateMisplaced _ refl
+column_clean : (s : Scope) (place : ℕ) → fails_by_source (column_typing s place) ≡ false
+column_clean s place = unless_clean _ faults.AggregateMisplaced _ refl
+
+meant_clean : (columns : List ScopeColumn) (c : ColumnName) (o : Option ℕ) → fails_by_source (one_meant columns c o) ≡ false
+meant_clean columns c None = refl
+meant_clean columns c (Some place) = unless_clean _ faults.AmbiguousColumn _ refl
+
+resolved_clean : (columns : List ScopeColumn) (c : ColumnName) → fails_by_source (resolved columns c) ≡ false
+resolved_clean columns c =
+    branch_clean (knows columns c.source) (one_meant columns c (position (is_meant c) columns)) (Err faults.UnknownTable) (meant_clean columns c (position (is_meant c) columns)) refl
 
 number_clean : (size : ℕ) → fails_by_source (number_of size) ≡ false
 number_clean size = unless_clean (nat_lt size (2 ^ 127)) faults.TooWide _ refl
@@ -89,7 +111,7 @@ mutual
   typed_clean s (Text t) = unless_clean _ faults.TextTooLong _ refl
   typed_clean s (Date t) = unless_clean _ faults.BadDate _ refl
   typed_clean s Null = refl
-  typed_clean s (Column c) = branch_clean (knows s c.source) (column_typing s c.name (column_at s c.name)) (Err faults.UnknownTable) (column_clean s c.name (column_at s c.name)) refl
+  typed_clean s (Column c) = then_clean (resolved s.columns c) (column_typing s) (resolved_clean s.columns c) (column_clean s)
   typed_clean s (Extract part a) = then_clean (typed s a) (part_of part) (typed_clean s a) (λ x. unless_clean _ faults.TypeMismatch _ refl)
   typed_clean s CountAll = refl
   typed_clean s (Aggregate function a) = refl
@@ -121,19 +143,19 @@ where_clean : (s : Scope) (o : Option Written) → tells_source (where_check s o
 where_clean s None = refl
 where_clean s (Some w) = fault_clean _ (then_clean (typed s w) negation_of (typed_clean s w) (λ x. unless_clean _ faults.TypeMismatch _ refl))
 
-kept_clean : (s : Scope) (group : List ColumnName) (w : Written) → tells_source (fault_in (typed (in_groups group s) w and_then kept_value)) ≡ false
-kept_clean s group w = fault_clean _ (then_clean (typed _ w) kept_value (typed_clean _ w) (λ x. unless_clean _ faults.TypeMismatch _ refl))
+kept_clean : (groups : Scope) (w : Written) → tells_source (fault_in (typed groups w and_then kept_value)) ≡ false
+kept_clean groups w = fault_clean _ (then_clean (typed _ w) kept_value (typed_clean _ w) (λ x. unless_clean _ faults.TypeMismatch _ refl))
 
-aggregate_clean : (s : Scope) (group : List ColumnName) (function : AggregateFunction) (w : Written) → tells_source (item_check s group (tree.Aggregate function w)) ≡ false
-aggregate_clean s group functions.Count w = value_clean s w
-aggregate_clean s group functions.Sum w = fault_clean _ (then_clean (typed s w) added (typed_clean s w) (λ x. unless_clean _ faults.TypeMismatch _ refl))
-aggregate_clean s group functions.Min w = refl
-aggregate_clean s group functions.Max w = refl
+aggregate_clean : (s groups : Scope) (function : AggregateFunction) (w : Written) → tells_source (item_check s groups (tree.Aggregate function w)) ≡ false
+aggregate_clean s groups functions.Count w = value_clean s w
+aggregate_clean s groups functions.Sum w = fault_clean _ (then_clean (typed s w) added (typed_clean s w) (λ x. unless_clean _ faults.TypeMismatch _ refl))
+aggregate_clean s groups functions.Min w = refl
+aggregate_clean s groups functions.Max w = refl
 
-item_clean : (s : Scope) (group : List ColumnName) (w : Written) → tells_source (item_check s group w) ≡ false
-item_clean s group tree.CountAll = refl
-item_clean s group (tree.Aggregate function w) = aggregate_clean s group function w
-item_clean s group w = kept_clean s group w
+item_clean : (s groups : Scope) (w : Written) → tells_source (item_check s groups w) ≡ false
+item_clean s groups tree.CountAll = refl
+item_clean s groups (tree.Aggregate function w) = aggregate_clean s groups function w
+item_clean s groups w = kept_clean groups w
 
 -- ---- Lists of checks
 if_clean : (b : Bool) (f : Fault) → is_source f ≡ false → tells_source (fault_if b f) ≡ false
@@ -202,24 +224,98 @@ rows_clean condition (Ok t) h = (where_clean _ condition, tt)
 delete_clean : (condition : Option Written) (r : Result TableOf Fault) → fails_by_source r ≡ false → Clean (delete_checks condition r)
 delete_clean condition r h = (if_clean (not (is_of_rows condition)) faults.Syntax refl, rows_clean condition r h)
 
-source_clean : (q : Select) (s : Scope) → Clean (source_checks q s)
-source_clean q s =
+-- ---- UPDATE
+set_clean : (s : Scope) (before : List SetClause) (a : SetClause) → Clean (set_check s before a)
+set_clean s before a =
+    let walked : fails_by_source (typed s a.value) ≡ false = typed_clean s a.value in (
+      if_clean _ faults.UnknownColumn refl,
+      (fault_clean (typed s a.value) walked, (if_clean (is_set before a.column) faults.NameTaken refl, (fault_clean _ (then_clean (typed s a.value) (of_type (column_type s.columns a.column)) walked (λ x. unless_clean _ faults.TypeMismatch _ refl)), tt))),
+    )
+
+sets_clean : (s : Scope) (before sets : List SetClause) → Clean (set_checks s before sets)
+sets_clean s before [] = tt
+sets_clean s before (a ∷ later) = both_clean (set_check s before a) (set_checks s (before ++ a ∷ []) later) (set_clean s before a) (sets_clean s (before ++ a ∷ []) later)
+
+values_clean : (columns : List ColumnDef) (rows : List Row) (a : Assignment) → Clean (value_checks columns rows a)
+values_clean columns rows a = (if_clean _ faults.NumberOutside refl, (if_clean _ faults.NullNotAllowed refl, tt))
+
+on_table_clean : (condition : Option Written) (sets : List SetClause) (r : Result TableOf Fault) → fails_by_source r ≡ false → Clean (table_update_checks condition sets r)
+on_table_clean condition sets (Err f) h = (h, tt)
+on_table_clean condition sets (Ok t) h =
+    let s = scope_of (from_table t) in
+    both_clean (update_walk condition sets s) (row_checks_of condition sets t) (where_clean s condition, sets_clean s [] sets)
+    (flat_clean (value_checks t.columns (chosen (bound_where s condition) t.rows)) (values_clean t.columns (chosen (bound_where s condition) t.rows)) (bound_sets s sets))
+
+update_clean : (condition : Option Written) (sets : List SetClause) (r : Result TableOf Fault) → fails_by_source r ≡ false → Clean (update_checks condition sets r)
+update_clean condition sets r h = (if_clean (not (sets_rows condition sets)) faults.Syntax refl, on_table_clean condition sets r h)
+
+bag_clean : (q : Select) (s : Scope) → Clean (bag_checks q s)
+bag_clean q s =
     (where_clean s q.condition, both_clean (map (value_check s) (shown_by q.items)) (too_long (length q.items) ∷ []) (map_clean (value_check s) (value_clean s) (shown_by q.items)) (long_clean (length q.items), tt))
 
-from_clean : (q : Select) (o : Option Named) → Clean (from_checks q o)
-from_clean q None = (refl, tt)
-from_clean q (Some source) = source_clean q (scope_as q.first source)
+-- ---- ORDER BY
+named_clean : (name : List ℕ) (names : List (List ℕ)) → tells_source (named_check name names) ≡ false
+named_clean name [] = refl
+named_clean name (n ∷ names) = either_clean (is_text n name) _ (named_check name names) (if_clean _ faults.AmbiguousColumn refl) (named_clean name names)
 
-select_clean : (q : Select) (o : Option Named) → Clean (select_checks q o)
-select_clean q o = (if_clean (not (is_plain q)) faults.Syntax refl, from_clean q o)
+output_clean : (names : List (List ℕ)) (column : OutputColumn) → tells_source (output_check names column) ≡ false
+output_clean names (outputs.Named name) = named_clean name names
+output_clean names (outputs.At place) = if_clean (is_no_place (length names) place) faults.UnknownColumn refl
+
+order_clean : (names : List (List ℕ)) (keys : List OrderKey) → Clean (order_checks names keys)
+order_clean names keys =
+    both_clean (key_checks names keys) (too_long (length keys) ∷ []) (map_clean (λ key. output_check names key.column) (λ key. output_clean names key.column) keys) (long_clean (length keys), tt)
+
+source_clean : (q : Select) (s : Scope) → Clean (source_checks q s)
+source_clean q s = both_clean (bag_checks q s) (order_checks (header 1 q.items) q.order) (bag_clean q s) (order_clean (header 1 q.items) q.order)
+
+-- ---- FROM
+equality_clean : (columns : List ScopeColumn) (before : ℕ) (e : OnEquality) → tells_source (equality_check columns before e) ≡ false
+equality_clean columns before e =
+    fault_clean _ (then_clean (resolved columns e.left) _ (resolved_clean columns e.left)
+    (λ l. then_clean (resolved columns e.right) _ (resolved_clean columns e.right) (λ r. unless_clean _ faults.TypeMismatch _ refl)))
+
+join_clean : (from : From) (j : JoinedSource) (source : Named) → Clean (join_checks from j source)
+join_clean from j source = (if_clean _ faults.NameTaken refl, (if_clean _ faults.TooManyTables refl, map_clean _ (equality_clean _ _) j.on))
+
+passing_clean : {A : Type 0} (o : Option Fault) (x : A) → tells_source o ≡ false → fails_by_source (passing o x) ≡ false
+passing_clean None x h = refl
+passing_clean (Some f) x h = h
+
+first_clean : (cs : List (Option Fault)) → Clean cs → tells_source (first_fault cs) ≡ false
+first_clean [] h = refl
+first_clean (Some f ∷ cs) h = h.0
+first_clean (None ∷ cs) h = first_clean cs h.1
+
+walk_clean : (from : From) (j : JoinedSource) (o : Option Named) → fails_by_source (join_walk from j o) ≡ false
+walk_clean from j None = refl
+walk_clean from j (Some source) = passing_clean _ _ (first_clean (join_checks from j source) (join_clean from j source))
+
+joins_clean : (s : State) (from : From) (js : List JoinedSource) → fails_by_source (joins_walk s from js) ≡ false
+joins_clean s from [] = refl
+joins_clean s from (j ∷ js) = then_clean (join_walk from j _) _ (walk_clean from j _) (λ wide. joins_clean s wide js)
+
+start_clean : (f : FromSource) (o : Option Named) → fails_by_source (first_walk f o) ≡ false
+start_clean f None = refl
+start_clean f (Some source) = refl
+
+from_clean : (s : State) (q : Select) → fails_by_source (from_walk s q) ≡ false
+from_clean s q = then_clean (first_walk q.first _) _ (start_clean q.first _) (λ from. joins_clean s from q.joins)
+
+behind_clean : (q : Select) (r : Result From Fault) → fails_by_source r ≡ false → Clean (from_checks q r)
+behind_clean q (Err f) h = (h, tt)
+behind_clean q (Ok from) h = source_clean q (of_rows from.columns)
+
+select_clean : (q : Select) (r : Result From Fault) → fails_by_source r ≡ false → Clean (select_checks q r)
+select_clean q r h = (if_clean (not (is_plain q)) faults.Syntax refl, behind_clean q r h)
 
 query_clean : (s : Scope) (v : Select) → Clean (query_checks s v)
 query_clean s v =
     let last : List (Option Fault) = fault_if (repeats [] (header 1 v.items)) faults.NameTaken ∷ too_long (length v.items) ∷ [] in
     let group : List (Option Fault) = map (group_check s.columns) v.group in
-    let items : List (Option Fault) = too_long (length v.group) ∷ map (item_check s v.group) (shown_by v.items) in
-    let named : Clean group = map_clean (group_check s.columns) (λ c. name_clean s.columns c.name) v.group in
-    let shown : Clean items = (long_clean (length v.group), map_clean (item_check s v.group) (item_clean s v.group) (shown_by v.items)) in (
+    let items : List (Option Fault) = too_long (length v.group) ∷ map (item_check s (in_groups v.group s)) (shown_by v.items) in
+    let named : Clean group = map_clean (group_check s.columns) (λ c. fault_clean _ (resolved_clean s.columns c)) v.group in
+    let shown : Clean items = (long_clean (length v.group), map_clean (item_check s (in_groups v.group s)) (item_clean s (in_groups v.group s)) (shown_by v.items)) in (
       where_clean s v.condition,
       both_clean (group ++ items) last (both_clean group items named shown) (if_clean (repeats [] (header 1 v.items)) faults.NameTaken refl, (long_clean (length v.items), tt)),
     )
@@ -244,16 +340,11 @@ all_clean s (statements.CreateView name v) =
 all_clean s (statements.DropView name) = (if_clean _ faults.UnknownTable refl, tt)
 all_clean s (statements.Insert name rows) = insert_clean s.max_rows rows (written_table name s) (table_clean _ _ faults.ViewNotWritten refl)
 all_clean s (statements.Delete name condition) = delete_clean condition (written_table name s) (table_clean _ _ faults.ViewNotWritten refl)
-all_clean s (statements.Select q) = select_clean q _
+all_clean s (statements.Update name sets condition) = update_clean condition sets (written_table name s) (table_clean _ _ faults.ViewNotWritten refl)
+all_clean s (statements.Select q) = select_clean q (from_walk s q) (from_clean s q)
 all_clean s (statements.Move name rows) = moved_clean (written_table name s) (table_clean _ _ faults.ViewNotWritten refl)
 all_clean s (statements.Merge name) = moved_clean (written_table name s) (table_clean _ _ faults.ViewNotWritten refl)
 all_clean s (statements.Refresh view changes) = (if_clean _ faults.UnknownTable refl, tt)
-all_clean s statement = (refl, tt)
-
-first_clean : (cs : List (Option Fault)) → Clean cs → tells_source (first_fault cs) ≡ false
-first_clean [] h = refl
-first_clean (Some f ∷ cs) h = h.0
-first_clean (None ∷ cs) h = first_clean cs h.1
 
 -- the refusal of a statement tells of no source
 pub sourceless : (s : State) (statement : Statement) → tells_source (refusal s statement) ≡ false

@@ -1,5 +1,5 @@
 -- What statements say once their names are resolved (docs/LANGUAGE.md, Statements).
-use Rattle.std.specs.Prelude.{ℕ, ◌+◌, ℤ, pos, neg_ℤ, false, if◌then◌else◌, List, [], ◌∷◌, map, length, Option, Some, None, option_map, unwrap_or}
+use Rattle.std.specs.Prelude.{ℕ, ◌+◌, ℤ, pos, neg_ℤ, false, if◌then◌else◌, List, [], ◌∷◌, map, length, Option, Some, None, option_map, unwrap_or, Result, Ok, Err}
 use Rattle.std.specs.List.{flat_map}
 use Rattle.cq_values.specs.declared.ty.Ty.{Ty}
 use Rattle.cq_values.specs.declared.ty.Ty.TheVariants.{Integer}
@@ -21,6 +21,7 @@ use Rattle.cq_language.specs.declared.statement.Constant.TheVariants as constant
 use Rattle.cq_language.specs.declared.statement.Literal.{Literal}
 use Rattle.cq_language.specs.declared.statement.Select.{Select}
 use Rattle.cq_language.specs.declared.statement.SelectItem.{SelectItem}
+use Rattle.cq_language.specs.declared.statement.SetClause.{SetClause}
 use Rattle.cq_language.specs.declared.statement.Statement.{Statement}
 use Rattle.cq_language.specs.declared.statement.Statement.TheVariants as statements
 use Rattle.cq_language.specs.declared.written.ColumnName.{ColumnName}
@@ -31,8 +32,12 @@ use Rattle.cq_language.specs.Written.{Written}
 use Rattle.cq_language.specs.Written as tree
 use Rattle.cq_states.specs.State.{TableOf, State, table_named, view_place}
 use Rattle.cq_binding.specs.Typing.{Scope, type_of, typed}
-use Rattle.cq_binding.specs.Scopes.{place_in, bound_value, bound_condition, Named, from_table, source_named, scope_of, scope_as, in_groups}
+use Rattle.cq_binding.specs.Scopes.{place_in, bound_value, bound_condition, from_table, group_places, of_rows, scope_of, scope_as, in_groups}
+use Rattle.cq_binding.specs.From.{From, from_walk}
+use Rattle.cq_binding.specs.declared.fault.Fault.{Fault}
+use Rattle.cq_binding.specs.Sets.{bound_sets, bound_where}
 use Rattle.cq_binding.specs.Headers.{header, shown_by, shown_name}
+use Rattle.cq_binding.specs.Orders.{order_of}
 
 -- the number that a literal stands for
 abbrev pub literal_value : Literal → ℤ
@@ -49,20 +54,30 @@ constant_value (constants.Date t) = named_day t
 abbrev pub row_of : List Constant → Row
 row_of row = map constant_value row
 
--- a query of one source. An alias plays no part: the walk has seen that each qualifier names the source
-abbrev pub bound_query : Select → Named → Query
-bound_query q source = record {
-  first = source.source;
-  joins = [];
-  filter = option_map (bound_condition (scope_of source)) q.condition;
+-- UPDATE on a table
+abbrev pub bound_update : List SetClause → Option Written → TableOf → Bound
+bound_update sets condition t =
+    commands.Update t.number (bound_sets (scope_of (from_table t)) sets) (bound_where (scope_of (from_table t)) condition)
+
+-- a query over what FROM has joined
+abbrev pub bound_query : Select → From → Query
+bound_query q from = record {
+  first = from.first;
+  joins = from.joins;
+  filter = option_map (bound_condition (of_rows from.columns)) q.condition;
   shape = Plain;
-  items = map (bound_value (scope_of source)) (shown_by q.items);
-  distinct = false;
+  items = map (bound_value (of_rows from.columns)) (shown_by q.items);
+  distinct = q.is_distinct;
 }
 
--- a query with the names above its columns, in the order of all columns
-abbrev pub bound_select : Select → Named → Bound
-bound_select q source = commands.Select (header 1 q.items) (bound_query q source) (record { keys = []; limit = None })
+-- a query with the names above its columns, and the order that ORDER BY and LIMIT say
+abbrev pub bound_select : Select → From → Bound
+bound_select q from = commands.Select (header 1 q.items) (bound_query q from) (order_of q)
+
+-- what stood, if anything did
+abbrev pub standing : {A : Type 0} → Result A Fault → Option A
+standing (Ok x) = Some x
+standing (Err f) = None
 
 -- the type of an item of groups, and counts and sums are whole numbers
 abbrev pub item_type : Scope → Written → Ty
@@ -76,10 +91,6 @@ item_columns groups place [] = []
 item_columns groups place (item ∷ items) =
     record { name = unwrap_or item.alias (shown_name place item.value); ty = item_type groups item.value; not_null = false }
     ∷ item_columns groups (place + 1) items
-
--- where the columns behind GROUP BY stand
-abbrev pub group_places : List ColumnDef → List ColumnName → List ℕ
-group_places columns group = map (λ c. place_in columns c.name) group
 
 -- the columns of a view on a source
 abbrev pub view_columns : Scope → Select → List ColumnDef
@@ -115,7 +126,7 @@ grouped_query v t = record {
   first = Table t.number;
   joins = [];
   filter = option_map (bound_condition (view_source v t)) v.condition;
-  shape = Grouped (Some (group_places t.columns v.group)) (flat_map (aggregates_in (view_source v t)) (shown_by v.items)) None;
+  shape = Grouped (Some (group_places (view_source v t).columns v.group)) (flat_map (aggregates_in (view_source v t)) (shown_by v.items)) None;
   items = group_items (in_groups v.group (view_source v t)) (length v.group) (shown_by v.items);
   distinct = false;
 }
@@ -130,9 +141,8 @@ bound s (statements.DropView name) = option_map commands.DropView (view_place na
 bound s (statements.Insert name rows) = option_map (λ t. commands.Insert t.number (map row_of rows)) (table_named name s.tables)
 bound s (statements.Delete name condition) =
     option_map (λ t. commands.Delete t.number (option_map (bound_condition (scope_of (from_table t))) condition)) (table_named name s.tables)
-bound s (statements.Select q) = option_map (bound_select q) (source_named q.first.name s)
+bound s (statements.Update name sets condition) = option_map (bound_update sets condition) (table_named name s.tables)
+bound s (statements.Select q) = option_map (bound_select q) (standing (from_walk s q))
 bound s (statements.Move name rows) = option_map (λ t. commands.Move t.number rows) (table_named name s.tables)
 bound s (statements.Merge name) = option_map (λ t. commands.Merge t.number) (table_named name s.tables)
 bound s (statements.Refresh name changes) = option_map (λ place. commands.Refresh place changes) (view_place name s.views)
--- UPDATE is no command yet
-bound s statement = None

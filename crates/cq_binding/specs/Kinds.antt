@@ -1,6 +1,6 @@
 -- What the nodes of an expression ask of their operands and give: a value of a type or a condition, or a fault
 -- (docs/LANGUAGE.md, Expressions).
-use Rattle.std.specs.Prelude.{ℕ, ◌+◌, ◌*◌, nat_lt, nat_le, Bool, true, false, ◌&&◌, not, if◌then◌else◌, List, length, Result, Ok, Err}
+use Rattle.std.specs.Prelude.{ℕ, ◌+◌, ◌*◌, nat_lt, nat_le, Bool, true, false, ◌&&◌, if◌then◌else◌, List, length, Result, Ok, Err}
 use denote.Enum.Bare.{sameb}
 use Rattle.cq_values.specs.contracts.ty.Ty as ty
 use Rattle.cq_values.specs.declared.ty.Ty.{Ty}
@@ -111,6 +111,10 @@ connected x y = unless (is_condition x.kind && is_condition y.kind) TypeMismatch
 -- SUM asks for a number
 abbrev pub added : Typing → Result Typing Fault
 added x = unless (is_of types.Integer x.kind) TypeMismatch x
+
+-- a column that is set asks for a value of its type
+abbrev pub of_type : Ty → Typing → Result Typing Fault
+of_type t x = unless (is_of t x.kind) TypeMismatch x
 
 -- a column of a view asks for a value with a type
 abbrev pub kept_value : Typing → Result Typing Fault

@@ -2,12 +2,16 @@ pub mod Placed
 pub mod Kinds
 pub mod Typing
 pub mod Scopes
+pub mod From
 pub mod Headers
-pub mod Bound
 pub mod FaultText
 pub mod Checks
+pub mod Orders
+pub mod Sets
+pub mod Bound
 pub mod RowChecks
 pub mod Open
 pub mod SourceChecks
 pub mod ViewChecks
+pub mod UpdateChecks
 pub mod Refusal

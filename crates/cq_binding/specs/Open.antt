@@ -41,17 +41,25 @@ is_of_rows (Some w) = not (has_aggregate w)
 abbrev pub is_empty : {A : Type 0} → List A → Bool
 is_empty xs = length xs == 0
 
--- a query of one source, as a bag that is listed whole: without joins, DISTINCT, HAVING, ORDER BY and LIMIT
+-- a query without aggregates in WHERE and without HAVING
+abbrev pub is_without_having : Select → Bool
+is_without_having q = is_of_rows q.condition && is_none q.having
+
+-- a query of one source: without joins and DISTINCT
 abbrev pub is_of_one_source : Select → Bool
-is_of_one_source q = not q.is_distinct && is_empty q.joins && is_of_rows q.condition && is_none q.having && is_empty q.order && is_none q.limit
+is_of_one_source q = not q.is_distinct && is_empty q.joins && is_without_having q
+
+-- a query that is listed whole and in the order of all columns: without ORDER BY and LIMIT
+abbrev pub is_unordered : Select → Bool
+is_unordered q = is_empty q.order && is_none q.limit
 
 -- an item of rows
 abbrev pub shows_row : SelectItem → Bool
 shows_row item = not (has_aggregate item.value)
 
--- what SELECT may have: rows of one source, without groups and aggregates
+-- what SELECT may have: rows of its sources, without groups and aggregates
 abbrev pub is_plain : Select → Bool
-is_plain q = is_of_one_source q && is_empty q.group && list_all shows_row q.items
+is_plain q = is_without_having q && is_empty q.group && list_all shows_row q.items
 
 -- what a view may show of its groups: COUNT or SUM as a whole, and any expression without an aggregate
 abbrev pub may_be_shown : Written → Bool
@@ -67,6 +75,6 @@ shows_group item = may_be_shown item.value
 abbrev pub is_bare : ColumnName → Bool
 is_bare c = is_none c.source
 
--- what a view may have: the groups of one table's rows, by columns that are named without their source
+-- what a view may have: the groups of one table's rows, by columns that are named without their source, in no order
 abbrev pub may_be_kept : Select → Bool
-may_be_kept q = is_of_one_source q && not (is_empty q.group) && list_all is_bare q.group && list_all shows_group q.items
+may_be_kept q = is_of_one_source q && is_unordered q && not (is_empty q.group) && list_all is_bare q.group && list_all shows_group q.items

@@ -6,7 +6,7 @@ use Rattle.cq_values.specs.Dates.{day_named}
 use Rattle.cq_language.specs.declared.written.ColumnName.{ColumnName}
 use Rattle.cq_model.specs.Expr.{Expr, Cond}
 use Rattle.cq_model.specs.Expr as placed
-use Rattle.cq_language.specs.Written.{Written, Choices, Number, Text, Date, Null, Column, Extract, Parens, Negative, Times, Plus, Minus, Compare, IsNull, Between, In, Like, Not, And, Or, NoChoice, Choice}
+use Rattle.cq_language.specs.Written.{Written, Choices, Number, Text, Date, Column, Extract, Parens, Negative, Times, Plus, Minus, Compare, IsNull, Between, In, Like, Not, And, Or, NoChoice, Choice}
 use Rattle.cq_model.specs.Width.{number_limit}
 
 -- the day that a text names, and NULL where it names none

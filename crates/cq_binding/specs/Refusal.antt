@@ -12,14 +12,17 @@ use Rattle.cq_model.specs.Views.{sources_of, is_table}
 use Rattle.cq_language.specs.Written.{Written}
 use Rattle.cq_binding.specs.declared.fault.Fault.{Fault}
 use Rattle.cq_binding.specs.declared.fault.Fault.TheVariants.{Syntax, UnknownTable, NameTaken, TableFull, TableInUse, ViewNotWritten}
-use Rattle.cq_binding.specs.Scopes.{Named, from_table, scope_as, scope_of, source_named}
-use Rattle.cq_binding.specs.Headers.{shown_by}
+use Rattle.cq_binding.specs.Scopes.{from_table, of_rows, scope_of}
+use Rattle.cq_binding.specs.From.{From, from_walk}
+use Rattle.cq_binding.specs.Headers.{header, shown_by}
 use Rattle.cq_binding.specs.Open.{is_of_rows, is_plain}
 use Rattle.cq_states.specs.State.{TableOf, ViewOf, State, table_named, view_place, view_named, is_taken}
 use Rattle.cq_binding.specs.Typing.{Scope}
 use Rattle.cq_binding.specs.Checks.{first_fault, fault_if, too_long}
+use Rattle.cq_binding.specs.Orders.{order_checks}
 use Rattle.cq_binding.specs.RowChecks.{row_checks}
 use Rattle.cq_binding.specs.SourceChecks.{name_check, value_check, where_check}
+use Rattle.cq_binding.specs.UpdateChecks.{update_checks}
 use Rattle.cq_binding.specs.ViewChecks.{create_view_checks}
 
 -- each column, whose name no earlier one has
@@ -65,18 +68,22 @@ rows_checks condition (Ok t) = where_check (scope_of (from_table t)) condition �
 abbrev pub delete_checks : Option Written → Result TableOf Fault → List (Option Fault)
 delete_checks condition table = fault_if (not (is_of_rows condition)) Syntax ∷ rows_checks condition table
 
--- SELECT behind its source: WHERE, each item, the list of items
-abbrev pub source_checks : Select → Scope → List (Option Fault)
-source_checks q s = where_check s q.condition ∷ map (value_check s) (shown_by q.items) ++ too_long (length q.items) ∷ []
+-- what a SELECT's bag is worked out by: WHERE, each item, the list of items
+abbrev pub bag_checks : Select → Scope → List (Option Fault)
+bag_checks q s = where_check s q.condition ∷ map (value_check s) (shown_by q.items) ++ too_long (length q.items) ∷ []
 
--- SELECT: the source, and what stands behind it
-abbrev pub from_checks : Select → Option Named → List (Option Fault)
-from_checks q None = Some UnknownTable ∷ []
-from_checks q (Some source) = source_checks q (scope_as q.first source)
+-- SELECT behind FROM: its bag, then ORDER BY over the names of its items
+abbrev pub source_checks : Select → Scope → List (Option Fault)
+source_checks q s = bag_checks q s ++ order_checks (header 1 q.items) q.order
+
+-- SELECT: FROM, and what stands behind it
+abbrev pub from_checks : Select → Result From Fault → List (Option Fault)
+from_checks q (Err f) = Some f ∷ []
+from_checks q (Ok from) = source_checks q (of_rows from.columns)
 
 -- SELECT: what it may have today, and then the walk through it
-abbrev pub select_checks : Select → Option Named → List (Option Fault)
-select_checks q source = fault_if (not (is_plain q)) Syntax ∷ from_checks q source
+abbrev pub select_checks : Select → Result From Fault → List (Option Fault)
+select_checks q from = fault_if (not (is_plain q)) Syntax ∷ from_checks q from
 
 -- MOVE and MERGE: the name
 abbrev pub table_checks : Result TableOf Fault → List (Option Fault)
@@ -95,12 +102,11 @@ checks s (statements.CreateView name query) = create_view_checks name query s
 checks s (statements.DropView name) = view_checks (view_place name s.views)
 checks s (statements.Insert name rows) = insert_checks s.max_rows rows (written_table name s)
 checks s (statements.Delete name condition) = delete_checks condition (written_table name s)
-checks s (statements.Select q) = select_checks q (source_named q.first.name s)
+checks s (statements.Update name sets condition) = update_checks condition sets (written_table name s)
+checks s (statements.Select q) = select_checks q (from_walk s q)
 checks s (statements.Move name rows) = table_checks (written_table name s)
 checks s (statements.Merge name) = table_checks (written_table name s)
 checks s (statements.Refresh name changes) = view_checks (view_place name s.views)
--- UPDATE is read, and not carried out yet
-checks s statement = Some Syntax ∷ []
 
 -- the refusal of a statement, if it has one; want of memory is no part of the walk
 abbrev pub refusal : State → Statement → Option Fault

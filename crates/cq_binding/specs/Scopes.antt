@@ -1,5 +1,6 @@
 -- What FROM names, and what expressions over it say once their names are resolved (ISO 9075-2, 7.6).
-use Rattle.std.specs.Prelude.{ℕ, List, Option, Some, None, option_map, unwrap_or, position}
+use Rattle.std.specs.Prelude.{ℕ, ◌==◌, List, map, length, Option, Some, None, option_map, unwrap_or, position}
+use Rattle.std.specs.List.{zip}
 use Rattle.std.specs.Option.{option_or}
 use Rattle.cq_values.specs.Texts.{is_text}
 use Rattle.cq_model.specs.Expr.{Cond}
@@ -12,8 +13,9 @@ use Rattle.cq_language.specs.declared.written.ColumnName.{ColumnName}
 use Rattle.cq_binding.specs.Placed.{placed_cond, placed_expr}
 use Rattle.cq_language.specs.Written.{Written}
 use Rattle.cq_model.specs.Sizes.{column_sizes, stored_sizes}
+use Rattle.cq_model.specs.Views.{sources_of}
 use Rattle.cq_states.specs.State.{TableOf, ViewOf, State, table_named, view_place, view_named}
-use Rattle.cq_binding.specs.Typing.{Scope}
+use Rattle.cq_binding.specs.Typing.{Scope, ScopeColumn, is_meant}
 
 -- where the column of a name stands, if there is one
 abbrev pub column_place : List ColumnDef → List ℕ → Option ℕ
@@ -23,18 +25,26 @@ column_place columns name = position (λ c. is_text c.name name) columns
 abbrev pub place_in : List ColumnDef → List ℕ → ℕ
 place_in columns name = unwrap_or (column_place columns name) 0
 
--- where a column of GROUP BY stands in a group's row
-abbrev pub group_place : List ColumnName → List ℕ → ℕ
-group_place group name = unwrap_or (position (λ g. is_text g.name name) group) 0
+-- where the column stands in the joined rows that a name means
+abbrev pub row_place : List ScopeColumn → ColumnName → ℕ
+row_place columns c = unwrap_or (position (is_meant c) columns) 0
 
--- where a column stands in the rows that expressions read: among the source's columns, or in a group's key
-abbrev pub read_place : Option (List ColumnName) → List ColumnDef → List ℕ → ℕ
-read_place None columns name = place_in columns name
-read_place (Some group) columns name = group_place group name
+-- where the column of a name stands in the rows of one source, if there is one
+abbrev pub named_place : List ScopeColumn → List ℕ → Option ℕ
+named_place columns name = position (λ c. is_text c.name name) columns
 
--- where the column stands that a name tells
+-- where the columns of GROUP BY stand in the joined rows
+abbrev pub group_places : List ScopeColumn → List ColumnName → List ℕ
+group_places columns group = map (row_place columns) group
+
+-- where a column of the joined rows stands in the rows that expressions read: there, or in a group's key
+abbrev pub read_place : Option (List ℕ) → ℕ → ℕ
+read_place None place = place
+read_place (Some group) place = unwrap_or (position (λ g. g == place) group) 0
+
+-- where the column stands that a name means
 abbrev pub place_of : Scope → ColumnName → ℕ
-place_of s c = read_place s.grouped s.columns c.name
+place_of s c = read_place s.grouped (row_place s.columns c)
 
 -- an expression over a source
 abbrev pub bound_value : Scope → Written → Expr
@@ -44,20 +54,28 @@ bound_value s w = placed_expr (place_of s) w
 abbrev pub bound_condition : Scope → Written → Cond
 bound_condition s condition = placed_cond (place_of s) condition
 
--- what FROM names: what it is known by, its columns, how large their numbers can be, and where its rows come from
+-- what FROM names: what it is known by, its columns, how large their numbers can be, where its rows come from, and how many
+-- base tables it reads
 pub record Named : Type 0 where
   pub known : List ℕ
   pub columns : List ColumnDef
   pub sizes : List ℕ
   pub source : Source
+  pub bases : ℕ
 
 -- a table as FROM names it
 abbrev pub from_table : TableOf → Named
-from_table t = record { known = t.name; columns = t.columns; sizes = stored_sizes t.columns; source = Table t.number }
+from_table t = record { known = t.name; columns = t.columns; sizes = stored_sizes t.columns; source = Table t.number; bases = 1 }
 
 -- a view, and the place where it stands
 abbrev pub from_view : ViewOf → ℕ → Named
-from_view v place = record { known = v.name; columns = v.columns; sizes = column_sizes v.query; source = View place }
+from_view v place = record {
+  known = v.name;
+  columns = v.columns;
+  sizes = column_sizes v.query;
+  source = View place;
+  bases = length (sources_of v.query);
+}
 
 -- the table of a name, or else the view
 abbrev pub source_named : List ℕ → State → Option Named
@@ -65,14 +83,30 @@ source_named name s =
     option_or (option_map from_table (table_named name s.tables))
     (option_map (λ v. from_view v (unwrap_or (view_place name s.views) 0)) (view_named name s.views))
 
--- what expressions over a source see of it
-abbrev pub scope_of : Named → Scope
-scope_of source = record { known = source.known; columns = source.columns; sizes = source.sizes; grouped = None }
+-- a column of a source that is known by this name, with its size
+abbrev pub scope_column : List ℕ → (ColumnDef × ℕ) → ScopeColumn
+scope_column known column = record { source = known; name = column.0.name; ty = column.0.ty; size = column.1 }
+
+-- the columns of a source that is known by this name
+abbrev pub source_columns : List ℕ → Named → List ScopeColumn
+source_columns known source = map (scope_column known) (zip source.columns source.sizes)
 
 -- a source is known by its alias, or else by its own name (ISO 9075-2, 7.6)
-abbrev pub scope_as : FromSource → Named → Scope
-scope_as f source = record { known = unwrap_or f.alias source.known; columns = source.columns; sizes = source.sizes; grouped = None }
+abbrev pub known_as : FromSource → Named → List ℕ
+known_as f source = unwrap_or f.alias source.known
 
--- what the items of a source's groups see of it
+-- what expressions over rows with these columns see
+abbrev pub of_rows : List ScopeColumn → Scope
+of_rows columns = record { columns = columns; grouped = None }
+
+-- what expressions over a source see of it under its own name
+abbrev pub scope_of : Named → Scope
+scope_of source = of_rows (source_columns source.known source)
+
+-- what expressions over a source see of it as FROM names it
+abbrev pub scope_as : FromSource → Named → Scope
+scope_as f source = of_rows (source_columns (known_as f source) source)
+
+-- what the items of groups see of the rows
 abbrev pub in_groups : List ColumnName → Scope → Scope
-in_groups group s = record s { grouped = Some group }
+in_groups group s = record { columns = s.columns; grouped = Some (group_places s.columns group) }

@@ -1,50 +1,76 @@
 -- The walk through an expression: each operand from left to right, and then the node that needs them. The first fault
 -- refuses, and what has none gives a value of a type or a condition (docs/LANGUAGE.md, Expressions).
-use Rattle.std.specs.Prelude.{ℕ, Bool, true, ◌&&◌, not, if◌then◌else◌, List, map, Option, Some, None, Result, Ok, Err, is_none, position, slice_index_or}
+use Rattle.std.specs.Prelude.{ℕ, ◌==◌, ◌+◌, Bool, true, ◌&&◌, not, if◌then◌else◌, List, map, drop, Option, Some, None, Result, Ok, Err, is_none, position, slice_index_or}
 use Rattle.std.specs.List.{list_any}
 use Rattle.cq_values.specs.declared.ty.Ty.{Ty}
 use Rattle.cq_values.specs.declared.ty.Ty.TheVariants as types
 use Rattle.cq_values.specs.Dates.{day_named}
 use Rattle.cq_values.specs.Texts.{is_text}
-use Rattle.cq_values.specs.declared.column.ColumnDef.{ColumnDef}
 use Rattle.cq_language.specs.declared.written.ColumnName.{ColumnName}
 use Rattle.cq_language.specs.Written.{Written, Choices, Number, Text, Date, Null, Column, Extract, CountAll, Aggregate, Parens, Negative, Times, Plus, Minus, Compare, IsNull, Between, In, Like, Not, And, Or, NoChoice, Choice}
 use Rattle.cq_binding.specs.declared.fault.Fault.{Fault}
-use Rattle.cq_binding.specs.declared.fault.Fault.TheVariants.{Syntax, UnknownTable, UnknownColumn, TypeMismatch, AggregateMisplaced, BadDate}
+use Rattle.cq_binding.specs.declared.fault.Fault.TheVariants.{Syntax, UnknownTable, UnknownColumn, AmbiguousColumn, TypeMismatch, AggregateMisplaced, BadDate}
 use Rattle.cq_binding.specs.declared.typing.Kind.TheVariants as kinds
 use Rattle.cq_binding.specs.declared.typing.Typing.{Typing}
-use Rattle.cq_binding.specs.Kinds.{◌and_then◌, unless, value_of, a_condition, agree, number_of, negative, sum_of, product_of, part_of, compared_with, tested, between_them, text_of, like_of, negation_of, connected, added, kept_value, kind_type}
+use Rattle.cq_binding.specs.Kinds.{◌and_then◌, unless, value_of, a_condition, agree, number_of, negative, sum_of, product_of, part_of, compared_with, tested, between_them, text_of, like_of, negation_of, connected, added, of_type, kept_value, kind_type}
 
--- the source that expressions read: the name that it is known by, its columns, and the size that each one's numbers never exceed;
--- the items of groups read the columns behind GROUP BY alone
+-- a column that expressions read: the name that its source is known by, its own name, its type, and the size that its
+-- numbers never exceed
+pub record ScopeColumn : Type 0 where
+  pub source : List ℕ
+  pub name : List ℕ
+  pub ty : Ty
+  pub size : ℕ
+
+-- what expressions read: the columns of all sources, each of which has one at least, in the order of the joined rows. The
+-- items of groups read the columns of GROUP BY alone, which stand at these places
 pub record Scope : Type 0 where
-  pub known : List ℕ
-  pub columns : List ColumnDef
-  pub sizes : List ℕ
-  pub grouped : Option (List ColumnName)
+  pub columns : List ScopeColumn
+  pub grouped : Option (List ℕ)
 
--- where the column of a name stands
-abbrev pub column_at : Scope → List ℕ → Option ℕ
-column_at s name = position (λ c. is_text c.name name) s.columns
+-- whether a source is known by a name
+abbrev pub is_known : List ScopeColumn → List ℕ → Bool
+is_known columns name = list_any (λ column. is_text column.source name) columns
 
--- the source that a column names, if it names one, is the one that is there
-abbrev pub knows : Scope → Option (List ℕ) → Bool
-knows s None = true
-knows s (Some source) = is_text s.known source
+-- the source that a column's name tells, if it tells one, is there
+abbrev pub knows : List ScopeColumn → Option (List ℕ) → Bool
+knows columns None = true
+knows columns (Some source) = is_known columns source
+
+-- whether a column is of the source that a name tells, if it tells one
+abbrev pub is_of_source : Option (List ℕ) → ScopeColumn → Bool
+is_of_source None column = true
+is_of_source (Some source) column = is_text column.source source
+
+-- whether a name means this column
+abbrev pub is_meant : ColumnName → ScopeColumn → Bool
+is_meant c column = is_text column.name c.name && is_of_source c.source column
+
+-- a name means one column: it is unknown where it means none, and ambiguous where it means another behind the first
+abbrev pub one_meant : List ScopeColumn → ColumnName → Option ℕ → Result ℕ Fault
+one_meant columns c None = Err UnknownColumn
+one_meant columns c (Some place) = unless (not (list_any (is_meant c) (drop (place + 1) columns))) AmbiguousColumn place
+
+-- where the column stands that a name means: the source is looked up, and then the column (ISO 9075-2, 6.7)
+abbrev pub resolved : List ScopeColumn → ColumnName → Result ℕ Fault
+resolved columns c = if knows columns c.source then one_meant columns c (position (is_meant c) columns) else Err UnknownTable
 
 -- the type of the column at a place, which is there
-abbrev pub type_at : List ColumnDef → ℕ → Ty
-type_at cs i = slice_index_or (map (λ c. c.ty) cs) i types.Integer
+abbrev pub type_at : List ScopeColumn → ℕ → Ty
+type_at columns place = slice_index_or (map (λ c. c.ty) columns) place types.Integer
 
--- whether a column that is there may be read: all of a source's may, and of a group's those behind GROUP BY
-abbrev pub may_read : Option (List ColumnName) → List ℕ → Bool
-may_read None name = true
-may_read (Some group) name = list_any (λ g. is_text g.name name) group
+-- the size that the numbers of the column at a place never exceed
+abbrev pub size_at : List ScopeColumn → ℕ → ℕ
+size_at columns place = slice_index_or (map (λ c. c.size) columns) place 0
 
--- a column: its name, and then whether it is grouped
-abbrev pub column_typing : Scope → List ℕ → Option ℕ → Result Typing Fault
-column_typing s name None = Err UnknownColumn
-column_typing s name (Some i) = unless (may_read s.grouped name) AggregateMisplaced (value_of (type_at s.columns i) (slice_index_or s.sizes i 0))
+-- whether the column at a place may be read: each of a row may, and of a group's row those of GROUP BY
+abbrev pub may_read : Option (List ℕ) → ℕ → Bool
+may_read None place = true
+may_read (Some group) place = list_any (λ g. g == place) group
+
+-- a column that is there gives a value, where it may be read
+abbrev pub column_typing : Scope → ℕ → Result Typing Fault
+column_typing s place = unless (may_read s.grouped place) AggregateMisplaced (value_of (type_at s.columns place) (size_at s.columns place))
 
 abbrev mutual
   -- what an expression gives, or its first fault
@@ -53,7 +79,7 @@ abbrev mutual
   typed s (Text t) = text_of t
   typed s (Date t) = unless (not (is_none (day_named t))) BadDate (value_of types.Date 0)
   typed s Null = Ok (record { kind = kinds.Null; size = 0 })
-  typed s (Column c) = if knows s c.source then column_typing s c.name (column_at s c.name) else Err UnknownTable
+  typed s (Column c) = resolved s.columns c and_then column_typing s
   typed s (Extract part a) = typed s a and_then part_of part
   -- an aggregate is no part of an expression yet, so that it is never reached
   typed s CountAll = Err Syntax
@@ -93,6 +119,10 @@ value_fault t = fault_in (t and_then tested)
 -- a number that is asked for as a whole, to be added
 abbrev pub number_fault : Result Typing Fault → Option Fault
 number_fault t = fault_in (t and_then added)
+
+-- a value of a type that is asked for as a whole, as a column is set to it
+abbrev pub set_fault : Ty → Result Typing Fault → Option Fault
+set_fault ty t = fault_in (t and_then of_type ty)
 
 -- a value with a type that is asked for as a whole, as an item of a view
 abbrev pub kept_fault : Result Typing Fault → Option Fault

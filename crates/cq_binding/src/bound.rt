@@ -1,5 +1,5 @@
 //! Statements with their names resolved.
-use cq_model::{Assignment, Cond, Expr, Order, Query};
+use cq_model::{Assignment, Cond, Order, Query};
 use cq_values::{ColumnDef, Row, Seq, Text};
 
 /// What an accepted statement tells the engine to do. A table goes by its number, and a view by its place among the

@@ -21,6 +21,8 @@ pub enum Fault {
     UnknownTable,
     #[error("12 unknown column")]
     UnknownColumn,
+    #[error("13 ambiguous column")]
+    AmbiguousColumn,
     #[error("14 name taken")]
     NameTaken,
     #[error("15 type mismatch")]
@@ -29,6 +31,8 @@ pub enum Fault {
     AggregateMisplaced,
     #[error("17 expression too wide")]
     TooWide,
+    #[error("18 over 4 base tables")]
+    TooManyTables,
     #[error("19 number outside 64 bits")]
     NumberOutside,
     #[error("20 NULL in a NOT NULL column")]
@@ -66,10 +70,12 @@ impl Fault {
             Fault::Syntax => "10 syntax",
             Fault::UnknownTable => "11 unknown table or view",
             Fault::UnknownColumn => "12 unknown column",
+            Fault::AmbiguousColumn => "13 ambiguous column",
             Fault::NameTaken => "14 name taken",
             Fault::TypeMismatch => "15 type mismatch",
             Fault::AggregateMisplaced => "16 aggregate misplaced or column not grouped",
             Fault::TooWide => "17 expression too wide",
+            Fault::TooManyTables => "18 over 4 base tables",
             Fault::NumberOutside => "19 number outside 64 bits",
             Fault::NullNotAllowed => "20 NULL in a NOT NULL column",
             Fault::TableFull => "21 table full",

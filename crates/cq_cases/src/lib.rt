@@ -1,7 +1,6 @@
-//! The table of cases for what a query means: each with its answer by hand, asked of the plain evaluator.
+//! Cases for queries of one source, and for DELETE and UPDATE: each with its answer by hand, asked of the plain evaluator.
 //!
-//! A case writes its query in place, as data (`asked`), and the rows that it must give. The rest are the last queries of
-//! the worked rows, whose answers are compared as printed text.
+//! A case writes its query in place, as data (`cq_asked`), and the rows that it must give.
 #![tactic(auto)]
 
 #[cfg(test)]

@@ -1,7 +1,8 @@
 -- What a run of a script does.
-use Rattle.std.specs.Prelude.{◌≡◌, ℕ, ◌+◌, ◌^◌, Bool, true, false, if◌then◌else◌, List, ◌++◌, Option, Result, Ok, Err, IfOk}
+use Rattle.std.specs.Prelude.{◌≡◌, ℕ, ◌+◌, Bool, true, false, if◌then◌else◌, List, ◌++◌, Option, Result, Ok, Err, IfOk}
 use Rattle.std.specs.List.{list_all}
 use Rattle.cq_steps.specs.declared.answer.Answer.{Answer}
+use Rattle.cq_states.specs.Fitting.{rows_limit}
 use Rattle.cq_binding.specs.declared.fault.Fault.{Fault}
 use Rattle.cq_steps.specs.Output.{HasOutcomes, output_of, source_failures}
 use Rattle.cq_cli.specs.declared.endings.Status.{Status}
@@ -57,6 +58,6 @@ pub record EndsProgram {K : Type 0} (script : List ℕ) (sink : Sink K) (old new
   pub ended : Result Status RunFault
   pub asked : ℕ
   pub failed : ℕ
-  pub ran : RunsScript (2 ^ 24) script (sink.contents old) (sink.contents new) (sink.failures old) (sink.failures new) asked failed ended
+  pub ran : RunsScript rows_limit script (sink.contents old) (sink.contents new) (sink.failures old) (sink.failures new) asked failed ended
   pub flushed : IfOk ended (λ status. sink.is_flushed new ≡ true)
   pub told : exit ≡ exit_number ended

@@ -13,7 +13,7 @@ use Rattle.cq_kept.specs.Kept.{Group, GroupStands, Groups, group_of, group_after
 use Rattle.cq_laws.proofs.Keeps.{last-goes_on}
 use Rattle.cq_deltas.specs.declared.change.Addition.{Addition}
 use Rattle.cq_deltas.specs.Additions.{AreTotals}
-use Rattle.cq_deltas.specs.Keyed.{Table, stored_at, group_at, is_met, group_with_all, settled, HasKeys, Takes, GroupsGoOn}
+use Rattle.cq_deltas.specs.Keyed.{KeyedGroups, stored_at, group_at, is_met, group_with_all, settled, HasKeys, Takes, GroupsGoOn}
 use Rattle.cq_deltas.proofs.MetKeys.{unmet-stays}
 use Rattle.cq_deltas.proofs.NoRows.{empty-stands}
 use Rattle.cq_deltas.proofs.Rowwise.{shaped, change-rowwise}
@@ -30,7 +30,7 @@ there-is None h e = absurd (true≢false (sym h))
 there-is (Some g) h e = refl
 
 -- the groups go on with their change
-pub groups-go-on : (old new : Table) (change : List Addition) → HasKeys change old → Takes old change new → GroupsGoOn old change new
+pub groups-go-on : (old new : KeyedGroups) (change : List Addition) → HasKeys change old → Takes old change new → GroupsGoOn old change new
 groups-go-on old new change keyed takes = λ q keys aggregates having xs dxs ys is totals same bag stands k.
     let columns = unwrap_or keys [] in
     let rows = rows_of_key columns k ys in

@@ -1,10 +1,10 @@
+pub mod AtKeys
 pub mod GoesOn
 pub mod Listing
 pub mod MetKeys
 pub mod NoRows
 pub mod Ranges
 pub mod Rowwise
+pub mod Showing
 pub mod Small
-pub mod Tables
-pub mod Telling
 pub mod Turns

@@ -9,7 +9,7 @@ use Rattle.cq_values.specs.Keys.{same_row-refl, same_row-same}
 use Rattle.cq_bags.proofs.Totals.{by_test}
 use Rattle.cq_kept.specs.Kept.{Group}
 use Rattle.cq_deltas.specs.declared.change.Addition.{Addition}
-use Rattle.cq_deltas.specs.Keyed.{Table, stored_at, is_met, group_with_all, settled, HasKeys, Takes}
+use Rattle.cq_deltas.specs.Keyed.{KeyedGroups, stored_at, is_met, group_with_all, settled, HasKeys, Takes}
 
 -- a change meets the key of each of its rows
 met-at : (xs : List Addition) (i : ℕ) (d : Addition) → i < length xs → is_met xs (get_or xs i d).key ≡ true
@@ -22,14 +22,14 @@ still f None e = absurd (true≢false (sym e))
 still f (Some g) e = refl
 
 -- the next row's group is there
-pub next-there : (old now : Table) (xs : List Addition) (i : ℕ) (x : Addition) → HasKeys xs old → i < length xs → x ≡ get_or xs i x
+pub next-there : (old now : KeyedGroups) (xs : List Addition) (i : ℕ) (x : Addition) → HasKeys xs old → i < length xs → x ≡ get_or xs i x
     → ((k : Row) → stored_at now k ≡ option_map (group_with_all (take i xs) k) (stored_at old k)) → is_some (stored_at now x.key) ≡ true
 next-there old now xs i x keys h is so_far =
     ap is_some (so_far x.key)
     ∙ still (group_with_all (take i xs) x.key) (stored_at old x.key) (keys.at x.key (ap (λ (y : Addition). is_met xs y.key) is ∙ met-at xs i x h))
 
 -- with the next key made, one more is there
-pub keys-more : (xs : List Addition) (i : ℕ) (x : Addition) (old new : Table) → i < length xs → x ≡ get_or xs i x → HasKeys (take i xs) old
+pub keys-more : (xs : List Addition) (i : ℕ) (x : Addition) (old new : KeyedGroups) → i < length xs → x ≡ get_or xs i x → HasKeys (take i xs) old
     → ((k : Row) → is_some (stored_at old k) ≡ true → is_some (stored_at new k) ≡ true) → is_some (stored_at new x.key) ≡ true → HasKeys (take (i + 1) xs) new
 keys-more xs i x old new h is keys kept there = record {
   at = λ k met.
@@ -54,7 +54,7 @@ unmet-stays (x ∷ xs) k g e = by_test (same_row x.key k)
     (λ s. rw s (unmet-stays xs k g (rw s at e)))
 
 -- the rows put in, and then the empty groups dropped
-pub taken : (old middle new : Table) (change : List Addition) → ((k : Row) → stored_at middle k ≡ option_map (group_with_all change k) (stored_at old k))
+pub taken : (old middle new : KeyedGroups) (change : List Addition) → ((k : Row) → stored_at middle k ≡ option_map (group_with_all change k) (stored_at old k))
     → ((k : Row) → stored_at new k ≡ cond (is_met change k) (settled (stored_at middle k)) (stored_at middle k)) → Takes old change new
 taken old middle new change put drop = record {
   at = λ k.

@@ -10,7 +10,7 @@ use Rattle.cq_bags.proofs.Totals.{by_test}
 use Rattle.cq_kept.specs.Kept.{Kept, Counted, Totalled, Listed, Group}
 use Rattle.cq_deltas.specs.declared.change.Addition.{Addition}
 use Rattle.cq_deltas.specs.Kept.{kept_with, all_kept_with, total_move, total_moves, KeptHolds, GroupHolds}
-use Rattle.cq_deltas.specs.Keyed.{Table, stored_at, group_met, group_with_all, count_moves, all_total_moves, HoldsFor}
+use Rattle.cq_deltas.specs.Keyed.{KeyedGroups, stored_at, group_met, group_with_all, count_moves, all_total_moves, HoldsFor}
 use Rattle.cq_deltas.proofs.Turns.{holds-less}
 
 all-holds-less : (counts totals c t : ℕ) (ks : List Kept) → c ≤ counts → t ≤ totals → AllByRecursion (KeptHolds counts totals) ks → AllByRecursion (KeptHolds c t) ks
@@ -59,7 +59,7 @@ some-same : (g h : Group) → Some g ≡ Some h → g ≡ h
 some-same g h e = cc e
 
 -- so a row can be put in after those before it
-pub next-holds : (old now : Table) (xs : List Addition) (i : ℕ) (x : Addition) → HoldsFor xs old → i < length xs → x ≡ get_or xs i x
+pub next-holds : (old now : KeyedGroups) (xs : List Addition) (i : ℕ) (x : Addition) → HoldsFor xs old → i < length xs → x ≡ get_or xs i x
     → ((k : Row) → stored_at now k ≡ option_map (group_with_all (take i xs) k) (stored_at old k))
     → (g : Group) → stored_at now x.key ≡ Some g → GroupHolds (nat_abs x.weight) (total_moves x.weight x.addends) g
 next-holds old now xs i x holds h is so_far g e = by (stored_at old x.key) refl

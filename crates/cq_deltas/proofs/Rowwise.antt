@@ -30,7 +30,7 @@ AreShaped [] [] = Unit {0}
 AreShaped (a ∷ aggregates) (k ∷ kept) = IsShaped a k × AreShaped aggregates kept
 AreShaped aggregates kept = ⊥
 
--- what tells aggregates is of their kind
+-- what shows aggregates is of their kind
 pub shaped : (aggregates : List Aggregate) (xs : Weighted) (kept : List Kept) → AreTotals aggregates → AreKept aggregates xs kept → AreShaped aggregates kept
 shaped [] xs [] t h = tt
 shaped [] xs (k ∷ kept) t h = absurd h

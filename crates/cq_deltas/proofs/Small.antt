@@ -1,4 +1,4 @@
--- Groups that stand for few and small rows hold, and can be told where the model's can.
+-- Groups that stand for few and small rows hold, and can be shown where the model's can.
 use Rattle.std.proofs.Common.{◌≡◌, ℕ, ◌+◌, ◌<◌, ◌≤◌, ◌^◌, ◌↔◌, pos, ◌+ℤ◌, List, [], ◌∷◌, map, Option, unwrap_or, refl, sym, ◌∙◌, ap, ap₂, subst, arith}
 use Rattle.std.specs.List.{AllByRecursion}
 use Rattle.std.proofs.lemmas.Int.{ints}
@@ -12,13 +12,13 @@ use Rattle.cq_deltas.specs.declared.change.Addition.{Addition}
 use Rattle.cq_deltas.specs.Additions.{AreTotals, IsTotal, additions}
 use Rattle.cq_deltas.specs.Kept.{KeptHolds, GroupHolds}
 use Rattle.cq_deltas.specs.Laws.{AreSmall}
-use Rattle.cq_deltas.specs.Keyed.{Table, group_at, group_with_all, count_moves, all_total_moves, HoldsFor}
-use Rattle.cq_deltas.specs.Told.{CanBeTold, AllCanBeTold}
+use Rattle.cq_deltas.specs.Keyed.{KeyedGroups, group_at, group_with_all, count_moves, all_total_moves, HoldsFor}
+use Rattle.cq_deltas.specs.Shown.{CanBeShown, AllCanBeShown}
 use Rattle.cq_deltas.proofs.NoRows.{all_kept-none}
 use Rattle.cq_deltas.proofs.Ranges.{group_with_all-holds}
 use Rattle.cq_deltas.proofs.Rowwise.{shaped, change-rowwise}
 
--- what tells aggregates of rows is what is kept of none, with the rows put in
+-- what shows aggregates of rows is what is kept of none, with the rows put in
 kept-from-nothing : (aggregates : List Aggregate) (xs : Weighted) (kept : List Kept) → AreTotals aggregates → AreKept aggregates xs kept
     → all_kept_after aggregates xs (map (kept_of []) aggregates) ≡ kept
 kept-from-nothing [] xs [] t h = refl
@@ -53,7 +53,7 @@ nothing-holds counts totals (Sum e ∷ aggregates) x y t = ((omega (arith, ints,
 nothing-holds counts totals (Min e ∷ aggregates) x y t = absurd t.0
 nothing-holds counts totals (Max e ∷ aggregates) x y t = absurd t.0
 
-pub small-hold : (columns : List ℕ) (aggregates : List Aggregate) (xs : Weighted) (table : Table) (change : List Addition) → AreTotals aggregates
+pub small-hold : (columns : List ℕ) (aggregates : List Aggregate) (xs : Weighted) (table : KeyedGroups) (change : List Addition) → AreTotals aggregates
     → ((k : Row) → GroupStands aggregates (rows_of_key columns k xs) (group_at aggregates table k)) → AreSmall (additions columns aggregates xs) change → HoldsFor change table
 small-hold columns aggregates xs table change totals stands small = record {
   at = λ k g is.
@@ -70,13 +70,13 @@ small-hold columns aggregates xs table change totals stands small = record {
       }));
 }
 
--- what is kept can be told where the totals can
-told-range : (aggregates : List Aggregate) (xs : Weighted) (kept : List Kept) → AreKept aggregates xs kept → AllCanBeTold aggregates kept → AllByRecursion (λ a. SumInRange a xs) aggregates
-told-range [] xs kept h all = tt
-told-range (a ∷ aggregates) xs [] h all = absurd h
-told-range (a ∷ aggregates) xs (k ∷ kept) h all = (one a k h.0 all.0, told-range aggregates xs kept h.1 all.1)
+-- what is kept can be shown where the totals can
+shown-range : (aggregates : List Aggregate) (xs : Weighted) (kept : List Kept) → AreKept aggregates xs kept → AllCanBeShown aggregates kept → AllByRecursion (λ a. SumInRange a xs) aggregates
+shown-range [] xs kept h all = tt
+shown-range (a ∷ aggregates) xs [] h all = absurd h
+shown-range (a ∷ aggregates) xs (k ∷ kept) h all = (one a k h.0 all.0, shown-range aggregates xs kept h.1 all.1)
   where
-    one : (a : Aggregate) (k : Kept) → IsKept a xs k → CanBeTold a k → SumInRange a xs
+    one : (a : Aggregate) (k : Kept) → IsKept a xs k → CanBeShown a k → SumInRange a xs
     one (Sum e) (Totalled n total) h can = subst InRange h.1 can
     one (Sum e) (Counted n) h can = absurd h
     one (Sum e) (Listed values) h can = absurd h
@@ -85,12 +85,12 @@ told-range (a ∷ aggregates) xs (k ∷ kept) h all = (one a k h.0 all.0, told-r
     one (Min e) k h can = tt
     one (Max e) k h can = tt
 
-range-told : (aggregates : List Aggregate) (xs : Weighted) (kept : List Kept) → AreKept aggregates xs kept → AllByRecursion (λ a. SumInRange a xs) aggregates → AllCanBeTold aggregates kept
-range-told [] xs kept h all = tt
-range-told (a ∷ aggregates) xs [] h all = absurd h
-range-told (a ∷ aggregates) xs (k ∷ kept) h all = (one a k h.0 all.0, range-told aggregates xs kept h.1 all.1)
+range-shown : (aggregates : List Aggregate) (xs : Weighted) (kept : List Kept) → AreKept aggregates xs kept → AllByRecursion (λ a. SumInRange a xs) aggregates → AllCanBeShown aggregates kept
+range-shown [] xs kept h all = tt
+range-shown (a ∷ aggregates) xs [] h all = absurd h
+range-shown (a ∷ aggregates) xs (k ∷ kept) h all = (one a k h.0 all.0, range-shown aggregates xs kept h.1 all.1)
   where
-    one : (a : Aggregate) (k : Kept) → IsKept a xs k → SumInRange a xs → CanBeTold a k
+    one : (a : Aggregate) (k : Kept) → IsKept a xs k → SumInRange a xs → CanBeShown a k
     one (Sum e) (Totalled n total) h can = subst InRange (sym h.1) can
     one (Sum e) (Counted n) h can = absurd h
     one (Sum e) (Listed values) h can = absurd h
@@ -99,11 +99,11 @@ range-told (a ∷ aggregates) xs (k ∷ kept) h all = (one a k h.0 all.0, range-
     one (Min e) k h can = tt
     one (Max e) k h can = tt
 
-pub ranges-tell : (aggregates : List Aggregate) (xs : Weighted) (g : Group) → GroupStands aggregates xs g → AllCanBeTold aggregates g.kept ↔ AllByRecursion (λ a. SumInRange a xs) aggregates
-ranges-tell aggregates xs g h = (told-range aggregates xs g.kept h.kept, range-told aggregates xs g.kept h.kept)
+pub ranges-show : (aggregates : List Aggregate) (xs : Weighted) (g : Group) → GroupStands aggregates xs g → AllCanBeShown aggregates g.kept ↔ AllByRecursion (λ a. SumInRange a xs) aggregates
+ranges-show aggregates xs g h = (shown-range aggregates xs g.kept h.kept, range-shown aggregates xs g.kept h.kept)
 
 -- groups of no rows hold for a small change
-pub first-hold : (aggregates : List Aggregate) (table : Table) (change : List Addition) → AreTotals aggregates
+pub first-hold : (aggregates : List Aggregate) (table : KeyedGroups) (change : List Addition) → AreTotals aggregates
     → ((k : Row) → group_at aggregates table k ≡ group_of aggregates []) → AreSmall [] change → HoldsFor change table
 first-hold aggregates table change totals none small =
     small-hold [] aggregates [] table change totals (λ k. subst (GroupStands aggregates []) (sym (none k)) (record { count = refl; kept = all_kept-none aggregates totals })) small

@@ -41,7 +41,7 @@ IsNarrow r a = Unit {0}
 abbrev pub IsSmall : Row → Aggregate → Type 0
 IsSmall r a = IfSome (addend_of r a) (λ n. nat_abs n ≤ number_limit)
 
--- COUNT and SUM, which are told by counts and totals
+-- COUNT and SUM, which are shown by counts and totals
 abbrev pub IsTotal : Aggregate → Type 0
 IsTotal (Min e) = ⊥
 IsTotal (Max e) = ⊥

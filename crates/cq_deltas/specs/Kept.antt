@@ -6,7 +6,7 @@ use Rattle.cq_deltas.specs.declared.kept.Kept.{Kept as Stored}
 use Rattle.cq_deltas.specs.declared.kept.Kept.TheVariants as stored
 use Rattle.cq_model.specs.Width.{number_limit}
 
--- what is stored of an aggregate tells so much
+-- what is stored of an aggregate shows so much
 abbrev pub seen : Stored → Kept
 seen (stored.Counted n) = Counted n
 seen (stored.Totalled t) = Totalled t.values t.total

@@ -17,16 +17,16 @@ use Rattle.cq_deltas.specs.Additions.{AreTotals, additions}
 use Rattle.cq_deltas.specs.Kept.{GroupHolds, group_with, total_moves}
 
 -- keys with their groups
-abbrev pub Table : Type 0
-Table = List (Row × Group)
+abbrev pub KeyedGroups : Type 0
+KeyedGroups = List (Row × Group)
 
 -- what is stored of a key
-abbrev pub stored_at : Table → Row → Option Group
-stored_at table k = lookup (same_row k) table
+abbrev pub stored_at : KeyedGroups → Row → Option Group
+stored_at groups k = lookup (same_row k) groups
 
 -- the group of a key: where none is stored, that of no rows
-abbrev pub group_at : List Aggregate → Table → Row → Group
-group_at aggregates table k = unwrap_or (stored_at table k) (group_of aggregates [])
+abbrev pub group_at : List Aggregate → KeyedGroups → Row → Group
+group_at aggregates groups k = unwrap_or (stored_at groups k) (group_of aggregates [])
 
 -- whether a change has a row with the key
 abbrev pub is_met : List Addition → Row → Bool
@@ -50,28 +50,28 @@ abbrev pub stored_after : List Addition → Row → Option Group → Option Grou
 stored_after change k stored = if is_met change k then settled (option_map (group_with_all change k) stored) else stored
 
 -- new is old with the change put in
-pub record Takes (old : Table) (change : List Addition) (new : Table) : Type 0 where
+pub record Takes (old : KeyedGroups) (change : List Addition) (new : KeyedGroups) : Type 0 where
   pub at : (k : Row) → stored_at new k ≡ stored_after change k (stored_at old k)
 
 -- each key of the change is stored: what groups have that were made ready for it
-pub record HasKeys (change : List Addition) (table : Table) : Type 0 where
-  pub at : (k : Row) → is_met change k ≡ true → is_some (stored_at table k) ≡ true
+pub record HasKeys (change : List Addition) (groups : KeyedGroups) : Type 0 where
+  pub at : (k : Row) → is_met change k ≡ true → is_some (stored_at groups k) ≡ true
 
 -- each stored group has the changed rows put in, and none is dropped
-abbrev pub ArePut : Table → List Addition → Table → Type 0
+abbrev pub ArePut : KeyedGroups → List Addition → KeyedGroups → Type 0
 ArePut old change new = (k : Row) → stored_at new k ≡ option_map (group_with_all change k) (stored_at old k)
 
 -- so it is for one changed row
-abbrev pub IsPut : Table → Addition → Table → Type 0
+abbrev pub IsPut : KeyedGroups → Addition → KeyedGroups → Type 0
 IsPut old x new = (k : Row) → stored_at new k ≡ option_map (λ g. group_met k g x) (stored_at old k)
 
 -- of these keys, groups without rows are dropped, and nothing else changes
-abbrev pub AreSettled : (Row → Bool) → Table → Table → Type 0
+abbrev pub AreSettled : (Row → Bool) → KeyedGroups → KeyedGroups → Type 0
 AreSettled keys old new = (k : Row) → stored_at new k ≡ (if keys k then settled (stored_at old k) else stored_at old k)
 
 -- a changed row leaves its key's group in range
-abbrev pub HoldsOne : Addition → Table → Type 0
-HoldsOne x table = (g : Group) → stored_at table x.key ≡ Some g → GroupHolds (nat_abs x.weight) (total_moves x.weight x.addends) g
+abbrev pub HoldsOne : Addition → KeyedGroups → Type 0
+HoldsOne x groups = (g : Group) → stored_at groups x.key ≡ Some g → GroupHolds (nat_abs x.weight) (total_moves x.weight x.addends) g
 
 -- how far a change can move a count
 abbrev pub count_moves : List Addition → ℕ
@@ -82,11 +82,11 @@ abbrev pub all_total_moves : List Addition → ℕ
 all_total_moves change = sum_by (λ x. total_moves x.weight x.addends) change
 
 -- no count and no total leaves its range while the change is put in
-pub record HoldsFor (change : List Addition) (table : Table) : Type 0 where
-  pub at : (k : Row) (g : Group) → stored_at table k ≡ Some g → GroupHolds (count_moves change) (all_total_moves change) g
+pub record HoldsFor (change : List Addition) (groups : KeyedGroups) : Type 0 where
+  pub at : (k : Row) (g : Group) → stored_at groups k ≡ Some g → GroupHolds (count_moves change) (all_total_moves change) g
 
 -- groups that stand for rows stand for the changed rows, once their change is put in
-abbrev pub GroupsGoOn : Table → List Addition → Table → Type 0
+abbrev pub GroupsGoOn : KeyedGroups → List Addition → KeyedGroups → Type 0
 GroupsGoOn old change new =
     (q : Query) (keys : Option (List ℕ)) (aggregates : List Aggregate) (having : Option Cond) (xs dxs ys : Weighted)
     → change ≡ additions (unwrap_or keys []) aggregates dxs → AreTotals aggregates → SameBag ys (xs ++ dxs) → IsBag ys

@@ -10,8 +10,8 @@ use Rattle.cq_model.specs.Group.{SumInRange}
 use Rattle.cq_kept.specs.Kept.{Group, GroupStands, Groups, LastStands}
 use Rattle.cq_deltas.specs.declared.change.Addition.{Addition}
 use Rattle.cq_deltas.specs.Additions.{AreTotals, additions}
-use Rattle.cq_deltas.specs.Keyed.{Table, group_at, count_moves, all_total_moves, HoldsFor}
-use Rattle.cq_deltas.specs.Told.{AllCanBeTold}
+use Rattle.cq_deltas.specs.Keyed.{KeyedGroups, group_at, count_moves, all_total_moves, HoldsFor}
+use Rattle.cq_deltas.specs.Shown.{AllCanBeShown}
 use Rattle.cq_model.specs.Width.{number_limit}
 
 -- what rows and a change can move counts and totals together is in range
@@ -22,12 +22,12 @@ pub record AreSmall (rows change : List Addition) : Type 0 where
 -- groups that stand for such rows hold while the change is put in
 abbrev pub SmallRowsHold : Type 0
 SmallRowsHold =
-    (q : Query) (keys : Option (List ℕ)) (aggregates : List Aggregate) (having : Option Cond) (xs : Weighted) (table : Table) (change : List Addition)
-    → AreTotals aggregates → LastStands q (Grouped keys aggregates having) xs (Groups (group_at aggregates table))
-    → AreSmall (additions (unwrap_or keys []) aggregates xs) change → HoldsFor change table
+    (q : Query) (keys : Option (List ℕ)) (aggregates : List Aggregate) (having : Option Cond) (xs : Weighted) (groups : KeyedGroups) (change : List Addition)
+    → AreTotals aggregates → LastStands q (Grouped keys aggregates having) xs (Groups (group_at aggregates groups))
+    → AreSmall (additions (unwrap_or keys []) aggregates xs) change → HoldsFor change groups
 
--- a group that stands for rows can be told exactly where their totals can be shown
-abbrev pub RangesTell : Type 0
-RangesTell =
+-- a group that stands for rows can be shown exactly where their totals can be shown
+abbrev pub RangesShow : Type 0
+RangesShow =
     (aggregates : List Aggregate) (xs : Weighted) (group : Group) → GroupStands aggregates xs group
-    → AllCanBeTold aggregates group.kept ↔ AllByRecursion (λ a. SumInRange a xs) aggregates
+    → AllCanBeShown aggregates group.kept ↔ AllByRecursion (λ a. SumInRange a xs) aggregates

@@ -2,4 +2,4 @@ pub mod Additions
 pub mod Kept
 pub mod Laws
 pub mod Keyed
-pub mod Told
+pub mod Shown

@@ -1,13 +1,13 @@
-//! Why the row of a group cannot be told.
+//! Why the row of a group cannot be shown.
 ghost use Rattle.std.specs.Prelude.{◌≡◌};
-ghost use Rattle.cq_deltas.specs.declared.fault.ToldFault.TheVariants.{Memory};
+ghost use Rattle.cq_deltas.specs.declared.fault.ShowFault.TheVariants.{Memory};
 
 use std::alloc::{AllocError, AllocFailed};
 use thiserror::Error;
 
 /// Why there is no row.
 #[derive(Clone, Copy, Debug, PartialEq, Eq, Error)]
-pub enum ToldFault {
+pub enum ShowFault {
     #[error("out of memory")]
     Memory,
     /// The total of a SUM does not fit 127 bits and a sign.
@@ -15,18 +15,18 @@ pub enum ToldFault {
     SumOutOfRange,
 }
 
-impl From<AllocError> for ToldFault {
+impl From<AllocError> for ShowFault {
     ghost from_gives = { λ _ e. e ≡ Memory };
 
-    fn from(_e: AllocError) -> ToldFault {
-        ToldFault::Memory
+    fn from(_e: AllocError) -> ShowFault {
+        ShowFault::Memory
     }
 }
 
-impl<T: Drop> From<AllocFailed<T>> for ToldFault {
+impl<T: Drop> From<AllocFailed<T>> for ShowFault {
     ghost from_gives = { λ _ e. e ≡ Memory };
 
-    fn from(_e: AllocFailed<T>) -> ToldFault {
-        ToldFault::Memory
+    fn from(_e: AllocFailed<T>) -> ShowFault {
+        ShowFault::Memory
     }
 }

@@ -1,13 +1,13 @@
 //! A group: how many rows it has, and what is kept of its aggregates.
 ghost use Rattle.std.specs.List.{AllByRecursion};
 ghost use Rattle.std.specs.Prelude.{nat_abs, ◌≡◌, [], IfErr, IfOk, OnOk, map};
-ghost use Rattle.cq_kept.specs.Kept.{group_of, told_row};
-ghost use Rattle.cq_deltas.specs.declared.fault.ToldFault.TheVariants.{SumOutOfRange};
-ghost use Rattle.cq_deltas.specs.Told.{AllCanBeTold};
+ghost use Rattle.cq_kept.specs.Kept.{group_of, shown_row};
+ghost use Rattle.cq_deltas.specs.declared.fault.ShowFault.TheVariants.{SumOutOfRange};
+ghost use Rattle.cq_deltas.specs.Shown.{AllCanBeShown};
 ghost use Rattle.cq_deltas.specs.Additions.{AreTotals};
 ghost use Rattle.cq_deltas.specs.Kept.{GroupHolds, KeptHolds, all_kept_with, group_with, seen, total_moves};
 
-use crate::fault::ToldFault;
+use crate::fault::ShowFault;
 use crate::kept::Kept;
 use cq_model::Aggregate;
 use cq_values::{Row, copy_row};
@@ -60,32 +60,37 @@ impl Group {
         add_all(&mut self.kept, weight, addends);
     }
 
-    /// The row that the group tells: its key, and then its aggregates.
-    pub fn told(&self, alloc: Global, aggregates: &[Aggregate], key: &Row) -> Result<Row, ToldFault>
-        ensures row { IfOk result (λ row. row ≡ told_row aggregates.now key.now self.now.kept) }
-        ensures range { OnOk result (AllCanBeTold aggregates.now self.now.kept) }
-        ensures fault { IfErr result (λ e. e ≡ SumOutOfRange → AllCanBeTold aggregates.now self.now.kept → ⊥) }
+    /// The row that the group shows: its key, and then its aggregates.
+    pub fn shown(
+        &self,
+        alloc: Global,
+        aggregates: &[Aggregate],
+        key: &Row,
+    ) -> Result<Row, ShowFault>
+        ensures row { IfOk result (λ row. row ≡ shown_row aggregates.now key.now self.now.kept) }
+        ensures range { OnOk result (AllCanBeShown aggregates.now self.now.kept) }
+        ensures fault { IfErr result (λ e. e ≡ SumOutOfRange → AllCanBeShown aggregates.now self.now.kept → ⊥) }
     {
-        told_row(alloc, aggregates, key, &self.kept)
+        shown_row(alloc, aggregates, key, &self.kept)
     }
 }
 
-fn told_row(
+fn shown_row(
     alloc: Global,
     aggregates: &[Aggregate],
     key: &Row,
     kept: &[Kept],
-) -> Result<Row, ToldFault>
-    ensures row { IfOk result (λ row. row ≡ told_row aggregates.now key.now (map seen kept.now)) }
-    ensures range { OnOk result (AllCanBeTold aggregates.now (map seen kept.now)) }
-    ensures fault { IfErr result (λ e. e ≡ SumOutOfRange → AllCanBeTold aggregates.now (map seen kept.now) → ⊥) }
+) -> Result<Row, ShowFault>
+    ensures row { IfOk result (λ row. row ≡ shown_row aggregates.now key.now (map seen kept.now)) }
+    ensures range { OnOk result (AllCanBeShown aggregates.now (map seen kept.now)) }
+    ensures fault { IfErr result (λ e. e ≡ SumOutOfRange → AllCanBeShown aggregates.now (map seen kept.now) → ⊥) }
 {
     let mut row = copy_row(alloc, key.as_slice())?;
     let len = aggregates.len().min(kept.len());
     for place in 0..len {
         match kept[place].value(&aggregates[place]) {
             Some(value) => row.push(value)?,
-            None => return Err(ToldFault::SumOutOfRange),
+            None => return Err(ShowFault::SumOutOfRange),
         }
     }
     Ok(row)

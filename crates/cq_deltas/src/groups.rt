@@ -4,16 +4,16 @@ ghost use Rattle.std.specs.Option.{option_map_or};
 ghost use Rattle.std.specs.Ordering.{int_eq};
 ghost use Rattle.std.specs.Prelude.{◌++◌, ◌≡◌, IfErr, IfOk, OnOk, Some, [], is_some, true, false, pos};
 ghost use Rattle.cq_kept.specs.Kept.{Group as Counted, Groups as ByKey};
-ghost use Rattle.cq_kept.specs.Told.{ListsKeys};
+ghost use Rattle.cq_kept.specs.Shown.{ListsKeys};
 ghost use Rattle.cq_values.specs.Order.{same_row};
 ghost use Rattle.cq_values.specs.Value.{Row as Values};
 ghost use Rattle.cq_deltas.specs.Additions.{AreTotals};
-ghost use Rattle.cq_deltas.specs.declared.fault.ToldFault.TheVariants.{SumOutOfRange};
-ghost use Rattle.cq_deltas.specs.Told.{EntryCanBeTold, GroupsCanBeTold, counted_keys, entry_row, group_rows};
+ghost use Rattle.cq_deltas.specs.declared.fault.ShowFault.TheVariants.{SumOutOfRange};
+ghost use Rattle.cq_deltas.specs.Shown.{EntryCanBeShown, GroupsCanBeShown, counted_keys, entry_row, group_rows};
 ghost use Rattle.cq_deltas.specs.Keyed.{ArePut, AreSettled, GroupsGoOn, HasKeys, HoldsFor, HoldsOne, IsPut, Takes, group_at, is_met, stored_at};
 
 use crate::change::{Addition, GroupChange};
-use crate::fault::ToldFault;
+use crate::fault::ShowFault;
 use crate::group::Group;
 use cq_model::Aggregate;
 use cq_values::{Row, copy_row};
@@ -29,9 +29,9 @@ pub struct Groups {
 }
 
 impl Model for Groups {
-    ghost use Rattle.cq_deltas.specs.Keyed.{Table};
+    ghost use Rattle.cq_deltas.specs.Keyed.{KeyedGroups};
 
-    ghost Value = { Table };
+    ghost Value = { KeyedGroups };
 
     ghost view = { λ g. g.groups.entries };
 }
@@ -98,16 +98,16 @@ impl Groups {
     }
 
     /// The row of each group that has rows.
-    pub fn told_rows(&self, alloc: Global, aggregates: &[Aggregate]) -> Result<Vec<Row>, ToldFault>
+    pub fn shown_rows(&self, alloc: Global, aggregates: &[Aggregate]) -> Result<Vec<Row>, ShowFault>
         ensures rows { IfOk result (λ rows. rows.items ≡ group_rows aggregates.now self.now) }
         ensures keys { ListsKeys (counted_keys self.now) (ByKey (group_at aggregates.now self.now)) }
-        ensures range { OnOk result (GroupsCanBeTold aggregates.now self.now) }
-        ensures fault { IfErr result (λ e. e ≡ SumOutOfRange → GroupsCanBeTold aggregates.now self.now → ⊥) }
+        ensures range { OnOk result (GroupsCanBeShown aggregates.now self.now) }
+        ensures fault { IfErr result (λ e. e ≡ SumOutOfRange → GroupsCanBeShown aggregates.now self.now → ⊥) }
     {
         let mut rows = Vec::new(alloc);
         for place in 0..self.groups.len() {
             match self.groups.get_index(place) {
-                Some((key, group)) => push_told(alloc, aggregates, key, group, &mut rows)?,
+                Some((key, group)) => push_shown(alloc, aggregates, key, group, &mut rows)?,
                 None => unreachable!(),
             }
         }
@@ -164,19 +164,19 @@ impl Groups {
 }
 
 /// Adds the row of a group, if the group has rows.
-fn push_told(
+fn push_shown(
     alloc: Global,
     aggregates: &[Aggregate],
     key: &Row,
     group: &Group,
     rows: &mut Vec<Row>,
-) -> Result<(), ToldFault>
+) -> Result<(), ShowFault>
     ensures rows { OnOk result (rows.new.items ≡ rows.old.items ++ entry_row aggregates.now key.now group.now) }
-    ensures range { OnOk result (EntryCanBeTold aggregates.now key.now group.now) }
-    ensures fault { IfErr result (λ e. e ≡ SumOutOfRange → EntryCanBeTold aggregates.now key.now group.now → ⊥) }
+    ensures range { OnOk result (EntryCanBeShown aggregates.now key.now group.now) }
+    ensures fault { IfErr result (λ e. e ≡ SumOutOfRange → EntryCanBeShown aggregates.now key.now group.now → ⊥) }
 {
     if group.count() > 0 {
-        rows.push(group.told(alloc, aggregates, key)?)?;
+        rows.push(group.shown(alloc, aggregates, key)?)?;
     }
     Ok(())
 }

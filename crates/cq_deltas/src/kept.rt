@@ -6,7 +6,7 @@ ghost use Rattle.cq_model.specs.Group.{InRange};
 ghost use Rattle.cq_kept.specs.Kept.{kept_of, kept_value};
 ghost use Rattle.cq_deltas.specs.Additions.{IsTotal};
 ghost use Rattle.cq_deltas.specs.Kept.{KeptHolds, kept_with, seen, total_move};
-ghost use Rattle.cq_deltas.specs.Told.{CanBeTold};
+ghost use Rattle.cq_deltas.specs.Shown.{CanBeShown};
 ghost use Rattle.cq_model.specs.Width.{number_limit};
 
 use cq_model::Aggregate;
@@ -59,7 +59,7 @@ impl Kept {
     /// The value of the aggregate, and `None` where the total of a SUM is out of range.
     pub(crate) fn value(&self, aggregate: &Aggregate) -> Option<Value>
         ensures value { IfSome result (λ v. v ≡ kept_value aggregate.now (seen self.now)) }
-        ensures range { IsSome result ↔ CanBeTold aggregate.now (seen self.now) }
+        ensures range { IsSome result ↔ CanBeShown aggregate.now (seen self.now) }
     {
         match (aggregate, self) {
             (Aggregate::CountAll | Aggregate::Count(_), Kept::Counted(count)) => {

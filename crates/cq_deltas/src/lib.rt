@@ -13,8 +13,8 @@ mod kept;
 mod laws;
 
 pub use change::{Addition, GroupChange};
-pub use fault::ToldFault;
+pub use fault::ShowFault;
 pub use group::Group;
 pub use groups::Groups;
 pub use kept::{CountedTotal, Kept};
-pub use laws::{ranges_tell, small_rows_hold};
+pub use laws::{ranges_show, small_rows_hold};

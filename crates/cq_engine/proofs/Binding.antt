@@ -1,10 +1,11 @@
 -- Commands that were bound: what is known of them, and that carrying them out is the step of their statement.
-use Rattle.std.proofs.Common.{◌≡◌, ℕ, ◌+◌, ◌<◌, Bool, true, false, List, [], ◌∷◌, ◌++◌, map, length, not, Option, Some, None, refl, sym, ap, ◌∙◌, inl, inr, arith, subst, Result, Ok, Err}
-use Rattle.std.specs.Prelude.{◌≤◌, ◌==◌, nat_lt, IfSome, is_some, ok_or, option_map, slice_get, slice_index_or, unwrap_or, if◌then◌else◌}
+use Rattle.std.proofs.Common.{◌≡◌, ℕ, zero, suc, ◌+◌, ◌<◌, Bool, true, false, List, [], ◌∷◌, ◌++◌, map, length, not, Option, Some, None, refl, sym, ap, ◌∙◌, inl, inr, arith, subst, Result, Ok, Err}
+use Rattle.std.specs.Prelude.{◌==◌, nat_lt, IfSome, is_some, ok_or, option_map, slice_get, unwrap_or, if◌then◌else◌}
 use Rattle.std.specs.List.{AllByRecursion, flat_map}
 use Rattle.std.specs.Option.{option_or}
 use Rattle.std.proofs.lemmas.Bool.{eq-eqb, ne_eqb}
 use Rattle.std.proofs.lemmas.List.{length-map}
+use Rattle.std.proofs.lemmas.Option.{slice_get_within}
 use Rattle.std.proofs.lemmas.List.Quantifiers.{position-Some}
 use Rattle.cq_values.specs.declared.column.ColumnDef.{ColumnDef}
 use Rattle.cq_values.specs.Texts.{is_text}
@@ -14,37 +15,45 @@ use Rattle.cq_laws.specs.Sizes.{IsSized, IsStored}
 use Rattle.cq_binding.specs.declared.bound.Bound.{Bound}
 use Rattle.cq_binding.specs.declared.bound.Bound.TheVariants as commands
 use Rattle.cq_language.specs.declared.statement.Constant.{Constant}
-use Rattle.cq_language.specs.declared.statement.FromSource.{FromSource}
 use Rattle.cq_language.specs.declared.statement.Select.{Select}
+use Rattle.cq_language.specs.declared.statement.SetClause.{SetClause}
 use Rattle.cq_language.specs.declared.statement.Statement.{Statement}
 use Rattle.cq_language.specs.declared.statement.Statement.TheVariants as statements
-use Rattle.cq_model.specs.Width.{IsNarrowIn, sizes_of}
+use Rattle.cq_model.specs.Sizes.{stored_size, stored_sizes}
+use Rattle.cq_model.specs.Width.{IsNarrowIn, limits_of, sizes_of}
 use Rattle.cq_language.specs.Written.{Written}
 use Rattle.cq_steps.specs.declared.answer.Answer.{Answer}
 use Rattle.cq_binding.specs.declared.fault.Fault.{Fault}
 use Rattle.cq_binding.specs.declared.fault.Fault.TheVariants as faults
-use Rattle.cq_binding.specs.Scopes.{Named, bound_condition, from_table, from_view, place_in, scope_as, scope_of, source_named}
-use Rattle.cq_binding.specs.Headers.{shown_by}
-use Rattle.cq_binding.specs.Bound.{bound, bound_query, bound_select, grouped_query, row_of, view_columns, view_source}
+use Rattle.cq_binding.specs.Scopes.{Named, bound_condition, from_table, from_view, of_rows, place_in, scope_of, source_named}
+use Rattle.cq_binding.specs.From.{From, from_walk}
+use Rattle.cq_binding.specs.Headers.{header, shown_by}
+use Rattle.cq_binding.specs.Bound.{bound, bound_query, bound_select, bound_update, grouped_query, row_of, standing, view_columns, view_source}
+use Rattle.cq_binding.specs.Sets.{bound_sets, bound_where}
+use Rattle.cq_binding.specs.UpdateChecks.{row_checks_of, sets_rows, update_checks, update_walk}
 use Rattle.cq_binding.specs.Checks.{first_fault, fault_if, too_long, MayRefuse}
 use Rattle.cq_binding.specs.RowChecks.{row_checks}
 use Rattle.cq_binding.specs.Open.{is_of_rows, is_plain, may_be_kept}
 use Rattle.cq_binding.specs.SourceChecks.{value_check, where_check}
 use Rattle.cq_binding.specs.ViewChecks.{create_view_checks, query_checks, view_select_checks}
-use Rattle.cq_binding.specs.Refusal.{from_checks, is_used, rows_checks, delete_checks, drop_table_checks, insert_checks, checks, refusal, select_checks, source_checks, written_table}
-use Rattle.cq_states.specs.Fitting.{FitsColumns, AreFitting}
+use Rattle.cq_binding.specs.Orders.{order_checks}
+use Rattle.cq_binding.specs.Refusal.{bag_checks, from_checks, is_used, rows_checks, delete_checks, drop_table_checks, insert_checks, checks, refusal, select_checks, source_checks, written_table}
+use Rattle.cq_states.specs.Fitting.{FitsColumns, AreFitting, IsFitting}
 use Rattle.cq_states.specs.State.{TableOf, ViewOf, State, columns_in, is_taken, rows_in, table_named, view_named, view_place, AreNumbered}
 use Rattle.cq_steps.specs.Next.{reach, with_all_views}
 use Rattle.cq_steps.specs.Step.{AreBetween, IsTooLarge, Refuses, by_walk, for_memory, too_large, Step}
 use Rattle.cq_exprs.specs.Expressions.{KeepSizes}
-use Rattle.cq_binder.specs.Catalog.{alone, binding_checks, rows_walk}
+use Rattle.cq_binder.specs.Catalog.{alone, binding_checks, rows_walk, sets_walk, table_walk}
 use Rattle.cq_binder.proofs.Faults.{first_fault_append, or_next, single}
 use Rattle.cq_binder.proofs.Fitting.{rows_fit}
 use Rattle.cq_binder.proofs.Found.{has_place}
-use Rattle.cq_engine.specs.Narrow.{IsWithin}
-use Rattle.cq_engine.specs.Commands.{CanCarryOut, CarriesOut, IsRefused, IsThere, IsWithinSource, present, room}
-use Rattle.cq_engine.proofs.Creating.{query_fits}
-use Rattle.cq_engine.proofs.Fitting.{back_free, first_free, front_free, narrow_rows, narrow_values, narrow_where, stored_keep, stored_keeps}
+use Rattle.cq_engine.specs.Narrow.{IsWithin, view_sizes}
+use Rattle.cq_engine.specs.Commands.{CanCarryOut, CarriesOut, IsRefused, IsThere, present, room}
+use Rattle.cq_engine.proofs.Creating.{query_fits, query_shown}
+use Rattle.cq_engine.proofs.Sourced.{IsFound, are_joined, sized_keeps, standing_ok}
+use Rattle.cq_engine.proofs.Fitting.{back_free, first_free, front_free, narrow_rows, narrow_values, narrow_where, stored_keep}
+use Rattle.cq_engine.specs.Updates.{CanUpdate, value_fault}
+use Rattle.cq_engine.proofs.Assigned.{update_fits}
 use Rattle.cq_engine.proofs.Numbers.{Above}
 use Rattle.cq_engine.proofs.Places.{found_there}
 use Rattle.cq_engine.proofs.Stored.{rows_stored}
@@ -98,11 +107,24 @@ module _ (name : List ℕ) (t : TableOf) where
       (λ k. let same : x ≡ t = cc in subst (λ (y : TableOf). AllByRecursion IsStored y.rows) same (rows_stored x.columns x.rows fitting.0))
       (λ k. stored-found ts fitting.1 (rw k at found))
 
+  -- its rows fit its columns
+  fits-found : (ts : List TableOf) → AreFitting ts → table_named name ts ≡ Some t → IsFitting t
+  fits-found [] fitting found = absurd (cc found)
+  fits-found (x ∷ ts) fitting found = by_test (is_text x.name name)
+      (λ k. let same : x ≡ t = cc in subst IsFitting same fitting.0)
+      (λ k. fits-found ts fitting.1 (rw k at found))
+
 -- ---- Views that were found by their names
 -- a view that has a place is among them
 within_views : (name : List ℕ) (views : List ViewOf) (place : ℕ) → view_place name views ≡ Some place → place < length views
 within_views name [] place found = absurd (cc found)
 within_views name (v ∷ vs) place found = (position-Some (λ w. is_text w.name name) (v ∷ vs) place v found).0
+
+-- what holds of all holds of the one at a place
+all_at_place : {X : Type 0} (P : X → Type 0) (xs : List X) (place : ℕ) (x : X) → AllByRecursion P xs → slice_get xs place ≡ Some x → P x
+all_at_place P [] place x all at = absurd (cc at)
+all_at_place P (y ∷ ys) zero x all at = let same : y ≡ x = cc in subst P same all.0
+all_at_place P (y ∷ ys) (suc place) x all at = all_at_place P ys place x all.1 at
 
 -- the view of a name stands at the place of the name
 view_at_place : (name : List ℕ) (views : List ViewOf) (v : ViewOf) → view_named name views ≡ Some v → slice_get views (unwrap_or (view_place name views) 0) ≡ Some v
@@ -115,16 +137,10 @@ view_at_place name views v named = at_place (view_place name views) refl
     at_place None is = absurd (let both : false ≡ true = sym (ap is_some is) ∙ has_place name views ∙ ap is_some named in cc)
 
 -- ---- Queries that were bound
--- a row with numbers of a source's sizes keeps them
-sized_keeps : (f : FromSource) (source : Named) (row : Row) → IsSized (λ i. slice_index_or source.sizes i 0) row → KeepSizes (scope_as f source) (sizes_of row)
-sized_keeps f source row sized c i at may =
-    let place : place_in source.columns c.name ≡ i = ap (λ (o : Option ℕ). unwrap_or o 0) at in
-    subst (λ p. sizes_of row (place_in source.columns c.name) ≤ slice_index_or source.sizes p 0) place (sized (place_in source.columns c.name))
-
--- a query whose walk has no fault can be worked out on a row that keeps the sizes of its source
-within_for : (q : Select) (source : Named) (row : Row) → first_fault (source_checks q (scope_as q.first source)) ≡ None → KeepSizes (scope_as q.first source) (sizes_of row) → IsWithin (bound_query q source) row
-within_for q source row free kept =
-    let s = scope_as q.first source in
+-- a query whose walk has no fault can be worked out on a row that keeps the sizes of its columns
+within_for : (q : Select) (from : From) (row : Row) → first_fault (bag_checks q (of_rows from.columns)) ≡ None → KeepSizes (of_rows from.columns) (sizes_of row) → IsWithin (bound_query q from) row
+within_for q from row free kept =
+    let s = of_rows from.columns in
     let item_walk : List (Option Fault) = map (value_check s) (shown_by q.items) in
     let number_walk : List (Option Fault) = too_long (length q.items) ∷ [] in
     record {
@@ -132,13 +148,8 @@ within_for q source row free kept =
       items = narrow_values s (shown_by q.items) row (front_free item_walk number_walk (back_free (where_check s q.condition ∷ []) (item_walk ++ number_walk) free)) kept;
     }
 
--- so it can on stored rows of a table
-within_stored : (q : Select) (t : TableOf) (rows : List Row) → first_fault (source_checks q (scope_as q.first (from_table t))) ≡ None → AllByRecursion IsStored rows → AllByRecursion (IsWithin (bound_query q (from_table t))) rows
-within_stored q t [] free stored = tt
-within_stored q t (row ∷ rows) free stored = (within_for q (from_table t) row free (stored_keeps t row stored.0), within_stored q t rows free stored.1)
-
 -- ---- What is known of a command that was bound
-module _ (tables : List TableOf) (views : List ViewOf) (next : ℕ) (numbered : AreNumbered tables next) (fitting : AreFitting tables) where
+module _ (tables : List TableOf) (views : List ViewOf) (next : ℕ) (numbered : AreNumbered tables next) (fitting : AreFitting tables) (shown : AllByRecursion (λ v. length v.columns ≡ length v.query.items) views) where
   abbrev here : State
   here = alone tables views
 
@@ -161,7 +172,7 @@ module _ (tables : List TableOf) (views : List ViewOf) (next : ℕ) (numbered : 
       let opened = fault_if (not (may_be_kept view)) faults.Syntax in
       let behind : first_fault (taken ∷ view_select_checks view (ok_or (table_named view.first.name tables) fault)) ≡ None = back_free (opened ∷ []) (taken ∷ view_select_checks view (ok_or (table_named view.first.name tables) fault)) free in
       let walk : first_fault (taken ∷ query_checks (view_source view t) view) ≡ None = subst (λ (o : Option TableOf). first_fault (taken ∷ view_select_checks view (ok_or o fault)) ≡ None) found behind in
-      record { fits = query_fits view t (back_free (taken ∷ []) (query_checks (view_source view t) view) walk); there = there-found view.first.name t tables found }
+      record { shown = query_shown view t (back_free (taken ∷ []) (query_checks (view_source view t) view) walk); fits = query_fits view t (back_free (taken ∷ []) (query_checks (view_source view t) view) walk); there = there-found view.first.name t tables found }
 
   insert_can : (name : List ℕ) (rows : List (List Constant)) (t : TableOf) → table_named name tables ≡ Some t → first_fault (rows_walk rows (written_table name here)) ≡ None → Can (commands.Insert t.number (map row_of rows))
   insert_can name rows t found free =
@@ -175,41 +186,63 @@ module _ (tables : List TableOf) (views : List ViewOf) (next : ℕ) (numbered : 
       let s = scope_of (from_table t) in
       let behind : first_fault (rows_checks condition (written_table name here)) ≡ None = back_free (fault_if (not (is_of_rows condition)) faults.Syntax ∷ []) (rows_checks condition (written_table name here)) free in
       let walk : first_fault (where_check s condition ∷ []) ≡ None = subst (λ (o : Option TableOf). first_fault (rows_checks condition (ok_or o fault)) ≡ None) found behind in
-      let narrow = narrow_rows s condition t.rows (first_free (where_check s condition) [] walk) (stored_keep t t.rows (stored-found name t tables fitting found)) in
+      let narrow = narrow_rows s condition t.rows (first_free (where_check s condition) [] walk) (stored_keep t.name t t.rows (stored-found name t tables fitting found)) in
       (there-found name t tables found, subst (λ (rs : List Row). AllByRecursion (IsNarrowIn (option_map (bound_condition s) condition)) rs) (sym (rows-found name t tables next numbered found)) narrow)
 
-  -- a query that was bound on a source can be worked out on the source's rows
+  update_can : (name : List ℕ) (sets : List SetClause) (condition : Option Written) (t : TableOf) → table_named name tables ≡ Some t → first_fault (sets_walk condition sets (written_table name here)) ≡ None → Can (bound_update sets condition t)
+  update_can name sets condition t found free =
+      let fault = if is_some (view_named name views) then faults.ViewNotWritten else faults.UnknownTable in
+      let s = scope_of (from_table t) in
+      let opened = fault_if (not (sets_rows condition sets)) faults.Syntax in
+      let behind : first_fault (table_walk condition sets (written_table name here)) ≡ None = back_free (opened ∷ []) (table_walk condition sets (written_table name here)) free in
+      let walk : first_fault (update_walk condition sets s) ≡ None = subst (λ (o : Option TableOf). first_fault (table_walk condition sets (ok_or o fault)) ≡ None) found behind in
+      let own = update_fits t sets condition walk (fits-found name t tables fitting found) in (
+        there-found name t tables found,
+        subst (λ (cs : List ColumnDef). CanUpdate cs (bound_sets s sets) (bound_where s condition) (rows_in tables t.number)) (sym (columns-found name t tables next numbered found))
+            (subst (λ (rs : List Row). CanUpdate t.columns (bound_sets s sets) (bound_where s condition) rs) (sym (rows-found name t tables next numbered found)) own),
+      )
+
+  -- a source that was found by its name is there, with the sizes of its columns
+  abbrev Found : Named → Type 0
+  Found source = IsFound tables views source
+
+  table_there : (name : List ℕ) (t : TableOf) → table_named name tables ≡ Some t → Found (from_table t)
+  table_there name t found = record {
+    there = there-found name t tables found;
+    sizes = ap stored_sizes (columns-found name t tables next numbered found);
+    even = sym (length-map t.columns (λ c. stored_size));
+  }
+
+  view_there : (name : List ℕ) (v : ViewOf) → view_named name views ≡ Some v → Found (from_view v (unwrap_or (view_place name views) 0))
+  view_there name v named =
+      let at = view_at_place name views v named in record {
+        there = slice_get_within views (unwrap_or (view_place name views) 0) v at;
+        sizes = ap view_sizes at;
+        even = all_at_place (λ (w : ViewOf). length w.columns ≡ length w.query.items) views (unwrap_or (view_place name views) 0) v shown at ∙ sym (length-map v.query.items _);
+      }
+
+  source_there : (name : List ℕ) (source : Named) → source_named name here ≡ Some source → Found source
+  source_there name source found = by_table (table_named name tables) (view_named name views) refl refl found
+    where
+      by_table : (o : Option TableOf) (p : Option ViewOf) → table_named name tables ≡ o → view_named name views ≡ p
+          → option_or (option_map from_table o) (option_map (λ v. from_view v (unwrap_or (view_place name views) 0)) p) ≡ Some source → Found source
+      by_table (Some t) p e f is = let same : from_table t ≡ source = cc is in subst Found same (table_there name t e)
+      by_table None (Some v) e f is = let same : from_view v (unwrap_or (view_place name views) 0) ≡ source = cc is in subst Found same (view_there name v f)
+      by_table None None e f is = absurd (cc is)
+
+  -- a query that was bound can be worked out on the rows that join rows of its sources
   module _ (q : Select) where
-    abbrev asked : List ℕ
-    asked = q.first.name
-
-    abbrev Within : Named → Type 0
-    Within source = first_fault (source_checks q (scope_as q.first source)) ≡ None → IsWithinSource tables views (bound_query q source) source.source
-
-    on_table : (t : TableOf) → table_named asked tables ≡ Some t → Within (from_table t)
-    on_table t found free =
-        let rows = stored-found asked t tables fitting found in
-        (there-found asked t tables found, subst (λ (rs : List Row). AllByRecursion (IsWithin (bound_query q (from_table t))) rs) (sym (rows-found asked t tables next numbered found)) (within_stored q t t.rows free rows))
-
-    on_view : (v : ViewOf) → view_named asked views ≡ Some v → Within (from_view v (unwrap_or (view_place asked views) 0))
-    on_view v named free =
-        let source = from_view v (unwrap_or (view_place asked views) 0) in
-        (v, view_at_place asked views v named, λ row sized. within_for q source row free (sized_keeps q.first source row sized))
-
-    on_source : (source : Named) → source_named asked here ≡ Some source → Within source
-    on_source source found = by_table (table_named asked tables) (view_named asked views) refl refl found
-      where
-        by_table : (o : Option TableOf) (p : Option ViewOf) → table_named asked tables ≡ o → view_named asked views ≡ p
-            → option_or (option_map from_table o) (option_map (λ v. from_view v (unwrap_or (view_place asked views) 0)) p) ≡ Some source → Within source
-        by_table (Some t) p e f is = let same : from_table t ≡ source = cc is in subst Within same (on_table t e)
-        by_table None (Some v) e f is = let same : from_view v (unwrap_or (view_place asked views) 0) ≡ source = cc is in subst Within same (on_view v f)
-        by_table None None e f is = absurd (cc is)
-
-    select_can : (source : Named) → source_named asked here ≡ Some source → first_fault (select_checks q (source_named asked here)) ≡ None → Can (bound_select q source)
-    select_can source found free =
-        let behind : first_fault (from_checks q (source_named asked here)) ≡ None = back_free (fault_if (not (is_plain q)) faults.Syntax ∷ []) (from_checks q (source_named asked here)) free in
-        let walk : first_fault (source_checks q (scope_as q.first source)) ≡ None = subst (λ (o : Option Named). first_fault (from_checks q o) ≡ None) found behind in
-        (record { plain = refl; within = on_source source found walk }, refl)
+    select_can : (from : From) → from_walk here q ≡ Ok from → first_fault (select_checks q (from_walk here q)) ≡ None → Can (bound_select q from)
+    select_can from walked free =
+        let behind : first_fault (from_checks q (from_walk here q)) ≡ None = back_free (fault_if (not (is_plain q)) faults.Syntax ∷ []) (from_checks q (from_walk here q)) free in
+        let walk : first_fault (source_checks q (of_rows from.columns)) ≡ None = subst (λ (r : Result From Fault). first_fault (from_checks q r) ≡ None) walked behind in
+        let bag = front_free (bag_checks q (of_rows from.columns)) (order_checks (header 1 q.items) q.order) walk in
+        let are = are_joined tables views here source_there q from walked in
+        record {
+          plain = refl;
+          there = are.there;
+          within = λ row sized. within_for q from row bag (sized_keeps from.columns row (subst (λ (ns : List ℕ). IsSized (limits_of ns) row) (sym are.sizes) sized));
+        }
 
   pub bound_can : (statement : Statement) (command : Bound) → first_fault (binding_checks here statement) ≡ None → bound here statement ≡ Some command → Can command
   bound_can (statements.CreateTable name columns sort) command free is =
@@ -230,9 +263,12 @@ module _ (tables : List TableOf) (views : List ViewOf) (next : ℕ) (numbered : 
   bound_can (statements.Delete name condition) command free is =
       let m = mapped (λ t. commands.Delete t.number (option_map (bound_condition (scope_of (from_table t))) condition)) (table_named name tables) command is in
       subst Can m.2 (delete_can name condition m.0 m.1 free)
+  bound_can (statements.Update name sets condition) command free is =
+      let m = mapped (bound_update sets condition) (table_named name tables) command is in
+      subst Can m.2 (update_can name sets condition m.0 m.1 free)
   bound_can (statements.Select q) command free is =
-      let m = mapped (bound_select q) (source_named q.first.name here) command is in
-      subst Can m.2 (select_can q m.0 m.1 free)
+      let m = mapped (bound_select q) (standing (from_walk here q)) command is in
+      subst Can m.2 (select_can q m.0 (standing_ok (from_walk here q) m.0 m.1) free)
   bound_can (statements.Move name rows) command free is =
       let m = mapped (λ t. commands.Move t.number rows) (table_named name tables) command is in
       subst Can m.2 (there-found name m.0 tables m.1)
@@ -242,7 +278,6 @@ module _ (tables : List TableOf) (views : List ViewOf) (next : ℕ) (numbered : 
   bound_can (statements.Refresh view changes) command free is =
       let m = mapped (λ place. commands.Refresh place changes) (view_place view views) command is in
       subst Can m.2 (within_views view views m.0 m.1)
-  bound_can statement command free is = absurd (cc is)
 
 -- ---- From commands to statements
 -- nothing but the tables and views is asked
@@ -253,11 +288,11 @@ same_places s (statements.CreateView name view) = refl
 same_places s (statements.DropView name) = refl
 same_places s (statements.Insert name rows) = refl
 same_places s (statements.Delete name condition) = refl
+same_places s (statements.Update name sets condition) = refl
 same_places s (statements.Select q) = refl
 same_places s (statements.Move name rows) = refl
 same_places s (statements.Merge name) = refl
 same_places s (statements.Refresh view changes) = refl
-same_places s statement = refl
 
 same_bound : (s : State) (statement : Statement) → bound (alone s.tables s.views) statement ≡ bound s statement
 same_bound s (statements.CreateTable name columns sort) = refl
@@ -266,11 +301,11 @@ same_bound s (statements.CreateView name view) = refl
 same_bound s (statements.DropView name) = refl
 same_bound s (statements.Insert name rows) = refl
 same_bound s (statements.Delete name condition) = refl
+same_bound s (statements.Update name sets condition) = refl
 same_bound s (statements.Select q) = refl
 same_bound s (statements.Move name rows) = refl
 same_bound s (statements.Merge name) = refl
 same_bound s (statements.Refresh view changes) = refl
-same_bound s statement = refl
 
 -- a fault of the rows comes before the room for them
 insert_refuses : (max_rows : ℕ) (rows : List (List Constant)) (table : Result TableOf Fault) (f : Fault) → first_fault (rows_walk rows table) ≡ Some f → first_fault (insert_checks max_rows rows table) ≡ Some f
@@ -279,6 +314,14 @@ insert_refuses max_rows rows (Ok t) f e =
     let walk = flat_map (row_checks t.columns) rows in
     let fits : List (Option Fault) = fault_if (nat_lt max_rows (length t.rows + length rows)) faults.TableFull ∷ [] in
     first_fault_append walk fits ∙ ap (λ (o : Option Fault). option_or o (first_fault fits)) e
+
+-- and one of the walk before the values of an UPDATE
+update_refuses : (condition : Option Written) (sets : List SetClause) (table : Result TableOf Fault) (f : Fault) → first_fault (sets_walk condition sets table) ≡ Some f → first_fault (update_checks condition sets table) ≡ Some f
+update_refuses condition sets (Err g) f e = e
+update_refuses condition sets (Ok t) f e =
+    let walk : List (Option Fault) = fault_if (not (sets_rows condition sets)) faults.Syntax ∷ update_walk condition sets (scope_of (from_table t)) in
+    let values = row_checks_of condition sets t in
+    first_fault_append walk values ∙ ap (λ (o : Option Fault). option_or o (first_fault values)) e
 
 module _ (tables : List TableOf) (views : List ViewOf) (now drawn max_rows : ℕ) (at : AreAt now views) (numbered : AreNumbered tables drawn) where
   abbrev old : State
@@ -291,11 +334,11 @@ module _ (tables : List TableOf) (views : List ViewOf) (now drawn max_rows : ℕ
   walk_refuses (statements.DropView name) f e = e
   walk_refuses (statements.Insert name rows) f e = insert_refuses max_rows rows (written_table name old) f e
   walk_refuses (statements.Delete name condition) f e = e
+  walk_refuses (statements.Update name sets condition) f e = update_refuses condition sets (written_table name old) f e
   walk_refuses (statements.Select q) f e = e
   walk_refuses (statements.Move name rows) f e = e
   walk_refuses (statements.Merge name) f e = e
   walk_refuses (statements.Refresh view changes) f e = e
-  walk_refuses statement f e = e
 
   refused_along_walk : (statement : Statement) (f : Fault) → MayRefuse (first_fault (binding_checks old statement)) f → Refuses old statement f old
   refused_along_walk statement faults.Memory m = for_memory refl refl
@@ -327,6 +370,20 @@ module _ (tables : List TableOf) (views : List ViewOf) (now drawn max_rows : ℕ
       ∙ single (nat_lt max_rows (length t.rows + length rows)) faults.TableFull
       ∙ ap asked count
 
+  -- and the values that rows get are all that can still refuse an UPDATE
+  update_room : (name : List ℕ) (sets : List SetClause) (condition : Option Written) (t : TableOf) → table_named name tables ≡ Some t → first_fault (sets_walk condition sets (written_table name old)) ≡ None
+      → refusal old (statements.Update name sets condition) ≡ room old (bound_update sets condition t)
+  update_room name sets condition t found none =
+      let fault = if is_some (view_named name views) then faults.ViewNotWritten else faults.UnknownTable in
+      let s = scope_of (from_table t) in
+      let walk : List (Option Fault) = fault_if (not (sets_rows condition sets)) faults.Syntax ∷ update_walk condition sets s in
+      let values = row_checks_of condition sets t in
+      let free : first_fault walk ≡ None = subst (λ (o : Option TableOf). first_fault (sets_walk condition sets (ok_or o fault)) ≡ None) found none in
+      ap (λ (o : Option TableOf). first_fault (update_checks condition sets (ok_or o fault))) found
+      ∙ first_fault_append walk values
+      ∙ or_next (first_fault walk) (first_fault values) free
+      ∙ (λ i. value_fault (sym (columns-found name t tables drawn numbered found) i) (bound_sets s sets) (bound_where s condition) (sym (rows-found name t tables drawn numbered found) i))
+
   room_decides : (statement : Statement) (command : Bound) → first_fault (binding_checks old statement) ≡ None → bound old statement ≡ Some command → refusal old statement ≡ room old command
   room_decides (statements.CreateTable name columns sort) command none is =
       let same : commands.CreateTable name columns (map (place_in columns) sort) ≡ command = cc is in
@@ -346,8 +403,11 @@ module _ (tables : List TableOf) (views : List ViewOf) (now drawn max_rows : ℕ
   room_decides (statements.Delete name condition) command none is =
       let m = mapped (λ t. commands.Delete t.number (option_map (bound_condition (scope_of (from_table t))) condition)) (table_named name tables) command is in
       subst (λ (c : Bound). refusal old (statements.Delete name condition) ≡ room old c) m.2 none
+  room_decides (statements.Update name sets condition) command none is =
+      let m = mapped (bound_update sets condition) (table_named name tables) command is in
+      subst (λ (c : Bound). refusal old (statements.Update name sets condition) ≡ room old c) m.2 (update_room name sets condition m.0 m.1 none)
   room_decides (statements.Select q) command none is =
-      let m = mapped (bound_select q) (source_named q.first.name old) command is in
+      let m = mapped (bound_select q) (standing (from_walk old q)) command is in
       subst (λ (c : Bound). refusal old (statements.Select q) ≡ room old c) m.2 none
   room_decides (statements.Move name rows) command none is =
       let m = mapped (λ t. commands.Move t.number rows) (table_named name tables) command is in
@@ -358,7 +418,6 @@ module _ (tables : List TableOf) (views : List ViewOf) (now drawn max_rows : ℕ
   room_decides (statements.Refresh view changes) command none is =
       let m = mapped (λ place. commands.Refresh place changes) (view_place view views) command is in
       subst (λ (c : Bound). refusal old (statements.Refresh view changes) ≡ room old c) m.2 none
-  room_decides statement command none is = absurd (cc is)
 
   -- a total that cannot be shown is one of a SELECT
   only_select : (command : Bound) → IsTooLarge old command → (room old command ≡ None) × AreBetween (reach old command) 0 views views

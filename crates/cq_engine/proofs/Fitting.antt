@@ -1,11 +1,10 @@
 -- A view whose query is bound fits the rows that its table stores, and WHERE is narrow at each of them.
 use Rattle.std.proofs.Common.{◌≡◌, ℕ, zero, suc, ◌+◌, ◌≤◌, ◌<◌, ◌^◌, nat_abs, Bool, true, false, List, [], ◌∷◌, ◌++◌, map, length, Option, Some, None, Result, Ok, Err, refl, sym, ap, ◌∙◌, arith}
-use Rattle.std.specs.Prelude.{IfSome, if◌then◌else◌, nat_lt, option_map, slice_index_or, unwrap_or}
-use Rattle.std.specs.List.{AllByRecursion, flat_map, list_any, position_or_len}
+use Rattle.std.specs.Prelude.{IfSome, ◌==◌, if◌then◌else◌, nat_lt, option_map, position, unwrap_or}
+use Rattle.std.specs.List.{AllByRecursion, flat_map, list_any, position_or_len, zip}
 use Rattle.std.specs.Option.{option_or}
 use Rattle.std.proofs.lemmas.Bool.{ltb-true}
-use Rattle.std.proofs.lemmas.List.Quantifiers.{position-Some}
-use Rattle.cq_values.specs.Texts.{is_text}
+use Rattle.std.proofs.lemmas.List.{length-map}
 use Rattle.cq_values.specs.declared.value.Value.{Value}
 use Rattle.cq_values.specs.declared.value.Value.TheVariants.{Null, Number, Day, Text}
 use Rattle.cq_values.specs.Value.{Row}
@@ -16,7 +15,6 @@ use Rattle.cq_model.specs.Expr as exprs
 use Rattle.cq_values.specs.declared.column.ColumnDef.{ColumnDef}
 use Rattle.cq_language.specs.declared.statement.Select.{Select}
 use Rattle.cq_language.specs.declared.written.AggregateFunction.TheVariants as functions
-use Rattle.cq_language.specs.declared.written.ColumnName.{ColumnName}
 use Rattle.cq_model.specs.Eval.{eval}
 use Rattle.cq_model.specs.Sizes.{stored_size, stored_sizes}
 use Rattle.cq_model.specs.Width.{AreNarrowAt, IsNarrowIn, extent, sizes_of, value_size, width}
@@ -24,14 +22,14 @@ use Rattle.cq_language.specs.Written.{Written}
 use Rattle.cq_language.specs.Written as tree
 use Rattle.cq_binding.specs.declared.fault.Fault.{Fault}
 use Rattle.cq_binding.specs.declared.typing.Typing.{Typing}
-use Rattle.cq_binding.specs.Scopes.{bound_condition, bound_value, column_place, from_table, group_place, in_groups, place_in, scope_of}
+use Rattle.cq_binding.specs.Scopes.{bound_condition, bound_value, from_table, group_places, in_groups, known_as, of_rows, row_place, scope_column, source_columns}
 use Rattle.cq_binding.specs.Bound.{aggregates_in, group_items, view_source}
 use Rattle.cq_binding.specs.Checks.{first_fault}
 use Rattle.cq_binding.specs.SourceChecks.{value_check, where_check}
 use Rattle.cq_binding.specs.ViewChecks.{item_check}
 use Rattle.cq_states.specs.State.{TableOf}
 use Rattle.cq_binding.specs.Kinds.{◌and_then◌, added, kept_value, negation_of, tested}
-use Rattle.cq_binding.specs.Typing.{Scope, fault_in, typed}
+use Rattle.cq_binding.specs.Typing.{Scope, ScopeColumn, fault_in, size_at, typed}
 use Rattle.cq_binder.proofs.Faults.{first_fault_append, or_next}
 use Rattle.cq_exprs.proofs.Narrow.{typed_is_narrow}
 use Rattle.cq_exprs.specs.Expressions.{IsNarrow as IsTypedNarrow, KeepSizes}
@@ -42,7 +40,7 @@ use Rattle.cq_laws.specs.Sizes.{IsStored}
 
 -- ---- Expressions that pass
 -- what is asked for as a whole stands where it passes
-passed : (ask : Typing → Result Typing Fault) (r : Result Typing Fault) → fault_in (r and_then ask) ≡ None → (t : Typing) × (r ≡ Ok t)
+pub passed : (ask : Typing → Result Typing Fault) (r : Result Typing Fault) → fault_in (r and_then ask) ≡ None → (t : Typing) × (r ≡ Ok t)
 passed ask (Ok t) free = (t, refl)
 passed ask (Err f) free = absurd (cc free)
 
@@ -62,24 +60,24 @@ pub narrow_rows : (s : Scope) (c : Option Written) (rows : List Row) → where_c
 narrow_rows s c [] free kept = tt
 narrow_rows s c (row ∷ rows) free kept = (narrow_where s c row free kept.0, narrow_rows s c rows free kept.1)
 
--- each column of a table has the size of a stored number
-size_there : (columns : List ColumnDef) (i : ℕ) → i < length columns → slice_index_or (stored_sizes columns) i 0 ≡ stored_size
-size_there [] i h = absurd (omega (arith, h))
-size_there (d ∷ columns) zero h = refl
-size_there (d ∷ columns) (suc i) h = size_there columns i (omega (arith, h))
+-- the columns of a table that is known by a name
+abbrev pub read_columns : List ℕ → List ColumnDef → List ScopeColumn
+read_columns known columns = map (scope_column known) (zip columns (stored_sizes columns))
 
--- a column that is found is among them
-column_there : (columns : List ColumnDef) (name : List ℕ) (i : ℕ) → column_place columns name ≡ Some i → i < length columns
-column_there [] name i at = absurd (cc at)
-column_there (d ∷ columns) name i at = (position-Some (λ c. is_text c.name name) (d ∷ columns) i d at).0
+-- each of them has the size of a stored number
+size_there : (known : List ℕ) (columns : List ColumnDef) (i : ℕ) → i < length (read_columns known columns) → size_at (read_columns known columns) i ≡ stored_size
+size_there known [] i h = absurd (omega (arith, h))
+size_there known (d ∷ columns) zero h = refl
+size_there known (d ∷ columns) (suc i) h = size_there known columns i (omega (arith, h))
 
 -- stored rows keep the sizes of their table's columns
-pub stored_keeps : (t : TableOf) (row : Row) → IsStored row → KeepSizes (scope_of (from_table t)) (sizes_of row)
-stored_keeps t row stored c i at may = omega (arith, stored (place_in t.columns c.name), size_there t.columns i (column_there t.columns c.name i at))
+pub stored_keeps : (known : List ℕ) (t : TableOf) (row : Row) → IsStored row → KeepSizes (of_rows (source_columns known (from_table t))) (sizes_of row)
+stored_keeps known t row stored place within may = omega (arith, stored place, size_there known t.columns place within)
 
-pub stored_keep : (t : TableOf) (rows : List Row) → AllByRecursion IsStored rows → AllByRecursion (λ row. KeepSizes (scope_of (from_table t)) (sizes_of row)) rows
-stored_keep t [] stored = tt
-stored_keep t (row ∷ rows) stored = (stored_keeps t row stored.0, stored_keep t rows stored.1)
+pub stored_keep : (known : List ℕ) (t : TableOf) (rows : List Row) → AllByRecursion IsStored rows
+    → AllByRecursion (λ row. KeepSizes (of_rows (source_columns known (from_table t))) (sizes_of row)) rows
+stored_keep known t [] stored = tt
+stored_keep known t (row ∷ rows) stored = (stored_keeps known t row stored.0, stored_keep known t rows stored.1)
 
 -- where two stretches have no fault, neither has one
 pub front_free : (xs ys : List (Option Fault)) → first_fault (xs ++ ys) ≡ None → first_fault xs ≡ None
@@ -111,7 +109,7 @@ narrow_values s (w ∷ ws) row free kept =
     let places = map (value_check s) ws in
     ((narrow_whole tested s w (sizes_of row) (first_free (value_check s w) places free) kept).1.value, narrow_values s ws row (back_free (value_check s w ∷ []) places free) kept)
 
--- ---- What the items of a view tell and show
+-- ---- What the items of a view show
 -- nothing is larger than a column can be where nothing on the way to it is too wide
 size_bound : (e : Expr) (sizes : ℕ → ℕ) → ((i : ℕ) → sizes i ≤ 2 ^ 63) → (width e sizes).widest < 2 ^ 127 → (width e sizes).size ≤ 2 ^ 127
 size_bound (exprs.Column i) sizes stored narrow = omega (arith, stored i)
@@ -140,19 +138,19 @@ place_within true i n within e = ltb-true i n within
 place_within false i n within e = absurd (cc e)
 
 -- where GROUP BY names a column, it has a place there
-grouped_at : (group : List ColumnName) (name : List ℕ) → list_any (λ g. is_text g.name name) group ≡ true → group_place group name < length group
-grouped_at group name among =
-    let p : ColumnName → Bool = λ g. is_text g.name name in
+grouped_at : (group : List ℕ) (place : ℕ) → list_any (λ g. g == place) group ≡ true → unwrap_or (position (λ g. g == place) group) 0 < length group
+grouped_at group place among =
+    let p : ℕ → Bool = λ g. g == place in
     place_within (nat_lt (position_or_len p group) (length group)) (position_or_len p group) (length group) refl (found_within p group ∙ among)
 
-module _ (s : Scope) (group : List ColumnName) where
+module _ (s groups : Scope) where
   -- the walk through these items
   abbrev walk : List Written → List (Option Fault)
-  walk items = map (item_check s group) items
+  walk items = map (item_check s groups) items
 
   -- an item has no fault, and neither have those behind it
-  rest_free : (item : Written) (items : List Written) → first_fault (walk (item ∷ items)) ≡ None → (item_check s group item ≡ None) × (first_fault (walk items) ≡ None)
-  rest_free item items free = (first_free (item_check s group item) (walk items) free, back_free (item_check s group item ∷ []) (walk items) free)
+  rest_free : (item : Written) (items : List Written) → first_fault (walk (item ∷ items)) ≡ None → (item_check s groups item ≡ None) × (first_fault (walk items) ≡ None)
+  rest_free item items free = (first_free (item_check s groups item) (walk items) free, back_free (item_check s groups item ∷ []) (walk items) free)
 
   pub totals : (items : List Written) → first_fault (walk items) ≡ None → AreTotals (flat_map (aggregates_in s) items)
   totals [] free = tt
@@ -163,11 +161,11 @@ module _ (s : Scope) (group : List ColumnName) where
   totals (tree.Aggregate functions.Max w ∷ items) free = absurd (cc free)
   totals (w ∷ items) free = totals items (rest_free w items free).1
 
-  pub few_told : (items : List Written) → length (flat_map (aggregates_in s) items) ≤ length items
-  few_told [] = omega arith
-  few_told (tree.CountAll ∷ items) = omega (arith, few_told items)
-  few_told (tree.Aggregate function w ∷ items) = omega (arith, few_told items)
-  few_told (w ∷ items) = omega (arith, few_told items)
+  pub few_shown : (items : List Written) → length (flat_map (aggregates_in s) items) ≤ length items
+  few_shown [] = omega arith
+  few_shown (tree.CountAll ∷ items) = omega (arith, few_shown items)
+  few_shown (tree.Aggregate function w ∷ items) = omega (arith, few_shown items)
+  few_shown (w ∷ items) = omega (arith, few_shown items)
 
   module _ (row : Row) (stored : IsStored row) (kept : KeepSizes s (sizes_of row)) where
     -- no argument is too wide at a stored row
@@ -203,18 +201,23 @@ module _ (v : Select) (t : TableOf) where
   abbrev groups : Scope
   groups = in_groups v.group (view_source v t)
 
-  key_sizes : (sizes : ℕ → ℕ) → ((i : ℕ) → i < length v.group → sizes i ≤ stored_size) → KeepSizes groups sizes
-  key_sizes sizes kept c i at may =
-      omega (arith, kept (group_place v.group c.name) (grouped_at v.group c.name may), size_there t.columns i (column_there t.columns c.name i at))
+  abbrev places : List ℕ
+  places = group_places (view_source v t).columns v.group
 
-  abbrev item_free : (item : Written) (items : List Written) → first_fault (map (item_check (view_source v t) v.group) (item ∷ items)) ≡ None
-      → (item_check (view_source v t) v.group item ≡ None) × (first_fault (map (item_check (view_source v t) v.group) items) ≡ None)
-  item_free item items free = rest_free (view_source v t) v.group item items free
+  key_sizes : (sizes : ℕ → ℕ) → ((i : ℕ) → i < length v.group → sizes i ≤ stored_size) → KeepSizes groups sizes
+  key_sizes sizes kept place within may =
+      let at : unwrap_or (position (λ g. g == place) places) 0 < length v.group
+      = omega (arith, grouped_at places place may, length-map v.group (row_place (view_source v t).columns)) in
+      omega (arith, kept (unwrap_or (position (λ g. g == place) places) 0) at, size_there (known_as v.first (from_table t)) t.columns place within)
+
+  abbrev item_free : (item : Written) (items : List Written) → first_fault (map (item_check (view_source v t) groups) (item ∷ items)) ≡ None
+      → (item_check (view_source v t) groups item ≡ None) × (first_fault (map (item_check (view_source v t) groups) items) ≡ None)
+  item_free item items free = rest_free (view_source v t) groups item items free
 
   shown_narrow : (w : Written) → fault_in (typed groups w and_then kept_value) ≡ None → IsItemNarrow (length v.group) (bound_value groups w)
   shown_narrow w free = λ sizes kept. (narrow_whole kept_value groups w sizes free (key_sizes sizes kept)).1.value
 
-  pub items_narrow : (next : ℕ) (items : List Written) → first_fault (map (item_check (view_source v t) v.group) items) ≡ None → AllByRecursion (IsItemNarrow (length v.group)) (group_items groups next items)
+  pub items_narrow : (next : ℕ) (items : List Written) → first_fault (map (item_check (view_source v t) groups) items) ≡ None → AllByRecursion (IsItemNarrow (length v.group)) (group_items groups next items)
   items_narrow next [] free = tt
   items_narrow next (tree.CountAll ∷ items) free = ((λ sizes kept. omega arith), items_narrow (next + 1) items (item_free tree.CountAll items free).1)
   items_narrow next (tree.Aggregate function w ∷ items) free = ((λ sizes kept. omega arith), items_narrow (next + 1) items (item_free (tree.Aggregate function w) items free).1)

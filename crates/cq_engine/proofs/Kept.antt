@@ -1,5 +1,5 @@
 -- Lists of views: what stays the same of them, what they are ready for, and how they follow a write.
-use Rattle.std.proofs.Common.{◌≡◌, ℕ, true, false, List, [], ◌∷◌, ◌++◌, Option, Some, None, sym, ap, ◌∙◌, subst}
+use Rattle.std.proofs.Common.{◌≡◌, ℕ, true, false, List, [], ◌∷◌, ◌++◌, length, Option, Some, None, sym, ap, ◌∙◌, subst}
 use Rattle.std.specs.Prelude.{◌==◌}
 use Rattle.std.specs.List.{AllByRecursion}
 use Rattle.std.proofs.lemmas.Bool.{eqb-true}
@@ -35,6 +35,7 @@ same_views vs ws s = pointwise_map IsSame view_of view_of same_view vs ws s
 -- it is right where it was
 right_same : (tables : List TableOf) (now : ℕ) (v w : NamedView) → IsSame v w → IsRight tables now v → IsRight tables now w
 right_same tables now v w s r = record {
+  shown = ap length s.columns ∙ r.shown ∙ sym (ap (λ (d : Query). length d.items) s.kept.query);
   fits = subst Fits (sym s.kept.query) r.fits;
   epoch = s.kept.epoch ∙ r.epoch;
   stands = subst (λ (d : Query). Stands w.kept (once_each (rows_in tables (table_of d)))) (sym s.kept.query) (s.kept.stands (once_each (rows_in tables (table_of v.kept.query))) r.stands);
@@ -116,6 +117,7 @@ module _ (epoch now : ℕ) (old new : List TableOf) (u : TableOf) (written : row
 
   moved_right : (v w : NamedView) → Follows epoch u v w → IsRight old now v → IsRight new epoch w
   moved_right v w f r = record {
+    shown = ap length f.columns ∙ r.shown ∙ sym (ap (λ (d : Query). length d.items) f.query);
     fits = subst Fits (sym f.query) r.fits;
     epoch = f.epoch;
     stands = by_test (table_of w.kept.query == u.number) on off;
@@ -143,11 +145,16 @@ pub all_at : (tables : List TableOf) (now : ℕ) (vs : List NamedView) → AreRi
 all_at tables now [] r = tt
 all_at tables now (v ∷ vs) r = (r.0.epoch, all_at tables now vs r.1)
 
+-- and they have a column for each item of their queries
+pub all_shown : (tables : List TableOf) (now : ℕ) (vs : List NamedView) → AreRight tables now vs → AllByRecursion (λ v. length v.columns ≡ length v.query.items) (views_of vs)
+all_shown tables now [] r = tt
+all_shown tables now (v ∷ vs) r = (r.0.shown, all_shown tables now vs r.1)
+
 -- they are right wherever the tables that they stand on have their rows
 pub right_elsewhere : (old new : List TableOf) (now : ℕ) (vs : List NamedView) → AllByRecursion (λ v. rows_in new (table_of v.kept.query) ≡ rows_in old (table_of v.kept.query)) vs → AreRight old now vs → AreRight new now vs
 right_elsewhere old new now [] same r = tt
 right_elsewhere old new now (v ∷ vs) same r = (
-  record { fits = r.0.fits; epoch = r.0.epoch; stands = subst (λ (rs : List Row). Stands v.kept (once_each rs)) (sym same.0) r.0.stands },
+  record { shown = r.0.shown; fits = r.0.fits; epoch = r.0.epoch; stands = subst (λ (rs : List Row). Stands v.kept (once_each rs)) (sym same.0) r.0.stands },
   right_elsewhere old new now vs same.1 r.1,
 )
 
@@ -158,7 +165,7 @@ right_behind tables now (w ∷ ws) v r one = (r.0, right_behind tables now ws v 
 pub right_everywhere : (old new : List TableOf) (now : ℕ) (vs : List NamedView) → ((n : ℕ) → rows_in new n ≡ rows_in old n) → AreRight old now vs → AreRight new now vs
 right_everywhere old new now [] same r = tt
 right_everywhere old new now (v ∷ vs) same r = (
-  record { fits = r.0.fits; epoch = r.0.epoch; stands = subst (λ (rs : List Row). Stands v.kept (once_each rs)) (sym (same (table_of v.kept.query))) r.0.stands },
+  record { shown = r.0.shown; fits = r.0.fits; epoch = r.0.epoch; stands = subst (λ (rs : List Row). Stands v.kept (once_each rs)) (sym (same (table_of v.kept.query))) r.0.stands },
   right_everywhere old new now vs same r.1,
 )
 
@@ -167,7 +174,7 @@ module _ (n : ℕ) (tables : List TableOf) (now : ℕ) where
   right_left : (vs : List NamedView) → AllByRecursion (λ v. (table_of v.kept.query == n) ≡ false) vs → AreRight tables now vs → AreRight (others n tables) now vs
   right_left [] free r = tt
   right_left (v ∷ vs) free r = (
-    record { fits = r.0.fits; epoch = r.0.epoch; stands = subst (λ (rs : List Row). Stands v.kept (once_each rs)) (sym (rows_left n tables (table_of v.kept.query) free.0)) r.0.stands },
+    record { shown = r.0.shown; fits = r.0.fits; epoch = r.0.epoch; stands = subst (λ (rs : List Row). Stands v.kept (once_each rs)) (sym (rows_left n tables (table_of v.kept.query) free.0)) r.0.stands },
     right_left vs free.1 r.1,
   )
 

@@ -11,8 +11,15 @@ pub mod Kept
 pub mod Stored
 pub mod Named
 pub mod Readings
+pub mod Lents
+pub mod Joined
 pub mod Creating
 pub mod Written
+pub mod Exchanged
+pub mod Setting
+pub mod Updates
+pub mod Assigned
 pub mod Leaving
+pub mod Sourced
 pub mod Binding
 pub mod Counting

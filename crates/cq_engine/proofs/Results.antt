@@ -1,22 +1,24 @@
 -- Stored rows, the bag that they are, and what a query makes of it.
 use Rattle.std.proofs.Common.{◌≡◌, ℕ, ◌+◌, Bool, cond, not, List, [], ◌++◌, map, length, arith, refl, sym, ap, ◌∙◌, subst, Result, Ok, Err}
 use Rattle.std.specs.Result.{OnOk, is_ok}
-use Rattle.std.specs.Prelude.{filter, Option, None}
+use Rattle.std.specs.Prelude.{filter, Option}
 use Rattle.std.proofs.lemmas.List.Filters.{length-filter_both}
 use Rattle.cq_values.specs.Value.{Row}
 use Rattle.cq_bags.specs.Bag.{Weighted, SameBag, once_each, filtered, projected}
 use Rattle.cq_bags.specs.Canonical.{bag_of}
-use Rattle.cq_bags.specs.Listing.{Lists, IsListing}
+use Rattle.cq_bags.specs.Listing.{Lists}
 use Rattle.cq_bags.proofs.Bags.{same-sym, same-trans, filtered-respects, projected-respects}
 use Rattle.cq_bags.proofs.Distincts.{once_each-filter, once_each-map}
 use Rattle.cq_bags.proofs.Canonicals.{bag_of-again, bag_of-weights, length-bag_of, same-bag_of}
 use Rattle.cq_model.specs.Expr.{Cond, Expr}
 use Rattle.cq_values.specs.declared.column.ColumnDef.{ColumnDef}
+use Rattle.cq_model.specs.declared.query.Order.{Order}
 use Rattle.cq_model.specs.declared.query.Source.{Source}
 use Rattle.cq_model.specs.Meaning.{Tables, keeps, items_of, meaning}
 use Rattle.cq_model.specs.Write.{chosen}
 use Rattle.cq_states.specs.State.{TableOf, empty_table, holding}
 use Rattle.cq_engine.specs.Commands.{plain}
+use Rattle.cq_engine.specs.Selects.{AreListed}
 
 -- no rows are the empty bag
 pub bag_of_none : bag_of [] ≡ []
@@ -67,6 +69,16 @@ module _ (keep : Row → Bool) (stored left : List Row) (is_left : left ≡ filt
       ap (λ (rs : List Row). record { number = t.number; name = t.name; columns = t.columns; sort = t.sort; rows = rs })
       (ap bag_of is_left ∙ bag_of_kept (λ row. not (keep row)) stored ∙ ap (λ (rs : List Row). bag_of (filter (λ row. not (keep row)) rs)) rows)
 
+  -- the table in which others were put behind the rows that are left
+  pub put_as_stored : (t : TableOf) (more all : List Row) → bag_of stored ≡ t.rows → all ≡ left ++ more → storing all t ≡ holding (filter (λ row. not (keep row)) t.rows ++ more) t
+  put_as_stored t more all rows is =
+      let stay : Row → Bool = λ row. not (keep row) in
+      ap (λ (rs : List Row). record { number = t.number; name = t.name; columns = t.columns; sort = t.sort; rows = rs })
+      (ap bag_of (is ∙ ap (λ (rs : List Row). rs ++ more) is_left)
+      ∙ bag_of_more (filter stay stored) more
+      ∙ ap (λ (rs : List Row). bag_of (rs ++ more)) (bag_of_kept stay stored ∙ ap (λ (rs : List Row). bag_of (filter stay rs)) rows)
+      ∙ sym (bag_of_more (filter stay t.rows) more))
+
   -- how many they were
   pub taken_count : length stored ≡ length (filter keep (bag_of stored)) + length left
   taken_count =
@@ -82,14 +94,15 @@ module _ (filter : Option Cond) (items : List Expr) where
   shown_rows rows = once_each-map (items_of items) (chosen filter rows) ∙ ap (projected (items_of items)) (once_each-filter (keeps filter) rows)
 
   -- the sorted results are the listing of the query on a source whose bag the rows are
-  pub listing_plain : (source : Source) (tables : Tables) (rows list : List Row) → SameBag (once_each rows) (tables source) → Lists [] (once_each (map (items_of items) (chosen filter rows))) list
-      → IsListing [] None (meaning (plain source filter items) tables) list
-  listing_plain source tables rows list same listed =
-      let l = subst (λ (xs : Weighted). Lists [] xs list) (shown_rows rows) listed in (
-        list,
+  pub listing_plain : (source : Source) (tables : Tables) (order : Order) (rows list : List Row) → SameBag (once_each rows) (tables source) → AreListed order (once_each (map (items_of items) (chosen filter rows))) list
+      → AreListed order (meaning (plain source filter items) tables) list
+  listing_plain source tables order rows list same listed =
+      let all = listed.0 in
+      let l = subst (λ (xs : Weighted). Lists order.keys xs all) (shown_rows rows) listed.1 in (
+        all,
         record {
-          same = same-trans (once_each list) (shown (once_each rows)) (shown (tables source)) l.same (projected-respects (items_of items) (filtered (keeps filter) (once_each rows)) (filtered (keeps filter) (tables source)) (filtered-respects (keeps filter) (once_each rows) (tables source) same));
+          same = same-trans (once_each all) (shown (once_each rows)) (shown (tables source)) l.same (projected-respects (items_of items) (filtered (keeps filter) (once_each rows)) (filtered (keeps filter) (tables source)) (filtered-respects (keeps filter) (once_each rows) (tables source) same));
           in_order = l.in_order;
         },
-        refl,
+        listed.2,
       )

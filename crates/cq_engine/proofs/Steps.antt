@@ -9,12 +9,13 @@ use Rattle.cq_bags.proofs.Bags.{same-refl}
 use Rattle.cq_bags.proofs.Totals.{by_test}
 use Rattle.cq_binding.specs.declared.bound.Bound.{Bound}
 use Rattle.cq_binding.specs.declared.bound.Bound.TheVariants as commands
+use Rattle.cq_model.specs.declared.assignment.Assignment.{Assignment}
 use Rattle.cq_model.specs.Expr.{Cond}
 use Rattle.cq_model.specs.declared.query.Order.{Order}
 use Rattle.cq_model.specs.declared.query.Query.{Query}
 use Rattle.cq_values.specs.declared.column.ColumnDef.{ColumnDef}
 use Rattle.cq_model.specs.Views.{is_view, sources_of}
-use Rattle.cq_model.specs.Write.{chosen, left_by}
+use Rattle.cq_model.specs.Write.{chosen, left_by, updated}
 use Rattle.cq_steps.specs.declared.answer.Answer.{Answer}
 use Rattle.cq_steps.specs.declared.answer.Answer.TheVariants.{Done, Count, Rows}
 use Rattle.cq_binding.specs.declared.fault.Fault.{Fault}
@@ -119,6 +120,12 @@ module _ (tables : List TableOf) (views : List ViewOf) (now drawn max_rows : ℕ
       → others ≡ map (at_epoch (now + 1)) views → IsDone old (commands.Delete n c) (Count count) (present new others (now + 1) (drawn + 1) max_rows)
   delete_done n c new others count counted is moved = write_done n (left_by c (rows_in tables n)) (commands.Delete n c) (Count count) new others (λ w. (ap Count counted, w)) is moved
 
+  -- UPDATE
+  pub update_done : (n : ℕ) (assignments : List Assignment) (c : Option Cond) (new : List TableOf) (others : List ViewOf) (count : ℕ) → count ≡ length (chosen c (rows_in tables n)) → new ≡ with_rows n (updated assignments c (rows_in tables n)) tables
+      → others ≡ map (at_epoch (now + 1)) views → IsDone old (commands.Update n assignments c) (Count count) (present new others (now + 1) (drawn + 1) max_rows)
+  update_done n assignments c new others count counted is moved =
+      write_done n (updated assignments c (rows_in tables n)) (commands.Update n assignments c) (Count count) new others (λ w. (ap Count counted, w)) is moved
+
   -- views at the present stay where they are, as long as nothing takes them beyond it
   none_taken : (to : ℕ → ViewOf → ℕ) → ((place : ℕ) (v : ViewOf) → v.epoch ≡ now → to place v ≡ now) → (place : ℕ) (vs : List ViewOf) → AreAt now vs → taken_on to place vs ≡ vs
   none_taken to present_stays place [] h = refl
@@ -152,10 +159,10 @@ module _ (tables : List TableOf) (views : List ViewOf) (now drawn max_rows : ℕ
     command = commands.Select header q order
 
     -- SELECT, which leaves everything as it was
-    pub select_done : (rows : List Row) → order ≡ record { keys = []; limit = None } → Selects tables views q (Ok rows) → IsDone old command (Rows header rows) old
-    select_done rows all s =
+    pub select_done : (rows : List Row) → Selects tables views q order (Ok rows) → IsDone old command (Rows header rows) old
+    select_done rows s =
         unwritten command (Rows header rows) tables views drawn here
-        (record { rows = rows; answered = refl; listed = rw all s.0; in_range = s.1 }, ap (λ (vs : List ViewOf). present tables vs now drawn max_rows) (sym (none_taken (reach old command) (λ place v e. reaches (list_any (is_view place) (sources_of q)) v e) 0 views here)))
+        (record { rows = rows; answered = refl; listed = s.0; in_range = s.1 }, ap (λ (vs : List ViewOf). present tables vs now drawn max_rows) (sym (none_taken (reach old command) (λ place v e. reaches (list_any (is_view place) (sources_of q)) v e) 0 views here)))
 
     -- a view stands where it is on its way to
     on_its_way : (b : Bool) (v : ViewOf) → v.epoch ≡ now → v.epoch ≤ (if b then now else v.epoch)
@@ -167,6 +174,6 @@ module _ (tables : List TableOf) (views : List ViewOf) (now drawn max_rows : ℕ
 
 -- why a SELECT is refused
 module _ (tables : List TableOf) (views : List ViewOf) (now drawn max_rows : ℕ) where
-  pub select_refused : (header : List (List ℕ)) (q : Query) (order : Order) (f : Fault) → Selects tables views q (Err f) → IsRefused (present tables views now drawn max_rows) (commands.Select header q order) f
+  pub select_refused : (header : List (List ℕ)) (q : Query) (order : Order) (f : Fault) → Selects tables views q order (Err f) → IsRefused (present tables views now drawn max_rows) (commands.Select header q order) f
   select_refused header q order f (inl m) = inl (subst (λ (g : Fault). MayRefuse None g) (sym m) tt)
   select_refused header q order f (inr w) = inr w

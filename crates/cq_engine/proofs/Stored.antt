@@ -14,7 +14,10 @@ use Rattle.cq_bags.proofs.Totals.{by_test}
 use Rattle.cq_model.specs.Width.{value_size}
 use Rattle.cq_states.specs.Fitting.{FitsColumn, FitsColumns, AreFitting}
 use Rattle.cq_states.specs.State.{TableOf}
-use Rattle.cq_laws.specs.Sizes.{IsStored}
+use Rattle.cq_model.specs.Sizes.{stored_sizes}
+use Rattle.cq_laws.specs.Sizes.{HasSizes, IsStored}
+use Rattle.cq_laws.proofs.Columns.{sizes-beside}
+use Rattle.cq_laws.proofs.Fits.{FitBeside}
 
 -- ---- What all rows of a list have
 module _ (P : Row → Type 0) where
@@ -81,6 +84,17 @@ row_stored (d ∷ columns) (v ∷ row) fits (suc i) = row_stored columns row fit
 pub rows_stored : (columns : List ColumnDef) (rows : List Row) → AllByRecursion (FitsColumns columns) rows → AllByRecursion IsStored rows
 rows_stored columns [] fitting = tt
 rows_stored columns (row ∷ rows) fitting = (row_stored columns row fitting.0, rows_stored columns rows fitting.1)
+
+-- a row that fits the columns of a table has their sizes
+beside_columns : (columns : List ColumnDef) (row : Row) → FitsColumns columns row → FitBeside row (stored_sizes columns)
+beside_columns [] [] fits = tt
+beside_columns [] (v ∷ row) fits = absurd fits
+beside_columns (d ∷ columns) [] fits = absurd fits
+beside_columns (d ∷ columns) (v ∷ row) fits = (value_small d v fits.0, beside_columns columns row fits.1)
+
+pub rows_sized : (columns : List ColumnDef) (rows : List Row) → AllByRecursion (FitsColumns columns) rows → AllByRecursion (HasSizes (stored_sizes columns)) rows
+rows_sized columns [] fitting = tt
+rows_sized columns (row ∷ rows) fitting = (sizes-beside row (stored_sizes columns) (beside_columns columns row fitting.0), rows_sized columns rows fitting.1)
 
 pub tables_stored : (ts : List TableOf) → AreFitting ts → AllByRecursion (λ t. AllByRecursion IsStored t.rows) ts
 tables_stored [] fitting = tt

@@ -20,12 +20,13 @@ use Rattle.cq_states.specs.Fitting.{FitsColumns, AreLimited, AreFitting}
 use Rattle.cq_states.specs.State.{TableOf, ViewOf, AreNumbered, columns_in, holding, rows_in, with_rows}
 use Rattle.cq_model.specs.declared.query.Query.{Query}
 use Rattle.cq_views.specs.Small.{AreSmallFor, IsSmallFor}
-use Rattle.cq_views.specs.View.{IsNarrowFor, changed}
-use Rattle.cq_views.proofs.Moves.{small-changes, small-rows}
+use Rattle.cq_views.specs.View.{IsNarrowFor, changed, exchanged}
+use Rattle.cq_views.proofs.Moves.{small-changes, small-exchanges, small-rows}
 use Rattle.cq_engine.specs.Commands.{deleted_from, inserted_into, present, room_for}
 use Rattle.cq_engine.specs.Taking.{StandOn, AreSame, AreReady, CanAllTake, HaveTaken, Follow, Moved}
 use Rattle.cq_engine.specs.Views.{NamedView, views_of, Fits, AreRight}
 use Rattle.cq_engine.proofs.Changes.{with_fewer, with_more}
+use Rattle.cq_engine.proofs.Exchanged.{with_exchanged}
 use Rattle.cq_engine.proofs.Kept.{can_all_take, follow, moved, same_views, stand_on}
 use Rattle.cq_engine.proofs.Numbers.{set-number}
 use Rattle.cq_engine.proofs.Rows.{bounded-with_rows, fitting-with_rows, fitting_in, rows_at, rows_elsewhere, rows_have, rows_numbered, rows_there}
@@ -57,6 +58,22 @@ module _ {X : Type 0} (here : X → Row) where
   all_narrow_here [] xs narrow = tt
   all_narrow_here (v ∷ vs) xs narrow = (narrow_here v.kept.query xs narrow.0, all_narrow_here vs xs narrow.1)
 
+-- ---- Rows that go while others come
+module _ (t : TableOf) (gone come : List Row) (few : length t.rows < 2 ^ 64) (few_both : length gone + length come < 2 ^ 64) (stored : AllByRecursion IsStored t.rows) (stored_gone : AllByRecursion IsStored gone) (stored_come : AllByRecursion IsStored come) where
+  both_small : (vs : List NamedView) → StandOn t vs → AllByRecursion (λ v. AreSmallFor v.kept.query (once_each t.rows) × AreSmallFor v.kept.query (exchanged gone come)) vs
+  both_small [] stand = tt
+  both_small (v ∷ vs) stand = (
+    (
+      small-rows v.kept.query t.rows (pos 1) few (small_stored v.kept.query stand.0.0 t.rows stored) (omega (arith, ints)),
+      small-exchanges v.kept.query gone come few_both (small_stored v.kept.query stand.0.0 gone stored_gone) (small_stored v.kept.query stand.0.0 come stored_come),
+    ),
+    both_small vs stand.1,
+  )
+
+  -- views that were made ready for the exchange can take it in
+  pub can_take_exchange : (vs ws : List NamedView) (ps : List (Option (List Addition))) → StandOn t vs → AreSame vs ws → AreReady t.number (exchanged gone come) ws ps → CanAllTake ws ps
+  can_take_exchange vs ws ps stand same ready = can_all_take small-changes t (exchanged gone come) vs ws ps stand (both_small vs stand) same ready
+
 -- ---- Rows that all come, or all go
 module _ (t : TableOf) (rows : List Row) (weight : ℤ) (once : nat_abs weight ≤ 1) (few : length t.rows < 2 ^ 64) (few_rows : length rows < 2 ^ 64) (stored : AllByRecursion IsStored t.rows) (stored_rows : AllByRecursion IsStored rows) where
   all_small : (vs : List NamedView) → StandOn t vs → AllByRecursion (λ v. AreSmallFor v.kept.query (once_each t.rows) × AreSmallFor v.kept.query (changed rows weight)) vs
@@ -86,6 +103,13 @@ module _ (epoch : ℕ) (t u : TableOf) (vs ws xs : List NamedView) (ps : List (O
       subst (λ (w : TableOf). Follow epoch w vs xs) (sym is)
       (follow epoch t (holding (filter (λ row. not (keep row)) t.rows) t) (changed gone (neg_ℤ (pos 1))) refl (with_fewer keep t.rows gone chosen)
       (once_each-bag (bag_of (filter (λ row. not (keep row)) t.rows))) vs ws xs ps stand same ready taken)
+
+  -- and those of an UPDATE
+  pub exchanged-follow : (keep : Row → Bool) (gone come : List Row) → u ≡ holding (filter (λ row. not (keep row)) t.rows ++ come) t → bag_of gone ≡ bag_of (filter keep t.rows) → AreReady t.number (exchanged gone come) ws ps → Follow epoch u vs xs
+  exchanged-follow keep gone come is chosen ready =
+      let rows = filter (λ row. not (keep row)) t.rows ++ come in
+      subst (λ (w : TableOf). Follow epoch w vs xs) (sym is)
+      (follow epoch t (holding rows t) (exchanged gone come) refl (with_exchanged keep t.rows gone chosen come) (once_each-bag (bag_of rows)) vs ws xs ps stand same ready taken)
 
 -- ---- The rows that a DELETE takes
 module _ (keep : Row → Bool) where

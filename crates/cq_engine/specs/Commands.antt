@@ -1,8 +1,8 @@
 -- What each command does with tables and views that it was bound to, or else is refused.
-use Rattle.std.specs.Prelude.{◌≡◌, ◌⊎◌, ◌<◌, ◌+◌, ◌==◌, nat_lt, ℕ, true, false, List, [], ◌++◌, length, Option, Some, None, Result, Ok, Err, MatchResult, slice_get}
+use Rattle.std.specs.Prelude.{◌≡◌, ◌⊎◌, ◌<◌, ◌+◌, ◌==◌, nat_lt, ℕ, true, false, List, [], ◌++◌, length, Option, None, Result, Ok, Err, MatchResult}
 use Rattle.std.specs.List.{AllByRecursion, list_any}
 use Rattle.cq_values.specs.Value.{Row}
-use Rattle.cq_deltas.specs.declared.fault.ToldFault.TheVariants as told
+use Rattle.cq_values.specs.declared.column.ColumnDef.{ColumnDef}
 use Rattle.cq_binding.specs.declared.bound.Bound.{Bound}
 use Rattle.cq_binding.specs.declared.bound.Bound.TheVariants as commands
 use Rattle.cq_model.specs.Expr.{Cond, Expr}
@@ -10,7 +10,7 @@ use Rattle.cq_model.specs.declared.query.Query.{Query}
 use Rattle.cq_model.specs.declared.query.Shape.TheVariants.{Plain}
 use Rattle.cq_model.specs.declared.query.Source.{Source}
 use Rattle.cq_model.specs.declared.query.Source.TheVariants.{Table, View}
-use Rattle.cq_model.specs.Sizes.{column_sizes}
+use Rattle.cq_model.specs.Views.{sources_of}
 use Rattle.cq_model.specs.Write.{left_by}
 use Rattle.cq_steps.specs.declared.answer.Answer.{Answer}
 use Rattle.cq_steps.specs.declared.answer.Answer.TheVariants.{Rows}
@@ -24,7 +24,8 @@ use Rattle.cq_steps.specs.Next.{Trims, at_present}
 use Rattle.cq_steps.specs.Step.{Accepts, IsTooLarge}
 use Rattle.cq_views.specs.Query.{table_of}
 use Rattle.cq_model.specs.Width.{IsNarrowIn}
-use Rattle.cq_engine.specs.Narrow.{IsWithin, IsWithinSized}
+use Rattle.cq_engine.specs.Narrow.{IsWithinSized, joined_sizes}
+use Rattle.cq_engine.specs.Updates.{CanUpdate, value_fault_in}
 use Rattle.cq_engine.specs.Views.{Fits}
 
 -- a state in which no change waits
@@ -48,18 +49,20 @@ IsThere n tables = list_any (λ t. t.number == n) tables ≡ true
 abbrev pub plain : Source → Option Cond → List Expr → Query
 plain source filter items = record { first = source; joins = []; filter = filter; shape = Plain; items = items; distinct = false }
 
--- a query can be worked out on each row of its source
-abbrev pub IsWithinSource : List TableOf → List ViewOf → Query → Source → Type 0
-IsWithinSource tables views q (Table n) = IsThere n tables × AllByRecursion (IsWithin q) (rows_in tables n)
-IsWithinSource tables views q (View place) = (v : ViewOf) × (slice_get views place ≡ Some v) × IsWithinSized (column_sizes v.query) q
+-- a table has the number, or a view the place, that a name in FROM stands for
+abbrev pub IsSourceThere : List TableOf → List ViewOf → Source → Type 0
+IsSourceThere tables views (Table n) = IsThere n tables
+IsSourceThere tables views (View place) = place < length views
 
--- a query of one source that can be worked out on its rows
+-- a query without groups whose sources are there, and that can be worked out on each row that joins rows of them
 pub record CanRead (tables : List TableOf) (views : List ViewOf) (q : Query) : Type 0 where
-  pub plain : q ≡ plain q.first q.filter q.items
-  pub within : IsWithinSource tables views q q.first
+  pub plain : q.shape ≡ Plain
+  pub there : AllByRecursion (IsSourceThere tables views) (sources_of q)
+  pub within : IsWithinSized (joined_sizes tables views q) q
 
--- a query that a view can be built and kept for
-pub record CanBuild (tables : List TableOf) (q : Query) : Type 0 where
+-- a query that a view with these columns can be built and kept for
+pub record CanBuild (tables : List TableOf) (columns : List ColumnDef) (q : Query) : Type 0 where
+  pub shown : length columns ≡ length q.items
   pub fits : Fits q
   pub there : IsThere (table_of q) tables
 
@@ -67,15 +70,16 @@ pub record CanBuild (tables : List TableOf) (q : Query) : Type 0 where
 abbrev pub CanCarryOut : List TableOf → List ViewOf → Bound → Type 0
 CanCarryOut tables views (commands.CreateTable name columns sort) = Unit {0}
 CanCarryOut tables views (commands.DropTable n) = IsThere n tables × (is_used n views ≡ false)
-CanCarryOut tables views (commands.CreateView name columns q) = CanBuild tables q
+CanCarryOut tables views (commands.CreateView name columns q) = CanBuild tables columns q
 CanCarryOut tables views (commands.DropView place) = place < length views
 CanCarryOut tables views (commands.Insert n rows) = IsThere n tables × AllByRecursion (FitsColumns (columns_in tables n)) rows
 CanCarryOut tables views (commands.Delete n c) = IsThere n tables × AllByRecursion (IsNarrowIn c) (rows_in tables n)
-CanCarryOut tables views (commands.Select header q order) = CanRead tables views q × (order ≡ record { keys = []; limit = None })
+CanCarryOut tables views (commands.Update n assignments c) =
+    IsThere n tables × CanUpdate (columns_in tables n) assignments c (rows_in tables n)
+CanCarryOut tables views (commands.Select header q order) = CanRead tables views q
 CanCarryOut tables views (commands.Move n rows) = IsThere n tables
 CanCarryOut tables views (commands.Merge n) = IsThere n tables
 CanCarryOut tables views (commands.Refresh place changes) = place < length views
-CanCarryOut tables views command = ⊥
 
 -- ---- Commands that are carried out
 -- whether so many rows are too many for a table
@@ -86,9 +90,10 @@ too_many max_rows count = fault_if (nat_lt max_rows count) TableFull
 abbrev pub room_for : ℕ → List TableOf → ℕ → List Row → Option Fault
 room_for max_rows tables n rows = too_many max_rows (length (rows_in tables n) + length rows)
 
--- INSERT asks for room, and no other command does
+-- INSERT asks for room, UPDATE for values that may be stored, and no other command for anything
 abbrev pub room : State → Bound → Option Fault
 room s (commands.Insert n rows) = room_for s.max_rows s.tables n rows
+room s (commands.Update n assignments c) = value_fault_in s.tables n assignments c
 room s command = None
 
 -- a command is done, after which each view is taken to the present
@@ -97,7 +102,8 @@ pub record IsDone (old : State) (command : Bound) (answer : Answer) (new : State
   pub accepts : Accepts old command answer on_the_way
   pub trims : Trims (at_present on_the_way) new
 
--- why a command is not carried out: there is no room, a total cannot be shown, or memory is wanting
+-- why a command is not carried out: there is no room, a value may not be stored, a total cannot be shown, or
+-- memory is wanting
 abbrev pub IsRefused : State → Bound → Fault → Type 0
 IsRefused s command f = MayRefuse (room s command) f ⊎ ((f ≡ SumOutOfRange) × IsTooLarge s command)
 

@@ -1,9 +1,15 @@
 -- Queries that can be worked out on rows.
-use Rattle.std.specs.Prelude.{ℕ, List, slice_index_or}
+use Rattle.std.specs.Prelude.{ℕ, List, [], Option, Some, None, slice_get, slice_index_or}
+use Rattle.std.specs.List.{flat_map}
 use Rattle.cq_values.specs.Value.{Row}
 use Rattle.cq_laws.specs.Sizes.{IsSized}
 use Rattle.cq_model.specs.declared.query.Query.{Query}
+use Rattle.cq_model.specs.declared.query.Source.{Source}
+use Rattle.cq_model.specs.declared.query.Source.TheVariants.{Table, View}
+use Rattle.cq_model.specs.Sizes.{column_sizes, stored_sizes}
+use Rattle.cq_model.specs.Views.{sources_of}
 use Rattle.cq_model.specs.Width.{AreNarrowAt, IsNarrowIn}
+use Rattle.cq_states.specs.State.{TableOf, ViewOf, columns_in}
 
 -- a row on which a query can be worked out
 pub record IsWithin (q : Query) (row : Row) : Type 0 where
@@ -13,3 +19,17 @@ pub record IsWithin (q : Query) (row : Row) : Type 0 where
 -- a query that can be worked out on each row with numbers of these sizes
 abbrev pub IsWithinSized : List ℕ → Query → Type 0
 IsWithinSized sizes q = (row : Row) → IsSized (λ i. slice_index_or sizes i 0) row → IsWithin q row
+
+-- the sizes of the columns of a view, if there is one
+abbrev pub view_sizes : Option ViewOf → List ℕ
+view_sizes None = []
+view_sizes (Some v) = column_sizes v.query
+
+-- the sizes of the columns of what a name in FROM stands for
+abbrev pub source_sizes : List TableOf → List ViewOf → Source → List ℕ
+source_sizes tables views (Table n) = stored_sizes (columns_in tables n)
+source_sizes tables views (View place) = view_sizes (slice_get views place)
+
+-- the sizes of the columns of all that FROM names, one source behind the other
+abbrev pub joined_sizes : List TableOf → List ViewOf → Query → List ℕ
+joined_sizes tables views q = flat_map (source_sizes tables views) (sources_of q)

@@ -56,8 +56,9 @@ pub record Fits (q : Query) : Type 0 where
   pub narrow : (row : Row) → IsStored row → IsNarrowFor q row
   pub small : (row : Row) → IsStored row → IsSmallFor q row
 
--- the view is at the epoch, and its groups stand for its query on its table
+-- the view has a column for each item, it is at the epoch, and its groups stand for its query on its table
 pub record IsRight (tables : List TableOf) (now : ℕ) (v : NamedView) : Type 0 where
+  pub shown : length v.columns ≡ length v.kept.query.items
   pub fits : Fits v.kept.query
   pub epoch : v.kept.epoch ≡ now
   pub stands : Stands v.kept (once_each (rows_in tables (table_of v.kept.query)))

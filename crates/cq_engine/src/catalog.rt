@@ -1,5 +1,6 @@
 //! The names of the engine's tables and views.
-ghost use Rattle.std.specs.Prelude.{◌≡◌, option_map};
+ghost use Rattle.std.specs.Prelude.{◌≡◌, length, option_map};
+ghost use Rattle.cq_model.specs.Views.{sources_of};
 ghost use Rattle.cq_engine.specs.Views.{query_named, views_of};
 
 use crate::table::Table;
@@ -74,6 +75,7 @@ impl Catalog for EngineCatalog<'_> {
             name: view.name(),
             columns: view.columns(),
             sizes: view.column_sizes(alloc)?,
+            bases: base_count(view.query()),
         }))
     }
 
@@ -84,4 +86,11 @@ impl Catalog for EngineCatalog<'_> {
     fn is_used(&self, table: u64) -> bool {
         views::is_used(self.views, table)
     }
+}
+
+/// How many base tables the query of a view reads.
+fn base_count(query: &Query) -> usize
+    ensures { result ≡ length (sources_of query.now) }
+{
+    1 + query.joins.as_slice().len()
 }

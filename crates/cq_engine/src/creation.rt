@@ -28,7 +28,7 @@ pub fn create_view_in(
     requires numbered { (next : ℕ) × AreNumbered tables.now next }
     requires fitting { AreFitting tables.now }
     requires right { AreRight tables.now now views.old.items }
-    requires can_build { CanBuild tables.now query }
+    requires can_build { CanBuild tables.now columns query }
     ensures created { OnOk result (IsAdded (new_view name columns query now) views.old.items views.new.items) }
     ensures right { AreRight tables.now now views.new.items }
     ensures err { OnErr result (views.new.items ≡ views.old.items) }

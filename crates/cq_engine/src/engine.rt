@@ -15,13 +15,13 @@ use crate::limits::Limits;
 use crate::reading::select_from;
 use crate::sources::Sources;
 use crate::table::Table;
-use crate::tables::{delete_in, drop_in, insert_in};
+use crate::tables::{delete_in, drop_in, insert_in, update_in};
 use crate::view::View;
 use crate::views::{drop_view_at, view_place};
 use cq_binder::bind;
 use cq_binding::{Bound, Fault};
 use cq_language::Statement;
-use cq_model::{Cond, Order, Query};
+use cq_model::{Assignment, Cond, Order, Query};
 use cq_steps::Answer;
 use cq_values::{ColumnDef, Row, Seq, Text};
 use std::alloc::Global;
@@ -147,6 +147,11 @@ impl Engine {
             Bound::DropView(place) => Ok(self.drop_view(place)),
             Bound::Insert { table, rows } => self.insert(table, rows),
             Bound::Delete { table, condition } => self.delete(table, condition),
+            Bound::Update {
+                table,
+                assignments,
+                condition,
+            } => self.update(table, assignments, condition),
             Bound::Select {
                 header,
                 query,
@@ -155,7 +160,6 @@ impl Engine {
             Bound::Move { table, rows } => Ok(self.move_rows(table, rows)),
             Bound::Merge(table) => Ok(self.merge(table)),
             Bound::Refresh { view, changes } => Ok(self.refresh(view, changes)),
-            Bound::Update { .. } => unreachable!(),
         }
     }
 
@@ -259,6 +263,32 @@ impl Engine {
         Ok(Answer::Count(rows as u64))
     }
 
+    fn update(
+        &mut self,
+        table: u64,
+        assignments: Seq<Assignment>,
+        filter: Option<Cond>,
+    ) -> Result<Answer, Fault>
+        requires drawn { self.old.drawn < 2 ^ 64 - 1 }
+        requires bound { CanCarryOut self.old.tables self.old.views (commands.Update table assignments filter) }
+        ensures done { CarriesOut self.old (commands.Update table assignments filter) result self.new }
+        ensures rows { OnlyShows self.old result self.new }
+    {
+        let epoch = self.writes + 1;
+        let updated = update_in(
+            self.alloc,
+            &mut self.tables,
+            &mut self.views,
+            table,
+            assignments.as_slice(),
+            &filter,
+            epoch,
+        )?;
+        self.writes = epoch;
+        self.drawn += 1;
+        Ok(Answer::Count(updated as u64))
+    }
+
     /// Each row is in the one store that there is, so that nothing has to be moved.
     fn move_rows(&self, _table: u64, _rows: u128) -> Answer
         ensures { CarriesOut self.now (commands.Move _table _rows) (Ok result) self.now }
@@ -287,7 +317,7 @@ impl Engine {
         requires { CanCarryOut self.now.tables self.now.views (commands.Select header query order) }
         ensures { CarriesOut self.now (commands.Select header query order) result self.now }
     {
-        let rows = select_from(self.alloc, &self.tables, &self.views, &query)?;
+        let rows = select_from(self.alloc, &self.tables, &self.views, &query, &order)?;
         Ok(Answer::Rows { header, rows })
     }
 }

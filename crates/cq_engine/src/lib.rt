@@ -10,6 +10,8 @@ mod catalog;
 mod creation;
 mod deletion;
 mod engine;
+mod gathered;
+mod images;
 mod insertion;
 mod limits;
 mod reading;
@@ -17,6 +19,7 @@ mod selection;
 mod sources;
 mod table;
 mod tables;
+mod updating;
 mod view;
 mod views;
 

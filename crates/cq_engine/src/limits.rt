@@ -1,11 +1,12 @@
 //! The limits that a caller sets.
-ghost use Rattle.std.specs.Prelude.{◌≡◌, ◌≤◌, ◌^◌, ◌↔◌, IfSome, IsSome};
+ghost use Rattle.std.specs.Prelude.{◌≡◌, ◌≤◌, ◌↔◌, IfSome, IsSome};
+ghost use Rattle.cq_states.specs.Fitting.{rows_limit};
 
 /// How many rows a table may have.
 #[derive(Clone, Copy, Debug)]
 pub struct Limits {
     pub max_rows: u64,
-    pub ghost in_range: { (1 ≤ max_rows) × (max_rows ≤ 2 ^ 24) },
+    pub ghost in_range: { (1 ≤ max_rows) × (max_rows ≤ rows_limit) },
 }
 
 impl Limits {
@@ -14,7 +15,7 @@ impl Limits {
 
     /// None where the limit is not from 1 to [`Limits::MAX_ROWS`].
     pub fn new(max_rows: u64) -> Option<Limits>
-        ensures in_range { IsSome result ↔ ((1 ≤ max_rows) × (max_rows ≤ 2 ^ 24)) }
+        ensures in_range { IsSome result ↔ ((1 ≤ max_rows) × (max_rows ≤ rows_limit)) }
         ensures value { IfSome result (λ l. l.max_rows ≡ max_rows) }
     {
         if max_rows < 1 || Limits::MAX_ROWS < max_rows {

@@ -1,25 +1,29 @@
 //! Queries answered from the rows of one source.
 ghost use Rattle.std.specs.List.{AllByRecursion};
-ghost use Rattle.std.specs.Prelude.{◌≡◌, IfOk, []};
+ghost use Rattle.std.specs.Prelude.{◌≡◌, IfOk};
 ghost use Rattle.cq_bags.specs.Bag.{once_each};
-ghost use Rattle.cq_bags.specs.Listing.{Lists};
 ghost use Rattle.cq_engine.specs.Narrow.{IsWithin};
-ghost use Rattle.cq_engine.specs.Selects.{shown_rows};
+ghost use Rattle.cq_engine.specs.Selects.{AreListed, shown_rows};
 
-use cq_bags::listed;
 use cq_eval::{items_of, keeps};
-use cq_model::Query;
+use cq_model::{Order, Query};
+use cq_plain::listing;
 use cq_values::{Row, Seq};
 use std::alloc::{AllocError, Global};
 
 /// The listing of what the items show of the rows that WHERE keeps.
-pub fn list(alloc: Global, query: &Query, rows: &[Row]) -> Result<Seq<Row>, AllocError>
+pub fn list(
+    alloc: Global,
+    query: &Query,
+    order: &Order,
+    rows: &[Row],
+) -> Result<Seq<Row>, AllocError>
     requires { AllByRecursion (IsWithin query.now) rows.now }
-    ensures { IfOk result (Lists [] (once_each (shown_rows query.now rows.now))) }
+    ensures { IfOk result (AreListed order.now (once_each (shown_rows query.now rows.now))) }
 {
     let results = results(alloc, query, rows)?;
-    let sorted = listed(results)?;
-    Ok(Seq::from_vec(sorted))
+    let list = listing(results, order)?;
+    Ok(Seq::from_vec(list))
 }
 
 /// The rows of the result, as these rows give them one after the other.

@@ -1,6 +1,6 @@
 //! A table in memory.
 ghost use Rattle.std.specs.List.{AllByRecursion};
-ghost use Rattle.std.specs.Prelude.{◌++◌, ◌≡◌, ◌<◌, ◌^◌, IfOk, OnErr, OnOk, length, map};
+ghost use Rattle.std.specs.Prelude.{◌++◌, ◌+◌, ◌≡◌, ◌<◌, ◌≤◌, ◌^◌, IfOk, OnErr, OnOk, length, map, take};
 ghost use Rattle.cq_values.specs.Texts.{is_text};
 ghost use Rattle.cq_bags.specs.Canonical.{bag_of};
 ghost use Rattle.cq_states.specs.State.{empty_table, holding};
@@ -114,6 +114,15 @@ impl Table {
         self.rows.append(&mut rows)
     }
 
+    /// Puts these rows in place of those that WHERE keeps, which are as many. It takes no memory.
+    pub fn replace(&mut self, condition: &Option<Cond>, images: Vec<Row>)
+        requires narrow { AllByRecursion (IsNarrowIn condition.now) self.old.rows }
+        requires count { length images.items ≡ length (chosen condition.now self.old.rows) }
+        ensures { self.new ≡ holding (left_by condition.now self.old.rows ++ images.items) self.old }
+    {
+        put_behind(&mut self.rows, condition, images);
+    }
+
     /// Takes the rows that WHERE keeps away, and tells how many they were.
     pub fn remove(&mut self, condition: &Option<Cond>) -> usize
         requires { AllByRecursion (IsNarrowIn condition.now) self.old.rows }
@@ -131,6 +140,30 @@ fn take_away(rows: &mut Vec<Row>, condition: &Option<Cond>)
     requires { AllByRecursion (IsNarrowIn condition.now) rows.old.items }
     ensures { rows.new.items ≡ left_by condition.now rows.old.items }
 {
+    let left = bring_forward(rows, condition);
+    rows.truncate(left);
+}
+
+/// Puts the images behind the rows that WHERE does not keep, over the others. It takes no memory.
+fn put_behind(rows: &mut Vec<Row>, condition: &Option<Cond>, images: Vec<Row>)
+    requires narrow { AllByRecursion (IsNarrowIn condition.now) rows.old.items }
+    requires count { length (left_by condition.now rows.old.items) + length images.items ≡ length rows.old.items }
+    ensures { rows.new.items ≡ left_by condition.now rows.old.items ++ images.items }
+{
+    let mut place = bring_forward(rows, condition);
+    for image in images {
+        rows[place] = image;
+        place += 1;
+    }
+}
+
+/// Brings the rows that WHERE does not keep to the front, in their order, and tells how many they are.
+fn bring_forward(rows: &mut Vec<Row>, condition: &Option<Cond>) -> usize
+    requires { AllByRecursion (IsNarrowIn condition.now) rows.old.items }
+    ensures front { take result rows.new.items ≡ left_by condition.now rows.old.items }
+    ensures within { result ≤ length rows.new.items }
+    ensures count { length rows.new.items ≡ length rows.old.items }
+{
     let mut left = 0;
     for place in 0..rows.len() {
         if !keeps(condition, rows[place].as_slice()) {
@@ -138,5 +171,5 @@ fn take_away(rows: &mut Vec<Row>, condition: &Option<Cond>)
             left += 1;
         }
     }
-    rows.truncate(left);
+    left
 }

@@ -1,5 +1,5 @@
 //! Tables under their names and numbers, and the commands on them.
-ghost use Rattle.std.specs.Prelude.{◌≡◌, ◌<◌, ◌+◌, ◌==◌, ℕ, IfOk, IfSome, OnErr, OnOk, filter, get_or, is_some, length, not, position, slice_get};
+ghost use Rattle.std.specs.Prelude.{◌≡◌, ◌<◌, ◌+◌, ◌^◌, ◌==◌, ℕ, IfOk, IfSome, OnErr, OnOk, filter, get_or, is_some, length, not, position, slice_get};
 ghost use Rattle.std.specs.List.{AllByRecursion};
 ghost use Rattle.cq_values.specs.Texts.{is_text};
 ghost use Rattle.cq_model.specs.Write.{chosen};
@@ -8,14 +8,16 @@ ghost use Rattle.cq_states.specs.State.{AreNumbered, TableOf, columns_in, rows_i
 ghost use Rattle.cq_model.specs.Width.{IsNarrowIn};
 ghost use Rattle.cq_engine.specs.Commands.{Inserts, IsChecked, IsThere, too_many, deleted_from};
 ghost use Rattle.cq_engine.specs.Taking.{AreSame, Moved};
+ghost use Rattle.cq_engine.specs.Updates.{CanUpdate, Updates};
 ghost use Rattle.cq_engine.specs.Views.{AreRight};
 
 use crate::deletion::delete_from;
 use crate::insertion::insert_into;
 use crate::table::Table;
+use crate::updating::update_rows;
 use crate::view::View;
 use cq_binding::Fault;
-use cq_model::Cond;
+use cq_model::{Assignment, Cond};
 use cq_values::Row;
 use std::alloc::{AllocError, Global};
 
@@ -76,6 +78,38 @@ pub fn delete_in(
 {
     let place = place_numbered(tables, number);
     delete_from(alloc, &mut tables[place], views, condition, epoch)
+}
+
+/// Replaces each row that WHERE keeps in the table of a number by its image, and tells how many they were, where the images
+/// may be stored. The views on it follow, and each view is at the epoch.
+pub fn update_in(
+    alloc: Global,
+    tables: &mut Vec<Table>,
+    views: &mut Vec<View>,
+    number: u64,
+    assignments: &[Assignment],
+    condition: &Option<Cond>,
+    epoch: u64,
+) -> Result<usize, Fault>
+    requires numbered { (next : ℕ) × AreNumbered tables.old.items next }
+    requires fitting { AreFitting tables.old.items }
+    requires right { (now : ℕ) × AreRight tables.old.items now views.old.items }
+    requires there { IsThere number tables.old.items }
+    requires few { length (rows_in tables.old.items number) < 2 ^ 63 }
+    requires can { CanUpdate (columns_in tables.old.items number) assignments.now condition.now (rows_in tables.old.items number) }
+    ensures updates { Updates number assignments.now condition.now tables.old.items result tables.new.items }
+    ensures moved { OnOk result (Moved epoch tables.new.items views.old.items views.new.items) }
+    ensures err { OnErr result ((tables.new.items ≡ tables.old.items) × AreSame views.old.items views.new.items) }
+{
+    let place = place_numbered(tables, number);
+    update_rows(
+        alloc,
+        &mut tables[place],
+        views,
+        assignments,
+        condition,
+        epoch,
+    )
 }
 
 /// Where the table of a name stands.

@@ -1,16 +1,16 @@
 //! A view under its name.
 ghost use Rattle.std.specs.Prelude.{◌≡◌, ◌==◌, IfErr, IfOk, OnOk, map};
 ghost use Rattle.std.specs.List.{AllByRecursion};
-ghost use Rattle.cq_deltas.specs.declared.fault.ToldFault.TheVariants.{SumOutOfRange};
+ghost use Rattle.cq_deltas.specs.declared.fault.ShowFault.TheVariants.{SumOutOfRange};
 ghost use Rattle.cq_model.specs.Sizes.{column_sizes};
 ghost use Rattle.cq_values.specs.Texts.{is_text};
 ghost use Rattle.cq_views.specs.Small.{StandsOnStored};
 ghost use Rattle.cq_views.specs.Query.{reads, table_of};
-ghost use Rattle.cq_views.specs.View.{IsNarrowFor, changed};
-ghost use Rattle.cq_views.specs.Told.{AreRowsOf, IsNotShown, IsShown};
+ghost use Rattle.cq_views.specs.View.{IsNarrowFor, changed, exchanged};
+ghost use Rattle.cq_views.specs.Shown.{AreRowsOf, IsNotShown, IsShown};
 ghost use Rattle.cq_engine.specs.Taking.{CanTake, HasTaken, IsReady, IsSame};
 
-use cq_deltas::ToldFault;
+use cq_deltas::ShowFault;
 use cq_model::Query;
 use cq_values::{ColumnDef, Row, Seq, Text};
 use cq_views::{Pending, ViewState};
@@ -97,7 +97,7 @@ impl View {
     }
 
     /// The rows of the view. It costs what the view holds.
-    pub fn rows(&self, alloc: Global) -> Result<Vec<Row>, ToldFault>
+    pub fn rows(&self, alloc: Global) -> Result<Vec<Row>, ShowFault>
         requires { StandsOnStored self.now.kept }
         ensures bag { IfOk result (λ rows. AreRowsOf self.now.kept rows.items) }
         ensures range { OnOk result (IsShown self.now.kept) }
@@ -124,6 +124,27 @@ impl View {
         }
         let pending = self.state.prepare(alloc, rows, weight)?;
         Ok(Some(pending))
+    }
+
+    /// What these rows of a table change in the view, where the first go and the others come, if it stands on that table.
+    /// All growth for it is made, and no group changes.
+    pub fn prepare_exchange(
+        &mut self,
+        alloc: Global,
+        table: u64,
+        gone: &[&Row],
+        come: &[Row],
+    ) -> Result<Option<Pending>, AllocError>
+        requires gone { AllByRecursion (λ r. IsNarrowFor self.old.kept.query r.now) gone.now }
+        requires come { AllByRecursion (IsNarrowFor self.old.kept.query) come.now }
+        ensures kept { IsSame self.old self.new }
+        ensures ready { IfOk result (IsReady table (exchanged (map (λ r. r.now) gone.now) come.now) self.new) }
+    {
+        if !self.is_on(table) {
+            return Ok(None);
+        }
+        let exchange = self.state.prepare_exchange(alloc, gone, come)?;
+        Ok(Some(exchange))
     }
 
     /// Takes in the write that the view was made ready for, which is one of another table where there is no change. It

@@ -5,8 +5,8 @@ ghost use Rattle.cq_values.specs.Texts.{is_text};
 ghost use Rattle.cq_binding.specs.Refusal.{is_used};
 ghost use Rattle.cq_states.specs.State.{view_place};
 ghost use Rattle.cq_views.specs.Query.{reads};
-ghost use Rattle.cq_views.specs.View.{IsNarrowFor};
-ghost use Rattle.cq_engine.specs.Taking.{AreReadyFor, AreSame, CanAllTake, HaveTaken};
+ghost use Rattle.cq_views.specs.View.{IsNarrowFor, exchanged};
+ghost use Rattle.cq_engine.specs.Taking.{AreReady, AreReadyFor, AreSame, CanAllTake, HaveTaken};
 ghost use Rattle.cq_engine.specs.Views.{views_of};
 
 use crate::view::View;
@@ -53,6 +53,27 @@ pub fn prepare_all(
     let mut pendings = Vec::with_capacity(alloc, views.len())?;
     for place in 0..views.len() {
         pendings.push(views[place].prepare(alloc, table, rows, weight)?)?;
+    }
+    Ok(pendings)
+}
+
+/// What these rows of a table change in each view, where the first go and the others come, in one change. All growth for it
+/// is made, and no group changes.
+pub fn prepare_exchanges(
+    alloc: Global,
+    views: &mut Vec<View>,
+    table: u64,
+    gone: &[&Row],
+    come: &[Row],
+) -> Result<Vec<Option<Pending>>, AllocError>
+    requires gone { AllByRecursion (λ v. AllByRecursion (λ r. IsNarrowFor v.kept.query r.now) gone.now) views.old.items }
+    requires come { AllByRecursion (λ v. AllByRecursion (IsNarrowFor v.kept.query) come.now) views.old.items }
+    ensures kept { AreSame views.old.items views.new.items }
+    ensures ready { IfOk result (λ ps. AreReady table (exchanged (map (λ r. r.now) gone.now) come.now) views.new.items ps.items) }
+{
+    let mut pendings = Vec::with_capacity(alloc, views.len())?;
+    for place in 0..views.len() {
+        pendings.push(views[place].prepare_exchange(alloc, table, gone, come)?)?;
     }
     Ok(pendings)
 }

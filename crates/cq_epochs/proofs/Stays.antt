@@ -9,8 +9,9 @@ use Rattle.cq_language.specs.declared.statement.Statement.{Statement}
 use Rattle.cq_language.specs.declared.statement.Statement.TheVariants as statements
 use Rattle.cq_steps.specs.declared.answer.Answer.{Answer}
 use Rattle.cq_binding.specs.declared.fault.Fault.{Fault}
-use Rattle.cq_binding.specs.Scopes.{place_in, bound_condition, Named, source_named, from_table, scope_of}
-use Rattle.cq_binding.specs.Bound.{row_of, bound_select, bound, grouped_query, view_columns, view_source}
+use Rattle.cq_binding.specs.Scopes.{place_in, bound_condition, from_table, scope_of}
+use Rattle.cq_binding.specs.From.{From, from_walk}
+use Rattle.cq_binding.specs.Bound.{row_of, bound_select, bound_update, bound, standing, grouped_query, view_columns, view_source}
 use Rattle.cq_states.specs.State.{TableOf, State, table_named, view_place, first_state}
 use Rattle.cq_steps.specs.Next.{reach, at_epoch, at_present, Trims}
 use Rattle.cq_steps.specs.Step.{Does, GivesUp, Refuses, by_walk, for_memory, source_failed, memory_on_the_way, too_large, Step}
@@ -49,11 +50,12 @@ bound-fits s (statements.DropView name) command e = placed (view_place name s.vi
 bound-fits s (statements.Insert name rows) command e = of_table s name command (λ t. commands.Insert t.number (map row_of rows)) (λ t there. there) e
 bound-fits s (statements.Delete name condition) command e =
     of_table s name command (λ t. commands.Delete t.number (option_map (bound_condition (scope_of (from_table t))) condition)) (λ t there. there) e
-bound-fits s (statements.Select q) command e = found (source_named q.first.name s) e
+bound-fits s (statements.Update name sets condition) command e = of_table s name command (bound_update sets condition) (λ t there. there) e
+bound-fits s (statements.Select q) command e = found (standing (from_walk s q)) e
   where
-    found : (o : Option Named) → option_map (bound_select q) o ≡ Some command → Fits s command
+    found : (o : Option From) → option_map (bound_select q) o ≡ Some command → Fits s command
     found None e = absurd (cc)
-    found (Some source) e = let is : bound_select q source ≡ command = cc in subst (Fits s) is tt
+    found (Some from) e = let is : bound_select q from ≡ command = cc in subst (Fits s) is tt
 bound-fits s (statements.Move name rows) command e = of_table s name command (λ t. commands.Move t.number rows) (λ t there. there) e
 bound-fits s (statements.Merge name) command e = of_table s name command (λ t. commands.Merge t.number) (λ t there. there) e
 bound-fits s (statements.Refresh view changes) command e = placed (view_place view s.views) e
@@ -61,7 +63,6 @@ bound-fits s (statements.Refresh view changes) command e = placed (view_place vi
     placed : (o : Option ℕ) → option_map (λ place. commands.Refresh place changes) o ≡ Some command → Fits s command
     placed None e = absurd (cc)
     placed (Some place) e = let is : commands.Refresh place changes ≡ command = cc in subst (Fits s) is tt
-bound-fits s statement command e = absurd (cc e)
 
 -- the state in which nothing is there
 pub first-sound : (max_rows : ℕ) → IsSound (first_state max_rows)

@@ -1,8 +1,9 @@
 -- What passes the walk has nothing too wide in it.
-use Rattle.std.proofs.Common.{arith, ◌≡◌, ℕ, ◌+◌, ◌*◌, ◌<◌, ◌≤◌, ◌^◌, max, Bool, true, false, ℤ, List, map, Option, Some, None, Result, Ok, Err, refl, ap}
-use Rattle.std.specs.Prelude.{nat_lt, ◌&&◌, if◌then◌else◌, slice_index_or}
-use Rattle.std.specs.List.{fold}
+use Rattle.std.proofs.Common.{arith, ◌≡◌, ℕ, ◌+◌, ◌*◌, ◌<◌, ◌≤◌, ◌^◌, max, Bool, true, false, ℤ, sym, subst, List, [], ◌∷◌, map, length, Option, Some, None, Result, Ok, Err, refl, ap}
+use Rattle.std.specs.Prelude.{nat_lt, ◌&&◌, if◌then◌else◌, drop, not, position, unwrap_or}
+use Rattle.std.specs.List.{fold, list_any}
 use Rattle.std.proofs.lemmas.Bool.{ltb-true}
+use Rattle.std.proofs.lemmas.List.Quantifiers.{position-Some}
 use Rattle.std.proofs.lemmas.Nat.{mul-le}
 use Rattle.cq_values.specs.Dates.{day_named}
 use Rattle.cq_values.specs.declared.ty.Ty.TheVariants as types
@@ -14,25 +15,25 @@ use Rattle.cq_binding.specs.Placed.{named_day, placed_expr, placed_exprs, turned
 use Rattle.cq_model.specs.Width.{part_limit, value_size, widest, widest_in, width}
 use Rattle.cq_language.specs.Written.{Written, Choices, Number, Text, Date, Null, Column, Extract, CountAll, Aggregate, Parens, Negative, Times, Plus, Minus, Compare, IsNull, Between, In, Like, Not, And, Or, NoChoice, Choice}
 use Rattle.cq_binding.specs.declared.fault.Fault.{Fault}
-use Rattle.cq_binding.specs.declared.fault.Fault.TheVariants.{AggregateMisplaced, TooWide, TypeMismatch, UnknownTable}
+use Rattle.cq_binding.specs.declared.fault.Fault.TheVariants.{AggregateMisplaced, AmbiguousColumn, TooWide, TypeMismatch, UnknownTable}
 use Rattle.cq_binding.specs.declared.typing.Typing.{Typing}
 use Rattle.cq_binding.specs.Kinds.{◌and_then◌, agree, arithmetic, between_them, compared_with, connected, is_of, like_of, negation_of, negative, number_of, part_of, product_of, sum_of, tested, text_of, unless, value_of}
-use Rattle.cq_binding.specs.Typing.{Scope, column_at, column_typing, knows, listed, may_read, type_at, typed}
-use Rattle.cq_binding.specs.Scopes.{place_of}
+use Rattle.cq_binding.specs.Typing.{Scope, ScopeColumn, column_typing, is_meant, knows, listed, may_read, one_meant, resolved, size_at, type_at, typed}
+use Rattle.cq_binding.specs.Scopes.{place_of, read_place, row_place}
 use Rattle.cq_exprs.specs.Expressions.{IsNarrow, KeepSizes, TypedIsNarrow}
 
 -- what stands behind a first step, stands behind what that step gives
-stood : {A B : Type 0} (r : Result A Fault) (g : A → Result B Fault) (y : B) → (r and_then g) ≡ Ok y → (x : A) × (r ≡ Ok x) × (g x ≡ Ok y)
+pub stood : {A B : Type 0} (r : Result A Fault) (g : A → Result B Fault) (y : B) → (r and_then g) ≡ Ok y → (x : A) × (r ≡ Ok x) × (g x ≡ Ok y)
 stood (Ok x) g y e = (x, refl, e)
 stood (Err f) g y e = absurd (cc e)
 
 -- a test that was passed
-if_ok : {A : Type 0} (b : Bool) (r : Result A Fault) (f : Fault) (x : A) → (if b then r else Err f) ≡ Ok x → r ≡ Ok x
+pub if_ok : {A : Type 0} (b : Bool) (r : Result A Fault) (f : Fault) (x : A) → (if b then r else Err f) ≡ Ok x → r ≡ Ok x
 if_ok true r f x e = e
 if_ok false r f x e = absurd (cc e)
 
 -- what stands is what was to stand
-unless_ok : {A : Type 0} (b : Bool) (f : Fault) (x y : A) → unless b f x ≡ Ok y → (b ≡ true) × (y ≡ x)
+pub unless_ok : {A : Type 0} (b : Bool) (f : Fault) (x y : A) → unless b f x ≡ Ok y → (b ≡ true) × (y ≡ x)
 unless_ok true f x y e = (refl, cc e)
 unless_ok false f x y e = absurd (cc e)
 
@@ -71,17 +72,42 @@ widest-turned : (negated : Bool) (c : Cond) (sizes : ℕ → ℕ) → widest_in 
 widest-turned true c sizes = refl
 widest-turned false c sizes = refl
 
-module _ (s : Scope) (sizes : ℕ → ℕ) (kept : KeepSizes s sizes) where
-  -- a column that is found and may be read has the size that its source promises
-  found_size : (c : ColumnName) (o : Option ℕ) (t : Typing) → column_at s c.name ≡ o → column_typing s c.name o ≡ Ok t → sizes (place_of s c) ≤ t.size
-  found_size c None t at e = absurd (cc e)
-  found_size c (Some i) t at e =
-      let p = unless_ok (may_read s.grouped c.name) AggregateMisplaced (value_of (type_at s.columns i) (slice_index_or s.sizes i 0)) t e in
-      omega (arith, kept c i at p.0, ap {B = ℕ} (λ (x : Typing). x.size) p.1)
+module _ (s : Scope) where
+  -- the place of a name that means one column is where it stands
+  meant_at : (c : ColumnName) (o : Option ℕ) (place : ℕ) → one_meant s.columns c o ≡ Ok place → unwrap_or o 0 ≡ place
+  meant_at c None place e = absurd (cc e)
+  meant_at c (Some i) place e =
+      sym (unless_ok {A = ℕ} (not (list_any (is_meant c) (drop (i + 1) s.columns))) AmbiguousColumn i place e).1
 
+  -- it is one of the columns
+  found_within : (columns : List ScopeColumn) (c : ColumnName) (i : ℕ) → position (is_meant c) columns ≡ Some i → i < length columns
+  found_within [] c i at = absurd (cc at)
+  found_within (d ∷ columns) c i at = (position-Some (is_meant c) (d ∷ columns) i d at).0
+
+  meant_within : (c : ColumnName) (o : Option ℕ) (place : ℕ) → position (is_meant c) s.columns ≡ o → one_meant s.columns c o ≡ Ok place → place < length s.columns
+  meant_within c None place at e = absurd (cc e)
+  meant_within c (Some i) place at e =
+      let same : place ≡ i = (unless_ok {A = ℕ} (not (list_any (is_meant c) (drop (i + 1) s.columns))) AmbiguousColumn i place e).1 in
+      subst (λ (n : ℕ). n < length s.columns) (sym same) (found_within s.columns c i at)
+
+  pub resolved_within : (c : ColumnName) (place : ℕ) → resolved s.columns c ≡ Ok place → place < length s.columns
+  resolved_within c place e =
+      meant_within c (position (is_meant c) s.columns) place refl
+      (if_ok (knows s.columns c.source) (one_meant s.columns c (position (is_meant c) s.columns)) UnknownTable place e)
+
+  pub resolved_at : (c : ColumnName) (place : ℕ) → resolved s.columns c ≡ Ok place → row_place s.columns c ≡ place
+  resolved_at c place e =
+      meant_at c (position (is_meant c) s.columns) place
+      (if_ok (knows s.columns c.source) (one_meant s.columns c (position (is_meant c) s.columns)) UnknownTable place e)
+
+module _ (s : Scope) (sizes : ℕ → ℕ) (kept : KeepSizes s sizes) where
+  -- a column that may be read has the size that its source promises
   column_size : (c : ColumnName) (t : Typing) → typed s (Column c) ≡ Ok t → sizes (place_of s c) ≤ t.size
   column_size c t e =
-      found_size c (column_at s c.name) t refl (if_ok (knows s c.source) (column_typing s c.name (column_at s c.name)) UnknownTable t e)
+      let found = stood (resolved s.columns c) (column_typing s) t e in
+      let p = unless_ok (may_read s.grouped found.0) AggregateMisplaced (value_of (type_at s.columns found.0) (size_at s.columns found.0)) t found.2 in
+      let at : read_place s.grouped (row_place s.columns c) ≡ read_place s.grouped found.0 = ap (read_place s.grouped) (resolved_at s c found.0 found.1) in
+      omega (arith, kept found.0 (resolved_within s c found.0 found.1) p.0, ap {B = ℕ} (λ (x : Typing). x.size) p.1, ap sizes at)
 
   mutual
     narrow : (w : Written) (t : Typing) → typed s w ≡ Ok t → IsNarrow s w t sizes

@@ -1,8 +1,8 @@
 //! Expressions that are asked for as a whole: a condition as behind WHERE, a value as an item or behind an aggregate.
-ghost use Rattle.std.specs.Prelude.{◌≡◌, IfOk};
+ghost use Rattle.std.specs.Prelude.{◌≡◌, IfOk, Ok};
 ghost use Rattle.cq_binding.specs.Scopes.{bound_condition, bound_value};
 ghost use Rattle.cq_binding.specs.Kinds.{kind_type};
-ghost use Rattle.cq_binding.specs.Typing.{condition_fault, kept_fault, number_fault, type_of, typed, value_fault};
+ghost use Rattle.cq_binding.specs.Typing.{condition_fault, kept_fault, number_fault, set_fault, type_of, typed, value_fault};
 ghost use Rattle.cq_exprs.specs.Expressions.{Places, scope_of};
 ghost use Rattle.cq_language.specs.Written.{written};
 
@@ -10,7 +10,7 @@ use crate::placing::{cond_tree, expr_tree};
 use crate::scope::Scope;
 use crate::typings;
 use crate::walk::{node_typing, typing_of};
-use cq_binding::{Fault, Kind};
+use cq_binding::{Fault, Kind, Typing};
 use cq_language::{ExprNode, SqlExpr};
 use cq_model::{Cond, Expr};
 use cq_values::Ty;
@@ -41,6 +41,22 @@ pub fn bind_number(alloc: Global, scope: &Scope<'_>, value: &ExprNode) -> Result
 {
     let typing = node_typing(scope, value)?;
     typings::added(typing)?;
+    Ok(placed(alloc, scope, value)?)
+}
+
+/// The value with places for names, as a column of this type is set to it, where the walk through it gave this typing.
+/// It is refused for being none of that type.
+pub fn bind_of(
+    alloc: Global,
+    scope: &Scope<'_>,
+    value: &ExprNode,
+    typing: Typing,
+    ty: Ty,
+) -> Result<Expr, Fault>
+    requires { typed (scope_of scope.now) (written value.now) ≡ Ok typing }
+    ensures { Places bound_value (set_fault ty) (scope_of scope.now) (written value.now) result }
+{
+    typings::of_type(ty, typing)?;
     Ok(placed(alloc, scope, value)?)
 }
 

@@ -1,7 +1,8 @@
 //! Expressions: what they give or the fault that they have, and what is written with places for names.
 //!
 //! A written expression is walked through by [`typing_of`]; what has no fault is bound by [`bind_condition`],
-//! [`bind_value`], [`bind_number`] or [`bind_kept`], and nothing in it is too wide in a row whose columns keep their sizes ([`typed_is_narrow`]).
+//! [`bind_value`], [`bind_number`], [`bind_of`] or [`bind_kept`], and nothing in it is too wide in a row whose columns keep their
+//! sizes ([`typed_is_narrow`]); its value is of its type in a row whose columns keep theirs ([`typed_is_of_its_kind`]).
 #![tactic(auto)]
 
 mod aggregates;
@@ -13,7 +14,7 @@ mod typings;
 mod walk;
 
 pub use aggregates::has_aggregate;
-pub use bind::{bind_condition, bind_kept, bind_number, bind_value, type_of};
-pub use laws::typed_is_narrow;
-pub use scope::{Scope, column_place};
+pub use bind::{bind_condition, bind_kept, bind_number, bind_of, bind_value, type_of};
+pub use laws::{typed_is_narrow, typed_is_of_its_kind};
+pub use scope::{Scope, ScopeColumn, column_place, is_known, named_place, resolved, row_place};
 pub use walk::typing_of;

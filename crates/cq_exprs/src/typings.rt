@@ -1,7 +1,7 @@
 //! What operators and tests ask of their operands, and what they give.
 ghost use Rattle.std.specs.Prelude.{◌≡◌, ◌&&◌};
 ghost use Rattle.cq_model.specs.Width.{part_limit};
-ghost use Rattle.cq_binding.specs.Kinds.{a_condition, added, agree, between_them, compared_with, connected, is_condition, is_of, is_value, kept_value, like_of, negation_of, negative, number_of, part_of, product_of, sum_of, tested, text_of, unless, value_of};
+ghost use Rattle.cq_binding.specs.Kinds.{a_condition, added, agree, between_them, compared_with, connected, is_condition, is_of, is_value, kept_value, like_of, negation_of, negative, number_of, of_type, part_of, product_of, sum_of, tested, text_of, unless, value_of};
 ghost use Rattle.cq_binding.specs.declared.fault.Fault.TheVariants.{TypeMismatch};
 
 use cq_binding::{Fault, Kind, Typing};
@@ -113,6 +113,17 @@ pub fn added(x: Typing) -> Result<Typing, Fault>
     ensures { result ≡ added x }
 {
     if is_of(Ty::Integer, x.kind) {
+        Ok(x)
+    } else {
+        Err(Fault::TypeMismatch)
+    }
+}
+
+/// A value of this type, as a column is set to it.
+pub fn of_type(ty: Ty, x: Typing) -> Result<Typing, Fault>
+    ensures { result ≡ of_type ty x }
+{
+    if is_of(ty, x.kind) {
         Ok(x)
     } else {
         Err(Fault::TypeMismatch)

@@ -1,18 +1,18 @@
 //! The walk through an expression, node by node.
 //!
 //! A chain is walked by a loop, so that a long one takes no deep recursion.
-ghost use Rattle.std.specs.Prelude.{◌≡◌, is_none, map, not, slice_index_or, true};
+ghost use Rattle.std.specs.Prelude.{◌≡◌, is_none, map, not, true};
 ghost use Rattle.cq_values.specs.declared.ty.Ty.TheVariants.{Date};
 ghost use Rattle.cq_values.specs.Dates.{day_named};
 ghost use Rattle.cq_language.specs.Written.{choices, written};
 ghost use Rattle.cq_language.specs.Written as tree;
 ghost use Rattle.cq_binding.specs.declared.fault.Fault.TheVariants.{BadDate};
 ghost use Rattle.cq_binding.specs.Kinds.{unless, value_of};
-ghost use Rattle.cq_binding.specs.Typing.{knows, listed, type_at, typed};
+ghost use Rattle.cq_binding.specs.Typing.{listed, size_at, type_at, typed};
 ghost use Rattle.cq_exprs.specs.Chains.{chained, joined};
 ghost use Rattle.cq_exprs.specs.Expressions.{scope_of};
 
-use crate::scope::{Scope, column_place};
+use crate::scope::{Scope, ScopeColumn, resolved};
 use crate::typings;
 use cq_binding::{Fault, Kind, Typing};
 use cq_language::{ColumnName, ExprNode, SqlExpr};
@@ -134,40 +134,23 @@ fn date_typing(text: &Text) -> Result<Typing, Fault>
     }
 }
 
-/// A column: its source, its name, and then whether it may be read.
+/// A column: where it stands, and then whether it may be read.
 fn column_typing(scope: &Scope<'_>, column: &ColumnName) -> Result<Typing, Fault>
     ensures { result ≡ typed (scope_of scope.now) (tree.Column column.now) }
 {
-    if !is_known(scope, &column.source) {
-        return Err(Fault::UnknownTable);
-    }
-    let name = column.name.as_str();
-    let Some(place) = column_place(scope.columns, name) else {
-        return Err(Fault::UnknownColumn);
-    };
-    if !scope.may_read(name) {
+    let place = resolved(scope.columns, column)?;
+    if !scope.may_read(place) {
         return Err(Fault::AggregateMisplaced);
     }
-    Ok(typing_at(scope, place))
-}
-
-/// Whether the source that a column names, if it names one, is the one that is there.
-fn is_known(scope: &Scope<'_>, source: &Option<Text>) -> bool
-    ensures { result ≡ knows (scope_of scope.now) source.now }
-{
-    match source {
-        Some(source) => scope.known == source.as_str(),
-        None => true,
-    }
+    Ok(typing_at(scope.columns, place))
 }
 
 /// What the column at a place gives.
-fn typing_at(scope: &Scope<'_>, place: usize) -> Typing
-    ensures { result ≡ value_of (type_at scope.now.columns.now place) (slice_index_or scope.now.sizes.now place 0) }
+fn typing_at(columns: &[ScopeColumn<'_>], place: usize) -> Typing
+    ensures { result ≡ value_of (type_at columns.now place) (size_at columns.now place) }
 {
-    let size = scope.sizes.get(place).copied().unwrap_or(0);
-    match scope.columns.get(place) {
-        Some(column) => typings::value_of(column.ty, size),
-        None => typings::value_of(Ty::Integer, size),
+    match columns.get(place) {
+        Some(column) => typings::value_of(column.ty(), column.size()),
+        None => typings::value_of(Ty::Integer, 0),
     }
 }

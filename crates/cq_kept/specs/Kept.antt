@@ -19,7 +19,7 @@ pub data Kept : Type 0 where
   Totalled : (values total : ℤ) → Kept
   Listed : (values : Weighted) → Kept
 
--- what is kept tells the aggregate of these rows
+-- what is kept shows the aggregate of these rows
 abbrev pub IsKept : Aggregate → Weighted → Kept → Type 0
 IsKept CountAll xs (Counted n) = n ≡ count_all xs
 IsKept (Count e) xs (Counted n) = n ≡ count_values e xs
@@ -28,7 +28,7 @@ IsKept (Min e) xs (Listed values) = SameBag values (value_bag e xs)
 IsKept (Max e) xs (Listed values) = SameBag values (value_bag e xs)
 IsKept a xs kept = ⊥
 
--- the aggregate, as what is kept of it tells
+-- the aggregate, as what is kept of it shows
 abbrev pub kept_value : Aggregate → Kept → Value
 kept_value CountAll (Counted n) = Number n
 kept_value (Count e) (Counted n) = Number n
@@ -65,14 +65,14 @@ LastStands q (Grouped keys aggregates having) xs (Groups group) =
     (k : Row) → GroupStands aggregates (rows_of_key (unwrap_or keys []) k xs) (group k)
 LastStands q shape xs last = ⊥
 
--- all aggregates of a group, as what is kept of them tells
-abbrev pub told_values : List Aggregate → List Kept → Row
-told_values (a ∷ aggregates) (k ∷ kept) = kept_value a k ∷ told_values aggregates kept
-told_values aggregates kept = []
+-- all aggregates of a group, as what is kept of them shows
+abbrev pub shown_values : List Aggregate → List Kept → Row
+shown_values (a ∷ aggregates) (k ∷ kept) = kept_value a k ∷ shown_values aggregates kept
+shown_values aggregates kept = []
 
--- a group's row, as what is kept of the group tells
-abbrev pub told_row : List Aggregate → Row → List Kept → Row
-told_row aggregates k kept = k ++ told_values aggregates kept
+-- a group's row, as what is kept of the group shows
+abbrev pub shown_row : List Aggregate → Row → List Kept → Row
+shown_row aggregates k kept = k ++ shown_values aggregates kept
 
 -- what is kept of an aggregate of these rows, worked out from scratch
 abbrev pub kept_of : Weighted → Aggregate → Kept

@@ -2,5 +2,5 @@ pub mod Delta
 pub mod Pushed
 pub mod Own
 pub mod Kept
-pub mod Told
+pub mod Shown
 pub mod Standing

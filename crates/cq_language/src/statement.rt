@@ -1,6 +1,6 @@
 //! Statements as trees.
 use crate::written::{ColumnName, SqlExpr};
-use cq_values::{ColumnDef, Seq, Text, Ty};
+use cq_values::{ColumnDef, Seq, Text};
 
 /// A whole number with its sign. The greatest magnitude stands for every number from it on.
 #[derive(Clone, Copy, Debug, PartialEq, Eq)]

@@ -13,7 +13,7 @@ use Rattle.cq_bags.specs.Bag.{Weighted, SameBag, IsBag, distinct_rows}
 use Rattle.cq_model.specs.declared.query.Aggregate.{Aggregate}
 use Rattle.cq_model.specs.declared.query.Aggregate.TheVariants.{CountAll, Count, Sum, Min, Max}
 use Rattle.cq_model.specs.Group.{values_of, value_bag, extreme_of, extreme, lower, higher, aggregate, group_row}
-use Rattle.cq_kept.specs.Kept.{Kept, Counted, Totalled, Listed, IsKept, kept_value, told_values, AreKept, Group, GroupStands, told_row}
+use Rattle.cq_kept.specs.Kept.{Kept, Counted, Totalled, Listed, IsKept, kept_value, shown_values, AreKept, Group, GroupStands, shown_row}
 use Rattle.cq_bags.proofs.Totals.{by_test}
 use Rattle.cq_bags.proofs.Bags.{same-sym}
 use Rattle.cq_bags.proofs.Distincts.{is_among-distinct}
@@ -74,31 +74,31 @@ extreme_of-respects best R c xs ys s =
     extreme-same c (kept_values f some (distinct_rows xs)) (kept_values f some (distinct_rows ys))
     (kept_values-respect f some xs ys s) (kept_values-respect f some ys xs (same-sym xs ys s))
 
--- what is kept of an aggregate tells it
-pub kept-tells : (a : Aggregate) (xs : Weighted) (k : Kept) → IsBag xs → IsKept a xs k → kept_value a k ≡ aggregate a xs
-kept-tells CountAll xs (Counted n) b h = ap Number h
-kept-tells (Count e) xs (Counted n) b h = ap Number h
-kept-tells (Sum e) xs (Totalled n total) b h = rw (h.0, h.1) refl
-kept-tells (Min e) xs (Listed values) b h = extreme_of-respects lower IsUpTo lower-choice values (value_bag e xs) h ∙ sym (extreme-counted e xs b lower IsUpTo lower-choice)
-kept-tells (Max e) xs (Listed values) b h = extreme_of-respects higher IsDownTo higher-choice values (value_bag e xs) h ∙ sym (extreme-counted e xs b higher IsDownTo higher-choice)
-kept-tells CountAll xs (Totalled n t) b h = absurd h
-kept-tells CountAll xs (Listed v) b h = absurd h
-kept-tells (Count e) xs (Totalled n t) b h = absurd h
-kept-tells (Count e) xs (Listed v) b h = absurd h
-kept-tells (Sum e) xs (Counted n) b h = absurd h
-kept-tells (Sum e) xs (Listed v) b h = absurd h
-kept-tells (Min e) xs (Counted n) b h = absurd h
-kept-tells (Min e) xs (Totalled n t) b h = absurd h
-kept-tells (Max e) xs (Counted n) b h = absurd h
-kept-tells (Max e) xs (Totalled n t) b h = absurd h
+-- what is kept of an aggregate shows it
+pub kept-shows : (a : Aggregate) (xs : Weighted) (k : Kept) → IsBag xs → IsKept a xs k → kept_value a k ≡ aggregate a xs
+kept-shows CountAll xs (Counted n) b h = ap Number h
+kept-shows (Count e) xs (Counted n) b h = ap Number h
+kept-shows (Sum e) xs (Totalled n total) b h = rw (h.0, h.1) refl
+kept-shows (Min e) xs (Listed values) b h = extreme_of-respects lower IsUpTo lower-choice values (value_bag e xs) h ∙ sym (extreme-counted e xs b lower IsUpTo lower-choice)
+kept-shows (Max e) xs (Listed values) b h = extreme_of-respects higher IsDownTo higher-choice values (value_bag e xs) h ∙ sym (extreme-counted e xs b higher IsDownTo higher-choice)
+kept-shows CountAll xs (Totalled n t) b h = absurd h
+kept-shows CountAll xs (Listed v) b h = absurd h
+kept-shows (Count e) xs (Totalled n t) b h = absurd h
+kept-shows (Count e) xs (Listed v) b h = absurd h
+kept-shows (Sum e) xs (Counted n) b h = absurd h
+kept-shows (Sum e) xs (Listed v) b h = absurd h
+kept-shows (Min e) xs (Counted n) b h = absurd h
+kept-shows (Min e) xs (Totalled n t) b h = absurd h
+kept-shows (Max e) xs (Counted n) b h = absurd h
+kept-shows (Max e) xs (Totalled n t) b h = absurd h
 
 -- and of all aggregates of a group
-values-tell : (aggregates : List Aggregate) (xs : Weighted) (kept : List Kept) → IsBag xs → AreKept aggregates xs kept → told_values aggregates kept ≡ map (λ a. aggregate a xs) aggregates
-values-tell [] xs [] b h = refl
-values-tell [] xs (k ∷ kept) b h = absurd h
-values-tell (a ∷ aggregates) xs [] b h = absurd h
-values-tell (a ∷ aggregates) xs (k ∷ kept) b h = λ i. kept-tells a xs k b h.0 i ∷ values-tell aggregates xs kept b h.1 i
+values-show : (aggregates : List Aggregate) (xs : Weighted) (kept : List Kept) → IsBag xs → AreKept aggregates xs kept → shown_values aggregates kept ≡ map (λ a. aggregate a xs) aggregates
+values-show [] xs [] b h = refl
+values-show [] xs (k ∷ kept) b h = absurd h
+values-show (a ∷ aggregates) xs [] b h = absurd h
+values-show (a ∷ aggregates) xs (k ∷ kept) b h = λ i. kept-shows a xs k b h.0 i ∷ values-show aggregates xs kept b h.1 i
 
--- so it tells the group's row
-pub group-tells : (aggregates : List Aggregate) (k : Row) (xs : Weighted) (group : Group) → IsBag xs → GroupStands aggregates xs group → told_row aggregates k group.kept ≡ group_row aggregates k xs
-group-tells aggregates k xs group b h = ap (λ vs. k ++ vs) (values-tell aggregates xs group.kept b h.kept)
+-- so it shows the group's row
+pub group-shows : (aggregates : List Aggregate) (k : Row) (xs : Weighted) (group : Group) → IsBag xs → GroupStands aggregates xs group → shown_row aggregates k group.kept ≡ group_row aggregates k xs
+group-shows aggregates k xs group b h = ap (λ vs. k ++ vs) (values-show aggregates xs group.kept b h.kept)

@@ -1,4 +1,4 @@
--- What is told of stored rows fits its size.
+-- What is shown of stored rows fits its size.
 use Rattle.std.proofs.Common.{◌≡◌, ℕ, zero, suc, ◌≤◌, ◌<◌, ◌^◌, ℤ, pos, ◌≤ℤ◌, int_lt, Bool, true, false, cond, List, [], ◌∷◌, ◌++◌, map, filter, length, sym, ◌∙◌, ap, subst, inl, inr, arith}
 use Rattle.std.proofs.lemmas.Int.{ints}
 use Rattle.std.specs.List.{AllByRecursion}
@@ -18,7 +18,7 @@ use Rattle.cq_model.specs.declared.query.Aggregate.TheVariants.{CountAll, Count,
 use Rattle.cq_model.specs.Condition.{is_null}
 use Rattle.cq_model.specs.Eval.{eval}
 use Rattle.cq_model.specs.Group.{count_values, sum_values, aggregate, InRange, SumInRange}
-use Rattle.cq_model.specs.Sizes.{told_size}
+use Rattle.cq_model.specs.Sizes.{shown_size}
 use Rattle.cq_model.specs.Width.{value_size}
 use Rattle.cq_laws.specs.Sizes.{CountsOrAdds}
 use Rattle.cq_laws.proofs.Groups.{IsRowOf, row-to-test}
@@ -30,7 +30,7 @@ abbrev pub Fits : Value → ℕ → Type 0
 Fits v n = value_size v ≤ n
 
 -- NULL is of any size
-null-fits : (n : ℕ) → Fits Null n
+pub null-fits : (n : ℕ) → Fits Null n
 null-fits n = omega arith
 
 -- each value fits the size beside it
@@ -72,7 +72,7 @@ times-of r (s ∷ rows) (inl e) = rw (e, same_row-refl s) (omega arith)
 times-of r (s ∷ rows) (inr h) = omega (arith, times-of r rows h)
 
 -- and one that occurs is listed
-row-of : (r : Row) (rows : List Row) → 0 < times_in r rows → IsRowOf r rows
+pub row-of : (r : Row) (rows : List Row) → 0 < times_in r rows → IsRowOf r rows
 row-of r [] h = absurd (omega arith)
 row-of r (s ∷ rows) h = by_test (same_row s r)
     (λ k. inl (sym (same_row-same s r k)))
@@ -89,13 +89,13 @@ row-of-bag rows r h =
     row-of r rows (positive (times_in r rows) (sym among ∙ row-to-test r (distinct_rows (once_each rows)) h))
 
 -- two lists of one bag have the same rows
-pub all-listed : (P : Row → Type 0) (rows told : List Row) → SameBag (once_each told) (once_each rows) → AllByRecursion P rows → AllByRecursion P told
-all-listed P rows told same all =
-    all-from P told (λ r h. all-at P rows all r (row-of r rows (subst (λ n. 0 < n) (same_times told rows same r) (times-of r told h))))
+pub all-listed : (P : Row → Type 0) (rows listed : List Row) → SameBag (once_each listed) (once_each rows) → AllByRecursion P rows → AllByRecursion P listed
+all-listed P rows listed same all =
+    all-from P listed (λ r h. all-at P rows all r (row-of r rows (subst (λ n. 0 < n) (same_times listed rows same r) (times-of r listed h))))
 
--- ---- what is told of rows of a table
+-- ---- what is shown of rows of a table
 -- a number that counts so many, at most
-abbrev IsCount : ℤ → ℕ → Type 0
+abbrev pub IsCount : ℤ → ℕ → Type 0
 IsCount n m = (pos 0 ≤ℤ n) × (n ≤ℤ pos m)
 
 -- a sum over rows of what is 0 or 1 counts some of them
@@ -106,21 +106,21 @@ total-within f h (r ∷ rows) =
     let rest = total-within f h rows in
     (omega (arith, ints, here.0, rest.0), omega (arith, ints, here.1, rest.1))
 
-test-within : (b : Bool) → IsCount (cond b (pos 0) (pos 1)) 1
+pub test-within : (b : Bool) → IsCount (cond b (pos 0) (pos 1)) 1
 test-within true = (omega (arith, ints), omega (arith, ints))
 test-within false = (omega (arith, ints), omega (arith, ints))
 
 -- a count is of its size
-count-fits : (n : ℤ) (m : ℕ) → IsCount n m → m ≤ 2 ^ 96 → Fits (Number n) (2 ^ 96)
+pub count-fits : (n : ℤ) (m : ℕ) → IsCount n m → m ≤ 2 ^ 96 → Fits (Number n) (2 ^ 96)
 count-fits n m h few = omega (arith, ints, h.0, h.1, few)
 
 -- and so is a total that can be shown
-sum-fits : (n : ℤ) → InRange n → Fits (Number n) (2 ^ 127)
+pub sum-fits : (n : ℤ) → InRange n → Fits (Number n) (2 ^ 127)
 sum-fits n h = omega (arith, ints, h.low, h.high)
 
 module _ (rows : List Row) (few : length rows ≤ 2 ^ 96) where
-  -- what is told fits its size
-  aggregate-fits : (a : Aggregate) → CountsOrAdds a → SumInRange a (once_each rows) → Fits (aggregate a (once_each rows)) (told_size a)
+  -- what is shown fits its size
+  aggregate-fits : (a : Aggregate) → CountsOrAdds a → SumInRange a (once_each rows) → Fits (aggregate a (once_each rows)) (shown_size a)
   aggregate-fits CountAll h s = count-fits _ (length rows) (total-within (λ r. pos 1) (λ r. test-within false) rows) few
   aggregate-fits (Count e) h s =
       count-fits _ (length rows) (total-within (λ r. cond (is_null (eval e r)) (pos 0) (pos 1)) (λ r. test-within (is_null (eval e r))) rows) few
@@ -130,8 +130,8 @@ module _ (rows : List Row) (few : length rows ≤ 2 ^ 96) where
   aggregate-fits (Min e) h s = absurd h
   aggregate-fits (Max e) h s = absurd h
 
-  -- and so does all that is told
+  -- and so does all that is shown
   pub aggregates-fit : (aggregates : List Aggregate) → AllByRecursion CountsOrAdds aggregates → AllByRecursion (λ a. SumInRange a (once_each rows)) aggregates
-      → FitBeside (map (λ a. aggregate a (once_each rows)) aggregates) (map told_size aggregates)
+      → FitBeside (map (λ a. aggregate a (once_each rows)) aggregates) (map shown_size aggregates)
   aggregates-fit [] h s = tt
   aggregates-fit (a ∷ aggregates) h s = (aggregate-fits a h.0 s.0, aggregates-fit aggregates h.1 s.1)

@@ -12,6 +12,8 @@ pub mod Positives
 pub mod Ranges
 pub mod Works
 pub mod Lessened
-pub mod Told
+pub mod Shown
 pub mod Fits
+pub mod Columns
+pub mod GroupSizes
 pub mod Sizes

@@ -10,15 +10,19 @@ use Rattle.cq_kept.specs.Delta.{SameTables, chain_change, changed, joined_change
 use Rattle.cq_bags.proofs.Totals.{by_test}
 use Rattle.cq_bags.proofs.Bags.{filtered-respects, projected-respects}
 use Rattle.cq_bags.proofs.Linears.{filtered-append}
-use Rattle.cq_laws.proofs.Chains.{chain-respects, chain-law}
+use Rattle.cq_model.specs.Views.{sources_of}
+use Rattle.cq_laws.proofs.Chains.{SameSources, all-same, chain-same, chain-law}
 use Rattle.cq_bags.proofs.Distincts.{distinct-respects}
 use Rattle.cq_laws.proofs.Groups.{grouped-respects}
 
--- the joined rows depend on the sources' bags alone
-pub joined_rows-respects : (q : Query) (tables others : Tables) → SameTables tables others → SameBag (joined_rows q tables) (joined_rows q others)
-joined_rows-respects q tables others t =
+-- the joined rows depend on the bags of the sources that FROM names alone
+pub joined_rows-same : (q : Query) (tables others : Tables) → SameSources tables others (sources_of q) → SameBag (joined_rows q tables) (joined_rows q others)
+joined_rows-same q tables others h =
     filtered-respects (keeps q.filter) (chain tables (tables q.first) q.joins) (chain others (others q.first) q.joins)
-    (chain-respects tables others t (tables q.first) (others q.first) (t.at q.first) q.joins)
+    (chain-same tables others (tables q.first) (others q.first) h.0 q.joins h.1)
+
+pub joined_rows-respects : (q : Query) (tables others : Tables) → SameTables tables others → SameBag (joined_rows q tables) (joined_rows q others)
+joined_rows-respects q tables others t = joined_rows-same q tables others (all-same tables others t (sources_of q))
 
 -- groups depend on the bag of the rows alone
 shaped-respects : (s : Shape) (xs ys : Weighted) → SameBag xs ys → SameBag (shaped s xs) (shaped s ys)
@@ -31,13 +35,16 @@ shaped-respects (Grouped keys aggregates having) xs ys h =
 pub shown-respects : (q : Query) (xs ys : Weighted) → SameBag xs ys → SameBag (shown q xs) (shown q ys)
 shown-respects q xs ys h = projected-respects (items_of q.items) (shaped q.shape xs) (shaped q.shape ys) (shaped-respects q.shape xs ys h)
 
--- a query's bag depends on its sources' bags alone
-pub meaning-respects : (q : Query) (tables others : Tables) → SameTables tables others → SameBag (meaning q tables) (meaning q others)
-meaning-respects q tables others t =
-    let h = shown-respects q (joined_rows q tables) (joined_rows q others) (joined_rows-respects q tables others t) in
+-- a query's bag depends on the bags of the sources that FROM names alone
+pub meaning-same : (q : Query) (tables others : Tables) → SameSources tables others (sources_of q) → SameBag (meaning q tables) (meaning q others)
+meaning-same q tables others t =
+    let h = shown-respects q (joined_rows q tables) (joined_rows q others) (joined_rows-same q tables others t) in
     by_test q.distinct
     (λ d. rw d (distinct-respects (shown q (joined_rows q tables)) (shown q (joined_rows q others)) h))
     (λ d. rw d h)
+
+pub meaning-respects : (q : Query) (tables others : Tables) → SameTables tables others → SameBag (meaning q tables) (meaning q others)
+meaning-respects q tables others t = meaning-same q tables others (all-same tables others t (sources_of q))
 
 -- the joined rows change by what WHERE keeps of the change
 pub joined_rows-changed : (q : Query) (tables changes : Tables) → SameBag (joined_rows q (changed tables changes)) (joined_rows q tables ++ joined_change q tables changes)

@@ -20,7 +20,8 @@ use Rattle.cq_model.specs.declared.query.Source.TheVariants.{Table, View}
 use Rattle.cq_model.specs.Meaning.{Tables, joined_rows, ShapeInRange, MeaningInRange}
 use Rattle.cq_model.specs.Views.{tables_alone, view_bag, with_views, ViewInRange, SourceInRange, sources_of, AnswerInRange}
 use Rattle.cq_laws.proofs.Groups.{IsRowOf, rows-respect, sum-respects}
-use Rattle.cq_laws.proofs.Meanings.{joined_rows-respects, meaning-respects}
+use Rattle.cq_laws.proofs.Chains.{SameSources, all-same}
+use Rattle.cq_laws.proofs.Meanings.{joined_rows-same, meaning-respects}
 
 -- what holds of all rows holds of each that is listed
 pub all-at : (P : Row → Type 0) (rows : List Row) → AllByRecursion P rows → (r : Row) → IsRowOf r rows → P r
@@ -60,11 +61,14 @@ shape-respects : (shape : Shape) (xs ys : Weighted) → SameBag xs ys → ShapeI
 shape-respects Plain xs ys s h = tt
 shape-respects (Grouped keys aggregates having) xs ys s h = sums-respect keys aggregates xs ys s h
 
--- the range of a query's totals depends on its sources' bags alone
-pub range-respects : (q : Query) (tables others : Tables) → SameTables tables others → MeaningInRange q tables ↔ MeaningInRange q others
-range-respects q tables others t =
-    let same = joined_rows-respects q tables others t in
+-- the range of a query's totals depends on the bags of the sources that FROM names alone
+pub range-same : (q : Query) (tables others : Tables) → SameSources tables others (sources_of q) → MeaningInRange q tables ↔ MeaningInRange q others
+range-same q tables others t =
+    let same = joined_rows-same q tables others t in
     (shape-respects q.shape (joined_rows q tables) (joined_rows q others) same, shape-respects q.shape (joined_rows q others) (joined_rows q tables) (same-sym (joined_rows q tables) (joined_rows q others) same))
+
+pub range-respects : (q : Query) (tables others : Tables) → SameTables tables others → MeaningInRange q tables ↔ MeaningInRange q others
+range-respects q tables others t = range-same q tables others (all-same tables others t (sources_of q))
 
 -- a key weighs as much as its rows
 pub key-weight : (columns : List ℕ) (k : Row) (xs : Weighted) → weight_of (projected (key_of columns) xs) k ≡ count_all (rows_of_key columns k xs)

@@ -1,6 +1,6 @@
 -- What holds of queries and of the states that views keep. Each statement is the contract of a function in laws.rt.
 use Rattle.std.specs.Prelude.{◌≡◌, ◌↔◌, ◌≤◌, ℕ, pos, int_lt, List, ◌++◌, Option, Some}
-use Rattle.std.specs.List.{list_any}
+use Rattle.std.specs.List.{AllByRecursion, list_any}
 use Rattle.cq_values.specs.Value.{Row}
 use Rattle.cq_values.specs.Order.{same_row}
 use Rattle.cq_bags.specs.Bag.{Weighted, SameBag, IsBag}
@@ -12,12 +12,12 @@ use Rattle.cq_model.specs.declared.query.Query.{Query}
 use Rattle.cq_model.specs.declared.query.Source.{Source}
 use Rattle.cq_model.specs.Group.{count_all, count_values, sum_values, aggregate, value_bag, extreme_of, lower, higher, group_row, rows_of_key, keys_of, grouped}
 use Rattle.cq_model.specs.Meaning.{Tables, chain, keeps, joined_rows, shown, meaning, MeaningInRange}
-use Rattle.cq_model.specs.Views.{with_views, AnswerInRange}
+use Rattle.cq_model.specs.Views.{with_views, AnswerInRange, sources_of}
 use Rattle.cq_kept.specs.Delta.{SameTables, changed, chain_change, joined_change, view_work}
 use Rattle.cq_kept.specs.Pushed.{Pushed, pushed_rows, HaveWidths, IsImplied, AreBelow}
 use Rattle.cq_kept.specs.Own.{passes_own, AreOwn}
-use Rattle.cq_kept.specs.Kept.{Kept, IsKept, kept_value, Group, GroupStands, Last, LastStands, told_row}
-use Rattle.cq_kept.specs.Told.{told_rows, ListsKeys}
+use Rattle.cq_kept.specs.Kept.{Kept, IsKept, kept_value, Group, GroupStands, Last, LastStands, shown_row}
+use Rattle.cq_kept.specs.Shown.{shown_rows, ListsKeys}
 use Rattle.cq_kept.specs.Standing.{Stored, Stands, built, stored_change, stored_after, stored_work}
 
 -- the chain over changed sources is the old chain with its change
@@ -58,21 +58,21 @@ pub record AreExtremes (e : Expr) (xs : Weighted) : Type 0 where
 abbrev pub ExtremesAreCounted : Type 0
 ExtremesAreCounted = (e : Expr) (xs : Weighted) → IsBag xs → AreExtremes e xs
 
--- what is kept of an aggregate tells its value
-abbrev pub KeptTells : Type 0
-KeptTells = (a : Aggregate) (xs : Weighted) (kept : Kept) → IsBag xs → IsKept a xs kept → kept_value a kept ≡ aggregate a xs
+-- what is kept of an aggregate shows its value
+abbrev pub KeptShows : Type 0
+KeptShows = (a : Aggregate) (xs : Weighted) (kept : Kept) → IsBag xs → IsKept a xs kept → kept_value a kept ≡ aggregate a xs
 
--- what is kept of a group tells the group's row
-abbrev pub GroupTells : Type 0
-GroupTells =
+-- what is kept of a group shows the group's row
+abbrev pub GroupShows : Type 0
+GroupShows =
     (aggregates : List Aggregate) (k : Row) (xs : Weighted) (group : Group) → IsBag xs → GroupStands aggregates xs group
-    → told_row aggregates k group.kept ≡ group_row aggregates k xs
+    → shown_row aggregates k group.kept ≡ group_row aggregates k xs
 
--- what stands behind the joins tells the rows that the query shows
-abbrev pub LastTells : Type 0
-LastTells =
+-- what stands behind the joins shows the rows that the query shows
+abbrev pub LastShows : Type 0
+LastShows =
     (q : Query) (xs : Weighted) (keys : List Row) (last : Last) → IsBag xs → LastStands q q.shape xs last → ListsKeys keys last
-    → SameBag (told_rows q q.shape keys last) (shown q xs)
+    → SameBag (shown_rows q q.shape keys last) (shown q xs)
 
 -- with conditions below its joins that WHERE implies, a query keeps the same joined rows
 abbrev pub ConditionBelowJoins : Type 0
@@ -91,7 +91,12 @@ pub record MeansSame (q : Query) (tables others : Tables) : Type 0 where
   pub bag : SameBag (meaning q tables) (meaning q others)
   pub range : MeaningInRange q tables ↔ MeaningInRange q others
 
--- what a query means depends on the bags of its sources alone
+-- what a query means depends on the bags of the sources that FROM names
+abbrev pub MeaningDependsOnSources : Type 0
+MeaningDependsOnSources =
+    (q : Query) (tables others : Tables) → AllByRecursion (λ s. SameBag (tables s) (others s)) (sources_of q) → MeansSame q tables others
+
+-- so it does where each source has the same bag
 abbrev pub MeaningDependsOnBags : Type 0
 MeaningDependsOnBags = (q : Query) (tables others : Tables) → SameTables tables others → MeansSame q tables others
 

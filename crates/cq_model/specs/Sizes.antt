@@ -24,18 +24,18 @@ count_size = 2 ^ 96
 abbrev pub stored_sizes : List ColumnDef → List ℕ
 stored_sizes columns = map (λ c. stored_size) columns
 
--- what is told of a group: a count, or a total that is shown
-abbrev pub told_size : Aggregate → ℕ
-told_size CountAll = count_size
-told_size (Count e) = count_size
-told_size (Sum e) = number_limit
-told_size (Min e) = (width e (λ i. stored_size)).size
-told_size (Max e) = (width e (λ i. stored_size)).size
+-- what a group shows of its rows: a count, or a total
+abbrev pub shown_size : Aggregate → ℕ
+shown_size CountAll = count_size
+shown_size (Count e) = count_size
+shown_size (Sum e) = number_limit
+shown_size (Min e) = (width e (λ i. stored_size)).size
+shown_size (Max e) = (width e (λ i. stored_size)).size
 
--- the columns that items read: those of tables, or a group's keys and what is told of it
+-- the columns that items read: those of tables, or a group's keys and what it shows of its rows
 abbrev pub row_size : Shape → ℕ → ℕ
 row_size Plain i = stored_size
-row_size (Grouped keys aggregates having) i = slice_index_or (map (λ k. stored_size) (unwrap_or keys []) ++ map told_size aggregates) i 0
+row_size (Grouped keys aggregates having) i = slice_index_or (map (λ k. stored_size) (unwrap_or keys []) ++ map shown_size aggregates) i 0
 
 -- the columns of a query on tables
 abbrev pub column_sizes : Query → List ℕ

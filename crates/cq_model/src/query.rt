@@ -24,7 +24,7 @@ pub struct Join {
     pub on: Seq<Equality>,
 }
 
-/// What is told of a group. But for `CountAll` only values other than NULL count.
+/// What a group shows of its rows. But for `CountAll` only values other than NULL count.
 #[derive(Debug, Drop)]
 pub enum Aggregate {
     CountAll,
@@ -62,5 +62,5 @@ pub struct Query {
 #[derive(Debug, Drop)]
 pub struct Order {
     pub keys: Seq<SortKey>,
-    pub limit: Option<u64>,
+    pub limit: Option<u128>,
 }

@@ -7,3 +7,5 @@ pub mod GroupFaults
 pub mod Agreeing
 pub mod Assignments
 pub mod ToldAt
+pub mod Lents
+pub mod Kept

@@ -5,13 +5,9 @@ use Rattle.cq_values.specs.Value.{Row}
 use Rattle.cq_bags.specs.Bag.{Weighted}
 use Rattle.cq_model.specs.declared.query.Query.{Query}
 use Rattle.cq_model.specs.Meaning.{Tables, meaning}
-use Rattle.cq_model.specs.Views.{AnswerInRange, SourceInRange, sources_of, tables_alone, with_views}
+use Rattle.cq_model.specs.Views.{AnswerInRange, SourceInRange, sources_of, with_views}
 use Rattle.cq_plain.specs.declared.database.Database.{Database}
 use Rattle.cq_plain.specs.Stored.{query_at, rows_at, stored_bags}
-
--- a view's query reads tables alone
-abbrev pub bags_alone : List (List Row) → Tables
-bags_alone tables = tables_alone (rows_at tables)
 
 -- a table's name stands for its rows, and a view's for its query's bag
 abbrev pub bags_of : Database → Tables

@@ -5,6 +5,7 @@ pub mod Repeats
 pub mod OfGroups
 pub mod Wide
 pub mod Stored
+pub mod Lent
 pub mod Named
 pub mod Databases
 pub mod Totals

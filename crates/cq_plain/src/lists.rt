@@ -1,5 +1,5 @@
 //! ORDER BY and LIMIT.
-ghost use Rattle.std.specs.Prelude.{◌≡◌, IfOk};
+ghost use Rattle.std.specs.Prelude.{◌≡◌, IfOk, take};
 ghost use Rattle.cq_values.specs.Value.{column};
 ghost use Rattle.cq_bags.specs.Bag.{once_each};
 ghost use Rattle.cq_bags.specs.Listing.{Lists, directed, first_rows, listing_cmp};
@@ -29,13 +29,20 @@ fn sorted(rows: Vec<Row>, keys: &[SortKey]) -> Result<Vec<Row>, AllocError>
 }
 
 /// The rows that LIMIT leaves. A limit may be larger than any list.
-fn limited(rows: Vec<Row>, limit: Option<u64>) -> Vec<Row>
+fn limited(rows: Vec<Row>, limit: Option<u128>) -> Vec<Row>
     ensures { result.items ≡ first_rows limit rows.items }
 {
-    let mut rows = rows;
-    if let Some(limit) = limit {
-        rows.truncate(limit as usize);
+    match limit {
+        Some(limit) if limit < rows.len() as u128 => first_rows(rows, limit as usize),
+        _ => rows,
     }
+}
+
+fn first_rows(rows: Vec<Row>, count: usize) -> Vec<Row>
+    ensures { result.items ≡ take count rows.items }
+{
+    let mut rows = rows;
+    rows.truncate(count);
     rows
 }
 

@@ -1,5 +1,5 @@
 -- Rows that fit the columns of their table (docs/LANGUAGE.md, Values).
-use Rattle.std.specs.Prelude.{◌≡◌, ◌≤◌, ℕ, false, List, length, FitsSigned}
+use Rattle.std.specs.Prelude.{◌≡◌, ◌≤◌, ◌^◌, ℕ, false, List, length, FitsSigned}
 use Rattle.std.specs.Int.{w64}
 use Rattle.std.specs.List.{AllByRecursion}
 use Rattle.cq_values.specs.declared.column.ColumnDef.{ColumnDef}
@@ -28,6 +28,10 @@ IsFitting t = AllByRecursion (FitsColumns t.columns) t.rows
 
 abbrev pub AreFitting : List TableOf → Type 0
 AreFitting tables = AllByRecursion IsFitting tables
+
+-- no table may ever have more rows than this
+abbrev pub rows_limit : ℕ
+rows_limit = 2 ^ 24
 
 -- no table has more rows than it may
 abbrev pub AreLimited : ℕ → List TableOf → Type 0

@@ -1,12 +1,17 @@
 -- States that differ in nothing that an answer shows: in the epochs of their views and in the front of their queues alone.
-use Rattle.std.proofs.Common.{◌≡◌, ℕ, suc, ◌+◌, not, List, [], ◌∷◌, ◌++◌, map, take, drop, Option, Some, None, refl, sym, ap, subst, ◌∙◌}
+use Rattle.std.proofs.Common.{◌≡◌, ℕ, suc, ◌+◌, not, List, [], ◌∷◌, ◌++◌, map, take, drop, Option, Some, None, Result, Ok, Err, refl, sym, ap, subst, ◌∙◌}
 use Rattle.std.specs.Prelude.{slice_get, length, filter, ◌==◌, ◌||◌, Bool, is_some, option_map, unwrap_or}
 use Rattle.cq_values.specs.Texts.{is_text}
 use Rattle.cq_bags.proofs.Totals.{by_test}
 use Rattle.cq_language.specs.declared.statement.Statement.{Statement}
 use Rattle.cq_language.specs.declared.statement.Statement.TheVariants as statements
+use Rattle.cq_language.specs.declared.statement.JoinedSource.{JoinedSource}
+use Rattle.cq_language.specs.declared.statement.Select.{Select}
+use Rattle.cq_binding.specs.declared.fault.Fault.{Fault}
+use Rattle.cq_binding.specs.Kinds.{◌and_then◌}
 use Rattle.cq_binding.specs.Scopes.{Named, from_table, from_view, source_named}
-use Rattle.cq_binding.specs.Bound.{bound, bound_select}
+use Rattle.cq_binding.specs.From.{From, first_walk, from_walk, join_walk, joins_walk}
+use Rattle.cq_binding.specs.Bound.{bound, bound_select, standing}
 use Rattle.cq_binding.specs.Checks.{first_fault}
 use Rattle.cq_binding.specs.Refusal.{is_used, drop_table_checks, select_checks, refusal}
 use Rattle.std.specs.List.{remove, prefix_len, list_any}
@@ -15,7 +20,7 @@ use Rattle.std.specs.Option.{option_or}
 use Rattle.cq_values.specs.Value.{Row}
 use Rattle.cq_bags.specs.Bag.{Weighted, once_each}
 use Rattle.cq_bags.specs.Listing.{IsListing}
-use Rattle.cq_bags.specs.declared.sort_key.SortKey.{SortKey}
+use Rattle.cq_bags.specs.Laws.{OneListing}
 use Rattle.cq_binding.specs.declared.bound.Bound.{Bound}
 use Rattle.cq_binding.specs.declared.bound.Bound.TheVariants as commands
 use Rattle.cq_model.specs.declared.query.Order.{Order}
@@ -91,6 +96,23 @@ source-timeless name x = rw (place-timeless name x.views, named-timeless name x.
     told None = refl
     told (Some v) = refl
 
+-- what stands behind a result, whatever the epochs
+behind-alike : {A B : Type 0} (r : Result A Fault) (f g : A → Result B Fault) → ((x : A) → f x ≡ g x) → (r and_then f) ≡ (r and_then g)
+behind-alike (Ok x) f g same = same x
+behind-alike (Err e) f g same = refl
+
+-- FROM is walked through alike
+joins-timeless : (x : State) (js : List JoinedSource) (from : From) → joins_walk (seen x) from js ≡ joins_walk x from js
+joins-timeless x [] from = refl
+joins-timeless x (j ∷ js) from =
+    ap (λ (o : Option Named). join_walk from j o and_then λ wide. joins_walk (seen x) wide js) (source-timeless j.source.name x)
+    ∙ behind-alike (join_walk from j (source_named j.source.name x)) (λ wide. joins_walk (seen x) wide js) (λ wide. joins_walk x wide js) (joins-timeless x js)
+
+from-timeless : (x : State) (q : Select) → from_walk (seen x) q ≡ from_walk x q
+from-timeless x q =
+    ap (λ (o : Option Named). first_walk q.first o and_then λ from. joins_walk (seen x) from q.joins) (source-timeless q.first.name x)
+    ∙ behind-alike (first_walk q.first (source_named q.first.name x)) (λ from. joins_walk (seen x) from q.joins) (λ from. joins_walk x from q.joins) (joins-timeless x q.joins)
+
 -- the walk sees no epoch
 refusal-seen : (x : State) (s : Statement) → refusal (seen x) s ≡ refusal x s
 refusal-seen x (statements.CreateTable name columns sort) = rw (there-timeless name x.views) refl
@@ -103,11 +125,11 @@ refusal-seen x (statements.CreateView name view) = rw (there-timeless name x.vie
 refusal-seen x (statements.DropView name) = rw (place-timeless name x.views) refl
 refusal-seen x (statements.Insert name rows) = rw (there-timeless name x.views) refl
 refusal-seen x (statements.Delete name condition) = rw (there-timeless name x.views) refl
-refusal-seen x (statements.Select q) = ap (λ (o : Option Named). first_fault (select_checks q o)) (source-timeless q.first.name x)
+refusal-seen x (statements.Update name sets condition) = rw (there-timeless name x.views) refl
+refusal-seen x (statements.Select q) = ap (λ (r : Result From Fault). first_fault (select_checks q r)) (from-timeless x q)
 refusal-seen x (statements.Move name rows) = rw (there-timeless name x.views) refl
 refusal-seen x (statements.Merge name) = rw (there-timeless name x.views) refl
 refusal-seen x (statements.Refresh view changes) = rw (place-timeless view x.views) refl
-refusal-seen x s = refl
 
 -- and names are resolved without one
 bound-seen : (x : State) (s : Statement) → bound (seen x) s ≡ bound x s
@@ -117,7 +139,7 @@ bound-seen x (statements.CreateView name view) = refl
 bound-seen x (statements.DropView name) = ap (option_map commands.DropView) (place-timeless name x.views)
 bound-seen x (statements.Insert name rows) = refl
 bound-seen x (statements.Delete name condition) = refl
-bound-seen x (statements.Select q) = ap (option_map (bound_select q)) (source-timeless q.first.name x)
+bound-seen x (statements.Select q) = ap (λ (r : Result From Fault). option_map (bound_select q) (standing r)) (from-timeless x q)
 bound-seen x (statements.Move name rows) = refl
 bound-seen x (statements.Merge name) = refl
 bound-seen x (statements.Refresh view changes) = ap (option_map (λ place. commands.Refresh place changes)) (place-timeless view x.views)
@@ -228,7 +250,7 @@ trims-alike whole new t = record {
   max_rows = ap (λ (s : State). s.max_rows) t.state;
 }
 
-module _ (one_listing : (keys : List SortKey) (limit : Option ℕ) (bag : Weighted) (rows others : List Row) → IsListing keys limit bag rows → IsListing keys limit bag others → rows ≡ others) where
+module _ (one_listing : OneListing) where
   shows-alike : (x y : State) (header : List (List ℕ)) (q : Query) (order : Order) (a b : Answer) → Alike x y → Shows x header q order a → Shows y header q order b → a ≡ b
   shows-alike x y header q order a b same p r =
       let bags : with_views (tables_now x) (queries_of x) ≡ with_views (tables_now y) (queries_of y) = λ i. with_views (tables-alike x y same i) (queries-alike x y same i) in

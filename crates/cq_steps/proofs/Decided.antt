@@ -1,9 +1,6 @@
 -- What a script is answered with is decided by which statements were refused for want of memory, and which sources failed.
 use Rattle.std.proofs.Common.{◌≡◌, ◌⊎◌, inl, inr, ℕ, Bool, true, false, List, [], ◌∷◌, map, Option, Some, None, Result, Ok, Err, refl, sym, ap, subst, ◌∙◌}
-use Rattle.cq_values.specs.Value.{Row}
-use Rattle.cq_bags.specs.Bag.{Weighted}
-use Rattle.cq_bags.specs.Listing.{IsListing}
-use Rattle.cq_bags.specs.declared.sort_key.SortKey.{SortKey}
+use Rattle.cq_bags.specs.Laws.{OneListing}
 use Rattle.cq_binding.specs.declared.bound.Bound.{Bound}
 use Rattle.cq_language.specs.declared.statement.Statement.{Statement}
 use Rattle.cq_language.specs.declared.token.Token.{Token}
@@ -78,7 +75,7 @@ accepted_or_refused x y s a v f same d (inr e) =
     let one : e.1.command ≡ d.command = cc in
     not-too-large x y d.command a v same d.accepts (subst (λ (c : Bound). IsTooLarge y c) one e.1.large)
 
-module _ (one_listing : (keys : List SortKey) (limit : Option ℕ) (bag : Weighted) (rows others : List Row) → IsListing keys limit bag rows → IsListing keys limit bag others → rows ≡ others) where
+module _ (one_listing : OneListing) where
   -- a statement that is accepted has one answer
   does_same : (x y : State) (s : Statement) (a b : Answer) (v w : State) → Alike x y → Does x s a v → Does y s b w → SameAnswer a b v w
   does_same x y s a b v w same h k =

@@ -1,5 +1,5 @@
 //! Dates as they are written.
-ghost use Rattle.std.specs.Prelude.{◌<◌, ◌≡◌, IfOk, MatchResult, None, Some, [], ◌∷◌, codes, false, neg_ℤ, pos, true};
+ghost use Rattle.std.specs.Prelude.{◌<◌, ◌≡◌, IfErr, IfOk, MatchResult, None, Some, [], ◌∷◌, codes, false, neg_ℤ, pos, true};
 ghost use Rattle.std.specs.List.{list_all};
 ghost use Rattle.cq_values.specs.Dates.{day_at, day_named, is_digit, number_of};
 ghost use Rattle.cq_values.specs.Days.{IsDay};
@@ -40,9 +40,8 @@ pub fn calendar_ends()
 {}
 
 fn two_digits(tens: u8, units: u8) -> Result<u8, DateFault>
-    ensures digits { MatchResult result
-        (λ n. n ≡ number_of (tens ∷ units ∷ []))
-        (λ _. list_all is_digit (tens ∷ units ∷ []) ≡ false) }
+    ensures digits { IfOk result (λ n. n ≡ number_of (tens ∷ units ∷ [])) }
+    ensures err { IfErr result (λ _. list_all is_digit (tens ∷ units ∷ []) ≡ false) }
     ensures ok { IfOk result (λ _. list_all is_digit (tens ∷ units ∷ []) ≡ true) }
     ensures below { IfOk result (λ n. n < 100) }
 {

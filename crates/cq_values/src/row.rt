@@ -9,7 +9,6 @@ ghost use Rattle.cq_values.specs.Keys.{same_row-equiv, same_row-same};
 use crate::value::Value;
 use smallvec::SmallVec;
 use std::alloc::{AllocError, Global};
-use std::cmp::Ordering;
 use std::hash::{Hash, Hasher};
 use std::marker::Model;
 

@@ -1,22 +1,23 @@
 -- How far small rows move counts and totals.
-use Rattle.std.proofs.Common.{◌*◌, ◌≤◌, ◌^◌, ℤ, nat_abs, List, [], ◌∷◌, map, length, Option, None, Some, IfSome, arith}
+use Rattle.std.proofs.Common.{◌≡◌, ◌++◌, ap, ◌∙◌, pos, neg_ℤ, ◌*◌, ◌≤◌, ◌^◌, ℤ, nat_abs, List, [], ◌∷◌, map, length, Option, None, Some, IfSome, arith}
 use Rattle.std.specs.List.{AllByRecursion}
-use Rattle.std.proofs.lemmas.Int.{unsigned_abs-mul}
+use Rattle.std.proofs.lemmas.Int.{ints, unsigned_abs-mul}
 use Rattle.std.proofs.lemmas.Nat.{mul-le}
-use Rattle.std.proofs.lemmas.List.{length-map}
+use Rattle.std.proofs.lemmas.List.{length-append, length-map, map-append}
 use Rattle.std.proofs.lemmas.List.Sums.{sum_by-cons}
 use Rattle.cq_values.specs.Value.{Row}
 use Rattle.cq_bags.specs.Bag.{Weighted}
+use Rattle.cq_bags.proofs.Linears.{filtered-append}
 use Rattle.cq_bags.proofs.Totals.{by_test}
 use Rattle.cq_model.specs.declared.query.Aggregate.{Aggregate}
 use Rattle.cq_model.specs.Meaning.{keeps}
 use Rattle.cq_deltas.specs.declared.change.Addition.{Addition}
-use Rattle.cq_deltas.specs.Additions.{IsSmall, addend_of, addition}
+use Rattle.cq_deltas.specs.Additions.{IsSmall, addend_of, addition, additions}
 use Rattle.cq_deltas.specs.Kept.{total_move, total_moves}
 use Rattle.cq_deltas.specs.Keyed.{all_total_moves, count_moves}
 use Rattle.cq_deltas.proofs.Small.{small-hold}
 use Rattle.cq_model.specs.declared.query.Query.{Query}
-use Rattle.cq_views.specs.Laws.{SmallChangesHold, SmallRowsChange}
+use Rattle.cq_views.specs.Laws.{SmallChangesHold, SmallExchangesChange, SmallRowsChange}
 use Rattle.cq_views.specs.Query.{aggregates_of, key_columns}
 use Rattle.cq_views.specs.Small.{IsSmallFor}
 use Rattle.cq_views.specs.View.{change_of, changed, kept_rows}
@@ -75,3 +76,25 @@ small-rows query rows weight few small once = record {
   once = all-once query weight once rows;
   small = all-small query weight once rows small;
 }
+
+-- what holds of two stretches of a change holds of both
+all-of-both : {X : Type 0} (P : X → Type 0) (xs ys : List X) → AllByRecursion P xs → AllByRecursion P ys → AllByRecursion P (xs ++ ys)
+all-of-both P [] ys a b = b
+all-of-both P (x ∷ xs) ys a b = (a.0, all-of-both P xs ys a.1 b)
+
+-- rows that go while others come
+pub small-exchanges : SmallExchangesChange
+small-exchanges query gone come few small_gone small_come =
+    let out = changed gone (neg_ℤ (pos 1)) in
+    let back = changed come (pos 1) in
+    record {
+      few = omega (arith, few, length-append out back, length-map {B = Row × ℤ} gone (λ r. (r, neg_ℤ (pos 1))), length-map {B = Row × ℤ} come (λ r. (r, pos 1)));
+      once = all-of-both (λ x. nat_abs x.1 ≤ 1) out back (all-once query (neg_ℤ (pos 1)) (omega (arith, ints)) gone) (all-once query (pos 1) (omega (arith, ints)) come);
+      small = all-of-both (λ x. IsSmallFor query x.0) out back (all-small query (neg_ℤ (pos 1)) (omega (arith, ints)) gone small_gone) (all-small query (pos 1) (omega (arith, ints)) come small_come);
+    }
+
+-- what two stretches change together
+pub change_of-both : (query : Query) (xs ys : Weighted) → change_of query (xs ++ ys) ≡ change_of query xs ++ change_of query ys
+change_of-both query xs ys =
+    ap (additions (key_columns query) (aggregates_of query)) (filtered-append (keeps query.filter) xs ys)
+    ∙ map-append (addition (key_columns query) (aggregates_of query)) (kept_rows query xs) (kept_rows query ys)

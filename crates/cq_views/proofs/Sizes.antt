@@ -3,7 +3,7 @@ use Rattle.std.proofs.Common.{ℕ, zero, suc, ◌≤◌, ◌<◌, ◌^◌, List,
 use Rattle.std.specs.List.{AllByRecursion}
 use Rattle.std.specs.Prelude.{slice_index_or}
 use Rattle.cq_model.specs.Expr.{Expr}
-use Rattle.cq_model.specs.Sizes.{row_size, stored_size, told_size}
+use Rattle.cq_model.specs.Sizes.{row_size, stored_size, shown_size}
 use Rattle.cq_model.specs.Width.{widest}
 use Rattle.cq_model.specs.declared.query.Query.{Query}
 use Rattle.cq_views.specs.Query.{aggregates_of, groups_shape, key_columns}
@@ -23,4 +23,4 @@ items-narrow keys sizes stored (e ∷ items) narrow = (narrow.0 sizes stored, it
 
 -- so over a group's row
 pub sizes-narrow : (query : Query) → CanBeKept query → AllByRecursion (λ e. widest (row_size (groups_shape query)) e < 2 ^ 127) query.items
-sizes-narrow query can = items-narrow (length (key_columns query)) (row_size (groups_shape query)) (key-size (key_columns query) (map told_size (aggregates_of query))) query.items can.items
+sizes-narrow query can = items-narrow (length (key_columns query)) (row_size (groups_shape query)) (key-size (key_columns query) (map shown_size (aggregates_of query))) query.items can.items

@@ -11,7 +11,7 @@ use Rattle.cq_model.specs.Meaning.{keeps}
 use Rattle.cq_laws.proofs.Keeps.{built_last-stands, last-respects}
 use Rattle.cq_deltas.specs.declared.change.Addition.{Addition}
 use Rattle.cq_deltas.specs.Additions.{AreTotals}
-use Rattle.cq_deltas.specs.Keyed.{GroupsGoOn, Table, group_at}
+use Rattle.cq_deltas.specs.Keyed.{GroupsGoOn, KeyedGroups, group_at}
 use Rattle.cq_model.specs.declared.query.Query.{Query}
 use Rattle.cq_views.specs.Laws.{StandingDependsOnBag}
 use Rattle.cq_views.specs.Query.{aggregates_of, groups_shape, key_columns}
@@ -27,7 +27,7 @@ pub nothing-stands : (query : Query) (epoch built : ℕ) → Stands (record { qu
 nothing-stands query epoch built = built_last-stands query (groups_shape query) []
 
 -- groups that are the same by key are the same view
-pub same-view : (v : KeptView) (groups : Table) → ((k : Row) → group_at (aggregates_of v.query) groups k ≡ group_at (aggregates_of v.query) v.groups k) → SameView v (record v { groups = groups })
+pub same-view : (v : KeptView) (groups : KeyedGroups) → ((k : Row) → group_at (aggregates_of v.query) groups k ≡ group_at (aggregates_of v.query) v.groups k) → SameView v (record v { groups = groups })
 same-view v groups same = record {
   query = refl;
   epoch = refl;
@@ -37,7 +37,7 @@ same-view v groups same = record {
 }
 
 -- the groups go on by what WHERE keeps of the change
-pub view-goes-on : (v : KeptView) (change : List Addition) (epoch : ℕ) (groups : Table) → AreTotals (aggregates_of v.query) → GroupsGoOn v.groups change groups → GoesOn v change (record v { epoch = epoch; groups = groups })
+pub view-goes-on : (v : KeptView) (change : List Addition) (epoch : ℕ) (groups : KeyedGroups) → AreTotals (aggregates_of v.query) → GroupsGoOn v.groups change groups → GoesOn v change (record v { epoch = epoch; groups = groups })
 view-goes-on v change epoch groups totals on = λ xs dxs ys is same bag stands.
     let keep = keeps v.query.filter in
     let kept : SameBag (kept_rows v.query ys) (kept_rows v.query xs ++ kept_rows v.query dxs) =

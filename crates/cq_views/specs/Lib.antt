@@ -1,5 +1,5 @@
 pub mod Query
 pub mod View
 pub mod Small
-pub mod Told
+pub mod Shown
 pub mod Laws

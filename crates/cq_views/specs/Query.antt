@@ -26,13 +26,13 @@ keys_behind shape = []
 abbrev pub key_columns : Query → List ℕ
 key_columns q = keys_behind q.shape
 
--- what is told of each group
-abbrev pub told_by : Shape → List Aggregate
-told_by Plain = []
-told_by (Grouped keys aggregates having) = aggregates
+-- what is shown of each group
+abbrev pub aggregates_in : Shape → List Aggregate
+aggregates_in Plain = []
+aggregates_in (Grouped keys aggregates having) = aggregates
 
 abbrev pub aggregates_of : Query → List Aggregate
-aggregates_of q = told_by q.shape
+aggregates_of q = aggregates_in q.shape
 
 -- whether FROM names the table of a number
 abbrev pub reads : ℕ → Query → Bool

@@ -6,7 +6,7 @@ use Rattle.cq_bags.specs.Bag.{Weighted, once_each}
 use Rattle.cq_laws.specs.Sizes.{IsStored}
 use Rattle.cq_model.specs.Expr.{Expr}
 use Rattle.cq_model.specs.Meaning.{keeps}
-use Rattle.cq_model.specs.Sizes.{stored_size, told_size}
+use Rattle.cq_model.specs.Sizes.{stored_size, shown_size}
 use Rattle.cq_model.specs.Width.{number_limit, widest}
 use Rattle.cq_deltas.specs.Additions.{AreTotals, IsSmall}
 use Rattle.cq_model.specs.declared.query.Query.{Query}
@@ -17,16 +17,16 @@ use Rattle.cq_views.specs.View.{KeptView, Stands}
 abbrev pub IsItemNarrow : ℕ → Expr → Type 0
 IsItemNarrow keys item = (sizes : ℕ → ℕ) → ((i : ℕ) → i < keys → sizes i ≤ stored_size) → widest sizes item < number_limit
 
--- groups that counts and totals tell: COUNT and SUM alone, and not too many of them, and items of the keys or of one of these
+-- groups that counts and totals show: COUNT and SUM alone, and not too many of them, and items of the keys or of one of these
 pub record CanBeKept (query : Query) : Type 0 where
   pub grouped : IsGrouped query
   pub totals : AreTotals (aggregates_of query)
   pub few : length (aggregates_of query) ≤ 2 ^ 32
   pub items : AllByRecursion (IsItemNarrow (length (key_columns query))) query.items
 
--- the columns of a group's row: its keys are stored numbers, and what is told of it counts and totals
+-- the columns of a group's row: its keys are stored numbers, and what is shown of it counts and totals
 abbrev pub group_sizes : Query → List ℕ
-group_sizes query = map (λ k. stored_size) (key_columns query) ++ map told_size (aggregates_of query)
+group_sizes query = map (λ k. stored_size) (key_columns query) ++ map shown_size (aggregates_of query)
 
 -- the groups stand for rows of stored numbers
 pub record StandsOnStored (v : KeptView) : Type 0 where

@@ -1,5 +1,5 @@
 -- A grouped view of one table as it is kept, and the rows that its groups stand for.
-use Rattle.std.specs.Prelude.{◌≡◌, ℕ, ℤ, List, ◌++◌, map}
+use Rattle.std.specs.Prelude.{◌≡◌, ℕ, ℤ, pos, neg_ℤ, List, ◌++◌, map}
 use Rattle.std.specs.List.{AllByRecursion}
 use Rattle.cq_values.specs.Value.{Row}
 use Rattle.cq_bags.specs.Bag.{Weighted, SameBag, IsBag, filtered}
@@ -10,7 +10,7 @@ use Rattle.cq_model.specs.Meaning.{Tables, keeps}
 use Rattle.cq_model.specs.Width.{IsNarrowIn}
 use Rattle.cq_deltas.specs.declared.change.Addition.{Addition}
 use Rattle.cq_deltas.specs.Additions.{IsNarrow, additions}
-use Rattle.cq_deltas.specs.Keyed.{Table, group_at}
+use Rattle.cq_deltas.specs.Keyed.{KeyedGroups, group_at}
 use Rattle.cq_views.specs.Query.{aggregates_of, groups_shape, key_columns, table_of}
 
 -- a view as it is kept: its query, its epoch, the epoch it was built at, and its groups by their keys
@@ -18,7 +18,7 @@ pub record KeptView : Type 0 where
   pub query : Query
   pub epoch : ℕ
   pub built : ℕ
-  pub groups : Table
+  pub groups : KeyedGroups
 
 -- the rows of the table that the view's WHERE keeps
 abbrev pub kept_rows : Query → Weighted → Weighted
@@ -36,6 +36,10 @@ pub record StandsFor (v : KeptView) (tables : Tables) : Type 0 where
 -- each of these rows with one weight: 1 where they come, -1 where they go
 abbrev pub changed : List Row → ℤ → Weighted
 changed rows weight = map (λ r. (r, weight)) rows
+
+-- the first rows go, and the others come
+abbrev pub exchanged : List Row → List Row → Weighted
+exchanged gone come = changed gone (neg_ℤ (pos 1)) ++ changed come (pos 1)
 
 -- what changed rows of the table add to the view's groups
 abbrev pub change_of : Query → Weighted → List Addition

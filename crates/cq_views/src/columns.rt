@@ -2,7 +2,7 @@
 ghost use Rattle.std.specs.List.{AllByRecursion};
 ghost use Rattle.std.specs.Prelude.{◌<◌, ◌≡◌, IfOk, map};
 ghost use Rattle.cq_deltas.specs.Additions.{AreTotals, IsTotal};
-ghost use Rattle.cq_model.specs.Sizes.{column_sizes, told_size};
+ghost use Rattle.cq_model.specs.Sizes.{column_sizes, shown_size};
 ghost use Rattle.cq_model.specs.Width.{extent_limit, number_limit};
 ghost use Rattle.cq_views.specs.Query.{aggregates_of};
 ghost use Rattle.cq_views.specs.Small.{CanBeKept, group_sizes};
@@ -28,7 +28,7 @@ fn group_sizes(alloc: Global, query: &Query) -> Result<Vec<u128>, AllocError>
 {
     let mut sizes = vec![in alloc; STORED_SIZE; key_columns(query).len()]?;
     for aggregate in aggregates_of(query) {
-        sizes.push(told_size(aggregate))?;
+        sizes.push(shown_size(aggregate))?;
     }
     Ok(sizes)
 }
@@ -57,9 +57,9 @@ fn item_size(item: &Expr, group: &[u128]) -> u128
 }
 
 /// How large a count or a total can be.
-fn told_size(aggregate: &Aggregate) -> u128
+fn shown_size(aggregate: &Aggregate) -> u128
     requires { IsTotal aggregate.now }
-    ensures { result ≡ told_size aggregate.now }
+    ensures { result ≡ shown_size aggregate.now }
 {
     match aggregate {
         Aggregate::CountAll | Aggregate::Count(_) => COUNT_SIZE,

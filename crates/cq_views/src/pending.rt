@@ -2,7 +2,7 @@
 ghost use Rattle.std.specs.List.{AllByRecursion};
 ghost use Rattle.std.specs.Prelude.{◌++◌, ◌∷◌, ◌≡◌, IfOk, OnErr, OnOk, [], map};
 ghost use Rattle.cq_views.specs.Small.{IsSmallFor};
-ghost use Rattle.cq_views.specs.View.{IsNarrowFor, change_of, changed};
+ghost use Rattle.cq_views.specs.View.{IsNarrowFor, change_of, changed, exchanged};
 
 use crate::query::{aggregates_of, key_columns};
 use cq_deltas::GroupChange;
@@ -50,6 +50,24 @@ impl Pending {
         let mut pending = Pending::new(alloc);
         for row in rows {
             pending.push(alloc, query, row.as_slice(), weight)?;
+        }
+        Ok(pending)
+    }
+
+    /// What these rows change where the first go and the others come.
+    pub fn of_exchange(
+        alloc: Global,
+        query: &Query,
+        gone: &[&Row],
+        come: &[Row],
+    ) -> Result<Pending, AllocError>
+        requires gone { AllByRecursion (λ r. IsNarrowFor query.now r.now) gone.now }
+        requires come { AllByRecursion (IsNarrowFor query.now) come.now }
+        ensures { IfOk result (λ pending. pending ≡ change_of query.now (exchanged (map (λ r. r.now) gone.now) come.now)) }
+    {
+        let mut pending = Pending::of(alloc, query, gone, -1)?;
+        for row in come {
+            pending.push(alloc, query, row.as_slice(), 1)?;
         }
         Ok(pending)
     }

@@ -26,7 +26,7 @@ pub(crate) fn key_columns(query: &Query) -> &[usize]
     }
 }
 
-/// What is told of each group.
+/// What is shown of each group.
 pub(crate) fn aggregates_of(query: &Query) -> &[Aggregate]
     ensures { result.now ≡ aggregates_of query.now }
 {

@@ -2,19 +2,19 @@
 ghost use Rattle.std.specs.List.{AllByRecursion};
 ghost use Rattle.std.specs.Prelude.{◌==◌, ◌≡◌, IfErr, IfOk, OnOk, [], map};
 ghost use Rattle.cq_bags.specs.Bag.{once_each};
-ghost use Rattle.cq_deltas.specs.declared.fault.ToldFault.TheVariants.{SumOutOfRange};
+ghost use Rattle.cq_deltas.specs.declared.fault.ShowFault.TheVariants.{SumOutOfRange};
 ghost use Rattle.cq_deltas.specs.Keyed.{HasKeys, HoldsFor};
 ghost use Rattle.cq_model.specs.Sizes.{column_sizes};
 ghost use Rattle.cq_views.specs.Small.{CanBeKept, IsSmallFor, StandsOnStored};
 ghost use Rattle.cq_views.specs.Query.{reads, table_of};
-ghost use Rattle.cq_views.specs.Told.{AreRowsOf, IsNotShown, IsShown};
-ghost use Rattle.cq_views.specs.View.{GoesOn, IsNarrowFor, SameView, Stands, change_of, changed};
+ghost use Rattle.cq_views.specs.Shown.{AreRowsOf, IsNotShown, IsShown};
+ghost use Rattle.cq_views.specs.View.{GoesOn, IsNarrowFor, SameView, Stands, change_of, changed, exchanged};
 
 use crate::columns::column_sizes;
 use crate::items::item_rows;
 use crate::pending::Pending;
 use crate::query::{aggregates_of, table_of};
-use cq_deltas::{Groups, ToldFault};
+use cq_deltas::{Groups, ShowFault};
 use cq_model::Query;
 use cq_values::Row;
 use std::alloc::{AllocError, Global};
@@ -140,6 +140,25 @@ impl ViewState {
         Ok(pending)
     }
 
+    /// Works out what these rows change, where the first go and the others come, and makes all growth for it. No group
+    /// changes.
+    pub fn prepare_exchange(
+        &mut self,
+        alloc: Global,
+        gone: &[&Row],
+        come: &[Row],
+    ) -> Result<Pending, AllocError>
+        requires gone { AllByRecursion (λ r. IsNarrowFor self.old.query r.now) gone.now }
+        requires come { AllByRecursion (IsNarrowFor self.old.query) come.now }
+        ensures kept { SameView self.old self.new }
+        ensures change { IfOk result (λ p. p ≡ change_of self.old.query (exchanged (map (λ r. r.now) gone.now) come.now)) }
+        ensures keys { IfOk result (λ pending. HasKeys pending self.new.groups) }
+    {
+        let exchange = Pending::of_exchange(alloc, &self.query, gone, come)?;
+        self.ready(alloc, &exchange)?;
+        Ok(exchange)
+    }
+
     /// Makes all growth for a change. No group changes.
     pub fn ready(&mut self, alloc: Global, pending: &Pending) -> Result<(), AllocError>
         ensures kept { SameView self.old self.new }
@@ -170,14 +189,14 @@ impl ViewState {
     }
 
     /// The rows of the view, in no order that is promised. It costs what the view holds, and the table is not read.
-    pub fn rows(&self, alloc: Global) -> Result<Vec<Row>, ToldFault>
+    pub fn rows(&self, alloc: Global) -> Result<Vec<Row>, ShowFault>
         requires { StandsOnStored self.now }
         ensures bag { IfOk result (λ rows. AreRowsOf self.now rows.items) }
         ensures range { OnOk result (IsShown self.now) }
         ensures fault { IfErr result (λ e. e ≡ SumOutOfRange → IsNotShown self.now) }
     {
         let aggregates = aggregates_of(&self.query);
-        let groups = self.groups.told_rows(alloc, aggregates)?;
+        let groups = self.groups.shown_rows(alloc, aggregates)?;
         Ok(item_rows(alloc, self.query.items.as_slice(), &groups)?)
     }
 }

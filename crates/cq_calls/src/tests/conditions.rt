@@ -146,18 +146,32 @@ fn a_wide_column_may_stand_but_not_be_worked_with(rt: HostRuntime) -> Result<(),
     // what the column is added to and multiplied by; the sizes of the sum and the product
     let cases = [(0, None, Some(0)), (1, None, None), (-1, None, None)];
     for (number, of_sum, of_product) in cases {
-        let column = Box::new(rt.alloc(), ExprTree::Column(0))?;
-        let sum = ExprTree::Sum(column, vec![in rt.alloc(); literal(Some(number))]?);
-        assert_eq!(rt; width_of(&Expr::new(sum), &sizes), of_sum, "a + {number}");
-        let column = Box::new(rt.alloc(), ExprTree::Column(0))?;
-        let product = ExprTree::Product(column, vec![in rt.alloc(); literal(Some(number))]?);
         assert_eq!(rt;
-            width_of(&Expr::new(product), &sizes),
+            sum_size(rt.alloc(), number, &sizes)?,
+            of_sum,
+            "a + {number}"
+        );
+        assert_eq!(rt;
+            product_size(rt.alloc(), number, &sizes)?,
             of_product,
             "a * {number}"
         );
     }
     Ok(())
+}
+
+/// The size of the first column with a number added.
+fn sum_size(alloc: Global, number: i64, sizes: &[u128]) -> Result<Option<u128>, AllocError> {
+    let column = Box::new(alloc, ExprTree::Column(0))?;
+    let sum = ExprTree::Sum(column, vec![in alloc; literal(Some(number))]?);
+    Ok(width_of(&Expr::new(sum), sizes))
+}
+
+/// The size of the first column multiplied by a number.
+fn product_size(alloc: Global, number: i64, sizes: &[u128]) -> Result<Option<u128>, AllocError> {
+    let column = Box::new(alloc, ExprTree::Column(0))?;
+    let product = ExprTree::Product(column, vec![in alloc; literal(Some(number))]?);
+    Ok(width_of(&Expr::new(product), sizes))
 }
 
 #[test]

@@ -1,7 +1,14 @@
 //! Expressions as they are read, and lists of tokens that are none.
 use cq_sql::expression_of;
 use cq_tokens::tokens;
+use std::alloc::Global;
 use std::test::Fail;
+
+/// Whether the text is an expression.
+fn is_expression(alloc: Global, text: &str) -> Result<bool, Fail> {
+    let tokens = tokens(alloc, text)?;
+    Ok(expression_of(alloc, tokens.as_slice()).is_ok())
+}
 
 #[test]
 fn a_list_of_tokens_is_an_expression_or_none(rt: HostRuntime) -> Result<(), Fail> {
@@ -25,9 +32,7 @@ fn a_list_of_tokens_is_an_expression_or_none(rt: HostRuntime) -> Result<(), Fail
         ("", false),
     ];
     for (text, is_one) in cases {
-        let tokens = tokens(rt.alloc(), text)?;
-        let read = expression_of(rt.alloc(), tokens.as_slice());
-        assert_eq!(rt; read.is_ok(), is_one, "{text}");
+        assert_eq!(rt; is_expression(rt.alloc(), text)?, is_one, "{text}");
     }
     Ok(())
 }

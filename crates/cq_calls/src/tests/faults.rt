@@ -11,6 +11,7 @@ fn display_agrees_with_the_text(rt: HostRuntime) -> Result<(), Fail> {
         (Fault::Syntax, "10 syntax"),
         (Fault::UnknownTable, "11 unknown table or view"),
         (Fault::UnknownColumn, "12 unknown column"),
+        (Fault::AmbiguousColumn, "13 ambiguous column"),
         (Fault::NameTaken, "14 name taken"),
         (Fault::TypeMismatch, "15 type mismatch"),
         (

@@ -3,7 +3,7 @@ ghost use Rattle.std.specs.Prelude.{[]};
 ghost use Rattle.cq_deltas.specs.Additions.{AreTotals};
 ghost use Rattle.cq_deltas.specs.Laws.{AreSmall};
 
-use cq_deltas::{GroupChange, Groups, ToldFault};
+use cq_deltas::{GroupChange, Groups, ShowFault};
 use cq_model::{Aggregate, Expr};
 use cq_values::Value;
 use std::alloc::{AllocError, Global};
@@ -42,7 +42,7 @@ fn null_is_one_key_and_adds_nothing(rt: HostRuntime) -> Result<(), Fail> {
     )?;
     change.push(alloc, &[0], &aggregates, &[Value::Null, Value::Null], 1)?;
     let groups = first_groups(alloc, &aggregates, change)?;
-    let rows = groups.told_rows(alloc, &aggregates)?;
+    let rows = groups.shown_rows(alloc, &aggregates)?;
     assert_eq!(rt; rows.len(), 1);
     let told = [
         Value::Null,
@@ -63,9 +63,9 @@ fn a_sum_may_leave_its_range_and_come_back(rt: HostRuntime) -> Result<(), Fail> 
         change.push(alloc, &[], &aggregates, &[Value::Number(i128::MAX)], weight)?;
         change.push(alloc, &[], &aggregates, &[Value::Number(0)], 4)?;
         let groups = first_groups(alloc, &aggregates, change)?;
-        match groups.told_rows(alloc, &aggregates) {
+        match groups.shown_rows(alloc, &aggregates) {
             Ok(_) => assert!(rt; fits),
-            Err(fault) => assert!(rt; !fits && fault == ToldFault::SumOutOfRange),
+            Err(fault) => assert!(rt; !fits && fault == ShowFault::SumOutOfRange),
         }
     }
     Ok(())

@@ -58,7 +58,7 @@ fn one_group(alloc: Global, aggregate: Aggregate) -> Result<Shape, AllocError> {
 }
 
 /// From the greatest value on, at most so many rows.
-fn descending(alloc: Global, limit: u64) -> Result<Order, AllocError> {
+fn descending(alloc: Global, limit: u128) -> Result<Order, AllocError> {
     let mut keys = Seq::new(alloc);
     keys.push(SortKey {
         column: 0,
@@ -76,13 +76,13 @@ fn total(alloc: Global, numbers: &[Option<i64>]) -> Result<Vec<Row>, PlainFault>
     answer(alloc, &database, &first_column(alloc, shape)?)
 }
 
-fn greatest(alloc: Global, numbers: &[Option<i64>], limit: u64) -> Result<Vec<Row>, PlainFault> {
+fn greatest(alloc: Global, numbers: &[Option<i64>], limit: u128) -> Result<Vec<Row>, PlainFault> {
     let database = database(alloc, numbers)?;
     let query = first_column(alloc, Shape::Plain)?;
     answer_listed(alloc, &database, &query, &descending(alloc, limit)?)
 }
 
-fn sorted(alloc: Global, numbers: &[Option<i64>], limit: u64) -> Result<Vec<Row>, AllocError> {
+fn sorted(alloc: Global, numbers: &[Option<i64>], limit: u128) -> Result<Vec<Row>, AllocError> {
     listing(rows(alloc, numbers)?, &descending(alloc, limit)?)
 }
 

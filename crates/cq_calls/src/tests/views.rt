@@ -1,7 +1,7 @@
 //! A view of a small table, as rows come and go.
 ghost use Rattle.std.specs.List.{AllByRecursion};
-ghost use Rattle.std.specs.Prelude.{◌≡◌, ◌++◌, ◌∷◌, ◌<◌, ◌≤◌, IfOk, List, [], length, nat_abs, pos};
-ghost use Rattle.cq_bags.specs.Bag.{SameBag, once_each};
+ghost use Rattle.std.specs.Prelude.{◌≡◌, ◌<◌, ◌≤◌, IfOk, [], length, nat_abs, pos};
+ghost use Rattle.cq_calls.specs.Changed.{StandsAfter};
 ghost use Rattle.cq_laws.specs.Sizes.{IsStored};
 ghost use Rattle.cq_model.specs.Expr.{Column, Compare, Literal, Plus, Times};
 ghost use Rattle.cq_model.specs.Sizes.{stored_size};
@@ -10,9 +10,9 @@ ghost use Rattle.cq_values.specs.declared.comparison.Comparison.TheVariants.{Not
 ghost use Rattle.cq_values.specs.declared.value.Value.TheVariants.{Number};
 ghost use Rattle.cq_values.specs.Value.{Row as Values};
 ghost use Rattle.cq_views.specs.Small.{CanBeKept};
-ghost use Rattle.cq_views.specs.View.{IsNarrowFor, Stands};
+ghost use Rattle.cq_views.specs.View.{IsNarrowFor};
 
-use cq_deltas::ToldFault;
+use cq_deltas::ShowFault;
 use cq_model::{Aggregate, Cond, CondTree, Expr, ExprTree, Query, Shape, Source};
 use cq_values::{Comparison, Row, Seq, Value, copy_row};
 use cq_views::ViewState;
@@ -84,7 +84,7 @@ fn view_after(
     requires table { AllByRecursion IsStored table.now }
     requires changed { IsStored changed.now }
     requires once { nat_abs weight ≤ 1 }
-    ensures { IfOk result (λ v. (rows : List Values) → SameBag (once_each rows) (once_each table.now ++ (changed.now, weight) ∷ []) → Stands v (once_each rows)) }
+    ensures { IfOk result (StandsAfter table.now changed.now weight) }
 {
     let mut view = ViewState::build(alloc, totals(alloc)?, table, 0)?;
     let pending = view.prepare(alloc, &[changed], weight)?;
@@ -92,8 +92,8 @@ fn view_after(
     Ok(view)
 }
 
-/// What the view tells once a row has come.
-fn told_with(alloc: Global, table: &[Row], row: &Row) -> Result<Vec<Row>, ToldFault>
+/// What the view shows once a row has come.
+fn shown_with(alloc: Global, table: &[Row], row: &Row) -> Result<Vec<Row>, ShowFault>
     requires table { AllByRecursion IsStored table.now }
     requires row { IsStored row.now }
 {
@@ -101,8 +101,8 @@ fn told_with(alloc: Global, table: &[Row], row: &Row) -> Result<Vec<Row>, ToldFa
     view.rows(alloc)
 }
 
-/// What the view tells once the first row of its table has gone.
-fn told_without_first(alloc: Global, table: &[Row]) -> Result<Vec<Row>, ToldFault>
+/// What the view shows once the first row of its table has gone.
+fn shown_without_first(alloc: Global, table: &[Row]) -> Result<Vec<Row>, ShowFault>
     requires table { AllByRecursion IsStored table.now }
     requires some { 0 < length table.now }
 {
@@ -118,7 +118,7 @@ fn a_row_that_comes_joins_its_group(rt: HostRuntime) -> Result<(), Fail> {
         row(alloc, Value::Number(2), 9)?,
         row(alloc, Value::Null, 2)?,
     ];
-    let rows = told_with(alloc, &table, &row(alloc, Value::Null, 6)?)?;
+    let rows = shown_with(alloc, &table, &row(alloc, Value::Null, 6)?)?;
     assert_eq!(rt; rows.len(), 2);
     let first = [Value::Number(1), Value::Number(3), Value::Number(5)];
     let second = [Value::Null, Value::Null, Value::Number(8)];
@@ -134,7 +134,7 @@ fn a_group_goes_with_its_last_row(rt: HostRuntime) -> Result<(), Fail> {
         row(alloc, Value::Number(1), 5)?,
         row(alloc, Value::Null, 2)?,
     ];
-    let rows = told_without_first(alloc, &table)?;
+    let rows = shown_without_first(alloc, &table)?;
     assert_eq!(rt; rows.len(), 1);
     let left = [Value::Null, Value::Null, Value::Number(2)];
     assert_eq!(rt; rows[0].as_slice(), left.as_slice());
@@ -145,7 +145,7 @@ fn a_group_goes_with_its_last_row(rt: HostRuntime) -> Result<(), Fail> {
 fn a_row_that_where_drops_changes_nothing(rt: HostRuntime) -> Result<(), Fail> {
     let alloc = rt.alloc();
     let table = [row(alloc, Value::Number(1), 5)?];
-    let rows = told_with(alloc, &table, &row(alloc, Value::Number(1), 9)?)?;
+    let rows = shown_with(alloc, &table, &row(alloc, Value::Number(1), 9)?)?;
     assert_eq!(rt; rows.len(), 1);
     let left = [Value::Number(1), Value::Number(3), Value::Number(5)];
     assert_eq!(rt; rows[0].as_slice(), left.as_slice());

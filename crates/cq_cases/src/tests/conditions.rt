@@ -1,9 +1,9 @@
 //! NULL in each place of each condition, and every pair of truths.
-use super::asked::Datum::{Null, Number};
-use super::asked::Term;
-use super::asked::Term::{Column, Literal};
-use super::asked::Test::{self, And, Between, Compare, In, IsNull, Like, Not, Or};
-use super::judge::check_truths;
+use super::check_truths;
+use cq_asked::Datum::{Null, Number};
+use cq_asked::Term;
+use cq_asked::Term::{Column, Literal};
+use cq_asked::Test::{self, And, Between, Compare, In, IsNull, Like, Not, Or};
 use cq_values::Comparison::{Equal, Greater, GreaterOrEqual, Less, LessOrEqual, NotEqual};
 use cq_values::Truth::{self, False, True, Unknown};
 use std::test::Fail;

@@ -1,7 +1,7 @@
 //! Arithmetic and EXTRACT.
-use super::asked::Datum::{self, Day, Null, Number};
-use super::asked::Term::{self, Column, Extract, Literal, Minus, Product, Sum};
-use super::judge::check_values;
+use super::check_values;
+use cq_asked::Datum::{self, Day, Null, Number};
+use cq_asked::Term::{self, Column, Extract, Literal, Minus, Product, Sum};
 use cq_values::DayPart;
 use std::test::Fail;
 

@@ -1,9 +1,9 @@
 //! WHERE keeps what is True.
-use super::asked::Datum::{Null, Number};
-use super::asked::Term::{self, Column, Literal};
-use super::asked::Test::{self, Between, Compare, In, IsNull, Not};
-use super::asked::{Asked, Rows};
-use super::judge::{ALL, Stored, check};
+use super::check;
+use cq_asked::Datum::{Null, Number};
+use cq_asked::Term::{self, Column, Literal};
+use cq_asked::Test::{self, Between, Compare, In, IsNull, Not};
+use cq_asked::{ALL, Asked, Rows, Stored};
 use cq_values::Comparison::{Equal, Greater, NotEqual};
 use std::alloc::Global;
 use std::process::Abort;

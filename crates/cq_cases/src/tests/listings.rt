@@ -1,8 +1,8 @@
 //! ORDER BY and LIMIT.
-use super::asked::Asked;
-use super::asked::Datum::{Day, Null, Number, Text};
-use super::asked::Term::Column;
-use super::judge::{ALL, Answered, Stored, check};
+use super::check;
+use cq_asked::Datum::{Day, Null, Number, Text};
+use cq_asked::Term::Column;
+use cq_asked::{ALL, Answered, Asked, Stored};
 use std::test::Fail;
 
 /// t(a, b), where two rows are there twice.
@@ -182,7 +182,7 @@ const LIMITS: &[Answered<'static>] = &[
     (
         "the greatest",
         Asked {
-            limit: Some(u64::MAX),
+            limit: Some(u128::MAX),
             distinct: true,
             ..A
         },

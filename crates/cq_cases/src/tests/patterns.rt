@@ -1,8 +1,8 @@
 //! LIKE, character by character.
-use super::asked::Datum::Text;
-use super::asked::Term::Column;
-use super::asked::Test::Like;
-use super::judge::check_truths;
+use super::check_truths;
+use cq_asked::Datum::Text;
+use cq_asked::Term::Column;
+use cq_asked::Test::Like;
 use cq_values::Truth::{False, True};
 use std::alloc::Global;
 use std::process::Abort;

@@ -1,9 +1,9 @@
 //! DISTINCT, and rows that occur several times.
-use super::asked::Asked;
-use super::asked::Datum::{Null, Number};
-use super::asked::Term::{Column, Literal, Product};
-use super::judge::{ALL, Answered, check};
+use super::check;
 use super::listings::{A, A_AND_B, T};
+use cq_asked::Datum::{Null, Number};
+use cq_asked::Term::{Column, Literal, Product};
+use cq_asked::{ALL, Answered, Asked};
 use std::test::Fail;
 
 const REPEATS: &[Answered<'static>] = &[

@@ -1,9 +1,9 @@
 //! Values that are too wide.
-use super::asked::Datum::Number;
-use super::asked::Term::{self, Column, Literal, Minus, Product, Sum};
-use super::asked::Test::{And, Compare};
-use super::asked::{Asked, Groups, Told};
-use super::judge::{ALL, Answered, Refused, Stored, check, check_refused};
+use super::{check, check_refused};
+use cq_asked::Datum::Number;
+use cq_asked::Term::{self, Column, Literal, Minus, Product, Sum};
+use cq_asked::Test::{And, Compare};
+use cq_asked::{ALL, Answered, Asked, Groups, Refused, Stored, Told};
 use cq_model::Source::{Table, View};
 use cq_plain::PlainFault::TooWide;
 use cq_values::Comparison::{Equal, Greater, Less};

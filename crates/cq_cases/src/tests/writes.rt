@@ -1,8 +1,8 @@
 //! What DELETE and UPDATE make of rows.
-use super::asked::Datum::{Null, Number};
-use super::asked::Term::{self, Column, Literal, Sum};
-use super::asked::Test::{Compare, IsNull, Not};
-use super::asked::{Rows, Test, condition, expr, rows};
+use cq_asked::Datum::{Null, Number};
+use cq_asked::Term::{self, Column, Literal, Sum};
+use cq_asked::Test::{Compare, IsNull, Not};
+use cq_asked::{Rows, Test, condition, expr, rows};
 use cq_model::Assignment;
 use cq_plain::{PlainFault, left_by, updated};
 use cq_values::Comparison::{Equal, Greater};

@@ -1,8 +1,7 @@
 //! Scripts made at random: after each, two views hold what the plain evaluator makes of their table's rows.
-use super::queries::{by_key, meant, of_positives};
+use super::queries::check_view;
 use super::{answer, engine, rows};
 use cq_engine::Engine;
-use cq_model::Query;
 use rand_core::Rng;
 use rand_pcg::Pcg32;
 use std::alloc::{AllocError, Global};
@@ -48,57 +47,54 @@ fn compare(
     rt: &impl Abort,
     alloc: Global,
     engine: &mut Engine,
+    view: &str,
     reading: &str,
-    query: &Query,
 ) -> Result<(), Fail> {
     let kept = rows(rt, alloc, engine, reading)?;
     let table = rows(rt, alloc, engine, "SELECT k, a FROM t")?;
-    let wanted = meant(alloc, query, table)?;
-    assert!(rt; kept.as_slice() == wanted.as_slice(), "{reading}: {kept:?}");
+    check_view(rt, alloc, engine, view, kept.as_slice(), table)
+}
+
+/// Some writes.
+fn change(
+    rt: &impl Abort,
+    alloc: Global,
+    engine: &mut Engine,
+    random: &mut Pcg32,
+    count: u32,
+) -> Result<(), Fail> {
+    for _ in 0..count {
+        let text = write(alloc, random)?;
+        answer(rt, alloc, engine, text.as_str())?;
+    }
     Ok(())
 }
 
 /// One script: some writes, the views, more writes.
-fn check(rt: &impl Abort, alloc: Global, script: u64) -> Result<(), Fail> {
+fn run_script(
+    rt: &impl Abort,
+    alloc: Global,
+    engine: &mut Engine,
+    script: u64,
+) -> Result<(), Fail> {
     let mut random = Pcg32::new(script, 11634580027462260723);
-    let mut engine = engine(alloc)?;
-    answer(
-        rt,
-        alloc,
-        &mut engine,
-        "CREATE TABLE t(k INTEGER, a INTEGER)",
-    )?;
-    for _ in 0..random.next_u32() % 6 {
-        let text = write(alloc, &mut random)?;
-        answer(rt, alloc, &mut engine, text.as_str())?;
-    }
+    answer(rt, alloc, engine, "CREATE TABLE t(k INTEGER, a INTEGER)")?;
+    let before = random.next_u32() % 6;
+    change(rt, alloc, engine, &mut random, before)?;
     for view in VIEWS {
-        answer(rt, alloc, &mut engine, view)?;
+        answer(rt, alloc, engine, view)?;
     }
-    for _ in 0..random.next_u32() % 12 {
-        let text = write(alloc, &mut random)?;
-        answer(rt, alloc, &mut engine, text.as_str())?;
-    }
-    compare(
-        rt,
-        alloc,
-        &mut engine,
-        "SELECT k, n, s FROM v",
-        &by_key(alloc)?,
-    )?;
-    compare(
-        rt,
-        alloc,
-        &mut engine,
-        "SELECT s, a, n FROM w",
-        &of_positives(alloc)?,
-    )
+    let behind = random.next_u32() % 12;
+    change(rt, alloc, engine, &mut random, behind)?;
+    compare(rt, alloc, engine, "v", "SELECT k, n, s FROM v")?;
+    compare(rt, alloc, engine, "w", "SELECT s, a, n FROM w")
 }
 
 #[test]
 fn views_hold_what_their_queries_mean(rt: HostRuntime) -> Result<(), Fail> {
     for script in 0..SCRIPTS {
-        check(&rt, rt.alloc(), script)?;
+        let mut engine = engine(rt.alloc())?;
+        run_script(&rt, rt.alloc(), &mut engine, script)?;
     }
     Ok(())
 }

@@ -1,10 +1,8 @@
 //! Scripts made at random: what a SELECT, a DELETE and a view with any WHERE give is what the plain evaluator makes of it.
-use super::queries::{meant, of_groups, plain};
+use super::queries::{check_view, left, selected};
 use super::written::{condition, day, key_number, number, small, text};
 use super::{answer, engine, rows};
 use cq_engine::Engine;
-use cq_model::{Cond, Expr, Query};
-use cq_plain::left_by;
 use rand_core::Rng;
 use rand_pcg::Pcg32;
 use std::alloc::{AllocError, Global};
@@ -52,39 +50,6 @@ fn insertion(alloc: Global, random: &mut Pcg32) -> Result<String, AllocError> {
     Ok(text)
 }
 
-/// What a statement reads is what the query means on the rows of the table.
-fn compare(
-    rt: &impl Abort,
-    alloc: Global,
-    engine: &mut Engine,
-    reading: &str,
-    query: &Query,
-) -> Result<(), Fail> {
-    let shown = rows(rt, alloc, engine, reading)?;
-    let table = rows(rt, alloc, engine, ALL)?;
-    let wanted = meant(alloc, query, table)?;
-    assert!(rt;
-        shown.as_slice() == wanted.as_slice(),
-        "{reading}: {shown:?}"
-    );
-    Ok(())
-}
-
-/// A SELECT of two values with a condition.
-fn check_select(
-    rt: &impl Abort,
-    alloc: Global,
-    engine: &mut Engine,
-    random: &mut Pcg32,
-) -> Result<(), Fail> {
-    let (first, a) = number(alloc, random, 2)?;
-    let (second, b) = number(alloc, random, 1)?;
-    let (kept, tree) = condition(alloc, random, 2)?;
-    let text = format!(in alloc; "SELECT {first}, {second} FROM t WHERE {kept}")?;
-    let query = plain(alloc, Cond::new(tree), Expr::new(a), Expr::new(b))?;
-    compare(rt, alloc, engine, text.as_str(), &query)
-}
-
 fn insert(
     rt: &impl Abort,
     alloc: Global,
@@ -96,6 +61,29 @@ fn insert(
     Ok(())
 }
 
+/// A SELECT of two values with a condition.
+fn selection(alloc: Global, random: &mut Pcg32) -> Result<String, AllocError> {
+    let first = number(alloc, random, 2)?;
+    let second = number(alloc, random, 1)?;
+    let kept = condition(alloc, random, 2)?;
+    format!(in alloc; "SELECT {first}, {second} FROM t WHERE {kept}")
+}
+
+/// It has the rows that it means on the rows of the table.
+fn check_select(
+    rt: &impl Abort,
+    alloc: Global,
+    engine: &mut Engine,
+    random: &mut Pcg32,
+) -> Result<(), Fail> {
+    let text = selection(alloc, random)?;
+    let shown = rows(rt, alloc, engine, text.as_str())?;
+    let table = rows(rt, alloc, engine, ALL)?;
+    let wanted = selected(alloc, engine, text.as_str(), table)?;
+    assert!(rt; shown.as_slice() == wanted.as_slice(), "{text}: {shown:?}");
+    Ok(())
+}
+
 /// A DELETE with a condition leaves the rows that it leaves in a list.
 fn check_delete(
     rt: &impl Abort,
@@ -103,55 +91,65 @@ fn check_delete(
     engine: &mut Engine,
     random: &mut Pcg32,
 ) -> Result<(), Fail> {
-    let (kept, tree) = condition(alloc, random, 1)?;
+    let kept = condition(alloc, random, 1)?;
     let text = format!(in alloc; "DELETE FROM t WHERE {kept}")?;
     let before = rows(rt, alloc, engine, ALL)?;
+    let wanted = left(alloc, engine, text.as_str(), before.as_slice())?;
     answer(rt, alloc, engine, text.as_str())?;
     let after = rows(rt, alloc, engine, ALL)?;
-    let wanted = left_by(alloc, before.as_slice(), &Some(Cond::new(tree)))?;
     assert!(rt; after.as_slice() == wanted.as_slice(), "{text}: {after:?}");
     Ok(())
 }
 
-/// A view with a condition and items that are worked out, and writes behind it.
-fn check_view(
+/// A view with a condition and items that are worked out.
+fn view(alloc: Global, random: &mut Pcg32) -> Result<String, AllocError> {
+    let shown = key_number(alloc, random)?;
+    let counted = number(alloc, random, 1)?;
+    let summed = number(alloc, random, 2)?;
+    let kept = condition(alloc, random, 2)?;
+    format!(in alloc;
+        "CREATE VIEW v AS SELECT {shown} AS x, COUNT({counted}) AS n, SUM({summed}) AS s FROM t WHERE {kept} GROUP BY b, k"
+    )
+}
+
+/// Such a view and writes behind it: the view reads as its query means on the rows of the table.
+fn check_writes(
     rt: &impl Abort,
     alloc: Global,
     engine: &mut Engine,
     random: &mut Pcg32,
 ) -> Result<(), Fail> {
-    let (kept, tree) = condition(alloc, random, 2)?;
-    let (shown, x) = key_number(alloc, random)?;
-    let (counted, n) = number(alloc, random, 1)?;
-    let (summed, s) = number(alloc, random, 2)?;
-    let text = format!(in alloc;
-        "CREATE VIEW v AS SELECT {shown} AS x, COUNT({counted}) AS n, SUM({summed}) AS s FROM t WHERE {kept} GROUP BY b, k"
-    )?;
+    let text = view(alloc, random)?;
     answer(rt, alloc, engine, text.as_str())?;
     insert(rt, alloc, engine, random)?;
     check_delete(rt, alloc, engine, random)?;
     insert(rt, alloc, engine, random)?;
-    let (x, n, s) = (Expr::new(x), Expr::new(n), Expr::new(s));
-    let query = of_groups(alloc, Cond::new(tree), x, n, s)?;
-    compare(rt, alloc, engine, "SELECT x, n, s FROM v", &query)
+    let kept = rows(rt, alloc, engine, "SELECT x, n, s FROM v")?;
+    let table = rows(rt, alloc, engine, ALL)?;
+    check_view(rt, alloc, engine, "v", kept.as_slice(), table)
 }
 
-fn check(rt: &impl Abort, alloc: Global, script: u64) -> Result<(), Fail> {
+fn run_script(
+    rt: &impl Abort,
+    alloc: Global,
+    engine: &mut Engine,
+    script: u64,
+) -> Result<(), Fail> {
     let mut random = Pcg32::new(script, 11634580027462260723);
-    let mut engine = engine(alloc)?;
-    answer(rt, alloc, &mut engine, TABLE)?;
+    answer(rt, alloc, engine, TABLE)?;
     for _ in 0..3 {
-        insert(rt, alloc, &mut engine, &mut random)?;
-        check_select(rt, alloc, &mut engine, &mut random)?;
+        insert(rt, alloc, engine, &mut random)?;
+        check_select(rt, alloc, engine, &mut random)?;
     }
-    check_view(rt, alloc, &mut engine, &mut random)?;
-    check_select(rt, alloc, &mut engine, &mut random)
+    check_writes(rt, alloc, engine, &mut random)?;
+    check_select(rt, alloc, engine, &mut random)
 }
 
 #[test]
 fn any_condition_and_any_number_mean_the_same(rt: HostRuntime) -> Result<(), Fail> {
     for script in 0..SCRIPTS {
-        check(&rt, rt.alloc(), script)?;
+        let mut engine = engine(rt.alloc())?;
+        run_script(&rt, rt.alloc(), &mut engine, script)?;
     }
     Ok(())
 }

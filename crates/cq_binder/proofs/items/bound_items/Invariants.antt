@@ -9,6 +9,6 @@ use Rattle.cq_binder.proofs.items.bound_items.Given as goal
 -- the items so far are bound, and those that are left have the first fault of all
 abbrev pub invariant-loop-item : goal.invariant-loop-item
 invariant-loop-item l =
-    AreBoundUpTo (scope_of l.table) l.view.group (shown_by l.view.items) (shown_by (drop l.item-index l.view.items)) l.aggregates l.items
-    × (first_fault (map (item_check (scope_of l.table) l.view.group) (shown_by (drop l.item-index l.view.items))) ≡ first_fault (map (item_check (scope_of l.table) l.view.group) (shown_by l.view.items)))
+    AreBoundUpTo (scope_of l.table) (scope_of l.groups) (length l.view.group) (shown_by l.view.items) (shown_by (drop l.item-index l.view.items)) l.aggregates l.items
+    × (first_fault (map (item_check (scope_of l.table) (scope_of l.groups)) (shown_by (drop l.item-index l.view.items))) ≡ first_fault (map (item_check (scope_of l.table) (scope_of l.groups)) (shown_by l.view.items)))
     × (length l.aggregates ≤ l.item-index)

@@ -1,15 +1,38 @@
-use Rattle.std.proofs.Common.{◌∙◌, sym, ap}
-use Rattle.cq_binding.specs.Checks.{first_fault}
-use Rattle.cq_binding.specs.Refusal.{source_checks}
+use Rattle.std.proofs.Common.{◌≡◌, ◌∙◌, ap, None, subst}
+use Rattle.std.proofs.lemmas.Result.{err_from_is_err_and}
+use Rattle.cq_binding.specs.Checks.{first_fault, MayRefuse}
+use Rattle.cq_binding.specs.Refusal.{bag_checks}
+use Rattle.cq_binding.specs.Scopes.{of_rows}
 use Rattle.cq_binding.specs.Typing.{Scope}
-use Rattle.cq_exprs.specs.Expressions.{scope_of}
-use Rattle.cq_binder.proofs.Selecting.{select_made}
+use Rattle.cq_binder.specs.From.{shown_from}
+use Rattle.cq_binder.specs.Select.{AreBoundParts}
+use Rattle.cq_binder.proofs.Selecting.{bag_refused, order_refused, query_passes, select_made}
 use Rattle.cq_binder.proofs.reading.bind_query.Goals as goal
 
-pub returns : goal.returns
-returns c = λ named same is.
+pub returns-in_err-filter : goal.returns-in_err-filter
+returns-in_err-filter c =
+    let p = err_from_is_err_and c.from_residual-in_err-filter.result c.from_residual-in_err-filter.ensures.1 in
     let q = c.args.select.now in
-    let header = rw c.as_slice.ensures at c.in_ok-header.ensures in (
-      ap (λ (s : Scope). first_fault (source_checks q s)) (sym same) ∙ c.in_ok-filter.ensures.0,
-      select_made q named (scope_of c.args.scope.now) c.in_ok-header.header c.args.source c.new.result c.in_ok-filter.filter c.in_ok-filter.items c.new-2.result same header is c.new.ensures c.new-2.ensures c.in_ok-filter.ensures.1,
-    )
+    let f = c.in_err-filter.field-0.0 in
+    let e = subst (λ (s : Scope). MayRefuse (first_fault (bag_checks q s)) f) (c.of_rows.ensures ∙ ap of_rows c.deref.ensures.value) c.in_err-filter.ensures in
+    rw (p.1, p.2) (bag_refused q (shown_from c.args.from) f e)
+
+pub returns-in_err-keys : goal.returns-in_err-keys
+returns-in_err-keys c =
+    let p = err_from_is_err_and c.from_residual-in_err-keys.result c.from_residual-in_err-keys.ensures.1 in
+    let q = c.args.select.now in
+    let header = rw c.as_slice.ensures at c.in_ok-header.ensures in
+    let free = subst (λ (s : Scope). first_fault (bag_checks q s) ≡ None) (c.of_rows.ensures ∙ ap of_rows c.deref.ensures.value) c.in_ok-filter.ensures.0 in
+    let e = rw (c.as_slice-3.ensures, c.as_slice-2.ensures, header) at c.in_err-keys.ensures in
+    rw (p.1, p.2) (order_refused q (shown_from c.args.from) free c.in_err-keys.field-0.0 e)
+
+pub returns : goal.returns
+returns c =
+    let q = c.args.select.now in
+    let from = shown_from c.args.from in
+    let same = c.of_rows.ensures ∙ ap of_rows c.deref.ensures.value in
+    let header = rw c.as_slice.ensures at c.in_ok-header.ensures in
+    let free = subst (λ (s : Scope). first_fault (bag_checks q s) ≡ None) same c.in_ok-filter.ensures.0 in
+    let parts = subst (λ (s : Scope). AreBoundParts s q (c.in_ok-filter.filter, c.in_ok-filter.items)) same c.in_ok-filter.ensures.1 in
+    let keys = rw (c.as_slice-3.ensures, c.as_slice-2.ensures, header) at c.in_ok-keys.ensures in
+    (query_passes q from free keys.0, select_made q from c.in_ok-header.header c.in_ok-filter.filter c.in_ok-filter.items c.in_ok-keys.keys header keys.1 parts)

@@ -1,7 +1,7 @@
 use Rattle.std.proofs.Common.{◌∙◌}
 use Rattle.std.proofs.lemmas.Result.{err_from_is_err_and}
 use Rattle.cq_exprs.specs.Expressions.{scope_of}
-use Rattle.cq_binder.proofs.Selecting.{items_refused, number_refused, select_passes}
+use Rattle.cq_binder.proofs.Selecting.{bag_passes, items_refused, number_refused}
 use Rattle.cq_binder.proofs.reading.bound_parts.Goals as goal
 
 pub returns-in_err-items : goal.returns-in_err-items
@@ -21,4 +21,4 @@ pub returns : goal.returns
 returns c =
     let items = rw c.as_slice.ensures at c.in_ok-items.ensures in
     let short = rw c.len.ensures at c.in_ok-check_length.ensures in
-    (select_passes c.args.select.now (scope_of c.args.scope.now) c.in_ok-filter.ensures.0 items.0 short.0, (c.in_ok-filter.ensures.1, c.from_vec.ensures ∙ items.1))
+    (bag_passes c.args.select.now (scope_of c.args.scope.now) c.in_ok-filter.ensures.0 items.0 short.0, (c.in_ok-filter.ensures.1, c.from_vec.ensures ∙ items.1))

@@ -1,7 +1,7 @@
 use Rattle.std.proofs.Common.{[], ◌∷◌, map, length}
 use Rattle.std.proofs.lemmas.Result.{err_from_is_err_and}
 use Rattle.cq_binding.specs.Checks.{too_long}
-use Rattle.cq_binding.specs.ViewChecks.{group_check}
+use Rattle.cq_binding.specs.SourceChecks.{group_check}
 use Rattle.cq_binder.proofs.Faults.{none_append, refused_back, refused_front}
 use Rattle.cq_binder.proofs.view.group_keys.Goals as goal
 

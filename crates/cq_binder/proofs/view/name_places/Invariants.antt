@@ -1,7 +1,7 @@
 use Rattle.std.proofs.Common.{◌≡◌, map, take, drop}
-use Rattle.cq_binding.specs.Bound.{group_places}
+use Rattle.cq_binding.specs.Scopes.{group_places}
 use Rattle.cq_binding.specs.Checks.{first_fault}
-use Rattle.cq_binding.specs.ViewChecks.{group_check}
+use Rattle.cq_binding.specs.SourceChecks.{group_check}
 use Rattle.cq_binder.proofs.view.name_places.Given as goal
 
 -- the places so far are those of the names so far, and the names that are left have the first fault of all

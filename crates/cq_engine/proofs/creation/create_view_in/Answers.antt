@@ -1,4 +1,4 @@
-use Rattle.std.proofs.Common.{sym, subst}
+use Rattle.std.proofs.Common.{length, sym, ap, ◌∙◌, subst}
 use Rattle.cq_bags.specs.Bag.{once_each}
 use Rattle.cq_states.specs.State.{rows_in}
 use Rattle.cq_model.specs.declared.query.Query.{Query}
@@ -16,6 +16,7 @@ returns-clause-right c =
     let is = c.in_ok-state.ensures in
     let view : NamedView = record { name = c.args.name; columns = c.args.columns; kept = state } in
     let one : IsRight tables c.args.now view = record {
+      shown = can.shown ∙ sym (ap (λ (d : Query). length d.items) is.is_of);
       fits = subst Fits (sym is.is_of) can.fits;
       epoch = is.epoch;
       stands = subst (λ (d : Query). Stands state (once_each (rows_in tables (table_of d)))) (sym is.is_of) is.stands;

@@ -1,5 +1,5 @@
 use Rattle.std.proofs.Common.{rules}
-use Rattle.cq_deltas.proofs.Tables.{drop-settles, settled-already}
+use Rattle.cq_deltas.proofs.AtKeys.{drop-settles, settled-already}
 use Rattle.cq_deltas.proofs.groups.Groups.drop_if_empty.Goals as goal
 
 pub returns-then-is_empty_at : goal.returns-then-is_empty_at

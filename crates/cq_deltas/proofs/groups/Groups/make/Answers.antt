@@ -1,5 +1,5 @@
 use Rattle.std.proofs.Common.{rules, ◌∙◌}
-use Rattle.cq_deltas.proofs.Tables.{made-same}
+use Rattle.cq_deltas.proofs.AtKeys.{made-same}
 use Rattle.cq_deltas.proofs.groups.Groups.make.Goals as goal
 
 pub returns-clause-groups : goal.returns-clause-groups

@@ -3,7 +3,7 @@ use Rattle.std.specs.Int.{w128}
 use Rattle.std.proofs.lemmas.Int.{to_z-of_z}
 use Rattle.cq_deltas.specs.Kept.{group_with}
 use Rattle.cq_deltas.specs.Keyed.{stored_at}
-use Rattle.cq_deltas.proofs.Tables.{put-everywhere}
+use Rattle.cq_deltas.proofs.AtKeys.{put-everywhere}
 use Rattle.cq_deltas.proofs.groups.Groups.put.Goals as goal
 
 pub add-requires : goal.add-requires

@@ -1,4 +1,6 @@
-use Rattle.std.proofs.Common.{Some, sym, ap, ◌∙◌}
+use Rattle.std.proofs.Common.{Some, length, sym, ap, ◌∙◌}
+use Rattle.cq_model.specs.declared.query.Query.{Query}
+use Rattle.cq_model.specs.Views.{sources_of}
 use Rattle.std.specs.Prelude.{option_map, unwrap_or}
 use Rattle.cq_model.specs.declared.query.Source.TheVariants.{View}
 use Rattle.cq_binding.specs.Scopes.{from_view}
@@ -21,6 +23,7 @@ returns c =
     let v = c.index-self-place.result in
     let found = sym c.in-Some.ensures in
     let there = view_there name views place found v c.index-self-place.is ∙ ap (λ (u : NamedView). Some (view_of u)) c.index-self-place.is in
+    let told = c.base_count.ensures ∙ ap (λ (q : Query). length (sources_of q)) c.query.ensures in
     rw (← c.self.view_is)
-    ((λ i. Some (record { known = c.name.ensures i; columns = c.columns.ensures i; sizes = c.in_ok-column_sizes.ensures i; source = View place }))
+    ((λ i. Some (record { known = c.name.ensures i; columns = c.columns.ensures i; sizes = c.in_ok-column_sizes.ensures i; source = View place; bases = told i }))
     ∙ sym (λ i. option_map (λ w. from_view w (unwrap_or (found i) 0)) (there i)))

@@ -21,8 +21,7 @@ returns-in_err-rows c =
 pub returns : goal.returns
 returns c =
     let walk = rw (c.deref.ensures.value, c.deref-2.ensures.value) at c.in_ok-rows.ensures in
-    let can = rw (← c.self.view_is) at c.requires in
     let tables = c.self.inside.tables.items in
     let views = c.self.inside.views.items in
     rw (← c.self.view_is)
-    (refl, select_done tables (views_of views) c.self.inside.writes c.self.inside.drawn c.self.inside.limits.max_rows (all_at tables c.self.inside.writes views c.self.invariant.3) c.args.header c.args.query c.args.order c.in_ok-rows.rows can.1 walk)
+    (refl, select_done tables (views_of views) c.self.inside.writes c.self.inside.drawn c.self.inside.limits.max_rows (all_at tables c.self.inside.writes views c.self.invariant.3) c.args.header c.args.query c.args.order c.in_ok-rows.rows walk)

@@ -1,0 +1,12 @@
+use Rattle.std.proofs.Common.{◌∙◌, ap, subst}
+use Rattle.cq_binding.specs.Scopes.{from_table, of_rows, source_columns}
+use Rattle.cq_binding.specs.Typing.{Scope}
+use Rattle.cq_binder.specs.Catalog.{Heading}
+use Rattle.cq_binder.specs.Update.{BindsUpdate}
+use Rattle.cq_binder.proofs.updating.bound_parts.Goals as goal
+
+pub returns : goal.returns
+returns c = λ t same.
+    let named = ap (λ (h : Heading). of_rows (source_columns h.name (from_table t))) same in
+    let scope = c.of_rows.ensures ∙ ap of_rows (c.deref.ensures.value ∙ c.in_ok-columns.ensures t same) ∙ named in
+    subst (λ (s : Scope). BindsUpdate s c.args.sets.now c.args.condition.now c.set_parts.result) scope c.set_parts.ensures

@@ -1,0 +1,47 @@
+use Rattle.std.proofs.Common.{◌≡◌, ◌∙◌, Some, length, slice_get, rules}
+use Rattle.cq_values.specs.Order.{same_row}
+use Rattle.cq_values.specs.Value.{Row}
+use Rattle.cq_kept.specs.Kept.{Group}
+use Rattle.std.specs.List.{IsDistinct}
+use Rattle.std.specs.Map.{keys_of}
+use Rattle.cq_deltas.specs.declared.fault.ShowFault.TheVariants.{SumOutOfRange}
+use Rattle.cq_deltas.specs.Shown.{GroupsCanBeShown}
+use Rattle.cq_deltas.proofs.Listing.{lists-keys, entries-range, rows-more, range-more, range-of, rows-done, range-done}
+use Rattle.cq_deltas.proofs.groups.Groups.shown_rows.Goals as goal
+
+pub returns-in_err-push_shown-in-Some-clause-fault : goal.returns-in_err-push_shown-in-Some-clause-fault
+returns-in_err-push_shown-in-Some-clause-fault c =
+    let table = c.args.self.now in
+    let aggregates = c.args.aggregates.now in
+    let entry : Some (c.in-Some.key.now, c.in-Some.group.now) ≡ slice_get table c.loop-place.place = rw c.self.view_is at c.in-Some.ensures.entry in
+    let distinct : IsDistinct same_row (keys_of table) = rw c.self.view_is at c.len-place-end.ensures.unique in
+    let fault : c.in_err-push_shown-in-Some.field-0.0 ≡ SumOutOfRange → GroupsCanBeShown aggregates table → ⊥ =
+    λ is all. c.in_err-push_shown-in-Some.ensures.fault is (range-of aggregates table c.loop-place.place (c.in-Some.key.now, c.in-Some.group.now) entry (entries-range aggregates table distinct all)) in
+    search rules
+
+pub loop-place-preserved : goal.loop-place-preserved
+loop-place-preserved c =
+    let table = c.args.self.now in
+    let aggregates = c.args.aggregates.now in
+    let e : Row × Group = (c.in-Some.key.now, c.in-Some.group.now) in
+    let entry : Some e ≡ slice_get table c.loop-place.place = rw c.self.view_is at c.in-Some.ensures.entry in
+    record {
+      rows = c.in_ok-push_shown-in-Some.ensures.rows ∙ rows-more aggregates table c.loop-place.place e entry c.loop-place.rows.items c.loop-place.invariant.rows;
+      range = range-more aggregates table c.loop-place.place e entry c.loop-place.invariant.range c.in_ok-push_shown-in-Some.ensures.range;
+    }
+
+pub returns-clause-rows : goal.returns-clause-rows
+returns-clause-rows c =
+    let end : c.loop-place.place ≡ length c.args.self.now = search rules in
+    rows-done c.args.aggregates.now c.args.self.now c.loop-place.place (rw c.self.view_is at c.len-place-end.ensures.unique) end c.loop-place.rows.items c.loop-place.invariant.rows
+
+pub returns-in_err-push_shown-in-Some-clause-keys : goal.returns-in_err-push_shown-in-Some-clause-keys
+returns-in_err-push_shown-in-Some-clause-keys c = lists-keys c.args.aggregates.now c.args.self.now (rw c.self.view_is at c.len-place-end.ensures.unique)
+
+pub returns-clause-keys : goal.returns-clause-keys
+returns-clause-keys c = lists-keys c.args.aggregates.now c.args.self.now (rw c.self.view_is at c.len-place-end.ensures.unique)
+
+pub returns-clause-range : goal.returns-clause-range
+returns-clause-range c =
+    let end : c.loop-place.place ≡ length c.args.self.now = search rules in
+    range-done c.args.aggregates.now c.args.self.now c.loop-place.place (rw c.self.view_is at c.len-place-end.ensures.unique) end c.loop-place.invariant.range
