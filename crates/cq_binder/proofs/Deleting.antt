@@ -1,5 +1,5 @@
 -- DELETE from the table that was found.
-use Rattle.std.proofs.Common.{◌≡◌, ℕ, List, [], ◌∷◌, Option, Some, true, refl, ap, ap₂, sym, ◌∙◌}
+use Rattle.std.proofs.Common.{◌≡◌, ℕ, List, [], ◌∷◌, Option, Some, refl, ap, ap₂, sym, ◌∙◌}
 use Rattle.std.specs.Prelude.{option_map}
 use Rattle.cq_model.specs.Expr.{Cond}
 use Rattle.cq_language.specs.Written.{Written}
@@ -8,7 +8,6 @@ use Rattle.cq_binding.specs.declared.bound.Bound.TheVariants as commands
 use Rattle.cq_binding.specs.declared.fault.Fault.{Fault}
 use Rattle.cq_binding.specs.Scopes.{bound_condition, from_table, scope_of}
 use Rattle.cq_binding.specs.Checks.{first_fault, MayRefuse}
-use Rattle.cq_binding.specs.Open.{is_of_rows}
 use Rattle.cq_binding.specs.SourceChecks.{where_check}
 use Rattle.cq_binding.specs.Refusal.{delete_checks, written_table}
 use Rattle.cq_states.specs.State.{TableOf, ViewOf, table_named}
@@ -19,10 +18,10 @@ use Rattle.cq_binder.proofs.Faults.{refused_same}
 abbrev pub delete_command : Option Written → TableOf → Bound
 delete_command condition t = commands.Delete t.number (option_map (bound_condition (scope_of (from_table t))) condition)
 
-module _ (name : List ℕ) (condition : Option Written) (tables : List TableOf) (views : List ViewOf) (t : TableOf) (opened : is_of_rows condition ≡ true) (found : table_named name tables ≡ Some t) where
+module _ (name : List ℕ) (condition : Option Written) (tables : List TableOf) (views : List ViewOf) (t : TableOf) (found : table_named name tables ≡ Some t) where
   -- WHERE decides
   pub where_decides : first_fault (delete_checks condition (written_table name (alone tables views))) ≡ first_fault (where_check (scope_of (from_table t)) condition ∷ [])
-  where_decides = rw (opened, found) refl
+  where_decides = rw found refl
 
   -- it refuses
   pub where_refused : (f : Fault) → MayRefuse (first_fault (where_check (scope_of (from_table t)) condition ∷ [])) f → MayRefuse (first_fault (delete_checks condition (written_table name (alone tables views)))) f

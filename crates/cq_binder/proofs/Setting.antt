@@ -1,11 +1,10 @@
 -- SET, assignment by assignment.
-use Rattle.std.proofs.Common.{◌≡◌, ℕ, zero, suc, ◌+◌, ◌<◌, Bool, true, false, List, [], ◌∷◌, ◌++◌, map, length, get_or, take, drop, Option, Some, None, Ok, refl, sym, ap, ◌∙◌, arith}
-use Rattle.std.specs.Prelude.{option_map, unwrap_or}
+use Rattle.std.proofs.Common.{◌≡◌, ℕ, zero, suc, ◌+◌, ◌<◌, false, List, [], ◌∷◌, ◌++◌, length, get_or, take, drop, Option, Some, None, Ok, refl, sym, ap, ◌∙◌, arith}
+use Rattle.std.specs.Prelude.{option_map}
 use Rattle.std.specs.Option.{option_or}
 use Rattle.std.proofs.lemmas.List.{at_drop_more, map-append, take_more}
 use Rattle.std.proofs.lemmas.List.Quantifiers.{position-Some}
 use Rattle.cq_values.specs.Texts.{is_text}
-use Rattle.cq_values.specs.declared.ty.Ty.{Ty}
 use Rattle.cq_language.specs.declared.statement.SetClause.{SetClause}
 use Rattle.cq_language.specs.Written.{Written}
 use Rattle.cq_model.specs.Expr.{Cond}
@@ -19,7 +18,7 @@ use Rattle.cq_binding.specs.Refusal.{written_table}
 use Rattle.cq_binding.specs.Scopes.{from_table, named_place, scope_of}
 use Rattle.cq_binding.specs.Sets.{bound_set, bound_sets, bound_where}
 use Rattle.cq_binding.specs.Typing.{Scope, ScopeColumn, set_fault, type_at, typed}
-use Rattle.cq_binding.specs.UpdateChecks.{is_set, set_check, set_checks, sets_rows, update_walk}
+use Rattle.cq_binding.specs.UpdateChecks.{is_set, set_check, set_checks, update_walk}
 use Rattle.cq_states.specs.State.{TableOf, ViewOf, table_named}
 use Rattle.cq_binder.specs.Catalog.{alone, sets_walk}
 use Rattle.cq_binder.proofs.Faults.{first_fault_append, refused_first, refused_same}
@@ -80,10 +79,10 @@ module _ (s : Scope) where
         ∙ ap (bound_sets s) so_far
 
 -- ---- UPDATE on the table that was found
-module _ (name : List ℕ) (sets : List SetClause) (condition : Option Written) (tables : List TableOf) (views : List ViewOf) (t : TableOf) (opened : sets_rows condition sets ≡ true) (found : table_named name tables ≡ Some t) where
+module _ (name : List ℕ) (sets : List SetClause) (condition : Option Written) (tables : List TableOf) (views : List ViewOf) (t : TableOf) (found : table_named name tables ≡ Some t) where
   -- WHERE and SET decide
   pub walk_decides : first_fault (sets_walk condition sets (written_table name (alone tables views))) ≡ first_fault (update_walk condition sets (scope_of (from_table t)))
-  walk_decides = rw (opened, found) refl
+  walk_decides = rw found refl
 
   -- they refuse
   pub walk_refused : (f : Fault) → MayRefuse (first_fault (update_walk condition sets (scope_of (from_table t)))) f → MayRefuse (first_fault (sets_walk condition sets (written_table name (alone tables views)))) f

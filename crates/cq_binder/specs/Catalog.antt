@@ -1,5 +1,5 @@
 -- The tables and views that statements find under their names, and what binding a statement gives.
-use Rattle.std.specs.Prelude.{◌≡◌, ℕ, Bool, not, List, [], ◌∷◌, Option, Some, is_some, option_map, unwrap_or, Result, Ok, Err}
+use Rattle.std.specs.Prelude.{◌≡◌, ℕ, Bool, List, [], ◌∷◌, Option, Some, is_some, option_map, unwrap_or, Result, Ok, Err}
 use Rattle.std.specs.List.{flat_map}
 use Rattle.cq_binding.specs.declared.bound.Bound.{Bound}
 use Rattle.cq_model.specs.declared.query.Source.TheVariants.{Table, View}
@@ -11,10 +11,8 @@ use Rattle.cq_language.specs.declared.statement.Statement.{Statement}
 use Rattle.cq_language.specs.declared.statement.Statement.TheVariants as statements
 use Rattle.cq_language.specs.Written.{Written}
 use Rattle.cq_binding.specs.declared.fault.Fault.{Fault}
-use Rattle.cq_binding.specs.declared.fault.Fault.TheVariants.{Syntax}
 use Rattle.cq_binding.specs.Scopes.{Named, from_table, from_view, scope_of}
-use Rattle.cq_binding.specs.Checks.{fault_if}
-use Rattle.cq_binding.specs.UpdateChecks.{sets_rows, update_walk}
+use Rattle.cq_binding.specs.UpdateChecks.{update_walk}
 use Rattle.cq_binding.specs.Bound.{bound}
 use Rattle.cq_binding.specs.RowChecks.{row_checks}
 use Rattle.cq_binding.specs.Refusal.{checks, written_table}
@@ -80,13 +78,10 @@ abbrev pub rows_walk : List (List Constant) → Result TableOf Fault → List (O
 rows_walk rows (Err f) = Some f ∷ []
 rows_walk rows (Ok t) = flat_map (row_checks t.columns) rows
 
--- UPDATE: what it may have today, the table, and the walk through WHERE and SET
-abbrev pub table_walk : Option Written → List SetClause → Result TableOf Fault → List (Option Fault)
-table_walk condition sets (Err f) = Some f ∷ []
-table_walk condition sets (Ok t) = update_walk condition sets (scope_of (from_table t))
-
+-- UPDATE: the name, and the walk through WHERE and SET
 abbrev pub sets_walk : Option Written → List SetClause → Result TableOf Fault → List (Option Fault)
-sets_walk condition sets table = fault_if (not (sets_rows condition sets)) Syntax ∷ table_walk condition sets table
+sets_walk condition sets (Err f) = Some f ∷ []
+sets_walk condition sets (Ok t) = update_walk condition sets (scope_of (from_table t))
 
 -- the checks of a statement that are seen without any row of a table: all but whether the rows of an INSERT fit, and the
 -- values that an UPDATE gives

@@ -1,5 +1,5 @@
 -- SELECT with its names resolved.
-use Rattle.std.specs.Prelude.{◌≡◌, List, map, Option, Some, option_map, Result, Vec}
+use Rattle.std.specs.Prelude.{◌≡◌, List, map, Option, option_map, Result, Vec}
 use Rattle.std.specs.Global.{Global}
 use Rattle.cq_model.specs.Expr.{Cond, Expr}
 use Rattle.cq_binding.specs.From.{From}

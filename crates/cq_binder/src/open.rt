@@ -8,11 +8,11 @@ use crate::aggregate::{ItemAggregate, item_aggregate};
 use cq_exprs::has_aggregate;
 use cq_language::{AggregateFunction, ColumnName, ExprNode, Select, SelectItem, SqlExpr};
 
-/// Whether SELECT may have this query: rows of its sources, without groups and aggregates.
+/// Whether SELECT may have this query: rows of its sources, without groups.
 pub(crate) fn is_plain(query: &Select) -> bool
     ensures { result ≡ is_plain query.now }
 {
-    is_without_having(query) && query.group.is_empty() && show_rows(query.items.as_slice())
+    query.having.is_none() && query.group.is_empty() && show_rows(query.items.as_slice())
 }
 
 /// Whether a view may have this query: the groups of one table's rows, by columns that are named without their source,
@@ -28,7 +28,7 @@ pub(crate) fn may_be_kept(query: &Select) -> bool
 }
 
 /// Whether no aggregate stands in WHERE.
-pub(crate) fn is_of_rows(condition: &Option<SqlExpr>) -> bool
+fn is_of_rows(condition: &Option<SqlExpr>) -> bool
     ensures { result ≡ is_of_rows condition.now }
 {
     match condition {

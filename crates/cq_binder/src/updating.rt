@@ -1,8 +1,7 @@
 //! UPDATE.
 ghost use Rattle.std.specs.Prelude.{◌≡◌};
-ghost use Rattle.std.specs.List.{list_all};
 ghost use Rattle.cq_language.specs.declared.statement.Statement.TheVariants.{Update};
-ghost use Rattle.cq_binding.specs.UpdateChecks.{is_set, sets_row, sets_rows};
+ghost use Rattle.cq_binding.specs.UpdateChecks.{is_set};
 ghost use Rattle.cq_exprs.specs.Expressions.{scope_of};
 ghost use Rattle.cq_binder.specs.Catalog.{Binds, state_of};
 ghost use Rattle.cq_binder.specs.Update.{BindsSet, BindsSets, BindsUpdate, BindsUpdateOf};
@@ -10,10 +9,9 @@ ghost use Rattle.cq_binder.specs.Update.{BindsSet, BindsSets, BindsUpdate, Binds
 use crate::binding::{BindFault, unwritten};
 use crate::catalog::{Catalog, TableEntry};
 use crate::conditions::bound_where;
-use crate::open::is_of_rows;
 use crate::scopes::table_columns;
 use cq_binding::{Bound, Fault};
-use cq_exprs::{Scope, bind_of, has_aggregate, named_place, typing_of};
+use cq_exprs::{Scope, bind_of, named_place, typing_of};
 use cq_language::{SetClause, SqlExpr};
 use cq_model::{Assignment, Cond};
 use cq_values::{Seq, Text};
@@ -30,9 +28,6 @@ pub(crate) fn bind_update<C: Catalog>(
     ensures { Binds (state_of C.tables C.views catalog.now) (Update name.now sets.now condition.now) result }
 {
     let sets = sets.as_slice();
-    if !sets_rows(condition, sets) {
-        return Err(Fault::Syntax);
-    }
     let Some(table) = catalog.table(name.as_str()) else {
         return Err(unwritten(catalog, name.as_str()));
     };
@@ -42,25 +37,6 @@ pub(crate) fn bind_update<C: Catalog>(
         assignments,
         condition,
     })
-}
-
-/// Whether no aggregate stands in WHERE or in SET.
-fn sets_rows(condition: &Option<SqlExpr>, sets: &[SetClause]) -> bool
-    ensures { result ≡ sets_rows condition.now sets.now }
-{
-    is_of_rows(condition) && set_rows(sets)
-}
-
-fn set_rows(sets: &[SetClause]) -> bool
-    ensures { result ≡ list_all sets_row sets.now }
-{
-    sets.iter().all(|set| sets_row(set))
-}
-
-fn sets_row(set: &SetClause) -> bool
-    ensures { result ≡ sets_row set.now }
-{
-    !has_aggregate(set.value.node())
 }
 
 /// SET and WHERE on a table. The walk begins at WHERE.

@@ -14,9 +14,8 @@ use crate::binding::{BindFault, unwritten};
 use crate::catalog::{Catalog, TableEntry};
 use crate::conditions::bound_where;
 use crate::constants::bound_row;
-use crate::open::is_of_rows;
 use crate::scopes::table_columns;
-use cq_binding::{Bound, Fault};
+use cq_binding::Bound;
 use cq_exprs::Scope;
 use cq_language::{Constant, SqlExpr};
 use cq_model::Cond;
@@ -66,9 +65,6 @@ pub(crate) fn bind_delete<C: Catalog>(
 ) -> Result<Bound, BindFault>
     ensures { Binds (state_of C.tables C.views catalog.now) (statements.Delete name.now condition.now) result }
 {
-    if !is_of_rows(condition) {
-        return Err(Fault::Syntax);
-    }
     let Some(table) = catalog.table(name.as_str()) else {
         return Err(unwritten(catalog, name.as_str()));
     };

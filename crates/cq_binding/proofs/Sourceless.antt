@@ -1,6 +1,6 @@
 -- No check of the walk tells that a source failed.
 use Rattle.std.proofs.Common.{◌≡◌, ℕ, ◌^◌, Bool, true, false, if◌then◌else◌, List, [], ◌∷◌, ◌++◌, map, Option, Some, None, Result, Ok, Err, refl}
-use Rattle.std.specs.Prelude.{nat_lt, ok_or, not, is_none, length, position}
+use Rattle.std.specs.Prelude.{nat_lt, ok_or, not, is_none, is_some, length, position}
 use Rattle.std.specs.List.{AllByRecursion, flat_map}
 use Rattle.cq_values.specs.declared.column.ColumnDef.{ColumnDef}
 use Rattle.cq_values.specs.declared.ty.Ty.TheVariants as types
@@ -34,16 +34,16 @@ use Rattle.cq_language.specs.Written as tree
 use Rattle.cq_binding.specs.Headers.{header, shown_by}
 use Rattle.cq_binding.specs.Bound.{view_source}
 use Rattle.cq_binding.specs.Sets.{bound_sets, bound_where}
-use Rattle.cq_binding.specs.Open.{is_of_rows, is_plain, may_be_kept}
+use Rattle.cq_binding.specs.Open.{is_plain, may_be_kept}
 use Rattle.cq_binding.specs.Orders.{is_no_place, key_checks, named_check, order_checks, output_check}
 use Rattle.cq_binding.specs.Checks.{first_fault, fault_if, too_long}
 use Rattle.cq_binding.specs.RowChecks.{fits_column, is_type, constant_check, constant_checks, row_checks}
 use Rattle.cq_binding.specs.SourceChecks.{group_check, name_check, where_check, value_check}
 use Rattle.cq_binding.specs.ViewChecks.{read_table, item_check, repeats, query_checks, view_select_checks}
-use Rattle.cq_binding.specs.Refusal.{column_checks, sort_checks, create_checks, drop_table_checks, written_table, insert_checks, rows_checks, delete_checks, bag_checks, source_checks, from_checks, select_checks, checks, refusal, table_checks}
-use Rattle.cq_binding.specs.Kinds.{◌and_then◌, unless, number_of, negative, arithmetic, sum_of, product_of, part_of, compared_with, tested, between_them, like_of, negation_of, connected, added, kept_value, of_type}
-use Rattle.cq_binding.specs.Typing.{Scope, ScopeColumn, column_typing, fault_in, is_meant, knows, listed, one_meant, resolved, typed}
-use Rattle.cq_binding.specs.UpdateChecks.{column_type, is_set, row_checks_of, set_check, set_checks, sets_rows, table_update_checks, update_checks, update_walk, value_checks}
+use Rattle.cq_binding.specs.Refusal.{column_checks, sort_checks, create_checks, drop_table_checks, written_table, insert_checks, delete_checks, bag_checks, source_checks, from_checks, select_checks, checks, refusal, table_checks}
+use Rattle.cq_binding.specs.Kinds.{◌and_then◌, unless, aggregated, number_of, negative, arithmetic, sum_of, product_of, part_of, compared_with, tested, between_them, like_of, negation_of, connected, added, kept_value, of_type}
+use Rattle.cq_binding.specs.Typing.{Scope, ScopeColumn, column_typing, fault_in, is_meant, knows, listed, of_group, one_meant, resolved, rows_in, typed}
+use Rattle.cq_binding.specs.UpdateChecks.{column_type, is_set, row_checks_of, set_check, set_checks, update_checks, update_walk, value_checks}
 use Rattle.cq_states.specs.State.{State, TableOf, ViewOf, is_taken}
 
 -- whether a refusal tells that a source failed
@@ -105,6 +105,12 @@ negative_clean x = branch_clean _ (number_of x.size) (Err faults.TypeMismatch) (
 arithmetic_clean : (x y : Typing) (size : ℕ) → fails_by_source (arithmetic x y size) ≡ false
 arithmetic_clean x y size = branch_clean _ (number_of size) (Err faults.TypeMismatch) (number_clean size) refl
 
+aggregated_clean : (function : AggregateFunction) (x : Typing) → fails_by_source (aggregated function x) ≡ false
+aggregated_clean functions.Count x = unless_clean _ faults.TypeMismatch _ refl
+aggregated_clean functions.Sum x = unless_clean _ faults.TypeMismatch _ refl
+aggregated_clean functions.Min x = unless_clean _ faults.TypeMismatch _ refl
+aggregated_clean functions.Max x = unless_clean _ faults.TypeMismatch _ refl
+
 mutual
   typed_clean : (s : Scope) (w : Written) → fails_by_source (typed s w) ≡ false
   typed_clean s (Number n) = number_clean n
@@ -113,8 +119,10 @@ mutual
   typed_clean s Null = refl
   typed_clean s (Column c) = then_clean (resolved s.columns c) (column_typing s) (resolved_clean s.columns c) (column_clean s)
   typed_clean s (Extract part a) = then_clean (typed s a) (part_of part) (typed_clean s a) (λ x. unless_clean _ faults.TypeMismatch _ refl)
-  typed_clean s CountAll = refl
-  typed_clean s (Aggregate function a) = refl
+  typed_clean s CountAll = unless_clean (is_some s.grouped) faults.AggregateMisplaced _ refl
+  typed_clean s (Aggregate function a) =
+      then_clean (typed (rows_in s) a and_then aggregated function) (of_group s) (then_clean (typed (rows_in s) a) (aggregated function) (typed_clean (rows_in s) a) (aggregated_clean function))
+      (λ x. unless_clean (is_some s.grouped) faults.AggregateMisplaced _ refl)
   typed_clean s (Parens a) = typed_clean s a
   typed_clean s (Negative a) = then_clean (typed s a) negative (typed_clean s a) negative_clean
   typed_clean s (Times a b) = then_clean (typed s a) _ (typed_clean s a) (λ x. then_clean (typed s b) (product_of x) (typed_clean s b) (λ y. arithmetic_clean x y _))
@@ -217,12 +225,9 @@ insert_clean : (max_rows : ℕ) (rows : List (List Constant)) (r : Result TableO
 insert_clean max_rows rows (Err f) h = (h, tt)
 insert_clean max_rows rows (Ok t) h = both_clean (flat_map (row_checks t.columns) rows) _ (flat_clean (row_checks t.columns) (row_clean t.columns) rows) (if_clean _ faults.TableFull refl, tt)
 
-rows_clean : (condition : Option Written) (r : Result TableOf Fault) → fails_by_source r ≡ false → Clean (rows_checks condition r)
-rows_clean condition (Err f) h = (h, tt)
-rows_clean condition (Ok t) h = (where_clean _ condition, tt)
-
 delete_clean : (condition : Option Written) (r : Result TableOf Fault) → fails_by_source r ≡ false → Clean (delete_checks condition r)
-delete_clean condition r h = (if_clean (not (is_of_rows condition)) faults.Syntax refl, rows_clean condition r h)
+delete_clean condition (Err f) h = (h, tt)
+delete_clean condition (Ok t) h = (where_clean _ condition, tt)
 
 -- ---- UPDATE
 set_clean : (s : Scope) (before : List SetClause) (a : SetClause) → Clean (set_check s before a)
@@ -239,15 +244,12 @@ sets_clean s before (a ∷ later) = both_clean (set_check s before a) (set_check
 values_clean : (columns : List ColumnDef) (rows : List Row) (a : Assignment) → Clean (value_checks columns rows a)
 values_clean columns rows a = (if_clean _ faults.NumberOutside refl, (if_clean _ faults.NullNotAllowed refl, tt))
 
-on_table_clean : (condition : Option Written) (sets : List SetClause) (r : Result TableOf Fault) → fails_by_source r ≡ false → Clean (table_update_checks condition sets r)
-on_table_clean condition sets (Err f) h = (h, tt)
-on_table_clean condition sets (Ok t) h =
+update_clean : (condition : Option Written) (sets : List SetClause) (r : Result TableOf Fault) → fails_by_source r ≡ false → Clean (update_checks condition sets r)
+update_clean condition sets (Err f) h = (h, tt)
+update_clean condition sets (Ok t) h =
     let s = scope_of (from_table t) in
     both_clean (update_walk condition sets s) (row_checks_of condition sets t) (where_clean s condition, sets_clean s [] sets)
     (flat_clean (value_checks t.columns (chosen (bound_where s condition) t.rows)) (values_clean t.columns (chosen (bound_where s condition) t.rows)) (bound_sets s sets))
-
-update_clean : (condition : Option Written) (sets : List SetClause) (r : Result TableOf Fault) → fails_by_source r ≡ false → Clean (update_checks condition sets r)
-update_clean condition sets r h = (if_clean (not (sets_rows condition sets)) faults.Syntax refl, on_table_clean condition sets r h)
 
 bag_clean : (q : Select) (s : Scope) → Clean (bag_checks q s)
 bag_clean q s =

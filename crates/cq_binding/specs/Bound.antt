@@ -24,7 +24,6 @@ use Rattle.cq_language.specs.declared.statement.SelectItem.{SelectItem}
 use Rattle.cq_language.specs.declared.statement.SetClause.{SetClause}
 use Rattle.cq_language.specs.declared.statement.Statement.{Statement}
 use Rattle.cq_language.specs.declared.statement.Statement.TheVariants as statements
-use Rattle.cq_language.specs.declared.written.ColumnName.{ColumnName}
 use Rattle.cq_language.specs.declared.written.AggregateFunction.{AggregateFunction}
 use Rattle.cq_language.specs.declared.written.AggregateFunction.TheVariants as functions
 use Rattle.cq_binding.specs.Placed.{named_day}

@@ -12,7 +12,9 @@ use Rattle.cq_binding.specs.declared.fault.Fault.TheVariants.{TypeMismatch, TooW
 use Rattle.cq_binding.specs.declared.typing.Kind.{Kind}
 use Rattle.cq_binding.specs.declared.typing.Kind.TheVariants as kinds
 use Rattle.cq_binding.specs.declared.typing.Typing.{Typing}
-use Rattle.cq_model.specs.Sizes.{text_limit}
+use Rattle.cq_model.specs.Sizes.{count_size, text_limit}
+use Rattle.cq_language.specs.declared.written.AggregateFunction.{AggregateFunction}
+use Rattle.cq_language.specs.declared.written.AggregateFunction.TheVariants as functions
 
 infixl 10 ◌and_then◌
 -- goes on with what stands, and stays with the first fault
@@ -111,6 +113,17 @@ connected x y = unless (is_condition x.kind && is_condition y.kind) TypeMismatch
 -- SUM asks for a number
 abbrev pub added : Typing → Result Typing Fault
 added x = unless (is_of types.Integer x.kind) TypeMismatch x
+
+-- a count
+abbrev pub counted : Typing
+counted = value_of types.Integer count_size
+
+-- COUNT asks for a value, and SUM for a number; MIN and MAX give a value of the rows
+abbrev pub aggregated : AggregateFunction → Typing → Result Typing Fault
+aggregated functions.Count x = unless (is_value x.kind) TypeMismatch counted
+aggregated functions.Sum x = unless (is_of types.Integer x.kind) TypeMismatch (value_of types.Integer number_limit)
+aggregated functions.Min x = unless (is_value x.kind) TypeMismatch x
+aggregated functions.Max x = unless (is_value x.kind) TypeMismatch x
 
 -- a column that is set asks for a value of its type
 abbrev pub of_type : Ty → Typing → Result Typing Fault

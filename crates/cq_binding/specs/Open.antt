@@ -57,9 +57,9 @@ is_unordered q = is_empty q.order && is_none q.limit
 abbrev pub shows_row : SelectItem → Bool
 shows_row item = not (has_aggregate item.value)
 
--- what SELECT may have: rows of its sources, without groups and aggregates
+-- what SELECT may have: rows of its sources, without groups
 abbrev pub is_plain : Select → Bool
-is_plain q = is_without_having q && is_empty q.group && list_all shows_row q.items
+is_plain q = is_none q.having && is_empty q.group && list_all shows_row q.items
 
 -- what a view may show of its groups: COUNT or SUM as a whole, and any expression without an aggregate
 abbrev pub may_be_shown : Written → Bool

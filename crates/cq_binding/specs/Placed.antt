@@ -17,7 +17,8 @@ named_day t = elim (day_named t) [ None ↦ values.Null | Some d ↦ values.Day 
 abbrev pub written_number : ℕ → Value
 written_number n = if nat_lt n number_limit then values.Number (pos n) else values.Null
 
--- the value that is written. For a condition, which is no value, NULL stands: the walk refuses it, so it is never reached
+-- the value that is written. For a condition, which is no value, and for an aggregate NULL stands: the walk refuses them
+-- over rows, so it is never reached
 abbrev pub placed_expr : (ColumnName → ℕ) → Written → Expr
 placed_expr place (Number n) = placed.Literal (written_number n)
 placed_expr place (Text t) = placed.Literal (values.Text t)

@@ -15,7 +15,7 @@ use Rattle.cq_binding.specs.declared.fault.Fault.TheVariants.{Syntax, UnknownTab
 use Rattle.cq_binding.specs.Scopes.{from_table, of_rows, scope_of}
 use Rattle.cq_binding.specs.From.{From, from_walk}
 use Rattle.cq_binding.specs.Headers.{header, shown_by}
-use Rattle.cq_binding.specs.Open.{is_of_rows, is_plain}
+use Rattle.cq_binding.specs.Open.{is_plain}
 use Rattle.cq_states.specs.State.{TableOf, ViewOf, State, table_named, view_place, view_named, is_taken}
 use Rattle.cq_binding.specs.Typing.{Scope}
 use Rattle.cq_binding.specs.Checks.{first_fault, fault_if, too_long}
@@ -59,14 +59,10 @@ abbrev pub insert_checks : ℕ → List (List Constant) → Result TableOf Fault
 insert_checks max_rows rows (Err f) = Some f ∷ []
 insert_checks max_rows rows (Ok t) = flat_map (row_checks t.columns) rows ++ fault_if (nat_lt max_rows (length t.rows + length rows)) TableFull ∷ []
 
--- DELETE behind its table: WHERE
-abbrev pub rows_checks : Option Written → Result TableOf Fault → List (Option Fault)
-rows_checks condition (Err f) = Some f ∷ []
-rows_checks condition (Ok t) = where_check (scope_of (from_table t)) condition ∷ []
-
--- DELETE: what WHERE may have today, the name, WHERE
+-- DELETE: the name, WHERE
 abbrev pub delete_checks : Option Written → Result TableOf Fault → List (Option Fault)
-delete_checks condition table = fault_if (not (is_of_rows condition)) Syntax ∷ rows_checks condition table
+delete_checks condition (Err f) = Some f ∷ []
+delete_checks condition (Ok t) = where_check (scope_of (from_table t)) condition ∷ []
 
 -- what a SELECT's bag is worked out by: WHERE, each item, the list of items
 abbrev pub bag_checks : Select → Scope → List (Option Fault)

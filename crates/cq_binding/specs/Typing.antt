@@ -1,6 +1,6 @@
 -- The walk through an expression: each operand from left to right, and then the node that needs them. The first fault
 -- refuses, and what has none gives a value of a type or a condition (docs/LANGUAGE.md, Expressions).
-use Rattle.std.specs.Prelude.{ℕ, ◌==◌, ◌+◌, Bool, true, ◌&&◌, not, if◌then◌else◌, List, map, drop, Option, Some, None, Result, Ok, Err, is_none, position, slice_index_or}
+use Rattle.std.specs.Prelude.{ℕ, ◌==◌, ◌+◌, Bool, true, ◌&&◌, not, if◌then◌else◌, List, map, drop, Option, Some, None, Result, Ok, Err, is_none, is_some, position, slice_index_or}
 use Rattle.std.specs.List.{list_any}
 use Rattle.cq_values.specs.declared.ty.Ty.{Ty}
 use Rattle.cq_values.specs.declared.ty.Ty.TheVariants as types
@@ -9,10 +9,10 @@ use Rattle.cq_values.specs.Texts.{is_text}
 use Rattle.cq_language.specs.declared.written.ColumnName.{ColumnName}
 use Rattle.cq_language.specs.Written.{Written, Choices, Number, Text, Date, Null, Column, Extract, CountAll, Aggregate, Parens, Negative, Times, Plus, Minus, Compare, IsNull, Between, In, Like, Not, And, Or, NoChoice, Choice}
 use Rattle.cq_binding.specs.declared.fault.Fault.{Fault}
-use Rattle.cq_binding.specs.declared.fault.Fault.TheVariants.{Syntax, UnknownTable, UnknownColumn, AmbiguousColumn, TypeMismatch, AggregateMisplaced, BadDate}
+use Rattle.cq_binding.specs.declared.fault.Fault.TheVariants.{UnknownTable, UnknownColumn, AmbiguousColumn, TypeMismatch, AggregateMisplaced, BadDate}
 use Rattle.cq_binding.specs.declared.typing.Kind.TheVariants as kinds
 use Rattle.cq_binding.specs.declared.typing.Typing.{Typing}
-use Rattle.cq_binding.specs.Kinds.{◌and_then◌, unless, value_of, a_condition, agree, number_of, negative, sum_of, product_of, part_of, compared_with, tested, between_them, text_of, like_of, negation_of, connected, added, of_type, kept_value, kind_type}
+use Rattle.cq_binding.specs.Kinds.{◌and_then◌, unless, aggregated, counted, value_of, a_condition, agree, number_of, negative, sum_of, product_of, part_of, compared_with, tested, between_them, text_of, like_of, negation_of, connected, added, of_type, kept_value, kind_type}
 
 -- a column that expressions read: the name that its source is known by, its own name, its type, and the size that its
 -- numbers never exceed
@@ -72,6 +72,14 @@ may_read (Some group) place = list_any (λ g. g == place) group
 abbrev pub column_typing : Scope → ℕ → Result Typing Fault
 column_typing s place = unless (may_read s.grouped place) AggregateMisplaced (value_of (type_at s.columns place) (size_at s.columns place))
 
+-- what the argument of an aggregate sees: the rows
+abbrev pub rows_in : Scope → Scope
+rows_in s = record { columns = s.columns; grouped = None }
+
+-- an aggregate may stand where groups are read: not in WHERE, in a write, or in another aggregate
+abbrev pub of_group : Scope → Typing → Result Typing Fault
+of_group s x = unless (is_some s.grouped) AggregateMisplaced x
+
 abbrev mutual
   -- what an expression gives, or its first fault
   pub typed : Scope → Written → Result Typing Fault
@@ -81,9 +89,8 @@ abbrev mutual
   typed s Null = Ok (record { kind = kinds.Null; size = 0 })
   typed s (Column c) = resolved s.columns c and_then column_typing s
   typed s (Extract part a) = typed s a and_then part_of part
-  -- an aggregate is no part of an expression yet, so that it is never reached
-  typed s CountAll = Err Syntax
-  typed s (Aggregate function a) = Err Syntax
+  typed s CountAll = of_group s counted
+  typed s (Aggregate function a) = typed (rows_in s) a and_then aggregated function and_then of_group s
   typed s (Parens a) = typed s a
   typed s (Negative a) = typed s a and_then negative
   typed s (Times a b) = typed s a and_then λ x. typed s b and_then product_of x

@@ -1,7 +1,7 @@
 -- What is asked of an UPDATE: of its assignments, and of the values that they give to the rows of the table
 -- (docs/LANGUAGE.md, Statements).
 use Rattle.std.specs.Prelude.{ℕ, int_lt, neg_ℤ, pos, Bool, true, false, ◌&&◌, ◌||◌, not, List, [], ◌∷◌, ◌++◌, map, Option, Some, is_none, unwrap_or, Result, Ok, Err, slice_index_or}
-use Rattle.std.specs.List.{flat_map, list_all, list_any}
+use Rattle.std.specs.List.{flat_map, list_any}
 use Rattle.cq_values.specs.Texts.{is_text}
 use Rattle.cq_values.specs.declared.column.ColumnDef.{ColumnDef}
 use Rattle.cq_values.specs.declared.ty.Ty.{Ty}
@@ -17,10 +17,9 @@ use Rattle.cq_model.specs.Sizes.{stored_size}
 use Rattle.cq_model.specs.Write.{chosen}
 use Rattle.cq_states.specs.State.{TableOf}
 use Rattle.cq_binding.specs.declared.fault.Fault.{Fault}
-use Rattle.cq_binding.specs.declared.fault.Fault.TheVariants.{Syntax, UnknownColumn, NameTaken, NumberOutside, NullNotAllowed}
+use Rattle.cq_binding.specs.declared.fault.Fault.TheVariants.{UnknownColumn, NameTaken, NumberOutside, NullNotAllowed}
 use Rattle.cq_binding.specs.Sets.{bound_sets, bound_where}
 use Rattle.cq_binding.specs.Checks.{fault_if}
-use Rattle.cq_binding.specs.Open.{has_aggregate, is_of_rows}
 use Rattle.cq_binding.specs.Scopes.{from_table, named_place, scope_of}
 use Rattle.cq_binding.specs.SourceChecks.{where_check}
 use Rattle.cq_binding.specs.Typing.{Scope, ScopeColumn, fault_in, set_fault, type_at, typed}
@@ -56,14 +55,6 @@ set_checks s before (a ∷ later) = set_check s before a ++ set_checks s (before
 abbrev pub update_walk : Option Written → List SetClause → Scope → List (Option Fault)
 update_walk condition sets s = where_check s condition ∷ set_checks s [] sets
 
--- an assignment without an aggregate
-abbrev pub sets_row : SetClause → Bool
-sets_row a = not (has_aggregate a.value)
-
--- no aggregate stands in WHERE or in SET
-abbrev pub sets_rows : Option Written → List SetClause → Bool
-sets_rows condition sets = is_of_rows condition && list_all sets_row sets
-
 -- ---- The values that rows get
 -- a number that has no place in 64 bits with a sign
 abbrev pub is_outside : Value → Bool
@@ -94,11 +85,7 @@ abbrev pub row_checks_of : Option Written → List SetClause → TableOf → Lis
 row_checks_of condition sets t =
     image_checks t.columns (bound_sets (scope_of (from_table t)) sets) (bound_where (scope_of (from_table t)) condition) t.rows
 
--- UPDATE behind its table: the walk, and then the values that its rows get
-abbrev pub table_update_checks : Option Written → List SetClause → Result TableOf Fault → List (Option Fault)
-table_update_checks condition sets (Err f) = Some f ∷ []
-table_update_checks condition sets (Ok t) = update_walk condition sets (scope_of (from_table t)) ++ row_checks_of condition sets t
-
--- UPDATE: what it may have today, the table, and what stands behind it
+-- UPDATE: the table, the walk, and then the values that its rows get
 abbrev pub update_checks : Option Written → List SetClause → Result TableOf Fault → List (Option Fault)
-update_checks condition sets table = fault_if (not (sets_rows condition sets)) Syntax ∷ table_update_checks condition sets table
+update_checks condition sets (Err f) = Some f ∷ []
+update_checks condition sets (Ok t) = update_walk condition sets (scope_of (from_table t)) ++ row_checks_of condition sets t

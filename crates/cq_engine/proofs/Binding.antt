@@ -30,20 +30,20 @@ use Rattle.cq_binding.specs.From.{From, from_walk}
 use Rattle.cq_binding.specs.Headers.{header, shown_by}
 use Rattle.cq_binding.specs.Bound.{bound, bound_query, bound_select, bound_update, grouped_query, row_of, standing, view_columns, view_source}
 use Rattle.cq_binding.specs.Sets.{bound_sets, bound_where}
-use Rattle.cq_binding.specs.UpdateChecks.{row_checks_of, sets_rows, update_checks, update_walk}
+use Rattle.cq_binding.specs.UpdateChecks.{row_checks_of, update_checks, update_walk}
 use Rattle.cq_binding.specs.Checks.{first_fault, fault_if, too_long, MayRefuse}
 use Rattle.cq_binding.specs.RowChecks.{row_checks}
-use Rattle.cq_binding.specs.Open.{is_of_rows, is_plain, may_be_kept}
+use Rattle.cq_binding.specs.Open.{is_plain, may_be_kept}
 use Rattle.cq_binding.specs.SourceChecks.{value_check, where_check}
 use Rattle.cq_binding.specs.ViewChecks.{create_view_checks, query_checks, view_select_checks}
 use Rattle.cq_binding.specs.Orders.{order_checks}
-use Rattle.cq_binding.specs.Refusal.{bag_checks, from_checks, is_used, rows_checks, delete_checks, drop_table_checks, insert_checks, checks, refusal, select_checks, source_checks, written_table}
+use Rattle.cq_binding.specs.Refusal.{bag_checks, from_checks, is_used, delete_checks, drop_table_checks, insert_checks, checks, refusal, select_checks, source_checks, written_table}
 use Rattle.cq_states.specs.Fitting.{FitsColumns, AreFitting, IsFitting}
 use Rattle.cq_states.specs.State.{TableOf, ViewOf, State, columns_in, is_taken, rows_in, table_named, view_named, view_place, AreNumbered}
 use Rattle.cq_steps.specs.Next.{reach, with_all_views}
 use Rattle.cq_steps.specs.Step.{AreBetween, IsTooLarge, Refuses, by_walk, for_memory, too_large, Step}
 use Rattle.cq_exprs.specs.Expressions.{KeepSizes}
-use Rattle.cq_binder.specs.Catalog.{alone, binding_checks, rows_walk, sets_walk, table_walk}
+use Rattle.cq_binder.specs.Catalog.{alone, binding_checks, rows_walk, sets_walk}
 use Rattle.cq_binder.proofs.Faults.{first_fault_append, or_next, single}
 use Rattle.cq_binder.proofs.Fitting.{rows_fit}
 use Rattle.cq_binder.proofs.Found.{has_place}
@@ -184,8 +184,7 @@ module _ (tables : List TableOf) (views : List ViewOf) (next : ℕ) (numbered : 
   delete_can name condition t found free =
       let fault = if is_some (view_named name views) then faults.ViewNotWritten else faults.UnknownTable in
       let s = scope_of (from_table t) in
-      let behind : first_fault (rows_checks condition (written_table name here)) ≡ None = back_free (fault_if (not (is_of_rows condition)) faults.Syntax ∷ []) (rows_checks condition (written_table name here)) free in
-      let walk : first_fault (where_check s condition ∷ []) ≡ None = subst (λ (o : Option TableOf). first_fault (rows_checks condition (ok_or o fault)) ≡ None) found behind in
+      let walk : first_fault (where_check s condition ∷ []) ≡ None = subst (λ (o : Option TableOf). first_fault (delete_checks condition (ok_or o fault)) ≡ None) found free in
       let narrow = narrow_rows s condition t.rows (first_free (where_check s condition) [] walk) (stored_keep t.name t t.rows (stored-found name t tables fitting found)) in
       (there-found name t tables found, subst (λ (rs : List Row). AllByRecursion (IsNarrowIn (option_map (bound_condition s) condition)) rs) (sym (rows-found name t tables next numbered found)) narrow)
 
@@ -193,9 +192,7 @@ module _ (tables : List TableOf) (views : List ViewOf) (next : ℕ) (numbered : 
   update_can name sets condition t found free =
       let fault = if is_some (view_named name views) then faults.ViewNotWritten else faults.UnknownTable in
       let s = scope_of (from_table t) in
-      let opened = fault_if (not (sets_rows condition sets)) faults.Syntax in
-      let behind : first_fault (table_walk condition sets (written_table name here)) ≡ None = back_free (opened ∷ []) (table_walk condition sets (written_table name here)) free in
-      let walk : first_fault (update_walk condition sets s) ≡ None = subst (λ (o : Option TableOf). first_fault (table_walk condition sets (ok_or o fault)) ≡ None) found behind in
+      let walk : first_fault (update_walk condition sets s) ≡ None = subst (λ (o : Option TableOf). first_fault (sets_walk condition sets (ok_or o fault)) ≡ None) found free in
       let own = update_fits t sets condition walk (fits-found name t tables fitting found) in (
         there-found name t tables found,
         subst (λ (cs : List ColumnDef). CanUpdate cs (bound_sets s sets) (bound_where s condition) (rows_in tables t.number)) (sym (columns-found name t tables next numbered found))
@@ -319,7 +316,7 @@ insert_refuses max_rows rows (Ok t) f e =
 update_refuses : (condition : Option Written) (sets : List SetClause) (table : Result TableOf Fault) (f : Fault) → first_fault (sets_walk condition sets table) ≡ Some f → first_fault (update_checks condition sets table) ≡ Some f
 update_refuses condition sets (Err g) f e = e
 update_refuses condition sets (Ok t) f e =
-    let walk : List (Option Fault) = fault_if (not (sets_rows condition sets)) faults.Syntax ∷ update_walk condition sets (scope_of (from_table t)) in
+    let walk = update_walk condition sets (scope_of (from_table t)) in
     let values = row_checks_of condition sets t in
     first_fault_append walk values ∙ ap (λ (o : Option Fault). option_or o (first_fault values)) e
 
@@ -376,7 +373,7 @@ module _ (tables : List TableOf) (views : List ViewOf) (now drawn max_rows : ℕ
   update_room name sets condition t found none =
       let fault = if is_some (view_named name views) then faults.ViewNotWritten else faults.UnknownTable in
       let s = scope_of (from_table t) in
-      let walk : List (Option Fault) = fault_if (not (sets_rows condition sets)) faults.Syntax ∷ update_walk condition sets s in
+      let walk = update_walk condition sets s in
       let values = row_checks_of condition sets t in
       let free : first_fault walk ≡ None = subst (λ (o : Option TableOf). first_fault (sets_walk condition sets (ok_or o fault)) ≡ None) found none in
       ap (λ (o : Option TableOf). first_fault (update_checks condition sets (ok_or o fault))) found

@@ -125,8 +125,8 @@ module _ (s : Scope) (sizes : ℕ → ℕ) (kept : KeepSizes s sizes) where
         let p = stood (typed s a) (part_of part) t e in
         let x = narrow a p.0 p.1 in
         record { value = x.value; size = omega (arith, is_part part p.0 t p.2); condition = x.value }
-    narrow CountAll t e = absurd (cc e)
-    narrow (Aggregate function a) t e = absurd (cc e)
+    narrow CountAll t e = record { value = omega arith; size = omega arith; condition = omega arith }
+    narrow (Aggregate function a) t e = record { value = omega arith; size = omega arith; condition = omega arith }
     narrow (Parens a) t e =
         let x = narrow a t e in
         record { value = x.value; size = x.size; condition = x.condition }

@@ -13,6 +13,7 @@ use Rattle.cq_language.specs.Written.{Written, Choices, Number, Text, Date, Null
 use Rattle.cq_model.specs.Eval.{eval, extracted, negated, plus, times}
 use Rattle.cq_model.specs.Width.{part_limit}
 use Rattle.cq_binding.specs.declared.fault.Fault.TheVariants.{AggregateMisplaced, BadDate, TextTooLong, TooWide, TypeMismatch}
+use Rattle.cq_binding.specs.declared.typing.Kind.{Kind}
 use Rattle.cq_binding.specs.declared.typing.Kind.TheVariants as kinds
 use Rattle.cq_binding.specs.declared.typing.Typing.{Typing}
 use Rattle.cq_binding.specs.Kinds.{◌and_then◌, a_condition, agree, arithmetic, between_them, compared_with, connected, is_condition, is_of, is_value, like_of, negation_of, negative, number_of, part_of, product_of, sum_of, tested, text_of, unless, value_of}
@@ -26,6 +27,12 @@ use Rattle.cq_exprs.proofs.Narrow.{if_ok, resolved_at, resolved_within, stood, u
 -- a typing that is this one has its kind
 as_typed : (x t : Typing) (v : Value) → t ≡ x → IsOfKind x.kind v → IsOfKind t.kind v
 as_typed x t v same is = subst (λ (y : Typing). IsOfKind y.kind v) (sym same) is
+
+-- NULL is of every kind
+null_is : (k : Kind) → IsOfKind k values.Null
+null_is kinds.Condition = refl
+null_is (kinds.Value ty) = tt
+null_is kinds.Null = refl
 
 number_is : (b : Bool) (n : ℤ) → IsOf types.Integer (if b then values.Number n else values.Null)
 number_is true n = refl
@@ -105,8 +112,8 @@ module _ (s : Scope) (row : Row) (kept : KeepTypes s row) where
       let p = stood (typed s a) (part_of part) t e in
       let x = value_of types.Integer (part_limit part) in
       as_typed x t (extracted part (eval (bound_value s a) row)) (unless_ok (is_of types.Date p.0.kind) TypeMismatch x t p.2).1 (part_is part (eval (bound_value s a) row))
-  of_its_kind CountAll t e = absurd (cc e)
-  of_its_kind (Aggregate function a) t e = absurd (cc e)
+  of_its_kind CountAll t e = null_is t.kind
+  of_its_kind (Aggregate function a) t e = null_is t.kind
   of_its_kind (Parens a) t e = of_its_kind a t e
   of_its_kind (Negative a) t e =
       let p = stood (typed s a) negative t e in

@@ -3,7 +3,7 @@ ghost use Rattle.std.specs.List.{list_any};
 ghost use Rattle.std.specs.Prelude.{◌==◌, ◌≡◌, ◌<◌, IfOk, IfSome, Some, length, position};
 ghost use Rattle.cq_values.specs.Texts.{is_text};
 ghost use Rattle.cq_binding.specs.Scopes.{column_place, named_place, of_rows, place_of, row_place};
-ghost use Rattle.cq_binding.specs.Typing.{is_known, is_meant, is_of_source, knows, may_read, resolved};
+ghost use Rattle.cq_binding.specs.Typing.{is_known, is_meant, is_of_source, knows, may_read, resolved, rows_in};
 ghost use Rattle.cq_exprs.specs.Expressions.{scope_of};
 
 use cq_binding::Fault;
@@ -111,6 +111,13 @@ impl<'a> Scope<'a> {
             columns,
             grouped: Some(group),
         }
+    }
+
+    /// What the argument of an aggregate sees: the rows.
+    pub(crate) fn rows(&self) -> Scope<'a>
+        ensures { scope_of result ≡ rows_in (scope_of self.now) }
+    {
+        Scope::of_rows(self.columns)
     }
 
     /// Whether the column at a place may be read.

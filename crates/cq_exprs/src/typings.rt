@@ -1,11 +1,12 @@
 //! What operators and tests ask of their operands, and what they give.
 ghost use Rattle.std.specs.Prelude.{◌≡◌, ◌&&◌};
 ghost use Rattle.cq_model.specs.Width.{part_limit};
-ghost use Rattle.cq_binding.specs.Kinds.{a_condition, added, agree, between_them, compared_with, connected, is_condition, is_of, is_value, kept_value, like_of, negation_of, negative, number_of, of_type, part_of, product_of, sum_of, tested, text_of, unless, value_of};
+ghost use Rattle.cq_binding.specs.Kinds.{a_condition, added, aggregated, agree, between_them, compared_with, connected, counted, is_condition, is_of, is_value, kept_value, like_of, negation_of, negative, number_of, of_type, part_of, product_of, sum_of, tested, text_of, unless, value_of};
 ghost use Rattle.cq_binding.specs.declared.fault.Fault.TheVariants.{TypeMismatch};
 
 use cq_binding::{Fault, Kind, Typing};
-use cq_model::{MAX_TEXT, TOO_WIDE};
+use cq_language::AggregateFunction;
+use cq_model::{COUNT_SIZE, MAX_TEXT, TOO_WIDE};
 use cq_values::{DayPart, Text, Ty};
 
 /// A condition.
@@ -117,6 +118,33 @@ pub fn added(x: Typing) -> Result<Typing, Fault>
     } else {
         Err(Fault::TypeMismatch)
     }
+}
+
+/// A count.
+pub fn counted() -> Typing
+    ensures { result ≡ counted }
+{
+    value_of(Ty::Integer, COUNT_SIZE)
+}
+
+/// An aggregate of an argument: COUNT asks for a value, and SUM for a number; MIN and MAX give a value of the rows.
+pub fn aggregated(function: AggregateFunction, x: Typing) -> Result<Typing, Fault>
+    ensures { result ≡ aggregated function x }
+{
+    let fits = match function {
+        AggregateFunction::Sum => is_of(Ty::Integer, x.kind),
+        AggregateFunction::Count | AggregateFunction::Min | AggregateFunction::Max => {
+            is_value(x.kind)
+        }
+    };
+    if !fits {
+        return Err(Fault::TypeMismatch);
+    }
+    Ok(match function {
+        AggregateFunction::Count => counted(),
+        AggregateFunction::Sum => value_of(Ty::Integer, TOO_WIDE),
+        AggregateFunction::Min | AggregateFunction::Max => x,
+    })
 }
 
 /// A value of this type, as a column is set to it.

@@ -8,7 +8,7 @@ ghost use Rattle.cq_language.specs.Written.{choices, written};
 ghost use Rattle.cq_language.specs.Written as tree;
 ghost use Rattle.cq_binding.specs.declared.fault.Fault.TheVariants.{BadDate};
 ghost use Rattle.cq_binding.specs.Kinds.{unless, value_of};
-ghost use Rattle.cq_binding.specs.Typing.{listed, size_at, type_at, typed};
+ghost use Rattle.cq_binding.specs.Typing.{listed, of_group, size_at, type_at, typed};
 ghost use Rattle.cq_exprs.specs.Chains.{chained, joined};
 ghost use Rattle.cq_exprs.specs.Expressions.{scope_of};
 
@@ -52,7 +52,11 @@ pub(crate) fn node_typing(scope: &Scope<'_>, node: &ExprNode) -> Result<Typing, 
         ExprNode::Null => Ok(A_NULL),
         ExprNode::Column(column) => column_typing(scope, column),
         ExprNode::Extract(part, day) => typings::part_of(*part, node_typing(scope, day)?),
-        ExprNode::CountAll | ExprNode::Aggregate(..) => Err(Fault::Syntax),
+        ExprNode::CountAll => of_group(scope, typings::counted()),
+        ExprNode::Aggregate(function, argument) => {
+            let argument = node_typing(&scope.rows(), argument)?;
+            of_group(scope, typings::aggregated(*function, argument)?)
+        }
         ExprNode::Parens(inner) => node_typing(scope, inner),
         ExprNode::Negative(number) => typings::negative(node_typing(scope, number)?),
         ExprNode::Product(first, others) => {
@@ -81,6 +85,17 @@ pub(crate) fn node_typing(scope: &Scope<'_>, node: &ExprNode) -> Result<Typing, 
         ExprNode::And(first, others) | ExprNode::Or(first, others) => {
             chain_typing(scope, Operator::Connect, node_typing(scope, first)?, others)
         }
+    }
+}
+
+/// What an aggregate gives, where it may stand.
+fn of_group(scope: &Scope<'_>, typing: Typing) -> Result<Typing, Fault>
+    ensures { result ≡ of_group (scope_of scope.now) typing }
+{
+    if scope.grouped.is_some() {
+        Ok(typing)
+    } else {
+        Err(Fault::AggregateMisplaced)
     }
 }
 

@@ -38,7 +38,7 @@ UPDATE u SET k = k = 1;
 UPDATE u SET k = 'x';
 UPDATE u SET k = 1, s = d;
 UPDATE u SET d = EXTRACT(DAY FROM d);
--- aggregates are not there yet
+-- aggregates
 UPDATE u SET k = COUNT(*);
 UPDATE w SET z = 1 WHERE COUNT(*) = 1;
 -- two faults: WHERE comes first, an expression before its assignment, and the walk before the values

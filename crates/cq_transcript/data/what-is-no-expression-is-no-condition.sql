@@ -54,8 +54,6 @@ DELETE FROM t WHERE a GROUP;
 -- GROUP alone
 DELETE FROM t WHERE GROUP;
 
--- an aggregate
-DELETE FROM t WHERE COUNT(*) = 1;
 
 -- nothing, in SELECT
 SELECT a FROM t WHERE;
@@ -111,8 +109,6 @@ SELECT a FROM t WHERE a GROUP;
 -- GROUP alone, in SELECT
 SELECT a FROM t WHERE GROUP;
 
--- an aggregate, in SELECT
-SELECT a FROM t WHERE COUNT(*) = 1;
 
 -- nothing, in a view
 CREATE VIEW v AS SELECT a FROM t WHERE  GROUP BY a;

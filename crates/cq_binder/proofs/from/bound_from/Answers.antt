@@ -1,6 +1,6 @@
-use Rattle.std.proofs.Common.{◌≡◌, ◌+◌, ◌∙◌, sym, ap, drop}
+use Rattle.std.proofs.Common.{◌+◌, ◌∙◌, sym, ap, drop}
 use Rattle.std.proofs.lemmas.Result.{err_from_is_err_and}
-use Rattle.cq_binding.specs.From.{From, from_walk, join_walk, joins_walk}
+use Rattle.cq_binding.specs.From.{From, join_walk, joins_walk}
 use Rattle.cq_binding.specs.Scopes.{source_named}
 use Rattle.cq_binding.specs.Typing.{fault_in}
 use Rattle.cq_binder.specs.Catalog.{state_of}

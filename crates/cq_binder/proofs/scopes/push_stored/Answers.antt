@@ -1,4 +1,4 @@
-use Rattle.std.proofs.Common.{rules, arith, ◌≡◌, ◌++◌, ◌∙◌, ap, List, map, length, take}
+use Rattle.std.proofs.Common.{rules, arith, ◌++◌, ◌∙◌, ap, List, map}
 use Rattle.std.proofs.lemmas.List.{take_all}
 use Rattle.cq_values.specs.declared.column.ColumnDef.{ColumnDef}
 use Rattle.cq_binding.specs.Typing.{ScopeColumn}

@@ -2,7 +2,6 @@ use Rattle.std.proofs.Common.{◌≡◌, ◌∙◌, ℕ, List, Some, None, ap, s
 use Rattle.std.proofs.lemmas.Result.{err_from_is_err_and}
 use Rattle.cq_binding.specs.Bound.{item_columns}
 use Rattle.cq_binding.specs.Checks.{first_fault, MayRefuse}
-use Rattle.cq_binding.specs.Scopes.{in_groups}
 use Rattle.cq_binding.specs.Typing.{Scope}
 use Rattle.cq_exprs.specs.Expressions.{scope_of}
 use Rattle.cq_binder.specs.View.{AreBoundItems, item_walk}
