@@ -6,7 +6,8 @@ use Rattle.cq_language.specs.Written.{Written}
 use Rattle.cq_binding.specs.declared.bound.Bound.{Bound}
 use Rattle.cq_binding.specs.declared.bound.Bound.TheVariants as commands
 use Rattle.cq_binding.specs.declared.fault.Fault.{Fault}
-use Rattle.cq_binding.specs.Scopes.{bound_condition, from_table, scope_of}
+use Rattle.cq_binding.specs.Scopes.{from_table, scope_of}
+use Rattle.cq_binding.specs.Sets.{bound_where}
 use Rattle.cq_binding.specs.Checks.{first_fault, MayRefuse}
 use Rattle.cq_binding.specs.SourceChecks.{where_check}
 use Rattle.cq_binding.specs.Refusal.{delete_checks, written_table}
@@ -16,7 +17,7 @@ use Rattle.cq_binder.proofs.Faults.{refused_same}
 
 -- the command on a table
 abbrev pub delete_command : Option Written → TableOf → Bound
-delete_command condition t = commands.Delete t.number (option_map (bound_condition (scope_of (from_table t))) condition)
+delete_command condition t = commands.Delete t.number (bound_where (scope_of (from_table t)) condition)
 
 module _ (name : List ℕ) (condition : Option Written) (tables : List TableOf) (views : List ViewOf) (t : TableOf) (found : table_named name tables ≡ Some t) where
   -- WHERE decides
@@ -28,5 +29,5 @@ module _ (name : List ℕ) (condition : Option Written) (tables : List TableOf) 
   where_refused f m = refused_same (first_fault (where_check (scope_of (from_table t)) condition ∷ [])) (first_fault (delete_checks condition (written_table name (alone tables views)))) f where_decides m
 
   -- the command is the one on the table
-  pub deleted : (number : ℕ) (kept : Option Cond) → number ≡ t.number → kept ≡ option_map (bound_condition (scope_of (from_table t))) condition → option_map (delete_command condition) (table_named name tables) ≡ Some (commands.Delete number kept)
+  pub deleted : (number : ℕ) (kept : Option Cond) → number ≡ t.number → kept ≡ bound_where (scope_of (from_table t)) condition → option_map (delete_command condition) (table_named name tables) ≡ Some (commands.Delete number kept)
   deleted number kept is_number is_kept = ap (option_map (delete_command condition)) found ∙ ap₂ (λ (n : ℕ) (o : Option Cond). Some (commands.Delete n o)) (sym is_number) (sym is_kept)

@@ -34,6 +34,11 @@ pub refused_along : (part whole : Option Fault) (f : Fault) → (part ≡ Some f
 refused_along part whole faults.Memory goes m = tt
 refused_along part whole f goes m = goes m
 
+-- the fault that there is refuses
+pub refused_with : (o : Option Fault) (f : Fault) → o ≡ Some f → MayRefuse o f
+refused_with o faults.Memory is = tt
+refused_with o f is = is
+
 -- a fault of the first decides
 or_first : (o p : Option Fault) (f : Fault) → o ≡ Some f → option_or o p ≡ Some f
 or_first o p f e = ap (λ (x : Option Fault). option_or x p) e

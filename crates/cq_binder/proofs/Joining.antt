@@ -1,5 +1,5 @@
 -- How FROM is walked through, source by source.
-use Rattle.std.proofs.Common.{◌≡◌, ℕ, ◌+◌, ◌<◌, true, false, List, [], ◌∷◌, ◌++◌, map, length, get_or, drop, sym, Option, Some, None, Result, Ok, Err, refl, ap, ◌∙◌}
+use Rattle.std.proofs.Common.{◌≡◌, ℕ, ◌+◌, ◌<◌, false, List, [], ◌∷◌, ◌++◌, map, length, get_or, drop, sym, Option, Some, None, Result, Ok, Err, refl, ap, ◌∙◌}
 use Rattle.std.specs.Prelude.{nat_lt}
 use Rattle.cq_model.specs.declared.query.Equality.{Equality}
 use Rattle.cq_model.specs.declared.query.Join.{Join}
@@ -8,7 +8,6 @@ use Rattle.cq_states.specs.State.{State}
 use Rattle.std.proofs.lemmas.List.{at_drop_more}
 use Rattle.cq_language.specs.declared.statement.JoinedSource.{JoinedSource}
 use Rattle.cq_binding.specs.declared.fault.Fault.{Fault}
-use Rattle.cq_binding.specs.declared.fault.Fault.TheVariants.{NameTaken, TooManyTables}
 use Rattle.cq_binding.specs.Checks.{first_fault, MayRefuse}
 use Rattle.cq_binding.specs.From.{From, base_limit, columns_with, equality_check, equality_of, join_checks, join_walk, joined_with, joins_walk, passing}
 use Rattle.cq_binding.specs.Kinds.{◌and_then◌}
@@ -39,26 +38,17 @@ module _ (from : From) (j : JoinedSource) (source : Named) where
   abbrev walk : Result From Fault
   walk = join_walk from j (Some source)
 
-  -- its name is taken
-  pub name_taken : is_known from.columns (known_as j.source source) ≡ true → fault_in walk ≡ Some NameTaken
-  name_taken taken = rw taken refl
+  module _ (free : is_known from.columns (known_as j.source source) ≡ false) (few : nat_lt base_limit (from.bases + source.bases) ≡ false) where
+    on_decides : first_fault (join_checks from j source) ≡ first_fault on_walk
+    on_decides = rw (free, few) refl
 
-  module _ (free : is_known from.columns (known_as j.source source) ≡ false) where
-    -- there are too many base tables
-    pub too_many : nat_lt base_limit (from.bases + source.bases) ≡ true → fault_in walk ≡ Some TooManyTables
-    too_many many = rw (free, many) refl
+    -- an equality refuses
+    pub equality_refused : (f : Fault) → MayRefuse (first_fault on_walk) f → MayRefuse (fault_in walk) f
+    equality_refused f m = refused_same (first_fault on_walk) (fault_in walk) f (passing_fault (first_fault (join_checks from j source)) (joined_with from j source) ∙ on_decides) m
 
-    module _ (few : nat_lt base_limit (from.bases + source.bases) ≡ false) where
-      on_decides : first_fault (join_checks from j source) ≡ first_fault on_walk
-      on_decides = rw (free, few) refl
-
-      -- an equality refuses
-      pub equality_refused : (f : Fault) → MayRefuse (first_fault on_walk) f → MayRefuse (fault_in walk) f
-      equality_refused f m = refused_same (first_fault on_walk) (fault_in walk) f (passing_fault (first_fault (join_checks from j source)) (joined_with from j source) ∙ on_decides) m
-
-      -- none refuses
-      pub joins : first_fault on_walk ≡ None → walk ≡ Ok (joined_with from j source)
-      joins none = ap (λ (o : Option Fault). passing o (joined_with from j source)) (on_decides ∙ none)
+    -- none refuses
+    pub joins : first_fault on_walk ≡ None → walk ≡ Ok (joined_with from j source)
+    joins none = ap (λ (o : Option Fault). passing o (joined_with from j source)) (on_decides ∙ none)
 
   -- what is put together is FROM with the source
   pub joined_made : (joins : List Join) (wide : List ScopeColumn) (on : List Equality) (named : Source) (bases : ℕ)

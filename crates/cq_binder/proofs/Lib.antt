@@ -1,5 +1,6 @@
 pub mod Faults
 pub mod Walks
+pub mod Shapes
 pub mod Found
 pub mod Creating
 pub mod Selecting

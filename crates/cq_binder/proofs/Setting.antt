@@ -1,8 +1,8 @@
 -- SET, assignment by assignment.
-use Rattle.std.proofs.Common.{◌≡◌, ℕ, zero, suc, ◌+◌, ◌<◌, false, List, [], ◌∷◌, ◌++◌, length, get_or, take, drop, Option, Some, None, Ok, refl, sym, ap, ◌∙◌, arith}
+use Rattle.std.proofs.Common.{◌≡◌, ℕ, zero, suc, ◌+◌, ◌<◌, false, List, [], ◌∷◌, ◌++◌, length, get_or, take, drop, Option, Some, None, Ok, Err, refl, sym, ap, ◌∙◌, arith}
 use Rattle.std.specs.Prelude.{option_map}
 use Rattle.std.specs.Option.{option_or}
-use Rattle.std.proofs.lemmas.List.{at_drop_more, map-append, take_more}
+use Rattle.std.proofs.lemmas.List.{at_drop_more, take_more}
 use Rattle.std.proofs.lemmas.List.Quantifiers.{position-Some}
 use Rattle.cq_values.specs.Texts.{is_text}
 use Rattle.cq_language.specs.declared.statement.SetClause.{SetClause}
@@ -15,13 +15,14 @@ use Rattle.cq_binding.specs.Checks.{first_fault, MayRefuse}
 use Rattle.cq_binding.specs.declared.bound.Bound.TheVariants as commands
 use Rattle.cq_binding.specs.Bound.{bound_update}
 use Rattle.cq_binding.specs.Refusal.{written_table}
-use Rattle.cq_binding.specs.Scopes.{from_table, named_place, scope_of}
-use Rattle.cq_binding.specs.Sets.{bound_set, bound_sets, bound_where}
+use Rattle.cq_binding.specs.Places.{named_place}
+use Rattle.cq_binding.specs.Scopes.{from_table, scope_of}
+use Rattle.cq_binding.specs.Sets.{bound_sets, bound_where}
 use Rattle.cq_binding.specs.Typing.{Scope, ScopeColumn, set_fault, type_at, typed}
 use Rattle.cq_binding.specs.UpdateChecks.{is_set, set_check, set_checks, update_walk}
 use Rattle.cq_states.specs.State.{TableOf, ViewOf, table_named}
 use Rattle.cq_binder.specs.Catalog.{alone, sets_walk}
-use Rattle.cq_binder.proofs.Faults.{first_fault_append, refused_first, refused_same}
+use Rattle.cq_binder.proofs.Faults.{first_fault_append, refused_first, refused_same, refused_with}
 
 -- the only check decides
 only : (o : Option Fault) → first_fault (o ∷ []) ≡ o
@@ -39,6 +40,10 @@ column_there [] name i at = absurd (cc at)
 column_there (d ∷ columns) name i at = (position-Some (λ c. is_text c.name name) (d ∷ columns) i d at).0
 
 module _ (s : Scope) where
+  -- where the column is there the walk through the expression decides
+  pub expression_refused : (before : List SetClause) (a : SetClause) (i : ℕ) (f : Fault) → named_place s.columns a.column ≡ Some i → typed s a.value ≡ Err f → MayRefuse (first_fault (set_check s before a)) f
+  expression_refused before a i f there walked = refused_with (first_fault (set_check s before a)) f (rw (there, walked) refl)
+
   module _ (before : List SetClause) (a : SetClause) (i : ℕ) (d : ScopeColumn) (t : Typing) (there : named_place s.columns a.column ≡ Some i) (fresh : is_set before a.column ≡ false) (walked : typed s a.value ≡ Ok t) (is : d ≡ get_or s.columns i d) where
     -- where the column is there and not set before, and the expression has no fault, the type decides
     type_decides : first_fault (set_check s before a) ≡ set_fault d.ty (typed s a.value)
@@ -68,15 +73,6 @@ module _ (s : Scope) where
         let own = first_fault (set_check s (take i sets) a) in
         let behind = first_fault (set_checks s (take (i + 1) sets) (drop (i + 1) sets)) in
         refused_same (option_or own behind) (first_fault (set_checks s [] sets)) f (sym rest ∙ sets_more) (refused_first own behind f m)
-
-    -- one assignment more behind those before
-    pub bound_more : (one : Assignment) (old new : List Assignment) → one ≡ bound_set s a → old ≡ bound_sets s (take i sets) → new ≡ old ++ one ∷ [] → new ≡ bound_sets s (take (i + 1) sets)
-    bound_more one old new own before added =
-        added
-        ∙ ap (λ (others : List Assignment). others ++ one ∷ []) before
-        ∙ ap (λ (x : Assignment). bound_sets s (take i sets) ++ x ∷ []) own
-        ∙ sym (map-append (bound_set s) (take i sets) (a ∷ []))
-        ∙ ap (bound_sets s) so_far
 
 -- ---- UPDATE on the table that was found
 module _ (name : List ℕ) (sets : List SetClause) (condition : Option Written) (tables : List TableOf) (views : List ViewOf) (t : TableOf) (found : table_named name tables ≡ Some t) where

@@ -1,7 +1,7 @@
 -- The columns of a source, put one behind the other.
 use Rattle.std.proofs.Common.{◌≡◌, ◌⊎◌, inl, inr, ℕ, List, [], ◌∷◌, ◌++◌, map, refl, sym, ap, ◌∙◌}
 use Rattle.std.specs.List.{zip}
-use Rattle.std.proofs.lemmas.List.{append_assoc, append-nil}
+use Rattle.std.proofs.lemmas.List.{append-nil}
 use Rattle.cq_values.specs.declared.column.ColumnDef.{ColumnDef}
 use Rattle.cq_model.specs.Sizes.{stored_size, stored_sizes}
 use Rattle.cq_binding.specs.Scopes.{scope_column}
@@ -35,8 +35,3 @@ module _ (known : List ℕ) where
       → made ++ sized_columns columns sizes ≡ whole → made ≡ whole
   all_made made whole columns sizes ends so_far =
       sym (append-nil made) ∙ ap (λ (cs : List ScopeColumn). made ++ cs) (sym (none_left columns sizes ends)) ∙ so_far
-
-  -- one column more is made
-  pub one_made : (made whole : List ScopeColumn) (c : ColumnDef) (size : ℕ) (columns : List ColumnDef) (sizes : List ℕ)
-      → made ++ sized_columns (c ∷ columns) (size ∷ sizes) ≡ whole → (made ++ scope_column known (c, size) ∷ []) ++ sized_columns columns sizes ≡ whole
-  one_made made whole c size columns sizes so_far = append_assoc made (scope_column known (c, size) ∷ []) (sized_columns columns sizes) ∙ so_far

@@ -1,13 +1,13 @@
 -- WHERE with its names resolved.
-use Rattle.std.specs.Prelude.{[], ◌∷◌, Option, option_map, Result}
+use Rattle.std.specs.Prelude.{[], ◌∷◌, Option, Result}
 use Rattle.cq_model.specs.Expr.{Cond}
 use Rattle.cq_language.specs.Written.{Written}
 use Rattle.cq_binding.specs.declared.fault.Fault.{Fault}
-use Rattle.cq_binding.specs.Scopes.{bound_condition}
+use Rattle.cq_binding.specs.Sets.{bound_where}
 use Rattle.cq_binding.specs.SourceChecks.{where_check}
 use Rattle.cq_binding.specs.Typing.{Scope}
 use Rattle.cq_binder.specs.Walk.{WalksTo}
 
 -- WHERE over a source becomes its condition where it has no fault
 abbrev pub BindsWhere : Scope → Option Written → Result (Option Cond) Fault → Type 0
-BindsWhere s condition result = WalksTo (where_check s condition ∷ []) (option_map (bound_condition s) condition) result
+BindsWhere s condition result = WalksTo (where_check s condition ∷ []) (bound_where s condition) result

@@ -2,9 +2,11 @@ pub mod Walk
 pub mod Columns
 pub mod Conditions
 pub mod Constants
-pub mod View
 pub mod Update
 pub mod Catalog
 pub mod From
 pub mod Select
+pub mod Items
+pub mod Grouping
+pub mod View
 pub mod Laws

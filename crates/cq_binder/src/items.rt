@@ -1,87 +1,43 @@
-//! The items of a view: values of the keys of its groups, or aggregates of the groups' rows.
-ghost use Rattle.cq_language.specs.Written.{written};
+//! The items of a query, each behind the aggregates of those before it.
 ghost use Rattle.cq_exprs.specs.Expressions.{scope_of};
-ghost use Rattle.cq_binder.specs.View.{BindsAggregate, BindsItem, BindsItems};
+ghost use Rattle.cq_binding.specs.SourceChecks.{kept_check, value_check};
+ghost use Rattle.cq_binder.specs.Items.{BindsItems};
 
-use crate::aggregate::{ItemAggregate, item_aggregate};
 use cq_binding::Fault;
-use cq_exprs::{Scope, bind_kept, bind_number, bind_value};
-use cq_language::{AggregateFunction, ExprNode, Select, SqlExpr};
+use cq_exprs::{Scope, bind_item, bind_kept};
+use cq_language::SelectItem;
 use cq_model::{Aggregate, Expr};
 use cq_values::Seq;
 use std::alloc::Global;
 
-/// An item with its names resolved.
-#[derive(Drop)]
-pub(crate) enum BoundItem {
-    /// A value of the group's key.
-    OfKey(Expr),
-    /// An aggregate of the group's rows.
-    OfRows(Aggregate),
-}
-
-/// The aggregates that the items show, and each item over a group's row, in which the key comes first and then these.
+/// The values of the items of a SELECT, once each has been walked through. Their aggregates are put behind these.
 pub(crate) fn bound_items(
     alloc: Global,
-    table: &Scope<'_>,
-    groups: &Scope<'_>,
-    view: &Select,
-) -> Result<(Seq<Aggregate>, Seq<Expr>), Fault>
-    ensures { BindsItems (scope_of table.now) (scope_of groups.now) view.now result }
+    scope: &Scope<'_>,
+    aggregates: &mut Seq<Aggregate>,
+    items: &[SelectItem],
+) -> Result<Seq<Expr>, Fault>
+    ensures { BindsItems value_check (scope_of scope.now) aggregates.old aggregates.new items.now result }
 {
-    let group = view.group.as_slice();
-    let mut aggregates = Seq::new(alloc);
-    let mut items = Seq::new(alloc);
-    for item in view.items.as_slice() {
-        match bound_item(alloc, table, groups, &item.value)? {
-            BoundItem::OfKey(value) => items.push(value)?,
-            BoundItem::OfRows(aggregate) => {
-                items.push(Expr::column(group.len() + aggregates.len()))?;
-                aggregates.push(aggregate)?;
-            }
-        }
+    let mut values = Seq::new(alloc);
+    for item in items {
+        values.push(bind_item(alloc, scope, aggregates, item.value.node())?)?;
     }
-    Ok((aggregates, items))
+    Ok(values)
 }
 
-fn bound_item(
+/// The values of the items of a view, once each has been walked through. Their aggregates are put behind these.
+pub(crate) fn kept_items(
     alloc: Global,
-    table: &Scope<'_>,
-    groups: &Scope<'_>,
-    value: &SqlExpr,
-) -> Result<BoundItem, Fault>
-    ensures { BindsItem (scope_of table.now) (scope_of groups.now) value.now result }
+    scope: &Scope<'_>,
+    aggregates: &mut Seq<Aggregate>,
+    items: &[SelectItem],
+) -> Result<Seq<Expr>, Fault>
+    ensures { BindsItems kept_check (scope_of scope.now) aggregates.old aggregates.new items.now result }
 {
-    match item_aggregate(value.node()) {
-        Some(ItemAggregate::Rows) => Ok(BoundItem::OfRows(Aggregate::CountAll)),
-        Some(ItemAggregate::Values(function, argument)) => {
-            bound_aggregate(alloc, table, function, argument)
-        }
-        None => {
-            let value = bind_kept(alloc, groups, value.node())?;
-            Ok(BoundItem::OfKey(value))
-        }
+    let mut values = Seq::new(alloc);
+    for item in items {
+        values.push(bind_kept(alloc, scope, aggregates, item.value.node())?)?;
     }
-}
-
-/// An aggregate of a value over the table. MIN and MAX are not kept yet.
-fn bound_aggregate(
-    alloc: Global,
-    table: &Scope<'_>,
-    function: AggregateFunction,
-    argument: &ExprNode,
-) -> Result<BoundItem, Fault>
-    ensures { BindsAggregate (scope_of table.now) function (written argument.now) result }
-{
-    match function {
-        AggregateFunction::Count => {
-            let value = bind_value(alloc, table, argument)?;
-            Ok(BoundItem::OfRows(Aggregate::Count(value)))
-        }
-        AggregateFunction::Sum => {
-            let value = bind_number(alloc, table, argument)?;
-            Ok(BoundItem::OfRows(Aggregate::Sum(value)))
-        }
-        AggregateFunction::Min | AggregateFunction::Max => Err(Fault::Syntax),
-    }
+    Ok(values)
 }

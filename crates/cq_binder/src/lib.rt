@@ -12,6 +12,7 @@ mod columns;
 mod conditions;
 mod constants;
 mod from;
+mod grouping;
 mod items;
 mod laws;
 mod literals;
@@ -23,7 +24,6 @@ mod reading;
 mod scopes;
 mod select;
 mod updating;
-mod view;
 mod writing;
 
 pub use binding::{BindFault, bind};

@@ -1,28 +1,39 @@
 //! SELECT, and the query of a view.
+ghost use Rattle.std.specs.Prelude.{◌≡◌, true};
 ghost use Rattle.cq_language.specs.declared.statement.Statement.TheVariants as statements;
 ghost use Rattle.cq_states.specs.State.{TableOf};
-ghost use Rattle.cq_exprs.specs.Expressions.{scope_of};
+ghost use Rattle.cq_binding.specs.Open.{may_be_kept};
 ghost use Rattle.cq_binder.specs.Catalog.{Binds, Describes, state_of};
 ghost use Rattle.cq_binder.specs.From.{shown_from};
 ghost use Rattle.cq_binder.specs.Select.{BindsParts, BindsQuery};
-ghost use Rattle.cq_binder.specs.View.{CreatesView};
+ghost use Rattle.cq_binder.specs.View.{BindsView, CreatesView};
 
 use crate::binding::{BindFault, is_taken, unread};
 use crate::catalog::{Catalog, TableEntry};
 use crate::columns::check_length;
 use crate::conditions::bound_where;
 use crate::from::{FromClause, bound_from};
-use crate::open::{is_plain, may_be_kept};
+use crate::grouping::{bound_having, group_keys, item_scope, shape_of};
+use crate::items::{bound_items, kept_items};
+use crate::names::view_columns;
+use crate::open::may_be_kept;
 use crate::order::sort_keys;
 use crate::scopes::{known_as, table_columns};
-use crate::select::{bound_values, header};
-use crate::view::{BoundView, bound_view};
+use crate::select::header;
 use cq_binding::{Bound, Fault};
-use cq_exprs::Scope;
+use cq_exprs::{Scope, ScopeColumn};
 use cq_language::Select;
 use cq_model::{Cond, Expr, Order, Query, Shape, Source};
-use cq_values::{Seq, Text};
+use cq_values::{ColumnDef, Seq, Text};
 use std::alloc::Global;
+
+/// The parts of a query behind FROM, with their names resolved.
+#[derive(Drop)]
+pub(crate) struct BoundParts {
+    pub filter: Option<Cond>,
+    pub shape: Shape,
+    pub items: Seq<Expr>,
+}
 
 /// CREATE VIEW.
 pub(crate) fn bind_view<C: Catalog>(
@@ -53,32 +64,49 @@ fn bind_view_on(
     name: &Text,
     view: &Select,
 ) -> Result<Bound, BindFault>
+    requires { may_be_kept view.now ≡ true }
     ensures { (t : TableOf) → Describes table.now t → CreatesView t name.now view.now result }
 {
     let read = table_columns(alloc, known_as(&view.first, table.name), table)?;
-    let BoundView {
-        columns,
-        filter,
-        keys,
-        aggregates,
-        items,
-    } = bound_view(alloc, &Scope::of_rows(&read), view)?;
+    let (columns, parts) = view_parts(alloc, &read, view)?;
     Ok(Bound::CreateView {
         name: name.copy(alloc)?,
         columns,
         query: Query {
             first: Source::Table(table.number),
             joins: Seq::new(alloc),
-            filter,
-            shape: Shape::Grouped {
-                keys: Some(keys),
-                aggregates,
-                having: None,
-            },
-            items,
+            filter: parts.filter,
+            shape: parts.shape,
+            items: parts.items,
             distinct: false,
         },
     })
+}
+
+/// The columns of a view on rows with these columns, and the parts of its query.
+fn view_parts<'a>(
+    alloc: Global,
+    columns: &'a [ScopeColumn<'a>],
+    view: &Select,
+) -> Result<(Seq<ColumnDef>, BoundParts), Fault>
+    requires { may_be_kept view.now ≡ true }
+    ensures { BindsView columns.now view.now result }
+{
+    let filter = bound_where(alloc, &Scope::of_rows(columns), &view.condition)?;
+    let keys = group_keys(alloc, columns, view.group.as_slice())?;
+    let scope = item_scope(view, columns, keys.as_slice());
+    let mut aggregates = Seq::new(alloc);
+    let items = kept_items(alloc, &scope, &mut aggregates, view.items.as_slice())?;
+    let shown = view_columns(alloc, &scope, view.items.as_slice())?;
+    let shape = shape_of(view, keys, aggregates, None);
+    Ok((
+        shown,
+        BoundParts {
+            filter,
+            shape,
+            items,
+        },
+    ))
 }
 
 /// SELECT.
@@ -89,9 +117,6 @@ pub(crate) fn bind_select<C: Catalog>(
 ) -> Result<Bound, BindFault>
     ensures { Binds (state_of C.tables C.views catalog.now) (statements.Select select.now) result }
 {
-    if !is_plain(select) {
-        return Err(Fault::Syntax);
-    }
     let from = bound_from(alloc, catalog, select)?;
     bind_query(alloc, from, select)
 }
@@ -101,16 +126,16 @@ fn bind_query(alloc: Global, from: FromClause<'_>, select: &Select) -> Result<Bo
     ensures { BindsQuery (shown_from from.entry) select.now result }
 {
     let header = header(alloc, select.items.as_slice())?;
-    let (filter, items) = bound_parts(alloc, &Scope::of_rows(&from.columns), select)?;
+    let parts = bound_parts(alloc, &from.columns, select)?;
     let keys = sort_keys(alloc, header.as_slice(), select.order.as_slice())?;
     Ok(Bound::Select {
         header,
         query: Query {
             first: from.first,
             joins: from.joins,
-            filter,
-            shape: Shape::Plain,
-            items,
+            filter: parts.filter,
+            shape: parts.shape,
+            items: parts.items,
             distinct: select.is_distinct,
         },
         order: Order {
@@ -120,16 +145,25 @@ fn bind_query(alloc: Global, from: FromClause<'_>, select: &Select) -> Result<Bo
     })
 }
 
-/// What WHERE keeps, and the values of the items.
-fn bound_parts(
+/// The parts of a SELECT over rows with these columns: what WHERE keeps, the groups, the items, and what HAVING keeps.
+fn bound_parts<'a>(
     alloc: Global,
-    scope: &Scope<'_>,
+    columns: &'a [ScopeColumn<'a>],
     select: &Select,
-) -> Result<(Option<Cond>, Seq<Expr>), BindFault>
-    ensures { BindsParts (scope_of scope.now) select.now result }
+) -> Result<BoundParts, BindFault>
+    ensures { BindsParts columns.now select.now result }
 {
-    let filter = bound_where(alloc, scope, &select.condition)?;
-    let items = bound_values(alloc, scope, select.items.as_slice())?;
+    let filter = bound_where(alloc, &Scope::of_rows(columns), &select.condition)?;
+    let keys = group_keys(alloc, columns, select.group.as_slice())?;
+    let scope = item_scope(select, columns, keys.as_slice());
+    let mut aggregates = Seq::new(alloc);
+    let items = bound_items(alloc, &scope, &mut aggregates, select.items.as_slice())?;
     check_length(select.items.len())?;
-    Ok((filter, Seq::from_vec(items)))
+    let having = bound_having(alloc, &scope, &mut aggregates, &select.having)?;
+    let shape = shape_of(select, keys, aggregates, having);
+    Ok(BoundParts {
+        filter,
+        shape,
+        items,
+    })
 }

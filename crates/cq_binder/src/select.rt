@@ -1,31 +1,11 @@
-//! The items of a SELECT: their values, and what stands above them.
+//! What stands above the items of a SELECT.
 ghost use Rattle.std.specs.Prelude.{◌≡◌, IfOk, option_map, unwrap_or};
 ghost use Rattle.cq_language.specs.Written.{written};
 ghost use Rattle.cq_binding.specs.Headers.{bare_name, header, name_by_place, shown_name};
-ghost use Rattle.cq_exprs.specs.Expressions.{scope_of};
-ghost use Rattle.cq_binder.specs.Select.{BindsValues};
 
-use cq_binding::Fault;
-use cq_exprs::{Scope, bind_value};
 use cq_language::{ExprNode, SelectItem, SqlExpr};
-use cq_model::Expr;
 use cq_values::{Seq, Text};
 use std::alloc::{AllocError, Global};
-
-/// The values of the items on a source, once each has been walked through.
-pub(crate) fn bound_values(
-    alloc: Global,
-    scope: &Scope<'_>,
-    items: &[SelectItem],
-) -> Result<Vec<Expr>, Fault>
-    ensures { BindsValues (scope_of scope.now) items.now result }
-{
-    let mut values = Vec::with_capacity(alloc, items.len())?;
-    for item in items {
-        values.push(bind_value(alloc, scope, item.value.node())?)?;
-    }
-    Ok(values)
-}
 
 /// What stands above the items, in their order.
 pub(crate) fn header(alloc: Global, items: &[SelectItem]) -> Result<Seq<Text>, AllocError>

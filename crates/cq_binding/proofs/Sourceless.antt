@@ -18,30 +18,30 @@ use Rattle.cq_language.specs.declared.statement.Select.{Select}
 use Rattle.cq_language.specs.declared.statement.SetClause.{SetClause}
 use Rattle.cq_language.specs.declared.statement.Statement.{Statement}
 use Rattle.cq_language.specs.declared.statement.Statement.TheVariants as statements
-use Rattle.cq_language.specs.declared.written.ColumnName.{ColumnName}
 use Rattle.cq_language.specs.declared.written.AggregateFunction.{AggregateFunction}
+use Rattle.cq_language.specs.declared.written.ColumnName.{ColumnName}
 use Rattle.cq_language.specs.declared.written.AggregateFunction.TheVariants as functions
 use Rattle.cq_language.specs.Written.{Written, Choices, Number, Text, Date, Null, Column, Extract, CountAll, Aggregate, Parens, Negative, Times, Plus, Minus, Compare, IsNull, Between, In, Like, Not, And, Or, NoChoice, Choice}
 use Rattle.cq_binding.specs.declared.fault.Fault.{Fault}
 use Rattle.cq_binding.specs.declared.fault.Fault.TheVariants as faults
 use Rattle.cq_binding.specs.declared.typing.Typing.{Typing}
-use Rattle.cq_binding.specs.Scopes.{Named, from_table, in_groups, of_rows, scope_of}
+use Rattle.cq_binding.specs.Grouping.{item_scope}
+use Rattle.cq_binding.specs.Scopes.{Named, from_table, of_rows, scope_of}
 use Rattle.cq_binding.specs.From.{From, equality_check, first_walk, from_walk, join_checks, join_walk, joins_walk, passing}
 use Rattle.cq_language.specs.declared.statement.FromSource.{FromSource}
 use Rattle.cq_language.specs.declared.statement.JoinedSource.{JoinedSource}
 use Rattle.cq_language.specs.declared.statement.OnEquality.{OnEquality}
-use Rattle.cq_language.specs.Written as tree
 use Rattle.cq_binding.specs.Headers.{header, shown_by}
-use Rattle.cq_binding.specs.Bound.{view_source}
+use Rattle.cq_binding.specs.Bound.{view_from}
 use Rattle.cq_binding.specs.Sets.{bound_sets, bound_where}
-use Rattle.cq_binding.specs.Open.{is_plain, may_be_kept}
+use Rattle.cq_binding.specs.Open.{may_be_kept}
 use Rattle.cq_binding.specs.Orders.{is_no_place, key_checks, named_check, order_checks, output_check}
 use Rattle.cq_binding.specs.Checks.{first_fault, fault_if, too_long}
 use Rattle.cq_binding.specs.RowChecks.{fits_column, is_type, constant_check, constant_checks, row_checks}
-use Rattle.cq_binding.specs.SourceChecks.{group_check, name_check, where_check, value_check}
-use Rattle.cq_binding.specs.ViewChecks.{read_table, item_check, repeats, query_checks, view_select_checks}
-use Rattle.cq_binding.specs.Refusal.{column_checks, sort_checks, create_checks, drop_table_checks, written_table, insert_checks, delete_checks, bag_checks, source_checks, from_checks, select_checks, checks, refusal, table_checks}
-use Rattle.cq_binding.specs.Kinds.{◌and_then◌, unless, aggregated, number_of, negative, arithmetic, sum_of, product_of, part_of, compared_with, tested, between_them, like_of, negation_of, connected, added, kept_value, of_type}
+use Rattle.cq_binding.specs.SourceChecks.{group_check, group_checks, kept_check, name_check, where_check, value_check}
+use Rattle.cq_binding.specs.ViewChecks.{read_table, repeats, query_checks, view_select_checks}
+use Rattle.cq_binding.specs.Refusal.{column_checks, sort_checks, create_checks, drop_table_checks, written_table, insert_checks, delete_checks, bag_checks, source_checks, select_checks, checks, refusal, table_checks}
+use Rattle.cq_binding.specs.Kinds.{◌and_then◌, unless, aggregated, number_of, negative, arithmetic, sum_of, product_of, part_of, compared_with, tested, between_them, like_of, negation_of, connected, kept_value, of_type}
 use Rattle.cq_binding.specs.Typing.{Scope, ScopeColumn, column_typing, fault_in, is_meant, knows, listed, of_group, one_meant, resolved, rows_in, typed}
 use Rattle.cq_binding.specs.UpdateChecks.{column_type, is_set, row_checks_of, set_check, set_checks, update_checks, update_walk, value_checks}
 use Rattle.cq_states.specs.State.{State, TableOf, ViewOf, is_taken}
@@ -151,19 +151,8 @@ where_clean : (s : Scope) (o : Option Written) → tells_source (where_check s o
 where_clean s None = refl
 where_clean s (Some w) = fault_clean _ (then_clean (typed s w) negation_of (typed_clean s w) (λ x. unless_clean _ faults.TypeMismatch _ refl))
 
-kept_clean : (groups : Scope) (w : Written) → tells_source (fault_in (typed groups w and_then kept_value)) ≡ false
-kept_clean groups w = fault_clean _ (then_clean (typed _ w) kept_value (typed_clean _ w) (λ x. unless_clean _ faults.TypeMismatch _ refl))
-
-aggregate_clean : (s groups : Scope) (function : AggregateFunction) (w : Written) → tells_source (item_check s groups (tree.Aggregate function w)) ≡ false
-aggregate_clean s groups functions.Count w = value_clean s w
-aggregate_clean s groups functions.Sum w = fault_clean _ (then_clean (typed s w) added (typed_clean s w) (λ x. unless_clean _ faults.TypeMismatch _ refl))
-aggregate_clean s groups functions.Min w = refl
-aggregate_clean s groups functions.Max w = refl
-
-item_clean : (s groups : Scope) (w : Written) → tells_source (item_check s groups w) ≡ false
-item_clean s groups tree.CountAll = refl
-item_clean s groups (tree.Aggregate function w) = aggregate_clean s groups function w
-item_clean s groups w = kept_clean groups w
+kept_clean : (s : Scope) (w : Written) → tells_source (kept_check s w) ≡ false
+kept_clean s w = fault_clean _ (then_clean (typed s w) kept_value (typed_clean s w) (λ x. unless_clean _ faults.TypeMismatch _ refl))
 
 -- ---- Lists of checks
 if_clean : (b : Bool) (f : Fault) → is_source f ≡ false → tells_source (fault_if b f) ≡ false
@@ -251,9 +240,19 @@ update_clean condition sets (Ok t) h =
     both_clean (update_walk condition sets s) (row_checks_of condition sets t) (where_clean s condition, sets_clean s [] sets)
     (flat_clean (value_checks t.columns (chosen (bound_where s condition) t.rows)) (values_clean t.columns (chosen (bound_where s condition) t.rows)) (bound_sets s sets))
 
-bag_clean : (q : Select) (s : Scope) → Clean (bag_checks q s)
-bag_clean q s =
-    (where_clean s q.condition, both_clean (map (value_check s) (shown_by q.items)) (too_long (length q.items) ∷ []) (map_clean (value_check s) (value_clean s) (shown_by q.items)) (long_clean (length q.items), tt))
+groups_clean : (columns : List ScopeColumn) (group : List ColumnName) → Clean (group_checks columns group)
+groups_clean columns group =
+    both_clean (map (group_check columns) group) (too_long (length group) ∷ []) (map_clean (group_check columns) (λ c. fault_clean _ (resolved_clean columns c)) group) (long_clean (length group), tt)
+
+bag_clean : (q : Select) (columns : List ScopeColumn) → Clean (bag_checks q columns)
+bag_clean q columns =
+    let s = item_scope q columns in
+    let items : List (Option Fault) = map (value_check s) (shown_by q.items) in
+    let last : List (Option Fault) = too_long (length q.items) ∷ where_check s q.having ∷ [] in
+    let shown : Clean items = map_clean (value_check s) (value_clean s) (shown_by q.items) in
+    let behind : Clean (items ++ last) = both_clean items last shown (long_clean (length q.items), (where_clean s q.having, tt)) in
+    let all : Clean (group_checks columns q.group ++ (items ++ last)) = both_clean (group_checks columns q.group) (items ++ last) (groups_clean columns q.group) behind in
+    (where_clean (of_rows columns) q.condition, all)
 
 -- ---- ORDER BY
 named_clean : (name : List ℕ) (names : List (List ℕ)) → tells_source (named_check name names) ≡ false
@@ -268,8 +267,8 @@ order_clean : (names : List (List ℕ)) (keys : List OrderKey) → Clean (order_
 order_clean names keys =
     both_clean (key_checks names keys) (too_long (length keys) ∷ []) (map_clean (λ key. output_check names key.column) (λ key. output_clean names key.column) keys) (long_clean (length keys), tt)
 
-source_clean : (q : Select) (s : Scope) → Clean (source_checks q s)
-source_clean q s = both_clean (bag_checks q s) (order_checks (header 1 q.items) q.order) (bag_clean q s) (order_clean (header 1 q.items) q.order)
+source_clean : (q : Select) (columns : List ScopeColumn) → Clean (source_checks q columns)
+source_clean q columns = both_clean (bag_checks q columns) (order_checks (header 1 q.items) q.order) (bag_clean q columns) (order_clean (header 1 q.items) q.order)
 
 -- ---- FROM
 equality_clean : (columns : List ScopeColumn) (before : ℕ) (e : OnEquality) → tells_source (equality_check columns before e) ≡ false
@@ -304,27 +303,23 @@ start_clean f (Some source) = refl
 from_clean : (s : State) (q : Select) → fails_by_source (from_walk s q) ≡ false
 from_clean s q = then_clean (first_walk q.first _) _ (start_clean q.first _) (λ from. joins_clean s from q.joins)
 
-behind_clean : (q : Select) (r : Result From Fault) → fails_by_source r ≡ false → Clean (from_checks q r)
-behind_clean q (Err f) h = (h, tt)
-behind_clean q (Ok from) h = source_clean q (of_rows from.columns)
-
 select_clean : (q : Select) (r : Result From Fault) → fails_by_source r ≡ false → Clean (select_checks q r)
-select_clean q r h = (if_clean (not (is_plain q)) faults.Syntax refl, behind_clean q r h)
+select_clean q (Err f) h = (h, tt)
+select_clean q (Ok from) h = source_clean q from.columns
 
-query_clean : (s : Scope) (v : Select) → Clean (query_checks s v)
-query_clean s v =
+query_clean : (v : Select) (columns : List ScopeColumn) → Clean (query_checks v columns)
+query_clean v columns =
+    let s = item_scope v columns in
+    let items : List (Option Fault) = map (kept_check s) (shown_by v.items) in
     let last : List (Option Fault) = fault_if (repeats [] (header 1 v.items)) faults.NameTaken ∷ too_long (length v.items) ∷ [] in
-    let group : List (Option Fault) = map (group_check s.columns) v.group in
-    let items : List (Option Fault) = too_long (length v.group) ∷ map (item_check s (in_groups v.group s)) (shown_by v.items) in
-    let named : Clean group = map_clean (group_check s.columns) (λ c. fault_clean _ (resolved_clean s.columns c)) v.group in
-    let shown : Clean items = (long_clean (length v.group), map_clean (item_check s (in_groups v.group s)) (item_clean s (in_groups v.group s)) (shown_by v.items)) in (
-      where_clean s v.condition,
-      both_clean (group ++ items) last (both_clean group items named shown) (if_clean (repeats [] (header 1 v.items)) faults.NameTaken refl, (long_clean (length v.items), tt)),
-    )
+    let shown : Clean items = map_clean (kept_check s) (kept_clean s) (shown_by v.items) in
+    let behind : Clean (items ++ last) = both_clean items last shown (if_clean (repeats [] (header 1 v.items)) faults.NameTaken refl, (long_clean (length v.items), tt)) in
+    let all : Clean (group_checks columns v.group ++ (items ++ last)) = both_clean (group_checks columns v.group) (items ++ last) (groups_clean columns v.group) behind in
+    (where_clean (of_rows columns) v.condition, all)
 
 view_clean : (v : Select) (r : Result TableOf Fault) → fails_by_source r ≡ false → Clean (view_select_checks v r)
 view_clean v (Err f) h = (h, tt)
-view_clean v (Ok t) h = query_clean (view_source v t) v
+view_clean v (Ok t) h = query_clean v (view_from v t).columns
 
 table_clean : (b : Bool) (o : Option TableOf) (f : Fault) → is_source f ≡ false → fails_by_source (ok_or o (if b then f else faults.UnknownTable)) ≡ false
 table_clean true o f h = found_clean o f h

@@ -14,7 +14,8 @@ use Rattle.cq_binding.specs.declared.fault.Fault.{Fault}
 use Rattle.cq_binding.specs.declared.fault.Fault.TheVariants.{UnknownTable, NameTaken, TypeMismatch, TooManyTables}
 use Rattle.cq_binding.specs.Checks.{first_fault, fault_if}
 use Rattle.cq_binding.specs.Kinds.{◌and_then◌, unless}
-use Rattle.cq_binding.specs.Scopes.{Named, known_as, row_place, source_columns, source_named}
+use Rattle.cq_binding.specs.Places.{row_place}
+use Rattle.cq_binding.specs.Scopes.{Named, known_as, source_columns, source_named}
 use Rattle.cq_binding.specs.Typing.{ScopeColumn, fault_in, is_known, resolved, type_at}
 
 -- what FROM has joined so far: its sources, their columns, and how many base tables they read

@@ -110,10 +110,6 @@ negation_of x = unless (is_condition x.kind) TypeMismatch a_condition
 abbrev pub connected : Typing → Typing → Result Typing Fault
 connected x y = unless (is_condition x.kind && is_condition y.kind) TypeMismatch a_condition
 
--- SUM asks for a number
-abbrev pub added : Typing → Result Typing Fault
-added x = unless (is_of types.Integer x.kind) TypeMismatch x
-
 -- a count
 abbrev pub counted : Typing
 counted = value_of types.Integer count_size

@@ -1,13 +1,16 @@
-pub mod Placed
 pub mod Kinds
 pub mod Typing
+pub mod Places
+pub mod Placed
 pub mod Scopes
 pub mod From
 pub mod Headers
+pub mod Grouping
 pub mod FaultText
 pub mod Checks
 pub mod Orders
 pub mod Sets
+pub mod Queries
 pub mod Bound
 pub mod RowChecks
 pub mod Open

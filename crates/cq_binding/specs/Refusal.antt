@@ -1,6 +1,6 @@
 -- Which refusal a statement gets: the walk through its checks, each of which has its fault or none; the first fault wins
 -- (docs/LANGUAGE.md, Refusals).
-use Rattle.std.specs.Prelude.{ℕ, ◌+◌, nat_lt, Bool, not, if◌then◌else◌, List, [], ◌∷◌, ◌++◌, map, length, Option, Some, None, is_some, is_none, ok_or, Result, Ok, Err}
+use Rattle.std.specs.Prelude.{ℕ, ◌+◌, nat_lt, Bool, if◌then◌else◌, List, [], ◌∷◌, ◌++◌, map, length, Option, Some, None, is_some, is_none, ok_or, Result, Ok, Err}
 use Rattle.std.specs.List.{list_any, flat_map}
 use Rattle.cq_values.specs.Texts.{is_text}
 use Rattle.cq_values.specs.declared.column.ColumnDef.{ColumnDef}
@@ -11,17 +11,17 @@ use Rattle.cq_language.specs.declared.statement.Statement.TheVariants as stateme
 use Rattle.cq_model.specs.Views.{sources_of, is_table}
 use Rattle.cq_language.specs.Written.{Written}
 use Rattle.cq_binding.specs.declared.fault.Fault.{Fault}
-use Rattle.cq_binding.specs.declared.fault.Fault.TheVariants.{Syntax, UnknownTable, NameTaken, TableFull, TableInUse, ViewNotWritten}
+use Rattle.cq_binding.specs.declared.fault.Fault.TheVariants.{UnknownTable, NameTaken, TableFull, TableInUse, ViewNotWritten}
 use Rattle.cq_binding.specs.Scopes.{from_table, of_rows, scope_of}
 use Rattle.cq_binding.specs.From.{From, from_walk}
+use Rattle.cq_binding.specs.Grouping.{item_scope}
 use Rattle.cq_binding.specs.Headers.{header, shown_by}
-use Rattle.cq_binding.specs.Open.{is_plain}
 use Rattle.cq_states.specs.State.{TableOf, ViewOf, State, table_named, view_place, view_named, is_taken}
-use Rattle.cq_binding.specs.Typing.{Scope}
+use Rattle.cq_binding.specs.Typing.{ScopeColumn}
 use Rattle.cq_binding.specs.Checks.{first_fault, fault_if, too_long}
 use Rattle.cq_binding.specs.Orders.{order_checks}
 use Rattle.cq_binding.specs.RowChecks.{row_checks}
-use Rattle.cq_binding.specs.SourceChecks.{name_check, value_check, where_check}
+use Rattle.cq_binding.specs.SourceChecks.{group_checks, name_check, value_check, where_check}
 use Rattle.cq_binding.specs.UpdateChecks.{update_checks}
 use Rattle.cq_binding.specs.ViewChecks.{create_view_checks}
 
@@ -64,22 +64,21 @@ abbrev pub delete_checks : Option Written → Result TableOf Fault → List (Opt
 delete_checks condition (Err f) = Some f ∷ []
 delete_checks condition (Ok t) = where_check (scope_of (from_table t)) condition ∷ []
 
--- what a SELECT's bag is worked out by: WHERE, each item, the list of items
-abbrev pub bag_checks : Select → Scope → List (Option Fault)
-bag_checks q s = where_check s q.condition ∷ map (value_check s) (shown_by q.items) ++ too_long (length q.items) ∷ []
+-- what a SELECT's bag is worked out by: WHERE, GROUP BY, each item, the list of items, HAVING
+abbrev pub bag_checks : Select → List ScopeColumn → List (Option Fault)
+bag_checks q columns =
+    where_check (of_rows columns) q.condition
+    ∷ group_checks columns q.group
+    ++ (map (value_check (item_scope q columns)) (shown_by q.items) ++ too_long (length q.items) ∷ where_check (item_scope q columns) q.having ∷ [])
 
 -- SELECT behind FROM: its bag, then ORDER BY over the names of its items
-abbrev pub source_checks : Select → Scope → List (Option Fault)
-source_checks q s = bag_checks q s ++ order_checks (header 1 q.items) q.order
+abbrev pub source_checks : Select → List ScopeColumn → List (Option Fault)
+source_checks q columns = bag_checks q columns ++ order_checks (header 1 q.items) q.order
 
 -- SELECT: FROM, and what stands behind it
-abbrev pub from_checks : Select → Result From Fault → List (Option Fault)
-from_checks q (Err f) = Some f ∷ []
-from_checks q (Ok from) = source_checks q (of_rows from.columns)
-
--- SELECT: what it may have today, and then the walk through it
 abbrev pub select_checks : Select → Result From Fault → List (Option Fault)
-select_checks q from = fault_if (not (is_plain q)) Syntax ∷ from_checks q from
+select_checks q (Err f) = Some f ∷ []
+select_checks q (Ok from) = source_checks q from.columns
 
 -- MOVE and MERGE: the name
 abbrev pub table_checks : Result TableOf Fault → List (Option Fault)

@@ -1,5 +1,5 @@
 -- What FROM names, and what expressions over it say once their names are resolved (ISO 9075-2, 7.6).
-use Rattle.std.specs.Prelude.{ℕ, ◌==◌, List, map, length, Option, Some, None, option_map, unwrap_or, position}
+use Rattle.std.specs.Prelude.{ℕ, List, [], map, length, Option, Some, None, option_map, unwrap_or, position}
 use Rattle.std.specs.List.{zip}
 use Rattle.std.specs.Option.{option_or}
 use Rattle.cq_values.specs.Texts.{is_text}
@@ -11,11 +11,12 @@ use Rattle.cq_values.specs.declared.column.ColumnDef.{ColumnDef}
 use Rattle.cq_language.specs.declared.statement.FromSource.{FromSource}
 use Rattle.cq_language.specs.declared.written.ColumnName.{ColumnName}
 use Rattle.cq_binding.specs.Placed.{placed_cond, placed_expr}
+use Rattle.cq_binding.specs.Places.{group_places}
 use Rattle.cq_language.specs.Written.{Written}
 use Rattle.cq_model.specs.Sizes.{column_sizes, stored_sizes}
 use Rattle.cq_model.specs.Views.{sources_of}
 use Rattle.cq_states.specs.State.{TableOf, ViewOf, State, table_named, view_place, view_named}
-use Rattle.cq_binding.specs.Typing.{Scope, ScopeColumn, is_meant}
+use Rattle.cq_binding.specs.Typing.{Scope, ScopeColumn}
 
 -- where the column of a name stands, if there is one
 abbrev pub column_place : List ColumnDef → List ℕ → Option ℕ
@@ -25,34 +26,13 @@ column_place columns name = position (λ c. is_text c.name name) columns
 abbrev pub place_in : List ColumnDef → List ℕ → ℕ
 place_in columns name = unwrap_or (column_place columns name) 0
 
--- where the column stands in the joined rows that a name means
-abbrev pub row_place : List ScopeColumn → ColumnName → ℕ
-row_place columns c = unwrap_or (position (is_meant c) columns) 0
-
--- where the column of a name stands in the rows of one source, if there is one
-abbrev pub named_place : List ScopeColumn → List ℕ → Option ℕ
-named_place columns name = position (λ c. is_text c.name name) columns
-
--- where the columns of GROUP BY stand in the joined rows
-abbrev pub group_places : List ScopeColumn → List ColumnName → List ℕ
-group_places columns group = map (row_place columns) group
-
--- where a column of the joined rows stands in the rows that expressions read: there, or in a group's key
-abbrev pub read_place : Option (List ℕ) → ℕ → ℕ
-read_place None place = place
-read_place (Some group) place = unwrap_or (position (λ g. g == place) group) 0
-
--- where the column stands that a name means
-abbrev pub place_of : Scope → ColumnName → ℕ
-place_of s c = read_place s.grouped (row_place s.columns c)
-
--- an expression over a source
+-- an expression over rows
 abbrev pub bound_value : Scope → Written → Expr
-bound_value s w = placed_expr (place_of s) w
+bound_value s w = placed_expr s [] w
 
--- a condition over a source
+-- a condition over rows
 abbrev pub bound_condition : Scope → Written → Cond
-bound_condition s condition = placed_cond (place_of s) condition
+bound_condition s condition = placed_cond s [] condition
 
 -- what FROM names: what it is known by, its columns, how large their numbers can be, where its rows come from, and how many
 -- base tables it reads
@@ -107,6 +87,6 @@ scope_of source = of_rows (source_columns source.known source)
 abbrev pub scope_as : FromSource → Named → Scope
 scope_as f source = of_rows (source_columns (known_as f source) source)
 
--- what the items of groups see of the rows
-abbrev pub in_groups : List ColumnName → Scope → Scope
-in_groups group s = record { columns = s.columns; grouped = Some (group_places s.columns group) }
+-- what the items of groups see of rows with these columns
+abbrev pub in_groups : List ColumnName → List ScopeColumn → Scope
+in_groups group columns = record { columns = columns; grouped = Some (group_places columns group) }

@@ -4,7 +4,8 @@ use Rattle.cq_language.specs.declared.statement.SetClause.{SetClause}
 use Rattle.cq_language.specs.Written.{Written}
 use Rattle.cq_model.specs.declared.assignment.Assignment.{Assignment}
 use Rattle.cq_model.specs.Expr.{Cond}
-use Rattle.cq_binding.specs.Scopes.{bound_condition, bound_value, named_place}
+use Rattle.cq_binding.specs.Places.{named_place}
+use Rattle.cq_binding.specs.Scopes.{bound_condition, bound_value}
 use Rattle.cq_binding.specs.Typing.{Scope}
 
 -- WHERE, where it is there

@@ -1,13 +1,13 @@
--- What is asked of a name, of WHERE and of an item over a source (docs/LANGUAGE.md, Refusals).
-use Rattle.std.specs.Prelude.{ℕ, List, Option, Some, None, is_none}
+-- What is asked of a name, of WHERE, of GROUP BY and of an item over what FROM has joined (docs/LANGUAGE.md, Refusals).
+use Rattle.std.specs.Prelude.{ℕ, List, [], ◌∷◌, ◌++◌, map, length, Option, Some, None, is_none}
 use Rattle.cq_language.specs.declared.written.ColumnName.{ColumnName}
 use Rattle.cq_values.specs.declared.column.ColumnDef.{ColumnDef}
 use Rattle.cq_language.specs.Written.{Written}
 use Rattle.cq_binding.specs.declared.fault.Fault.{Fault}
 use Rattle.cq_binding.specs.declared.fault.Fault.TheVariants.{UnknownColumn}
 use Rattle.cq_binding.specs.Scopes.{column_place}
-use Rattle.cq_binding.specs.Typing.{Scope, ScopeColumn, condition_fault, fault_in, resolved, typed, value_fault}
-use Rattle.cq_binding.specs.Checks.{fault_if}
+use Rattle.cq_binding.specs.Typing.{Scope, ScopeColumn, condition_fault, fault_in, kept_fault, resolved, typed, value_fault}
+use Rattle.cq_binding.specs.Checks.{fault_if, too_long}
 
 -- the name of a column
 abbrev pub name_check : List ColumnDef → List ℕ → Option Fault
@@ -17,7 +17,11 @@ name_check columns name = fault_if (is_none (column_place columns name)) Unknown
 abbrev pub group_check : List ScopeColumn → ColumnName → Option Fault
 group_check columns c = fault_in (resolved columns c)
 
--- WHERE: the walk through it, and then that it is a condition
+-- GROUP BY: each column, then the list
+abbrev pub group_checks : List ScopeColumn → List ColumnName → List (Option Fault)
+group_checks columns group = map (group_check columns) group ++ too_long (length group) ∷ []
+
+-- WHERE and HAVING: the walk through it, and then that it is a condition
 abbrev pub where_check : Scope → Option Written → Option Fault
 where_check s None = None
 where_check s (Some condition) = condition_fault (typed s condition)
@@ -25,3 +29,7 @@ where_check s (Some condition) = condition_fault (typed s condition)
 -- an item: the walk through it, and then that it is a value
 abbrev pub value_check : Scope → Written → Option Fault
 value_check s w = value_fault (typed s w)
+
+-- an item of a view: the walk through it, and then that it is a value with a type
+abbrev pub kept_check : Scope → Written → Option Fault
+kept_check s w = kept_fault (typed s w)

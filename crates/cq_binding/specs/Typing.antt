@@ -12,7 +12,7 @@ use Rattle.cq_binding.specs.declared.fault.Fault.{Fault}
 use Rattle.cq_binding.specs.declared.fault.Fault.TheVariants.{UnknownTable, UnknownColumn, AmbiguousColumn, TypeMismatch, AggregateMisplaced, BadDate}
 use Rattle.cq_binding.specs.declared.typing.Kind.TheVariants as kinds
 use Rattle.cq_binding.specs.declared.typing.Typing.{Typing}
-use Rattle.cq_binding.specs.Kinds.{◌and_then◌, unless, aggregated, counted, value_of, a_condition, agree, number_of, negative, sum_of, product_of, part_of, compared_with, tested, between_them, text_of, like_of, negation_of, connected, added, of_type, kept_value, kind_type}
+use Rattle.cq_binding.specs.Kinds.{◌and_then◌, unless, aggregated, counted, value_of, a_condition, agree, number_of, negative, sum_of, product_of, part_of, compared_with, tested, between_them, text_of, like_of, negation_of, connected, of_type, kept_value, kind_type}
 
 -- a column that expressions read: the name that its source is known by, its own name, its type, and the size that its
 -- numbers never exceed
@@ -122,10 +122,6 @@ condition_fault t = fault_in (t and_then negation_of)
 -- a value that is asked for as a whole, as an item
 abbrev pub value_fault : Result Typing Fault → Option Fault
 value_fault t = fault_in (t and_then tested)
-
--- a number that is asked for as a whole, to be added
-abbrev pub number_fault : Result Typing Fault → Option Fault
-number_fault t = fault_in (t and_then added)
 
 -- a value of a type that is asked for as a whole, as a column is set to it
 abbrev pub set_fault : Ty → Result Typing Fault → Option Fault

@@ -20,7 +20,8 @@ use Rattle.cq_binding.specs.declared.fault.Fault.{Fault}
 use Rattle.cq_binding.specs.declared.fault.Fault.TheVariants.{UnknownColumn, NameTaken, NumberOutside, NullNotAllowed}
 use Rattle.cq_binding.specs.Sets.{bound_sets, bound_where}
 use Rattle.cq_binding.specs.Checks.{fault_if}
-use Rattle.cq_binding.specs.Scopes.{from_table, named_place, scope_of}
+use Rattle.cq_binding.specs.Places.{named_place}
+use Rattle.cq_binding.specs.Scopes.{from_table, scope_of}
 use Rattle.cq_binding.specs.SourceChecks.{where_check}
 use Rattle.cq_binding.specs.Typing.{Scope, ScopeColumn, fault_in, set_fault, type_at, typed}
 

@@ -1,51 +1,40 @@
 -- What is asked of a view's query, in the order of the walk (docs/LANGUAGE.md, Refusals).
-use Rattle.std.specs.Prelude.{ℕ, Bool, false, ◌||◌, not, if◌then◌else◌, List, [], ◌∷◌, ◌++◌, map, length, Option, Some, None, is_some, ok_or, Result, Ok, Err}
+use Rattle.std.specs.Prelude.{ℕ, Bool, false, ◌||◌, not, if◌then◌else◌, List, [], ◌∷◌, ◌++◌, map, length, Option, Some, is_some, ok_or, Result, Ok, Err}
 use Rattle.std.specs.List.{list_any}
 use Rattle.cq_values.specs.Texts.{is_text}
 use Rattle.cq_language.specs.declared.statement.Select.{Select}
-use Rattle.cq_language.specs.declared.written.AggregateFunction.TheVariants as functions
-use Rattle.cq_language.specs.Written.{Written}
-use Rattle.cq_language.specs.Written as tree
 use Rattle.cq_states.specs.State.{TableOf, State, table_named, view_named, is_taken}
 use Rattle.cq_binding.specs.declared.fault.Fault.{Fault}
 use Rattle.cq_binding.specs.declared.fault.Fault.TheVariants.{Syntax, UnknownTable, NameTaken, ClauseInView}
-use Rattle.cq_binding.specs.Scopes.{in_groups}
+use Rattle.cq_binding.specs.Grouping.{item_scope}
+use Rattle.cq_binding.specs.Scopes.{of_rows}
 use Rattle.cq_binding.specs.Headers.{header, shown_by}
-use Rattle.cq_binding.specs.Bound.{view_source}
+use Rattle.cq_binding.specs.Bound.{view_from}
 use Rattle.cq_binding.specs.Open.{may_be_kept}
-use Rattle.cq_binding.specs.Typing.{Scope, kept_fault, number_fault, typed}
+use Rattle.cq_binding.specs.Typing.{ScopeColumn}
 use Rattle.cq_binding.specs.Checks.{fault_if, too_long}
-use Rattle.cq_binding.specs.SourceChecks.{group_check, value_check, where_check}
+use Rattle.cq_binding.specs.SourceChecks.{group_checks, kept_check, where_check}
 
 -- the table that a view reads: a view is none
 abbrev pub read_table : List ℕ → State → Result TableOf Fault
 read_table name s = ok_or (table_named name s.tables) (if is_some (view_named name s.views) then ClauseInView else UnknownTable)
-
--- an item of a view, by the rows and by their groups: the walk through it, and then that it is a value with a type; COUNT
--- asks for a value, and SUM for a number; MIN and MAX are not kept yet, so that they are never reached
-abbrev pub item_check : Scope → Scope → Written → Option Fault
-item_check rows groups tree.CountAll = None
-item_check rows groups (tree.Aggregate functions.Count w) = value_check rows w
-item_check rows groups (tree.Aggregate functions.Sum w) = number_fault (typed rows w)
-item_check rows groups (tree.Aggregate function w) = Some Syntax
-item_check rows groups w = kept_fault (typed groups w)
 
 -- whether one of these names stands before it: among the names before the list, or in the list itself
 abbrev pub repeats : List (List ℕ) → List (List ℕ) → Bool
 repeats before [] = false
 repeats before (name ∷ names) = list_any (λ b. is_text b name) before || repeats (before ++ name ∷ []) names
 
--- a view's query behind its table: WHERE, GROUP BY and its list, each item, then the names of all and their list
-abbrev pub query_checks : Scope → Select → List (Option Fault)
-query_checks s v =
-    where_check s v.condition
-    ∷ map (group_check s.columns) v.group ++ too_long (length v.group)
-    ∷ map (item_check s (in_groups v.group s)) (shown_by v.items) ++ fault_if (repeats [] (header 1 v.items)) NameTaken ∷ too_long (length v.items) ∷ []
+-- a view's query behind its table: WHERE, GROUP BY, each item, then the names of all and their list
+abbrev pub query_checks : Select → List ScopeColumn → List (Option Fault)
+query_checks v columns =
+    where_check (of_rows columns) v.condition
+    ∷ group_checks columns v.group
+    ++ (map (kept_check (item_scope v columns)) (shown_by v.items) ++ fault_if (repeats [] (header 1 v.items)) NameTaken ∷ too_long (length v.items) ∷ [])
 
 -- a view's query: the table, and what stands behind it
 abbrev pub view_select_checks : Select → Result TableOf Fault → List (Option Fault)
 view_select_checks v (Err f) = Some f ∷ []
-view_select_checks v (Ok t) = query_checks (view_source v t) v
+view_select_checks v (Ok t) = query_checks v (view_from v t).columns
 
 -- CREATE VIEW: what its query may have today, the name, then the query
 abbrev pub create_view_checks : List ℕ → Select → State → List (Option Fault)

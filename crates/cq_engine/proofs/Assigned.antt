@@ -1,14 +1,13 @@
 -- An UPDATE whose walk has no fault can be worked out on the rows of its table.
-use Rattle.std.proofs.Common.{◌≡◌, ◌<◌, ◌≤◌, ℕ, Bool, true, false, List, [], ◌∷◌, ◌++◌, map, Option, Some, None, Ok, Err, Result, refl, sym, ap, ◌∙◌, subst}
-use Rattle.std.specs.Prelude.{slice_index_or, unwrap_or, if◌then◌else◌}
+use Rattle.std.proofs.Common.{◌≡◌, ℕ, Bool, true, false, List, [], ◌∷◌, ◌++◌, map, Option, None, Result, refl, sym, ap, subst}
+use Rattle.std.specs.Prelude.{slice_index_or, unwrap_or}
 use Rattle.std.specs.List.{AllByRecursion}
-use denote.Enum.Bare.{sameb, same_true}
+use denote.Enum.Bare.{same_true}
 use Rattle.cq_values.specs.contracts.ty.Ty as ty
 use Rattle.cq_values.specs.declared.column.ColumnDef.{ColumnDef}
 use Rattle.cq_values.specs.declared.ty.Ty.{Ty}
 use Rattle.cq_values.specs.declared.ty.Ty.TheVariants as types
 use Rattle.cq_values.specs.declared.value.Value.{Value}
-use Rattle.cq_values.specs.Texts.{is_text}
 use Rattle.cq_values.specs.Value.{Row, column}
 use Rattle.cq_laws.specs.Sizes.{IsStored}
 use Rattle.cq_language.specs.declared.statement.SetClause.{SetClause}
@@ -22,19 +21,19 @@ use Rattle.cq_binding.specs.declared.typing.Kind.TheVariants as kinds
 use Rattle.cq_binding.specs.declared.typing.Typing.{Typing}
 use Rattle.cq_binding.specs.Checks.{fault_if, first_fault}
 use Rattle.cq_binding.specs.Kinds.{◌and_then◌, is_of, of_type, unless}
-use Rattle.cq_binding.specs.Scopes.{bound_value, from_table, named_place, of_rows, scope_of}
+use Rattle.cq_binding.specs.Places.{named_place}
+use Rattle.cq_binding.specs.Scopes.{bound_value, from_table, of_rows, scope_of}
 use Rattle.cq_binding.specs.Sets.{bound_set, bound_sets, bound_where}
 use Rattle.cq_binding.specs.SourceChecks.{where_check}
-use Rattle.cq_binding.specs.Typing.{Scope, fault_in, set_fault, type_at, typed}
+use Rattle.cq_binding.specs.Typing.{Scope, fault_in, type_at, typed}
 use Rattle.cq_binding.specs.UpdateChecks.{column_check, column_type, is_set, set_check, set_checks, type_check, update_walk}
 use Rattle.cq_exprs.specs.Expressions.{KeepSizes}
 use Rattle.cq_exprs.specs.Types.{IsOf, IsOfKind, KeepTypes}
-use Rattle.cq_exprs.proofs.Narrow.{typed_is_narrow}
 use Rattle.cq_exprs.proofs.Typed.{typed_is_of_its_kind}
 use Rattle.cq_states.specs.Fitting.{FitsColumns, IsFitting}
 use Rattle.cq_states.specs.State.{TableOf}
 use Rattle.cq_engine.specs.Updates.{CanSet, CanSetAll, CanUpdate, declared_type}
-use Rattle.cq_engine.proofs.Fitting.{back_free, first_free, front_free, narrow_rows, passed, read_columns, stored_keep, stored_keeps}
+use Rattle.cq_engine.proofs.Fitting.{back_free, first_free, front_free, narrow_over, narrow_rows, passed, read_columns, stored_keep, stored_keeps}
 use Rattle.cq_engine.proofs.Setting.{type_kept}
 use Rattle.cq_engine.proofs.Stored.{rows_stored}
 
@@ -64,17 +63,17 @@ module _ (known : List ℕ) (columns : List ColumnDef) (row : Row) where
   abbrev read : Scope
   read = of_rows (read_columns known columns)
 
-  module _ (sizes : KeepSizes read (sizes_of row)) (kept : KeepTypes read row) where
+  module _ (sizes : KeepSizes read (sizes_of row)) (kept : KeepTypes (read_columns known columns) row) where
     set_can : (a : SetClause) → type_check read a ≡ None → CanSet columns row (bound_set read a)
     set_can a free =
         let t = column_type read.columns a.column in
         let p = passed (of_type t) (typed read a.value) free in
         let of : fault_in (of_type t p.0) ≡ None = subst (λ (r : Result Typing Fault). fault_in (r and_then of_type t) ≡ None) p.1 free in
         record {
-          narrow = (typed_is_narrow read a.value p.0 (sizes_of row) p.1 sizes).value;
+          narrow = (narrow_over (read_columns known columns) a.value p.0 (sizes_of row) p.1 sizes).value;
           typed =
               subst (λ (u : Ty). IsOf u (eval (bound_value read a.value) row)) (type_read known columns (unwrap_or (named_place read.columns a.column) 0))
-              (of_kind t p.0.kind (eval (bound_value read a.value) row) (type_met t p.0 of) (typed_is_of_its_kind read a.value p.0 row p.1 kept));
+              (of_kind t p.0.kind (eval (bound_value read a.value) row) (type_met t p.0 of) (typed_is_of_its_kind (read_columns known columns) a.value p.0 row p.1 kept));
         }
 
     sets_can : (before sets : List SetClause) → first_fault (set_checks read before sets) ≡ None → CanSetAll columns (bound_sets read sets) row
@@ -86,8 +85,8 @@ module _ (known : List ℕ) (columns : List ColumnDef) (row : Row) where
         (set_can a (first_free (type_check read a) [] (back_free front (type_check read a ∷ []) own)), sets_can (before ++ a ∷ []) later (back_free (set_check read before a) rest free))
 
 -- a row that fits keeps the types of its table's columns
-types_kept : (t : TableOf) (row : Row) → FitsColumns t.columns row → KeepTypes (scope_of (from_table t)) row
-types_kept t row fits place within may =
+types_kept : (t : TableOf) (row : Row) → FitsColumns t.columns row → KeepTypes (read_columns t.name t.columns) row
+types_kept t row fits place within =
     subst (λ (u : Ty). IsOf u (column row place)) (sym (type_read t.name t.columns place)) (type_kept t.columns row place fits)
 
 module _ (t : TableOf) (sets : List SetClause) where
@@ -103,6 +102,6 @@ module _ (t : TableOf) (sets : List SetClause) where
   update_fits condition free fitting =
       let stored = rows_stored t.columns t.rows fitting in
       record {
-        narrow = narrow_rows s condition t.rows (first_free (where_check s condition) (set_checks s [] sets) free) (stored_keep t.name t t.rows stored);
+        narrow = narrow_rows (read_columns t.name t.columns) condition t.rows (first_free (where_check s condition) (set_checks s [] sets) free) (stored_keep t.name t t.rows stored);
         sets = rows_can t.rows fitting stored (back_free (where_check s condition ∷ []) (set_checks s [] sets) free);
       }

@@ -1,5 +1,5 @@
 -- Commands that were bound: what is known of them, and that carrying them out is the step of their statement.
-use Rattle.std.proofs.Common.{◌≡◌, ℕ, zero, suc, ◌+◌, ◌<◌, Bool, true, false, List, [], ◌∷◌, ◌++◌, map, length, not, Option, Some, None, refl, sym, ap, ◌∙◌, inl, inr, arith, subst, Result, Ok, Err}
+use Rattle.std.proofs.Common.{◌≡◌, ℕ, zero, suc, ◌+◌, ◌<◌, Bool, true, false, List, [], ◌∷◌, map, length, not, Option, Some, None, refl, sym, ap, ◌∙◌, inl, inr, arith, subst, Result, Ok, Err}
 use Rattle.std.specs.Prelude.{◌==◌, nat_lt, IfSome, is_some, ok_or, option_map, slice_get, unwrap_or, if◌then◌else◌}
 use Rattle.std.specs.List.{AllByRecursion, flat_map}
 use Rattle.std.specs.Option.{option_or}
@@ -11,7 +11,7 @@ use Rattle.cq_values.specs.declared.column.ColumnDef.{ColumnDef}
 use Rattle.cq_values.specs.Texts.{is_text}
 use Rattle.cq_values.specs.Value.{Row}
 use Rattle.cq_bags.proofs.Totals.{by_test}
-use Rattle.cq_laws.specs.Sizes.{IsSized, IsStored}
+use Rattle.cq_laws.specs.Sizes.{IsStored}
 use Rattle.cq_binding.specs.declared.bound.Bound.{Bound}
 use Rattle.cq_binding.specs.declared.bound.Bound.TheVariants as commands
 use Rattle.cq_language.specs.declared.statement.Constant.{Constant}
@@ -20,38 +20,39 @@ use Rattle.cq_language.specs.declared.statement.SetClause.{SetClause}
 use Rattle.cq_language.specs.declared.statement.Statement.{Statement}
 use Rattle.cq_language.specs.declared.statement.Statement.TheVariants as statements
 use Rattle.cq_model.specs.Sizes.{stored_size, stored_sizes}
-use Rattle.cq_model.specs.Width.{IsNarrowIn, limits_of, sizes_of}
+use Rattle.cq_model.specs.Width.{IsNarrowIn}
 use Rattle.cq_language.specs.Written.{Written}
 use Rattle.cq_steps.specs.declared.answer.Answer.{Answer}
 use Rattle.cq_binding.specs.declared.fault.Fault.{Fault}
 use Rattle.cq_binding.specs.declared.fault.Fault.TheVariants as faults
-use Rattle.cq_binding.specs.Scopes.{Named, bound_condition, from_table, from_view, of_rows, place_in, scope_of, source_named}
+use Rattle.cq_binding.specs.Scopes.{Named, bound_condition, from_table, from_view, place_in, scope_of, source_columns, source_named}
 use Rattle.cq_binding.specs.From.{From, from_walk}
-use Rattle.cq_binding.specs.Headers.{header, shown_by}
-use Rattle.cq_binding.specs.Bound.{bound, bound_query, bound_select, bound_update, grouped_query, row_of, standing, view_columns, view_source}
+use Rattle.cq_binding.specs.Headers.{header}
+use Rattle.cq_binding.specs.Bound.{bound, bound_select, bound_update, bound_view, row_of, standing, view_from}
+use Rattle.cq_binding.specs.Queries.{bound_query}
 use Rattle.cq_binding.specs.Sets.{bound_sets, bound_where}
 use Rattle.cq_binding.specs.UpdateChecks.{row_checks_of, update_checks, update_walk}
-use Rattle.cq_binding.specs.Checks.{first_fault, fault_if, too_long, MayRefuse}
+use Rattle.cq_binding.specs.Checks.{first_fault, fault_if, MayRefuse}
 use Rattle.cq_binding.specs.RowChecks.{row_checks}
-use Rattle.cq_binding.specs.Open.{is_plain, may_be_kept}
-use Rattle.cq_binding.specs.SourceChecks.{value_check, where_check}
+use Rattle.cq_binding.specs.Open.{may_be_kept}
+use Rattle.cq_binding.specs.SourceChecks.{where_check}
 use Rattle.cq_binding.specs.ViewChecks.{create_view_checks, query_checks, view_select_checks}
 use Rattle.cq_binding.specs.Orders.{order_checks}
-use Rattle.cq_binding.specs.Refusal.{bag_checks, from_checks, is_used, delete_checks, drop_table_checks, insert_checks, checks, refusal, select_checks, source_checks, written_table}
+use Rattle.cq_binding.specs.Refusal.{bag_checks, is_used, delete_checks, drop_table_checks, insert_checks, checks, refusal, select_checks, source_checks, written_table}
 use Rattle.cq_states.specs.Fitting.{FitsColumns, AreFitting, IsFitting}
 use Rattle.cq_states.specs.State.{TableOf, ViewOf, State, columns_in, is_taken, rows_in, table_named, view_named, view_place, AreNumbered}
 use Rattle.cq_steps.specs.Next.{reach, with_all_views}
 use Rattle.cq_steps.specs.Step.{AreBetween, IsTooLarge, Refuses, by_walk, for_memory, too_large, Step}
-use Rattle.cq_exprs.specs.Expressions.{KeepSizes}
 use Rattle.cq_binder.specs.Catalog.{alone, binding_checks, rows_walk, sets_walk}
 use Rattle.cq_binder.proofs.Faults.{first_fault_append, or_next, single}
 use Rattle.cq_binder.proofs.Fitting.{rows_fit}
 use Rattle.cq_binder.proofs.Found.{has_place}
-use Rattle.cq_engine.specs.Narrow.{IsWithin, view_sizes}
+use Rattle.cq_engine.specs.Narrow.{IsConditionSized, IsShapeSized, view_sizes}
 use Rattle.cq_engine.specs.Commands.{CanCarryOut, CarriesOut, IsRefused, IsThere, present, room}
 use Rattle.cq_engine.proofs.Creating.{query_fits, query_shown}
-use Rattle.cq_engine.proofs.Sourced.{IsFound, are_joined, sized_keeps, standing_ok}
-use Rattle.cq_engine.proofs.Fitting.{back_free, first_free, front_free, narrow_rows, narrow_values, narrow_where, stored_keep}
+use Rattle.cq_engine.proofs.Shapes.{filter_sized, shape_sized}
+use Rattle.cq_engine.proofs.Sourced.{IsFound, are_joined, standing_ok}
+use Rattle.cq_engine.proofs.Fitting.{back_free, first_free, front_free, narrow_rows, stored_keep}
 use Rattle.cq_engine.specs.Updates.{CanUpdate, value_fault}
 use Rattle.cq_engine.proofs.Assigned.{update_fits}
 use Rattle.cq_engine.proofs.Numbers.{Above}
@@ -136,18 +137,6 @@ view_at_place name views v named = at_place (view_place name views) refl
         ap (λ (p : Option ℕ). slice_get views (unwrap_or p 0)) is ∙ there ∙ named
     at_place None is = absurd (let both : false ≡ true = sym (ap is_some is) ∙ has_place name views ∙ ap is_some named in cc)
 
--- ---- Queries that were bound
--- a query whose walk has no fault can be worked out on a row that keeps the sizes of its columns
-within_for : (q : Select) (from : From) (row : Row) → first_fault (bag_checks q (of_rows from.columns)) ≡ None → KeepSizes (of_rows from.columns) (sizes_of row) → IsWithin (bound_query q from) row
-within_for q from row free kept =
-    let s = of_rows from.columns in
-    let item_walk : List (Option Fault) = map (value_check s) (shown_by q.items) in
-    let number_walk : List (Option Fault) = too_long (length q.items) ∷ [] in
-    record {
-      condition = narrow_where s q.condition row (first_free (where_check s q.condition) (item_walk ++ number_walk) free) kept;
-      items = narrow_values s (shown_by q.items) row (front_free item_walk number_walk (back_free (where_check s q.condition ∷ []) (item_walk ++ number_walk) free)) kept;
-    }
-
 -- ---- What is known of a command that was bound
 module _ (tables : List TableOf) (views : List ViewOf) (next : ℕ) (numbered : AreNumbered tables next) (fitting : AreFitting tables) (shown : AllByRecursion (λ v. length v.columns ≡ length v.query.items) views) where
   abbrev here : State
@@ -165,14 +154,20 @@ module _ (tables : List TableOf) (views : List ViewOf) (next : ℕ) (numbered : 
       unused false e w = e
       unused true e w = absurd (cc w)
 
-  create_view_can : (name : List ℕ) (view : Select) (t : TableOf) → table_named view.first.name tables ≡ Some t → first_fault (create_view_checks name view here) ≡ None → Can (commands.CreateView name (view_columns (view_source view t) view) (grouped_query view t))
+  create_view_can : (name : List ℕ) (view : Select) (t : TableOf) → table_named view.first.name tables ≡ Some t → first_fault (create_view_checks name view here) ≡ None → Can (bound_view name view t)
   create_view_can name view t found free =
       let fault = if is_some (view_named view.first.name views) then faults.ClauseInView else faults.UnknownTable in
       let taken = fault_if (is_taken name here) faults.NameTaken in
-      let opened = fault_if (not (may_be_kept view)) faults.Syntax in
-      let behind : first_fault (taken ∷ view_select_checks view (ok_or (table_named view.first.name tables) fault)) ≡ None = back_free (opened ∷ []) (taken ∷ view_select_checks view (ok_or (table_named view.first.name tables) fault)) free in
-      let walk : first_fault (taken ∷ query_checks (view_source view t) view) ≡ None = subst (λ (o : Option TableOf). first_fault (taken ∷ view_select_checks view (ok_or o fault)) ≡ None) found behind in
-      record { shown = query_shown view t (back_free (taken ∷ []) (query_checks (view_source view t) view) walk); fits = query_fits view t (back_free (taken ∷ []) (query_checks (view_source view t) view) walk); there = there-found view.first.name t tables found }
+      let behind = taken ∷ view_select_checks view (ok_or (table_named view.first.name tables) fault) in
+      let may : may_be_kept view ≡ true = allowed (may_be_kept view) (first_free (fault_if (not (may_be_kept view)) faults.Syntax) behind free) in
+      let rest : first_fault behind ≡ None = back_free (fault_if (not (may_be_kept view)) faults.Syntax ∷ []) behind free in
+      let checks = query_checks view (view_from view t).columns in
+      let walk : first_fault (taken ∷ checks) ≡ None = subst (λ (o : Option TableOf). first_fault (taken ∷ view_select_checks view (ok_or o fault)) ≡ None) found rest in
+      record { shown = query_shown view t; fits = query_fits view t may (back_free (taken ∷ []) checks walk); there = there-found view.first.name t tables found }
+    where
+      allowed : (b : Bool) → fault_if (not b) faults.Syntax ≡ None → b ≡ true
+      allowed true e = refl
+      allowed false e = absurd (cc e)
 
   insert_can : (name : List ℕ) (rows : List (List Constant)) (t : TableOf) → table_named name tables ≡ Some t → first_fault (rows_walk rows (written_table name here)) ≡ None → Can (commands.Insert t.number (map row_of rows))
   insert_can name rows t found free =
@@ -185,7 +180,7 @@ module _ (tables : List TableOf) (views : List ViewOf) (next : ℕ) (numbered : 
       let fault = if is_some (view_named name views) then faults.ViewNotWritten else faults.UnknownTable in
       let s = scope_of (from_table t) in
       let walk : first_fault (where_check s condition ∷ []) ≡ None = subst (λ (o : Option TableOf). first_fault (delete_checks condition (ok_or o fault)) ≡ None) found free in
-      let narrow = narrow_rows s condition t.rows (first_free (where_check s condition) [] walk) (stored_keep t.name t t.rows (stored-found name t tables fitting found)) in
+      let narrow = narrow_rows (source_columns t.name (from_table t)) condition t.rows (first_free (where_check s condition) [] walk) (stored_keep t.name t t.rows (stored-found name t tables fitting found)) in
       (there-found name t tables found, subst (λ (rs : List Row). AllByRecursion (IsNarrowIn (option_map (bound_condition s) condition)) rs) (sym (rows-found name t tables next numbered found)) narrow)
 
   update_can : (name : List ℕ) (sets : List SetClause) (condition : Option Written) (t : TableOf) → table_named name tables ≡ Some t → first_fault (sets_walk condition sets (written_table name here)) ≡ None → Can (bound_update sets condition t)
@@ -231,14 +226,14 @@ module _ (tables : List TableOf) (views : List ViewOf) (next : ℕ) (numbered : 
   module _ (q : Select) where
     select_can : (from : From) → from_walk here q ≡ Ok from → first_fault (select_checks q (from_walk here q)) ≡ None → Can (bound_select q from)
     select_can from walked free =
-        let behind : first_fault (from_checks q (from_walk here q)) ≡ None = back_free (fault_if (not (is_plain q)) faults.Syntax ∷ []) (from_checks q (from_walk here q)) free in
-        let walk : first_fault (source_checks q (of_rows from.columns)) ≡ None = subst (λ (r : Result From Fault). first_fault (from_checks q r) ≡ None) walked behind in
-        let bag = front_free (bag_checks q (of_rows from.columns)) (order_checks (header 1 q.items) q.order) walk in
+        let walk : first_fault (source_checks q from.columns) ≡ None = subst (λ (r : Result From Fault). first_fault (select_checks q r) ≡ None) walked free in
+        let bag = front_free (bag_checks q from.columns) (order_checks (header 1 q.items) q.order) walk in
         let are = are_joined tables views here source_there q from walked in
+        let query = bound_query q from in
         record {
-          plain = refl;
           there = are.there;
-          within = λ row sized. within_for q from row bag (sized_keeps from.columns row (subst (λ (ns : List ℕ). IsSized (limits_of ns) row) (sym are.sizes) sized));
+          filter = subst (λ (ns : List ℕ). IsConditionSized ns query.filter) are.sizes (filter_sized q from.columns bag);
+          shown = subst (λ (ns : List ℕ). IsShapeSized ns query.shape query.items) are.sizes (shape_sized q from.columns bag);
         }
 
   pub bound_can : (statement : Statement) (command : Bound) → first_fault (binding_checks here statement) ≡ None → bound here statement ≡ Some command → Can command
@@ -249,7 +244,7 @@ module _ (tables : List TableOf) (views : List ViewOf) (next : ℕ) (numbered : 
       let m = mapped (λ t. commands.DropTable t.number) (table_named name tables) command is in
       subst Can m.2 (drop_can name m.0 m.1 free)
   bound_can (statements.CreateView name view) command free is =
-      let m = mapped (λ t. commands.CreateView name (view_columns (view_source view t) view) (grouped_query view t)) (table_named view.first.name tables) command is in
+      let m = mapped (bound_view name view) (table_named view.first.name tables) command is in
       subst Can m.2 (create_view_can name view m.0 m.1 free)
   bound_can (statements.DropView name) command free is =
       let m = mapped commands.DropView (view_place name views) command is in
@@ -389,7 +384,7 @@ module _ (tables : List TableOf) (views : List ViewOf) (now drawn max_rows : ℕ
       let m = mapped (λ t. commands.DropTable t.number) (table_named name tables) command is in
       subst (λ (c : Bound). refusal old (statements.DropTable name) ≡ room old c) m.2 none
   room_decides (statements.CreateView name view) command none is =
-      let m = mapped (λ t. commands.CreateView name (view_columns (view_source view t) view) (grouped_query view t)) (table_named view.first.name tables) command is in
+      let m = mapped (bound_view name view) (table_named view.first.name tables) command is in
       subst (λ (c : Bound). refusal old (statements.CreateView name view) ≡ room old c) m.2 none
   room_decides (statements.DropView name) command none is =
       let m = mapped commands.DropView (view_place name views) command is in

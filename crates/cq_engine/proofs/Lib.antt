@@ -7,6 +7,9 @@ pub mod Rows
 pub mod Changes
 pub mod Turns
 pub mod Fitting
+pub mod Groups
+pub mod Shapes
+pub mod Showing
 pub mod Kept
 pub mod Stored
 pub mod Named

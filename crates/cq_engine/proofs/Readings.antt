@@ -2,7 +2,6 @@
 use Rattle.std.proofs.Common.{◌≡◌, ℕ, zero, suc, ◌<◌, ◌≤◌, ◌^◌, true, false, List, [], ◌∷◌, map, length, Option, Some, refl, sym, ap, ◌∙◌, inl, inr, arith, subst, Result, Ok, Err}
 use Rattle.std.specs.Prelude.{◌==◌, filter, option_map, slice_get}
 use Rattle.std.specs.List.{AllByRecursion}
-use Rattle.std.specs.Result.{MatchResult, is_ok}
 use Rattle.std.proofs.lemmas.Bool.{eqb-true}
 use Rattle.std.proofs.lemmas.List.{append-nil, length-map}
 use Rattle.std.proofs.lemmas.Option.{slice_get-map}
@@ -16,6 +15,7 @@ use Rattle.cq_model.specs.declared.query.Aggregate.TheVariants.{CountAll, Count,
 use Rattle.cq_model.specs.declared.query.Join.{Join}
 use Rattle.cq_model.specs.declared.query.Order.{Order}
 use Rattle.cq_model.specs.declared.query.Query.{Query}
+use Rattle.cq_model.specs.declared.query.Shape.{Shape}
 use Rattle.cq_model.specs.declared.query.Shape.TheVariants.{Plain}
 use Rattle.cq_model.specs.declared.query.Source.{Source}
 use Rattle.cq_model.specs.declared.query.Source.TheVariants.{Table, View}
@@ -31,7 +31,7 @@ use Rattle.cq_laws.specs.Sizes.{CountsOrAdds, HasSizes, RowsKeepSizes, IsStored}
 use Rattle.cq_binder.specs.Catalog.{alone}
 use Rattle.cq_views.specs.Query.{aggregates_of, key_columns, table_of}
 use Rattle.cq_views.specs.View.{StandsFor}
-use Rattle.cq_engine.specs.Narrow.{IsWithin, IsWithinSized, joined_sizes, source_sizes, view_sizes}
+use Rattle.cq_engine.specs.Narrow.{IsConditionSized, IsShapeSized, IsWithin, IsWithinSized, joined_sizes, source_sizes, view_sizes}
 use Rattle.cq_engine.specs.Commands.{plain}
 use Rattle.cq_engine.specs.Selects.{AreListed, Selects, SelectsKept, IsInRange, sources_in}
 use Rattle.cq_views.specs.Shown.{AreRowsOf, IsShown}
@@ -39,11 +39,6 @@ use Rattle.cq_engine.specs.Views.{NamedView, IsBacked, IsRight, AreRight, view_o
 use Rattle.cq_engine.proofs.Results.{listing_plain}
 use Rattle.cq_engine.proofs.Rows.{fitting_in, rows_have}
 use Rattle.cq_engine.proofs.Stored.{all_of_rows, rows_sized, tables_stored}
-
--- a result that is no error was none before errors were told as others
-pub ok_before : {X E F : Type 0} (before : Result X E) (after : Result X F) (P : E → Type 0) (x : X) → MatchResult before (λ y. after ≡ Ok y) P → is_ok after ≡ is_ok before → after ≡ Ok x → before ≡ Ok x
-ok_before (Ok y) after P x same alike e = let both : Ok y ≡ Ok x = sym same ∙ e in ap Ok (let is : y ≡ x = cc in is)
-ok_before (Err f) after P x other alike e = absurd (let both : true ≡ false = sym (ap is_ok e) ∙ alike in cc)
 
 -- counts and totals are all that a view shows
 counts_or_adds : (aggregates : List Aggregate) → AreTotals aggregates → AllByRecursion CountsOrAdds aggregates
@@ -149,6 +144,12 @@ plain_query q shape joins distinct =
 -- a query without joins reads columns of one source's sizes
 pub alone_sizes : (tables : List TableOf) (views : List ViewOf) (q : Query) → q ≡ plain q.first q.filter q.items → joined_sizes tables views q ≡ source_sizes tables views q.first
 alone_sizes tables views q is = ap (joined_sizes tables views) is ∙ append-nil (source_sizes tables views q.first)
+
+-- on a row of which it can be worked out
+pub alone_within : (sizes : List ℕ) (q : Query) → q ≡ plain q.first q.filter q.items → IsConditionSized sizes q.filter → IsShapeSized sizes q.shape q.items → IsWithinSized sizes q
+alone_within sizes q is filter shown row sized =
+    let items : IsShapeSized sizes Plain q.items = subst (λ (shape : Shape). IsShapeSized sizes shape q.items) (ap (λ p. p.shape) is) shown in
+    record { condition = filter row sized; items = items row sized }
 
 module _ (tables : List TableOf) (views : List NamedView) (q : Query) (order : Order) where
   abbrev Answered : List Row → Query → Type 0

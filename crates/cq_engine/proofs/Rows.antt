@@ -112,7 +112,7 @@ rows_before [] t n none = by_test (t.number == n) (λ k. rw k none) (λ k. rw k 
 rows_before (x ∷ xs) t n none = by_test (x.number == n) (λ k. rw k refl) (λ k. rw k (rows_before xs t n none))
 
 -- what it and the others have, all have
-pub all_behind : (P : TableOf → Type 0) (ts : List TableOf) (t : TableOf) → AllByRecursion P ts → P t → AllByRecursion P (ts ++ t ∷ [])
+pub all_behind : {X : Type 0} (P : X → Type 0) (ts : List X) (t : X) → AllByRecursion P ts → P t → AllByRecursion P (ts ++ t ∷ [])
 all_behind P [] t all own = (own, tt)
 all_behind P (x ∷ xs) t all own = (all.0, all_behind P xs t all.1 own)
 

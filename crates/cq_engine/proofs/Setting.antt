@@ -1,5 +1,5 @@
 -- The images of rows under SET: what stands in them, and that they fit the columns where their values may be stored.
-use Rattle.std.proofs.Common.{◌≡◌, ◌+◌, ◌<◌, ◌≤◌, ◌++◌, ◌^◌, ℕ, ℤ, neg_ℤ, pos, zero, suc, Bool, true, false, not, List, [], ◌∷◌, length, map, get_or, set, take, Option, None, refl, sym, ap, ◌∙◌, arith, subst}
+use Rattle.std.proofs.Common.{◌≡◌, ◌+◌, ◌<◌, ◌≤◌, ◌++◌, ◌^◌, ℕ, ℤ, neg_ℤ, pos, zero, suc, Bool, true, false, not, List, [], ◌∷◌, length, map, get_or, set, take, None, refl, sym, ap, ◌∙◌, arith, subst}
 use Rattle.std.specs.Prelude.{◌==◌, ◌&&◌, ◌||◌, FitsSigned, int_lt, if◌then◌else◌, slice_index_or, slice_set}
 use Rattle.std.specs.Int.{w64}
 use Rattle.std.specs.List.{AllByRecursion, flat_map, list_any}
@@ -21,8 +21,8 @@ use Rattle.cq_binding.specs.UpdateChecks.{is_null, is_outside, never_null, value
 use Rattle.cq_exprs.specs.Types.{IsOf}
 use Rattle.cq_plain.proofs.Assignments.{with_set_more}
 use Rattle.cq_states.specs.Fitting.{FitsColumn, FitsColumns}
-use Rattle.cq_engine.specs.Updates.{CanSet, CanSetAll, declared_type}
-use Rattle.cq_engine.proofs.Fitting.{back_free, first_free, front_free, second_free}
+use Rattle.cq_engine.specs.Updates.{CanSetAll, declared_type}
+use Rattle.cq_engine.proofs.Fitting.{back_free, first_free, front_free}
 
 -- ---- What stands in an image
 -- a column that was set has its value

@@ -1,30 +1,24 @@
 -- What FROM joins is there, with the sizes of its columns.
 use Rattle.std.proofs.Common.{◌≡◌, ℕ, List, [], ◌∷◌, ◌++◌, map, length, Option, Some, None, Result, Ok, Err, refl, sym, ap, ◌∙◌, subst}
-use Rattle.std.specs.Prelude.{option_map}
 use Rattle.std.specs.List.{AllByRecursion, flat_map, zip}
 use Rattle.std.proofs.lemmas.List.{append-nil, append_assoc, map-append}
 use Rattle.std.proofs.lemmas.Simd.{map-map}
 use Rattle.std.proofs.lemmas.Slice.Zip.{seconds-zip}
-use Rattle.cq_laws.specs.Sizes.{IsSized}
 use Rattle.cq_language.specs.declared.statement.JoinedSource.{JoinedSource}
 use Rattle.cq_language.specs.declared.statement.Select.{Select}
 use Rattle.cq_model.specs.declared.query.Join.{Join}
 use Rattle.cq_model.specs.declared.query.Source.{Source}
-use Rattle.cq_model.specs.Width.{limits_of, sizes_of}
-use Rattle.cq_values.specs.Value.{Row}
-use Rattle.cq_values.specs.declared.column.ColumnDef.{ColumnDef}
 use Rattle.cq_binding.specs.declared.fault.Fault.{Fault}
 use Rattle.cq_binding.specs.Bound.{standing}
 use Rattle.cq_binding.specs.Checks.{first_fault}
 use Rattle.cq_binding.specs.From.{From, first_from, first_walk, from_walk, join_checks, join_walk, joined_with, joins_walk, passing}
-use Rattle.cq_binding.specs.Kinds.{◌and_then◌}
-use Rattle.cq_binding.specs.Scopes.{Named, known_as, of_rows, scope_column, source_columns, source_named}
+use Rattle.cq_binding.specs.Scopes.{Named, known_as, scope_column, source_columns, source_named}
 use Rattle.cq_binding.specs.Typing.{ScopeColumn}
 use Rattle.cq_states.specs.State.{State, TableOf, ViewOf}
-use Rattle.cq_exprs.specs.Expressions.{KeepSizes}
 use Rattle.cq_exprs.proofs.Narrow.{stood}
 use Rattle.cq_engine.specs.Commands.{IsSourceThere}
 use Rattle.cq_engine.specs.Narrow.{source_sizes}
+use Rattle.cq_engine.proofs.Rows.{all_behind}
 
 -- what stood was given
 pub standing_ok : (r : Result From Fault) (from : From) → standing r ≡ Some from → r ≡ Ok from
@@ -36,10 +30,6 @@ passing_ok : (o : Option Fault) (x y : From) → passing o x ≡ Ok y → x ≡ 
 passing_ok None x y e = cc
 passing_ok (Some f) x y e = absurd (cc e)
 
--- a row whose numbers are of the sizes of the columns keeps them
-pub sized_keeps : (columns : List ScopeColumn) (row : Row) → IsSized (limits_of (map (λ c. c.size) columns)) row → KeepSizes (of_rows columns) (sizes_of row)
-sized_keeps columns row sized place within may = sized place
-
 -- the sizes of a source's columns are those that it promises
 columns_sized : (known : List ℕ) (source : Named) → length source.columns ≡ length source.sizes → map (λ c. c.size) (source_columns known source) ≡ source.sizes
 columns_sized known source even =
@@ -48,10 +38,6 @@ columns_sized known source even =
 flat_one_more : {X Y : Type 0} (f : X → List Y) (xs : List X) (x : X) → flat_map f (xs ++ x ∷ []) ≡ flat_map f xs ++ f x
 flat_one_more f [] x = append-nil (f x)
 flat_one_more f (y ∷ ys) x = ap (λ zs. f y ++ zs) (flat_one_more f ys x) ∙ sym (append_assoc (f y) (flat_map f ys) (f x))
-
-all_one_more : {X : Type 0} (P : X → Type 0) (xs : List X) (x : X) → AllByRecursion P xs → P x → AllByRecursion P (xs ++ x ∷ [])
-all_one_more P [] x all one = (one, tt)
-all_one_more P (y ∷ ys) x all one = (all.0, all_one_more P ys x all.1 one)
 
 module _ (tables : List TableOf) (views : List ViewOf) where
   -- a source that FROM names is there, with a size for each of its columns
@@ -81,7 +67,7 @@ module _ (tables : List TableOf) (views : List ViewOf) where
 
     one_more : (from : From) (j : JoinedSource) (source : Named) → AreJoined from → IsFound source → AreJoined (joined_with from j source)
     one_more from j source are is = record {
-      there = subst (AllByRecursion (IsSourceThere tables views)) (sym (sources_more from j source)) (all_one_more (IsSourceThere tables views) (sources_joined from) source.source are.there is.there);
+      there = subst (AllByRecursion (IsSourceThere tables views)) (sym (sources_more from j source)) (all_behind (IsSourceThere tables views) (sources_joined from) source.source are.there is.there);
       sizes =
           map-append (λ (c : ScopeColumn). c.size) from.columns (source_columns (known_as j.source source) source)
           ∙ (λ i. are.sizes i ++ (columns_sized (known_as j.source source) source is.even ∙ sym is.sizes) i)

@@ -24,7 +24,7 @@ use Rattle.cq_steps.specs.Next.{Trims, at_present}
 use Rattle.cq_steps.specs.Step.{Accepts, IsTooLarge}
 use Rattle.cq_views.specs.Query.{table_of}
 use Rattle.cq_model.specs.Width.{IsNarrowIn}
-use Rattle.cq_engine.specs.Narrow.{IsWithinSized, joined_sizes}
+use Rattle.cq_engine.specs.Narrow.{IsConditionSized, IsShapeSized, joined_sizes}
 use Rattle.cq_engine.specs.Updates.{CanUpdate, value_fault_in}
 use Rattle.cq_engine.specs.Views.{Fits}
 
@@ -54,11 +54,11 @@ abbrev pub IsSourceThere : List TableOf → List ViewOf → Source → Type 0
 IsSourceThere tables views (Table n) = IsThere n tables
 IsSourceThere tables views (View place) = place < length views
 
--- a query without groups whose sources are there, and that can be worked out on each row that joins rows of them
+-- a query whose sources are there, and that can be worked out on each row that joins rows of them, and on their groups
 pub record CanRead (tables : List TableOf) (views : List ViewOf) (q : Query) : Type 0 where
-  pub plain : q.shape ≡ Plain
   pub there : AllByRecursion (IsSourceThere tables views) (sources_of q)
-  pub within : IsWithinSized (joined_sizes tables views q) q
+  pub filter : IsConditionSized (joined_sizes tables views q) q.filter
+  pub shown : IsShapeSized (joined_sizes tables views q) q.shape q.items
 
 -- a query that a view with these columns can be built and kept for
 pub record CanBuild (tables : List TableOf) (columns : List ColumnDef) (q : Query) : Type 0 where

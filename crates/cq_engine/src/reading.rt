@@ -1,5 +1,6 @@
 //! SELECT from tables and from views.
-ghost use Rattle.std.specs.Prelude.{◌≡◌, ℕ};
+ghost use Rattle.std.specs.Prelude.{◌≡◌, ◌↔◌, IsTrue, ℕ};
+ghost use Rattle.cq_model.specs.declared.query.Shape.TheVariants.{Plain};
 ghost use Rattle.cq_model.specs.Sizes.{column_sizes};
 ghost use Rattle.cq_plain.specs.Lent.{lent_bags};
 ghost use Rattle.cq_plain.specs.Wide.{IsQueryWide};
@@ -16,13 +17,16 @@ use crate::table::Table;
 use crate::tables::place_numbered;
 use crate::view::View;
 use cq_binding::Fault;
-use cq_laws::{joined_rows_keep_sizes, meaning_depends_on_sources, rows_keep_sizes};
-use cq_model::{Order, Query, Source};
+use cq_laws::{
+    groups_keep_sizes, joined_rows_keep_sizes, meaning_depends_on_sources, rows_keep_sizes,
+};
+use cq_model::{Order, Query, Shape, Source};
 use cq_plain::{Lent, PlainFault, answer_on, listing};
 use cq_values::{Row, Seq};
 use std::alloc::Global;
 
-/// The listing of a query on the tables and views that it names. Rows of one source are read where they are.
+/// The listing of a query on the tables and views that it names. Rows of one source are read where they are, unless they
+/// are grouped.
 pub fn select_from(
     alloc: Global,
     tables: &[Table],
@@ -37,11 +41,18 @@ pub fn select_from(
     requires can_read { CanRead tables.now (views_of views.now) query.now }
     ensures { Selects tables.now (views_of views.now) query.now order.now result }
 {
-    if query.joins.is_empty() && !query.distinct {
+    if query.joins.is_empty() && !query.distinct && is_plain(&query.shape) {
         select_alone(alloc, tables, views, query, order)
     } else {
         select_joined(alloc, tables, views, query, order)
     }
+}
+
+/// Whether each row stands for itself.
+fn is_plain(shape: &Shape) -> bool
+    ensures { IsTrue result ↔ (shape.now ≡ Plain) }
+{
+    matches!(shape, Shape::Plain)
 }
 
 /// The listing of a query on the table or the view that it names alone.
@@ -105,6 +116,7 @@ fn select_joined(
     let lent = lend_all(alloc, tables, &gathered)?;
     rows_keep_sizes();
     joined_rows_keep_sizes();
+    groups_keep_sizes();
     meaning_depends_on_sources();
     list_answer(alloc, &lent, query, order)
 }

@@ -9,9 +9,10 @@ use Rattle.cq_language.specs.declared.statement.Statement.{Statement}
 use Rattle.cq_language.specs.declared.statement.Statement.TheVariants as statements
 use Rattle.cq_steps.specs.declared.answer.Answer.{Answer}
 use Rattle.cq_binding.specs.declared.fault.Fault.{Fault}
-use Rattle.cq_binding.specs.Scopes.{place_in, bound_condition, from_table, scope_of}
+use Rattle.cq_binding.specs.Scopes.{place_in, from_table, scope_of}
+use Rattle.cq_binding.specs.Sets.{bound_where}
 use Rattle.cq_binding.specs.From.{From, from_walk}
-use Rattle.cq_binding.specs.Bound.{row_of, bound_select, bound_update, bound, standing, grouped_query, view_columns, view_source}
+use Rattle.cq_binding.specs.Bound.{row_of, bound_select, bound_update, bound, bound_view, standing}
 use Rattle.cq_states.specs.State.{TableOf, State, table_named, view_place, first_state}
 use Rattle.cq_steps.specs.Next.{reach, at_epoch, at_present, Trims}
 use Rattle.cq_steps.specs.Step.{Does, GivesUp, Refuses, by_walk, for_memory, source_failed, memory_on_the_way, too_large, Step}
@@ -41,7 +42,7 @@ pub bound-fits : (s : State) (statement : Statement) (command : Bound) → bound
 bound-fits s (statements.CreateTable name columns sort) command e =
     let is : commands.CreateTable name columns (map (place_in columns) sort) ≡ command = cc in subst (Fits s) is tt
 bound-fits s (statements.DropTable name) command e = of_table s name command (λ t. commands.DropTable t.number) (λ t there. there) e
-bound-fits s (statements.CreateView name view) command e = of_table s view.first.name command (λ t. commands.CreateView name (view_columns (view_source view t) view) (grouped_query view t)) (λ t there. tt) e
+bound-fits s (statements.CreateView name view) command e = of_table s view.first.name command (bound_view name view) (λ t there. tt) e
 bound-fits s (statements.DropView name) command e = placed (view_place name s.views) e
   where
     placed : (o : Option ℕ) → option_map commands.DropView o ≡ Some command → Fits s command
@@ -49,7 +50,7 @@ bound-fits s (statements.DropView name) command e = placed (view_place name s.vi
     placed (Some place) e = let is : commands.DropView place ≡ command = cc in subst (Fits s) is tt
 bound-fits s (statements.Insert name rows) command e = of_table s name command (λ t. commands.Insert t.number (map row_of rows)) (λ t there. there) e
 bound-fits s (statements.Delete name condition) command e =
-    of_table s name command (λ t. commands.Delete t.number (option_map (bound_condition (scope_of (from_table t))) condition)) (λ t there. there) e
+    of_table s name command (λ t. commands.Delete t.number (bound_where (scope_of (from_table t)) condition)) (λ t there. there) e
 bound-fits s (statements.Update name sets condition) command e = of_table s name command (bound_update sets condition) (λ t there. there) e
 bound-fits s (statements.Select q) command e = found (standing (from_walk s q)) e
   where

@@ -8,7 +8,7 @@ use Rattle.cq_language.specs.declared.written.ExprNode.TheViews as nodes
 use Rattle.cq_language.specs.declared.written.Sign.{Sign}
 use Rattle.cq_language.specs.declared.written.Sign.TheVariants as signs
 use Rattle.cq_language.specs.Written.{Written, choices, signed, terms, written, Times, And, Or}
-use Rattle.cq_binding.specs.Open.{chooses_aggregate, has_aggregate}
+use Rattle.cq_binding.specs.Grouping.{chooses_aggregate, has_aggregate}
 use Rattle.cq_exprs.proofs.Places.{written-And, written-In, written-Or, written-Product, written-Sum}
 
 or_assoc : (a b c : Bool) → ((a || b) || c) ≡ (a || (b || c))

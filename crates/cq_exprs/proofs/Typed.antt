@@ -1,5 +1,5 @@
 -- What passes the walk gives a value of its kind.
-use Rattle.std.proofs.Common.{◌≡◌, ℕ, ◌+◌, ◌*◌, ◌^◌, Bool, true, false, ℤ, Option, Some, None, Ok, refl, sym, ap, subst}
+use Rattle.std.proofs.Common.{◌≡◌, ℕ, ◌+◌, ◌*◌, ◌^◌, Bool, true, false, ℤ, List, [], Option, Some, None, Ok, refl, sym, subst}
 use Rattle.std.specs.Prelude.{length, nat_le, nat_lt, not, ◌&&◌, if◌then◌else◌, is_none, pos}
 use Rattle.std.proofs.lemmas.Bool.{leb-true}
 use Rattle.cq_values.specs.Dates.{day_named}
@@ -16,10 +16,12 @@ use Rattle.cq_binding.specs.declared.fault.Fault.TheVariants.{AggregateMisplaced
 use Rattle.cq_binding.specs.declared.typing.Kind.{Kind}
 use Rattle.cq_binding.specs.declared.typing.Kind.TheVariants as kinds
 use Rattle.cq_binding.specs.declared.typing.Typing.{Typing}
-use Rattle.cq_binding.specs.Kinds.{◌and_then◌, a_condition, agree, arithmetic, between_them, compared_with, connected, is_condition, is_of, is_value, like_of, negation_of, negative, number_of, part_of, product_of, sum_of, tested, text_of, unless, value_of}
-use Rattle.cq_binding.specs.Placed.{named_day, written_number}
-use Rattle.cq_binding.specs.Scopes.{bound_value, place_of, read_place, row_place}
-use Rattle.cq_binding.specs.Typing.{Scope, column_typing, listed, may_read, resolved, size_at, type_at, typed}
+use Rattle.cq_binding.specs.Kinds.{◌and_then◌, aggregated, a_condition, agree, arithmetic, between_them, compared_with, connected, is_condition, is_of, is_value, like_of, negation_of, negative, number_of, part_of, product_of, sum_of, tested, text_of, unless, value_of}
+use Rattle.cq_model.specs.declared.query.Aggregate.{Aggregate as Shown}
+use Rattle.cq_binding.specs.Placed.{named_day, placed_expr, with_aggregates, written_number}
+use Rattle.cq_binding.specs.Places.{place_of, row_place}
+use Rattle.cq_binding.specs.Scopes.{of_rows}
+use Rattle.cq_binding.specs.Typing.{Scope, ScopeColumn, column_typing, listed, of_group, resolved, size_at, type_at, typed}
 use Rattle.cq_exprs.specs.Types.{IsOf, IsOfKind, KeepTypes, TypedIsOfItsKind}
 use Rattle.cq_exprs.proofs.Narrow.{if_ok, resolved_at, resolved_within, stood, unless_ok}
 
@@ -90,84 +92,89 @@ listed_typed s (Choice b bs) x all_agree t e =
     let p = stood (typed s b) (λ y. listed s x (all_agree && agree x.kind y.kind) bs) t e in
     listed_typed s bs x (all_agree && agree x.kind p.0.kind) t p.2
 
-module _ (s : Scope) (row : Row) (kept : KeepTypes s row) where
-  -- a column that may be read holds values of its type
+module _ (columns : List ScopeColumn) (row : Row) (kept : KeepTypes columns row) where
+  abbrev s : Scope
+  s = of_rows columns
+
+  -- a column holds values of its type
   column_typed : (c : ColumnName) (t : Typing) → typed s (Column c) ≡ Ok t → IsOfKind t.kind (column row (place_of s c))
   column_typed c t e =
-      let found = stood (resolved s.columns c) (column_typing s) t e in
-      let x = value_of (type_at s.columns found.0) (size_at s.columns found.0) in
-      let p = unless_ok (may_read s.grouped found.0) AggregateMisplaced x t found.2 in
-      let at : read_place s.grouped (row_place s.columns c) ≡ read_place s.grouped found.0 = ap (read_place s.grouped) (resolved_at s c found.0 found.1) in
-      as_typed x t (column row (place_of s c)) p.1 (subst (λ (i : ℕ). IsOf (type_at s.columns found.0) (column row i)) (sym at) (kept found.0 (resolved_within s c found.0 found.1) p.0))
+      let found = stood (resolved columns c) (column_typing s) t e in
+      let x = value_of (type_at columns found.0) (size_at columns found.0) in
+      let p = unless_ok true AggregateMisplaced x t found.2 in
+      let at : row_place columns c ≡ found.0 = resolved_at s c found.0 found.1 in
+      as_typed x t (column row (place_of s c)) p.1 (subst (λ (i : ℕ). IsOf (type_at columns found.0) (column row i)) (sym at) (kept found.0 (resolved_within s c found.0 found.1)))
 
-  of_its_kind : (w : Written) (t : Typing) → typed s w ≡ Ok t → IsOfKind t.kind (eval (bound_value s w) row)
-  of_its_kind (Number n) t e = as_typed (value_of types.Integer n) t (written_number n) (number_typed n t e) (number_is (nat_lt n (2 ^ 127)) (pos n))
-  of_its_kind (Text b) t e =
+  of_its_kind : (before : List Shown) (w : Written) (t : Typing) → typed s w ≡ Ok t → IsOfKind t.kind (eval (placed_expr s before w) row)
+  of_its_kind before (Number n) t e = as_typed (value_of types.Integer n) t (written_number n) (number_typed n t e) (number_is (nat_lt n (2 ^ 127)) (pos n))
+  of_its_kind before (Text b) t e =
       let p = unless_ok (nat_le (length b) 4096) TextTooLong (value_of types.Text 0) t e in
       as_typed (value_of types.Text 0) t (values.Text b) p.1 (refl, leb-true (length b) 4096 p.0)
-  of_its_kind (Date b) t e = as_typed (value_of types.Date 0) t (named_day b) (unless_ok (not (is_none (day_named b))) BadDate (value_of types.Date 0) t e).1 (day_is (day_named b))
-  of_its_kind Null t e = let same : record { kind = kinds.Null; size = 0 } ≡ t = cc e in subst (λ (y : Typing). IsOfKind y.kind values.Null) same refl
-  of_its_kind (Column c) t e = column_typed c t e
-  of_its_kind (Extract part a) t e =
+  of_its_kind before (Date b) t e = as_typed (value_of types.Date 0) t (named_day b) (unless_ok (not (is_none (day_named b))) BadDate (value_of types.Date 0) t e).1 (day_is (day_named b))
+  of_its_kind before Null t e = let same : record { kind = kinds.Null; size = 0 } ≡ t = cc e in subst (λ (y : Typing). IsOfKind y.kind values.Null) same refl
+  of_its_kind before (Column c) t e = column_typed c t e
+  of_its_kind before (Extract part a) t e =
       let p = stood (typed s a) (part_of part) t e in
       let x = value_of types.Integer (part_limit part) in
-      as_typed x t (extracted part (eval (bound_value s a) row)) (unless_ok (is_of types.Date p.0.kind) TypeMismatch x t p.2).1 (part_is part (eval (bound_value s a) row))
-  of_its_kind CountAll t e = null_is t.kind
-  of_its_kind (Aggregate function a) t e = null_is t.kind
-  of_its_kind (Parens a) t e = of_its_kind a t e
-  of_its_kind (Negative a) t e =
+      as_typed x t (extracted part (eval (placed_expr s before a) row)) (unless_ok (is_of types.Date p.0.kind) TypeMismatch x t p.2).1 (part_is part (eval (placed_expr s before a) row))
+  of_its_kind before CountAll t e = absurd (cc e)
+  of_its_kind before (Aggregate function a) t e =
+      let p = stood (typed s a and_then aggregated function) (of_group s) t e in
+      absurd (cc p.2)
+  of_its_kind before (Parens a) t e = of_its_kind before a t e
+  of_its_kind before (Negative a) t e =
       let p = stood (typed s a) negative t e in
       let same = number_typed p.0.size t (if_ok (is_of types.Integer p.0.kind) (number_of p.0.size) TypeMismatch t p.2) in
-      as_typed (value_of types.Integer p.0.size) t (negated (eval (bound_value s a) row)) same (negated_is (eval (bound_value s a) row))
-  of_its_kind (Times a b) t e =
+      as_typed (value_of types.Integer p.0.size) t (negated (eval (placed_expr s before a) row)) same (negated_is (eval (placed_expr s before a) row))
+  of_its_kind before (Times a b) t e =
       let p = stood (typed s a) (λ x. typed s b and_then product_of x) t e in
       let q = stood (typed s b) (product_of p.0) t p.2 in
-      let v = eval (bound_value s a) row in
-      let w = eval (bound_value s b) row in
+      let v = eval (placed_expr s before a) row in
+      let w = eval (placed_expr s (with_aggregates s before a) b) row in
       as_typed (value_of types.Integer (p.0.size * q.0.size)) t (times v w) (arithmetic_typed p.0 q.0 (p.0.size * q.0.size) t q.2) (times_is v w)
-  of_its_kind (Plus a b) t e =
+  of_its_kind before (Plus a b) t e =
       let p = stood (typed s a) (λ x. typed s b and_then sum_of x) t e in
       let q = stood (typed s b) (sum_of p.0) t p.2 in
-      let v = eval (bound_value s a) row in
-      let w = eval (bound_value s b) row in
+      let v = eval (placed_expr s before a) row in
+      let w = eval (placed_expr s (with_aggregates s before a) b) row in
       as_typed (value_of types.Integer (p.0.size + q.0.size)) t (plus v w) (arithmetic_typed p.0 q.0 (p.0.size + q.0.size) t q.2) (plus_is v w)
-  of_its_kind (Minus a b) t e =
+  of_its_kind before (Minus a b) t e =
       let p = stood (typed s a) (λ x. typed s b and_then sum_of x) t e in
       let q = stood (typed s b) (sum_of p.0) t p.2 in
-      let v = eval (bound_value s a) row in
-      let w = negated (eval (bound_value s b) row) in
+      let v = eval (placed_expr s before a) row in
+      let w = negated (eval (placed_expr s (with_aggregates s before a) b) row) in
       as_typed (value_of types.Integer (p.0.size + q.0.size)) t (plus v w) (arithmetic_typed p.0 q.0 (p.0.size + q.0.size) t q.2) (plus_is v w)
-  of_its_kind (Compare c a b) t e =
+  of_its_kind before (Compare c a b) t e =
       let p = stood (typed s a) (λ x. typed s b and_then compared_with x) t e in
       let q = stood (typed s b) (compared_with p.0) t p.2 in
       condition_typed (agree p.0.kind q.0.kind) t q.2
-  of_its_kind (IsNull negated a) t e =
+  of_its_kind before (IsNull negated a) t e =
       let p = stood (typed s a) tested t e in
       condition_typed (is_value p.0.kind) t p.2
-  of_its_kind (Between negated a least greatest) t e =
+  of_its_kind before (Between negated a least greatest) t e =
       let p = stood (typed s a) (λ x. typed s least and_then λ l. typed s greatest and_then between_them x l) t e in
       let q = stood (typed s least) (λ l. typed s greatest and_then between_them p.0 l) t p.2 in
       let r = stood (typed s greatest) (between_them p.0 q.0) t q.2 in
       condition_typed (agree p.0.kind q.0.kind && agree p.0.kind r.0.kind) t r.2
-  of_its_kind (In negated a bs) t e =
+  of_its_kind before (In negated a bs) t e =
       let p = stood (typed s a) (λ x. listed s x true bs) t e in
       listed_typed s bs p.0 true t p.2
-  of_its_kind (Like negated a pattern) t e =
+  of_its_kind before (Like negated a pattern) t e =
       let p = stood (typed s a) (λ x. text_of pattern and_then like_of x) t e in
       let q = stood (text_of pattern) (like_of p.0) t p.2 in
       condition_typed (is_of types.Text p.0.kind) t q.2
-  of_its_kind (Not a) t e =
+  of_its_kind before (Not a) t e =
       let p = stood (typed s a) negation_of t e in
       condition_typed (is_condition p.0.kind) t p.2
-  of_its_kind (And a b) t e =
+  of_its_kind before (And a b) t e =
       let p = stood (typed s a) (λ x. typed s b and_then connected x) t e in
       let q = stood (typed s b) (connected p.0) t p.2 in
       condition_typed (is_condition p.0.kind && is_condition q.0.kind) t q.2
-  of_its_kind (Or a b) t e =
+  of_its_kind before (Or a b) t e =
       let p = stood (typed s a) (λ x. typed s b and_then connected x) t e in
       let q = stood (typed s b) (connected p.0) t p.2 in
       condition_typed (is_condition p.0.kind && is_condition q.0.kind) t q.2
 
 -- the value of what has no fault is of its kind wherever the columns keep their types
 pub typed_is_of_its_kind : TypedIsOfItsKind
-typed_is_of_its_kind s w t row e kept = of_its_kind s row kept w t e
+typed_is_of_its_kind columns w t row e kept = of_its_kind columns row kept [] w t e

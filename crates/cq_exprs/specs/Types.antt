@@ -1,5 +1,5 @@
 -- Values of types: what an expression gives in a row whose values are of their columns' types.
-use Rattle.std.specs.Prelude.{◌≡◌, ◌<◌, ◌≤◌, ℕ, true, length, Ok}
+use Rattle.std.specs.Prelude.{◌≡◌, ◌<◌, ◌≤◌, ℕ, List, length, Ok}
 use Rattle.cq_values.specs.declared.ty.Ty.{Ty}
 use Rattle.cq_values.specs.declared.ty.Ty.TheVariants as types
 use Rattle.cq_values.specs.declared.value.Value.{Value}
@@ -11,8 +11,8 @@ use Rattle.cq_model.specs.Sizes.{text_limit}
 use Rattle.cq_binding.specs.declared.typing.Kind.{Kind}
 use Rattle.cq_binding.specs.declared.typing.Kind.TheVariants as kinds
 use Rattle.cq_binding.specs.declared.typing.Typing.{Typing}
-use Rattle.cq_binding.specs.Scopes.{bound_value, read_place}
-use Rattle.cq_binding.specs.Typing.{Scope, may_read, type_at, typed}
+use Rattle.cq_binding.specs.Scopes.{bound_value, of_rows}
+use Rattle.cq_binding.specs.Typing.{ScopeColumn, type_at, typed}
 
 -- a value of a type, and a text that is not too long; NULL is one of every type
 abbrev pub IsOf : Ty → Value → Type 0
@@ -26,12 +26,12 @@ abbrev pub IsOfKind : Kind → Value → Type 0
 IsOfKind (kinds.Value ty) v = IsOf ty v
 IsOfKind kind v = v ≡ Null
 
--- what a column holds that may be read is of the column's type
-abbrev pub KeepTypes : Scope → Row → Type 0
-KeepTypes s row =
-    (place : ℕ) → place < length s.columns → may_read s.grouped place ≡ true → IsOf (type_at s.columns place) (column row (read_place s.grouped place))
+-- what each column of a row holds is of the column's type
+abbrev pub KeepTypes : List ScopeColumn → Row → Type 0
+KeepTypes columns row = (place : ℕ) → place < length columns → IsOf (type_at columns place) (column row place)
 
--- the value of what has no fault is of the kind that the walk tells, wherever the columns keep their types
+-- the value of what has no fault over rows is of the kind that the walk tells, wherever the columns keep their types
 abbrev pub TypedIsOfItsKind : Type 0
 TypedIsOfItsKind =
-    (s : Scope) (w : Written) (t : Typing) (row : Row) → typed s w ≡ Ok t → KeepTypes s row → IsOfKind t.kind (eval (bound_value s w) row)
+    (columns : List ScopeColumn) (w : Written) (t : Typing) (row : Row)
+    → typed (of_rows columns) w ≡ Ok t → KeepTypes columns row → IsOfKind t.kind (eval (bound_value (of_rows columns) w) row)

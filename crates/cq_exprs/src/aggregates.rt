@@ -2,7 +2,7 @@
 ghost use Rattle.std.specs.Prelude.{◌≡◌, map};
 ghost use Rattle.std.specs.List.{list_any};
 ghost use Rattle.cq_language.specs.Written.{written};
-ghost use Rattle.cq_binding.specs.Open.{has_aggregate};
+ghost use Rattle.cq_binding.specs.Grouping.{has_aggregate};
 
 use cq_language::ExprNode;
 

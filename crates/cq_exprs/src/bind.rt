@@ -1,47 +1,74 @@
-//! Expressions that are asked for as a whole: a condition as behind WHERE, a value as an item or behind an aggregate.
+//! Expressions that are asked for as a whole: a condition as behind WHERE and HAVING, a value as an item or behind SET.
 ghost use Rattle.std.specs.Prelude.{◌≡◌, IfOk, Ok};
-ghost use Rattle.cq_binding.specs.Scopes.{bound_condition, bound_value};
 ghost use Rattle.cq_binding.specs.Kinds.{kind_type};
-ghost use Rattle.cq_binding.specs.Typing.{condition_fault, kept_fault, number_fault, set_fault, type_of, typed, value_fault};
-ghost use Rattle.cq_exprs.specs.Expressions.{Places, scope_of};
+ghost use Rattle.cq_binding.specs.Placed.{placed_cond, placed_expr};
+ghost use Rattle.cq_binding.specs.Scopes.{bound_condition, bound_value};
+ghost use Rattle.cq_binding.specs.Typing.{condition_fault, kept_fault, set_fault, type_of, typed, value_fault};
+ghost use Rattle.cq_exprs.specs.Expressions.{IsBehind, Places, PlacesBehind, scope_of};
 ghost use Rattle.cq_language.specs.Written.{written};
 
-use crate::placing::{cond_tree, expr_tree};
+use crate::placing::tree_of;
 use crate::scope::Scope;
 use crate::typings;
 use crate::walk::{node_typing, typing_of};
 use cq_binding::{Fault, Kind, Typing};
 use cq_language::{ExprNode, SqlExpr};
-use cq_model::{Cond, Expr};
-use cq_values::Ty;
+use cq_model::{Aggregate, Cond, Expr};
+use cq_values::{Seq, Ty};
 use std::alloc::{AllocError, Global};
 
-/// The condition with places for names. It is refused with its first fault, and last for being none.
+/// The condition with places for names, over rows. It is refused with its first fault, and last for being none.
 pub fn bind_condition(alloc: Global, scope: &Scope<'_>, condition: &SqlExpr) -> Result<Cond, Fault>
     ensures { Places bound_condition condition_fault (scope_of scope.now) condition.now result }
 {
-    let typing = typing_of(scope, condition)?;
-    typings::negation_of(typing)?;
-    let tree = cond_tree(alloc, scope, condition.node())?;
-    Ok(Cond::new(tree))
+    let mut none = Seq::new(alloc);
+    bind_having(alloc, scope, &mut none, condition)
 }
 
-/// The value with places for names. It is refused with its first fault, and last for being none.
-pub fn bind_value(alloc: Global, scope: &Scope<'_>, value: &ExprNode) -> Result<Expr, Fault>
-    ensures { Places bound_value value_fault (scope_of scope.now) (written value.now) result }
+/// The condition with places for names, as HAVING keeps groups by it: its aggregates are put behind these. It is refused
+/// with its first fault, and last for being none.
+pub fn bind_having(
+    alloc: Global,
+    scope: &Scope<'_>,
+    aggregates: &mut Seq<Aggregate>,
+    condition: &SqlExpr,
+) -> Result<Cond, Fault>
+    ensures { PlacesBehind placed_cond condition_fault (scope_of scope.now) aggregates.old aggregates.new condition.now result }
+{
+    let typing = typing_of(scope, condition)?;
+    typings::negation_of(typing)?;
+    let tree = tree_of(alloc, scope, aggregates, condition.node())?;
+    Ok(Cond::new(tree.into_condition()))
+}
+
+/// The value with places for names, as an item shows it: its aggregates are put behind these. It is refused with its first
+/// fault, and last for being none.
+pub fn bind_item(
+    alloc: Global,
+    scope: &Scope<'_>,
+    aggregates: &mut Seq<Aggregate>,
+    value: &ExprNode,
+) -> Result<Expr, Fault>
+    ensures { PlacesBehind placed_expr value_fault (scope_of scope.now) aggregates.old aggregates.new (written value.now) result }
 {
     let typing = node_typing(scope, value)?;
     typings::tested(typing)?;
-    Ok(placed(alloc, scope, value)?)
+    Ok(placed(alloc, scope, aggregates, value)?)
 }
 
-/// The number with places for names, as SUM adds it. It is refused with its first fault, and last for being none.
-pub fn bind_number(alloc: Global, scope: &Scope<'_>, value: &ExprNode) -> Result<Expr, Fault>
-    ensures { Places bound_value number_fault (scope_of scope.now) (written value.now) result }
+/// The value with places for names, as a column of a view keeps it: its aggregates are put behind these. It is refused with
+/// its first fault, and last for being none, or NULL alone.
+pub fn bind_kept(
+    alloc: Global,
+    scope: &Scope<'_>,
+    aggregates: &mut Seq<Aggregate>,
+    value: &ExprNode,
+) -> Result<Expr, Fault>
+    ensures { PlacesBehind placed_expr kept_fault (scope_of scope.now) aggregates.old aggregates.new (written value.now) result }
 {
     let typing = node_typing(scope, value)?;
-    typings::added(typing)?;
-    Ok(placed(alloc, scope, value)?)
+    typings::kept_value(typing)?;
+    Ok(placed(alloc, scope, aggregates, value)?)
 }
 
 /// The value with places for names, as a column of this type is set to it, where the walk through it gave this typing.
@@ -57,17 +84,8 @@ pub fn bind_of(
     ensures { Places bound_value (set_fault ty) (scope_of scope.now) (written value.now) result }
 {
     typings::of_type(ty, typing)?;
-    Ok(placed(alloc, scope, value)?)
-}
-
-/// The value with places for names, as a column of a view keeps it. It is refused with its first fault, and last for being
-/// none, or NULL alone.
-pub fn bind_kept(alloc: Global, scope: &Scope<'_>, value: &ExprNode) -> Result<Expr, Fault>
-    ensures { Places bound_value kept_fault (scope_of scope.now) (written value.now) result }
-{
-    let typing = node_typing(scope, value)?;
-    typings::kept_value(typing)?;
-    Ok(placed(alloc, scope, value)?)
+    let mut none = Seq::new(alloc);
+    Ok(placed(alloc, scope, &mut none, value)?)
 }
 
 /// The type of a value without a fault.
@@ -89,9 +107,14 @@ fn kind_type(kind: Kind) -> Ty
     }
 }
 
-fn placed(alloc: Global, scope: &Scope<'_>, value: &ExprNode) -> Result<Expr, AllocError>
-    ensures { IfOk result (λ e. e ≡ bound_value (scope_of scope.now) (written value.now)) }
+fn placed(
+    alloc: Global,
+    scope: &Scope<'_>,
+    aggregates: &mut Seq<Aggregate>,
+    value: &ExprNode,
+) -> Result<Expr, AllocError>
+    ensures { IfOk result (λ e. IsBehind placed_expr (scope_of scope.now) aggregates.old aggregates.new (written value.now) e) }
 {
-    let tree = expr_tree(alloc, scope, value)?;
-    Ok(Expr::new(tree))
+    let tree = tree_of(alloc, scope, aggregates, value)?;
+    Ok(Expr::new(tree.into_value()))
 }

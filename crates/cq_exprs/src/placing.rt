@@ -1,102 +1,206 @@
-//! What is written with places for names.
-ghost use Rattle.std.specs.Prelude.{◌==◌, ◌||◌, ◌≡◌, IfOk, length, map};
-ghost use Rattle.cq_model.specs.Expr as terms;
-ghost use Rattle.cq_binding.specs.Placed.{named_day, turned, written_number};
+//! What is written with places for names, and aggregates as columns of a group's row.
+ghost use Rattle.std.specs.Prelude.{◌≡◌, ◌+◌, ◌++◌, ◌∷◌, [], IfOk, OnOk, length};
 ghost use Rattle.cq_model.specs.Trees.{cond_of, expr_of};
 ghost use Rattle.cq_language.specs.Written.{written};
-ghost use Rattle.cq_binding.specs.Scopes.{bound_condition, bound_value};
+ghost use Rattle.cq_binding.specs.Placed.{aggregate_of, named_day, turned, written_number};
+ghost use Rattle.cq_binding.specs.Places.{next_place};
 ghost use Rattle.cq_exprs.specs.Expressions.{scope_of};
-ghost use Rattle.cq_exprs.specs.Nodes.{bound_conditions, bound_terms, bound_values};
+ghost use Rattle.cq_exprs.specs.Nodes.{AreConditions, AreTerms, AreValues, IsPlaced, condition_in, value_in};
 ghost use Rattle.cq_exprs.specs.Terms.{signed_term};
 
 use crate::scope::Scope;
-use cq_language::{ExprNode, Sign};
-use cq_model::{CondTree, ExprTree};
-use cq_values::{Value, date_of};
+use cq_language::{AggregateFunction, ExprNode, Sign};
+use cq_model::{Aggregate, CondTree, Expr, ExprTree};
+use cq_values::{Seq, Value, date_of};
 use std::alloc::{AllocError, Global};
 
-/// The value that is written. A condition has none, and NULL stands for it; a chain of one part is that part.
-#[cycle(values)]
-pub(crate) fn expr_tree(
+/// What is written: a value or a condition.
+#[derive(Drop)]
+pub(crate) enum Tree {
+    Value(ExprTree),
+    Condition(CondTree),
+}
+
+impl Tree {
+    /// The value that it is. A condition is none, and NULL stands for it.
+    pub(crate) fn into_value(self) -> ExprTree
+        ensures { expr_of result ≡ value_in self }
+    {
+        match self {
+            Tree::Value(value) => value,
+            Tree::Condition(_) => ExprTree::Literal(Value::Null),
+        }
+    }
+
+    /// The condition that it is. A value is none, and whether it is NULL stands for it.
+    pub(crate) fn into_condition(self) -> CondTree
+        ensures { cond_of result ≡ condition_in self }
+    {
+        match self {
+            Tree::Value(value) => CondTree::IsNull(value),
+            Tree::Condition(condition) => condition,
+        }
+    }
+}
+
+/// What a node says. Its aggregates are put behind these. A chain of one part is that part.
+#[cycle(trees)]
+pub(crate) fn tree_of(
     alloc: Global,
     scope: &Scope<'_>,
+    aggregates: &mut Seq<Aggregate>,
     node: &ExprNode,
-) -> Result<ExprTree, AllocError>
-    ensures { IfOk result (λ t. expr_of t ≡ bound_value (scope_of scope.now) (written node.now)) }
+) -> Result<Tree, AllocError>
+    ensures { IfOk result (λ tree. IsPlaced (scope_of scope.now) aggregates.old (written node.now) tree aggregates.new) }
 {
     match node {
-        ExprNode::Number(n) => Ok(ExprTree::Literal(whole(*n))),
-        ExprNode::Text(text) => Ok(ExprTree::Literal(Value::Text(text.copy(alloc)?))),
-        ExprNode::Date(text) => Ok(ExprTree::Literal(day(text.as_str()))),
-        ExprNode::Column(column) => Ok(ExprTree::Column(scope.place_of(column))),
+        ExprNode::Number(n) => Ok(Tree::Value(ExprTree::Literal(whole(*n)))),
+        ExprNode::Text(text) => Ok(Tree::Value(ExprTree::Literal(Value::Text(text.copy(alloc)?)))),
+        ExprNode::Date(text) => Ok(Tree::Value(ExprTree::Literal(day(text.as_str())))),
+        ExprNode::Null => Ok(Tree::Value(ExprTree::Literal(Value::Null))),
+        ExprNode::Column(column) => Ok(Tree::Value(ExprTree::Column(scope.place_of(column)))),
         ExprNode::Extract(part, value) => {
-            let value = expr_tree(alloc, scope, value)?;
-            Ok(ExprTree::Extract(*part, Box::new(alloc, value)?))
+            let value = tree_of(alloc, scope, aggregates, value)?.into_value();
+            Ok(Tree::Value(ExprTree::Extract(*part, Box::new(alloc, value)?)))
         }
-        ExprNode::Parens(inner) => expr_tree(alloc, scope, inner),
+        ExprNode::CountAll => {
+            let place = push_aggregate(scope, aggregates, Aggregate::CountAll)?;
+            Ok(Tree::Value(ExprTree::Column(place)))
+        }
+        ExprNode::Aggregate(function, argument) => {
+            let mut none = Seq::new(alloc);
+            let argument = tree_of(alloc, &scope.rows(), &mut none, argument)?.into_value();
+            let aggregate = aggregate_of(*function, Expr::new(argument));
+            let place = push_aggregate(scope, aggregates, aggregate)?;
+            Ok(Tree::Value(ExprTree::Column(place)))
+        }
+        ExprNode::Parens(inner) => tree_of(alloc, scope, aggregates, inner),
         ExprNode::Negative(value) => {
-            let value = expr_tree(alloc, scope, value)?;
-            Ok(ExprTree::Negate(Box::new(alloc, value)?))
+            let value = tree_of(alloc, scope, aggregates, value)?.into_value();
+            Ok(Tree::Value(ExprTree::Negate(Box::new(alloc, value)?)))
         }
         ExprNode::Product(first, rest) => {
-            let first = Box::new(alloc, expr_tree(alloc, scope, first)?)?;
-            Ok(ExprTree::Product(first, expr_trees(alloc, scope, rest)?))
+            let first = tree_of(alloc, scope, aggregates, first)?;
+            if rest.is_empty() {
+                return Ok(first);
+            }
+            let rest = value_trees(alloc, scope, aggregates, rest)?;
+            let first = Box::new(alloc, first.into_value())?;
+            Ok(Tree::Value(ExprTree::Product(first, rest)))
         }
         ExprNode::Sum(first, signs, rest) => {
-            let first = Box::new(alloc, expr_tree(alloc, scope, first)?)?;
-            Ok(ExprTree::Sum(first, term_trees(alloc, scope, signs, rest)?))
-        }
-        ExprNode::And(first, rest) | ExprNode::Or(first, rest) => {
-            if rest.is_empty() {
-                expr_tree(alloc, scope, first)
-            } else {
-                Ok(ExprTree::Literal(Value::Null))
+            let first = tree_of(alloc, scope, aggregates, first)?;
+            if signs.is_empty() || rest.is_empty() {
+                return Ok(first);
             }
+            let rest = term_trees(alloc, scope, aggregates, signs, rest)?;
+            let first = Box::new(alloc, first.into_value())?;
+            Ok(Tree::Value(ExprTree::Sum(first, rest)))
         }
-        ExprNode::Null
-        | ExprNode::CountAll
-        | ExprNode::Aggregate(..)
-        | ExprNode::Compare(..)
-        | ExprNode::IsNull(..)
-        | ExprNode::Between(..)
-        | ExprNode::In(..)
-        | ExprNode::Like(..)
-        | ExprNode::Not(_) => Ok(ExprTree::Literal(Value::Null)),
+        ExprNode::Compare(comparison, a, b) => {
+            let a = tree_of(alloc, scope, aggregates, a)?.into_value();
+            let b = tree_of(alloc, scope, aggregates, b)?.into_value();
+            Ok(Tree::Condition(CondTree::Compare(*comparison, a, b)))
+        }
+        ExprNode::IsNull(negated, value) => {
+            let value = tree_of(alloc, scope, aggregates, value)?.into_value();
+            let test = turned(alloc, *negated, CondTree::IsNull(value))?;
+            Ok(Tree::Condition(test))
+        }
+        ExprNode::Between(negated, value, least, greatest) => {
+            let value = tree_of(alloc, scope, aggregates, value)?.into_value();
+            let least = tree_of(alloc, scope, aggregates, least)?.into_value();
+            let greatest = tree_of(alloc, scope, aggregates, greatest)?.into_value();
+            let test = turned(alloc, *negated, CondTree::Between(value, least, greatest))?;
+            Ok(Tree::Condition(test))
+        }
+        ExprNode::In(negated, value, choices) => {
+            let value = tree_of(alloc, scope, aggregates, value)?.into_value();
+            let choices = value_trees(alloc, scope, aggregates, choices)?;
+            let test = turned(alloc, *negated, CondTree::In(value, choices))?;
+            Ok(Tree::Condition(test))
+        }
+        ExprNode::Like(negated, value, pattern) => {
+            let value = tree_of(alloc, scope, aggregates, value)?.into_value();
+            let test = turned(alloc, *negated, CondTree::Like(value, pattern.copy(alloc)?))?;
+            Ok(Tree::Condition(test))
+        }
+        ExprNode::Not(part) => {
+            let part = tree_of(alloc, scope, aggregates, part)?.into_condition();
+            Ok(Tree::Condition(CondTree::Not(Box::new(alloc, part)?)))
+        }
+        ExprNode::And(first, rest) => {
+            let first = tree_of(alloc, scope, aggregates, first)?;
+            if rest.is_empty() {
+                return Ok(first);
+            }
+            let rest = condition_trees(alloc, scope, aggregates, rest)?;
+            let first = Box::new(alloc, first.into_condition())?;
+            Ok(Tree::Condition(CondTree::And(first, rest)))
+        }
+        ExprNode::Or(first, rest) => {
+            let first = tree_of(alloc, scope, aggregates, first)?;
+            if rest.is_empty() {
+                return Ok(first);
+            }
+            let rest = condition_trees(alloc, scope, aggregates, rest)?;
+            let first = Box::new(alloc, first.into_condition())?;
+            Ok(Tree::Condition(CondTree::Or(first, rest)))
+        }
     }
 }
 
 /// The values that are written one after another.
-#[cycle(values)]
-fn expr_trees(
+#[cycle(trees)]
+fn value_trees(
     alloc: Global,
     scope: &Scope<'_>,
+    aggregates: &mut Seq<Aggregate>,
     nodes: &[ExprNode],
 ) -> Result<Vec<ExprTree>, AllocError>
-    ensures { IfOk result (λ v. map expr_of v.items ≡ bound_values (scope_of scope.now) nodes.now) }
+    ensures { IfOk result (λ v. AreValues (scope_of scope.now) aggregates.old nodes.now v.items aggregates.new) }
 {
     let mut trees = Vec::with_capacity(alloc, nodes.len())?;
     for node in nodes {
-        trees.push(expr_tree(alloc, scope, node)?)?;
+        trees.push(tree_of(alloc, scope, aggregates, node)?.into_value())?;
     }
     Ok(trees)
 }
 
 /// The later terms of a sum.
-#[cycle(values)]
+#[cycle(trees)]
 fn term_trees(
     alloc: Global,
     scope: &Scope<'_>,
+    aggregates: &mut Seq<Aggregate>,
     signs: &[Sign],
     nodes: &[ExprNode],
 ) -> Result<Vec<ExprTree>, AllocError>
-    ensures { IfOk result (λ v. map expr_of v.items ≡ bound_terms (scope_of scope.now) signs.now nodes.now) }
+    ensures { IfOk result (λ v. AreTerms (scope_of scope.now) aggregates.old signs.now nodes.now v.items aggregates.new) }
 {
     let mut terms = Vec::with_capacity(alloc, nodes.len())?;
     for (sign, node) in signs.iter().zip(nodes) {
-        let term = expr_tree(alloc, scope, node)?;
+        let term = tree_of(alloc, scope, aggregates, node)?.into_value();
         terms.push(signed_tree(alloc, *sign, term)?)?;
     }
     Ok(terms)
+}
+
+/// The conditions that are written one after another.
+#[cycle(trees)]
+fn condition_trees(
+    alloc: Global,
+    scope: &Scope<'_>,
+    aggregates: &mut Seq<Aggregate>,
+    nodes: &[ExprNode],
+) -> Result<Vec<CondTree>, AllocError>
+    ensures { IfOk result (λ v. AreConditions (scope_of scope.now) aggregates.old nodes.now v.items aggregates.new) }
+{
+    let mut trees = Vec::with_capacity(alloc, nodes.len())?;
+    for node in nodes {
+        trees.push(tree_of(alloc, scope, aggregates, node)?.into_condition())?;
+    }
+    Ok(trees)
 }
 
 /// A term behind a minus is negated.
@@ -106,6 +210,39 @@ fn signed_tree(alloc: Global, sign: Sign, term: ExprTree) -> Result<ExprTree, Al
     match sign {
         Sign::Plus => Ok(term),
         Sign::Minus => Ok(ExprTree::Negate(Box::new(alloc, term)?)),
+    }
+}
+
+/// Puts an aggregate behind these, and tells where it stands in its group's row.
+fn push_aggregate(
+    scope: &Scope<'_>,
+    aggregates: &mut Seq<Aggregate>,
+    aggregate: Aggregate,
+) -> Result<usize, AllocError>
+    ensures place { IfOk result (λ place. place ≡ next_place (scope_of scope.now) aggregates.old) }
+    ensures pushed { OnOk result (aggregates.new ≡ aggregates.old ++ aggregate ∷ []) }
+{
+    let place = place_behind(scope.key(), aggregates.as_slice());
+    aggregates.push(aggregate)?;
+    Ok(place)
+}
+
+/// Where the next aggregate stands in a group's row: behind the key and the aggregates so far.
+fn place_behind(key: &[usize], aggregates: &[Aggregate]) -> usize
+    ensures { result ≡ length key.now + length aggregates.now }
+{
+    key.len() + aggregates.len()
+}
+
+/// An aggregate of an argument's values.
+fn aggregate_of(function: AggregateFunction, argument: Expr) -> Aggregate
+    ensures { result ≡ aggregate_of function argument }
+{
+    match function {
+        AggregateFunction::Count => Aggregate::Count(argument),
+        AggregateFunction::Sum => Aggregate::Sum(argument),
+        AggregateFunction::Min => Aggregate::Min(argument),
+        AggregateFunction::Max => Aggregate::Max(argument),
     }
 }
 
@@ -127,109 +264,6 @@ fn day(text: &str) -> Value
         Ok(day) => Value::Day(day),
         Err(_) => Value::Null,
     }
-}
-
-/// The condition that is written. A value is none, and whether it is NULL stands for it; a chain of one part is that part.
-#[cycle(conditions)]
-pub(crate) fn cond_tree(
-    alloc: Global,
-    scope: &Scope<'_>,
-    node: &ExprNode,
-) -> Result<CondTree, AllocError>
-    ensures { IfOk result (λ t. cond_of t ≡ bound_condition (scope_of scope.now) (written node.now)) }
-{
-    match node {
-        ExprNode::Parens(inner) => cond_tree(alloc, scope, inner),
-        ExprNode::Compare(comparison, a, b) => {
-            let a = expr_tree(alloc, scope, a)?;
-            let b = expr_tree(alloc, scope, b)?;
-            Ok(CondTree::Compare(*comparison, a, b))
-        }
-        ExprNode::IsNull(negated, value) => {
-            let value = expr_tree(alloc, scope, value)?;
-            turned(alloc, *negated, CondTree::IsNull(value))
-        }
-        ExprNode::Between(negated, value, least, greatest) => {
-            let value = expr_tree(alloc, scope, value)?;
-            let least = expr_tree(alloc, scope, least)?;
-            let greatest = expr_tree(alloc, scope, greatest)?;
-            turned(alloc, *negated, CondTree::Between(value, least, greatest))
-        }
-        ExprNode::In(negated, value, choices) => {
-            let value = expr_tree(alloc, scope, value)?;
-            let choices = expr_trees(alloc, scope, choices)?;
-            turned(alloc, *negated, CondTree::In(value, choices))
-        }
-        ExprNode::Like(negated, value, pattern) => {
-            let value = expr_tree(alloc, scope, value)?;
-            turned(alloc, *negated, CondTree::Like(value, pattern.copy(alloc)?))
-        }
-        ExprNode::Not(part) => {
-            let part = cond_tree(alloc, scope, part)?;
-            Ok(CondTree::Not(Box::new(alloc, part)?))
-        }
-        ExprNode::And(first, rest) => {
-            let first = Box::new(alloc, cond_tree(alloc, scope, first)?)?;
-            Ok(CondTree::And(first, cond_trees(alloc, scope, rest)?))
-        }
-        ExprNode::Or(first, rest) => {
-            let first = Box::new(alloc, cond_tree(alloc, scope, first)?)?;
-            Ok(CondTree::Or(first, cond_trees(alloc, scope, rest)?))
-        }
-        ExprNode::Product(first, rest) => {
-            if rest.is_empty() {
-                cond_tree(alloc, scope, first)
-            } else {
-                null_test(alloc, scope, node)
-            }
-        }
-        ExprNode::Sum(first, signs, rest) => {
-            if is_one_term(signs, rest) {
-                cond_tree(alloc, scope, first)
-            } else {
-                null_test(alloc, scope, node)
-            }
-        }
-        ExprNode::Number(_)
-        | ExprNode::Text(_)
-        | ExprNode::Date(_)
-        | ExprNode::Null
-        | ExprNode::Column(_)
-        | ExprNode::Extract(..)
-        | ExprNode::CountAll
-        | ExprNode::Aggregate(..)
-        | ExprNode::Negative(_) => null_test(alloc, scope, node),
-    }
-}
-
-/// Whether a sum has no term behind the first.
-fn is_one_term(signs: &[Sign], rest: &[ExprNode]) -> bool
-    ensures { result ≡ (length signs.now == 0 || length rest.now == 0) }
-{
-    signs.is_empty() || rest.is_empty()
-}
-
-/// Whether the value that is written is NULL.
-fn null_test(alloc: Global, scope: &Scope<'_>, node: &ExprNode) -> Result<CondTree, AllocError>
-    ensures { IfOk result (λ t. cond_of t ≡ terms.IsNull (bound_value (scope_of scope.now) (written node.now))) }
-{
-    Ok(CondTree::IsNull(expr_tree(alloc, scope, node)?))
-}
-
-/// The conditions that are written one after another.
-#[cycle(conditions)]
-fn cond_trees(
-    alloc: Global,
-    scope: &Scope<'_>,
-    nodes: &[ExprNode],
-) -> Result<Vec<CondTree>, AllocError>
-    ensures { IfOk result (λ v. map cond_of v.items ≡ bound_conditions (scope_of scope.now) nodes.now) }
-{
-    let mut trees = Vec::with_capacity(alloc, nodes.len())?;
-    for node in nodes {
-        trees.push(cond_tree(alloc, scope, node)?)?;
-    }
-    Ok(trees)
 }
 
 /// NOT in a test negates the whole test.

@@ -1,8 +1,9 @@
 //! What expressions read: the columns of the sources that FROM has joined.
 ghost use Rattle.std.specs.List.{list_any};
-ghost use Rattle.std.specs.Prelude.{◌==◌, ◌≡◌, ◌<◌, IfOk, IfSome, Some, length, position};
+ghost use Rattle.std.specs.Prelude.{◌==◌, ◌≡◌, ◌<◌, [], IfOk, IfSome, Some, length, position, unwrap_or};
 ghost use Rattle.cq_values.specs.Texts.{is_text};
-ghost use Rattle.cq_binding.specs.Scopes.{column_place, named_place, of_rows, place_of, row_place};
+ghost use Rattle.cq_binding.specs.Places.{named_place, place_of, row_place};
+ghost use Rattle.cq_binding.specs.Scopes.{column_place, of_rows};
 ghost use Rattle.cq_binding.specs.Typing.{is_known, is_meant, is_of_source, knows, may_read, resolved, rows_in};
 ghost use Rattle.cq_exprs.specs.Expressions.{scope_of};
 
@@ -127,6 +128,16 @@ impl<'a> Scope<'a> {
         match self.grouped {
             Some(group) => is_grouped(group, place),
             None => true,
+        }
+    }
+
+    /// Where the columns of a group's key stand, if groups are read.
+    pub(crate) fn key(&self) -> &'a [usize]
+        ensures { result.now ≡ unwrap_or (scope_of self.now).grouped [] }
+    {
+        match self.grouped {
+            Some(group) => group,
+            None => &[],
         }
     }
 

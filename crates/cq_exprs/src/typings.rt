@@ -1,7 +1,7 @@
 //! What operators and tests ask of their operands, and what they give.
 ghost use Rattle.std.specs.Prelude.{◌≡◌, ◌&&◌};
 ghost use Rattle.cq_model.specs.Width.{part_limit};
-ghost use Rattle.cq_binding.specs.Kinds.{a_condition, added, aggregated, agree, between_them, compared_with, connected, counted, is_condition, is_of, is_value, kept_value, like_of, negation_of, negative, number_of, of_type, part_of, product_of, sum_of, tested, text_of, unless, value_of};
+ghost use Rattle.cq_binding.specs.Kinds.{a_condition, aggregated, agree, between_them, compared_with, connected, counted, is_condition, is_of, is_value, kept_value, like_of, negation_of, negative, number_of, of_type, part_of, product_of, sum_of, tested, text_of, unless, value_of};
 ghost use Rattle.cq_binding.specs.declared.fault.Fault.TheVariants.{TypeMismatch};
 
 use cq_binding::{Fault, Kind, Typing};
@@ -107,17 +107,6 @@ pub fn tested(x: Typing) -> Result<Typing, Fault>
     ensures { result ≡ tested x }
 {
     condition_if(is_value(x.kind))
-}
-
-/// A number that SUM adds.
-pub fn added(x: Typing) -> Result<Typing, Fault>
-    ensures { result ≡ added x }
-{
-    if is_of(Ty::Integer, x.kind) {
-        Ok(x)
-    } else {
-        Err(Fault::TypeMismatch)
-    }
 }
 
 /// A count.

@@ -4,15 +4,15 @@ use Rattle.std.specs.List.{AllByRecursion, flat_map}
 use Rattle.cq_values.specs.Value.{Row, column}
 use Rattle.cq_bags.specs.Bag.{IsBag, SameBag, Weighted, once_each, weight_of}
 use Rattle.cq_model.specs.declared.query.Aggregate.{Aggregate}
-use Rattle.cq_model.specs.declared.query.Aggregate.TheVariants.{CountAll, Count, Sum, Min, Max}
+use Rattle.cq_model.specs.declared.query.Aggregate.TheVariants.{Min, Max}
 use Rattle.cq_model.specs.declared.query.Query.{Query}
 use Rattle.cq_model.specs.declared.query.Shape.TheVariants.{Grouped}
 use Rattle.cq_model.specs.declared.query.Source.{Source}
 use Rattle.cq_model.specs.Group.{SumsInRange, count_all, grouped}
 use Rattle.cq_model.specs.Meaning.{Tables, chain, joined_rows, meaning, MeaningInRange}
-use Rattle.cq_model.specs.Sizes.{column_sizes, count_size, stored_size}
+use Rattle.cq_model.specs.Sizes.{aggregate_size, column_sizes, count_size, stored_size}
 use Rattle.cq_model.specs.Views.{sources_of}
-use Rattle.cq_model.specs.Width.{limits_of, number_limit, value_size, width}
+use Rattle.cq_model.specs.Width.{limits_of, value_size}
 
 -- the number in each column of a row is within a size
 abbrev pub IsSized : (ℕ → ℕ) → Row → Type 0
@@ -43,17 +43,9 @@ JoinedRowsKeepSizes =
     → AllByRecursion (λ s. IsBag (tables s)) (sources_of q) → AllByRecursion (λ s. KeepsColumns (sizes s) (tables s)) (sources_of q)
     → JoinedHaveSizes (flat_map sizes (sources_of q)) q tables
 
--- how large a number can be that a group shows of rows with columns of these sizes: a count, a total, or a value
-abbrev pub aggregate_size : List ℕ → Aggregate → ℕ
-aggregate_size sizes CountAll = count_size
-aggregate_size sizes (Count e) = count_size
-aggregate_size sizes (Sum e) = number_limit
-aggregate_size sizes (Min e) = (width e (limits_of sizes)).size
-aggregate_size sizes (Max e) = (width e (limits_of sizes)).size
-
 -- the sizes of a group's row: those of its key's columns, and then of what it shows
 abbrev pub grouped_sizes : List ℕ → Option (List ℕ) → List Aggregate → List ℕ
-grouped_sizes sizes keys aggregates = map (limits_of sizes) (unwrap_or keys []) ++ map (aggregate_size sizes) aggregates
+grouped_sizes sizes keys aggregates = map (limits_of sizes) (unwrap_or keys []) ++ map (aggregate_size (limits_of sizes)) aggregates
 
 -- groups have these sizes where no group has too many rows and the totals can be shown
 abbrev pub GroupsKeepSizes : Type 0

@@ -24,13 +24,17 @@ count_size = 2 ^ 96
 abbrev pub stored_sizes : List ColumnDef → List ℕ
 stored_sizes columns = map (λ c. stored_size) columns
 
--- what a group shows of its rows: a count, or a total
+-- how large a number can be that a group shows of rows whose columns have these sizes: a count, a total, or a value
+abbrev pub aggregate_size : (ℕ → ℕ) → Aggregate → ℕ
+aggregate_size sizes CountAll = count_size
+aggregate_size sizes (Count e) = count_size
+aggregate_size sizes (Sum e) = number_limit
+aggregate_size sizes (Min e) = (width e sizes).size
+aggregate_size sizes (Max e) = (width e sizes).size
+
+-- what a group shows of stored rows
 abbrev pub shown_size : Aggregate → ℕ
-shown_size CountAll = count_size
-shown_size (Count e) = count_size
-shown_size (Sum e) = number_limit
-shown_size (Min e) = (width e (λ i. stored_size)).size
-shown_size (Max e) = (width e (λ i. stored_size)).size
+shown_size a = aggregate_size (λ i. stored_size) a
 
 -- the columns that items read: those of tables, or a group's keys and what it shows of its rows
 abbrev pub row_size : Shape → ℕ → ℕ

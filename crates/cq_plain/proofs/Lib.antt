@@ -9,3 +9,4 @@ pub mod Assignments
 pub mod ToldAt
 pub mod Lents
 pub mod Kept
+pub mod Countable

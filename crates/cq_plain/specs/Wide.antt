@@ -1,5 +1,5 @@
 -- Where a query meets a number, written or worked out, that does not fit 127 bits and a sign.
-use Rattle.std.specs.Prelude.{ℕ, ◌≤◌, pos, ◌<ℤ◌, List, Option, Some, None, ◌⊎◌}
+use Rattle.std.specs.Prelude.{ℕ, ◌≤◌, pos, ◌≤ℤ◌, ◌<ℤ◌, List, Option, Some, None, ◌⊎◌}
 use Rattle.std.specs.List.{Any}
 use Rattle.cq_values.specs.Value.{Row}
 use Rattle.cq_bags.specs.Bag.{Weighted, weight_of}
@@ -11,8 +11,9 @@ use Rattle.cq_model.specs.declared.query.Shape.{Shape}
 use Rattle.cq_model.specs.declared.query.Shape.TheVariants.{Plain, Grouped}
 use Rattle.cq_model.specs.declared.query.Source.{Source}
 use Rattle.cq_model.specs.declared.query.Source.TheVariants.{Table, View}
-use Rattle.cq_model.specs.Group.{SumsInRange, grouped}
+use Rattle.cq_model.specs.Group.{SumsInRange, count_all, grouped}
 use Rattle.cq_model.specs.Meaning.{ShapeInRange, Tables, joined_rows, shaped}
+use Rattle.cq_model.specs.Sizes.{count_size}
 use Rattle.cq_model.specs.Views.{tables_alone, with_views, sources_of}
 use Rattle.cq_model.specs.Width.{extent, number_limit, widest_at}
 use Rattle.cq_plain.specs.Joins.{all_joined}
@@ -46,18 +47,23 @@ IsWideOver xs (Sum e) = AtSomeRow (IsWideAt e) xs
 IsWideOver xs (Min e) = AtSomeRow (IsWideAt e) xs
 IsWideOver xs (Max e) = AtSomeRow (IsWideAt e) xs
 
--- the totals of groups can be shown, and HAVING is too wide in some group
+-- there are not too many rows to be counted
+abbrev pub IsCountable : Weighted → Type 0
+IsCountable xs = count_all xs ≤ℤ pos count_size
+
+-- the rows can be counted and their totals shown, and HAVING is too wide in some group
 abbrev pub IsHavingWide : Option (List ℕ) → List Aggregate → Option Cond → Weighted → Type 0
-IsHavingWide keys aggregates having xs = SumsInRange keys aggregates xs × IsWideAmong having (grouped keys aggregates xs)
+IsHavingWide keys aggregates having xs =
+    IsCountable xs × SumsInRange keys aggregates xs × IsWideAmong having (grouped keys aggregates xs)
 
 -- an aggregate over these rows is too wide, or HAVING over their groups
 abbrev pub IsShapeWide : Shape → Weighted → Type 0
 IsShapeWide Plain xs = ⊥
 IsShapeWide (Grouped keys aggregates having) xs = Any (IsWideOver xs) aggregates ⊎ IsHavingWide keys aggregates having xs
 
--- all totals can be shown, and an item is too wide in some row that the query shows
+-- the rows can be counted and all totals shown, and an item is too wide in some row that the query shows
 abbrev pub AreItemsWide : Query → Weighted → Type 0
-AreItemsWide q xs = ShapeInRange q.shape xs × IsItemWide q.items (shaped q.shape xs)
+AreItemsWide q xs = IsCountable xs × ShapeInRange q.shape xs × IsItemWide q.items (shaped q.shape xs)
 
 -- an aggregate, HAVING or an item is too wide over these joined rows
 abbrev pub IsShownWide : Query → Weighted → Type 0

@@ -45,5 +45,32 @@ UPDATE t SET a = 1, a = MAX(a);
 UPDATE t SET a = 'x', s = MAX(s);
 UPDATE t SET a = MAX(a) WHERE COUNT(*) = 1;
 UPDATE t SET a = 'x' WHERE COUNT(*) = 1;
+-- in the WHERE of a view, and in another aggregate of its items
+CREATE VIEW w AS SELECT a FROM t WHERE COUNT(*) = 1 GROUP BY a;
+CREATE VIEW w AS SELECT a FROM t WHERE SUM(s) = 1 GROUP BY a;
+CREATE VIEW w AS SELECT a FROM t WHERE MAX(a) = 1 GROUP BY zz;
+CREATE VIEW w AS SELECT a, SUM(COUNT(*)) FROM t GROUP BY a;
+CREATE VIEW w AS SELECT a, COUNT(MAX(s)) FROM t GROUP BY a;
+CREATE VIEW w AS SELECT a, SUM(SUM(a) + 'x') FROM t GROUP BY a;
+CREATE VIEW w AS SELECT a, SUM(SUM(s)) FROM t GROUP BY a;
+-- in another aggregate of a SELECT, in its WHERE before GROUP BY, and in another one of HAVING
+SELECT SUM(COUNT(*)) FROM t;
+SELECT SUM(COUNT(*) + 'x') FROM t;
+SELECT SUM('x' + COUNT(*)) FROM t;
+SELECT SUM('x' + 1 + COUNT(*)) FROM t;
+SELECT SUM(SUM(s)) FROM t;
+SELECT SUM(MAX(s)) FROM t;
+SELECT COUNT(MIN(zz)) FROM t;
+SELECT MAX(a + COUNT(*)) FROM t GROUP BY a;
+SELECT a FROM t WHERE SUM(a) = 1 GROUP BY zz;
+SELECT a FROM t WHERE SUM(s) = 1 GROUP BY a;
+SELECT a FROM t GROUP BY a HAVING MAX(MIN(a)) = 1;
+SELECT COUNT(*) FROM t HAVING COUNT(COUNT(*)) = 1;
+-- where no expression stands
+SELECT a FROM t GROUP BY COUNT(*);
+SELECT a FROM t JOIN t x ON COUNT(*) = x.a;
+SELECT COUNT(*) FROM t ORDER BY COUNT(*);
+SELECT a FROM t LIMIT COUNT(*);
+INSERT INTO t VALUES (COUNT(*), NULL, NULL);
 -- nothing has changed
 SELECT a, s, d FROM t;

@@ -43,7 +43,7 @@ CREATE VIEW v AS SELECT COUNT(a, b) FROM t GROUP BY a;
 -- a name inside
 CREATE VIEW v AS SELECT COUNT(a AS b) FROM t GROUP BY a;
 
--- SUM of COUNT
+-- SUM of COUNT, which is read
 CREATE VIEW v AS SELECT SUM(COUNT(*)) FROM t GROUP BY a;
 
 -- a sum of a SUM

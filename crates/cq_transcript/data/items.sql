@@ -81,7 +81,7 @@ SELECT -s FROM v;
 -- a number of 128 bits
 SELECT 170141183460469231731687303715884105728 FROM t;
 
--- an aggregate without GROUP BY
+-- an aggregate without GROUP BY is that of all rows
 SELECT COUNT(*) FROM t;
 
 -- AS without a name

@@ -5,6 +5,9 @@ INSERT INTO sales VALUES ('harbour', DATE '2024-02-29', 1250), (NULL, DATE '2024
 CREATE VIEW by_shop AS SELECT shop, COUNT(*) AS sold, COUNT(sold_on) AS dated, SUM(cents) AS total
     FROM sales GROUP BY shop;
 SELECT shop, sold, dated, total FROM by_shop;
+SELECT shop, SUM(cents) AS total, MAX(sold_on) AS last FROM sales GROUP BY shop HAVING COUNT(*) > 1 ORDER BY total DESC;
+SELECT COUNT(*) AS sold, SUM(cents) AS total, MIN(cents) * 2 FROM sales WHERE cents > 5000;
+SELECT cents, COUNT(*) FROM sales GROUP BY shop;
 CREATE TABLE t(a INTEGER, b INTEGER NOT NULL);
 INSERT INTO t VALUES (1,2), (NULL,3);
 CREATE VIEW v AS SELECT a, SUM(b) AS s FROM t GROUP BY a;

@@ -39,5 +39,23 @@ select a from t u v;
 -- two aliases behind AS
 select a from t as u v;
 
--- GROUP BY in SELECT
-select a from t where a group by a;
+-- WHERE behind GROUP BY, in SELECT
+select a from t group by a where a = 1;
+
+-- GROUP BY twice
+select a from t group by a group by b;
+
+-- GROUP BY behind HAVING
+select a from t having a = 1 group by a;
+
+-- HAVING twice
+select a from t having a = 1 having b = 1;
+
+-- HAVING behind ORDER BY
+select a from t group by a order by a having a = 1;
+
+-- a list behind HAVING
+select a from t having a = 1, b = 1;
+
+-- an order of a key
+select a from t group by a desc;

@@ -3,8 +3,8 @@ use cq_binder::bind;
 use cq_binding::Bound;
 use cq_engine::Engine;
 use cq_language::Statement;
-use cq_model::{Cond, Order, Query};
-use cq_plain::{Database, PlainFault, answer_listed, left_by};
+use cq_model::{Assignment, Cond, Order, Query};
+use cq_plain::{Database, PlainFault, answer_listed, left_by, listing, updated};
 use cq_sql::parse;
 use cq_values::{Row, Seq};
 use std::alloc::Global;
@@ -34,6 +34,25 @@ fn condition_of(bound: Bound) -> Result<Option<Cond>, Fail> {
     }
 }
 
+fn assignments_of(bound: Bound) -> Result<(Seq<Assignment>, Option<Cond>), Fail> {
+    match bound {
+        Bound::Update {
+            assignments,
+            condition,
+            ..
+        } => Ok((assignments, condition)),
+        _ => Err("no UPDATE".into()),
+    }
+}
+
+/// The order of all columns, and every row.
+fn whole(alloc: Global) -> Order {
+    Order {
+        keys: Seq::new(alloc),
+        limit: None,
+    }
+}
+
 /// What the query means on the rows of its table, as a list.
 fn meant(alloc: Global, query: &Query, rows: Seq<Row>) -> Result<Vec<Row>, PlainFault> {
     let mut tables = Seq::new(alloc);
@@ -42,11 +61,7 @@ fn meant(alloc: Global, query: &Query, rows: Seq<Row>) -> Result<Vec<Row>, Plain
         tables,
         views: Seq::new(alloc),
     };
-    let order = Order {
-        keys: Seq::new(alloc),
-        limit: None,
-    };
-    answer_listed(alloc, &database, query, &order)
+    answer_listed(alloc, &database, query, &whole(alloc))
 }
 
 /// The rows that a SELECT on the table means.
@@ -69,6 +84,18 @@ pub(crate) fn left(
 ) -> Result<Vec<Row>, Fail> {
     let condition = condition_of(bound(alloc, engine, text)?)?;
     Ok(left_by(alloc, rows, &condition)?)
+}
+
+/// The rows that an UPDATE leaves of these, as a list.
+pub(crate) fn rewritten(
+    alloc: Global,
+    engine: &Engine,
+    text: &str,
+    rows: &[Row],
+) -> Result<Vec<Row>, Fail> {
+    let (assignments, condition) = assignments_of(bound(alloc, engine, text)?)?;
+    let left = updated(alloc, rows, assignments.as_slice(), &condition)?;
+    Ok(listing(left, &whole(alloc))?)
 }
 
 /// A view reads as its query means on the rows of its table.

@@ -1,5 +1,5 @@
-//! Scripts made at random: what a SELECT, a DELETE and a view with any WHERE give is what the plain evaluator makes of it.
-use super::queries::{check_view, left, selected};
+//! Scripts made at random: what a SELECT, a DELETE, an UPDATE and a view with any WHERE give is what the plain evaluator makes of it.
+use super::queries::{check_view, left, rewritten, selected};
 use super::written::{condition, day, key_number, number, small, text};
 use super::{answer, engine, rows};
 use cq_engine::Engine;
@@ -101,6 +101,24 @@ fn check_delete(
     Ok(())
 }
 
+/// An UPDATE with a condition leaves the rows that it leaves of a list.
+fn check_update(
+    rt: &impl Abort,
+    alloc: Global,
+    engine: &mut Engine,
+    random: &mut Pcg32,
+) -> Result<(), Fail> {
+    let value = number(alloc, random, 1)?;
+    let kept = condition(alloc, random, 1)?;
+    let text = format!(in alloc; "UPDATE t SET a = {value}, k = a WHERE {kept}")?;
+    let before = rows(rt, alloc, engine, ALL)?;
+    let wanted = rewritten(alloc, engine, text.as_str(), before.as_slice())?;
+    answer(rt, alloc, engine, text.as_str())?;
+    let after = rows(rt, alloc, engine, ALL)?;
+    assert!(rt; after.as_slice() == wanted.as_slice(), "{text}: {after:?}");
+    Ok(())
+}
+
 /// A view with a condition and items that are worked out.
 fn view(alloc: Global, random: &mut Pcg32) -> Result<String, AllocError> {
     let shown = key_number(alloc, random)?;
@@ -123,6 +141,7 @@ fn check_writes(
     answer(rt, alloc, engine, text.as_str())?;
     insert(rt, alloc, engine, random)?;
     check_delete(rt, alloc, engine, random)?;
+    check_update(rt, alloc, engine, random)?;
     insert(rt, alloc, engine, random)?;
     let kept = rows(rt, alloc, engine, "SELECT x, n, s FROM v")?;
     let table = rows(rt, alloc, engine, ALL)?;

@@ -7,15 +7,15 @@ pub returns-in_err-check_names : goal.returns-in_err-check_names
 returns-in_err-check_names c =
     let p = err_from_is_err_and c.from_residual-in_err-check_names.result c.from_residual-in_err-check_names.ensures.1 in
     let e = rw c.as_slice.ensures at c.in_err-check_names.ensures in
-    rw (p.1, p.2) (name_refused (scope_of c.args.groups.now) c.args.items.now c.in_ok-columns.columns c.in_ok-columns.ensures c.in_err-check_names.field-0.0 e)
+    rw (p.1, p.2) (name_refused (scope_of c.args.scope.now) c.args.items.now c.in_ok-columns.columns c.in_ok-columns.ensures c.in_err-check_names.field-0.0 e)
 
 pub returns-in_err-check_length : goal.returns-in_err-check_length
 returns-in_err-check_length c =
     let p = err_from_is_err_and c.from_residual-in_err-check_length.result c.from_residual-in_err-check_length.ensures.1 in
     let distinct = rw c.as_slice.ensures at c.in_ok-check_names.ensures in
-    rw (p.1, p.2) (number_refused (scope_of c.args.groups.now) c.args.items.now c.in_ok-columns.columns c.in_ok-columns.ensures c.in_err-check_length.field-0.0 distinct.0 c.in_err-check_length.ensures)
+    rw (p.1, p.2) (number_refused (scope_of c.args.scope.now) c.args.items.now c.in_ok-columns.columns c.in_ok-columns.ensures c.in_err-check_length.field-0.0 distinct.0 c.in_err-check_length.ensures)
 
 pub returns : goal.returns
 returns c =
     let distinct = rw c.as_slice.ensures at c.in_ok-check_names.ensures in
-    (names_pass (scope_of c.args.groups.now) c.args.items.now c.in_ok-columns.columns c.in_ok-columns.ensures distinct.0 c.in_ok-check_length.ensures.0, c.in_ok-columns.ensures)
+    (names_pass (scope_of c.args.scope.now) c.args.items.now c.in_ok-columns.columns c.in_ok-columns.ensures distinct.0 c.in_ok-check_length.ensures.0, c.in_ok-columns.ensures)

@@ -1,6 +1,4 @@
-use Rattle.std.proofs.Common.{◌≡◌, true, rules}
 use Rattle.std.proofs.lemmas.Result.{err_from_is_err_and}
-use Rattle.cq_binding.specs.Open.{is_plain}
 use Rattle.cq_binding.specs.From.{from_walk}
 use Rattle.cq_binder.specs.Catalog.{alone}
 use Rattle.cq_binder.specs.From.{shown_from}
@@ -11,13 +9,11 @@ pub returns-in_err-from : goal.returns-in_err-from
 returns-in_err-from g c =
     let p = err_from_is_err_and c.from_residual.result c.from_residual.ensures.1 in
     let q = c.args.select.now in
-    let opened : is_plain q ≡ true = search rules in
     let s = alone (g.C.Catalog.tables c.args.catalog.now) (g.C.Catalog.views c.args.catalog.now) in
-    rw (p.1, p.2) (from_refused q (from_walk s q) opened c.in_err-from.field-0.0 c.in_err-from.ensures)
+    rw (p.1, p.2) (from_refused q (from_walk s q) c.in_err-from.field-0.0 c.in_err-from.ensures)
 
 pub returns : goal.returns
 returns g c =
     let q = c.args.select.now in
-    let opened : is_plain q ≡ true = search rules in
     let s = alone (g.C.Catalog.tables c.args.catalog.now) (g.C.Catalog.views c.args.catalog.now) in
-    selected q (from_walk s q) opened (shown_from c.in_ok-from.from) c.bind_query.result c.in_ok-from.ensures c.bind_query.ensures
+    selected q (from_walk s q) (shown_from c.in_ok-from.from) c.bind_query.result c.in_ok-from.ensures c.bind_query.ensures

@@ -1,14 +1,22 @@
 use Rattle.std.proofs.Common.{◌≡◌, rules, sym, ap, ◌∙◌, subst, false}
-use Rattle.std.specs.Prelude.{Ok, Some}
+use Rattle.std.specs.Prelude.{Ok, Err, Some}
 use Rattle.std.proofs.lemmas.Result.{err_from_is_err_and}
 use Rattle.cq_values.specs.declared.ty.Ty.{Ty}
 use Rattle.cq_binding.specs.Checks.{MayRefuse}
-use Rattle.cq_binding.specs.Scopes.{named_place}
+use Rattle.cq_binding.specs.Places.{named_place}
 use Rattle.cq_binding.specs.Typing.{ScopeColumn, set_fault, typed}
 use Rattle.cq_binding.specs.UpdateChecks.{is_set}
 use Rattle.cq_exprs.specs.Expressions.{scope_of}
-use Rattle.cq_binder.proofs.Setting.{type_refused}
+use Rattle.cq_binder.proofs.Setting.{expression_refused, type_refused}
 use Rattle.cq_binder.proofs.updating.bound_set.Goals as goal
+
+pub returns-in_err-typing : goal.returns-in_err-typing
+returns-in_err-typing c =
+    let p = err_from_is_err_and c.from_residual.result c.from_residual.ensures.1 in
+    let s = scope_of c.args.scope.now in
+    let there : named_place s.columns c.args.set.now.column ≡ Some c.in-Some.column = search rules in
+    let walked : typed s c.args.set.now.value ≡ Err c.in_err-typing.field-0.0 = search rules in
+    rw (p.1, p.2) (expression_refused s c.args.before.now c.args.set.now c.in-Some.column c.in_err-typing.field-0.0 there walked)
 
 pub returns-in_err-value : goal.returns-in_err-value
 returns-in_err-value c =

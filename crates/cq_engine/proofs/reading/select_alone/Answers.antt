@@ -3,9 +3,9 @@ use Rattle.std.proofs.lemmas.Option.{slice_get_read}
 use Rattle.cq_model.specs.Sizes.{stored_sizes}
 use Rattle.cq_states.specs.State.{columns_in}
 use Rattle.cq_engine.specs.Commands.{IsSourceThere}
-use Rattle.cq_engine.specs.Narrow.{IsWithinSized, source_sizes}
+use Rattle.cq_engine.specs.Narrow.{IsWithinSized, joined_sizes, source_sizes}
 use Rattle.cq_engine.specs.Views.{views_of}
-use Rattle.cq_engine.proofs.Readings.{all_backed, alone_sizes, backed_there, from_kept, from_rows, place_there, sizes_there, stored_sized, within_shown}
+use Rattle.cq_engine.proofs.Readings.{all_backed, alone_sizes, alone_within, backed_there, from_kept, from_rows, place_there, sizes_there, stored_sized, within_shown}
 use Rattle.cq_engine.proofs.Rows.{rows_numbered}
 use Rattle.cq_engine.proofs.reading.select_alone.Goals as goal
 
@@ -21,7 +21,9 @@ list-requires c =
     let rows = rows_numbered tables c.place_numbered-place.result t c.requires.numbered.0 n c.requires.numbered.1 at.within c.index-tables-place.is (at.numbered t) in
     let sizes = alone_sizes tables (views_of views) q c.requires.plain ∙ ap (source_sizes tables (views_of views)) c.in-Table.is in
     let sized = stored_sized tables views n c.rows.result.now c.requires.fitting (c.rows.ensures ∙ sym rows) in
-    within_shown (stored_sizes (columns_in tables n)) q c.rows.result.now (subst (λ ns. IsWithinSized ns q) sizes c.requires.can_read.within) sized
+    let can = c.requires.can_read in
+    let within = alone_within (joined_sizes tables (views_of views) q) q c.requires.plain can.filter can.shown in
+    within_shown (stored_sizes (columns_in tables n)) q c.rows.result.now (subst (λ ns. IsWithinSized ns q) sizes within) sized
 
 -- the listing of the stored rows is that of the table's
 pub returns-in_ok-list-in-Table : goal.returns-in_ok-list-in-Table
@@ -63,7 +65,8 @@ select_from_view-requires-clause-within c =
     let at = slice_get_read views (length views) c.in-View.place v refl inside c.index-views-place.is in
     let sizes = alone_sizes tables (views_of views) q c.requires.plain ∙ ap (source_sizes tables (views_of views)) c.in-View.is
     ∙ sizes_there tables views c.requires.right.0 c.in-View.place v c.requires.right.1 at in
-    subst (λ ns. IsWithinSized ns q) sizes c.requires.can_read.within
+    let can = c.requires.can_read in
+    subst (λ ns. IsWithinSized ns q) sizes (alone_within (joined_sizes tables (views_of views) q) q c.requires.plain can.filter can.shown)
 
 pub returns-in-View : goal.returns-in-View
 returns-in-View c =

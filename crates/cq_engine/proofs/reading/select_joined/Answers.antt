@@ -43,7 +43,7 @@ list_answer-requires c =
     let lent = rw c.deref-2.ensures.value at c.in_ok-lent.ensures in
     rw c.deref-3.ensures.value
     (never_wide tables views c.requires.right.0 c.requires.right.1 c.requires.fitting backed c.rows_keep_sizes.ensures c.args.query.now c.requires.can_read
-    c.in_ok-gathered.gathered.items c.in_ok-lent.lent.items gathered lent c.joined_rows_keep_sizes.ensures)
+    c.in_ok-gathered.gathered.items c.in_ok-lent.lent.items gathered lent c.joined_rows_keep_sizes.ensures c.groups_keep_sizes.ensures)
 
 -- the listing on them is that of SELECT
 pub returns : goal.returns

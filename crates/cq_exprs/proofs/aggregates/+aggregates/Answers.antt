@@ -4,7 +4,7 @@ use denote.Param.Weighed.{most}
 use Rattle.cq_language.proofs.written.ExprNode.TheLaws.{the_size}
 use Rattle.cq_language.specs.declared.written.ExprNode.TheViews.{the_lemmas}
 use Rattle.cq_language.specs.Written.{written}
-use Rattle.cq_binding.specs.Open.{has_aggregate}
+use Rattle.cq_binding.specs.Grouping.{has_aggregate}
 use Rattle.cq_exprs.proofs.Standing.{in_chain, in_list, in_sum, stands_first, stands_later}
 use Rattle.cq_exprs.proofs.Nodes.{most_take}
 use Rattle.cq_exprs.proofs.aggregates.+aggregates.Goals as goal

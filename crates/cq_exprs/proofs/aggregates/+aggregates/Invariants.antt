@@ -1,7 +1,7 @@
 use Rattle.std.proofs.Common.{◌≡◌, drop, map}
 use Rattle.std.specs.List.{list_any}
 use Rattle.cq_language.specs.Written.{written}
-use Rattle.cq_binding.specs.Open.{has_aggregate}
+use Rattle.cq_binding.specs.Grouping.{has_aggregate}
 use Rattle.cq_exprs.proofs.aggregates.+aggregates.Given as goal
 
 -- an aggregate stands in one of the nodes that are left, or in none

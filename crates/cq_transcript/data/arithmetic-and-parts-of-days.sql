@@ -1,0 +1,64 @@
+-- Arithmetic over 3, -4 and NULL: it is exact, and NULL with NULL in it.
+CREATE TABLE t(a INTEGER, b INTEGER, c INTEGER);
+INSERT INTO t VALUES (3, -4, NULL);
+-- 3 with its sign turned is -3
+SELECT -a FROM t;
+-- -(-4) is 4
+SELECT -b FROM t;
+-- -(-3) is 3
+SELECT -(-a) FROM t;
+-- -NULL is NULL
+SELECT -c FROM t;
+-- 3 + -4 is -1
+SELECT a + b FROM t;
+-- 3 - -4 is 7
+SELECT a - b FROM t;
+-- 3 + -4 - 3 + 10 is 6
+SELECT a + b - a + 10 FROM t;
+-- 3 + NULL is NULL
+SELECT a + c FROM t;
+-- NULL + 3 is NULL
+SELECT c + a FROM t;
+-- 3 * -4 is -12
+SELECT a * b FROM t;
+-- -4 * -4 * -4 is -64
+SELECT (-4) * (-4) * (-4) FROM t;
+-- the same of columns could be too wide
+SELECT b * b * b FROM t;
+-- 0 * NULL is NULL
+SELECT 0 * c FROM t;
+-- 3 * -4 + 3 is -9
+SELECT a * b + a FROM t;
+-- 3 * (-4 + 3) is -3
+SELECT 3 * (-4 + 3) FROM t;
+-- the same of columns could be too wide
+SELECT a * (b + a) FROM t;
+-- -(3 * -4) is 12
+SELECT -(a * b) FROM t;
+-- a column past the end
+SELECT past FROM t;
+-- EXTRACT gives the year, the month and the day
+CREATE TABLE days(d DATE);
+INSERT INTO days VALUES (DATE '0001-01-01'), (DATE '0001-12-31'), (DATE '1900-03-01'), (DATE '1969-12-31'),
+    (DATE '1970-01-01'), (DATE '2000-02-29'), (DATE '2024-02-29'), (DATE '2024-03-01'), (DATE '9999-12-31'),
+    (NULL);
+-- 0001-01-01
+SELECT EXTRACT(YEAR FROM d), EXTRACT(MONTH FROM d), EXTRACT(DAY FROM d) FROM days WHERE d = DATE '0001-01-01';
+-- 0001-12-31
+SELECT EXTRACT(YEAR FROM d), EXTRACT(MONTH FROM d), EXTRACT(DAY FROM d) FROM days WHERE d = DATE '0001-12-31';
+-- 1900-03-01
+SELECT EXTRACT(YEAR FROM d), EXTRACT(MONTH FROM d), EXTRACT(DAY FROM d) FROM days WHERE d = DATE '1900-03-01';
+-- 1969-12-31
+SELECT EXTRACT(YEAR FROM d), EXTRACT(MONTH FROM d), EXTRACT(DAY FROM d) FROM days WHERE d = DATE '1969-12-31';
+-- 1970-01-01
+SELECT EXTRACT(YEAR FROM d), EXTRACT(MONTH FROM d), EXTRACT(DAY FROM d) FROM days WHERE d = DATE '1970-01-01';
+-- 2000-02-29
+SELECT EXTRACT(YEAR FROM d), EXTRACT(MONTH FROM d), EXTRACT(DAY FROM d) FROM days WHERE d = DATE '2000-02-29';
+-- 2024-02-29
+SELECT EXTRACT(YEAR FROM d), EXTRACT(MONTH FROM d), EXTRACT(DAY FROM d) FROM days WHERE d = DATE '2024-02-29';
+-- 2024-03-01
+SELECT EXTRACT(YEAR FROM d), EXTRACT(MONTH FROM d), EXTRACT(DAY FROM d) FROM days WHERE d = DATE '2024-03-01';
+-- 9999-12-31
+SELECT EXTRACT(YEAR FROM d), EXTRACT(MONTH FROM d), EXTRACT(DAY FROM d) FROM days WHERE d = DATE '9999-12-31';
+-- NULL
+SELECT EXTRACT(YEAR FROM d), EXTRACT(MONTH FROM d), EXTRACT(DAY FROM d) FROM days WHERE d IS NULL;
