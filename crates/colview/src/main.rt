@@ -1,7 +1,8 @@
 //! The program `colview`: runs a script and writes its answers to standard output.
 #![tactic(auto)]
 
-use cq_cli::{Writer, run_program};
+use cq_cli::{Limits, Writer, run_program};
+use cq_folder::Folder;
 use cq_options::{LineFault, Options, options_of};
 use std::io::BufWriter;
 use std::process::ExitCode;
@@ -20,7 +21,7 @@ fn status(rt: &HostRuntime) -> u8 {
         Err(fault) => return told(rt, &fault),
     };
     match fs::read(rt, options.script.as_str()) {
-        Ok(script) => run_script(rt, script.as_slice()),
+        Ok(script) => run_script(rt, script.as_slice(), &options),
         Err(_) => stopped(rt, "cannot read script"),
     }
 }
@@ -58,12 +59,17 @@ fn told(rt: &HostRuntime, fault: &LineFault) -> u8 {
 }
 
 /// Runs the script. After a failed write nothing more is written, also not what the buffer still holds.
-fn run_script(rt: &HostRuntime, script: &[u8]) -> u8 {
+fn run_script(rt: &HostRuntime, script: &[u8], options: &Options) -> u8 {
     let Ok(buffer) = BufWriter::new(rt.alloc(), io::writer(rt)) else {
         return stopped(rt, "out of memory");
     };
     let mut out = Writer::new(buffer);
-    let exit = run_program(rt.alloc(), script, &mut out);
+    // The command line takes no other number than a limit.
+    let Some(limits) = Limits::new(options.max_rows) else {
+        return stopped(rt, "no such limit");
+    };
+    let mut folder = Folder::new(rt, options.dir.as_str());
+    let exit = run_program(rt.alloc(), script, limits, &mut folder, &mut out);
     drop(out.into_inner().into_parts());
     if exit == STOPPED {
         return stopped(rt, "output failed");

@@ -12,8 +12,8 @@ use Rattle.cq_binding.specs.Checks.{first_fault, MayRefuse}
 use Rattle.cq_binding.specs.SourceChecks.{where_check}
 use Rattle.cq_binding.specs.Refusal.{delete_checks, written_table}
 use Rattle.cq_states.specs.State.{TableOf, ViewOf, table_named}
-use Rattle.cq_binder.specs.Catalog.{alone}
-use Rattle.cq_binder.proofs.Faults.{refused_same}
+use Rattle.cq_catalog.specs.Catalog.{alone}
+use Rattle.cq_catalog.proofs.Faults.{refused_same}
 
 -- the command on a table
 abbrev pub delete_command : Option Written → TableOf → Bound

@@ -20,7 +20,7 @@ use Rattle.cq_binding.specs.Bound.{constant_value, literal_value, row_of}
 use Rattle.cq_binding.specs.Checks.{first_fault}
 use Rattle.cq_binding.specs.RowChecks.{fits_column, is_type, constant_check, constant_checks, row_checks}
 use Rattle.cq_states.specs.Fitting.{FitsColumn, FitsColumns}
-use Rattle.cq_binder.proofs.Faults.{first_fault_append}
+use Rattle.cq_catalog.proofs.Faults.{first_fault_append}
 
 -- a type that passes the test is the one that is asked for
 one_type : (t u : Ty) → is_type t u ≡ true → t ≡ u

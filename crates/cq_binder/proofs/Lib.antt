@@ -1,16 +1,6 @@
-pub mod Faults
-pub mod Walks
-pub mod Shapes
-pub mod Found
 pub mod Creating
-pub mod Selecting
-pub mod SourceColumns
-pub mod Joining
 pub mod Deleting
-pub mod ViewNames
-pub mod BoundItems
 pub mod Sorting
 pub mod Setting
-pub mod Ordering
-pub mod BareNames
 pub mod Fitting
+pub mod CopiedFiles

@@ -1,5 +1,5 @@
 -- SET, assignment by assignment.
-use Rattle.std.proofs.Common.{◌≡◌, ℕ, zero, suc, ◌+◌, ◌<◌, false, List, [], ◌∷◌, ◌++◌, length, get_or, take, drop, Option, Some, None, Ok, Err, refl, sym, ap, ◌∙◌, arith}
+use Rattle.std.proofs.Common.{◌≡◌, ℕ, zero, suc, ◌+◌, ◌<◌, false, List, [], ◌∷◌, ◌++◌, length, get_or, take, drop, Option, Some, Ok, Err, refl, sym, ap, ◌∙◌, arith}
 use Rattle.std.specs.Prelude.{option_map}
 use Rattle.std.specs.Option.{option_or}
 use Rattle.std.proofs.lemmas.List.{at_drop_more, take_more}
@@ -21,13 +21,9 @@ use Rattle.cq_binding.specs.Sets.{bound_sets, bound_where}
 use Rattle.cq_binding.specs.Typing.{Scope, ScopeColumn, set_fault, type_at, typed}
 use Rattle.cq_binding.specs.UpdateChecks.{is_set, set_check, set_checks, update_walk}
 use Rattle.cq_states.specs.State.{TableOf, ViewOf, table_named}
-use Rattle.cq_binder.specs.Catalog.{alone, sets_walk}
-use Rattle.cq_binder.proofs.Faults.{first_fault_append, refused_first, refused_same, refused_with}
-
--- the only check decides
-only : (o : Option Fault) → first_fault (o ∷ []) ≡ o
-only None = refl
-only (Some f) = refl
+use Rattle.cq_catalog.specs.Catalog.{alone}
+use Rattle.cq_binder.specs.Binding.{sets_walk}
+use Rattle.cq_catalog.proofs.Faults.{first_fault_append, one_check, refused_first, refused_same, refused_with}
 
 -- a column at its place has its type
 type_there : (columns : List ScopeColumn) (i : ℕ) (d : ScopeColumn) → i < length columns → d ≡ get_or columns i d → type_at columns i ≡ d.ty
@@ -48,7 +44,7 @@ module _ (s : Scope) where
     -- where the column is there and not set before, and the expression has no fault, the type decides
     type_decides : first_fault (set_check s before a) ≡ set_fault d.ty (typed s a.value)
     type_decides =
-        rw (there, fresh, walked, type_there s.columns i d (column_there s.columns a.column i there) is) (only (set_fault d.ty (Ok t)))
+        rw (there, fresh, walked, type_there s.columns i d (column_there s.columns a.column i there) is) (one_check (set_fault d.ty (Ok t)))
 
     -- it refuses
     pub type_refused : (f : Fault) → MayRefuse (set_fault d.ty (typed s a.value)) f → MayRefuse (first_fault (set_check s before a)) f

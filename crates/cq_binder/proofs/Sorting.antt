@@ -12,7 +12,7 @@ use Rattle.cq_binding.specs.Scopes.{column_place, place_in}
 use Rattle.cq_binding.specs.Checks.{first_fault, fault_if}
 use Rattle.cq_binding.specs.SourceChecks.{name_check}
 use Rattle.cq_binding.specs.Refusal.{sort_checks}
-use Rattle.cq_binder.proofs.Faults.{first_fault_append, single}
+use Rattle.cq_catalog.proofs.Faults.{first_fault_append, single}
 
 module _ (columns : List ColumnDef) where
   -- the places of a name behind others

@@ -5,7 +5,7 @@ use Rattle.cq_binding.specs.declared.fault.Fault.{Fault}
 use Rattle.cq_binding.specs.Scopes.{place_in}
 use Rattle.cq_binding.specs.Refusal.{create_checks}
 use Rattle.cq_states.specs.State.{State}
-use Rattle.cq_binder.specs.Walk.{WalksTo}
+use Rattle.cq_catalog.specs.Walk.{WalksTo}
 
 -- where the columns of these names stand
 abbrev pub sort_places : List ColumnDef → List (List ℕ) → List ℕ

@@ -6,7 +6,7 @@ use Rattle.cq_language.specs.declared.statement.Constant.{Constant}
 use Rattle.cq_binding.specs.declared.fault.Fault.{Fault}
 use Rattle.cq_binding.specs.Bound.{constant_value}
 use Rattle.cq_binding.specs.RowChecks.{constant_check}
-use Rattle.cq_binder.specs.Walk.{WalksTo}
+use Rattle.cq_catalog.specs.Walk.{WalksTo}
 
 -- a constant becomes its value where it can stand in the column
 abbrev pub BindsConstant : ColumnDef → Constant → Result Value Fault → Type 0

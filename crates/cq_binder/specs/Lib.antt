@@ -1,12 +1,6 @@
-pub mod Walk
+pub mod Binding
 pub mod Columns
-pub mod Conditions
 pub mod Constants
 pub mod Update
-pub mod Catalog
-pub mod From
-pub mod Select
-pub mod Items
-pub mod Grouping
-pub mod View
 pub mod Laws
+pub mod Sourced

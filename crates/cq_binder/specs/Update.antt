@@ -10,9 +10,9 @@ use Rattle.cq_binding.specs.Typing.{Scope}
 use Rattle.cq_binding.specs.UpdateChecks.{set_check, set_checks, update_walk}
 use Rattle.cq_binding.specs.Scopes.{from_table, scope_of}
 use Rattle.cq_states.specs.State.{TableOf}
-use Rattle.cq_binder.specs.declared.catalog.TableEntry.{TableEntry}
-use Rattle.cq_binder.specs.Catalog.{Describes}
-use Rattle.cq_binder.specs.Walk.{Walked, WalksTo}
+use Rattle.cq_catalog.specs.declared.catalog.TableEntry.{TableEntry}
+use Rattle.cq_catalog.specs.Catalog.{Describes}
+use Rattle.cq_catalog.specs.Walk.{Walked, WalksTo}
 
 -- an assignment behind those before it is bound where it has no fault
 abbrev pub BindsSet : Scope → List SetClause → SetClause → Result Assignment Fault → Type 0

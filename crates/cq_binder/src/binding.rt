@@ -1,33 +1,39 @@
 //! Statements become commands.
-ghost use Rattle.std.specs.Prelude.{◌≡◌, if◌then◌else◌};
-ghost use Rattle.cq_language.specs.declared.statement.Statement.TheVariants.{CreateTable, DropTable, DropView};
+ghost use Rattle.std.specs.Prelude.{◌≡◌, ◌<◌, ◌-◌, ◌^◌, if◌then◌else◌};
+ghost use Rattle.cq_language.specs.declared.statement.Statement.TheVariants.{CreateTable, CreateView, DropTable, DropView};
 ghost use Rattle.cq_binding.specs.declared.fault.Fault.TheVariants.{ClauseInView, UnknownTable, ViewNotWritten};
 ghost use Rattle.cq_states.specs.State.{is_taken};
-ghost use Rattle.cq_binder.specs.Catalog.{Binds, names_view, state_of};
+ghost use Rattle.cq_catalog.specs.Catalog.{names_view, state_of};
+ghost use Rattle.cq_binder.specs.Binding.{Binds};
 ghost use Rattle.cq_binder.specs.Columns.{WalksCreate};
+ghost use Rattle.cq_binder.specs.Sourced.{BindsFrom};
 
-use crate::catalog::Catalog;
-use crate::columns::{check_length, check_names, copy_columns, sort_columns};
+use crate::columns::{copy_columns, sort_columns};
+use crate::copying::bind_copy;
 use crate::moving::{bind_merge, bind_move, bind_refresh};
-use crate::reading::{bind_select, bind_view};
 use crate::updating::bind_update;
 use crate::writing::{bind_delete, bind_insert};
-use cq_binding::{Bound, Fault};
-use cq_language::Statement;
+use cq_binding::{Bound, Fault, Sources};
+use cq_catalog::Catalog;
+use cq_language::{Select, Statement};
+use cq_queries::{bind_select, bind_view_on, check_length, check_names, may_be_kept};
 use cq_values::{ColumnDef, Seq, Text};
 use std::alloc::Global;
 
 /// Why a statement is not bound: the first fault of its walk, or want of memory.
 pub type BindFault = Fault;
 
-/// The command that a statement is, with the names of the catalog resolved. Whether the rows of an INSERT fit their table
-/// is not asked, nor which values an UPDATE gives.
-pub fn bind<C: Catalog>(
+/// The command that a statement is, with the names of the catalog resolved and the file of a COPY read. Whether the rows of
+/// an INSERT or a COPY fit their table is not asked, nor which values an UPDATE gives.
+pub fn bind<C: Catalog, S: Sources>(
     alloc: Global,
     statement: &Statement,
     catalog: &C,
+    sources: &mut S,
 ) -> Result<Bound, BindFault>
-    ensures { Binds (state_of C.tables C.views catalog.now) statement.now result }
+    requires { S.failures sources.old < 2 ^ 64 - 1 }
+    ensures bound { BindsFrom S.Sources sources.old sources.new C.Catalog catalog.now statement.now result }
+    ensures files { S.files sources.new ≡ S.files sources.old }
 {
     match statement {
         Statement::CreateTable {
@@ -39,6 +45,7 @@ pub fn bind<C: Catalog>(
         Statement::CreateView { name, query } => bind_view(alloc, catalog, name, query),
         Statement::DropView(name) => bind_drop_view(catalog, name),
         Statement::Insert { table, rows } => bind_insert(alloc, catalog, table, rows),
+        Statement::Copy { table, file } => bind_copy(alloc, catalog, table, file, sources),
         Statement::Delete { table, condition } => bind_delete(alloc, catalog, table, condition),
         Statement::Update {
             table,
@@ -88,6 +95,27 @@ fn check_create<C: Catalog>(
     sort_columns(alloc, columns, sort)
 }
 
+fn bind_view<C: Catalog>(
+    alloc: Global,
+    catalog: &C,
+    name: &Text,
+    view: &Select,
+) -> Result<Bound, BindFault>
+    ensures { Binds (state_of C.tables C.views catalog.now) (CreateView name.now view.now) result }
+{
+    if !may_be_kept(view) {
+        return Err(Fault::Syntax);
+    }
+    if is_taken(catalog, name.as_str()) {
+        return Err(Fault::NameTaken);
+    }
+    let source = view.first.name.as_str();
+    let Some(table) = catalog.table(source) else {
+        return Err(unread(catalog, source));
+    };
+    bind_view_on(alloc, &table, name, view)
+}
+
 fn bind_drop<C: Catalog>(catalog: &C, name: &Text) -> Result<Bound, BindFault>
     ensures { Binds (state_of C.tables C.views catalog.now) (DropTable name.now) result }
 {
@@ -110,7 +138,7 @@ fn bind_drop_view<C: Catalog>(catalog: &C, name: &Text) -> Result<Bound, BindFau
 }
 
 /// Whether a table or a view has the name.
-pub(crate) fn is_taken<C: Catalog>(catalog: &C, name: &str) -> bool
+fn is_taken<C: Catalog>(catalog: &C, name: &str) -> bool
     ensures { result ≡ is_taken name.now (state_of C.tables C.views catalog.now) }
 {
     catalog.table(name).is_some() || is_view(catalog, name)
@@ -128,7 +156,7 @@ pub(crate) fn unwritten<C: Catalog>(catalog: &C, name: &str) -> BindFault
 }
 
 /// Why a name that no table has cannot be read by a view.
-pub(crate) fn unread<C: Catalog>(catalog: &C, name: &str) -> BindFault
+fn unread<C: Catalog>(catalog: &C, name: &str) -> BindFault
     ensures { result ≡ (if names_view name.now (C.views catalog.now) then ClauseInView else UnknownTable) }
 {
     if is_view(catalog, name) {

@@ -1,19 +1,14 @@
-//! The columns of a table: where a name stands, and what CREATE TABLE may not declare.
-ghost use Rattle.std.specs.Prelude.{◌≡◌, ◌∷◌, IfOk, []};
-ghost use Rattle.std.specs.List.{list_any};
-ghost use Rattle.cq_values.specs.Texts.{is_text};
-ghost use Rattle.cq_binding.specs.Checks.{too_long};
-ghost use Rattle.cq_binding.specs.Refusal.{column_checks, sort_checks};
+//! The columns of a table that is created, and where those behind SORT BY stand.
+ghost use Rattle.std.specs.Prelude.{◌≡◌, IfOk, []};
+ghost use Rattle.cq_binding.specs.Refusal.{sort_checks};
 ghost use Rattle.cq_binder.specs.Columns.{sort_places};
-ghost use Rattle.cq_binder.specs.Walk.{Passes, WalksTo};
+ghost use Rattle.cq_catalog.specs.Walk.{WalksTo};
 
 use cq_binding::Fault;
 use cq_exprs::column_place;
+use cq_queries::is_named;
 use cq_values::{ColumnDef, Seq, Text};
 use std::alloc::{AllocError, Global};
-
-/// A list of columns or of items has at most so many entries.
-const MAX_ENTRIES: usize = 64;
 
 /// Where the columns behind SORT BY stand, each of them once.
 pub(crate) fn sort_columns(
@@ -36,29 +31,6 @@ pub(crate) fn sort_columns(
     Ok(places)
 }
 
-/// Refuses a name that an earlier column has.
-pub(crate) fn check_names(columns: &[ColumnDef]) -> Result<(), Fault>
-    ensures { Passes (column_checks [] columns.now) result }
-{
-    for (i, column) in columns.iter().enumerate() {
-        if is_declared(&columns[..i], column) {
-            return Err(Fault::NameTaken);
-        }
-    }
-    Ok(())
-}
-
-/// Refuses a list that is too long.
-pub(crate) fn check_length(entries: usize) -> Result<(), Fault>
-    ensures { Passes (too_long entries ∷ []) result }
-{
-    if MAX_ENTRIES < entries {
-        Err(Fault::LimitExceeded)
-    } else {
-        Ok(())
-    }
-}
-
 /// The columns once more.
 pub(crate) fn copy_columns(
     alloc: Global,
@@ -75,17 +47,4 @@ pub(crate) fn copy_columns(
         })?;
     }
     Ok(copies)
-}
-
-fn is_declared(columns: &[ColumnDef], column: &ColumnDef) -> bool
-    ensures { result ≡ list_any (λ c. is_text c.name column.now.name) columns.now }
-{
-    let name = column.name.as_str();
-    columns.iter().any(|c| c.name.as_str() == name)
-}
-
-pub(crate) fn is_named(names: &[Text], name: &str) -> bool
-    ensures { result ≡ list_any (λ n. is_text n name.now) names.now }
-{
-    names.iter().any(|n| n.as_str() == name)
 }

@@ -3,7 +3,7 @@ ghost use Rattle.cq_language.specs.declared.statement.Constant.TheVariants as co
 ghost use Rattle.cq_binding.specs.Bound.{row_of};
 ghost use Rattle.cq_binding.specs.RowChecks.{row_checks};
 ghost use Rattle.cq_binder.specs.Constants.{BindsConstant};
-ghost use Rattle.cq_binder.specs.Walk.{WalksTo};
+ghost use Rattle.cq_catalog.specs.Walk.{WalksTo};
 
 use crate::literals::{fits_column, literal_number};
 use cq_binding::Fault;

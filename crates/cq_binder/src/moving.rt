@@ -1,10 +1,11 @@
 //! MOVE, MERGE and REFRESH.
 ghost use Rattle.cq_language.specs.declared.statement.Statement.TheVariants.{Merge, Move, Refresh};
-ghost use Rattle.cq_binder.specs.Catalog.{Binds, state_of};
+ghost use Rattle.cq_catalog.specs.Catalog.{state_of};
+ghost use Rattle.cq_binder.specs.Binding.{Binds};
 
 use crate::binding::{BindFault, unwritten};
-use crate::catalog::Catalog;
 use cq_binding::{Bound, Fault};
+use cq_catalog::Catalog;
 use cq_values::Text;
 
 /// MOVE.

@@ -3,17 +3,17 @@ ghost use Rattle.std.specs.Prelude.{◌≡◌};
 ghost use Rattle.cq_language.specs.declared.statement.Statement.TheVariants.{Update};
 ghost use Rattle.cq_binding.specs.UpdateChecks.{is_set};
 ghost use Rattle.cq_exprs.specs.Expressions.{scope_of};
-ghost use Rattle.cq_binder.specs.Catalog.{Binds, state_of};
+ghost use Rattle.cq_catalog.specs.Catalog.{state_of};
+ghost use Rattle.cq_binder.specs.Binding.{Binds};
 ghost use Rattle.cq_binder.specs.Update.{BindsSet, BindsSets, BindsUpdate, BindsUpdateOf};
 
 use crate::binding::{BindFault, unwritten};
-use crate::catalog::{Catalog, TableEntry};
-use crate::conditions::bound_where;
-use crate::scopes::table_columns;
 use cq_binding::{Bound, Fault};
+use cq_catalog::{Catalog, TableEntry, table_columns};
 use cq_exprs::{Scope, bind_of, named_place, typing_of};
 use cq_language::{SetClause, SqlExpr};
 use cq_model::{Assignment, Cond};
+use cq_queries::bound_where;
 use cq_values::{Seq, Text};
 use std::alloc::Global;
 

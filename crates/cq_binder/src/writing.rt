@@ -6,19 +6,19 @@ ghost use Rattle.cq_binding.specs.Bound.{row_of};
 ghost use Rattle.cq_binding.specs.RowChecks.{row_checks};
 ghost use Rattle.cq_binding.specs.Scopes.{from_table, scope_of};
 ghost use Rattle.cq_states.specs.State.{TableOf};
-ghost use Rattle.cq_binder.specs.Catalog.{Binds, Describes, state_of};
-ghost use Rattle.cq_binder.specs.Conditions.{BindsWhere};
-ghost use Rattle.cq_binder.specs.Walk.{WalksTo};
+ghost use Rattle.cq_catalog.specs.Catalog.{Describes, state_of};
+ghost use Rattle.cq_binder.specs.Binding.{Binds};
+ghost use Rattle.cq_queries.specs.Conditions.{BindsWhere};
+ghost use Rattle.cq_catalog.specs.Walk.{WalksTo};
 
 use crate::binding::{BindFault, unwritten};
-use crate::catalog::{Catalog, TableEntry};
-use crate::conditions::bound_where;
 use crate::constants::bound_row;
-use crate::scopes::table_columns;
 use cq_binding::Bound;
+use cq_catalog::{Catalog, TableEntry, table_columns};
 use cq_exprs::Scope;
 use cq_language::{Constant, SqlExpr};
 use cq_model::Cond;
+use cq_queries::bound_where;
 use cq_values::{ColumnDef, Row, Seq, Text};
 use std::alloc::Global;
 

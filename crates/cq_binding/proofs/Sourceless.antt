@@ -1,8 +1,10 @@
 -- No check of the walk tells that a source failed.
 use Rattle.std.proofs.Common.{◌≡◌, ℕ, ◌^◌, Bool, true, false, if◌then◌else◌, List, [], ◌∷◌, ◌++◌, map, Option, Some, None, Result, Ok, Err, refl}
-use Rattle.std.specs.Prelude.{nat_lt, ok_or, not, is_none, is_some, length, position}
+use Rattle.std.specs.Str.{is_utf8}
+use Rattle.std.specs.Prelude.{◌+◌, ◌==◌, nat_lt, ok_or, not, is_none, is_some, length, position}
 use Rattle.std.specs.List.{AllByRecursion, flat_map}
 use Rattle.cq_values.specs.declared.column.ColumnDef.{ColumnDef}
+use Rattle.cq_values.specs.declared.ty.Ty.{Ty}
 use Rattle.cq_values.specs.declared.ty.Ty.TheVariants as types
 use Rattle.cq_values.specs.Dates.{day_named}
 use Rattle.cq_values.specs.Texts.{is_text}
@@ -38,9 +40,12 @@ use Rattle.cq_binding.specs.Open.{may_be_kept}
 use Rattle.cq_binding.specs.Orders.{is_no_place, key_checks, named_check, order_checks, output_check}
 use Rattle.cq_binding.specs.Checks.{first_fault, fault_if, too_long}
 use Rattle.cq_binding.specs.RowChecks.{fits_column, is_type, constant_check, constant_checks, row_checks}
+use Rattle.cq_printed.specs.Printed.{is_escaped}
+use Rattle.cq_binding.specs.Fields.{field_number, field_value, is_null_field, null_in, stored_number, typed_field}
+use Rattle.cq_binding.specs.Records.{Files, field_values, file_rows, record_row, record_rows}
 use Rattle.cq_binding.specs.SourceChecks.{group_check, group_checks, kept_check, name_check, where_check, value_check}
 use Rattle.cq_binding.specs.ViewChecks.{read_table, repeats, query_checks, view_select_checks}
-use Rattle.cq_binding.specs.Refusal.{column_checks, sort_checks, create_checks, drop_table_checks, written_table, insert_checks, delete_checks, bag_checks, source_checks, select_checks, checks, refusal, table_checks}
+use Rattle.cq_binding.specs.Refusal.{column_checks, sort_checks, create_checks, drop_table_checks, written_table, insert_checks, delete_checks, bag_checks, source_checks, select_checks, checks, content_checks, name_checks, refusal, table_checks}
 use Rattle.cq_binding.specs.Kinds.{◌and_then◌, unless, aggregated, number_of, negative, arithmetic, sum_of, product_of, part_of, compared_with, tested, between_them, like_of, negation_of, connected, kept_value, of_type}
 use Rattle.cq_binding.specs.Typing.{Scope, ScopeColumn, column_typing, fault_in, is_meant, knows, listed, of_group, one_meant, resolved, rows_in, typed}
 use Rattle.cq_binding.specs.UpdateChecks.{column_type, is_set, row_checks_of, set_check, set_checks, update_checks, update_walk, value_checks}
@@ -240,6 +245,40 @@ update_clean condition sets (Ok t) h =
     both_clean (update_walk condition sets s) (row_checks_of condition sets t) (where_clean s condition, sets_clean s [] sets)
     (flat_clean (value_checks t.columns (chosen (bound_where s condition) t.rows)) (values_clean t.columns (chosen (bound_where s condition) t.rows)) (bound_sets s sets))
 
+-- ---- COPY
+field_clean : (at : ℕ) (t : Ty) (bytes : List ℕ) → fails_by_source (typed_field at t bytes) ≡ false
+field_clean at types.Integer bytes =
+    then_clean (ok_or (field_number bytes) (faults.BadRecord at)) stored_number (found_clean (field_number bytes) (faults.BadRecord at) refl) (λ n. unless_clean _ faults.NumberOutside _ refl)
+field_clean at types.Text bytes = unless_clean _ faults.TextTooLong _ refl
+field_clean at types.Date bytes = branch_clean (is_escaped bytes) (Err (faults.BadRecord at)) _ refl (found_clean _ faults.BadDate refl)
+
+read_clean : (at : ℕ) (d : ColumnDef) (bytes : List ℕ) → fails_by_source (field_value at d bytes) ≡ false
+read_clean at d bytes =
+    branch_clean (not (is_utf8 bytes)) (Err (faults.BadRecord at)) _ refl
+    (branch_clean (is_null_field d.ty bytes) (null_in d) (typed_field at d.ty bytes) (unless_clean (not d.not_null) faults.NullNotAllowed _ refl) (field_clean at d.ty bytes))
+
+fields_clean : (at : ℕ) (ds : List ColumnDef) (ts : List (List ℕ)) → fails_by_source (field_values at ds ts) ≡ false
+fields_clean at [] ts = refl
+fields_clean at (d ∷ ds) [] = refl
+fields_clean at (d ∷ ds) (t ∷ ts) =
+    then_clean (field_value at d t) _ (read_clean at d t) (λ v. then_clean (field_values at ds ts) _ (fields_clean at ds ts) (λ vs. refl))
+
+record_clean : (columns : List ColumnDef) (at : ℕ) (fields : List (List ℕ)) → fails_by_source (record_row columns at fields) ≡ false
+record_clean columns at fields =
+    branch_clean (length fields == length columns) (field_values at columns fields) (Err (faults.BadRecord at)) (fields_clean at columns fields) refl
+
+records_clean : (columns : List ColumnDef) (at : ℕ) (rs : List (List (List ℕ))) → fails_by_source (record_rows columns at rs) ≡ false
+records_clean columns at [] = refl
+records_clean columns at (r ∷ rs) =
+    then_clean (record_row columns at r) _ (record_clean columns at r) (λ row. then_clean (record_rows columns (at + 1) rs) _ (records_clean columns (at + 1) rs) (λ rows. refl))
+
+content_clean : (max_rows : ℕ) (bytes : List ℕ) (r : Result TableOf Fault) → Clean (content_checks max_rows bytes r)
+content_clean max_rows bytes (Err f) = tt
+content_clean max_rows bytes (Ok t) = (fault_clean (file_rows t.columns bytes) (records_clean t.columns 1 _), (if_clean _ faults.TableFull refl, tt))
+
+copy_clean : (max_rows : ℕ) (file bytes : List ℕ) (r : Result TableOf Fault) → fails_by_source r ≡ false → Clean (name_checks file r ++ content_checks max_rows bytes r)
+copy_clean max_rows file bytes r h = (fault_clean r h, (if_clean _ faults.TextTooLong refl, content_clean max_rows bytes r))
+
 groups_clean : (columns : List ScopeColumn) (group : List ColumnName) → Clean (group_checks columns group)
 groups_clean columns group =
     both_clean (map (group_check columns) group) (too_long (length group) ∷ []) (map_clean (group_check columns) (λ c. fault_clean _ (resolved_clean columns c)) group) (long_clean (length group), tt)
@@ -329,20 +368,21 @@ moved_clean : (r : Result TableOf Fault) → fails_by_source r ≡ false → Cle
 moved_clean (Err f) h = (h, tt)
 moved_clean (Ok t) h = tt
 
-all_clean : (s : State) (statement : Statement) → Clean (checks s statement)
-all_clean s (statements.CreateTable name columns sort) = create_clean name columns sort s
-all_clean s (statements.DropTable name) = drop_clean s.views _
-all_clean s (statements.CreateView name v) =
+all_clean : (files : Files) (s : State) (statement : Statement) → Clean (checks files s statement)
+all_clean files s (statements.CreateTable name columns sort) = create_clean name columns sort s
+all_clean files s (statements.DropTable name) = drop_clean s.views _
+all_clean files s (statements.CreateView name v) =
     (if_clean (not (may_be_kept v)) faults.Syntax refl, (if_clean _ faults.NameTaken refl, view_clean v (read_table v.first.name s) (table_clean _ _ faults.ClauseInView refl)))
-all_clean s (statements.DropView name) = (if_clean _ faults.UnknownTable refl, tt)
-all_clean s (statements.Insert name rows) = insert_clean s.max_rows rows (written_table name s) (table_clean _ _ faults.ViewNotWritten refl)
-all_clean s (statements.Delete name condition) = delete_clean condition (written_table name s) (table_clean _ _ faults.ViewNotWritten refl)
-all_clean s (statements.Update name sets condition) = update_clean condition sets (written_table name s) (table_clean _ _ faults.ViewNotWritten refl)
-all_clean s (statements.Select q) = select_clean q (from_walk s q) (from_clean s q)
-all_clean s (statements.Move name rows) = moved_clean (written_table name s) (table_clean _ _ faults.ViewNotWritten refl)
-all_clean s (statements.Merge name) = moved_clean (written_table name s) (table_clean _ _ faults.ViewNotWritten refl)
-all_clean s (statements.Refresh view changes) = (if_clean _ faults.UnknownTable refl, tt)
+all_clean files s (statements.DropView name) = (if_clean _ faults.UnknownTable refl, tt)
+all_clean files s (statements.Insert name rows) = insert_clean s.max_rows rows (written_table name s) (table_clean _ _ faults.ViewNotWritten refl)
+all_clean files s (statements.Copy name file) = copy_clean s.max_rows file (files file) (written_table name s) (table_clean _ _ faults.ViewNotWritten refl)
+all_clean files s (statements.Delete name condition) = delete_clean condition (written_table name s) (table_clean _ _ faults.ViewNotWritten refl)
+all_clean files s (statements.Update name sets condition) = update_clean condition sets (written_table name s) (table_clean _ _ faults.ViewNotWritten refl)
+all_clean files s (statements.Select q) = select_clean q (from_walk s q) (from_clean s q)
+all_clean files s (statements.Move name rows) = moved_clean (written_table name s) (table_clean _ _ faults.ViewNotWritten refl)
+all_clean files s (statements.Merge name) = moved_clean (written_table name s) (table_clean _ _ faults.ViewNotWritten refl)
+all_clean files s (statements.Refresh view changes) = (if_clean _ faults.UnknownTable refl, tt)
 
 -- the refusal of a statement tells of no source
-pub sourceless : (s : State) (statement : Statement) → tells_source (refusal s statement) ≡ false
-sourceless s statement = first_clean (checks s statement) (all_clean s statement)
+pub sourceless : (files : Files) (s : State) (statement : Statement) → tells_source (refusal files s statement) ≡ false
+sourceless files s statement = first_clean (checks files s statement) (all_clean files s statement)

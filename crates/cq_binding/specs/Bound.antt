@@ -22,6 +22,7 @@ use Rattle.cq_binding.specs.Scopes.{place_in, from_table, scope_of}
 use Rattle.cq_binding.specs.From.{From, first_from, from_walk}
 use Rattle.cq_binding.specs.Grouping.{item_scope}
 use Rattle.cq_binding.specs.Queries.{bound_query}
+use Rattle.cq_binding.specs.Records.{Files, file_rows}
 use Rattle.cq_binding.specs.declared.fault.Fault.{Fault}
 use Rattle.cq_binding.specs.Sets.{bound_sets, bound_where}
 use Rattle.cq_binding.specs.Headers.{header, shown_name}
@@ -56,6 +57,10 @@ abbrev pub standing : {A : Type 0} → Result A Fault → Option A
 standing (Ok x) = Some x
 standing (Err f) = None
 
+-- the rows that a file gives a table, none where it is refused
+abbrev pub rows_read : TableOf → List ℕ → List Row
+rows_read t bytes = unwrap_or (standing (file_rows t.columns bytes)) []
+
 -- the columns of a view that its items from a place on are shown as
 abbrev pub item_columns : Scope → ℕ → List SelectItem → List ColumnDef
 item_columns s place [] = []
@@ -73,17 +78,19 @@ bound_view name v t =
     let from = view_from v t in
     commands.CreateView name (item_columns (item_scope v from.columns) 1 v.items) (bound_query v from)
 
--- a statement whose tables and views are there
-abbrev pub bound : State → Statement → Option Bound
-bound s (statements.CreateTable name columns sort) = Some (commands.CreateTable name columns (map (place_in columns) sort))
-bound s (statements.DropTable name) = option_map (λ t. commands.DropTable t.number) (table_named name s.tables)
-bound s (statements.CreateView name v) = option_map (bound_view name v) (table_named v.first.name s.tables)
-bound s (statements.DropView name) = option_map commands.DropView (view_place name s.views)
-bound s (statements.Insert name rows) = option_map (λ t. commands.Insert t.number (map row_of rows)) (table_named name s.tables)
-bound s (statements.Delete name condition) =
+-- a statement whose tables and views are there, with the rows that its file gives
+abbrev pub bound : Files → State → Statement → Option Bound
+bound files s (statements.CreateTable name columns sort) = Some (commands.CreateTable name columns (map (place_in columns) sort))
+bound files s (statements.DropTable name) = option_map (λ t. commands.DropTable t.number) (table_named name s.tables)
+bound files s (statements.CreateView name v) = option_map (bound_view name v) (table_named v.first.name s.tables)
+bound files s (statements.DropView name) = option_map commands.DropView (view_place name s.views)
+bound files s (statements.Insert name rows) = option_map (λ t. commands.Insert t.number (map row_of rows)) (table_named name s.tables)
+bound files s (statements.Copy name file) =
+    option_map (λ t. commands.Insert t.number (rows_read t (files file))) (table_named name s.tables)
+bound files s (statements.Delete name condition) =
     option_map (λ t. commands.Delete t.number (bound_where (scope_of (from_table t)) condition)) (table_named name s.tables)
-bound s (statements.Update name sets condition) = option_map (bound_update sets condition) (table_named name s.tables)
-bound s (statements.Select q) = option_map (bound_select q) (standing (from_walk s q))
-bound s (statements.Move name rows) = option_map (λ t. commands.Move t.number rows) (table_named name s.tables)
-bound s (statements.Merge name) = option_map (λ t. commands.Merge t.number) (table_named name s.tables)
-bound s (statements.Refresh name changes) = option_map (λ place. commands.Refresh place changes) (view_place name s.views)
+bound files s (statements.Update name sets condition) = option_map (bound_update sets condition) (table_named name s.tables)
+bound files s (statements.Select q) = option_map (bound_select q) (standing (from_walk s q))
+bound files s (statements.Move name rows) = option_map (λ t. commands.Move t.number rows) (table_named name s.tables)
+bound files s (statements.Merge name) = option_map (λ t. commands.Merge t.number) (table_named name s.tables)
+bound files s (statements.Refresh name changes) = option_map (λ place. commands.Refresh place changes) (view_place name s.views)

@@ -11,8 +11,11 @@ pub mod Checks
 pub mod Orders
 pub mod Sets
 pub mod Queries
-pub mod Bound
 pub mod RowChecks
+pub mod Fields
+pub mod Records
+pub mod Sources
+pub mod Bound
 pub mod Open
 pub mod SourceChecks
 pub mod ViewChecks

@@ -1,6 +1,6 @@
 -- Which refusal a statement gets: the walk through its checks, each of which has its fault or none; the first fault wins
 -- (docs/LANGUAGE.md, Refusals).
-use Rattle.std.specs.Prelude.{ℕ, ◌+◌, nat_lt, Bool, if◌then◌else◌, List, [], ◌∷◌, ◌++◌, map, length, Option, Some, None, is_some, is_none, ok_or, Result, Ok, Err}
+use Rattle.std.specs.Prelude.{ℕ, ◌+◌, nat_lt, Bool, false, if◌then◌else◌, List, [], ◌∷◌, ◌++◌, map, length, Option, Some, None, is_some, is_none, ok_or, Result, Ok, Err}
 use Rattle.std.specs.List.{list_any, flat_map}
 use Rattle.cq_values.specs.Texts.{is_text}
 use Rattle.cq_values.specs.declared.column.ColumnDef.{ColumnDef}
@@ -8,18 +8,21 @@ use Rattle.cq_language.specs.declared.statement.Constant.{Constant}
 use Rattle.cq_language.specs.declared.statement.Select.{Select}
 use Rattle.cq_language.specs.declared.statement.Statement.{Statement}
 use Rattle.cq_language.specs.declared.statement.Statement.TheVariants as statements
+use Rattle.cq_model.specs.Sizes.{text_limit}
 use Rattle.cq_model.specs.Views.{sources_of, is_table}
 use Rattle.cq_language.specs.Written.{Written}
 use Rattle.cq_binding.specs.declared.fault.Fault.{Fault}
-use Rattle.cq_binding.specs.declared.fault.Fault.TheVariants.{UnknownTable, NameTaken, TableFull, TableInUse, ViewNotWritten}
+use Rattle.cq_binding.specs.declared.fault.Fault.TheVariants.{UnknownTable, NameTaken, TableFull, TableInUse, TextTooLong, ViewNotWritten}
 use Rattle.cq_binding.specs.Scopes.{from_table, of_rows, scope_of}
 use Rattle.cq_binding.specs.From.{From, from_walk}
+use Rattle.cq_binding.specs.Bound.{rows_read}
 use Rattle.cq_binding.specs.Grouping.{item_scope}
 use Rattle.cq_binding.specs.Headers.{header, shown_by}
 use Rattle.cq_states.specs.State.{TableOf, ViewOf, State, table_named, view_place, view_named, is_taken}
-use Rattle.cq_binding.specs.Typing.{ScopeColumn}
+use Rattle.cq_binding.specs.Typing.{ScopeColumn, fault_in}
 use Rattle.cq_binding.specs.Checks.{first_fault, fault_if, too_long}
 use Rattle.cq_binding.specs.Orders.{order_checks}
+use Rattle.cq_binding.specs.Records.{Files, file_rows}
 use Rattle.cq_binding.specs.RowChecks.{row_checks}
 use Rattle.cq_binding.specs.SourceChecks.{group_checks, name_check, value_check, where_check}
 use Rattle.cq_binding.specs.UpdateChecks.{update_checks}
@@ -59,6 +62,21 @@ abbrev pub insert_checks : ℕ → List (List Constant) → Result TableOf Fault
 insert_checks max_rows rows (Err f) = Some f ∷ []
 insert_checks max_rows rows (Ok t) = flat_map (row_checks t.columns) rows ++ fault_if (nat_lt max_rows (length t.rows + length rows)) TableFull ∷ []
 
+-- COPY before its file is read: the table's name, the file's name
+abbrev pub name_checks : List ℕ → Result TableOf Fault → List (Option Fault)
+name_checks file table = fault_in table ∷ fault_if (nat_lt text_limit (length file)) TextTooLong ∷ []
+
+-- COPY behind them: the records of the file, then whether their rows fit the table
+abbrev pub content_checks : ℕ → List ℕ → Result TableOf Fault → List (Option Fault)
+content_checks max_rows bytes (Err f) = []
+content_checks max_rows bytes (Ok t) =
+    fault_in (file_rows t.columns bytes) ∷ fault_if (nat_lt max_rows (length t.rows + length (rows_read t bytes))) TableFull ∷ []
+
+-- whether a statement reads its source: COPY, where no check before that has a fault
+abbrev pub reads_source : State → Statement → Bool
+reads_source s (statements.Copy name file) = is_none (first_fault (name_checks file (written_table name s)))
+reads_source s statement = false
+
 -- DELETE: the name, WHERE
 abbrev pub delete_checks : Option Written → Result TableOf Fault → List (Option Fault)
 delete_checks condition (Err f) = Some f ∷ []
@@ -89,20 +107,22 @@ table_checks (Ok t) = []
 abbrev pub view_checks : Option ℕ → List (Option Fault)
 view_checks place = fault_if (is_none place) UnknownTable ∷ []
 
--- the checks of a statement, in the order of the walk
-abbrev pub checks : State → Statement → List (Option Fault)
-checks s (statements.CreateTable name columns sort) = create_checks name columns sort s
-checks s (statements.DropTable name) = drop_table_checks s.views (table_named name s.tables)
-checks s (statements.CreateView name query) = create_view_checks name query s
-checks s (statements.DropView name) = view_checks (view_place name s.views)
-checks s (statements.Insert name rows) = insert_checks s.max_rows rows (written_table name s)
-checks s (statements.Delete name condition) = delete_checks condition (written_table name s)
-checks s (statements.Update name sets condition) = update_checks condition sets (written_table name s)
-checks s (statements.Select q) = select_checks q (from_walk s q)
-checks s (statements.Move name rows) = table_checks (written_table name s)
-checks s (statements.Merge name) = table_checks (written_table name s)
-checks s (statements.Refresh name changes) = view_checks (view_place name s.views)
+-- the checks of a statement, in the order of the walk, where its source holds these files
+abbrev pub checks : Files → State → Statement → List (Option Fault)
+checks files s (statements.CreateTable name columns sort) = create_checks name columns sort s
+checks files s (statements.DropTable name) = drop_table_checks s.views (table_named name s.tables)
+checks files s (statements.CreateView name query) = create_view_checks name query s
+checks files s (statements.DropView name) = view_checks (view_place name s.views)
+checks files s (statements.Insert name rows) = insert_checks s.max_rows rows (written_table name s)
+checks files s (statements.Copy name file) =
+    name_checks file (written_table name s) ++ content_checks s.max_rows (files file) (written_table name s)
+checks files s (statements.Delete name condition) = delete_checks condition (written_table name s)
+checks files s (statements.Update name sets condition) = update_checks condition sets (written_table name s)
+checks files s (statements.Select q) = select_checks q (from_walk s q)
+checks files s (statements.Move name rows) = table_checks (written_table name s)
+checks files s (statements.Merge name) = table_checks (written_table name s)
+checks files s (statements.Refresh name changes) = view_checks (view_place name s.views)
 
 -- the refusal of a statement, if it has one; want of memory is no part of the walk
-abbrev pub refusal : State → Statement → Option Fault
-refusal s statement = first_fault (checks s statement)
+abbrev pub refusal : Files → State → Statement → Option Fault
+refusal files s statement = first_fault (checks files s statement)

@@ -5,8 +5,10 @@
 
 mod bound;
 mod fault;
+mod sources;
 mod typing;
 
 pub use bound::Bound;
 pub use fault::Fault;
+pub use sources::{SourceFault, Sources};
 pub use typing::{Kind, Typing};

@@ -9,6 +9,7 @@ use Rattle.cq_steps.specs.declared.answer.Answer.{Answer}
 use Rattle.cq_steps.specs.declared.answer.Answer.TheVariants.{Done, Count, Rows}
 use Rattle.cq_binding.specs.declared.fault.Fault.{Fault}
 use Rattle.cq_binding.specs.declared.fault.Fault.TheVariants as faults
+use Rattle.cq_binding.specs.Records.{Files}
 use Rattle.cq_states.specs.State.{State}
 use Rattle.cq_steps.specs.Step.{Leads, Does, Refuses, by_walk, for_memory, source_failed, memory_on_the_way, too_large, Step}
 use Rattle.cq_steps.specs.Output.{Serves, rest_without_semicolon, sentence, no_sentence, past_limits, out_of_memory}
@@ -24,37 +25,37 @@ use Rattle.cq_cli.specs.Printing.{Shows, Tells, printed_status, printed_text}
 use Rattle.cq_cli.specs.Running.{status_of}
 
 -- a result whose text finds no memory is refused for it
-pub memory_instead : (old new : State) (p : PieceOf) (header : List (List ℕ)) (rows : List Row) → Serves old p (Ok (Rows header rows)) new → new ≡ old → Serves old p (Err faults.Memory) new
-memory_instead old new p header rows (rest_without_semicolon unclosed is same) stays = absurd cc
-memory_instead old new p header rows (sentence closed s is step) stays = sentence closed s is (for_memory refl stays)
-memory_instead old new p header rows (no_sentence closed none is same) stays = absurd cc
-memory_instead old new p header rows (past_limits closed past is same) stays = absurd cc
-memory_instead old new p header rows (out_of_memory closed is same) stays = absurd cc
+pub memory_instead : (source : Option Files) (old new : State) (p : PieceOf) (header : List (List ℕ)) (rows : List Row) → Serves source old p (Ok (Rows header rows)) new → new ≡ old → Serves source old p (Err faults.Memory) new
+memory_instead source old new p header rows (rest_without_semicolon unclosed is same) stays = absurd cc
+memory_instead source old new p header rows (sentence closed s is step) stays = sentence closed s is (step.0, step.1, for_memory refl stays)
+memory_instead source old new p header rows (no_sentence closed none is same) stays = absurd cc
+memory_instead source old new p header rows (past_limits closed past is same) stays = absurd cc
+memory_instead source old new p header rows (out_of_memory closed is same) stays = absurd cc
 
 -- what is shown for an outcome is the text and the status of an outcome of the same piece
-pub shown_serves : (old new : State) (p : PieceOf) (o : Result Answer Fault) (shown : Printed) → Serves old p o new → OnlyShows old o new → Shows o shown
-    → (told : Result Answer Fault) × Serves old p told new × (printed_text shown ≡ outcome_text told) × (printed_status shown ≡ status_of (told ∷ [])) × (source_failures (o ∷ []) ≡ source_failures (told ∷ []))
-shown_serves old new p (Ok Done) prints.Done h k s = (Ok Done, h, refl, refl, refl)
-shown_serves old new p (Ok (Count n)) (prints.Count m) h k s = (Ok (Count n), h, rw s refl, refl, refl)
-shown_serves old new p (Ok (Rows header rows)) (prints.Rows text) h k s = (Ok (Rows header rows), h, s, refl, refl)
-shown_serves old new p (Ok (Rows header rows)) (prints.Refused faults.Memory) h k s = (Err faults.Memory, memory_instead old new p header rows h k, refl, refl, refl)
-shown_serves old new p (Err f) (prints.Refused g) h k s = (Err f, h, rw s refl, refl, refl)
-shown_serves old new p o shown h k s = absurd s
+pub shown_serves : (source : Option Files) (old new : State) (p : PieceOf) (o : Result Answer Fault) (shown : Printed) → Serves source old p o new → OnlyShows old o new → Shows o shown
+    → (told : Result Answer Fault) × Serves source old p told new × (printed_text shown ≡ outcome_text told) × (printed_status shown ≡ status_of (told ∷ [])) × (source_failures (o ∷ []) ≡ source_failures (told ∷ []))
+shown_serves source old new p (Ok Done) prints.Done h k s = (Ok Done, h, refl, refl, refl)
+shown_serves source old new p (Ok (Count n)) (prints.Count m) h k s = (Ok (Count n), h, rw s refl, refl, refl)
+shown_serves source old new p (Ok (Rows header rows)) (prints.Rows text) h k s = (Ok (Rows header rows), h, s, refl, refl)
+shown_serves source old new p (Ok (Rows header rows)) (prints.Refused faults.Memory) h k s = (Err faults.Memory, memory_instead source old new p header rows h k, refl, refl, refl)
+shown_serves source old new p (Err f) (prints.Refused g) h k s = (Err f, h, rw s refl, refl, refl)
+shown_serves source old new p o shown h k s = absurd s
 
 -- the text of the piece's outcome was written, or a prefix where the sink failed; it tells whether a source failed
-pub record ServesPiece (state : State) (piece : PieceOf) (next : State) (old new : Option (List ℕ)) (before after asked failed : ℕ) (result : Result Status RunFault) : Type 0 where
+pub record ServesPiece (source : Option Files) (state : State) (piece : PieceOf) (next : State) (old new : Option (List ℕ)) (before after asked failed : ℕ) (result : Result Status RunFault) : Type 0 where
   pub outcome : Result Answer Fault
-  pub answered : Serves state piece outcome next
+  pub answered : Serves source state piece outcome next
   pub written : Wrote (outcome_text outcome) old new before after result
   pub counted : failed ≡ asked + source_failures (outcome ∷ [])
   pub told : IfOk result (λ status. status ≡ status_of (outcome ∷ []))
 
 -- what a piece was answered with was told, and so it was served
-pub serves_piece : {K : Type 0} (sink : Sink K) (state : State) (piece : PieceOf) (next : State) (old new : K) (asked failed : ℕ) (outcome : Result Answer Fault) (result : Result Status RunFault)
-    → Serves state piece outcome next → OnlyShows state outcome next → failed ≡ asked + source_failures (outcome ∷ []) → Tells outcome sink old new result
-    → ServesPiece state piece next (sink.contents old) (sink.contents new) (sink.failures old) (sink.failures new) asked failed result
-serves_piece sink state piece next old new asked failed outcome result served rows counted tells =
-    let told = shown_serves state next piece outcome tells.printed served rows tells.shows in
+pub serves_piece : {K : Type 0} (source : Option Files) (sink : Sink K) (state : State) (piece : PieceOf) (next : State) (old new : K) (asked failed : ℕ) (outcome : Result Answer Fault) (result : Result Status RunFault)
+    → Serves source state piece outcome next → OnlyShows state outcome next → failed ≡ asked + source_failures (outcome ∷ []) → Tells outcome sink old new result
+    → ServesPiece source state piece next (sink.contents old) (sink.contents new) (sink.failures old) (sink.failures new) asked failed result
+serves_piece source sink state piece next old new asked failed outcome result served rows counted tells =
+    let told = shown_serves source state next piece outcome tells.printed served rows tells.shows in
     record {
       outcome = told.0;
       answered = told.1;
@@ -64,9 +65,9 @@ serves_piece sink state piece next old new asked failed outcome result served ro
     }
 
 -- memory may be wanting for any closed piece, and any other is refused; either way the state stays
-pub refused_somehow : (s : State) (p : PieceOf) (closed : Bool) → p.closed ≡ closed → (o : Result Answer Fault) × Serves s p o s
-refused_somehow s p true is = (Err faults.Memory, out_of_memory is refl refl)
-refused_somehow s p false is = (Err faults.Syntax, rest_without_semicolon is refl refl)
+pub refused_somehow : (source : Option Files) (s : State) (p : PieceOf) (closed : Bool) → p.closed ≡ closed → (o : Result Answer Fault) × Serves source s p o s
+refused_somehow source s p true is = (Err faults.Memory, out_of_memory is refl refl)
+refused_somehow source s p false is = (Err faults.Syntax, rest_without_semicolon is refl refl)
 
 -- the number that is drawn next
 abbrev next : State → ℕ
@@ -87,26 +88,40 @@ leads_draws old whole (commands.Merge n) answer l = omega (arith, ap next l.1)
 leads_draws old whole (commands.Refresh place changes) answer l = omega (arith, ap next l.1)
 
 -- an accepted statement too
-does_draws : (old new : State) (s : Statement) (answer : Answer) → Does old s answer new → new.drawn ≤ old.drawn + 1
-does_draws old new s answer d = omega (arith, ap next d.accepts.trims.state, leads_draws old d.accepts.whole d.command answer d.accepts.leads)
+does_draws : (files : Files) (old new : State) (s : Statement) (answer : Answer) → Does files old s answer new → new.drawn ≤ old.drawn + 1
+does_draws files old new s answer d = omega (arith, ap next d.accepts.trims.state, leads_draws old d.accepts.whole d.command answer d.accepts.leads)
 
 -- and a refused one none
-refuses_draws : (old new : State) (s : Statement) (f : Fault) → Refuses old s f new → new.drawn ≤ old.drawn + 1
-refuses_draws old new s f (by_walk refused same) = omega (arith, ap next same)
-refuses_draws old new s f (for_memory is same) = omega (arith, ap next same)
-refuses_draws old new s f (source_failed reads is same) = omega (arith, ap next same)
-refuses_draws old new s f (memory_on_the_way command free bound is gives) = omega (arith, ap next gives.state)
-refuses_draws old new s f (too_large command free bound large is gives) = omega (arith, ap next gives.state)
+refuses_draws : (files : Files) (old new : State) (s : Statement) (f : Fault) → Refuses files old s f new → new.drawn ≤ old.drawn + 1
+refuses_draws files old new s f (by_walk refused same) = omega (arith, ap next same)
+refuses_draws files old new s f (for_memory is same) = omega (arith, ap next same)
+refuses_draws files old new s f (source_failed reads is same) = omega (arith, ap next same)
+refuses_draws files old new s f (memory_on_the_way command free bound is gives) = omega (arith, ap next gives.state)
+refuses_draws files old new s f (too_large command free bound large is gives) = omega (arith, ap next gives.state)
 
 -- a step counts at most one statement more
-step_draws : (old new : State) (s : Statement) (o : Result Answer Fault) → Step old s o new → new.drawn ≤ old.drawn + 1
-step_draws old new s (Ok answer) d = omega (arith, ap next d.trims.state, does_draws old d.on_the_way s answer d.does)
-step_draws old new s (Err f) r = refuses_draws old new s f r
+step_draws : (files : Files) (old new : State) (s : Statement) (o : Result Answer Fault) → Step files old s o new → new.drawn ≤ old.drawn + 1
+step_draws files old new s (Ok answer) d = omega (arith, ap next d.trims.state, does_draws files old d.on_the_way s answer d.does)
+step_draws files old new s (Err f) r = refuses_draws files old new s f r
 
 -- a piece counts one statement more where a semicolon ended it, and none otherwise
-pub serves_draws : (old new : State) (p : PieceOf) (o : Result Answer Fault) → Serves old p o new → new.drawn ≤ old.drawn + (if p.closed then 1 else 0)
-serves_draws old new p o (rest_without_semicolon unclosed is same) = rw (same, unclosed) (omega arith)
-serves_draws old new p o (sentence closed s is step) = rw closed (step_draws old new s o step)
-serves_draws old new p o (no_sentence closed none is same) = rw (same, closed) (omega arith)
-serves_draws old new p o (past_limits closed past is same) = rw (same, closed) (omega arith)
-serves_draws old new p o (out_of_memory closed is same) = rw (same, closed) (omega arith)
+pub serves_draws : (source : Option Files) (old new : State) (p : PieceOf) (o : Result Answer Fault) → Serves source old p o new → new.drawn ≤ old.drawn + (if p.closed then 1 else 0)
+serves_draws source old new p o (rest_without_semicolon unclosed is same) = rw (same, unclosed) (omega arith)
+serves_draws source old new p o (sentence closed s is step) = rw closed (step_draws step.0 old new s o step.2)
+serves_draws source old new p o (no_sentence closed none is same) = rw (same, closed) (omega arith)
+serves_draws source old new p o (past_limits closed past is same) = rw (same, closed) (omega arith)
+serves_draws source old new p o (out_of_memory closed is same) = rw (same, closed) (omega arith)
+
+-- an outcome tells of one failure at most
+one_at_most : (o : Result Answer Fault) → source_failures (o ∷ []) ≤ 1
+one_at_most (Ok answer) = omega arith
+one_at_most (Err faults.SourceFailed) = omega arith
+one_at_most (Err f) = omega arith
+
+-- and a piece where a semicolon ended it alone
+pub serves_failures : (source : Option Files) (old new : State) (p : PieceOf) (o : Result Answer Fault) → Serves source old p o new → source_failures (o ∷ []) ≤ (if p.closed then 1 else 0)
+serves_failures source old new p o (rest_without_semicolon unclosed is same) = rw (is, unclosed) (omega arith)
+serves_failures source old new p o (sentence closed s is step) = rw closed (one_at_most o)
+serves_failures source old new p o (no_sentence closed none is same) = rw closed (one_at_most o)
+serves_failures source old new p o (past_limits closed past is same) = rw closed (one_at_most o)
+serves_failures source old new p o (out_of_memory closed is same) = rw closed (one_at_most o)

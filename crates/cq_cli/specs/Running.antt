@@ -2,7 +2,7 @@
 use Rattle.std.specs.Prelude.{◌≡◌, ℕ, ◌+◌, Bool, true, false, if◌then◌else◌, List, ◌++◌, Option, Result, Ok, Err, IfOk}
 use Rattle.std.specs.List.{list_all}
 use Rattle.cq_steps.specs.declared.answer.Answer.{Answer}
-use Rattle.cq_states.specs.Fitting.{rows_limit}
+use Rattle.cq_binding.specs.Records.{Files}
 use Rattle.cq_binding.specs.declared.fault.Fault.{Fault}
 use Rattle.cq_steps.specs.Output.{HasOutcomes, output_of, source_failures}
 use Rattle.cq_cli.specs.declared.endings.Status.{Status}
@@ -10,7 +10,7 @@ use Rattle.cq_cli.specs.declared.endings.Status.TheVariants.{AllAccepted, SomeRe
 use Rattle.cq_cli.specs.declared.endings.RunFault.{RunFault}
 use Rattle.cq_cli.specs.declared.endings.RunFault.TheVariants.{Output}
 use Rattle.cq_cli.specs.declared.sink.Sink.{Ghosts as Sink}
-use Rattle.cq_engine.specs.declared.sources.Sources.{Ghosts as Sources}
+use Rattle.cq_binding.specs.declared.sources.Sources.{Ghosts as Sources}
 use Rattle.cq_cli.specs.Writing.{Wrote}
 
 -- whether the outcome of a statement is an answer
@@ -34,10 +34,11 @@ Counted outcomes asked failed (Ok status) = failed ≡ asked + source_failures o
 Counted outcomes asked failed (Err e) =
     (answered later : List (Result Answer Fault)) × (outcomes ≡ answered ++ later) × (failed ≡ asked + source_failures answered)
 
--- the output of the script's outcomes was written, or a prefix where the sink failed, and the sources' failures are told
-pub record RunsScript (max_rows : ℕ) (script : List ℕ) (old new : Option (List ℕ)) (before after asked failed : ℕ) (result : Result Status RunFault) : Type 0 where
+-- the output of the script's outcomes over the files of its source was written, or a prefix where the sink failed, and the
+-- sources' failures are told
+pub record RunsScript (source : Option Files) (max_rows : ℕ) (script : List ℕ) (old new : Option (List ℕ)) (before after asked failed : ℕ) (result : Result Status RunFault) : Type 0 where
   pub outcomes : List (Result Answer Fault)
-  pub answered : HasOutcomes max_rows script outcomes
+  pub answered : HasOutcomes source max_rows script outcomes
   pub written : Wrote (output_of outcomes) old new before after result
   pub counted : Counted outcomes asked failed result
   pub told : IfOk result (λ status. status ≡ status_of outcomes)
@@ -45,7 +46,7 @@ pub record RunsScript (max_rows : ℕ) (script : List ℕ) (old new : Option (Li
 -- the same of a sink and of sources
 abbrev pub Answers : {K S : Type 0} → ℕ → List ℕ → Sink K → K → K → Sources S → S → S → Result Status RunFault → Type 0
 Answers max_rows script sink old new sources asked failed result =
-    RunsScript max_rows script (sink.contents old) (sink.contents new) (sink.failures old) (sink.failures new) (sources.failures asked) (sources.failures failed) result
+    RunsScript (sources.files asked) max_rows script (sink.contents old) (sink.contents new) (sink.failures old) (sink.failures new) (sources.failures asked) (sources.failures failed) result
 
 -- the exit status of the program after a run
 abbrev pub exit_number : Result Status RunFault → ℕ
@@ -53,11 +54,9 @@ exit_number (Ok AllAccepted) = 0
 exit_number (Ok SomeRefused) = 1
 exit_number (Err Output) = 3
 
--- the program ran a script over the greatest limits, and ends with this status; at 0 and 1 the output is flushed
-pub record EndsProgram {K : Type 0} (script : List ℕ) (sink : Sink K) (old new : K) (exit : ℕ) : Type 0 where
+-- the program ran a script, and ends with this status; at 0 and 1 the output is flushed
+pub record EndsRun {K S : Type 0} (max_rows : ℕ) (script : List ℕ) (sink : Sink K) (old new : K) (sources : Sources S) (asked failed : S) (exit : ℕ) : Type 0 where
   pub ended : Result Status RunFault
-  pub asked : ℕ
-  pub failed : ℕ
-  pub ran : RunsScript rows_limit script (sink.contents old) (sink.contents new) (sink.failures old) (sink.failures new) asked failed ended
+  pub ran : Answers max_rows script sink old new sources asked failed ended
   pub flushed : IfOk ended (λ status. sink.is_flushed new ≡ true)
   pub told : exit ≡ exit_number ended

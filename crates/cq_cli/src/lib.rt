@@ -13,6 +13,7 @@ mod putting;
 mod running;
 mod sink;
 
+pub use cq_engine::{Limits, SourceFault, Sources};
 pub use endings::{RunFault, Status, exit_of};
 pub use laws::same_output;
 pub use no_sources::NoSources;

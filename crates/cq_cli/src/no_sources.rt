@@ -1,17 +1,25 @@
 //! Sources without a file.
-ghost use Rattle.std.specs.Prelude.{[]};
+ghost use Rattle.std.specs.Prelude.{◌≡◌, [], Some};
 
 use cq_engine::{SourceFault, Sources};
 use std::alloc::Global;
 
 /// Every read fails. The failures are counted.
-#[derive(Debug, Default, Drop)]
+#[derive(Debug, Drop)]
 pub struct NoSources {
     failures: u64,
 }
 
+impl NoSources {
+    pub fn new() -> NoSources
+        ensures { result.failures ≡ 0 }
+    {
+        NoSources { failures: 0 }
+    }
+}
+
 impl Sources for NoSources {
-    ghost files = { λ _ _. [] };
+    ghost files = { λ _. Some (λ _. []) };
 
     ghost failures = { λ s. s.failures };
 

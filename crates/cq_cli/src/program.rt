@@ -1,23 +1,26 @@
 //! What the program does with a script.
-ghost use Rattle.std.specs.Prelude.{◌<◌, ◌-◌, ◌^◌};
-ghost use Rattle.cq_cli.specs.Running.{EndsProgram};
+ghost use Rattle.std.specs.Prelude.{◌≡◌, ◌<◌, ◌+◌, ◌-◌, ◌^◌, length};
+ghost use Rattle.cq_cli.specs.Running.{EndsRun};
 
 use crate::endings::exit_of;
-use crate::no_sources::NoSources;
 use crate::running::run;
 use crate::sink::Sink;
-use cq_engine::Limits;
+use cq_engine::{Limits, Sources};
 use std::alloc::Global;
 
-/// Runs the whole script over the greatest limits and without files, and tells the exit status of the program: 0 where
-/// every statement was accepted, 1 where some were refused, 3 where the sink failed.
-pub fn run_program<K: Sink>(alloc: Global, script: &[u8], out: &mut K) -> u8
-    requires { K.failures out.old < 2 ^ 64 - 1 }
-    ensures { EndsProgram script.now K.Sink out.old out.new result }
+/// Runs the whole script, and tells the exit status of the program: 0 where every statement was accepted, 1 where some were
+/// refused, 3 where the sink failed.
+pub fn run_program<S: Sources, K: Sink>(
+    alloc: Global,
+    script: &[u8],
+    limits: Limits,
+    sources: &mut S,
+    out: &mut K,
+) -> u8
+    requires out { K.failures out.old < 2 ^ 64 - 1 }
+    requires sources { S.failures sources.old + length script.now < 2 ^ 64 }
+    ensures ended { EndsRun limits.max_rows script.now K.Sink out.old out.new S.Sources sources.old sources.new result }
+    ensures files { S.files sources.new ≡ S.files sources.old }
 {
-    let limits = Limits {
-        max_rows: Limits::MAX_ROWS,
-    };
-    let mut sources = NoSources::default();
-    exit_of(&run(alloc, script, limits, &mut sources, out))
+    exit_of(&run(alloc, script, limits, sources, out))
 }

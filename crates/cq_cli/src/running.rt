@@ -1,5 +1,5 @@
 //! Scripts from bytes to bytes.
-ghost use Rattle.std.specs.Prelude.{◌≡◌, ◌<◌, ◌+◌, ◌-◌, ◌^◌, ◌∷◌, [], OnOk, true};
+ghost use Rattle.std.specs.Prelude.{◌≡◌, ◌<◌, ◌+◌, ◌-◌, ◌^◌, ◌∷◌, [], OnOk, length, true};
 ghost use Rattle.cq_steps.specs.Output.{Serves, source_failures};
 ghost use Rattle.cq_tokens.specs.Piece.{piece_of};
 ghost use Rattle.cq_engine.specs.Commands.{OnlyShows};
@@ -23,8 +23,9 @@ fn answer<S: Sources>(
     piece: &Piece<'_>,
     sources: &mut S,
 ) -> Result<Answer, Fault>
-    requires { piece.now.closed ≡ true → engine.old.drawn < 2 ^ 64 - 1 }
-    ensures served { Serves engine.old (piece_of piece.now) result engine.new }
+    requires drawn { piece.now.closed ≡ true → engine.old.drawn < 2 ^ 64 - 1 }
+    requires failures { piece.now.closed ≡ true → S.failures sources.old < 2 ^ 64 - 1 }
+    ensures served { Serves (S.files sources.old) engine.old (piece_of piece.now) result engine.new }
     ensures rows { OnlyShows engine.old result engine.new }
     ensures files { S.files sources.new ≡ S.files sources.old }
     ensures failures { S.failures sources.new ≡ S.failures sources.old + source_failures (result ∷ []) }
@@ -60,7 +61,8 @@ fn run_text<S: Sources, K: Sink>(
     sources: &mut S,
     out: &mut K,
 ) -> Result<Status, RunFault>
-    requires { K.failures out.old < 2 ^ 64 - 1 }
+    requires out { K.failures out.old < 2 ^ 64 - 1 }
+    requires sources { S.failures sources.old + length script.now < 2 ^ 64 }
     ensures ran { Answers limits.max_rows script.now K.Sink out.old out.new S.Sources sources.old sources.new result }
     ensures files { S.files sources.new ≡ S.files sources.old }
 {
@@ -86,7 +88,8 @@ fn run_bytes<S: Sources, K: Sink>(
     sources: &mut S,
     out: &mut K,
 ) -> Result<Status, RunFault>
-    requires { K.failures out.old < 2 ^ 64 - 1 }
+    requires out { K.failures out.old < 2 ^ 64 - 1 }
+    requires sources { S.failures sources.old + length script.now < 2 ^ 64 }
     ensures ran { Answers limits.max_rows script.now K.Sink out.old out.new S.Sources sources.old sources.new result }
     ensures files { S.files sources.new ≡ S.files sources.old }
 {
@@ -105,7 +108,8 @@ pub fn run<S: Sources, K: Sink>(
     sources: &mut S,
     out: &mut K,
 ) -> Result<Status, RunFault>
-    requires { K.failures out.old < 2 ^ 64 - 1 }
+    requires out { K.failures out.old < 2 ^ 64 - 1 }
+    requires sources { S.failures sources.old + length script.now < 2 ^ 64 }
     ensures ran { Answers limits.max_rows script.now K.Sink out.old out.new S.Sources sources.old sources.new result }
     ensures flushed { OnOk result (K.is_flushed out.new ≡ true) }
     ensures files { S.files sources.new ≡ S.files sources.old }

@@ -33,7 +33,7 @@ fn answer(rt: &impl Abort, alloc: Global, engine: &mut Engine, text: &str) -> Re
 fn step(engine: &mut Engine, statement: &Statement) -> Result<Answer, Fail>
     requires { engine.old.drawn < 1000 }
 {
-    Ok(engine.step(statement, &mut NoSources::default())?)
+    Ok(engine.step(statement, &mut NoSources::new())?)
 }
 
 /// The rows that the engine answers a query.

@@ -1,5 +1,5 @@
 -- An UPDATE whose walk has no fault can be worked out on the rows of its table.
-use Rattle.std.proofs.Common.{◌≡◌, ℕ, Bool, true, false, List, [], ◌∷◌, ◌++◌, map, Option, None, Result, refl, sym, ap, subst}
+use Rattle.std.proofs.Common.{◌≡◌, ℕ, zero, suc, Bool, true, false, List, [], ◌∷◌, ◌++◌, map, Option, None, Result, refl, sym, ap, subst}
 use Rattle.std.specs.Prelude.{slice_index_or, unwrap_or}
 use Rattle.std.specs.List.{AllByRecursion}
 use denote.Enum.Bare.{same_true}
@@ -8,6 +8,7 @@ use Rattle.cq_values.specs.declared.column.ColumnDef.{ColumnDef}
 use Rattle.cq_values.specs.declared.ty.Ty.{Ty}
 use Rattle.cq_values.specs.declared.ty.Ty.TheVariants as types
 use Rattle.cq_values.specs.declared.value.Value.{Value}
+use Rattle.cq_values.specs.declared.value.Value.TheVariants.{Null, Number, Day, Text}
 use Rattle.cq_values.specs.Value.{Row, column}
 use Rattle.cq_laws.specs.Sizes.{IsStored}
 use Rattle.cq_language.specs.declared.statement.SetClause.{SetClause}
@@ -30,18 +31,32 @@ use Rattle.cq_binding.specs.UpdateChecks.{column_check, column_type, is_set, set
 use Rattle.cq_exprs.specs.Expressions.{KeepSizes}
 use Rattle.cq_exprs.specs.Types.{IsOf, IsOfKind, KeepTypes}
 use Rattle.cq_exprs.proofs.Typed.{typed_is_of_its_kind}
-use Rattle.cq_states.specs.Fitting.{FitsColumns, IsFitting}
+use Rattle.cq_states.specs.Fitting.{FitsColumn, FitsColumns, IsFitting}
 use Rattle.cq_states.specs.State.{TableOf}
-use Rattle.cq_engine.specs.Updates.{CanSet, CanSetAll, CanUpdate, declared_type}
-use Rattle.cq_engine.proofs.Fitting.{back_free, first_free, front_free, narrow_over, narrow_rows, passed, read_columns, stored_keep, stored_keeps}
-use Rattle.cq_engine.proofs.Setting.{type_kept}
-use Rattle.cq_engine.proofs.Stored.{rows_stored}
+use Rattle.cq_writes.specs.Updates.{CanSet, CanSetAll, CanUpdate, declared_type}
+use Rattle.cq_writes.proofs.Checks.{back_free, first_free, front_free}
+use Rattle.cq_engine.proofs.Fitting.{narrow_over, narrow_rows, passed, read_columns, stored_keep, stored_keeps}
+use Rattle.cq_tables.proofs.Stored.{rows_stored}
 
 -- a value of a kind that is of a type is of that type
 of_kind : (t : Ty) (k : Kind) (v : Value) → is_of t k ≡ true → IsOfKind k v → IsOf t v
 of_kind t kinds.Condition v of is = absurd (cc of)
 of_kind t kinds.Null v of is = subst (λ (u : Value). IsOf t u) (sym is) tt
 of_kind t (kinds.Value u) v of is = subst (λ (x : Ty). IsOf x v) (same_true ty.the_type tt u t of) is
+
+-- a value of a row that fits is of its column's type
+pub type_kept : (columns : List ColumnDef) (row : Row) (i : ℕ) → FitsColumns columns row → IsOf (declared_type columns i) (column row i)
+type_kept [] [] i fits = tt
+type_kept [] (v ∷ row) i fits = absurd fits
+type_kept (d ∷ columns) [] i fits = absurd fits
+type_kept (d ∷ columns) (v ∷ row) zero fits = own v fits.0
+  where
+    own : (u : Value) → FitsColumn d u → IsOf d.ty u
+    own Null h = tt
+    own (Number n) h = h.0
+    own (Day n) h = h
+    own (Text t) h = h
+type_kept (d ∷ columns) (v ∷ row) (suc i) fits = type_kept columns row i fits.1
 
 -- what is stored is of the column's type
 type_met : (t : Ty) (x : Typing) → fault_in (of_type t x) ≡ None → is_of t x.kind ≡ true

@@ -1,5 +1,5 @@
 -- Commands that were bound: what is known of them, and that carrying them out is the step of their statement.
-use Rattle.std.proofs.Common.{◌≡◌, ℕ, zero, suc, ◌+◌, ◌<◌, Bool, true, false, List, [], ◌∷◌, map, length, not, Option, Some, None, refl, sym, ap, ◌∙◌, inl, inr, arith, subst, Result, Ok, Err}
+use Rattle.std.proofs.Common.{◌≡◌, ◌⊎◌, ℕ, zero, suc, ◌+◌, ◌<◌, Bool, true, false, List, [], ◌∷◌, ◌++◌, map, length, not, Option, Some, None, refl, sym, ap, ◌∙◌, inl, inr, arith, subst, Result, Ok, Err}
 use Rattle.std.specs.Prelude.{◌==◌, nat_lt, IfSome, is_some, ok_or, option_map, slice_get, unwrap_or, if◌then◌else◌}
 use Rattle.std.specs.List.{AllByRecursion, flat_map}
 use Rattle.std.specs.Option.{option_or}
@@ -28,7 +28,8 @@ use Rattle.cq_binding.specs.declared.fault.Fault.TheVariants as faults
 use Rattle.cq_binding.specs.Scopes.{Named, bound_condition, from_table, from_view, place_in, scope_of, source_columns, source_named}
 use Rattle.cq_binding.specs.From.{From, from_walk}
 use Rattle.cq_binding.specs.Headers.{header}
-use Rattle.cq_binding.specs.Bound.{bound, bound_select, bound_update, bound_view, row_of, standing, view_from}
+use Rattle.cq_binding.specs.Bound.{bound, bound_select, bound_update, bound_view, row_of, rows_read, standing, view_from}
+use Rattle.cq_binding.specs.Records.{Files, file_rows}
 use Rattle.cq_binding.specs.Queries.{bound_query}
 use Rattle.cq_binding.specs.Sets.{bound_sets, bound_where}
 use Rattle.cq_binding.specs.UpdateChecks.{row_checks_of, update_checks, update_walk}
@@ -38,26 +39,35 @@ use Rattle.cq_binding.specs.Open.{may_be_kept}
 use Rattle.cq_binding.specs.SourceChecks.{where_check}
 use Rattle.cq_binding.specs.ViewChecks.{create_view_checks, query_checks, view_select_checks}
 use Rattle.cq_binding.specs.Orders.{order_checks}
-use Rattle.cq_binding.specs.Refusal.{bag_checks, is_used, delete_checks, drop_table_checks, insert_checks, checks, refusal, select_checks, source_checks, written_table}
+use Rattle.cq_binding.specs.Refusal.{bag_checks, is_used, content_checks, delete_checks, drop_table_checks, insert_checks, checks, name_checks, reads_source, refusal, select_checks, source_checks, written_table}
 use Rattle.cq_states.specs.Fitting.{FitsColumns, AreFitting, IsFitting}
 use Rattle.cq_states.specs.State.{TableOf, ViewOf, State, columns_in, is_taken, rows_in, table_named, view_named, view_place, AreNumbered}
 use Rattle.cq_steps.specs.Next.{reach, with_all_views}
-use Rattle.cq_steps.specs.Step.{AreBetween, IsTooLarge, Refuses, by_walk, for_memory, too_large, Step}
-use Rattle.cq_binder.specs.Catalog.{alone, binding_checks, rows_walk, sets_walk}
-use Rattle.cq_binder.proofs.Faults.{first_fault_append, or_next, single}
+use Rattle.cq_steps.specs.Output.{source_failures}
+use Rattle.cq_steps.specs.Step.{AreBetween, IsTooLarge, Refuses, by_walk, for_memory, source_failed, too_large, Step}
+use Rattle.cq_catalog.specs.Catalog.{alone as bare}
+use Rattle.cq_binding.proofs.Sourceless.{is_source, tells_source, sourceless}
+use Rattle.cq_binder.specs.Sourced.{IsBound, names_file, alone, over, failed}
+use Rattle.cq_binding.specs.Sources.{AreTold}
+use Rattle.cq_binder.specs.Binding.{Binds, BindsOver, binding_checks, records_walk, rows_walk, sets_walk}
+use Rattle.cq_catalog.proofs.Faults.{first_fault_append, or_next, single}
 use Rattle.cq_binder.proofs.Fitting.{rows_fit}
-use Rattle.cq_binder.proofs.Found.{has_place}
-use Rattle.cq_engine.specs.Narrow.{IsConditionSized, IsShapeSized, view_sizes}
-use Rattle.cq_engine.specs.Commands.{CanCarryOut, CarriesOut, IsRefused, IsThere, present, room}
+use Rattle.cq_records.proofs.Fits.{rows_fit as file_rows_fit}
+use Rattle.cq_catalog.proofs.Found.{has_place}
+use Rattle.cq_answers.specs.Narrow.{IsConditionSized, IsShapeSized, view_sizes}
+use Rattle.cq_engine.specs.Commands.{CanCarryOut, CarriesOut, IsRefused, present, room}
+use Rattle.cq_tables.specs.Tables.{IsThere}
 use Rattle.cq_engine.proofs.Creating.{query_fits, query_shown}
 use Rattle.cq_engine.proofs.Shapes.{filter_sized, shape_sized}
 use Rattle.cq_engine.proofs.Sourced.{IsFound, are_joined, standing_ok}
-use Rattle.cq_engine.proofs.Fitting.{back_free, first_free, front_free, narrow_rows, stored_keep}
-use Rattle.cq_engine.specs.Updates.{CanUpdate, value_fault}
+use Rattle.cq_writes.proofs.Checks.{back_free, first_free, front_free}
+use Rattle.cq_engine.proofs.Fitting.{narrow_rows, stored_keep}
+use Rattle.cq_writes.specs.Updates.{CanUpdate, value_fault}
 use Rattle.cq_engine.proofs.Assigned.{update_fits}
-use Rattle.cq_engine.proofs.Numbers.{Above}
-use Rattle.cq_engine.proofs.Places.{found_there}
-use Rattle.cq_engine.proofs.Stored.{rows_stored}
+use Rattle.cq_engine.proofs.Counting.{grown_by_none, grown_by_one, none_counted, one_counted}
+use Rattle.cq_tables.proofs.Numbers.{Above}
+use Rattle.cq_tables.proofs.Places.{found_there}
+use Rattle.cq_tables.proofs.Stored.{rows_stored}
 use Rattle.cq_engine.proofs.Steps.{AreAt, all_between}
 
 -- what an optional value is mapped to
@@ -137,10 +147,18 @@ view_at_place name views v named = at_place (view_place name views) refl
         ap (λ (p : Option ℕ). slice_get views (unwrap_or p 0)) is ∙ there ∙ named
     at_place None is = absurd (let both : false ≡ true = sym (ap is_some is) ∙ has_place name views ∙ ap is_some named in cc)
 
+-- the rows that were read of a file fit their table
+read_fit : (t : TableOf) (bytes : List ℕ) → AllByRecursion (FitsColumns t.columns) (rows_read t bytes)
+read_fit t bytes = of_rows (file_rows t.columns bytes) refl
+  where
+    of_rows : (r : Result (List Row) Fault) → file_rows t.columns bytes ≡ r → AllByRecursion (FitsColumns t.columns) (unwrap_or (standing r) [])
+    of_rows (Ok rows) is = file_rows_fit t.columns bytes rows is
+    of_rows (Err f) is = tt
+
 -- ---- What is known of a command that was bound
 module _ (tables : List TableOf) (views : List ViewOf) (next : ℕ) (numbered : AreNumbered tables next) (fitting : AreFitting tables) (shown : AllByRecursion (λ v. length v.columns ≡ length v.query.items) views) where
   abbrev here : State
-  here = alone tables views
+  here = bare tables views
 
   abbrev Can : Bound → Type 0
   Can command = CanCarryOut tables views command
@@ -174,6 +192,10 @@ module _ (tables : List TableOf) (views : List ViewOf) (next : ℕ) (numbered : 
       let fault = if is_some (view_named name views) then faults.ViewNotWritten else faults.UnknownTable in
       let walk : first_fault (flat_map (row_checks t.columns) rows) ≡ None = subst (λ (o : Option TableOf). first_fault (rows_walk rows (ok_or o fault)) ≡ None) found free in
       (there-found name t tables found, subst (λ (cs : List ColumnDef). AllByRecursion (FitsColumns cs) (map row_of rows)) (sym (columns-found name t tables next numbered found)) (rows_fit t.columns rows walk))
+
+  copy_can : (name bytes : List ℕ) (t : TableOf) → table_named name tables ≡ Some t → Can (commands.Insert t.number (rows_read t bytes))
+  copy_can name bytes t found =
+      (there-found name t tables found, subst (λ (cs : List ColumnDef). AllByRecursion (FitsColumns cs) (rows_read t bytes)) (sym (columns-found name t tables next numbered found)) (read_fit t bytes))
 
   delete_can : (name : List ℕ) (condition : Option Written) (t : TableOf) → table_named name tables ≡ Some t → first_fault (delete_checks condition (written_table name here)) ≡ None → Can (commands.Delete t.number (option_map (bound_condition (scope_of (from_table t))) condition))
   delete_can name condition t found free =
@@ -236,68 +258,106 @@ module _ (tables : List TableOf) (views : List ViewOf) (next : ℕ) (numbered : 
           shown = subst (λ (ns : List ℕ). IsShapeSized ns query.shape query.items) are.sizes (shape_sized q from.columns bag);
         }
 
-  pub bound_can : (statement : Statement) (command : Bound) → first_fault (binding_checks here statement) ≡ None → bound here statement ≡ Some command → Can command
-  bound_can (statements.CreateTable name columns sort) command free is =
+  pub bound_can : (files : Files) (statement : Statement) (command : Bound) → first_fault (binding_checks files here statement) ≡ None → bound files here statement ≡ Some command → Can command
+  bound_can files (statements.CreateTable name columns sort) command free is =
       let same : commands.CreateTable name columns (map (place_in columns) sort) ≡ command = cc is in
       subst Can same tt
-  bound_can (statements.DropTable name) command free is =
+  bound_can files (statements.DropTable name) command free is =
       let m = mapped (λ t. commands.DropTable t.number) (table_named name tables) command is in
       subst Can m.2 (drop_can name m.0 m.1 free)
-  bound_can (statements.CreateView name view) command free is =
+  bound_can files (statements.CreateView name view) command free is =
       let m = mapped (bound_view name view) (table_named view.first.name tables) command is in
       subst Can m.2 (create_view_can name view m.0 m.1 free)
-  bound_can (statements.DropView name) command free is =
+  bound_can files (statements.DropView name) command free is =
       let m = mapped commands.DropView (view_place name views) command is in
       subst Can m.2 (within_views name views m.0 m.1)
-  bound_can (statements.Insert name rows) command free is =
+  bound_can files (statements.Insert name rows) command free is =
       let m = mapped (λ t. commands.Insert t.number (map row_of rows)) (table_named name tables) command is in
       subst Can m.2 (insert_can name rows m.0 m.1 free)
-  bound_can (statements.Delete name condition) command free is =
+  bound_can files (statements.Copy name file) command free is =
+      let m = mapped (λ t. commands.Insert t.number (rows_read t (files file))) (table_named name tables) command is in
+      subst Can m.2 (copy_can name (files file) m.0 m.1)
+  bound_can files (statements.Delete name condition) command free is =
       let m = mapped (λ t. commands.Delete t.number (option_map (bound_condition (scope_of (from_table t))) condition)) (table_named name tables) command is in
       subst Can m.2 (delete_can name condition m.0 m.1 free)
-  bound_can (statements.Update name sets condition) command free is =
+  bound_can files (statements.Update name sets condition) command free is =
       let m = mapped (bound_update sets condition) (table_named name tables) command is in
       subst Can m.2 (update_can name sets condition m.0 m.1 free)
-  bound_can (statements.Select q) command free is =
+  bound_can files (statements.Select q) command free is =
       let m = mapped (bound_select q) (standing (from_walk here q)) command is in
       subst Can m.2 (select_can q m.0 (standing_ok (from_walk here q) m.0 m.1) free)
-  bound_can (statements.Move name rows) command free is =
+  bound_can files (statements.Move name rows) command free is =
       let m = mapped (λ t. commands.Move t.number rows) (table_named name tables) command is in
       subst Can m.2 (there-found name m.0 tables m.1)
-  bound_can (statements.Merge name) command free is =
+  bound_can files (statements.Merge name) command free is =
       let m = mapped (λ t. commands.Merge t.number) (table_named name tables) command is in
       subst Can m.2 (there-found name m.0 tables m.1)
-  bound_can (statements.Refresh view changes) command free is =
+  bound_can files (statements.Refresh view changes) command free is =
       let m = mapped (λ place. commands.Refresh place changes) (view_place view views) command is in
       subst Can m.2 (within_views view views m.0 m.1)
 
 -- ---- From commands to statements
 -- nothing but the tables and views is asked
-same_places : (s : State) (statement : Statement) → binding_checks (alone s.tables s.views) statement ≡ binding_checks s statement
-same_places s (statements.CreateTable name columns sort) = refl
-same_places s (statements.DropTable name) = refl
-same_places s (statements.CreateView name view) = refl
-same_places s (statements.DropView name) = refl
-same_places s (statements.Insert name rows) = refl
-same_places s (statements.Delete name condition) = refl
-same_places s (statements.Update name sets condition) = refl
-same_places s (statements.Select q) = refl
-same_places s (statements.Move name rows) = refl
-same_places s (statements.Merge name) = refl
-same_places s (statements.Refresh view changes) = refl
+same_places : (files : Files) (s : State) (statement : Statement) → binding_checks files (bare s.tables s.views) statement ≡ binding_checks files s statement
+same_places files s (statements.CreateTable name columns sort) = refl
+same_places files s (statements.DropTable name) = refl
+same_places files s (statements.CreateView name view) = refl
+same_places files s (statements.DropView name) = refl
+same_places files s (statements.Insert name rows) = refl
+same_places files s (statements.Copy name file) = refl
+same_places files s (statements.Delete name condition) = refl
+same_places files s (statements.Update name sets condition) = refl
+same_places files s (statements.Select q) = refl
+same_places files s (statements.Move name rows) = refl
+same_places files s (statements.Merge name) = refl
+same_places files s (statements.Refresh view changes) = refl
 
-same_bound : (s : State) (statement : Statement) → bound (alone s.tables s.views) statement ≡ bound s statement
-same_bound s (statements.CreateTable name columns sort) = refl
-same_bound s (statements.DropTable name) = refl
-same_bound s (statements.CreateView name view) = refl
-same_bound s (statements.DropView name) = refl
-same_bound s (statements.Insert name rows) = refl
-same_bound s (statements.Delete name condition) = refl
-same_bound s (statements.Update name sets condition) = refl
-same_bound s (statements.Select q) = refl
-same_bound s (statements.Move name rows) = refl
-same_bound s (statements.Merge name) = refl
-same_bound s (statements.Refresh view changes) = refl
+same_bound : (files : Files) (s : State) (statement : Statement) → bound files (bare s.tables s.views) statement ≡ bound files s statement
+same_bound files s (statements.CreateTable name columns sort) = refl
+same_bound files s (statements.DropTable name) = refl
+same_bound files s (statements.CreateView name view) = refl
+same_bound files s (statements.DropView name) = refl
+same_bound files s (statements.Insert name rows) = refl
+same_bound files s (statements.Copy name file) = refl
+same_bound files s (statements.Delete name condition) = refl
+same_bound files s (statements.Update name sets condition) = refl
+same_bound files s (statements.Select q) = refl
+same_bound files s (statements.Move name rows) = refl
+same_bound files s (statements.Merge name) = refl
+same_bound files s (statements.Refresh view changes) = refl
+
+same_reads : (s : State) (statement : Statement) → reads_source (bare s.tables s.views) statement ≡ reads_source s statement
+same_reads s (statements.Copy name file) = refl
+same_reads s statement = refl
+
+-- a statement is bound over these files, or its source has failed
+abbrev pub IsOver : Files → State → Statement → ℕ → ℕ → Result Bound Fault → Type 0
+IsOver files s statement before after result =
+    (BindsOver files s statement result × (after ≡ before)) ⊎ ((reads_source s statement ≡ true) × (result ≡ Err faults.SourceFailed) × (after ≡ before + 1))
+
+-- files that a source may hold
+some_files : (told : Option Files) → (files : Files) × AreTold told files
+some_files None = (λ (name : List ℕ). [], tt)
+some_files (Some files) = (files, refl)
+
+-- a statement that names no file is bound over any
+over_any : (files : Files) (s : State) (statement : Statement) (result : Result Bound Fault) → names_file statement ≡ false → Binds s statement result → BindsOver files s statement result
+over_any files s (statements.Copy name file) result none h = absurd (cc none)
+over_any files s statement result none h = h
+
+-- so each statement that is bound is bound over files that its source may hold
+pub bound_over : (told : Option Files) (s : State) (statement : Statement) (before after : ℕ) (result : Result Bound Fault) → IsBound told s statement before after result
+    → (files : Files) × AreTold told files × IsOver files s statement before after result
+bound_over told s statement before after result (alone none h same) =
+    let any = some_files told in (any.0, any.1, inl (over_any any.0 s statement result none h, same))
+bound_over told s statement before after result (over files are h same) = (files, are, inl (h, same))
+bound_over told s statement before after result (failed reads is more) = let any = some_files told in (any.0, any.1, inr (reads, is, more))
+
+-- what was bound to a command passed its walk, and no read failed
+pub passed_over : (files : Files) (s : State) (statement : Statement) (before after : ℕ) (command : Bound) → IsOver files s statement before after (Ok command)
+    → (after ≡ before) × (first_fault (binding_checks files s statement) ≡ None) × (bound files s statement ≡ Some command)
+passed_over files s statement before after command (inl h) = (h.1, h.0.0, h.0.1)
+passed_over files s statement before after command (inr h) = absurd (cc h.1)
 
 -- a fault of the rows comes before the room for them
 insert_refuses : (max_rows : ℕ) (rows : List (List Constant)) (table : Result TableOf Fault) (f : Fault) → first_fault (rows_walk rows table) ≡ Some f → first_fault (insert_checks max_rows rows table) ≡ Some f
@@ -315,16 +375,25 @@ update_refuses condition sets (Ok t) f e =
     let values = row_checks_of condition sets t in
     first_fault_append walk values ∙ ap (λ (o : Option Fault). option_or o (first_fault values)) e
 
-module _ (tables : List TableOf) (views : List ViewOf) (now drawn max_rows : ℕ) (at : AreAt now views) (numbered : AreNumbered tables drawn) where
+-- and one of a file before the room for its rows
+copy_refuses : (max_rows : ℕ) (file bytes : List ℕ) (table : Result TableOf Fault) (f : Fault) → first_fault (name_checks file table ++ records_walk bytes table) ≡ Some f → first_fault (name_checks file table ++ content_checks max_rows bytes table) ≡ Some f
+copy_refuses max_rows file bytes (Err g) f e = e
+copy_refuses max_rows file bytes (Ok t) f e =
+    let walk = name_checks file (Ok t) ++ records_walk bytes (Ok t) in
+    let fits : List (Option Fault) = fault_if (nat_lt max_rows (length t.rows + length (rows_read t bytes))) faults.TableFull ∷ [] in
+    first_fault_append walk fits ∙ ap (λ (o : Option Fault). option_or o (first_fault fits)) e
+
+module _ (files : Files) (tables : List TableOf) (views : List ViewOf) (now drawn max_rows : ℕ) (at : AreAt now views) (numbered : AreNumbered tables drawn) where
   abbrev old : State
   old = present tables views now drawn max_rows
 
-  walk_refuses : (statement : Statement) (f : Fault) → first_fault (binding_checks old statement) ≡ Some f → refusal old statement ≡ Some f
+  walk_refuses : (statement : Statement) (f : Fault) → first_fault (binding_checks files old statement) ≡ Some f → refusal files old statement ≡ Some f
   walk_refuses (statements.CreateTable name columns sort) f e = e
   walk_refuses (statements.DropTable name) f e = e
   walk_refuses (statements.CreateView name view) f e = e
   walk_refuses (statements.DropView name) f e = e
   walk_refuses (statements.Insert name rows) f e = insert_refuses max_rows rows (written_table name old) f e
+  walk_refuses (statements.Copy name file) f e = copy_refuses max_rows file (files file) (written_table name old) f e
   walk_refuses (statements.Delete name condition) f e = e
   walk_refuses (statements.Update name sets condition) f e = update_refuses condition sets (written_table name old) f e
   walk_refuses (statements.Select q) f e = e
@@ -332,24 +401,36 @@ module _ (tables : List TableOf) (views : List ViewOf) (now drawn max_rows : ℕ
   walk_refuses (statements.Merge name) f e = e
   walk_refuses (statements.Refresh view changes) f e = e
 
-  refused_along_walk : (statement : Statement) (f : Fault) → MayRefuse (first_fault (binding_checks old statement)) f → Refuses old statement f old
+  refused_along_walk : (statement : Statement) (f : Fault) → MayRefuse (first_fault (binding_checks files old statement)) f → Refuses files old statement f old
   refused_along_walk statement faults.Memory m = for_memory refl refl
   refused_along_walk statement f m = by_walk (walk_refuses statement f m) refl
 
+  -- a refusal of the walk tells of no source
+  walk_unsourced : (statement : Statement) (f : Fault) → MayRefuse (first_fault (binding_checks files old statement)) f → is_source f ≡ false
+  walk_unsourced statement faults.Memory m = refl
+  walk_unsourced statement f m = ap tells_source (sym (walk_refuses statement f m)) ∙ sourceless files old statement
+
   -- a statement that is not bound is refused
-  pub bind_refused : (statement : Statement) (f : Fault) → MayRefuse (first_fault (binding_checks (alone tables views) statement)) f → Refuses old statement f old
-  bind_refused statement f m = refused_along_walk statement f (subst (λ (cs : List (Option Fault)). MayRefuse (first_fault cs) f) (same_places old statement) m)
+  pub bind_refused : (statement : Statement) (f : Fault) (before after : ℕ) → IsOver files (bare tables views) statement before after (Err f) → Refuses files old statement f old
+  bind_refused statement f before after (inl h) = refused_along_walk statement f (subst (λ (cs : List (Option Fault)). MayRefuse (first_fault cs) f) (same_places files old statement) h.0)
+  bind_refused statement f before after (inr h) = source_failed (sym (same_reads old statement) ∙ h.0) (cc h.1) refl
 
-  module _ (statement : Statement) (command : Bound) (free_alone : first_fault (binding_checks (alone tables views) statement) ≡ None) (is_alone : bound (alone tables views) statement ≡ Some command) where
-    free : first_fault (binding_checks old statement) ≡ None
-    free = sym (ap first_fault (same_places old statement)) ∙ free_alone
+  -- and the count of failures has grown where its source failed
+  pub bind_counted : (statement : Statement) (f : Fault) (before after : ℕ) → IsOver files (bare tables views) statement before after (Err f) → after ≡ before + source_failures (Err f ∷ [])
+  bind_counted statement f before after (inl h) =
+      grown_by_none before after _ h.1 (none_counted f (walk_unsourced statement f (subst (λ (cs : List (Option Fault)). MayRefuse (first_fault cs) f) (same_places files old statement) h.0)))
+  bind_counted statement f before after (inr h) = grown_by_one before after _ h.2 (one_counted f (cc h.1))
 
-    is : bound old statement ≡ Some command
-    is = sym (same_bound old statement) ∙ is_alone
+  module _ (statement : Statement) (command : Bound) (free_alone : first_fault (binding_checks files (bare tables views) statement) ≡ None) (is_alone : bound files (bare tables views) statement ≡ Some command) where
+    free : first_fault (binding_checks files old statement) ≡ None
+    free = sym (ap first_fault (same_places files old statement)) ∙ free_alone
+
+    is : bound files old statement ≡ Some command
+    is = sym (same_bound files old statement) ∙ is_alone
 
   -- where it is bound, the room for its rows is all that can still refuse it
   insert_room : (name : List ℕ) (rows : List (List Constant)) (t : TableOf) → table_named name tables ≡ Some t → first_fault (rows_walk rows (written_table name old)) ≡ None
-      → refusal old (statements.Insert name rows) ≡ room old (commands.Insert t.number (map row_of rows))
+      → refusal files old (statements.Insert name rows) ≡ room old (commands.Insert t.number (map row_of rows))
   insert_room name rows t found none =
       let fault = if is_some (view_named name views) then faults.ViewNotWritten else faults.UnknownTable in
       let walk = flat_map (row_checks t.columns) rows in
@@ -362,9 +443,26 @@ module _ (tables : List TableOf) (views : List ViewOf) (now drawn max_rows : ℕ
       ∙ single (nat_lt max_rows (length t.rows + length rows)) faults.TableFull
       ∙ ap asked count
 
+  -- so it is for the rows of a file
+  copy_room : (name file : List ℕ) (t : TableOf) → table_named name tables ≡ Some t → first_fault (name_checks file (written_table name old) ++ records_walk (files file) (written_table name old)) ≡ None
+      → refusal files old (statements.Copy name file) ≡ room old (commands.Insert t.number (rows_read t (files file)))
+  copy_room name file t found none =
+      let fault = if is_some (view_named name views) then faults.ViewNotWritten else faults.UnknownTable in
+      let bytes = files file in
+      let rows = rows_read t bytes in
+      let walk = name_checks file (Ok t) ++ records_walk bytes (Ok t) in
+      let asked : ℕ → Option Fault = λ n. fault_if (nat_lt max_rows n) faults.TableFull in
+      let passed : first_fault walk ≡ None = subst (λ (o : Option TableOf). first_fault (name_checks file (ok_or o fault) ++ records_walk bytes (ok_or o fault)) ≡ None) found none in
+      let count : length t.rows + length rows ≡ length (rows_in tables t.number) + length rows = λ i. length (sym (rows-found name t tables drawn numbered found) i) + length rows in
+      ap (λ (o : Option TableOf). first_fault (name_checks file (ok_or o fault) ++ content_checks max_rows bytes (ok_or o fault))) found
+      ∙ first_fault_append walk (asked (length t.rows + length rows) ∷ [])
+      ∙ or_next (first_fault walk) (first_fault (asked (length t.rows + length rows) ∷ [])) passed
+      ∙ single (nat_lt max_rows (length t.rows + length rows)) faults.TableFull
+      ∙ ap asked count
+
   -- and the values that rows get are all that can still refuse an UPDATE
   update_room : (name : List ℕ) (sets : List SetClause) (condition : Option Written) (t : TableOf) → table_named name tables ≡ Some t → first_fault (sets_walk condition sets (written_table name old)) ≡ None
-      → refusal old (statements.Update name sets condition) ≡ room old (bound_update sets condition t)
+      → refusal files old (statements.Update name sets condition) ≡ room old (bound_update sets condition t)
   update_room name sets condition t found none =
       let fault = if is_some (view_named name views) then faults.ViewNotWritten else faults.UnknownTable in
       let s = scope_of (from_table t) in
@@ -376,55 +474,58 @@ module _ (tables : List TableOf) (views : List ViewOf) (now drawn max_rows : ℕ
       ∙ or_next (first_fault walk) (first_fault values) free
       ∙ (λ i. value_fault (sym (columns-found name t tables drawn numbered found) i) (bound_sets s sets) (bound_where s condition) (sym (rows-found name t tables drawn numbered found) i))
 
-  room_decides : (statement : Statement) (command : Bound) → first_fault (binding_checks old statement) ≡ None → bound old statement ≡ Some command → refusal old statement ≡ room old command
+  room_decides : (statement : Statement) (command : Bound) → first_fault (binding_checks files old statement) ≡ None → bound files old statement ≡ Some command → refusal files old statement ≡ room old command
   room_decides (statements.CreateTable name columns sort) command none is =
       let same : commands.CreateTable name columns (map (place_in columns) sort) ≡ command = cc is in
-      subst (λ (c : Bound). first_fault (checks old (statements.CreateTable name columns sort)) ≡ room old c) same none
+      subst (λ (c : Bound). first_fault (checks files old (statements.CreateTable name columns sort)) ≡ room old c) same none
   room_decides (statements.DropTable name) command none is =
       let m = mapped (λ t. commands.DropTable t.number) (table_named name tables) command is in
-      subst (λ (c : Bound). refusal old (statements.DropTable name) ≡ room old c) m.2 none
+      subst (λ (c : Bound). refusal files old (statements.DropTable name) ≡ room old c) m.2 none
   room_decides (statements.CreateView name view) command none is =
       let m = mapped (bound_view name view) (table_named view.first.name tables) command is in
-      subst (λ (c : Bound). refusal old (statements.CreateView name view) ≡ room old c) m.2 none
+      subst (λ (c : Bound). refusal files old (statements.CreateView name view) ≡ room old c) m.2 none
   room_decides (statements.DropView name) command none is =
       let m = mapped commands.DropView (view_place name views) command is in
-      subst (λ (c : Bound). refusal old (statements.DropView name) ≡ room old c) m.2 none
+      subst (λ (c : Bound). refusal files old (statements.DropView name) ≡ room old c) m.2 none
   room_decides (statements.Insert name rows) command none is =
       let m = mapped (λ t. commands.Insert t.number (map row_of rows)) (table_named name tables) command is in
-      subst (λ (c : Bound). refusal old (statements.Insert name rows) ≡ room old c) m.2 (insert_room name rows m.0 m.1 none)
+      subst (λ (c : Bound). refusal files old (statements.Insert name rows) ≡ room old c) m.2 (insert_room name rows m.0 m.1 none)
+  room_decides (statements.Copy name file) command none is =
+      let m = mapped (λ t. commands.Insert t.number (rows_read t (files file))) (table_named name tables) command is in
+      subst (λ (c : Bound). refusal files old (statements.Copy name file) ≡ room old c) m.2 (copy_room name file m.0 m.1 none)
   room_decides (statements.Delete name condition) command none is =
       let m = mapped (λ t. commands.Delete t.number (option_map (bound_condition (scope_of (from_table t))) condition)) (table_named name tables) command is in
-      subst (λ (c : Bound). refusal old (statements.Delete name condition) ≡ room old c) m.2 none
+      subst (λ (c : Bound). refusal files old (statements.Delete name condition) ≡ room old c) m.2 none
   room_decides (statements.Update name sets condition) command none is =
       let m = mapped (bound_update sets condition) (table_named name tables) command is in
-      subst (λ (c : Bound). refusal old (statements.Update name sets condition) ≡ room old c) m.2 (update_room name sets condition m.0 m.1 none)
+      subst (λ (c : Bound). refusal files old (statements.Update name sets condition) ≡ room old c) m.2 (update_room name sets condition m.0 m.1 none)
   room_decides (statements.Select q) command none is =
       let m = mapped (bound_select q) (standing (from_walk old q)) command is in
-      subst (λ (c : Bound). refusal old (statements.Select q) ≡ room old c) m.2 none
+      subst (λ (c : Bound). refusal files old (statements.Select q) ≡ room old c) m.2 none
   room_decides (statements.Move name rows) command none is =
       let m = mapped (λ t. commands.Move t.number rows) (table_named name tables) command is in
-      subst (λ (c : Bound). refusal old (statements.Move name rows) ≡ room old c) m.2 none
+      subst (λ (c : Bound). refusal files old (statements.Move name rows) ≡ room old c) m.2 none
   room_decides (statements.Merge name) command none is =
       let m = mapped (λ t. commands.Merge t.number) (table_named name tables) command is in
-      subst (λ (c : Bound). refusal old (statements.Merge name) ≡ room old c) m.2 none
+      subst (λ (c : Bound). refusal files old (statements.Merge name) ≡ room old c) m.2 none
   room_decides (statements.Refresh view changes) command none is =
       let m = mapped (λ place. commands.Refresh place changes) (view_place view views) command is in
-      subst (λ (c : Bound). refusal old (statements.Refresh view changes) ≡ room old c) m.2 none
+      subst (λ (c : Bound). refusal files old (statements.Refresh view changes) ≡ room old c) m.2 none
 
   -- a total that cannot be shown is one of a SELECT
   only_select : (command : Bound) → IsTooLarge old command → (room old command ≡ None) × AreBetween (reach old command) 0 views views
   only_select (commands.Select header q order) large = (refl, all_between tables views now drawn max_rows at header q order 0 views at)
   only_select command large = absurd large
 
-  module _ (statement : Statement) (command : Bound) (free_alone : first_fault (binding_checks (alone tables views) statement) ≡ None) (is_alone : bound (alone tables views) statement ≡ Some command) where
-    decides : refusal old statement ≡ room old command
+  module _ (statement : Statement) (command : Bound) (free_alone : first_fault (binding_checks files (bare tables views) statement) ≡ None) (is_alone : bound files (bare tables views) statement ≡ Some command) where
+    decides : refusal files old statement ≡ room old command
     decides = room_decides statement command (free statement command free_alone is_alone) (is statement command free_alone is_alone)
 
-    room_refused : (f : Fault) (new : State) → MayRefuse (room old command) f → new ≡ old → Refuses old statement f new
+    room_refused : (f : Fault) (new : State) → MayRefuse (room old command) f → new ≡ old → Refuses files old statement f new
     room_refused faults.Memory new m same = for_memory refl same
     room_refused f new m same = by_walk (decides ∙ m) same
 
-    carried_refused : (f : Fault) (new : State) → IsRefused old command f → new ≡ old → Refuses old statement f new
+    carried_refused : (f : Fault) (new : State) → IsRefused old command f → new ≡ old → Refuses files old statement f new
     carried_refused f new (inl m) same = room_refused f new m same
     carried_refused f new (inr w) same =
         let select = only_select command w.1 in
@@ -433,8 +534,21 @@ module _ (tables : List TableOf) (views : List ViewOf) (now drawn max_rows : ℕ
           state = same ∙ ap (λ (s : State). with_all_views s.views old) (sym same);
         })
 
+    room_unsourced : (f : Fault) → MayRefuse (room old command) f → is_source f ≡ false
+    room_unsourced faults.Memory m = refl
+    room_unsourced f m = ap tells_source (sym (decides ∙ m)) ∙ sourceless files old statement
+
+    refused_unsourced : (f : Fault) → IsRefused old command f → is_source f ≡ false
+    refused_unsourced f (inl m) = room_unsourced f m
+    refused_unsourced f (inr w) = ap is_source w.0
+
+    -- a command that is carried out reads no source
+    pub carried_counts : (result : Result Answer Fault) (new : State) → CarriesOut old command result new → source_failures (result ∷ []) ≡ 0
+    carried_counts (Ok answer) new c = refl
+    carried_counts (Err f) new c = none_counted f (refused_unsourced f c.0)
+
     -- a command that is carried out is the step of its statement
-    pub carried : (result : Result Answer Fault) (new : State) → CarriesOut old command result new → Step old statement result new
+    pub carried : (result : Result Answer Fault) (new : State) → CarriesOut old command result new → Step files old statement result new
     carried (Ok answer) new c = record {
       on_the_way = c.1.on_the_way;
       does = record { free = decides ∙ c.0; command = command; is_bound = is statement command free_alone is_alone; accepts = c.1.accepts };

@@ -1,13 +1,29 @@
--- A step of today leaves the sources' count of failures, as it should: none failed in it.
-use Rattle.std.proofs.Common.{◌≡◌, ℕ, ◌+◌, [], ◌∷◌, Result, arith}
-use Rattle.cq_language.specs.declared.statement.Statement.{Statement}
+-- How often a source failed, as the outcome of one statement tells it.
+use Rattle.std.proofs.Common.{◌≡◌, ℕ, ◌+◌, false, [], ◌∷◌, Result, Err, refl, arith}
 use Rattle.cq_binding.specs.declared.fault.Fault.{Fault}
-use Rattle.cq_states.specs.State.{State}
+use Rattle.cq_binding.specs.declared.fault.Fault.TheVariants as faults
+use Rattle.cq_binding.proofs.Sourceless.{is_source}
 use Rattle.cq_steps.specs.declared.answer.Answer.{Answer}
-use Rattle.cq_steps.specs.Output.{source_failures}
-use Rattle.cq_steps.specs.Step.{Step}
-use Rattle.cq_steps.proofs.Asking.{none_failed}
+use Rattle.cq_steps.specs.Output.{is_source_failure, source_failures}
 
--- a count that stays has grown by the failures of the step
-pub none_counted : (n : ℕ) (old : State) (s : Statement) (o : Result Answer Fault) (new : State) → Step old s o new → n ≡ n + source_failures (o ∷ [])
-none_counted n old s o new h = omega (arith, none_failed old s o new h)
+failure_is : (f : Fault) → is_source f ≡ false → is_source_failure (Err f) ≡ false
+failure_is faults.SourceFailed h = absurd (cc)
+failure_is f h = refl
+
+one_failure : (o : Result Answer Fault) → is_source_failure o ≡ false → source_failures (o ∷ []) ≡ 0
+one_failure o h = rw h refl
+
+-- a refusal for another reason counts no failure
+pub none_counted : (f : Fault) → is_source f ≡ false → source_failures (Err f ∷ []) ≡ 0
+none_counted f h = one_failure (Err f) (failure_is f h)
+
+-- a refusal for a source counts one
+pub one_counted : (f : Fault) → f ≡ faults.SourceFailed → source_failures (Err f ∷ []) ≡ 1
+one_counted f is = rw is refl
+
+-- what stays has grown by nothing
+pub grown_by_none : (before after told : ℕ) → after ≡ before → told ≡ 0 → after ≡ before + told
+grown_by_none before after told same none = omega (arith, same, none)
+
+pub grown_by_one : (before after told : ℕ) → after ≡ before + 1 → told ≡ 1 → after ≡ before + told
+grown_by_one before after told more one = omega (arith, more, one)

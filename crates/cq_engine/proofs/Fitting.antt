@@ -2,7 +2,6 @@
 use Rattle.std.proofs.Common.{◌≡◌, ℕ, zero, suc, ◌<◌, List, [], ◌∷◌, ◌++◌, map, length, Option, Some, None, Result, Ok, Err, refl, sym, ap, ◌∙◌, append_assoc, arith, subst}
 use Rattle.std.specs.Prelude.{option_map}
 use Rattle.std.specs.List.{AllByRecursion, fold, zip}
-use Rattle.std.specs.Option.{option_or}
 use Rattle.std.proofs.lemmas.List.{append-nil}
 use Rattle.cq_values.specs.Value.{Row}
 use Rattle.cq_values.specs.declared.column.ColumnDef.{ColumnDef}
@@ -20,34 +19,19 @@ use Rattle.cq_binding.specs.Scopes.{from_table, of_rows, scope_column, source_co
 use Rattle.cq_binding.specs.Sets.{bound_where}
 use Rattle.cq_binding.specs.SourceChecks.{where_check}
 use Rattle.cq_binding.specs.Typing.{Scope, ScopeColumn, fault_in, rows_in, size_at, typed}
-use Rattle.cq_binder.proofs.Faults.{first_fault_append, or_next}
 use Rattle.cq_exprs.specs.Expressions.{IsArgumentNarrow, IsNarrow, KeepShown, KeepSizes}
 use Rattle.cq_exprs.proofs.Narrow.{Grows, arguments_are_narrow, grows, typed_is_narrow}
 use Rattle.cq_laws.specs.Sizes.{IsStored}
+use Rattle.cq_writes.proofs.Checks.{back_free, first_free}
 use Rattle.cq_states.specs.State.{TableOf}
 
 -- ---- Checks without a fault
--- where two stretches have no fault, neither has one
-pub front_free : (xs ys : List (Option Fault)) → first_fault (xs ++ ys) ≡ None → first_fault xs ≡ None
-front_free xs ys free = free_first (first_fault xs) refl
-  where
-    free_first : (o : Option Fault) → first_fault xs ≡ o → first_fault xs ≡ None
-    free_first None e = e
-    free_first (Some f) e = absurd (let both : Some f ≡ None = sym (first_fault_append xs ys ∙ ap (λ (p : Option Fault). option_or p (first_fault ys)) e) ∙ free in cc)
-
-pub back_free : (xs ys : List (Option Fault)) → first_fault (xs ++ ys) ≡ None → first_fault ys ≡ None
-back_free xs ys free = sym (first_fault_append xs ys ∙ or_next (first_fault xs) (first_fault ys) (front_free xs ys free)) ∙ free
 
 -- where places have no fault, the second has none
 pub second_free : (o p : Option Fault) (places : List (Option Fault)) → first_fault (o ∷ p ∷ places) ≡ None → p ≡ None
 second_free None None places e = refl
 second_free None (Some f) places e = absurd (cc)
 second_free (Some f) p places e = absurd (cc)
-
--- nor has the first
-pub first_free : (o : Option Fault) (places : List (Option Fault)) → first_fault (o ∷ places) ≡ None → o ≡ None
-first_free None places e = refl
-first_free (Some f) places e = absurd (cc)
 
 -- what is asked for as a whole stands where it passes
 pub passed : (ask : Typing → Result Typing Fault) (r : Result Typing Fault) → fault_in (r and_then ask) ≡ None → (t : Typing) × (r ≡ Ok t)

@@ -18,7 +18,7 @@ use Rattle.cq_binding.specs.Queries.{bound_group}
 use Rattle.cq_binding.specs.Scopes.{in_groups}
 use Rattle.cq_binding.specs.Typing.{ScopeColumn}
 use Rattle.cq_exprs.specs.Expressions.{KeepShown, KeepSizes}
-use Rattle.cq_engine.proofs.Places.{not_there}
+use Rattle.cq_tables.proofs.Places.{not_there}
 
 -- what is read of a key's column is told of the column that has a place in the key
 key_size : (f : ℕ → ℕ) (rest places : List ℕ) (place : ℕ) → list_any (λ g. g == place) places ≡ true

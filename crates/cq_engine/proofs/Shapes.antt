@@ -21,8 +21,9 @@ use Rattle.cq_binding.specs.Sets.{bound_where}
 use Rattle.cq_binding.specs.SourceChecks.{group_checks, value_check, where_check}
 use Rattle.cq_binding.specs.Typing.{Scope, ScopeColumn}
 use Rattle.cq_exprs.specs.Expressions.{KeepSizes}
-use Rattle.cq_engine.specs.Narrow.{AreArgumentsSized, AreItemsSized, IsConditionSized, IsShapeSized}
-use Rattle.cq_engine.proofs.Fitting.{back_free, first_free, front_free, having_arguments, having_grows, items_walk, narrow_arguments, narrow_having, narrow_items, narrow_where, nothing_shown, second_free}
+use Rattle.cq_answers.specs.Narrow.{AreArgumentsSized, AreItemsSized, IsConditionSized, IsShapeSized}
+use Rattle.cq_writes.proofs.Checks.{back_free, first_free, front_free}
+use Rattle.cq_engine.proofs.Fitting.{having_arguments, having_grows, items_walk, narrow_arguments, narrow_having, narrow_items, narrow_where, nothing_shown, second_free}
 use Rattle.cq_engine.proofs.Groups.{groups_keep, groups_show}
 
 -- a row whose numbers are of the sizes of the columns keeps them

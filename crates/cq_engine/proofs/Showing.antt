@@ -25,7 +25,7 @@ use Rattle.cq_binding.specs.Open.{may_be_shown, shows_group}
 use Rattle.cq_binding.specs.Placed.{aggregate_of, placed_expr, with_aggregates, with_choices}
 use Rattle.cq_binding.specs.Typing.{Scope, rows_in}
 use Rattle.cq_exprs.specs.Expressions.{IsArgumentNarrow}
-use Rattle.cq_engine.proofs.Rows.{all_behind}
+use Rattle.cq_tables.proofs.Rows.{all_behind}
 
 -- ---- Tests
 -- neither of two holds

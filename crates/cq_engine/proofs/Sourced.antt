@@ -16,9 +16,9 @@ use Rattle.cq_binding.specs.Scopes.{Named, known_as, scope_column, source_column
 use Rattle.cq_binding.specs.Typing.{ScopeColumn}
 use Rattle.cq_states.specs.State.{State, TableOf, ViewOf}
 use Rattle.cq_exprs.proofs.Narrow.{stood}
-use Rattle.cq_engine.specs.Commands.{IsSourceThere}
-use Rattle.cq_engine.specs.Narrow.{source_sizes}
-use Rattle.cq_engine.proofs.Rows.{all_behind}
+use Rattle.cq_answers.specs.Reading.{IsSourceThere}
+use Rattle.cq_answers.specs.Narrow.{source_sizes}
+use Rattle.cq_tables.proofs.Rows.{all_behind}
 
 -- what stood was given
 pub standing_ok : (r : Result From Fault) (from : From) → standing r ≡ Some from → r ≡ Ok from

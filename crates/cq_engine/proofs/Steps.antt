@@ -24,7 +24,7 @@ use Rattle.cq_states.specs.State.{TableOf, ViewOf, State, rows_in, empty_table, 
 use Rattle.cq_steps.specs.Next.{at_epoch, new_view, reach, taken_on, written, Writes}
 use Rattle.cq_steps.specs.Step.{AreBetween, Leads}
 use Rattle.cq_engine.specs.Commands.{present, IsDone, IsRefused}
-use Rattle.cq_engine.specs.Selects.{Selects}
+use Rattle.cq_answers.specs.Selects.{Selects}
 
 -- ---- Views at one epoch
 abbrev pub AreAt : ℕ → List ViewOf → Type 0

@@ -4,13 +4,13 @@ ghost use Rattle.cq_states.specs.Fitting.{AreFitting};
 ghost use Rattle.cq_states.specs.State.{AreNumbered};
 ghost use Rattle.cq_steps.specs.Next.{new_view};
 ghost use Rattle.cq_views.specs.Query.{table_of};
-ghost use Rattle.cq_engine.specs.Commands.{CanBuild, IsThere};
-ghost use Rattle.cq_engine.specs.Views.{AreRight, Fits, IsAdded, IsBuilt};
+ghost use Rattle.cq_engine.specs.Commands.{CanBuild};
+ghost use Rattle.cq_tables.specs.Tables.{IsThere};
+ghost use Rattle.cq_tables.specs.Views.{AreRight, Fits};
+ghost use Rattle.cq_engine.specs.Views.{IsAdded, IsBuilt};
 
-use crate::table;
-use crate::tables::place_numbered;
-use crate::view::View;
 use cq_model::Query;
+use cq_tables::{Table, View, place_numbered};
 use cq_values::{ColumnDef, Seq, Text};
 use cq_views::{ViewState, standing_depends_on_bag, table_of};
 use std::alloc::{AllocError, Global};
@@ -18,7 +18,7 @@ use std::alloc::{AllocError, Global};
 /// Puts a view of this query behind the others, built from its table as it is at this epoch.
 pub fn create_view_in(
     alloc: Global,
-    tables: &[table::Table],
+    tables: &[Table],
     views: &mut Vec<View>,
     name: Text,
     columns: Seq<ColumnDef>,
@@ -41,7 +41,7 @@ pub fn create_view_in(
 /// What is kept of a view, built from the rows of its table.
 fn built_state(
     alloc: Global,
-    tables: &[table::Table],
+    tables: &[Table],
     query: Query,
     now: u64,
 ) -> Result<ViewState, AllocError>

@@ -4,7 +4,7 @@ ghost use Rattle.cq_binding.specs.declared.bound.Bound.TheVariants as commands;
 ghost use Rattle.cq_states.specs.Fitting.{AreLimited, AreFitting};
 ghost use Rattle.cq_states.specs.State.{first_state, view_named};
 ghost use Rattle.cq_steps.specs.Output.{source_failures};
-ghost use Rattle.cq_steps.specs.Step.{Step};
+ghost use Rattle.cq_steps.specs.Step.{StepFrom};
 ghost use Rattle.cq_engine.specs.declared.answer_source.AnswerSource.TheVariants.{Tables};
 ghost use Rattle.cq_engine.specs.Commands.{CanCarryOut, CarriesOut, OnlyShows};
 
@@ -12,18 +12,15 @@ use crate::answer_source::AnswerSource;
 use crate::catalog::EngineCatalog;
 use crate::creation::create_view_in;
 use crate::limits::Limits;
-use crate::reading::select_from;
-use crate::sources::Sources;
-use crate::table::Table;
-use crate::tables::{delete_in, drop_in, insert_in, update_in};
-use crate::view::View;
-use crate::views::{drop_view_at, view_place};
+use cq_answers::select_from;
 use cq_binder::bind;
-use cq_binding::{Bound, Fault};
+use cq_binding::{Bound, Fault, Sources};
 use cq_language::Statement;
 use cq_model::{Assignment, Cond, Order, Query};
 use cq_steps::Answer;
+use cq_tables::{Table, View, drop_in, drop_view_at, view_place};
 use cq_values::{ColumnDef, Row, Seq, Text};
+use cq_writes::{delete_in, insert_in, update_in};
 use std::alloc::Global;
 use std::marker::Model;
 
@@ -43,13 +40,11 @@ pub struct Engine {
 
 impl Model for Engine {
     ghost use Rattle.std.specs.Coded.{codes};
-    ghost use Rattle.std.specs.Prelude.{◌≤◌};
     ghost use Rattle.cq_model.specs.contracts.expr.Cond as cond;
     ghost use Rattle.cq_model.specs.contracts.expr.Expr as expr;
-    ghost use Rattle.cq_states.specs.Fitting.{AreLimited, AreFitting};
-    ghost use Rattle.cq_states.specs.State.{State, AreNumbered};
-    ghost use Rattle.cq_engine.specs.Commands.{present};
-    ghost use Rattle.cq_engine.specs.Views.{AreRight, views_of};
+    ghost use Rattle.cq_states.specs.State.{State};
+    ghost use Rattle.cq_tables.specs.Views.{views_of};
+    ghost use Rattle.cq_engine.specs.Commands.{AreInOrder, present};
 
     ghost Value = { State };
 
@@ -57,7 +52,7 @@ impl Model for Engine {
 
     ghost view = { λ e. present e.tables.items (views_of e.views.items) e.writes e.drawn e.limits.max_rows };
 
-    ghost invariant = { λ e. (e.writes ≤ e.drawn) × AreNumbered e.tables.items e.drawn × AreFitting e.tables.items × AreRight e.tables.items e.writes e.views.items × AreLimited e.limits.max_rows e.tables.items };
+    ghost invariant = { λ e. AreInOrder e.writes e.drawn e.limits.max_rows e.tables.items e.views.items };
 }
 
 impl Engine {
@@ -112,16 +107,17 @@ impl Engine {
         AnswerSource::Tables
     }
 
-    /// Carries out one statement, or refuses it and leaves every table and view as it was. A result leaves them too. No
-    /// statement reads a source yet.
-    pub fn step<S: Sources>(&mut self, command: &Command, _sources: &mut S) -> Result<Answer, Fault>
-        requires { self.old.drawn < 2 ^ 64 - 1 }
-        ensures step { Step self.old command.now result self.new }
+    /// Carries out one statement, or refuses it and leaves every table and view as it was. A result leaves them too. COPY
+    /// reads its source once, where its names have no fault.
+    pub fn step<S: Sources>(&mut self, command: &Command, sources: &mut S) -> Result<Answer, Fault>
+        requires drawn { self.old.drawn < 2 ^ 64 - 1 }
+        requires failures { S.failures sources.old < 2 ^ 64 - 1 }
+        ensures step { StepFrom (S.files sources.old) self.old command.now result self.new }
         ensures rows { OnlyShows self.old result self.new }
-        ensures files { S.files _sources.new ≡ S.files _sources.old }
-        ensures failures { S.failures _sources.new ≡ S.failures _sources.old + source_failures (result ∷ []) }
+        ensures files { S.files sources.new ≡ S.files sources.old }
+        ensures failures { S.failures sources.new ≡ S.failures sources.old + source_failures (result ∷ []) }
     {
-        let bound = bind(self.alloc, command, &self.catalog())?;
+        let bound = bind(self.alloc, command, &self.catalog(), sources)?;
         self.carry_out(bound)
     }
 

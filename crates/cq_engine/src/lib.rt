@@ -8,23 +8,11 @@
 mod answer_source;
 mod catalog;
 mod creation;
-mod deletion;
 mod engine;
-mod gathered;
-mod images;
-mod insertion;
 mod limits;
-mod reading;
-mod selection;
-mod sources;
-mod table;
-mod tables;
-mod updating;
-mod view;
-mod views;
 
 pub use answer_source::AnswerSource;
 pub use catalog::EngineCatalog;
+pub use cq_binding::{SourceFault, Sources};
 pub use engine::{Command, Engine};
 pub use limits::Limits;
-pub use sources::{SourceFault, Sources};

@@ -12,7 +12,8 @@ use Rattle.cq_binding.specs.declared.fault.Fault.{Fault}
 use Rattle.cq_binding.specs.Scopes.{place_in, from_table, scope_of}
 use Rattle.cq_binding.specs.Sets.{bound_where}
 use Rattle.cq_binding.specs.From.{From, from_walk}
-use Rattle.cq_binding.specs.Bound.{row_of, bound_select, bound_update, bound, bound_view, standing}
+use Rattle.cq_binding.specs.Bound.{row_of, bound_select, bound_update, bound, bound_view, standing, rows_read}
+use Rattle.cq_binding.specs.Records.{Files}
 use Rattle.cq_states.specs.State.{TableOf, State, table_named, view_place, first_state}
 use Rattle.cq_steps.specs.Next.{reach, at_epoch, at_present, Trims}
 use Rattle.cq_steps.specs.Step.{Does, GivesUp, Refuses, by_walk, for_memory, source_failed, memory_on_the_way, too_large, Step}
@@ -38,28 +39,29 @@ of_table s name command make fits e = found (table_named name s.tables) refl e
     found (Some t) h e = let is : make t ≡ command = cc in subst (Fits s) is (fits t (there-named name s.tables t h))
 
 -- a statement whose tables are there is bound to a command that fits
-pub bound-fits : (s : State) (statement : Statement) (command : Bound) → bound s statement ≡ Some command → Fits s command
-bound-fits s (statements.CreateTable name columns sort) command e =
+pub bound-fits : (files : Files) (s : State) (statement : Statement) (command : Bound) → bound files s statement ≡ Some command → Fits s command
+bound-fits files s (statements.CreateTable name columns sort) command e =
     let is : commands.CreateTable name columns (map (place_in columns) sort) ≡ command = cc in subst (Fits s) is tt
-bound-fits s (statements.DropTable name) command e = of_table s name command (λ t. commands.DropTable t.number) (λ t there. there) e
-bound-fits s (statements.CreateView name view) command e = of_table s view.first.name command (bound_view name view) (λ t there. tt) e
-bound-fits s (statements.DropView name) command e = placed (view_place name s.views) e
+bound-fits files s (statements.DropTable name) command e = of_table s name command (λ t. commands.DropTable t.number) (λ t there. there) e
+bound-fits files s (statements.CreateView name view) command e = of_table s view.first.name command (bound_view name view) (λ t there. tt) e
+bound-fits files s (statements.DropView name) command e = placed (view_place name s.views) e
   where
     placed : (o : Option ℕ) → option_map commands.DropView o ≡ Some command → Fits s command
     placed None e = absurd (cc)
     placed (Some place) e = let is : commands.DropView place ≡ command = cc in subst (Fits s) is tt
-bound-fits s (statements.Insert name rows) command e = of_table s name command (λ t. commands.Insert t.number (map row_of rows)) (λ t there. there) e
-bound-fits s (statements.Delete name condition) command e =
+bound-fits files s (statements.Insert name rows) command e = of_table s name command (λ t. commands.Insert t.number (map row_of rows)) (λ t there. there) e
+bound-fits files s (statements.Copy name file) command e = of_table s name command (λ t. commands.Insert t.number (rows_read t (files file))) (λ t there. there) e
+bound-fits files s (statements.Delete name condition) command e =
     of_table s name command (λ t. commands.Delete t.number (bound_where (scope_of (from_table t)) condition)) (λ t there. there) e
-bound-fits s (statements.Update name sets condition) command e = of_table s name command (bound_update sets condition) (λ t there. there) e
-bound-fits s (statements.Select q) command e = found (standing (from_walk s q)) e
+bound-fits files s (statements.Update name sets condition) command e = of_table s name command (bound_update sets condition) (λ t there. there) e
+bound-fits files s (statements.Select q) command e = found (standing (from_walk s q)) e
   where
     found : (o : Option From) → option_map (bound_select q) o ≡ Some command → Fits s command
     found None e = absurd (cc)
     found (Some from) e = let is : bound_select q from ≡ command = cc in subst (Fits s) is tt
-bound-fits s (statements.Move name rows) command e = of_table s name command (λ t. commands.Move t.number rows) (λ t there. there) e
-bound-fits s (statements.Merge name) command e = of_table s name command (λ t. commands.Merge t.number) (λ t there. there) e
-bound-fits s (statements.Refresh view changes) command e = placed (view_place view s.views) e
+bound-fits files s (statements.Move name rows) command e = of_table s name command (λ t. commands.Move t.number rows) (λ t there. there) e
+bound-fits files s (statements.Merge name) command e = of_table s name command (λ t. commands.Merge t.number) (λ t there. there) e
+bound-fits files s (statements.Refresh view changes) command e = placed (view_place view s.views) e
   where
     placed : (o : Option ℕ) → option_map (λ place. commands.Refresh place changes) o ≡ Some command → Fits s command
     placed None e = absurd (cc)
@@ -83,16 +85,16 @@ sound-gives_up old new command sound g =
     subst IsSound (sym g.state) (follows-views old new.views sound epochs).sound
 
 -- no refusal does more
-sound-refuses : (old new : State) (statement : Statement) (f : Fault) → IsSound old → Refuses old statement f new → IsSound new
-sound-refuses old new statement f sound (by_walk r e) = subst IsSound (sym e) sound
-sound-refuses old new statement f sound (for_memory r e) = subst IsSound (sym e) sound
-sound-refuses old new statement f sound (source_failed r q e) = subst IsSound (sym e) sound
-sound-refuses old new statement f sound (memory_on_the_way command r b q g) = sound-gives_up old new command sound g
-sound-refuses old new statement f sound (too_large command r b l q g) = sound-gives_up old new command sound g
+sound-refuses : (files : Files) (old new : State) (statement : Statement) (f : Fault) → IsSound old → Refuses files old statement f new → IsSound new
+sound-refuses files old new statement f sound (by_walk r e) = subst IsSound (sym e) sound
+sound-refuses files old new statement f sound (for_memory r e) = subst IsSound (sym e) sound
+sound-refuses files old new statement f sound (source_failed r q e) = subst IsSound (sym e) sound
+sound-refuses files old new statement f sound (memory_on_the_way command r b q g) = sound-gives_up old new command sound g
+sound-refuses files old new statement f sound (too_large command r b l q g) = sound-gives_up old new command sound g
 
 -- an accepted statement leaves a sound state
-does-sound : (old new : State) (statement : Statement) (answer : Answer) → IsSound old → Does old statement answer new → IsSound new
-does-sound old new statement answer sound d = (follows-accepts old new d.command answer sound (bound-fits old statement d.command d.is_bound) d.accepts).sound
+does-sound : (files : Files) (old new : State) (statement : Statement) (answer : Answer) → IsSound old → Does files old statement answer new → IsSound new
+does-sound files old new statement answer sound d = (follows-accepts old new d.command answer sound (bound-fits files old statement d.command d.is_bound) d.accepts).sound
 
 -- so does taking each view to the present
 sound-trims : (s new : State) → IsSound s → Trims (at_present s) new → IsSound new
@@ -101,6 +103,6 @@ sound-trims s new sound t =
     (follows-trims s (at_present s) new t present).sound
 
 -- so every step leaves a sound state
-pub step-sound : (old new : State) (statement : Statement) (outcome : Result Answer Fault) → IsSound old → Step old statement outcome new → IsSound new
-step-sound old new statement (Ok answer) sound d = sound-trims d.on_the_way new (does-sound old d.on_the_way statement answer sound d.does) d.trims
-step-sound old new statement (Err f) sound r = sound-refuses old new statement f sound r
+pub step-sound : (files : Files) (old new : State) (statement : Statement) (outcome : Result Answer Fault) → IsSound old → Step files old statement outcome new → IsSound new
+step-sound files old new statement (Ok answer) sound d = sound-trims d.on_the_way new (does-sound files old d.on_the_way statement answer sound d.does) d.trims
+step-sound files old new statement (Err f) sound r = sound-refuses files old new statement f sound r

@@ -12,6 +12,7 @@ use Rattle.cq_model.specs.Meaning.{joined_rows}
 use Rattle.cq_model.specs.Views.{tables_alone}
 use Rattle.cq_steps.specs.declared.answer.Answer.{Answer}
 use Rattle.cq_binding.specs.declared.fault.Fault.{Fault}
+use Rattle.cq_binding.specs.Records.{Files}
 use Rattle.cq_states.specs.State.{ChangeOf, State, rows_in, tables_now, change_of, tables_at, first_state}
 use Rattle.cq_steps.specs.Next.{Writes}
 use Rattle.cq_steps.specs.Step.{Accepts, Step}
@@ -75,4 +76,4 @@ CommandsKeepSound = (old new : State) (command : Bound) (answer : Answer) → Is
 -- the first state is sound, and each statement, accepted or refused, leaves a sound one
 pub record StatesStaySound : Type 0 where
   pub first : (max_rows : ℕ) → IsSound (first_state max_rows)
-  pub step : (old new : State) (statement : Statement) (outcome : Result Answer Fault) → IsSound old → Step old statement outcome new → IsSound new
+  pub step : (files : Files) (old new : State) (statement : Statement) (outcome : Result Answer Fault) → IsSound old → Step files old statement outcome new → IsSound new

@@ -11,7 +11,8 @@ use Rattle.cq_model.specs.declared.query.Aggregate.TheVariants.{CountAll, Count,
 use Rattle.cq_model.specs.Sizes.{aggregate_size}
 use Rattle.cq_binding.specs.Placed.{placed_cond, placed_expr, with_aggregates}
 use Rattle.cq_binding.specs.Places.{key_length, read_place}
-use Rattle.cq_binding.specs.Typing.{Scope, may_read, rows_in, size_at, typed}
+use Rattle.cq_model.specs.Expr.{Cond, Expr}
+use Rattle.cq_binding.specs.Typing.{Scope, condition_fault, kept_fault, may_read, rows_in, size_at, typed, value_fault}
 use Rattle.cq_exprs.specs.declared.scope.Scope.{Scope as Seen}
 
 -- the columns, and the places of GROUP BY, as lists
@@ -31,6 +32,20 @@ pub record IsBehind {X : Type 0} (put : Scope → List Aggregate → Written →
 abbrev pub PlacesBehind : {X : Type 0} → (Scope → List Aggregate → Written → X) → (Result Typing Fault → Option Fault) → Scope → List Aggregate → List Aggregate → Written → Result X Fault → Type 0
 PlacesBehind put fault s before after w result =
     MatchResult result (λ x. (fault (typed s w) ≡ None) × IsBehind put s before after w x) (MayRefuse (fault (typed s w)))
+
+-- the same of a condition, of an item, and of a column that a view keeps
+abbrev pub PlacesCondition : Scope → List Aggregate → List Aggregate → Written → Result Cond Fault → Type 0
+PlacesCondition s before after w result = PlacesBehind placed_cond condition_fault s before after w result
+
+abbrev pub PlacesItem : Scope → List Aggregate → List Aggregate → Written → Result Expr Fault → Type 0
+PlacesItem s before after w result = PlacesBehind placed_expr value_fault s before after w result
+
+abbrev pub PlacesKept : Scope → List Aggregate → List Aggregate → Written → Result Expr Fault → Type 0
+PlacesKept s before after w result = PlacesBehind placed_expr kept_fault s before after w result
+
+-- a value with places, whose aggregates stand behind those before it
+abbrev pub IsValueBehind : Scope → List Aggregate → List Aggregate → Written → Expr → Type 0
+IsValueBehind s before after w e = IsBehind placed_expr s before after w e
 
 -- a column that may be read is no larger than its source promises
 abbrev pub KeepSizes : Scope → (ℕ → ℕ) → Type 0

@@ -1,5 +1,6 @@
 -- Nodes with places for names, behind the aggregates before them.
-use Rattle.std.specs.Prelude.{◌≡◌, fold, List, map}
+use Rattle.std.specs.Prelude.{◌≡◌, fold, List, map, Vec}
+use Rattle.std.specs.Global.{Global}
 use Rattle.cq_values.specs.declared.value.Value.TheVariants.{Null}
 use Rattle.cq_language.specs.declared.written.ExprNode.{ExprNode}
 use Rattle.cq_language.specs.declared.written.Sign.{Sign}
@@ -31,6 +32,10 @@ pub record IsPlaced (s : Scope) (before : List Aggregate) (w : Written) (tree : 
   pub condition : condition_in tree ≡ placed_cond s before w
   pub aggregates : after ≡ with_aggregates s before w
 
+-- the same with the tree last
+abbrev pub PlacesTree : Scope → List Aggregate → Written → List Aggregate → Tree → Type 0
+PlacesTree s before w after tree = IsPlaced s before w tree after
+
 -- the aggregates that stand in these nodes, behind those before them
 abbrev pub with_nodes : Scope → List Aggregate → List ExprNode → List Aggregate
 with_nodes s before nodes = fold (with_aggregates s) before (map written nodes)
@@ -52,3 +57,10 @@ AreConditions = ArePlaced cond_of placed_cond
 pub record AreTerms (s : Scope) (before : List Aggregate) (signs : List Sign) (nodes : List ExprNode) (trees : List ExprTree) (after : List Aggregate) : Type 0 where
   pub values : map expr_of trees ≡ later_terms s before signs (map written nodes)
   pub aggregates : after ≡ with_terms s before signs (map written nodes)
+
+-- these are made: conditions, and the later terms of a sum
+abbrev pub MakesConditions : Scope → List Aggregate → List ExprNode → List Aggregate → Vec CondTree Global → Type 0
+MakesConditions s before nodes after made = AreConditions s before nodes made.items after
+
+abbrev pub MakesTerms : Scope → List Aggregate → List Sign → List ExprNode → List Aggregate → Vec ExprTree Global → Type 0
+MakesTerms s before signs nodes after made = AreTerms s before signs nodes made.items after

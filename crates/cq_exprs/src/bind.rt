@@ -1,10 +1,9 @@
 //! Expressions that are asked for as a whole: a condition as behind WHERE and HAVING, a value as an item or behind SET.
 ghost use Rattle.std.specs.Prelude.{◌≡◌, IfOk, Ok};
 ghost use Rattle.cq_binding.specs.Kinds.{kind_type};
-ghost use Rattle.cq_binding.specs.Placed.{placed_cond, placed_expr};
 ghost use Rattle.cq_binding.specs.Scopes.{bound_condition, bound_value};
-ghost use Rattle.cq_binding.specs.Typing.{condition_fault, kept_fault, set_fault, type_of, typed, value_fault};
-ghost use Rattle.cq_exprs.specs.Expressions.{IsBehind, Places, PlacesBehind, scope_of};
+ghost use Rattle.cq_binding.specs.Typing.{condition_fault, set_fault, type_of, typed};
+ghost use Rattle.cq_exprs.specs.Expressions.{IsValueBehind, Places, PlacesCondition, PlacesItem, PlacesKept, scope_of};
 ghost use Rattle.cq_language.specs.Written.{written};
 
 use crate::placing::tree_of;
@@ -33,7 +32,7 @@ pub fn bind_having(
     aggregates: &mut Seq<Aggregate>,
     condition: &SqlExpr,
 ) -> Result<Cond, Fault>
-    ensures { PlacesBehind placed_cond condition_fault (scope_of scope.now) aggregates.old aggregates.new condition.now result }
+    ensures { PlacesCondition (scope_of scope.now) aggregates.old aggregates.new condition.now result }
 {
     let typing = typing_of(scope, condition)?;
     typings::negation_of(typing)?;
@@ -49,7 +48,7 @@ pub fn bind_item(
     aggregates: &mut Seq<Aggregate>,
     value: &ExprNode,
 ) -> Result<Expr, Fault>
-    ensures { PlacesBehind placed_expr value_fault (scope_of scope.now) aggregates.old aggregates.new (written value.now) result }
+    ensures { PlacesItem (scope_of scope.now) aggregates.old aggregates.new (written value.now) result }
 {
     let typing = node_typing(scope, value)?;
     typings::tested(typing)?;
@@ -64,7 +63,7 @@ pub fn bind_kept(
     aggregates: &mut Seq<Aggregate>,
     value: &ExprNode,
 ) -> Result<Expr, Fault>
-    ensures { PlacesBehind placed_expr kept_fault (scope_of scope.now) aggregates.old aggregates.new (written value.now) result }
+    ensures { PlacesKept (scope_of scope.now) aggregates.old aggregates.new (written value.now) result }
 {
     let typing = node_typing(scope, value)?;
     typings::kept_value(typing)?;
@@ -113,7 +112,7 @@ fn placed(
     aggregates: &mut Seq<Aggregate>,
     value: &ExprNode,
 ) -> Result<Expr, AllocError>
-    ensures { IfOk result (λ e. IsBehind placed_expr (scope_of scope.now) aggregates.old aggregates.new (written value.now) e) }
+    ensures { IfOk result (IsValueBehind (scope_of scope.now) aggregates.old aggregates.new (written value.now)) }
 {
     let tree = tree_of(alloc, scope, aggregates, value)?;
     Ok(Expr::new(tree.into_value()))

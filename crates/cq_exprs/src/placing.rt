@@ -5,7 +5,7 @@ ghost use Rattle.cq_language.specs.Written.{written};
 ghost use Rattle.cq_binding.specs.Placed.{aggregate_of, named_day, turned, written_number};
 ghost use Rattle.cq_binding.specs.Places.{next_place};
 ghost use Rattle.cq_exprs.specs.Expressions.{scope_of};
-ghost use Rattle.cq_exprs.specs.Nodes.{AreConditions, AreTerms, AreValues, IsPlaced, condition_in, value_in};
+ghost use Rattle.cq_exprs.specs.Nodes.{AreValues, MakesConditions, MakesTerms, PlacesTree, condition_in, value_in};
 ghost use Rattle.cq_exprs.specs.Terms.{signed_term};
 
 use crate::scope::Scope;
@@ -51,7 +51,7 @@ pub(crate) fn tree_of(
     aggregates: &mut Seq<Aggregate>,
     node: &ExprNode,
 ) -> Result<Tree, AllocError>
-    ensures { IfOk result (λ tree. IsPlaced (scope_of scope.now) aggregates.old (written node.now) tree aggregates.new) }
+    ensures { IfOk result (PlacesTree (scope_of scope.now) aggregates.old (written node.now) aggregates.new) }
 {
     match node {
         ExprNode::Number(n) => Ok(Tree::Value(ExprTree::Literal(whole(*n)))),
@@ -176,7 +176,7 @@ fn term_trees(
     signs: &[Sign],
     nodes: &[ExprNode],
 ) -> Result<Vec<ExprTree>, AllocError>
-    ensures { IfOk result (λ v. AreTerms (scope_of scope.now) aggregates.old signs.now nodes.now v.items aggregates.new) }
+    ensures { IfOk result (MakesTerms (scope_of scope.now) aggregates.old signs.now nodes.now aggregates.new) }
 {
     let mut terms = Vec::with_capacity(alloc, nodes.len())?;
     for (sign, node) in signs.iter().zip(nodes) {
@@ -194,7 +194,7 @@ fn condition_trees(
     aggregates: &mut Seq<Aggregate>,
     nodes: &[ExprNode],
 ) -> Result<Vec<CondTree>, AllocError>
-    ensures { IfOk result (λ v. AreConditions (scope_of scope.now) aggregates.old nodes.now v.items aggregates.new) }
+    ensures { IfOk result (MakesConditions (scope_of scope.now) aggregates.old nodes.now aggregates.new) }
 {
     let mut trees = Vec::with_capacity(alloc, nodes.len())?;
     for node in nodes {

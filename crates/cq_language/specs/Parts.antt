@@ -36,6 +36,10 @@ IsName n ts = ts ≡ tokens.Name n ∷ []
 abbrev pub IsNumber : ℕ → List Token → Type 0
 IsNumber n ts = ts ≡ tokens.Number n ∷ []
 
+-- text
+abbrev pub IsText : List ℕ → List Token → Type 0
+IsText t ts = ts ≡ tokens.Text t ∷ []
+
 -- nothing
 abbrev pub IsLeftOut : List Token → Type 0
 IsLeftOut ts = ts ≡ []

@@ -7,7 +7,7 @@ use Rattle.cq_language.specs.declared.statement.SetClause.{SetClause}
 use Rattle.cq_language.specs.declared.statement.Statement.{Statement}
 use Rattle.cq_language.specs.declared.statement.Statement.TheVariants as statements
 use Rattle.cq_language.specs.Expression.{IsExpression}
-use Rattle.cq_language.specs.Parts.{◌before◌, IsWord, IsSign, IsName, IsNumber, IsColumn, IsListBy, IsRow, IsWhere, Separated}
+use Rattle.cq_language.specs.Parts.{◌before◌, IsWord, IsSign, IsName, IsNumber, IsText, IsColumn, IsListBy, IsRow, IsWhere, Separated}
 use Rattle.cq_language.specs.Query.{IsSelect}
 use Rattle.cq_language.specs.Tokens.{HasTokens, is_past_limits}
 
@@ -36,6 +36,8 @@ IsStatement (statements.Delete name condition) = IsWord keywords.Delete before I
 -- UPDATE name SET name = expr {, name = expr} [WHERE ..]
 IsStatement (statements.Update name assignments condition) =
     IsWord keywords.Update before IsName name before IsWord keywords.Set before Separated IsSetClause assignments before IsWhere condition
+-- COPY name FROM text
+IsStatement (statements.Copy name file) = IsWord keywords.Copy before IsName name before IsWord keywords.From before IsText file
 -- SELECT ..
 IsStatement (statements.Select query) = IsSelect query
 -- MOVE name int

@@ -114,6 +114,11 @@ pub enum Statement {
         assignments: Seq<SetClause>,
         condition: Option<SqlExpr>,
     },
+    /// Takes each record of a file as a row.
+    Copy {
+        table: Text,
+        file: Text,
+    },
     Select(Select),
     /// Brings so many rows of the write store to the read store.
     Move {

@@ -1,91 +1,41 @@
-//! The command line.
+//! What the command line asks for.
 ghost use Rattle.std.specs.Prelude.{◌≡◌, IfErr, IfOk, true};
-ghost use Rattle.clap.specs.Words.{FailsBy, app_of, fault_of, kind_of, subcommand_rows_of, takes};
-ghost use Rattle.cq_options.specs.Line.{AnswersBy, IsFaultOf, IsMemory, colview, fault_exit, script_in, script_of_rows, subcommand_in, texts};
-ghost use Rattle.cq_options.specs.declared.options.LineFault.TheVariants.{Memory};
+ghost use Rattle.clap.specs.Words.{FailsBy, fault_of, subcommand_rows_of, takes};
+ghost use Rattle.cq_options.specs.Fault.{AnswersBy, IsLimitFault, IsMemory};
+ghost use Rattle.cq_options.specs.Limit.{IsLimitOf};
+ghost use Rattle.cq_options.specs.Line.{AreIn, IsTaken, colview, dir_in, limit_in, limit_of_rows, script_in, subcommand_in, texts, value_of_rows};
+ghost use Rattle.cq_options.specs.declared.fault.LineFault.TheVariants.{Memory};
 
-use clap::error::ErrorKind;
-use clap::{Arg, ArgMatches, Command};
+use crate::command::command;
+use crate::fault::LineFault;
+use crate::limit::{limit_of, limit_refused};
+use clap::ArgMatches;
 use cq_values::Text;
-use std::alloc::{AllocError, Global};
-use thiserror::Error;
+use std::alloc::Global;
 
 /// What the command line asks for.
 #[derive(Debug, Drop)]
 pub struct Options {
     /// The path of the script.
     pub script: Text,
-}
-
-/// Why a command line asks for no run.
-#[derive(Debug, Drop, Error)]
-pub enum LineFault {
-    /// Help was asked for. This is its text.
-    #[error("{0}")]
-    Help(String),
-    #[error("out of memory")]
-    Memory,
-    /// The words are no command. This says why.
-    #[error("{0}")]
-    Refused(String),
-}
-
-impl LineFault {
-    /// The exit status of the program.
-    pub fn exit(&self) -> u8
-        ensures { result ≡ fault_exit self.now }
-    {
-        match self {
-            LineFault::Help(_) => 0,
-            LineFault::Refused(_) => 2,
-            LineFault::Memory => 3,
-        }
-    }
-
-    /// What clap's error tells.
-    fn told(alloc: Global, error: clap::Error) -> Result<LineFault, AllocError>
-        ensures { IfOk result (IsFaultOf (kind_of error)) }
-    {
-        let text = error.to_string(alloc)?;
-        Ok(match error.kind() {
-            ErrorKind::OutOfMemory => LineFault::Memory,
-            ErrorKind::DisplayHelp => LineFault::Help(text),
-            _ => LineFault::Refused(text),
-        })
-    }
-}
-
-impl From<AllocError> for LineFault {
-    ghost from_gives = { λ _ fault. fault ≡ Memory };
-
-    fn from(_e: AllocError) -> LineFault {
-        LineFault::Memory
-    }
+    /// The path of the folder that the script's files lie in.
+    pub dir: Text,
+    /// The most rows that a table may have.
+    pub max_rows: u64,
 }
 
 /// Reads the words of a command line. The first is the program's name.
 pub fn options_of<'a>(alloc: Global, words: &'a [&'a str]) -> Result<Options, LineFault>
     ensures script { IfOk result (λ options. options.script ≡ script_in (texts words.entry.now)) }
-    ensures memory { IfErr result (λ fault. takes colview (texts words.entry.now) ≡ true → fault ≡ Memory) }
-    ensures fault { AnswersBy (fault_of colview (texts words.entry.now)) result }
+    ensures dir { IfOk result (λ options. options.dir ≡ dir_in (texts words.entry.now)) }
+    ensures max_rows { IfOk result (λ options. IsLimitOf (limit_in (texts words.entry.now)) options.max_rows) }
+    ensures memory { IfErr result (λ fault. IsTaken (texts words.entry.now) → fault ≡ Memory) }
+    ensures fault { AnswersBy (texts words.entry.now) result }
 {
     match matches_from(alloc, words) {
-        Ok(matches) => {
-            let script = Text::new(alloc, script_of(&matches))?;
-            Ok(Options { script })
-        }
+        Ok(matches) => options_in(alloc, &matches),
         Err(error) => Err(LineFault::told(alloc, error)?),
     }
-}
-
-fn command<'a>(alloc: Global) -> Result<Command<'a>, AllocError>
-    ensures { IfOk result (λ command. app_of command ≡ colview) }
-{
-    let script = Arg::new(alloc, "SCRIPT").required(true);
-    let run = Command::new(alloc, "run").arg(script)?;
-    Command::new(alloc, "colview")
-        .subcommand_required(true)
-        .subcommand(run)
 }
 
 fn matches_from<'a>(alloc: Global, words: &'a [&'a str]) -> Result<ArgMatches<'a>, clap::Error>
@@ -97,11 +47,28 @@ fn matches_from<'a>(alloc: Global, words: &'a [&'a str]) -> Result<ArgMatches<'a
     command.try_get_matches_from(words)
 }
 
-fn script_of<'a>(matches: &ArgMatches<'a>) -> &'a str
-    ensures { result.now ≡ script_of_rows (subcommand_rows_of matches.now) }
+fn options_in(alloc: Global, matches: &ArgMatches<'_>) -> Result<Options, LineFault>
+    ensures ok { IfOk result (AreIn (subcommand_rows_of matches.now)) }
+    ensures err { IfErr result (IsLimitFault (limit_of_rows (subcommand_rows_of matches.now))) }
+{
+    let limit = value_of(matches, "N");
+    let Some(max_rows) = limit_of(limit) else {
+        return Err(LineFault::Refused(limit_refused(alloc, limit)?));
+    };
+    let script = Text::new(alloc, value_of(matches, "SCRIPT"))?;
+    let dir = Text::new(alloc, value_of(matches, "DIR"))?;
+    Ok(Options {
+        script,
+        dir,
+        max_rows,
+    })
+}
+
+fn value_of<'a>(matches: &ArgMatches<'a>, id: &str) -> &'a str
+    ensures { result.now ≡ value_of_rows id.now (subcommand_rows_of matches.now) }
 {
     match matches.subcommand() {
-        Some((_, entered)) => entered.get_str("SCRIPT").unwrap_or(""),
+        Some((_, entered)) => entered.get_str(id).unwrap_or(""),
         None => "",
     }
 }

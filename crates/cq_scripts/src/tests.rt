@@ -1,25 +1,37 @@
-//! Runs of scripts that need more than a script: each prefix of one, limits handed in, sinks of the test.
+//! Runs of scripts that need more than a script: each prefix of one, limits handed in, sinks and sources of the test.
+mod endings;
 mod full_tables;
 mod prefixes;
 mod sinks;
+mod sources;
+
+ghost use Rattle.std.specs.Prelude.{◌<◌, ◌+◌, ◌^◌, length};
 
 use crate::test_sink::{Plan, TestSink};
-use cq_cli::{NoSources, exit_of, run};
+use cq_cli::{NoSources, Sources, exit_of, run};
 use cq_engine::Limits;
 use std::alloc::Global;
 
 /// The exit status of a run over a sink of this plan, and the sink.
 fn ended(alloc: Global, script: &[u8], plan: Plan) -> (u8, TestSink) {
-    ended_within(alloc, Limits::MAX_ROWS, script, plan)
+    let mut sources = NoSources::new();
+    ended_within(alloc, Limits::MAX_ROWS, script, &mut sources, plan)
 }
 
-/// The same where a table may have so many rows.
-fn ended_within(alloc: Global, max_rows: u64, script: &[u8], plan: Plan) -> (u8, TestSink) {
+/// The same with the files of a source, where a table may have so many rows.
+fn ended_within<S: Sources>(
+    alloc: Global,
+    max_rows: u64,
+    script: &[u8],
+    sources: &mut S,
+    plan: Plan,
+) -> (u8, TestSink)
+    requires { S.failures sources.old + length script.now < 2 ^ 64 }
+{
     let mut sink = TestSink::new(alloc, plan);
     let Some(limits) = Limits::new(max_rows) else {
         return (2, sink);
     };
-    let mut sources = NoSources::default();
-    let result = run(alloc, script, limits, &mut sources, &mut sink);
+    let result = run(alloc, script, limits, sources, &mut sink);
     (exit_of(&result), sink)
 }

@@ -1,15 +1,15 @@
--- Names, numbers and names of columns are read exactly.
+-- Names, numbers, texts and names of columns are read exactly.
 use Rattle.std.proofs.Common.{◌≡◌, ℕ, List, [], ◌∷◌, ◌++◌, Option, Some, None, refl, ap}
 use Rattle.cq_language.specs.declared.token.Symbol.TheVariants as symbols
 use Rattle.cq_language.specs.declared.token.Token.{Token}
 use Rattle.cq_language.specs.declared.token.Token.TheVariants as tokens
 use Rattle.cq_language.specs.declared.written.ColumnName.{ColumnName}
-use Rattle.cq_language.specs.Parts.{IsName, IsNumber}
+use Rattle.cq_language.specs.Parts.{IsName, IsNumber, IsText}
 use Rattle.cq_language.specs.Query.{IsColumnName}
 use Rattle.cq_language.specs.Spelling.{column_tokens}
 use Rattle.cq_reader.specs.Read.{after_symbol}
 use Rattle.cq_reader.proofs.Exact.{Reads, Anything, parts_of}
-use Rattle.cq_sql.specs.Parts.{name_at, number_at, column_name_at}
+use Rattle.cq_sql.specs.Parts.{name_at, number_at, text_at, column_name_at}
 
 -- names are read exactly
 pub name_reads : Reads Anything IsName name_at
@@ -34,6 +34,18 @@ number_reads = record { found = found; only = only } where
       let p = parts_of m n ts rest e in
       (tokens.Number m ∷ [], ap (λ (us : List Token). tokens.Number m ∷ us) p.1, ap (λ (x : ℕ). tokens.Number x ∷ []) p.0)
   only n ts rest e = absurd cc
+
+-- texts are read exactly
+pub text_reads : Reads Anything IsText text_at
+text_reads = record { found = found; only = only } where
+  found : (t : List ℕ) (front rest : List Token) → IsText t front → Anything rest → text_at (front ++ rest) ≡ Some (t, rest)
+  found t front rest h end = rw h refl
+
+  only : (t : List ℕ) (ts rest : List Token) → text_at ts ≡ Some (t, rest) → (front : List Token) × (ts ≡ front ++ rest) × IsText t front
+  only t (tokens.Text text ∷ ts) rest e =
+      let p = parts_of text t ts rest e in
+      (tokens.Text text ∷ [], ap (λ (us : List Token). tokens.Text text ∷ us) p.1, ap (λ (x : List ℕ). tokens.Text x ∷ []) p.0)
+  only t ts rest e = absurd cc
 
 -- no dot follows
 abbrev pub EndsColumn : List Token → Type 0

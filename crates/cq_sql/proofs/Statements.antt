@@ -8,7 +8,7 @@ use Rattle.cq_language.specs.declared.statement.Statement.TheVariants as stateme
 use Rattle.cq_language.specs.declared.token.Keyword.TheVariants as keywords
 use Rattle.cq_language.specs.declared.token.Symbol.TheVariants as symbols
 use Rattle.cq_language.specs.declared.token.Token.{Token}
-use Rattle.cq_language.specs.Parts.{◌before◌, IsColumn, IsListBy, IsName, IsNumber, IsRow, IsSign, IsWhere, IsWord, Separated}
+use Rattle.cq_language.specs.Parts.{◌before◌, IsColumn, IsListBy, IsName, IsNumber, IsRow, IsSign, IsText, IsWhere, IsWord, Separated}
 use Rattle.cq_language.specs.Query.{IsSelect}
 use Rattle.cq_language.specs.Sentence.{IsSetClause}
 use Rattle.cq_language.specs.Written.{Written}
@@ -18,10 +18,10 @@ use Rattle.cq_reader.proofs.Exact.{Reads, Makes, Nothing, sign_leads, word_leads
 use Rattle.cq_reader.proofs.Lists.{EndsList, comma_reads}
 use Rattle.cq_reader.proofs.Steps.{last_makes, lead_makes, made_reads, next_makes, part_makes, with_ends}
 use Rattle.cq_reader.proofs.Tails.{list_behind_reads}
-use Rattle.cq_sql.specs.Grammar.{create_table_at, drop_table_at, create_view_at, drop_view_at, insert_at, delete_at, set_clause_at, update_at, select_at, move_at, merge_at, refresh_at}
+use Rattle.cq_sql.specs.Grammar.{create_table_at, drop_table_at, create_view_at, drop_view_at, insert_at, copy_at, delete_at, set_clause_at, update_at, select_at, move_at, merge_at, refresh_at}
 use Rattle.cq_sql.specs.Parts.{condition_at}
 use Rattle.cq_sql.proofs.ConstantReads.{row_reads}
-use Rattle.cq_sql.proofs.NameReads.{name_reads, number_reads}
+use Rattle.cq_sql.proofs.NameReads.{name_reads, number_reads, text_reads}
 use Rattle.cq_sql.proofs.Places.{not_symbol, ends_expression, condition_starts, start_place}
 use Rattle.cq_sql.proofs.Queries.{condition_reads, query_reads}
 use Rattle.cq_sql.proofs.Tables.{column_reads}
@@ -74,6 +74,14 @@ pub insert_makes : Makes Nothing IsInsert (λ x. statements.Insert x.0 x.1) inse
 unfolding insert_at
 insert_makes =
     lead_makes (word_leads keywords.Into) (next_makes name_reads (λ table. lead_makes (word_leads keywords.Values) (last_makes (λ rows. statements.Insert table rows) (with_ends (comma_reads row_reads (λ ts. tt)) (λ rest end. rw end (tt, refl))))))
+
+-- what follows COPY
+abbrev pub IsCopy : List ℕ × List ℕ → List Token → Type 0
+IsCopy x = IsName x.0 before IsWord keywords.From before IsText x.1
+
+pub copy_makes : Makes Nothing IsCopy (λ x. statements.Copy x.0 x.1) copy_at
+unfolding copy_at
+copy_makes = next_makes name_reads (λ table. lead_makes (word_leads keywords.From) (last_makes (λ file. statements.Copy table file) (with_ends text_reads (λ rest end. tt))))
 
 -- a condition behind WHERE is read exactly, up to the end
 where_reads : Reads Nothing IsWhere (condition_at keywords.Where)

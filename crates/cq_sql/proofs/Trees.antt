@@ -16,7 +16,7 @@ use Rattle.cq_reader.specs.Gives.{Gives}
 use Rattle.cq_reader.specs.Read.{Reader}
 use Rattle.cq_reader.proofs.Exact.{Reads, Makes, Nothing, bind_some}
 use Rattle.cq_sql.specs.Grammar.{create_at, drop_at, select_at, statement_at, if_all_read, whole_statement}
-use Rattle.cq_sql.proofs.Statements.{create_table_makes, drop_table_makes, create_view_makes, drop_view_makes, insert_makes, delete_makes, update_makes, select_makes, move_makes, merge_makes, refresh_makes}
+use Rattle.cq_sql.proofs.Statements.{create_table_makes, drop_table_makes, create_view_makes, drop_view_makes, insert_makes, copy_makes, delete_makes, update_makes, select_makes, move_makes, merge_makes, refresh_makes}
 
 -- what was read from the tokens is a statement, with these words in front
 abbrev WasRead : List Token → Statement → List Token → List Token → Type 0
@@ -67,6 +67,7 @@ statement_reads = record { found = found; only = only } where
   found (statements.CreateView name query) front rest h end = let k = h.4 in rw (h.2, h.3, k.2, k.3) (create_view_makes.found (name, query) k.1 rest k.4 end)
   found (statements.DropView name) front rest h end = let k = h.4 in rw (h.2, h.3, k.2, k.3) (drop_view_makes.found name k.1 rest k.4 end)
   found (statements.Insert table rows) front rest h end = rw (h.2, h.3) (insert_makes.found (table, rows) h.1 rest h.4 end)
+  found (statements.Copy table file) front rest h end = rw (h.2, h.3) (copy_makes.found (table, file) h.1 rest h.4 end)
   found (statements.Delete table condition) front rest h end = rw (h.2, h.3) (delete_makes.found (table, condition) h.1 rest h.4 end)
   found (statements.Update table assignments condition) front rest h end = rw (h.2, h.3) (update_makes.found (table, (assignments, condition)) h.1 rest h.4 end)
   found (statements.Select query) front rest h end =
@@ -81,6 +82,7 @@ statement_reads = record { found = found; only = only } where
   only s (tokens.Keyword keywords.Create ∷ ts) rest e = create_only s ts rest e
   only s (tokens.Keyword keywords.Drop ∷ ts) rest e = drop_only s ts rest e
   only s (tokens.Keyword keywords.Insert ∷ ts) rest e = kind_only (word keywords.Insert) insert_makes (λ x us h. worded keywords.Insert us h) s ts rest e
+  only s (tokens.Keyword keywords.Copy ∷ ts) rest e = kind_only (word keywords.Copy) copy_makes (λ x us h. worded keywords.Copy us h) s ts rest e
   only s (tokens.Keyword keywords.Delete ∷ ts) rest e = kind_only (word keywords.Delete) delete_makes (λ x us h. worded keywords.Delete us h) s ts rest e
   only s (tokens.Keyword keywords.Update ∷ ts) rest e = kind_only (word keywords.Update) update_makes (λ x us h. worded keywords.Update us h) s ts rest e
   only s (tokens.Keyword keywords.Select ∷ ts) rest e = kind_only [] select_makes (λ x us h. h) s (tokens.Keyword keywords.Select ∷ ts) rest e

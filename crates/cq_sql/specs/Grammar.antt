@@ -11,7 +11,7 @@ use Rattle.cq_expr_reader.specs.Expressions.{expression_at}
 use Rattle.cq_reader.specs.declared.leads.Lead.TheVariants as leads
 use Rattle.cq_reader.specs.Lists.{list_at, list_behind}
 use Rattle.cq_reader.specs.Read.{◌>>=◌, Reader, done, followed_by, behind, after_keyword, after_symbol}
-use Rattle.cq_sql.specs.Parts.{name_at, number_at, column_at, row_at, condition_at}
+use Rattle.cq_sql.specs.Parts.{name_at, number_at, text_at, column_at, row_at, condition_at}
 use Rattle.cq_sql.specs.Queries.{query_at}
 
 -- takes what follows CREATE TABLE: the table's name, its columns, and an optional order
@@ -35,6 +35,10 @@ drop_view_at = followed_by name_at (λ name. done (statements.DropView name))
 unfoldable pub insert_at : Reader Statement
 insert_at =
     behind (after_keyword keywords.Into) (followed_by name_at (λ table. behind (after_keyword keywords.Values) (followed_by (list_at leads.Comma row_at) (λ rows. done (statements.Insert table rows)))))
+
+-- takes what follows COPY: the table's name and the file's
+unfoldable pub copy_at : Reader Statement
+copy_at = followed_by name_at (λ table. behind (after_keyword keywords.From) (followed_by text_at (λ file. done (statements.Copy table file))))
 
 -- takes what follows DELETE: the table's name and an optional condition
 unfoldable pub delete_at : Reader Statement
@@ -83,6 +87,7 @@ unfoldable pub statement_at : Reader Statement
 statement_at (tokens.Keyword keywords.Create ∷ ts) = create_at ts
 statement_at (tokens.Keyword keywords.Drop ∷ ts) = drop_at ts
 statement_at (tokens.Keyword keywords.Insert ∷ ts) = insert_at ts
+statement_at (tokens.Keyword keywords.Copy ∷ ts) = copy_at ts
 statement_at (tokens.Keyword keywords.Delete ∷ ts) = delete_at ts
 statement_at (tokens.Keyword keywords.Update ∷ ts) = update_at ts
 statement_at (tokens.Keyword keywords.Select ∷ ts) = select_at (tokens.Keyword keywords.Select ∷ ts)

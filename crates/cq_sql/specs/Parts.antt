@@ -1,4 +1,4 @@
--- How names, numbers, columns and constants are read, as functions on lists: what a sentence is, the model says.
+-- How names, numbers, texts, columns and constants are read, as functions on lists: what a sentence is, the model says.
 use Rattle.std.specs.Prelude.{ℕ, Bool, true, false, List, ◌∷◌, Option, Some, None}
 use Rattle.cq_values.specs.declared.column.ColumnDef.{ColumnDef}
 use Rattle.cq_values.specs.declared.ty.Ty.{Ty}
@@ -26,6 +26,11 @@ name_at ts = None
 abbrev pub number_at : Reader ℕ
 number_at (tokens.Number n ∷ ts) = Some (n, ts)
 number_at ts = None
+
+-- takes a text from the front
+abbrev pub text_at : Reader (List ℕ)
+text_at (tokens.Text text ∷ ts) = Some (text, ts)
+text_at ts = None
 
 -- takes the name of a column, with that of its source where a dot follows it
 abbrev pub column_name_at : Reader ColumnName

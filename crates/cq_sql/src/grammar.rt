@@ -8,7 +8,7 @@ ghost use Rattle.cq_sql.specs.Grammar.{create_at, drop_at, statement_at, whole_s
 
 use crate::query::select_at;
 use crate::table::{create_table_at, drop_table_at};
-use crate::update::{delete_at, insert_at, merge_at, move_at, update_at};
+use crate::update::{copy_at, delete_at, insert_at, merge_at, move_at, update_at};
 use crate::view::{create_view_at, drop_view_at, refresh_at};
 use cq_language::{Keyword, Statement, Token};
 use cq_reader::SqlFault;
@@ -42,6 +42,7 @@ fn statement_at(alloc: Global, tokens: &[Token]) -> Result<(Statement, &[Token])
         [Token::Keyword(Keyword::Create), rest @ ..] => create_at(alloc, rest),
         [Token::Keyword(Keyword::Drop), rest @ ..] => drop_at(alloc, rest),
         [Token::Keyword(Keyword::Insert), rest @ ..] => insert_at(alloc, rest),
+        [Token::Keyword(Keyword::Copy), rest @ ..] => copy_at(alloc, rest),
         [Token::Keyword(Keyword::Delete), rest @ ..] => delete_at(alloc, rest),
         [Token::Keyword(Keyword::Update), rest @ ..] => update_at(alloc, rest),
         [Token::Keyword(Keyword::Select), ..] => select_at(alloc, tokens),

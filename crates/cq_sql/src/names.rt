@@ -1,5 +1,5 @@
-//! Names, names of columns, and numbers without a sign.
-ghost use Rattle.cq_sql.specs.Parts.{column_name_at, name_at, number_at};
+//! Names, names of columns, numbers without a sign, and texts.
+ghost use Rattle.cq_sql.specs.Parts.{column_name_at, name_at, number_at, text_at};
 
 use cq_language::{ColumnName, Symbol, Token};
 use cq_reader::{Readable, SqlFault};
@@ -31,6 +31,21 @@ impl Readable for Numbers {
     fn read(_alloc: Global, tokens: &[Token]) -> Result<(u128, &[Token]), SqlFault> {
         match tokens {
             [Token::Number(n), rest @ ..] => Ok((*n, rest)),
+            _ => Err(SqlFault::Syntax),
+        }
+    }
+}
+
+pub struct Texts;
+
+impl Readable for Texts {
+    type Item = Text;
+
+    ghost reads = { text_at };
+
+    fn read(alloc: Global, tokens: &[Token]) -> Result<(Text, &[Token]), SqlFault> {
+        match tokens {
+            [Token::Text(text), rest @ ..] => Ok((text.copy(alloc)?, rest)),
             _ => Err(SqlFault::Syntax),
         }
     }

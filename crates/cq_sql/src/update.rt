@@ -1,10 +1,10 @@
 //! The statements that write rows, and those that move them to the read store.
 ghost use Rattle.std.specs.Prelude.{◌≡◌};
 ghost use Rattle.cq_reader.specs.Gives.{Gives};
-ghost use Rattle.cq_sql.specs.Grammar.{delete_at, insert_at, merge_at, move_at, set_clause_at, update_at};
+ghost use Rattle.cq_sql.specs.Grammar.{copy_at, delete_at, insert_at, merge_at, move_at, set_clause_at, update_at};
 
 use crate::constants::Rows;
-use crate::names::{Names, Numbers};
+use crate::names::{Names, Numbers, Texts};
 use cq_expr_reader::SqlExpressions;
 use cq_language::{Keyword, SetClause, Statement, Symbol, Token};
 use cq_reader::{Lead, Readable, SqlFault, expect_keyword, expect_symbol, list_of, tail_of};
@@ -20,6 +20,17 @@ pub fn insert_at(alloc: Global, tokens: &[Token]) -> Result<(Statement, &[Token]
     let rest = expect_keyword(Keyword::Values, rest)?;
     let (rows, rest) = list_of::<Rows>(alloc, Lead::Comma, rest)?;
     Ok((Statement::Insert { table, rows }, rest))
+}
+
+/// What follows COPY.
+#[tactic(auto, unfolding(crate::specs::Grammar::copy_at))]
+pub fn copy_at(alloc: Global, tokens: &[Token]) -> Result<(Statement, &[Token]), SqlFault>
+    ensures { Gives (λ x. (x.0, x.1.now)) result (copy_at tokens.now) }
+{
+    let (table, rest) = Names::read(alloc, tokens)?;
+    let rest = expect_keyword(Keyword::From, rest)?;
+    let (file, rest) = Texts::read(alloc, rest)?;
+    Ok((Statement::Copy { table, file }, rest))
 }
 
 /// What follows DELETE.

@@ -13,6 +13,7 @@ use Rattle.cq_binding.specs.Scopes.{Named, from_table, from_view, source_named}
 use Rattle.cq_binding.specs.From.{From, first_walk, from_walk, join_walk, joins_walk}
 use Rattle.cq_binding.specs.Bound.{bound, bound_select, standing}
 use Rattle.cq_binding.specs.Checks.{first_fault}
+use Rattle.cq_binding.specs.Records.{Files}
 use Rattle.cq_binding.specs.Refusal.{is_used, drop_table_checks, select_checks, refusal}
 use Rattle.std.specs.List.{remove, prefix_len, list_any}
 use Rattle.std.proofs.lemmas.List.{map-append, take-map, drop-map, length-map}
@@ -114,42 +115,43 @@ from-timeless x q =
     ∙ behind-alike (first_walk q.first (source_named q.first.name x)) (λ from. joins_walk (seen x) from q.joins) (λ from. joins_walk x from q.joins) (joins-timeless x q.joins)
 
 -- the walk sees no epoch
-refusal-seen : (x : State) (s : Statement) → refusal (seen x) s ≡ refusal x s
-refusal-seen x (statements.CreateTable name columns sort) = rw (there-timeless name x.views) refl
-refusal-seen x (statements.DropTable name) = used (table_named name x.tables)
+refusal-seen : (files : Files) (x : State) (s : Statement) → refusal files (seen x) s ≡ refusal files x s
+refusal-seen files x (statements.CreateTable name columns sort) = rw (there-timeless name x.views) refl
+refusal-seen files x (statements.DropTable name) = used (table_named name x.tables)
   where
     used : (o : Option TableOf) → first_fault (drop_table_checks (map timeless x.views) o) ≡ first_fault (drop_table_checks x.views o)
     used None = refl
     used (Some t) = rw (used-timeless t.number x.views) refl
-refusal-seen x (statements.CreateView name view) = rw (there-timeless name x.views, there-timeless view.first.name x.views) refl
-refusal-seen x (statements.DropView name) = rw (place-timeless name x.views) refl
-refusal-seen x (statements.Insert name rows) = rw (there-timeless name x.views) refl
-refusal-seen x (statements.Delete name condition) = rw (there-timeless name x.views) refl
-refusal-seen x (statements.Update name sets condition) = rw (there-timeless name x.views) refl
-refusal-seen x (statements.Select q) = ap (λ (r : Result From Fault). first_fault (select_checks q r)) (from-timeless x q)
-refusal-seen x (statements.Move name rows) = rw (there-timeless name x.views) refl
-refusal-seen x (statements.Merge name) = rw (there-timeless name x.views) refl
-refusal-seen x (statements.Refresh view changes) = rw (place-timeless view x.views) refl
+refusal-seen files x (statements.CreateView name view) = rw (there-timeless name x.views, there-timeless view.first.name x.views) refl
+refusal-seen files x (statements.DropView name) = rw (place-timeless name x.views) refl
+refusal-seen files x (statements.Insert name rows) = rw (there-timeless name x.views) refl
+refusal-seen files x (statements.Copy name file) = rw (there-timeless name x.views) refl
+refusal-seen files x (statements.Delete name condition) = rw (there-timeless name x.views) refl
+refusal-seen files x (statements.Update name sets condition) = rw (there-timeless name x.views) refl
+refusal-seen files x (statements.Select q) = ap (λ (r : Result From Fault). first_fault (select_checks q r)) (from-timeless x q)
+refusal-seen files x (statements.Move name rows) = rw (there-timeless name x.views) refl
+refusal-seen files x (statements.Merge name) = rw (there-timeless name x.views) refl
+refusal-seen files x (statements.Refresh view changes) = rw (place-timeless view x.views) refl
 
 -- and names are resolved without one
-bound-seen : (x : State) (s : Statement) → bound (seen x) s ≡ bound x s
-bound-seen x (statements.CreateTable name columns sort) = refl
-bound-seen x (statements.DropTable name) = refl
-bound-seen x (statements.CreateView name view) = refl
-bound-seen x (statements.DropView name) = ap (option_map commands.DropView) (place-timeless name x.views)
-bound-seen x (statements.Insert name rows) = refl
-bound-seen x (statements.Delete name condition) = refl
-bound-seen x (statements.Select q) = ap (λ (r : Result From Fault). option_map (bound_select q) (standing r)) (from-timeless x q)
-bound-seen x (statements.Move name rows) = refl
-bound-seen x (statements.Merge name) = refl
-bound-seen x (statements.Refresh view changes) = ap (option_map (λ place. commands.Refresh place changes)) (place-timeless view x.views)
-bound-seen x s = refl
+bound-seen : (files : Files) (x : State) (s : Statement) → bound files (seen x) s ≡ bound files x s
+bound-seen files x (statements.CreateTable name columns sort) = refl
+bound-seen files x (statements.DropTable name) = refl
+bound-seen files x (statements.CreateView name view) = refl
+bound-seen files x (statements.DropView name) = ap (option_map commands.DropView) (place-timeless name x.views)
+bound-seen files x (statements.Insert name rows) = refl
+bound-seen files x (statements.Delete name condition) = refl
+bound-seen files x (statements.Select q) = ap (λ (r : Result From Fault). option_map (bound_select q) (standing r)) (from-timeless x q)
+bound-seen files x (statements.Move name rows) = refl
+bound-seen files x (statements.Merge name) = refl
+bound-seen files x (statements.Refresh view changes) = ap (option_map (λ place. commands.Refresh place changes)) (place-timeless view x.views)
+bound-seen files x s = refl
 
-pub refusal-alike : (x y : State) (s : Statement) → Alike x y → refusal x s ≡ refusal y s
-refusal-alike x y s a = sym (refusal-seen x s) ∙ ap (λ (z : State). refusal z s) (seen-alike x y a) ∙ refusal-seen y s
+pub refusal-alike : (files : Files) (x y : State) (s : Statement) → Alike x y → refusal files x s ≡ refusal files y s
+refusal-alike files x y s a = sym (refusal-seen files x s) ∙ ap (λ (z : State). refusal files z s) (seen-alike x y a) ∙ refusal-seen files y s
 
-pub bound-alike : (x y : State) (s : Statement) → Alike x y → bound x s ≡ bound y s
-bound-alike x y s a = sym (bound-seen x s) ∙ ap (λ (z : State). bound z s) (seen-alike x y a) ∙ bound-seen y s
+pub bound-alike : (files : Files) (x y : State) (s : Statement) → Alike x y → bound files x s ≡ bound files y s
+bound-alike files x y s a = sym (bound-seen files x s) ∙ ap (λ (z : State). bound files z s) (seen-alike x y a) ∙ bound-seen files y s
 
 -- the queries of views have no epoch
 queries_timeless : (vs : List ViewOf) → map (λ v. v.query) (map timeless vs) ≡ map (λ v. v.query) vs

@@ -1,6 +1,6 @@
 -- One step: what a statement may answer in a state, and what state it leaves (ISO 9075-2, 11.3, 14.9, 14.11 and 14.14;
 -- docs/LANGUAGE.md, Statements; docs/ARCHITECTURE.md, Epochs).
-use Rattle.std.specs.Prelude.{◌≡◌, ℕ, ◌+◌, ◌≤◌, ◌==◌, Bool, true, false, not, List, [], ◌∷◌, ◌++◌, filter, length, Some, None, Result, Ok, Err}
+use Rattle.std.specs.Prelude.{◌≡◌, ℕ, ◌+◌, ◌≤◌, ◌==◌, true, not, List, [], ◌∷◌, ◌++◌, filter, length, Option, Some, None, Result, Ok, Err}
 use Rattle.std.specs.List.{remove}
 use Rattle.cq_values.specs.Value.{Row}
 use Rattle.cq_bags.specs.Listing.{IsListing}
@@ -17,7 +17,9 @@ use Rattle.cq_steps.specs.declared.answer.Answer.TheVariants.{Done, Count, Rows}
 use Rattle.cq_binding.specs.declared.fault.Fault.{Fault}
 use Rattle.cq_binding.specs.declared.fault.Fault.TheVariants as faults
 use Rattle.cq_binding.specs.Bound.{bound}
-use Rattle.cq_binding.specs.Refusal.{refusal}
+use Rattle.cq_binding.specs.Records.{Files}
+use Rattle.cq_binding.specs.Refusal.{reads_source, refusal}
+use Rattle.cq_binding.specs.Sources.{AreTold}
 use Rattle.cq_states.specs.State.{ViewOf, State, rows_in, tables_now, queries_of}
 use Rattle.cq_steps.specs.Next.{with_tables, with_all_views, created, new_view, Writes, reach, at_epoch, refreshed, Trims, at_present}
 
@@ -67,37 +69,38 @@ abbrev pub IsTooLarge : State → Bound → Type 0
 IsTooLarge s (commands.Select header q order) = AnswerInRange (tables_now s) (queries_of s) q → ⊥
 IsTooLarge s command = ⊥
 
--- whether a statement reads a source, which may fail
-abbrev pub reads_source : Statement → Bool
-reads_source statement = false
-
--- why a statement is refused, and what state it leaves. The walk decides; want of memory may come at any point
-pub data Refuses (old : State) (statement : Statement) (f : Fault) (new : State) : Type 0 where
-  by_walk : refusal old statement ≡ Some f → new ≡ old → Refuses old statement f new
-  for_memory : f ≡ faults.Memory → new ≡ old → Refuses old statement f new
-  source_failed : reads_source statement ≡ true → f ≡ faults.SourceFailed → new ≡ old → Refuses old statement f new
-  memory_on_the_way : (command : Bound) → refusal old statement ≡ None → bound old statement ≡ Some command → f ≡ faults.Memory → GivesUp old command new → Refuses old statement f new
-  too_large : (command : Bound) → refusal old statement ≡ None → bound old statement ≡ Some command → IsTooLarge old command → f ≡ faults.SumOutOfRange → GivesUp old command new → Refuses old statement f new
+-- why a statement is refused, and what state it leaves. The walk decides; a source may fail, and want of memory may come at
+-- any point
+pub data Refuses (files : Files) (old : State) (statement : Statement) (f : Fault) (new : State) : Type 0 where
+  by_walk : refusal files old statement ≡ Some f → new ≡ old → Refuses files old statement f new
+  for_memory : f ≡ faults.Memory → new ≡ old → Refuses files old statement f new
+  source_failed : reads_source old statement ≡ true → f ≡ faults.SourceFailed → new ≡ old → Refuses files old statement f new
+  memory_on_the_way : (command : Bound) → refusal files old statement ≡ None → bound files old statement ≡ Some command → f ≡ faults.Memory → GivesUp old command new → Refuses files old statement f new
+  too_large : (command : Bound) → refusal files old statement ≡ None → bound files old statement ≡ Some command → IsTooLarge old command → f ≡ faults.SumOutOfRange → GivesUp old command new → Refuses files old statement f new
 
 -- a statement that no check of the walk refuses does what its command does
-pub record Does (old : State) (statement : Statement) (answer : Answer) (new : State) : Type 0 where
-  pub free : refusal old statement ≡ None
+pub record Does (files : Files) (old : State) (statement : Statement) (answer : Answer) (new : State) : Type 0 where
+  pub free : refusal files old statement ≡ None
   pub command : Bound
-  pub is_bound : bound old statement ≡ Some command
+  pub is_bound : bound files old statement ≡ Some command
   pub accepts : Accepts old command answer new
 
 -- from old, the statement may answer this and leave new, while views take changes in when they are asked for
-abbrev pub LazyStep : State → Statement → Result Answer Fault → State → Type 0
-LazyStep old statement (Ok answer) new = Does old statement answer new
-LazyStep old statement (Err f) new = Refuses old statement f new
+abbrev pub LazyStep : Files → State → Statement → Result Answer Fault → State → Type 0
+LazyStep files old statement (Ok answer) new = Does files old statement answer new
+LazyStep files old statement (Err f) new = Refuses files old statement f new
 
 -- an accepted statement, after which each view is taken to the present
-pub record DoesAtOnce (old : State) (statement : Statement) (answer : Answer) (new : State) : Type 0 where
+pub record DoesAtOnce (files : Files) (old : State) (statement : Statement) (answer : Answer) (new : State) : Type 0 where
   pub on_the_way : State
-  pub does : Does old statement answer on_the_way
+  pub does : Does files old statement answer on_the_way
   pub trims : Trims (at_present on_the_way) new
 
 -- from old, the statement may answer this and leave new: views take each change in at once
-abbrev pub Step : State → Statement → Result Answer Fault → State → Type 0
-Step old statement (Ok answer) new = DoesAtOnce old statement answer new
-Step old statement (Err f) new = Refuses old statement f new
+abbrev pub Step : Files → State → Statement → Result Answer Fault → State → Type 0
+Step files old statement (Ok answer) new = DoesAtOnce files old statement answer new
+Step files old statement (Err f) new = Refuses files old statement f new
+
+-- such a step over the files that a source tells, or over any where it tells none
+abbrev pub StepFrom : Option Files → State → Statement → Result Answer Fault → State → Type 0
+StepFrom told old statement outcome new = (files : Files) × AreTold told files × Step files old statement outcome new

@@ -125,3 +125,27 @@ SELECT truth FROM truths WHERE truth = 'True' AND (1 = NULL OR 1 = NULL)
 -- the last of three: True
 SELECT truth FROM truths WHERE truth = 'True' AND (1 = 2 OR 1 = NULL OR 1 = 1)
     OR truth = 'False' AND NOT (1 = 2 OR 1 = NULL OR 1 = 1);
+-- 1 BETWEEN 1 AND 3: True
+SELECT truth FROM truths WHERE truth = 'True' AND 1 BETWEEN 1 AND 3 OR truth = 'False' AND 1 NOT BETWEEN 1 AND 3;
+-- 3 BETWEEN 1 AND 3: True
+SELECT truth FROM truths WHERE truth = 'True' AND 3 BETWEEN 1 AND 3 OR truth = 'False' AND 3 NOT BETWEEN 1 AND 3;
+-- 4 BETWEEN 1 AND 3: False
+SELECT truth FROM truths WHERE truth = 'True' AND 4 BETWEEN 1 AND 3 OR truth = 'False' AND 4 NOT BETWEEN 1 AND 3;
+-- NULL BETWEEN 1 AND 3: Unknown
+SELECT truth FROM truths WHERE truth = 'True' AND NULL BETWEEN 1 AND 3 OR truth = 'False' AND NULL NOT BETWEEN 1 AND 3;
+-- 2 BETWEEN NULL AND 3: Unknown
+SELECT truth FROM truths WHERE truth = 'True' AND 2 BETWEEN NULL AND 3 OR truth = 'False' AND 2 NOT BETWEEN NULL AND 3;
+-- 4 BETWEEN NULL AND 3: False
+SELECT truth FROM truths WHERE truth = 'True' AND 4 BETWEEN NULL AND 3 OR truth = 'False' AND 4 NOT BETWEEN NULL AND 3;
+-- 0 BETWEEN 1 AND NULL: False
+SELECT truth FROM truths WHERE truth = 'True' AND 0 BETWEEN 1 AND NULL OR truth = 'False' AND 0 NOT BETWEEN 1 AND NULL;
+-- 1 IN (1, 2): True
+SELECT truth FROM truths WHERE truth = 'True' AND 1 IN (1, 2) OR truth = 'False' AND 1 NOT IN (1, 2);
+-- 3 IN (1, 2): False
+SELECT truth FROM truths WHERE truth = 'True' AND 3 IN (1, 2) OR truth = 'False' AND 3 NOT IN (1, 2);
+-- 3 IN (1, NULL): Unknown
+SELECT truth FROM truths WHERE truth = 'True' AND 3 IN (1, NULL) OR truth = 'False' AND 3 NOT IN (1, NULL);
+-- 3 IN (NULL, 1): Unknown
+SELECT truth FROM truths WHERE truth = 'True' AND 3 IN (NULL, 1) OR truth = 'False' AND 3 NOT IN (NULL, 1);
+-- 'a' LIKE '%': True
+SELECT truth FROM truths WHERE truth = 'True' AND 'a' LIKE '%' OR truth = 'False' AND 'a' NOT LIKE '%';

@@ -45,3 +45,25 @@ SELECT a + a FROM e;
 SELECT a * a + a FROM t WHERE a * a + a > 0 ORDER BY 1 DESC LIMIT 1;
 SELECT k FROM t GROUP BY k, a HAVING a * a + a > 30;
 SELECT SUM(a * a + a) FROM t;
+-- a total is as wide as 2^127: it may stand, and be worked with by zero alone
+CREATE VIEW totals AS SELECT k, k * 2 + 1 AS x, SUM(a) AS s FROM t GROUP BY k;
+SELECT s FROM totals;
+SELECT s + 0 FROM totals;
+SELECT s + 1 FROM totals;
+SELECT s + (-1) FROM totals;
+SELECT s * 1 FROM totals;
+SELECT s * (-1) FROM totals;
+SELECT -s FROM totals;
+SELECT s * 0 FROM totals;
+-- the product is as wide as 0
+SELECT s * 0 + 170141183460469231731687303715884105727 FROM totals;
+SELECT s * 0 + 170141183460469231731687303715884105727 + 1 FROM totals;
+-- a key is as wide as 2^63, and twice a key and one as 2^64 + 1
+SELECT k * 18446744073709551615 + 9223372036854775807 FROM totals;
+SELECT k * 18446744073709551615 + 9223372036854775808 FROM totals;
+SELECT x * 9223372036854775807 + 9223372036854775808 FROM totals;
+SELECT x * 9223372036854775807 + 9223372036854775809 FROM totals;
+-- minus is as wide as what it turns
+CREATE VIEW widest AS SELECT k * 0 + 170141183460469231731687303715884105727 AS w, COUNT(*) AS n FROM t GROUP BY k;
+SELECT -w FROM widest;
+SELECT -w + 1 FROM widest;

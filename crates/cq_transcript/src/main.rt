@@ -1,4 +1,5 @@
 //! Runs each script of the current folder, in the order of their names, and prints what each statement is answered with.
+//! The files that a script copies lie in a folder that has its name.
 #![tactic(auto)]
 
 mod answers;
@@ -24,7 +25,7 @@ fn print_all(rt: &HostRuntime) -> io::Result<()> {
     for name in names(rt)?.iter() {
         let script = fs::read(rt, name.as_str())?;
         let title = name.strip_suffix(".sql").unwrap_or(name.as_str());
-        write_transcript(rt.alloc(), title, script.as_slice(), &mut out)?;
+        write_transcript(rt, title, script.as_slice(), &mut out)?;
     }
     out.flush()
 }

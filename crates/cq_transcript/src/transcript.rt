@@ -1,21 +1,25 @@
 //! The transcript of a script.
 use crate::answers::Answers;
-use cq_cli::run_program;
+use cq_cli::{Limits, run_program};
+use cq_folder::Folder;
 use cq_sql::split;
-use std::alloc::Global;
 use std::io;
 use std::io::Write;
 
-/// Runs a script over memory, and writes its name, each statement with its answer, and the exit status. A script that is
-/// not UTF-8 has no statements, but an answer.
+/// Runs a script into memory, with the files of the folder that has its name, and writes this name, each statement with
+/// its answer, and the exit status. A script that is not UTF-8 has no statements, but an answer.
 pub fn write_transcript<W: Write>(
-    alloc: Global,
+    rt: &HostRuntime,
     name: &str,
     script: &[u8],
     out: &mut W,
 ) -> io::Result<()> {
-    let mut answers = Answers::new(alloc);
-    let exit = run_program(alloc, script, &mut answers);
+    let limits = Limits {
+        max_rows: Limits::MAX_ROWS,
+    };
+    let mut folder = Folder::new(rt, name);
+    let mut answers = Answers::new(rt.alloc());
+    let exit = run_program(rt.alloc(), script, limits, &mut folder, &mut answers);
     writeln!(out, "== {name}")?;
     match str::from_utf8(script) {
         Ok(text) => write_statements(text, &answers, out)?,

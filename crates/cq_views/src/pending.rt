@@ -63,7 +63,7 @@ impl Pending {
     ) -> Result<Pending, AllocError>
         requires gone { AllByRecursion (λ r. IsNarrowFor query.now r.now) gone.now }
         requires come { AllByRecursion (IsNarrowFor query.now) come.now }
-        ensures { IfOk result (λ pending. pending ≡ change_of query.now (exchanged (map (λ r. r.now) gone.now) come.now)) }
+        ensures { IfOk result (λ p. p ≡ change_of query.now (exchanged (map (λ r. r.now) gone.now) come.now)) }
     {
         let mut pending = Pending::of(alloc, query, gone, -1)?;
         for row in come {

@@ -5,7 +5,7 @@ ghost use Rattle.cq_deltas.specs.Laws.{AreSmall};
 
 use cq_deltas::{GroupChange, Groups, ShowFault};
 use cq_model::{Aggregate, Expr};
-use cq_values::Value;
+use cq_values::{Row, Value};
 use std::alloc::{AllocError, Global};
 use std::test::Fail;
 
@@ -24,49 +24,61 @@ fn first_groups(
     Ok(groups)
 }
 
-#[test]
-fn null_is_one_key_and_adds_nothing(rt: HostRuntime) -> Result<(), Fail> {
-    let alloc = rt.alloc();
+/// What they show.
+fn shown_alone(
+    alloc: Global,
+    aggregates: &[Aggregate],
+    change: GroupChange,
+) -> Result<Vec<Row>, ShowFault>
+    requires totals { AreTotals aggregates.now }
+    requires small { AreSmall [] change }
+{
+    let groups = first_groups(alloc, aggregates, change)?;
+    groups.shown_rows(alloc, aggregates)
+}
+
+/// Of the rows NULL and 5, twice, and NULL and NULL: how many there are, how many numbers, and their total, by the first column.
+fn under_null(alloc: Global) -> Result<Vec<Row>, ShowFault> {
+    let (five, null) = ([Value::Null, Value::Number(5)], [Value::Null, Value::Null]);
     let aggregates = [
         Aggregate::CountAll,
         Aggregate::Count(Expr::column(1)),
         Aggregate::Sum(Expr::column(1)),
     ];
     let mut change = GroupChange::new(alloc);
-    change.push(
-        alloc,
-        &[0],
-        &aggregates,
-        &[Value::Null, Value::Number(5)],
-        2,
-    )?;
-    change.push(alloc, &[0], &aggregates, &[Value::Null, Value::Null], 1)?;
-    let groups = first_groups(alloc, &aggregates, change)?;
-    let rows = groups.shown_rows(alloc, &aggregates)?;
-    assert_eq!(rt; rows.len(), 1);
-    let told = [
-        Value::Null,
-        Value::Number(3),
-        Value::Number(2),
-        Value::Number(10),
-    ];
-    assert_eq!(rt; rows[0].as_slice(), told.as_slice());
-    Ok(())
+    change.push(alloc, &[0], &aggregates, &five, 2)?;
+    change.push(alloc, &[0], &aggregates, &null, 1)?;
+    shown_alone(alloc, &aggregates, change)
 }
 
 #[test]
-fn a_sum_may_leave_its_range_and_come_back(rt: HostRuntime) -> Result<(), Fail> {
-    let alloc = rt.alloc();
+fn null_is_one_key_and_adds_nothing(rt: HostRuntime) -> Result<(), Fail> {
+    let rows = under_null(rt.alloc())?;
+    let (three, two, ten) = (Value::Number(3), Value::Number(2), Value::Number(10));
+    assert!(rt; rows.len() == 1);
+    assert!(rt; rows[0].as_slice() == [Value::Null, three, two, ten].as_slice());
+    Ok(())
+}
+
+/// The total of the greatest number, so often, and of four zeros.
+fn total(alloc: Global, weight: i8) -> Result<Vec<Row>, ShowFault> {
+    let (greatest, zero) = ([Value::Number(i128::MAX)], [Value::Number(0)]);
     let aggregates = [Aggregate::Sum(Expr::column(0))];
-    for (weight, fits) in [(1, true), (2, false), (-1, true), (-2, false)] {
-        let mut change = GroupChange::new(alloc);
-        change.push(alloc, &[], &aggregates, &[Value::Number(i128::MAX)], weight)?;
-        change.push(alloc, &[], &aggregates, &[Value::Number(0)], 4)?;
-        let groups = first_groups(alloc, &aggregates, change)?;
-        match groups.shown_rows(alloc, &aggregates) {
-            Ok(_) => assert!(rt; fits),
-            Err(fault) => assert!(rt; !fits && fault == ShowFault::SumOutOfRange),
+    let mut change = GroupChange::new(alloc);
+    change.push(alloc, &[], &aggregates, &greatest, i128::from(weight))?;
+    change.push(alloc, &[], &aggregates, &zero, 4)?;
+    shown_alone(alloc, &aggregates, change)
+}
+
+/// How often the greatest number is there, and whether the total can be shown.
+const WEIGHTS: &[(i8, bool)] = &[(1, true), (2, false), (-1, true), (-2, false)];
+
+#[test]
+fn a_sum_may_leave_its_range_and_come_back(rt: HostRuntime) {
+    for (weight, fits) in WEIGHTS {
+        match total(rt.alloc(), *weight) {
+            Ok(_) => assert!(rt; *fits),
+            Err(fault) => assert!(rt; !*fits && fault == ShowFault::SumOutOfRange),
         }
     }
-    Ok(())
 }

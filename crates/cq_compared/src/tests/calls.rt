@@ -1,6 +1,7 @@
 //! What the engine tells beside its answers.
 use super::{answer, engine};
 use cq_binder::{Catalog, bind};
+use cq_cli::NoSources;
 use cq_engine::{AnswerSource, Engine};
 use cq_model::{Query, Shape, Source};
 use cq_sql::parse;
@@ -76,7 +77,8 @@ fn the_catalog_tells_a_table_and_its_view(rt: HostRuntime) -> Result<(), Fail> {
 }
 
 fn source_of_answers(alloc: Global, engine: &Engine) -> Result<AnswerSource<'_>, Fail> {
-    let bound = bind(alloc, &parse(alloc, "SELECT a FROM t")?, &engine.catalog())?;
+    let statement = parse(alloc, "SELECT a FROM t")?;
+    let bound = bind(alloc, &statement, &engine.catalog(), &mut NoSources::new())?;
     Ok(engine.answer_source(&bound))
 }
 

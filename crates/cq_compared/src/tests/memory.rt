@@ -15,7 +15,7 @@ use std::test::Fail;
 fn tried(rt: &impl Abort, alloc: Global, engine: &mut Engine, text: &str) -> Result<Answer, Fault> {
     assert!(rt; engine.drawn() < 1000);
     match parse(alloc, text) {
-        Ok(statement) => engine.step(&statement, &mut NoSources::default()),
+        Ok(statement) => engine.step(&statement, &mut NoSources::new()),
         Err(SqlFault::Memory) => Err(Fault::Memory),
         Err(_) => Err(Fault::Syntax),
     }

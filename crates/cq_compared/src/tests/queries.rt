@@ -1,6 +1,7 @@
 //! Queries and conditions of statements, as the binder has them, for the plain evaluator.
 use cq_binder::bind;
 use cq_binding::Bound;
+use cq_cli::NoSources;
 use cq_engine::Engine;
 use cq_language::Statement;
 use cq_model::{Assignment, Cond, Order, Query};
@@ -17,7 +18,7 @@ fn bound(alloc: Global, engine: &Engine, text: &str) -> Result<Bound, Fail> {
 }
 
 fn resolved(alloc: Global, engine: &Engine, statement: &Statement) -> Result<Bound, Fail> {
-    Ok(bind(alloc, statement, &engine.catalog())?)
+    Ok(bind(alloc, statement, &engine.catalog(), &mut NoSources::new())?)
 }
 
 fn query_of(bound: Bound) -> Result<Query, Fail> {

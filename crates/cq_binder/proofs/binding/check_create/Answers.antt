@@ -3,9 +3,9 @@ use Rattle.std.proofs.lemmas.Result.{err_from_is_err_and}
 use Rattle.cq_binding.specs.Scopes.{place_in}
 use Rattle.cq_binding.specs.Refusal.{create_checks, sort_checks}
 use Rattle.cq_states.specs.State.{is_taken}
-use Rattle.cq_binder.specs.Catalog.{alone}
+use Rattle.cq_catalog.specs.Catalog.{alone}
 use Rattle.cq_binder.proofs.Creating.{columns_refused, length_refused, sort_decides}
-use Rattle.cq_binder.proofs.Faults.{walked_same}
+use Rattle.cq_catalog.proofs.Faults.{walked_same}
 use Rattle.cq_binder.proofs.binding.check_create.Goals as goal
 
 pub returns-in_err-check_names : goal.returns-in_err-check_names

@@ -3,7 +3,7 @@ use Rattle.std.proofs.lemmas.Result.{err_from_is_err_and}
 use Rattle.cq_binding.specs.SourceChecks.{where_check}
 use Rattle.cq_binding.specs.UpdateChecks.{set_checks}
 use Rattle.cq_exprs.specs.Expressions.{scope_of}
-use Rattle.cq_binder.proofs.Faults.{refused_back}
+use Rattle.cq_catalog.proofs.Faults.{refused_back}
 use Rattle.cq_binder.proofs.updating.set_parts.Goals as goal
 
 pub returns-in_err-assignments : goal.returns-in_err-assignments

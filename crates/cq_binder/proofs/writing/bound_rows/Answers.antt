@@ -4,7 +4,7 @@ use Rattle.std.proofs.lemmas.Result.{err_from_is_err_and}
 use Rattle.cq_language.specs.declared.statement.Constant.{Constant}
 use Rattle.cq_binding.specs.Checks.{first_fault}
 use Rattle.cq_binding.specs.RowChecks.{row_checks}
-use Rattle.cq_binder.proofs.Faults.{rows_more, passed, refused_first, refused_same}
+use Rattle.cq_catalog.proofs.Faults.{rows_more, passed, refused_first, refused_same}
 use Rattle.cq_binder.proofs.writing.bound_rows.Goals as goal
 
 pub returns-in_err-bound_row : goal.returns-in_err-bound_row

@@ -1,36 +1,41 @@
-use Rattle.std.proofs.Common.{rules, arith, refl, ◌∙◌}
+use Rattle.std.proofs.Common.{rules, arith, refl, subst, ◌∙◌}
 use Rattle.std.proofs.lemmas.Result.{err_from_is_err_and}
+use Rattle.cq_steps.specs.Output.{Serves}
 use Rattle.cq_tokens.specs.Piece.{piece_of}
-use Rattle.cq_cli.proofs.Runs.{cut_off, ends, has_room, passes, serves, starts}
+use Rattle.cq_cli.proofs.Runs.{cut_off, ends, has_reads, has_room, passes, serves, starts}
 use Rattle.cq_cli.proofs.Serving.{serves_piece}
 use Rattle.cq_cli.proofs.running.run_text.Goals as goal
 
 pub loop-piece-init : goal.loop-piece-init
-loop-piece-init g c = (starts c.args.limits.max_rows c.args.script.now _ _ _ _ c.new-engine.result c.split-pieces.ensures c.new-engine.ensures, refl)
+loop-piece-init g c = (starts _ c.args.limits.max_rows c.args.script.now _ _ _ _ c.new-engine.result c.split-pieces.ensures c.new-engine.ensures, refl)
 
-pub answer-outcome-requires : goal.answer-outcome-requires
-answer-outcome-requires g c =
-    has_room c.args.limits.max_rows c.args.script.now _ _ _ _ _ _ c.loop-piece.engine c.loop-piece.status (piece_of c.in-Some.piece) _ _ c.in-Some.ensures.steps c.loop-piece.invariant.0 (c.closed_pieces_fit.ensures c.args.script.now) (omega arith)
+pub answer-outcome-requires-clause-drawn : goal.answer-outcome-requires-clause-drawn
+answer-outcome-requires-clause-drawn g c =
+    has_room _ c.args.limits.max_rows c.args.script.now _ _ _ _ _ _ c.loop-piece.engine c.loop-piece.status (piece_of c.in-Some.piece) _ _ c.in-Some.ensures.steps c.loop-piece.invariant.0 (c.closed_pieces_fit.ensures c.args.script.now) (omega arith)
+
+pub answer-outcome-requires-clause-failures : goal.answer-outcome-requires-clause-failures
+answer-outcome-requires-clause-failures g c =
+    has_reads _ c.args.limits.max_rows c.args.script.now _ _ _ _ _ _ c.loop-piece.engine c.loop-piece.status (piece_of c.in-Some.piece) _ _ c.in-Some.ensures.steps c.loop-piece.invariant.0 (c.closed_pieces_fit.ensures c.args.script.now) c.requires.sources
 
 pub loop-piece-preserved-then-not-piece : goal.loop-piece-preserved-then-not-piece
 loop-piece-preserved-then-not-piece g c = (
-  rw c.and-status.ensures (serves c.args.limits.max_rows c.args.script.now _ _ _ _ _ _ c.loop-piece.engine c.loop-piece.status (piece_of c.in-Some.piece) _ _ c.in-Some.ensures.steps c.loop-piece.invariant.0 _ _ _ c.answer-outcome.new.engine c.in_ok-served.served (search rules)
-      (serves_piece _ c.loop-piece.engine (piece_of c.in-Some.piece) c.answer-outcome.new.engine _ _ _ _ c.answer-outcome.result _ c.answer-outcome.ensures.served c.answer-outcome.ensures.rows c.answer-outcome.ensures.failures c.in_ok-served.ensures)),
+  rw c.and-status.ensures (serves _ c.args.limits.max_rows c.args.script.now _ _ _ _ _ _ c.loop-piece.engine c.loop-piece.status (piece_of c.in-Some.piece) _ _ c.in-Some.ensures.steps c.loop-piece.invariant.0 _ _ _ c.answer-outcome.new.engine c.in_ok-served.served (search rules)
+      (serves_piece _ _ c.loop-piece.engine (piece_of c.in-Some.piece) c.answer-outcome.new.engine _ _ _ _ c.answer-outcome.result _ (subst (λ source. Serves source c.loop-piece.engine (piece_of c.in-Some.piece) c.answer-outcome.result c.answer-outcome.new.engine) c.loop-piece.invariant.1 c.answer-outcome.ensures.served) c.answer-outcome.ensures.rows c.answer-outcome.ensures.failures c.in_ok-served.ensures)),
   c.answer-outcome.ensures.files ∙ c.loop-piece.invariant.1,
 )
 
 pub returns-in_err-served-clause-ran : goal.returns-in_err-served-clause-ran
 returns-in_err-served-clause-ran g c =
     let p = err_from_is_err_and c.from_residual.result c.from_residual.ensures.1 in
-    rw p.1 (cut_off c.args.limits.max_rows c.args.script.now _ _ _ _ _ _ c.loop-piece.engine c.loop-piece.status (piece_of c.in-Some.piece) _ _ c.in-Some.ensures.steps c.loop-piece.invariant.0 _ _ _ c.answer-outcome.new.engine c.in_err-served.field-0.0 _ c.utf8.script (search rules)
-    (serves_piece _ c.loop-piece.engine (piece_of c.in-Some.piece) c.answer-outcome.new.engine _ _ _ _ c.answer-outcome.result _ c.answer-outcome.ensures.served c.answer-outcome.ensures.rows c.answer-outcome.ensures.failures c.in_err-served.ensures))
+    rw p.1 (cut_off _ c.args.limits.max_rows c.args.script.now _ _ _ _ _ _ c.loop-piece.engine c.loop-piece.status (piece_of c.in-Some.piece) _ _ c.in-Some.ensures.steps c.loop-piece.invariant.0 _ _ _ c.answer-outcome.new.engine c.in_err-served.field-0.0 _ c.utf8.script (search rules)
+    (serves_piece _ _ c.loop-piece.engine (piece_of c.in-Some.piece) c.answer-outcome.new.engine _ _ _ _ c.answer-outcome.result _ (subst (λ source. Serves source c.loop-piece.engine (piece_of c.in-Some.piece) c.answer-outcome.result c.answer-outcome.new.engine) c.loop-piece.invariant.1 c.answer-outcome.ensures.served) c.answer-outcome.ensures.rows c.answer-outcome.ensures.failures c.in_err-served.ensures))
 
 pub loop-piece-preserved : goal.loop-piece-preserved
 loop-piece-preserved g c = (
-  passes c.args.limits.max_rows c.args.script.now _ _ _ _ _ _ c.loop-piece.engine c.loop-piece.status (piece_of c.in-Some.piece) _ _ c.in-Some.ensures.steps c.loop-piece.invariant.0 (search rules),
+  passes _ c.args.limits.max_rows c.args.script.now _ _ _ _ _ _ c.loop-piece.engine c.loop-piece.status (piece_of c.in-Some.piece) _ _ c.in-Some.ensures.steps c.loop-piece.invariant.0 (search rules),
   c.loop-piece.invariant.1,
 )
 
 pub returns-clause-ran : goal.returns-clause-ran
 returns-clause-ran g c =
-    ends c.args.limits.max_rows c.args.script.now _ _ _ _ _ _ _ c.loop-piece.engine c.loop-piece.status c.utf8.script c.in_default.ensures.steps.0 c.loop-piece.invariant.0
+    ends _ c.args.limits.max_rows c.args.script.now _ _ _ _ _ _ _ c.loop-piece.engine c.loop-piece.status c.utf8.script c.in_default.ensures.steps.0 c.loop-piece.invariant.0

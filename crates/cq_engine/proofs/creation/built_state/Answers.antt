@@ -5,8 +5,8 @@ use Rattle.cq_states.specs.Fitting.{IsFitting}
 use Rattle.cq_views.specs.Query.{table_of}
 use Rattle.cq_views.specs.View.{Stands}
 use Rattle.cq_engine.proofs.Creating.{stands_for_bag, stored_narrow}
-use Rattle.cq_engine.proofs.Rows.{all_there, rows_numbered}
-use Rattle.cq_engine.proofs.Stored.{rows_stored}
+use Rattle.cq_tables.proofs.Rows.{all_there, rows_numbered}
+use Rattle.cq_tables.proofs.Stored.{rows_stored}
 use Rattle.cq_engine.proofs.creation.built_state.Goals as goal
 
 pub build-requires-clause-narrow : goal.build-requires-clause-narrow

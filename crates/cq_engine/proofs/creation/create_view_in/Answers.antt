@@ -3,7 +3,7 @@ use Rattle.cq_bags.specs.Bag.{once_each}
 use Rattle.cq_states.specs.State.{rows_in}
 use Rattle.cq_model.specs.declared.query.Query.{Query}
 use Rattle.cq_views.specs.View.{Stands}
-use Rattle.cq_engine.specs.Views.{Fits, IsRight, NamedView}
+use Rattle.cq_tables.specs.Views.{Fits, IsRight, NamedView}
 use Rattle.cq_views.specs.Query.{table_of}
 use Rattle.cq_engine.proofs.Kept.{right_behind}
 use Rattle.cq_engine.proofs.creation.create_view_in.Goals as goal

@@ -2,12 +2,11 @@ use Rattle.std.proofs.Common.{◌+◌, arith, inl}
 use Rattle.std.proofs.lemmas.Result.{err_from_is_err_and}
 use Rattle.cq_model.specs.Write.{updated}
 use Rattle.cq_states.specs.State.{rows_in}
-use Rattle.cq_engine.specs.Views.{views_of}
-use Rattle.cq_engine.proofs.Kept.{all_at, all_right_same}
-use Rattle.cq_engine.proofs.Numbers.{numbered-later, numbered-with_rows}
+use Rattle.cq_tables.specs.Views.{views_of}
+use Rattle.cq_engine.proofs.Kept.{all_at, all_right_same, unchanged}
+use Rattle.cq_tables.proofs.Numbers.{numbered-later, numbered-with_rows}
 use Rattle.cq_engine.proofs.Steps.{update_done}
-use Rattle.cq_engine.proofs.Updates.{few_rows, updated_bounded, updated_fit}
-use Rattle.cq_engine.proofs.Written.{unchanged}
+use Rattle.cq_writes.proofs.Updates.{few_rows, updated_bounded, updated_fit}
 use Rattle.cq_engine.proofs.engine.Engine.update.Goals as goal
 
 pub update_in-requires-clause-few : goal.update_in-requires-clause-few

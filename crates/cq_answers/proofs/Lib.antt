@@ -1,0 +1,4 @@
+pub mod Results
+pub mod Readings
+pub mod Lents
+pub mod Joined

@@ -1,0 +1,4 @@
+pub mod Narrow
+pub mod Reading
+pub mod Gathered
+pub mod Selects

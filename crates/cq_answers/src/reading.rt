@@ -1,0 +1,139 @@
+//! SELECT from tables and from views.
+ghost use Rattle.std.specs.Prelude.{◌≡◌, ◌↔◌, IsTrue, ℕ};
+ghost use Rattle.cq_model.specs.declared.query.Shape.TheVariants.{Plain};
+ghost use Rattle.cq_model.specs.Sizes.{column_sizes};
+ghost use Rattle.cq_plain.specs.Lent.{lent_bags};
+ghost use Rattle.cq_plain.specs.Wide.{IsQueryWide};
+ghost use Rattle.cq_states.specs.Fitting.{AreLimited, AreFitting, rows_limit};
+ghost use Rattle.cq_states.specs.State.{AreNumbered};
+ghost use Rattle.cq_answers.specs.Narrow.{IsWithinSized};
+ghost use Rattle.cq_answers.specs.Reading.{CanRead, plain};
+ghost use Rattle.cq_answers.specs.Selects.{Selects, SelectsKept, SelectsLent};
+ghost use Rattle.cq_tables.specs.Views.{AreRight, views_of};
+ghost use Rattle.cq_answers.specs.Gathered.{IsBacked};
+
+use crate::gathered::{gather, lend_all, rows_shown, sources_of};
+use crate::selection::list;
+use cq_binding::Fault;
+use cq_laws::{
+    groups_keep_sizes, joined_rows_keep_sizes, meaning_depends_on_sources, rows_keep_sizes,
+};
+use cq_model::{Order, Query, Shape, Source};
+use cq_plain::{Lent, PlainFault, answer_on, listing};
+use cq_tables::{Table, View, place_numbered};
+use cq_values::{Row, Seq};
+use std::alloc::Global;
+
+/// The listing of a query on the tables and views that it names. Rows of one source are read where they are, unless they
+/// are grouped.
+pub fn select_from(
+    alloc: Global,
+    tables: &[Table],
+    views: &[View],
+    query: &Query,
+    order: &Order,
+) -> Result<Seq<Row>, Fault>
+    requires numbered { (next : ℕ) × AreNumbered tables.now next }
+    requires fitting { AreFitting tables.now }
+    requires few { AreLimited rows_limit tables.now }
+    requires right { (now : ℕ) × AreRight tables.now now views.now }
+    requires can_read { CanRead tables.now (views_of views.now) query.now }
+    ensures { Selects tables.now (views_of views.now) query.now order.now result }
+{
+    if query.joins.is_empty() && !query.distinct && is_plain(&query.shape) {
+        select_alone(alloc, tables, views, query, order)
+    } else {
+        select_joined(alloc, tables, views, query, order)
+    }
+}
+
+/// Whether each row stands for itself.
+fn is_plain(shape: &Shape) -> bool
+    ensures { IsTrue result ↔ (shape.now ≡ Plain) }
+{
+    matches!(shape, Shape::Plain)
+}
+
+/// The listing of a query on the table or the view that it names alone.
+fn select_alone(
+    alloc: Global,
+    tables: &[Table],
+    views: &[View],
+    query: &Query,
+    order: &Order,
+) -> Result<Seq<Row>, Fault>
+    requires numbered { (next : ℕ) × AreNumbered tables.now next }
+    requires fitting { AreFitting tables.now }
+    requires few { AreLimited rows_limit tables.now }
+    requires right { (now : ℕ) × AreRight tables.now now views.now }
+    requires can_read { CanRead tables.now (views_of views.now) query.now }
+    requires plain { query.now ≡ plain query.now.first query.now.filter query.now.items }
+    ensures { Selects tables.now (views_of views.now) query.now order.now result }
+{
+    match query.first {
+        Source::Table(number) => {
+            let place = place_numbered(tables, number);
+            Ok(list(alloc, query, order, tables[place].rows())?)
+        }
+        Source::View(place) => select_from_view(alloc, &views[place as usize], query, order),
+    }
+}
+
+/// The listing of a query on the rows that a view keeps.
+fn select_from_view(
+    alloc: Global,
+    view: &View,
+    query: &Query,
+    order: &Order,
+) -> Result<Seq<Row>, Fault>
+    requires backed { IsBacked view.now }
+    requires within { IsWithinSized (column_sizes view.now.kept.query) query.now }
+    ensures { SelectsKept query.now order.now view.now result }
+{
+    let rows = rows_shown(alloc, view)?;
+    rows_keep_sizes();
+    Ok(list(alloc, query, order, &rows)?)
+}
+
+/// The listing of a query on the rows of all its sources, which the plain evaluator joins.
+fn select_joined(
+    alloc: Global,
+    tables: &[Table],
+    views: &[View],
+    query: &Query,
+    order: &Order,
+) -> Result<Seq<Row>, Fault>
+    requires numbered { (next : ℕ) × AreNumbered tables.now next }
+    requires fitting { AreFitting tables.now }
+    requires few { AreLimited rows_limit tables.now }
+    requires right { (now : ℕ) × AreRight tables.now now views.now }
+    requires can_read { CanRead tables.now (views_of views.now) query.now }
+    ensures { Selects tables.now (views_of views.now) query.now order.now result }
+{
+    let sources = sources_of(alloc, query)?;
+    let gathered = gather(alloc, views, &sources)?;
+    let lent = lend_all(alloc, tables, &gathered)?;
+    rows_keep_sizes();
+    joined_rows_keep_sizes();
+    groups_keep_sizes();
+    meaning_depends_on_sources();
+    list_answer(alloc, &lent, query, order)
+}
+
+/// The listing of a query on lent rows on which it is nowhere too wide.
+fn list_answer(
+    alloc: Global,
+    lent: &[Lent<'_>],
+    query: &Query,
+    order: &Order,
+) -> Result<Seq<Row>, Fault>
+    requires { IsQueryWide query.now (lent_bags lent.now) → ⊥ }
+    ensures { SelectsLent query.now order.now lent.now result }
+{
+    match answer_on(alloc, lent, query) {
+        Ok(rows) => Ok(Seq::from_vec(listing(rows, order)?)),
+        Err(PlainFault::Memory) => Err(Fault::Memory),
+        Err(PlainFault::SumOutOfRange) => Err(Fault::SumOutOfRange),
+        Err(PlainFault::TooWide) => unreachable!(),
+    }
+}

@@ -1,0 +1,43 @@
+//! Queries answered from the rows of one source.
+ghost use Rattle.std.specs.List.{AllByRecursion};
+ghost use Rattle.std.specs.Prelude.{◌≡◌, IfOk};
+ghost use Rattle.cq_bags.specs.Bag.{once_each};
+ghost use Rattle.cq_answers.specs.Narrow.{IsWithin};
+ghost use Rattle.cq_answers.specs.Selects.{AreListed, shown_rows};
+
+use cq_eval::{items_of, keeps};
+use cq_model::{Order, Query};
+use cq_plain::listing;
+use cq_values::{Row, Seq};
+use std::alloc::{AllocError, Global};
+
+/// The listing of what the items show of the rows that WHERE keeps.
+pub fn list(
+    alloc: Global,
+    query: &Query,
+    order: &Order,
+    rows: &[Row],
+) -> Result<Seq<Row>, AllocError>
+    requires { AllByRecursion (IsWithin query.now) rows.now }
+    ensures { IfOk result (AreListed order.now (once_each (shown_rows query.now rows.now))) }
+{
+    let results = results(alloc, query, rows)?;
+    let list = listing(results, order)?;
+    Ok(Seq::from_vec(list))
+}
+
+/// The rows of the result, as these rows give them one after the other.
+fn results(alloc: Global, query: &Query, rows: &[Row]) -> Result<Vec<Row>, AllocError>
+    requires { AllByRecursion (IsWithin query.now) rows.now }
+    ensures { IfOk result (λ v. v.items ≡ shown_rows query.now rows.now) }
+{
+    let items = query.items.as_slice();
+    let mut results = Vec::new(alloc);
+    for row in rows {
+        let row = row.as_slice();
+        if keeps(&query.filter, row) {
+            results.push(items_of(alloc, items, row)?)?;
+        }
+    }
+    Ok(results)
+}

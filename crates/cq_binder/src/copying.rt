@@ -1,0 +1,50 @@
+//! COPY.
+ghost use Rattle.std.specs.Prelude.{◌≡◌, ◌<◌, ◌-◌, ◌^◌, ◌∷◌, [], length, nat_lt};
+ghost use Rattle.cq_binding.specs.Checks.{fault_if};
+ghost use Rattle.cq_binding.specs.declared.fault.Fault.TheVariants.{TextTooLong};
+ghost use Rattle.cq_language.specs.declared.statement.Statement.TheVariants.{Copy};
+ghost use Rattle.cq_model.specs.Sizes.{text_limit};
+ghost use Rattle.cq_binder.specs.Sourced.{BindsFrom};
+ghost use Rattle.cq_catalog.specs.Walk.{Passes};
+
+use crate::binding::{BindFault, unwritten};
+use cq_binding::{Bound, Fault, Sources};
+use cq_catalog::Catalog;
+use cq_model::MAX_TEXT;
+use cq_records::read_rows;
+use cq_values::Text;
+use std::alloc::Global;
+
+/// COPY. The source is read once, where the names have no fault.
+pub(crate) fn bind_copy<C: Catalog, S: Sources>(
+    alloc: Global,
+    catalog: &C,
+    name: &Text,
+    file: &Text,
+    sources: &mut S,
+) -> Result<Bound, BindFault>
+    requires { S.failures sources.old < 2 ^ 64 - 1 }
+    ensures bound { BindsFrom S.Sources sources.old sources.new C.Catalog catalog.now (Copy name.now file.now) result }
+    ensures files { S.files sources.new ≡ S.files sources.old }
+{
+    let Some(table) = catalog.table(name.as_str()) else {
+        return Err(unwritten(catalog, name.as_str()));
+    };
+    check_file_name(file)?;
+    let bytes = sources.read(alloc, file.as_str())?;
+    let rows = read_rows(alloc, bytes.as_slice(), table.columns)?;
+    Ok(Bound::Insert {
+        table: table.number,
+        rows,
+    })
+}
+
+/// A file's name is a text like another: it is not too long.
+fn check_file_name(file: &Text) -> Result<(), BindFault>
+    ensures { Passes (fault_if (nat_lt text_limit (length file.now)) TextTooLong ∷ []) result }
+{
+    if file.as_str().len() > MAX_TEXT {
+        return Err(Fault::TextTooLong);
+    }
+    Ok(())
+}

@@ -1,0 +1,46 @@
+//! The columns of a view: what its items are called, and their types.
+ghost use Rattle.std.specs.Prelude.{◌≡◌, IfOk};
+ghost use Rattle.cq_binding.specs.Bound.{item_columns};
+ghost use Rattle.cq_exprs.specs.Expressions.{scope_of};
+ghost use Rattle.cq_queries.specs.View.{name_walk};
+ghost use Rattle.cq_catalog.specs.Walk.{WalksTo};
+
+use crate::lists::{check_length, check_names};
+use crate::select::item_name;
+use cq_binding::Fault;
+use cq_exprs::{Scope, type_of};
+use cq_language::SelectItem;
+use cq_values::{ColumnDef, Seq};
+use std::alloc::{AllocError, Global};
+
+/// The columns that the items show, of different names and not too many.
+pub(crate) fn view_columns(
+    alloc: Global,
+    scope: &Scope<'_>,
+    items: &[SelectItem],
+) -> Result<Seq<ColumnDef>, Fault>
+    ensures { WalksTo (name_walk items.now) (item_columns (scope_of scope.now) 1 items.now) result }
+{
+    let columns = named_columns(alloc, scope, items)?;
+    check_names(columns.as_slice())?;
+    check_length(items.len())?;
+    Ok(columns)
+}
+
+fn named_columns(
+    alloc: Global,
+    scope: &Scope<'_>,
+    items: &[SelectItem],
+) -> Result<Seq<ColumnDef>, AllocError>
+    ensures { IfOk result (λ columns. columns ≡ item_columns (scope_of scope.now) 1 items.now) }
+{
+    let mut columns = Seq::new(alloc);
+    for (i, item) in items.iter().enumerate() {
+        columns.push(ColumnDef {
+            name: item_name(alloc, i + 1, item)?,
+            ty: type_of(scope, &item.value),
+            not_null: false,
+        })?;
+    }
+    Ok(columns)
+}

@@ -1,0 +1,182 @@
+-- Views by their names and places.
+use Rattle.std.proofs.Common.{◌≡◌, ℕ, zero, suc, ◌+◌, ◌<◌, ◌≤◌, Bool, true, false, cond, not, List, [], ◌∷◌, ◌++◌, map, length, get_or, set, take, drop, Option, Some, None, refl, sym, ap, ap₂, ◌∙◌, subst, arith}
+use Rattle.std.specs.Prelude.{◌||◌, position, nat_lt, option_map, slice_get, IfSome}
+use Rattle.std.specs.List.{AllByRecursion, list_any, position_or_len, remove}
+use Rattle.std.proofs.lemmas.Bool.{ltb-true}
+use Rattle.std.proofs.lemmas.List.{length-map, take_all}
+use Rattle.std.proofs.lemmas.Option.{slice_get-map, slice_get_read}
+use Rattle.cq_values.specs.Texts.{is_text}
+use Rattle.cq_bags.specs.Bag.{Weighted}
+use Rattle.cq_deltas.specs.declared.change.Addition.{Addition}
+use Rattle.cq_binding.specs.Refusal.{is_used}
+use Rattle.cq_states.specs.State.{TableOf, view_named, view_place}
+use Rattle.cq_model.specs.declared.query.Query.{Query}
+use Rattle.cq_views.specs.Query.{reads}
+use Rattle.cq_tables.specs.Taking.{IsSame, AreSame, IsReady, AreReady, CanTake, CanAllTake, HasTaken, HaveTaken}
+use Rattle.cq_tables.specs.Views.{NamedView, view_of, views_of, IsRight, AreRight}
+use Rattle.cq_tables.proofs.Places.{found_there}
+use Rattle.cq_tables.proofs.Pairs.{pointwise_all, pointwise_at, pointwise_length, pointwise_more}
+use Rattle.cq_tables.proofs.Rows.{all_there}
+use Rattle.cq_tables.proofs.Turns.{same_set, taken_more, rest_same, rest_left}
+
+-- ---- Tests of images
+module _ {X Y : Type 0} (f : X → Y) where
+  -- the first image that passes stands where the first element does whose image passes
+  first_of_map : (p : Y → Bool) (xs : List X) → position_or_len p (map f xs) ≡ position_or_len (λ x. p (f x)) xs
+  first_of_map p [] = refl
+  first_of_map p (x ∷ xs) = ap (λ (n : ℕ). cond (not (p (f x))) (1 + n) 0) (first_of_map p xs)
+
+  pub position-map : (p : Y → Bool) (xs : List X) → position p (map f xs) ≡ position (λ x. p (f x)) xs
+  position-map p xs = ap₂ (λ (n m : ℕ). cond (nat_lt n m) (Some n) None) (first_of_map p xs) (length-map xs f)
+
+  -- images without one of them are the images of what is left
+  pub remove-map : (xs : List X) (i : ℕ) → remove (map f xs) i ≡ map f (remove xs i)
+  remove-map [] zero = refl
+  remove-map [] (suc i) = refl
+  remove-map (x ∷ xs) zero = refl
+  remove-map (x ∷ xs) (suc i) = ap (λ (ys : List Y). f x ∷ ys) (remove-map xs i)
+
+-- what holds of all holds without one of them
+all_left : {X : Type 0} (P : X → Type 0) (xs : List X) (i : ℕ) → AllByRecursion P xs → AllByRecursion P (remove xs i)
+all_left P [] zero h = tt
+all_left P [] (suc i) h = tt
+all_left P (x ∷ xs) zero h = h.1
+all_left P (x ∷ xs) (suc i) h = (h.0, all_left P xs i h.1)
+
+-- ---- Views under their names
+-- the view of a name stands where it stands among those that are kept
+pub place_named : (name : List ℕ) (vs : List NamedView) → view_place name (views_of vs) ≡ position (λ v. is_text v.name name) vs
+place_named name vs = position-map view_of (λ v. is_text v.name name) vs
+
+-- a table is used exactly if the query of a kept view reads it
+pub used_by : (n : ℕ) (vs : List NamedView) → is_used n (views_of vs) ≡ list_any (λ v. reads n v.kept.query) vs
+used_by n [] = refl
+used_by n (v ∷ vs) = ap (λ b. reads n v.kept.query || b) (used_by n vs)
+
+-- ---- A view that was found
+some_same : (n m : ℕ) → Some n ≡ Some m → n ≡ m
+some_same n m e = cc e
+
+module _ (name : List ℕ) (vs : List NamedView) (place : ℕ) (found : view_place name (views_of vs) ≡ Some place) where
+  -- it stands among them
+  abbrev first : ℕ
+  first = position_or_len (λ v. is_text v.name name) vs
+
+  among : (b : Bool) → nat_lt first (length vs) ≡ b → cond b (Some first) None ≡ Some place → place < length vs
+  among true e h = subst (λ (n : ℕ). n < length vs) (some_same first place h) (ltb-true first (length vs) e)
+  among false e h = absurd (cc h)
+
+  pub within : place < length vs
+  within = among (nat_lt first (length vs)) refl (sym (place_named name vs) ∙ found)
+
+  -- it is the view of the name
+  pub view_there : (v : NamedView) → v ≡ get_or vs place v → view_named name (views_of vs) ≡ Some (view_of v)
+  view_there v is =
+      let at : slice_get (views_of vs) place ≡ view_named name (views_of vs) = subst (λ (o : Option ℕ). IfSome o (λ i. slice_get (views_of vs) i ≡ view_named name (views_of vs))) found (found_there (λ w. is_text w.name name) (views_of vs)) in
+      sym at ∙ slice_get-map view_of vs place ∙ ap (option_map view_of) (slice_get_read vs (length vs) place v refl within is)
+
+  -- and its epoch is the one that is told
+  pub epoch_there : (v : NamedView) → v ≡ get_or vs place v → option_map (λ w. w.epoch) (view_named name (views_of vs)) ≡ Some v.kept.epoch
+  epoch_there v is = ap (option_map (λ w. w.epoch)) (view_there v is)
+
+-- without it the views are still right
+pub right_without : (vs : List NamedView) (place : ℕ) (tables : List TableOf) (now : ℕ) → AreRight tables now vs → AreRight tables now (remove vs place)
+right_without vs place tables now right = all_left (IsRight tables now) vs place right
+
+-- ---- Views at a place, where all are the same as others
+query_of_all : (P : Query → Type 0) (vs ws : List NamedView) (i : ℕ) (d : NamedView) → i < length ws → AreSame vs ws → AllByRecursion (λ v. P v.kept.query) vs → P (get_or ws i d).kept.query
+query_of_all P vs ws i d h s all =
+    all_there (λ w. P w.kept.query) ws i d (pointwise_all IsSame (λ v. P v.kept.query) (λ w. P w.kept.query) (λ v w one p. subst P (sym one.kept.query) p) vs ws s all) h
+
+module _ (vs now : List NamedView) (i : ℕ) (h : i < length vs) (same : AreSame vs now) where
+  -- the place is there
+  pub within_same : i < length now
+  within_same = omega (arith, h, pointwise_length IsSame vs now same)
+
+  module _ (v : NamedView) (is : v ≡ get_or now i v) where
+    -- what holds of each view's query holds of the one that is there
+    pub query_there : (P : Query → Type 0) → AllByRecursion (λ u. P u.kept.query) vs → P v.kept.query
+    query_there P all = subst (λ (u : NamedView). P u.kept.query) (sym is) (query_of_all P vs now i v within_same same all)
+
+    -- the same view is written there
+    pub same_written : (x : NamedView) → IsSame v x → AreSame vs (set now i x)
+    same_written x one = same_set vs now i x v within_same (subst (λ (u : NamedView). IsSame u x) is one) same
+
+  -- one view more is ready
+  pub ready_written : (table : ℕ) (dxs : Weighted) (ps qs : List (Option (List Addition))) (x : NamedView) (p : Option (List Addition)) → AreReady table dxs (take i now) ps → IsReady table dxs x p → qs ≡ ps ++ p ∷ []
+      → AreReady table dxs (take (i + 1) (set now i x)) qs
+  ready_written table dxs ps qs x p ready one is =
+      let more : AreReady table dxs (take (suc i) (set now i x)) (ps ++ p ∷ []) = pointwise_more (IsReady table dxs) now ps i x p within_same ready one in
+      let next : suc i ≡ i + 1 = omega arith in
+      rw is (subst (λ (n : ℕ). AreReady table dxs (take n (set now i x)) (ps ++ p ∷ [])) next more)
+
+-- all of them are ready
+pub ready_all : (table : ℕ) (dxs : Weighted) (vs now : List NamedView) (ps : List (Option (List Addition))) (i : ℕ) → i ≡ length vs → AreSame vs now → AreReady table dxs (take i now) ps → AreReady table dxs now ps
+ready_all table dxs vs now ps i e same ready =
+    let whole : take i now ≡ now = ap (λ (n : ℕ). take n now) (e ∙ sym (pointwise_length IsSame vs now same)) ∙ take_all (length now) now (omega arith) in
+    subst (λ (ws : List NamedView). AreReady table dxs ws ps) whole ready
+
+-- ---- Views that take their changes in, one after the other
+-- the first of the changes that are left
+pub first_left : (ps : List (Option (List Addition))) (i : ℕ) (p : Option (List Addition)) (qs : List (Option (List Addition))) → drop i ps ≡ p ∷ qs → (i < length ps) × (p ≡ get_or ps i p) × (drop (suc i) ps ≡ qs)
+first_left [] zero p qs e = absurd (cc e)
+first_left [] (suc i) p qs e = absurd (cc e)
+first_left (o ∷ ps) zero p qs e = (omega arith, cc e, cc e)
+first_left (o ∷ ps) (suc i) p qs e =
+    let f = first_left ps i p qs e in
+    (omega (arith, f.0), f.1, f.2)
+
+-- behind it are the others
+pub behind_first : (ps : List (Option (List Addition))) (i : ℕ) (p : Option (List Addition)) (qs : List (Option (List Addition))) → drop i ps ≡ p ∷ qs → drop (i + 1) ps ≡ qs
+behind_first ps i p qs e =
+    let next : suc i ≡ i + 1 = omega arith in
+    subst (λ (n : ℕ). drop n ps ≡ qs) next (first_left ps i p qs e).2
+
+-- none is left behind the last
+none_left : (ps : List (Option (List Addition))) (i : ℕ) → length (drop i ps) ≡ 0 → length ps ≤ i
+none_left [] i e = omega arith
+none_left (o ∷ ps) zero e = absurd (omega (arith, e))
+none_left (o ∷ ps) (suc i) e = omega (arith, none_left ps i e)
+
+module _ (epoch : ℕ) (vs now : List NamedView) (ps : List (Option (List Addition))) (i : ℕ) (can : CanAllTake vs ps) (long : length now ≡ length vs) where
+  module _ (h : i < length ps) where
+    -- the place is there
+    pub within_taken : i < length now
+    within_taken = omega (arith, h, long, pointwise_length CanTake vs ps can)
+
+    module _ (v : NamedView) (is : v ≡ get_or now i v) (p : Option (List Addition)) (that : p ≡ get_or ps i p) (rest : drop i now ≡ drop i vs) where
+      as_it_was : v ≡ get_or vs i v
+      as_it_was =
+          let within : i < length vs = omega (arith, h, pointwise_length CanTake vs ps can) in
+          is ∙ rest_same vs now i v within rest
+
+      -- the view that is there can take its change
+      pub can_take_there : CanTake v p
+      can_take_there =
+          let change : CanTake (get_or vs i v) p = subst (λ (o : Option (List Addition)). CanTake (get_or vs i v) o) (sym that) (pointwise_at CanTake vs ps i v p h can) in
+          subst (λ (u : NamedView). CanTake u p) (sym as_it_was) change
+
+      -- one view more has taken its change in
+      pub taken_written : (x : NamedView) → HaveTaken epoch (take i vs) (take i ps) (take i now) → HasTaken epoch v p x → HaveTaken epoch (take (i + 1) vs) (take (i + 1) ps) (take (i + 1) (set now i x))
+      taken_written x taken one =
+          let within : i < length vs = omega (arith, h, pointwise_length CanTake vs ps can) in
+          let change : HasTaken epoch v (get_or ps i p) x = subst (λ (o : Option (List Addition)). HasTaken epoch v o x) that one in
+          let more = taken_more epoch vs ps now i x v p within h within_taken taken (subst (λ (u : NamedView). HasTaken epoch u (get_or ps i p) x) as_it_was change) in
+          let next : suc i ≡ i + 1 = omega arith in
+          subst (λ (n : ℕ). HaveTaken epoch (take n vs) (take n ps) (take n (set now i x))) next more
+
+      -- those behind it are as they were
+      pub rest_written : (x : NamedView) → drop (i + 1) (set now i x) ≡ drop (i + 1) vs
+      rest_written x =
+          let next : suc i ≡ i + 1 = omega arith in
+          subst (λ (n : ℕ). drop n (set now i x) ≡ drop n vs) next (rest_left now vs i x rest)
+
+  -- all of them have
+  pub all_taken : length (drop i ps) ≡ 0 → HaveTaken epoch (take i vs) (take i ps) (take i now) → HaveTaken epoch vs ps now
+  all_taken e taken =
+      let end = none_left ps i e in
+      let one = take_all i vs (omega (arith, end, pointwise_length CanTake vs ps can)) in
+      let two = take_all i ps end in
+      let three = take_all i now (omega (arith, end, long, pointwise_length CanTake vs ps can)) in
+      subst (λ (us : List NamedView). HaveTaken epoch us ps now) one
+      (subst (λ (os : List (Option (List Addition))). HaveTaken epoch (take i vs) os now) two (subst (λ (ws : List NamedView). HaveTaken epoch (take i vs) (take i ps) ws) three taken))

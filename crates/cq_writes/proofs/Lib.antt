@@ -1,0 +1,7 @@
+pub mod Checks
+pub mod Changes
+pub mod Exchanged
+pub mod Following
+pub mod Written
+pub mod Setting
+pub mod Updates

@@ -1,0 +1,14 @@
+//! Writes: what INSERT, DELETE and UPDATE do to a table, and to the views that stand on it.
+//!
+//! Each write is made ready first, in the views too, and then carried out by calls that cannot fail. So a write that is
+//! refused leaves its table and every view as it was, and behind one that is accepted each view stands for the tables as
+//! they are then.
+#![tactic(auto)]
+
+mod deletion;
+mod images;
+mod insertion;
+mod updating;
+mod writing;
+
+pub use writing::{delete_in, insert_in, update_in};

@@ -1,0 +1,65 @@
+//! The rows that an UPDATE replaces.
+ghost use Rattle.std.specs.Prelude.{◌≡◌, ◌<◌, ◌^◌, IfErr, IfOk, OnErr, OnOk, length};
+ghost use Rattle.cq_binding.specs.Checks.{MayRefuse};
+ghost use Rattle.cq_states.specs.Fitting.{IsFitting};
+ghost use Rattle.cq_tables.specs.Taking.{AreSame};
+ghost use Rattle.cq_writes.specs.Following.{Follow, StandOn};
+ghost use Rattle.cq_writes.specs.Updates.{ArePrepared, CanUpdate, UpdatesRows, value_fault_of};
+
+use crate::images::{check_values, images};
+use cq_binding::Fault;
+use cq_model::{Assignment, Cond};
+use cq_tables::{Table, View, commit_all, prepare_exchanges};
+use cq_values::Row;
+use cq_views::Pending;
+use std::alloc::Global;
+
+/// What takes the place of the rows that WHERE keeps, and what that changes in each view.
+type Prepared = (Vec<Row>, Vec<Option<Pending>>);
+
+/// Replaces each row of this table that WHERE keeps by its image, and tells how many they were. The views on the table
+/// follow.
+pub fn update_rows(
+    alloc: Global,
+    table: &mut Table,
+    views: &mut Vec<View>,
+    assignments: &[Assignment],
+    condition: &Option<Cond>,
+    epoch: u64,
+) -> Result<usize, Fault>
+    requires fitting { IsFitting table.old }
+    requires few { length table.old.rows < 2 ^ 63 }
+    requires stand { StandOn table.old views.old.items }
+    requires can { CanUpdate table.old.columns assignments.now condition.now table.old.rows }
+    ensures updates { UpdatesRows assignments.now condition.now table.old result table.new }
+    ensures follow { OnOk result (Follow epoch table.new views.old.items views.new.items) }
+    ensures err { OnErr result ((table.new ≡ table.old) × AreSame views.old.items views.new.items) }
+{
+    let (images, pendings) = prepared(alloc, table, views, assignments, condition)?;
+    let count = images.len();
+    table.replace(condition, images);
+    commit_all(views, pendings, epoch);
+    Ok(count)
+}
+
+/// The images of the rows that WHERE keeps, where they may be stored. All growth is made, and nothing changes.
+fn prepared(
+    alloc: Global,
+    table: &Table,
+    views: &mut Vec<View>,
+    assignments: &[Assignment],
+    condition: &Option<Cond>,
+) -> Result<Prepared, Fault>
+    requires fitting { IsFitting table.now }
+    requires stand { StandOn table.now views.old.items }
+    requires can { CanUpdate table.now.columns assignments.now condition.now table.now.rows }
+    ensures kept { AreSame views.old.items views.new.items }
+    ensures ready { IfOk result (ArePrepared table.now assignments.now condition.now views.new.items) }
+    ensures fault { IfErr result (MayRefuse (value_fault_of table.now assignments.now condition.now)) }
+{
+    let chosen = table.chosen(alloc, condition)?;
+    check_values(table.columns(), assignments, &chosen)?;
+    let images = images(alloc, assignments, &chosen)?;
+    let pendings = prepare_exchanges(alloc, views, table.number(), &chosen, &images)?;
+    Ok((images, pendings))
+}
