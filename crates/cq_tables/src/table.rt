@@ -25,12 +25,11 @@ pub struct Table {
 }
 
 impl Model for Table {
-    ghost use Rattle.cq_bags.specs.Canonical.{bag_of};
-    ghost use Rattle.cq_states.specs.State.{TableOf};
+    ghost use Rattle.cq_states.specs.State.{TableOf, empty_table, holding};
 
     ghost Value = { TableOf };
 
-    ghost view = { λ t. record { number = t.number; name = t.name; columns = t.columns; sort = t.sort; rows = bag_of t.rows.items } };
+    ghost view = { λ t. holding t.rows.items (empty_table t.number t.name t.columns t.sort) };
 }
 
 impl Table {
