@@ -2,3 +2,4 @@ pub mod Results
 pub mod Readings
 pub mod Lents
 pub mod Joined
+pub mod Planned

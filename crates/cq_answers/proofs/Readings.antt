@@ -39,7 +39,8 @@ use Rattle.cq_tables.specs.Views.{NamedView, IsRight, AreRight, view_of, views_o
 use Rattle.cq_answers.specs.Gathered.{IsBacked}
 use Rattle.cq_answers.proofs.Results.{listing_plain}
 use Rattle.cq_tables.proofs.Rows.{fitting_in, rows_have}
-use Rattle.cq_tables.proofs.Stored.{all_of_rows, rows_sized, tables_stored}
+use Rattle.cq_table.proofs.RowLists.{all_of_rows}
+use Rattle.cq_tables.proofs.Stored.{rows_sized, tables_stored}
 
 -- counts and totals are all that a view shows
 counts_or_adds : (aggregates : List Aggregate) → AreTotals aggregates → AllByRecursion CountsOrAdds aggregates

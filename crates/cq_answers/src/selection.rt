@@ -5,11 +5,12 @@ ghost use Rattle.cq_bags.specs.Bag.{once_each};
 ghost use Rattle.cq_answers.specs.Narrow.{IsWithin};
 ghost use Rattle.cq_answers.specs.Selects.{AreListed, shown_rows};
 
-use cq_eval::{items_of, keeps};
 use cq_model::{Order, Query};
+use cq_operators::ExecFault;
 use cq_plain::listing;
+use cq_plan::Plan;
 use cq_values::{Row, Seq};
-use std::alloc::{AllocError, Global};
+use std::alloc::Global;
 
 /// The listing of what the items show of the rows that WHERE keeps.
 pub fn list(
@@ -17,7 +18,7 @@ pub fn list(
     query: &Query,
     order: &Order,
     rows: &[Row],
-) -> Result<Seq<Row>, AllocError>
+) -> Result<Seq<Row>, ExecFault>
     requires { AllByRecursion (IsWithin query.now) rows.now }
     ensures { IfOk result (AreListed order.now (once_each (shown_rows query.now rows.now))) }
 {
@@ -27,17 +28,10 @@ pub fn list(
 }
 
 /// The rows of the result, as these rows give them one after the other.
-fn results(alloc: Global, query: &Query, rows: &[Row]) -> Result<Vec<Row>, AllocError>
+fn results(alloc: Global, query: &Query, rows: &[Row]) -> Result<Vec<Row>, ExecFault>
     requires { AllByRecursion (IsWithin query.now) rows.now }
     ensures { IfOk result (λ v. v.items ≡ shown_rows query.now rows.now) }
 {
-    let items = query.items.as_slice();
-    let mut results = Vec::new(alloc);
-    for row in rows {
-        let row = row.as_slice();
-        if keeps(&query.filter, row) {
-            results.push(items_of(alloc, items, row)?)?;
-        }
-    }
-    Ok(results)
+    let plan = Plan::of(alloc, query)?;
+    cq_operators::results(alloc, &plan, rows)
 }

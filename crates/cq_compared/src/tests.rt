@@ -8,10 +8,12 @@ mod written;
 
 ghost use Rattle.std.specs.Prelude.{◌<◌};
 
+use cq_binder::bind;
+use cq_binding::{Bound, Fault};
 use cq_cli::NoSources;
 use cq_engine::{Engine, Limits};
 use cq_language::Statement;
-use cq_sql::parse;
+use cq_sql::{SqlFault, parse};
 use cq_steps::Answer;
 use cq_values::{Row, Seq};
 use std::alloc::Global;
@@ -23,17 +25,24 @@ fn engine(alloc: Global) -> Result<Engine, Fail> {
     Ok(Engine::new(alloc, limits))
 }
 
-/// What the engine answers a statement.
-fn answer(rt: &impl Abort, alloc: Global, engine: &mut Engine, text: &str) -> Result<Answer, Fail> {
+/// Reads one statement and carries it out.
+fn carry_out(
+    rt: &impl Abort,
+    alloc: Global,
+    engine: &mut Engine,
+    text: &str,
+) -> Result<Answer, Fault> {
     assert!(rt; engine.drawn() < 1000);
-    let statement = parse(alloc, text)?;
-    step(engine, &statement)
+    match parse(alloc, text) {
+        Ok(statement) => engine.step(&statement, &mut NoSources::new()),
+        Err(SqlFault::Memory) => Err(Fault::Memory),
+        Err(_) => Err(Fault::Syntax),
+    }
 }
 
-fn step(engine: &mut Engine, statement: &Statement) -> Result<Answer, Fail>
-    requires { engine.old.drawn < 1000 }
-{
-    Ok(engine.step(statement, &mut NoSources::new())?)
+/// What the engine answers a statement.
+fn answer(rt: &impl Abort, alloc: Global, engine: &mut Engine, text: &str) -> Result<Answer, Fail> {
+    Ok(carry_out(rt, alloc, engine, text)?)
 }
 
 /// The rows that the engine answers a query.
@@ -42,4 +51,29 @@ fn rows(rt: &impl Abort, alloc: Global, engine: &mut Engine, text: &str) -> Resu
         Answer::Rows { rows, .. } => Ok(rows),
         Answer::Done | Answer::Count(_) => Err("no rows".into()),
     }
+}
+
+/// What is read of the command that a statement is.
+fn read_bound<T, Read: FnOnce(&Bound) -> Result<T, Fail>>(
+    alloc: Global,
+    engine: &Engine,
+    text: &str,
+    read: Read,
+) -> Result<T, Fail>
+    requires { Read.IsAlwaysCallable read }
+{
+    let statement = parse(alloc, text)?;
+    read_command(alloc, engine, &statement, read)
+}
+
+fn read_command<T, Read: FnOnce(&Bound) -> Result<T, Fail>>(
+    alloc: Global,
+    engine: &Engine,
+    statement: &Statement,
+    read: Read,
+) -> Result<T, Fail>
+    requires { Read.IsAlwaysCallable read }
+{
+    let bound = bind(alloc, statement, &engine.catalog(), &mut NoSources::new())?;
+    read(&bound)
 }

@@ -62,7 +62,8 @@ use Rattle.cq_engine.proofs.Shapes.{filter_sized, shape_sized}
 use Rattle.cq_engine.proofs.Sourced.{IsFound, are_joined, standing_ok}
 use Rattle.cq_writes.proofs.Checks.{back_free, first_free, front_free}
 use Rattle.cq_engine.proofs.Fitting.{narrow_rows, stored_keep}
-use Rattle.cq_writes.specs.Updates.{CanUpdate, value_fault}
+use Rattle.cq_table.specs.Checks.{value_fault}
+use Rattle.cq_writes.specs.Updates.{CanUpdate}
 use Rattle.cq_engine.proofs.Assigned.{update_fits}
 use Rattle.cq_engine.proofs.Counting.{grown_by_none, grown_by_one, none_counted, one_counted}
 use Rattle.cq_tables.proofs.Numbers.{Above}

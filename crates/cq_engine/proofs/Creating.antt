@@ -49,7 +49,7 @@ use Rattle.cq_writes.proofs.Checks.{back_free, first_free, front_free}
 use Rattle.cq_engine.proofs.Fitting.{items_walk, narrow_arguments, narrow_where, passed, second_free, size_there, stored_keeps}
 use Rattle.cq_tables.proofs.Places.{found_within}
 use Rattle.cq_engine.proofs.Showing.{all_shown, both_hold, few_shown, is_not, narrow_for_view, none_added, same_value, small_for_view, totals}
-use Rattle.cq_tables.proofs.Stored.{all_of_rows}
+use Rattle.cq_table.proofs.RowLists.{all_of_rows}
 
 -- ---- What a view may have
 -- a condition that is not there

@@ -169,7 +169,8 @@ impl Engine {
         ensures done { CarriesOut self.old (commands.CreateTable name columns sort) result self.new }
         ensures rows { OnlyShows self.old result self.new }
     {
-        let table = Table::new(self.alloc, self.drawn, name, columns, sort);
+        let max_rows = self.limits.max_rows;
+        let table = Table::new(self.alloc, self.drawn, name, columns, sort, max_rows);
         self.tables.push(table)?;
         self.drawn += 1;
         Ok(Answer::Done)

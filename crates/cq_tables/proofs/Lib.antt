@@ -2,9 +2,6 @@ pub mod Pairs
 pub mod Places
 pub mod Numbers
 pub mod Stored
-pub mod Bagged
-pub mod Leaving
-pub mod Putting
 pub mod Rows
 pub mod Turns
 pub mod Named

@@ -13,7 +13,7 @@ use Rattle.cq_states.specs.State.{TableOf, columns_in, rows_in, with_rows, AreNu
 use Rattle.cq_views.specs.Query.{reads, table_of}
 use Rattle.cq_tables.specs.Views.{AreRight, NamedView, views_of}
 use Rattle.cq_tables.proofs.Numbers.{Above, above_at, above_stay, others}
-use Rattle.cq_tables.proofs.Stored.{all_of_bag}
+use Rattle.cq_table.proofs.RowLists.{all_of_bag}
 
 -- ---- A table in the place of one of its number
 module _ (u d : TableOf) where

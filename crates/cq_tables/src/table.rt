@@ -1,54 +1,55 @@
-//! A table in memory.
+//! A table under its number and its name.
 ghost use Rattle.std.specs.List.{AllByRecursion};
-ghost use Rattle.std.specs.Prelude.{◌++◌, ◌+◌, ◌≡◌, ◌<◌, ◌≤◌, ◌^◌, IfOk, OnErr, OnOk, length, map, take};
+ghost use Rattle.std.specs.Prelude.{◌++◌, ◌≡◌, ◌<◌, ◌^◌, IfOk, OnErr, OnOk, length, map};
 ghost use Rattle.cq_values.specs.Texts.{is_text};
 ghost use Rattle.cq_bags.specs.Canonical.{bag_of};
+ghost use Rattle.cq_states.specs.Fitting.{FitsColumns, IsFitting};
 ghost use Rattle.cq_states.specs.State.{empty_table, holding};
 ghost use Rattle.cq_model.specs.Write.{chosen, left_by};
 ghost use Rattle.cq_model.specs.Width.{IsNarrowIn};
-ghost use Rattle.cq_tables.specs.Tables.{SameRows};
+ghost use Rattle.cq_table.specs.Checks.{AreExchanged, CanWorkOut, IsChecked};
+ghost use Rattle.cq_table.specs.Table.{SameRows};
+ghost use Rattle.cq_tables.specs.Tables.{no_room_for, value_fault_of};
 
-use cq_eval::keeps;
-use cq_model::Cond;
+use cq_model::{Assignment, Cond};
+use cq_table::{Exchange, TableFault};
 use cq_values::{ColumnDef, Row, Seq, Text};
 use std::alloc::{AllocError, Global};
 use std::marker::Model;
 
-/// Rows under a name, in the order in which they came. Contracts see the one list that stands for their bag.
+/// Rows that fit their columns, under a name. Contracts see the one list that stands for their bag.
 #[derive(Drop)]
 pub struct Table {
     number: u64,
     name: Text,
-    columns: Seq<ColumnDef>,
-    sort: Seq<usize>,
-    rows: Vec<Row>,
+    stored: cq_table::Table,
 }
 
 impl Model for Table {
-    ghost use Rattle.cq_states.specs.State.{TableOf, empty_table, holding};
+    ghost use Rattle.cq_states.specs.State.{TableOf};
+    ghost use Rattle.cq_tables.specs.Tables.{named};
 
     ghost Value = { TableOf };
 
-    ghost view = { λ t. holding t.rows.items (empty_table t.number t.name t.columns t.sort) };
+    ghost view = { λ t. named t.number t.name t.stored };
 }
 
 impl Table {
-    /// A table of this name without rows, under the number that it drew.
+    /// A table of this name without rows, that may have so many of them, under the number that it drew.
     pub fn new(
         alloc: Global,
         number: u64,
         name: Text,
         columns: Seq<ColumnDef>,
         sort: Seq<usize>,
+        max_rows: u64,
     ) -> Table
         ensures { result ≡ empty_table number name columns sort }
     {
         Table {
             number,
             name,
-            columns,
-            sort,
-            rows: Vec::new(alloc),
+            stored: cq_table::Table::new(alloc, columns, sort, max_rows),
         }
     }
 
@@ -73,7 +74,21 @@ impl Table {
     pub fn columns(&self) -> &[ColumnDef]
         ensures { result.now ≡ self.now.columns }
     {
-        self.columns.as_slice()
+        self.stored.columns()
+    }
+
+    /// The rows as they are stored.
+    pub fn rows(&self) -> &[Row]
+        ensures bag { bag_of result.now ≡ self.now.rows }
+        ensures fitting { IsFitting self.now }
+    {
+        self.stored.rows()
+    }
+
+    pub fn len(&self) -> usize
+        ensures { result ≡ length self.now.rows }
+    {
+        self.stored.len()
     }
 
     /// The rows that WHERE keeps, where they are stored.
@@ -82,93 +97,50 @@ impl Table {
         ensures bag { IfOk result (λ rows. SameRows (map (λ r. r.now) rows.items) (chosen condition.now self.now.rows)) }
         ensures few { OnOk result (length self.now.rows < 2 ^ 64) }
     {
-        let mut rows = Vec::new(alloc);
-        for row in &self.rows {
-            if keeps(condition, row.as_slice()) {
-                rows.push(row)?;
-            }
-        }
-        Ok(rows)
+        self.stored.chosen(alloc, condition)
     }
 
-    /// The rows as they are stored.
-    pub fn rows(&self) -> &[Row]
-        ensures { bag_of result.now ≡ self.now.rows }
-    {
-        self.rows.as_slice()
-    }
-
-    pub fn len(&self) -> usize
-        ensures { result ≡ length self.now.rows }
-    {
-        self.rows.len()
-    }
-
-    /// Adds all of these rows, or none.
-    pub fn append(&mut self, rows: Vec<Row>) -> Result<(), AllocError>
+    /// Adds all of these rows, or none. The table may have so many rows.
+    pub fn insert(&mut self, max_rows: u64, rows: Vec<Row>) -> Result<(), TableFault>
+        requires { AllByRecursion (FitsColumns self.old.columns) rows.items }
+        ensures room { IsChecked (no_room_for max_rows self.old rows.items) result }
         ensures ok { OnOk result (self.new ≡ holding (self.old.rows ++ rows.items) self.old) }
         ensures err { OnErr result (self.new ≡ self.old) }
     {
-        let mut rows = rows;
-        self.rows.append(&mut rows)
+        self.stored.limit(max_rows)?;
+        self.stored.insert(rows)
+    }
+
+    /// Takes the rows that WHERE keeps away, and tells how many they were. It takes no memory.
+    pub fn delete_where(&mut self, condition: &Option<Cond>) -> usize
+        requires { AllByRecursion (IsNarrowIn condition.now) self.old.rows }
+        ensures count { result ≡ length (chosen condition.now self.old.rows) }
+        ensures left { self.new ≡ holding (left_by condition.now self.old.rows) self.old }
+    {
+        self.stored.delete_where(condition)
+    }
+
+    /// The rows that WHERE keeps and their images, where these may be stored. Each expression reads the old row.
+    pub fn images_where(
+        &self,
+        alloc: Global,
+        assignments: &[Assignment],
+        condition: &Option<Cond>,
+    ) -> Result<Exchange<'_>, TableFault>
+        requires { CanWorkOut assignments.now condition.now self.now.rows }
+        ensures checked { IsChecked (value_fault_of self.now assignments.now condition.now) result }
+        ensures images { IfOk result (AreExchanged assignments.now condition.now self.now.rows) }
+    {
+        self.stored.images_where(alloc, assignments, condition)
     }
 
     /// Puts these rows in place of those that WHERE keeps, which are as many. It takes no memory.
     pub fn replace(&mut self, condition: &Option<Cond>, images: Vec<Row>)
         requires narrow { AllByRecursion (IsNarrowIn condition.now) self.old.rows }
         requires count { length images.items ≡ length (chosen condition.now self.old.rows) }
+        requires fitting { AllByRecursion (FitsColumns self.old.columns) images.items }
         ensures { self.new ≡ holding (left_by condition.now self.old.rows ++ images.items) self.old }
     {
-        put_behind(&mut self.rows, condition, images);
+        self.stored.replace(condition, images);
     }
-
-    /// Takes the rows that WHERE keeps away, and tells how many they were.
-    pub fn remove(&mut self, condition: &Option<Cond>) -> usize
-        requires { AllByRecursion (IsNarrowIn condition.now) self.old.rows }
-        ensures count { result ≡ length (chosen condition.now self.old.rows) }
-        ensures left { self.new ≡ holding (left_by condition.now self.old.rows) self.old }
-    {
-        let before = self.rows.len();
-        take_away(&mut self.rows, condition);
-        before - self.rows.len()
-    }
-}
-
-/// Takes the rows that WHERE keeps away, and leaves the others in their order. It takes no memory.
-fn take_away(rows: &mut Vec<Row>, condition: &Option<Cond>)
-    requires { AllByRecursion (IsNarrowIn condition.now) rows.old.items }
-    ensures { rows.new.items ≡ left_by condition.now rows.old.items }
-{
-    let left = bring_forward(rows, condition);
-    rows.truncate(left);
-}
-
-/// Puts the images behind the rows that WHERE does not keep, over the others. It takes no memory.
-fn put_behind(rows: &mut Vec<Row>, condition: &Option<Cond>, images: Vec<Row>)
-    requires narrow { AllByRecursion (IsNarrowIn condition.now) rows.old.items }
-    requires count { length (left_by condition.now rows.old.items) + length images.items ≡ length rows.old.items }
-    ensures { rows.new.items ≡ left_by condition.now rows.old.items ++ images.items }
-{
-    let mut place = bring_forward(rows, condition);
-    for image in images {
-        rows[place] = image;
-        place += 1;
-    }
-}
-
-/// Brings the rows that WHERE does not keep to the front, in their order, and tells how many they are.
-fn bring_forward(rows: &mut Vec<Row>, condition: &Option<Cond>) -> usize
-    requires { AllByRecursion (IsNarrowIn condition.now) rows.old.items }
-    ensures front { take result rows.new.items ≡ left_by condition.now rows.old.items }
-    ensures within { result ≤ length rows.new.items }
-    ensures count { length rows.new.items ≡ length rows.old.items }
-{
-    let mut left = 0;
-    for place in 0..rows.len() {
-        if !keeps(condition, rows[place].as_slice()) {
-            rows.swap(left, place);
-            left += 1;
-        }
-    }
-    left
 }

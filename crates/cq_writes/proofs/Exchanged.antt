@@ -1,4 +1,4 @@
--- Rows that go while others come: the bag that is left, and the checks of the values that come.
+-- Rows that go while others come: the bag that is left.
 use Rattle.std.proofs.Common.{◌≡◌, ◌+ℤ◌, pos, neg_ℤ, Bool, true, false, not, List, [], ◌∷◌, ◌++◌, map, Ordering, refl, sym, ap, ◌∙◌, arith, subst}
 use Rattle.std.specs.Prelude.{◌||◌, ◌&&◌, filter, if◌then◌else◌}
 use Rattle.std.specs.List.{AllByRecursion, flat_map, list_any}
@@ -21,7 +21,6 @@ use Rattle.cq_binding.specs.Checks.{fault_if}
 use Rattle.cq_binding.specs.UpdateChecks.{is_null, is_outside, never_null, value_checks}
 use Rattle.cq_views.specs.View.{changed, exchanged}
 use Rattle.cq_writes.proofs.Changes.{with_fewer}
-use Rattle.cq_tables.proofs.Stored.{all_of_bag, all_of_rows}
 
 -- two stretches have their weights together
 weight_both : (xs ys : List Row) (r : Row) → weight_of (once_each (xs ++ ys)) r ≡ weight_of (once_each xs) r +ℤ weight_of (once_each ys) r
@@ -47,10 +46,6 @@ module _ (keep : Row → Bool) (rows gone : List Row) (chosen : bag_of gone ≡ 
     );
   }
 
-  -- what holds of the rows that are kept holds of those that go
-  pub gone_all : (P : Row → Type 0) → AllByRecursion P (filter keep rows) → AllByRecursion P gone
-  gone_all P all = all_of_rows P gone (subst (λ (rs : List Row). AllByRecursion P rs) (sym chosen) (all_of_bag P (filter keep rows) all))
-
   gone_same : SameBag (once_each gone) (once_each (filter keep rows))
   gone_same = record {
     at = λ r. sym ((same-bag_of gone).at r) ∙ ap (λ (rs : List Row). weight_of (once_each rs) r) chosen ∙ (same-bag_of (filter keep rows)).at r;
@@ -75,36 +70,3 @@ module _ (keep : Row → Bool) (rows gone : List Row) (chosen : bag_of gone ≡ 
     same_replaced = bag_of-weights (left ++ map image gone) (map (λ x. if keep x then image x else x) rows) (record {
       at = λ r. omega (arith, ints, weight_both left (map image gone) r, images_same r, weight_replaced rows r);
     })
-
--- ---- Checks of rows in any order
-swapped : (a b c : Bool) → (a || (b || c)) ≡ (b || (a || c))
-swapped true true c = refl
-swapped true false c = refl
-swapped false true c = refl
-swapped false false c = refl
-
-module _ (p : Row → Bool) where
-  any_with : (cmp : Row → Row → Ordering) (r : Row) (rows : List Row) → list_any p (with_row cmp r rows) ≡ (p r || list_any p rows)
-  any_with cmp r [] = refl
-  any_with cmp r (s ∷ rows) = by_test (is_gt (cmp r s))
-      (λ k. rw k (ap (λ (b : Bool). p s || b) (any_with cmp r rows) ∙ swapped (p s) (p r) (list_any p rows)))
-      (λ k. rw k refl)
-
-  any_sorted : (cmp : Row → Row → Ordering) (rows : List Row) → list_any p (sorted_by cmp rows) ≡ list_any p rows
-  any_sorted cmp [] = refl
-  any_sorted cmp (r ∷ rows) = any_with cmp r (sorted_by cmp rows) ∙ ap (λ (b : Bool). p r || b) (any_sorted cmp rows)
-
-  any_bag : (rows : List Row) → list_any p (bag_of rows) ≡ list_any p rows
-  unfolding bag_of
-  any_bag rows = any_sorted row_cmp rows
-
-  any_same : (xs ys : List Row) → bag_of xs ≡ bag_of ys → list_any p xs ≡ list_any p ys
-  any_same xs ys same = sym (any_bag xs) ∙ ap (list_any p) same ∙ any_bag ys
-
--- the checks are the same
-pub checks_same : (columns : List ColumnDef) (xs ys : List Row) → bag_of xs ≡ bag_of ys → (assignments : List Assignment) → flat_map (value_checks columns xs) assignments ≡ flat_map (value_checks columns ys) assignments
-checks_same columns xs ys same [] = refl
-checks_same columns xs ys same (a ∷ later) =
-    let outside = any_same (λ r. is_outside (eval a.value r)) xs ys same in
-    let null = any_same (λ r. is_null (eval a.value r)) xs ys same in
-    λ i. (fault_if (outside i) NumberOutside ∷ fault_if (never_null columns a.column && null i) NullNotAllowed ∷ []) ++ checks_same columns xs ys same later i

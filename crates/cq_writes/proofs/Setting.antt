@@ -1,4 +1,4 @@
--- The images of rows under SET: what stands in them, and that they fit the columns where their values may be stored.
+-- The images of rows under SET fit the columns where their values may be stored.
 use Rattle.std.proofs.Common.{◌≡◌, ◌+◌, ◌<◌, ◌++◌, ◌^◌, ℕ, ℤ, neg_ℤ, pos, zero, suc, Bool, true, false, not, List, [], ◌∷◌, length, map, get_or, take, None, refl, sym, ap, ◌∙◌, arith, subst}
 use Rattle.std.specs.Prelude.{◌==◌, ◌&&◌, ◌||◌, FitsSigned, int_lt, if◌then◌else◌, slice_index_or, slice_set}
 use Rattle.std.specs.Int.{w64}
@@ -19,71 +19,10 @@ use Rattle.cq_binding.specs.declared.fault.Fault.TheVariants.{NumberOutside, Nul
 use Rattle.cq_binding.specs.Checks.{fault_if, first_fault}
 use Rattle.cq_binding.specs.UpdateChecks.{is_null, is_outside, never_null, value_checks}
 use Rattle.cq_exprs.specs.Types.{IsOf}
-use Rattle.cq_plain.proofs.Assignments.{with_set_more}
 use Rattle.cq_states.specs.Fitting.{FitsColumn, FitsColumns}
+use Rattle.cq_table.proofs.RowLists.{both_of, turned}
 use Rattle.cq_writes.specs.Updates.{CanSetAll, declared_type}
 use Rattle.cq_writes.proofs.Checks.{back_free, first_free, front_free}
-
--- ---- What stands in an image
--- a column that was set has its value
-set_there : (row : Row) (i : ℕ) (v : Value) → i < length row → column (slice_set row i v) i ≡ v
-set_there [] i v h = absurd (omega (arith, h))
-set_there (x ∷ row) zero v h = refl
-set_there (x ∷ row) (suc i) v h = set_there row i v (omega (arith, h))
-
--- and the others are as they were
-set_elsewhere : (row : Row) (c i : ℕ) (v : Value) → (c ≡ i → ⊥) → column (slice_set row c v) i ≡ column row i
-set_elsewhere [] c i v h = refl
-set_elsewhere (x ∷ row) zero zero v h = absurd (h refl)
-set_elsewhere (x ∷ row) zero (suc i) v h = refl
-set_elsewhere (x ∷ row) (suc c) zero v h = refl
-set_elsewhere (x ∷ row) (suc c) (suc i) v h = set_elsewhere row c i v (λ e. h (ap suc e))
-
-column_set : (row : Row) (c i : ℕ) (v : Value) → i < length row → column (slice_set row c v) i ≡ (if c == i then v else column row i)
-column_set row c i v h = by_test (c == i)
-    (λ k. rw k (subst (λ n. column (slice_set row n v) i ≡ v) (sym (eqb-true c i k)) (set_there row i v h)))
-    (λ k. rw k (set_elsewhere row c i v (λ e. absurd (let both : true ≡ false = sym (eq-eqb c i e) ∙ k in cc))))
-
--- setting a column leaves as many
-length_set : (row : Row) (c : ℕ) (v : Value) → length (slice_set row c v) ≡ length row
-length_set [] c v = refl
-length_set (x ∷ row) zero v = refl
-length_set (x ∷ row) (suc c) v = ap suc (length_set row c v)
-
-pub length_with_set : (assignments : List Assignment) (old row : Row) → length (with_set assignments old row) ≡ length row
-length_with_set [] old row = refl
-length_with_set (a ∷ later) old row = length_with_set later old (slice_set row a.column (eval a.value old)) ∙ length_set row a.column (eval a.value old)
-
--- one assignment more sets its column, and leaves the others
-pub value_more : (assignments : List Assignment) (i : ℕ) (a : Assignment) (old : Row) (place : ℕ) → i < length assignments → slice_index_or assignments i a ≡ a → place < length old
-    → column (with_set (take (i + 1) assignments) old old) place ≡ (if a.column == place then eval a.value old else column (with_set (take i assignments) old old) place)
-value_more assignments i a old place inside at within =
-    ap (λ (r : Row). column r place) (with_set_more assignments i a old old inside at)
-    ∙ column_set (with_set (take i assignments) old old) a.column place (eval a.value old) (omega (arith, within, length_with_set (take i assignments) old old))
-
--- one value more of a row
-pub take_column : (row : Row) (i : ℕ) → i < length row → take (i + 1) row ≡ take i row ++ column row i ∷ []
-take_column row i h = take_more row i Null h
-
--- ---- Lists in general
--- what is among the entries is seen
-pub any_at : {X : Type 0} (here : X → Row) (p : Row → Bool) (xs : List X) (i : ℕ) (x : X) → i < length xs → x ≡ get_or xs i x → p (here x) ≡ true → list_any p (map here xs) ≡ true
-any_at here p [] i x h is hit = absurd (omega (arith, h))
-any_at here p (y ∷ xs) zero x h is hit = rw (ap (λ z. p (here z)) (sym is) ∙ hit) refl
-any_at here p (y ∷ xs) (suc i) x h is hit = by_test (p (here y)) (λ k. rw k refl) (λ k. rw k (any_at here p xs i x (omega (arith, h)) is hit))
-
-nothing_for : {X : Type 0} (ys : List X) → AllByRecursion (λ y. Unit {0}) ys
-nothing_for [] = tt
-nothing_for (y ∷ ys) = (tt, nothing_for ys)
-
-both_of : {X : Type 0} (P Q : X → Type 0) (ys : List X) → AllByRecursion P ys → AllByRecursion Q ys → AllByRecursion (λ y. P y × Q y) ys
-both_of P Q [] a b = tt
-both_of P Q (y ∷ ys) a b = ((a.0, b.0), both_of P Q ys a.1 b.1)
-
--- what holds of each pair holds in either order
-pub turned : {X Y : Type 0} (P : X → Y → Type 0) (xs : List X) (ys : List Y) → AllByRecursion (λ x. AllByRecursion (P x) ys) xs → AllByRecursion (λ y. AllByRecursion (λ x. P x y) xs) ys
-turned P [] ys h = nothing_for ys
-turned P (x ∷ xs) ys h = both_of (P x) (λ y. AllByRecursion (λ z. P z y) xs) ys h.0 (turned P xs ys h.1)
 
 -- ---- Values that may be stored
 -- a number that is not outside has 64 bits with a sign

@@ -2,7 +2,7 @@
 use Rattle.std.proofs.Common.{◌≡◌, ◌<◌, ◌≤◌, ◌^◌, ℕ, get_or, set, Result, Ok, Err, Bool, List, [], ◌∷◌, ◌++◌, map, length, Option, None, sym, ap, ◌∙◌, arith, subst}
 use Rattle.std.specs.Prelude.{filter, if◌then◌else◌}
 use Rattle.std.specs.Result.{OnOk}
-use Rattle.std.specs.List.{AllByRecursion, flat_map}
+use Rattle.std.specs.List.{AllByRecursion}
 use Rattle.std.proofs.lemmas.List.{length-map}
 use Rattle.cq_values.specs.declared.column.ColumnDef.{ColumnDef}
 use Rattle.cq_values.specs.Value.{Row}
@@ -14,27 +14,24 @@ use Rattle.cq_model.specs.Expr.{Cond}
 use Rattle.cq_model.specs.Meaning.{keeps}
 use Rattle.cq_model.specs.Width.{IsNarrowAt}
 use Rattle.cq_model.specs.Write.{chosen, image_of, left_by, updated}
-use Rattle.cq_binding.specs.Checks.{MayRefuse, first_fault}
+use Rattle.cq_binding.specs.Checks.{MayRefuse}
 use Rattle.cq_binding.specs.declared.fault.Fault.{Fault}
-use Rattle.cq_binding.specs.UpdateChecks.{value_checks}
 use Rattle.cq_states.specs.Fitting.{AreFitting, AreLimited, FitsColumns, IsFitting}
 use Rattle.cq_states.specs.State.{AreNumbered, TableOf, columns_in, holding, rows_in}
 use Rattle.cq_tables.specs.Taking.{AreSame, CanAllTake}
 use Rattle.cq_writes.specs.Following.{StandOn}
-use Rattle.cq_writes.specs.Updates.{CanSetAll, CanUpdate, IsPrepared, Updates, UpdatesRows, updated_in, value_fault, value_fault_in}
+use Rattle.cq_writes.specs.Updates.{CanSetAll, CanUpdate, IsPrepared, Updates, UpdatesRows, updated_in, value_fault_in}
 use Rattle.cq_tables.specs.Views.{NamedView}
-use Rattle.cq_tables.specs.Tables.{SameRows}
-use Rattle.cq_writes.proofs.Exchanged.{checks_same, gone_all, same_replaced}
+use Rattle.cq_table.specs.Checks.{CanWorkOut, value_fault, values_fault}
+use Rattle.cq_table.specs.Table.{SameRows}
+use Rattle.cq_table.proofs.Checked.{fault_same}
+use Rattle.cq_writes.proofs.Exchanged.{same_replaced}
 use Rattle.cq_bags.proofs.Totals.{by_test}
 use Rattle.cq_tables.proofs.Rows.{bounded-with_rows, columns_numbered, fitting-with_rows, fitting_in, rows_have, rows_numbered}
 use Rattle.cq_writes.proofs.Setting.{checked_fit}
-use Rattle.cq_tables.proofs.Stored.{all_of_kept, rows_stored}
+use Rattle.cq_table.proofs.RowLists.{all_of_kept, gone_all}
+use Rattle.cq_tables.proofs.Stored.{rows_stored}
 use Rattle.cq_writes.proofs.Written.{can_take_exchange, gone_few, written_here}
-
--- what holds of lent rows holds where they are
-pub all_lent : {X : Type 0} (here : X → Row) (P : Row → Type 0) (xs : List X) → AllByRecursion P (map here xs) → AllByRecursion (λ x. P (here x)) xs
-all_lent here P [] all = tt
-all_lent here P (x ∷ xs) all = (all.0, all_lent here P xs all.1)
 
 all_images : (P : Row → Type 0) (image : Row → Row) (rows : List Row) → AllByRecursion (λ r. P (image r)) rows → AllByRecursion P (map image rows)
 all_images P image [] all = tt
@@ -49,17 +46,13 @@ all_narrow_sets : (columns : List ColumnDef) (assignments : List Assignment) (ro
 all_narrow_sets columns assignments [] can = tt
 all_narrow_sets columns assignments (r ∷ rows) can = (narrow_sets columns assignments r can.0, all_narrow_sets columns assignments rows can.1)
 
+-- so WHERE and SET can be worked out on each row
+pub can_work_out : (columns : List ColumnDef) (assignments : List Assignment) (c : Option Cond) (rows : List Row) → CanUpdate columns assignments c rows → CanWorkOut assignments c rows
+can_work_out columns assignments c rows can = record { narrow = can.narrow; sets = all_narrow_sets columns assignments rows can.sets }
+
 module _ (t : TableOf) (assignments : List Assignment) (c : Option Cond) (can : CanUpdate t.columns assignments c t.rows) (gone : List Row) (is_chosen : SameRows gone (chosen c t.rows)) where
   sets_gone : AllByRecursion (CanSetAll t.columns assignments) gone
   sets_gone = gone_all (keeps c) t.rows gone is_chosen (CanSetAll t.columns assignments) (all_of_kept (CanSetAll t.columns assignments) (keeps c) t.rows can.sets)
-
-  -- no image is too wide
-  pub narrow_gone : AllByRecursion (λ r. AllByRecursion (λ (a : Assignment). IsNarrowAt a.value r) assignments) gone
-  narrow_gone = all_narrow_sets t.columns assignments gone sets_gone
-
-  -- the first fault of the rows that go is that of the chosen ones
-  pub fault_same : first_fault (flat_map (value_checks t.columns gone) assignments) ≡ value_fault t.columns assignments c t.rows
-  fault_same = ap first_fault (checks_same t.columns gone (chosen c t.rows) is_chosen assignments)
 
   -- as many go as are chosen
   pub length_gone : length gone ≡ length (chosen c t.rows)
@@ -73,10 +66,10 @@ module _ (t : TableOf) (assignments : List Assignment) (c : Option Cond) (can : 
     stored_gone = rows_stored t.columns gone fits_gone
 
     -- the images fit where their values have no fault
-    pub come_fit : first_fault (flat_map (value_checks t.columns gone) assignments) ≡ None → AllByRecursion (FitsColumns t.columns) (map (image_of assignments) gone)
+    pub come_fit : values_fault t.columns assignments gone ≡ None → AllByRecursion (FitsColumns t.columns) (map (image_of assignments) gone)
     come_fit free = all_images (FitsColumns t.columns) (image_of assignments) gone (checked_fit t.columns assignments gone fits_gone sets_gone free)
 
-    pub stored_come : first_fault (flat_map (value_checks t.columns gone) assignments) ≡ None → AllByRecursion IsStored (map (image_of assignments) gone)
+    pub stored_come : values_fault t.columns assignments gone ≡ None → AllByRecursion IsStored (map (image_of assignments) gone)
     stored_come free = rows_stored t.columns (map (image_of assignments) gone) (come_fit free)
 
 module _ (t : TableOf) (assignments : List Assignment) (c : Option Cond) (can : CanUpdate t.columns assignments c t.rows) (ws : List NamedView) (come : List Row) (ps : List (Option (List Addition))) (p : IsPrepared t assignments c ws come ps) where
@@ -91,10 +84,16 @@ module _ (t : TableOf) (assignments : List Assignment) (c : Option Cond) (can : 
       ∙ ap (λ (rs : List Row). holding (left_by c t.rows ++ rs) t) p.images
       ∙ ap (λ (rs : List Row). record { number = t.number; name = t.name; columns = t.columns; sort = t.sort; rows = rs }) (same_replaced (keeps c) t.rows p.gone p.chosen (image_of assignments))
 
+  -- the images fit the columns
+  pub images_fitting : IsFitting t → AllByRecursion (FitsColumns t.columns) come
+  images_fitting fitting =
+      let free : values_fault t.columns assignments p.gone ≡ None = fault_same assignments c t.rows p.gone p.chosen t.columns ∙ p.free in
+      subst (λ (rs : List Row). AllByRecursion (FitsColumns t.columns) rs) (sym p.images) (come_fit t assignments c can p.gone p.chosen fitting free)
+
   -- the views can take the exchange in
   pub can_take_prepared : IsFitting t → length t.rows < 2 ^ 63 → (vs : List NamedView) → StandOn t vs → AreSame vs ws → CanAllTake ws ps
   can_take_prepared fitting few vs stand same =
-      let free : first_fault (flat_map (value_checks t.columns p.gone) assignments) ≡ None = fault_same t assignments c can p.gone p.chosen ∙ p.free in
+      let free : values_fault t.columns assignments p.gone ≡ None = fault_same assignments c t.rows p.gone p.chosen t.columns ∙ p.free in
       let stored = subst (λ (rs : List Row). AllByRecursion IsStored rs) (sym p.images) (stored_come t assignments c can p.gone p.chosen fitting free) in
       can_take_exchange t p.gone come (omega (arith, few))
       (omega (arith, length_come, length_gone t assignments c can p.gone p.chosen, gone_few (keeps c) t.rows p.gone p.chosen (2 ^ 63) few))

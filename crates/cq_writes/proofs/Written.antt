@@ -13,6 +13,8 @@ use Rattle.cq_bags.proofs.Canonicals.{length-bag_of}
 use Rattle.cq_bags.proofs.Totals.{by_test}
 use Rattle.cq_deltas.specs.declared.change.Addition.{Addition}
 use Rattle.cq_laws.proofs.Positives.{once_each-bag}
+use Rattle.cq_binding.specs.declared.fault.Fault.{Fault}
+use Rattle.cq_binding.specs.Checks.{MayRefuse}
 use Rattle.cq_model.specs.Expr.{Cond}
 use Rattle.cq_model.specs.Meaning.{keeps}
 use Rattle.cq_model.specs.Write.{left_by}
@@ -22,7 +24,7 @@ use Rattle.cq_model.specs.declared.query.Query.{Query}
 use Rattle.cq_views.specs.Small.{AreSmallFor, IsSmallFor}
 use Rattle.cq_views.specs.View.{IsNarrowFor, changed, exchanged}
 use Rattle.cq_views.proofs.Moves.{small-changes, small-exchanges, small-rows}
-use Rattle.cq_writes.specs.Writing.{deleted_from, inserted_into, room_for}
+use Rattle.cq_writes.specs.Writing.{Inserts, InsertsRows, deleted_from, inserted_into, room_for}
 use Rattle.cq_writes.specs.Following.{StandOn, Follow, Moved}
 use Rattle.cq_tables.specs.Taking.{AreSame, AreReady, CanAllTake, HaveTaken}
 use Rattle.cq_tables.specs.Views.{NamedView, Fits, AreRight}
@@ -31,7 +33,8 @@ use Rattle.cq_writes.proofs.Exchanged.{with_exchanged}
 use Rattle.cq_writes.proofs.Following.{can_all_take, follow, moved, stand_on}
 use Rattle.cq_tables.proofs.Numbers.{set-number}
 use Rattle.cq_tables.proofs.Rows.{bounded-with_rows, fitting-with_rows, fitting_in, rows_at, rows_elsewhere, rows_have, rows_numbered, rows_there}
-use Rattle.cq_tables.proofs.Stored.{all_of_bag, all_of_both, all_of_kept, all_of_rows}
+use Rattle.cq_table.specs.Checks.{too_many}
+use Rattle.cq_table.proofs.RowLists.{all_of_bag, all_of_both, all_of_kept, all_of_rows}
 use Rattle.cq_laws.specs.Sizes.{IsStored}
 
 -- ---- Rows that fit views
@@ -147,7 +150,14 @@ module _ (now next : ℕ) (tables : List TableOf) (i : ℕ) (t : TableOf) (vs : 
   written-moved epoch u ws rows (Ok x) w f = moved_at epoch u ws (ap (λ (y : TableOf). y.number) w) f
   written-moved epoch u ws rows (Err e) w f = tt
 
+  pub inserted_moved : (epoch : ℕ) (u : TableOf) (ws : List NamedView) (max_rows : ℕ) (rows : List Row) (result : Result (Unit {0}) Fault) → InsertsRows max_rows rows t result u → OnOk result (Follow epoch u vs ws) → OnOk result (Moved epoch (set tables i u) vs ws)
+  inserted_moved epoch u ws max_rows rows (Ok x) w f = moved_at epoch u ws (ap (λ (y : TableOf). y.number) w.1) f
+  inserted_moved epoch u ws max_rows rows (Err e) w f = tt
+
 module _ (next : ℕ) (tables : List TableOf) (i : ℕ) (t : TableOf) (numbered : AreNumbered tables next) (within : i < length tables) (is : t ≡ get_or tables i t) (n : ℕ) (number : (get_or tables i t).number ≡ n) where
+  own_rows : rows_in tables n ≡ t.rows
+  own_rows = rows_numbered tables i t next n numbered within is number
+
   -- the table of the number has the rows that were written at its place
   pub written_here : (u : TableOf) (rows : List Row → List Row) → u ≡ holding (rows t.rows) t → set tables i u ≡ with_rows n (rows (rows_in tables n)) tables
   written_here u rows w =
@@ -158,6 +168,14 @@ module _ (next : ℕ) (tables : List TableOf) (i : ℕ) (t : TableOf) (numbered 
   pub written-number : {X E : Type 0} (u : TableOf) (rows : List Row → List Row) (result : Result X E) → OnOk result (u ≡ holding (rows t.rows) t) → OnOk result (set tables i u ≡ with_rows n (rows (rows_in tables n)) tables)
   written-number u rows (Ok x) w = written_here u rows w
   written-number u rows (Err e) w = tt
+
+  -- what may be put into the table was put into the one of the number
+  pub inserts_here : (max_rows : ℕ) (rows : List Row) (u : TableOf) (result : Result (Unit {0}) Fault) → InsertsRows max_rows rows t result u → Inserts max_rows n rows tables result (set tables i u)
+  inserts_here max_rows rows u (Ok x) w = (
+    subst (λ (rs : List Row). too_many max_rows (length rs + length rows) ≡ None) (sym own_rows) w.0,
+    written_here u (λ rs. rs ++ rows) w.1,
+  )
+  inserts_here max_rows rows u (Err f) w = subst (λ (rs : List Row). MayRefuse (too_many max_rows (length rs + length rows)) f) (sym own_rows) w
 
 -- ---- The rows of the table of a number, with those that come and without those that go
 module _ (n : ℕ) where
@@ -190,3 +208,9 @@ module _ (n : ℕ) where
 pub where_refused : {X E : Type 0} {P : Type 0} (result : Result X E) → P → OnErr result P
 where_refused (Ok x) p = tt
 where_refused (Err f) p = p
+
+-- rows that there is room for are few
+pub few_there : (max_rows : ℕ) (stored rows : List Row) → too_many max_rows (length stored + length rows) ≡ None → length stored ≤ max_rows
+few_there max_rows stored rows room = by_test (nat_lt max_rows (length stored + length rows))
+    (λ k. absurd (cc (rw k at room)))
+    (λ k. omega (arith, ltb-false max_rows (length stored + length rows) k))

@@ -1,7 +1,7 @@
 -- UPDATE on rows that it was bound to: what is known of it, and what it leaves.
 use Rattle.std.specs.Prelude.{◌≡◌, ℕ, List, length, map, slice_index_or, Option, None, Result, Ok, Err, Vec}
 use Rattle.std.specs.Global.{Global}
-use Rattle.std.specs.List.{AllByRecursion, flat_map}
+use Rattle.std.specs.List.{AllByRecursion}
 use Rattle.cq_values.specs.declared.column.ColumnDef.{ColumnDef}
 use Rattle.cq_values.specs.declared.ty.Ty.{Ty}
 use Rattle.cq_values.specs.declared.ty.Ty.TheVariants as types
@@ -13,14 +13,15 @@ use Rattle.cq_model.specs.Expr.{Cond}
 use Rattle.cq_model.specs.Width.{IsNarrowAt, IsNarrowIn}
 use Rattle.cq_model.specs.Write.{chosen, image_of, updated}
 use Rattle.cq_binding.specs.declared.fault.Fault.{Fault}
-use Rattle.cq_binding.specs.Checks.{MayRefuse, first_fault}
-use Rattle.cq_binding.specs.UpdateChecks.{image_checks, value_checks}
+use Rattle.cq_binding.specs.Checks.{MayRefuse}
 use Rattle.cq_exprs.specs.Types.{IsOf}
 use Rattle.cq_states.specs.State.{TableOf, columns_in, holding, rows_in, with_rows}
 use Rattle.cq_views.specs.View.{exchanged}
 use Rattle.cq_tables.specs.Taking.{AreReady}
 use Rattle.cq_tables.specs.Views.{NamedView}
-use Rattle.cq_tables.specs.Tables.{SameRows}
+use Rattle.cq_table.specs.Checks.{value_fault}
+use Rattle.cq_table.specs.Table.{SameRows}
+use Rattle.cq_tables.specs.Tables.{value_fault_of}
 
 -- the type of the column at a place, which is there
 abbrev pub declared_type : List ColumnDef → ℕ → Ty
@@ -43,18 +44,6 @@ pub record CanUpdate (columns : List ColumnDef) (assignments : List Assignment) 
 -- so it is in the table of a number
 abbrev pub CanUpdateIn : List TableOf → ℕ → List Assignment → Option Cond → Type 0
 CanUpdateIn tables n assignments condition = CanUpdate (columns_in tables n) assignments condition (rows_in tables n)
-
--- why the values that assignments give in these rows may not be stored
-abbrev pub values_fault : List ColumnDef → List Assignment → List Row → Option Fault
-values_fault columns assignments rows = first_fault (flat_map (value_checks columns rows) assignments)
-
--- why the values that the chosen rows get may not be stored
-abbrev pub value_fault : List ColumnDef → List Assignment → Option Cond → List Row → Option Fault
-value_fault columns assignments condition rows = first_fault (image_checks columns assignments condition rows)
-
--- the same of the rows of a table
-abbrev pub value_fault_of : TableOf → List Assignment → Option Cond → Option Fault
-value_fault_of t assignments condition = value_fault t.columns assignments condition t.rows
 
 -- each row that WHERE chooses is replaced by its image, where the images may be stored, and the chosen ones are counted
 abbrev pub UpdatesRows : List Assignment → Option Cond → TableOf → Result ℕ Fault → TableOf → Type 0

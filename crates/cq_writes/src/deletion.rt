@@ -32,7 +32,7 @@ pub fn delete_from(
         let chosen = table.chosen(alloc, condition)?;
         prepare_all(alloc, views, table.number(), &chosen, -1)?
     };
-    let count = table.remove(condition);
+    let count = table.delete_where(condition);
     commit_all(views, pendings, epoch);
     Ok(count)
 }

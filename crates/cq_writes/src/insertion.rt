@@ -1,13 +1,14 @@
 //! The rows that an INSERT brings.
-ghost use Rattle.std.specs.Prelude.{◌≡◌, ◌<◌, ◌^◌, ◌++◌, IfOk, OnErr, OnOk, length, map};
+ghost use Rattle.std.specs.Prelude.{◌≡◌, IfOk, OnErr, OnOk, map};
 ghost use Rattle.std.specs.List.{AllByRecursion};
 ghost use Rattle.cq_bags.specs.Bag.{once_each};
 ghost use Rattle.cq_states.specs.Fitting.{FitsColumns, IsFitting};
-ghost use Rattle.cq_states.specs.State.{holding};
 ghost use Rattle.cq_views.specs.View.{IsNarrowFor};
 ghost use Rattle.cq_tables.specs.Taking.{AreReady, AreSame};
 ghost use Rattle.cq_writes.specs.Following.{Follow, StandOn};
+ghost use Rattle.cq_writes.specs.Writing.{InsertsRows};
 
+use cq_binding::Fault;
 use cq_tables::{Table, View, commit_all, prepare_all};
 use cq_values::Row;
 use cq_views::Pending;
@@ -16,21 +17,21 @@ use std::alloc::{AllocError, Global};
 /// Adds the rows to this table, or none of them. The views on the table take them in.
 pub fn insert_into(
     alloc: Global,
+    max_rows: u64,
     table: &mut Table,
     views: &mut Vec<View>,
     rows: Vec<Row>,
     epoch: u64,
-) -> Result<(), AllocError>
+) -> Result<(), Fault>
     requires fitting { IsFitting table.old }
-    requires few { length table.old.rows < 2 ^ 64 }
     requires stand { StandOn table.old views.old.items }
     requires rows { AllByRecursion (FitsColumns table.old.columns) rows.items }
-    ensures added { OnOk result (table.new ≡ holding (table.old.rows ++ rows.items) table.old) }
+    ensures inserts { InsertsRows max_rows rows.items table.old result table.new }
     ensures follow { OnOk result (Follow epoch table.new views.old.items views.new.items) }
     ensures err { OnErr result ((table.new ≡ table.old) × AreSame views.old.items views.new.items) }
 {
     let pendings = prepared(alloc, views, table.number(), &rows)?;
-    table.append(rows)?;
+    table.insert(max_rows, rows)?;
     commit_all(views, pendings, epoch);
     Ok(())
 }

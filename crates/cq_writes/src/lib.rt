@@ -6,7 +6,6 @@
 #![tactic(auto)]
 
 mod deletion;
-mod images;
 mod insertion;
 mod updating;
 mod writing;

@@ -4,9 +4,9 @@ ghost use Rattle.cq_binding.specs.Checks.{MayRefuse};
 ghost use Rattle.cq_states.specs.Fitting.{IsFitting};
 ghost use Rattle.cq_tables.specs.Taking.{AreSame};
 ghost use Rattle.cq_writes.specs.Following.{Follow, StandOn};
-ghost use Rattle.cq_writes.specs.Updates.{ArePrepared, CanUpdate, UpdatesRows, value_fault_of};
+ghost use Rattle.cq_tables.specs.Tables.{value_fault_of};
+ghost use Rattle.cq_writes.specs.Updates.{ArePrepared, CanUpdate, UpdatesRows};
 
-use crate::images::{check_values, images};
 use cq_binding::Fault;
 use cq_model::{Assignment, Cond};
 use cq_tables::{Table, View, commit_all, prepare_exchanges};
@@ -57,9 +57,7 @@ fn prepared(
     ensures ready { IfOk result (ArePrepared table.now assignments.now condition.now views.new.items) }
     ensures fault { IfErr result (MayRefuse (value_fault_of table.now assignments.now condition.now)) }
 {
-    let chosen = table.chosen(alloc, condition)?;
-    check_values(table.columns(), assignments, &chosen)?;
-    let images = images(alloc, assignments, &chosen)?;
+    let (chosen, images) = table.images_where(alloc, assignments, condition)?;
     let pendings = prepare_exchanges(alloc, views, table.number(), &chosen, &images)?;
     Ok((images, pendings))
 }

@@ -1,5 +1,5 @@
 //! Writes of the table of a number, which is one of several.
-ghost use Rattle.std.specs.Prelude.{◌≡◌, ◌<◌, ◌+◌, ◌^◌, ℕ, IfOk, OnErr, OnOk, length};
+ghost use Rattle.std.specs.Prelude.{◌≡◌, ◌<◌, ◌^◌, ℕ, IfOk, OnErr, OnOk, length};
 ghost use Rattle.std.specs.List.{AllByRecursion};
 ghost use Rattle.cq_model.specs.Width.{IsNarrowIn};
 ghost use Rattle.cq_model.specs.Write.{chosen};
@@ -10,7 +10,7 @@ ghost use Rattle.cq_tables.specs.Taking.{AreSame};
 ghost use Rattle.cq_tables.specs.Views.{AreRight};
 ghost use Rattle.cq_writes.specs.Following.{Moved};
 ghost use Rattle.cq_writes.specs.Updates.{CanUpdateIn, Updates};
-ghost use Rattle.cq_writes.specs.Writing.{Inserts, IsChecked, deleted_from, too_many};
+ghost use Rattle.cq_writes.specs.Writing.{Inserts, deleted_from};
 
 use crate::deletion::delete_from;
 use crate::insertion::insert_into;
@@ -41,9 +41,7 @@ pub fn insert_in(
     ensures err { OnErr result ((tables.new.items ≡ tables.old.items) × AreSame views.old.items views.new.items) }
 {
     let place = place_numbered(tables, number);
-    check_room(max_rows, tables[place].len(), rows.len())?;
-    insert_into(alloc, &mut tables[place], views, rows, epoch)?;
-    Ok(())
+    insert_into(alloc, max_rows, &mut tables[place], views, rows, epoch)
 }
 
 /// Takes the rows that WHERE keeps from the table of a number, and tells how many they were. The views on it follow, and
@@ -100,15 +98,4 @@ pub fn update_in(
         condition,
         epoch,
     )
-}
-
-/// Refuses more rows than a table may have.
-fn check_room(max_rows: u64, stored: usize, added: usize) -> Result<(), Fault>
-    ensures { IsChecked (too_many max_rows (stored + added)) result }
-{
-    if u128::from(max_rows) < stored as u128 + added as u128 {
-        Err(Fault::TableFull)
-    } else {
-        Ok(())
-    }
 }

@@ -1,27 +1,15 @@
 //! One growth that is refused, wherever it comes: the statement is refused and changes nothing, and goes well when it is
 //! given once more. tools/fail-alloc runs this with each growth refused in turn.
-use super::engine;
+use super::{carry_out, engine};
 use cq_binding::Fault;
-use cq_cli::NoSources;
 use cq_engine::Engine;
-use cq_sql::{SqlFault, parse};
 use cq_steps::Answer;
 use cq_values::{Row, Value};
 use std::alloc::Global;
 use std::process::Abort;
 use std::test::Fail;
 
-/// Reads and carries out one statement.
-fn tried(rt: &impl Abort, alloc: Global, engine: &mut Engine, text: &str) -> Result<Answer, Fault> {
-    assert!(rt; engine.drawn() < 1000);
-    match parse(alloc, text) {
-        Ok(statement) => engine.step(&statement, &mut NoSources::new()),
-        Err(SqlFault::Memory) => Err(Fault::Memory),
-        Err(_) => Err(Fault::Syntax),
-    }
-}
-
-/// The same, once more where memory was wanting; what was refused has changed nothing.
+/// Carries a statement out, once more where memory was wanting; what was refused has changed nothing.
 fn carried_out(
     rt: &impl Abort,
     alloc: Global,
@@ -29,11 +17,11 @@ fn carried_out(
     text: &str,
 ) -> Result<Answer, Fault> {
     let before = (engine.now(), engine.drawn(), engine.view_epoch("v"));
-    match tried(rt, alloc, engine, text) {
+    match carry_out(rt, alloc, engine, text) {
         Err(Fault::Memory) => {
             let after = (engine.now(), engine.drawn(), engine.view_epoch("v"));
             assert!(rt; before == after, "{text}");
-            tried(rt, alloc, engine, text)
+            carry_out(rt, alloc, engine, text)
         }
         first => first,
     }

@@ -52,7 +52,7 @@ fn compare(
 ) -> Result<(), Fail> {
     let kept = rows(rt, alloc, engine, reading)?;
     let table = rows(rt, alloc, engine, "SELECT k, a FROM t")?;
-    check_view(rt, alloc, engine, view, kept.as_slice(), table)
+    check_view(rt, alloc, engine, view, kept.as_slice(), table.as_slice())
 }
 
 /// Some writes.

@@ -79,7 +79,7 @@ fn check_select(
     let text = selection(alloc, random)?;
     let shown = rows(rt, alloc, engine, text.as_str())?;
     let table = rows(rt, alloc, engine, ALL)?;
-    let wanted = selected(alloc, engine, text.as_str(), table)?;
+    let wanted = selected(alloc, engine, text.as_str(), table.as_slice())?;
     assert!(rt; shown.as_slice() == wanted.as_slice(), "{text}: {shown:?}");
     Ok(())
 }
@@ -145,7 +145,7 @@ fn check_writes(
     insert(rt, alloc, engine, random)?;
     let kept = rows(rt, alloc, engine, "SELECT x, n, s FROM v")?;
     let table = rows(rt, alloc, engine, ALL)?;
-    check_view(rt, alloc, engine, "v", kept.as_slice(), table)
+    check_view(rt, alloc, engine, "v", kept.as_slice(), table.as_slice())
 }
 
 fn run_script(

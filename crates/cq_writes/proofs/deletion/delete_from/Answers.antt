@@ -31,8 +31,8 @@ pub returns-clause-follow : goal.returns-clause-follow
 returns-clause-follow c =
     let gone = map (λ r. r.now) c.in_ok-chosen.chosen.items in
     let ready = rw (c.number.ensures, c.deref.ensures.value) at c.in_ok-pendings.ensures.ready in
-    deleted-follow c.args.epoch c.args.table.now c.remove-count.new.self c.args.views.now.items c.prepare_all.new.views.items c.commit_all.new.views.items c.in_ok-pendings.pendings.items
-    c.requires.stand c.in_ok-pendings.ensures.kept c.commit_all.ensures (keeps c.args.condition.now) gone c.remove-count.ensures.left c.in_ok-chosen.ensures.bag ready
+    deleted-follow c.args.epoch c.args.table.now c.delete_where-count.new.self c.args.views.now.items c.prepare_all.new.views.items c.commit_all.new.views.items c.in_ok-pendings.pendings.items
+    c.requires.stand c.in_ok-pendings.ensures.kept c.commit_all.ensures (keeps c.args.condition.now) gone c.delete_where-count.ensures.left c.in_ok-chosen.ensures.bag ready
 
 pub returns-in_err-chosen-clause-err : goal.returns-in_err-chosen-clause-err
 returns-in_err-chosen-clause-err c = where_refused c.from_residual.result (refl, all_same c.args.views.now.items)

@@ -1,12 +1,19 @@
 use Rattle.std.proofs.Common.{arith}
 use Rattle.cq_model.specs.Meaning.{keeps}
-use Rattle.cq_writes.proofs.Updates.{can_take_prepared, length_come, replaced_table}
+use Rattle.cq_writes.proofs.Updates.{can_take_prepared, images_fitting, length_come, replaced_table}
 use Rattle.cq_writes.proofs.Written.{exchanged-follow}
 use Rattle.cq_writes.proofs.updating.update_rows.Goals as goal
 
 pub replace-requires-clause-count : goal.replace-requires-clause-count
 replace-requires-clause-count c =
     length_come c.args.table.now c.args.assignments.now c.args.condition.now c.requires.can c.prepared.new.views.items c.in_ok-images.images.items c.in_ok-images.pendings.items c.in_ok-images.ensures.ready
+
+pub replace-requires-clause-narrow : goal.replace-requires-clause-narrow
+replace-requires-clause-narrow c = c.requires.can.narrow
+
+pub replace-requires-clause-fitting : goal.replace-requires-clause-fitting
+replace-requires-clause-fitting c =
+    images_fitting c.args.table.now c.args.assignments.now c.args.condition.now c.requires.can c.prepared.new.views.items c.in_ok-images.images.items c.in_ok-images.pendings.items c.in_ok-images.ensures.ready c.requires.fitting
 
 pub commit_all-requires : goal.commit_all-requires
 commit_all-requires c =

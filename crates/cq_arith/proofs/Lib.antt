@@ -1,0 +1,6 @@
+pub mod PlaceLemmas
+pub mod ColumnLemmas
+pub mod SumLemmas
+pub mod CallLemmas
+pub mod PartLemmas
+pub mod WideLemmas

@@ -1,0 +1,3 @@
+pub mod Operation
+pub mod Sums
+pub mod Unbroken

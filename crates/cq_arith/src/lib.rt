@@ -1,0 +1,25 @@
+//! Arithmetic and sums over vectors, exactly, in 64 bits where the sizes of the numbers allow it.
+//!
+//! To its callers each operation is that of the language at each place, whatever form the vectors have.
+#![tactic(auto)]
+
+mod arithmetic;
+mod clear;
+mod combined;
+mod narrow;
+mod operation;
+mod parts;
+mod places;
+mod side;
+mod sizes;
+mod sums;
+#[cfg(test)]
+mod tests;
+mod unbroken;
+mod wide;
+mod wide_side;
+
+pub use arithmetic::{add, mul, neg, sub};
+pub use parts::extract;
+pub use sizes::largest_size;
+pub use sums::sum_into;

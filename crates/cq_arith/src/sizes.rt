@@ -1,0 +1,20 @@
+//! How far numbers are from zero.
+ghost use Rattle.std.specs.Prelude.{nat_abs, pos, slice_index_or, ℕ, ◌≤◌};
+
+/// The greatest distance from zero, by which a kernel is chosen.
+pub fn largest_size(values: &[i64]) -> u64
+    ensures { (k : ℕ) → nat_abs (slice_index_or values.now k (pos 0)) ≤ result }
+{
+    let mut largest = 0;
+    for i in 0..values.len() {
+        largest = larger(largest, values[i].unsigned_abs());
+    }
+    largest
+}
+
+fn larger(a: u64, b: u64) -> u64
+    ensures left { a ≤ result }
+    ensures right { b ≤ result }
+{
+    if a < b { b } else { a }
+}

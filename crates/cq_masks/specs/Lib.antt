@@ -1,0 +1,4 @@
+pub mod Plane
+pub mod TruthMask
+pub mod Walk
+pub mod Selection

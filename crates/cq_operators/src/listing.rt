@@ -1,0 +1,33 @@
+//! All that a plan shows.
+ghost use Rattle.std.specs.List.{AllByRecursion};
+ghost use Rattle.std.specs.Prelude.{◌≡◌, IfOk};
+ghost use Rattle.cq_plan.specs.Plan.{IsWithin, shown_by};
+
+use crate::exec::Exec;
+use crate::fault::ExecFault;
+use cq_masks::Selection;
+use cq_plan::Plan;
+use cq_values::Row;
+use cq_vectors::Batch;
+use std::alloc::Global;
+
+/// The rows that the plan shows of these rows, one after the other.
+pub fn results<'a>(
+    alloc: Global,
+    plan: &'a Plan<'a>,
+    rows: &'a [Row],
+) -> Result<Vec<Row>, ExecFault>
+    requires { AllByRecursion (IsWithin plan.now) rows.now }
+    ensures { IfOk result (λ results. results.items ≡ shown_by plan.now rows.now) }
+{
+    let mut exec = Exec::open(plan, rows);
+    let mut batch = Batch {
+        columns: Vec::new(alloc),
+        selection: Selection::new(),
+    };
+    let mut results = Vec::new(alloc);
+    while exec.next(alloc, &mut batch)? {
+        batch.push_rows(alloc, &mut results)?;
+    }
+    Ok(results)
+}

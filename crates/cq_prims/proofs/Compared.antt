@@ -1,0 +1,284 @@
+-- Comparisons of lists of values, by the tests of their numbers and texts.
+use Rattle.std.proofs.Common.{◌≡◌, ℕ, ◌<◌, Bool, true, false, not, List, [], ◌∷◌, map, length, get_or, zero, suc, pos, replicate, ℤ, refl, sym, ap, ap₂, ◌∙◌, arith, Ordering, Less, Equal, Greater, int_cmp, nat_cmp, cond}
+use Rattle.std.specs.List.{range_with_len}
+use Rattle.std.specs.Ordering.{is_eq, is_lt, is_gt, int_eq, ordering_reverse, ordering_then}
+use Rattle.std.specs.Prelude.{int_lt}
+use Rattle.std.specs.Cmp.Lexicographic.{slice_cmp, texts_ties}
+use Rattle.std.specs.Str.{bytes_eq}
+use lib.Lanes.{zip2}
+use lib.Seq.{ext_get_or}
+use lib.ListN.{get_or-map}
+use Rattle.std.proofs.lemmas.List.{length-map}
+use Rattle.std.proofs.lemmas.List.FromFn.{length-map-range_with_len, get_or-map-range_with_len}
+use Rattle.std.proofs.lemmas.Simd.{length-zip2, get_or-zip2}
+use Rattle.cq_values.specs.declared.value.Value.{Value}
+use Rattle.cq_values.specs.declared.value.Value.TheVariants.{Null, Number, Text, Day}
+use Rattle.cq_values.specs.declared.truth.Truth.TheVariants.{Unknown}
+use Rattle.cq_values.specs.declared.comparison.Comparison.{Comparison}
+use Rattle.cq_values.specs.declared.comparison.Comparison.TheVariants as by
+use Rattle.cq_values.specs.Comparison.{compared, passes}
+use Rattle.cq_values.specs.Keys.{value_cmp_total}
+use Rattle.cq_values.specs.Order.{number, bytes, value_cmp}
+use Rattle.cq_values.specs.Truth.{truth_of, not_truth, is_true}
+use Rattle.cq_model.specs.Condition.{is_null}
+use Rattle.cq_masks.specs.TruthMask.{known}
+use Rattle.cq_masks.specs.Plane.{either}
+use Rattle.cq_prims.specs.Kinds.{is_of_kind, ShowsNumbers, ShowsTexts}
+
+-- answers that are right wherever no value is NULL give the truths of a comparison
+pub known_compared : (c : Comparison) (h : ℕ → Bool) (xs ys : List Value) → length xs ≡ length ys
+    → ((i : ℕ) → i < length xs → known (h i) (either (is_null (get_or xs i Null)) (is_null (get_or ys i Null))) ≡ compared c (get_or xs i Null) (get_or ys i Null))
+    → zip2 known (map h (range_with_len 0 (length xs))) (zip2 either (map is_null xs) (map is_null ys)) ≡ zip2 (compared c) xs ys
+known_compared c h xs ys same right =
+    let n = length xs in
+    let answers = map h (range_with_len 0 n) in
+    let nulls = zip2 either (map is_null xs) (map is_null ys) in
+    let long_answers : length answers ≡ n = length-map-range_with_len h 0 n in
+    let long_x : length (map is_null xs) ≡ n = length-map xs is_null in
+    let long_y : length (map is_null ys) ≡ n = length-map ys is_null ∙ sym same in
+    let long_nulls : length nulls ≡ n = length-zip2 either (map is_null xs) (map is_null ys) (long_x ∙ sym long_y) ∙ long_x in
+    let long : length (zip2 known answers nulls) ≡ n = length-zip2 known answers nulls (long_answers ∙ sym long_nulls) ∙ long_answers in
+    ext_get_or Unknown _ _ (long ∙ sym (length-zip2 (compared c) xs ys same)) (λ i lt.
+    let within : i < n = omega (arith, long) in
+    get_or-zip2 known answers nulls i false true Unknown (omega (arith, long_answers)) (omega (arith, long_nulls))
+    ∙ ap₂ known (get_or-map-range_with_len h 0 n i i false within (omega arith))
+    (get_or-zip2 either (map is_null xs) (map is_null ys) i true true true (omega (arith, long_x)) (omega (arith, long_y)) ∙ ap₂ either (get_or-map is_null xs i Null) (get_or-map is_null ys i Null))
+    ∙ right i within
+    ∙ sym (get_or-zip2 (compared c) xs ys i Null Null Unknown within (omega (arith, same))))
+
+-- a comparison is its test, which is not known at NULL
+compared_known : (c : Comparison) (v w : Value) → compared c v w ≡ known (passes c (value_cmp v w)) (either (is_null v) (is_null w))
+compared_known c Null w = refl
+compared_known c (Number m) Null = refl
+compared_known c (Day m) Null = refl
+compared_known c (Text m) Null = refl
+compared_known c (Number m) (Number n) = refl
+compared_known c (Number m) (Day n) = refl
+compared_known c (Number m) (Text n) = refl
+compared_known c (Day m) (Number n) = refl
+compared_known c (Day m) (Day n) = refl
+compared_known c (Day m) (Text n) = refl
+compared_known c (Text m) (Number n) = refl
+compared_known c (Text m) (Day n) = refl
+compared_known c (Text m) (Text n) = refl
+
+known_again : (b n : Bool) → known (is_true (known b n)) n ≡ known b n
+known_again true true = refl
+known_again true false = refl
+known_again false true = refl
+known_again false false = refl
+
+-- whether a comparison is True, together with the NULLs, is its truth
+pub known_true : (c : Comparison) (v w : Value) → known (is_true (compared c v w)) (either (is_null v) (is_null w)) ≡ compared c v w
+known_true c v w =
+    let nulls = either (is_null v) (is_null w) in
+    ap (λ t. known (is_true t) nulls) (compared_known c v w) ∙ known_again (passes c (value_cmp v w)) nulls ∙ sym (compared_known c v w)
+
+as_number : (P : Value → Type 0) → P Null → ((n : ℤ) → P (Number n)) → (v : Value) → is_of_kind 0 v ≡ true → P v
+as_number P none some (Number n) e = some n
+as_number P none some (Day n) e = absurd (cc)
+as_number P none some (Text t) e = absurd (cc)
+as_number P none some Null e = none
+
+as_day : (P : Value → Type 0) → P Null → ((n : ℤ) → P (Day n)) → (v : Value) → is_of_kind 1 v ≡ true → P v
+as_day P none some (Number n) e = absurd (cc)
+as_day P none some (Day n) e = some n
+as_day P none some (Text t) e = absurd (cc)
+as_day P none some Null e = none
+
+as_text : (P : Value → Type 0) → P Null → ((t : List ℕ) → P (Text t)) → (v : Value) → is_of_kind 2 v ≡ true → P v
+as_text P none some (Number n) e = absurd (cc)
+as_text P none some (Day n) e = absurd (cc)
+as_text P none some (Text t) e = some t
+as_text P none some Null e = none
+
+-- known by a test of numbers, where the test is that of the order
+module _ (c : Comparison) (s : ℤ → ℤ → Bool) where
+  abbrev numbers_known : Value → Value → Type 0
+  numbers_known v w = known (s (number v) (number w)) (either (is_null v) (is_null w)) ≡ compared c v w
+
+  null_right : (v : Value) → numbers_known v Null
+  null_right (Number n) = refl
+  null_right (Day n) = refl
+  null_right (Text t) = refl
+  null_right Null = refl
+
+  module _ (agree : (m n : ℤ) → s m n ≡ passes c (ordering_then (int_cmp m n) Equal)) where
+    pub known_numbers : (v w : Value) → is_of_kind 0 v ≡ true → is_of_kind 0 w ≡ true → numbers_known v w
+    known_numbers v w p q = as_number (λ v. numbers_known v w) refl (λ m. as_number (numbers_known (Number m)) (null_right (Number m)) (λ n. ap truth_of (agree m n)) w q) v p
+
+    pub known_days : (v w : Value) → is_of_kind 1 v ≡ true → is_of_kind 1 w ≡ true → numbers_known v w
+    known_days v w p q = as_day (λ v. numbers_known v w) refl (λ m. as_day (numbers_known (Day m)) (null_right (Day m)) (λ n. ap truth_of (agree m n)) w q) v p
+
+is_lt-cond : (a b : Bool) → a ≡ is_lt (ordering_then (cond a Less (cond b Greater Equal)) Equal)
+is_lt-cond true b = refl
+is_lt-cond false true = refl
+is_lt-cond false false = refl
+
+pub less_agrees : (m n : ℤ) → int_lt m n ≡ passes by.Less (ordering_then (int_cmp m n) Equal)
+less_agrees m n = is_lt-cond (int_lt m n) (int_lt n m)
+
+is_eq-then : (o : Ordering) → is_eq o ≡ is_eq (ordering_then o Equal)
+is_eq-then Less = refl
+is_eq-then Equal = refl
+is_eq-then Greater = refl
+
+pub equal_agrees : (m n : ℤ) → int_eq m n ≡ passes by.Equal (ordering_then (int_cmp m n) Equal)
+equal_agrees m n = is_eq-then (int_cmp m n)
+
+-- known by a test of texts
+module _ (c : Comparison) (s : List ℕ → List ℕ → Bool) (agree : (t u : List ℕ) → s t u ≡ passes c (slice_cmp nat_cmp t u)) where
+  abbrev texts_known : Value → Value → Type 0
+  texts_known v w = known (s (bytes v) (bytes w)) (either (is_null v) (is_null w)) ≡ compared c v w
+
+  pub known_texts : (v w : Value) → is_of_kind 2 v ≡ true → is_of_kind 2 w ≡ true → texts_known v w
+  known_texts v w p q = as_text (λ v. texts_known v w) refl (λ t. as_text (texts_known (Text t)) refl (λ u. ap truth_of (agree t u)) w q) v p
+
+pub equal_texts_agree : (t u : List ℕ) → bytes_eq t u ≡ passes by.Equal (slice_cmp nat_cmp t u)
+equal_texts_agree t u = texts_ties t u
+
+-- ---- one comparison by another
+is_lt-reverse : (o : Ordering) → is_lt (ordering_reverse o) ≡ is_gt o
+is_lt-reverse Less = refl
+is_lt-reverse Equal = refl
+is_lt-reverse Greater = refl
+
+either_turned : (a b : Bool) → either a b ≡ either b a
+either_turned true true = refl
+either_turned true false = refl
+either_turned false true = refl
+either_turned false false = refl
+
+-- what is less than a value is what the value is greater than
+pub compared-turned : (v w : Value) → compared by.Less w v ≡ compared by.Greater v w
+compared-turned v w =
+    compared_known by.Less w v
+    ∙ ap₂ known (ap is_lt (value_cmp_total.antisymm w v) ∙ is_lt-reverse (value_cmp v w)) (either_turned (is_null w) (is_null v))
+    ∙ sym (compared_known by.Greater v w)
+
+-- a comparison of lists with its sides turned
+pub zip2-turned : {X Y : Type 0} (f g : X → X → Y) → ((x y : X) → f y x ≡ g x y) → (xs ys : List X) → zip2 f ys xs ≡ zip2 g xs ys
+zip2-turned f g h [] [] = refl
+zip2-turned f g h [] (y ∷ ys) = refl
+zip2-turned f g h (x ∷ xs) [] = refl
+zip2-turned f g h (x ∷ xs) (y ∷ ys) = ap₂ (λ a l. a ∷ l) (h x y) (zip2-turned f g h xs ys)
+
+not_known : (a b n : Bool) → not a ≡ b → not_truth (known a n) ≡ known b n
+not_known a true true e = refl
+not_known a false true e = refl
+not_known true b false e = ap truth_of e
+not_known false b false e = ap truth_of e
+
+-- a comparison that passes where another does not
+module _ (c d : Comparison) (opposite : (o : Ordering) → not (passes c o) ≡ passes d o) where
+  compared-opposite : (v w : Value) → not_truth (compared c v w) ≡ compared d v w
+  compared-opposite v w =
+      let o = value_cmp v w in
+      ap not_truth (compared_known c v w) ∙ not_known (passes c o) (passes d o) (either (is_null v) (is_null w)) (opposite o) ∙ sym (compared_known d v w)
+
+  pub zip2-opposite : (xs ys : List Value) → map not_truth (zip2 (compared c) xs ys) ≡ zip2 (compared d) xs ys
+  zip2-opposite [] ys = refl
+  zip2-opposite (x ∷ xs) [] = refl
+  zip2-opposite (x ∷ xs) (y ∷ ys) = ap₂ (λ a l. a ∷ l) (compared-opposite x y) (zip2-opposite xs ys)
+
+pub not_equal : (o : Ordering) → not (passes by.Equal o) ≡ passes by.NotEqual o
+not_equal Less = refl
+not_equal Equal = refl
+not_equal Greater = refl
+
+pub not_less : (o : Ordering) → not (passes by.Less o) ≡ passes by.GreaterOrEqual o
+not_less Less = refl
+not_less Equal = refl
+not_less Greater = refl
+
+pub not_greater : (o : Ordering) → not (passes by.Greater o) ≡ passes by.LessOrEqual o
+not_greater Less = refl
+not_greater Equal = refl
+not_greater Greater = refl
+
+-- answers for so many places as there are flags of NULLs
+known_where : (c : Comparison) (h : ℕ → Bool) (xs ys : List Value) (nulls : List Bool) → length xs ≡ length ys → nulls ≡ zip2 either (map is_null xs) (map is_null ys)
+    → ((i : ℕ) → known (h i) (either (is_null (get_or xs i Null)) (is_null (get_or ys i Null))) ≡ compared c (get_or xs i Null) (get_or ys i Null))
+    → zip2 known (map h (range_with_len 0 (length nulls))) nulls ≡ zip2 (compared c) xs ys
+known_where c h xs ys nulls same is right =
+    let all = zip2 either (map is_null xs) (map is_null ys) in
+    let long : length all ≡ length xs = length-zip2 either (map is_null xs) (map is_null ys) (length-map xs is_null ∙ same ∙ sym (length-map ys is_null)) ∙ length-map xs is_null in
+    ap (λ l. zip2 known (map h (range_with_len 0 (length l))) l) is
+    ∙ ap (λ (n : ℕ). zip2 known (map h (range_with_len 0 n)) all) long
+    ∙ known_compared c h xs ys same (λ i lt. right i)
+
+module _ (xs ys : List Value) (nulls : List Bool) (same : length xs ≡ length ys) (is : nulls ≡ zip2 either (map is_null xs) (map is_null ys)) where
+  module _ (c : Comparison) (s : ℤ → ℤ → Bool) (agree : (m n : ℤ) → s m n ≡ passes c (ordering_then (int_cmp m n) Equal)) (ms ns : List ℤ) where
+    abbrev numbers_at : ℕ → Bool
+    numbers_at i = s (get_or ms i (pos 0)) (get_or ns i (pos 0))
+
+    module _ (k : ℕ) (p : ShowsNumbers k ms xs) (q : ShowsNumbers k ns ys) where
+      shown_at : (i : ℕ) → numbers_at i ≡ s (number (get_or xs i Null)) (number (get_or ys i Null))
+      shown_at i = ap₂ s (ap (λ l. get_or l i (pos 0)) p.0 ∙ get_or-map number xs i Null) (ap (λ l. get_or l i (pos 0)) q.0 ∙ get_or-map number ys i Null)
+
+      shown_known : (i : ℕ) → known (s (number (get_or xs i Null)) (number (get_or ys i Null))) (either (is_null (get_or xs i Null)) (is_null (get_or ys i Null))) ≡ compared c (get_or xs i Null) (get_or ys i Null)
+          → known (numbers_at i) (either (is_null (get_or xs i Null)) (is_null (get_or ys i Null))) ≡ compared c (get_or xs i Null) (get_or ys i Null)
+      shown_known i e = ap (λ b. known b (either (is_null (get_or xs i Null)) (is_null (get_or ys i Null)))) (shown_at i) ∙ e
+
+    pub by_numbers : ShowsNumbers 0 ms xs → ShowsNumbers 0 ns ys → zip2 known (map numbers_at (range_with_len 0 (length nulls))) nulls ≡ zip2 (compared c) xs ys
+    by_numbers p q = known_where c numbers_at xs ys nulls same is (λ i. shown_known 0 p q i (known_numbers c s agree _ _ (p.1 i) (q.1 i)))
+
+    pub by_days : ShowsNumbers 1 ms xs → ShowsNumbers 1 ns ys → zip2 known (map numbers_at (range_with_len 0 (length nulls))) nulls ≡ zip2 (compared c) xs ys
+    by_days p q = known_where c numbers_at xs ys nulls same is (λ i. shown_known 1 p q i (known_days c s agree _ _ (p.1 i) (q.1 i)))
+
+  pub by_texts : (c : Comparison) (s : List ℕ → List ℕ → Bool) → ((t u : List ℕ) → s t u ≡ passes c (slice_cmp nat_cmp t u)) → (ts us : List (List ℕ)) → ShowsTexts ts xs → ShowsTexts us ys
+      → zip2 known (map (λ i. s (get_or ts i []) (get_or us i [])) (range_with_len 0 (length nulls))) nulls ≡ zip2 (compared c) xs ys
+  by_texts c s agree ts us p q = known_where c (λ i. s (get_or ts i []) (get_or us i [])) xs ys nulls same is (λ i.
+      ap (λ b. known b (either (is_null (get_or xs i Null)) (is_null (get_or ys i Null)))) (ap₂ s (ap (λ l. get_or l i []) p.0 ∙ get_or-map bytes xs i Null) (ap (λ l. get_or l i []) q.0 ∙ get_or-map bytes ys i Null))
+      ∙ known_texts c s agree _ _ (p.1 i) (q.1 i))
+
+  pub by_lent : (c : Comparison) → zip2 known (map (λ i. is_true (compared c (get_or xs i Null) (get_or ys i Null))) (range_with_len 0 (length nulls))) nulls ≡ zip2 (compared c) xs ys
+  by_lent c = known_where c (λ i. is_true (compared c (get_or xs i Null) (get_or ys i Null))) xs ys nulls same is (λ i. known_true c (get_or xs i Null) (get_or ys i Null))
+
+pub length-shown : (k : ℕ) (ns : List ℤ) (vs : List Value) → ShowsNumbers k ns vs → length ns ≡ length vs
+length-shown k ns vs p = ap length p.0 ∙ length-map vs number
+
+pub length-shown_texts : (ts : List (List ℕ)) (vs : List Value) → ShowsTexts ts vs → length ts ≡ length vs
+length-shown_texts ts vs p = ap length p.0 ∙ length-map vs bytes
+
+-- a constant compared with a constant, and NULL with anything
+pub zip2-replicate : {X Y : Type 0} (f : X → X → Y) (n : ℕ) (x y : X) → zip2 f (replicate n x) (replicate n y) ≡ replicate n (f x y)
+zip2-replicate f zero x y = refl
+zip2-replicate f (suc n) x y = ap (λ l. f x y ∷ l) (zip2-replicate f n x y)
+
+compared_null : (c : Comparison) (v : Value) → compared c v Null ≡ Unknown
+compared_null c (Number n) = refl
+compared_null c (Day n) = refl
+compared_null c (Text n) = refl
+compared_null c Null = refl
+
+pub null_left : (c : Comparison) (n : ℕ) (ys : List Value) → n ≡ length ys → zip2 (compared c) (replicate n Null) ys ≡ replicate n Unknown
+null_left c n ys e = ap (λ (k : ℕ). zip2 (compared c) (replicate k Null) ys) e ∙ all_unknown ys ∙ ap (λ (k : ℕ). replicate k Unknown) (sym e)
+  where
+    all_unknown : (zs : List Value) → zip2 (compared c) (replicate (length zs) Null) zs ≡ replicate (length zs) Unknown
+    all_unknown [] = refl
+    all_unknown (z ∷ zs) = ap (λ l. Unknown ∷ l) (all_unknown zs)
+
+pub null_right_side : (c : Comparison) (n : ℕ) (xs : List Value) → n ≡ length xs → zip2 (compared c) xs (replicate n Null) ≡ replicate n Unknown
+null_right_side c n xs e = ap (λ (k : ℕ). zip2 (compared c) xs (replicate k Null)) e ∙ all_unknown xs ∙ ap (λ (k : ℕ). replicate k Unknown) (sym e)
+  where
+    all_unknown : (zs : List Value) → zip2 (compared c) zs (replicate (length zs) Null) ≡ replicate (length zs) Unknown
+    all_unknown [] = refl
+    all_unknown (z ∷ zs) = ap₂ (λ t l. t ∷ l) (compared_null c z) (all_unknown zs)
+
+null_is : (v : Value) → is_null v ≡ true → v ≡ Null
+null_is Null h = refl
+null_is (Number n) h = absurd (cc)
+null_is (Day n) h = absurd (cc)
+null_is (Text t) h = absurd (cc)
+
+module _ (c : Comparison) (xs ys : List Value) (same : length xs ≡ length ys) where
+  pub constants_compared : (v w : Value) → xs ≡ replicate (length xs) v → ys ≡ replicate (length ys) w → zip2 (compared c) xs ys ≡ replicate (length xs) (compared c v w)
+  constants_compared v w p q = ap₂ (zip2 (compared c)) p (q ∙ ap (λ (n : ℕ). replicate n w) (sym same)) ∙ zip2-replicate (compared c) (length xs) v w
+
+  pub null_compared : (v : Value) → is_null v ≡ true → xs ≡ replicate (length xs) v → zip2 (compared c) xs ys ≡ replicate (length xs) Unknown
+  null_compared v h p = ap (λ l. zip2 (compared c) l ys) (p ∙ ap (λ (u : Value). replicate (length xs) u) (null_is v h)) ∙ null_left c (length xs) ys same
+
+  pub compared_with_null : (w : Value) → is_null w ≡ true → ys ≡ replicate (length ys) w → zip2 (compared c) xs ys ≡ replicate (length xs) Unknown
+  compared_with_null w h q =
+      ap (zip2 (compared c) xs) (q ∙ ap₂ (λ (n : ℕ) (u : Value). replicate n u) (sym same) (null_is w h)) ∙ null_right_side c (length xs) xs refl

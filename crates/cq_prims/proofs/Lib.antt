@@ -1,0 +1,5 @@
+pub mod Lanes
+pub mod Compared
+pub mod Shown
+pub mod Fitting
+pub mod Liked

@@ -1,0 +1,15 @@
+use Rattle.std.proofs.Common.{◌∙◌, sym, ap, subst}
+use Rattle.cq_vectors.specs.Form.{values_in}
+use Rattle.cq_prims.specs.Kinds.{ShowsNumbers}
+use Rattle.cq_prims.proofs.Shown.{column_shows_numbers}
+use Rattle.cq_prims.proofs.wide_side.WideSide.of.Goals as goal
+
+pub returns-in-Wide : goal.returns-in-Wide
+returns-in-Wide c =
+    let is = sym (ap values_in c.in-Wide.is) ∙ c.form.ensures.values in
+    subst (ShowsNumbers 0 c.column.result) is (column_shows_numbers c.column.result c.in-Wide.numbers (c.column.ensures ∙ c.values.ensures.values) c.values.result.now c.values.ensures.whole)
+
+pub returns-in-Numbers : goal.returns-in-Numbers
+returns-in-Numbers c =
+    let is = sym (ap values_in c.in-Numbers.is) ∙ c.form.ensures.values in
+    subst (ShowsNumbers 0 c.narrow.result) is (column_shows_numbers c.narrow.result c.in-Numbers.numbers (c.narrow.ensures ∙ c.values-in-Numbers.ensures.values) c.values-in-Numbers.result.now c.values-in-Numbers.ensures.whole)

@@ -1,0 +1,7 @@
+pub mod NumberSide
+pub mod DaySide
+pub mod WideSide
+pub mod TextSide
+pub mod Kinds
+pub mod Sides
+pub mod Patterns

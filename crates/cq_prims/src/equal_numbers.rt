@@ -1,0 +1,41 @@
+//! Whether a number equals another.
+ghost use Rattle.std.specs.Ordering.{int_eq};
+ghost use Rattle.std.specs.Prelude.{◌≡◌, length, pos, slice_index_or};
+
+use crate::number_side::NumberSide;
+use crate::sixteen::{SixteenTest, four_sixteens};
+use cq_masks::{PlaceTest, WordTest};
+use std::simd::prelude::*;
+
+/// Whether the left number equals the right one.
+#[derive(Drop)]
+pub(crate) struct EqualNumbers<'a> {
+    pub(crate) a: NumberSide<'a>,
+    pub(crate) b: NumberSide<'a>,
+    ghost same: { length a ≡ length b },
+}
+
+impl<'a> PlaceTest for EqualNumbers<'a> {
+    ghost places = { λ t. length t.a };
+
+    ghost holds = { λ t i. int_eq (slice_index_or t.a i (pos 0)) (slice_index_or t.b i (pos 0)) };
+
+    fn at(&self, i: usize) -> bool {
+        self.a.at(i) == self.b.at(i)
+    }
+}
+
+impl<'a> SixteenTest for EqualNumbers<'a> {
+    fn sixteen(&self, from: usize) -> u64 {
+        self.a
+            .sixteen(from)
+            .simd_eq(self.b.sixteen(from))
+            .to_bitmask()
+    }
+}
+
+impl<'a> WordTest for EqualNumbers<'a> {
+    fn word(&self, from: usize) -> u64 {
+        four_sixteens(self, from)
+    }
+}

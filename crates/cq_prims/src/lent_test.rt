@@ -1,0 +1,34 @@
+//! Comparisons of values place by place, whatever their kinds.
+ghost use Rattle.cq_values.specs.Comparison.{compared};
+ghost use Rattle.cq_values.specs.Truth.{is_true};
+ghost use Rattle.cq_values.specs.declared.value.Value.TheVariants.{Null};
+ghost use Rattle.std.specs.Prelude.{◌≡◌, length, slice_index_or};
+
+use cq_eval::compare;
+use cq_masks::{PlaceTest, WordTest, answers};
+use cq_values::Comparison;
+use cq_vectors::Vector;
+
+/// Whether the comparison of the two values of a place is True.
+#[derive(Drop)]
+pub(crate) struct LentTest<'a> {
+    pub(crate) comparison: Comparison,
+    pub(crate) a: &'a Vector<'a>,
+    pub(crate) b: &'a Vector<'a>,
+}
+
+impl<'a> PlaceTest for LentTest<'a> {
+    ghost places = { λ t. length t.a.now };
+
+    ghost holds = { λ t i. is_true (compared t.comparison (slice_index_or t.a.now i Null) (slice_index_or t.b.now i Null)) };
+
+    fn at(&self, i: usize) -> bool {
+        compare(self.comparison, &self.a.lend(i), &self.b.lend(i)).is_true()
+    }
+}
+
+impl<'a> WordTest for LentTest<'a> {
+    fn word(&self, from: usize) -> u64 {
+        answers(self, from, 64)
+    }
+}

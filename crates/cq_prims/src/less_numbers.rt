@@ -1,0 +1,40 @@
+//! Whether a number is less than another.
+ghost use Rattle.std.specs.Prelude.{◌≡◌, int_lt, length, pos, slice_index_or};
+
+use crate::number_side::NumberSide;
+use crate::sixteen::{SixteenTest, four_sixteens};
+use cq_masks::{PlaceTest, WordTest};
+use std::simd::prelude::*;
+
+/// Whether the left number is less than the right one.
+#[derive(Drop)]
+pub(crate) struct LessNumbers<'a> {
+    pub(crate) a: NumberSide<'a>,
+    pub(crate) b: NumberSide<'a>,
+    ghost same: { length a ≡ length b },
+}
+
+impl<'a> PlaceTest for LessNumbers<'a> {
+    ghost places = { λ t. length t.a };
+
+    ghost holds = { λ t i. int_lt (slice_index_or t.a i (pos 0)) (slice_index_or t.b i (pos 0)) };
+
+    fn at(&self, i: usize) -> bool {
+        self.a.at(i) < self.b.at(i)
+    }
+}
+
+impl<'a> SixteenTest for LessNumbers<'a> {
+    fn sixteen(&self, from: usize) -> u64 {
+        self.a
+            .sixteen(from)
+            .simd_lt(self.b.sixteen(from))
+            .to_bitmask()
+    }
+}
+
+impl<'a> WordTest for LessNumbers<'a> {
+    fn word(&self, from: usize) -> u64 {
+        four_sixteens(self, from)
+    }
+}

@@ -1,0 +1,35 @@
+//! Conditions over vectors: comparisons, IS NULL and LIKE, which set the truth of each place in a mask that is lent.
+//!
+//! To its callers [`compare`], [`is_null`] and [`like`] give the list of the truths that the conditions have of the values.
+#![tactic(auto)]
+
+mod comparisons;
+mod day_side;
+mod equal_days;
+mod equal_numbers;
+mod equal_texts;
+mod equal_wide;
+mod fits_test;
+mod known;
+mod lent_test;
+mod less_days;
+mod less_numbers;
+mod less_texts;
+mod less_wide;
+mod likes;
+mod no_text_test;
+mod null_test;
+mod nulls;
+mod number_side;
+mod pattern;
+mod sides;
+mod sixteen;
+#[cfg(test)]
+mod tests;
+mod text_side;
+mod wide_side;
+
+pub use comparisons::compare;
+pub use likes::like;
+pub use nulls::is_null;
+pub use pattern::Pattern;

@@ -1,0 +1,54 @@
+//! Where the values of vectors are NULL.
+ghost use Rattle.cq_masks.specs.Plane.{either};
+ghost use Rattle.cq_model.specs.Condition.{is_null};
+ghost use Rattle.cq_values.specs.Lent.{owned};
+ghost use Rattle.cq_values.specs.Truth.{truth_of};
+ghost use Rattle.std.specs.Prelude.{◌≡◌, length, map};
+ghost use Rattle.std.specs.Simd.Lanes.{zip2};
+
+use crate::null_test::NullTest;
+use cq_masks::{Plane, TruthMask};
+use cq_values::Lent;
+use cq_vectors::{Form, Vector};
+
+/// Where the value is NULL: never Unknown.
+pub fn is_null(a: &Vector<'_>, to: &mut TruthMask)
+    ensures { to.new ≡ map (λ v. truth_of (is_null v)) a.now }
+{
+    to.set_tested(&nulls_of(a));
+}
+
+/// Where one of two values is NULL.
+pub(crate) fn nulls_of_both(a: &Vector<'_>, b: &Vector<'_>) -> Plane
+    requires { length a.now ≡ length b.now }
+    ensures nulls { result ≡ zip2 either (map is_null a.now) (map is_null b.now) }
+    ensures long { length result ≡ length a.now }
+{
+    let mut nulls = Plane::new();
+    nulls.set_or(&nulls_of(a), &nulls_of(b));
+    nulls
+}
+
+pub(crate) fn nulls_of(a: &Vector<'_>) -> Plane
+    ensures { result ≡ map is_null a.now }
+{
+    let mut nulls = Plane::new();
+    match a.form() {
+        Form::Numbers(numbers) => nulls.set_copy(numbers.nulls()),
+        Form::Wide(numbers) => nulls.set_copy(numbers.nulls()),
+        Form::Days(days) => nulls.set_copy(days.nulls()),
+        Form::Texts(texts) => nulls.set_copy(texts.nulls()),
+        Form::Values(values) => {
+            let values = values.as_slice();
+            nulls.set_where(&NullTest { values }, values.len());
+        }
+        Form::Constant(value, len) => nulls.set_all(is_null_lent(value), *len),
+    }
+    nulls
+}
+
+pub(crate) fn is_null_lent(value: &Lent<'_>) -> bool
+    ensures { result ≡ is_null (owned value.now) }
+{
+    matches!(value, Lent::Null)
+}

@@ -1,0 +1,5 @@
+pub mod Lists
+pub mod Valuing
+pub mod Deciding
+pub mod Nodes
+pub mod Fronts

@@ -1,0 +1,13 @@
+use Rattle.std.proofs.Common.{ℕ, List, ◌∙◌, ap, map}
+use Rattle.cq_values.specs.declared.value.Value.{Value}
+use Rattle.cq_model.specs.Condition.{liked}
+use Rattle.cq_model.specs.Eval.{eval}
+use Rattle.cq_model.specs.Trees.{expr_of}
+use Rattle.cq_eval.proofs.Conditions.{map-map}
+use Rattle.cq_scans.proofs.truths.likes_in.Goals as goal
+
+pub returns : goal.returns
+returns c =
+    c.like.ensures ∙ ap (λ (p : List ℕ). map (λ (v : Value). liked v p) (c.vector.result.now)) c.in_ok-pattern.ensures
+    ∙ ap (map (λ v. liked v c.args.pattern.now)) (c.vector.ensures ∙ c.in_ok-values.ensures)
+    ∙ map-map (eval (expr_of c.args.expr.now)) (λ v. liked v c.args.pattern.now) c.args.scan.now

@@ -1,0 +1,4 @@
+pub mod Operand
+pub mod Scan
+pub mod Kept
+pub mod Truths

@@ -1,0 +1,18 @@
+//! Expressions and conditions over the columns of rows, up to 1,024 rows at a time.
+//!
+//! To its callers a [`Scan`] is its list of rows. [`vector_of`] gives the value of an expression in each of them,
+//! [`truths_of`] the truth of a condition, and [`kept`] the rows of any number that a condition keeps.
+#![tactic(auto)]
+
+mod columns;
+mod keeping;
+mod operand;
+mod scan;
+mod truths;
+mod vectors;
+
+pub use keeping::{keep_front, kept};
+pub use operand::Operand;
+pub use scan::Scan;
+pub use truths::truths_of;
+pub use vectors::vector_of;

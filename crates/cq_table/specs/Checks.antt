@@ -1,0 +1,63 @@
+-- What a table refuses: rows that it has no room for, and values that its columns cannot have.
+use Rattle.std.specs.Prelude.{◌≡◌, ◌+◌, nat_lt, ℕ, List, length, map, Option, None, Result, MatchResult, Vec}
+use Rattle.std.specs.Borrow.{Bor}
+use Rattle.std.specs.Global.{Global}
+use Rattle.std.specs.List.{AllByRecursion, flat_map}
+use Rattle.cq_values.specs.declared.column.ColumnDef.{ColumnDef}
+use Rattle.cq_values.specs.Value.{Row}
+use Rattle.cq_model.specs.declared.assignment.Assignment.{Assignment}
+use Rattle.cq_model.specs.Expr.{Cond}
+use Rattle.cq_model.specs.Width.{IsNarrowAt, IsNarrowIn}
+use Rattle.cq_model.specs.Write.{chosen, image_of}
+use Rattle.cq_binding.specs.declared.fault.Fault.{Fault}
+use Rattle.cq_binding.specs.declared.fault.Fault.TheVariants as faults
+use Rattle.cq_binding.specs.Checks.{MayRefuse, fault_if, first_fault}
+use Rattle.cq_binding.specs.UpdateChecks.{image_checks, value_checks}
+use Rattle.cq_table.specs.declared.fault.TableFault.{TableFault}
+use Rattle.cq_table.specs.declared.fault.TableFault.TheVariants as tables
+use Rattle.cq_table.specs.Table.{SameRows, StoredTable}
+
+-- the refusal of a statement that the fault of a table is
+abbrev pub fault_of : TableFault → Fault
+fault_of tables.Memory = faults.Memory
+fault_of tables.Full = faults.TableFull
+fault_of tables.NumberOutside = faults.NumberOutside
+fault_of tables.NullNotAllowed = faults.NullNotAllowed
+
+-- a check is passed, or it refuses
+abbrev pub IsChecked : {X : Type 0} → Option Fault → Result X TableFault → Type 0
+IsChecked check result = MatchResult result (λ x. check ≡ None) (λ e. MayRefuse check (fault_of e))
+
+-- whether so many rows are too many for a table
+abbrev pub too_many : ℕ → ℕ → Option Fault
+too_many max_rows count = fault_if (nat_lt max_rows count) faults.TableFull
+
+-- whether the rows are too many for the table
+abbrev pub no_room : StoredTable → List Row → Option Fault
+no_room t rows = too_many t.max_rows (length t.rows + length rows)
+
+-- nothing is too wide in the assignments at a row
+abbrev pub AreNarrowSets : List Assignment → Row → Type 0
+AreNarrowSets assignments row = AllByRecursion (λ a. IsNarrowAt a.value row) assignments
+
+-- nothing is too wide in WHERE and SET at each of the rows
+pub record CanWorkOut (assignments : List Assignment) (condition : Option Cond) (rows : List Row) : Type 0 where
+  pub narrow : AllByRecursion (IsNarrowIn condition) rows
+  pub sets : AllByRecursion (AreNarrowSets assignments) rows
+
+-- why the values that assignments give in these rows may not be stored
+abbrev pub values_fault : List ColumnDef → List Assignment → List Row → Option Fault
+values_fault columns assignments rows = first_fault (flat_map (value_checks columns rows) assignments)
+
+-- why the values that the chosen rows get may not be stored
+abbrev pub value_fault : List ColumnDef → List Assignment → Option Cond → List Row → Option Fault
+value_fault columns assignments condition rows = first_fault (image_checks columns assignments condition rows)
+
+-- the rows that go are those that WHERE chooses, and those that come are their images
+pub record AreImages (assignments : List Assignment) (condition : Option Cond) (rows gone come : List Row) : Type 0 where
+  pub chosen : SameRows gone (chosen condition rows)
+  pub images : come ≡ map (image_of assignments) gone
+
+-- so it is with the rows that are lent and those that were made
+abbrev pub AreExchanged : List Assignment → Option Cond → List Row → (Vec (Bor Row) Global × Vec Row Global) → Type 0
+AreExchanged assignments condition rows exchange = AreImages assignments condition rows (map (λ r. r.now) exchange.0.items) exchange.1.items

@@ -1,0 +1,21 @@
+//! Vectors: at most 1,024 values of one column, in the narrowest form that holds them.
+//!
+//! To its callers a [`Vector`] is its list of values, whatever its form, so a new form changes no clause above.
+//! A [`Batch`] is several vectors of the same rows, and the places of those that still count.
+#![tactic(auto)]
+
+mod batch;
+mod days;
+mod numbers;
+#[cfg(test)]
+mod tests;
+mod texts;
+mod vector;
+mod wide_numbers;
+
+pub use batch::Batch;
+pub use days::Days;
+pub use numbers::Numbers;
+pub use texts::Texts;
+pub use vector::{Form, Vector};
+pub use wide_numbers::WideNumbers;

@@ -1,0 +1,125 @@
+//! Numbers of 64 bits.
+ghost use Rattle.std.specs.Int.{w64};
+ghost use Rattle.std.specs.Prelude.{IfOk, IfSome, length, map, slice_index_or, ◌≡◌, ◌≤◌};
+ghost use Rattle.std.specs.Simd.Lanes.{zip2};
+ghost use Rattle.cq_values.specs.Lent.{owned};
+ghost use Rattle.cq_values.specs.Order.{number};
+ghost use Rattle.cq_values.specs.declared.value.Value.TheVariants.{Null};
+ghost use Rattle.cq_model.specs.Condition.{is_null};
+ghost use Rattle.cq_values.specs.Value.{column as column_at};
+ghost use Rattle.cq_vectors.specs.Columns.{AllFit, ZeroWhere, number_unless};
+ghost use Rattle.cq_vectors.specs.Gathered.{IsNumber, column_of, lent_rows};
+
+use cq_masks::Plane;
+use cq_values::{Lent, Row, Value};
+use std::alloc::{AllocError, Global};
+use std::marker::Model;
+
+/// At most 1,024 numbers and NULLs. Where NULL stands the number is 0.
+#[derive(Drop)]
+pub struct Numbers {
+    values: Vec<i64>,
+    nulls: Plane,
+}
+
+impl Model for Numbers {
+    ghost use Rattle.std.specs.Int.{w64};
+    ghost use Rattle.std.specs.Prelude.{List};
+    ghost use Rattle.std.specs.Simd.Lanes.{zip2};
+    ghost use Rattle.cq_values.specs.declared.value.Value.{Value as Datum};
+    ghost use Rattle.cq_vectors.specs.Columns.{AreNumbers, number_unless};
+
+    ghost Value = { List Datum };
+
+    ghost view = { λ c. zip2 number_unless c.values.items c.nulls };
+
+    ghost invariant = { λ c. AreNumbers w64 c.values.items c.nulls };
+}
+
+impl Numbers {
+    /// Takes no memory.
+    pub fn new(values: Vec<i64>, nulls: Plane) -> Numbers
+        requires few { length values.items ≤ 1024 }
+        requires same { length nulls ≡ length values.items }
+        requires zero { ZeroWhere nulls values.items }
+        requires fit { AllFit w64 values.items }
+        ensures { result ≡ zip2 number_unless values.items nulls }
+    {
+        Numbers { values, nulls }
+    }
+
+    /// The numbers of a column, or None where a value is no number of 64 bits.
+    pub(crate) fn gather(
+        alloc: Global,
+        rows: &[&Row],
+        column: usize,
+    ) -> Result<Option<Numbers>, AllocError>
+        requires { length rows.now ≤ 1024 }
+        ensures { IfOk result (λ found. IfSome found (λ c. c ≡ column_of (lent_rows rows.now) column)) }
+    {
+        let mut values = Vec::new(alloc);
+        values.reserve(rows.len())?;
+        let mut nulls = Plane::new();
+        for row in rows {
+            match number_at(row, column) {
+                Some((number, is_null)) => {
+                    values.push(number)?;
+                    nulls.push(is_null);
+                }
+                None => return Ok(None),
+            }
+        }
+        Ok(Some(Numbers::new(values, nulls)))
+    }
+
+    pub fn len(&self) -> usize
+        ensures len { result ≡ length self.now }
+        ensures few { result ≤ 1024 }
+    {
+        self.values.len()
+    }
+
+    /// The numbers, for kernels: 0 where NULL stands.
+    pub fn values(&self) -> &[i64]
+        ensures values { result.now ≡ map number self.now }
+        ensures fit { AllFit w64 result.now }
+        ensures few { length result.now ≤ 1024 }
+        ensures whole { self.now ≡ zip2 number_unless result.now (map is_null self.now) }
+    {
+        self.values.as_slice()
+    }
+
+    pub fn nulls(&self) -> &Plane
+        ensures { result.now ≡ map is_null self.now }
+    {
+        &self.nulls
+    }
+
+    /// The value of a place, and NULL past the end.
+    pub fn lend(&self, place: usize) -> Lent<'_>
+        ensures { owned result ≡ slice_index_or self.now place Null }
+    {
+        let values = self.values.as_slice();
+        if place < values.len() && !self.nulls.get(place) {
+            Lent::Number(i128::from(values[place]))
+        } else {
+            Lent::Null
+        }
+    }
+}
+
+/// The number, or 0 of NULL, and whether it is NULL.
+fn number_at(row: &Row, column: usize) -> Option<(i64, bool)>
+    ensures number { IfSome result (λ part. part.0 ≡ number (column_at row.now column)) }
+    ensures null { IfSome result (λ part. part.1 ≡ is_null (column_at row.now column)) }
+    ensures kind { IfSome result (λ part. IsNumber w64 (column_at row.now column)) }
+{
+    match row.as_slice().get(column) {
+        Some(Value::Number(n)) => match i64::try_from(*n) {
+            Ok(n) => Some((n, false)),
+            Err(_) => None,
+        },
+        None | Some(Value::Null) => Some((0, true)),
+        Some(_) => None,
+    }
+}

@@ -1,0 +1,122 @@
+//! Numbers of 128 bits, for results that 64 bits do not hold.
+ghost use Rattle.std.specs.Int.{w128};
+ghost use Rattle.std.specs.Prelude.{IfOk, IfSome, length, map, slice_index_or, ◌≡◌, ◌≤◌};
+ghost use Rattle.std.specs.Simd.Lanes.{zip2};
+ghost use Rattle.cq_values.specs.Lent.{owned};
+ghost use Rattle.cq_values.specs.Order.{number};
+ghost use Rattle.cq_values.specs.declared.value.Value.TheVariants.{Null};
+ghost use Rattle.cq_model.specs.Condition.{is_null};
+ghost use Rattle.cq_values.specs.Value.{column as column_at};
+ghost use Rattle.cq_vectors.specs.Columns.{AllFit, ZeroWhere, number_unless};
+ghost use Rattle.cq_vectors.specs.Gathered.{IsNumber, column_of, lent_rows};
+
+use cq_masks::Plane;
+use cq_values::{Lent, Row, Value};
+use std::alloc::{AllocError, Global};
+use std::marker::Model;
+
+/// At most 1,024 numbers and NULLs. Where NULL stands the number is 0.
+#[derive(Drop)]
+pub struct WideNumbers {
+    values: Vec<i128>,
+    nulls: Plane,
+}
+
+impl Model for WideNumbers {
+    ghost use Rattle.std.specs.Int.{w128};
+    ghost use Rattle.std.specs.Prelude.{List};
+    ghost use Rattle.std.specs.Simd.Lanes.{zip2};
+    ghost use Rattle.cq_values.specs.declared.value.Value.{Value as Datum};
+    ghost use Rattle.cq_vectors.specs.Columns.{AreNumbers, number_unless};
+
+    ghost Value = { List Datum };
+
+    ghost view = { λ c. zip2 number_unless c.values.items c.nulls };
+
+    ghost invariant = { λ c. AreNumbers w128 c.values.items c.nulls };
+}
+
+impl WideNumbers {
+    /// Takes no memory.
+    pub fn new(values: Vec<i128>, nulls: Plane) -> WideNumbers
+        requires few { length values.items ≤ 1024 }
+        requires same { length nulls ≡ length values.items }
+        requires zero { ZeroWhere nulls values.items }
+        requires fit { AllFit w128 values.items }
+        ensures { result ≡ zip2 number_unless values.items nulls }
+    {
+        WideNumbers { values, nulls }
+    }
+
+    /// The numbers of a column, or None where a value is no number.
+    pub(crate) fn gather(
+        alloc: Global,
+        rows: &[&Row],
+        column: usize,
+    ) -> Result<Option<WideNumbers>, AllocError>
+        requires { length rows.now ≤ 1024 }
+        ensures { IfOk result (λ found. IfSome found (λ c. c ≡ column_of (lent_rows rows.now) column)) }
+    {
+        let mut values = Vec::new(alloc);
+        values.reserve(rows.len())?;
+        let mut nulls = Plane::new();
+        for row in rows {
+            match number_at(row, column) {
+                Some((number, is_null)) => {
+                    values.push(number)?;
+                    nulls.push(is_null);
+                }
+                None => return Ok(None),
+            }
+        }
+        Ok(Some(WideNumbers::new(values, nulls)))
+    }
+
+    pub fn len(&self) -> usize
+        ensures len { result ≡ length self.now }
+        ensures few { result ≤ 1024 }
+    {
+        self.values.len()
+    }
+
+    /// The numbers, for kernels: 0 where NULL stands.
+    pub fn values(&self) -> &[i128]
+        ensures values { result.now ≡ map number self.now }
+        ensures fit { AllFit w128 result.now }
+        ensures few { length result.now ≤ 1024 }
+        ensures whole { self.now ≡ zip2 number_unless result.now (map is_null self.now) }
+    {
+        self.values.as_slice()
+    }
+
+    pub fn nulls(&self) -> &Plane
+        ensures { result.now ≡ map is_null self.now }
+    {
+        &self.nulls
+    }
+
+    /// The value of a place, and NULL past the end.
+    pub fn lend(&self, place: usize) -> Lent<'_>
+        ensures { owned result ≡ slice_index_or self.now place Null }
+    {
+        let values = self.values.as_slice();
+        if place < values.len() && !self.nulls.get(place) {
+            Lent::Number(values[place])
+        } else {
+            Lent::Null
+        }
+    }
+}
+
+/// The number, or 0 of NULL, and whether it is NULL.
+fn number_at(row: &Row, column: usize) -> Option<(i128, bool)>
+    ensures number { IfSome result (λ part. part.0 ≡ number (column_at row.now column)) }
+    ensures null { IfSome result (λ part. part.1 ≡ is_null (column_at row.now column)) }
+    ensures kind { IfSome result (λ part. IsNumber w128 (column_at row.now column)) }
+{
+    match row.as_slice().get(column) {
+        Some(Value::Number(n)) => Some((*n, false)),
+        None | Some(Value::Null) => Some((0, true)),
+        Some(_) => None,
+    }
+}
