@@ -1,8 +1,8 @@
 //! Comparisons of values place by place, whatever their kinds.
 ghost use Rattle.cq_values.specs.Comparison.{compared};
 ghost use Rattle.cq_values.specs.Truth.{is_true};
-ghost use Rattle.cq_values.specs.declared.value.Value.TheVariants.{Null};
-ghost use Rattle.std.specs.Prelude.{◌≡◌, length, slice_index_or};
+ghost use Rattle.cq_values.specs.Value.{column};
+ghost use Rattle.std.specs.Prelude.{◌≡◌, length};
 
 use cq_eval::compare;
 use cq_masks::{PlaceTest, WordTest, answers};
@@ -20,7 +20,7 @@ pub(crate) struct LentTest<'a> {
 impl<'a> PlaceTest for LentTest<'a> {
     ghost places = { λ t. length t.a.now };
 
-    ghost holds = { λ t i. is_true (compared t.comparison (slice_index_or t.a.now i Null) (slice_index_or t.b.now i Null)) };
+    ghost holds = { λ t i. is_true (compared t.comparison (column t.a.now i) (column t.b.now i)) };
 
     fn at(&self, i: usize) -> bool {
         compare(self.comparison, &self.a.lend(i), &self.b.lend(i)).is_true()

@@ -27,12 +27,11 @@ pub struct Table {
 }
 
 impl Model for Table {
-    ghost use Rattle.cq_bags.specs.Canonical.{bag_of};
-    ghost use Rattle.cq_table.specs.Table.{AreSound, StoredTable};
+    ghost use Rattle.cq_table.specs.Table.{AreSound, StoredTable, with_bag, without_rows};
 
     ghost Value = { StoredTable };
 
-    ghost view = { λ t. record { columns = t.columns; sort = t.sort; max_rows = t.max_rows; rows = bag_of t.rows.items } };
+    ghost view = { λ t. with_bag t.rows.items (without_rows t.columns t.sort t.max_rows) };
 
     ghost invariant = { λ t. AreSound t.columns t.max_rows t.rows.items };
 }
