@@ -1,0 +1,50 @@
+-- Keys, each once, as they were first met; the number of each is its place among them.
+use Rattle.std.specs.Prelude.{ℕ, ◌≡◌, ◌<◌, List, [], map, length, position, slice_index_or, Option}
+use Rattle.std.specs.Borrow.{Bor}
+use Rattle.std.specs.List.{AllByRecursion, IsDistinct, range_with_len}
+use Rattle.cq_values.specs.declared.value.Value.{Value}
+use Rattle.cq_values.specs.Value.{Row}
+use Rattle.cq_values.specs.Order.{same_row}
+use Rattle.cq_vectors.specs.Batch.{row_at}
+
+-- keys of so many values
+pub record StoredKeys : Type 0 where
+  pub width : ℕ
+  pub keys : List Row
+
+-- a key of so many values
+abbrev pub HasValues : ℕ → Row → Type 0
+HasValues width key = length key ≡ width
+
+-- each key has the width, and none is there twice
+pub record AreKeys (width : ℕ) (keys : List Row) : Type 0 where
+  pub wide : AllByRecursion (HasValues width) keys
+  pub once : IsDistinct same_row keys
+
+-- the values of columns that are lent
+abbrev pub values_of : List (Bor (List Value)) → List (List Value)
+values_of columns = map (λ column. column.now) columns
+
+-- a column of so many values
+abbrev pub HasLength : ℕ → List Value → Type 0
+HasLength len values = length values ≡ len
+
+-- the key at each place of the columns
+abbrev pub key_rows : ℕ → List (List Value) → List Row
+key_rows len columns = map (row_at columns) (range_with_len 0 len)
+
+-- the key of a number
+abbrev pub key_at : List Row → ℕ → Row
+key_at keys number = slice_index_or keys number []
+
+-- the number of a key, and None where it was never met
+abbrev pub place_of : List Row → Row → Option ℕ
+place_of keys key = position (same_row key) keys
+
+-- each number is that of a key
+abbrev pub AreWithin : List Row → List ℕ → Type 0
+AreWithin keys numbers = AllByRecursion (λ number. number < length keys) numbers
+
+-- the number is that of the key
+abbrev pub IsNumberOf : List Row → Row → ℕ → Type 0
+IsNumberOf keys key number = (number < length keys) × (key_at keys number ≡ key)
