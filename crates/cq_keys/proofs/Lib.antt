@@ -1,2 +1,5 @@
 pub mod Firsts
 pub mod Numbering
+pub mod Places
+pub mod Tables
+pub mod TextKeys

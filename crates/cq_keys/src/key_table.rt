@@ -1,13 +1,15 @@
 //! Tables of keys.
 ghost use Rattle.std.specs.List.{AllByRecursion, IsDistinct};
-ghost use Rattle.std.specs.Prelude.{IfOk, OnOk, length, map, ◌++◌, ◌<◌, ◌≡◌, ◌≤◌, Some, []};
+ghost use Rattle.std.specs.Prelude.{IfOk, OnOk, length, map, ◌++◌, ◌∷◌, ◌<◌, ◌≡◌, ◌≤◌, Some, []};
 ghost use Rattle.indexmap.specs.IndexSet.{insert_key};
+ghost use Rattle.cq_values.specs.Lent.{owned};
 ghost use Rattle.cq_values.specs.Order.{same_row};
 ghost use Rattle.cq_bags.specs.Bag.{firsts};
 ghost use Rattle.cq_vectors.specs.Batch.{row_at};
 ghost use Rattle.cq_keys.specs.Keys.{AreKeys, AreWithin, HasLength, IsNumberOf, key_at, key_rows, place_of, values_of};
 
-use cq_values::{Row, copy_row};
+use crate::dictionary::Dictionary;
+use cq_values::{Lent, Row, copy_row};
 use cq_vectors::Vector;
 use indexmap::IndexSet;
 use std::alloc::{AllocError, Global};
@@ -18,18 +20,18 @@ use std::marker::Model;
 pub struct KeyTable {
     width: usize,
     keys: Vec<Row>,
+    values: Dictionary,
     places: IndexSet<Row>,
 }
 
 impl Model for KeyTable {
-    ghost use Rattle.std.specs.Prelude.{◌≡◌};
-    ghost use Rattle.cq_keys.specs.Keys.{AreKeys, StoredKeys};
+    ghost use Rattle.cq_keys.specs.Keys.{IsTable, StoredKeys};
 
     ghost Value = { StoredKeys };
 
     ghost view = { λ t. record { width = t.width; keys = t.keys.items } };
 
-    ghost invariant = { λ t. (t.places.keys ≡ t.keys.items) × AreKeys t.width t.keys.items };
+    ghost invariant = { λ t. IsTable t.width t.keys.items t.places.keys t.values };
 }
 
 impl KeyTable {
@@ -40,6 +42,7 @@ impl KeyTable {
         KeyTable {
             width,
             keys: Vec::new(alloc),
+            values: Dictionary::new(alloc),
             places: IndexSet::new(alloc),
         }
     }
@@ -63,8 +66,7 @@ impl KeyTable {
         let _width = self.width;
         numbers.clear();
         for place in 0..len {
-            let key = key_of(alloc, columns, place)?;
-            let number = self.number(alloc, key)?;
+            let number = self.number(alloc, columns, place)?;
             numbers.push(number)?;
         }
         Ok(())
@@ -85,8 +87,8 @@ impl KeyTable {
     {
         numbers.clear();
         for place in 0..len {
-            let key = key_of(alloc, columns, place)?;
-            numbers.push(self.places.get_index_of(&key))?;
+            let found = self.place_of(alloc, columns, place)?;
+            numbers.push(found)?;
         }
         Ok(())
     }
@@ -119,9 +121,68 @@ impl KeyTable {
         self.keys
     }
 
-    /// The number of the key, which is put in where it is new.
-    fn number(&mut self, alloc: Global, key: Row) -> Result<usize, AllocError>
-        requires { length key ≡ self.old.width }
+    /// The number of the key at a place, None where it was never met.
+    fn place_of(
+        &self,
+        alloc: Global,
+        columns: &[&Vector<'_>],
+        place: usize,
+    ) -> Result<Option<usize>, AllocError>
+        requires { length columns.now ≡ self.now.width }
+        ensures { IfOk result (λ found. found ≡ place_of self.now.keys (row_at (values_of columns.now) place)) }
+    {
+        if self.width == 1 {
+            if let Some(column) = columns.first() {
+                return Ok(self.values.get(&column.lend(place)));
+            }
+        }
+        let key = key_of(alloc, columns, place)?;
+        Ok(self.places.get_index_of(&key))
+    }
+
+    /// The number of the key at a place, which is put in where it is new.
+    fn number(
+        &mut self,
+        alloc: Global,
+        columns: &[&Vector<'_>],
+        place: usize,
+    ) -> Result<usize, AllocError>
+        requires { length columns.now ≡ self.old.width }
+        ensures keys { OnOk result (self.new.keys ≡ insert_key same_row self.old.keys (row_at (values_of columns.now) place)) }
+        ensures number { IfOk result (IsNumberOf self.new.keys (row_at (values_of columns.now) place)) }
+        ensures width { self.new.width ≡ self.old.width }
+    {
+        if self.width == 1 {
+            if let Some(column) = columns.first() {
+                return self.value_number(alloc, &column.lend(place));
+            }
+        }
+        let key = key_of(alloc, columns, place)?;
+        self.row_number(alloc, key)
+    }
+
+    /// The number of a key of one value, which is put in where it is new.
+    fn value_number(&mut self, alloc: Global, value: &Lent<'_>) -> Result<usize, AllocError>
+        requires { self.old.width ≡ 1 }
+        ensures keys { OnOk result (self.new.keys ≡ insert_key same_row self.old.keys (owned value.now ∷ [])) }
+        ensures number { IfOk result (IsNumberOf self.new.keys (owned value.now ∷ [])) }
+        ensures width { self.new.width ≡ self.old.width }
+    {
+        if let Some(number) = self.values.get(value) {
+            return Ok(number);
+        }
+        let number = self.keys.len();
+        let key = single(alloc, value)?;
+        self.keys.reserve(1)?;
+        self.values.put(alloc, value, number)?;
+        self.keys.push_reserved(key);
+        Ok(number)
+    }
+
+    /// The number of a key of no or of several values, which is put in where it is new.
+    fn row_number(&mut self, alloc: Global, key: Row) -> Result<usize, AllocError>
+        requires width { length key ≡ self.old.width }
+        requires several { self.old.width ≡ 1 → ⊥ }
         ensures keys { OnOk result (self.new.keys ≡ insert_key same_row self.old.keys key) }
         ensures number { IfOk result (IsNumberOf self.new.keys key) }
         ensures width { self.new.width ≡ self.old.width }
@@ -136,6 +197,15 @@ impl KeyTable {
         self.keys.push_reserved(key);
         Ok(number)
     }
+}
+
+/// The key of one value.
+fn single(alloc: Global, value: &Lent<'_>) -> Result<Row, AllocError>
+    ensures { IfOk result (λ key. key ≡ owned value.now ∷ []) }
+{
+    let mut key = Row::new(alloc);
+    key.push(value.to_value(alloc)?)?;
+    Ok(key)
 }
 
 /// The key at a place of the columns.
