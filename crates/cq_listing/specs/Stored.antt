@@ -1,0 +1,19 @@
+-- A list that is being made, and the rows that it can still show.
+use Rattle.std.specs.Prelude.{◌↔◌, ℕ, List, Option}
+use Rattle.cq_values.specs.Value.{Row}
+use Rattle.cq_bags.specs.declared.sort_key.SortKey.{SortKey}
+use Rattle.cq_bags.specs.Bag.{once_each}
+use Rattle.cq_bags.specs.Listing.{IsListing}
+
+-- ORDER BY and LIMIT, and the rows that are kept for them
+pub record StoredListing : Type 0 where
+  pub keys : List SortKey
+  pub limit : Option ℕ
+  pub rows : List Row
+
+-- what is a listing of all these rows is one of the kept rows, and the other way round
+abbrev pub CanList : StoredListing → List Row → Type 0
+CanList listing all =
+    (shown : List Row)
+    → IsListing listing.keys listing.limit (once_each all) shown
+    ↔ IsListing listing.keys listing.limit (once_each listing.rows) shown

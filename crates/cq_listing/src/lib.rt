@@ -1,0 +1,11 @@
+//! The listing of a query: its rows in the order of ORDER BY, cut by LIMIT, as they come in batches.
+//!
+//! [`Listing::add`] takes rows in any order, and [`Listing::rows`] gives the one list that stands for all of them. Where
+//! LIMIT allows few rows, few are kept, and a row that can no longer be shown is not made. To its callers a [`Listing`]
+//! is an order with the rows that it keeps, and it [can list](Listing) all that were added.
+#![tactic(auto)]
+
+mod comparing;
+mod listing;
+
+pub use listing::Listing;
