@@ -1,1 +1,3 @@
 pub mod Sorting
+pub mod Fronts
+pub mod FirstKeys

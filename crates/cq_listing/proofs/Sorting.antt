@@ -40,10 +40,7 @@ listed-same keys limit rows others t =
 take-again : (n : ℕ) (s : Row) (rows : List Row) → take n (s ∷ rows) ≡ take n (s ∷ take n rows)
 take-again zero s rows = refl
 take-again (suc n) s [] = refl
-take-again (suc n) s (r ∷ rows) = ap (λ (rs : List Row). s ∷ rs) (take-again n r rows ∙ take-deeper n r rows)
-  where
-    take-deeper : (n : ℕ) (s : Row) (rows : List Row) → take n (s ∷ take n rows) ≡ take n (s ∷ take n rows)
-    take-deeper n s rows = refl
+take-again (suc n) s (r ∷ rows) = ap (λ (rs : List Row). s ∷ rs) (take-again n r rows)
 
 take-with_row : (cmp : Row → Row → Ordering) (r : Row) (n : ℕ) (rows : List Row) → take n (with_row cmp r rows) ≡ take n (with_row cmp r (take n rows))
 take-with_row cmp r zero rows = refl
@@ -65,12 +62,12 @@ listed-more keys limit rows others (r ∷ more) e =
     first-with_row (listing_cmp keys) limit r (sorted_by (listing_cmp keys) (more ++ rows)) (sorted_by (listing_cmp keys) (more ++ others)) (listed-more keys limit rows others more e)
 
 -- rows behind are rows in front
-listed-swap : (keys : List SortKey) (limit : Option ℕ) (rows more : List Row) → listed keys limit (rows ++ more) ≡ listed keys limit (more ++ rows)
+pub listed-swap : (keys : List SortKey) (limit : Option ℕ) (rows more : List Row) → listed keys limit (rows ++ more) ≡ listed keys limit (more ++ rows)
 listed-swap keys limit rows more =
     listed-same keys limit (rows ++ more) (more ++ rows) (λ r. omega (arith, times_in-append rows more r, times_in-append more rows r))
 
 -- rows behind both
-listed-append : (keys : List SortKey) (limit : Option ℕ) (rows others more : List Row)
+pub listed-append : (keys : List SortKey) (limit : Option ℕ) (rows others more : List Row)
     → listed keys limit rows ≡ listed keys limit others → listed keys limit (rows ++ more) ≡ listed keys limit (others ++ more)
 listed-append keys limit rows others more e =
     listed-swap keys limit rows more ∙ listed-more keys limit rows others more e ∙ sym (listed-swap keys limit others more)

@@ -1,5 +1,5 @@
 -- A list that is being made, and the rows that it can still show.
-use Rattle.std.specs.Prelude.{◌↔◌, ℕ, List, Option}
+use Rattle.std.specs.Prelude.{◌↔◌, ◌++◌, ℕ, List, Option}
 use Rattle.cq_values.specs.Value.{Row}
 use Rattle.cq_bags.specs.declared.sort_key.SortKey.{SortKey}
 use Rattle.cq_bags.specs.Bag.{once_each}
@@ -17,3 +17,15 @@ CanList listing all =
     (shown : List Row)
     → IsListing listing.keys listing.limit (once_each all) shown
     ↔ IsListing listing.keys listing.limit (once_each listing.rows) shown
+
+-- the same order, with these rows kept too
+abbrev pub with_rows : StoredListing → List Row → StoredListing
+with_rows listing kept = record listing { rows = listing.rows ++ kept }
+
+-- of more rows it suffices to keep these
+abbrev pub Suffice : StoredListing → List Row → List Row → Type 0
+Suffice listing kept more = (all : List Row) → CanList listing all → CanList (with_rows listing kept) (all ++ more)
+
+-- the new listing lists what the old one did, and more rows
+abbrev pub TakesIn : StoredListing → StoredListing → List Row → Type 0
+TakesIn old new more = (all : List Row) → CanList old all → CanList new (all ++ more)

@@ -7,5 +7,6 @@
 
 mod comparing;
 mod listing;
+mod places;
 
 pub use listing::Listing;

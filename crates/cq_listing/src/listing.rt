@@ -1,16 +1,19 @@
 //! A list of rows that come in batches.
-ghost use Rattle.std.specs.Prelude.{[], ◌++◌, ◌≡◌, IfOk, List, OnOk, take};
+ghost use Rattle.std.specs.Prelude.{[], ◌++◌, ◌≡◌, ◌≤◌, IfOk, IfSome, List, OnOk, Some, map, take};
 ghost use Rattle.cq_values.specs.Value.{Row as Values};
 ghost use Rattle.cq_bags.specs.Bag.{once_each};
 ghost use Rattle.cq_bags.specs.Listing.{IsListing, Lists, first_rows};
-ghost use Rattle.cq_vectors.specs.Batch.{rows_of};
-ghost use Rattle.cq_listing.specs.Stored.{CanList};
+ghost use Rattle.cq_vectors.specs.Batch.{row_at, rows_of};
+ghost use Rattle.cq_listing.specs.Front.{IsWorst};
+ghost use Rattle.cq_listing.specs.Places.{first_key as first_of};
+ghost use Rattle.cq_listing.specs.Stored.{CanList, Suffice, TakesIn};
 
-use crate::comparing::cmp_listed;
+use crate::comparing::{cmp_listed, lend_column};
+use crate::places::{copied, places_before, push_rows};
 use cq_bags::SortKey;
 use cq_model::Order;
 use cq_values::Row;
-use cq_vectors::Batch;
+use cq_vectors::{Batch, Vector};
 use std::alloc::{AllocError, Global};
 use std::marker::Model;
 
@@ -19,14 +22,20 @@ use std::marker::Model;
 pub struct Listing<'q> {
     order: &'q Order,
     rows: Vec<Row>,
+    /// How many rows in front are in order, where they are as many as LIMIT allows.
+    front: Option<usize>,
 }
 
 impl<'q> Model for Listing<'q> {
+    ghost use Rattle.std.specs.Prelude.{IfSome};
+    ghost use Rattle.cq_listing.specs.Front.{IsFront};
     ghost use Rattle.cq_listing.specs.Stored.{StoredListing};
 
     ghost Value = { StoredListing };
 
     ghost view = { λ l. record { keys = l.order.now.keys; limit = l.order.now.limit; rows = l.rows.items } };
+
+    ghost invariant = { λ l. IfSome l.front (IsFront (record { keys = l.order.now.keys; limit = l.order.now.limit; rows = l.rows.items })) };
 }
 
 impl<'q> Listing<'q> {
@@ -35,17 +44,22 @@ impl<'q> Listing<'q> {
         ensures limit { result.limit ≡ order.now.limit }
         ensures empty { CanList result [] }
     {
-        let rows = Vec::new(alloc);
-        Listing { order, rows }
+        Listing {
+            order,
+            rows: Vec::new(alloc),
+            front: None,
+        }
     }
 
-    /// Takes in the rows of a batch.
+    /// Takes in the rows of a batch. One that cannot be shown any more is not made.
     pub fn add(&mut self, alloc: Global, batch: &Batch<'_>) -> Result<(), AllocError>
         ensures keys { self.new.keys ≡ self.old.keys }
         ensures limit { self.new.limit ≡ self.old.limit }
-        ensures ok { OnOk result ((all : List Values) → CanList self.old all → CanList self.new (all ++ rows_of batch.now)) }
+        ensures ok { OnOk result (TakesIn self.old self.new (rows_of batch.now)) }
     {
-        batch.push_rows(alloc, &mut self.rows)?;
+        let places = self.places_of(alloc, batch)?;
+        self.push_places(alloc, batch.columns.as_slice(), places.as_slice())?;
+        self.cut()?;
         Ok(())
     }
 
@@ -53,10 +67,10 @@ impl<'q> Listing<'q> {
     pub fn add_rows(&mut self, alloc: Global, rows: Vec<Row>) -> Result<(), AllocError>
         ensures keys { self.new.keys ≡ self.old.keys }
         ensures limit { self.new.limit ≡ self.old.limit }
-        ensures ok { OnOk result ((all : List Values) → CanList self.old all → CanList self.new (all ++ rows.items)) }
+        ensures ok { OnOk result (TakesIn self.old self.new rows.items) }
     {
-        let mut rows = rows;
-        self.rows.append(&mut rows)?;
+        self.append(rows)?;
+        self.cut()?;
         Ok(())
     }
 
@@ -64,10 +78,124 @@ impl<'q> Listing<'q> {
     pub fn rows(self, alloc: Global) -> Result<Vec<Row>, AllocError>
         ensures { (all : List Values) → CanList self.entry all → IfOk result (λ rows. IsListing self.entry.keys self.entry.limit (once_each all) rows.items) }
     {
-        let Listing { order, rows } = self;
+        let Listing { order, rows, .. } = self;
         let rows = sorted(rows, order.keys.as_slice())?;
         Ok(limited(rows, order.limit))
     }
+
+    /// The last of the rows in front, where they are as many as LIMIT allows.
+    fn worst(&self) -> Option<&Row>
+        ensures { IfSome result (λ worst. IsWorst self.now worst.now) }
+    {
+        match self.front {
+            Some(count) if count > 0 => self.rows.as_slice().get(count - 1),
+            _ => None,
+        }
+    }
+
+    /// The places of a batch whose rows may be shown.
+    fn places_of(&self, alloc: Global, batch: &Batch<'_>) -> Result<Vec<u16>, AllocError>
+        ensures { IfOk result (λ places. Suffice self.now (map (row_at batch.now.columns.items) places.items) (rows_of batch.now)) }
+    {
+        let places = batch.selection.places();
+        if let Some(worst) = self.worst() {
+            let key = first_key(self.order.keys.as_slice());
+            if let Some(column) = batch.columns.as_slice().get(key.column) {
+                let limit = lend_column(worst.as_slice(), key.column);
+                return places_before(alloc, key.descending, column, &limit, places);
+            }
+        }
+        copied(alloc, places)
+    }
+
+    fn push_places(
+        &mut self,
+        alloc: Global,
+        columns: &[Vector<'_>],
+        places: &[u16],
+    ) -> Result<(), AllocError>
+        ensures keys { self.new.keys ≡ self.old.keys }
+        ensures limit { self.new.limit ≡ self.old.limit }
+        ensures rows { OnOk result (self.new.rows ≡ self.old.rows ++ map (row_at columns.now) places.now) }
+    {
+        let front = self.front;
+        self.front = None;
+        push_rows(alloc, columns, places, &mut self.rows)?;
+        self.front = front;
+        Ok(())
+    }
+
+    fn append(&mut self, rows: Vec<Row>) -> Result<(), AllocError>
+        ensures keys { self.new.keys ≡ self.old.keys }
+        ensures limit { self.new.limit ≡ self.old.limit }
+        ensures rows { OnOk result (self.new.rows ≡ self.old.rows ++ rows.items) }
+    {
+        let mut rows = rows;
+        let front = self.front;
+        self.front = None;
+        self.rows.append(&mut rows)?;
+        self.front = front;
+        Ok(())
+    }
+
+    /// Keeps the first rows alone, where there are many more than LIMIT allows.
+    fn cut(&mut self) -> Result<(), AllocError>
+        ensures keys { self.new.keys ≡ self.old.keys }
+        ensures limit { self.new.limit ≡ self.old.limit }
+        ensures ok { OnOk result ((all : List Values) → CanList self.old all → CanList self.new all) }
+    {
+        if let Some(count) = cut_size(self.order.limit) {
+            if self.rows.len() >= 2 * count + 1024 {
+                self.cut_to(count)?;
+            }
+        }
+        Ok(())
+    }
+
+    fn cut_to(&mut self, count: usize) -> Result<(), AllocError>
+        requires { self.old.limit ≡ Some count }
+        ensures keys { self.new.keys ≡ self.old.keys }
+        ensures limit { self.new.limit ≡ self.old.limit }
+        ensures ok { OnOk result ((all : List Values) → CanList self.old all → CanList self.new all) }
+    {
+        self.front = None;
+        keep_first(&mut self.rows, self.order.keys.as_slice(), count)?;
+        if count <= self.rows.len() {
+            self.front = Some(count);
+        }
+        Ok(())
+    }
+}
+
+/// The limit, where it is small enough to keep a few times as many rows alone.
+fn cut_size(limit: Option<u128>) -> Option<usize>
+    ensures { IfSome result (λ count. (limit ≡ Some count) × (count ≤ 1000000)) }
+{
+    match limit {
+        Some(limit) if limit <= 1_000_000 => Some(limit as usize),
+        _ => None,
+    }
+}
+
+/// The key that is compared first. Without ORDER BY it is the first column.
+fn first_key(keys: &[SortKey]) -> SortKey
+    ensures { result ≡ first_of keys.now }
+{
+    match keys.first() {
+        Some(key) => *key,
+        None => SortKey {
+            column: 0,
+            descending: false,
+        },
+    }
+}
+
+fn keep_first(rows: &mut Vec<Row>, keys: &[SortKey], count: usize) -> Result<(), AllocError>
+    ensures { OnOk result (IsListing keys.now (Some count) (once_each rows.old.items) rows.new.items) }
+{
+    rows.sort_by(|a, b| cmp_listed(keys, a.as_slice(), b.as_slice()))?;
+    rows.truncate(count);
+    Ok(())
 }
 
 fn sorted(rows: Vec<Row>, keys: &[SortKey]) -> Result<Vec<Row>, AllocError>

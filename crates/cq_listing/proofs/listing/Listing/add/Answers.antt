@@ -1,12 +1,17 @@
-use Rattle.std.proofs.Common.{refl, sym, ◌∙◌, ap, List, ◌++◌}
-use Rattle.cq_values.specs.Value.{Row}
-use Rattle.cq_listing.specs.Stored.{StoredListing}
-use Rattle.cq_vectors.specs.Batch.{rows_of}
-use Rattle.cq_listing.proofs.Sorting.{can_list-pushed}
+use Rattle.std.proofs.Common.{◌≡◌, ℕ, ◌-◌, List, ◌++◌, map, length, refl, sym, ◌∙◌, ap, subst, arith, Some, Option}
+use Rattle.cq_listing.specs.Stored.{StoredListing, CanList, Suffice}
+use Rattle.cq_values.specs.declared.value.Value.{Value}
+use Rattle.cq_vectors.specs.Batch.{row_at, rows_of}
+use Rattle.cq_listing.proofs.Fronts.{takes_in}
 use Rattle.cq_listing.proofs.listing.Listing.add.Goals as goal
 
 pub returns-clause-ok : goal.returns-clause-ok
-returns-clause-ok c all can =
-    can_list-pushed c.args.self.now _ all (rows_of c.args.batch.now)
-    (ap (λ (s : StoredListing). s.keys) c.self.view_is) (ap (λ (s : StoredListing). s.limit) c.self.view_is)
-    (c.in_ok-push_rows.ensures ∙ ap (λ (s : StoredListing). s.rows ++ rows_of c.args.batch.now) c.self.view_is) can
+returns-clause-ok c =
+    let old = c.args.self.now in
+    let columns = c.args.batch.now.columns.items in
+    let rows : c.push_places.new.self.rows ≡ old.rows ++ map (row_at columns) c.in_ok-places.places.items =
+    c.in_ok-push_places.ensures.rows
+    ∙ ap (λ (cs : List (List Value)). old.rows ++ map (row_at cs) c.as_slice-2.result.now) c.as_slice.ensures.value
+    ∙ ap (λ (places : List ℕ). old.rows ++ map (row_at columns) places) c.as_slice-2.ensures.value in
+    takes_in old c.push_places.new.self c.cut.new.self (map (row_at columns) c.in_ok-places.places.items) (rows_of c.args.batch.now)
+    c.push_places.ensures.keys c.push_places.ensures.limit rows c.in_ok-places.ensures c.in_ok-cut.ensures.ok

@@ -1,11 +1,7 @@
-use Rattle.std.proofs.Common.{refl, sym, ◌∙◌, ap, List, ◌++◌}
-use Rattle.cq_values.specs.Value.{Row}
-use Rattle.cq_listing.specs.Stored.{StoredListing}
-use Rattle.cq_listing.proofs.Sorting.{can_list-pushed}
+use Rattle.cq_listing.proofs.Fronts.{suffice-all, takes_in}
 use Rattle.cq_listing.proofs.listing.Listing.add_rows.Goals as goal
 
 pub returns-clause-ok : goal.returns-clause-ok
-returns-clause-ok c all can =
-    can_list-pushed c.args.self.now _ all c.args.rows.items
-    (ap (λ (s : StoredListing). s.keys) c.self.view_is) (ap (λ (s : StoredListing). s.limit) c.self.view_is)
-    (c.in_ok-append.ensures.items ∙ ap (λ (s : StoredListing). s.rows ++ c.args.rows.items) c.self.view_is) can
+returns-clause-ok c =
+    let rows = c.args.rows.items in
+    takes_in c.args.self.now c.append.new.self c.cut.new.self rows rows c.append.ensures.keys c.append.ensures.limit c.in_ok-append.ensures.rows (suffice-all c.args.self.now rows) c.in_ok-cut.ensures.ok
