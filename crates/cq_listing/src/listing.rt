@@ -5,8 +5,8 @@ ghost use Rattle.cq_bags.specs.Bag.{once_each};
 ghost use Rattle.cq_bags.specs.Listing.{IsListing, Lists, first_rows};
 ghost use Rattle.cq_vectors.specs.Batch.{row_at, rows_of};
 ghost use Rattle.cq_listing.specs.Front.{IsWorst};
-ghost use Rattle.cq_listing.specs.Places.{first_key as first_of};
-ghost use Rattle.cq_listing.specs.Stored.{CanList, Suffice, TakesIn};
+ghost use Rattle.cq_listing.specs.Places.{ArePlaces, first_key as first_of};
+ghost use Rattle.cq_listing.specs.Stored.{AreListed, CanList, TakesIn};
 
 use crate::comparing::{cmp_listed, lend_column};
 use crate::places::{copied, places_before, push_rows};
@@ -29,13 +29,13 @@ pub struct Listing<'q> {
 impl<'q> Model for Listing<'q> {
     ghost use Rattle.std.specs.Prelude.{IfSome};
     ghost use Rattle.cq_listing.specs.Front.{IsFront};
-    ghost use Rattle.cq_listing.specs.Stored.{StoredListing};
+    ghost use Rattle.cq_listing.specs.Stored.{StoredListing, kept_for};
 
     ghost Value = { StoredListing };
 
-    ghost view = { λ l. record { keys = l.order.now.keys; limit = l.order.now.limit; rows = l.rows.items } };
+    ghost view = { λ l. kept_for l.order.now l.rows.items };
 
-    ghost invariant = { λ l. IfSome l.front (IsFront (record { keys = l.order.now.keys; limit = l.order.now.limit; rows = l.rows.items })) };
+    ghost invariant = { λ l. IfSome l.front (IsFront (kept_for l.order.now l.rows.items)) };
 }
 
 impl<'q> Listing<'q> {
@@ -76,10 +76,11 @@ impl<'q> Listing<'q> {
 
     /// The one list that stands for all rows that were added.
     pub fn rows(self, alloc: Global) -> Result<Vec<Row>, AllocError>
-        ensures { (all : List Values) → CanList self.entry all → IfOk result (λ rows. IsListing self.entry.keys self.entry.limit (once_each all) rows.items) }
+        ensures { (all : List Values) → CanList self.entry all → IfOk result (AreListed self.entry all) }
     {
         let Listing { order, rows, .. } = self;
-        let rows = sorted(rows, order.keys.as_slice())?;
+        let mut rows = rows;
+        sort(&mut rows, order.keys.as_slice())?;
         Ok(limited(rows, order.limit))
     }
 
@@ -95,7 +96,7 @@ impl<'q> Listing<'q> {
 
     /// The places of a batch whose rows may be shown.
     fn places_of(&self, alloc: Global, batch: &Batch<'_>) -> Result<Vec<u16>, AllocError>
-        ensures { IfOk result (λ places. Suffice self.now (map (row_at batch.now.columns.items) places.items) (rows_of batch.now)) }
+        ensures { IfOk result (ArePlaces self.now batch.now) }
     {
         let places = batch.selection.places();
         if let Some(worst) = self.worst() {
@@ -190,20 +191,20 @@ fn first_key(keys: &[SortKey]) -> SortKey
     }
 }
 
+/// The first rows of the list alone, in order.
 fn keep_first(rows: &mut Vec<Row>, keys: &[SortKey], count: usize) -> Result<(), AllocError>
     ensures { OnOk result (IsListing keys.now (Some count) (once_each rows.old.items) rows.new.items) }
 {
-    rows.sort_by(|a, b| cmp_listed(keys, a.as_slice(), b.as_slice()))?;
+    sort(rows, keys)?;
     rows.truncate(count);
     Ok(())
 }
 
-fn sorted(rows: Vec<Row>, keys: &[SortKey]) -> Result<Vec<Row>, AllocError>
-    ensures { IfOk result (λ list. Lists keys.now (once_each rows.items) list.items) }
+fn sort(rows: &mut Vec<Row>, keys: &[SortKey]) -> Result<(), AllocError>
+    ensures { OnOk result (Lists keys.now (once_each rows.old.items) rows.new.items) }
 {
-    let mut rows = rows;
     rows.sort_by(|a, b| cmp_listed(keys, a.as_slice(), b.as_slice()))?;
-    Ok(rows)
+    Ok(())
 }
 
 /// The rows that LIMIT leaves. A limit may be larger than any list.

@@ -8,5 +8,6 @@ use Rattle.cq_listing.proofs.listing.Listing.rows.Goals as goal
 pub returns : goal.returns
 returns c all can =
     let shown = c.limited.result.items in
-    let in_order = subst (λ (keys : List SortKey). Lists keys (once_each c.self.inside.rows.items) c.in_ok-rows.rows.items) c.as_slice.ensures c.in_ok-rows.ensures in
-    (can shown).1 (subst (λ (s : StoredListing). IsListing s.keys s.limit (once_each s.rows) shown) c.self.view_is (c.in_ok-rows.rows.items, in_order, c.limited.ensures))
+    let sorted = c.sort.new.rows.items in
+    let in_order = subst (λ (keys : List SortKey). Lists keys (once_each c.self.inside.rows.items) sorted) c.as_slice.ensures c.in_ok-sort.ensures in
+    (can shown).1 (subst (λ (s : StoredListing). IsListing s.keys s.limit (once_each s.rows) shown) c.self.view_is (sorted, in_order, c.limited.ensures))
