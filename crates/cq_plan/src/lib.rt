@@ -1,10 +1,12 @@
-//! Plans of queries on one source that are neither grouped nor distinct.
+//! Plans of queries: what is worked out of a query before any row is read, and what holds of its joins and conditions.
 //!
-//! A [`Plan`] has the condition, the items and the columns that each of them reads, worked out once a query. To its callers
-//! it means what its items show of the rows that its condition keeps.
+//! A [`Plan`] is of a query on one source that is neither grouped nor distinct. It has the condition, the items and the
+//! columns that each of them reads. To its callers it means what its items show of the rows that its condition keeps.
 #![tactic(auto)]
 
 mod columns;
+mod laws;
 mod plan;
 
+pub use laws::{chain_of_lists, chains_have_widths, chains_in_parts};
 pub use plan::Plan;
