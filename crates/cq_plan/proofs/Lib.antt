@@ -1,1 +1,4 @@
 pub mod Chains
+pub mod Owned
+pub mod Below
+pub mod Exactly

@@ -1,3 +1,5 @@
 pub mod Plan
 pub mod Chain
+pub mod Own
+pub mod Below
 pub mod Laws

@@ -6,7 +6,14 @@
 
 mod columns;
 mod laws;
+mod own;
 mod plan;
+#[cfg(test)]
+mod tests;
 
-pub use laws::{chain_of_lists, chains_have_widths, chains_in_parts};
+pub use laws::{
+    chain_of_lists, chains_have_widths, chains_in_parts, own_conditions_are_exact,
+    own_conditions_below_joins,
+};
+pub use own::own_conditions;
 pub use plan::Plan;
