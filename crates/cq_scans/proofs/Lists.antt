@@ -1,8 +1,8 @@
 -- What holds of each row, and what is worked out in each row.
-use Rattle.std.proofs.Common.{◌≡◌, List, [], ◌∷◌, map, length, refl, sym, ◌∙◌, ap, ap₂}
+use Rattle.std.proofs.Common.{◌≡◌, Bool, true, false, cond, List, [], ◌∷◌, map, length, refl, sym, ◌∙◌, ap, ap₂}
 use Rattle.std.proofs.lemmas.List.{length-map}
 use Rattle.std.specs.Prelude.{replicate}
-use Rattle.std.specs.List.{AllByRecursion}
+use Rattle.std.specs.List.{AllByRecursion, filter}
 
 -- what holds of each makes what follows of each hold
 pub all-weaker : {X : Type 0} {P Q : X → Type 0} → ((x : X) → P x → Q x) → (xs : List X) → AllByRecursion P xs → AllByRecursion Q xs
@@ -13,6 +13,16 @@ all-weaker each (x ∷ xs) all = (each x all.0, all-weaker each xs all.1)
 pub all-map : {X Y : Type 0} {P : X → Type 0} (Q : Y → Type 0) (f : X → Y) → ((x : X) → P x → Q (f x)) → (xs : List X) → AllByRecursion P xs → AllByRecursion Q (map f xs)
 all-map Q f each [] all = tt
 all-map Q f each (x ∷ xs) all = (each x all.0, all-map Q f each xs all.1)
+
+-- what holds of the first, where it is kept, and of the rest holds of all
+and-first : {X : Type 0} (P : X → Type 0) (b : Bool) (x : X) (xs : List X) → P x → AllByRecursion P xs → AllByRecursion P (cond b (x ∷ xs) xs)
+and-first P true x xs one all = (one, all)
+and-first P false x xs one all = all
+
+-- what holds of all holds of those that a test keeps
+pub all-kept : {X : Type 0} (P : X → Type 0) (keep : X → Bool) (xs : List X) → AllByRecursion P xs → AllByRecursion P (filter keep xs)
+all-kept P keep [] all = tt
+all-kept P keep (x ∷ xs) all = and-first P (keep x) x (filter keep xs) all.0 (all-kept P keep xs all.1)
 
 -- functions that agree make the same
 pub map-same : {X Y : Type 0} (f g : X → Y) → ((x : X) → f x ≡ g x) → (xs : List X) → map f xs ≡ map g xs

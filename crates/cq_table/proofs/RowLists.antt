@@ -7,17 +7,12 @@ use Rattle.cq_values.specs.Order.{row_cmp}
 use Rattle.cq_values.specs.Value.{Row}
 use Rattle.cq_bags.specs.Canonical.{bag_of, with_row, sorted_by}
 use Rattle.cq_bags.proofs.Totals.{by_test}
+pub use Rattle.cq_scans.proofs.Lists.{all-kept as all_of_kept}
 
 module _ (P : Row → Type 0) where
   pub all_of_both : (xs ys : List Row) → AllByRecursion P xs → AllByRecursion P ys → AllByRecursion P (xs ++ ys)
   all_of_both [] ys a b = b
   all_of_both (x ∷ xs) ys a b = (a.0, all_of_both xs ys a.1 b)
-
-  pub all_of_kept : (keep : Row → Bool) (rows : List Row) → AllByRecursion P rows → AllByRecursion P (filter keep rows)
-  all_of_kept keep [] a = tt
-  all_of_kept keep (r ∷ rows) a = by_test (keep r)
-      (λ k. rw k (a.0, all_of_kept keep rows a.1))
-      (λ k. rw k (all_of_kept keep rows a.1))
 
   all_of_with : (cmp : Row → Row → Ordering) (r : Row) (rows : List Row) → P r → AllByRecursion P rows → AllByRecursion P (with_row cmp r rows)
   all_of_with cmp r [] p a = (p, tt)
