@@ -1,18 +1,17 @@
 //! Queries answered from the rows of one source.
 ghost use Rattle.std.specs.List.{AllByRecursion};
-ghost use Rattle.std.specs.Prelude.{◌≡◌, IfOk};
+ghost use Rattle.std.specs.Prelude.{IfOk};
 ghost use Rattle.cq_bags.specs.Bag.{once_each};
 ghost use Rattle.cq_answers.specs.Narrow.{IsWithin};
 ghost use Rattle.cq_answers.specs.Selects.{AreListed, shown_rows};
 
 use cq_model::{Order, Query};
-use cq_operators::ExecFault;
-use cq_plain::listing;
+use cq_operators::{ExecFault, listed_rows};
 use cq_plan::Plan;
 use cq_values::{Row, Seq};
 use std::alloc::Global;
 
-/// The listing of what the items show of the rows that WHERE keeps.
+/// The listing of what the items show of the rows that WHERE keeps. Where LIMIT allows few rows, few are made.
 pub fn list(
     alloc: Global,
     query: &Query,
@@ -22,16 +21,7 @@ pub fn list(
     requires { AllByRecursion (IsWithin query.now) rows.now }
     ensures { IfOk result (AreListed order.now (once_each (shown_rows query.now rows.now))) }
 {
-    let results = results(alloc, query, rows)?;
-    let list = listing(results, order)?;
-    Ok(Seq::from_vec(list))
-}
-
-/// The rows of the result, as these rows give them one after the other.
-fn results(alloc: Global, query: &Query, rows: &[Row]) -> Result<Vec<Row>, ExecFault>
-    requires { AllByRecursion (IsWithin query.now) rows.now }
-    ensures { IfOk result (λ v. v.items ≡ shown_rows query.now rows.now) }
-{
     let plan = Plan::of(alloc, query)?;
-    cq_operators::results(alloc, &plan, rows)
+    let list = listed_rows(alloc, &plan, order, rows)?;
+    Ok(Seq::from_vec(list))
 }

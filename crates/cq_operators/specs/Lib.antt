@@ -1,1 +1,2 @@
 pub mod Exec
+pub mod Listed

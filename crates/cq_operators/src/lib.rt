@@ -13,4 +13,4 @@ mod tests;
 
 pub use exec::Exec;
 pub use fault::ExecFault;
-pub use listing::results;
+pub use listing::{listed_rows, results};

@@ -1,11 +1,14 @@
-//! All that a plan shows.
+//! All that a plan shows, and its listing.
 ghost use Rattle.std.specs.List.{AllByRecursion};
 ghost use Rattle.std.specs.Prelude.{◌≡◌, IfOk};
 ghost use Rattle.cq_plan.specs.Plan.{IsWithin, shown_by};
+ghost use Rattle.cq_operators.specs.Listed.{IsListingOf};
 
 use crate::exec::Exec;
 use crate::fault::ExecFault;
+use cq_listing::Listing;
 use cq_masks::Selection;
+use cq_model::Order;
 use cq_plan::Plan;
 use cq_values::Row;
 use cq_vectors::Batch;
@@ -30,4 +33,26 @@ pub fn results<'a>(
         batch.push_rows(alloc, &mut results)?;
     }
     Ok(results)
+}
+
+/// The listing of what the plan shows of these rows. Where LIMIT allows few rows, few are made.
+pub fn listed_rows<'a>(
+    alloc: Global,
+    plan: &'a Plan<'a>,
+    order: &Order,
+    rows: &'a [Row],
+) -> Result<Vec<Row>, ExecFault>
+    requires { AllByRecursion (IsWithin plan.now) rows.now }
+    ensures { IfOk result (λ list. IsListingOf order.now (shown_by plan.now rows.now) list.items) }
+{
+    let mut exec = Exec::open(plan, rows);
+    let mut batch = Batch {
+        columns: Vec::new(alloc),
+        selection: Selection::new(),
+    };
+    let mut list = Listing::new(alloc, order);
+    while exec.next(alloc, &mut batch)? {
+        list.add(alloc, &batch)?;
+    }
+    Ok(list.rows(alloc)?)
 }
