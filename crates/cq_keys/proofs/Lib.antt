@@ -1,4 +1,5 @@
 pub mod Firsts
+pub mod Links
 pub mod Numbering
 pub mod Places
 pub mod Tables

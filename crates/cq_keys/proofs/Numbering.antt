@@ -36,7 +36,7 @@ told-last [] key = (omega arith, refl)
 told-last (k ∷ keys) key = let rest = told-last keys key in (omega (arith, rest.0), rest.1)
 
 -- a number stays where keys are put behind
-stays : (keys more : List Row) (n : ℕ) → n < length keys → (n < length (keys ++ more)) × (key_at (keys ++ more) n ≡ key_at keys n)
+pub stays : (keys more : List Row) (n : ℕ) → n < length keys → (n < length (keys ++ more)) × (key_at (keys ++ more) n ≡ key_at keys n)
 stays [] more n lt = absurd (omega arith)
 stays (k ∷ keys) more zero lt = (omega arith, refl)
 stays (k ∷ keys) more (suc n) lt = let rest = stays keys more n (omega arith) in (omega (arith, rest.0), rest.1)

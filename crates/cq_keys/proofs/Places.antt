@@ -26,7 +26,7 @@ module _ {X : Type 0} (test : X → Bool) (xs : List X) (x : X) where
   pub position-last : test x ≡ true → position test xs ≡ None → position test (xs ++ x ∷ []) ≡ Some (length xs)
   position-last passes none = let e = position_or_len_push test xs x in grind (arith, common_steps, no-further)
 
-one-value : (v w : Value) → v ∷ [] ≡ w ∷ [] → v ≡ w
+pub one-value : (v w : Value) → v ∷ [] ≡ w ∷ [] → v ≡ w
 one-value v w e = ap (λ (row : Row). get_or row 0 Null) e
 
 -- a dictionary that has the numbers of keys of one value has them still with one key more

@@ -11,7 +11,7 @@ use Rattle.cq_values.specs.Keys.{same_row-equiv}
 use Rattle.cq_bags.proofs.Totals.{by_test}
 use Rattle.cq_keys.specs.declared.dictionary.Dictionary.{Dictionary}
 use Rattle.cq_keys.specs.Dictionary.{PutsAt, number_in}
-use Rattle.cq_keys.specs.Keys.{AreKeys, HasValues, IsTable, place_of}
+use Rattle.cq_keys.specs.Keys.{AreKeys, HasValues, IsNumberOf, IsTable, place_of}
 use Rattle.cq_keys.proofs.Places.{finds-more, no-further}
 
 module _ {X : Type 0} (test : X → Bool) where
@@ -75,3 +75,18 @@ table-more width keys places old new v table one none puts =
       single = λ e. finds-more old new keys v finds none puts;
       several = λ apart. absurd (apart one);
     }
+
+-- a table with a key of no or several values more
+pub rows-more : (width : ℕ) (keys places more : List Row) (values : Dictionary) (key : Row) → IsTable width keys places values → (width ≡ 1 → ⊥) → HasValues width key → place_of keys key ≡ None
+    → more ≡ keys ++ key ∷ [] → IsTable width (keys ++ key ∷ []) more values
+rows-more width keys places more values key table apart wide none is = record {
+  known = known-more width keys key table.known wide none;
+  single = λ one. absurd (apart one);
+  several = λ apart. is;
+}
+
+-- a key that has a number is not put in again
+pub numbered-stays : (keys : List Row) (key : Row) (n : ℕ) → IsNumberOf keys key n → keys ≡ insert_key same_row keys key
+numbered-stays keys key n is =
+    let passes : same_row key (get_or keys n []) ≡ true = ap (same_row key) is.1 ∙ same_row-equiv.refl key in
+    sym (ap (λ b. cond b keys (keys ++ key ∷ [])) (any-at (same_row key) keys n [] is.0 passes))

@@ -8,6 +8,7 @@ ghost use Rattle.cq_bags.specs.Bag.{firsts};
 ghost use Rattle.cq_vectors.specs.Batch.{row_at};
 ghost use Rattle.cq_keys.specs.Keys.{AreKeys, AreWithin, HasLength, IsNumberOf, key_at, key_rows, place_of, values_of};
 
+use crate::chain::Chain;
 use crate::dictionary::Dictionary;
 use cq_values::{Lent, Row, copy_row};
 use cq_vectors::Vector;
@@ -21,17 +22,19 @@ pub struct KeyTable {
     width: usize,
     keys: Vec<Row>,
     values: Dictionary,
+    chain: Chain,
     places: IndexSet<Row>,
 }
 
 impl Model for KeyTable {
+    ghost use Rattle.cq_keys.specs.Chain.{AreLinks};
     ghost use Rattle.cq_keys.specs.Keys.{IsTable, StoredKeys};
 
     ghost Value = { StoredKeys };
 
     ghost view = { λ t. record { width = t.width; keys = t.keys.items } };
 
-    ghost invariant = { λ t. IsTable t.width t.keys.items t.places.keys t.values };
+    ghost invariant = { λ t. IsTable t.width t.keys.items t.places.keys t.values × AreLinks t.keys.items t.chain.links.items };
 }
 
 impl KeyTable {
@@ -43,6 +46,7 @@ impl KeyTable {
             width,
             keys: Vec::new(alloc),
             values: Dictionary::new(alloc),
+            chain: Chain::new(alloc),
             places: IndexSet::new(alloc),
         }
     }
@@ -157,8 +161,29 @@ impl KeyTable {
                 return self.value_number(alloc, &column.lend(place));
             }
         }
+        self.several_number(alloc, columns, place)
+    }
+
+    /// The number of a key of no or of several values. A row is made for a key that is not known yet.
+    fn several_number(
+        &mut self,
+        alloc: Global,
+        columns: &[&Vector<'_>],
+        place: usize,
+    ) -> Result<usize, AllocError>
+        requires width { length columns.now ≡ self.old.width }
+        requires several { self.old.width ≡ 1 → ⊥ }
+        ensures keys { OnOk result (self.new.keys ≡ insert_key same_row self.old.keys (row_at (values_of columns.now) place)) }
+        ensures number { IfOk result (IsNumberOf self.new.keys (row_at (values_of columns.now) place)) }
+        ensures width { self.new.width ≡ self.old.width }
+    {
+        if let Some(number) = self.chain.find(columns, place) {
+            return Ok(number);
+        }
         let key = key_of(alloc, columns, place)?;
-        self.row_number(alloc, key)
+        let number = self.row_number(alloc, key)?;
+        self.chain.note(alloc, columns, place, number)?;
+        Ok(number)
     }
 
     /// The number of a key of one value, which is put in where it is new.

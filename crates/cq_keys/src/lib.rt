@@ -4,6 +4,7 @@
 //! of a key is its place in the list.
 #![tactic(auto)]
 
+mod chain;
 mod dictionary;
 mod key_table;
 

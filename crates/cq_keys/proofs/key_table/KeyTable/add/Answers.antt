@@ -9,7 +9,7 @@ use Rattle.cq_keys.proofs.key_table.KeyTable.add.Goals as goal
 
 pub loop-place-init : goal.loop-place-init
 loop-place-init c = record {
-  keys = firsts-met c.args.self.now.keys (subst (λ (t : StoredKeys). IsDistinct same_row t.keys) c.self.view_is c.self.invariant.known.once);
+  keys = firsts-met c.args.self.now.keys (subst (λ (t : StoredKeys). IsDistinct same_row t.keys) c.self.view_is c.self.invariant.0.known.once);
   numbers = none-told c.args.self.now.keys c.clear.new.self.items c.clear.ensures.items;
   width = refl;
 }
