@@ -1,6 +1,0 @@
-pub mod Firsts
-pub mod Links
-pub mod Numbering
-pub mod Places
-pub mod Tables
-pub mod TextKeys

@@ -1,3 +1,0 @@
-pub mod Chain
-pub mod Dictionary
-pub mod Keys
