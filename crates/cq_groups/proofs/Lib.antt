@@ -1,0 +1,12 @@
+pub mod Columns
+pub mod Extremes
+pub mod Holding
+pub mod Keeping
+pub mod KeysMet
+pub mod Listed
+pub mod Occurring
+pub mod Once
+pub mod Putting
+pub mod Showing
+pub mod Turns
+pub mod ValuesPut

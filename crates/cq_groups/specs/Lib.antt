@@ -1,0 +1,4 @@
+pub mod Exact
+pub mod Groups
+pub mod Puts
+pub mod Slots

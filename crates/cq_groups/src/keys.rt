@@ -1,0 +1,92 @@
+//! The groups of rows, by their keys.
+ghost use Rattle.std.specs.Prelude.{◌++◌, ◌≡◌, IfOk, OnOk, [], length, map};
+ghost use Rattle.cq_bags.specs.Bag.{firsts};
+ghost use Rattle.cq_keys.specs.Keys.{key_at, values_of};
+ghost use Rattle.cq_scans.specs.Operand.{values_in};
+ghost use Rattle.cq_vectors.specs.Gathered.{column_of};
+ghost use Rattle.cq_groups.specs.Groups.{columns_in, group_columns, group_keys, keys_in};
+ghost use Rattle.cq_groups.specs.Puts.{AreNumbers};
+
+use cq_keys::KeyTable;
+use cq_scans::{Operand, Scan};
+use cq_values::Seq;
+use cq_vectors::Vector;
+use std::alloc::{AllocError, Global};
+
+/// The groups of no rows: without GROUP BY there is one.
+pub(crate) fn first_groups(alloc: Global, keys: &Option<Seq<usize>>) -> Result<KeyTable, AllocError>
+    ensures width { IfOk result (λ found. found.width ≡ length (group_columns keys.now)) }
+    ensures keys { IfOk result (λ found. found.keys ≡ group_keys keys.now []) }
+{
+    match keys {
+        Some(columns) => Ok(KeyTable::new(alloc, columns.len())),
+        None => {
+            let mut found = KeyTable::new(alloc, 0);
+            let mut numbers = Vec::new(alloc);
+            found.add(alloc, &[], 1, &mut numbers)?;
+            Ok(found)
+        }
+    }
+}
+
+/// Puts in what is new of the rows' keys, and tells the number of each row's group.
+pub(crate) fn number_rows(
+    alloc: Global,
+    keys: &Option<Seq<usize>>,
+    scan: &Scan<'_>,
+    found: &mut KeyTable,
+    numbers: &mut Vec<usize>,
+) -> Result<(), AllocError>
+    requires { found.old.width ≡ length (group_columns keys.now) }
+    ensures keys { OnOk result (found.new.keys ≡ firsts (found.old.keys ++ keys_in keys.now scan.now)) }
+    ensures numbers { OnOk result (map (key_at found.new.keys) numbers.new.items ≡ keys_in keys.now scan.now) }
+    ensures within { OnOk result (AreNumbers (length found.new.keys) numbers.new.items) }
+    ensures width { found.new.width ≡ found.old.width }
+{
+    let columns = key_columns(alloc, keys, scan)?;
+    let lent = lend_all(alloc, &columns)?;
+    found.add(alloc, &lent, scan.len(), numbers)
+}
+
+/// The columns of GROUP BY.
+fn key_columns<'s, 'a>(
+    alloc: Global,
+    keys: &Option<Seq<usize>>,
+    scan: &'s Scan<'a>,
+) -> Result<Vec<Operand<'s, 'a>>, AllocError>
+    ensures { IfOk result (λ columns. map values_in columns.items ≡ columns_in keys.now scan.now) }
+{
+    match keys {
+        Some(places) => columns_at(alloc, places.as_slice(), scan),
+        None => Ok(Vec::new(alloc)),
+    }
+}
+
+fn columns_at<'s, 'a>(
+    alloc: Global,
+    places: &[usize],
+    scan: &'s Scan<'a>,
+) -> Result<Vec<Operand<'s, 'a>>, AllocError>
+    ensures { IfOk result (λ columns. map values_in columns.items ≡ map (column_of scan.now) places.now) }
+{
+    let mut columns: Vec<Operand<'s, 'a>> = Vec::new(alloc);
+    columns.reserve(places.len())?;
+    for place in places {
+        columns.push_reserved(scan.column(alloc, *place)?);
+    }
+    Ok(columns)
+}
+
+fn lend_all<'v, 's, 'a>(
+    alloc: Global,
+    columns: &'v [Operand<'s, 'a>],
+) -> Result<Vec<&'v Vector<'a>>, AllocError>
+    ensures { IfOk result (λ lent. values_of lent.items ≡ map values_in columns.now) }
+{
+    let mut lent: Vec<&'v Vector<'a>> = Vec::new(alloc);
+    lent.reserve(columns.len())?;
+    for column in columns {
+        lent.push_reserved(column.vector());
+    }
+    Ok(lent)
+}

@@ -1,0 +1,19 @@
+//! Groups of rows, as they are added.
+//!
+//! To its callers a [`GroupTable`] stands for the rows that were added to it: [`GroupTable::rows`] gives the row of each
+//! group of them, in the order in which the groups were first met.
+#![tactic(auto)]
+
+mod adding;
+mod arguments;
+mod bests;
+mod counts;
+mod fault;
+mod group_table;
+mod keys;
+mod shown;
+mod slots;
+mod sums;
+
+pub use fault::GroupFault;
+pub use group_table::GroupTable;

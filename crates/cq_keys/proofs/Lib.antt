@@ -1,0 +1,6 @@
+pub mod Firsts
+pub mod Links
+pub mod Numbering
+pub mod Places
+pub mod Tables
+pub mod TextKeys

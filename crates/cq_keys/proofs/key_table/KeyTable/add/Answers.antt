@@ -1,0 +1,27 @@
+use Rattle.std.proofs.Common.{refl, subst, ◌∙◌}
+use Rattle.std.specs.List.{IsDistinct}
+use Rattle.cq_values.specs.Order.{same_row}
+use Rattle.cq_vectors.specs.Batch.{row_at}
+use Rattle.cq_keys.specs.Keys.{StoredKeys, values_of}
+use Rattle.cq_keys.proofs.Firsts.{firsts-met}
+use Rattle.cq_keys.proofs.Numbering.{none-told, keys-next, numbers-next}
+use Rattle.cq_keys.proofs.key_table.KeyTable.add.Goals as goal
+
+pub loop-place-init : goal.loop-place-init
+loop-place-init c = record {
+  keys = firsts-met c.args.self.now.keys (subst (λ (t : StoredKeys). IsDistinct same_row t.keys) c.self.view_is c.self.invariant.0.known.once);
+  numbers = none-told c.args.self.now.keys c.clear.new.self.items c.clear.ensures.items;
+  width = refl;
+}
+
+pub loop-place-preserved : goal.loop-place-preserved
+loop-place-preserved c =
+    let columns = values_of c.args.columns.now in
+    let key = row_at columns c.loop-place.place in
+    record {
+      keys = keys-next columns c.loop-place.place c.args.self.now.keys c.loop-place.self.keys c.number.new.self.keys key refl c.in_ok-number.ensures.keys c.loop-place.invariant.keys;
+      numbers =
+          numbers-next columns c.loop-place.place c.loop-place.self.keys c.number.new.self.keys key c.loop-place.numbers.items c.push.new.self.items c.in_ok-number.number
+          refl c.in_ok-push.ensures.items c.in_ok-number.ensures.keys c.in_ok-number.ensures.number c.loop-place.invariant.numbers;
+      width = c.number.ensures.width ∙ c.loop-place.invariant.width;
+    }

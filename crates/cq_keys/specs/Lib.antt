@@ -1,0 +1,4 @@
+pub mod Chain
+pub mod Dictionary
+pub mod Keys
+pub mod Links
