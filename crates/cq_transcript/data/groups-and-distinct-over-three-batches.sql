@@ -6,7 +6,7 @@ SELECT c, COUNT(*) AS n, COUNT(x) AS k, SUM(x) AS s, MIN(x), MAX(x) FROM t GROUP
 -- by a number, the largest totals
 SELECT a, SUM(x) AS s, COUNT(*) AS n FROM t GROUP BY a ORDER BY s DESC, a LIMIT 4;
 -- by both, where HAVING keeps few
-SELECT c, a, COUNT(*) AS n, MAX(x) AS m FROM t GROUP BY c, a HAVING COUNT(*) > 20 AND MAX(x) > 498;
+SELECT c, a, COUNT(*) AS n, MAX(x) AS m FROM t GROUP BY c, a HAVING COUNT(*) > 15 AND MAX(x) > 495;
 -- the texts of a group
 SELECT a, MIN(c), MAX(c), COUNT(c) AS n FROM t WHERE a < 3 OR a IS NULL GROUP BY a;
 -- one group of all rows, and of none
