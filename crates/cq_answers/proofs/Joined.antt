@@ -1,5 +1,5 @@
 -- SELECT on lent rows of several sources: they are the bags that names in FROM stand for, and nothing on them is too wide.
-use Rattle.std.proofs.Common.{◌≡◌, ◌⊎◌, ℕ, ◌<◌, ◌≤◌, List, [], ◌∷◌, Option, Some, None, sym, ◌∙◌, inl, inr, arith, subst, Result, Ok, Err}
+use Rattle.std.proofs.Common.{◌≡◌, ◌⊎◌, ℕ, ◌<◌, ◌≤◌, List, [], ◌∷◌, length, Option, Some, None, sym, ◌∙◌, inl, inr, arith, subst, Result, Ok, Err}
 use Rattle.std.specs.Prelude.{slice_get}
 use Rattle.std.specs.List.{AllByRecursion, Any, flat_map}
 use Rattle.cq_values.specs.Value.{Row}
@@ -24,6 +24,7 @@ use Rattle.cq_model.specs.Group.{grouped}
 use Rattle.cq_model.specs.Meaning.{ShapeInRange, joined_rows, keeps, meaning, shaped}
 use Rattle.cq_model.specs.Views.{SourceInRange, ViewInRange, sources_of, view_bag}
 use Rattle.cq_model.specs.Width.{IsNarrowAt, IsNarrowIn, limits_of, sizes_of}
+use Rattle.cq_plan.specs.Chain.{HaveValues}
 use Rattle.cq_plain.specs.declared.lent.Lent.{Lent}
 use Rattle.cq_plain.specs.Lent.{lent_bags, rows_or}
 use Rattle.cq_plain.specs.Wide.{IsCountable, IsItemWide, IsQueryWide, IsShapeWide, IsShownWide, IsWideAmong, IsWideIn, IsWideOver}
@@ -33,6 +34,7 @@ use Rattle.cq_states.specs.State.{State, TableOf, queries_of, rows_in, tables_no
 use Rattle.cq_catalog.specs.Catalog.{alone}
 use Rattle.cq_views.specs.Shown.{AreRowsOf, IsShown}
 use Rattle.cq_answers.specs.declared.gathered.Gathered.{Gathered}
+use Rattle.cq_answers.specs.Lent.{AreEven}
 use Rattle.cq_answers.specs.Reading.{CanRead}
 use Rattle.cq_answers.specs.Gathered.{AreGathered, AreLent, AreRowsThere, AreShownBy, IsBacked, IsGatherFault, IsGathered, IsHidden, IsLent}
 use Rattle.cq_answers.specs.Narrow.{AreArgumentsSized, AreItemsSized, IsConditionSized, IsShapeSized, source_sizes}
@@ -196,6 +198,18 @@ module _ (tables : List TableOf) (views : List NamedView) where
         -- the joined rows are a bag
         joined_bag : IsBag (joined_rows q (lent_bags lents))
         joined_bag = joined_rows-bag q (lent_bags lents) (λ source. once_each-bag (rows_or lents source []))
+
+        -- the rows of each source have one width
+        pub lent_even : AreEven lents
+        lent_even = evens lents (entries_are (sources_of q) gs lents gathered lent).1
+          where
+            values : (sizes : List ℕ) (rows : List Row) → AllByRecursion (HasSizes sizes) rows → HaveValues (length sizes) rows
+            values sizes [] all = tt
+            values sizes (r ∷ rows) all = (all.0.values, values sizes rows all.1)
+
+            evens : (ls : List Lent) → AllByRecursion (λ l. AreOf l.source l.rows.now) ls → AreEven ls
+            evens [] all = tt
+            evens (l ∷ ls) all = ((length (Sizes l.source), values (Sizes l.source) l.rows.now all.0.sized), evens ls all.1)
 
         -- nothing in it is too wide
         pub never_wide : JoinedRowsKeepSizes → GroupsKeepSizes → IsQueryWide q (lent_bags lents) → ⊥

@@ -2,3 +2,4 @@ pub mod Narrow
 pub mod Reading
 pub mod Gathered
 pub mod Selects
+pub mod Lent

@@ -1,7 +1,7 @@
 //! Answers: the listing of a query on the tables and views that it names.
 //!
-//! Rows of one source are read where they are; those of several are lent to the plain evaluator, which joins and groups
-//! them. [`select_from`] answers the one list that stands for what the query means, or that a total cannot be shown.
+//! Rows of one source are read where they are; those of several are lent, joined by their keys, grouped and listed.
+//! [`select_from`] answers the one list that stands for what the query means, or that a total cannot be shown.
 #![tactic(auto)]
 
 mod gathered;

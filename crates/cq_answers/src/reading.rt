@@ -1,11 +1,13 @@
 //! SELECT from tables and from views.
-ghost use Rattle.std.specs.Prelude.{◌≡◌, ◌↔◌, IsTrue, ℕ};
+ghost use Rattle.std.specs.Bool.{OnTrue};
+ghost use Rattle.std.specs.Prelude.{◌≡◌, ◌↔◌, [], IfOk, IsTrue, ℕ};
 ghost use Rattle.cq_model.specs.declared.query.Shape.TheVariants.{Plain};
 ghost use Rattle.cq_model.specs.Sizes.{column_sizes};
-ghost use Rattle.cq_plain.specs.Lent.{lent_bags};
+ghost use Rattle.cq_plain.specs.Lent.{lent_bags, rows_or};
 ghost use Rattle.cq_plain.specs.Wide.{IsQueryWide};
 ghost use Rattle.cq_states.specs.Fitting.{AreLimited, AreFitting, rows_limit};
 ghost use Rattle.cq_states.specs.State.{AreNumbered};
+ghost use Rattle.cq_answers.specs.Lent.{AreEven, AreFew, AreOthers};
 ghost use Rattle.cq_answers.specs.Narrow.{IsWithinSized};
 ghost use Rattle.cq_answers.specs.Reading.{CanRead, plain};
 ghost use Rattle.cq_answers.specs.Selects.{Selects, SelectsKept, SelectsLent};
@@ -15,14 +17,21 @@ ghost use Rattle.cq_answers.specs.Gathered.{IsBacked};
 use crate::gathered::{gather, lend_all, rows_shown, sources_of};
 use crate::selection::list;
 use cq_binding::Fault;
+use cq_eval::narrow_is_exact;
+use cq_groups::GroupFault;
 use cq_laws::{
     groups_keep_sizes, joined_rows_keep_sizes, meaning_depends_on_sources, rows_keep_sizes,
 };
 use cq_model::{Order, Query, Shape, Source};
-use cq_plain::{Lent, PlainFault, answer_on, listing};
+use cq_operators::select;
+use cq_plain::{Lent, PlainFault, answer_on, listing, rows_of};
+use cq_plan::chain_of_lists;
 use cq_tables::{Table, View, place_numbered};
 use cq_values::{Row, Seq};
-use std::alloc::Global;
+use std::alloc::{AllocError, Global};
+
+/// How many rows can be counted.
+const COUNT_SIZE: u128 = 1 << 96;
 
 /// The listing of a query on the tables and views that it names. Rows of one source are read where they are, unless they
 /// are grouped.
@@ -95,7 +104,7 @@ fn select_from_view(
     Ok(list(alloc, query, order, &rows)?)
 }
 
-/// The listing of a query on the rows of all its sources, which the plain evaluator joins.
+/// The listing of a query on the rows of all its sources, which are joined.
 fn select_joined(
     alloc: Global,
     tables: &[Table],
@@ -120,8 +129,83 @@ fn select_joined(
     list_answer(alloc, &lent, query, order)
 }
 
-/// The listing of a query on lent rows on which it is nowhere too wide.
+/// The listing of a query on lent rows on which it is nowhere too wide. Where so many rows could be joined that they
+/// cannot be counted, the plain evaluator answers.
 fn list_answer(
+    alloc: Global,
+    lent: &[Lent<'_>],
+    query: &Query,
+    order: &Order,
+) -> Result<Seq<Row>, Fault>
+    requires narrow { IsQueryWide query.now (lent_bags lent.now) → ⊥ }
+    requires even { AreEven lent.now }
+    ensures { SelectsLent query.now order.now lent.now result }
+{
+    let first = rows_of(lent, query.first);
+    let others = others_of(alloc, lent, query)?;
+    if are_few(first, &others) {
+        list_joined(alloc, lent, query, order, first, &others)
+    } else {
+        list_plainly(alloc, lent, query, order)
+    }
+}
+
+/// The rows of the source of each join.
+fn others_of<'a>(
+    alloc: Global,
+    lent: &[Lent<'a>],
+    query: &Query,
+) -> Result<Vec<&'a [Row]>, AllocError>
+    ensures { IfOk result (λ others. AreOthers lent.now query.now others.items) }
+{
+    let mut others: Vec<&'a [Row]> = Vec::new(alloc);
+    for join in query.joins.as_slice() {
+        others.push(rows_of(lent, join.source))?;
+    }
+    Ok(others)
+}
+
+/// Whether the rows can be counted that these become where they are joined.
+fn are_few(first: &[Row], others: &[&[Row]]) -> bool
+    ensures { OnTrue result (AreFew first.now others.now) }
+{
+    let mut most = first.len() as u128;
+    for rows in others {
+        match most.checked_mul(rows.len() as u128) {
+            Some(product) => most = product,
+            None => return false,
+        }
+    }
+    most <= COUNT_SIZE
+}
+
+/// The listing of a query on the rows of its sources, which are joined by their keys.
+fn list_joined(
+    alloc: Global,
+    lent: &[Lent<'_>],
+    query: &Query,
+    order: &Order,
+    first: &[Row],
+    others: &[&[Row]],
+) -> Result<Seq<Row>, Fault>
+    requires narrow { IsQueryWide query.now (lent_bags lent.now) → ⊥ }
+    requires even { AreEven lent.now }
+    requires first { first.now ≡ rows_or lent.now query.now.first [] }
+    requires others { AreOthers lent.now query.now others.now }
+    requires few { AreFew first.now others.now }
+    ensures { SelectsLent query.now order.now lent.now result }
+{
+    chain_of_lists();
+    narrow_is_exact();
+    match select(alloc, query, order, first, others) {
+        Ok(rows) => Ok(Seq::from_vec(rows)),
+        Err(GroupFault::Memory) => Err(Fault::Memory),
+        Err(GroupFault::SumOutOfRange) => Err(Fault::SumOutOfRange),
+    }
+}
+
+/// The listing of a query on lent rows, by the plain evaluator.
+fn list_plainly(
     alloc: Global,
     lent: &[Lent<'_>],
     query: &Query,

@@ -13,8 +13,6 @@ mod places;
 mod side;
 mod sizes;
 mod sums;
-#[cfg(test)]
-mod tests;
 mod unbroken;
 mod wide;
 mod wide_side;

@@ -1,10 +1,12 @@
 //! A module for each thing that is called.
+mod command_lines;
 mod conditions;
 mod dates;
 mod expressions;
 mod faults;
 mod groups;
 mod pieces;
+mod records;
 mod results;
 mod statements;
 mod tokens;

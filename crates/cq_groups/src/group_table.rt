@@ -69,6 +69,7 @@ impl<'q> GroupTable<'q> {
         requires exact { AllByRecursion (AreExactOver self.old.aggregates) scan.now }
         requires room { self.old.count + length scan.now ≤ count_size }
         ensures holds { OnOk result ((rows : List Values) → Holds self.old rows → Holds self.new (rows ++ scan.now)) }
+        ensures count { OnOk result (self.new.count ≡ self.old.count + length scan.now) }
         ensures keys { self.new.keys ≡ self.old.keys }
         ensures aggregates { self.new.aggregates ≡ self.old.aggregates }
     {

@@ -1,16 +1,14 @@
 //! The groups of rows, by their keys.
 ghost use Rattle.std.specs.Prelude.{◌++◌, ◌≡◌, IfOk, OnOk, [], length, map};
 ghost use Rattle.cq_bags.specs.Bag.{firsts};
-ghost use Rattle.cq_keys.specs.Keys.{key_at, values_of};
+ghost use Rattle.cq_keys.specs.Keys.{key_at};
 ghost use Rattle.cq_scans.specs.Operand.{values_in};
-ghost use Rattle.cq_vectors.specs.Gathered.{column_of};
 ghost use Rattle.cq_groups.specs.Groups.{columns_in, group_columns, group_keys, keys_in};
 ghost use Rattle.cq_groups.specs.Puts.{AreNumbers};
 
 use cq_keys::KeyTable;
-use cq_scans::{Operand, Scan};
+use cq_scans::{Operand, Scan, lend_vectors};
 use cq_values::Seq;
-use cq_vectors::Vector;
 use std::alloc::{AllocError, Global};
 
 /// The groups of no rows: without GROUP BY there is one.
@@ -44,7 +42,7 @@ pub(crate) fn number_rows(
     ensures width { found.new.width ≡ found.old.width }
 {
     let columns = key_columns(alloc, keys, scan)?;
-    let lent = lend_all(alloc, &columns)?;
+    let lent = lend_vectors(alloc, &columns)?;
     found.add(alloc, &lent, scan.len(), numbers)
 }
 
@@ -57,36 +55,7 @@ fn key_columns<'s, 'a>(
     ensures { IfOk result (λ columns. map values_in columns.items ≡ columns_in keys.now scan.now) }
 {
     match keys {
-        Some(places) => columns_at(alloc, places.as_slice(), scan),
+        Some(places) => scan.columns(alloc, places.as_slice()),
         None => Ok(Vec::new(alloc)),
     }
-}
-
-fn columns_at<'s, 'a>(
-    alloc: Global,
-    places: &[usize],
-    scan: &'s Scan<'a>,
-) -> Result<Vec<Operand<'s, 'a>>, AllocError>
-    ensures { IfOk result (λ columns. map values_in columns.items ≡ map (column_of scan.now) places.now) }
-{
-    let mut columns: Vec<Operand<'s, 'a>> = Vec::new(alloc);
-    columns.reserve(places.len())?;
-    for place in places {
-        columns.push_reserved(scan.column(alloc, *place)?);
-    }
-    Ok(columns)
-}
-
-fn lend_all<'v, 's, 'a>(
-    alloc: Global,
-    columns: &'v [Operand<'s, 'a>],
-) -> Result<Vec<&'v Vector<'a>>, AllocError>
-    ensures { IfOk result (λ lent. values_of lent.items ≡ map values_in columns.now) }
-{
-    let mut lent: Vec<&'v Vector<'a>> = Vec::new(alloc);
-    lent.reserve(columns.len())?;
-    for column in columns {
-        lent.push_reserved(column.vector());
-    }
-    Ok(lent)
 }

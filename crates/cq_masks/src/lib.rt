@@ -8,8 +8,6 @@ mod mask;
 mod place_test;
 mod plane;
 mod selection;
-#[cfg(test)]
-mod tests;
 mod walk;
 
 pub use mask::TruthMask;

@@ -1,3 +1,5 @@
 pub mod Shown
 pub mod Steps
-pub mod Tested
+pub mod Collected
+pub mod Linking
+pub mod Selecting

@@ -1,18 +1,11 @@
 -- Plans that are worked out step by step.
-use Rattle.std.specs.Prelude.{◌≡◌, ◌++◌, ◌<◌, Bool, true, false, List, [], length, map, Option, Some, None, IfSome, Result, Ok, Err}
+use Rattle.std.specs.Prelude.{◌≡◌, ◌++◌, ◌<◌, Bool, true, false, List, [], length, Option, Some, None, IfSome, Result, Ok, Err}
 use Rattle.cq_values.specs.Value.{Row}
-use Rattle.cq_values.specs.declared.value.Value.{Value}
-use Rattle.cq_model.specs.Eval.{eval}
-use Rattle.cq_model.specs.Expr.{Expr}
 use Rattle.cq_plan.specs.Plan.{shown_by}
 use Rattle.cq_plan.specs.declared.plan.Plan.{Plan}
 use Rattle.cq_vectors.specs.Batch.{rows_of}
 use Rattle.cq_vectors.specs.declared.batch.Batch.{Batch}
 use Rattle.cq_operators.specs.declared.fault.ExecFault.{ExecFault}
-
--- the values of each item in all of the rows
-abbrev pub columns_shown : List Expr → List Row → List (List Value)
-columns_shown items rows = map (λ e. map (eval e) rows) items
 
 -- a plan, the rows that remain for it, and the fault that ended it, if any
 pub record Remaining : Type 0 where

@@ -1,2 +1,4 @@
 pub mod Exec
 pub mod Listed
+pub mod Selected
+pub mod Showing

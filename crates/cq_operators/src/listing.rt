@@ -1,6 +1,6 @@
-//! All that a plan shows, and its listing.
+//! The listing of what a plan shows.
 ghost use Rattle.std.specs.List.{AllByRecursion};
-ghost use Rattle.std.specs.Prelude.{◌≡◌, IfOk};
+ghost use Rattle.std.specs.Prelude.{IfOk};
 ghost use Rattle.cq_plan.specs.Plan.{IsWithin, shown_by};
 ghost use Rattle.cq_operators.specs.Listed.{IsListingOf};
 
@@ -13,27 +13,6 @@ use cq_plan::Plan;
 use cq_values::Row;
 use cq_vectors::Batch;
 use std::alloc::Global;
-
-/// The rows that the plan shows of these rows, one after the other.
-pub fn results<'a>(
-    alloc: Global,
-    plan: &'a Plan<'a>,
-    rows: &'a [Row],
-) -> Result<Vec<Row>, ExecFault>
-    requires { AllByRecursion (IsWithin plan.now) rows.now }
-    ensures { IfOk result (λ results. results.items ≡ shown_by plan.now rows.now) }
-{
-    let mut exec = Exec::open(plan, rows);
-    let mut batch = Batch {
-        columns: Vec::new(alloc),
-        selection: Selection::new(),
-    };
-    let mut results = Vec::new(alloc);
-    while exec.next(alloc, &mut batch)? {
-        batch.push_rows(alloc, &mut results)?;
-    }
-    Ok(results)
-}
 
 /// The listing of what the plan shows of these rows. Where LIMIT allows few rows, few are made.
 pub fn listed_rows<'a>(

@@ -7,8 +7,6 @@ mod command;
 mod fault;
 mod limit;
 mod options;
-#[cfg(test)]
-mod tests;
 
 pub use fault::LineFault;
 pub use options::{Options, options_of};

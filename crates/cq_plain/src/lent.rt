@@ -14,7 +14,7 @@ pub struct Lent<'a> {
 }
 
 /// The rows of the first entry of a source, and no row where there is none.
-pub(crate) fn rows_of<'a>(sources: &[Lent<'a>], source: Source) -> &'a [Row]
+pub fn rows_of<'a>(sources: &[Lent<'a>], source: Source) -> &'a [Row]
     ensures { result.now ≡ rows_or sources.now source [] }
 {
     for lent in sources {

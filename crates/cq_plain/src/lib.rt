@@ -22,6 +22,6 @@ mod write;
 pub use answering::{answer, answer_listed, answer_on};
 pub use database::Database;
 pub use fault::PlainFault;
-pub use lent::Lent;
+pub use lent::{Lent, rows_of};
 pub use lists::listing;
 pub use write::{left_by, updated};

@@ -8,8 +8,6 @@ mod columns;
 mod laws;
 mod own;
 mod plan;
-#[cfg(test)]
-mod tests;
 
 pub use laws::{
     chain_of_lists, chains_have_widths, chains_in_parts, own_conditions_are_exact,

@@ -24,8 +24,6 @@ mod number_side;
 mod pattern;
 mod sides;
 mod sixteen;
-#[cfg(test)]
-mod tests;
 mod text_side;
 mod wide_side;
 

@@ -8,8 +8,6 @@ mod laws;
 mod number;
 mod reading;
 mod records;
-#[cfg(test)]
-mod tests;
 mod wanting;
 
 pub use laws::{printed_rows_read_back, read_rows_fit};

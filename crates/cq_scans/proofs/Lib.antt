@@ -3,3 +3,5 @@ pub mod Valuing
 pub mod Deciding
 pub mod Nodes
 pub mod Fronts
+pub mod Joining
+pub mod KeptPlaces

@@ -2,3 +2,5 @@ pub mod Operand
 pub mod Scan
 pub mod Kept
 pub mod Truths
+pub mod Paired
+pub mod Parts

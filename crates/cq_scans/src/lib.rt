@@ -7,12 +7,14 @@
 mod columns;
 mod keeping;
 mod operand;
+mod parts;
 mod scan;
 mod truths;
 mod vectors;
+mod worked;
 
 pub use keeping::{keep_front, kept};
-pub use operand::Operand;
+pub use operand::{Operand, lend_vectors};
 pub use scan::Scan;
 pub use truths::truths_of;
-pub use vectors::vector_of;
+pub use vectors::{own_vector_of, vector_of};

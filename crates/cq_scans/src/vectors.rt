@@ -4,11 +4,12 @@ ghost use Rattle.std.specs.List.{AllByRecursion};
 ghost use Rattle.cq_model.specs.Eval.{eval};
 ghost use Rattle.cq_model.specs.Exact.{IsExactAt};
 ghost use Rattle.cq_model.specs.Trees.{expr_of};
-ghost use Rattle.cq_scans.specs.Operand.{values_in};
+ghost use Rattle.cq_scans.specs.Operand.{values_in, values_worked};
 
 use crate::operand::Operand;
 use crate::scan::Scan;
-use cq_arith::{add, extract, mul, neg};
+use crate::worked::Worked;
+use cq_arith::{extract, neg};
 use cq_model::{Expr, ExprTree};
 use cq_vectors::{Form, Vector};
 use std::alloc::{AllocError, Global};
@@ -25,6 +26,21 @@ pub fn vector_of<'s, 'a>(
     vector_of_tree(alloc, expr.tree(), scan)
 }
 
+/// The same, each time made.
+pub fn own_vector_of<'a>(
+    alloc: Global,
+    expr: &'a Expr,
+    scan: &Scan<'a>,
+) -> Result<Vector<'a>, AllocError>
+    requires { AllByRecursion (IsExactAt expr.now) scan.now }
+    ensures { IfOk result (λ values. values ≡ map (eval expr.now) scan.now) }
+{
+    match worked_out(alloc, expr.tree(), scan)? {
+        Worked::Column(place) => scan.gather(alloc, place),
+        Worked::Values(values) => Ok(values),
+    }
+}
+
 pub(crate) fn vector_of_tree<'s, 'a>(
     alloc: Global,
     tree: &'a ExprTree,
@@ -33,35 +49,52 @@ pub(crate) fn vector_of_tree<'s, 'a>(
     requires { AllByRecursion (IsExactAt (expr_of tree.now)) scan.now }
     ensures { IfOk result (λ values. values_in values ≡ map (eval (expr_of tree.now)) scan.now) }
 {
+    match worked_out(alloc, tree, scan)? {
+        Worked::Column(place) => scan.column(alloc, place),
+        Worked::Values(values) => Ok(Operand::Own(values)),
+    }
+}
+
+/// What the expression comes to. No column is gathered that is not worked with.
+fn worked_out<'a>(
+    alloc: Global,
+    tree: &'a ExprTree,
+    scan: &Scan<'a>,
+) -> Result<Worked<'a>, AllocError>
+    requires { AllByRecursion (IsExactAt (expr_of tree.now)) scan.now }
+    ensures { IfOk result (λ found. values_worked scan.now found ≡ map (eval (expr_of tree.now)) scan.now) }
+{
     match tree {
-        ExprTree::Column(place) => scan.column(alloc, *place),
+        ExprTree::Column(place) => Ok(Worked::Column(*place)),
         ExprTree::Literal(value) => {
             let values = Vector::new(Form::Constant(value.lend(), scan.len()));
-            Ok(Operand::Own(values))
+            Ok(Worked::Values(values))
         }
         ExprTree::Negate(part) => {
-            let part = vector_of_tree(alloc, part, scan)?;
-            Ok(Operand::Own(neg(alloc, part.vector())?))
+            let part = worked_out(alloc, part, scan)?;
+            let values = part.lend(alloc, scan)?;
+            Ok(Worked::Values(neg(alloc, values.vector())?))
         }
         ExprTree::Sum(first, rest) => {
-            let mut sum = vector_of_tree(alloc, first, scan)?;
+            let mut sum = worked_out(alloc, first, scan)?;
             for term in rest {
-                let term = vector_of_tree(alloc, term, scan)?;
-                sum = Operand::Own(add(alloc, sum.vector(), term.vector())?);
+                let term = worked_out(alloc, term, scan)?;
+                sum = Worked::Values(sum.plus(alloc, &term, scan)?);
             }
             Ok(sum)
         }
         ExprTree::Product(first, rest) => {
-            let mut product = vector_of_tree(alloc, first, scan)?;
+            let mut product = worked_out(alloc, first, scan)?;
             for factor in rest {
-                let factor = vector_of_tree(alloc, factor, scan)?;
-                product = Operand::Own(mul(alloc, product.vector(), factor.vector())?);
+                let factor = worked_out(alloc, factor, scan)?;
+                product = Worked::Values(product.times(alloc, &factor, scan)?);
             }
             Ok(product)
         }
         ExprTree::Extract(day_part, part) => {
-            let part = vector_of_tree(alloc, part, scan)?;
-            Ok(Operand::Own(extract(alloc, *day_part, part.vector())?))
+            let part = worked_out(alloc, part, scan)?;
+            let values = part.lend(alloc, scan)?;
+            Ok(Worked::Values(extract(alloc, *day_part, values.vector())?))
         }
     }
 }

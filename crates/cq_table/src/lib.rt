@@ -9,8 +9,6 @@ mod fault;
 mod images;
 mod in_place;
 mod table;
-#[cfg(test)]
-mod tests;
 
 pub use fault::TableFault;
 pub use table::{Exchange, Table};

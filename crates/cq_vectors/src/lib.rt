@@ -7,8 +7,6 @@
 mod batch;
 mod days;
 mod numbers;
-#[cfg(test)]
-mod tests;
 mod texts;
 mod vector;
 mod wide_numbers;

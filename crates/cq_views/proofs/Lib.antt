@@ -1,3 +1,4 @@
+pub mod Choosing
 pub mod Building
 pub mod Moves
 pub mod Narrow

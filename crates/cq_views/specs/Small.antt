@@ -34,6 +34,10 @@ pub record StandsOnStored (v : KeptView) : Type 0 where
   pub stored : AllByRecursion IsStored rows
   pub stands : Stands v (once_each rows)
 
+-- a row that WHERE keeps adds to no aggregate more than a number can be
+abbrev pub HasSmallArguments : Query → Row → Type 0
+HasSmallArguments query row = AllByRecursion (IsSmall row) (aggregates_of query)
+
 -- if WHERE keeps the row, it adds to no aggregate more than a number can be
 abbrev pub IsSmallFor : Query → Row → Type 0
 IsSmallFor query row = keeps query.filter row ≡ true → AllByRecursion (IsSmall row) (aggregates_of query)

@@ -41,9 +41,17 @@ changed rows weight = map (λ r. (r, weight)) rows
 abbrev pub exchanged : List Row → List Row → Weighted
 exchanged gone come = changed gone (neg_ℤ (pos 1)) ++ changed come (pos 1)
 
+-- what changed rows that WHERE keeps add to the view's groups
+abbrev pub additions_of : Query → Weighted → List Addition
+additions_of query dxs = additions (key_columns query) (aggregates_of query) dxs
+
 -- what changed rows of the table add to the view's groups
 abbrev pub change_of : Query → Weighted → List Addition
 change_of query dxs = additions (key_columns query) (aggregates_of query) (kept_rows query dxs)
+
+-- no value on the way to an aggregate's argument is too wide at the row
+abbrev pub HasNarrowArguments : Query → Row → Type 0
+HasNarrowArguments query row = AllByRecursion (IsNarrow row) (aggregates_of query)
 
 -- no value in WHERE, or on the way to an aggregate's argument, is too wide at the row
 pub record IsNarrowFor (query : Query) (row : Row) : Type 0 where

@@ -1,13 +1,15 @@
 //! What a write changes in a view.
 ghost use Rattle.std.specs.List.{AllByRecursion};
 ghost use Rattle.std.specs.Prelude.{◌++◌, ◌∷◌, ◌≡◌, IfOk, OnErr, OnOk, [], map};
-ghost use Rattle.cq_views.specs.Small.{IsSmallFor};
-ghost use Rattle.cq_views.specs.View.{IsNarrowFor, change_of, changed, exchanged};
+ghost use Rattle.cq_bags.specs.Bag.{once_each};
+ghost use Rattle.cq_views.specs.Small.{HasSmallArguments, IsSmallFor};
+ghost use Rattle.cq_views.specs.View.{HasNarrowArguments, IsNarrowFor, additions_of, change_of, changed, exchanged};
 
 use crate::query::{aggregates_of, key_columns};
 use cq_deltas::GroupChange;
 use cq_eval::keeps;
 use cq_model::Query;
+use cq_scans::kept;
 use cq_values::{Row, Value};
 use std::alloc::{AllocError, Global};
 use std::marker::Model;
@@ -52,6 +54,34 @@ impl Pending {
             pending.push(alloc, query, row.as_slice(), weight)?;
         }
         Ok(pending)
+    }
+
+    /// What these rows change where all of them come. WHERE chooses among them 1,024 at a time.
+    pub(crate) fn of_table(
+        alloc: Global,
+        query: &Query,
+        rows: &[Row],
+    ) -> Result<Pending, AllocError>
+        requires { AllByRecursion (IsNarrowFor query.now) rows.now }
+        ensures ok { IfOk result (λ pending. pending ≡ change_of query.now (once_each rows.now)) }
+        ensures small { OnOk result (AllByRecursion (IsSmallFor query.now) rows.now) }
+    {
+        let chosen = kept(alloc, &query.filter, rows)?;
+        Pending::of_kept(alloc, query, &chosen)
+    }
+
+    /// What rows change that WHERE keeps, where all of them come.
+    fn of_kept(alloc: Global, query: &Query, rows: &[&Row]) -> Result<Pending, AllocError>
+        requires { AllByRecursion (λ r. HasNarrowArguments query.now r.now) rows.now }
+        ensures ok { IfOk result (λ p. p ≡ additions_of query.now (once_each (map (λ r. r.now) rows.now))) }
+        ensures small { OnOk result (AllByRecursion (λ r. HasSmallArguments query.now r.now) rows.now) }
+    {
+        let (keys, aggregates) = (key_columns(query), aggregates_of(query));
+        let mut change = GroupChange::new(alloc);
+        for row in rows {
+            change.push(alloc, keys, aggregates, row.as_slice(), 1)?;
+        }
+        Ok(Pending { change })
     }
 
     /// What these rows change where the first go and the others come.

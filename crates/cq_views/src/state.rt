@@ -61,10 +61,7 @@ impl ViewState {
         ensures stands { IfOk result (λ v. Stands v (once_each rows.now)) }
         ensures small { OnOk result (AllByRecursion (IsSmallFor query) rows.now) }
     {
-        let mut pending = Pending::new(alloc);
-        for row in rows {
-            pending.push(alloc, &query, row.as_slice(), 1)?;
-        }
+        let pending = Pending::of_table(alloc, &query, rows)?;
         let mut view = ViewState::empty(alloc, query, epoch);
         view.ready(alloc, &pending)?;
         view.commit(pending, epoch);

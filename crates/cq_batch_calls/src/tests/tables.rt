@@ -1,0 +1,39 @@
+//! A table at the edges of what it may hold.
+ghost use Rattle.std.specs.Prelude.{◌∷◌, ◌≡◌, IfOk, [], pos};
+ghost use Rattle.cq_values.specs.declared.value.Value.TheVariants.{Number};
+
+use cq_table::{Table, TableFault};
+use cq_values::{ColumnDef, Row, Seq, Text, Ty, Value};
+use std::alloc::{AllocError, Global};
+use std::test::Fail;
+
+/// A row of the number 7.
+fn seven(alloc: Global) -> Result<Row, Fail>
+    ensures { IfOk result (λ row. row ≡ Number (pos 7) ∷ []) }
+{
+    let mut row = Row::new(alloc);
+    row.push(Value::Number(7))?;
+    Ok(row)
+}
+
+#[test]
+fn a_table_takes_as_many_rows_as_it_may_have(rt: HostRuntime) -> Result<(), Fail> {
+    let alloc = rt.alloc();
+    let name = Text::new(alloc, "n")?;
+    let mut columns = Seq::new(alloc);
+    columns.push(ColumnDef {
+        name,
+        ty: Ty::Integer,
+        not_null: true,
+    })?;
+    let mut table = Table::new(alloc, columns, Seq::new(alloc), 2);
+    let mut two = Vec::new(alloc);
+    two.push(seven(alloc)?)?;
+    two.push(seven(alloc)?)?;
+    let mut one = Vec::new(alloc);
+    one.push(seven(alloc)?)?;
+    assert!(rt; table.insert(two).is_ok());
+    assert!(rt; table.insert(one) == Err(TableFault::Full));
+    assert_eq!(rt; table.len(), 2);
+    Ok(())
+}
