@@ -43,6 +43,10 @@ Begins s f result = Gives (first_walk f (source_named f.name s)) shown_from resu
 abbrev pub Joins : State → From → JoinedSource → Result FromClause Fault → Type 0
 Joins s from j result = Gives (join_walk from j (source_named j.source.name s)) shown_from result
 
+-- or with this source that is there
+abbrev pub JoinsFound : From → JoinedSource → FoundSource → Result FromClause Fault → Type 0
+JoinsFound from j found result = Gives (join_walk from j (Some (shown_source found))) shown_from result
+
 -- an equality of ON over these columns, of which the source that is joined has those from a place on
 abbrev pub BindsEquality : List ScopeColumn → ℕ → OnEquality → Result Equality Fault → Type 0
 BindsEquality columns before e result = WalksTo (equality_check columns before e ∷ []) (equality_of columns before e) result

@@ -1,9 +1,9 @@
 //! FROM: its sources, each joined to those before it.
-ghost use Rattle.std.specs.Prelude.{◌+◌, ◌≡◌, ◌<◌, ◌≤◌, IfOk, OnOk, Some, length, nat_lt};
-ghost use Rattle.cq_binding.specs.From.{base_limit, equality_at, first_from, from_walk, join_walk, may_equal};
+ghost use Rattle.std.specs.Prelude.{◌+◌, ◌≡◌, ◌<◌, ◌≤◌, IfOk, OnOk, length, nat_lt};
+ghost use Rattle.cq_binding.specs.From.{base_limit, equality_at, first_from, from_walk, may_equal};
 ghost use Rattle.cq_binding.specs.Scopes.{source_named};
 ghost use Rattle.cq_catalog.specs.Catalog.{state_of};
-ghost use Rattle.cq_catalog.specs.From.{AreBehind, Begins, BindsEquality, BindsOn, Finds, Gives, Joins, shown_from, shown_source};
+ghost use Rattle.cq_catalog.specs.From.{AreBehind, Begins, BindsEquality, BindsOn, Finds, Gives, Joins, JoinsFound, shown_from, shown_source};
 
 use crate::catalog::{Catalog, TableEntry, ViewEntry};
 use crate::scopes::{known_as, push_shown, push_stored};
@@ -140,7 +140,7 @@ fn joined<'a>(
     join: &'a JoinedSource,
     found: &FoundSource<'a>,
 ) -> Result<FromClause<'a>, Fault>
-    ensures { Gives (join_walk (shown_from from.entry) join.now (Some (shown_source found.now))) shown_from result }
+    ensures { JoinsFound (shown_from from.entry) join.now found.now result }
 {
     let known = known_as(&join.source, found.name());
     if is_known(&from.columns, known) {

@@ -1,5 +1,6 @@
 -- A list that is being made, and the rows that it can still show.
-use Rattle.std.specs.Prelude.{◌↔◌, ◌++◌, ℕ, List, Option, Vec}
+use Rattle.std.specs.Prelude.{◌↔◌, ◌++◌, ℕ, List, Option, Result, IfOk, Vec}
+use Rattle.std.specs.declared.alloc.AllocError.{AllocError}
 use Rattle.std.specs.Global.{Global}
 use Rattle.cq_values.specs.Value.{Row}
 use Rattle.cq_bags.specs.declared.sort_key.SortKey.{SortKey}
@@ -39,3 +40,7 @@ TakesIn old new more = (all : List Row) → CanList old all → CanList new (all
 -- the rows are the listing of all of these
 abbrev pub AreListed : StoredListing → List Row → Vec Row Global → Type 0
 AreListed listing all rows = IsListing listing.keys listing.limit (once_each all) rows.items
+
+-- they are the listing of whatever the list can be of
+abbrev pub ListsAll : StoredListing → Result (Vec Row Global) AllocError → Type 0
+ListsAll listing result = (all : List Row) → CanList listing all → IfOk result (AreListed listing all)

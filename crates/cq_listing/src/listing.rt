@@ -6,7 +6,7 @@ ghost use Rattle.cq_bags.specs.Listing.{IsListing, Lists, first_rows};
 ghost use Rattle.cq_vectors.specs.Batch.{row_at, rows_of};
 ghost use Rattle.cq_listing.specs.Front.{IsWorst};
 ghost use Rattle.cq_listing.specs.Places.{ArePlaces, first_key as first_of};
-ghost use Rattle.cq_listing.specs.Stored.{AreListed, CanList, TakesIn};
+ghost use Rattle.cq_listing.specs.Stored.{CanList, ListsAll, TakesIn};
 
 use crate::comparing::{cmp_listed, lend_column};
 use crate::places::{copied, places_before, push_rows};
@@ -76,7 +76,7 @@ impl<'q> Listing<'q> {
 
     /// The one list that stands for all rows that were added.
     pub fn rows(self, alloc: Global) -> Result<Vec<Row>, AllocError>
-        ensures { (all : List Values) → CanList self.entry all → IfOk result (AreListed self.entry all) }
+        ensures { ListsAll self.entry result }
     {
         let Listing { order, rows, .. } = self;
         let mut rows = rows;

@@ -45,7 +45,11 @@ pub record CanWorkOut (assignments : List Assignment) (condition : Option Cond) 
   pub narrow : AllByRecursion (IsNarrowIn condition) rows
   pub sets : AllByRecursion (AreNarrowSets assignments) rows
 
--- why the values that assignments give in these rows may not be stored
+-- why the values that one assignment gives in these rows may not be stored
+abbrev pub one_fault : List ColumnDef → Assignment → List Row → Option Fault
+one_fault columns assignment rows = first_fault (value_checks columns rows assignment)
+
+-- and those of several assignments
 abbrev pub values_fault : List ColumnDef → List Assignment → List Row → Option Fault
 values_fault columns assignments rows = first_fault (flat_map (value_checks columns rows) assignments)
 

@@ -6,9 +6,8 @@ ghost use Rattle.cq_values.specs.Value.{column};
 ghost use Rattle.cq_model.specs.Eval.{eval};
 ghost use Rattle.cq_model.specs.Width.{IsNarrowAt};
 ghost use Rattle.cq_model.specs.Write.{image_of};
-ghost use Rattle.cq_binding.specs.Checks.{first_fault};
-ghost use Rattle.cq_binding.specs.UpdateChecks.{is_null, is_outside, never_null, value_checks};
-ghost use Rattle.cq_table.specs.Checks.{AreNarrowSets, IsChecked, values_fault};
+ghost use Rattle.cq_binding.specs.UpdateChecks.{is_null, is_outside, never_null};
+ghost use Rattle.cq_table.specs.Checks.{AreNarrowSets, IsChecked, one_fault, values_fault};
 
 use crate::fault::TableFault;
 use cq_eval::{eval_row, lend_column, narrow_is_exact};
@@ -38,7 +37,7 @@ fn check_value(
     rows: &[&Row],
 ) -> Result<(), TableFault>
     requires { AllByRecursion (λ r. IsNarrowAt assignment.now.value r.now) rows.now }
-    ensures { IsChecked (first_fault (value_checks columns.now (map (λ r. r.now) rows.now) assignment.now)) result }
+    ensures { IsChecked (one_fault columns.now assignment.now (map (λ r. r.now) rows.now)) result }
 {
     if gives_outside(&assignment.value, rows) {
         return Err(TableFault::NumberOutside);

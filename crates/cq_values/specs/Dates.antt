@@ -1,5 +1,5 @@
 -- Dates as they are written: four digits of the year, two of the month and two of the day, with dashes between them.
-use Rattle.std.specs.Prelude.{ℕ, ◌+◌, ◌*◌, ◌-◌, ℤ, pos, nat_le, ◌==◌, Bool, ◌&&◌, if◌then◌else◌, List, [], ◌∷◌, fold, Option, Some, None}
+use Rattle.std.specs.Prelude.{ℕ, ◌+◌, ◌*◌, ◌-◌, ℤ, pos, nat_le, ◌==◌, Bool, ◌&&◌, if◌then◌else◌, List, [], ◌∷◌, fold, Option, Some, None, ◌≡◌, MatchResult, Result}
 use Rattle.std.specs.List.{list_all}
 use Rattle.jiff_core.specs.Calendar.{days_in_month, days_from_civil}
 
@@ -26,3 +26,7 @@ day_named (a ∷ b ∷ c ∷ d ∷ dash ∷ e ∷ f ∷ hyphen ∷ g ∷ h ∷ [
     then day_at (number_of (a ∷ b ∷ c ∷ d ∷ [])) (number_of (e ∷ f ∷ [])) (number_of (g ∷ h ∷ []))
     else None
 day_named text = None
+
+-- the day that is named is told, and a fault where none is
+abbrev pub TellsDay : {E : Type 0} → Option ℤ → Result ℤ E → Type 0
+TellsDay named result = MatchResult result (λ d. named ≡ Some d) (λ _. named ≡ None)

@@ -1,7 +1,7 @@
 //! Dates as they are written.
-ghost use Rattle.std.specs.Prelude.{◌<◌, ◌≡◌, IfErr, IfOk, MatchResult, None, Some, [], ◌∷◌, codes, false, neg_ℤ, pos, true};
+ghost use Rattle.std.specs.Prelude.{◌<◌, ◌≡◌, IfErr, IfOk, Some, [], ◌∷◌, codes, false, neg_ℤ, pos, true};
 ghost use Rattle.std.specs.List.{list_all};
-ghost use Rattle.cq_values.specs.Dates.{day_at, day_named, is_digit, number_of};
+ghost use Rattle.cq_values.specs.Dates.{TellsDay, day_at, day_named, is_digit, number_of};
 ghost use Rattle.cq_values.specs.Days.{IsDay};
 
 use crate::day::Day;
@@ -18,9 +18,7 @@ pub enum DateFault {
 /// The day that a text names, as `2024-02-29` does.
 #[tactic(auto, unfolding(crate::specs::Dates::day_named))]
 pub fn date_of(text: &str) -> Result<Day, DateFault>
-    ensures named { MatchResult result
-        (λ d. day_named text.now ≡ Some d)
-        (λ _. day_named text.now ≡ None) }
+    ensures named { TellsDay (day_named text.now) result }
     ensures range { IfOk result IsDay }
 {
     match text.as_bytes() {
@@ -54,9 +52,7 @@ fn two_digits(tens: u8, units: u8) -> Result<u8, DateFault>
 
 fn day_at(year: u16, month: u8, day: u8) -> Result<Day, DateFault>
     requires { (year < 10_000) × (month < 100) × (day < 100) }
-    ensures named { MatchResult result
-        (λ d. day_at year month day ≡ Some d)
-        (λ _. day_at year month day ≡ None) }
+    ensures named { TellsDay (day_at year month day) result }
     ensures range { IfOk result IsDay }
 {
     match Date::new(year as i16, month as i8, day as i8) {
