@@ -6,7 +6,8 @@ use Rattle.cq_values.specs.declared.value.Value.{Value}
 use Rattle.cq_values.specs.Value.{Row, column}
 use Rattle.cq_keys.specs.declared.chain.Link.{Link}
 use Rattle.cq_keys.specs.Dictionary.{number_in}
-use Rattle.cq_keys.specs.Keys.{key_at}
+use Rattle.cq_keys.specs.Keys.{IsTable, key_at}
+use Rattle.cq_keys.specs.declared.dictionary.Dictionary.{Dictionary}
 
 -- the key of this number has this value in this column
 pub record HasValue (keys : List Row) (at : ℕ) (value : Value) (number : ℕ) : Type 0 where
@@ -43,3 +44,7 @@ pub record IsLink (keys : List Row) (at : ℕ) (link : Link) : Type 0 where
 -- a link for each of the first columns
 abbrev pub AreLinks : List Row → List Link → Type 0
 AreLinks keys links = (at : ℕ) (d : Link) → at < length links → IsLink keys at (slice_index_or links at d)
+
+-- a table of keys, and short ways to them
+abbrev pub IsLinked : ℕ → List Row → List Row → Dictionary → List Link → Type 0
+IsLinked width keys places values links = IsTable width keys places values × AreLinks keys links

@@ -1,8 +1,9 @@
 -- Keys, each once, as they were first met; the number of each is its place among them.
-use Rattle.std.specs.Prelude.{ℕ, ◌≡◌, ◌<◌, List, [], ◌∷◌, map, length, position, slice_index_or, Option}
+use Rattle.std.specs.Prelude.{ℕ, ℤ, ◌≡◌, ◌<◌, List, [], ◌∷◌, map, length, position, slice_index_or, Option}
 use Rattle.std.specs.Borrow.{Bor}
 use Rattle.std.specs.List.{AllByRecursion, IsDistinct, range_with_len}
 use Rattle.cq_values.specs.declared.value.Value.{Value}
+use Rattle.cq_values.specs.declared.value.Value.TheVariants.{Number}
 use Rattle.cq_values.specs.Value.{Row}
 use Rattle.cq_values.specs.Order.{same_row}
 use Rattle.cq_vectors.specs.Batch.{row_at}
@@ -38,6 +39,10 @@ HasLength len values = length values ≡ len
 -- the key at each place of the columns
 abbrev pub key_rows : ℕ → List (List Value) → List Row
 key_rows len columns = map (row_at columns) (range_with_len 0 len)
+
+-- the key of each number
+abbrev pub rows_of_numbers : List ℤ → List Row
+rows_of_numbers numbers = key_rows (length numbers) (map Number numbers ∷ [])
 
 -- the key of a number
 abbrev pub key_at : List Row → ℕ → Row

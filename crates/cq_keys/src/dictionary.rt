@@ -53,6 +53,13 @@ impl Dictionary {
         }
     }
 
+    /// The number of a number of 64 bits.
+    pub(crate) fn narrow_number(&self, number: i64) -> Option<usize>
+        ensures { result ≡ number_in self.now (Number number) }
+    {
+        self.numbers.get(&number).copied()
+    }
+
     /// Gives the value this number.
     pub(crate) fn put(
         &mut self,

@@ -1,14 +1,16 @@
 //! Tables of keys.
 ghost use Rattle.std.specs.List.{AllByRecursion, IsDistinct};
-ghost use Rattle.std.specs.Prelude.{IfOk, OnOk, length, map, ◌++◌, ◌∷◌, ◌<◌, ◌≡◌, ◌≤◌, Some, []};
+ghost use Rattle.std.specs.Prelude.{IfOk, IfSome, OnOk, length, map, ◌++◌, ◌∷◌, ◌<◌, ◌≡◌, ◌≤◌, Some, []};
 ghost use Rattle.indexmap.specs.IndexSet.{insert_key};
 ghost use Rattle.cq_values.specs.Lent.{owned};
+ghost use Rattle.cq_values.specs.declared.value.Value.TheVariants.{Number};
 ghost use Rattle.cq_values.specs.Order.{same_row};
 ghost use Rattle.cq_bags.specs.Bag.{firsts};
-ghost use Rattle.cq_keys.specs.Keys.{AreKeys, AreWithin, HasLength, IsNumberOf, key_at, key_rows, place_of, places_of, row_in, values_of};
+ghost use Rattle.cq_keys.specs.Keys.{AreKeys, AreWithin, HasLength, IsNumberOf, key_at, key_rows, place_of, places_of, row_in, rows_of_numbers, values_of};
 
 use crate::chain::Chain;
 use crate::dictionary::Dictionary;
+use crate::whole::whole_numbers;
 use cq_values::{Lent, Row, copy_row};
 use cq_vectors::Vector;
 use indexmap::IndexSet;
@@ -26,14 +28,14 @@ pub struct KeyTable {
 }
 
 impl Model for KeyTable {
-    ghost use Rattle.cq_keys.specs.Chain.{AreLinks};
-    ghost use Rattle.cq_keys.specs.Keys.{IsTable, StoredKeys};
+    ghost use Rattle.cq_keys.specs.Chain.{IsLinked};
+    ghost use Rattle.cq_keys.specs.Keys.{StoredKeys};
 
     ghost Value = { StoredKeys };
 
     ghost view = { λ t. record { width = t.width; keys = t.keys.items } };
 
-    ghost invariant = { λ t. IsTable t.width t.keys.items t.places.keys t.values × AreLinks t.keys.items t.chain.links.items };
+    ghost invariant = { λ t. IsLinked t.width t.keys.items t.places.keys t.values t.chain.links.items };
 }
 
 impl KeyTable {
@@ -67,6 +69,9 @@ impl KeyTable {
         ensures width { self.new.width ≡ self.old.width }
     {
         let _width = self.width;
+        if let Some(values) = lone_numbers(columns) {
+            return self.add_numbers(alloc, values, numbers);
+        }
         numbers.clear();
         for place in 0..len {
             let number = self.number(alloc, columns, place)?;
@@ -88,6 +93,9 @@ impl KeyTable {
         requires few { len ≤ 1024 }
         ensures { OnOk result (numbers.new.items ≡ places_of self.now.keys (key_rows len (values_of columns.now))) }
     {
+        if let Some(values) = lone_numbers(columns) {
+            return self.find_numbers(values, numbers);
+        }
         numbers.clear();
         for place in 0..len {
             let found = self.place_of(alloc, columns, place)?;
@@ -143,6 +151,68 @@ impl KeyTable {
         Ok(self.places.get_index_of(&key))
     }
 
+    /// Puts in what is new of the keys of these numbers, and tells the number of each.
+    fn add_numbers(
+        &mut self,
+        alloc: Global,
+        values: &[i64],
+        numbers: &mut Vec<usize>,
+    ) -> Result<(), AllocError>
+        requires { self.old.width ≡ 1 }
+        ensures keys { OnOk result (self.new.keys ≡ firsts (self.old.keys ++ rows_of_numbers values.now)) }
+        ensures numbers { OnOk result (map (key_at self.new.keys) numbers.new.items ≡ rows_of_numbers values.now) }
+        ensures within { OnOk result (AreWithin self.new.keys numbers.new.items) }
+        ensures width { self.new.width ≡ self.old.width }
+    {
+        let _width = self.width;
+        numbers.clear();
+        numbers.reserve(values.len())?;
+        for place in 0..values.len() {
+            let number = self.lone_number(alloc, values[place])?;
+            numbers.push_reserved(number);
+        }
+        Ok(())
+    }
+
+    /// The number of the key of each number, None where it was never met.
+    fn find_numbers(
+        &self,
+        values: &[i64],
+        numbers: &mut Vec<Option<usize>>,
+    ) -> Result<(), AllocError>
+        requires { self.now.width ≡ 1 }
+        ensures { OnOk result (numbers.new.items ≡ places_of self.now.keys (rows_of_numbers values.now)) }
+    {
+        numbers.clear();
+        numbers.reserve(values.len())?;
+        for place in 0..values.len() {
+            numbers.push_reserved(self.lone_place(values[place]));
+        }
+        Ok(())
+    }
+
+    /// The number of the key of one number, None where it was never met.
+    fn lone_place(&self, value: i64) -> Option<usize>
+        requires { self.now.width ≡ 1 }
+        ensures { result ≡ place_of self.now.keys (Number value ∷ []) }
+    {
+        self.values.narrow_number(value)
+    }
+
+    /// The number of the key of one number, which is put in where it is new.
+    #[inline(always)]
+    fn lone_number(&mut self, alloc: Global, value: i64) -> Result<usize, AllocError>
+        requires { self.old.width ≡ 1 }
+        ensures keys { OnOk result (self.new.keys ≡ insert_key same_row self.old.keys (Number value ∷ [])) }
+        ensures number { IfOk result (IsNumberOf self.new.keys (Number value ∷ [])) }
+        ensures width { self.new.width ≡ self.old.width }
+    {
+        if let Some(number) = self.values.narrow_number(value) {
+            return Ok(number);
+        }
+        self.value_number(alloc, &Lent::Number(i128::from(value)))
+    }
+
     /// The number of the key at a place, which is put in where it is new.
     fn number(
         &mut self,
@@ -176,7 +246,7 @@ impl KeyTable {
         ensures number { IfOk result (IsNumberOf self.new.keys (row_in columns.now place)) }
         ensures width { self.new.width ≡ self.old.width }
     {
-        if let Some(number) = self.chain.find(columns, place) {
+        if let Some(number) = self.known_number(columns, place) {
             return Ok(number);
         }
         let key = key_of(alloc, columns, place)?;
@@ -185,7 +255,27 @@ impl KeyTable {
         Ok(number)
     }
 
+    /// The number of a key of no or of several values, if a short way to it is known.
+    fn known_number(&self, columns: &[&Vector<'_>], place: usize) -> Option<usize>
+        requires { length columns.now ≡ self.now.width }
+        ensures { IfSome result (IsNumberOf self.now.keys (row_in columns.now place)) }
+    {
+        if columns.is_empty() {
+            return self.empty_number();
+        }
+        self.chain.find(columns, place)
+    }
+
+    /// The number of the key of no values, if it was met.
+    fn empty_number(&self) -> Option<usize>
+        requires { self.now.width ≡ 0 }
+        ensures { IfSome result (IsNumberOf self.now.keys []) }
+    {
+        if self.keys.is_empty() { None } else { Some(0) }
+    }
+
     /// The number of a key of one value, which is put in where it is new.
+    #[inline(never)]
     fn value_number(&mut self, alloc: Global, value: &Lent<'_>) -> Result<usize, AllocError>
         requires { self.old.width ≡ 1 }
         ensures keys { OnOk result (self.new.keys ≡ insert_key same_row self.old.keys (owned value.now ∷ [])) }
@@ -221,6 +311,16 @@ impl KeyTable {
         self.keys.push_reserved(key);
         Ok(number)
     }
+}
+
+/// The numbers of the only column, where each is one of 64 bits.
+fn lone_numbers<'c>(columns: &'c [&Vector<'_>]) -> Option<&'c [i64]>
+    ensures { IfSome result (λ numbers. values_of columns.now ≡ map Number numbers.now ∷ []) }
+{
+    if columns.len() != 1 {
+        return None;
+    }
+    whole_numbers(columns.first()?)
 }
 
 /// The key of one value.

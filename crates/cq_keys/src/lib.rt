@@ -7,5 +7,7 @@
 mod chain;
 mod dictionary;
 mod key_table;
+mod whole;
 
 pub use key_table::KeyTable;
+pub use whole::whole_numbers;
