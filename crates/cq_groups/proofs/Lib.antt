@@ -3,6 +3,7 @@ pub mod Extremes
 pub mod Holding
 pub mod Keeping
 pub mod KeysMet
+pub mod Known
 pub mod Listed
 pub mod Occurring
 pub mod Once

@@ -14,7 +14,7 @@ times-listed [] i d h = absurd (omega arith)
 times-listed (r ∷ rows) zero d h = rw (same_row-refl r) (omega arith)
 times-listed (r ∷ rows) (suc i) d h = let rest = times-listed rows i d (omega arith) in omega (arith, rest)
 
-is_there : (rows : List Row) (i : ℕ) (d : Row) → i < length rows → pos 0 <ℤ weight_of (once_each rows) (get_or rows i d)
+pub is_there : (rows : List Row) (i : ℕ) (d : Row) → i < length rows → pos 0 <ℤ weight_of (once_each rows) (get_or rows i d)
 is_there rows i d h = rw (weight_of-once_each rows (get_or rows i d)) (omega (arith, ints, times-listed rows i d h))
 
 -- what holds at each place holds of all

@@ -1,5 +1,5 @@
 -- How values are put into what is kept of groups, each into the group of its number.
-use Rattle.std.specs.Prelude.{ℕ, ℤ, ◌+◌, ◌*◌, ◌^◌, ◌≤◌, ◌<◌, pos, ◌+ℤ◌, ◌==◌, nat_abs, if◌then◌else◌, List, [], ◌∷◌, slice_index_or, slice_set}
+use Rattle.std.specs.Prelude.{ℕ, ℤ, ◌+◌, ◌*◌, ◌^◌, ◌≤◌, ◌<◌, pos, ◌+ℤ◌, ◌==◌, nat_abs, if◌then◌else◌, ◌≡◌, false, List, [], ◌∷◌, length, slice_index_or, slice_set}
 use Rattle.std.specs.List.{AllByRecursion}
 use Rattle.cq_values.specs.declared.value.Value.{Value}
 use Rattle.cq_values.specs.declared.value.Value.TheVariants.{Null, Number}
@@ -15,6 +15,10 @@ put_all put nothing [] values slots = slots
 put_all put nothing (n ∷ numbers) [] slots = slots
 put_all put nothing (n ∷ numbers) (v ∷ values) slots =
     put_all put nothing numbers values (slice_set slots n (put (slice_index_or slots n nothing) v))
+
+-- none of the values is NULL
+abbrev pub AreKnown : List Value → Type 0
+AreKnown values = (place : ℕ) → place < length values → is_null (slice_index_or values place Null) ≡ false
 
 -- NULL is not counted
 abbrev pub put_count : ℕ → Value → ℕ

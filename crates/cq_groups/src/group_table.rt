@@ -13,10 +13,13 @@ use crate::shown::shown_row;
 use crate::slots::Slots;
 use cq_keys::KeyTable;
 use cq_model::Aggregate;
-use cq_scans::Scan;
+use cq_scans::{Scan, refused_room};
 use cq_values::{Row, Seq};
 use std::alloc::{AllocError, Global};
 use std::marker::Model;
+
+/// How many rows can be counted.
+const COUNT_SIZE: u128 = 1 << 96;
 
 /// Groups of rows, as they were first met, with what each aggregate needs of them.
 #[derive(Drop)]
@@ -64,19 +67,20 @@ impl<'q> GroupTable<'q> {
         })
     }
 
-    /// Adds rows to their groups. After an `Err` the table stands for no rows that one could name.
+    /// Adds rows to their groups. After an `Err` the table stands for no rows that one could name. More than 2^96 rows are
+    /// refused: there is no memory for their count.
     pub fn add(&mut self, alloc: Global, scan: &Scan<'q>) -> Result<(), AllocError>
         requires exact { AllByRecursion (AreExactOver self.old.aggregates) scan.now }
-        requires room { self.old.count + length scan.now ≤ count_size }
         ensures holds { OnOk result ((rows : List Values) → Holds self.old rows → Holds self.new (rows ++ scan.now)) }
         ensures count { OnOk result (self.new.count ≡ self.old.count + length scan.now) }
         ensures keys { self.new.keys ≡ self.old.keys }
         ensures aggregates { self.new.aggregates ≡ self.old.aggregates }
     {
+        let count = counted(alloc, self.count, scan.len())?;
         let mut numbers = Vec::new(alloc);
         number_rows(alloc, self.keys, scan, &mut self.found, &mut numbers)?;
         let groups = self.found.len();
-        self.count += scan.len() as u128;
+        self.count = count;
         add_all(
             alloc,
             self.aggregates,
@@ -91,6 +95,7 @@ impl<'q> GroupTable<'q> {
     pub fn rows(&self, alloc: Global) -> Result<Vec<Row>, GroupFault>
         ensures ok { (rows : List Values) → Holds self.now rows → IfOk result (AreGroups self.now rows) }
         ensures range { (rows : List Values) → Holds self.now rows → OnOk result (CanBeShown self.now rows) }
+        ensures few { (rows : List Values) → Holds self.now rows → OnOk result (length rows ≤ count_size) }
         ensures fault { (rows : List Values) → Holds self.now rows → IfErr result (IsGroupsFault self.now rows) }
     {
         let keys = self.found.keys();
@@ -101,4 +106,17 @@ impl<'q> GroupTable<'q> {
         }
         Ok(rows)
     }
+}
+
+/// How many rows there are with so many more.
+fn counted(alloc: Global, count: u128, more: usize) -> Result<u128, AllocError>
+    requires { count ≤ count_size }
+    ensures all { IfOk result (λ all. all ≡ count + more) }
+    ensures few { IfOk result (λ all. all ≤ count_size) }
+{
+    let all = count + more as u128;
+    if all > COUNT_SIZE {
+        refused_room(alloc)?;
+    }
+    Ok(all)
 }

@@ -1,12 +1,14 @@
 //! Sums of groups.
-ghost use Rattle.std.specs.Prelude.{◌++◌, replicate, ℕ, ◌+◌, ◌^◌, ◌≡◌, ◌≤◌, IfErr, IfOk, OnErr, OnOk, [], length, slice_index_or};
+ghost use Rattle.std.specs.Prelude.{◌++◌, replicate, ℕ, ◌+◌, ◌^◌, ◌≡◌, ◌≤◌, IfErr, IfOk, OnErr, OnOk, [], length, map, slice_index_or};
 ghost use Rattle.cq_values.specs.Lent.{owned};
+ghost use Rattle.cq_values.specs.declared.value.Value.TheVariants.{Number};
 ghost use Rattle.cq_model.specs.Group.{InRange};
 ghost use Rattle.cq_groups.specs.declared.fault.GroupFault.TheVariants.{SumOutOfRange};
 ghost use Rattle.cq_groups.specs.Puts.{AreNumbers, AreSumsWithin, IsSumWithin, no_sum, put_all, put_sum, shown_sum};
 ghost use Rattle.cq_groups.specs.Slots.{grown};
 
 use crate::fault::GroupFault;
+use cq_keys::whole_numbers;
 use cq_values::{Lent, Total, Value};
 use cq_vectors::Vector;
 use std::alloc::{AllocError, Global};
@@ -122,6 +124,31 @@ impl Sums {
 }
 
 fn put_sums(sums: &mut [Sum], numbers: &[usize], values: &Vector<'_>)
+    requires there { AreNumbers (length sums.old) numbers.now }
+    requires same { length numbers.now ≡ length values.now }
+    requires room { AreSumsWithin (2 ^ 96) sums.old }
+    ensures sums { sums.new ≡ put_all put_sum no_sum numbers.now values.now sums.old }
+    ensures within { (n : ℕ) → AreSumsWithin n sums.old → AreSumsWithin (n + length numbers.now) sums.new }
+{
+    match whole_numbers(values) {
+        Some(whole) => put_numbers(sums, numbers, whole),
+        None => put_each(sums, numbers, values),
+    }
+}
+
+fn put_numbers(sums: &mut [Sum], numbers: &[usize], values: &[i64])
+    requires there { AreNumbers (length sums.old) numbers.now }
+    requires same { length numbers.now ≡ length values.now }
+    requires room { AreSumsWithin (2 ^ 96) sums.old }
+    ensures sums { sums.new ≡ put_all put_sum no_sum numbers.now (map Number values.now) sums.old }
+    ensures within { (n : ℕ) → AreSumsWithin n sums.old → AreSumsWithin (n + length numbers.now) sums.new }
+{
+    for place in 0..numbers.len() {
+        sums[numbers[place]].put(&Lent::Number(i128::from(values[place])));
+    }
+}
+
+fn put_each(sums: &mut [Sum], numbers: &[usize], values: &Vector<'_>)
     requires there { AreNumbers (length sums.old) numbers.now }
     requires same { length numbers.now ≡ length values.now }
     requires room { AreSumsWithin (2 ^ 96) sums.old }

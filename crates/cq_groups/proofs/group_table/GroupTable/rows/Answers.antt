@@ -51,3 +51,7 @@ returns-clause-range c =
     let all : take c.loop-group.group found ≡ t.found =
     take_all c.loop-group.group found (omega (arith, c.loop-group-test.false)) ∙ c.keys-keys.ensures.keys ∙ ap (λ (u : StoredGroups). u.found) c.self.view_is in
     λ of h. ranges-are_grouped t.keys t.aggregates of (subst (AreShown t.keys t.aggregates of) (all ∙ h.found) (c.loop-group.invariant.range of h))
+
+-- what the table counts is the number of rows
+pub returns-clause-few : goal.returns-clause-few
+returns-clause-few c = λ of h. omega (arith, h.count, c.self.invariant.few, ap (λ (u : StoredGroups). u.count) c.self.view_is)
