@@ -1,23 +1,27 @@
--- What is nowhere too wide on lent rows is exact on the rows that they become.
-use Rattle.std.proofs.Common.{◌≡◌, ◌≤◌, ◌<◌, ◌+◌, ◌⊎◌, ℕ, zero, suc, ℤ, pos, ◌<ℤ◌, List, [], ◌∷◌, filter, length, map, get_or, Option, Some, None, Result, Ok, Err, refl, sym, ◌∙◌, ap, ap₂, inl, inr, subst, arith, Vec, Global, Bool}
+-- A query that can be worked out with the sizes of columns is exact on the rows that lent rows become.
+use Rattle.std.proofs.Common.{◌≡◌, ◌<◌, ◌+◌, ℕ, suc, ℤ, pos, ◌<ℤ◌, List, [], ◌∷◌, ◌++◌, append_assoc, filter, length, map, get_or, Option, Some, None, Ok, Err, refl, sym, ◌∙◌, ap, inr, subst, arith, Vec, Global}
 use Rattle.std.specs.Prelude.{if◌then◌else◌}
-use Rattle.std.proofs.lemmas.Bool.{cases_lt}
 use Rattle.std.proofs.lemmas.Int.{ints}
+use Rattle.std.proofs.lemmas.List.{length-append}
 use Rattle.std.specs.Borrow.{Bor}
-use Rattle.std.specs.List.{AllByRecursion, Any}
+use Rattle.std.specs.List.{AllByRecursion, flat_map}
 use Rattle.cq_values.specs.Value.{Row}
-use Rattle.cq_bags.specs.Bag.{Weighted, distinct, filtered, once_each, weight_of}
+use Rattle.cq_bags.specs.Bag.{IsBag, Weighted, distinct, once_each, weight_of}
 use Rattle.cq_bags.specs.Listing.{IsListing}
-use Rattle.cq_bags.proofs.Distincts.{once_each-filter}
-use Rattle.cq_bags.proofs.Totals.{by_test}
-use Rattle.cq_binding.specs.declared.fault.Fault.{Fault}
 use Rattle.cq_binding.specs.declared.fault.Fault.TheVariants as faults
 use Rattle.cq_eval.specs.Laws.{NarrowIsExact, NarrowIsExactIn}
+use Rattle.cq_exprs.specs.Expressions.{IsArgumentNarrow}
 use Rattle.cq_groups.specs.Exact.{AreExactOver, IsExactFor}
-use Rattle.cq_groups.specs.declared.fault.GroupFault.{GroupFault}
-use Rattle.cq_groups.specs.declared.fault.GroupFault.TheVariants.{Memory, SumOutOfRange}
+use Rattle.cq_groups.specs.declared.fault.GroupFault.TheVariants.{SumOutOfRange}
+use Rattle.cq_groups.proofs.Listed.{count_all-listed}
+use Rattle.cq_groups.proofs.Once.{is_there}
 use Rattle.cq_joins.specs.Linked.{HaveOneWidth, IsExactBy}
-use Rattle.cq_model.specs.Exact.{AreExactAt, IsExactAt}
+use Rattle.cq_laws.specs.Sizes.{GroupsKeepSizes, HasSizes, JoinedHaveSizes, JoinedRowsKeepSizes, KeepsColumns, grouped_sizes}
+use Rattle.cq_laws.proofs.Columns.{listed-columns}
+use Rattle.cq_laws.proofs.Positives.{once_each-bag}
+use Rattle.cq_lent.specs.Lent.{lent_bags, rows_or}
+use Rattle.cq_lent.specs.declared.lent.Lent.{Lent}
+use Rattle.cq_model.specs.Exact.{AreExactAt}
 use Rattle.cq_model.specs.Expr.{Cond, Expr}
 use Rattle.cq_model.specs.declared.query.Aggregate.{Aggregate}
 use Rattle.cq_model.specs.declared.query.Aggregate.TheVariants.{CountAll, Count, Sum, Min, Max}
@@ -27,24 +31,19 @@ use Rattle.cq_model.specs.declared.query.Query.{Query}
 use Rattle.cq_model.specs.declared.query.Shape.{Shape}
 use Rattle.cq_model.specs.declared.query.Shape.TheVariants.{Grouped, Plain}
 use Rattle.cq_model.specs.declared.query.Source.{Source}
-use Rattle.cq_model.specs.Group.{SumsInRange, count_all, group_row, grouped, keys_of, rows_of_key}
-use Rattle.cq_model.specs.Meaning.{ShapeInRange, chain, joined_rows, keeps, meaning, shaped, shown}
-use Rattle.cq_model.specs.Sizes.{count_size}
-use Rattle.cq_model.specs.Width.{extent, number_limit, widest_at}
-use Rattle.cq_operators.specs.Selected.{CanSelect, CanShape, CanShow, SelectsRows, joined_sources, kept_rows, links_of, rows_in, rows_of_all}
-use Rattle.cq_plain.specs.declared.lent.Lent.{Lent}
-use Rattle.cq_plain.specs.Joins.{all_joined}
-use Rattle.cq_plain.specs.Lent.{lent_bags, rows_or, same_source}
-use Rattle.cq_plain.specs.Wide.{AtSomeRow, IsCountable, IsItemWide, IsQueryWide, IsShapeWide, IsShownWide, IsWideAmong, IsWideAt, IsWideIn, IsWideOver}
-use Rattle.cq_plain.proofs.ListedGroups.{count_all-listed}
-use Rattle.cq_plain.proofs.Once.{is_there}
-use Rattle.cq_plan.specs.Chain.{AreOf, chain_list}
-use Rattle.cq_plan.specs.Laws.{ChainOfLists}
-use Rattle.cq_answers.specs.Lent.{AreEven, AreOthers, joined_most, rows_for}
+use Rattle.cq_model.specs.Group.{group_row, grouped, keys_of, rows_of_key}
+use Rattle.cq_model.specs.Meaning.{ShapeInRange, chain, joined_rows, keeps, shown}
+use Rattle.cq_model.specs.Views.{sources_of}
+use Rattle.cq_model.specs.Width.{IsNarrowIn, sizes_of}
+use Rattle.cq_operators.specs.Selected.{AreCounted, CanAskBelow, CanAskOwn, CanAskSources, CanSelect, CanShape, CanShow, SelectsRows, joined_sources, kept_rows, links_of, rows_in, rows_of_all}
+use Rattle.cq_plan.specs.Chain.{AreOf, HaveValues}
+use Rattle.cq_plan.specs.Laws.{ChainOfLists, OwnConditionsAreExact}
+use Rattle.cq_scans.proofs.Lists.{all-kept, all-weaker}
+use Rattle.cq_answers.specs.Lent.{AreOthers, CanAnswer, HaveSizes, rows_for}
+use Rattle.cq_answers.specs.Narrow.{AreArgumentsSized, AreItemsSized, IsConditionSized, IsShapeSized}
 use Rattle.cq_answers.specs.Selects.{SelectsLent}
-use Rattle.cq_answers.proofs.Counted.{fewer-kept, most-joined}
 
--- ---- what is there
+-- ---- rows that are there
 -- what holds of each row that is there holds of each that is listed
 listed-all : (P : Row → Type 0) (rows : List Row) → ((i : ℕ) (d : Row) → i < length rows → P (get_or rows i d)) → AllByRecursion P rows
 listed-all P [] f = tt
@@ -53,60 +52,32 @@ listed-all P (r ∷ rows) f = (f 0 r (omega arith), listed-all P rows (λ i d h.
 all-there : (P : Row → Type 0) (rows : List Row) → ((row : Row) → pos 0 <ℤ weight_of (once_each rows) row → P row) → AllByRecursion P rows
 all-there P rows each = listed-all P rows (λ i d h. each (get_or rows i d) (is_there rows i d h))
 
--- what none of several has
-none : {X : Type 0} (P : X → Type 0) (xs : List X) → (Any P xs → ⊥) → AllByRecursion (λ x. P x → ⊥) xs
-none P [] never = tt
-none P (x ∷ xs) never = (
-  λ p. never (0, x, omega arith, refl, p),
-  none P xs (λ any. never (suc any.0, any.1, omega (arith, any.2), any.3, any.4)),
-)
-
--- a number that is not too large is small enough
-not_above : (m n : ℕ) → (n ≤ m → ⊥) → m < n
-not_above m n never = by_order (cases_lt m n)
-  where
-    by_order : (m < n) ⊎ (n ≤ m) → m < n
-    by_order (inl h) = h
-    by_order (inr h) = absurd (never h)
-
--- what no row that is there has, in which it is too wide, is exact in each
+-- ---- what is worked out in rows whose columns have sizes
 module _ (at : NarrowIsExact) (within : NarrowIsExactIn) where
-  exact_at : (e : Expr) (row : Row) → (IsWideAt e row → ⊥) → IsExactAt e row
-  exact_at e row never = at e row (not_above (extent e row).widest number_limit never)
-
   -- a condition
-  exact_by : (condition : Option Cond) (rows : List Row) → (IsWideAmong condition (once_each rows) → ⊥) → AllByRecursion (IsExactBy condition) rows
-  exact_by condition rows never = all-there (IsExactBy condition) rows (λ row h. one condition row (λ wide. never (row, h, wide)))
+  exact_by : (sizes : List ℕ) (condition : Option Cond) (rows : List Row) → IsConditionSized sizes condition → AllByRecursion (HasSizes sizes) rows → AllByRecursion (IsExactBy condition) rows
+  exact_by sizes condition rows can = all-weaker (λ row has. one condition row (can row has.sized)) rows
     where
-      one : (c : Option Cond) (row : Row) → (IsWideIn c row → ⊥) → IsExactBy c row
-      one None row never = tt
-      one (Some c) row never = within c row (not_above (widest_at c row) number_limit never)
+      one : (c : Option Cond) (row : Row) → IsNarrowIn c row → IsExactBy c row
+      one None row narrow = tt
+      one (Some c) row narrow = within c row narrow
 
   -- items
-  items_exact : (items : List Expr) (rows : List Row) → (IsItemWide items (once_each rows) → ⊥) → AllByRecursion (AreExactAt items) rows
-  items_exact items rows never = all-there (AreExactAt items) rows (λ row h. each row h items (none (λ e. AtSomeRow (IsWideAt e) (once_each rows)) items never))
-    where
-      each : (row : Row) → pos 0 <ℤ weight_of (once_each rows) row → (es : List Expr) → AllByRecursion (λ e. AtSomeRow (IsWideAt e) (once_each rows) → ⊥) es → AreExactAt es row
-      each row h [] all = tt
-      each row h (e ∷ es) all = (exact_at e row (λ wide. all.0 (row, h, wide)), each row h es all.1)
+  items_exact : (sizes : List ℕ) (items : List Expr) (rows : List Row) → AreItemsSized sizes items → AllByRecursion (HasSizes sizes) rows → AllByRecursion (AreExactAt items) rows
+  items_exact sizes items rows can = all-weaker (λ row has. all-weaker (λ e narrow. at e row narrow) items (can row has.sized)) rows
 
   -- the arguments of aggregates
-  over_exact : (aggregates : List Aggregate) (rows : List Row) → (Any (IsWideOver (once_each rows)) aggregates → ⊥) → AllByRecursion (AreExactOver aggregates) rows
-  over_exact aggregates rows never = all-there (AreExactOver aggregates) rows (λ row h. each row h aggregates (none (IsWideOver (once_each rows)) aggregates never))
+  over_exact : (sizes : List ℕ) (aggregates : List Aggregate) (rows : List Row) → AreArgumentsSized sizes aggregates → AllByRecursion (HasSizes sizes) rows → AllByRecursion (AreExactOver aggregates) rows
+  over_exact sizes aggregates rows can = all-weaker (λ row has. all-weaker (λ a narrow. one row a narrow) aggregates (can row has.sized)) rows
     where
-      one : (row : Row) → pos 0 <ℤ weight_of (once_each rows) row → (a : Aggregate) → (IsWideOver (once_each rows) a → ⊥) → IsExactFor a row
-      one row h CountAll never = tt
-      one row h (Count e) never = exact_at e row (λ wide. never (row, h, wide))
-      one row h (Sum e) never = exact_at e row (λ wide. never (row, h, wide))
-      one row h (Min e) never = exact_at e row (λ wide. never (row, h, wide))
-      one row h (Max e) never = exact_at e row (λ wide. never (row, h, wide))
+      one : (row : Row) (a : Aggregate) → IsArgumentNarrow (sizes_of row) a → IsExactFor a row
+      one row CountAll narrow = tt
+      one row (Count e) narrow = at e row narrow
+      one row (Sum e) narrow = at e row narrow
+      one row (Min e) narrow = at e row narrow
+      one row (Max e) narrow = at e row narrow
 
-      each : (row : Row) → pos 0 <ℤ weight_of (once_each rows) row → (asked : List Aggregate) → AllByRecursion (λ a. IsWideOver (once_each rows) a → ⊥) asked → AreExactOver asked row
-      each row h [] all = tt
-      each row h (a ∷ asked) all = (one row h a all.0, each row h asked all.1)
-
-  -- ---- what is shown of rows that can be counted
-  -- groups are listed
+  -- ---- what is shown of rows, and of their groups
   listed-again : (rows : List Row) → once_each rows ≡ once_each (rows_in (once_each rows))
   listed-again [] = refl
   listed-again (r ∷ rows) = ap (λ (xs : Weighted). (r, pos 1) ∷ xs) (listed-again rows)
@@ -115,44 +86,56 @@ module _ (at : NarrowIsExact) (within : NarrowIsExactIn) where
   groups-listed None aggregates xs = listed-again (group_row aggregates [] xs ∷ [])
   groups-listed (Some columns) aggregates xs = listed-again (map (λ k. group_row aggregates k (rows_of_key columns k xs)) (keys_of columns xs))
 
-  countable : (rows : List Row) → length rows ≤ count_size → IsCountable (once_each rows)
-  countable rows few = omega (arith, ints, count_all-listed rows, few)
+  module _ (law : GroupsKeepSizes) (sizes : List ℕ) (keys : Option (List ℕ)) (aggregates : List Aggregate) (rows : List Row) (sized : AllByRecursion (HasSizes sizes) rows) where
+    abbrev of_groups : List ℕ
+    of_groups = grouped_sizes sizes keys aggregates
 
-  can_shape : (shape : Shape) (items : List Expr) (rows : List Row) → length rows ≤ count_size
-      → (IsShapeWide shape (once_each rows) ⊎ (IsCountable (once_each rows) × ShapeInRange shape (once_each rows) × IsItemWide items (shaped shape (once_each rows))) → ⊥)
-      → CanShape shape items rows
-  can_shape Plain items rows few never = items_exact items rows (λ wide. never (inr (countable rows few, tt, wide)))
-  can_shape (Grouped keys aggregates having) items rows few never = (
-    over_exact aggregates rows (λ wide. never (inl (inl wide))),
-    λ range. record {
-      exact = exact_by having groups (λ wide. never (inl (inr (countable rows few, range, subst (IsWideAmong having) (sym are) wide))));
-      kept = items_exact items (filter (keeps having) groups) (λ wide. never (inr (countable rows few, range, subst (IsItemWide items) (sym kept_are) wide)));
-    },
+    abbrev groups : List Row
+    groups = rows_in (grouped keys aggregates (once_each rows))
+
+    groups_sized : AreCounted keys aggregates rows → AllByRecursion (HasSizes of_groups) groups
+    groups_sized counted =
+        let keep = law sizes keys aggregates (once_each rows) (once_each-bag rows) (listed-columns sizes rows sized)
+        (omega (arith, ints, count_all-listed rows, counted.few)) counted.range in
+        all-there (HasSizes of_groups) groups (subst (KeepsColumns of_groups) (groups-listed keys aggregates (once_each rows)) keep)
+
+    can_show : (having : Option Cond) (items : List Expr) → IsConditionSized of_groups having → AreItemsSized of_groups items → AreCounted keys aggregates rows → CanShow having items groups
+    can_show having items tested shown counted =
+        let have = groups_sized counted in
+        record {
+          exact = exact_by of_groups having groups tested have;
+          kept = items_exact of_groups items (filter (keeps having) groups) shown (all-kept (HasSizes of_groups) (keeps having) groups have);
+        }
+
+  can_shape : GroupsKeepSizes → (sizes : List ℕ) (shape : Shape) (items : List Expr) (rows : List Row) → IsShapeSized sizes shape items → AllByRecursion (HasSizes sizes) rows → CanShape shape items rows
+  can_shape law sizes Plain items rows can sized = items_exact sizes items rows can sized
+  can_shape law sizes (Grouped keys aggregates having) items rows can sized = (
+    over_exact sizes aggregates rows can.0 sized,
+    can_show law sizes keys aggregates rows sized having items can.1 can.2,
   )
-    where
-      groups : List Row
-      groups = rows_in (grouped keys aggregates (once_each rows))
 
-      are : grouped keys aggregates (once_each rows) ≡ once_each groups
-      are = groups-listed keys aggregates (once_each rows)
+-- ---- own conditions below the joins
+module _ (law : OwnConditionsAreExact) (where_is : Option Cond) (sizes : Source → List ℕ) (lents : List Lent) where
+  abbrev rows_at : Source → List Row
+  rows_at s = rows_or lents s []
 
-      kept_are : filtered (keeps having) (grouped keys aggregates (once_each rows)) ≡ once_each (filter (keeps having) groups)
-      kept_are = ap (filtered (keeps having)) are ∙ sym (once_each-filter (keeps having) groups)
+  -- the width of rows, of which there is one, is that of their columns
+  one-width : (wide : ℕ) (columns : List ℕ) (rows : List Row) → 0 < length rows → HaveValues wide rows → AllByRecursion (HasSizes columns) rows → wide ≡ length columns
+  one-width wide columns [] some values sized = absurd (omega (arith, some))
+  one-width wide columns (r ∷ rows) some values sized = sym values.0 ∙ sized.0.values
+
+  can_ask : (front : List ℕ) (before : ℕ) (sources : List Source) → before ≡ length front → AllByRecursion (HaveSizes sizes lents) sources → AllByRecursion (λ rows. 0 < length rows) (map rows_at sources)
+      → IsConditionSized (front ++ flat_map sizes sources) where_is → CanAskBelow where_is before (map rows_at sources)
+  can_ask front before [] is sized some can = tt
+  can_ask front before (s ∷ sources) is sized some can = λ wide values. (
+    subst (λ n. CanAskOwn where_is n wide (rows_at s)) (sym is)
+        (λ cs own. law where_is front (sizes s) (flat_map sizes sources) wide cs (rows_at s) can own (all-weaker (λ row has. has.sized) (rows_at s) sized.0)),
+    can_ask (front ++ sizes s) (before + wide) sources
+        (omega (arith, is, length-append front (sizes s), one-width wide (sizes s) (rows_at s) some.0 values sized.0))
+        sized.1 some.1 (subst (λ ns. IsConditionSized ns where_is) (sym (append_assoc front (sizes s) (flat_map sizes sources))) can),
+  )
 
 -- ---- rows that are lent
--- each source's rows have one width
-source-even : (lents : List Lent) → AreEven lents → (s : Source) → HaveOneWidth (rows_or lents s [])
-source-even [] even s = (0, tt)
-source-even (l ∷ lents) even s = by_test (same_source l.source s) (λ k. rw k even.0) (λ k. rw k (source-even lents even.1 s))
-
-pub all-even : (lents : List Lent) → AreEven lents → (first : Source) (joins : List Join) (others : List (List Row)) → others ≡ map (rows_for lents) joins
-    → AllByRecursion HaveOneWidth (rows_or lents first [] ∷ others)
-all-even lents even first joins others are = (source-even lents even first, subst (AllByRecursion HaveOneWidth) (sym are) (each joins))
-  where
-    each : (js : List Join) → AllByRecursion HaveOneWidth (map (rows_for lents) js)
-    each [] = tt
-    each (j ∷ js) = (source-even lents even j.source, each js)
-
 -- the others are the sources of the joins
 links-are : (lents : List Lent) (joins : List Join) (others : List (Bor (List Row))) → rows_of_all others ≡ map (rows_for lents) joins → AreOf (lent_bags lents) joins (links_of joins others)
 links-are lents [] [] are = tt
@@ -179,27 +162,59 @@ module _ (law : ChainOfLists) (lents : List Lent) (q : Query) (first : List Row)
   links_are : AreOf (lent_bags lents) q.joins (links_of q.joins others)
   links_are = links-are lents q.joins others are
 
-  chained : once_each joined ≡ all_joined q (lent_bags lents)
+  chained : once_each joined ≡ chain (lent_bags lents) (lent_bags lents q.first) q.joins
   chained = law.chain (lent_bags lents) first q.joins (links_of q.joins others) links_are ∙ ap (λ (rows : List Row). chain (lent_bags lents) (once_each rows) q.joins) is
 
   kept : once_each (kept_rows q joined) ≡ joined_rows q (lent_bags lents)
   kept = law.kept q (lent_bags lents) first (links_of q.joins others) (ap once_each (sym is)) links_are
 
-  pub even : AreEven lents → AllByRecursion HaveOneWidth (first ∷ rows_of_all others)
-  even all = subst (λ (rows : List Row). AllByRecursion HaveOneWidth (rows ∷ rows_of_all others)) (sym is) (all-even lents all q.first q.joins (rows_of_all others) are)
-
-  -- the query can be worked out where it is nowhere too wide
-  pub can_select : NarrowIsExact → NarrowIsExactIn → joined_most first (rows_of_all others) ≤ count_size
-      → (IsQueryWide q (lent_bags lents) → ⊥) → CanSelect q joined
-  can_select at within few never = record {
-    exact = exact_by at within q.filter joined (λ wide. never (inl (subst (IsWideAmong q.filter) chained wide)));
-    shape = can_shape at within q.shape q.items (kept_rows q joined) (omega (arith, fewer-kept (keeps q.filter) joined, all))
-        (λ wide. never (inr (subst (IsShownWide q) kept wide)));
-    few = all;
-  }
+  -- the rows of all sources, in the order of FROM
+  all_sources : first ∷ rows_of_all others ≡ map (λ s. rows_or lents s []) (sources_of q)
+  all_sources = ap (λ (rows : List Row). rows ∷ rows_of_all others) is ∙ ap (λ (os : List (List Row)). rows_or lents q.first [] ∷ os) (are ∙ in_turn q.joins)
     where
-      all : length joined ≤ count_size
-      all = omega (arith, few, most-joined q.joins others first (others-length lents q.joins others are))
+      in_turn : (joins : List Join) → map (rows_for lents) joins ≡ map (λ s. rows_or lents s []) (map (λ j. j.source) joins)
+      in_turn [] = refl
+      in_turn (j ∷ joins) = ap (λ (os : List (List Row)). rows_or lents j.source [] ∷ os) (in_turn joins)
+
+  module _ (can : CanAnswer lents q) where
+    abbrev all_sizes : List ℕ
+    all_sizes = flat_map can.sizes (sources_of q)
+
+    -- what follows of the sizes of each source holds of each
+    each_source : (P : List Row → Type 0) → ((s : Source) → HaveSizes can.sizes lents s → P (rows_or lents s [])) → AllByRecursion P (first ∷ rows_of_all others)
+    each_source P each = subst (AllByRecursion P) (sym all_sources) (go (sources_of q) can.rows)
+      where
+        go : (sources : List Source) → AllByRecursion (HaveSizes can.sizes lents) sources → AllByRecursion P (map (λ s. rows_or lents s []) sources)
+        go [] all = tt
+        go (s ∷ sources) all = (each s all.0, go sources all.1)
+
+    -- the rows of each have one width
+    pub even : AllByRecursion HaveOneWidth (first ∷ rows_of_all others)
+    even = each_source HaveOneWidth (λ s sized. (length (can.sizes s), all-weaker (λ row has. has.values) (rows_or lents s []) sized))
+
+    -- joined rows have the sizes of all columns
+    joined_sized : JoinedRowsKeepSizes → JoinedHaveSizes all_sizes q (lent_bags lents)
+    joined_sized law_of_joins = law_of_joins q (lent_bags lents) can.sizes (bags (sources_of q)) (all-weaker (λ s sized. listed-columns (can.sizes s) (rows_or lents s []) sized) (sources_of q) can.rows)
+      where
+        bags : (sources : List Source) → AllByRecursion (λ s. IsBag (lent_bags lents s)) sources
+        bags [] = tt
+        bags (s ∷ sources) = (once_each-bag (rows_or lents s []), bags sources)
+
+    -- so the query can be worked out on them
+    pub can_select : NarrowIsExact → NarrowIsExactIn → JoinedRowsKeepSizes → GroupsKeepSizes → CanSelect q joined
+    can_select at within law_of_joins law_of_groups =
+        let sized = joined_sized law_of_joins in
+        record {
+          exact = exact_by at within all_sizes q.filter joined can.filter (all-there (HasSizes all_sizes) joined (subst (KeepsColumns all_sizes) (sym chained) sized.joined));
+          shape = can_shape at within law_of_groups all_sizes q.shape q.items (kept_rows q joined) can.shown
+              (all-there (HasSizes all_sizes) (kept_rows q joined) (subst (KeepsColumns all_sizes) (sym kept) sized.kept));
+        }
+
+    -- and own conditions on the rows of each source
+    pub can_ask_sources : OwnConditionsAreExact → CanAskSources q.filter (first ∷ rows_of_all others)
+    can_ask_sources law_of_own = λ some.
+        subst (CanAskBelow q.filter 0) (sym all_sources)
+        (can_ask law_of_own q.filter can.sizes lents [] 0 (sources_of q) refl can.rows (subst (AllByRecursion (λ rows. 0 < length rows)) all_sources some) can.filter)
 
   -- its listing is that of what it means on them
   pub selects_listed : (order : Order) (list : Vec Row Global) → SelectsRows q order joined (Ok list) → SelectsLent q order lents (Ok list.items)

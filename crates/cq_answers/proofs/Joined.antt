@@ -1,98 +1,37 @@
 -- SELECT on lent rows of several sources: they are the bags that names in FROM stand for, and nothing on them is too wide.
-use Rattle.std.proofs.Common.{◌≡◌, ◌⊎◌, ℕ, ◌<◌, ◌≤◌, List, [], ◌∷◌, length, Option, Some, None, sym, ◌∙◌, inl, inr, arith, subst, Result, Ok, Err}
+use Rattle.std.proofs.Common.{◌≡◌, ℕ, List, [], ◌∷◌, Option, Some, sym, ◌∙◌, inl, inr, subst, Result, Ok, Err}
 use Rattle.std.specs.Prelude.{slice_get}
-use Rattle.std.specs.List.{AllByRecursion, Any, flat_map}
+use Rattle.std.specs.List.{AllByRecursion}
 use Rattle.cq_values.specs.Value.{Row}
-use Rattle.cq_bags.specs.Bag.{IsBag, SameBag, Weighted, once_each}
+use Rattle.cq_bags.specs.Bag.{SameBag, once_each}
 use Rattle.cq_bags.specs.Canonical.{bag_of}
 use Rattle.cq_bags.proofs.Bags.{same-trans}
 use Rattle.cq_binding.specs.declared.fault.Fault.{Fault}
 use Rattle.cq_laws.specs.Laws.{MeaningDependsOnSources, MeansSame}
-use Rattle.cq_laws.specs.Sizes.{GroupsKeepSizes, HasSizes, IsSized, JoinedHaveSizes, JoinedRowsKeepSizes, KeepsColumns, RowsKeepSizes, grouped_sizes}
-use Rattle.cq_laws.proofs.Columns.{filtered-columns, listed-columns}
-use Rattle.cq_laws.proofs.Positives.{joined_rows-bag, once_each-bag}
-use Rattle.cq_model.specs.Expr.{Cond, Expr}
-use Rattle.cq_model.specs.declared.query.Aggregate.{Aggregate}
-use Rattle.cq_model.specs.declared.query.Aggregate.TheVariants.{CountAll, Count, Sum, Min, Max}
+use Rattle.cq_laws.specs.Sizes.{HasSizes, RowsKeepSizes}
 use Rattle.cq_model.specs.declared.query.Order.{Order}
 use Rattle.cq_model.specs.declared.query.Query.{Query}
-use Rattle.cq_model.specs.declared.query.Shape.{Shape}
-use Rattle.cq_model.specs.declared.query.Shape.TheVariants.{Grouped, Plain}
 use Rattle.cq_model.specs.declared.query.Source.{Source}
 use Rattle.cq_model.specs.declared.query.Source.TheVariants.{Table, View}
-use Rattle.cq_model.specs.Group.{grouped}
-use Rattle.cq_model.specs.Meaning.{ShapeInRange, joined_rows, keeps, meaning, shaped}
+use Rattle.cq_model.specs.Meaning.{meaning}
 use Rattle.cq_model.specs.Views.{SourceInRange, ViewInRange, sources_of, view_bag}
-use Rattle.cq_model.specs.Width.{IsNarrowAt, IsNarrowIn, limits_of, sizes_of}
-use Rattle.cq_plan.specs.Chain.{HaveValues}
-use Rattle.cq_plain.specs.declared.lent.Lent.{Lent}
-use Rattle.cq_plain.specs.Lent.{lent_bags, rows_or}
-use Rattle.cq_plain.specs.Wide.{IsCountable, IsItemWide, IsQueryWide, IsShapeWide, IsShownWide, IsWideAmong, IsWideIn, IsWideOver}
-use Rattle.cq_exprs.specs.Expressions.{IsArgumentNarrow}
+use Rattle.cq_lent.specs.declared.lent.Lent.{Lent}
+use Rattle.cq_lent.specs.Lent.{lent_bags, rows_or}
 use Rattle.cq_states.specs.Fitting.{AreFitting}
 use Rattle.cq_states.specs.State.{State, TableOf, queries_of, rows_in, tables_now}
 use Rattle.cq_catalog.specs.Catalog.{alone}
 use Rattle.cq_views.specs.Shown.{AreRowsOf, IsShown}
 use Rattle.cq_answers.specs.declared.gathered.Gathered.{Gathered}
-use Rattle.cq_answers.specs.Lent.{AreEven}
+use Rattle.cq_answers.specs.Lent.{CanAnswer}
 use Rattle.cq_answers.specs.Reading.{CanRead}
 use Rattle.cq_answers.specs.Gathered.{AreGathered, AreLent, AreRowsThere, AreShownBy, IsBacked, IsGatherFault, IsGathered, IsHidden, IsLent}
-use Rattle.cq_answers.specs.Narrow.{AreArgumentsSized, AreItemsSized, IsConditionSized, IsShapeSized, source_sizes}
+use Rattle.cq_answers.specs.Narrow.{source_sizes}
 use Rattle.cq_answers.specs.Selects.{Selects, SelectsLent, sources_in}
 use Rattle.cq_tables.specs.Views.{AreRight, NamedView, views_of}
 use Rattle.cq_answers.proofs.Lents.{AreFor, sources-have}
 use Rattle.cq_tables.proofs.Pairs.{pointwise_all}
 use Rattle.cq_answers.proofs.Readings.{backed_there, bases, query_there, rows_same, shown_sized, sizes_there, stands_for, stored_sized}
 use Rattle.cq_tables.proofs.Rows.{all_there}
-
--- ---- What is narrow is not too wide
-not_both : (m n : ℕ) → m < n → n ≤ m → ⊥
-not_both m n below above = omega (arith, below, above)
-
-narrow_condition : (o : Option Cond) (row : Row) → IsNarrowIn o row → IsWideIn o row → ⊥
-narrow_condition None row narrow wide = wide
-narrow_condition (Some c) row narrow wide = not_both _ _ narrow wide
-
--- an argument that is narrow in each row that is there
-narrow_argument : (sizes : List ℕ) (xs : Weighted) (a : Aggregate) → KeepsColumns sizes xs → ((row : Row) → IsSized (limits_of sizes) row → IsArgumentNarrow (sizes_of row) a) → IsWideOver xs a → ⊥
-narrow_argument sizes xs CountAll kept narrow wide = wide
-narrow_argument sizes xs (Count e) kept narrow wide = not_both _ _ (narrow wide.0 (kept wide.0 wide.1).sized) wide.2
-narrow_argument sizes xs (Sum e) kept narrow wide = not_both _ _ (narrow wide.0 (kept wide.0 wide.1).sized) wide.2
-narrow_argument sizes xs (Min e) kept narrow wide = not_both _ _ (narrow wide.0 (kept wide.0 wide.1).sized) wide.2
-narrow_argument sizes xs (Max e) kept narrow wide = not_both _ _ (narrow wide.0 (kept wide.0 wide.1).sized) wide.2
-
-narrow_arguments : (sizes : List ℕ) (xs : Weighted) (aggregates : List Aggregate) → KeepsColumns sizes xs → AreArgumentsSized sizes aggregates → Any (IsWideOver xs) aggregates → ⊥
-narrow_arguments sizes xs aggregates kept narrow wide =
-    narrow_argument sizes xs wide.1 kept (λ row sized.
-    subst (IsArgumentNarrow (sizes_of row)) wide.3 (all_there (IsArgumentNarrow (sizes_of row)) aggregates wide.0 wide.1 (narrow row sized) wide.2))
-    wide.4
-
--- items that are narrow in each row that is there
-narrow_items : (sizes : List ℕ) (xs : Weighted) (items : List Expr) → KeepsColumns sizes xs → AreItemsSized sizes items → IsItemWide items xs → ⊥
-narrow_items sizes xs items kept narrow wide =
-    let row = wide.4.0 in
-    let at = all_there (λ e. IsNarrowAt e row) items wide.0 wide.1 (narrow row (kept row wide.4.1).sized) wide.2 in
-    not_both _ _ (subst (λ e. IsNarrowAt e row) wide.3 at) wide.4.2
-
--- HAVING that is narrow in each row that is there
-narrow_among : (sizes : List ℕ) (xs : Weighted) (o : Option Cond) → KeepsColumns sizes xs → IsConditionSized sizes o → IsWideAmong o xs → ⊥
-narrow_among sizes xs o kept narrow wide = narrow_condition o wide.0 (narrow wide.0 (kept wide.0 wide.1).sized) wide.2
-
--- what is shown of rows that keep their sizes, and of their groups
-shown_narrow : GroupsKeepSizes → (sizes : List ℕ) (xs : Weighted) → IsBag xs → KeepsColumns sizes xs → (q : Query) → IsShapeSized sizes q.shape q.items → IsShownWide q xs → ⊥
-shown_narrow law sizes xs bag kept q can wide = shape_narrow q.shape can wide
-  where
-    shape_narrow : (shape : Shape) → IsShapeSized sizes shape q.items → IsShapeWide shape xs ⊎ (IsCountable xs × ShapeInRange shape xs × IsItemWide q.items (shaped shape xs)) → ⊥
-    shape_narrow Plain can (inl wide) = wide
-    shape_narrow Plain can (inr wide) = narrow_items sizes xs q.items kept can wide.2
-    shape_narrow (Grouped keys aggregates having) can (inl (inl wide)) = narrow_arguments sizes xs aggregates kept can.0 wide
-    shape_narrow (Grouped keys aggregates having) can (inl (inr wide)) =
-        let groups = law sizes keys aggregates xs bag kept wide.0 wide.1 in
-        narrow_among (grouped_sizes sizes keys aggregates) (grouped keys aggregates xs) having groups can.1 wide.2
-    shape_narrow (Grouped keys aggregates having) can (inr wide) =
-        let shown = grouped_sizes sizes keys aggregates in
-        let groups = law sizes keys aggregates xs bag kept wide.0 wide.1 in
-        narrow_items shown (shaped (Grouped keys aggregates having) xs) q.items (filtered-columns (keeps having) shown (grouped keys aggregates xs) groups) can.2 wide.2
 
 -- what was gathered is of sources that are there
 pub gathered_there : (P : Source → Type 0) (views : List NamedView) (sources : List Source) (gs : List Gathered) → AreGathered views sources gs → AllByRecursion P sources → AllByRecursion (λ g. P g.source) gs
@@ -189,35 +128,14 @@ module _ (tables : List TableOf) (views : List NamedView) where
         means_same law_of_sources =
             law_of_sources q (lent_bags lents) (sources_in tables (views_of views)) (have (λ s rows. SameBag (once_each rows) (sources_in tables (views_of views) s)) (λ s rows are. are.same))
 
-        -- joined rows have the sizes of all columns
-        joined_sized : JoinedRowsKeepSizes → JoinedHaveSizes (flat_map Sizes (sources_of q)) q (lent_bags lents)
-        joined_sized law_of_joins =
-            law_of_joins q (lent_bags lents) Sizes (have (λ s rows. IsBag (once_each rows)) (λ s rows are. once_each-bag rows))
-            (have (λ s rows. KeepsColumns (Sizes s) (once_each rows)) (λ s rows are. listed-columns (Sizes s) rows are.sized))
-
-        -- the joined rows are a bag
-        joined_bag : IsBag (joined_rows q (lent_bags lents))
-        joined_bag = joined_rows-bag q (lent_bags lents) (λ source. once_each-bag (rows_or lents source []))
-
-        -- the rows of each source have one width
-        pub lent_even : AreEven lents
-        lent_even = evens lents (entries_are (sources_of q) gs lents gathered lent).1
-          where
-            values : (sizes : List ℕ) (rows : List Row) → AllByRecursion (HasSizes sizes) rows → HaveValues (length sizes) rows
-            values sizes [] all = tt
-            values sizes (r ∷ rows) all = (all.0.values, values sizes rows all.1)
-
-            evens : (ls : List Lent) → AllByRecursion (λ l. AreOf l.source l.rows.now) ls → AreEven ls
-            evens [] all = tt
-            evens (l ∷ ls) all = ((length (Sizes l.source), values (Sizes l.source) l.rows.now all.0.sized), evens ls all.1)
-
-        -- nothing in it is too wide
-        pub never_wide : JoinedRowsKeepSizes → GroupsKeepSizes → IsQueryWide q (lent_bags lents) → ⊥
-        never_wide law_of_joins law_of_groups (inl where_wide) =
-            let sized = (joined_sized law_of_joins).joined where_wide.0 where_wide.1 in
-            narrow_condition q.filter where_wide.0 (can.filter where_wide.0 sized.sized) where_wide.2
-        never_wide law_of_joins law_of_groups (inr shown) =
-            shown_narrow law_of_groups (flat_map Sizes (sources_of q)) (joined_rows q (lent_bags lents)) joined_bag (joined_sized law_of_joins).kept q can.shown shown
+        -- it can be worked out on them
+        pub can_answer : CanAnswer lents q
+        can_answer = record {
+          sizes = Sizes;
+          rows = have (λ s rows. AllByRecursion (HasSizes (Sizes s)) rows) (λ s rows are. are.sized);
+          filter = can.filter;
+          shown = can.shown;
+        }
 
         -- its listing there is that of SELECT
         pub selects_joined : (order : Order) → MeaningDependsOnSources → (result : Result (List Row) Fault) → SelectsLent q order lents result → Selects tables (views_of views) q order result

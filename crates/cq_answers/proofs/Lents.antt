@@ -6,8 +6,8 @@ use Rattle.cq_values.specs.Value.{Row}
 use Rattle.cq_bags.proofs.Totals.{by_test}
 use Rattle.cq_model.specs.declared.query.Source.{Source}
 use Rattle.cq_model.specs.declared.query.Source.TheVariants.{Table, View}
-use Rattle.cq_plain.specs.declared.lent.Lent.{Lent}
-use Rattle.cq_plain.specs.Lent.{rows_or, same_source}
+use Rattle.cq_lent.specs.declared.lent.Lent.{Lent}
+use Rattle.cq_lent.specs.Lent.{rows_or, same_source}
 use Rattle.cq_states.specs.Pointwise.{Pointwise}
 
 -- a source is itself

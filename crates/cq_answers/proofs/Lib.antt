@@ -3,5 +3,4 @@ pub mod Readings
 pub mod Lents
 pub mod Joined
 pub mod Planned
-pub mod Counted
 pub mod Exactly

@@ -14,7 +14,7 @@ use Rattle.cq_binding.specs.declared.fault.Fault.{Fault}
 use Rattle.cq_binding.specs.declared.fault.Fault.TheVariants.{Memory, SumOutOfRange}
 use Rattle.cq_model.specs.declared.query.Source.{Source}
 use Rattle.cq_model.specs.declared.query.Source.TheVariants.{Table, View}
-use Rattle.cq_plain.specs.declared.lent.Lent.{Lent}
+use Rattle.cq_lent.specs.declared.lent.Lent.{Lent}
 use Rattle.cq_states.specs.Pointwise.{Pointwise}
 use Rattle.cq_views.specs.Shown.{AreRowsOf, IsNotShown, IsShown}
 use Rattle.cq_answers.specs.declared.gathered.Gathered.{Gathered}

@@ -1,19 +1,17 @@
--- Rows of several sources that are lent, and how many they become where they are joined.
-use Rattle.std.specs.Prelude.{◌≡◌, ◌≤◌, ◌*◌, ℕ, List, [], ◌∷◌, length, map, fold}
+-- Rows of several sources that are lent, and what can be worked out on them.
+use Rattle.std.specs.Prelude.{◌≡◌, ℕ, List, [], map}
 use Rattle.std.specs.Borrow.{Bor}
-use Rattle.std.specs.List.{AllByRecursion}
+use Rattle.std.specs.List.{AllByRecursion, flat_map}
 use Rattle.cq_values.specs.Value.{Row}
-use Rattle.cq_joins.specs.Linked.{HaveOneWidth}
-use Rattle.cq_model.specs.Sizes.{count_size}
+use Rattle.cq_laws.specs.Sizes.{HasSizes}
+use Rattle.cq_lent.specs.Lent.{rows_or}
+use Rattle.cq_lent.specs.declared.lent.Lent.{Lent}
 use Rattle.cq_model.specs.declared.query.Join.{Join}
 use Rattle.cq_model.specs.declared.query.Query.{Query}
+use Rattle.cq_model.specs.declared.query.Source.{Source}
+use Rattle.cq_model.specs.Views.{sources_of}
 use Rattle.cq_operators.specs.Selected.{rows_of_all}
-use Rattle.cq_plain.specs.declared.lent.Lent.{Lent}
-use Rattle.cq_plain.specs.Lent.{rows_or}
-
--- the rows of each lent source have one width
-abbrev pub AreEven : List Lent → Type 0
-AreEven lents = AllByRecursion (λ l. HaveOneWidth l.rows.now) lents
+use Rattle.cq_answers.specs.Narrow.{IsConditionSized, IsShapeSized}
 
 -- the rows of the source of a join
 abbrev pub rows_for : List Lent → Join → List Row
@@ -23,14 +21,13 @@ rows_for lents j = rows_or lents j.source []
 abbrev pub AreOthers : List Lent → Query → List (Bor (List Row)) → Type 0
 AreOthers lents q others = rows_of_all others ≡ map (rows_for lents) q.joins
 
--- how many pairs rows can have with others
-abbrev pub pairs_most : ℕ → List Row → ℕ
-pairs_most count rows = count * length rows
+-- each row of a source has the sizes of its columns
+abbrev pub HaveSizes : (Source → List ℕ) → List Lent → Source → Type 0
+HaveSizes sizes lents s = AllByRecursion (HasSizes (sizes s)) (rows_or lents s [])
 
--- how many rows there can be where the rows of all sources are joined
-abbrev pub joined_most : List Row → List (List Row) → ℕ
-joined_most first others = fold pairs_most (length first) others
-
--- there are not too many of them to be counted
-abbrev pub AreFew : List Row → List (Bor (List Row)) → Type 0
-AreFew first others = joined_most first (rows_of_all others) ≤ count_size
+-- columns have sizes with which a query can be worked out on lent rows
+pub record CanAnswer (lents : List Lent) (q : Query) : Type 0 where
+  pub sizes : Source → List ℕ
+  pub rows : AllByRecursion (HaveSizes sizes lents) (sources_of q)
+  pub filter : IsConditionSized (flat_map sizes (sources_of q)) q.filter
+  pub shown : IsShapeSized (flat_map sizes (sources_of q)) q.shape q.items

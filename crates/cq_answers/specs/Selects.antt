@@ -12,8 +12,8 @@ use Rattle.cq_model.specs.Views.{with_views, AnswerInRange}
 use Rattle.cq_binding.specs.declared.fault.Fault.{Fault}
 use Rattle.cq_binding.specs.declared.fault.Fault.TheVariants.{Memory, SumOutOfRange}
 use Rattle.cq_states.specs.State.{TableOf, ViewOf, tables_now, queries_of}
-use Rattle.cq_plain.specs.declared.lent.Lent.{Lent}
-use Rattle.cq_plain.specs.Lent.{lent_bags}
+use Rattle.cq_lent.specs.declared.lent.Lent.{Lent}
+use Rattle.cq_lent.specs.Lent.{lent_bags}
 use Rattle.cq_catalog.specs.Catalog.{alone}
 use Rattle.cq_views.specs.Shown.{IsNotShown}
 use Rattle.cq_views.specs.View.{StandsFor}

@@ -11,8 +11,8 @@ ghost use Rattle.cq_tables.specs.Views.{views_of};
 
 use cq_binding::Fault;
 use cq_deltas::ShowFault;
+use cq_lent::Lent;
 use cq_model::{Query, Source};
-use cq_plain::Lent;
 use cq_tables::{Table, View, place_numbered};
 use cq_values::{Row, Seq};
 use std::alloc::{AllocError, Global};

@@ -1,13 +1,11 @@
 //! SELECT from tables and from views.
-ghost use Rattle.std.specs.Bool.{OnTrue};
 ghost use Rattle.std.specs.Prelude.{◌≡◌, ◌↔◌, [], IfOk, IsTrue, ℕ};
 ghost use Rattle.cq_model.specs.declared.query.Shape.TheVariants.{Plain};
 ghost use Rattle.cq_model.specs.Sizes.{column_sizes};
-ghost use Rattle.cq_plain.specs.Lent.{lent_bags, rows_or};
-ghost use Rattle.cq_plain.specs.Wide.{IsQueryWide};
+ghost use Rattle.cq_lent.specs.Lent.{rows_or};
 ghost use Rattle.cq_states.specs.Fitting.{AreLimited, AreFitting, rows_limit};
 ghost use Rattle.cq_states.specs.State.{AreNumbered};
-ghost use Rattle.cq_answers.specs.Lent.{AreEven, AreFew, AreOthers};
+ghost use Rattle.cq_answers.specs.Lent.{AreOthers, CanAnswer};
 ghost use Rattle.cq_answers.specs.Narrow.{IsWithinSized};
 ghost use Rattle.cq_answers.specs.Reading.{CanRead, plain};
 ghost use Rattle.cq_answers.specs.Selects.{Selects, SelectsKept, SelectsLent};
@@ -22,16 +20,13 @@ use cq_groups::GroupFault;
 use cq_laws::{
     groups_keep_sizes, joined_rows_keep_sizes, meaning_depends_on_sources, rows_keep_sizes,
 };
+use cq_lent::{Lent, rows_of};
 use cq_model::{Order, Query, Shape, Source};
 use cq_operators::select;
-use cq_plain::{Lent, PlainFault, answer_on, listing, rows_of};
-use cq_plan::chain_of_lists;
+use cq_plan::{chain_of_lists, own_conditions_are_exact};
 use cq_tables::{Table, View, place_numbered};
 use cq_values::{Row, Seq};
 use std::alloc::{AllocError, Global};
-
-/// How many rows can be counted.
-const COUNT_SIZE: u128 = 1 << 96;
 
 /// The listing of a query on the tables and views that it names. Rows of one source are read where they are, unless they
 /// are grouped.
@@ -123,31 +118,23 @@ fn select_joined(
     let gathered = gather(alloc, views, &sources)?;
     let lent = lend_all(alloc, tables, &gathered)?;
     rows_keep_sizes();
-    joined_rows_keep_sizes();
-    groups_keep_sizes();
     meaning_depends_on_sources();
     list_answer(alloc, &lent, query, order)
 }
 
-/// The listing of a query on lent rows on which it is nowhere too wide. Where so many rows could be joined that they
-/// cannot be counted, the plain evaluator answers.
+/// The listing of a query on lent rows, which are joined by their keys.
 fn list_answer(
     alloc: Global,
     lent: &[Lent<'_>],
     query: &Query,
     order: &Order,
 ) -> Result<Seq<Row>, Fault>
-    requires narrow { IsQueryWide query.now (lent_bags lent.now) → ⊥ }
-    requires even { AreEven lent.now }
+    requires { CanAnswer lent.now query.now }
     ensures { SelectsLent query.now order.now lent.now result }
 {
     let first = rows_of(lent, query.first);
     let others = others_of(alloc, lent, query)?;
-    if are_few(first, &others) {
-        list_joined(alloc, lent, query, order, first, &others)
-    } else {
-        list_plainly(alloc, lent, query, order)
-    }
+    list_joined(alloc, lent, query, order, first, &others)
 }
 
 /// The rows of the source of each join.
@@ -165,20 +152,6 @@ fn others_of<'a>(
     Ok(others)
 }
 
-/// Whether the rows can be counted that these become where they are joined.
-fn are_few(first: &[Row], others: &[&[Row]]) -> bool
-    ensures { OnTrue result (AreFew first.now others.now) }
-{
-    let mut most = first.len() as u128;
-    for rows in others {
-        match most.checked_mul(rows.len() as u128) {
-            Some(product) => most = product,
-            None => return false,
-        }
-    }
-    most <= COUNT_SIZE
-}
-
 /// The listing of a query on the rows of its sources, which are joined by their keys.
 fn list_joined(
     alloc: Global,
@@ -188,36 +161,19 @@ fn list_joined(
     first: &[Row],
     others: &[&[Row]],
 ) -> Result<Seq<Row>, Fault>
-    requires narrow { IsQueryWide query.now (lent_bags lent.now) → ⊥ }
-    requires even { AreEven lent.now }
+    requires can { CanAnswer lent.now query.now }
     requires first { first.now ≡ rows_or lent.now query.now.first [] }
     requires others { AreOthers lent.now query.now others.now }
-    requires few { AreFew first.now others.now }
     ensures { SelectsLent query.now order.now lent.now result }
 {
     chain_of_lists();
     narrow_is_exact();
+    joined_rows_keep_sizes();
+    groups_keep_sizes();
+    own_conditions_are_exact();
     match select(alloc, query, order, first, others) {
         Ok(rows) => Ok(Seq::from_vec(rows)),
         Err(GroupFault::Memory) => Err(Fault::Memory),
         Err(GroupFault::SumOutOfRange) => Err(Fault::SumOutOfRange),
-    }
-}
-
-/// The listing of a query on lent rows, by the plain evaluator.
-fn list_plainly(
-    alloc: Global,
-    lent: &[Lent<'_>],
-    query: &Query,
-    order: &Order,
-) -> Result<Seq<Row>, Fault>
-    requires { IsQueryWide query.now (lent_bags lent.now) → ⊥ }
-    ensures { SelectsLent query.now order.now lent.now result }
-{
-    match answer_on(alloc, lent, query) {
-        Ok(rows) => Ok(Seq::from_vec(listing(rows, order)?)),
-        Err(PlainFault::Memory) => Err(Fault::Memory),
-        Err(PlainFault::SumOutOfRange) => Err(Fault::SumOutOfRange),
-        Err(PlainFault::TooWide) => unreachable!(),
     }
 }

@@ -1,4 +1,5 @@
 pub mod Exec
 pub mod Listed
 pub mod Selected
+pub mod Sources
 pub mod Showing

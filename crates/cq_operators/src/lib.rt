@@ -8,6 +8,7 @@ mod exec;
 mod fault;
 mod listing;
 mod selected;
+mod sources;
 
 pub use exec::Exec;
 pub use fault::ExecFault;

@@ -9,8 +9,9 @@ use Rattle.cq_bags.proofs.Totals.{by_test}
 use Rattle.cq_model.specs.declared.query.Source.{Source}
 use Rattle.cq_model.specs.declared.query.Source.TheVariants.{Table, View}
 use Rattle.cq_model.specs.Views.{tables_alone}
-use Rattle.cq_plain.specs.declared.lent.Lent.{Lent}
-use Rattle.cq_plain.specs.Lent.{HoldRows, lent_bags, numbered_or, rows_or, same_source}
+use Rattle.cq_lent.specs.declared.lent.Lent.{Lent}
+use Rattle.cq_lent.specs.Lent.{lent_bags, rows_or, same_source}
+use Rattle.cq_plain.specs.Lent.{HoldRows, numbered_or}
 use Rattle.cq_plain.specs.Stored.{rows_at, stored_bags}
 use Rattle.cq_plain.proofs.Agreeing.{alone}
 

@@ -1,29 +1,11 @@
-//! Sources and their rows, where they are lent.
-ghost use Rattle.std.specs.Prelude.{◌≡◌, IfOk, []};
-ghost use Rattle.cq_plain.specs.Lent.{HoldRows, rows_or};
+//! Tables and views, as they are lent.
+ghost use Rattle.std.specs.Prelude.{IfOk, []};
+ghost use Rattle.cq_plain.specs.Lent.{HoldRows};
 
+use cq_lent::Lent;
 use cq_model::Source;
 use cq_values::{Row, Seq};
 use std::alloc::{AllocError, Global};
-
-/// The rows of a source, where they are.
-#[derive(Clone, Copy, Debug)]
-pub struct Lent<'a> {
-    pub source: Source,
-    pub rows: &'a [Row],
-}
-
-/// The rows of the first entry of a source, and no row where there is none.
-pub fn rows_of<'a>(sources: &[Lent<'a>], source: Source) -> &'a [Row]
-    ensures { result.now ≡ rows_or sources.now source [] }
-{
-    for lent in sources {
-        if lent.source == source {
-            return lent.rows;
-        }
-    }
-    &[]
-}
 
 /// The tables, each under its number.
 pub(crate) fn lent_tables<'a>(

@@ -2,7 +2,7 @@
 //!
 //! Joins are nested loops, groups and DISTINCT are found by looking through a list, and what is kept is copied. It is
 //! slow, and faster bodies are measured by it. [`answer`] gives a query's bag in a [`Database`], [`answer_on`] its bag on
-//! rows that are [`Lent`], and [`listing`] the one list that stands for a bag; [`left_by`] and [`updated`] are the rows
+//! rows that are lent, and [`listing`] the one list that stands for a bag; [`left_by`] and [`updated`] are the rows
 //! that a DELETE and an UPDATE leave.
 #![tactic(auto)]
 
@@ -22,6 +22,5 @@ mod write;
 pub use answering::{answer, answer_listed, answer_on};
 pub use database::Database;
 pub use fault::PlainFault;
-pub use lent::{Lent, rows_of};
 pub use lists::listing;
 pub use write::{left_by, updated};

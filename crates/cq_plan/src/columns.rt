@@ -2,8 +2,8 @@
 use cq_model::{Cond, CondTree, Expr, ExprTree};
 use std::alloc::{AllocError, Global};
 
-/// The columns that the condition reads, where there is one.
-pub(crate) fn columns_of_condition(
+/// The columns that the condition reads, where there is one. No answer depends on them: they say what is gathered at once.
+pub fn columns_of_condition(
     alloc: Global,
     condition: &Option<Cond>,
 ) -> Result<Vec<usize>, AllocError> {

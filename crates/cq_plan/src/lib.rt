@@ -9,6 +9,7 @@ mod laws;
 mod own;
 mod plan;
 
+pub use columns::columns_of_condition;
 pub use laws::{
     chain_of_lists, chains_have_widths, chains_in_parts, own_conditions_are_exact,
     own_conditions_below_joins,

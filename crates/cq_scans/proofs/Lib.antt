@@ -5,3 +5,5 @@ pub mod Nodes
 pub mod Fronts
 pub mod Joining
 pub mod KeptPlaces
+pub mod Behind
+pub mod Asking

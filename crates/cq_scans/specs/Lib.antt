@@ -4,3 +4,4 @@ pub mod Kept
 pub mod Truths
 pub mod Paired
 pub mod Parts
+pub mod Passing

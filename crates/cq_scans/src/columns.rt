@@ -1,11 +1,11 @@
 //! Which columns a condition reads. No answer depends on it: one that is not named is gathered wherever it is read.
-use cq_model::{Cond, CondTree, ExprTree};
+use cq_model::{CondTree, ExprTree};
 use std::alloc::{AllocError, Global};
 
 /// The columns that the condition reads, each once.
-pub(crate) fn columns_of(alloc: Global, cond: &Cond) -> Result<Vec<usize>, AllocError> {
+pub(crate) fn columns_of(alloc: Global, tree: &CondTree) -> Result<Vec<usize>, AllocError> {
     let mut columns = Vec::new(alloc);
-    add_of_condition(cond.tree(), &mut columns)?;
+    add_of_condition(tree, &mut columns)?;
     Ok(columns)
 }
 

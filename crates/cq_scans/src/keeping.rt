@@ -8,6 +8,7 @@ ghost use Rattle.cq_scans.specs.Kept.{kept_of};
 ghost use Rattle.cq_vectors.specs.Gathered.{lent_rows};
 
 use crate::columns::columns_of;
+use crate::lent::lend_all;
 use crate::scan::Scan;
 use crate::truths::truths_of;
 use cq_eval::narrow_is_exact;
@@ -36,7 +37,7 @@ fn kept_by<'a>(alloc: Global, condition: &Cond, rows: &'a [Row]) -> Result<Vec<&
     requires { AllByRecursion (AreExactIn condition.now) rows.now }
     ensures { IfOk result (λ kept. lent_rows kept.items ≡ kept_of condition.now rows.now) }
 {
-    let columns = columns_of(alloc, condition)?;
+    let columns = columns_of(alloc, condition.tree())?;
     let mut kept = Vec::new(alloc);
     let mut left = rows;
     while !left.is_empty() {
@@ -68,15 +69,4 @@ pub fn keep_front<'a>(
         }
     }
     Ok(())
-}
-
-/// All rows, where they are.
-fn lend_all(alloc: Global, rows: &[Row]) -> Result<Vec<&Row>, AllocError>
-    ensures { IfOk result (λ lent. lent_rows lent.items ≡ rows.now) }
-{
-    let mut lent = Vec::new(alloc);
-    for row in rows {
-        lent.push(row)?;
-    }
-    Ok(lent)
 }

@@ -6,15 +6,21 @@
 
 mod columns;
 mod keeping;
+mod lent;
 mod operand;
 mod parts;
+mod passed;
+mod room;
 mod scan;
 mod truths;
 mod vectors;
 mod worked;
 
 pub use keeping::{keep_front, kept};
+pub use lent::lend_all;
 pub use operand::{Operand, lend_vectors};
+pub use passed::passing;
+pub use room::refused_room;
 pub use scan::Scan;
 pub use truths::truths_of;
 pub use vectors::{own_vector_of, vector_of};

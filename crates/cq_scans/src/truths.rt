@@ -31,7 +31,7 @@ pub fn truths_of<'a>(
     truths_of_tree(alloc, cond.tree(), scan)
 }
 
-fn truths_of_tree<'a>(
+pub(crate) fn truths_of_tree<'a>(
     alloc: Global,
     tree: &'a CondTree,
     scan: &Scan<'a>,

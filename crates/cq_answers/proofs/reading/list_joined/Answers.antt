@@ -1,9 +1,8 @@
-use Rattle.std.proofs.Common.{◌≡◌, List, Ok, Err, sym, ◌∙◌, ap, subst}
+use Rattle.std.proofs.Common.{List, Ok, Err, sym, ◌∙◌, ap, subst}
 use Rattle.cq_values.specs.Value.{Row}
-use Rattle.cq_groups.specs.declared.fault.GroupFault.TheVariants.{SumOutOfRange}
 use Rattle.cq_operators.specs.Selected.{SelectsRows, joined_sources}
 use Rattle.cq_answers.specs.Selects.{SelectsLent}
-use Rattle.cq_answers.proofs.Exactly.{can_select, even, others-length, selects_listed, selects_none}
+use Rattle.cq_answers.proofs.Exactly.{can_ask_sources, can_select, even, others-length, selects_listed, selects_none}
 use Rattle.cq_answers.proofs.reading.list_joined.Goals as goal
 
 -- there is a source for each join
@@ -13,13 +12,19 @@ select-requires-clause-same c = others-length c.args.lent.now c.args.query.now.j
 -- the rows of each have one width
 pub select-requires-clause-even : goal.select-requires-clause-even
 select-requires-clause-even c =
-    even c.chain_of_lists.ensures c.args.lent.now c.args.query.now c.args.first.now c.args.others.now c.requires.first c.requires.others c.requires.even
+    even c.chain_of_lists.ensures c.args.lent.now c.args.query.now c.args.first.now c.args.others.now c.requires.first c.requires.others c.requires.can
 
--- what is nowhere too wide can be worked out
+-- the query can be worked out on the joined rows
 pub select-requires-clause-can : goal.select-requires-clause-can
 select-requires-clause-can c =
-    can_select c.chain_of_lists.ensures c.args.lent.now c.args.query.now c.args.first.now c.args.others.now c.requires.first c.requires.others
-    c.narrow_is_exact.ensures.expressions c.narrow_is_exact.ensures.conditions c.requires.few c.requires.narrow
+    can_select c.chain_of_lists.ensures c.args.lent.now c.args.query.now c.args.first.now c.args.others.now c.requires.first c.requires.others c.requires.can
+    c.narrow_is_exact.ensures.expressions c.narrow_is_exact.ensures.conditions c.joined_rows_keep_sizes.ensures c.groups_keep_sizes.ensures
+
+-- and own conditions on the rows of each source
+pub select-requires-clause-own : goal.select-requires-clause-own
+select-requires-clause-own c =
+    can_ask_sources c.chain_of_lists.ensures c.args.lent.now c.args.query.now c.args.first.now c.args.others.now c.requires.first c.requires.others c.requires.can
+    c.own_conditions_are_exact.ensures
 
 -- what is listed of the joined rows is the query's listing on what was lent
 pub returns-in-Ok : goal.returns-in-Ok

@@ -2,7 +2,7 @@ use Rattle.std.proofs.lemmas.Result.{err_from_is_err_and}
 use Rattle.cq_model.specs.Views.{sources_of}
 use Rattle.cq_answers.specs.Reading.{IsSourceThere}
 use Rattle.cq_tables.specs.Views.{views_of}
-use Rattle.cq_answers.proofs.Joined.{gather_refused, gathered_there, lent_even, never_wide, selects_joined}
+use Rattle.cq_answers.proofs.Joined.{can_answer, gather_refused, gathered_there, selects_joined}
 use Rattle.cq_answers.proofs.Readings.{all_backed}
 use Rattle.cq_answers.proofs.reading.select_joined.Goals as goal
 
@@ -33,28 +33,16 @@ lend_all-requires-clause-there c =
     let there = gathered_there (IsSourceThere tables (views_of views)) views (sources_of c.args.query.now) c.in_ok-gathered.gathered.items gathered c.requires.can_read.there in
     (views_of views, rw c.deref-2.ensures.value there)
 
--- nothing is too wide on the rows that are lent
-pub list_answer-requires-clause-narrow : goal.list_answer-requires-clause-narrow
-list_answer-requires-clause-narrow c =
+-- the query can be worked out on the rows that are lent
+pub list_answer-requires : goal.list_answer-requires
+list_answer-requires c =
     let tables = c.args.tables.now in
     let views = c.args.views.now in
     let backed = all_backed tables c.requires.right.0 c.requires.fitting c.requires.few views c.requires.right.1 in
     let gathered = rw (c.deref.ensures.value, c.in_ok-sources.ensures) at c.in_ok-gathered.ensures.ok in
     let lent = rw c.deref-2.ensures.value at c.in_ok-lent.ensures in
     rw c.deref-3.ensures.value
-    (never_wide tables views c.requires.right.0 c.requires.right.1 c.requires.fitting backed c.rows_keep_sizes.ensures c.args.query.now c.requires.can_read
-    c.in_ok-gathered.gathered.items c.in_ok-lent.lent.items gathered lent c.joined_rows_keep_sizes.ensures c.groups_keep_sizes.ensures)
-
--- the rows of each have one width
-pub list_answer-requires-clause-even : goal.list_answer-requires-clause-even
-list_answer-requires-clause-even c =
-    let tables = c.args.tables.now in
-    let views = c.args.views.now in
-    let backed = all_backed tables c.requires.right.0 c.requires.fitting c.requires.few views c.requires.right.1 in
-    let gathered = rw (c.deref.ensures.value, c.in_ok-sources.ensures) at c.in_ok-gathered.ensures.ok in
-    let lent = rw c.deref-2.ensures.value at c.in_ok-lent.ensures in
-    rw c.deref-3.ensures.value
-    (lent_even tables views c.requires.right.0 c.requires.right.1 c.requires.fitting backed c.rows_keep_sizes.ensures c.args.query.now c.requires.can_read
+    (can_answer tables views c.requires.right.0 c.requires.right.1 c.requires.fitting backed c.rows_keep_sizes.ensures c.args.query.now c.requires.can_read
     c.in_ok-gathered.gathered.items c.in_ok-lent.lent.items gathered lent)
 
 -- the listing on them is that of SELECT

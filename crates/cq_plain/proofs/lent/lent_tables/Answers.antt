@@ -1,5 +1,5 @@
 use Rattle.std.proofs.Common.{List, [], ◌+◌, take, refl, sym, subst}
-use Rattle.cq_plain.specs.declared.lent.Lent.{Lent}
+use Rattle.cq_lent.specs.declared.lent.Lent.{Lent}
 use Rattle.cq_plain.specs.Lent.{HoldRows}
 use Rattle.cq_plain.proofs.Lents.{table-held}
 use Rattle.cq_plain.proofs.lent.lent_tables.Goals as goal

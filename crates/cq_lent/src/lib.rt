@@ -1,0 +1,6 @@
+//! Sources that FROM names and their rows, where they are lent.
+#![tactic(auto)]
+
+mod lent;
+
+pub use lent::{Lent, rows_of};
