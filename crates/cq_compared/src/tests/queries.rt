@@ -2,8 +2,9 @@
 use super::read_bound;
 use cq_binding::Bound;
 use cq_engine::Engine;
+use cq_lent::Lent;
 use cq_model::{Order, Query};
-use cq_plain::{Lent, PlainFault, answer_on, left_by, listing, updated};
+use cq_plain::{PlainFault, answer_on, left_by, listing, updated};
 use cq_values::{Row, Seq};
 use std::alloc::{AllocError, Global};
 use std::process::Abort;
