@@ -78,23 +78,3 @@ fn one_refused_growth_changes_nothing(rt: HostRuntime) -> Result<(), Fail> {
     let of_positives: [&[i128]; 4] = [&[1, 1], &[5, 2], &[7, 2], &[9, 1]];
     check(&rt, alloc, &mut engine, "SELECT a, n FROM w", &of_positives)
 }
-
-#[test]
-fn one_refused_growth_of_a_join_changes_nothing(rt: HostRuntime) -> Result<(), Fail> {
-    let alloc = rt.alloc();
-    let mut engine = engine(alloc)?;
-    let writes = [
-        "CREATE TABLE t(k INTEGER, a INTEGER)",
-        "INSERT INTO t VALUES (1, 5), (1, 7), (3, 1), (4, 7), (5, 9), (6, 5)",
-    ];
-    for text in writes {
-        carried_out(&rt, alloc, &mut engine, text)?;
-    }
-    let joined = "SELECT x.k, COUNT(*), SUM(y.a) FROM t x JOIN t y ON x.k = y.k WHERE x.a > 1 \
-        GROUP BY x.k ORDER BY 3 DESC LIMIT 3";
-    let largest: [&[i128]; 3] = [&[1, 4, 24], &[5, 1, 9], &[4, 1, 7]];
-    check(&rt, alloc, &mut engine, joined, &largest)?;
-    let distinct: [&[i128]; 4] = [&[9], &[7], &[5], &[1]];
-    let once = "SELECT DISTINCT a FROM t ORDER BY a DESC";
-    check(&rt, alloc, &mut engine, once, &distinct)
-}

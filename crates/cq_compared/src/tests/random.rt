@@ -16,51 +16,30 @@ const VIEWS: [&str; 2] = [
 ];
 
 /// A number from -3 to 3.
-fn number(random: &mut Pcg32) -> &'static str {
-    match random.next_u32() % 7 {
-        0 => "-3",
-        1 => "-2",
-        2 => "-1",
-        3 => "0",
-        4 => "1",
-        5 => "2",
-        _ => "3",
-    }
-}
-
-/// The front of a DELETE, up to the number that it compares with.
-fn deletion(random: &mut Pcg32) -> &'static str {
-    match random.next_u32() % 6 {
-        0 => "DELETE FROM t WHERE k = ",
-        1 => "DELETE FROM t WHERE k < ",
-        2 => "DELETE FROM t WHERE k <> ",
-        3 => "DELETE FROM t WHERE a = ",
-        4 => "DELETE FROM t WHERE a < ",
-        _ => "DELETE FROM t WHERE a <> ",
-    }
-}
-
-fn row(out: &mut String, random: &mut Pcg32) -> Result<(), AllocError> {
-    out.push_str("(")?;
-    out.push_str(number(random))?;
-    out.push_str(", ")?;
-    out.push_str(number(random))?;
-    out.push_str(")")
+fn small(random: &mut Pcg32) -> i64 {
+    i64::from(random.next_u32() % 7) - 3
 }
 
 /// An INSERT of one to three rows, or now and then a DELETE.
-fn write(out: &mut String, random: &mut Pcg32) -> Result<(), AllocError> {
+fn write(alloc: Global, random: &mut Pcg32) -> Result<String, AllocError> {
     if random.next_u32() % 3 == 0 {
-        out.push_str(deletion(random))?;
-        return out.push_str(number(random));
+        let column = if random.next_u32() % 2 == 0 { "k" } else { "a" };
+        let op = match random.next_u32() % 3 {
+            0 => "=",
+            1 => "<",
+            _ => "<>",
+        };
+        let number = small(random);
+        return format!(in alloc; "DELETE FROM t WHERE {column} {op} {number}");
     }
-    out.push_str("INSERT INTO t VALUES ")?;
-    row(out, random)?;
+    let (k, a) = (small(random), small(random));
+    let mut text = format!(in alloc; "INSERT INTO t VALUES ({k}, {a})")?;
     for _ in 0..random.next_u32() % 3 {
-        out.push_str(", ")?;
-        row(out, random)?;
+        let (k, a) = (small(random), small(random));
+        let row = format!(in alloc; ", ({k}, {a})")?;
+        text.push_str(row.as_str())?;
     }
-    Ok(())
+    Ok(text)
 }
 
 /// A view reads as its query means on the rows of the table.
@@ -76,19 +55,6 @@ fn compare(
     check_view(rt, alloc, engine, view, kept.as_slice(), table.as_slice())
 }
 
-/// One write.
-fn change_once(
-    rt: &impl Abort,
-    alloc: Global,
-    engine: &mut Engine,
-    random: &mut Pcg32,
-) -> Result<(), Fail> {
-    let mut text = String::new(alloc);
-    write(&mut text, random)?;
-    answer(rt, alloc, engine, text.as_str())?;
-    Ok(())
-}
-
 /// Some writes.
 fn change(
     rt: &impl Abort,
@@ -98,7 +64,8 @@ fn change(
     count: u32,
 ) -> Result<(), Fail> {
     for _ in 0..count {
-        change_once(rt, alloc, engine, random)?;
+        let text = write(alloc, random)?;
+        answer(rt, alloc, engine, text.as_str())?;
     }
     Ok(())
 }

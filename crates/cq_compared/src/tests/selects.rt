@@ -1,9 +1,8 @@
 //! Scripts made at random: what a SELECT, a DELETE, an UPDATE and a view with any WHERE give is what the plain evaluator makes of it.
 use super::queries::{check_view, left, rewritten, selected};
-use super::written::{condition, day, key_number, negative, number, small, text};
+use super::written::{condition, day, key_number, number, small, text};
 use super::{answer, engine, rows};
 use cq_engine::Engine;
-use cq_values::Row;
 use rand_core::Rng;
 use rand_pcg::Pcg32;
 use std::alloc::{AllocError, Global};
@@ -16,38 +15,39 @@ const TABLE: &str = "CREATE TABLE t(k INTEGER, a INTEGER, b TEXT, d DATE)";
 
 const ALL: &str = "SELECT k, a, b, d FROM t";
 
-/// The value, or now and then NULL.
-fn or_null(random: &mut Pcg32, value: &'static str) -> &'static str {
-    if random.next_u32() % 5 == 0 {
+/// A value now and then, and else NULL.
+fn or_null(alloc: Global, random: &mut Pcg32, value: &str) -> Result<String, AllocError> {
+    let shown = if random.next_u32() % 5 == 0 {
         "NULL"
     } else {
         value
-    }
+    };
+    String::from_str(alloc, shown)
 }
 
 /// A row of the table.
-fn row(out: &mut String, random: &mut Pcg32) -> Result<(), AllocError> {
-    let (k, a, b, d) = (negative(random), small(random), text(random), day(random));
-    out.push_str("(")?;
-    out.push_str(or_null(random, k))?;
-    out.push_str(", ")?;
-    out.push_str(or_null(random, a))?;
-    out.push_str(", ")?;
-    out.push_str(or_null(random, b))?;
-    out.push_str(", ")?;
-    out.push_str(or_null(random, d))?;
-    out.push_str(")")
+fn row(alloc: Global, random: &mut Pcg32) -> Result<String, AllocError> {
+    let k = format!(in alloc; "-{}", small(random))?;
+    let a = format!(in alloc; "{}", small(random))?;
+    let b = format!(in alloc; "'{}'", text(random))?;
+    let d = format!(in alloc; "DATE '{}'", day(random))?;
+    let k = or_null(alloc, random, k.as_str())?;
+    let a = or_null(alloc, random, a.as_str())?;
+    let b = or_null(alloc, random, b.as_str())?;
+    let d = or_null(alloc, random, d.as_str())?;
+    format!(in alloc; "({k}, {a}, {b}, {d})")
 }
 
 /// An INSERT of some rows.
-fn insertion(out: &mut String, random: &mut Pcg32) -> Result<(), AllocError> {
-    out.push_str("INSERT INTO t VALUES ")?;
-    row(out, random)?;
-    for _ in 0..random.next_u32() % 5 {
-        out.push_str(", ")?;
-        row(out, random)?;
+fn insertion(alloc: Global, random: &mut Pcg32) -> Result<String, AllocError> {
+    let first = row(alloc, random)?;
+    let mut text = format!(in alloc; "INSERT INTO t VALUES {first}")?;
+    for _ in 0..small(random) {
+        let more = row(alloc, random)?;
+        text.push_str(", ")?;
+        text.push_str(more.as_str())?;
     }
-    Ok(())
+    Ok(text)
 }
 
 fn insert(
@@ -56,148 +56,96 @@ fn insert(
     engine: &mut Engine,
     random: &mut Pcg32,
 ) -> Result<(), Fail> {
-    let mut text = String::new(alloc);
-    insertion(&mut text, random)?;
+    let text = insertion(alloc, random)?;
     answer(rt, alloc, engine, text.as_str())?;
     Ok(())
 }
 
 /// A SELECT of two values with a condition.
-fn selection(out: &mut String, random: &mut Pcg32) -> Result<(), AllocError> {
-    out.push_str("SELECT ")?;
-    number(out, random, 2)?;
-    out.push_str(", ")?;
-    number(out, random, 1)?;
-    out.push_str(" FROM t WHERE ")?;
-    condition(out, random, 2)
+fn selection(alloc: Global, random: &mut Pcg32) -> Result<String, AllocError> {
+    let first = number(alloc, random, 2)?;
+    let second = number(alloc, random, 1)?;
+    let kept = condition(alloc, random, 2)?;
+    format!(in alloc; "SELECT {first}, {second} FROM t WHERE {kept}")
 }
 
-/// A DELETE with a condition.
-fn deletion(out: &mut String, random: &mut Pcg32) -> Result<(), AllocError> {
-    out.push_str("DELETE FROM t WHERE ")?;
-    condition(out, random, 1)
-}
-
-/// An UPDATE with a condition.
-fn update(out: &mut String, random: &mut Pcg32) -> Result<(), AllocError> {
-    out.push_str("UPDATE t SET a = ")?;
-    number(out, random, 1)?;
-    out.push_str(", k = a WHERE ")?;
-    condition(out, random, 1)
-}
-
-/// A view with a condition and items that are worked out.
-fn view(out: &mut String, random: &mut Pcg32) -> Result<(), AllocError> {
-    out.push_str("CREATE VIEW v AS SELECT ")?;
-    key_number(out, random)?;
-    out.push_str(" AS x, COUNT(")?;
-    number(out, random, 1)?;
-    out.push_str(") AS n, SUM(")?;
-    number(out, random, 2)?;
-    out.push_str(") AS s FROM t WHERE ")?;
-    condition(out, random, 2)?;
-    out.push_str(" GROUP BY b, k")
-}
-
-/// A SELECT has the rows that it means on the rows of the table.
-fn compare_rows(
-    rt: &impl Abort,
-    alloc: Global,
-    engine: &mut Engine,
-    text: &str,
-) -> Result<(), Fail> {
-    let shown = rows(rt, alloc, engine, text)?;
-    let table = rows(rt, alloc, engine, ALL)?;
-    let wanted = selected(alloc, engine, text, table.as_slice())?;
-    assert!(rt; shown.as_slice() == wanted.as_slice(), "{text}: {shown:?}");
-    Ok(())
-}
-
+/// It has the rows that it means on the rows of the table.
 fn check_select(
     rt: &impl Abort,
     alloc: Global,
     engine: &mut Engine,
     random: &mut Pcg32,
 ) -> Result<(), Fail> {
-    let mut text = String::new(alloc);
-    selection(&mut text, random)?;
-    compare_rows(rt, alloc, engine, text.as_str())
-}
-
-/// The table has these rows behind a statement.
-fn compare_left(
-    rt: &impl Abort,
-    alloc: Global,
-    engine: &mut Engine,
-    text: &str,
-    wanted: &[Row],
-) -> Result<(), Fail> {
-    answer(rt, alloc, engine, text)?;
-    let after = rows(rt, alloc, engine, ALL)?;
-    assert!(rt; after.as_slice() == wanted, "{text}: {after:?}");
+    let text = selection(alloc, random)?;
+    let shown = rows(rt, alloc, engine, text.as_str())?;
+    let table = rows(rt, alloc, engine, ALL)?;
+    let wanted = selected(alloc, engine, text.as_str(), table.as_slice())?;
+    assert!(rt; shown.as_slice() == wanted.as_slice(), "{text}: {shown:?}");
     Ok(())
 }
 
-/// A DELETE leaves the rows that it leaves in a list.
+/// A DELETE with a condition leaves the rows that it leaves in a list.
 fn check_delete(
     rt: &impl Abort,
     alloc: Global,
     engine: &mut Engine,
     random: &mut Pcg32,
 ) -> Result<(), Fail> {
-    let mut text = String::new(alloc);
-    deletion(&mut text, random)?;
+    let kept = condition(alloc, random, 1)?;
+    let text = format!(in alloc; "DELETE FROM t WHERE {kept}")?;
     let before = rows(rt, alloc, engine, ALL)?;
     let wanted = left(alloc, engine, text.as_str(), before.as_slice())?;
-    compare_left(rt, alloc, engine, text.as_str(), wanted.as_slice())
+    answer(rt, alloc, engine, text.as_str())?;
+    let after = rows(rt, alloc, engine, ALL)?;
+    assert!(rt; after.as_slice() == wanted.as_slice(), "{text}: {after:?}");
+    Ok(())
 }
 
-/// An UPDATE leaves the rows that it leaves of a list.
+/// An UPDATE with a condition leaves the rows that it leaves of a list.
 fn check_update(
     rt: &impl Abort,
     alloc: Global,
     engine: &mut Engine,
     random: &mut Pcg32,
 ) -> Result<(), Fail> {
-    let mut text = String::new(alloc);
-    update(&mut text, random)?;
+    let value = number(alloc, random, 1)?;
+    let kept = condition(alloc, random, 1)?;
+    let text = format!(in alloc; "UPDATE t SET a = {value}, k = a WHERE {kept}")?;
     let before = rows(rt, alloc, engine, ALL)?;
     let wanted = rewritten(alloc, engine, text.as_str(), before.as_slice())?;
-    compare_left(rt, alloc, engine, text.as_str(), wanted.as_slice())
-}
-
-fn create_view(
-    rt: &impl Abort,
-    alloc: Global,
-    engine: &mut Engine,
-    random: &mut Pcg32,
-) -> Result<(), Fail> {
-    let mut text = String::new(alloc);
-    view(&mut text, random)?;
     answer(rt, alloc, engine, text.as_str())?;
+    let after = rows(rt, alloc, engine, ALL)?;
+    assert!(rt; after.as_slice() == wanted.as_slice(), "{text}: {after:?}");
     Ok(())
 }
 
-/// A view reads as its query means on the rows of the table.
-fn compare_view(rt: &impl Abort, alloc: Global, engine: &mut Engine) -> Result<(), Fail> {
-    let kept = rows(rt, alloc, engine, "SELECT x, n, s FROM v")?;
-    let table = rows(rt, alloc, engine, ALL)?;
-    check_view(rt, alloc, engine, "v", kept.as_slice(), table.as_slice())
+/// A view with a condition and items that are worked out.
+fn view(alloc: Global, random: &mut Pcg32) -> Result<String, AllocError> {
+    let shown = key_number(alloc, random)?;
+    let counted = number(alloc, random, 1)?;
+    let summed = number(alloc, random, 2)?;
+    let kept = condition(alloc, random, 2)?;
+    format!(in alloc;
+        "CREATE VIEW v AS SELECT {shown} AS x, COUNT({counted}) AS n, SUM({summed}) AS s FROM t WHERE {kept} GROUP BY b, k"
+    )
 }
 
-/// A view and writes behind it.
+/// Such a view and writes behind it: the view reads as its query means on the rows of the table.
 fn check_writes(
     rt: &impl Abort,
     alloc: Global,
     engine: &mut Engine,
     random: &mut Pcg32,
 ) -> Result<(), Fail> {
-    create_view(rt, alloc, engine, random)?;
+    let text = view(alloc, random)?;
+    answer(rt, alloc, engine, text.as_str())?;
     insert(rt, alloc, engine, random)?;
     check_delete(rt, alloc, engine, random)?;
     check_update(rt, alloc, engine, random)?;
     insert(rt, alloc, engine, random)?;
-    compare_view(rt, alloc, engine)
+    let kept = rows(rt, alloc, engine, "SELECT x, n, s FROM v")?;
+    let table = rows(rt, alloc, engine, ALL)?;
+    check_view(rt, alloc, engine, "v", kept.as_slice(), table.as_slice())
 }
 
 fn run_script(
