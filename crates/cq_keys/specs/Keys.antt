@@ -48,6 +48,10 @@ rows_of_numbers numbers = key_rows (length numbers) (map Number numbers ∷ [])
 abbrev pub key_at : List Row → ℕ → Row
 key_at keys number = slice_index_or keys number []
 
+-- each place of the columns has the number of its key
+abbrev pub AreNumbers : List Row → ℕ → List (List Value) → List ℕ → Type 0
+AreNumbers keys len columns numbers = map (key_at keys) numbers ≡ key_rows len columns
+
 -- the number of a key, and None where it was never met
 abbrev pub place_of : List Row → Row → Option ℕ
 place_of keys key = position (same_row key) keys

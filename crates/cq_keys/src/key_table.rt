@@ -6,7 +6,7 @@ ghost use Rattle.cq_values.specs.Lent.{owned};
 ghost use Rattle.cq_values.specs.declared.value.Value.TheVariants.{Number};
 ghost use Rattle.cq_values.specs.Order.{same_row};
 ghost use Rattle.cq_bags.specs.Bag.{firsts};
-ghost use Rattle.cq_keys.specs.Keys.{AreKeys, AreWithin, HasLength, IsNumberOf, key_at, key_rows, place_of, places_of, row_in, rows_of_numbers, values_of};
+ghost use Rattle.cq_keys.specs.Keys.{AreKeys, AreNumbers, AreWithin, HasLength, IsNumberOf, key_at, key_rows, place_of, places_of, row_in, rows_of_numbers, values_of};
 
 use crate::chain::Chain;
 use crate::dictionary::Dictionary;
@@ -64,7 +64,7 @@ impl KeyTable {
         requires long { AllByRecursion (HasLength len) (values_of columns.now) }
         requires few { len ≤ 1024 }
         ensures keys { OnOk result (self.new.keys ≡ firsts (self.old.keys ++ key_rows len (values_of columns.now))) }
-        ensures numbers { OnOk result (map (key_at self.new.keys) numbers.new.items ≡ key_rows len (values_of columns.now)) }
+        ensures numbers { OnOk result (AreNumbers self.new.keys len (values_of columns.now) numbers.new.items) }
         ensures within { OnOk result (AreWithin self.new.keys numbers.new.items) }
         ensures width { self.new.width ≡ self.old.width }
     {

@@ -1,5 +1,6 @@
 -- What the writes of tables do to views.
-use Rattle.std.specs.Prelude.{◌≡◌, ℕ, ℤ, ◌==◌, true, false, List, Option, Some, None, IfSome}
+use Rattle.std.specs.Prelude.{◌≡◌, ℕ, ℤ, ◌==◌, true, false, List, Option, Some, None, IfSome, map}
+use Rattle.std.specs.Borrow.{Bor}
 use Rattle.std.specs.List.{zip}
 use Rattle.cq_values.specs.Value.{Row}
 use Rattle.cq_bags.specs.Bag.{Weighted}
@@ -36,6 +37,10 @@ AreReadyFor table rows weight views changes = AreReady table (changed rows weigh
 -- the same for rows that go while others come
 abbrev pub CanExchange : ℕ → List Row → List Row → List NamedView → List (Option (List Addition)) → Type 0
 CanExchange table gone come views changes = AreReady table (exchanged gone come) views changes
+
+-- the same where the rows that go are lent
+abbrev pub CanExchangeLent : ℕ → List (Bor Row) → List Row → List NamedView → List (Option (List Addition)) → Type 0
+CanExchangeLent table gone come views changes = CanExchange table (map (λ r. r.now) gone) come views changes
 
 -- a view has room for its change, and stays in range
 abbrev pub CanTake : NamedView → Option (List Addition) → Type 0

@@ -1,5 +1,6 @@
 -- Views under their names, and tables that they stand for.
 use Rattle.std.specs.Prelude.{◌≡◌, ℕ, List, length, map}
+use Rattle.std.specs.Borrow.{Bor}
 use Rattle.std.specs.List.{AllByRecursion}
 use Rattle.cq_values.specs.Value.{Row}
 use Rattle.cq_bags.specs.Bag.{once_each}
@@ -24,6 +25,10 @@ view_of v = record { name = v.name; columns = v.columns; query = v.kept.query; e
 -- the views that they are
 abbrev pub views_of : List NamedView → List ViewOf
 views_of views = map view_of views
+
+-- the rows that are lent are narrow for each of the views
+abbrev pub AreNarrowFor : List NamedView → List (Bor Row) → Type 0
+AreNarrowFor views rows = AllByRecursion (λ v. AllByRecursion (λ r. IsNarrowFor v.kept.query r.now) rows) views
 
 -- ---- Views that stand
 -- no stored row has a value that is too wide or too large for the view

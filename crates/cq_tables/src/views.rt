@@ -6,8 +6,8 @@ ghost use Rattle.cq_binding.specs.Refusal.{is_used};
 ghost use Rattle.cq_states.specs.State.{view_place};
 ghost use Rattle.cq_views.specs.Query.{reads};
 ghost use Rattle.cq_views.specs.View.{IsNarrowFor};
-ghost use Rattle.cq_tables.specs.Taking.{AreReadyFor, AreSame, CanAllTake, CanExchange, HaveTaken};
-ghost use Rattle.cq_tables.specs.Views.{views_of};
+ghost use Rattle.cq_tables.specs.Taking.{AreReadyFor, AreSame, CanAllTake, CanExchangeLent, HaveTaken};
+ghost use Rattle.cq_tables.specs.Views.{AreNarrowFor, views_of};
 
 use crate::view::View;
 use cq_values::Row;
@@ -46,7 +46,7 @@ pub fn prepare_all(
     rows: &[&Row],
     weight: i128,
 ) -> Result<Vec<Option<Pending>>, AllocError>
-    requires { AllByRecursion (λ v. AllByRecursion (λ r. IsNarrowFor v.kept.query r.now) rows.now) views.old.items }
+    requires { AreNarrowFor views.old.items rows.now }
     ensures kept { AreSame views.old.items views.new.items }
     ensures ready { IfOk result (λ ps. AreReadyFor table (map (λ r. r.now) rows.now) weight views.new.items ps.items) }
 {
@@ -66,10 +66,10 @@ pub fn prepare_exchanges(
     gone: &[&Row],
     come: &[Row],
 ) -> Result<Vec<Option<Pending>>, AllocError>
-    requires gone { AllByRecursion (λ v. AllByRecursion (λ r. IsNarrowFor v.kept.query r.now) gone.now) views.old.items }
+    requires gone { AreNarrowFor views.old.items gone.now }
     requires come { AllByRecursion (λ v. AllByRecursion (IsNarrowFor v.kept.query) come.now) views.old.items }
     ensures kept { AreSame views.old.items views.new.items }
-    ensures ready { IfOk result (λ ps. CanExchange table (map (λ r. r.now) gone.now) come.now views.new.items ps.items) }
+    ensures ready { IfOk result (λ ps. CanExchangeLent table gone.now come.now views.new.items ps.items) }
 {
     let mut pendings = Vec::with_capacity(alloc, views.len())?;
     for place in 0..views.len() {
