@@ -1,5 +1,5 @@
 -- What patterns fit whose signs mostly stand for themselves: on characters, and so on bytes.
-use Rattle.std.proofs.Common.{◌≡◌, ℕ, ◌<◌, ◌≤◌, ◌+◌, ◌-◌, Bool, true, false, not, ◌&&◌, eqb, List, [], ◌∷◌, ◌++◌, length, take, drop, get_or, zero, suc, length-append, refl, sym, ap, ap₂, subst, ◌∙◌, arith, append-nil}
+use Rattle.std.proofs.Common.{◌≡◌, ℕ, ◌<◌, ◌≤◌, ◌+◌, ◌-◌, Bool, true, false, not, ◌&&◌, eqb, List, [], ◌∷◌, ◌++◌, length, take, drop, get_or, zero, suc, length-append, refl, sym, ap, ap₂, subst, ◌∙◌, arith, append-nil, append_assoc}
 use Rattle.std.specs.List.{starts_with, ends_with}
 use Rattle.std.specs.Prelude.{Option, Some, None, is_some}
 use Rattle.std.specs.Str.{bytes_eq}
@@ -15,7 +15,7 @@ use lib.Utf8.{encodes}
 use Rattle.std.proofs.Math.Seq.{take-append_seam, drop-append_seam, get_or-append_seam}
 use Rattle.cq_model.specs.Like.{percent, underscore, StandsFor, Fits, like}
 use Rattle.cq_eval.proofs.Likes.{like_decides}
-use Rattle.cq_prims.specs.Patterns.{stands_for_itself, is_ordinary}
+use Rattle.cq_prims.specs.Patterns.{IsRunOf, stands_for_itself, is_ordinary}
 
 and_left : (a b : Bool) → (a && b) ≡ true → a ≡ true
 and_left true b e = refl
@@ -52,6 +52,13 @@ front_taken (p ∷ signs) more text o h =
 pub front_given : (signs more rest : List ℕ) → is_ordinary signs ≡ true → Fits more rest → Fits (signs ++ more) (signs ++ rest)
 front_given [] more rest o h = h
 front_given (p ∷ signs) more rest o h = (p ∷ [], signs ++ rest, refl, stands p (and_left (stands_for_itself p) _ o), front_given signs more rest (and_right (stands_for_itself p) _ o) h)
+
+-- a text that fits a pattern fits each end of it by an end
+cut_fits : (signs more text : List ℕ) → Fits (signs ++ more) text → (front : List ℕ) × (rest : List ℕ) × (text ≡ front ++ rest) × Fits more rest
+cut_fits [] more text h = ([], text, refl, h)
+cut_fits (p ∷ signs) more text h =
+    let found = cut_fits signs more h.1 h.4 in
+    (h.0 ++ found.0, found.1, h.2 ∙ ap (λ l. h.0 ++ l) found.2 ∙ sym (append_assoc h.0 found.0 found.1), found.3)
 
 -- '%' alone fits any text
 any_fits : (text : List ℕ) → Fits (percent ∷ []) text
@@ -130,6 +137,21 @@ module _ (text : List ℕ) (valid : IsUtf8 text) where
           ),
     )
 
+    -- a text that fits a pattern has each run of its ordinary signs
+    pub run_is_there : (pattern front rest : List ℕ) → IsUtf8 pattern → pattern ≡ front ++ (bs ++ rest) → like (chars pattern) (chars text) ≡ true
+        → (before : List ℕ) × (behind : List ℕ) × (text ≡ before ++ (bs ++ behind))
+    run_is_there pattern front rest p e h =
+        let at = seam_before bs u front rest pattern p e in
+        let first : IsUtf8 at.0 = subst IsUtf8 (ap (take (length at.0)) at.2 ∙ take-append_seam at.0 (bs ++ at.1)) (IsUtf8-take pattern (length at.0) p at.3) in
+        let signs : chars pattern ≡ chars at.0 ++ (chars bs ++ chars at.1) = ap chars at.2 ∙ chars-append at.0 (bs ++ at.1) first ∙ ap (λ l. chars at.0 ++ l) (chars-append bs at.1 u) in
+        let cut = cut_fits (chars at.0) (chars bs ++ chars at.1) (chars text) (subst (λ s. Fits s (chars text)) signs ((like_decides (chars pattern) (chars text)).0 h)) in
+        let found = front_taken (chars bs) (chars at.1) cut.1 o cut.3 in (
+          encodes cut.0,
+          encodes found.0,
+          spelled ∙ ap encodes (cut.2 ∙ ap (λ l. cut.0 ++ l) found.1) ∙ encodes-append cut.0 (chars bs ++ found.0)
+              ∙ ap (λ l. encodes cut.0 ++ l) (encodes-append (chars bs) found.0 ∙ ap (λ l. l ++ encodes found.0) (encodes-chars bs u)),
+        )
+
 -- the characters of a pattern with '%' at an end
 pub chars-percent : (bs : List ℕ) → chars (percent ∷ bs) ≡ percent ∷ chars bs
 unfolding chars
@@ -194,3 +216,13 @@ module _ (text : List ℕ) (valid : IsUtf8 text) (bs pattern : List ℕ) where
       let u = inner_valid bs (subst IsUtf8 form.0 p) in
       same_from_decides (is_some r) (like (percent ∷ (chars bs ++ percent ∷ [])) (chars text)) (found_decides text bs r found) (infix_decides text valid bs u form.1)
       ∙ ap (λ q. like q (chars text)) (sym (ap chars form.0 ∙ chars-percent (bs ++ percent ∷ []) ∙ ap (λ l. percent ∷ l) (chars-percent_last bs u)))
+
+  -- without its run a text does not fit
+  pub run_missing : IsUtf8 pattern → IsRunOf bs pattern → (r : Option ℕ) → FindsNeedle text bs 0 r → is_some r ≡ false → like (chars pattern) (chars text) ≡ false
+  run_missing p run r found none = no (like (chars pattern) (chars text)) refl
+    where
+      no : (b : Bool) → like (chars pattern) (chars text) ≡ b → b ≡ false
+      no false is = refl
+      no true is =
+          let there = (found_decides text bs r found).1 (run_is_there text valid bs run.text run.ordinary pattern run.front run.rest p run.there is) in
+          absurd (cc)

@@ -16,13 +16,15 @@ pub struct Pattern {
     form: PatternForm,
 }
 
-/// What a text has to do with the ordinary signs of the pattern, where there is no `_` and `%` stands at the ends alone.
+/// What a text has to do with the ordinary signs of the pattern. Where there is a `_`, or a `%` elsewhere than at the ends, it
+/// has at least a run of them.
 #[derive(Drop)]
 pub(crate) enum PatternForm {
     Whole(Text),
     Prefix(Text),
     Suffix(Text),
     Infix(Finder<'static>),
+    Having(Finder<'static>),
     Other,
 }
 
@@ -56,6 +58,9 @@ impl Pattern {
             PatternForm::Prefix(front) => text.starts_with(front.as_str()),
             PatternForm::Suffix(end) => text.ends_with(end.as_str()),
             PatternForm::Infix(part) => part.find(text.as_bytes()).is_some(),
+            PatternForm::Having(run) => {
+                run.find(text.as_bytes()).is_some() && cq_eval::like(pattern, text)
+            }
             PatternForm::Other => cq_eval::like(pattern, text),
         }
     }
@@ -72,25 +77,41 @@ fn form_of(alloc: Global, pattern: &str) -> Result<PatternForm, AllocError>
             return Ok(PatternForm::Prefix(Text::new(alloc, front)?));
         }
     }
-    match pattern.strip_prefix('%') {
-        Some(rest) => form_behind(alloc, rest),
-        None => Ok(PatternForm::Other),
+    if let Some(rest) = pattern.strip_prefix('%') {
+        if is_ordinary(rest) {
+            return Ok(PatternForm::Suffix(Text::new(alloc, rest)?));
+        }
+        if let Some(part) = rest.strip_suffix('%') {
+            if is_ordinary(part) {
+                let finder = Finder::new(part.as_bytes());
+                return Ok(PatternForm::Infix(finder.into_owned(alloc)?));
+            }
+        }
     }
+    form_by_run(alloc, pattern)
 }
 
-/// The form of `%` and the rest of the pattern.
-fn form_behind(alloc: Global, rest: &str) -> Result<PatternForm, AllocError>
-    ensures { IfOk result (λ form. IsFormOf form (percent ∷ rest.now)) }
+/// The form of a pattern by its longest run of ordinary signs.
+fn form_by_run(alloc: Global, pattern: &str) -> Result<PatternForm, AllocError>
+    ensures { IfOk result (λ form. IsFormOf form pattern.now) }
 {
-    if is_ordinary(rest) {
-        return Ok(PatternForm::Suffix(Text::new(alloc, rest)?));
+    let run = longest_run(pattern);
+    let finder = Finder::new(run.as_bytes());
+    if is_ordinary(run) && finder.find(pattern.as_bytes()).is_some() {
+        return Ok(PatternForm::Having(finder.into_owned(alloc)?));
     }
-    match rest.strip_suffix('%') {
-        Some(part) if is_ordinary(part) => {
-            Ok(PatternForm::Infix(Finder::new(part.as_bytes()).into_owned(alloc)?))
+    Ok(PatternForm::Other)
+}
+
+/// The longest run of ordinary signs. No answer depends on which it is.
+fn longest_run(pattern: &str) -> &str {
+    let mut longest = "";
+    for run in pattern.split(|sign| sign == '%' || sign == '_') {
+        if longest.len() < run.len() {
+            longest = run;
         }
-        _ => Ok(PatternForm::Other),
     }
+    longest
 }
 
 /// Whether there is neither `%` nor `_`.

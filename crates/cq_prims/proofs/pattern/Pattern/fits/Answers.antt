@@ -3,8 +3,8 @@ use Rattle.std.proofs.lemmas.Str.Pattern.{starts_text, ends_text}
 use Rattle.std.specs.Str.{IsUtf8}
 use Rattle.memchr.specs.Find.{FindsNeedle}
 use Rattle.cq_prims.specs.Patterns.{IsFormOf}
-use Rattle.cq_prims.specs.declared.pattern.PatternForm.TheVariants.{Whole, Prefix, Suffix, Infix}
-use Rattle.cq_prims.proofs.Fitting.{whole_fits, prefix_fits, suffix_fits, infix_fits}
+use Rattle.cq_prims.specs.declared.pattern.PatternForm.TheVariants.{Whole, Prefix, Suffix, Infix, Having}
+use Rattle.cq_prims.proofs.Fitting.{whole_fits, prefix_fits, suffix_fits, infix_fits, run_missing}
 use Rattle.cq_prims.proofs.pattern.Pattern.fits.Goals as goal
 
 pub returns-in-Whole : goal.returns-in-Whole
@@ -39,3 +39,13 @@ returns-in-Infix c =
     let whole = subst IsUtf8 (c.as_str-pattern.ensures ∙ c.self.view_is) c.as_str-pattern.utf8 in
     let found = subst (λ hay. FindsNeedle hay part 0 c.find.result) c.as_bytes.ensures.value c.find.ensures in
     c.is_some.ensures ∙ infix_fits text c.utf8.text part c.args.self.now whole form c.find.result found
+
+pub returns-else-is_some : goal.returns-else-is_some
+returns-else-is_some c =
+    let text = c.args.text.now in
+    let run = c.in-Having.run' in
+    let form = subst (λ p. IsFormOf (Having run) p) c.self.view_is (subst (λ f. IsFormOf f c.self.inside.text) c.in-Having.is c.self.invariant) in
+    let whole = subst IsUtf8 (c.as_str-pattern.ensures ∙ c.self.view_is) c.as_str-pattern.utf8 in
+    let found = subst (λ hay. FindsNeedle hay run 0 c.find-in-Having.result) c.as_bytes-in-Having.ensures.value c.find-in-Having.ensures in
+    let none = sym c.is_some-in-Having.ensures ∙ c.if-is_some.false in
+    c.if-is_some.false ∙ sym (run_missing text c.utf8.text run c.args.self.now whole form c.find-in-Having.result found none)
