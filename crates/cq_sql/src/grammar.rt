@@ -61,6 +61,7 @@ fn whole_statement(alloc: Global, tokens: &[Token]) -> Result<Statement, SqlFaul
     if rest.is_empty() {
         Ok(statement)
     } else {
+        drop(statement);
         Err(SqlFault::Syntax)
     }
 }

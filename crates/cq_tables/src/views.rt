@@ -27,7 +27,7 @@ pub fn drop_view_at(views: &mut Vec<View>, place: usize)
     requires { place < length views.old.items }
     ensures { views.new.items ≡ remove views.old.items place }
 {
-    views.remove(place);
+    drop(views.remove(place));
 }
 
 /// Whether a view stands on the table of a number.

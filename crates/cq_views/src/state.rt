@@ -61,9 +61,19 @@ impl ViewState {
         ensures stands { IfOk result (λ v. Stands v (once_each rows.now)) }
         ensures small { OnOk result (AllByRecursion (IsSmallFor query) rows.now) }
     {
-        let pending = Pending::of_table(alloc, &query, rows)?;
+        let pending = match Pending::of_table(alloc, &query, rows) {
+            Ok(pending) => pending,
+            Err(fault) => {
+                drop(query);
+                return Err(fault);
+            }
+        };
         let mut view = ViewState::empty(alloc, query, epoch);
-        view.ready(alloc, &pending)?;
+        if let Err(fault) = view.ready(alloc, &pending) {
+            drop(pending);
+            drop(view);
+            return Err(fault);
+        }
         view.commit(pending, epoch);
         Ok(view)
     }
