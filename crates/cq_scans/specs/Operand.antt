@@ -1,5 +1,5 @@
 -- Values that are lent, or were worked out.
-use Rattle.std.specs.Prelude.{List}
+use Rattle.std.specs.Prelude.{◌≡◌, List}
 use Rattle.std.specs.Simd.Lanes.{zip2}
 use Rattle.cq_values.specs.declared.value.Value.{Value}
 use Rattle.cq_values.specs.Value.{Row}
@@ -19,6 +19,10 @@ values_in (operand.Own vector) = vector
 abbrev pub values_worked : List Row → Worked → List Value
 values_worked rows (worked.Column place) = column_of rows place
 values_worked rows (worked.Values vector) = vector
+
+-- it was worked out to these values
+abbrev pub WorksOut : List Row → List Value → Worked → Type 0
+WorksOut rows values made = values_worked rows made ≡ values
 
 -- the sums of two such
 abbrev pub sums_worked : List Row → Worked → Worked → List Value

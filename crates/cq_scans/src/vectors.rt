@@ -9,7 +9,6 @@ ghost use Rattle.cq_scans.specs.Operand.{values_in, values_worked};
 use crate::operand::Operand;
 use crate::scan::Scan;
 use crate::worked::Worked;
-use cq_arith::{extract, neg};
 use cq_model::{Expr, ExprTree};
 use cq_vectors::{Form, Vector};
 use std::alloc::{AllocError, Global};
@@ -72,14 +71,13 @@ fn worked_out<'a>(
         }
         ExprTree::Negate(part) => {
             let part = worked_out(alloc, part, scan)?;
-            let values = part.lend(alloc, scan)?;
-            Ok(Worked::Values(neg(alloc, values.vector())?))
+            part.negated(alloc, scan)
         }
         ExprTree::Sum(first, rest) => {
             let mut sum = worked_out(alloc, first, scan)?;
             for term in rest {
                 let term = worked_out(alloc, term, scan)?;
-                sum = Worked::Values(sum.plus(alloc, &term, scan)?);
+                sum = sum.plus(alloc, term, scan)?;
             }
             Ok(sum)
         }
@@ -87,14 +85,13 @@ fn worked_out<'a>(
             let mut product = worked_out(alloc, first, scan)?;
             for factor in rest {
                 let factor = worked_out(alloc, factor, scan)?;
-                product = Worked::Values(product.times(alloc, &factor, scan)?);
+                product = product.times(alloc, factor, scan)?;
             }
             Ok(product)
         }
         ExprTree::Extract(day_part, part) => {
             let part = worked_out(alloc, part, scan)?;
-            let values = part.lend(alloc, scan)?;
-            Ok(Worked::Values(extract(alloc, *day_part, values.vector())?))
+            part.extracted(alloc, *day_part, scan)
         }
     }
 }

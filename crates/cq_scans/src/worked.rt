@@ -1,11 +1,13 @@
 //! What expressions come to: a column, or values that were worked out.
-ghost use Rattle.std.specs.Prelude.{◌≡◌, IfOk, length};
+ghost use Rattle.std.specs.Prelude.{◌≡◌, IfOk, length, map};
 ghost use Rattle.cq_arith.specs.Operation.{AllInRange};
-ghost use Rattle.cq_scans.specs.Operand.{products_worked, sums_worked, values_in, values_worked};
+ghost use Rattle.cq_model.specs.Eval.{extracted, negated};
+ghost use Rattle.cq_scans.specs.Operand.{WorksOut, products_worked, sums_worked, values_in, values_worked};
 
 use crate::operand::Operand;
 use crate::scan::Scan;
-use cq_arith::{add, mul};
+use cq_arith::{add, extract, mul, neg};
+use cq_values::DayPart;
 use cq_vectors::Vector;
 use std::alloc::{AllocError, Global};
 
@@ -33,33 +35,87 @@ impl<'a> Worked<'a> {
 
     /// The sum with another one in each row.
     pub(crate) fn plus(
-        &self,
+        self,
         alloc: Global,
-        other: &Worked<'a>,
+        other: Worked<'a>,
         scan: &Scan<'a>,
-    ) -> Result<Vector<'a>, AllocError>
-        requires same { length (values_worked scan.now self.now) ≡ length (values_worked scan.now other.now) }
-        requires fits { AllInRange (sums_worked scan.now self.now other.now) }
-        ensures { IfOk result (λ made. made ≡ sums_worked scan.now self.now other.now) }
+    ) -> Result<Worked<'a>, AllocError>
+        requires same { length (values_worked scan.now self) ≡ length (values_worked scan.now other) }
+        requires fits { AllInRange (sums_worked scan.now self other) }
+        ensures { IfOk result (WorksOut scan.now (sums_worked scan.now self.entry other.entry)) }
     {
-        let a = self.lend(alloc, scan)?;
-        let b = other.lend(alloc, scan)?;
-        add(alloc, a.vector(), b.vector())
+        let made = sum(alloc, &self, &other, scan);
+        drop(self);
+        drop(other);
+        Ok(Worked::Values(made?))
     }
 
     /// The product with another one in each row.
     pub(crate) fn times(
-        &self,
+        self,
         alloc: Global,
-        other: &Worked<'a>,
+        other: Worked<'a>,
         scan: &Scan<'a>,
-    ) -> Result<Vector<'a>, AllocError>
-        requires same { length (values_worked scan.now self.now) ≡ length (values_worked scan.now other.now) }
-        requires fits { AllInRange (products_worked scan.now self.now other.now) }
-        ensures { IfOk result (λ made. made ≡ products_worked scan.now self.now other.now) }
+    ) -> Result<Worked<'a>, AllocError>
+        requires same { length (values_worked scan.now self) ≡ length (values_worked scan.now other) }
+        requires fits { AllInRange (products_worked scan.now self other) }
+        ensures { IfOk result (WorksOut scan.now (products_worked scan.now self.entry other.entry)) }
     {
-        let a = self.lend(alloc, scan)?;
-        let b = other.lend(alloc, scan)?;
-        mul(alloc, a.vector(), b.vector())
+        let made = product(alloc, &self, &other, scan);
+        drop(self);
+        drop(other);
+        Ok(Worked::Values(made?))
     }
+
+    /// The numbers with the other sign.
+    pub(crate) fn negated(self, alloc: Global, scan: &Scan<'a>) -> Result<Worked<'a>, AllocError>
+        requires { AllInRange (map negated (values_worked scan.now self)) }
+        ensures { IfOk result (WorksOut scan.now (map negated (values_worked scan.now self.entry))) }
+    {
+        let values = self.lend(alloc, scan)?;
+        Ok(Worked::Values(neg(alloc, values.vector())?))
+    }
+
+    /// A part of each day.
+    pub(crate) fn extracted(
+        self,
+        alloc: Global,
+        part: DayPart,
+        scan: &Scan<'a>,
+    ) -> Result<Worked<'a>, AllocError>
+        ensures { IfOk result (WorksOut scan.now (map (extracted part) (values_worked scan.now self.entry))) }
+    {
+        let values = self.lend(alloc, scan)?;
+        Ok(Worked::Values(extract(alloc, part, values.vector())?))
+    }
+}
+
+fn sum<'a>(
+    alloc: Global,
+    a: &Worked<'a>,
+    b: &Worked<'a>,
+    scan: &Scan<'a>,
+) -> Result<Vector<'a>, AllocError>
+    requires same { length (values_worked scan.now a.now) ≡ length (values_worked scan.now b.now) }
+    requires fits { AllInRange (sums_worked scan.now a.now b.now) }
+    ensures { IfOk result (λ made. made ≡ sums_worked scan.now a.now b.now) }
+{
+    let a = a.lend(alloc, scan)?;
+    let b = b.lend(alloc, scan)?;
+    add(alloc, a.vector(), b.vector())
+}
+
+fn product<'a>(
+    alloc: Global,
+    a: &Worked<'a>,
+    b: &Worked<'a>,
+    scan: &Scan<'a>,
+) -> Result<Vector<'a>, AllocError>
+    requires same { length (values_worked scan.now a.now) ≡ length (values_worked scan.now b.now) }
+    requires fits { AllInRange (products_worked scan.now a.now b.now) }
+    ensures { IfOk result (λ made. made ≡ products_worked scan.now a.now b.now) }
+{
+    let a = a.lend(alloc, scan)?;
+    let b = b.lend(alloc, scan)?;
+    mul(alloc, a.vector(), b.vector())
 }

@@ -1,4 +1,5 @@
-use Rattle.std.proofs.Common.{rules, ◌∙◌}
+use Rattle.std.proofs.Common.{rules}
+use Rattle.std.proofs.lemmas.Result.{IfOk-weaker}
 use Rattle.cq_model.specs.declared.expr.ExprTree.TheViews.{the_lemmas}
 use Rattle.cq_model.specs.Expr.{Plus, Times}
 use Rattle.cq_model.specs.Eval.{eval, plus, times}
@@ -10,9 +11,9 @@ use Rattle.cq_scans.proofs.Lists.{same-length}
 use Rattle.cq_scans.proofs.Valuing.{extract-exact, extracted-values, factor-exact, fits, fits-at, literal-values, negated-fits, negated-values, next, part-exact, term-exact}
 use Rattle.cq_scans.proofs.vectors.+worked_out.Goals as goal
 
-pub neg-requires : goal.neg-requires
-neg-requires t c =
-    fits-at _ (negated-fits c.args.scan.now c.args.tree.now c.in-Negate.part c.deref.result.now c.in-Negate.is c.deref.ensures c.requires c.vector.result.now (c.vector.ensures ∙ c.in_ok-values-in-Negate.ensures ∙ c.in_ok-part-in-Negate.ensures))
+pub negated-requires : goal.negated-requires
+negated-requires t c =
+    fits-at _ (negated-fits c.args.scan.now c.args.tree.now c.in-Negate.part c.deref.result.now c.in-Negate.is c.deref.ensures c.requires (values_worked c.args.scan.now c.in_ok-part-in-Negate.part) c.in_ok-part-in-Negate.ensures)
 
 pub worked_out-requires-in-Sum : goal.worked_out-requires-in-Sum
 worked_out-requires-in-Sum t c =
@@ -55,22 +56,23 @@ worked_out-requires-in-Extract t c =
 pub loop-term-preserved : goal.loop-term-preserved
 loop-term-preserved t c =
     next Plus plus sums c.args.scan.now (expr_of c.args.tree.now) c.deref-term-items.result.now c.loop-term.term-index c.term-item.result (values_worked c.args.scan.now c.loop-term.sum) c.loop-term-test.true c.term-item.is
-    (values_worked c.args.scan.now c.in_ok-term-in-Sum.term) c.in_ok-term-in-Sum.ensures c.in_ok-plus-in-Sum.field-0 c.in_ok-plus-in-Sum.ensures c.loop-term.invariant
+    (values_worked c.args.scan.now c.in_ok-term-in-Sum.term) c.in_ok-term-in-Sum.ensures (values_worked c.args.scan.now c.in_ok-sum-in-Sum-2.sum) c.in_ok-sum-in-Sum-2.ensures c.loop-term.invariant
 
 pub loop-factor-preserved : goal.loop-factor-preserved
 loop-factor-preserved t c =
     next Times times products c.args.scan.now (expr_of c.args.tree.now) c.deref-factor-items.result.now c.loop-factor.factor-index c.factor-item.result (values_worked c.args.scan.now c.loop-factor.product) c.loop-factor-test.true c.factor-item.is
-    (values_worked c.args.scan.now c.in_ok-factor-in-Product.factor) c.in_ok-factor-in-Product.ensures c.in_ok-times-in-Product.field-0 c.in_ok-times-in-Product.ensures c.loop-factor.invariant
+    (values_worked c.args.scan.now c.in_ok-factor-in-Product.factor) c.in_ok-factor-in-Product.ensures (values_worked c.args.scan.now c.in_ok-product-in-Product-2.product) c.in_ok-product-in-Product-2.ensures c.loop-factor.invariant
 
 pub returns-in-Literal : goal.returns-in-Literal
 returns-in-Literal t c =
     literal-values c.args.scan.now c.args.tree.now c.in-Literal.value (owned c.lend.result) c.len.result c.new-values.result c.in-Literal.is c.lend.ensures c.len.ensures.len c.new-values.ensures
 
-pub returns-in_ok-neg-in-Negate : goal.returns-in_ok-neg-in-Negate
-returns-in_ok-neg-in-Negate t c =
-    negated-values c.args.scan.now c.args.tree.now c.in_ok-neg-in-Negate.field-0 c.vector.result.now c.deref.result.now (c.vector.ensures ∙ c.in_ok-values-in-Negate.ensures ∙ c.in_ok-part-in-Negate.ensures) c.in-Negate.part c.in-Negate.is c.deref.ensures c.in_ok-neg-in-Negate.ensures
+pub returns-in_ok-part-in-Negate : goal.returns-in_ok-part-in-Negate
+returns-in_ok-part-in-Negate t c =
+    IfOk-weaker c.negated.result _ _ (λ made h. negated-values c.args.scan.now c.args.tree.now (values_worked c.args.scan.now made) (values_worked c.args.scan.now c.in_ok-part-in-Negate.part) c.deref.result.now c.in_ok-part-in-Negate.ensures
+    c.in-Negate.part c.in-Negate.is c.deref.ensures h) c.negated.ensures
 
-pub returns-in_ok-extract-in-Extract : goal.returns-in_ok-extract-in-Extract
-returns-in_ok-extract-in-Extract t c =
-    extracted-values c.args.scan.now c.args.tree.now c.in_ok-extract-in-Extract.field-0 c.vector-in-Extract.result.now c.deref-in-Extract.result.now (c.vector-in-Extract.ensures ∙ c.in_ok-values-in-Extract.ensures ∙ c.in_ok-part-in-Extract.ensures)
-    c.in-Extract.day_part c.in-Extract.part c.in-Extract.is c.deref-in-Extract.ensures c.in_ok-extract-in-Extract.ensures
+pub returns-in_ok-part-in-Extract : goal.returns-in_ok-part-in-Extract
+returns-in_ok-part-in-Extract t c =
+    IfOk-weaker c.extracted.result _ _ (λ made h. extracted-values c.args.scan.now c.args.tree.now (values_worked c.args.scan.now made) (values_worked c.args.scan.now c.in_ok-part-in-Extract.part) c.deref-in-Extract.result.now c.in_ok-part-in-Extract.ensures
+    c.in-Extract.day_part c.in-Extract.part c.in-Extract.is c.deref-in-Extract.ensures h) c.extracted.ensures

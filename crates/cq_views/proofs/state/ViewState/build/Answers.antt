@@ -7,7 +7,7 @@ pub commit-requires-clause-holds : goal.commit-requires-clause-holds
 commit-requires-clause-holds c =
     let few : length c.args.rows.now < 2 ^ 64 = search rules in
     let same : SameView (empty c.args.query c.args.epoch) c.ready.new.self = subst (λ (v : KeptView). SameView v c.ready.new.self) c.empty-view.ensures c.ready.ensures.kept in
-    rw c.in-Ok.ensures.ok (all-hold c.args.query c.args.epoch c.args.rows.now c.ready.new.self same c.requires.can_be_kept few c.in_ok-pending.ensures.small)
+    rw c.in-Ok.ensures.ok (all-hold c.args.query c.args.epoch c.args.rows.now c.ready.new.self same c.requires.can_be_kept few c.in-Ok.ensures.small)
 
 pub returns-clause-stands : goal.returns-clause-stands
 returns-clause-stands c =
