@@ -1,7 +1,11 @@
-//! Runs of scripts that need more than a script: each prefix of one, limits handed in, sinks and sources of the test.
+//! What a script cannot say: each prefix of one, limits handed in, sinks and sources of the test, calls of the engine, and
+//! growths that are refused.
 mod endings;
+mod engine_calls;
+mod engines;
 mod full_tables;
 mod prefixes;
+mod refused_growths;
 mod sinks;
 mod sources;
 

@@ -27,10 +27,36 @@ pub fn later_at(alloc: Global, tokens: &[Token]) -> Result<(LaterClauses, &[Toke
     ensures { Gives (λ x. (x.0, x.1.now)) result (later_at tokens.now) }
 {
     let (condition, rest) = tail_of::<SqlExpressions>(alloc, Keyword::Where, tokens)?;
-    let (group, rest) = list_behind::<ColumnNames>(alloc, Keyword::Group, rest)?;
-    let (having, rest) = tail_of::<SqlExpressions>(alloc, Keyword::Having, rest)?;
-    let (order, rest) = list_behind::<OrderKeys>(alloc, Keyword::Order, rest)?;
-    let (limit, rest) = tail_of::<Numbers>(alloc, Keyword::Limit, rest)?;
+    let (group, rest) = match list_behind::<ColumnNames>(alloc, Keyword::Group, rest) {
+        Ok(found) => found,
+        Err(fault) => {
+            drop(condition);
+            return Err(fault);
+        }
+    };
+    let (having, rest) = match tail_of::<SqlExpressions>(alloc, Keyword::Having, rest) {
+        Ok(found) => found,
+        Err(fault) => {
+            drop(condition);
+            return Err(fault);
+        }
+    };
+    let (order, rest) = match list_behind::<OrderKeys>(alloc, Keyword::Order, rest) {
+        Ok(found) => found,
+        Err(fault) => {
+            drop(condition);
+            drop(having);
+            return Err(fault);
+        }
+    };
+    let (limit, rest) = match tail_of::<Numbers>(alloc, Keyword::Limit, rest) {
+        Ok(found) => found,
+        Err(fault) => {
+            drop(condition);
+            drop(having);
+            return Err(fault);
+        }
+    };
     let later = LaterClauses {
         condition,
         group,

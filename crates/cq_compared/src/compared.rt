@@ -1,0 +1,98 @@
+//! Scripts on two engines.
+use crate::difference::Difference;
+use crate::plain_engine::PlainEngine;
+use cq_binder::bind;
+use cq_binding::{Bound, Fault};
+use cq_cli::NoSources;
+use cq_engine::{Engine, Limits};
+use cq_plain::PlainFault;
+use cq_sql::{parse, split};
+use cq_steps::Answer;
+use cq_values::Row;
+use std::alloc::Global;
+
+/// How many queries of a script both engines answer alike, or the first statement that sets them apart.
+pub(crate) fn compare(alloc: Global, script: &str) -> Result<u64, (&str, Difference)> {
+    let limits = Limits {
+        max_rows: Limits::MAX_ROWS,
+    };
+    let mut engine = Engine::new(alloc, limits);
+    let mut plain = PlainEngine::new(alloc);
+    let mut queries = 0u64;
+    for piece in split(script) {
+        if !piece.blank {
+            match carry_out(alloc, &mut engine, &mut plain, piece.text) {
+                Ok(true) => queries = queries.saturating_add(1),
+                Ok(false) => {}
+                Err(difference) => return Err((piece.text, difference)),
+            }
+        }
+    }
+    Ok(queries)
+}
+
+/// Carries a statement out on both, and tells whether it is a query.
+fn carry_out(
+    alloc: Global,
+    engine: &mut Engine,
+    plain: &mut PlainEngine,
+    text: &str,
+) -> Result<bool, Difference> {
+    let statement = parse(alloc, text)?;
+    let bound = bind(alloc, &statement, &engine.catalog(), &mut NoSources::new())?;
+    let number = engine.drawn();
+    if number >= 1_000_000 {
+        return Err(Difference::TooMany);
+    }
+    let answer = engine.step(&statement, &mut NoSources::new());
+    follow(plain, bound, number, answer)
+}
+
+/// The same on the plain engine. A table is created under the number that is drawn.
+fn follow(
+    plain: &mut PlainEngine,
+    bound: Bound,
+    number: u64,
+    answer: Result<Answer, Fault>,
+) -> Result<bool, Difference> {
+    if let Bound::Select { query, order, .. } = &bound {
+        let meant = plain.answer(query, order);
+        return if is_alike(answer, meant)? {
+            Ok(true)
+        } else {
+            Err(Difference::Answer)
+        };
+    }
+    answer?;
+    match bound {
+        Bound::CreateTable { .. } => plain.create_table(number)?,
+        Bound::CreateView { query, .. } => plain.create_view(query)?,
+        Bound::DropView(place) => plain.drop_view(place),
+        Bound::Insert { table, rows } => plain.insert(table, rows.into_vec())?,
+        Bound::Delete { table, condition } => plain.delete(table, &condition)?,
+        Bound::Update {
+            table,
+            assignments,
+            condition,
+        } => plain.update(table, assignments.as_slice(), &condition)?,
+        _ => {}
+    }
+    Ok(false)
+}
+
+/// Whether both answer the same rows, or both refuse a total.
+fn is_alike(
+    answer: Result<Answer, Fault>,
+    meant: Result<Vec<Row>, PlainFault>,
+) -> Result<bool, Difference> {
+    match (answer, meant) {
+        (Err(Fault::SumOutOfRange), Err(PlainFault::SumOutOfRange)) => Ok(true),
+        (answer, meant) => {
+            let meant = meant?;
+            match answer? {
+                Answer::Rows { rows, .. } => Ok(rows.as_slice() == meant.as_slice()),
+                Answer::Done | Answer::Count(_) => Ok(false),
+            }
+        }
+    }
+}

@@ -1,0 +1,91 @@
+//! What an engine tells beside its answers.
+use super::engines::{bound, carry_out, engine};
+use cq_binder::Catalog;
+use cq_engine::{AnswerSource, Engine};
+use cq_model::{Query, Shape, Source};
+use std::alloc::Global;
+use std::process::Abort;
+use std::test::Fail;
+
+/// A statement, how many writes were accepted behind it, and how many of them the view has taken in.
+const STATEMENTS: &[(&str, u64, Option<u64>)] = &[
+    ("CREATE TABLE t(k INTEGER, a INTEGER)", 0, None),
+    ("INSERT INTO t VALUES (1,5), (2,-3)", 1, None),
+    (
+        "CREATE VIEW v AS SELECT k, COUNT(*) AS n, SUM(a) AS s FROM t GROUP BY k",
+        1,
+        Some(1),
+    ),
+    ("INSERT INTO t VALUES (1,7)", 2, Some(2)),
+    ("DELETE FROM t WHERE k = 2", 3, Some(3)),
+    ("SELECT k, n, s FROM v", 3, Some(3)),
+    ("CREATE TABLE u(k INTEGER)", 3, Some(3)),
+    ("DELETE FROM u", 4, Some(4)),
+    ("DROP VIEW v", 4, None),
+];
+
+#[test]
+fn a_view_is_at_the_present(rt: HostRuntime) -> Result<(), Fail> {
+    let mut engine = engine(rt.alloc())?;
+    for (statement, now, epoch) in STATEMENTS {
+        carry_out(&rt, rt.alloc(), &mut engine, statement)?;
+        assert!(rt;
+            engine.now() == *now && engine.view_epoch("v") == *epoch,
+            "{statement}"
+        );
+    }
+    assert!(rt; engine.drawn() == 6);
+    Ok(())
+}
+
+/// An engine with a table and a view on it.
+fn filled(rt: &impl Abort, alloc: Global) -> Result<Engine, Fail> {
+    let mut engine = engine(alloc)?;
+    let table = "CREATE TABLE t(a TEXT, b INTEGER)";
+    let view = "CREATE VIEW v AS SELECT COUNT(*) FROM t GROUP BY b";
+    carry_out(rt, alloc, &mut engine, table)?;
+    carry_out(rt, alloc, &mut engine, view)?;
+    Ok(engine)
+}
+
+/// The columns of GROUP BY.
+fn key_columns(query: &Query) -> Option<&[usize]> {
+    match &query.shape {
+        Shape::Grouped {
+            keys: Some(keys),
+            ..
+        } => Some(keys.as_slice()),
+        _ => None,
+    }
+}
+
+#[test]
+fn the_catalog_tells_a_table(rt: HostRuntime) -> Result<(), Fail> {
+    let engine = filled(&rt, rt.alloc())?;
+    let catalog = engine.catalog();
+    let table = catalog.table("t").ok_or("no table")?;
+    assert!(rt; table.number == 0 && table.columns.len() == 2);
+    assert!(rt; catalog.is_used(0));
+    Ok(())
+}
+
+#[test]
+fn the_catalog_tells_a_view(rt: HostRuntime) -> Result<(), Fail> {
+    let engine = filled(&rt, rt.alloc())?;
+    let catalog = engine.catalog();
+    let view = catalog.view(rt.alloc(), "v")?.ok_or("no view")?;
+    assert!(rt; view.place == 0 && view.columns.len() == 1);
+    assert!(rt; view.sizes.as_slice() == [1u128 << 96].as_slice());
+    let query = catalog.query("v").ok_or("no query")?;
+    assert!(rt; query.first == Source::Table(0));
+    assert!(rt; key_columns(query) == Some([1].as_slice()));
+    Ok(())
+}
+
+#[test]
+fn a_query_is_answered_from_its_tables(rt: HostRuntime) -> Result<(), Fail> {
+    let engine = filled(&rt, rt.alloc())?;
+    let query = bound(rt.alloc(), &engine, "SELECT a FROM t")?;
+    assert!(rt; engine.answer_source(&query) == AnswerSource::Tables);
+    Ok(())
+}

@@ -1,0 +1,38 @@
+//! An engine that is given statements by their texts.
+ghost use Rattle.std.specs.Prelude.{◌<◌};
+
+use cq_binder::bind;
+use cq_binding::{Bound, Fault};
+use cq_cli::NoSources;
+use cq_engine::{Engine, Limits};
+use cq_sql::{SqlFault, parse};
+use cq_steps::Answer;
+use std::alloc::Global;
+use std::process::Abort;
+use std::test::Fail;
+
+pub(crate) fn engine(alloc: Global) -> Result<Engine, Fail> {
+    let limits = Limits::new(Limits::MAX_ROWS).ok_or("in range")?;
+    Ok(Engine::new(alloc, limits))
+}
+
+/// Reads one statement and carries it out.
+pub(crate) fn carry_out(
+    rt: &impl Abort,
+    alloc: Global,
+    engine: &mut Engine,
+    text: &str,
+) -> Result<Answer, Fault> {
+    assert!(rt; engine.drawn() < 1000);
+    match parse(alloc, text) {
+        Ok(statement) => engine.step(&statement, &mut NoSources::new()),
+        Err(SqlFault::Memory) => Err(Fault::Memory),
+        Err(_) => Err(Fault::Syntax),
+    }
+}
+
+/// The command that a statement is.
+pub(crate) fn bound(alloc: Global, engine: &Engine, text: &str) -> Result<Bound, Fail> {
+    let statement = parse(alloc, text)?;
+    Ok(bind(alloc, &statement, &engine.catalog(), &mut NoSources::new())?)
+}
