@@ -40,10 +40,11 @@ pub fn bind_view_on(
     requires { may_be_kept view.now ≡ true }
     ensures { (t : TableOf) → Describes table.now t → CreatesView t name.now view.now result }
 {
+    let name = name.copy(alloc)?;
     let read = table_columns(alloc, known_as(&view.first, table.name), table)?;
     let (columns, parts) = view_parts(alloc, &read, view)?;
     Ok(Bound::CreateView {
-        name: name.copy(alloc)?,
+        name,
         columns,
         query: Query {
             first: Source::Table(table.number),
@@ -69,8 +70,23 @@ fn view_parts<'a>(
     let keys = group_keys(alloc, columns, view.group.as_slice())?;
     let scope = item_scope(view, columns, keys.as_slice());
     let mut aggregates = Seq::new(alloc);
-    let items = kept_items(alloc, &scope, &mut aggregates, view.items.as_slice())?;
-    let shown = view_columns(alloc, &scope, view.items.as_slice())?;
+    let items = match kept_items(alloc, &scope, &mut aggregates, view.items.as_slice()) {
+        Ok(items) => items,
+        Err(fault) => {
+            drop(aggregates);
+            drop(filter);
+            return Err(fault);
+        }
+    };
+    let shown = match view_columns(alloc, &scope, view.items.as_slice()) {
+        Ok(shown) => shown,
+        Err(fault) => {
+            drop(items);
+            drop(aggregates);
+            drop(filter);
+            return Err(fault);
+        }
+    };
     let shape = shape_of(view, keys, aggregates, None);
     Ok((
         shown,
@@ -95,8 +111,21 @@ fn bind_query(alloc: Global, from: FromClause<'_>, select: &Select) -> Result<Bo
     ensures { BindsQuery (shown_from from.entry) select.now result }
 {
     let header = header(alloc, select.items.as_slice())?;
-    let parts = bound_parts(alloc, &from.columns, select)?;
-    let keys = sort_keys(alloc, header.as_slice(), select.order.as_slice())?;
+    let parts = match bound_parts(alloc, &from.columns, select) {
+        Ok(parts) => parts,
+        Err(fault) => {
+            drop(from);
+            return Err(fault);
+        }
+    };
+    let keys = match sort_keys(alloc, header.as_slice(), select.order.as_slice()) {
+        Ok(keys) => keys,
+        Err(fault) => {
+            drop(parts);
+            drop(from);
+            return Err(fault);
+        }
+    };
     Ok(Bound::Select {
         header,
         query: Query {
@@ -126,9 +155,32 @@ fn bound_parts<'a>(
     let keys = group_keys(alloc, columns, select.group.as_slice())?;
     let scope = item_scope(select, columns, keys.as_slice());
     let mut aggregates = Seq::new(alloc);
-    let items = bound_items(alloc, &scope, &mut aggregates, select.items.as_slice())?;
-    check_length(select.items.len())?;
-    let having = bound_having(alloc, &scope, &mut aggregates, &select.having)?;
+    let items = match bound_items(alloc, &scope, &mut aggregates, select.items.as_slice()) {
+        Ok(items) => items,
+        Err(fault) => {
+            drop(aggregates);
+            drop(filter);
+            return Err(fault);
+        }
+    };
+    match check_length(select.items.len()) {
+        Ok(()) => {}
+        Err(fault) => {
+            drop(items);
+            drop(aggregates);
+            drop(filter);
+            return Err(fault);
+        }
+    }
+    let having = match bound_having(alloc, &scope, &mut aggregates, &select.having) {
+        Ok(having) => having,
+        Err(fault) => {
+            drop(items);
+            drop(aggregates);
+            drop(filter);
+            return Err(fault);
+        }
+    };
     let shape = shape_of(select, keys, aggregates, having);
     Ok(BoundParts {
         filter,

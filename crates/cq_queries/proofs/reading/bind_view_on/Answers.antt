@@ -35,4 +35,4 @@ returns c = λ t same.
     let read = read_as v t _ _ _ (ap (λ h. h.name) same) c.known_as.ensures (c.deref.ensures.value ∙ c.in_ok-read.ensures t same) in
     let free = subst (λ (columns : List ScopeColumn). first_fault (query_checks v columns) ≡ None) read c.in_ok-columns.ensures.0 in
     let bound = subst (λ (columns : List ScopeColumn). IsBoundView columns v b) read c.in_ok-columns.ensures.1 in
-    (free, view_made c.args.name.now c.in_ok-copy.field-0 v t c.args.table.now.number c.new.result b c.requires c.in_ok-copy.ensures (ap (λ h. h.number) same) c.new.ensures bound)
+    (free, view_made c.args.name.now c.in_ok-name.name v t c.args.table.now.number c.new.result b c.requires c.in_ok-name.ensures (ap (λ h. h.number) same) c.new.ensures bound)

@@ -20,40 +20,37 @@ returns-in_err-keys c =
     let e = rw c.as_slice.ensures at c.in_err-keys.ensures in
     rw (p.1, p.2) (group_refused q c.args.columns.now filter c.in_err-keys.field-0.0 e)
 
-pub returns-in_err-items : goal.returns-in_err-items
-returns-in_err-items c =
-    let p = err_from_is_err_and c.from_residual-in_err-items.result c.from_residual-in_err-items.ensures.1 in
+pub returns-in-Err : goal.returns-in-Err
+returns-in-Err c =
     let q = c.args.select.now in
-    let f = c.in_err-items.field-0.0 in
+    let f = c.in-Err.fault in
     let filter = subst (λ (s : Scope). first_fault (where_check s q.condition ∷ []) ≡ None) c.of_rows.ensures c.in_ok-filter.ensures.0 in
     let keys = rw c.as_slice.ensures at c.in_ok-keys.ensures in
-    let e = rw c.as_slice-3.ensures at c.in_err-items.ensures in
+    let e = rw c.as_slice-3.ensures at c.in-Err.ensures in
     let m = subst (λ (s : Scope). MayRefuse (first_fault (map (value_check s) (shown_by q.items))) f) c.item_scope-scope.ensures e in
-    rw (p.1, p.2) (items_refused q c.args.columns.now filter keys.0 f m)
+    items_refused q c.args.columns.now filter keys.0 f m
 
-pub returns-in_err-check_length : goal.returns-in_err-check_length
-returns-in_err-check_length c =
-    let p = err_from_is_err_and c.from_residual-in_err-check_length.result c.from_residual-in_err-check_length.ensures.1 in
+pub returns-in-Err-check_length : goal.returns-in-Err-check_length
+returns-in-Err-check_length c =
     let q = c.args.select.now in
     let filter = subst (λ (s : Scope). first_fault (where_check s q.condition ∷ []) ≡ None) c.of_rows.ensures c.in_ok-filter.ensures.0 in
     let keys = rw c.as_slice.ensures at c.in_ok-keys.ensures in
-    let items = rw c.as_slice-3.ensures at c.in_ok-items.ensures in
+    let items = rw c.as_slice-3.ensures at c.in-Ok.ensures in
     let named = subst (λ (s : Scope). first_fault (map (value_check s) (shown_by q.items)) ≡ None) c.item_scope-scope.ensures items.0 in
-    let e = rw c.len.ensures at c.in_err-check_length.ensures in
-    rw (p.1, p.2) (number_refused q c.args.columns.now filter keys.0 named c.in_err-check_length.field-0.0 e)
+    let e = rw c.len.ensures at c.in-Err-check_length.ensures in
+    number_refused q c.args.columns.now filter keys.0 named c.in-Err-check_length.fault e
 
-pub returns-in_err-having : goal.returns-in_err-having
-returns-in_err-having c =
-    let p = err_from_is_err_and c.from_residual-in_err-having.result c.from_residual-in_err-having.ensures.1 in
+pub returns-in-Err-bound_having : goal.returns-in-Err-bound_having
+returns-in-Err-bound_having c =
     let q = c.args.select.now in
-    let f = c.in_err-having.field-0.0 in
+    let f = c.in-Err-bound_having.fault in
     let filter = subst (λ (s : Scope). first_fault (where_check s q.condition ∷ []) ≡ None) c.of_rows.ensures c.in_ok-filter.ensures.0 in
     let keys = rw c.as_slice.ensures at c.in_ok-keys.ensures in
-    let items = rw c.as_slice-3.ensures at c.in_ok-items.ensures in
+    let items = rw c.as_slice-3.ensures at c.in-Ok.ensures in
     let named = subst (λ (s : Scope). first_fault (map (value_check s) (shown_by q.items)) ≡ None) c.item_scope-scope.ensures items.0 in
-    let short = rw c.len.ensures at c.in_ok-check_length.ensures in
-    let m = subst (λ (s : Scope). MayRefuse (first_fault (where_check s q.having ∷ [])) f) c.item_scope-scope.ensures c.in_err-having.ensures in
-    rw (p.1, p.2) (having_refused q c.args.columns.now filter keys.0 named f short.0 m)
+    let short = rw c.len.ensures at c.in-Ok-check_length.ensures in
+    let m = subst (λ (s : Scope). MayRefuse (first_fault (where_check s q.having ∷ [])) f) c.item_scope-scope.ensures c.in-Err-bound_having.ensures in
+    having_refused q c.args.columns.now filter keys.0 named f short.0 m
 
 pub returns : goal.returns
 returns c =
@@ -62,11 +59,11 @@ returns c =
     let behind = c.bound_items.new.aggregates in
     let filter = subst (λ (s : Scope). BindsWhere s q.condition (Ok c.in_ok-filter.filter)) c.of_rows.ensures c.in_ok-filter.ensures in
     let keys = rw c.as_slice.ensures at c.in_ok-keys.ensures in
-    let items = rw c.as_slice-3.ensures at c.in_ok-items.ensures in
-    let shown = subst (λ (s : Scope). BindsItems value_check s c.new-aggregates.result behind q.items (Ok c.in_ok-items.items)) c.item_scope-scope.ensures items in
-    let first = subst (λ (before : List Aggregate). AreItems (item_scope q columns) before behind q.items c.in_ok-items.items) c.new-aggregates.ensures shown.1 in
-    let short = rw c.len.ensures at c.in_ok-check_length.ensures in
-    let having = subst (λ (s : Scope). BindsHaving s behind c.bound_having.new.aggregates q.having (Ok c.in_ok-having.having)) c.item_scope-scope.ensures c.in_ok-having.ensures in (
+    let items = rw c.as_slice-3.ensures at c.in-Ok.ensures in
+    let shown = subst (λ (s : Scope). BindsItems value_check s c.new-aggregates.result behind q.items (Ok c.in-Ok.items)) c.item_scope-scope.ensures items in
+    let first = subst (λ (before : List Aggregate). AreItems (item_scope q columns) before behind q.items c.in-Ok.items) c.new-aggregates.ensures shown.1 in
+    let short = rw c.len.ensures at c.in-Ok-check_length.ensures in
+    let having = subst (λ (s : Scope). BindsHaving s behind c.bound_having.new.aggregates q.having (Ok c.in-Ok-bound_having.having)) c.item_scope-scope.ensures c.in-Ok-bound_having.ensures in (
       bag_passes q columns filter.0 keys.0 shown.0 short.0 having.0,
       record { filter = filter.1; shape = c.shape_of-shape.ensures columns behind keys.1 first.aggregates having.1; items = first.values },
     )

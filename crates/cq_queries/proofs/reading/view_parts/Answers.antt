@@ -23,27 +23,25 @@ returns-in_err-keys c =
     let e = rw c.as_slice.ensures at c.in_err-keys.ensures in
     rw (p.1, p.2) (group_refused v c.args.columns.now filter c.in_err-keys.field-0.0 e)
 
-pub returns-in_err-items : goal.returns-in_err-items
-returns-in_err-items c =
-    let p = err_from_is_err_and c.from_residual-in_err-items.result c.from_residual-in_err-items.ensures.1 in
+pub returns-in-Err : goal.returns-in-Err
+returns-in-Err c =
     let v = c.args.view.now in
-    let f = c.in_err-items.field-0.0 in
+    let f = c.in-Err.fault in
     let filter = subst (λ (s : Scope). first_fault (where_check s v.condition ∷ []) ≡ None) c.of_rows.ensures c.in_ok-filter.ensures.0 in
     let keys = rw c.as_slice.ensures at c.in_ok-keys.ensures in
-    let e = rw c.as_slice-3.ensures at c.in_err-items.ensures in
+    let e = rw c.as_slice-3.ensures at c.in-Err.ensures in
     let m = subst (λ (s : Scope). MayRefuse (first_fault (map (kept_check s) (shown_by v.items))) f) c.item_scope-scope.ensures e in
-    rw (p.1, p.2) (items_refused v c.args.columns.now filter keys.0 f m)
+    items_refused v c.args.columns.now filter keys.0 f m
 
-pub returns-in_err-shown : goal.returns-in_err-shown
-returns-in_err-shown c =
-    let p = err_from_is_err_and c.from_residual-in_err-shown.result c.from_residual-in_err-shown.ensures.1 in
+pub returns-in-Err-view_columns : goal.returns-in-Err-view_columns
+returns-in-Err-view_columns c =
     let v = c.args.view.now in
     let filter = subst (λ (s : Scope). first_fault (where_check s v.condition ∷ []) ≡ None) c.of_rows.ensures c.in_ok-filter.ensures.0 in
     let keys = rw c.as_slice.ensures at c.in_ok-keys.ensures in
-    let items = rw c.as_slice-3.ensures at c.in_ok-items.ensures in
+    let items = rw c.as_slice-3.ensures at c.in-Ok.ensures in
     let bound = subst (λ (s : Scope). first_fault (map (kept_check s) (shown_by v.items)) ≡ None) c.item_scope-scope.ensures items.0 in
-    let e = rw c.as_slice-4.ensures at c.in_err-shown.ensures in
-    rw (p.1, p.2) (names_refused v c.args.columns.now filter keys.0 bound c.in_err-shown.field-0.0 e)
+    let e = rw c.as_slice-4.ensures at c.in-Err-view_columns.ensures in
+    names_refused v c.args.columns.now filter keys.0 bound c.in-Err-view_columns.fault e
 
 pub returns : goal.returns
 returns c =
@@ -53,11 +51,11 @@ returns c =
     let behind = c.kept_items.new.aggregates in
     let filter = subst (λ (s : Scope). BindsWhere s v.condition (Ok c.in_ok-filter.filter)) c.of_rows.ensures c.in_ok-filter.ensures in
     let keys = rw c.as_slice.ensures at c.in_ok-keys.ensures in
-    let items = rw c.as_slice-3.ensures at c.in_ok-items.ensures in
-    let shown = subst (λ (s : Scope). BindsItems kept_check s c.new-aggregates.result behind v.items (Ok c.in_ok-items.items)) c.item_scope-scope.ensures items in
-    let first = subst (λ (before : List Aggregate). AreItems seen before behind v.items c.in_ok-items.items) c.new-aggregates.ensures shown.1 in
-    let names = rw c.as_slice-4.ensures at c.in_ok-shown.ensures in
-    let named = subst (λ (s : Scope). WalksTo (name_walk v.items) (item_columns s 1 v.items) (Ok c.in_ok-shown.shown)) c.item_scope-scope.ensures names in
+    let items = rw c.as_slice-3.ensures at c.in-Ok.ensures in
+    let shown = subst (λ (s : Scope). BindsItems kept_check s c.new-aggregates.result behind v.items (Ok c.in-Ok.items)) c.item_scope-scope.ensures items in
+    let first = subst (λ (before : List Aggregate). AreItems seen before behind v.items c.in-Ok.items) c.new-aggregates.ensures shown.1 in
+    let names = rw c.as_slice-4.ensures at c.in-Ok-view_columns.ensures in
+    let named = subst (λ (s : Scope). WalksTo (name_walk v.items) (item_columns s 1 v.items) (Ok c.in-Ok-view_columns.shown)) c.item_scope-scope.ensures names in
     let none = without_having seen behind v.having (kept_without_having v c.requires) in (
       view_passes v columns filter.0 keys.0 shown.0 named.0,
       record { columns_of = named.1; parts = record { filter = filter.1; shape = c.shape_of-shape.ensures columns behind keys.1 first.aggregates none; items = first.values } },
