@@ -31,7 +31,7 @@ pub(crate) fn compare(alloc: Global, script: &str) -> Result<u64, (&str, Differe
     Ok(queries)
 }
 
-/// Carries a statement out on both, and tells whether it is a query.
+/// Carries a statement out on both, and tells whether it is a query. A table is created under the number that is drawn.
 fn carry_out(
     alloc: Global,
     engine: &mut Engine,
@@ -39,16 +39,18 @@ fn carry_out(
     text: &str,
 ) -> Result<bool, Difference> {
     let statement = parse(alloc, text)?;
-    let bound = bind(alloc, &statement, &engine.catalog(), &mut NoSources::new())?;
+    let bound = bind(alloc, &statement, &engine.catalog(), &mut NoSources::new());
     let number = engine.drawn();
-    if number >= 1_000_000 {
-        return Err(Difference::TooMany);
-    }
-    let answer = engine.step(&statement, &mut NoSources::new());
-    follow(plain, bound, number, answer)
+    let answer = if number < 1_000_000 {
+        engine.step(&statement, &mut NoSources::new())
+    } else {
+        Err(Fault::LimitExceeded)
+    };
+    drop(statement);
+    follow(plain, bound?, number, answer)
 }
 
-/// The same on the plain engine. A table is created under the number that is drawn.
+/// The same on the plain engine.
 fn follow(
     plain: &mut PlainEngine,
     bound: Bound,
@@ -57,42 +59,38 @@ fn follow(
 ) -> Result<bool, Difference> {
     if let Bound::Select { query, order, .. } = &bound {
         let meant = plain.answer(query, order);
-        return if is_alike(answer, meant)? {
-            Ok(true)
-        } else {
-            Err(Difference::Answer)
-        };
+        let compared = check_alike(answer, meant);
+        drop(bound);
+        return compared;
     }
-    answer?;
-    match bound {
-        Bound::CreateTable { .. } => plain.create_table(number)?,
-        Bound::CreateView { query, .. } => plain.create_view(query)?,
-        Bound::DropView(place) => plain.drop_view(place),
-        Bound::Insert { table, rows } => plain.insert(table, rows.into_vec())?,
-        Bound::Delete { table, condition } => plain.delete(table, &condition)?,
-        Bound::Update {
-            table,
-            assignments,
-            condition,
-        } => plain.update(table, assignments.as_slice(), &condition)?,
-        _ => {}
+    match answer {
+        Ok(_) => {
+            plain.carry_out(bound, number)?;
+            Ok(false)
+        }
+        Err(fault) => {
+            drop(bound);
+            Err(Difference::Refused(fault))
+        }
     }
-    Ok(false)
 }
 
-/// Whether both answer the same rows, or both refuse a total.
-fn is_alike(
+/// Whether both answer the same rows, or both refuse a total; else that they do not.
+fn check_alike(
     answer: Result<Answer, Fault>,
     meant: Result<Vec<Row>, PlainFault>,
 ) -> Result<bool, Difference> {
     match (answer, meant) {
         (Err(Fault::SumOutOfRange), Err(PlainFault::SumOutOfRange)) => Ok(true),
-        (answer, meant) => {
-            let meant = meant?;
-            match answer? {
-                Answer::Rows { rows, .. } => Ok(rows.as_slice() == meant.as_slice()),
-                Answer::Done | Answer::Count(_) => Ok(false),
+        (Ok(Answer::Rows { rows, .. }), Ok(meant)) => {
+            if rows.as_slice() == meant.as_slice() {
+                Ok(true)
+            } else {
+                Err(Difference::Answer)
             }
         }
+        (Err(fault), _) => Err(Difference::Refused(fault)),
+        (_, Err(fault)) => Err(Difference::NotWorkedOut(fault)),
+        _ => Err(Difference::Answer),
     }
 }

@@ -16,8 +16,6 @@ pub(crate) enum Difference {
     Refused(Fault),
     #[error("not worked out ({0})")]
     NotWorkedOut(PlainFault),
-    #[error("too many statements")]
-    TooMany,
     #[error("answered otherwise")]
     Answer,
 }

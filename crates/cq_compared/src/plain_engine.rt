@@ -1,16 +1,17 @@
 //! Tables as lists of rows, and views that are worked out anew, by the plain evaluator.
+use cq_binding::Bound;
 use cq_lent::Lent;
 use cq_model::{Assignment, Cond, Order, Query, Source};
 use cq_plain::{PlainFault, answer_on, left_by, listing, updated};
-use cq_values::Row;
+use cq_values::{Row, copy_row};
 use std::alloc::{AllocError, Global};
 
-/// The rows of each table under its number, and the query of each view under its place.
+/// The rows of each table under its number, and the commands that created the views, in the order of their places.
 #[derive(Drop)]
 pub(crate) struct PlainEngine {
     alloc: Global,
     tables: Vec<(u64, Vec<Row>)>,
-    views: Vec<Query>,
+    views: Vec<Bound>,
 }
 
 impl PlainEngine {
@@ -22,31 +23,57 @@ impl PlainEngine {
         }
     }
 
-    pub(crate) fn create_table(&mut self, number: u64) -> Result<(), AllocError> {
+    /// Carries out a command that is no query. A table is created under this number.
+    pub(crate) fn carry_out(&mut self, command: Bound, number: u64) -> Result<(), PlainFault> {
+        if let Bound::CreateView { .. } = &command {
+            self.views.push(command)?;
+            return Ok(());
+        }
+        let done = self.write(&command, number);
+        drop(command);
+        done
+    }
+
+    fn write(&mut self, command: &Bound, number: u64) -> Result<(), PlainFault> {
+        match command {
+            Bound::CreateTable { .. } => Ok(self.create_table(number)?),
+            Bound::DropView(place) => {
+                self.drop_view(*place);
+                Ok(())
+            }
+            Bound::Insert { table, rows } => Ok(self.insert(*table, rows.as_slice())?),
+            Bound::Delete { table, condition } => self.delete(*table, condition),
+            Bound::Update {
+                table,
+                assignments,
+                condition,
+            } => self.update(*table, assignments.as_slice(), condition),
+            _ => Ok(()),
+        }
+    }
+
+    fn create_table(&mut self, number: u64) -> Result<(), AllocError> {
         self.tables.push((number, Vec::new(self.alloc)))?;
         Ok(())
     }
 
-    pub(crate) fn create_view(&mut self, query: Query) -> Result<(), AllocError> {
-        self.views.push(query)?;
-        Ok(())
-    }
-
-    pub(crate) fn drop_view(&mut self, place: usize) {
+    fn drop_view(&mut self, place: usize) {
         if place < self.views.len() {
             drop(self.views.remove(place));
         }
     }
 
-    pub(crate) fn insert(&mut self, number: u64, rows: Vec<Row>) -> Result<(), AllocError> {
-        let mut rows = rows;
-        match self.rows_of(number) {
-            Some(held) => held.append(&mut rows),
-            None => Ok(()),
+    fn insert(&mut self, number: u64, rows: &[Row]) -> Result<(), AllocError> {
+        let alloc = self.alloc;
+        if let Some(held) = self.rows_of(number) {
+            for row in rows {
+                held.push(copy_row(alloc, row.as_slice())?)?;
+            }
         }
+        Ok(())
     }
 
-    pub(crate) fn delete(&mut self, number: u64, filter: &Option<Cond>) -> Result<(), PlainFault> {
+    fn delete(&mut self, number: u64, filter: &Option<Cond>) -> Result<(), PlainFault> {
         let alloc = self.alloc;
         if let Some(held) = self.rows_of(number) {
             *held = left_by(alloc, held, filter)?;
@@ -54,7 +81,7 @@ impl PlainEngine {
         Ok(())
     }
 
-    pub(crate) fn update(
+    fn update(
         &mut self,
         number: u64,
         assignments: &[Assignment],
@@ -69,11 +96,7 @@ impl PlainEngine {
 
     /// The answer to a query.
     pub(crate) fn answer(&self, query: &Query, order: &Order) -> Result<Vec<Row>, PlainFault> {
-        let mut shown = Vec::new(self.alloc);
-        for view in &self.views {
-            let tables = self.lent_tables()?;
-            shown.push(answer_on(self.alloc, &tables, view)?)?;
-        }
+        let shown = self.shown()?;
         let mut sources = self.lent_tables()?;
         for place in 0..shown.len() {
             sources.push(Lent {
@@ -83,6 +106,18 @@ impl PlainEngine {
         }
         let rows = answer_on(self.alloc, &sources, query)?;
         Ok(listing(rows, order)?)
+    }
+
+    /// The rows of each view, worked out from the tables.
+    fn shown(&self) -> Result<Vec<Vec<Row>>, PlainFault> {
+        let tables = self.lent_tables()?;
+        let mut shown = Vec::new(self.alloc);
+        for view in &self.views {
+            if let Bound::CreateView { query, .. } = view {
+                shown.push(answer_on(self.alloc, &tables, query)?)?;
+            }
+        }
+        Ok(shown)
     }
 
     fn lent_tables(&self) -> Result<Vec<Lent<'_>>, AllocError> {
