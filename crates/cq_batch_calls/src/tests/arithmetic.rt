@@ -41,29 +41,34 @@ fn the_largest_size_is_that_of_either_sign(rt: HostRuntime) -> Result<(), Fail> 
     Ok(())
 }
 
-const LENGTHS: &[usize] = &[3, 63, 64, 65, 1023, 1024];
-
-/// Whether of days in March the month is taken, and NULL at both ends.
-fn are_months(rows: &[Row], alloc: Global) -> Result<bool, AllocError> {
-    if rows.len() > 1024 {
-        return Ok(false);
-    }
-    let days = Vector::gather(alloc, rows, 0)?;
-    let months = extract(alloc, DayPart::Month, &days)?;
-    let last = rows.len().saturating_sub(1);
-    let inner = is_number(&months.lend(1), 3) && is_number(&months.lend(last.saturating_sub(1)), 3);
-    Ok(inner && is_null(&months.lend(0)) && is_null(&months.lend(last)))
-}
-
 #[test]
 fn a_month_is_taken_from_each_day(rt: HostRuntime) -> Result<(), Fail> {
+    // the length, the last place with a day, and the last place of all
+    let cases = [
+        (3, 1, 2),
+        (63, 61, 62),
+        (64, 62, 63),
+        (65, 63, 64),
+        (1023, 1021, 1022),
+        (1024, 1022, 1023),
+    ];
     let day = match Day::new(59) {
         Some(day) => Value::Day(day),
         None => Value::Null,
     };
-    for len in LENGTHS {
-        let rows = rows_of(rt.alloc(), *len, &day)?;
-        assert!(rt; are_months(rows.as_slice(), rt.alloc())?, "length {len}");
+    for (len, place, last) in cases {
+        let rows = rows_of(rt.alloc(), len, &day)?;
+        assert!(rt; rows.len() <= 1024);
+        let days = Vector::gather(rt.alloc(), rows.as_slice(), 0)?;
+        let months = extract(rt.alloc(), DayPart::Month, &days)?;
+        assert!(rt;
+            is_null(&months.lend(0)) && is_null(&months.lend(last)),
+            "length {len}"
+        );
+        assert!(rt;
+            is_number(&months.lend(1), 3) && is_number(&months.lend(place), 3),
+            "length {len}"
+        );
     }
     Ok(())
 }

@@ -30,16 +30,15 @@ fn is_null_alone(own: &[&CondTree], place: usize) -> bool {
     }
 }
 
-/// The columns before a source, its own, and the column that is found in its condition.
-const SOURCES: &[(usize, usize, usize)] = &[(0, 2, 1), (2, 1, 2)];
-
 #[test]
 fn each_part_that_and_joins_goes_to_its_source(rt: HostRuntime) -> Result<(), Fail> {
     let filter = Some(joined_by_and(rt.alloc())?);
-    for (before, wide, place) in SOURCES {
-        let own = own_conditions(rt.alloc(), &filter, *before, *wide)?;
+    // the columns before a source, its own, and the column that is found in its condition
+    let cases = [(0, 2, 1), (2, 1, 2)];
+    for (before, wide, place) in cases {
+        let own = own_conditions(rt.alloc(), &filter, before, wide)?;
         assert!(rt;
-            is_null_alone(own.as_slice(), *place),
+            is_null_alone(own.as_slice(), place),
             "{before} columns before"
         );
     }

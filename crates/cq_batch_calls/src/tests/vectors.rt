@@ -46,26 +46,30 @@ fn is_null(value: &Lent<'_>) -> bool {
     matches!(value, Lent::Null)
 }
 
-const LENGTHS: &[usize] = &[3, 63, 64, 65, 1023, 1024];
-
-/// Whether a column of these rows has NULL at both ends and past them, and the places between.
-fn keeps_ends(alloc: Global, rows: &[Row]) -> Result<bool, AllocError> {
-    if rows.len() > 1024 {
-        return Ok(false);
-    }
-    let column = Vector::gather(alloc, rows, 0)?;
-    let (len, last) = (rows.len(), rows.len().saturating_sub(1));
-    let inner = last.saturating_sub(1);
-    let numbers = is_number(&column.lend(1), 1) && is_number(&column.lend(inner), inner as i128);
-    let ends = is_null(&column.lend(0)) && is_null(&column.lend(last));
-    Ok(numbers && ends && column.len() == len && is_null(&column.lend(len)))
-}
-
 #[test]
 fn a_gathered_column_keeps_the_nulls_at_its_ends(rt: HostRuntime) -> Result<(), Fail> {
-    for len in LENGTHS {
-        let rows = numbered(rt.alloc(), *len)?;
-        assert!(rt; keeps_ends(rt.alloc(), rows.as_slice())?, "length {len}");
+    // the length, the last place with a number, and the last place of all
+    let cases = [
+        (3, 1, 2),
+        (63, 61, 62),
+        (64, 62, 63),
+        (65, 63, 64),
+        (1023, 1021, 1022),
+        (1024, 1022, 1023),
+    ];
+    for (len, number, last) in cases {
+        let rows = numbered(rt.alloc(), len)?;
+        assert!(rt; rows.len() <= 1024);
+        let column = Vector::gather(rt.alloc(), rows.as_slice(), 0)?;
+        assert!(rt;
+            column.len() == len && is_null(&column.lend(0)) && is_null(&column.lend(last)),
+            "length {len}"
+        );
+        assert!(rt;
+            is_number(&column.lend(1), 1) && is_number(&column.lend(number), number as i128),
+            "length {len}"
+        );
+        assert!(rt; is_null(&column.lend(len)), "past the length {len}");
     }
     Ok(())
 }
@@ -137,16 +141,16 @@ fn count_given(alloc: Global, rows: &[Row], selected: usize) -> Result<usize, Al
     Ok(given.len())
 }
 
-const SELECTED: &[usize] = &[0, 1, 63, 64, 65];
-
 #[test]
 fn a_batch_gives_the_rows_that_count(rt: HostRuntime) -> Result<(), Fail> {
     let rows = numbered(rt.alloc(), 65)?;
     assert!(rt; rows.len() <= 1024);
-    for selected in SELECTED {
-        assert!(rt; *selected <= 1024);
-        let given = count_given(rt.alloc(), rows.as_slice(), *selected)?;
-        assert!(rt; given == *selected, "{selected} selected");
+    for selected in [0, 1, 63, 64, 65] {
+        assert!(rt; selected <= 1024);
+        assert_eq!(rt;
+            count_given(rt.alloc(), rows.as_slice(), selected)?,
+            selected
+        );
     }
     Ok(())
 }
