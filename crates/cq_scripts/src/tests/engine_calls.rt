@@ -1,7 +1,7 @@
 //! What an engine tells beside its answers.
-use super::engines::{bound, carry_out, engine};
+use super::engines::{carry_out, engine};
 use cq_binder::Catalog;
-use cq_engine::{AnswerSource, Engine};
+use cq_engine::Engine;
 use cq_model::{Query, Shape, Source};
 use std::alloc::Global;
 use std::process::Abort;
@@ -79,13 +79,5 @@ fn the_catalog_tells_a_view(rt: HostRuntime) -> Result<(), Fail> {
     let query = catalog.query("v").ok_or("no query")?;
     assert!(rt; query.first == Source::Table(0));
     assert!(rt; key_columns(query) == Some([1].as_slice()));
-    Ok(())
-}
-
-#[test]
-fn a_query_is_answered_from_its_tables(rt: HostRuntime) -> Result<(), Fail> {
-    let engine = filled(&rt, rt.alloc())?;
-    let query = bound(rt.alloc(), &engine, "SELECT a FROM t")?;
-    assert!(rt; engine.answer_source(&query) == AnswerSource::Tables);
     Ok(())
 }

@@ -1,8 +1,7 @@
 //! An engine that is given statements by their texts.
 ghost use Rattle.std.specs.Prelude.{◌<◌};
 
-use cq_binder::bind;
-use cq_binding::{Bound, Fault};
+use cq_binding::Fault;
 use cq_cli::NoSources;
 use cq_engine::{Engine, Limits};
 use cq_sql::{SqlFault, parse};
@@ -29,10 +28,4 @@ pub(crate) fn carry_out(
         Err(SqlFault::Memory) => Err(Fault::Memory),
         Err(_) => Err(Fault::Syntax),
     }
-}
-
-/// The command that a statement is.
-pub(crate) fn bound(alloc: Global, engine: &Engine, text: &str) -> Result<Bound, Fail> {
-    let statement = parse(alloc, text)?;
-    Ok(bind(alloc, &statement, &engine.catalog(), &mut NoSources::new())?)
 }
