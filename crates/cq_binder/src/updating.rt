@@ -61,8 +61,13 @@ fn set_parts(
     ensures { BindsUpdate (scope_of scope.now) sets.now condition.now result }
 {
     let condition = bound_where(alloc, scope, condition)?;
-    let assignments = bound_sets(alloc, scope, sets)?;
-    Ok((assignments, condition))
+    match bound_sets(alloc, scope, sets) {
+        Ok(assignments) => Ok((assignments, condition)),
+        Err(fault) => {
+            drop(condition);
+            Err(fault)
+        }
+    }
 }
 
 /// SET, assignment by assignment.

@@ -18,10 +18,23 @@ pub(crate) fn compare(alloc: Global, script: &str) -> Result<u64, (&str, Differe
     };
     let mut engine = Engine::new(alloc, limits);
     let mut plain = PlainEngine::new(alloc);
+    let compared = compare_on(alloc, &mut engine, &mut plain, script);
+    drop(engine);
+    drop(plain);
+    compared
+}
+
+/// The same on these engines.
+fn compare_on<'s>(
+    alloc: Global,
+    engine: &mut Engine,
+    plain: &mut PlainEngine,
+    script: &'s str,
+) -> Result<u64, (&'s str, Difference)> {
     let mut queries = 0u64;
     for piece in split(script) {
         if !piece.blank {
-            match carry_out(alloc, &mut engine, &mut plain, piece.text) {
+            match carry_out(alloc, engine, plain, piece.text) {
                 Ok(true) => queries = queries.saturating_add(1),
                 Ok(false) => {}
                 Err(difference) => return Err((piece.text, difference)),
@@ -47,7 +60,13 @@ fn carry_out(
         Err(Fault::LimitExceeded)
     };
     drop(statement);
-    follow(plain, bound?, number, answer)
+    match bound {
+        Ok(bound) => follow(plain, bound, number, answer),
+        Err(fault) => {
+            drop(answer);
+            Err(Difference::from(fault))
+        }
+    }
 }
 
 /// The same on the plain engine.
@@ -59,16 +78,18 @@ fn follow(
 ) -> Result<bool, Difference> {
     if let Bound::Select { query, order, .. } = &bound {
         let meant = plain.answer(query, order);
-        let compared = check_alike(answer, meant);
+        let compared = check_alike(&answer, &meant);
+        drop(answer);
+        drop(meant);
         drop(bound);
         return compared;
     }
-    match answer {
-        Ok(_) => {
+    match answer.err() {
+        None => {
             plain.carry_out(bound, number)?;
             Ok(false)
         }
-        Err(fault) => {
+        Some(fault) => {
             drop(bound);
             Err(Difference::Refused(fault))
         }
@@ -77,8 +98,8 @@ fn follow(
 
 /// Whether both answer the same rows, or both refuse a total; else that they do not.
 fn check_alike(
-    answer: Result<Answer, Fault>,
-    meant: Result<Vec<Row>, PlainFault>,
+    answer: &Result<Answer, Fault>,
+    meant: &Result<Vec<Row>, PlainFault>,
 ) -> Result<bool, Difference> {
     match (answer, meant) {
         (Err(Fault::SumOutOfRange), Err(PlainFault::SumOutOfRange)) => Ok(true),
@@ -89,8 +110,8 @@ fn check_alike(
                 Err(Difference::Answer)
             }
         }
-        (Err(fault), _) => Err(Difference::Refused(fault)),
-        (_, Err(fault)) => Err(Difference::NotWorkedOut(fault)),
+        (Err(fault), _) => Err(Difference::Refused(*fault)),
+        (_, Err(fault)) => Err(Difference::NotWorkedOut(*fault)),
         _ => Err(Difference::Answer),
     }
 }

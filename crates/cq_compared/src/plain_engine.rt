@@ -97,6 +97,18 @@ impl PlainEngine {
     /// The answer to a query.
     pub(crate) fn answer(&self, query: &Query, order: &Order) -> Result<Vec<Row>, PlainFault> {
         let shown = self.shown()?;
+        let answered = self.answer_over(&shown, query, order);
+        drop(shown);
+        answered
+    }
+
+    /// The answer to a query over the tables and these rows of the views.
+    fn answer_over(
+        &self,
+        shown: &[Vec<Row>],
+        query: &Query,
+        order: &Order,
+    ) -> Result<Vec<Row>, PlainFault> {
         let mut sources = self.lent_tables()?;
         for place in 0..shown.len() {
             sources.push(Lent {

@@ -247,14 +247,16 @@ impl Engine {
         ensures rows { OnlyShows self.old result self.new }
     {
         let epoch = self.writes + 1;
-        let rows = delete_in(
+        let deleted = delete_in(
             self.alloc,
             &mut self.tables,
             &mut self.views,
             table,
             &condition,
             epoch,
-        )?;
+        );
+        drop(condition);
+        let rows = deleted?;
         self.writes = epoch;
         self.drawn += 1;
         Ok(Answer::Count(rows as u64))
@@ -280,10 +282,13 @@ impl Engine {
             assignments.as_slice(),
             &filter,
             epoch,
-        )?;
+        );
+        drop(assignments);
+        drop(filter);
+        let count = updated?;
         self.writes = epoch;
         self.drawn += 1;
-        Ok(Answer::Count(updated as u64))
+        Ok(Answer::Count(count as u64))
     }
 
     /// Each row is in the one store that there is, so that nothing has to be moved.
@@ -314,7 +319,10 @@ impl Engine {
         requires { CanCarryOut self.now.tables self.now.views (commands.Select header query order) }
         ensures { CarriesOut self.now (commands.Select header query order) result self.now }
     {
-        let rows = select_from(self.alloc, &self.tables, &self.views, &query, &order)?;
+        let selected = select_from(self.alloc, &self.tables, &self.views, &query, &order);
+        drop(query);
+        drop(order);
+        let rows = selected?;
         Ok(Answer::Rows { header, rows })
     }
 }

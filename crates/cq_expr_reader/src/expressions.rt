@@ -1,6 +1,7 @@
 //! The levels of the grammar of expressions, each read by one function.
 //!
 //! A chain is read by a loop, so that a long one takes no deep recursion; `depth` is how many pairs of parentheses may still open.
+ghost use Rattle.std.specs.Prelude.{◌≡◌, ◌∷◌, ◌++◌, [], OnOk};
 ghost use Rattle.cq_language.specs.Written.{written};
 ghost use Rattle.cq_expr_reader.specs.Chains.{joined_at, more_parts, more_terms};
 ghost use Rattle.cq_expr_reader.specs.Trees.{GivesTree, GivesTrees, trees};
@@ -12,9 +13,9 @@ use crate::nodes::{
     among, between, compared, enclosed, joined, like, negation, negative, null_test, only, summed,
 };
 use crate::predicates::{Test, test_at};
-use cq_language::{ExprNode, Keyword, Symbol, Token};
+use cq_language::{ExprNode, Keyword, Sign, Symbol, Token};
 use cq_reader::{SqlFault, after_keyword, after_symbol, expect_keyword, expect_symbol};
-use std::alloc::Global;
+use std::alloc::{AllocError, Global};
 
 #[cycle(expressions)]
 #[tactic(auto, unfolding(crate::specs::Chains::joined_at))]
@@ -28,8 +29,13 @@ pub fn chain_at(
 {
     let link = Link::Operator(operator);
     let (first, rest) = part_at(alloc, link, depth, tokens)?;
-    let (others, rest) = more_parts(alloc, link, depth, Vec::new(alloc), rest)?;
-    Ok((joined(alloc, operator, first, others)?, rest))
+    match more_parts(alloc, link, depth, Vec::new(alloc), rest) {
+        Ok((others, rest)) => Ok((joined(alloc, operator, first, others)?, rest)),
+        Err(fault) => {
+            drop(first);
+            Err(fault)
+        }
+    }
 }
 
 #[cycle(expressions)]
@@ -122,17 +128,35 @@ fn tested(
 {
     match test {
         Test::Compare(comparison) => {
-            let (other, rest) = sum_at(alloc, depth, tokens)?;
+            let (other, rest) = match sum_at(alloc, depth, tokens) {
+                Ok(read) => read,
+                Err(fault) => {
+                    drop(value);
+                    return Err(fault);
+                }
+            };
             Ok((compared(alloc, comparison, value, other)?, rest))
         }
         Test::Between(negated) => between_at(alloc, depth, negated, value, tokens),
         Test::In(negated) => {
-            let (values, rest) = choices_at(alloc, depth, tokens)?;
+            let (values, rest) = match choices_at(alloc, depth, tokens) {
+                Ok(read) => read,
+                Err(fault) => {
+                    drop(value);
+                    return Err(fault);
+                }
+            };
             Ok((among(alloc, negated, value, values)?, rest))
         }
         Test::IsNull(negated) => Ok((null_test(alloc, negated, value)?, tokens)),
         Test::Like(negated) => {
-            let (pattern, rest) = text_at(alloc, tokens)?;
+            let (pattern, rest) = match text_at(alloc, tokens) {
+                Ok(read) => read,
+                Err(fault) => {
+                    drop(value);
+                    return Err(fault);
+                }
+            };
             Ok((like(alloc, negated, value, pattern)?, rest))
         }
     }
@@ -149,9 +173,29 @@ fn between_at(
 ) -> Result<(ExprNode, &[Token]), SqlFault>
     ensures { GivesTree result (between_of (readers depth) negated (written value) tokens.now) }
 {
-    let (least, rest) = sum_at(alloc, depth, tokens)?;
-    let rest = expect_keyword(Keyword::And, rest)?;
-    let (greatest, rest) = sum_at(alloc, depth, rest)?;
+    let (least, rest) = match sum_at(alloc, depth, tokens) {
+        Ok(read) => read,
+        Err(fault) => {
+            drop(value);
+            return Err(fault);
+        }
+    };
+    let rest = match expect_keyword(Keyword::And, rest) {
+        Ok(rest) => rest,
+        Err(fault) => {
+            drop(least);
+            drop(value);
+            return Err(fault);
+        }
+    };
+    let (greatest, rest) = match sum_at(alloc, depth, rest) {
+        Ok(read) => read,
+        Err(fault) => {
+            drop(least);
+            drop(value);
+            return Err(fault);
+        }
+    };
     Ok((between(alloc, negated, value, (least, greatest))?, rest))
 }
 
@@ -166,7 +210,13 @@ fn choices_at(
 {
     let rest = expect_symbol(Symbol::Open, tokens)?;
     let (choices, rest) = entries_at(alloc, depth, rest)?;
-    Ok((choices, expect_symbol(Symbol::Close, rest)?))
+    match expect_symbol(Symbol::Close, rest) {
+        Ok(rest) => Ok((choices, rest)),
+        Err(fault) => {
+            drop(choices);
+            Err(fault)
+        }
+    }
 }
 
 #[cycle(expressions)]
@@ -208,15 +258,42 @@ fn more_terms(
     for _ in 0..tokens.len() {
         match sign_at(rest) {
             Some((sign, after)) => {
-                let (term, next) = chain_at(alloc, Operator::Times, depth, after)?;
-                signs.push(sign)?;
-                terms.push(term)?;
-                rest = next;
+                let (term, next) = match chain_at(alloc, Operator::Times, depth, after) {
+                    Ok(read) => read,
+                    Err(fault) => {
+                        drop(terms);
+                        drop(first);
+                        return Err(fault);
+                    }
+                };
+                match add_term(&mut signs, &mut terms, sign, term) {
+                    Ok(()) => rest = next,
+                    Err(_) => {
+                        drop(terms);
+                        drop(first);
+                        return Err(SqlFault::Memory);
+                    }
+                }
             }
             None => return Ok((summed(alloc, first, signs, terms)?, rest)),
         }
     }
     Ok((summed(alloc, first, signs, terms)?, rest))
+}
+
+/// Puts a later term of a sum behind these, and its sign behind theirs.
+fn add_term(
+    signs: &mut Vec<Sign>,
+    terms: &mut Vec<ExprNode>,
+    sign: Sign,
+    term: ExprNode,
+) -> Result<(), AllocError>
+    ensures sign { OnOk result (signs.new.items ≡ signs.old.items ++ sign ∷ []) }
+    ensures term { OnOk result (terms.new.items ≡ terms.old.items ++ term ∷ []) }
+{
+    terms.push(term)?;
+    signs.push(sign)?;
+    Ok(())
 }
 
 #[cycle(expressions)]
@@ -249,8 +326,13 @@ fn primary_at(
     match opening_at(tokens) {
         Some((opening, rest)) => {
             let (content, rest) = content_at(alloc, opening, depth, rest)?;
-            let rest = expect_symbol(Symbol::Close, rest)?;
-            Ok((enclosed(alloc, opening, content)?, rest))
+            match expect_symbol(Symbol::Close, rest) {
+                Ok(rest) => Ok((enclosed(alloc, opening, content)?, rest)),
+                Err(fault) => {
+                    drop(content);
+                    Err(fault)
+                }
+            }
         }
         None => atom_at(alloc, tokens),
     }

@@ -86,9 +86,33 @@ pub fn compared(
 ) -> Result<ExprNode, AllocFailed<ExprNode>>
     ensures { IsMade result (tree.Compare comparison (written left) (written right)) }
 {
-    let left = Box::new(alloc, left)?;
-    let right = Box::new(alloc, right)?;
+    let (left, right) = boxed(alloc, left, right)?;
     Ok(ExprNode::Compare(comparison, left, right))
+}
+
+/// Both in boxes.
+fn boxed(
+    alloc: Global,
+    left: ExprNode,
+    right: ExprNode,
+) -> Result<(Box<ExprNode>, Box<ExprNode>), AllocFailed<ExprNode>>
+    ensures left { IfOk result (λ boxes. boxes.0.value ≡ left) }
+    ensures right { IfOk result (λ boxes. boxes.1.value ≡ right) }
+{
+    let left = match Box::new(alloc, left) {
+        Ok(left) => left,
+        Err(fault) => {
+            drop(right);
+            return Err(fault);
+        }
+    };
+    match Box::new(alloc, right) {
+        Ok(right) => Ok((left, right)),
+        Err(fault) => {
+            drop(left);
+            Err(fault)
+        }
+    }
 }
 
 /// The value with a test of whether it is NULL.
@@ -144,9 +168,19 @@ pub fn between(
 ) -> Result<ExprNode, AllocFailed<ExprNode>>
     ensures { IsMade result (tree.Between negated (written value) (written ends.0) (written ends.1)) }
 {
-    let (least, greatest) = ends;
-    let value = Box::new(alloc, value)?;
-    let least = Box::new(alloc, least)?;
-    let greatest = Box::new(alloc, greatest)?;
-    Ok(ExprNode::Between(negated, value, least, greatest))
+    let (least, greatest) = match boxed(alloc, ends.0, ends.1) {
+        Ok(boxes) => boxes,
+        Err(fault) => {
+            drop(value);
+            return Err(fault);
+        }
+    };
+    match Box::new(alloc, value) {
+        Ok(value) => Ok(ExprNode::Between(negated, value, least, greatest)),
+        Err(fault) => {
+            drop(least);
+            drop(greatest);
+            Err(fault)
+        }
+    }
 }

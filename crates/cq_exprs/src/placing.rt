@@ -69,8 +69,9 @@ pub(crate) fn tree_of(
         }
         ExprNode::Aggregate(function, argument) => {
             let mut none = Seq::new(alloc);
-            let argument = tree_of(alloc, &scope.rows(), &mut none, argument)?.into_value();
-            let aggregate = aggregate_of(*function, Expr::new(argument));
+            let argument = tree_of(alloc, &scope.rows(), &mut none, argument);
+            drop(none);
+            let aggregate = aggregate_of(*function, Expr::new(argument?.into_value()));
             let place = push_aggregate(scope, aggregates, aggregate)?;
             Ok(Tree::Value(ExprTree::Column(place)))
         }
@@ -84,23 +85,38 @@ pub(crate) fn tree_of(
             if rest.is_empty() {
                 return Ok(first);
             }
-            let rest = value_trees(alloc, scope, aggregates, rest)?;
             let first = Box::new(alloc, first.into_value())?;
-            Ok(Tree::Value(ExprTree::Product(first, rest)))
+            match value_trees(alloc, scope, aggregates, rest) {
+                Ok(rest) => Ok(Tree::Value(ExprTree::Product(first, rest))),
+                Err(fault) => {
+                    drop(first);
+                    Err(fault)
+                }
+            }
         }
         ExprNode::Sum(first, signs, rest) => {
             let first = tree_of(alloc, scope, aggregates, first)?;
             if signs.is_empty() || rest.is_empty() {
                 return Ok(first);
             }
-            let rest = term_trees(alloc, scope, aggregates, signs, rest)?;
             let first = Box::new(alloc, first.into_value())?;
-            Ok(Tree::Value(ExprTree::Sum(first, rest)))
+            match term_trees(alloc, scope, aggregates, signs, rest) {
+                Ok(rest) => Ok(Tree::Value(ExprTree::Sum(first, rest))),
+                Err(fault) => {
+                    drop(first);
+                    Err(fault)
+                }
+            }
         }
         ExprNode::Compare(comparison, a, b) => {
             let a = tree_of(alloc, scope, aggregates, a)?.into_value();
-            let b = tree_of(alloc, scope, aggregates, b)?.into_value();
-            Ok(Tree::Condition(CondTree::Compare(*comparison, a, b)))
+            match tree_of(alloc, scope, aggregates, b) {
+                Ok(b) => Ok(Tree::Condition(CondTree::Compare(*comparison, a, b.into_value()))),
+                Err(fault) => {
+                    drop(a);
+                    Err(fault)
+                }
+            }
         }
         ExprNode::IsNull(negated, value) => {
             let value = tree_of(alloc, scope, aggregates, value)?.into_value();
@@ -109,20 +125,40 @@ pub(crate) fn tree_of(
         }
         ExprNode::Between(negated, value, least, greatest) => {
             let value = tree_of(alloc, scope, aggregates, value)?.into_value();
-            let least = tree_of(alloc, scope, aggregates, least)?.into_value();
-            let greatest = tree_of(alloc, scope, aggregates, greatest)?.into_value();
+            let least = match tree_of(alloc, scope, aggregates, least) {
+                Ok(least) => least.into_value(),
+                Err(fault) => {
+                    drop(value);
+                    return Err(fault);
+                }
+            };
+            let greatest = match tree_of(alloc, scope, aggregates, greatest) {
+                Ok(greatest) => greatest.into_value(),
+                Err(fault) => {
+                    drop(least);
+                    drop(value);
+                    return Err(fault);
+                }
+            };
             let test = turned(alloc, *negated, CondTree::Between(value, least, greatest))?;
             Ok(Tree::Condition(test))
         }
         ExprNode::In(negated, value, choices) => {
             let value = tree_of(alloc, scope, aggregates, value)?.into_value();
-            let choices = value_trees(alloc, scope, aggregates, choices)?;
+            let choices = match value_trees(alloc, scope, aggregates, choices) {
+                Ok(choices) => choices,
+                Err(fault) => {
+                    drop(value);
+                    return Err(fault);
+                }
+            };
             let test = turned(alloc, *negated, CondTree::In(value, choices))?;
             Ok(Tree::Condition(test))
         }
         ExprNode::Like(negated, value, pattern) => {
+            let pattern = pattern.copy(alloc)?;
             let value = tree_of(alloc, scope, aggregates, value)?.into_value();
-            let test = turned(alloc, *negated, CondTree::Like(value, pattern.copy(alloc)?))?;
+            let test = turned(alloc, *negated, CondTree::Like(value, pattern))?;
             Ok(Tree::Condition(test))
         }
         ExprNode::Not(part) => {
@@ -134,18 +170,28 @@ pub(crate) fn tree_of(
             if rest.is_empty() {
                 return Ok(first);
             }
-            let rest = condition_trees(alloc, scope, aggregates, rest)?;
             let first = Box::new(alloc, first.into_condition())?;
-            Ok(Tree::Condition(CondTree::And(first, rest)))
+            match condition_trees(alloc, scope, aggregates, rest) {
+                Ok(rest) => Ok(Tree::Condition(CondTree::And(first, rest))),
+                Err(fault) => {
+                    drop(first);
+                    Err(fault)
+                }
+            }
         }
         ExprNode::Or(first, rest) => {
             let first = tree_of(alloc, scope, aggregates, first)?;
             if rest.is_empty() {
                 return Ok(first);
             }
-            let rest = condition_trees(alloc, scope, aggregates, rest)?;
             let first = Box::new(alloc, first.into_condition())?;
-            Ok(Tree::Condition(CondTree::Or(first, rest)))
+            match condition_trees(alloc, scope, aggregates, rest) {
+                Ok(rest) => Ok(Tree::Condition(CondTree::Or(first, rest))),
+                Err(fault) => {
+                    drop(first);
+                    Err(fault)
+                }
+            }
         }
     }
 }

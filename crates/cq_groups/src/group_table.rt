@@ -57,14 +57,19 @@ impl<'q> GroupTable<'q> {
         ensures aggregates { IfOk result (λ table. table.aggregates ≡ aggregates.now) }
     {
         let found = first_groups(alloc, keys)?;
-        let slots = first_slots(alloc, aggregates, found.len())?;
-        Ok(GroupTable {
-            keys,
-            aggregates,
-            count: 0,
-            found,
-            slots,
-        })
+        match first_slots(alloc, aggregates, found.len()) {
+            Ok(slots) => Ok(GroupTable {
+                keys,
+                aggregates,
+                count: 0,
+                found,
+                slots,
+            }),
+            Err(fault) => {
+                drop(found);
+                Err(fault)
+            }
+        }
     }
 
     /// Adds rows to their groups. After an `Err` the table stands for no rows that one could name. More than 2^96 rows are

@@ -21,8 +21,13 @@ pub(crate) fn first_groups(alloc: Global, keys: &Option<Seq<usize>>) -> Result<K
         None => {
             let mut found = KeyTable::new(alloc, 0);
             let mut numbers = Vec::new(alloc);
-            found.add(alloc, &[], 1, &mut numbers)?;
-            Ok(found)
+            match found.add(alloc, &[], 1, &mut numbers) {
+                Ok(()) => Ok(found),
+                Err(fault) => {
+                    drop(found);
+                    Err(fault)
+                }
+            }
         }
     }
 }

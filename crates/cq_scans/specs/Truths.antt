@@ -1,8 +1,10 @@
 -- Truths of the rows of a scan.
 use Rattle.std.specs.Prelude.{◌≡◌, List, map}
+use Rattle.std.specs.Simd.Lanes.{zip2}
 use Rattle.cq_values.specs.declared.truth.Truth.{Truth}
 use Rattle.cq_values.specs.Comparison.{compared}
 use Rattle.cq_values.specs.Value.{Row}
+use Rattle.cq_values.specs.declared.value.Value.{Value}
 use Rattle.cq_values.specs.declared.comparison.Comparison.{Comparison}
 use Rattle.cq_model.specs.Condition.{between}
 use Rattle.cq_model.specs.Eval.{eval}
@@ -13,6 +15,10 @@ use Rattle.cq_eval.specs.Choices.{equals_one}
 -- the truths are those of the test in each row
 abbrev pub AreTruths : (Row → Truth) → List Row → List Truth → Type 0
 AreTruths test rows truths = truths ≡ map test rows
+
+-- these are the truths of values, each compared with the expression's in the same row
+abbrev pub AreCompared : Comparison → List Value → ExprTree → List Row → List Truth → Type 0
+AreCompared comparison values e rows truths = truths ≡ zip2 (compared comparison) values (map (eval (expr_of e)) rows)
 
 -- how the values of two expressions compare in a row
 abbrev pub compared_at : Comparison → ExprTree → ExprTree → Row → Truth

@@ -8,7 +8,7 @@ ghost use Rattle.cq_model.specs.Condition.{holds, is_null, liked};
 ghost use Rattle.cq_model.specs.Eval.{eval};
 ghost use Rattle.cq_model.specs.Exact.{AreExactAt, AreExactIn, IsExactAt};
 ghost use Rattle.cq_model.specs.Trees.{cond_of, expr_of};
-ghost use Rattle.cq_scans.specs.Truths.{AreTruths, between_at, compared_at, is_one_at};
+ghost use Rattle.cq_scans.specs.Truths.{AreCompared, AreTruths, between_at, compared_at, is_one_at};
 
 use crate::scan::Scan;
 use crate::vectors::vector_of_tree;
@@ -79,8 +79,9 @@ fn compared_in<'a>(
     ensures { IfOk result (AreTruths (compared_at comparison a.now b.now) scan.now) }
 {
     let a = vector_of_tree(alloc, a, scan)?;
-    let b = vector_of_tree(alloc, b, scan)?;
-    Ok(compared(comparison, a.vector(), b.vector()))
+    let truths = compared_with(alloc, comparison, a.vector(), b, scan);
+    drop(a);
+    truths
 }
 
 fn nulls_in<'a>(alloc: Global, expr: &'a ExprTree, scan: &Scan<'a>) -> Result<TruthMask, AllocError>
@@ -90,6 +91,7 @@ fn nulls_in<'a>(alloc: Global, expr: &'a ExprTree, scan: &Scan<'a>) -> Result<Tr
     let values = vector_of_tree(alloc, expr, scan)?;
     let mut truths = TruthMask::new();
     is_null(values.vector(), &mut truths);
+    drop(values);
     Ok(truths)
 }
 
@@ -103,10 +105,9 @@ fn likes_in<'a>(
     ensures { IfOk result (λ truths. truths ≡ map (λ r. liked (eval (expr_of expr.now) r) pattern.now) scan.now) }
 {
     let values = vector_of_tree(alloc, expr, scan)?;
-    let pattern = Pattern::new(alloc, pattern)?;
-    let mut truths = TruthMask::new();
-    like(values.vector(), &pattern, &mut truths);
-    Ok(truths)
+    let truths = liked(alloc, values.vector(), pattern);
+    drop(values);
+    truths
 }
 
 fn between_in<'a>(
@@ -122,10 +123,12 @@ fn between_in<'a>(
     ensures { IfOk result (AreTruths (between_at expr.now least.now greatest.now) scan.now) }
 {
     let value = vector_of_tree(alloc, expr, scan)?;
-    let least = vector_of_tree(alloc, least, scan)?;
-    let greatest = vector_of_tree(alloc, greatest, scan)?;
-    let from_least = compared(Comparison::GreaterOrEqual, value.vector(), least.vector());
-    let to_greatest = compared(Comparison::LessOrEqual, value.vector(), greatest.vector());
+    let (from, to) = (Comparison::GreaterOrEqual, Comparison::LessOrEqual);
+    let from_least = compared_with(alloc, from, value.vector(), least, scan);
+    let to_greatest = compared_with(alloc, to, value.vector(), greatest, scan);
+    drop(value);
+    let from_least = from_least?;
+    let to_greatest = to_greatest?;
     Ok(both(&from_least, &to_greatest))
 }
 
@@ -143,14 +146,44 @@ fn one_of_in<'a>(
     let value = vector_of_tree(alloc, expr, scan)?;
     let mut truths = TruthMask::new();
     truths.set_all(Truth::False, scan.len());
-    let values = value.vector();
     for choice in choices {
-        let choice = vector_of_tree(alloc, choice, scan)?;
-        truths = either(
-            &truths,
-            &compared(Comparison::Equal, values, choice.vector()),
-        );
+        match compared_with(alloc, Comparison::Equal, value.vector(), choice, scan) {
+            Ok(equal) => truths = either(&truths, &equal),
+            Err(fault) => {
+                drop(value);
+                return Err(fault);
+            }
+        }
     }
+    drop(value);
+    Ok(truths)
+}
+
+/// These values, compared with the expression's.
+fn compared_with<'a>(
+    alloc: Global,
+    comparison: Comparison,
+    values: &Vector<'_>,
+    expr: &'a ExprTree,
+    scan: &Scan<'a>,
+) -> Result<TruthMask, AllocError>
+    requires exact { AllByRecursion (IsExactAt (expr_of expr.now)) scan.now }
+    requires same { length values.now ≡ length scan.now }
+    ensures { IfOk result (AreCompared comparison values.now expr.now scan.now) }
+{
+    let others = vector_of_tree(alloc, expr, scan)?;
+    let truths = compared(comparison, values, others.vector());
+    drop(others);
+    Ok(truths)
+}
+
+/// Which of these values are like the pattern.
+fn liked(alloc: Global, values: &Vector<'_>, pattern: &str) -> Result<TruthMask, AllocError>
+    ensures { IfOk result (λ truths. truths ≡ map (λ v. liked v pattern.now) values.now) }
+{
+    let pattern = Pattern::new(alloc, pattern)?;
+    let mut truths = TruthMask::new();
+    like(values, &pattern, &mut truths);
     Ok(truths)
 }
 

@@ -76,7 +76,13 @@ fn worked_out<'a>(
         ExprTree::Sum(first, rest) => {
             let mut sum = worked_out(alloc, first, scan)?;
             for term in rest {
-                let term = worked_out(alloc, term, scan)?;
+                let term = match worked_out(alloc, term, scan) {
+                    Ok(term) => term,
+                    Err(fault) => {
+                        drop(sum);
+                        return Err(fault);
+                    }
+                };
                 sum = sum.plus(alloc, term, scan)?;
             }
             Ok(sum)
@@ -84,7 +90,13 @@ fn worked_out<'a>(
         ExprTree::Product(first, rest) => {
             let mut product = worked_out(alloc, first, scan)?;
             for factor in rest {
-                let factor = worked_out(alloc, factor, scan)?;
+                let factor = match worked_out(alloc, factor, scan) {
+                    Ok(factor) => factor,
+                    Err(fault) => {
+                        drop(product);
+                        return Err(fault);
+                    }
+                };
                 product = product.times(alloc, factor, scan)?;
             }
             Ok(product)

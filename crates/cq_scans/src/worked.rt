@@ -72,8 +72,9 @@ impl<'a> Worked<'a> {
         requires { AllInRange (map negated (values_worked scan.now self)) }
         ensures { IfOk result (WorksOut scan.now (map negated (values_worked scan.now self.entry))) }
     {
-        let values = self.lend(alloc, scan)?;
-        Ok(Worked::Values(neg(alloc, values.vector())?))
+        let made = opposite(alloc, &self, scan);
+        drop(self);
+        Ok(Worked::Values(made?))
     }
 
     /// A part of each day.
@@ -85,8 +86,9 @@ impl<'a> Worked<'a> {
     ) -> Result<Worked<'a>, AllocError>
         ensures { IfOk result (WorksOut scan.now (map (extracted part) (values_worked scan.now self.entry))) }
     {
-        let values = self.lend(alloc, scan)?;
-        Ok(Worked::Values(extract(alloc, part, values.vector())?))
+        let made = parts(alloc, part, &self, scan);
+        drop(self);
+        Ok(Worked::Values(made?))
     }
 }
 
@@ -101,8 +103,18 @@ fn sum<'a>(
     ensures { IfOk result (λ made. made ≡ sums_worked scan.now a.now b.now) }
 {
     let a = a.lend(alloc, scan)?;
-    let b = b.lend(alloc, scan)?;
-    add(alloc, a.vector(), b.vector())
+    match b.lend(alloc, scan) {
+        Ok(b) => {
+            let made = add(alloc, a.vector(), b.vector());
+            drop(b);
+            drop(a);
+            made
+        }
+        Err(fault) => {
+            drop(a);
+            Err(fault)
+        }
+    }
 }
 
 fn product<'a>(
@@ -116,6 +128,44 @@ fn product<'a>(
     ensures { IfOk result (λ made. made ≡ products_worked scan.now a.now b.now) }
 {
     let a = a.lend(alloc, scan)?;
-    let b = b.lend(alloc, scan)?;
-    mul(alloc, a.vector(), b.vector())
+    match b.lend(alloc, scan) {
+        Ok(b) => {
+            let made = mul(alloc, a.vector(), b.vector());
+            drop(b);
+            drop(a);
+            made
+        }
+        Err(fault) => {
+            drop(a);
+            Err(fault)
+        }
+    }
+}
+
+fn opposite<'a>(
+    alloc: Global,
+    numbers: &Worked<'a>,
+    scan: &Scan<'a>,
+) -> Result<Vector<'a>, AllocError>
+    requires { AllInRange (map negated (values_worked scan.now numbers.now)) }
+    ensures { IfOk result (λ made. made ≡ map negated (values_worked scan.now numbers.now)) }
+{
+    let numbers = numbers.lend(alloc, scan)?;
+    let made = neg(alloc, numbers.vector());
+    drop(numbers);
+    made
+}
+
+fn parts<'a>(
+    alloc: Global,
+    part: DayPart,
+    days: &Worked<'a>,
+    scan: &Scan<'a>,
+) -> Result<Vector<'a>, AllocError>
+    ensures { IfOk result (λ made. made ≡ map (extracted part) (values_worked scan.now days.now)) }
+{
+    let days = days.lend(alloc, scan)?;
+    let made = extract(alloc, part, days.vector());
+    drop(days);
+    made
 }

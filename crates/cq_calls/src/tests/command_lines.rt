@@ -3,70 +3,67 @@ use cq_options::{LineFault, options_of};
 use std::alloc::{AllocError, Global};
 use std::test::Fail;
 
+/// Words, and the script, the folder and the rows that they name.
+const ASKED: &[(&[&str], &str, &str, u64)] = &[
+    (&["colview", "run", "s.sql"], "s.sql", ".", 16_777_216),
+    (
+        &["colview", "run", "s.sql", "--dir", "d"],
+        "s.sql",
+        "d",
+        16_777_216,
+    ),
+    (
+        &["colview", "run", "s.sql", "--dir=a b/c", "--max-rows", "1"],
+        "s.sql",
+        "a b/c",
+        1,
+    ),
+    (
+        &["colview", "run", "s.sql", "--dir", "d", "--max-rows", "2"],
+        "s.sql",
+        "d",
+        2,
+    ),
+    (
+        &["colview", "run", "--max-rows", "2", "--dir", "d", "s.sql"],
+        "s.sql",
+        "d",
+        2,
+    ),
+    (
+        &["colview", "run", "--dir", "s.sql", "d"],
+        "d",
+        "s.sql",
+        16_777_216,
+    ),
+    (
+        &["colview", "run", "s.sql", "--max-rows=16777216"],
+        "s.sql",
+        ".",
+        16_777_216,
+    ),
+    (
+        &["colview", "run", "s.sql", "--max-rows", "0012"],
+        "s.sql",
+        ".",
+        12,
+    ),
+    (
+        &["colview", "run", "--max-rows", "12", "--", "-s.sql"],
+        "-s.sql",
+        ".",
+        12,
+    ),
+];
+
 #[test]
 fn the_options_are_the_words_and_else_the_defaults(rt: HostRuntime) {
-    let lines = [
-        (
-            ["colview", "run", "s.sql"].as_slice(),
-            "s.sql",
-            ".",
-            16_777_216,
-        ),
-        (
-            ["colview", "run", "s.sql", "--dir", "d"].as_slice(),
-            "s.sql",
-            "d",
-            16_777_216,
-        ),
-        (
-            ["colview", "run", "s.sql", "--dir=a b/c", "--max-rows", "1"].as_slice(),
-            "s.sql",
-            "a b/c",
-            1,
-        ),
-        (
-            ["colview", "run", "s.sql", "--dir", "d", "--max-rows", "2"].as_slice(),
-            "s.sql",
-            "d",
-            2,
-        ),
-        (
-            ["colview", "run", "--max-rows", "2", "--dir", "d", "s.sql"].as_slice(),
-            "s.sql",
-            "d",
-            2,
-        ),
-        (
-            ["colview", "run", "--dir", "s.sql", "d"].as_slice(),
-            "d",
-            "s.sql",
-            16_777_216,
-        ),
-        (
-            ["colview", "run", "s.sql", "--max-rows=16777216"].as_slice(),
-            "s.sql",
-            ".",
-            16_777_216,
-        ),
-        (
-            ["colview", "run", "s.sql", "--max-rows", "0012"].as_slice(),
-            "s.sql",
-            ".",
-            12,
-        ),
-        (
-            ["colview", "run", "--max-rows", "12", "--", "-s.sql"].as_slice(),
-            "-s.sql",
-            ".",
-            12,
-        ),
-    ];
-    for (words, script, dir, max_rows) in lines {
+    for (words, script, dir, max_rows) in ASKED {
         match options_of(rt.alloc(), words) {
             Ok(options) => {
-                assert_eq!(rt; options.script.as_str(), script, "{words:?}");
-                assert_eq!(rt; options.dir.as_str(), dir, "{words:?}");
-                assert_eq!(rt; options.max_rows, max_rows, "{words:?}");
+                assert_eq!(rt; options.script.as_str(), *script, "{words:?}");
+                assert_eq!(rt; options.dir.as_str(), *dir, "{words:?}");
+                assert_eq!(rt; options.max_rows, *max_rows, "{words:?}");
             }
             Err(fault) => assert!(rt; false, "{words:?}: {fault:?}"),
         }
@@ -195,22 +192,24 @@ fn the_text_of_a_refusal_is_clap_s(rt: HostRuntime) -> Result<(), Fail> {
     Ok(())
 }
 
+/// Words that ask what there is, and what is told.
+const TOLD: &[(&[&str], &str)] = &[
+    (&["colview", "--help"], HELP),
+    (&["colview", "-h"], HELP),
+    (&["colview", "help"], HELP),
+    (&["colview", "run", "--help"], RUN_HELP),
+    (&["colview", "run", "s.sql", "-h"], RUN_HELP),
+    (&["colview", "help", "run"], RUN_HELP),
+    (&["colview", "--version"], "colview 0.1.0\n"),
+    (&["colview", "-V"], "colview 0.1.0\n"),
+];
+
 #[test]
 fn help_tells_what_each_word_means(rt: HostRuntime) -> Result<(), Fail> {
-    let lines = [
-        (["colview", "--help"].as_slice(), HELP),
-        (["colview", "-h"].as_slice(), HELP),
-        (["colview", "help"].as_slice(), HELP),
-        (["colview", "run", "--help"].as_slice(), RUN_HELP),
-        (["colview", "run", "s.sql", "-h"].as_slice(), RUN_HELP),
-        (["colview", "help", "run"].as_slice(), RUN_HELP),
-        (["colview", "--version"].as_slice(), "colview 0.1.0\n"),
-        (["colview", "-V"].as_slice(), "colview 0.1.0\n"),
-    ];
-    for (words, wanted) in lines {
+    for (words, wanted) in TOLD {
         let (status, text) = told(rt.alloc(), words)?;
         assert_eq!(rt; status, 0, "{words:?}");
-        assert_eq!(rt; text.as_str(), wanted, "{words:?}");
+        assert_eq!(rt; text.as_str(), *wanted, "{words:?}");
     }
     Ok(())
 }

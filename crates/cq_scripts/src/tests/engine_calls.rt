@@ -24,11 +24,9 @@ const STATEMENTS: &[(&str, u64, Option<u64>)] = &[
     ("DROP VIEW v", 4, None),
 ];
 
-#[test]
-fn a_view_is_at_the_present(rt: HostRuntime) -> Result<(), Fail> {
-    let mut engine = engine(rt.alloc())?;
+fn stay_at_the_present(rt: &impl Abort, alloc: Global, engine: &mut Engine) -> Result<(), Fail> {
     for (statement, now, epoch) in STATEMENTS {
-        carry_out(&rt, rt.alloc(), &mut engine, statement)?;
+        drop(carry_out(rt, alloc, engine, statement)?);
         assert!(rt;
             engine.now() == *now && engine.view_epoch("v") == *epoch,
             "{statement}"
@@ -38,14 +36,21 @@ fn a_view_is_at_the_present(rt: HostRuntime) -> Result<(), Fail> {
     Ok(())
 }
 
-/// An engine with a table and a view on it.
-fn filled(rt: &impl Abort, alloc: Global) -> Result<Engine, Fail> {
-    let mut engine = engine(alloc)?;
+#[test]
+fn a_view_is_at_the_present(rt: HostRuntime) -> Result<(), Fail> {
+    let mut engine = engine(rt.alloc())?;
+    let stayed = stay_at_the_present(&rt, rt.alloc(), &mut engine);
+    drop(engine);
+    stayed
+}
+
+/// A table, and a view on it.
+fn fill(rt: &impl Abort, alloc: Global, engine: &mut Engine) -> Result<(), Fail> {
     let table = "CREATE TABLE t(a TEXT, b INTEGER)";
     let view = "CREATE VIEW v AS SELECT COUNT(*) FROM t GROUP BY b";
-    carry_out(rt, alloc, &mut engine, table)?;
-    carry_out(rt, alloc, &mut engine, view)?;
-    Ok(engine)
+    drop(carry_out(rt, alloc, engine, table)?);
+    drop(carry_out(rt, alloc, engine, view)?);
+    Ok(())
 }
 
 /// The columns of GROUP BY.
@@ -59,9 +64,7 @@ fn key_columns(query: &Query) -> Option<&[usize]> {
     }
 }
 
-#[test]
-fn the_catalog_tells_a_table(rt: HostRuntime) -> Result<(), Fail> {
-    let engine = filled(&rt, rt.alloc())?;
+fn tells_the_table(rt: &impl Abort, engine: &Engine) -> Result<(), Fail> {
     let catalog = engine.catalog();
     let table = catalog.table("t").ok_or("no table")?;
     assert!(rt; table.number == 0 && table.columns.len() == 2);
@@ -69,15 +72,27 @@ fn the_catalog_tells_a_table(rt: HostRuntime) -> Result<(), Fail> {
     Ok(())
 }
 
-#[test]
-fn the_catalog_tells_a_view(rt: HostRuntime) -> Result<(), Fail> {
-    let engine = filled(&rt, rt.alloc())?;
+fn tells_the_view(rt: &impl Abort, alloc: Global, engine: &Engine) -> Result<(), Fail> {
     let catalog = engine.catalog();
-    let view = catalog.view(rt.alloc(), "v")?.ok_or("no view")?;
+    let view = catalog.view(alloc, "v")?.ok_or("no view")?;
     assert!(rt; view.place == 0 && view.columns.len() == 1);
     assert!(rt; view.sizes.as_slice() == [1u128 << 96].as_slice());
     let query = catalog.query("v").ok_or("no query")?;
     assert!(rt; query.first == Source::Table(0));
     assert!(rt; key_columns(query) == Some([1].as_slice()));
     Ok(())
+}
+
+fn tell_both(rt: &impl Abort, alloc: Global, engine: &mut Engine) -> Result<(), Fail> {
+    fill(rt, alloc, engine)?;
+    tells_the_table(rt, engine)?;
+    tells_the_view(rt, alloc, engine)
+}
+
+#[test]
+fn the_catalog_tells_a_table_and_a_view(rt: HostRuntime) -> Result<(), Fail> {
+    let mut engine = engine(rt.alloc())?;
+    let told = tell_both(&rt, rt.alloc(), &mut engine);
+    drop(engine);
+    told
 }

@@ -24,7 +24,11 @@ pub(crate) fn carry_out(
 ) -> Result<Answer, Fault> {
     assert!(rt; engine.drawn() < 1000);
     match parse(alloc, text) {
-        Ok(statement) => engine.step(&statement, &mut NoSources::new()),
+        Ok(statement) => {
+            let answer = engine.step(&statement, &mut NoSources::new());
+            drop(statement);
+            answer
+        }
         Err(SqlFault::Memory) => Err(Fault::Memory),
         Err(_) => Err(Fault::Syntax),
     }

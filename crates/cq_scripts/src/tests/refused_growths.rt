@@ -48,17 +48,33 @@ fn are_rows(rows: &[Row], wanted: &[&[i128]]) -> bool {
 /// A statement, and the rows that it answers: None of a write.
 type Step = (&'static str, Option<&'static [&'static [i128]]>);
 
-fn carry_all_out(rt: &impl Abort, alloc: Global, steps: &[Step]) -> Result<(), Fail> {
-    let mut engine = engine(alloc)?;
+/// Whether the answer is these rows, or of a write.
+fn is_answered(answer: &Answer, wanted: &Option<&[&[i128]]>) -> bool {
+    match (answer, wanted) {
+        (Answer::Rows { rows, .. }, Some(wanted)) => are_rows(rows.as_slice(), wanted),
+        (_, wanted) => wanted.is_none(),
+    }
+}
+
+fn carry_all(
+    rt: &impl Abort,
+    alloc: Global,
+    engine: &mut Engine,
+    steps: &[Step],
+) -> Result<(), Fail> {
     for (text, wanted) in steps {
-        let answer = carried_out(rt, alloc, &mut engine, text)?;
-        if let (Answer::Rows { rows, .. }, Some(wanted)) = (answer, wanted) {
-            assert!(rt; are_rows(rows.as_slice(), wanted), "{text}: {rows:?}");
-        } else {
-            assert!(rt; wanted.is_none(), "{text}");
-        }
+        let answer = carried_out(rt, alloc, engine, text)?;
+        assert!(rt; is_answered(&answer, wanted), "{text}: {answer:?}");
+        drop(answer);
     }
     Ok(())
+}
+
+fn carry_all_out(rt: &impl Abort, alloc: Global, steps: &[Step]) -> Result<(), Fail> {
+    let mut engine = engine(alloc)?;
+    let carried = carry_all(rt, alloc, &mut engine, steps);
+    drop(engine);
+    carried
 }
 
 const VIEWS: &[Step] = &[

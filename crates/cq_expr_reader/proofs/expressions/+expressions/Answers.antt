@@ -28,28 +28,27 @@ pub more_parts-returns : goal.more_parts-returns
 more_parts-returns t c =
     sym c.loop.invariant ∙ runs_out (linked_part c.args.link (part_of (readers c.args.depth) c.args.link)) (length c.args.tokens.now - c.loop.counter) (map written c.loop.parts.items) c.loop.rest.now (omega arith)
 
-pub more_terms-returns-in_err-term-in-Some : goal.more_terms-returns-in_err-term-in-Some
-more_terms-returns-in_err-term-in-Some t c =
-    let p = err_from_is_err_and c.from_residual.result c.from_residual.ensures.1 in
-    let failed = subst (λ (read : Option (Written × List Token)). Fails c.in_err-term-in-Some.field-0.0 read) (product_is (readers c.args.depth) c.in-Some.after.now) c.in_err-term-in-Some.ensures in
-    rw (p.1, p.2) (term_fails (product_of (readers c.args.depth)) (written c.loop.first-1) c.loop.signs.items (map written c.loop.terms.items) (length c.args.tokens.now) c.loop.counter c.loop.rest.now (more_terms (product_of (readers c.args.depth)) (written c.args.first) c.args.tokens.now) c.loop-test.true c.loop.invariant.0 c.in_err-term-in-Some.field-0.0 c.in-Some.sign c.in-Some.after.now (sym c.in-Some.ensures) failed)
+pub more_terms-returns-in-Err : goal.more_terms-returns-in-Err
+more_terms-returns-in-Err t c =
+    let failed = subst (λ (read : Option (Written × List Token)). Fails c.in-Err.fault read) (product_is (readers c.args.depth) c.in-Some.after.now) c.in-Err.ensures in
+    term_fails (product_of (readers c.args.depth)) (written c.args.first) c.loop.signs.items (map written c.loop.terms.items) (length c.args.tokens.now) c.loop.counter c.loop.rest.now (more_terms (product_of (readers c.args.depth)) (written c.args.first) c.args.tokens.now) c.loop-test.true c.loop.invariant.0 c.in-Err.fault c.in-Some.sign c.in-Some.after.now (sym c.in-Some.ensures) failed
 
 pub more_terms-returns-in-None : goal.more_terms-returns-in-None
 more_terms-returns-in-None t c =
-    rw c.in_ok-summed-in-None.ensures (term_stops (product_of (readers c.args.depth)) (written c.loop.first-1) c.loop.signs.items (map written c.loop.terms.items) (length c.args.tokens.now) c.loop.counter c.loop.rest.now (more_terms (product_of (readers c.args.depth)) (written c.args.first) c.args.tokens.now) c.loop-test.true c.loop.invariant.0 (sym c.in-None.ensures))
+    rw c.in_ok-summed-in-None.ensures (term_stops (product_of (readers c.args.depth)) (written c.args.first) c.loop.signs.items (map written c.loop.terms.items) (length c.args.tokens.now) c.loop.counter c.loop.rest.now (more_terms (product_of (readers c.args.depth)) (written c.args.first) c.args.tokens.now) c.loop-test.true c.loop.invariant.0 (sym c.in-None.ensures))
 
 pub more_terms-loop-preserved : goal.more_terms-loop-preserved
 more_terms-loop-preserved t c =
-    let read = sym (product_is (readers c.args.depth) c.in-Some.after.now) ∙ c.in_ok-term-in-Some.ensures in
+    let read = sym (product_is (readers c.args.depth) c.in-Some.after.now) ∙ c.in-Ok.ensures in
     let same : length c.loop.signs.items ≡ length (map written c.loop.terms.items) = c.loop.invariant.1 ∙ sym (length-map c.loop.terms.items written) in
-    let so_far = term_goes_on (product_of (readers c.args.depth)) (written c.loop.first-1) c.loop.signs.items (map written c.loop.terms.items) (length c.args.tokens.now) c.loop.counter c.loop.rest.now (more_terms (product_of (readers c.args.depth)) (written c.args.first) c.args.tokens.now) c.loop-test.true c.loop.invariant.0 c.in-Some.sign c.in-Some.after.now c.in_ok-term-in-Some.next.now (written c.in_ok-term-in-Some.term) same (sym c.in-Some.ensures) read in
-    let counts : length (c.loop.signs.items ++ c.in-Some.sign ∷ []) ≡ length (c.loop.terms.items ++ c.in_ok-term-in-Some.term ∷ [])
-    = omega (arith, c.loop.invariant.1, length-append c.loop.signs.items (c.in-Some.sign ∷ []), length-append c.loop.terms.items (c.in_ok-term-in-Some.term ∷ [])) in
-    rw (c.in_ok-push-in-Some.ensures.items, c.in_ok-push-in-Some-2.ensures.items, map-append written c.loop.terms.items (c.in_ok-term-in-Some.term ∷ [])) (so_far, counts)
+    let so_far = term_goes_on (product_of (readers c.args.depth)) (written c.args.first) c.loop.signs.items (map written c.loop.terms.items) (length c.args.tokens.now) c.loop.counter c.loop.rest.now (more_terms (product_of (readers c.args.depth)) (written c.args.first) c.args.tokens.now) c.loop-test.true c.loop.invariant.0 c.in-Some.sign c.in-Some.after.now c.in-Ok.read.1.now (written c.in-Ok.read.0) same (sym c.in-Some.ensures) read in
+    let counts : length (c.loop.signs.items ++ c.in-Some.sign ∷ []) ≡ length (c.loop.terms.items ++ c.in-Ok.read.0 ∷ [])
+    = omega (arith, c.loop.invariant.1, length-append c.loop.signs.items (c.in-Some.sign ∷ []), length-append c.loop.terms.items (c.in-Ok.read.0 ∷ [])) in
+    rw (c.in-Ok-add_term.ensures.sign, c.in-Ok-add_term.ensures.term, map-append written c.loop.terms.items (c.in-Ok.read.0 ∷ [])) (so_far, counts)
 
 pub more_terms-returns : goal.more_terms-returns
 more_terms-returns t c =
-    rw c.in_ok-summed.ensures (sym c.loop.invariant.0 ∙ runs_out (signed_term (product_of (readers c.args.depth))) (length c.args.tokens.now - c.loop.counter) (terms (written c.loop.first-1) c.loop.signs.items (map written c.loop.terms.items)) c.loop.rest.now (omega arith))
+    rw c.in_ok-summed.ensures (sym c.loop.invariant.0 ∙ runs_out (signed_term (product_of (readers c.args.depth))) (length c.args.tokens.now - c.loop.counter) (terms (written c.args.first) c.loop.signs.items (map written c.loop.terms.items)) c.loop.rest.now (omega arith))
 
 pub entries_at-returns-then-depth-eq0 : goal.entries_at-returns-then-depth-eq0
 entries_at-returns-then-depth-eq0 t c = choices_shut c.args.depth c.args.tokens.now (omega arith)

@@ -1,5 +1,5 @@
-use Rattle.std.proofs.Common.{ℕ, List, ◌∙◌, ap, map}
-use Rattle.cq_values.specs.declared.value.Value.{Value}
+use Rattle.std.proofs.Common.{◌∙◌, ap, map}
+use Rattle.std.proofs.lemmas.Result.{IfOk-weaker}
 use Rattle.cq_model.specs.Condition.{liked}
 use Rattle.cq_model.specs.Eval.{eval}
 use Rattle.cq_model.specs.Trees.{expr_of}
@@ -8,6 +8,5 @@ use Rattle.cq_scans.proofs.truths.likes_in.Goals as goal
 
 pub returns : goal.returns
 returns c =
-    c.like.ensures ∙ ap (λ (p : List ℕ). map (λ (v : Value). liked v p) (c.vector.result.now)) c.in_ok-pattern.ensures
-    ∙ ap (map (λ v. liked v c.args.pattern.now)) (c.vector.ensures ∙ c.in_ok-values.ensures)
-    ∙ map-map (eval (expr_of c.args.expr.now)) (λ v. liked v c.args.pattern.now) c.args.scan.now
+    IfOk-weaker c.liked-truths.result _ _
+    (λ truths are. are ∙ ap (map (λ v. liked v c.args.pattern.now)) (c.vector.ensures ∙ c.in_ok-values.ensures) ∙ map-map (eval (expr_of c.args.expr.now)) (λ v. liked v c.args.pattern.now) c.args.scan.now) c.liked-truths.ensures

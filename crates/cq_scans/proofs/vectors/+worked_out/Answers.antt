@@ -25,12 +25,12 @@ worked_out-requires-in-loop-term t c =
 
 pub plus-requires-clause-same : goal.plus-requires-clause-same
 plus-requires-clause-same t c =
-    same-length (eval c.loop-term.invariant.front) (eval (expr_of c.term-item.result)) c.args.scan.now (values_worked c.args.scan.now c.loop-term.sum) (values_worked c.args.scan.now c.in_ok-term-in-Sum.term) c.loop-term.invariant.are c.in_ok-term-in-Sum.ensures
+    same-length (eval c.loop-term.invariant.front) (eval (expr_of c.term-item.result)) c.args.scan.now (values_worked c.args.scan.now c.loop-term.sum) (values_worked c.args.scan.now c.in-Ok.term) c.loop-term.invariant.are c.in-Ok.ensures
 
 pub plus-requires-clause-fits : goal.plus-requires-clause-fits
 plus-requires-clause-fits t c =
     fits-at _ (fits Plus plus sums c.args.scan.now (expr_of c.args.tree.now) c.deref-term-items.result.now c.loop-term.term-index c.term-item.result (values_worked c.args.scan.now c.loop-term.sum) c.loop-term-test.true c.term-item.is
-    (values_worked c.args.scan.now c.in_ok-term-in-Sum.term) c.in_ok-term-in-Sum.ensures c.loop-term.invariant c.requires)
+    (values_worked c.args.scan.now c.in-Ok.term) c.in-Ok.ensures c.loop-term.invariant c.requires)
 
 pub worked_out-requires-in-Product : goal.worked_out-requires-in-Product
 worked_out-requires-in-Product t c =
@@ -42,12 +42,12 @@ worked_out-requires-in-loop-factor t c =
 
 pub times-requires-clause-same : goal.times-requires-clause-same
 times-requires-clause-same t c =
-    same-length (eval c.loop-factor.invariant.front) (eval (expr_of c.factor-item.result)) c.args.scan.now (values_worked c.args.scan.now c.loop-factor.product) (values_worked c.args.scan.now c.in_ok-factor-in-Product.factor) c.loop-factor.invariant.are c.in_ok-factor-in-Product.ensures
+    same-length (eval c.loop-factor.invariant.front) (eval (expr_of c.factor-item.result)) c.args.scan.now (values_worked c.args.scan.now c.loop-factor.product) (values_worked c.args.scan.now c.in-Ok-worked_out.factor) c.loop-factor.invariant.are c.in-Ok-worked_out.ensures
 
 pub times-requires-clause-fits : goal.times-requires-clause-fits
 times-requires-clause-fits t c =
     fits-at _ (fits Times times products c.args.scan.now (expr_of c.args.tree.now) c.deref-factor-items.result.now c.loop-factor.factor-index c.factor-item.result (values_worked c.args.scan.now c.loop-factor.product) c.loop-factor-test.true c.factor-item.is
-    (values_worked c.args.scan.now c.in_ok-factor-in-Product.factor) c.in_ok-factor-in-Product.ensures c.loop-factor.invariant c.requires)
+    (values_worked c.args.scan.now c.in-Ok-worked_out.factor) c.in-Ok-worked_out.ensures c.loop-factor.invariant c.requires)
 
 pub worked_out-requires-in-Extract : goal.worked_out-requires-in-Extract
 worked_out-requires-in-Extract t c =
@@ -56,12 +56,12 @@ worked_out-requires-in-Extract t c =
 pub loop-term-preserved : goal.loop-term-preserved
 loop-term-preserved t c =
     next Plus plus sums c.args.scan.now (expr_of c.args.tree.now) c.deref-term-items.result.now c.loop-term.term-index c.term-item.result (values_worked c.args.scan.now c.loop-term.sum) c.loop-term-test.true c.term-item.is
-    (values_worked c.args.scan.now c.in_ok-term-in-Sum.term) c.in_ok-term-in-Sum.ensures (values_worked c.args.scan.now c.in_ok-sum-in-Sum-2.sum) c.in_ok-sum-in-Sum-2.ensures c.loop-term.invariant
+    (values_worked c.args.scan.now c.in-Ok.term) c.in-Ok.ensures (values_worked c.args.scan.now c.in_ok-sum-in-Sum-2.sum) c.in_ok-sum-in-Sum-2.ensures c.loop-term.invariant
 
 pub loop-factor-preserved : goal.loop-factor-preserved
 loop-factor-preserved t c =
     next Times times products c.args.scan.now (expr_of c.args.tree.now) c.deref-factor-items.result.now c.loop-factor.factor-index c.factor-item.result (values_worked c.args.scan.now c.loop-factor.product) c.loop-factor-test.true c.factor-item.is
-    (values_worked c.args.scan.now c.in_ok-factor-in-Product.factor) c.in_ok-factor-in-Product.ensures (values_worked c.args.scan.now c.in_ok-product-in-Product-2.product) c.in_ok-product-in-Product-2.ensures c.loop-factor.invariant
+    (values_worked c.args.scan.now c.in-Ok-worked_out.factor) c.in-Ok-worked_out.ensures (values_worked c.args.scan.now c.in_ok-product-in-Product-2.product) c.in_ok-product-in-Product-2.ensures c.loop-factor.invariant
 
 pub returns-in-Literal : goal.returns-in-Literal
 returns-in-Literal t c =

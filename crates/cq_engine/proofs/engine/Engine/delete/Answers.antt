@@ -17,7 +17,7 @@ invariant_of-self c =
       c.self.invariant.0,
       rw same.0 c.self.invariant.1,
       rw same.0 c.self.invariant.2,
-      rw same.0 (all_right_same tables c.self.inside.writes views c.delete_in.new.views.items same.1 c.self.invariant.3),
+      rw same.0 (all_right_same tables c.self.inside.writes views c.delete_in-deleted.new.views.items same.1 c.self.invariant.3),
       rw same.0 c.self.invariant.4,
     )
 
@@ -28,7 +28,7 @@ returns-in_err-rows-clause-done c =
     let tables = c.self.inside.tables.items in
     let views = c.self.inside.views.items in
     rw (← c.self.view_is, p.1, p.2)
-    (inl tt, unchanged tables c.delete_in.new.tables.items views c.delete_in.new.views.items c.self.inside.writes c.self.inside.drawn c.self.inside.limits.max_rows same.0 same.1)
+    (inl tt, unchanged tables c.delete_in-deleted.new.tables.items views c.delete_in-deleted.new.views.items c.self.inside.writes c.self.inside.drawn c.self.inside.limits.max_rows same.0 same.1)
 
 pub invariant_of-self-2 : goal.invariant_of-self-2
 invariant_of-self-2 c =
@@ -48,5 +48,5 @@ returns-clause-done c =
     rw (← c.self.view_is) (
       refl,
       delete_done tables (views_of views) c.self.inside.writes c.self.inside.drawn c.self.inside.limits.max_rows (all_at tables c.self.inside.writes views c.self.invariant.3)
-          c.args.table c.args.condition c.delete_in.new.tables.items (views_of c.delete_in.new.views.items) c.in_ok-rows.rows c.in_ok-rows.ensures.count c.in_ok-rows.ensures.left c.in_ok-rows.ensures.moved.views,
+          c.args.table c.args.condition c.delete_in-deleted.new.tables.items (views_of c.delete_in-deleted.new.views.items) c.in_ok-rows.rows c.in_ok-rows.ensures.count c.in_ok-rows.ensures.left c.in_ok-rows.ensures.moved.views,
     )

@@ -6,11 +6,11 @@ use Rattle.cq_tables.proofs.Rows.{bounded_more}
 use Rattle.cq_engine.proofs.Steps.{select_done, select_refused}
 use Rattle.cq_engine.proofs.engine.Engine.select.Goals as goal
 
-pub select_from-requires-clause-right : goal.select_from-requires-clause-right
-select_from-requires-clause-right c = (c.self.inside.writes, rw (c.deref.ensures.value, c.deref-2.ensures.value) c.self.invariant.3)
+pub select_from-selected-requires-clause-right : goal.select_from-selected-requires-clause-right
+select_from-selected-requires-clause-right c = (c.self.inside.writes, rw (c.deref.ensures.value, c.deref-2.ensures.value) c.self.invariant.3)
 
-pub select_from-requires-clause-few : goal.select_from-requires-clause-few
-select_from-requires-clause-few c = rw c.deref.ensures.value (bounded_more c.self.inside.limits.max_rows (2 ^ 24) c.self.inside.tables.items c.self.inside.limits.in_range.1 c.self.invariant.4)
+pub select_from-selected-requires-clause-few : goal.select_from-selected-requires-clause-few
+select_from-selected-requires-clause-few c = rw c.deref.ensures.value (bounded_more c.self.inside.limits.max_rows (2 ^ 24) c.self.inside.tables.items c.self.inside.limits.in_range.1 c.self.invariant.4)
 
 pub returns-in_err-rows : goal.returns-in_err-rows
 returns-in_err-rows c =

@@ -9,52 +9,52 @@ use Rattle.cq_engine.proofs.Steps.{update_done}
 use Rattle.cq_writes.proofs.Updates.{few_rows, updated_bounded, updated_fit}
 use Rattle.cq_engine.proofs.engine.Engine.update.Goals as goal
 
-pub update_in-requires-clause-few : goal.update_in-requires-clause-few
-update_in-requires-clause-few c =
+pub update_in-updated-requires-clause-few : goal.update_in-updated-requires-clause-few
+update_in-updated-requires-clause-few c =
     let limits = c.self.inside.limits in
     few_rows c.args.table c.args.assignments c.args.filter c.self.inside.tables.items limits.max_rows limits.in_range.1 c.self.invariant.4
 
 pub invariant_of-self : goal.invariant_of-self
 invariant_of-self c =
-    let same = c.in_err-updated.ensures.err in
+    let same = c.in_err-count.ensures.err in
     let tables = c.self.inside.tables.items in
     let views = c.self.inside.views.items in (
       c.self.invariant.0,
       rw same.0 c.self.invariant.1,
       rw same.0 c.self.invariant.2,
-      rw same.0 (all_right_same tables c.self.inside.writes views c.update_in.new.views.items same.1 c.self.invariant.3),
+      rw same.0 (all_right_same tables c.self.inside.writes views c.update_in-updated.new.views.items same.1 c.self.invariant.3),
       rw same.0 c.self.invariant.4,
     )
 
-pub returns-in_err-updated-clause-done : goal.returns-in_err-updated-clause-done
-returns-in_err-updated-clause-done c =
+pub returns-in_err-count-clause-done : goal.returns-in_err-count-clause-done
+returns-in_err-count-clause-done c =
     let p = err_from_is_err_and c.from_residual.result c.from_residual.ensures.1 in
-    let walk = rw c.as_slice.ensures at c.in_err-updated.ensures.updates in
-    let same = c.in_err-updated.ensures.err in
+    let walk = rw c.as_slice.ensures at c.in_err-count.ensures.updates in
+    let same = c.in_err-count.ensures.err in
     let tables = c.self.inside.tables.items in
     let views = c.self.inside.views.items in
     rw (← c.self.view_is, p.1, p.2)
-    (inl walk, unchanged tables c.update_in.new.tables.items views c.update_in.new.views.items c.self.inside.writes c.self.inside.drawn c.self.inside.limits.max_rows same.0 same.1)
+    (inl walk, unchanged tables c.update_in-updated.new.tables.items views c.update_in-updated.new.views.items c.self.inside.writes c.self.inside.drawn c.self.inside.limits.max_rows same.0 same.1)
 
 pub invariant_of-self-2 : goal.invariant_of-self-2
 invariant_of-self-2 c =
-    let walk = rw c.as_slice.ensures at c.in_ok-updated.ensures.updates in
+    let walk = rw c.as_slice.ensures at c.in_ok-count.ensures.updates in
     let tables = c.self.inside.tables.items in
     let drawn = c.self.inside.drawn in (
       omega (arith, c.self.invariant.0),
       rw walk.2 (numbered-later _ drawn (drawn + 1) (omega arith) (numbered-with_rows c.args.table (updated c.args.assignments c.args.filter (rows_in tables c.args.table)) tables drawn c.self.invariant.1)),
       rw walk.2 (updated_fit c.args.table c.args.assignments c.args.filter tables drawn c.self.invariant.1 c.self.invariant.2 (rw (← c.self.view_is) at c.requires.bound).1 walk.0),
-      c.in_ok-updated.ensures.moved.right,
+      c.in_ok-count.ensures.moved.right,
       rw walk.2 (updated_bounded c.args.table c.args.assignments c.args.filter tables c.self.inside.limits.max_rows c.self.invariant.4),
     )
 
 pub returns-clause-done : goal.returns-clause-done
 returns-clause-done c =
-    let walk = rw c.as_slice.ensures at c.in_ok-updated.ensures.updates in
+    let walk = rw c.as_slice.ensures at c.in_ok-count.ensures.updates in
     let tables = c.self.inside.tables.items in
     let views = c.self.inside.views.items in
     rw (← c.self.view_is) (
       walk.0,
       update_done tables (views_of views) c.self.inside.writes c.self.inside.drawn c.self.inside.limits.max_rows (all_at tables c.self.inside.writes views c.self.invariant.3)
-          c.args.table c.args.assignments c.args.filter c.update_in.new.tables.items (views_of c.update_in.new.views.items) c.in_ok-updated.updated walk.1 walk.2 c.in_ok-updated.ensures.moved.views,
+          c.args.table c.args.assignments c.args.filter c.update_in-updated.new.tables.items (views_of c.update_in-updated.new.views.items) c.in_ok-count.count walk.1 walk.2 c.in_ok-count.ensures.moved.views,
     )
