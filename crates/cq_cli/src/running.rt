@@ -34,7 +34,11 @@ fn answer<S: Sources>(
         return Err(Fault::Syntax);
     }
     match parse(alloc, piece.text) {
-        Ok(statement) => engine.step(&statement, sources),
+        Ok(statement) => {
+            let answer = engine.step(&statement, sources);
+            drop(statement);
+            answer
+        }
         Err(SqlFault::Memory) => Err(Fault::Memory),
         Err(SqlFault::Syntax) => Err(Fault::Syntax),
         Err(SqlFault::LimitExceeded) => Err(Fault::LimitExceeded),
@@ -50,7 +54,10 @@ fn tell<K: Sink>(
     requires { K.failures out.old < 2 ^ 64 - 1 }
     ensures { Tells outcome K.Sink out.old out.new result }
 {
-    print(out, &shown(alloc, outcome))
+    let printed = shown(alloc, outcome);
+    let told = print(out, &printed);
+    drop(printed);
+    told
 }
 
 /// Answers the pieces of a text one after the other.
@@ -73,10 +80,16 @@ fn run_text<S: Sources, K: Sink>(
     while let Some(piece) = pieces.next() {
         if !piece.blank {
             let outcome = answer(alloc, &mut engine, &piece, sources);
-            let served = tell(alloc, outcome, out)?;
-            status = status.and(served);
+            match tell(alloc, outcome, out) {
+                Ok(served) => status = status.and(served),
+                Err(fault) => {
+                    drop(engine);
+                    return Err(fault);
+                }
+            }
         }
     }
+    drop(engine);
     Ok(status)
 }
 

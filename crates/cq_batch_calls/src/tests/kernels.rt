@@ -6,6 +6,7 @@ use cq_prims::{Pattern, compare, is_null, like};
 use cq_values::{Comparison, Day, Lent, Row, Text, Truth, Value};
 use cq_vectors::{Form, Vector};
 use std::alloc::{AllocError, Global};
+use std::process::Abort;
 use std::test::Fail;
 
 /// One of three values of a kind, in their order.
@@ -46,65 +47,118 @@ fn ranked(alloc: Global, kind: char, len: usize, shift: usize) -> Result<Vec<Row
     Ok(rows)
 }
 
+/// The truth at a place as a letter, u where nothing is known.
+fn letter_at(truths: &TruthMask, place: usize) -> char {
+    if place >= 1024 {
+        return '-';
+    }
+    match truths.get(place) {
+        Truth::True => 't',
+        Truth::False => 'f',
+        Truth::Unknown => 'u',
+    }
+}
+
+/// Asks that the truths from a place on are these letters.
+fn check_letters(rt: &impl Abort, truths: &TruthMask, first: usize, letters: &str) {
+    let mut place = first;
+    for letter in letters.chars() {
+        assert_eq!(rt; letter_at(truths, place), letter, "at {place}");
+        place = place.saturating_add(1);
+    }
+}
+
+/// Whether one column is less than another at a place, as a letter. Columns of unlike lengths are not compared.
+fn less_in(a: &Vector<'_>, b: &Vector<'_>, place: usize) -> char {
+    if a.len() != b.len() {
+        return '-';
+    }
+    let mut to = TruthMask::new();
+    compare(Comparison::Less, a, b, &mut to);
+    letter_at(&to, place)
+}
+
+/// The same of the columns of rows.
+fn less_at(alloc: Global, a: &[Row], b: &[Row], place: usize) -> Result<char, AllocError>
+    requires a { length a.now ≤ 1024 }
+    requires b { length b.now ≤ 1024 }
+{
+    let a = Vector::gather(alloc, a, 0)?;
+    match Vector::gather(alloc, b, 0) {
+        Ok(b) => {
+            let letter = less_in(&a, &b, place);
+            drop(b);
+            drop(a);
+            Ok(letter)
+        }
+        Err(fault) => {
+            drop(a);
+            Err(fault)
+        }
+    }
+}
+
+/// Asks whether a column of one kind is less at a place than one of another kind, whose ranks are shifted.
+fn check_less(
+    rt: &impl Abort,
+    alloc: Global,
+    (left, right, shift): (char, char, usize),
+    (len, place, letter): (usize, usize, char),
+) -> Result<(), Fail> {
+    let a = ranked(alloc, left, len, 0)?;
+    match ranked(alloc, right, len, shift) {
+        Ok(b) => {
+            assert!(rt; a.len() <= 1024 && b.len() <= 1024);
+            let found = less_at(alloc, &a, &b, place);
+            drop(b);
+            drop(a);
+            assert_eq!(rt; found?, letter, "{left} and {right} at {place} of {len}");
+            Ok(())
+        }
+        Err(fault) => {
+            drop(a);
+            Err(Fail::from(fault))
+        }
+    }
+}
+
+/// Lengths and places: the left rank at a place is the place modulo 3, the right one is the next.
+const ENDS: &[(usize, usize, char)] = &[
+    (1, 0, 'u'),
+    (63, 61, 't'),
+    (64, 62, 'f'),
+    (65, 63, 't'),
+    (65, 64, 'u'),
+    (1023, 1021, 't'),
+    (1024, 1022, 'f'),
+    (1024, 1023, 'u'),
+];
+
 #[test]
-fn each_pair_of_forms_is_compared_to_its_end(rt: HostRuntime) -> Result<(), Fail> {
-    // the left rank at a place is the place modulo 3, the right one is the next
-    let lengths = [
-        (1, 0, Truth::Unknown),
-        (63, 61, Truth::True),
-        (64, 62, Truth::False),
-        (65, 63, Truth::True),
-        (65, 64, Truth::Unknown),
-        (1023, 1021, Truth::True),
-        (1024, 1022, Truth::False),
-        (1024, 1023, Truth::Unknown),
-    ];
-    for (left, right) in [('n', 'n'), ('w', 'w'), ('d', 'd'), ('t', 't')] {
-        for (len, place, truth) in lengths {
-            let (a, b) = (
-                ranked(rt.alloc(), left, len, 0)?,
-                ranked(rt.alloc(), right, len, 1)?,
-            );
-            assert!(rt; a.len() <= 1024 && b.len() <= 1024 && place < 1024);
-            let a = Vector::gather(rt.alloc(), a.as_slice(), 0)?;
-            let b = Vector::gather(rt.alloc(), b.as_slice(), 0)?;
-            assert!(rt; a.len() == b.len());
-            let mut to = TruthMask::new();
-            compare(Comparison::Less, &a, &b, &mut to);
-            assert_eq!(rt;
-                to.get(place),
-                truth,
-                "{left} and {right} at {place} of {len}"
-            );
+fn each_form_is_compared_to_its_end(rt: HostRuntime) -> Result<(), Fail> {
+    for kind in "nwdt".chars() {
+        for end in ENDS {
+            check_less(&rt, rt.alloc(), (kind, kind, 1), *end)?;
         }
     }
     Ok(())
 }
 
+/// Kinds of columns, and whether a value of the left one is less.
+const KINDS: &[(char, char, char)] = &[
+    ('n', 'w', 't'),
+    ('w', 'n', 'f'),
+    ('n', 'd', 't'),
+    ('d', 't', 't'),
+    ('t', 'n', 'f'),
+];
+
 #[test]
 fn values_of_two_forms_are_compared_by_their_order(rt: HostRuntime) -> Result<(), Fail> {
-    let cases = [
-        ('n', 'w', Truth::True),
-        ('w', 'n', Truth::False),
-        ('n', 'd', Truth::True),
-        ('d', 't', Truth::True),
-        ('t', 'n', Truth::False),
-    ];
-    for (left, right, truth) in cases {
-        let (a, b) = (
-            ranked(rt.alloc(), left, 65, 0)?,
-            ranked(rt.alloc(), right, 65, 0)?,
-        );
-        assert!(rt; a.len() <= 1024 && b.len() <= 1024);
-        let a = Vector::gather(rt.alloc(), a.as_slice(), 0)?;
-        let b = Vector::gather(rt.alloc(), b.as_slice(), 0)?;
-        assert!(rt; a.len() == b.len());
-        let mut to = TruthMask::new();
-        compare(Comparison::Less, &a, &b, &mut to);
-        assert_eq!(rt;
-            [to.get(0), to.get(1), to.get(63), to.get(64)],
-            [Truth::Unknown, truth, truth, Truth::Unknown]
-        );
+    for (left, right, letter) in KINDS {
+        for (place, letter) in [(0, 'u'), (1, *letter), (63, *letter), (64, 'u')] {
+            check_less(&rt, rt.alloc(), (*left, *right, 0), (65, place, letter))?;
+        }
     }
     Ok(())
 }
@@ -116,133 +170,130 @@ fn no_places_have_no_truths(rt: HostRuntime) -> Result<(), Fail> {
     compare(Comparison::NotEqual, &a, &a, &mut to);
     assert_eq!(rt; to.len(), 0);
     is_null(&a, &mut to);
+    drop(a);
     assert_eq!(rt; to.len(), 0);
     Ok(())
 }
 
+/// A comparison, and how 1, 2 and 0 compare with 1, and 1 with them.
+const WITH_ONE: &[(&str, &str, &str)] = &[
+    ("=", "tff", "tff"),
+    ("<>", "ftt", "ftt"),
+    ("<", "fft", "ftf"),
+    ("<=", "tft", "ttf"),
+    (">", "ftf", "fft"),
+    (">=", "ttf", "tft"),
+];
+
+fn comparison_of(sign: &str) -> Comparison {
+    match sign {
+        "=" => Comparison::Equal,
+        "<>" => Comparison::NotEqual,
+        "<" => Comparison::Less,
+        "<=" => Comparison::LessOrEqual,
+        ">" => Comparison::Greater,
+        _ => Comparison::GreaterOrEqual,
+    }
+}
+
+/// Asks how the column of the numbers 1, 2 and 0 behind NULL compares with 1, on its right and on its left.
+fn check_with_one(rt: &impl Abort, a: &Vector<'_>) {
+    let one = Vector::new(Form::Constant(Lent::Number(1), a.len()));
+    assert!(rt; a.len() == one.len());
+    for (sign, right, left) in WITH_ONE {
+        let mut to = TruthMask::new();
+        compare(comparison_of(sign), a, &one, &mut to);
+        check_letters(rt, &to, 1, right);
+        compare(comparison_of(sign), &one, a, &mut to);
+        check_letters(rt, &to, 1, left);
+        check_letters(rt, &to, 0, "u");
+        check_letters(rt, &to, 64, "u");
+    }
+    drop(one);
+}
+
 #[test]
 fn each_comparison_with_a_constant_has_its_truths(rt: HostRuntime) -> Result<(), Fail> {
-    // of the numbers 1, 2, 0 in the places 1, 2, 3 with 1 on the right, and then on the left
-    let cases = [
-        (
-            Comparison::Equal,
-            [Truth::True, Truth::False, Truth::False],
-            [Truth::True, Truth::False, Truth::False],
-        ),
-        (
-            Comparison::NotEqual,
-            [Truth::False, Truth::True, Truth::True],
-            [Truth::False, Truth::True, Truth::True],
-        ),
-        (
-            Comparison::Less,
-            [Truth::False, Truth::False, Truth::True],
-            [Truth::False, Truth::True, Truth::False],
-        ),
-        (
-            Comparison::LessOrEqual,
-            [Truth::True, Truth::False, Truth::True],
-            [Truth::True, Truth::True, Truth::False],
-        ),
-        (
-            Comparison::Greater,
-            [Truth::False, Truth::True, Truth::False],
-            [Truth::False, Truth::False, Truth::True],
-        ),
-        (
-            Comparison::GreaterOrEqual,
-            [Truth::True, Truth::True, Truth::False],
-            [Truth::True, Truth::False, Truth::True],
-        ),
-    ];
     let rows = ranked(rt.alloc(), 'n', 65, 0)?;
     assert!(rt; rows.len() <= 1024);
     let a = Vector::gather(rt.alloc(), rows.as_slice(), 0)?;
-    let one = Vector::new(Form::Constant(Lent::Number(1), a.len()));
-    assert!(rt; a.len() == one.len());
-    for (comparison, right, left) in cases {
-        let mut to = TruthMask::new();
-        compare(comparison, &a, &one, &mut to);
-        assert_eq!(rt; [to.get(1), to.get(2), to.get(3)], right, "{comparison:?}");
-        compare(comparison, &one, &a, &mut to);
-        assert_eq!(rt; [to.get(1), to.get(2), to.get(3)], left, "{comparison:?}");
-        assert_eq!(rt; (to.get(0), to.get(64)), (Truth::Unknown, Truth::Unknown));
-    }
+    check_with_one(&rt, &a);
+    drop(a);
     Ok(())
 }
 
 #[test]
 fn is_null_is_known_in_each_place(rt: HostRuntime) -> Result<(), Fail> {
-    for kind in ['n', 'w', 'd', 't'] {
+    for kind in "nwdt".chars() {
         let rows = ranked(rt.alloc(), kind, 65, 0)?;
         assert!(rt; rows.len() <= 1024);
         let a = Vector::gather(rt.alloc(), rows.as_slice(), 0)?;
         let mut to = TruthMask::new();
         is_null(&a, &mut to);
-        assert_eq!(rt;
-            (to.get(0), to.get(1), to.get(64)),
-            (Truth::True, Truth::False, Truth::True),
-            "{kind}"
-        );
+        drop(a);
+        check_letters(&rt, &to, 0, "tf");
+        check_letters(&rt, &to, 63, "ft");
     }
     Ok(())
 }
+
+/// A pattern, a text, and whether it fits.
+const FITS: &[(&str, &str, bool)] = &[
+    ("abc", "abc", true),
+    ("abc", "abcd", false),
+    ("", "", true),
+    ("ab%", "abc", true),
+    ("ab%", "xab", false),
+    ("%bc", "abc", true),
+    ("%bc", "bcx", false),
+    ("%b%", "abc", true),
+    ("%é%", "crémant", true),
+    ("%b%", "acd", false),
+    ("%%", "", true),
+    ("a_c", "aéc", true),
+    ("a_c", "ac", false),
+    ("%a_c", "xxabc", true),
+];
 
 #[test]
 fn patterns_of_each_form_fit_what_they_stand_for(rt: HostRuntime) -> Result<(), Fail> {
-    let cases = [
-        ("abc", "abc", true),
-        ("abc", "abcd", false),
-        ("", "", true),
-        ("ab%", "abc", true),
-        ("ab%", "xab", false),
-        ("%bc", "abc", true),
-        ("%bc", "bcx", false),
-        ("%b%", "abc", true),
-        ("%é%", "crémant", true),
-        ("%b%", "acd", false),
-        ("%%", "", true),
-        ("a_c", "aéc", true),
-        ("a_c", "ac", false),
-        ("%a_c", "xxabc", true),
-    ];
-    for (pattern, text, answer) in cases {
+    for (pattern, text, answer) in FITS {
         let fitting = Pattern::new(rt.alloc(), pattern)?;
-        assert_eq!(rt; fitting.fits(text), answer, "{pattern} and {text}");
+        let fits = fitting.fits(text);
+        drop(fitting);
+        assert_eq!(rt; fits, *answer, "{pattern} and {text}");
     }
     Ok(())
 }
 
-#[test]
-fn what_is_no_text_is_unknown_to_like(rt: HostRuntime) -> Result<(), Fail> {
-    let pattern = Pattern::new(rt.alloc(), "%a%")?;
-    // in the places 0, 1, 2 and 3: NULL, then the ranks 1, 2 and 0
-    let cases = [
-        (
-            't',
-            [Truth::Unknown, Truth::True, Truth::False, Truth::True],
-        ),
-        (
-            'n',
-            [
-                Truth::Unknown,
-                Truth::Unknown,
-                Truth::Unknown,
-                Truth::Unknown,
-            ],
-        ),
-    ];
-    for (kind, truths) in cases {
-        let rows = ranked(rt.alloc(), kind, 65, 0)?;
-        assert!(rt; rows.len() <= 1024);
-        let a = Vector::gather(rt.alloc(), rows.as_slice(), 0)?;
-        let mut to = TruthMask::new();
-        like(&a, &pattern, &mut to);
-        assert_eq!(rt;
-            [to.get(0), to.get(1), to.get(2), to.get(3)],
-            truths,
-            "{kind}"
-        );
-    }
+/// Asks whether a column of a kind is like the pattern, from its first place on.
+fn check_likes(
+    rt: &impl Abort,
+    alloc: Global,
+    pattern: &Pattern,
+    kind: char,
+    letters: &str,
+) -> Result<(), Fail> {
+    let rows = ranked(alloc, kind, 65, 0)?;
+    assert!(rt; rows.len() <= 1024);
+    let a = Vector::gather(alloc, rows.as_slice(), 0)?;
+    let mut to = TruthMask::new();
+    like(&a, pattern, &mut to);
+    drop(a);
+    check_letters(rt, &to, 0, letters);
     Ok(())
+}
+
+/// Texts and numbers: in the places 0, 1, 2 and 3 NULL, and then the ranks 1, 2 and 0.
+fn check_both(rt: &impl Abort, alloc: Global, pattern: &Pattern) -> Result<(), Fail> {
+    check_likes(rt, alloc, pattern, 't', "utft")?;
+    check_likes(rt, alloc, pattern, 'n', "uuuu")
+}
+
+#[test]
+fn a_text_alone_is_like_a_pattern(rt: HostRuntime) -> Result<(), Fail> {
+    let pattern = Pattern::new(rt.alloc(), "%a%")?;
+    let checked = check_both(&rt, rt.alloc(), &pattern);
+    drop(pattern);
+    checked
 }

@@ -30,32 +30,64 @@ fn both_columns(alloc: Global, filter: Option<Cond>) -> Result<Query, AllocError
     ensures filter { IfOk result (λ q. q.filter ≡ filter) }
     ensures items { IfOk result (λ q. q.items ≡ terms.Column 1 ∷ terms.Column 0 ∷ []) }
 {
+    match two_items(alloc) {
+        Ok(items) => Ok(Query {
+            first: Source::Table(0),
+            joins: Seq::new(alloc),
+            filter,
+            shape: Shape::Plain,
+            items,
+            distinct: false,
+        }),
+        Err(fault) => {
+            drop(filter);
+            Err(fault)
+        }
+    }
+}
+
+/// The second column and then the first.
+fn two_items(alloc: Global) -> Result<Seq<Expr>, AllocError>
+    ensures { IfOk result (λ items. items ≡ terms.Column 1 ∷ terms.Column 0 ∷ []) }
+{
     let mut items = Seq::new(alloc);
     items.push(Expr::column(1))?;
     items.push(Expr::column(0))?;
-    Ok(Query {
-        first: Source::Table(0),
-        joins: Seq::new(alloc),
-        filter,
-        shape: Shape::Plain,
-        items,
-        distinct: false,
-    })
+    Ok(items)
 }
 
 /// What both columns show of rows of so many places, where the filter is True.
 fn shown(alloc: Global, filter: Option<Cond>, len: usize) -> Result<Vec<Row>, Fail>
     requires { (row : Values) → IsNarrowIn filter row }
 {
-    let rows = numbered(alloc, len)?;
     let query = both_columns(alloc, filter)?;
-    let plan = Plan::of(alloc, &query)?;
+    let shown = shown_by(alloc, &query, len);
+    drop(query);
+    shown
+}
+
+/// The same by a query that shows both columns.
+fn shown_by(alloc: Global, query: &Query, len: usize) -> Result<Vec<Row>, Fail>
+    requires filter { (row : Values) → IsNarrowIn query.now.filter row }
+    requires items { query.now.items ≡ terms.Column 1 ∷ terms.Column 0 ∷ [] }
+{
+    let rows = numbered(alloc, len)?;
+    let plan = match Plan::of(alloc, query) {
+        Ok(plan) => plan,
+        Err(fault) => {
+            drop(rows);
+            return Err(Fail::from(fault));
+        }
+    };
     let order = Order {
         keys: Seq::new(alloc),
         limit: None,
     };
-    let shown = listed_rows(alloc, &plan, &order, &rows)?;
-    Ok(shown)
+    let shown = listed_rows(alloc, &plan, &order, &rows);
+    drop(plan);
+    drop(order);
+    drop(rows);
+    Ok(shown?)
 }
 
 /// Whether the row at a place is this number, and then NULL.

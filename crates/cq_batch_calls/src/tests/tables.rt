@@ -19,6 +19,11 @@ fn seven(alloc: Global) -> Result<Row, Fail>
 #[test]
 fn a_table_takes_as_many_rows_as_it_may_have(rt: HostRuntime) -> Result<(), Fail> {
     let alloc = rt.alloc();
+    let mut two = Vec::new(alloc);
+    two.push(seven(alloc)?)?;
+    two.push(seven(alloc)?)?;
+    let mut one = Vec::new(alloc);
+    one.push(seven(alloc)?)?;
     let name = Text::new(alloc, "n")?;
     let mut columns = Seq::new(alloc);
     columns.push(ColumnDef {
@@ -27,13 +32,9 @@ fn a_table_takes_as_many_rows_as_it_may_have(rt: HostRuntime) -> Result<(), Fail
         not_null: true,
     })?;
     let mut table = Table::new(alloc, columns, Seq::new(alloc), 2);
-    let mut two = Vec::new(alloc);
-    two.push(seven(alloc)?)?;
-    two.push(seven(alloc)?)?;
-    let mut one = Vec::new(alloc);
-    one.push(seven(alloc)?)?;
     assert!(rt; table.insert(two).is_ok());
     assert!(rt; table.insert(one) == Err(TableFault::Full));
     assert_eq!(rt; table.len(), 2);
+    drop(table);
     Ok(())
 }

@@ -70,6 +70,7 @@ fn a_gathered_column_keeps_the_nulls_at_its_ends(rt: HostRuntime) -> Result<(), 
             "length {len}"
         );
         assert!(rt; is_null(&column.lend(len)), "past the length {len}");
+        drop(column);
     }
     Ok(())
 }
@@ -83,14 +84,16 @@ fn form_of(alloc: Global, first: Value, second: Value) -> Result<char, AllocErro
         &[]
     };
     let column = Vector::gather(alloc, few, 0)?;
-    Ok(match column.form() {
+    let letter = match column.form() {
         Form::Numbers(_) => 'n',
         Form::Wide(_) => 'w',
         Form::Days(_) => 'd',
         Form::Texts(_) => 't',
         Form::Values(_) => 'v',
         Form::Constant(_, _) => 'c',
-    })
+    };
+    drop(column);
+    Ok(letter)
 }
 
 #[test]
@@ -107,15 +110,14 @@ fn numbers_take_the_narrowest_form(rt: HostRuntime) -> Result<(), Fail> {
 #[test]
 fn days_and_texts_have_forms_of_their_own(rt: HostRuntime) -> Result<(), Fail> {
     let alloc = rt.alloc();
-    let day = match Day::new(0) {
-        Some(day) => Value::Day(day),
-        None => Value::Null,
-    };
-    let text = Value::Text(Text::new(alloc, "")?);
-    assert_eq!(rt; form_of(alloc, Value::Null, day)?, 'd');
-    assert_eq!(rt; form_of(alloc, Value::Null, text)?, 't');
-    let text = Value::Text(Text::new(alloc, "1")?);
-    assert_eq!(rt; form_of(alloc, Value::Number(1), text)?, 'v');
+    if let Some(day) = Day::new(0) {
+        let form = form_of(alloc, Value::Null, Value::Day(day))?;
+        assert_eq!(rt; form, 'd');
+    }
+    let text = Text::new(alloc, "")?;
+    assert_eq!(rt; form_of(alloc, Value::Null, Value::Text(text))?, 't');
+    let text = Text::new(alloc, "1")?;
+    assert_eq!(rt; form_of(alloc, Value::Number(1), Value::Text(text))?, 'v');
     Ok(())
 }
 
@@ -137,7 +139,9 @@ fn count_given(alloc: Global, rows: &[Row], selected: usize) -> Result<usize, Al
     selection.set_all(selected);
     let batch = Batch { columns, selection };
     let mut given = Vec::new(alloc);
-    batch.push_rows(alloc, &mut given)?;
+    let pushed = batch.push_rows(alloc, &mut given);
+    drop(batch);
+    pushed?;
     Ok(given.len())
 }
 

@@ -3,4 +3,4 @@ use Rattle.cq_steps.specs.Output.{sentence}
 use Rattle.cq_cli.proofs.running.answer.Goals as goal
 
 pub returns-in-Ok-clause-served : goal.returns-in-Ok-clause-served
-returns-in-Ok-clause-served g c = sentence (search rules) c.in-Ok.statement c.in-Ok.ensures c.step.ensures.step
+returns-in-Ok-clause-served g c = sentence (search rules) c.in-Ok.statement c.in-Ok.ensures c.step-answer.ensures.step

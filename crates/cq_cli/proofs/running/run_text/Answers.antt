@@ -1,5 +1,4 @@
 use Rattle.std.proofs.Common.{rules, arith, refl, subst, ◌∙◌}
-use Rattle.std.proofs.lemmas.Result.{err_from_is_err_and}
 use Rattle.cq_steps.specs.Output.{Serves}
 use Rattle.cq_tokens.specs.Piece.{piece_of}
 use Rattle.cq_cli.proofs.Runs.{cut_off, ends, has_reads, has_room, passes, serves, starts}
@@ -17,18 +16,17 @@ pub answer-outcome-requires-clause-failures : goal.answer-outcome-requires-claus
 answer-outcome-requires-clause-failures g c =
     has_reads _ c.args.limits.max_rows c.args.script.now _ _ _ _ _ _ c.loop-piece.engine c.loop-piece.status (piece_of c.in-Some.piece) _ _ c.in-Some.ensures.steps c.loop-piece.invariant.0 (c.closed_pieces_fit.ensures c.args.script.now) c.requires.sources
 
-pub loop-piece-preserved-then-not-piece : goal.loop-piece-preserved-then-not-piece
-loop-piece-preserved-then-not-piece g c = (
-  rw c.and-status.ensures (serves _ c.args.limits.max_rows c.args.script.now _ _ _ _ _ _ c.loop-piece.engine c.loop-piece.status (piece_of c.in-Some.piece) _ _ c.in-Some.ensures.steps c.loop-piece.invariant.0 _ _ _ c.answer-outcome.new.engine c.in_ok-served.served (search rules)
-      (serves_piece _ _ c.loop-piece.engine (piece_of c.in-Some.piece) c.answer-outcome.new.engine _ _ _ _ c.answer-outcome.result _ (subst (λ source. Serves source c.loop-piece.engine (piece_of c.in-Some.piece) c.answer-outcome.result c.answer-outcome.new.engine) c.loop-piece.invariant.1 c.answer-outcome.ensures.served) c.answer-outcome.ensures.rows c.answer-outcome.ensures.failures c.in_ok-served.ensures)),
+pub loop-piece-preserved-in-Ok : goal.loop-piece-preserved-in-Ok
+loop-piece-preserved-in-Ok g c = (
+  rw c.and-status.ensures (serves _ c.args.limits.max_rows c.args.script.now _ _ _ _ _ _ c.loop-piece.engine c.loop-piece.status (piece_of c.in-Some.piece) _ _ c.in-Some.ensures.steps c.loop-piece.invariant.0 _ _ _ c.answer-outcome.new.engine c.in-Ok.served (search rules)
+      (serves_piece _ _ c.loop-piece.engine (piece_of c.in-Some.piece) c.answer-outcome.new.engine _ _ _ _ c.answer-outcome.result _ (subst (λ source. Serves source c.loop-piece.engine (piece_of c.in-Some.piece) c.answer-outcome.result c.answer-outcome.new.engine) c.loop-piece.invariant.1 c.answer-outcome.ensures.served) c.answer-outcome.ensures.rows c.answer-outcome.ensures.failures c.in-Ok.ensures)),
   c.answer-outcome.ensures.files ∙ c.loop-piece.invariant.1,
 )
 
-pub returns-in_err-served-clause-ran : goal.returns-in_err-served-clause-ran
-returns-in_err-served-clause-ran g c =
-    let p = err_from_is_err_and c.from_residual.result c.from_residual.ensures.1 in
-    rw p.1 (cut_off _ c.args.limits.max_rows c.args.script.now _ _ _ _ _ _ c.loop-piece.engine c.loop-piece.status (piece_of c.in-Some.piece) _ _ c.in-Some.ensures.steps c.loop-piece.invariant.0 _ _ _ c.answer-outcome.new.engine c.in_err-served.field-0.0 _ c.utf8.script (search rules)
-    (serves_piece _ _ c.loop-piece.engine (piece_of c.in-Some.piece) c.answer-outcome.new.engine _ _ _ _ c.answer-outcome.result _ (subst (λ source. Serves source c.loop-piece.engine (piece_of c.in-Some.piece) c.answer-outcome.result c.answer-outcome.new.engine) c.loop-piece.invariant.1 c.answer-outcome.ensures.served) c.answer-outcome.ensures.rows c.answer-outcome.ensures.failures c.in_err-served.ensures))
+pub returns-in-Err-clause-ran : goal.returns-in-Err-clause-ran
+returns-in-Err-clause-ran g c =
+    (cut_off _ c.args.limits.max_rows c.args.script.now _ _ _ _ _ _ c.loop-piece.engine c.loop-piece.status (piece_of c.in-Some.piece) _ _ c.in-Some.ensures.steps c.loop-piece.invariant.0 _ _ _ c.answer-outcome.new.engine c.in-Err.fault _ c.utf8.script (search rules)
+    (serves_piece _ _ c.loop-piece.engine (piece_of c.in-Some.piece) c.answer-outcome.new.engine _ _ _ _ c.answer-outcome.result _ (subst (λ source. Serves source c.loop-piece.engine (piece_of c.in-Some.piece) c.answer-outcome.result c.answer-outcome.new.engine) c.loop-piece.invariant.1 c.answer-outcome.ensures.served) c.answer-outcome.ensures.rows c.answer-outcome.ensures.failures c.in-Err.ensures))
 
 pub loop-piece-preserved : goal.loop-piece-preserved
 loop-piece-preserved g c = (

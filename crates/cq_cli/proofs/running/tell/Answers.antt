@@ -2,4 +2,4 @@ use Rattle.cq_cli.proofs.running.tell.Goals as goal
 
 -- what is shown is what was written
 pub returns : goal.returns
-returns g c = record { printed = c.shown.result; shows = c.shown.ensures; written = c.print.ensures.written; told = c.print.ensures.status }
+returns g c = record { printed = c.shown-printed.result; shows = c.shown-printed.ensures; written = c.print-told.ensures.written; told = c.print-told.ensures.status }

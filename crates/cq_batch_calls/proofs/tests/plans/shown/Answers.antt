@@ -1,7 +1,9 @@
-use Rattle.std.proofs.Common.{◌∙◌}
-use Rattle.cq_batch_calls.proofs.Plans.{columns-within}
+use Rattle.std.proofs.Common.{subst, sym}
+use Rattle.std.specs.Prelude.{Option}
+use Rattle.cq_model.specs.Expr.{Cond}
+use Rattle.cq_model.specs.Width.{IsNarrowIn}
+use Rattle.cq_values.specs.Value.{Row}
 use Rattle.cq_batch_calls.proofs.tests.plans.shown.Goals as goal
 
-pub listed_rows-requires : goal.listed_rows-requires
-listed_rows-requires c =
-    columns-within c.in_ok-plan.plan c.args.filter (c.in_ok-plan.ensures.filter ∙ c.in_ok-query.ensures.filter) (c.in_ok-plan.ensures.items ∙ c.in_ok-query.ensures.items) c.requires _
+pub shown_by-shown-requires-clause-filter : goal.shown_by-shown-requires-clause-filter
+shown_by-shown-requires-clause-filter c = subst (λ (f : Option Cond). (row : Row) → IsNarrowIn f row) (sym c.in_ok-query.ensures.filter) c.requires
