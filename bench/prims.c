@@ -1,4 +1,5 @@
-// The C twin of prims: the same conditions on the same values, to two planes.
+// The C twin of prims: the same conditions on the same values, to two planes. HIDDEN keeps the compilers from building
+// loops for the one constant that is asked for here, and from leaving out planes that nobody reads.
 #define _GNU_SOURCE
 #include <stdint.h>
 #include <stdio.h>
@@ -41,35 +42,39 @@ static u64 ones(size_t n){return n<64?(1ull<<n)-1:~0ull;}
 K void known(const u64*a,const u64*nulls,size_t n,u64*restrict t,u64*restrict f){for(int k=0;k<16;k++){t[k]=a[k]&~nulls[k];f[k]=ones(n<64*k?0:n-64*k)&~(a[k]|nulls[k]);}}
 K void either(const u64*a,const u64*b,u64*restrict o){for(int k=0;k<16;k++)o[k]=a[k]|b[k];}
 static str* texts(const i64*x,size_t n){str*v=malloc(n*sizeof(str));for(size_t i=0;i<n;i++){char b[40];int k=sprintf(b,"name %lld",(long long)x[i]);char*p=malloc(k);memcpy(p,b,k);v[i]=(str){p,k};}return v;}
-#define T1(e) (e,known(P,N,1024,T,F),T[3])
-#define T2(e) (e,either(N,M,Q),known(P,Q,1024,T,F),T[3])
+#define HIDDEN(x) asm volatile("":"+r"(x)::"memory")
+#define T1(e) (e,known(P,N,n,T,F),T[3])
+#define T2(e) (e,either(N,M,Q),known(P,Q,n,T,F),T[3])
 int main(void){
+ u64*planes[]={P,N,M,Q,T,F};for(int i=0;i<6;i++)HIDDEN(planes[i]);
+ i64 limit=500;int32_t day=500;i128 wide=(i128)500<<60;size_t n=1024;HIDDEN(limit);HIDDEN(day);HIDDEN(n);asm volatile("":"+m"(wide)::"memory");
  i64*a=numbers(1024,88172645463325252ull,1000),*b=numbers(1024,1234567,1000);
  int r=2000;size_t m=r*1024ull;
- BENCH("compare_i64_lt_constant",m,EACH(r,T1(lt_c(a,1024,500,P))));
- BENCH("compare_i64_le_constant",m,EACH(r,T1(le_c(a,1024,500,P))));
- BENCH("compare_i64_gt_constant",m,EACH(r,T1(gt_c(a,1024,500,P))));
- BENCH("compare_i64_ge_constant",m,EACH(r,T1(ge_c(a,1024,500,P))));
- BENCH("compare_i64_eq_constant",m,EACH(r,T1(eq_c(a,1024,500,P))));
- BENCH("compare_i64_ne_constant",m,EACH(r,T1(ne_c(a,1024,500,P))));
- BENCH("compare_i64_lt",m,EACH(r,T2(lt_v(a,1024,b,P))));
- BENCH("compare_i64_le",m,EACH(r,T2(le_v(a,1024,b,P))));
- BENCH("compare_i64_eq",m,EACH(r,T2(eq_v(a,1024,b,P))));
- BENCH("is_null",m,EACH(r,(known(N,Q,1024,T,F),T[3])));
+ BENCH("compare_i64_lt_constant",m,EACH(r,T1(lt_c(a,n,limit,P))));
+ BENCH("compare_i64_le_constant",m,EACH(r,T1(le_c(a,n,limit,P))));
+ BENCH("compare_i64_gt_constant",m,EACH(r,T1(gt_c(a,n,limit,P))));
+ BENCH("compare_i64_ge_constant",m,EACH(r,T1(ge_c(a,n,limit,P))));
+ BENCH("compare_i64_eq_constant",m,EACH(r,T1(eq_c(a,n,limit,P))));
+ BENCH("compare_i64_ne_constant",m,EACH(r,T1(ne_c(a,n,limit,P))));
+ BENCH("compare_i64_lt",m,EACH(r,T2(lt_v(a,n,b,P))));
+ BENCH("compare_i64_le",m,EACH(r,T2(le_v(a,n,b,P))));
+ BENCH("compare_i64_eq",m,EACH(r,T2(eq_v(a,n,b,P))));
+ BENCH("is_null",m,EACH(r,(known(N,Q,n,T,F),T[3])));
  int32_t*c=malloc(1024*4),*d=malloc(1024*4);for(int i=0;i<1024;i++){c[i]=a[i];d[i]=b[i];}
- BENCH("compare_days_lt_constant",m,EACH(r,T1(lt32_c(c,1024,500,P))));
- BENCH("compare_days_lt",m,EACH(r,T2(lt32_v(c,1024,d,P))));
+ BENCH("compare_days_lt_constant",m,EACH(r,T1(lt32_c(c,n,day,P))));
+ BENCH("compare_days_lt",m,EACH(r,T2(lt32_v(c,n,d,P))));
  i128*x=malloc(1024*16),*y=malloc(1024*16);for(int i=0;i<1024;i++){x[i]=(i128)a[i]<<60;y[i]=(i128)b[i]<<60;}
  r=500;m=r*1024ull;
- BENCH("compare_i128_lt_constant",m,EACH(r,T1(ltw_c(x,1024,(i128)500<<60,P))));
- BENCH("compare_i128_lt",m,EACH(r,T2(ltw_v(x,1024,y,P))));
- BENCH("compare_i128_eq",m,EACH(r,T2(eqw_v(x,1024,y,P))));
+ BENCH("compare_i128_lt_constant",m,EACH(r,T1(ltw_c(x,n,wide,P))));
+ BENCH("compare_i128_lt",m,EACH(r,T2(ltw_v(x,n,y,P))));
+ BENCH("compare_i128_eq",m,EACH(r,T2(eqw_v(x,n,y,P))));
  str*s=texts(a,1024),*t=texts(b,1024);str k={"name 500",8},in={"e 5",3},pre={"name 5",6};
+ HIDDEN(k.n);HIDDEN(k.p);HIDDEN(in.n);HIDDEN(in.p);HIDDEN(pre.n);HIDDEN(pre.p);
  r=200;m=r*1024ull;
- BENCH("compare_text_lt_constant",m,EACH(r,T1(ltt_c(s,1024,k,P))));
- BENCH("compare_text_eq_constant",m,EACH(r,T1(eqt_c(s,1024,k,P))));
- BENCH("compare_text_lt",m,EACH(r,T2(ltt_v(s,1024,t,P))));
- BENCH("compare_text_eq",m,EACH(r,T2(eqt_v(s,1024,t,P))));
- BENCH("like_infix",m,EACH(r,T1(like_in(s,1024,in,P))));
- BENCH("like_prefix",m,EACH(r,T1(like_pre(s,1024,pre,P))));
+ BENCH("compare_text_lt_constant",m,EACH(r,T1(ltt_c(s,n,k,P))));
+ BENCH("compare_text_eq_constant",m,EACH(r,T1(eqt_c(s,n,k,P))));
+ BENCH("compare_text_lt",m,EACH(r,T2(ltt_v(s,n,t,P))));
+ BENCH("compare_text_eq",m,EACH(r,T2(eqt_v(s,n,t,P))));
+ BENCH("like_infix",m,EACH(r,T1(like_in(s,n,in,P))));
+ BENCH("like_prefix",m,EACH(r,T1(like_pre(s,n,pre,P))));
 }

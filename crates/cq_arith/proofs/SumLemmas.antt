@@ -1,5 +1,6 @@
 -- Sums of numbers are sums of the values that they are kept for.
-use Rattle.std.proofs.Common.{◌≡◌, ℕ, ℤ, pos, ◌+ℤ◌, Bool, true, false, List, [], ◌∷◌, map, fold, get_or, zero, suc, refl, ap, ◌∙◌}
+use Rattle.std.proofs.Common.{◌≡◌, ℕ, ℤ, pos, ◌+ℤ◌, ◌*ℤ◌, ◌^◌, arith, Bool, true, false, List, [], ◌∷◌, map, fold, get_or, zero, suc, refl, ap, ◌∙◌}
+use Rattle.std.proofs.lemmas.Int.{ints}
 use lib.Lanes.{zip2}
 use Rattle.cq_values.specs.declared.value.Value.{Value}
 use Rattle.cq_values.specs.declared.value.Value.TheVariants.{Null}
@@ -25,3 +26,7 @@ same_sums numbers values at start (p ∷ ps) =
 -- the sum of a column's numbers is that of its values
 pub sum_of_numbers : (values : List Value) (ns : List ℤ) (fs : List Bool) → values ≡ zip2 number_unless ns fs → (places : List ℕ) → sum_at (map number values) places ≡ sum_of values places
 sum_of_numbers values ns fs whole places = rw whole (same_sums (map number (zip2 number_unless ns fs)) (zip2 number_unless ns fs) (addend_at ns fs) (pos 0) places)
+
+-- two numbers in halves are added by their halves
+pub added_halves : (low high lower upper m n : ℤ) → low +ℤ high *ℤ pos (2 ^ 64) ≡ m → lower +ℤ upper *ℤ pos (2 ^ 64) ≡ n → low +ℤ lower +ℤ (high +ℤ upper) *ℤ pos (2 ^ 64) ≡ m +ℤ n
+added_halves low high lower upper m n p q = rw (← p, ← q) (omega (arith, ints))

@@ -1,5 +1,5 @@
 //! Exact sums of the numbers at selected places.
-ghost use Rattle.std.specs.Prelude.{length, nat_abs, slice_index, ℕ, ◌*◌, ◌+ℤ◌, ◌<◌, ◌^◌, ◌≡◌, ◌≤◌};
+ghost use Rattle.std.specs.Prelude.{length, nat_abs, pos, slice_index, ℕ, ◌*ℤ◌, ◌*◌, ◌+ℤ◌, ◌<◌, ◌^◌, ◌≡◌, ◌≤◌};
 ghost use Rattle.cq_arith.specs.Sums.{sum_at, sum_of};
 
 use cq_masks::Selection;
@@ -14,6 +14,11 @@ pub fn sum_into(a: &Vector<'_>, places: &Selection, total: &mut Total)
 {
     match a.form() {
         Form::Numbers(numbers) => total.add(sum_places(numbers.values(), places.places())),
+        Form::Wide(numbers) => {
+            let (low, high) = sum_halves(numbers.values(), places.places());
+            total.add(low);
+            total.add_times(high, 1 << 64);
+        }
         _ => sum_each(a, places.places(), total),
     }
 }
@@ -30,6 +35,32 @@ fn sum_places(values: &[i64], places: &[u16]) -> i128
         sum += i128::from(values[places[i] as usize]);
     }
     sum
+}
+
+/// The sums of the lower and of the upper halves of at most 1,024 numbers: 128 bits are enough for each.
+fn sum_halves(values: &[i128], places: &[u16]) -> (i128, i128)
+    requires few { length places.now ≤ 1024 }
+    requires there { (k : ℕ) → k < length places.now → slice_index places.now k < length values.now }
+    ensures sum { result.0 +ℤ result.1 *ℤ pos (2 ^ 64) ≡ sum_at values.now places.now }
+    ensures low { nat_abs result.0 ≤ 2 ^ 74 }
+    ensures high { nat_abs result.1 ≤ 2 ^ 73 }
+{
+    let mut low = 0;
+    let mut high = 0;
+    for i in 0..places.len() {
+        let (lower, upper) = halves(values[places[i] as usize]);
+        low += i128::from(lower);
+        high += i128::from(upper);
+    }
+    (low, high)
+}
+
+/// The lower 64 bits of a number, and what it has above them.
+fn halves(n: i128) -> (u64, i64)
+    ensures { pos result.0 +ℤ result.1 *ℤ pos (2 ^ 64) ≡ n }
+{
+    let upper = n >> 64;
+    ((n - upper * 18446744073709551616) as u64, upper as i64)
 }
 
 /// One place after the other, in whatever form they are.

@@ -151,36 +151,46 @@ fn push_bit(words: &mut [u64; 16], place: usize, flag: bool)
     words[place / 64] |= 1 << (place % 64);
 }
 
+// Words are made in an array of their own and copied at the end: then the compiler makes several of them at once.
+
 fn and_words(a: &[u64; 16], b: &[u64; 16], to: &mut [u64; 16])
     ensures { Makes both a.now b.now to.new }
 {
+    let mut words = [0; 16];
     for k in 0..16 {
-        to[k] = a[k] & b[k];
+        words[k] = a[k] & b[k];
     }
+    *to = words;
 }
 
 fn or_words(a: &[u64; 16], b: &[u64; 16], to: &mut [u64; 16])
     ensures { Makes either a.now b.now to.new }
 {
+    let mut words = [0; 16];
     for k in 0..16 {
-        to[k] = a[k] | b[k];
+        words[k] = a[k] | b[k];
     }
+    *to = words;
 }
 
 fn and_not_words(a: &[u64; 16], b: &[u64; 16], to: &mut [u64; 16])
     ensures { Makes and_not a.now b.now to.new }
 {
+    let mut words = [0; 16];
     for k in 0..16 {
-        to[k] = a[k] & !b[k];
+        words[k] = a[k] & !b[k];
     }
+    *to = words;
 }
 
 fn neither_words(a: &[u64; 16], b: &[u64; 16], len: usize, to: &mut [u64; 16])
     ensures { MakesBelow len neither a.now b.now to.new }
 {
+    let mut words = [0; 16];
     for k in 0..16 {
-        to[k] = ones(len.saturating_sub(64 * k)) & !(a[k] | b[k]);
+        words[k] = ones(len.saturating_sub(64 * k)) & !(a[k] | b[k]);
     }
+    *to = words;
 }
 
 /// The first n bits, or all.

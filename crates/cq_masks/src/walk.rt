@@ -32,7 +32,7 @@ pub(crate) fn walk_word(word: u64, base: usize, to: &mut [u16], start: usize) ->
     let mut rest = word;
     let mut n = start;
     while rest != 0 {
-        to[n] = (base + rest.trailing_zeros() as usize) as u16;
+        to[n] = base as u16 + rest.trailing_zeros() as u16;
         n += 1;
         rest &= rest - 1;
     }

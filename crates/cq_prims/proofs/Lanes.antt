@@ -16,6 +16,7 @@ use Rattle.std.proofs.lemmas.List.{length-drop, length-map, map-append, take-rep
 use Rattle.std.proofs.lemmas.List.FromFn.{length-map-range_with_len, get_or-map-range_with_len}
 use Rattle.std.proofs.lemmas.Simd.{length-chunk, get_or-chunk, length-zip2, get_or-zip2, mask_l-lt, mask_l-mod, tops_compared}
 use Rattle.cq_masks.proofs.BlockLemmas.{or-mask_l}
+use Rattle.cq_prims.proofs.Shown.{map-replicate}
 use Rattle.cq_masks.proofs.WalkLemmas.{range_with_len-add}
 
 -- the bits of signed numbers are read as those numbers
@@ -34,55 +35,55 @@ fit_part w a n xs h k = by_order (cases_lt k n)
     by_order (inl lt) = subst (SFits w) (sym (get_or-chunk a n xs k (pos 0) lt)) (h (a + k))
     by_order (inr le) = subst (SFits w) (sym (get_or-eq_default (chunk a n xs) (pos 0) (omega (arith, length-take n (drop a xs))))) (zero_fits w)
 
--- sixteen numbers of a slice from a place on
-pub signed_column : (w : Width) (xs : List ℤ) (from : ℕ) → ((k : ℕ) → SFits w (get_or xs k (pos 0))) → map (to_z w) (map (of_z w) (chunk 0 16 (take (length xs - from) (drop from xs)))) ≡ chunk from 16 xs
-signed_column w xs from h =
-    let whole : take (length xs - from) (drop from xs) ≡ drop from xs = ap (λ n. take n (drop from xs)) (sym (length-drop from xs)) ∙ take-length (drop from xs) in
-    ap (λ l. map (to_z w) (map (of_z w) (take 16 l))) whole ∙ signed w (chunk from 16 xs) (fit_part w from 16 xs h)
+-- n numbers of a slice from a place on
+pub signed_column : (w : Width) (n : ℕ) (xs : List ℤ) (from : ℕ) → ((k : ℕ) → SFits w (get_or xs k (pos 0))) → map (to_z w) (map (of_z w) (chunk 0 n (take (length xs - from) (drop from xs)))) ≡ chunk from n xs
+signed_column w n xs from h =
+    let whole : take (length xs - from) (drop from xs) ≡ drop from xs = ap (λ m. take m (drop from xs)) (sym (length-drop from xs)) ∙ take-length (drop from xs) in
+    ap (λ l. map (to_z w) (map (of_z w) (take n l))) whole ∙ signed w (chunk from n xs) (fit_part w from n xs h)
 
--- a number at each of so many places, read sixteen at a time
-pub signed_splat : (w : Width) (v : ℤ) (from len : ℕ) → SFits w v → from + 16 ≤ len → map (to_z w) (replicate 16 (of_z w v)) ≡ chunk from 16 (replicate len v)
-signed_splat w v from len fits room =
-    ap (λ z. replicate 16 z) (to_z-of_z fits) ∙ sym (ap (take 16) (drop-replicate from len v) ∙ take-replicate 16 (len - from) v (omega arith))
+-- a number at each of so many places, read n at a time
+pub signed_splat : (w : Width) (n : ℕ) (v : ℤ) (from len : ℕ) → SFits w v → from + n ≤ len → map (to_z w) (replicate n (of_z w v)) ≡ chunk from n (replicate len v)
+signed_splat w n v from len fits room =
+    map-replicate (to_z w) n (of_z w v) ∙ ap (λ z. replicate n z) (to_z-of_z fits) ∙ sym (ap (take n) (drop-replicate from len v) ∙ take-replicate n (len - from) v (omega arith))
 
 module _ (w : Width) (t : ℕ → ℕ → Bool) (s : ℤ → ℤ → Bool) (agree : (x y : ℤ) → SFits w x → SFits w y → t (of_z w x) (of_z w y) ≡ s x y) where
-  module _ (xs ys : List ℤ) (from : ℕ) (room : from + 16 ≤ length xs) (same : length xs ≡ length ys) (f : (k : ℕ) → SFits w (get_or xs k (pos 0))) (g : (k : ℕ) → SFits w (get_or ys k (pos 0))) where
+  module _ (n : ℕ) (few : n ≤ 64) (xs ys : List ℤ) (from : ℕ) (room : from + n ≤ length xs) (same : length xs ≡ length ys) (f : (k : ℕ) → SFits w (get_or xs k (pos 0))) (g : (k : ℕ) → SFits w (get_or ys k (pos 0))) where
     abbrev left : List ℕ
-    left = map (of_z w) (chunk from 16 xs)
+    left = map (of_z w) (chunk from n xs)
 
     abbrev right : List ℕ
-    right = map (of_z w) (chunk from 16 ys)
+    right = map (of_z w) (chunk from n ys)
 
     abbrev pub answer : ℕ → Bool
     answer i = s (get_or xs i (pos 0)) (get_or ys i (pos 0))
 
-    long_left : length left ≡ 16
-    long_left = length-map (chunk from 16 xs) (of_z w) ∙ length-chunk from 16 xs room
+    long_left : length left ≡ n
+    long_left = length-map (chunk from n xs) (of_z w) ∙ length-chunk from n xs room
 
-    long_right : length right ≡ 16
-    long_right = length-map (chunk from 16 ys) (of_z w) ∙ length-chunk from 16 ys (omega (arith, same))
+    long_right : length right ≡ n
+    long_right = length-map (chunk from n ys) (of_z w) ∙ length-chunk from n ys (omega (arith, same))
 
-    long : length (zip2 t left right) ≡ 16
+    long : length (zip2 t left right) ≡ n
     long = length-zip2 t left right (long_left ∙ sym long_right) ∙ long_left
 
-    read : (zs : List ℤ) (i : ℕ) → i < 16 → get_or (map (of_z w) (chunk from 16 zs)) i (of_z w (pos 0)) ≡ of_z w (get_or zs (from + i) (pos 0))
-    read zs i lt = get_or-map (of_z w) (chunk from 16 zs) i (pos 0) ∙ ap (of_z w) (get_or-chunk from 16 zs i (pos 0) lt)
+    read : (zs : List ℤ) (i : ℕ) → i < n → get_or (map (of_z w) (chunk from n zs)) i (of_z w (pos 0)) ≡ of_z w (get_or zs (from + i) (pos 0))
+    read zs i lt = get_or-map (of_z w) (chunk from n zs) i (pos 0) ∙ ap (of_z w) (get_or-chunk from n zs i (pos 0) lt)
 
-    answers : zip2 t left right ≡ map answer (range_with_len from 16)
-    answers = ext_get_or false _ _ (long ∙ sym (length-map-range_with_len answer from 16)) (λ i lt.
-        let within : i < 16 = omega (arith, long) in
+    answers : zip2 t left right ≡ map answer (range_with_len from n)
+    answers = ext_get_or false _ _ (long ∙ sym (length-map-range_with_len answer from n)) (λ i lt.
+        let within : i < n = omega (arith, long) in
         get_or-zip2 t left right i (of_z w (pos 0)) (of_z w (pos 0)) false (omega (arith, long_left)) (omega (arith, long_right))
         ∙ ap₂ t (read xs i within) (read ys i within)
         ∙ agree _ _ (f (from + i)) (g (from + i))
-        ∙ sym (get_or-map-range_with_len answer from 16 i (from + i) false within refl))
+        ∙ sym (get_or-map-range_with_len answer from n i (from + i) false within refl))
 
-    -- the bits of a comparison of sixteen lanes are the answers of its places
-    pub lane_answers : mask_l (map (top (hbits w)) (zip2 (λ a b. cond (t a b) (2 ^ bits w - 1) 0) left right)) % 2 ^ 64 ≡ mask_l (map answer (range_with_len from 16))
-    lane_answers = ap (λ ms. mask_l ms % 2 ^ 64) (tops_compared w t left right) ∙ mask_l-mod (zip2 t left right) 64 (omega (arith, long)) ∙ ap mask_l answers
+    -- the bits of a comparison of n lanes are the answers of its places
+    pub lane_answers : mask_l (map (top (hbits w)) (zip2 (λ a b. cond (t a b) (2 ^ bits w - 1) 0) left right)) % 2 ^ 64 ≡ mask_l (map answer (range_with_len from n))
+    lane_answers = ap (λ ms. mask_l ms % 2 ^ 64) (tops_compared w t left right) ∙ mask_l-mod (zip2 t left right) 64 (omega (arith, long, few)) ∙ ap mask_l answers
 
--- sixteen answers are below 2^16
-pub sixteen_small : (h : ℕ → Bool) (from : ℕ) → mask_l (map h (range_with_len from 16)) < 2 ^ 16
-sixteen_small h from = subst (λ (n : ℕ). mask_l (map h (range_with_len from 16)) < 2 ^ n) (length-map-range_with_len h from 16) (mask_l-lt (map h (range_with_len from 16)))
+-- n answers are below 2^n
+pub answers_small : (h : ℕ → Bool) (from n : ℕ) → mask_l (map h (range_with_len from n)) < 2 ^ n
+answers_small h from n = subst (λ (m : ℕ). mask_l (map h (range_with_len from n)) < 2 ^ m) (length-map-range_with_len h from n) (mask_l-lt (map h (range_with_len from n)))
 
 -- equal numbers have the same bits, and no others
 pub same_bits : (w : Width) (x y : ℤ) → SFits w x → SFits w y → eqb (of_z w x) (of_z w y) ≡ int_eq x y

@@ -3,3 +3,4 @@ pub mod Compared
 pub mod Shown
 pub mod Fitting
 pub mod Liked
+pub mod NullLemmas

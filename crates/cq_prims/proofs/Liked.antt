@@ -1,14 +1,17 @@
 -- LIKE over lists of values.
-use Rattle.std.proofs.Common.{◌≡◌, ℕ, Bool, true, false, List, [], ◌∷◌, map, length, get_or, refl, ap, ap₂, ◌∙◌}
+use Rattle.std.proofs.Common.{◌≡◌, ℕ, Bool, true, false, List, [], ◌∷◌, map, length, get_or, refl, sym, ap, ap₂, ◌∙◌}
 use Rattle.std.specs.List.{range_with_len}
 use Rattle.std.proofs.lemmas.List.FromFn.{length-map-range_with_len}
 use Rattle.std.proofs.lemmas.Simd.{zip2-map}
 use Rattle.std.specs.Str.{chars}
 use lib.Lanes.{zip2}
+use lib.ListN.{get_or-map}
 use Rattle.cq_values.specs.declared.value.Value.{Value}
 use Rattle.cq_values.specs.declared.value.Value.TheVariants.{Null, Number, Text, Day}
 use Rattle.cq_values.specs.Truth.{truth_of, is_true}
-use Rattle.cq_model.specs.Condition.{liked}
+use Rattle.cq_model.specs.Condition.{is_null, liked}
+use Rattle.cq_values.specs.Order.{bytes}
+use Rattle.cq_prims.specs.Kinds.{is_of_kind, ShowsTexts}
 use Rattle.cq_model.specs.Like.{like}
 use Rattle.cq_masks.specs.TruthMask.{known}
 use Rattle.cq_prims.specs.Patterns.{is_no_text}
@@ -39,4 +42,25 @@ by_liked pattern xs flags is =
     ∙ ap (λ (n : ℕ). zip2 known (map answer (range_with_len 0 n)) (map none places)) (length-map-range_with_len none 0 (length xs))
     ∙ zip2-map known answer none places
     ∙ map-same (λ i. known (answer i) (none i)) (λ i. liked (get_or xs i Null) pattern) (λ i. liked_known pattern (get_or xs i Null)) places
+    ∙ map-all_places (λ v. liked v pattern) Null xs (length xs) refl
+
+liked_text : (pattern : List ℕ) (v : Value) → is_of_kind 2 v ≡ true → known (like (chars pattern) (chars (bytes v))) (is_null v) ≡ liked v pattern
+liked_text pattern (Text t) kind = refl
+liked_text pattern (Number n) kind = absurd (cc kind)
+liked_text pattern (Day d) kind = absurd (cc kind)
+liked_text pattern Null kind = refl
+
+-- the answers for texts, not known where NULL stands, are the truths of LIKE
+pub by_liked_texts : (pattern : List ℕ) (xs : List Value) (texts : List (List ℕ)) (nulls : List Bool) → ShowsTexts texts xs → nulls ≡ map is_null xs
+    → zip2 known (map (λ i. like (chars pattern) (chars (get_or texts i []))) (range_with_len 0 (length nulls))) nulls ≡ map (λ v. liked v pattern) xs
+by_liked_texts pattern xs texts nulls shows is =
+    let answer = λ (i : ℕ). like (chars pattern) (chars (get_or texts i [])) in
+    let null = λ (i : ℕ). is_null (get_or xs i Null) in
+    let places = range_with_len 0 (length xs) in
+    let text_at : (i : ℕ) → get_or texts i [] ≡ bytes (get_or xs i Null) = λ i. ap (λ (l : List (List ℕ)). get_or l i []) shows.0 ∙ get_or-map bytes xs i Null in
+    let flags : nulls ≡ map null places = is ∙ sym (map-all_places is_null Null xs (length xs) refl) in
+    ap (λ l. zip2 known (map answer (range_with_len 0 (length l))) l) flags
+    ∙ ap (λ (n : ℕ). zip2 known (map answer (range_with_len 0 n)) (map null places)) (length-map-range_with_len null 0 (length xs))
+    ∙ zip2-map known answer null places
+    ∙ map-same (λ i. known (answer i) (null i)) (λ i. liked (get_or xs i Null) pattern) (λ i. ap (λ (t : List ℕ). known (like (chars pattern) (chars t)) (null i)) (text_at i) ∙ liked_text pattern (get_or xs i Null) (shows.1 i)) places
     ∙ map-all_places (λ v. liked v pattern) Null xs (length xs) refl

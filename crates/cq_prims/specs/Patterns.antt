@@ -24,10 +24,14 @@ pub record IsRunOf (run pattern : List ℕ) : Type 0 where
   pub rest : List ℕ
   pub there : pattern ≡ front ++ (run ++ rest)
 
+-- the pattern is this front, whose signs stand for themselves, and a '%'
+abbrev pub IsFrontOf : List ℕ → List ℕ → Type 0
+IsFrontOf front pattern = (pattern ≡ front ++ percent ∷ []) × (is_ordinary (chars front) ≡ true)
+
 -- what the form says of the bytes of its pattern
 abbrev pub IsFormOf : PatternForm → List ℕ → Type 0
 IsFormOf (Whole text) pattern = (pattern ≡ text) × (is_ordinary (chars text) ≡ true)
-IsFormOf (Prefix front) pattern = (pattern ≡ front ++ percent ∷ []) × (is_ordinary (chars front) ≡ true)
+IsFormOf (Prefix front) pattern = IsFrontOf front pattern
 IsFormOf (Suffix end) pattern = (pattern ≡ percent ∷ end) × (is_ordinary (chars end) ≡ true)
 IsFormOf (Infix finder) pattern = (pattern ≡ percent ∷ (finder ++ percent ∷ [])) × (is_ordinary (chars finder) ≡ true)
 IsFormOf (Having finder) pattern = IsRunOf finder pattern

@@ -1,8 +1,8 @@
 //! Whether a number is less than another.
 ghost use Rattle.std.specs.Prelude.{◌≡◌, int_lt, length, pos, slice_index_or};
 
+use crate::fours::{FourTest, sixteen_fours};
 use crate::number_side::NumberSide;
-use crate::sixteen::{SixteenTest, four_sixteens};
 use cq_masks::{PlaceTest, WordTest};
 use std::simd::prelude::*;
 
@@ -24,17 +24,14 @@ impl<'a> PlaceTest for LessNumbers<'a> {
     }
 }
 
-impl<'a> SixteenTest for LessNumbers<'a> {
-    fn sixteen(&self, from: usize) -> u64 {
-        self.a
-            .sixteen(from)
-            .simd_lt(self.b.sixteen(from))
-            .to_bitmask()
+impl<'a> FourTest for LessNumbers<'a> {
+    fn four(&self, from: usize) -> u64 {
+        self.a.four(from).simd_lt(self.b.four(from)).to_bitmask()
     }
 }
 
 impl<'a> WordTest for LessNumbers<'a> {
     fn word(&self, from: usize) -> u64 {
-        four_sixteens(self, from)
+        sixteen_fours(self, from)
     }
 }

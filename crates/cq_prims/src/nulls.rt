@@ -3,7 +3,8 @@ ghost use Rattle.cq_masks.specs.Plane.{either};
 ghost use Rattle.cq_model.specs.Condition.{is_null};
 ghost use Rattle.cq_values.specs.Lent.{owned};
 ghost use Rattle.cq_values.specs.Truth.{truth_of};
-ghost use Rattle.std.specs.Prelude.{◌≡◌, length, map};
+ghost use Rattle.std.specs.Bool.{OnTrue};
+ghost use Rattle.std.specs.Prelude.{◌≡◌, IfSome, false, length, map, replicate};
 ghost use Rattle.std.specs.Simd.Lanes.{zip2};
 
 use crate::null_test::NullTest;
@@ -15,7 +16,10 @@ use cq_vectors::{Form, Vector};
 pub fn is_null(a: &Vector<'_>, to: &mut TruthMask)
     ensures { to.new ≡ map (λ v. truth_of (is_null v)) a.now }
 {
-    to.set_tested(&nulls_of(a));
+    match column_nulls(a) {
+        Some(nulls) => to.set_tested(nulls),
+        None => to.set_tested(&nulls_of(a)),
+    }
 }
 
 /// Where one of two values is NULL.
@@ -25,8 +29,36 @@ pub(crate) fn nulls_of_both(a: &Vector<'_>, b: &Vector<'_>) -> Plane
     ensures long { length result ≡ length a.now }
 {
     let mut nulls = Plane::new();
-    nulls.set_or(&nulls_of(a), &nulls_of(b));
+    match (column_nulls(a), column_nulls(b)) {
+        (Some(m), Some(n)) => nulls.set_or(m, n),
+        (Some(m), None) if is_known_constant(b) => nulls.set_copy(m),
+        (None, Some(n)) if is_known_constant(a) => nulls.set_copy(n),
+        _ => nulls.set_or(&nulls_of(a), &nulls_of(b)),
+    }
     nulls
+}
+
+/// The NULLs of a column that keeps them as flags.
+fn column_nulls<'b>(vector: &'b Vector<'_>) -> Option<&'b Plane>
+    ensures { IfSome result (λ nulls. nulls.now ≡ map is_null vector.now) }
+{
+    match vector.form() {
+        Form::Numbers(numbers) => Some(numbers.nulls()),
+        Form::Wide(numbers) => Some(numbers.nulls()),
+        Form::Days(days) => Some(days.nulls()),
+        Form::Texts(texts) => Some(texts.nulls()),
+        _ => None,
+    }
+}
+
+/// Whether each place has one value, which is not NULL.
+fn is_known_constant(vector: &Vector<'_>) -> bool
+    ensures { OnTrue result (map is_null vector.now ≡ replicate (length vector.now) false) }
+{
+    match vector.form() {
+        Form::Constant(value, _) => !is_null_lent(value),
+        _ => false,
+    }
 }
 
 pub(crate) fn nulls_of(a: &Vector<'_>) -> Plane

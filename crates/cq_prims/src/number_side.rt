@@ -99,4 +99,16 @@ impl<'a> NumberSide<'a> {
             NumberForm::Constant(value, _) => i64x16::splat(*value),
         }
     }
+
+    /// The numbers of four places.
+    pub(crate) fn four(&self, from: usize) -> i64x4
+        requires { from + 4 ≤ length self.now }
+        ensures value { result ≡ take 4 (drop from self.now) }
+        ensures fit { (k : ℕ) → FitsSigned w64 (slice_index_or self.now k (pos 0)) }
+    {
+        match &self.form {
+            NumberForm::Column(values) => i64x4::from_slice(&values[from..]),
+            NumberForm::Constant(value, _) => i64x4::splat(*value),
+        }
+    }
 }

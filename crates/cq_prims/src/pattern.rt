@@ -1,7 +1,7 @@
 //! Patterns of LIKE, read once for many texts.
 ghost use Rattle.cq_model.specs.Like.{like, percent};
-ghost use Rattle.cq_prims.specs.Patterns.{IsFormOf, is_ordinary};
-ghost use Rattle.std.specs.Prelude.{◌∷◌, ◌≡◌, IfOk};
+ghost use Rattle.cq_prims.specs.Patterns.{IsFormOf, IsFrontOf, is_ordinary};
+ghost use Rattle.std.specs.Prelude.{◌∷◌, ◌≡◌, IfOk, IfSome};
 ghost use Rattle.std.specs.Str.{chars};
 
 use cq_values::Text;
@@ -62,6 +62,16 @@ impl Pattern {
                 run.find(text.as_bytes()).is_some() && cq_eval::like(pattern, text)
             }
             PatternForm::Other => cq_eval::like(pattern, text),
+        }
+    }
+
+    /// What a text has to begin with, where that is all that the pattern asks.
+    pub(crate) fn front(&self) -> Option<&str>
+        ensures { IfSome result (λ front. IsFrontOf front.now self.now) }
+    {
+        match &self.form {
+            PatternForm::Prefix(front) => Some(front.as_str()),
+            _ => None,
         }
     }
 }

@@ -2,7 +2,9 @@
 ghost use Rattle.std.specs.Prelude.{◌<◌, ◌≡◌, IfSome, [], length, map, replicate, slice_index_or};
 ghost use Rattle.cq_values.specs.Lent.{owned};
 ghost use Rattle.cq_prims.specs.Kinds.{ShowsTexts};
+ghost use Rattle.cq_vectors.specs.Columns.{texts_of};
 
+use crate::plain_texts::{OneText, TextColumn};
 use cq_values::Lent;
 use cq_vectors::{Form, Vector};
 use std::marker::Model;
@@ -76,6 +78,29 @@ impl<'a> TextSide<'a> {
                 texts[place]
             }
             TextForm::Constant(text, _) => *text,
+        }
+    }
+
+    /// The texts, where each place has its own.
+    pub(crate) fn as_column(&self) -> Option<TextColumn<'a>>
+        ensures { IfSome result (λ column. texts_of column.texts.now ≡ self.now) }
+    {
+        match &self.form {
+            TextForm::Column(texts) => Some(TextColumn { texts: *texts }),
+            TextForm::Constant(_, _) => None,
+        }
+    }
+
+    /// The text, where one is that of all places.
+    pub(crate) fn as_one(&self) -> Option<OneText<'a>>
+        ensures { IfSome result (λ one. replicate one.len one.text.now ≡ self.now) }
+    {
+        match &self.form {
+            TextForm::Column(_) => None,
+            TextForm::Constant(text, len) => Some(OneText {
+                text: *text,
+                len: *len,
+            }),
         }
     }
 }

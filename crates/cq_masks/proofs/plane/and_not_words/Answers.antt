@@ -6,4 +6,4 @@ use Rattle.cq_masks.proofs.PlaneLemmas.{Makes-words, Does-and_not}
 use Rattle.cq_masks.proofs.plane.and_not_words.Goals as goal
 
 pub returns : goal.returns
-returns c = Makes-words (λ x y. bit_and x (bit_not w64 y)) and_not Does-and_not c.args.a.now c.args.b.now c.loop-k.to (λ k lt. c.loop-k.invariant k (omega arith))
+returns c = Makes-words (λ x y. bit_and x (bit_not w64 y)) and_not Does-and_not c.args.a.now c.args.b.now c.loop-k.words (λ k lt. c.loop-k.invariant.1 k (omega arith))

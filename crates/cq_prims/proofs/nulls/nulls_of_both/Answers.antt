@@ -1,15 +1,23 @@
-use Rattle.std.proofs.Common.{◌∙◌, sym, ap, ap₂, length, map}
-use Rattle.std.proofs.lemmas.List.{length-map}
-use Rattle.std.proofs.lemmas.Simd.{length-zip2}
+use Rattle.std.proofs.Common.{◌∙◌, ap, ap₂, length}
 use lib.Lanes.{zip2}
 use Rattle.cq_masks.specs.Plane.{either}
-use Rattle.cq_model.specs.Condition.{is_null}
+use Rattle.cq_prims.proofs.NullLemmas.{left_nulls, length_either, right_nulls}
 use Rattle.cq_prims.proofs.nulls.nulls_of_both.Goals as goal
 
-pub returns-clause-long : goal.returns-clause-long
-returns-clause-long c =
-    let xs = map is_null c.args.a.now in
-    let ys = map is_null c.args.b.now in
-    ap length (c.set_or.ensures ∙ ap₂ (zip2 either) c.nulls_of.ensures c.nulls_of-2.ensures)
-    ∙ length-zip2 either xs ys (length-map c.args.a.now is_null ∙ c.requires ∙ sym (length-map c.args.b.now is_null))
-    ∙ length-map c.args.a.now is_null
+pub returns-in-Some-Some-clause-long : goal.returns-in-Some-Some-clause-long
+returns-in-Some-Some-clause-long c =
+    ap length (c.set_or.ensures ∙ ap₂ (zip2 either) c.in-Some-Some.ensures c.in-Some-Some.ensures')
+    ∙ length_either c.args.a.now c.args.b.now c.requires
+
+pub returns-in-Some-None-clause-nulls : goal.returns-in-Some-None-clause-nulls
+returns-in-Some-None-clause-nulls c =
+    c.set_copy.ensures ∙ c.in-Some-None.ensures ∙ left_nulls c.args.a.now c.args.b.now c.requires c.if-is_known_constant.ensures
+
+pub returns-in-None-Some-clause-nulls : goal.returns-in-None-Some-clause-nulls
+returns-in-None-Some-clause-nulls c =
+    c.set_copy-in-None-Some.ensures ∙ c.in-None-Some.ensures' ∙ right_nulls c.args.a.now c.args.b.now c.requires c.if-is_known_constant-2.ensures
+
+pub returns-in_default-clause-long : goal.returns-in_default-clause-long
+returns-in_default-clause-long c =
+    ap length (c.set_or-in_default.ensures ∙ ap₂ (zip2 either) c.nulls_of.ensures c.nulls_of-in_default.ensures)
+    ∙ length_either c.args.a.now c.args.b.now c.requires

@@ -1,12 +1,12 @@
-use Rattle.std.proofs.Common.{subst, sym, ◌<◌, ◌^◌, ℕ, get_or, pos, w64, eqb}
+use Rattle.std.proofs.Common.{arith, subst, sym, ◌<◌, ◌^◌, ℕ, get_or, pos, w64, eqb}
 use Rattle.std.specs.Ordering.{int_eq}
-use Rattle.cq_prims.proofs.Lanes.{lane_answers, same_bits, sixteen_small}
+use Rattle.cq_prims.proofs.Lanes.{lane_answers, same_bits, answers_small}
 use Rattle.cq_prims.proofs.equal_numbers.EqualNumbersSixteenTest.sixteen.Goals as goal
 
 pub returns-clause-value : goal.returns-clause-value
 returns-clause-value c =
     let t = c.args.self.now in
-    rw (c.sixteen.ensures.value, c.sixteen-2.ensures.value) (lane_answers w64 eqb int_eq (same_bits w64) t.a t.b c.args.from c.requires.there t.same c.sixteen.ensures.fit c.sixteen-2.ensures.fit)
+    rw (c.sixteen.ensures.value, c.sixteen-2.ensures.value) (lane_answers w64 eqb int_eq (same_bits w64) 16 (omega arith) t.a t.b c.args.from c.requires.there t.same c.sixteen.ensures.fit c.sixteen-2.ensures.fit)
 
 pub returns-clause-small : goal.returns-clause-small
-returns-clause-small c = subst (λ (n : ℕ). n < 2 ^ 16) (sym (returns-clause-value c)) (sixteen_small (λ i. int_eq (get_or c.args.self.now.a i (pos 0)) (get_or c.args.self.now.b i (pos 0))) c.args.from)
+returns-clause-small c = subst (λ (n : ℕ). n < 2 ^ 16) (sym (returns-clause-value c)) (answers_small (λ i. int_eq (get_or c.args.self.now.a i (pos 0)) (get_or c.args.self.now.b i (pos 0))) c.args.from 16)

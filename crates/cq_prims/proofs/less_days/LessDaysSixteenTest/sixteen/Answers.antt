@@ -1,12 +1,12 @@
-use Rattle.std.proofs.Common.{ap₂, subst, sym, ◌<◌, ◌^◌, ℕ, get_or, pos, w32, to_z-of_z, to_z}
+use Rattle.std.proofs.Common.{arith, ap₂, subst, sym, ◌<◌, ◌^◌, ℕ, get_or, pos, w32, to_z-of_z, to_z}
 use Rattle.std.specs.Prelude.{int_lt}
-use Rattle.cq_prims.proofs.Lanes.{lane_answers, sixteen_small}
+use Rattle.cq_prims.proofs.Lanes.{lane_answers, answers_small}
 use Rattle.cq_prims.proofs.less_days.LessDaysSixteenTest.sixteen.Goals as goal
 
 pub returns-clause-value : goal.returns-clause-value
 returns-clause-value c =
     let t = c.args.self.now in
-    rw (c.sixteen.ensures.value, c.sixteen-2.ensures.value) (lane_answers w32 (λ a b. int_lt (to_z w32 a) (to_z w32 b)) int_lt (λ x y f g. ap₂ int_lt (to_z-of_z f) (to_z-of_z g)) t.a t.b c.args.from c.requires.there t.same c.sixteen.ensures.fit c.sixteen-2.ensures.fit)
+    rw (c.sixteen.ensures.value, c.sixteen-2.ensures.value) (lane_answers w32 (λ a b. int_lt (to_z w32 a) (to_z w32 b)) int_lt (λ x y f g. ap₂ int_lt (to_z-of_z f) (to_z-of_z g)) 16 (omega arith) t.a t.b c.args.from c.requires.there t.same c.sixteen.ensures.fit c.sixteen-2.ensures.fit)
 
 pub returns-clause-small : goal.returns-clause-small
-returns-clause-small c = subst (λ (n : ℕ). n < 2 ^ 16) (sym (returns-clause-value c)) (sixteen_small (λ i. int_lt (get_or c.args.self.now.a i (pos 0)) (get_or c.args.self.now.b i (pos 0))) c.args.from)
+returns-clause-small c = subst (λ (n : ℕ). n < 2 ^ 16) (sym (returns-clause-value c)) (answers_small (λ i. int_lt (get_or c.args.self.now.a i (pos 0)) (get_or c.args.self.now.b i (pos 0))) c.args.from 16)

@@ -13,11 +13,11 @@ returns-clause-value c =
     elim c.match-self.branch [
       | in-Column w ↦
           let is : w.in-Column.values.now ≡ c.args.self.now = sym (ap numbers_in w.in-Column.is) ∙ c.self.view_is in
-          ap (map (to_z w64)) w.result-is ∙ signed_column w64 w.in-Column.values.now from (λ k. subst (λ s. SFits w64 (get_or (numbers_in s) k (pos 0))) w.in-Column.is (c.self.invariant k)) ∙ ap same is
+          ap (map (to_z w64)) w.result-is ∙ signed_column w64 16 w.in-Column.values.now from (λ k. subst (λ s. SFits w64 (get_or (numbers_in s) k (pos 0))) w.in-Column.is (c.self.invariant k)) ∙ ap same is
       | in-Constant w ↦
           let v = w.in-Constant.value in
           let n = w.in-Constant.field-1 in
           let is : replicate n v ≡ c.args.self.now = sym (ap numbers_in w.in-Constant.is) ∙ c.self.view_is in
           let room : from + 16 ≤ n = omega (arith, ap {B = ℕ} length is, length-replicate n v, c.requires) in
-          ap (map (to_z w64)) w.result-is ∙ signed_splat w64 v from n (subst (SFits w64) (get_or-replicate n from v (pos 0) (omega (arith, room))) (subst (λ s. SFits w64 (get_or (numbers_in s) from (pos 0))) w.in-Constant.is (c.self.invariant from))) room ∙ ap same is
+          ap (map (to_z w64)) w.result-is ∙ signed_splat w64 16 v from n (subst (SFits w64) (get_or-replicate n from v (pos 0) (omega (arith, room))) (subst (λ s. SFits w64 (get_or (numbers_in s) from (pos 0))) w.in-Constant.is (c.self.invariant from))) room ∙ ap same is
     ]
