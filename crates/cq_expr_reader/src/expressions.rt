@@ -268,10 +268,10 @@ fn more_terms(
                 };
                 match add_term(&mut signs, &mut terms, sign, term) {
                     Ok(()) => rest = next,
-                    Err(_) => {
+                    Err(fault) => {
                         drop(terms);
                         drop(first);
-                        return Err(SqlFault::Memory);
+                        return Err(SqlFault::from(fault));
                     }
                 }
             }
