@@ -1,0 +1,4 @@
+pub mod Built
+pub mod Ends
+pub mod Lookups
+pub mod Writes
