@@ -1,3 +1,4 @@
 pub mod Writes
 pub mod Serving
+pub mod Counting
 pub mod Runs

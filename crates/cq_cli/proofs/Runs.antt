@@ -17,7 +17,8 @@ use Rattle.cq_cli.specs.declared.endings.Status.TheVariants.{AllAccepted, SomeRe
 use Rattle.cq_cli.specs.declared.endings.RunFault.{RunFault}
 use Rattle.cq_cli.specs.Running.{Counted, RunsScript, both, status_of}
 use Rattle.cq_cli.specs.Writing.{Wrote, WrotePrefix}
-use Rattle.cq_cli.proofs.Serving.{ServesPiece, refused_somehow, serves_draws, serves_failures}
+use Rattle.cq_cli.proofs.Counting.{serves_draws, serves_failures}
+use Rattle.cq_cli.proofs.Serving.{ServesPiece, refused_somehow}
 use Rattle.cq_cli.proofs.Writes.{all_then_failed, appends_kept, appends_more, appends_nothing, prefix_of_more, wrote_then}
 
 -- a run goes on by one piece

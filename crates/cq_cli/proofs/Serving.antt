@@ -1,17 +1,14 @@
 -- What is printed for a piece is the text of an outcome that the piece may have.
-use Rattle.std.proofs.Common.{◌≡◌, ℕ, ◌+◌, ◌≤◌, Bool, true, false, List, [], ◌∷◌, Option, Result, Ok, Err, IfOk, refl, ap, arith, if◌then◌else◌}
+use Rattle.std.proofs.Common.{◌≡◌, ℕ, ◌+◌, Bool, true, false, List, [], ◌∷◌, Option, Result, Ok, Err, IfOk, refl}
 use Rattle.cq_values.specs.Value.{Row}
 use Rattle.cq_language.specs.Pieces.{PieceOf}
-use Rattle.cq_binding.specs.declared.bound.Bound.{Bound}
-use Rattle.cq_binding.specs.declared.bound.Bound.TheVariants as commands
-use Rattle.cq_language.specs.declared.statement.Statement.{Statement}
 use Rattle.cq_steps.specs.declared.answer.Answer.{Answer}
 use Rattle.cq_steps.specs.declared.answer.Answer.TheVariants.{Done, Count, Rows}
 use Rattle.cq_binding.specs.declared.fault.Fault.{Fault}
 use Rattle.cq_binding.specs.declared.fault.Fault.TheVariants as faults
 use Rattle.cq_binding.specs.Records.{Files}
 use Rattle.cq_states.specs.State.{State}
-use Rattle.cq_steps.specs.Step.{Leads, Does, Refuses, by_walk, for_memory, source_failed, memory_on_the_way, too_large, Step}
+use Rattle.cq_steps.specs.Step.{for_memory}
 use Rattle.cq_steps.specs.Output.{Serves, rest_without_semicolon, sentence, no_sentence, past_limits, out_of_memory}
 use Rattle.cq_steps.specs.Output.{outcome_text, source_failures}
 use Rattle.cq_engine.specs.Commands.{OnlyShows}
@@ -68,60 +65,3 @@ serves_piece source sink state piece next old new asked failed outcome result se
 pub refused_somehow : (source : Option Files) (s : State) (p : PieceOf) (closed : Bool) → p.closed ≡ closed → (o : Result Answer Fault) × Serves source s p o s
 refused_somehow source s p true is = (Err faults.Memory, out_of_memory is refl refl)
 refused_somehow source s p false is = (Err faults.Syntax, rest_without_semicolon is refl refl)
-
--- the number that is drawn next
-abbrev next : State → ℕ
-next s = s.drawn
-
--- a command draws at most one number
-leads_draws : (old whole : State) (command : Bound) (answer : Answer) → Leads old command answer whole → whole.drawn ≤ old.drawn + 1
-leads_draws old whole (commands.CreateTable name columns sort) answer l = omega (arith, ap next l.1)
-leads_draws old whole (commands.DropTable n) answer l = omega (arith, ap next l.1)
-leads_draws old whole (commands.CreateView name columns q) answer l = omega (arith, ap next l.1)
-leads_draws old whole (commands.DropView place) answer l = omega (arith, ap next l.1)
-leads_draws old whole (commands.Insert n rows) answer l = omega (arith, ap next l.1.state)
-leads_draws old whole (commands.Delete n c) answer l = omega (arith, ap next l.1.state)
-leads_draws old whole (commands.Update n assignments c) answer l = omega (arith, ap next l.1.state)
-leads_draws old whole (commands.Select header q order) answer l = omega (arith, ap next l.1)
-leads_draws old whole (commands.Move n rows) answer l = omega (arith, ap next l.1)
-leads_draws old whole (commands.Merge n) answer l = omega (arith, ap next l.1)
-leads_draws old whole (commands.Refresh place changes) answer l = omega (arith, ap next l.1)
-
--- an accepted statement too
-does_draws : (files : Files) (old new : State) (s : Statement) (answer : Answer) → Does files old s answer new → new.drawn ≤ old.drawn + 1
-does_draws files old new s answer d = omega (arith, ap next d.accepts.trims.state, leads_draws old d.accepts.whole d.command answer d.accepts.leads)
-
--- and a refused one none
-refuses_draws : (files : Files) (old new : State) (s : Statement) (f : Fault) → Refuses files old s f new → new.drawn ≤ old.drawn + 1
-refuses_draws files old new s f (by_walk refused same) = omega (arith, ap next same)
-refuses_draws files old new s f (for_memory is same) = omega (arith, ap next same)
-refuses_draws files old new s f (source_failed reads is same) = omega (arith, ap next same)
-refuses_draws files old new s f (memory_on_the_way command free bound is gives) = omega (arith, ap next gives.state)
-refuses_draws files old new s f (too_large command free bound large is gives) = omega (arith, ap next gives.state)
-
--- a step counts at most one statement more
-step_draws : (files : Files) (old new : State) (s : Statement) (o : Result Answer Fault) → Step files old s o new → new.drawn ≤ old.drawn + 1
-step_draws files old new s (Ok answer) d = omega (arith, ap next d.trims.state, does_draws files old d.on_the_way s answer d.does)
-step_draws files old new s (Err f) r = refuses_draws files old new s f r
-
--- a piece counts one statement more where a semicolon ended it, and none otherwise
-pub serves_draws : (source : Option Files) (old new : State) (p : PieceOf) (o : Result Answer Fault) → Serves source old p o new → new.drawn ≤ old.drawn + (if p.closed then 1 else 0)
-serves_draws source old new p o (rest_without_semicolon unclosed is same) = rw (same, unclosed) (omega arith)
-serves_draws source old new p o (sentence closed s is step) = rw closed (step_draws step.0 old new s o step.2)
-serves_draws source old new p o (no_sentence closed none is same) = rw (same, closed) (omega arith)
-serves_draws source old new p o (past_limits closed past is same) = rw (same, closed) (omega arith)
-serves_draws source old new p o (out_of_memory closed is same) = rw (same, closed) (omega arith)
-
--- an outcome tells of one failure at most
-one_at_most : (o : Result Answer Fault) → source_failures (o ∷ []) ≤ 1
-one_at_most (Ok answer) = omega arith
-one_at_most (Err faults.SourceFailed) = omega arith
-one_at_most (Err f) = omega arith
-
--- and a piece where a semicolon ended it alone
-pub serves_failures : (source : Option Files) (old new : State) (p : PieceOf) (o : Result Answer Fault) → Serves source old p o new → source_failures (o ∷ []) ≤ (if p.closed then 1 else 0)
-serves_failures source old new p o (rest_without_semicolon unclosed is same) = rw (is, unclosed) (omega arith)
-serves_failures source old new p o (sentence closed s is step) = rw closed (one_at_most o)
-serves_failures source old new p o (no_sentence closed none is same) = rw closed (one_at_most o)
-serves_failures source old new p o (past_limits closed past is same) = rw closed (one_at_most o)
-serves_failures source old new p o (out_of_memory closed is same) = rw closed (one_at_most o)

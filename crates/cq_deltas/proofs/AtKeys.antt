@@ -1,5 +1,5 @@
 -- What a write at one key leaves at each key.
-use Rattle.std.proofs.Common.{◌≡◌, pos, true, false, cond, List, [], Option, None, Some, is_some, unwrap_or, refl, sym, ◌∙◌, ap, int_eq, true≢false}
+use Rattle.std.proofs.Common.{◌≡◌, pos, true, false, cond, List, [], Option, None, Some, is_some, unwrap_or, refl, sym, ◌∙◌, ap, subst, int_eq, true≢false}
 use Rattle.std.specs.Option.{option_map, option_map_or}
 use Rattle.cq_values.specs.Value.{Row}
 use Rattle.cq_values.specs.Order.{same_row}
@@ -7,62 +7,122 @@ use Rattle.cq_values.specs.Keys.{same_row-refl, same_row-same}
 use Rattle.cq_bags.proofs.Totals.{by_test}
 use Rattle.cq_model.specs.declared.query.Aggregate.{Aggregate}
 use Rattle.cq_kept.specs.Kept.{Group, group_of}
+use Rattle.cq_deltas.specs.declared.change.Addend.{Addend}
 use Rattle.cq_deltas.specs.declared.change.Addition.{Addition}
-use Rattle.cq_deltas.specs.Kept.{group_with}
-use Rattle.cq_deltas.specs.Keyed.{KeyedGroups, stored_at, group_at, group_met, settled}
+use Rattle.cq_deltas.specs.declared.group.Group.{Group as StoredGroup}
+use Rattle.cq_deltas.specs.Kept.{KeepRoom, group_with, seen_group}
+use Rattle.cq_deltas.specs.Keyed.{AreSettled, IsPut, IsReadyFor, KeyedGroups, StayReady, group_at, group_met, held_at, settled, stored_at}
 
 -- new is old with something else at a key
-abbrev pub SetsAt : KeyedGroups → Row → Option Group → KeyedGroups → Type 0
-SetsAt old key w new = (k : Row) → stored_at new k ≡ cond (same_row key k) w (stored_at old k)
+abbrev pub SetsAt : KeyedGroups → Row → Option StoredGroup → KeyedGroups → Type 0
+SetsAt old key w new = (k : Row) → held_at new k ≡ cond (same_row key k) w (held_at old k)
 
-module _ (old new : KeyedGroups) (key : Row) where
-  -- a group that is made where none was is that of no rows
-  pub made-same : (aggregates : List Aggregate) (copy : Row) (g : Group) → copy ≡ key → g ≡ group_of aggregates [] → SetsAt old copy (Some g) new
-      → is_some (stored_at old key) ≡ false → (k : Row) → group_at aggregates new k ≡ group_at aggregates old k
-  made-same aggregates copy g same empty sets none k = by_test (same_row copy k)
-      (λ s. rw (sets k, s, empty, sym (ap (stored_at old) (sym same ∙ same_row-same copy k s))) (sym (nothing (stored_at old key) none)))
-      (λ s. rw (sets k, s) refl)
-    where
-      nothing : (o : Option Group) → is_some o ≡ false → unwrap_or o (group_of aggregates []) ≡ group_of aggregates []
-      nothing None e = refl
-      nothing (Some g) e = absurd (true≢false e)
+-- what was ready stays so at one key
+abbrev pub StaysReady : Option StoredGroup → Option StoredGroup → Type 0
+StaysReady old new = (addends : List (Option Addend)) → IsReadyFor addends old → IsReadyFor addends new
 
-  -- it is there, and what was there still is
-  pub set-there : (g : Group) → SetsAt old key (Some g) new → is_some (stored_at new key) ≡ true
-  set-there g sets = rw (sets key, same_row-refl key) refl
+none-there : (o : Option StoredGroup) → is_some o ≡ false → o ≡ None
+none-there None e = refl
+none-there (Some g) e = absurd (true≢false e)
 
-  pub set-keeps : (g : Group) → SetsAt old key (Some g) new → (k : Row) → is_some (stored_at old k) ≡ true → is_some (stored_at new k) ≡ true
-  set-keeps g sets k there = by_test (same_row key k) (λ s. rw (sets k, s) refl) (λ s. rw (sets k, s) there)
+module _ (old new : KeyedGroups) (key : Row) (w : Option StoredGroup) (sets : SetsAt old key w new) where
+  at-key : (k : Row) → same_row key k ≡ true → held_at new k ≡ w
+  at-key k s = sets k ∙ rw s refl
+
+  at-others : (k : Row) → same_row key k ≡ false → held_at new k ≡ held_at old k
+  at-others k s = sets k ∙ rw s refl
+
+  -- what was at the key was so at each key that is the same
+  was-at : (k : Row) → same_row key k ≡ true → held_at old k ≡ held_at old key
+  was-at k s = ap (held_at old) (sym (same_row-same key k s))
+
+  -- what holds of what is written, and of what stays, holds at each key
+  pub at-each : (R : Option StoredGroup → Option StoredGroup → Type 0) → R (held_at old key) w → ((o : Option StoredGroup) → R o o) → (k : Row) → R (held_at old k) (held_at new k)
+  at-each R here other k = by_test (same_row key k)
+      (λ s. subst (λ (o : Option StoredGroup). R o (held_at new k)) (sym (was-at k s)) (subst (λ (o : Option StoredGroup). R (held_at old key) o) (sym (at-key k s)) here))
+      (λ s. subst (λ (o : Option StoredGroup). R (held_at old k) o) (sym (at-others k s)) (other (held_at old k)))
+
+  -- what is written is there
+  pub set-there : is_some w ≡ true → is_some (held_at new key) ≡ true
+  set-there there = ap is_some (at-key key (same_row-refl key)) ∙ there
+
+  -- what was ready stays so
+  pub set-ready : StaysReady (held_at old key) w → StayReady old new
+  set-ready here k = at-each StaysReady here (λ o addends h. h) k
+
+  -- each key has the group that it had
+  pub set-same : option_map seen_group w ≡ option_map seen_group (held_at old key) → (k : Row) → stored_at new k ≡ stored_at old k
+  set-same same k = at-each (λ o p. option_map seen_group p ≡ option_map seen_group o) same (λ o. refl) k
+
+-- a group that is made where none was is that of no rows
+pub made-same : (old new : KeyedGroups) (key copy : Row) (aggregates : List Aggregate) (g : StoredGroup) → copy ≡ key → seen_group g ≡ group_of aggregates [] → SetsAt old copy (Some g) new
+    → is_some (held_at old key) ≡ false → (k : Row) → group_at aggregates new k ≡ group_at aggregates old k
+made-same old new key copy aggregates g same empty sets none k =
+    let before : held_at old copy ≡ None = ap (held_at old) same ∙ none-there (held_at old key) none in
+    at-each old new copy (Some g) sets (λ o p. unwrap_or (option_map seen_group p) (group_of aggregates []) ≡ unwrap_or (option_map seen_group o) (group_of aggregates []))
+    (empty ∙ sym (ap (λ (o : Option StoredGroup). unwrap_or (option_map seen_group o) (group_of aggregates [])) before)) (λ o. refl) k
+
+-- what was ready stays so where a group is made
+pub made-ready : (old new : KeyedGroups) (key copy : Row) (g : StoredGroup) → copy ≡ key → SetsAt old copy (Some g) new → is_some (held_at old key) ≡ false → StayReady old new
+made-ready old new key copy g same sets none =
+    let before : held_at old copy ≡ None = ap (held_at old) same ∙ none-there (held_at old key) none in
+    set-ready old new copy (Some g) sets (λ addends h. absurd (subst (λ (o : Option StoredGroup). IsReadyFor addends o) before h))
+
+-- and the group is there
+pub made-there : (old new : KeyedGroups) (key copy : Row) (g : StoredGroup) → copy ≡ key → SetsAt old copy (Some g) new → is_some (held_at new key) ≡ true
+made-there old new key copy g same sets = ap (λ (k : Row). is_some (held_at new k)) (sym same) ∙ set-there old new copy (Some g) sets refl
+
+-- a group is written over
+module _ (old new : KeyedGroups) (key : Row) (g h : StoredGroup) (sets : SetsAt old key (Some h) new) (is : held_at old key ≡ Some g) where
+  -- with more room, or with values gone that were not counted
+  pub over-same : seen_group h ≡ seen_group g → (k : Row) → stored_at new k ≡ stored_at old k
+  over-same same = set-same old new key (Some h) sets (ap Some same ∙ sym (ap (option_map seen_group) is))
+
+  pub over-ready : KeepRoom g.kept.items h.kept.items → StayReady old new
+  over-ready kept = set-ready old new key (Some h) sets (λ addends ready. kept addends (subst (λ (o : Option StoredGroup). IsReadyFor addends o) is ready))
+
+  -- so that it is ready
+  pub over-room : (addends : List (Option Addend)) → IsReadyFor addends (Some h) → IsReadyFor addends (held_at new key)
+  over-room addends room = subst (λ (o : Option StoredGroup). IsReadyFor addends o) (sym (at-key old new key (Some h) sets key (same_row-refl key))) room
 
 -- a row is put in its group, and in no other
-pub put-everywhere : (old new : KeyedGroups) (x : Addition) (g h : Group) → SetsAt old x.key (Some h) new → h ≡ group_with x.weight x.addends g → stored_at old x.key ≡ Some g
-    → (k : Row) → stored_at new k ≡ option_map (λ h. group_met k h x) (stored_at old k)
+pub put-everywhere : (old new : KeyedGroups) (x : Addition) (g h : StoredGroup) → SetsAt old x.key (Some h) new → seen_group h ≡ group_with x.weight x.addends (seen_group g) → held_at old x.key ≡ Some g → IsPut old x new
 put-everywhere old new x g h sets put is k = by_test (same_row x.key k)
-    (λ s. rw (sets k, s, sym (ap (stored_at old) (same_row-same x.key k s)), is, put) refl)
-    (λ s. rw (sets k, s) (unmoved (stored_at old k)))
+    (λ s.
+    let met : group_met k (seen_group g) x ≡ group_with x.weight x.addends (seen_group g) = rw s refl in
+    ap (option_map seen_group) (at-key old new x.key (Some h) sets k s) ∙ ap Some (put ∙ sym met)
+    ∙ sym (ap (λ (o : Option StoredGroup). option_map (λ (f : Group). group_met k f x) (option_map seen_group o)) (was-at old new x.key (Some h) sets k s ∙ is)))
+    (λ s. ap (option_map seen_group) (at-others old new x.key (Some h) sets k s) ∙ rw s (unmoved (stored_at old k)))
   where
     unmoved : (o : Option Group) → o ≡ option_map (λ h. h) o
     unmoved None = refl
     unmoved (Some h) = refl
 
+-- whether a group is stored that has no rows
+abbrev pub IsWithoutRows : Option StoredGroup → Type 0
+IsWithoutRows o = option_map_or (λ (g : StoredGroup). int_eq g.count (pos 0)) o false ≡ true
+
 -- a group that is dropped where it has no rows
-pub drop-settles : (old new : KeyedGroups) (key : Row) → SetsAt old key None new → option_map_or (λ (g : Group). int_eq g.count (pos 0)) (stored_at old key) false ≡ true
-    → (k : Row) → stored_at new k ≡ cond (same_row key k) (settled (stored_at old k)) (stored_at old k)
+pub drop-settles : (old new : KeyedGroups) (key : Row) → SetsAt old key None new → IsWithoutRows (held_at old key) → AreSettled (same_row key) old new
 drop-settles old new key sets empty k = by_test (same_row key k)
-    (λ s. rw (sets k, s, sym (ap (stored_at old) (same_row-same key k s))) (dropped (stored_at old key) empty))
-    (λ s. rw (sets k, s) refl)
+    (λ s.
+    ap (option_map seen_group) (at-key old new key None sets k s) ∙ dropped (held_at old key) empty
+    ∙ ap (λ (o : Option StoredGroup). settled (option_map seen_group o)) (sym (was-at old new key None sets k s)) ∙ rw s refl)
+    (λ s. ap (option_map seen_group) (at-others old new key None sets k s) ∙ rw s refl)
   where
-    dropped : (o : Option Group) → option_map_or (λ (g : Group). int_eq g.count (pos 0)) o false ≡ true → None ≡ settled o
+    dropped : (o : Option StoredGroup) → IsWithoutRows o → None ≡ settled (option_map seen_group o)
     dropped None e = refl
     dropped (Some g) e = rw e refl
 
 -- a group that has rows is settled
-pub settled-already : (old : KeyedGroups) (key : Row) → option_map_or (λ (g : Group). int_eq g.count (pos 0)) (stored_at old key) false ≡ false
-    → (k : Row) → stored_at old k ≡ cond (same_row key k) (settled (stored_at old k)) (stored_at old k)
-settled-already old key full k = by_test (same_row key k)
-    (λ s. rw (s, sym (ap (stored_at old) (same_row-same key k s))) (stays (stored_at old key) full))
+pub settled-already : (old new : KeyedGroups) (key : Row) → ((k : Row) → stored_at new k ≡ stored_at old k)
+    → option_map_or (λ (g : StoredGroup). int_eq g.count (pos 0)) (held_at old key) false ≡ false → AreSettled (same_row key) old new
+settled-already old new key same full k = same k ∙ by_test (same_row key k)
+    (λ s.
+    let here : held_at old k ≡ held_at old key = ap (held_at old) (sym (same_row-same key k s)) in
+    ap (option_map seen_group) here ∙ stays (held_at old key) full ∙ ap (λ (o : Option StoredGroup). settled (option_map seen_group o)) (sym here) ∙ rw s refl)
     (λ s. rw s refl)
   where
-    stays : (o : Option Group) → option_map_or (λ (g : Group). int_eq g.count (pos 0)) o false ≡ false → o ≡ settled o
+    stays : (o : Option StoredGroup) → option_map_or (λ (g : StoredGroup). int_eq g.count (pos 0)) o false ≡ false → option_map seen_group o ≡ settled (option_map seen_group o)
     stays None e = refl
     stays (Some g) e = rw e refl

@@ -11,13 +11,15 @@ use Rattle.cq_bags.proofs.Totals.{by_test}
 use Rattle.cq_model.specs.declared.query.Aggregate.{Aggregate}
 use Rattle.cq_kept.specs.Kept.{Group, Groups, shown_row}
 use Rattle.cq_kept.specs.Shown.{ListsKeys}
+use Rattle.cq_deltas.specs.declared.group.Group.{Group as StoredGroup}
+use Rattle.cq_deltas.specs.Kept.{seen_group}
 use Rattle.cq_deltas.specs.Keyed.{KeyedGroups, group_at}
 use Rattle.std.proofs.Math.Seq.{take-suc, take-length}
 use Rattle.std.proofs.lemmas.Option.{get_or_from_slice_get, slice_get_within}
 use Rattle.cq_deltas.specs.Shown.{AllCanBeShown, EntriesCanBeShown, GroupsCanBeShown, counted_keys, entry_rows, group_rows}
 
 -- whether an entry's group has rows
-abbrev pub has_rows : Row × Group → Bool
+abbrev pub has_rows : Row × StoredGroup → Bool
 has_rows e = int_lt (pos 0) e.1.count
 
 -- a key that no entry has is not listed
@@ -44,10 +46,10 @@ lists-keys aggregates (e ∷ es) d k = by_test (same_row k e.0)
 
 -- ---- each entry is the group of its key
 module _ (aggregates : List Aggregate) where
-  IsOwn : KeyedGroups → Row × Group → Type 0
-  IsOwn table e = group_at aggregates table e.0 ≡ e.1
+  IsOwn : KeyedGroups → Row × StoredGroup → Type 0
+  IsOwn table e = group_at aggregates table e.0 ≡ seen_group e.1
 
-  behind : (e : Row × Group) (table es : KeyedGroups) → AllByRecursion (λ y. same_row e.0 y ≡ false) (keys_of es) → AllByRecursion (IsOwn table) es → AllByRecursion (IsOwn (e ∷ table)) es
+  behind : (e : Row × StoredGroup) (table es : KeyedGroups) → AllByRecursion (λ y. same_row e.0 y ≡ false) (keys_of es) → AllByRecursion (IsOwn table) es → AllByRecursion (IsOwn (e ∷ table)) es
   unfolding IsOwn
   behind e table [] other own = tt
   behind e table (x ∷ es) other own = (rw (same_row-equiv.symm x.0 e.0 ∙ other.0) own.0, behind e table es other.1 own.1)
@@ -92,7 +94,7 @@ module _ (aggregates : List Aggregate) where
   rows-append : (es fs : KeyedGroups) → entry_rows aggregates (es ++ fs) ≡ entry_rows aggregates es ++ entry_rows aggregates fs
   rows-append [] fs = refl
   rows-append (e ∷ es) fs = by_test (has_rows e)
-      (λ b. rw b (ap (λ rows. shown_row aggregates e.0 e.1.kept ∷ rows) (rows-append es fs)))
+      (λ b. rw b (ap (λ rows. shown_row aggregates e.0 (seen_group e.1).kept ∷ rows) (rows-append es fs)))
       (λ b. rw b (rows-append es fs))
 
   range-append : (es fs : KeyedGroups) → EntriesCanBeShown aggregates es → EntriesCanBeShown aggregates fs → EntriesCanBeShown aggregates (es ++ fs)
@@ -101,14 +103,14 @@ module _ (aggregates : List Aggregate) where
       (λ b. let here = rw b at all in rw b (here.0, range-append es fs here.1 more))
       (λ b. rw b (range-append es fs (rw b at all) more))
 
-  range-in : (es : KeyedGroups) (i : ℕ) (d : Row × Group) → i < length es → EntriesCanBeShown aggregates es → EntriesCanBeShown aggregates (get_or es i d ∷ [])
+  range-in : (es : KeyedGroups) (i : ℕ) (d : Row × StoredGroup) → i < length es → EntriesCanBeShown aggregates es → EntriesCanBeShown aggregates (get_or es i d ∷ [])
   range-in [] i d h all = absurd (omega (arith, h))
   range-in (e ∷ es) zero d h all = by_test (has_rows e) (λ b. let here = rw b at all in rw b (here.0, tt)) (λ b. rw b tt)
   range-in (e ∷ es) (suc i) d h all = by_test (has_rows e)
       (λ b. let here = rw b at all in range-in es i d (omega (arith, h)) here.1)
       (λ b. range-in es i d (omega (arith, h)) (rw b at all))
 
-  module _ (table : KeyedGroups) (i : ℕ) (e : Row × Group) (at : Some e ≡ slice_get table i) where
+  module _ (table : KeyedGroups) (i : ℕ) (e : Row × StoredGroup) (at : Some e ≡ slice_get table i) where
     in_table : i < length table
     in_table = slice_get_within table i e (sym at)
 
@@ -116,7 +118,7 @@ module _ (aggregates : List Aggregate) where
     is = sym (get_or_from_slice_get table i e e (sym at))
 
     one-more : take (i + 1) table ≡ take i table ++ e ∷ []
-    one-more = rw (add-one i) (take-suc table i e in_table ∙ ap (λ (x : Row × Group). take i table ++ x ∷ []) (sym is))
+    one-more = rw (add-one i) (take-suc table i e in_table ∙ ap (λ (x : Row × StoredGroup). take i table ++ x ∷ []) (sym is))
 
     pub rows-more : (rows : List Row) → rows ≡ entry_rows aggregates (take i table) → rows ++ entry_rows aggregates (e ∷ []) ≡ entry_rows aggregates (take (i + 1) table)
     rows-more rows so_far = rw (one-more, rows-append (take i table) (e ∷ []), so_far) refl
@@ -125,7 +127,7 @@ module _ (aggregates : List Aggregate) where
     range-more all can = rw one-more (range-append (take i table) (e ∷ []) all can)
 
     pub range-of : EntriesCanBeShown aggregates table → EntriesCanBeShown aggregates (e ∷ [])
-    range-of all = subst (λ (x : Row × Group). EntriesCanBeShown aggregates (x ∷ [])) (sym is) (range-in table i e in_table all)
+    range-of all = subst (λ (x : Row × StoredGroup). EntriesCanBeShown aggregates (x ∷ [])) (sym is) (range-in table i e in_table all)
 
   -- at the end all entries are shown
   module _ (table : KeyedGroups) (n : ℕ) (d : IsDistinct same_row (keys_of table)) (at_end : n ≡ length table) where

@@ -1,50 +1,90 @@
--- Which keys a change meets.
-use Rattle.std.proofs.Common.{◌≡◌, ℕ, zero, suc, ◌+◌, ◌<◌, true, false, cond, ◌||◌, List, [], ◌∷◌, take, length, get_or, Option, None, Some, is_some, refl, sym, ◌∙◌, ap, add-one, arith, true≢false}
+-- Which keys a change meets, and that their groups are ready for it.
+use Rattle.std.proofs.Common.{◌≡◌, ℕ, ◌+◌, ◌<◌, pos, false, cond, ◌||◌, int_eq, List, [], ◌∷◌, ◌++◌, take, length, get_or, Option, None, Some, refl, sym, ◌∙◌, ap, subst, add-one, true≢false}
+use Rattle.std.specs.List.{AllByRecursion}
 use Rattle.std.specs.Option.{option_map}
 use Rattle.std.proofs.Math.Seq.{take-suc}
 use Rattle.std.proofs.lemmas.List.Folds.{list_any-append}
 use Rattle.cq_values.specs.Value.{Row}
 use Rattle.cq_values.specs.Order.{same_row}
-use Rattle.cq_values.specs.Keys.{same_row-refl, same_row-same}
 use Rattle.cq_bags.proofs.Totals.{by_test}
 use Rattle.cq_kept.specs.Kept.{Group}
 use Rattle.cq_deltas.specs.declared.change.Addition.{Addition}
-use Rattle.cq_deltas.specs.Keyed.{KeyedGroups, stored_at, is_met, group_with_all, settled, HasKeys, Takes}
+use Rattle.cq_deltas.specs.Keyed.{ArePut, AreSettled, HasKeys, IsPut, IsReadyFor, KeyedGroups, StayReady, Takes, group_met, group_with_all, held_at, is_met, settled, stored_at}
+use Rattle.cq_deltas.proofs.Turns.{all-at}
 
--- a change meets the key of each of its rows
-met-at : (xs : List Addition) (i : ℕ) (d : Addition) → i < length xs → is_met xs (get_or xs i d).key ≡ true
-met-at [] i d h = absurd (omega (arith, h))
-met-at (x ∷ xs) zero d h = rw (same_row-refl x.key) refl
-met-at (x ∷ xs) (suc i) d h = by_test (same_row x.key (get_or xs i d).key) (λ s. rw s refl) (λ s. rw s (met-at xs i d (omega (arith, h))))
+-- where each row's group is ready, the next one's is
+pub next-ready : (old now : KeyedGroups) (xs : List Addition) (i : ℕ) (x : Addition) → HasKeys xs old → i < length xs → x ≡ get_or xs i x → StayReady old now → IsReadyFor x.addends (held_at now x.key)
+next-ready old now xs i x keys h is stay =
+    stay x.key x.addends (subst (λ (y : Addition). IsReadyFor y.addends (held_at old y.key)) (sym is) (all-at (λ (y : Addition). IsReadyFor y.addends (held_at old y.key)) xs i x h keys.at))
 
-still : (f : Group → Group) (o : Option Group) → is_some o ≡ true → is_some (option_map f o) ≡ true
-still f None e = absurd (true≢false (sym e))
-still f (Some g) e = refl
-
--- the next row's group is there
-pub next-there : (old now : KeyedGroups) (xs : List Addition) (i : ℕ) (x : Addition) → HasKeys xs old → i < length xs → x ≡ get_or xs i x
-    → ((k : Row) → stored_at now k ≡ option_map (group_with_all (take i xs) k) (stored_at old k)) → is_some (stored_at now x.key) ≡ true
-next-there old now xs i x keys h is so_far =
-    ap is_some (so_far x.key)
-    ∙ still (group_with_all (take i xs) x.key) (stored_at old x.key) (keys.at x.key (ap (λ (y : Addition). is_met xs y.key) is ∙ met-at xs i x h))
-
--- with the next key made, one more is there
-pub keys-more : (xs : List Addition) (i : ℕ) (x : Addition) (old new : KeyedGroups) → i < length xs → x ≡ get_or xs i x → HasKeys (take i xs) old
-    → ((k : Row) → is_some (stored_at old k) ≡ true → is_some (stored_at new k) ≡ true) → is_some (stored_at new x.key) ≡ true → HasKeys (take (i + 1) xs) new
-keys-more xs i x old new h is keys kept there = record {
-  at = λ k met.
-      by_test (same_row x.key k)
-      (λ s. ap (λ (q : Row). is_some (stored_at new q)) (sym (same_row-same x.key k s)) ∙ there)
-      (λ s. kept k (keys.at k (before k s met)));
+-- with the next row's group made ready, one more is
+pub keys-more : (xs : List Addition) (i : ℕ) (x : Addition) (old new : KeyedGroups) → i < length xs → x ≡ get_or xs i x → HasKeys (take i xs) old → StayReady old new → IsReadyFor x.addends (held_at new x.key)
+    → HasKeys (take (i + 1) xs) new
+keys-more xs i x old new h is keys stay ready = record {
+  at =
+      subst (AllByRecursion (λ (y : Addition). IsReadyFor y.addends (held_at new y.key))) (sym more)
+      (all-append (λ (y : Addition). IsReadyFor y.addends (held_at new y.key)) (take i xs) (x ∷ []) (stayed (take i xs) keys.at) (ready, tt));
 }
   where
-    parts : (k : Row) → is_met (take (i + 1) xs) k ≡ (is_met (take i xs) k || (same_row x.key k || false))
-    parts k =
+    more : take (i + 1) xs ≡ take i xs ++ x ∷ []
+    more = rw (add-one i) (take-suc xs i x h ∙ ap (λ (y : Addition). take i xs ++ y ∷ []) (sym is))
+
+    stayed : (ys : List Addition) → AllByRecursion (λ (y : Addition). IsReadyFor y.addends (held_at old y.key)) ys → AllByRecursion (λ (y : Addition). IsReadyFor y.addends (held_at new y.key)) ys
+    stayed [] all = tt
+    stayed (y ∷ ys) all = (stay y.key y.addends all.0, stayed ys all.1)
+
+    all-append : (P : Addition → Type 0) (ys zs : List Addition) → AllByRecursion P ys → AllByRecursion P zs → AllByRecursion P (ys ++ zs)
+    all-append P [] zs left right = right
+    all-append P (y ∷ ys) zs left right = (left.0, all-append P ys zs left.1 right)
+
+-- with the next row put in its group, one more is
+pub put-more : (xs : List Addition) (i : ℕ) (x : Addition) (old now new : KeyedGroups) → i < length xs → x ≡ get_or xs i x → ArePut old (take i xs) now → IsPut now x new → ArePut old (take (i + 1) xs) new
+put-more xs i x old now new h is so_far one k = one k ∙ ap (option_map (λ (g : Group). group_met k g x)) (so_far k) ∙ together (stored_at old k)
+  where
+    more : take (i + 1) xs ≡ take i xs ++ x ∷ []
+    more = rw (add-one i) (take-suc xs i x h ∙ ap (λ (y : Addition). take i xs ++ y ∷ []) (sym is))
+
+    last : (ys : List Addition) (g : Group) → group_with_all (ys ++ x ∷ []) k g ≡ group_met k (group_with_all ys k g) x
+    last [] g = refl
+    last (y ∷ ys) g = last ys (group_met k g y)
+
+    together : (o : Option Group) → option_map (λ (g : Group). group_met k g x) (option_map (group_with_all (take i xs) k) o) ≡ option_map (group_with_all (take (i + 1) xs) k) o
+    together None = refl
+    together (Some g) = ap Some (sym (ap (λ (l : List Addition). group_with_all l k g) more ∙ last (take i xs) g))
+
+-- what is settled stays so
+settled-twice : (o : Option Group) → settled (settled o) ≡ settled o
+settled-twice None = refl
+settled-twice (Some g) = by_test (int_eq g.count (pos 0)) (λ b. rw b refl) (λ b. rw (b, b) refl)
+
+-- with the next row's key settled, one more is
+pub settled-more : (xs : List Addition) (i : ℕ) (x : Addition) (old now new : KeyedGroups) → i < length xs → x ≡ get_or xs i x → AreSettled (is_met (take i xs)) old now → AreSettled (same_row x.key) now new
+    → AreSettled (is_met (take (i + 1) xs)) old new
+settled-more xs i x old now new h is so_far one k =
+    by_test (same_row x.key k)
+    (λ s.
+    let here : stored_at new k ≡ settled (stored_at now k) = one k ∙ rw s refl in
+    by_test (is_met (take i xs) k)
+    (λ b.
+    let was : stored_at now k ≡ settled (stored_at old k) = so_far k ∙ rw b refl in
+    here ∙ ap settled was ∙ settled-twice (stored_at old k) ∙ rw (parts, b) refl)
+    (λ b.
+    let was : stored_at now k ≡ stored_at old k = so_far k ∙ rw b refl in
+    here ∙ ap settled was ∙ rw (parts, b, s) refl))
+    (λ s.
+    let here : stored_at new k ≡ stored_at now k = one k ∙ rw s refl in
+    by_test (is_met (take i xs) k)
+    (λ b.
+    let was : stored_at now k ≡ settled (stored_at old k) = so_far k ∙ rw b refl in
+    here ∙ was ∙ rw (parts, b) refl)
+    (λ b.
+    let was : stored_at now k ≡ stored_at old k = so_far k ∙ rw b refl in
+    here ∙ was ∙ rw (parts, b, s) refl))
+  where
+    parts : is_met (take (i + 1) xs) k ≡ (is_met (take i xs) k || (same_row x.key k || false))
+    parts =
         ap (λ (l : List Addition). is_met l k) (rw (add-one i) (take-suc xs i x h)) ∙ list_any-append (λ (y : Addition). same_row y.key k) (take i xs) (get_or xs i x ∷ [])
         ∙ ap (λ (y : Addition). is_met (take i xs) k || (same_row y.key k || false)) (sym is)
-
-    before : (k : Row) → same_row x.key k ≡ false → is_met (take (i + 1) xs) k ≡ true → is_met (take i xs) k ≡ true
-    before k s met = by_test (is_met (take i xs) k) (λ b. b) (λ b. absurd (true≢false (sym met ∙ rw (parts k, b, s) refl)))
 
 -- a group of a key that is not met stays
 pub unmet-stays : (xs : List Addition) (k : Row) (g : Group) → is_met xs k ≡ false → group_with_all xs k g ≡ g

@@ -5,16 +5,16 @@ use Rattle.cq_values.specs.Value.{Row}
 use Rattle.cq_values.specs.Order.{same_row}
 use Rattle.cq_values.specs.Keys.{same_row-refl}
 use Rattle.cq_bags.specs.Bag.{Weighted, weight_of, SameBag, IsBag, once_each, distinct_rows, projected}
-use Rattle.cq_bags.proofs.Bags.{same-refl}
+use Rattle.cq_bags.proofs.Bags.{same-refl, projected-respects}
 use Rattle.cq_bags.proofs.Totals.{is_row, total-same}
 use Rattle.cq_bags.proofs.Linears.{weight_of-projected}
 use Rattle.cq_bags.proofs.Entries.{weighed, bag-entries, image-there}
 use Rattle.cq_model.specs.declared.query.Aggregate.{Aggregate}
 use Rattle.cq_model.specs.declared.query.Aggregate.TheVariants.{CountAll, Count, Sum, Min, Max}
+use Rattle.cq_model.specs.Eval.{eval}
 use Rattle.cq_model.specs.Group.{count_all}
 use Rattle.cq_kept.specs.Kept.{AreKept, GroupStands, group_of, kept_of}
 use Rattle.cq_laws.proofs.Groups.{count_all-respects, count-respects, sum-respects}
-use Rattle.cq_deltas.specs.Additions.{AreTotals}
 
 none-among : (rows : List Row) → list_any (λ r. same_row [] []) rows ≡ false → rows ≡ []
 none-among [] h = refl
@@ -29,18 +29,22 @@ nothing-counted xs bag none =
     subst (λ (rows : List Row). SameBag (weighed (weight_of xs) (once_each rows)) xs) rows (bag-entries xs bag)
 
 -- then what is kept of no rows is kept of it
-all_kept-empty : (aggregates : List Aggregate) (xs : Weighted) → AreTotals aggregates → SameBag [] xs → AreKept aggregates xs (map (kept_of []) aggregates)
-all_kept-empty [] xs t s = tt
-all_kept-empty (CountAll ∷ aggregates) xs t s = (count_all-respects [] xs s, all_kept-empty aggregates xs t.1 s)
-all_kept-empty (Count e ∷ aggregates) xs t s = (count-respects e [] xs s, all_kept-empty aggregates xs t.1 s)
-all_kept-empty (Sum e ∷ aggregates) xs t s = ((count-respects e [] xs s, sum-respects e [] xs s), all_kept-empty aggregates xs t.1 s)
-all_kept-empty (Min e ∷ aggregates) xs t s = absurd t.0
-all_kept-empty (Max e ∷ aggregates) xs t s = absurd t.0
+all_kept-empty : (aggregates : List Aggregate) (xs : Weighted) → SameBag [] xs → AreKept aggregates xs (map (kept_of []) aggregates)
+all_kept-empty [] xs s = tt
+all_kept-empty (CountAll ∷ aggregates) xs s = (count_all-respects [] xs s, all_kept-empty aggregates xs s)
+all_kept-empty (Count e ∷ aggregates) xs s = (count-respects e [] xs s, all_kept-empty aggregates xs s)
+all_kept-empty (Sum e ∷ aggregates) xs s = ((count-respects e [] xs s, sum-respects e [] xs s), all_kept-empty aggregates xs s)
+all_kept-empty (Min e ∷ aggregates) xs s = (projected-respects (λ r. eval e r ∷ []) [] xs s, all_kept-empty aggregates xs s)
+all_kept-empty (Max e ∷ aggregates) xs s = (projected-respects (λ r. eval e r ∷ []) [] xs s, all_kept-empty aggregates xs s)
 
 -- and of none
-pub all_kept-none : (aggregates : List Aggregate) → AreTotals aggregates → AreKept aggregates [] (map (kept_of []) aggregates)
-all_kept-none aggregates totals = all_kept-empty aggregates [] totals (same-refl [])
+pub all_kept-none : (aggregates : List Aggregate) → AreKept aggregates [] (map (kept_of []) aggregates)
+all_kept-none aggregates = all_kept-empty aggregates [] (same-refl [])
 
 -- the group of no rows stands for a bag that counts none
-pub empty-stands : (aggregates : List Aggregate) (xs : Weighted) → AreTotals aggregates → IsBag xs → count_all xs ≡ pos 0 → GroupStands aggregates xs (group_of aggregates [])
-empty-stands aggregates xs totals bag none = record { count = sym none; kept = all_kept-empty aggregates xs totals (nothing-counted xs bag none) }
+pub empty-stands : (aggregates : List Aggregate) (xs : Weighted) → IsBag xs → count_all xs ≡ pos 0 → GroupStands aggregates xs (group_of aggregates [])
+empty-stands aggregates xs bag none = record { count = sym none; kept = all_kept-empty aggregates xs (nothing-counted xs bag none) }
+
+-- and for none
+pub none-stands : (aggregates : List Aggregate) → GroupStands aggregates [] (group_of aggregates [])
+none-stands aggregates = record { count = refl; kept = all_kept-none aggregates }

@@ -1,51 +1,29 @@
--- A group with the rows of a change put in one by one is the group with the change put in.
-use Rattle.std.proofs.Common.{◌≡◌, ℕ, ℤ, pos, ◌+ℤ◌, ◌*ℤ◌, true, cond, List, [], ◌∷◌, map, refl, sym, ◌∙◌, ap, ap₂, arith, Option, None, Some}
+-- A group that stands for rows stands for those with changed rows put in one by one.
+use Rattle.std.proofs.Common.{◌≡◌, ℕ, ℤ, pos, ◌+ℤ◌, ◌*ℤ◌, true, false, cond, List, [], ◌∷◌, ◌++◌, map, refl, sym, ◌∙◌, ap, subst, append_assoc, arith}
 use Rattle.std.proofs.lemmas.Int.{ints}
-use Rattle.std.proofs.Math.IntN.{*ℤ_comm, *ℤ-zero, +ℤ_idl}
+use Rattle.std.proofs.lemmas.List.{append-nil}
+use Rattle.std.proofs.Math.IntN.{*ℤ_comm, *ℤ-zero}
 use Rattle.cq_values.specs.declared.value.Value.{Value}
 use Rattle.cq_values.specs.declared.value.Value.TheVariants.{Null, Number, Day, Text}
 use Rattle.cq_values.specs.Value.{Row}
 use Rattle.cq_values.specs.Order.{same_row}
-use Rattle.cq_bags.specs.Bag.{Weighted}
-use Rattle.cq_bags.proofs.Totals.{by_test}
+use Rattle.cq_bags.specs.Bag.{Weighted, SameBag}
+use Rattle.cq_bags.proofs.Bags.{same-refl, same-trans, same-append}
+use Rattle.cq_bags.proofs.Linears.{filtered-append, projected-append}
+use Rattle.cq_bags.proofs.Totals.{by_test, total-append}
+use Rattle.cq_model.specs.Expr.{Expr}
 use Rattle.cq_model.specs.declared.query.Aggregate.{Aggregate}
 use Rattle.cq_model.specs.declared.query.Aggregate.TheVariants.{CountAll, Count, Sum, Min, Max}
 use Rattle.cq_model.specs.Condition.{is_null}
 use Rattle.cq_model.specs.Eval.{eval}
-use Rattle.cq_model.specs.Group.{addend, count_all, count_values, sum_values, key_of, rows_of_key}
-use Rattle.cq_kept.specs.Kept.{Kept, Counted, Totalled, Listed, AreKept, Group, kept_after, all_kept_after, group_after}
-use Rattle.cq_deltas.specs.Additions.{addend_of, additions, AreTotals}
+use Rattle.cq_model.specs.Group.{addend, count_all, count_values, sum_values, value_bag, key_of, rows_of_key}
+use Rattle.cq_kept.specs.Kept.{Kept, Counted, Totalled, Listed, IsKept, AreKept, Group, GroupStands}
+use Rattle.cq_laws.proofs.Groups.{count-append, sum-append}
+use Rattle.cq_extremes.specs.Extremes.{alone, with_more}
+use Rattle.cq_extremes.proofs.Writes.{more-added}
+use Rattle.cq_deltas.specs.Additions.{addend_of, additions, counted_addend}
 use Rattle.cq_deltas.specs.Kept.{kept_with, all_kept_with, group_with}
 use Rattle.cq_deltas.specs.Keyed.{group_with_all}
-
--- what is kept is of the aggregate's kind
-abbrev pub IsShaped : Aggregate → Kept → Type 0
-IsShaped CountAll (Counted n) = Unit {0}
-IsShaped (Count e) (Counted n) = Unit {0}
-IsShaped (Sum e) (Totalled n total) = Unit {0}
-IsShaped a k = ⊥
-
-abbrev pub AreShaped : List Aggregate → List Kept → Type 0
-AreShaped [] [] = Unit {0}
-AreShaped (a ∷ aggregates) (k ∷ kept) = IsShaped a k × AreShaped aggregates kept
-AreShaped aggregates kept = ⊥
-
--- what shows aggregates is of their kind
-pub shaped : (aggregates : List Aggregate) (xs : Weighted) (kept : List Kept) → AreTotals aggregates → AreKept aggregates xs kept → AreShaped aggregates kept
-shaped [] xs [] t h = tt
-shaped [] xs (k ∷ kept) t h = absurd h
-shaped (a ∷ aggregates) xs [] t h = absurd h
-shaped (CountAll ∷ aggregates) xs (Counted n ∷ kept) t h = (tt, shaped aggregates xs kept t.1 h.1)
-shaped (CountAll ∷ aggregates) xs (Totalled n total ∷ kept) t h = absurd h.0
-shaped (CountAll ∷ aggregates) xs (Listed values ∷ kept) t h = absurd h.0
-shaped (Count e ∷ aggregates) xs (Counted n ∷ kept) t h = (tt, shaped aggregates xs kept t.1 h.1)
-shaped (Count e ∷ aggregates) xs (Totalled n total ∷ kept) t h = absurd h.0
-shaped (Count e ∷ aggregates) xs (Listed values ∷ kept) t h = absurd h.0
-shaped (Sum e ∷ aggregates) xs (Counted n ∷ kept) t h = absurd h.0
-shaped (Sum e ∷ aggregates) xs (Totalled n total ∷ kept) t h = (tt, shaped aggregates xs kept t.1 h.1)
-shaped (Sum e ∷ aggregates) xs (Listed values ∷ kept) t h = absurd h.0
-shaped (Min e ∷ aggregates) xs (k ∷ kept) t h = absurd t.0
-shaped (Max e ∷ aggregates) xs (k ∷ kept) t h = absurd t.0
 
 -- NULL adds nothing to a total
 null-adds-nothing : (v : Value) → is_null v ≡ true → addend v ≡ pos 0
@@ -54,108 +32,101 @@ null-adds-nothing (Number n) e = absurd (cc)
 null-adds-nothing (Day d) e = absurd (cc)
 null-adds-nothing (Text t) e = absurd (cc)
 
-module _ (r : Row) (w : ℤ) (rows : Weighted) where
-  -- one aggregate with a row put in, and then the rest
-  kept-rowwise : (a : Aggregate) (k : Kept) → IsShaped a k → kept_after a ((r, w) ∷ rows) k ≡ kept_after a rows (kept_with w (addend_of r a) k)
-  kept-rowwise CountAll (Counted n) s = ap Counted (omega (arith, ints))
-  kept-rowwise (Count e) (Counted n) s = by_test (is_null (eval e r))
-      (λ b. rw (b, *ℤ-zero w) (ap Counted (omega (arith, ints))))
-      (λ b. rw b (ap Counted (omega (arith, ints))))
-  kept-rowwise (Sum e) (Totalled n total) s = by_test (is_null (eval e r))
-      (λ b. rw (b, null-adds-nothing (eval e r) b, *ℤ-zero w, +ℤ_idl (count_values e rows), +ℤ_idl (sum_values e rows)) refl)
-      (λ b. rw (b, *ℤ_comm w (addend (eval e r))) (λ i. Totalled (count_adds i) (total_adds i)))
+module _ (r : Row) (w : ℤ) (xs : Weighted) where
+  -- a row more
+  abbrev with_row : Weighted
+  with_row = xs ++ (r, w) ∷ []
+
+  counted-one : (e : Expr) (n : ℤ) → n ≡ count_values e xs → IsKept (Count e) with_row (kept_with w (counted_addend (eval e r)) (Counted n))
+  counted-one e n h =
+      let sum = count-append e xs ((r, w) ∷ []) in
+      by_test (is_null (eval e r))
+      (λ b. rw b (h ∙ none b ∙ sym sum))
+      (λ b. rw b (ap (λ m. m +ℤ w) h ∙ one b ∙ sym sum))
     where
-      count_adds : n +ℤ (w *ℤ pos 1 +ℤ count_values e rows) ≡ (n +ℤ w) +ℤ count_values e rows
-      count_adds = omega (arith, ints)
+      none : is_null (eval e r) ≡ true → count_values e xs ≡ count_values e xs +ℤ count_values e ((r, w) ∷ [])
+      none b = rw (b, *ℤ-zero w) (omega (arith, ints))
 
-      total_adds : total +ℤ (addend (eval e r) *ℤ w +ℤ sum_values e rows) ≡ (total +ℤ addend (eval e r) *ℤ w) +ℤ sum_values e rows
-      total_adds = omega (arith, ints)
-  kept-rowwise CountAll (Totalled n total) s = absurd s
-  kept-rowwise CountAll (Listed values) s = absurd s
-  kept-rowwise (Count e) (Totalled n total) s = absurd s
-  kept-rowwise (Count e) (Listed values) s = absurd s
-  kept-rowwise (Sum e) (Counted n) s = absurd s
-  kept-rowwise (Sum e) (Listed values) s = absurd s
-  kept-rowwise (Min e) k s = absurd s
-  kept-rowwise (Max e) k s = absurd s
+      one : is_null (eval e r) ≡ false → count_values e xs +ℤ w ≡ count_values e xs +ℤ count_values e ((r, w) ∷ [])
+      one b = rw b (omega (arith, ints))
 
-  -- a row keeps the kind
-  still-shaped : (a : Aggregate) (v : Option ℤ) (k : Kept) → IsShaped a k → IsShaped a (kept_with w v k)
-  still-shaped a None k s = s
-  still-shaped CountAll (Some v) (Counted n) s = tt
-  still-shaped (Count e) (Some v) (Counted n) s = tt
-  still-shaped (Sum e) (Some v) (Totalled n total) s = tt
-  still-shaped CountAll (Some v) (Totalled n total) s = absurd s
-  still-shaped CountAll (Some v) (Listed values) s = absurd s
-  still-shaped (Count e) (Some v) (Totalled n total) s = absurd s
-  still-shaped (Count e) (Some v) (Listed values) s = absurd s
-  still-shaped (Sum e) (Some v) (Counted n) s = absurd s
-  still-shaped (Sum e) (Some v) (Listed values) s = absurd s
-  still-shaped (Min e) (Some v) k s = absurd s
-  still-shaped (Max e) (Some v) k s = absurd s
+  totalled-one : (e : Expr) (n total : ℤ) → n ≡ count_values e xs → total ≡ sum_values e xs → IsKept (Sum e) with_row (kept_with w (counted_addend (eval e r)) (Totalled n total))
+  totalled-one e n total h t =
+      let counts = count-append e xs ((r, w) ∷ []) in
+      let sums = sum-append e xs ((r, w) ∷ []) in
+      by_test (is_null (eval e r))
+      (λ b. rw b (h ∙ none b ∙ sym counts, t ∙ no_sum b ∙ sym sums))
+      (λ b. rw b (ap (λ m. m +ℤ w) h ∙ one b ∙ sym counts, ap (λ m. m +ℤ addend (eval e r) *ℤ w) t ∙ a_sum ∙ sym sums))
+    where
+      none : is_null (eval e r) ≡ true → count_values e xs ≡ count_values e xs +ℤ count_values e ((r, w) ∷ [])
+      none b = rw (b, *ℤ-zero w) (omega (arith, ints))
+
+      one : is_null (eval e r) ≡ false → count_values e xs +ℤ w ≡ count_values e xs +ℤ count_values e ((r, w) ∷ [])
+      one b = rw b (omega (arith, ints))
+
+      no_sum : is_null (eval e r) ≡ true → sum_values e xs ≡ sum_values e xs +ℤ sum_values e ((r, w) ∷ [])
+      no_sum b = rw (null-adds-nothing (eval e r) b, *ℤ-zero w) (omega (arith, ints))
+
+      a_sum : sum_values e xs +ℤ addend (eval e r) *ℤ w ≡ sum_values e xs +ℤ sum_values e ((r, w) ∷ [])
+      a_sum = rw (*ℤ_comm w (addend (eval e r))) (omega (arith, ints))
+
+  listed-one : (e : Expr) (values : Weighted) → SameBag values (value_bag e xs) → SameBag (with_more (alone (eval e r)) w values) (value_bag e with_row)
+  listed-one e values h =
+      let one = (alone (eval e r), w) ∷ [] in
+      subst (λ (ys : Weighted). SameBag (with_more (alone (eval e r)) w values) ys) (sym (projected-append (λ s. eval e s ∷ []) xs ((r, w) ∷ [])))
+      (same-trans (with_more (alone (eval e r)) w values) (values ++ one) (value_bag e xs ++ one)
+      (more-added (alone (eval e r)) w values (with_more (alone (eval e r)) w values) refl).bag
+      (same-append values (value_bag e xs) one one h (same-refl one)))
+
+  -- one aggregate with a row put in
+  kept-one : (a : Aggregate) (k : Kept) → IsKept a xs k → IsKept a with_row (kept_with w (addend_of r a) k)
+  kept-one CountAll (Counted n) h = ap (λ m. m +ℤ w) h ∙ one ∙ sym (total-append (λ s. pos 1) xs ((r, w) ∷ []))
+    where
+      one : count_all xs +ℤ w ≡ count_all xs +ℤ count_all ((r, w) ∷ [])
+      one = omega (arith, ints)
+  kept-one (Count e) (Counted n) h = counted-one e n h
+  kept-one (Sum e) (Totalled n total) h = totalled-one e n total h.0 h.1
+  kept-one (Min e) (Listed values) h = listed-one e values h
+  kept-one (Max e) (Listed values) h = listed-one e values h
+  kept-one CountAll (Totalled n total) h = absurd h
+  kept-one CountAll (Listed values) h = absurd h
+  kept-one (Count e) (Totalled n total) h = absurd h
+  kept-one (Count e) (Listed values) h = absurd h
+  kept-one (Sum e) (Counted n) h = absurd h
+  kept-one (Sum e) (Listed values) h = absurd h
+  kept-one (Min e) (Counted n) h = absurd h
+  kept-one (Min e) (Totalled n total) h = absurd h
+  kept-one (Max e) (Counted n) h = absurd h
+  kept-one (Max e) (Totalled n total) h = absurd h
 
   -- so all aggregates of a group
-  all-rowwise : (aggregates : List Aggregate) (kept : List Kept) → AreShaped aggregates kept
-      → all_kept_after aggregates ((r, w) ∷ rows) kept ≡ all_kept_after aggregates rows (all_kept_with w (map (addend_of r) aggregates) kept)
-  all-rowwise [] [] s = refl
-  all-rowwise [] (k ∷ kept) s = absurd s
-  all-rowwise (a ∷ aggregates) [] s = absurd s
-  all-rowwise (a ∷ aggregates) (k ∷ kept) s = λ i. kept-rowwise a k s.0 i ∷ all-rowwise aggregates kept s.1 i
+  all-kept-one : (aggregates : List Aggregate) (kept : List Kept) → AreKept aggregates xs kept → AreKept aggregates with_row (all_kept_with w (map (addend_of r) aggregates) kept)
+  all-kept-one [] [] h = tt
+  all-kept-one [] (k ∷ kept) h = absurd h
+  all-kept-one (a ∷ aggregates) [] h = absurd h
+  all-kept-one (a ∷ aggregates) (k ∷ kept) h = (kept-one a k h.0, all-kept-one aggregates kept h.1)
 
-  all-still-shaped : (aggregates : List Aggregate) (kept : List Kept) → AreShaped aggregates kept → AreShaped aggregates (all_kept_with w (map (addend_of r) aggregates) kept)
-  all-still-shaped [] [] s = tt
-  all-still-shaped [] (k ∷ kept) s = absurd s
-  all-still-shaped (a ∷ aggregates) [] s = absurd s
-  all-still-shaped (a ∷ aggregates) (k ∷ kept) s = (still-shaped a (addend_of r a) k s.0, all-still-shaped aggregates kept s.1)
+  group-one : (aggregates : List Aggregate) (g : Group) → GroupStands aggregates xs g → GroupStands aggregates with_row (group_with w (map (addend_of r) aggregates) g)
+  group-one aggregates g stands = record { count = kept-one CountAll (Counted g.count) stands.count; kept = all-kept-one aggregates g.kept stands.kept }
 
-  group-rowwise : (aggregates : List Aggregate) (g : Group) → AreShaped aggregates g.kept
-      → group_after aggregates ((r, w) ∷ rows) g ≡ group_after aggregates rows (group_with w (map (addend_of r) aggregates) g)
-  group-rowwise aggregates g s = λ i. record { count = count_adds i; kept = all-rowwise aggregates g.kept s i }
-    where
-      count_adds : g.count +ℤ (w *ℤ pos 1 +ℤ count_all rows) ≡ (g.count +ℤ w) +ℤ count_all rows
-      count_adds = omega (arith, ints)
-
--- no row of a group changes nothing
-nothing-after : (aggregates : List Aggregate) (kept : List Kept) → AreShaped aggregates kept → all_kept_after aggregates [] kept ≡ kept
-nothing-after [] [] s = refl
-nothing-after [] (k ∷ kept) s = absurd s
-nothing-after (a ∷ aggregates) [] s = absurd s
-nothing-after (a ∷ aggregates) (k ∷ kept) s = λ i. none a k s.0 i ∷ nothing-after aggregates kept s.1 i
-  where
-    none : (a : Aggregate) (k : Kept) → IsShaped a k → kept_after a [] k ≡ k
-    none CountAll (Counted n) s = ap Counted (omega (arith, ints))
-    none (Count e) (Counted n) s = ap Counted (omega (arith, ints))
-    none (Sum e) (Totalled n total) s = ap₂ Totalled (omega (arith, ints)) (omega (arith, ints))
-    none CountAll (Totalled n total) s = absurd s
-    none CountAll (Listed values) s = absurd s
-    none (Count e) (Totalled n total) s = absurd s
-    none (Count e) (Listed values) s = absurd s
-    none (Sum e) (Counted n) s = absurd s
-    none (Sum e) (Listed values) s = absurd s
-    none (Min e) k s = absurd s
-    none (Max e) k s = absurd s
-
--- a change put in row by row
-pub change-rowwise : (columns : List ℕ) (aggregates : List Aggregate) (k : Row) (dxs : Weighted) (g : Group) → AreShaped aggregates g.kept
-    → group_with_all (additions columns aggregates dxs) k g ≡ group_after aggregates (rows_of_key columns k dxs) g
-change-rowwise columns aggregates k [] g s =
-    let count_stays : g.count ≡ g.count +ℤ pos 0 = omega (arith, ints) in
-    λ i. record { count = count_stays i; kept = sym (nothing-after aggregates g.kept s) i }
-change-rowwise columns aggregates k (x ∷ dxs) g s =
+-- the group of a key stands for the rows with that key, once a change is put in row by row
+pub rowwise-stands : (columns : List ℕ) (aggregates : List Aggregate) (k : Row) (xs dxs : Weighted) (g : Group) → GroupStands aggregates (rows_of_key columns k xs) g
+    → GroupStands aggregates (rows_of_key columns k (xs ++ dxs)) (group_with_all (additions columns aggregates dxs) k g)
+rowwise-stands columns aggregates k xs [] g stands = subst (λ (ys : Weighted). GroupStands aggregates (rows_of_key columns k ys) g) (sym (append-nil xs)) stands
+rowwise-stands columns aggregates k xs (x ∷ dxs) g stands =
     let test = same_row (key_of columns x.0) k in
-    let rest = rows_of_key columns k dxs in
     let more = group_with x.1 (map (addend_of x.0) aggregates) g in
+    let rows = rows_of_key columns k xs in
+    let apart : rows_of_key columns k (xs ++ x ∷ []) ≡ rows ++ rows_of_key columns k (x ∷ []) = filtered-append (λ r. same_row (key_of columns r) k) xs (x ∷ []) in
+    let next : GroupStands aggregates (rows_of_key columns k (xs ++ x ∷ [])) (cond test more g) =
     by_test test
     (λ b.
-    let met : cond test more g ≡ more = rw b refl in
-    let rows : rows_of_key columns k (x ∷ dxs) ≡ x ∷ rest = rw b refl in
-    ap (λ h. group_with_all (additions columns aggregates dxs) k h) met
-    ∙ change-rowwise columns aggregates k dxs more (all-still-shaped x.0 x.1 dxs aggregates g.kept s)
-    ∙ sym (group-rowwise x.0 x.1 rest aggregates g s)
-    ∙ ap (λ ys. group_after aggregates ys g) (sym rows))
+    let met : rows_of_key columns k (x ∷ []) ≡ x ∷ [] = rw b refl in
+    let here : GroupStands aggregates (rows ++ x ∷ []) (cond test more g) = rw b (group-one x.0 x.1 rows aggregates g stands) in
+    subst (λ (ys : Weighted). GroupStands aggregates ys (cond test more g)) (sym (apart ∙ ap (λ (ys : Weighted). rows ++ ys) met)) here)
     (λ b.
-    let met : cond test more g ≡ g = rw b refl in
-    let rows : rows_of_key columns k (x ∷ dxs) ≡ rest = rw b refl in
-    ap (λ h. group_with_all (additions columns aggregates dxs) k h) met
-    ∙ change-rowwise columns aggregates k dxs g s
-    ∙ ap (λ ys. group_after aggregates ys g) (sym rows))
+    let met : rows_of_key columns k (x ∷ []) ≡ [] = rw b refl in
+    let here : GroupStands aggregates rows (cond test more g) = rw b stands in
+    subst (λ (ys : Weighted). GroupStands aggregates ys (cond test more g)) (sym (apart ∙ ap (λ (ys : Weighted). rows ++ ys) met ∙ append-nil rows)) here) in
+    subst (λ (ys : Weighted). GroupStands aggregates (rows_of_key columns k ys) (group_with_all (additions columns aggregates (x ∷ dxs)) k g)) (append_assoc xs (x ∷ []) dxs)
+    (rowwise-stands columns aggregates k (xs ++ x ∷ []) dxs (cond test more g) next)

@@ -10,18 +10,21 @@ use Rattle.cq_model.specs.Condition.{is_null}
 use Rattle.cq_model.specs.Eval.{eval}
 use Rattle.cq_model.specs.Group.{addend, key_of}
 use Rattle.cq_model.specs.Width.{IsNarrowAt, number_limit}
+use Rattle.cq_deltas.specs.declared.change.Addend.{Addend}
+use Rattle.cq_deltas.specs.declared.change.Addend.TheVariants.{Number, Listed}
 use Rattle.cq_deltas.specs.declared.change.Addition.{Addition}
 
 -- what a value adds to a total; NULL is not even counted
-abbrev pub counted_addend : Value → Option ℤ
-counted_addend v = if is_null v then None else Some (addend v)
+abbrev pub counted_addend : Value → Option Addend
+counted_addend v = if is_null v then None else Some (Number (addend v))
 
 -- what a row adds to an aggregate
-abbrev pub addend_of : Row → Aggregate → Option ℤ
-addend_of r CountAll = Some (pos 0)
+abbrev pub addend_of : Row → Aggregate → Option Addend
+addend_of r CountAll = Some (Number (pos 0))
 addend_of r (Count e) = counted_addend (eval e r)
 addend_of r (Sum e) = counted_addend (eval e r)
-addend_of r a = None
+addend_of r (Min e) = Some (Listed (eval e r))
+addend_of r (Max e) = Some (Listed (eval e r))
 
 -- what a changed row adds: its key, its weight, and what its arguments add
 abbrev pub addition : List ℕ → List Aggregate → Row × ℤ → Addition
@@ -33,13 +36,20 @@ additions columns aggregates dxs = map (addition columns aggregates) dxs
 
 -- no number that is written or worked out on the way to an aggregate's argument is too wide
 abbrev pub IsNarrow : Row → Aggregate → Type 0
+IsNarrow r CountAll = Unit {0}
 IsNarrow r (Count e) = IsNarrowAt e r
 IsNarrow r (Sum e) = IsNarrowAt e r
-IsNarrow r a = Unit {0}
+IsNarrow r (Min e) = IsNarrowAt e r
+IsNarrow r (Max e) = IsNarrowAt e r
 
--- what a row adds to an aggregate is no larger than a number can be
+-- what is added is no larger than a number can be
+abbrev pub IsSmallAddend : Addend → Type 0
+IsSmallAddend (Number n) = nat_abs n ≤ number_limit
+IsSmallAddend (Listed v) = Unit {0}
+
+-- what a row adds to an aggregate is no larger
 abbrev pub IsSmall : Row → Aggregate → Type 0
-IsSmall r a = IfSome (addend_of r a) (λ n. nat_abs n ≤ number_limit)
+IsSmall r a = IfSome (addend_of r a) IsSmallAddend
 
 -- COUNT and SUM, which are shown by counts and totals
 abbrev pub IsTotal : Aggregate → Type 0

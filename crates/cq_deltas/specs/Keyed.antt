@@ -1,7 +1,7 @@
 -- Groups by key, and what a change makes of them.
-use Rattle.std.specs.Prelude.{◌≡◌, ℕ, pos, Bool, true, if◌then◌else◌, List, [], ◌++◌, nat_abs, Option, None, Some, is_some, unwrap_or, fold}
+use Rattle.std.specs.Prelude.{◌≡◌, ℕ, pos, Bool, if◌then◌else◌, List, [], ◌++◌, nat_abs, Option, None, Some, unwrap_or, fold}
 use Rattle.std.specs.Ordering.{int_eq}
-use Rattle.std.specs.List.{list_any, sum_by}
+use Rattle.std.specs.List.{AllByRecursion, list_any, sum_by}
 use Rattle.std.specs.Map.{lookup}
 use Rattle.std.specs.Option.{option_map}
 use Rattle.cq_values.specs.Value.{Row}
@@ -12,17 +12,23 @@ use Rattle.cq_model.specs.declared.query.Aggregate.{Aggregate}
 use Rattle.cq_model.specs.declared.query.Query.{Query}
 use Rattle.cq_model.specs.declared.query.Shape.TheVariants.{Grouped}
 use Rattle.cq_kept.specs.Kept.{Group, Groups, LastStands, group_of}
+use Rattle.cq_deltas.specs.declared.change.Addend.{Addend}
 use Rattle.cq_deltas.specs.declared.change.Addition.{Addition}
-use Rattle.cq_deltas.specs.Additions.{AreTotals, additions}
-use Rattle.cq_deltas.specs.Kept.{GroupHolds, group_with, total_moves}
+use Rattle.cq_deltas.specs.declared.group.Group.{Group as StoredGroup}
+use Rattle.cq_deltas.specs.Additions.{additions}
+use Rattle.cq_deltas.specs.Kept.{GroupHolds, HaveRoom, group_with, seen_group, total_moves}
 
--- keys with their groups
+-- keys with their groups as they are stored
 abbrev pub KeyedGroups : Type 0
-KeyedGroups = List (Row × Group)
+KeyedGroups = List (Row × StoredGroup)
+
+-- how the group of a key is stored
+abbrev pub held_at : KeyedGroups → Row → Option StoredGroup
+held_at groups k = lookup (same_row k) groups
 
 -- what is stored of a key
 abbrev pub stored_at : KeyedGroups → Row → Option Group
-stored_at groups k = lookup (same_row k) groups
+stored_at groups k = option_map seen_group (held_at groups k)
 
 -- the group of a key: where none is stored, that of no rows
 abbrev pub group_at : List Aggregate → KeyedGroups → Row → Group
@@ -53,9 +59,18 @@ stored_after change k stored = if is_met change k then settled (option_map (grou
 pub record Takes (old : KeyedGroups) (change : List Addition) (new : KeyedGroups) : Type 0 where
   pub at : (k : Row) → stored_at new k ≡ stored_after change k (stored_at old k)
 
--- each key of the change is stored: what groups have that were made ready for it
+-- a group is there, and has room for what a row adds
+abbrev pub IsReadyFor : List (Option Addend) → Option StoredGroup → Type 0
+IsReadyFor addends None = ⊥
+IsReadyFor addends (Some g) = HaveRoom addends g.kept.items
+
+-- what was ready still is
+abbrev pub StayReady : KeyedGroups → KeyedGroups → Type 0
+StayReady old new = (k : Row) (addends : List (Option Addend)) → IsReadyFor addends (held_at old k) → IsReadyFor addends (held_at new k)
+
+-- each row's group is there and has room: what groups have that were made ready for the change
 pub record HasKeys (change : List Addition) (groups : KeyedGroups) : Type 0 where
-  pub at : (k : Row) → is_met change k ≡ true → is_some (stored_at groups k) ≡ true
+  pub at : AllByRecursion (λ x. IsReadyFor x.addends (held_at groups x.key)) change
 
 -- each stored group has the changed rows put in, and none is dropped
 abbrev pub ArePut : KeyedGroups → List Addition → KeyedGroups → Type 0
@@ -89,6 +104,6 @@ pub record HoldsFor (change : List Addition) (groups : KeyedGroups) : Type 0 whe
 abbrev pub GroupsGoOn : KeyedGroups → List Addition → KeyedGroups → Type 0
 GroupsGoOn old change new =
     (q : Query) (keys : Option (List ℕ)) (aggregates : List Aggregate) (having : Option Cond) (xs dxs ys : Weighted)
-    → change ≡ additions (unwrap_or keys []) aggregates dxs → AreTotals aggregates → SameBag ys (xs ++ dxs) → IsBag ys
+    → change ≡ additions (unwrap_or keys []) aggregates dxs → SameBag ys (xs ++ dxs) → IsBag ys
     → LastStands q (Grouped keys aggregates having) xs (Groups (group_at aggregates old))
     → LastStands q (Grouped keys aggregates having) ys (Groups (group_at aggregates new))

@@ -9,7 +9,7 @@ use Rattle.cq_model.specs.declared.query.Shape.TheVariants.{Grouped}
 use Rattle.cq_model.specs.Group.{SumInRange}
 use Rattle.cq_kept.specs.Kept.{Group, GroupStands, Groups, LastStands}
 use Rattle.cq_deltas.specs.declared.change.Addition.{Addition}
-use Rattle.cq_deltas.specs.Additions.{AreTotals, additions}
+use Rattle.cq_deltas.specs.Additions.{additions}
 use Rattle.cq_deltas.specs.Keyed.{KeyedGroups, group_at, count_moves, all_total_moves, HoldsFor}
 use Rattle.cq_deltas.specs.Shown.{AllCanBeShown}
 use Rattle.cq_model.specs.Width.{number_limit}
@@ -23,7 +23,7 @@ pub record AreSmall (rows change : List Addition) : Type 0 where
 abbrev pub SmallRowsHold : Type 0
 SmallRowsHold =
     (q : Query) (keys : Option (List ℕ)) (aggregates : List Aggregate) (having : Option Cond) (xs : Weighted) (groups : KeyedGroups) (change : List Addition)
-    → AreTotals aggregates → LastStands q (Grouped keys aggregates having) xs (Groups (group_at aggregates groups))
+    → LastStands q (Grouped keys aggregates having) xs (Groups (group_at aggregates groups))
     → AreSmall (additions (unwrap_or keys []) aggregates xs) change → HoldsFor change groups
 
 -- a group that stands for rows can be shown exactly where their totals can be shown

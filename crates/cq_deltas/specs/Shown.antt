@@ -5,7 +5,9 @@ use Rattle.cq_values.specs.Value.{Row}
 use Rattle.cq_model.specs.declared.query.Aggregate.{Aggregate}
 use Rattle.cq_model.specs.declared.query.Aggregate.TheVariants.{Sum}
 use Rattle.cq_model.specs.Group.{InRange}
-use Rattle.cq_kept.specs.Kept.{Group, Kept, Totalled, shown_row}
+use Rattle.cq_kept.specs.Kept.{Kept, Totalled, shown_row}
+use Rattle.cq_deltas.specs.declared.group.Group.{Group as StoredGroup}
+use Rattle.cq_deltas.specs.Kept.{seen_group}
 use Rattle.cq_deltas.specs.Keyed.{KeyedGroups, group_at}
 
 -- what is kept can be shown: a SUM's total fits
@@ -17,6 +19,10 @@ CanBeShown a kept = Unit {0}
 abbrev pub AllCanBeShown : List Aggregate → List Kept → Type 0
 AllCanBeShown (a ∷ aggregates) (k ∷ kept) = CanBeShown a k × AllCanBeShown aggregates kept
 AllCanBeShown aggregates kept = Unit {0}
+
+-- and of a group as it is stored
+abbrev pub GroupCanBeShown : List Aggregate → StoredGroup → Type 0
+GroupCanBeShown aggregates group = AllCanBeShown aggregates (seen_group group).kept
 
 -- the groups that have rows
 abbrev pub counted : KeyedGroups → KeyedGroups
@@ -36,16 +42,16 @@ GroupsCanBeShown aggregates groups = AllByRecursion (λ k. AllCanBeShown aggrega
 
 -- the rows of groups as they stand in a list
 abbrev pub entry_rows : List Aggregate → KeyedGroups → List Row
-entry_rows aggregates groups = map (λ e. shown_row aggregates e.0 e.1.kept) (counted groups)
+entry_rows aggregates groups = map (λ e. shown_row aggregates e.0 (seen_group e.1).kept) (counted groups)
 
 -- these groups can be shown as they stand in a list
 abbrev pub EntriesCanBeShown : List Aggregate → KeyedGroups → Type 0
-EntriesCanBeShown aggregates groups = AllByRecursion (λ e. AllCanBeShown aggregates e.1.kept) (counted groups)
+EntriesCanBeShown aggregates groups = AllByRecursion (λ e. GroupCanBeShown aggregates e.1) (counted groups)
 
 -- the row of one group, if the group has rows
-abbrev pub entry_row : List Aggregate → Row → Group → List Row
+abbrev pub entry_row : List Aggregate → Row → StoredGroup → List Row
 entry_row aggregates k group = entry_rows aggregates ((k, group) ∷ [])
 
 -- this group can be shown, if it has rows
-abbrev pub EntryCanBeShown : List Aggregate → Row → Group → Type 0
+abbrev pub EntryCanBeShown : List Aggregate → Row → StoredGroup → Type 0
 EntryCanBeShown aggregates k group = EntriesCanBeShown aggregates ((k, group) ∷ [])

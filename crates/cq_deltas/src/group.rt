@@ -3,16 +3,15 @@ ghost use Rattle.std.specs.List.{AllByRecursion};
 ghost use Rattle.std.specs.Prelude.{nat_abs, ◌≡◌, [], IfErr, IfOk, OnOk, map};
 ghost use Rattle.cq_kept.specs.Kept.{group_of, shown_row};
 ghost use Rattle.cq_deltas.specs.declared.fault.ShowFault.TheVariants.{SumOutOfRange};
-ghost use Rattle.cq_deltas.specs.Shown.{AllCanBeShown};
-ghost use Rattle.cq_deltas.specs.Additions.{AreTotals};
-ghost use Rattle.cq_deltas.specs.Kept.{GroupHolds, KeptHolds, all_kept_with, group_with, seen, total_moves};
+ghost use Rattle.cq_deltas.specs.Shown.{AllCanBeShown, GroupCanBeShown};
+ghost use Rattle.cq_deltas.specs.Kept.{GroupHolds, HaveRoom, KeepRoom, KeptHolds, all_kept_with, group_with, seen, seen_group, total_moves};
 
+use crate::change::Addend;
 use crate::fault::ShowFault;
 use crate::kept::Kept;
 use cq_model::Aggregate;
 use cq_values::{Row, copy_row};
 use std::alloc::{AllocError, Global};
-use std::marker::Model;
 
 /// A group of rows that have one key.
 #[derive(Debug, Drop)]
@@ -21,25 +20,14 @@ pub struct Group {
     kept: Vec<Kept>,
 }
 
-impl Model for Group {
-    ghost use Rattle.std.specs.Prelude.{map};
-    ghost use Rattle.cq_kept.specs.Kept.{Group as Counted};
-    ghost use Rattle.cq_deltas.specs.Kept.{seen};
-
-    ghost Value = { Counted };
-
-    ghost view = { λ g. record { count = g.count; kept = map seen g.kept.items } };
-}
-
 impl Group {
     /// The group of no rows.
     pub(crate) fn empty(alloc: Global, aggregates: &[Aggregate]) -> Result<Group, AllocError>
-        requires { AreTotals aggregates.now }
-        ensures { IfOk result (λ g. g ≡ group_of aggregates.now []) }
+        ensures { IfOk result (λ g. seen_group g ≡ group_of aggregates.now []) }
     {
         let mut kept = Vec::new(alloc);
         for aggregate in aggregates {
-            kept.push(Kept::empty(aggregate))?;
+            kept.push(Kept::empty(alloc, aggregate))?;
         }
         Ok(Group { count: 0, kept })
     }
@@ -51,13 +39,35 @@ impl Group {
         self.count
     }
 
+    /// Makes room for the arguments of a row, and leaves the group as it is.
+    pub(crate) fn ready(
+        &mut self,
+        alloc: Global,
+        addends: &[Option<Addend>],
+    ) -> Result<(), AllocError>
+        ensures seen { seen_group self.new ≡ seen_group self.old }
+        ensures room { OnOk result (HaveRoom addends.now self.new.kept.items) }
+        ensures kept { KeepRoom self.old.kept.items self.new.kept.items }
+    {
+        ready_all(alloc, &mut self.kept, addends)
+    }
+
     /// Puts a row in, by what its arguments add.
-    pub(crate) fn add(&mut self, weight: i128, addends: &[Option<i128>])
-        requires { GroupHolds (nat_abs weight) (total_moves weight addends.now) self.old }
-        ensures { self.new ≡ group_with weight addends.now self.old }
+    pub(crate) fn add(&mut self, weight: i128, addends: &[Option<Addend>])
+        requires room { HaveRoom addends.now self.old.kept.items }
+        requires holds { GroupHolds (nat_abs weight) (total_moves weight addends.now) (seen_group self.old) }
+        ensures seen { seen_group self.new ≡ group_with weight addends.now (seen_group self.old) }
+        ensures kept { KeepRoom self.old.kept.items self.new.kept.items }
     {
         self.count += weight;
         add_all(&mut self.kept, weight, addends);
+    }
+
+    /// Lets values go that are counted no longer, of those that a row has.
+    pub(crate) fn settle(&mut self, addends: &[Option<Addend>])
+        ensures { seen_group self.new ≡ seen_group self.old }
+    {
+        settle_all(&mut self.kept, addends);
     }
 
     /// The row that the group shows: its key, and then its aggregates.
@@ -67,9 +77,9 @@ impl Group {
         aggregates: &[Aggregate],
         key: &Row,
     ) -> Result<Row, ShowFault>
-        ensures row { IfOk result (λ row. row ≡ shown_row aggregates.now key.now self.now.kept) }
-        ensures range { OnOk result (AllCanBeShown aggregates.now self.now.kept) }
-        ensures fault { IfErr result (λ e. e ≡ SumOutOfRange → AllCanBeShown aggregates.now self.now.kept → ⊥) }
+        ensures row { IfOk result (λ row. row ≡ shown_row aggregates.now key.now (seen_group self.now).kept) }
+        ensures range { OnOk result (GroupCanBeShown aggregates.now self.now) }
+        ensures fault { IfErr result (λ e. e ≡ SumOutOfRange → GroupCanBeShown aggregates.now self.now → ⊥) }
     {
         shown_row(alloc, aggregates, key, &self.kept)
     }
@@ -88,21 +98,44 @@ fn shown_row(
     let mut row = copy_row(alloc, key.as_slice())?;
     let len = aggregates.len().min(kept.len());
     for place in 0..len {
-        match kept[place].value(&aggregates[place]) {
-            Some(value) => row.push(value)?,
-            None => return Err(ShowFault::SumOutOfRange),
-        }
+        let value = kept[place].value(alloc, &aggregates[place])?;
+        row.push(value)?;
     }
     Ok(row)
 }
 
-/// Puts each argument of a row in what is kept of its aggregate.
-fn add_all(kept: &mut [Kept], weight: i128, addends: &[Option<i128>])
-    requires { AllByRecursion (KeptHolds (nat_abs weight) (total_moves weight addends.now)) (map seen kept.old) }
-    ensures { map seen kept.new ≡ all_kept_with weight addends.now (map seen kept.old) }
+/// Makes room for each argument of a row in what is kept of its aggregate.
+fn ready_all(alloc: Global, kept: &mut [Kept], addends: &[Option<Addend>]) -> Result<(), AllocError>
+    ensures seen { map seen kept.new ≡ map seen kept.old }
+    ensures room { OnOk result (HaveRoom addends.now kept.new) }
+    ensures kept { KeepRoom kept.old kept.new }
 {
     let len = kept.len().min(addends.len());
     for place in 0..len {
-        kept[place].add(weight, addends[place]);
+        kept[place].ready(alloc, &addends[place])?;
+    }
+    Ok(())
+}
+
+/// Puts each argument of a row in what is kept of its aggregate.
+fn add_all(kept: &mut [Kept], weight: i128, addends: &[Option<Addend>])
+    requires room { HaveRoom addends.now kept.old }
+    requires holds { AllByRecursion (KeptHolds (nat_abs weight) (total_moves weight addends.now)) (map seen kept.old) }
+    ensures seen { map seen kept.new ≡ all_kept_with weight addends.now (map seen kept.old) }
+    ensures kept { KeepRoom kept.old kept.new }
+{
+    let len = kept.len().min(addends.len());
+    for place in 0..len {
+        kept[place].add(weight, &addends[place]);
+    }
+}
+
+/// Lets each argument's value go where it is counted no longer.
+fn settle_all(kept: &mut [Kept], addends: &[Option<Addend>])
+    ensures { map seen kept.new ≡ map seen kept.old }
+{
+    let len = kept.len().min(addends.len());
+    for place in 0..len {
+        kept[place].settle(&addends[place]);
     }
 }

@@ -3,14 +3,14 @@ ghost use Rattle.std.specs.Map.Iter.{ShowsInOrder, deref_pair};
 ghost use Rattle.std.specs.Option.{option_map_or};
 ghost use Rattle.std.specs.Ordering.{int_eq};
 ghost use Rattle.std.specs.Prelude.{◌++◌, ◌≡◌, IfErr, IfOk, OnOk, Some, [], is_some, true, false, pos};
-ghost use Rattle.cq_kept.specs.Kept.{Group as Counted, Groups as ByKey};
+ghost use Rattle.cq_kept.specs.Kept.{Groups as ByKey};
+ghost use Rattle.cq_deltas.specs.declared.group.Group.{Group as Stored};
 ghost use Rattle.cq_kept.specs.Shown.{ListsKeys};
 ghost use Rattle.cq_values.specs.Order.{same_row};
 ghost use Rattle.cq_values.specs.Value.{Row as Values};
-ghost use Rattle.cq_deltas.specs.Additions.{AreTotals};
 ghost use Rattle.cq_deltas.specs.declared.fault.ShowFault.TheVariants.{SumOutOfRange};
 ghost use Rattle.cq_deltas.specs.Shown.{EntryCanBeShown, GroupsCanBeShown, counted_keys, entry_row, group_rows};
-ghost use Rattle.cq_deltas.specs.Keyed.{ArePut, AreSettled, GroupsGoOn, HasKeys, HoldsFor, HoldsOne, IsPut, Takes, group_at, is_met, stored_at};
+ghost use Rattle.cq_deltas.specs.Keyed.{ArePut, AreSettled, GroupsGoOn, HasKeys, HoldsFor, HoldsOne, IsPut, IsReadyFor, StayReady, Takes, group_at, held_at, is_met, stored_at};
 
 use crate::change::{Addition, GroupChange};
 use crate::fault::ShowFault;
@@ -45,29 +45,29 @@ impl Groups {
         }
     }
 
-    /// Makes an empty group for each new key of a change, so that the change can be put in without growth.
+    /// Makes an empty group for each new key of a change, and room for its values, so that it can be put in without
+    /// growth. No group changes.
     pub fn ready(
         &mut self,
         alloc: Global,
         aggregates: &[Aggregate],
         change: &GroupChange,
     ) -> Result<(), AllocError>
-        requires { AreTotals aggregates.now }
         ensures groups { (k : Values) → group_at aggregates.now self.new k ≡ group_at aggregates.now self.old k }
         ensures keys { OnOk result (HasKeys change.now self.new) }
     {
         for addition in change.as_slice() {
             self.make(alloc, aggregates, &addition.key)?;
+            self.make_room(alloc, addition)?;
         }
         Ok(())
     }
 
     /// Makes an empty group for a key that has none.
     fn make(&mut self, alloc: Global, aggregates: &[Aggregate], key: &Row) -> Result<(), AllocError>
-        requires { AreTotals aggregates.now }
         ensures groups { (k : Values) → group_at aggregates.now self.new k ≡ group_at aggregates.now self.old k }
-        ensures there { OnOk result (is_some (stored_at self.new key.now) ≡ true) }
-        ensures kept { (k : Values) → is_some (stored_at self.old k) ≡ true → is_some (stored_at self.new k) ≡ true }
+        ensures there { OnOk result (is_some (held_at self.new key.now) ≡ true) }
+        ensures kept { StayReady self.old self.new }
     {
         if self.groups.contains_key(key) {
             return Ok(());
@@ -78,6 +78,19 @@ impl Groups {
         Ok(())
     }
 
+    /// Makes room in a row's group for what the row adds.
+    fn make_room(&mut self, alloc: Global, addition: &Addition) -> Result<(), AllocError>
+        requires { is_some (held_at self.old addition.now.key) ≡ true }
+        ensures groups { (k : Values) → stored_at self.new k ≡ stored_at self.old k }
+        ensures room { OnOk result (IsReadyFor addition.now.addends (held_at self.new addition.now.key)) }
+        ensures kept { StayReady self.old self.new }
+    {
+        match self.groups.get_mut(&addition.key) {
+            Some(group) => group.ready(alloc, addition.addends.as_slice()),
+            None => unreachable!(),
+        }
+    }
+
     /// Puts a change in that the groups were made ready for. It cannot fail, and takes no memory.
     pub fn take(&mut self, change: GroupChange)
         requires keys { HasKeys change self.old }
@@ -86,13 +99,13 @@ impl Groups {
         ensures goes_on { GroupsGoOn self.old change self.new }
     {
         self.put_all(change.as_slice());
-        self.drop_empty(change.as_slice());
+        self.settle_all(change.as_slice());
     }
 
     /// The groups with their keys, also those without rows that were made for a change that never came.
     pub fn iter(&self) -> Iter<'_, Row, Group>
         ensures entries { result ≡ self.now }
-        ensures runs { ShowsInOrder (deref_pair {K = Values} {X = Counted}) }
+        ensures runs { ShowsInOrder (deref_pair {K = Values} {X = Stored}) }
     {
         self.groups.iter()
     }
@@ -126,9 +139,10 @@ impl Groups {
     }
 
     fn put(&mut self, addition: &Addition)
-        requires there { is_some (stored_at self.old addition.now.key) ≡ true }
+        requires room { IsReadyFor addition.now.addends (held_at self.old addition.now.key) }
         requires holds { HoldsOne addition.now self.old }
-        ensures { IsPut self.old addition.now self.new }
+        ensures put { IsPut self.old addition.now self.new }
+        ensures kept { StayReady self.old self.new }
     {
         match self.groups.get_mut(&addition.key) {
             Some(group) => group.add(addition.weight, addition.addends.as_slice()),
@@ -136,25 +150,38 @@ impl Groups {
         }
     }
 
-    /// Drops those groups of a change that it leaves without rows.
-    fn drop_empty(&mut self, additions: &[Addition])
+    /// Drops those groups of a change that it leaves without rows, and those values of the others that it leaves
+    /// uncounted.
+    fn settle_all(&mut self, additions: &[Addition])
         ensures { AreSettled (is_met additions.now) self.old self.new }
     {
         for addition in additions {
-            self.drop_if_empty(&addition.key);
+            self.settle(addition);
         }
     }
 
-    fn drop_if_empty(&mut self, key: &Row)
-        ensures { AreSettled (same_row key.now) self.old self.new }
+    fn settle(&mut self, addition: &Addition)
+        ensures { AreSettled (same_row addition.now.key) self.old self.new }
     {
-        if self.is_empty_at(key) {
-            drop(self.groups.swap_remove(key));
+        if self.is_empty_at(&addition.key) {
+            drop(self.groups.swap_remove(&addition.key));
+        } else {
+            self.settle_group(addition);
         }
+    }
+
+    /// Lets the values of a row go from its group where they are counted no longer.
+    fn settle_group(&mut self, addition: &Addition)
+        ensures { (k : Values) → stored_at self.new k ≡ stored_at self.old k }
+    {
+        let Some(group) = self.groups.get_mut(&addition.key) else {
+            return;
+        };
+        group.settle(addition.addends.as_slice());
     }
 
     fn is_empty_at(&self, key: &Row) -> bool
-        ensures { result ≡ option_map_or (λ g. int_eq g.count (pos 0)) (stored_at self.now key.now) false }
+        ensures { result ≡ option_map_or (λ g. int_eq g.count (pos 0)) (held_at self.now key.now) false }
     {
         match self.groups.get(key) {
             Some(group) => group.count() == 0,

@@ -1,22 +1,29 @@
 //! What is kept of an aggregate.
+ghost use Rattle.std.specs.Option.{option_copied};
 ghost use Rattle.std.specs.Ordering.{int_eq};
-ghost use Rattle.std.specs.Prelude.{nat_abs, pos, ◌*ℤ◌, ◌+ℤ◌, ◌+◌, ◌<◌, ◌^◌, ◌≡◌, ◌↔◌, ◌≤◌, IfSome, IsSome, if◌then◌else◌, []};
+ghost use Rattle.std.specs.Prelude.{nat_abs, pos, ◌*ℤ◌, ◌+ℤ◌, ◌+◌, ◌<◌, ◌^◌, ◌≡◌, ◌↔◌, ◌≤◌, IfErr, IfOk, IfSome, IsSome, OnOk, if◌then◌else◌, unwrap_or, []};
 ghost use Rattle.cq_values.specs.declared.value.Value.TheVariants.{Null, Number};
 ghost use Rattle.cq_model.specs.Group.{InRange};
 ghost use Rattle.cq_kept.specs.Kept.{kept_of, kept_value};
-ghost use Rattle.cq_deltas.specs.Additions.{IsTotal};
-ghost use Rattle.cq_deltas.specs.Kept.{KeptHolds, kept_with, seen, total_move};
+ghost use Rattle.cq_deltas.specs.declared.fault.ShowFault.TheVariants.{SumOutOfRange};
+ghost use Rattle.cq_deltas.specs.Kept.{HasRoomFor, KeepsRoomFor, KeptHolds, kept_with, seen, total_move};
 ghost use Rattle.cq_deltas.specs.Shown.{CanBeShown};
 ghost use Rattle.cq_model.specs.Width.{number_limit};
 
+use crate::change::Addend;
+use crate::fault::ShowFault;
+use cq_extremes::Extremes;
 use cq_model::Aggregate;
 use cq_values::{Total, Value};
+use std::alloc::{AllocError, Global};
 
-/// What is kept of an aggregate: how many rows or values there are, and for a SUM their exact total beside.
+/// What is kept of an aggregate: how many rows or values there are, for a SUM their exact total beside, and for MIN
+/// and MAX the values with their counts, in order.
 #[derive(Debug, Drop)]
 pub enum Kept {
     Counted(i128),
     Totalled(CountedTotal),
+    Listed(Extremes),
 }
 
 /// The exact total of a SUM, and how many values it has.
@@ -28,8 +35,7 @@ pub struct CountedTotal {
 
 impl Kept {
     /// What is kept of the aggregate of no rows.
-    pub(crate) fn empty(aggregate: &Aggregate) -> Kept
-        requires { IsTotal aggregate.now }
+    pub(crate) fn empty(alloc: Global, aggregate: &Aggregate) -> Kept
         ensures { seen result ≡ kept_of [] aggregate.now }
     {
         match aggregate {
@@ -38,36 +44,75 @@ impl Kept {
                 values: 0,
                 total: Total::new(),
             }),
-            Aggregate::Min(_) | Aggregate::Max(_) => unreachable!(),
+            Aggregate::Min(_) | Aggregate::Max(_) => Kept::Listed(Extremes::new(alloc)),
+        }
+    }
+
+    /// Makes room for the argument of a row, and leaves what is kept as it is.
+    pub(crate) fn ready(&mut self, alloc: Global, addend: &Option<Addend>) -> Result<(), AllocError>
+        ensures seen { seen self.new ≡ seen self.old }
+        ensures room { OnOk result (HasRoomFor addend.now self.new) }
+        ensures kept { KeepsRoomFor self.old self.new }
+    {
+        match (self, addend) {
+            (Kept::Listed(values), Some(Addend::Listed(value))) => values.ready(alloc, value),
+            _ => Ok(()),
         }
     }
 
     /// Puts the argument of a row in. NULL, which is `None`, adds nothing.
-    pub(crate) fn add(&mut self, weight: i128, addend: Option<i128>)
-        requires { KeptHolds (nat_abs weight) (total_move weight addend) (seen self.old) }
-        ensures { seen self.new ≡ kept_with weight addend (seen self.old) }
+    pub(crate) fn add(&mut self, weight: i128, addend: &Option<Addend>)
+        requires room { HasRoomFor addend.now self.old }
+        requires holds { KeptHolds (nat_abs weight) (total_move weight addend.now) (seen self.old) }
+        ensures seen { seen self.new ≡ kept_with weight addend.now (seen self.old) }
+        ensures kept { KeepsRoomFor self.old self.new }
     {
-        let Some(value) = addend else {
-            return;
-        };
-        match self {
-            Kept::Counted(count) => *count += weight,
-            Kept::Totalled(total) => total.add(weight, value),
+        match (self, addend) {
+            (Kept::Counted(count), Some(Addend::Number(_))) => *count += weight,
+            (Kept::Totalled(total), Some(Addend::Number(value))) => total.add(weight, *value),
+            (Kept::Listed(values), Some(Addend::Listed(value))) => values.put(value, weight),
+            _ => {}
         }
     }
 
-    /// The value of the aggregate, and `None` where the total of a SUM is out of range.
-    pub(crate) fn value(&self, aggregate: &Aggregate) -> Option<Value>
-        ensures value { IfSome result (λ v. v ≡ kept_value aggregate.now (seen self.now)) }
-        ensures range { IsSome result ↔ CanBeShown aggregate.now (seen self.now) }
+    /// Lets the argument's value go where it is counted no longer.
+    pub(crate) fn settle(&mut self, addend: &Option<Addend>)
+        ensures { seen self.new ≡ seen self.old }
+    {
+        match (self, addend) {
+            (Kept::Listed(values), Some(Addend::Listed(value))) => values.settle(value),
+            _ => {}
+        }
+    }
+
+    /// The value of the aggregate.
+    pub(crate) fn value(&self, alloc: Global, aggregate: &Aggregate) -> Result<Value, ShowFault>
+        ensures value { IfOk result (λ v. v ≡ kept_value aggregate.now (seen self.now)) }
+        ensures range { OnOk result (CanBeShown aggregate.now (seen self.now)) }
+        ensures fault { IfErr result (λ e. e ≡ SumOutOfRange → CanBeShown aggregate.now (seen self.now) → ⊥) }
     {
         match (aggregate, self) {
             (Aggregate::CountAll | Aggregate::Count(_), Kept::Counted(count)) => {
-                Some(Value::Number(*count))
+                Ok(Value::Number(*count))
             }
-            (Aggregate::Sum(_), Kept::Totalled(total)) => total.value(),
-            _ => Some(Value::Null),
+            (Aggregate::Sum(_), Kept::Totalled(total)) => match total.value() {
+                Some(value) => Ok(value),
+                None => Err(ShowFault::SumOutOfRange),
+            },
+            (Aggregate::Min(_), Kept::Listed(values)) => Ok(copied(alloc, values.least())?),
+            (Aggregate::Max(_), Kept::Listed(values)) => Ok(copied(alloc, values.greatest())?),
+            _ => Ok(Value::Null),
         }
+    }
+}
+
+/// A copy of an extreme, and NULL where there is none.
+fn copied(alloc: Global, extreme: Option<&Value>) -> Result<Value, AllocError>
+    ensures { IfOk result (λ v. v ≡ unwrap_or (option_copied extreme.entry) Null) }
+{
+    match extreme {
+        Some(value) => value.copy(alloc),
+        None => Ok(Value::Null),
     }
 }
 

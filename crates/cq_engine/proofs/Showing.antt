@@ -7,7 +7,7 @@ use Rattle.cq_values.specs.declared.day_part.DayPart.TheVariants as parts
 use Rattle.cq_values.specs.declared.value.Value.{Value}
 use Rattle.cq_values.specs.declared.value.Value.TheVariants as values
 use Rattle.cq_values.specs.Value.{Row}
-use Rattle.cq_deltas.specs.Additions.{AreTotals, IsNarrow, IsSmall, IsTotal, counted_addend}
+use Rattle.cq_deltas.specs.Additions.{AreTotals, IsNarrow, IsSmall, IsSmallAddend, IsTotal, counted_addend}
 use Rattle.cq_language.specs.declared.statement.SelectItem.{SelectItem}
 use Rattle.cq_language.specs.declared.written.AggregateFunction.TheVariants as functions
 use Rattle.cq_language.specs.Written.{Written, Choices, Number, Text, Date, Null, Column, Extract, CountAll, Aggregate, Parens, Negative, Times, Plus, Minus, Compare, IsNull, Between, In, Like, Not, And, Or, NoChoice, Choice}
@@ -151,8 +151,8 @@ module _ (row : Row) where
   narrow_for_view (shown.CountAll ∷ aggregates) all = (tt, narrow_for_view aggregates all.1)
   narrow_for_view (shown.Count e ∷ aggregates) all = (all.0, narrow_for_view aggregates all.1)
   narrow_for_view (shown.Sum e ∷ aggregates) all = (all.0, narrow_for_view aggregates all.1)
-  narrow_for_view (shown.Min e ∷ aggregates) all = (tt, narrow_for_view aggregates all.1)
-  narrow_for_view (shown.Max e ∷ aggregates) all = (tt, narrow_for_view aggregates all.1)
+  narrow_for_view (shown.Min e ∷ aggregates) all = (all.0, narrow_for_view aggregates all.1)
+  narrow_for_view (shown.Max e ∷ aggregates) all = (all.0, narrow_for_view aggregates all.1)
 
   -- nothing is larger than a column can be where nothing on the way to it is too wide
   size_bound : (e : Expr) (sizes : ℕ → ℕ) → ((i : ℕ) → sizes i ≤ 2 ^ 63) → (width e sizes).widest < 2 ^ 127 → (width e sizes).size ≤ 2 ^ 127
@@ -166,7 +166,7 @@ module _ (row : Row) where
   size_bound (exprs.Extract parts.Day e) sizes stored narrow = omega arith
 
   -- what a number adds is as large as it is
-  small_addend : (v : Value) → value_size v ≤ 2 ^ 127 → IfSome (counted_addend v) (λ n. nat_abs n ≤ 2 ^ 127)
+  small_addend : (v : Value) → value_size v ≤ 2 ^ 127 → IfSome (counted_addend v) IsSmallAddend
   small_addend values.Null h = tt
   small_addend (values.Number n) h = h
   small_addend (values.Day d) h = omega arith
@@ -174,7 +174,7 @@ module _ (row : Row) where
 
   module _ (stored : IsStored row) where
     -- so an argument is small at a stored row where it is narrow
-    small_argument : (e : Expr) → (extent e row).widest < 2 ^ 127 → IfSome (counted_addend (eval e row)) (λ n. nat_abs n ≤ 2 ^ 127)
+    small_argument : (e : Expr) → (extent e row).widest < 2 ^ 127 → IfSome (counted_addend (eval e row)) IsSmallAddend
     small_argument e narrow = small_addend (eval e row) (omega (arith, value-within row (sizes_of row) (λ i. omega arith) e, size_bound e (sizes_of row) stored narrow))
 
     -- and what all aggregates add is small for a view

@@ -11,8 +11,10 @@ use Rattle.cq_bags.proofs.Linears.{filtered-append}
 use Rattle.cq_bags.proofs.Totals.{by_test}
 use Rattle.cq_model.specs.declared.query.Aggregate.{Aggregate}
 use Rattle.cq_model.specs.Meaning.{keeps}
+use Rattle.cq_deltas.specs.declared.change.Addend.{Addend}
+use Rattle.cq_deltas.specs.declared.change.Addend.TheVariants.{Listed, Number}
 use Rattle.cq_deltas.specs.declared.change.Addition.{Addition}
-use Rattle.cq_deltas.specs.Additions.{IsSmall, addend_of, addition, additions}
+use Rattle.cq_deltas.specs.Additions.{IsSmall, IsSmallAddend, addend_of, addition, additions}
 use Rattle.cq_deltas.specs.Kept.{total_move, total_moves}
 use Rattle.cq_deltas.specs.Keyed.{all_total_moves, count_moves}
 use Rattle.cq_deltas.proofs.Small.{small-hold}
@@ -23,17 +25,18 @@ use Rattle.cq_views.specs.Small.{IsSmallFor}
 use Rattle.cq_views.specs.View.{change_of, changed, kept_rows}
 
 -- an argument of a row that comes or goes once
-one-move : (w : ℤ) (o : Option ℤ) → nat_abs w ≤ 1 → IfSome o (λ n. nat_abs n ≤ 2 ^ 127) → total_move w o ≤ 2 ^ 127
+one-move : (w : ℤ) (o : Option Addend) → nat_abs w ≤ 1 → IfSome o IsSmallAddend → total_move w o ≤ 2 ^ 127
 one-move w None once small = omega arith
-one-move w (Some v) once small = omega (arith, unsigned_abs-mul v w, mul-le (nat_abs v) (nat_abs w) (2 ^ 127) 1 small once)
+one-move w (Some (Listed v)) once small = omega arith
+one-move w (Some (Number v)) once small = omega (arith, unsigned_abs-mul v w, mul-le (nat_abs v) (nat_abs w) (2 ^ 127) 1 small once)
 
 -- all arguments of such a row
-row-moves : (r : Row) (w : ℤ) (aggregates : List Aggregate) → nat_abs w ≤ 1 → AllByRecursion (IsSmall r) aggregates → total_moves w (map (addend_of r) aggregates) ≤ length aggregates * 2 ^ 127
+row-moves : (r : Row) (w : ℤ) (aggregates : List Aggregate) → nat_abs w ≤ 1 → AllByRecursion (IsSmall r) aggregates → total_moves w (map (addend_of r) aggregates) ≤ 2 ^ 127
 row-moves r w [] once small = omega arith
 row-moves r w (a ∷ aggregates) once small =
-    omega (arith, sum_by-cons (total_move w) (addend_of r a) (map (addend_of r) aggregates), one-move w (addend_of r a) once small.0, row-moves r w aggregates once small.1)
+    omega (arith, one-move w (addend_of r a) once small.0, row-moves r w aggregates once small.1)
 
-module _ (query : Query) (few : length (aggregates_of query) ≤ 2 ^ 32) where
+module _ (query : Query) where
   -- rows that come or go once move counts no further than their number
   count-moves : (xs : Weighted) → AllByRecursion (λ x. nat_abs x.1 ≤ 1) xs → count_moves (change_of query xs) ≤ length xs
   count-moves [] once = omega arith
@@ -42,22 +45,22 @@ module _ (query : Query) (few : length (aggregates_of query) ≤ 2 ^ 32) where
       (λ k. rw k (omega (arith, count-moves xs once.1)))
 
   -- and small ones move totals no further than so many numbers
-  totals-move : (xs : Weighted) → AllByRecursion (λ x. nat_abs x.1 ≤ 1) xs → AllByRecursion (λ x. IsSmallFor query x.0) xs → all_total_moves (change_of query xs) ≤ length xs * 2 ^ 159
+  totals-move : (xs : Weighted) → AllByRecursion (λ x. nat_abs x.1 ≤ 1) xs → AllByRecursion (λ x. IsSmallFor query x.0) xs → all_total_moves (change_of query xs) ≤ length xs * 2 ^ 127
   totals-move [] once small = omega arith
   totals-move (x ∷ xs) once small = by_test (keeps query.filter x.0)
       (λ k.
       let here = row-moves x.0 x.1 (aggregates_of query) once.0 (small.0 k) in
       let rest = totals-move xs once.1 small.1 in
-      rw k (omega (arith, few, sum_by-cons (λ (y : Addition). total_moves y.weight y.addends) (addition (key_columns query) (aggregates_of query) x) (change_of query xs), here, rest)))
+      rw k (omega (arith, sum_by-cons (λ (y : Addition). total_moves y.weight y.addends) (addition (key_columns query) (aggregates_of query) x) (change_of query xs), here, rest)))
       (λ k. rw k (omega (arith, totals-move xs once.1 small.1)))
 
 -- so counts and totals stay in range
 pub small-changes : SmallChangesHold
 small-changes v xs dxs can stands small change =
     let query = v.query in
-    small-hold (key_columns query) (aggregates_of query) (kept_rows query xs) v.groups (change_of query dxs) can.totals stands (record {
-      counts = omega (arith, small.few, change.few, count-moves query can.few xs small.once, count-moves query can.few dxs change.once);
-      totals = omega (arith, small.few, change.few, totals-move query can.few xs small.once small.small, totals-move query can.few dxs change.once change.small);
+    small-hold (key_columns query) (aggregates_of query) (kept_rows query xs) v.groups (change_of query dxs) stands (record {
+      counts = omega (arith, small.few, change.few, count-moves query xs small.once, count-moves query dxs change.once);
+      totals = omega (arith, small.few, change.few, totals-move query xs small.once small.small, totals-move query dxs change.once change.small);
     })
 
 module _ (query : Query) (weight : ℤ) (once : nat_abs weight ≤ 1) where

@@ -10,7 +10,6 @@ use Rattle.cq_kept.specs.Kept.{GroupStands, Groups}
 use Rattle.cq_model.specs.Meaning.{keeps}
 use Rattle.cq_laws.proofs.Keeps.{built_last-stands, last-respects}
 use Rattle.cq_deltas.specs.declared.change.Addition.{Addition}
-use Rattle.cq_deltas.specs.Additions.{AreTotals}
 use Rattle.cq_deltas.specs.Keyed.{GroupsGoOn, KeyedGroups, group_at}
 use Rattle.cq_model.specs.declared.query.Query.{Query}
 use Rattle.cq_views.specs.Laws.{StandingDependsOnBag}
@@ -37,9 +36,9 @@ same-view v groups same = record {
 }
 
 -- the groups go on by what WHERE keeps of the change
-pub view-goes-on : (v : KeptView) (change : List Addition) (epoch : ℕ) (groups : KeyedGroups) → AreTotals (aggregates_of v.query) → GroupsGoOn v.groups change groups → GoesOn v change (record v { epoch = epoch; groups = groups })
-view-goes-on v change epoch groups totals on = λ xs dxs ys is same bag stands.
+pub view-goes-on : (v : KeptView) (change : List Addition) (epoch : ℕ) (groups : KeyedGroups) → GroupsGoOn v.groups change groups → GoesOn v change (record v { epoch = epoch; groups = groups })
+view-goes-on v change epoch groups on = λ xs dxs ys is same bag stands.
     let keep = keeps v.query.filter in
     let kept : SameBag (kept_rows v.query ys) (kept_rows v.query xs ++ kept_rows v.query dxs) =
     subst (SameBag (kept_rows v.query ys)) (filtered-append keep xs dxs) (filtered-respects keep ys (xs ++ dxs) same) in
-    on v.query (Some (key_columns v.query)) (aggregates_of v.query) None (kept_rows v.query xs) (kept_rows v.query dxs) (kept_rows v.query ys) is totals kept (filtered-bag keep ys bag) stands
+    on v.query (Some (key_columns v.query)) (aggregates_of v.query) None (kept_rows v.query xs) (kept_rows v.query dxs) (kept_rows v.query ys) is kept (filtered-bag keep ys bag) stands

@@ -1,6 +1,5 @@
 //! Groups of a change that is put in where there were none.
 ghost use Rattle.std.specs.Prelude.{[]};
-ghost use Rattle.cq_deltas.specs.Additions.{AreTotals};
 ghost use Rattle.cq_deltas.specs.Laws.{AreSmall};
 
 use cq_deltas::{GroupChange, Groups, ShowFault};
@@ -15,8 +14,7 @@ fn first_groups(
     aggregates: &[Aggregate],
     change: GroupChange,
 ) -> Result<Groups, AllocError>
-    requires totals { AreTotals aggregates.now }
-    requires small { AreSmall [] change }
+    requires { AreSmall [] change }
 {
     let mut groups = Groups::new(alloc);
     groups.ready(alloc, aggregates, &change)?;
@@ -30,8 +28,7 @@ fn shown_alone(
     aggregates: &[Aggregate],
     change: GroupChange,
 ) -> Result<Vec<Row>, ShowFault>
-    requires totals { AreTotals aggregates.now }
-    requires small { AreSmall [] change }
+    requires { AreSmall [] change }
 {
     let groups = first_groups(alloc, aggregates, change)?;
     groups.shown_rows(alloc, aggregates)
@@ -81,4 +78,50 @@ fn a_sum_may_leave_its_range_and_come_back(rt: HostRuntime) {
             Err(fault) => assert!(rt; !*fits && fault == ShowFault::SumOutOfRange),
         }
     }
+}
+
+/// MIN and MAX of 5, twice, of 3 and of NULL, where 5 leaves so often and 3 so often.
+fn ends(alloc: Global, fives: i8, threes: i8) -> Result<Vec<Row>, ShowFault> {
+    let (five, three, null) = ([Value::Number(5)], [Value::Number(3)], [Value::Null]);
+    let aggregates = [
+        Aggregate::Min(Expr::column(0)),
+        Aggregate::Max(Expr::column(0)),
+    ];
+    let mut change = GroupChange::new(alloc);
+    change.push(alloc, &[], &aggregates, &five, 2)?;
+    change.push(alloc, &[], &aggregates, &three, 1)?;
+    change.push(alloc, &[], &aggregates, &null, 1)?;
+    change.push(alloc, &[], &aggregates, &five, -i128::from(fives))?;
+    change.push(alloc, &[], &aggregates, &three, -i128::from(threes))?;
+    shown_alone(alloc, &aggregates, change)
+}
+
+/// How often 5 and 3 leave, and then the least value and the greatest.
+const ENDS: &[(i8, i8, Option<i128>, Option<i128>)] = &[
+    (1, 0, Some(3), Some(5)),
+    (1, 1, Some(5), Some(5)),
+    (2, 0, Some(3), Some(3)),
+    (2, 1, None, None),
+];
+
+fn is(value: &Value, number: &Option<i128>) -> bool {
+    match (value, number) {
+        (Value::Number(n), Some(m)) => n == m,
+        (Value::Null, None) => true,
+        _ => false,
+    }
+}
+
+#[test]
+fn the_ends_go_on_as_values_leave(rt: HostRuntime) -> Result<(), Fail> {
+    for (fives, threes, least, greatest) in ENDS {
+        let rows = ends(rt.alloc(), *fives, *threes)?;
+        assert!(rt; rows.len() == 1 && rows[0].len() == 2);
+        let row = rows[0].as_slice();
+        assert!(rt;
+            is(&row[0], least) && is(&row[1], greatest),
+            "without {fives} and {threes}"
+        );
+    }
+    Ok(())
 }

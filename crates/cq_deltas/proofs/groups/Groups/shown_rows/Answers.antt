@@ -1,7 +1,7 @@
 use Rattle.std.proofs.Common.{◌≡◌, ◌∙◌, Some, length, slice_get, rules}
 use Rattle.cq_values.specs.Order.{same_row}
 use Rattle.cq_values.specs.Value.{Row}
-use Rattle.cq_kept.specs.Kept.{Group}
+use Rattle.cq_deltas.specs.declared.group.Group.{Group as StoredGroup}
 use Rattle.std.specs.List.{IsDistinct}
 use Rattle.std.specs.Map.{keys_of}
 use Rattle.cq_deltas.specs.declared.fault.ShowFault.TheVariants.{SumOutOfRange}
@@ -23,7 +23,7 @@ pub loop-place-preserved : goal.loop-place-preserved
 loop-place-preserved c =
     let table = c.args.self.now in
     let aggregates = c.args.aggregates.now in
-    let e : Row × Group = (c.in-Some.key.now, c.in-Some.group.now) in
+    let e : Row × StoredGroup = (c.in-Some.key.now, c.in-Some.group.now) in
     let entry : Some e ≡ slice_get table c.loop-place.place = rw c.self.view_is at c.in-Some.ensures.entry in
     record {
       rows = c.in_ok-push_shown-in-Some.ensures.rows ∙ rows-more aggregates table c.loop-place.place e entry c.loop-place.rows.items c.loop-place.invariant.rows;

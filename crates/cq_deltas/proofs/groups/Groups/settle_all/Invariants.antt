@@ -1,7 +1,7 @@
 use Rattle.std.proofs.Common.{◌≡◌, if◌then◌else◌, take}
 use Rattle.cq_values.specs.Value.{Row}
 use Rattle.cq_deltas.specs.Keyed.{is_met, settled, stored_at}
-use Rattle.cq_deltas.proofs.groups.Groups.drop_empty.Given as goal
+use Rattle.cq_deltas.proofs.groups.Groups.settle_all.Given as goal
 
 -- the groups of the keys so far are settled
 abbrev pub invariant-loop-addition : goal.invariant-loop-addition
