@@ -1,0 +1,4 @@
+pub mod Chains
+pub mod Narrow
+pub mod Owned
+pub mod Rows
