@@ -1,0 +1,12 @@
+pub mod Behind
+pub mod Changing
+pub mod Groups
+pub mod Imaging
+pub mod Joining
+pub mod Limits
+pub mod Listing
+pub mod Moves
+pub mod SameBags
+pub mod Showings
+pub mod Standing
+pub mod Working

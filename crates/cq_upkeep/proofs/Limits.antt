@@ -1,0 +1,79 @@
+-- Joined rows and what changes add to them are few where the sources are, and stored.
+use Rattle.std.proofs.Common.{◌∙◌, ◌+◌, ◌*◌, ◌≤◌, ◌^◌, List, [], ◌∷◌, ◌++◌, map, arith}
+use Rattle.std.proofs.Math.Nat.{mul_assoc}
+use Rattle.std.proofs.lemmas.Int.{ints}
+use Rattle.std.proofs.lemmas.Nat.{mul-le}
+use Rattle.std.specs.List.{AllByRecursion}
+use Rattle.cq_bags.proofs.Bags.{same-trans}
+use Rattle.cq_bags.proofs.Totals.{weight_of-append}
+use Rattle.cq_bags.specs.Bag.{Weighted, SameBag, joined}
+use Rattle.cq_bags.specs.Join.{join_change}
+use Rattle.cq_bags.specs.Size.{IsClean}
+use Rattle.cq_kept.specs.Delta.{chain_change, changed}
+use Rattle.cq_laws.proofs.Chains.{chain-law}
+use Rattle.cq_model.specs.Meaning.{Tables, chain, joined_rows, keeps, meets}
+use Rattle.cq_model.specs.Views.{sources_of}
+use Rattle.cq_model.specs.declared.query.Join.{Join}
+use Rattle.cq_model.specs.declared.query.Query.{Query}
+use Rattle.cq_pushes.proofs.Sizes.{sizes-least}
+use Rattle.cq_sides.proofs.RowByRow.{sizes-append}
+use Rattle.cq_sides.specs.Held.{sizes}
+use Rattle.cq_chains.proofs.Spans.{join-span, sizes-filtered}
+use Rattle.cq_chains.proofs.Storing.{stored-filtered, stored-joined}
+use Rattle.cq_chains.specs.Chains.{nothing, spans}
+use Rattle.cq_chains.specs.Steps.{AreStored, span}
+use Rattle.cq_upkeep.specs.State.{HoldStored}
+
+-- a chain and its change are within the product of the spans
+chain-span : (tables changes : Tables) (xs dxs : Weighted) (js : List Join)
+    → span (chain tables xs js) (chain_change tables changes xs dxs js) ≤ span xs dxs * spans tables changes (map (λ j. j.source) js)
+chain-span tables changes xs dxs [] = omega arith
+chain-span tables changes xs dxs (j ∷ js) =
+    let on = meets j.on in
+    let ys = tables j.source in
+    let dys = changes j.source in
+    let n = spans tables changes (map (λ j. j.source) js) in
+    let rest = chain-span tables changes (joined on xs ys) (join_change on xs dxs ys dys) js in
+    let here = join-span on xs dxs ys dys in
+    let whole = mul_assoc (span xs dxs) (span ys dys) n in
+    omega (arith, rest, whole, mul-le (span (joined on xs ys) (join_change on xs dxs ys dys)) n (span xs dxs * span ys dys) n here (omega arith))
+
+-- a chain of stored rows is stored
+stored-chain : (tables : Tables) (xs : Weighted) (js : List Join) → AreStored xs → AllByRecursion (λ s. AreStored (tables s)) (map (λ j. j.source) js)
+    → AreStored (chain tables xs js)
+stored-chain tables xs [] stored all = stored
+stored-chain tables xs (j ∷ js) stored all =
+    stored-chain tables (joined (meets j.on) xs (tables j.source)) js (stored-joined (meets j.on) xs (tables j.source) stored all.0) all.1
+
+module _ (query : Query) where
+  -- the joined rows, before WHERE
+  abbrev all_rows : Tables → Weighted
+  all_rows tables = chain tables (tables query.first) query.joins
+
+  pub rows-stored : (tables : Tables) → HoldStored query tables → AreStored (joined_rows query tables)
+  rows-stored tables stored = stored-filtered (keeps query.filter) (all_rows tables) (stored-chain tables (tables query.first) query.joins stored.0 stored.1)
+
+  -- rows that change the joined rows, each of them once, are few beside them
+  pub rows-few : (tables changes : Tables) (given : Weighted) → IsClean given → SameBag (all_rows (changed tables changes)) (all_rows tables ++ given)
+      → spans tables changes (sources_of query) ≤ 2 ^ 122 → sizes (joined_rows query tables) + sizes given ≤ 2 ^ 122
+  rows-few tables changes given clean same few =
+      let more = chain_change tables changes (tables query.first) (changes query.first) query.joins in
+      let law = chain-law tables changes (tables query.first) (changes query.first) query.joins in
+      let is : SameBag given more = record {
+        at = λ r.
+            let a = same.at r ∙ weight_of-append (all_rows tables) given r in
+            let b = law.at r ∙ weight_of-append (all_rows tables) more r in
+            omega (arith, ints, a, b);
+      } in
+      let whole : span (all_rows tables) more ≤ spans tables changes (sources_of query) = chain-span tables changes (tables query.first) (changes query.first) query.joins in
+      omega (arith, few, whole, sizes-least given more clean is, sizes-filtered (keeps query.filter) (all_rows tables))
+
+  -- so are the joined rows that a view is built of
+  pub built-few : (tables : Tables) (rows : Weighted) → IsClean rows → SameBag rows (all_rows tables) → spans nothing tables (sources_of query) ≤ 2 ^ 122 → sizes rows ≤ 2 ^ 122
+  built-few tables rows clean same few =
+      let first = tables query.first in
+      let none = chain nothing [] query.joins in
+      let more = chain_change nothing tables [] first query.joins in
+      let law : SameBag (all_rows tables) (none ++ more) = chain-law nothing tables [] first query.joins in
+      let whole : span none more ≤ spans nothing tables (sources_of query) = chain-span nothing tables [] first query.joins in
+      omega (arith, few, whole, sizes-least rows (none ++ more) clean (same-trans rows (all_rows tables) (none ++ more) same law), sizes-append none more)

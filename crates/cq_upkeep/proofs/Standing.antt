@@ -1,0 +1,142 @@
+-- A view that stands for its tables, while changes wait for it and are put in.
+use Rattle.std.proofs.Common.{◌≡◌, ℕ, ◌*◌, ◌≤◌, ◌^◌, List, ◌++◌, map, refl, sym, subst, arith}
+use Rattle.std.specs.List.{AllByRecursion}
+use Rattle.cq_bags.proofs.Bags.{filtered-respects}
+use Rattle.cq_bags.proofs.Linears.{filtered-append}
+use Rattle.cq_bags.specs.Bag.{Weighted, SameBag, IsBag}
+use Rattle.cq_bags.specs.Size.{IsClean}
+use Rattle.cq_kept.specs.Delta.{changed}
+use Rattle.cq_laws.proofs.Keeps.{last-respects}
+use Rattle.cq_laws.proofs.Positives.{joined_rows-bag}
+use Rattle.cq_model.specs.Meaning.{Tables, chain, joined_rows, keeps}
+use Rattle.cq_model.specs.declared.query.Query.{Query}
+use Rattle.cq_model.specs.declared.query.Source.{Source}
+use Rattle.cq_chains.specs.Chains.{AreWaiting, CanChange, IsChange, IsStill, Takes, rows_of, spans}
+use Rattle.cq_chains.specs.Steps.{AreFew, AreStored, IsNarrowOnStored, span}
+use Rattle.cq_chains.specs.declared.chain.Chain.{Chain}
+use Rattle.cq_chains.specs.declared.chain.Waiting.{Waiting}
+use Rattle.cq_chains.specs.declared.step.Step.{Step}
+use Rattle.cq_upkeep.proofs.Behind.{seen-stands}
+use Rattle.cq_upkeep.proofs.Joining.{all-sources, chain-narrow, chain-rows, chain-sources, same-chain}
+use Rattle.cq_upkeep.proofs.Limits.{built-few, rows-few, rows-stored}
+use Rattle.cq_upkeep.specs.Last.{CanFill, CanTakeIn, GoesOn, IsChangeOf, StandsBehind, kept_rows, seen}
+use Rattle.cq_upkeep.specs.Query.{aggregates_of}
+use Rattle.cq_upkeep.specs.State.{AreBehind, CanPrepare, CanStart, IsWaiting, SameView, StandsFor, TakesIn}
+use Rattle.cq_upkeep.specs.declared.last.Last.{Last as Stored}
+use Rattle.cq_upkeep.specs.declared.last.LastChange.{LastChange}
+use Rattle.cq_upkeep.specs.declared.state.Pending.{Pending}
+use Rattle.cq_upkeep.specs.declared.state.ViewState.{ViewState}
+
+-- ---- a view that is built
+module _ (query : Query) (tables : Tables) (start : CanStart query tables) (rows : Weighted) (behind : AreBehind query tables rows) where
+  abbrev all_rows : Weighted
+  all_rows = chain tables (tables query.first) query.joins
+
+  kept-same : SameBag (kept_rows query rows) (joined_rows query tables)
+  kept-same = filtered-respects (keeps query.filter) rows all_rows behind
+
+  kept-bag : IsBag (kept_rows query rows)
+  kept-bag = let bag = joined_rows-bag query tables start.bags in record { at = λ r. rw (kept-same.at r) (bag.at r) }
+
+  -- of the joined rows a view can be filled
+  pub can-fill : IsClean rows → AreFew rows → CanFill query rows
+  can-fill clean few = record { few = built-few query tables rows clean behind start.few; rows = few.stored; bag = kept-bag }
+
+  -- and then stands for them
+  pub fills : (last : Stored) → StandsBehind query (kept_rows query rows) last → StandsBehind query (joined_rows query tables) last
+  fills last stands = last-respects query query.shape (kept_rows query rows) (joined_rows query tables) kept-same (seen (aggregates_of query) last) stands
+
+-- ---- a view that changes
+module _ (v : ViewState) (changes : Tables) (can : CanPrepare v changes) where
+  abbrev sources : List Source
+  sources = map (λ s. s.source) v.chain.steps.items
+
+  -- its joins can change
+  pub can-change : CanChange v.chain changes
+  can-change =
+      let is = can.stands.is_of in
+      let tables = can.tables in
+      let same = chain-sources v.query v.chain is in
+      let few : span (tables v.query.first) (changes v.query.first) * spans tables changes (map (λ j. j.source) v.query.joins) ≤ 2 ^ 122 = can.few in
+      let here : span (tables v.chain.first) (changes v.chain.first) * spans tables changes sources ≤ 2 ^ 122 =
+      subst (λ (s : Source). span (tables s) (changes s) * spans tables changes sources ≤ 2 ^ 122) (sym is.first)
+      (subst (λ (ss : List Source). span (tables v.query.first) (changes v.query.first) * spans tables changes ss ≤ 2 ^ 122) (sym same) few) in
+      let at : (all : Tables) → AllByRecursion (λ s. AreStored (all s)) (map (λ j. j.source) v.query.joins) → AllByRecursion (λ s. AreStored (all s.source)) v.chain.steps.items =
+      λ all stored. all-sources (λ s. AreStored (all s)) (λ (s : Step). s.source) v.chain.steps.items (subst (λ (ss : List Source). AllByRecursion (λ s. AreStored (all s)) ss) (sym same) stored) in
+      record {
+        tables = tables;
+        stands = can.stands.sides;
+        few = omega (arith, here);
+        first = (
+          subst (λ (s : Source). AreStored (tables s)) (sym is.first) can.stored.0.0,
+          subst (λ (s : Source). AreStored (changes s)) (sym is.first) can.stored.1.0,
+        );
+        rows = at tables can.stored.0.1;
+        changes_stored = at changes can.stored.1.1;
+        narrow = (subst IsNarrowOnStored (sym is.condition) (λ row stored. tt), chain-narrow v.query v.chain is);
+      }
+
+  -- the joined rows change by what the chain hands on
+  pub all-change : (given : Weighted) → IsChange v.chain changes given → (tables : Tables) → StandsFor v tables
+      → SameBag (chain (changed tables changes) (changed tables changes v.query.first) v.query.joins) (chain tables (tables v.query.first) v.query.joins ++ given)
+  all-change given change tables stands =
+      let old = chain-rows v.query v.chain stands.is_of tables in
+      let new = chain-rows v.query v.chain stands.is_of (changed tables changes) in
+      subst (λ (xs : Weighted). SameBag xs (chain tables (tables v.query.first) v.query.joins ++ given)) new
+      (subst (λ (xs : Weighted). SameBag (rows_of v.chain (changed tables changes)) (xs ++ given)) old (change tables stands.sides))
+
+  -- and what WHERE keeps changes by what WHERE keeps of these
+  kept-change : (given : Weighted) → IsChange v.chain changes given → (tables : Tables) → StandsFor v tables
+      → SameBag (joined_rows v.query (changed tables changes)) (joined_rows v.query tables ++ kept_rows v.query given)
+  kept-change given change tables stands =
+      let keep = keeps v.query.filter in
+      let old = chain tables (tables v.query.first) v.query.joins in
+      let new = chain (changed tables changes) (changed tables changes v.query.first) v.query.joins in
+      subst (λ (xs : Weighted). SameBag (joined_rows v.query (changed tables changes)) xs) (filtered-append keep old given)
+      (filtered-respects keep new (old ++ given) (all-change given change tables stands))
+
+  -- what stands behind the joins can take these in
+  pub can-take_in : (given : Weighted) → IsChange v.chain changes given → IsClean given → AreFew given → CanTakeIn v.query v.last given
+  can-take_in given change clean few = record {
+    xs = joined_rows v.query can.tables;
+    stands = can.stands.last;
+    few = rows-few v.query can.tables changes given clean (all-change given change can.tables can.stands) can.few;
+    rows = (rows-stored v.query can.tables can.stored.0, few.stored);
+  }
+
+  -- and then they wait
+  pub all-wait : (given : Weighted) → IsChange v.chain changes given → (c : Chain) (l : Stored) (waiting : Waiting) (more : LastChange) → IsChangeOf v.query (kept_rows v.query given) more
+      → AreWaiting v.chain changes c waiting.joins.items → IsWaiting v changes (record v { chain = c; last = l }) (record { waiting = waiting; change = more })
+  all-wait given change c l waiting more is wait = λ tables stands. record {
+    rows = kept_rows v.query given;
+    given = kept-change given change tables stands;
+    last = is;
+    sides = wait tables stands.sides;
+  }
+
+module _ (v : ViewState) (c : Chain) (l : Stored) where
+  -- where nothing is changed that is seen of the joins and of what stands behind them, the view is the same
+  pub same-view : IsStill v.chain c → seen (aggregates_of v.query) l ≡ seen (aggregates_of v.query) v.last → SameView v (record v { chain = c; last = l })
+  same-view still same = record {
+    query = refl;
+    epoch = refl;
+    built = refl;
+    sides = still;
+    last = same;
+    stands = λ tables stands. record {
+      is_of = same-chain v.query v.chain c still.first still.condition still.joins stands.is_of;
+      sides = still.stands tables stands.sides;
+      last = seen-stands v.query v.last l same (joined_rows v.query tables) stands.last;
+    };
+  }
+
+  -- with what waited put in, the view stands for the changed tables
+  pub all-taken : (pending : Pending) (epoch : ℕ) → Takes v.chain pending.waiting.joins.items c → GoesOn v.last pending.change l
+      → TakesIn v pending (record v { epoch = epoch; chain = c; last = l })
+  all-taken pending epoch takes on = λ tables changes stands waits bags. record {
+    is_of = same-chain v.query v.chain c takes.first takes.condition takes.joins stands.is_of;
+    sides = takes.stands tables changes stands.sides waits.sides;
+    last =
+        on v.query (joined_rows v.query tables) waits.rows (joined_rows v.query (changed tables changes)) waits.last waits.given
+        (joined_rows-bag v.query (changed tables changes) bags) stands.last;
+  }

@@ -1,0 +1,10 @@
+use Rattle.std.proofs.Common.{subst}
+use Rattle.cq_upkeep.proofs.Showings.{images-bag}
+use Rattle.cq_upkeep.specs.Shown.{StandsOnStored}
+use Rattle.cq_upkeep.specs.declared.last.Last.{Last}
+use Rattle.cq_upkeep.proofs.showing.shown_rows.Goals as goal
+
+pub listed-requires : goal.listed-requires
+listed-requires c =
+    let on = subst (λ (l : Last). StandsOnStored c.args.query.now l) c.in-Images.is c.requires.on in
+    images-bag c.args.query.now c.in-Images.images.entries on.xs on.stands on.bag

@@ -1,0 +1,5 @@
+pub mod Last
+pub mod Laws
+pub mod Query
+pub mod Shown
+pub mod State

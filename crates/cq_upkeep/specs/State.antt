@@ -1,0 +1,102 @@
+-- A view as it is kept, the tables that it stands for, and what changes of them do.
+use Rattle.std.specs.Prelude.{◌≡◌, ◌≤◌, ◌^◌, List, ◌++◌, map, None}
+use Rattle.std.specs.List.{AllByRecursion, AllZip}
+use Rattle.cq_bags.specs.Bag.{Weighted, SameBag, IsBag}
+use Rattle.cq_kept.specs.Delta.{changed}
+use Rattle.cq_model.specs.Meaning.{Tables, chain, joined_rows}
+use Rattle.cq_model.specs.Views.{sources_of}
+use Rattle.cq_model.specs.declared.query.Join.{Join}
+use Rattle.cq_model.specs.declared.query.Query.{Query}
+use Rattle.cq_model.specs.declared.query.Source.{Source}
+use Rattle.cq_chains.specs.Chains.{IsStill, Stands, WaitFor, conditions_of, joins_of, nothing, spans}
+use Rattle.cq_chains.specs.Steps.{AreStored, CanTake}
+use Rattle.cq_chains.specs.declared.chain.Chain.{Chain}
+use Rattle.cq_chains.specs.declared.step.Conditions.{Conditions}
+use Rattle.cq_upkeep.specs.Last.{CanPut, IsChangeOf, StandsBehind, seen}
+use Rattle.cq_upkeep.specs.Query.{CanBeKept, aggregates_of}
+use Rattle.cq_upkeep.specs.declared.last.Last.{Last as Stored}
+use Rattle.cq_upkeep.specs.declared.state.Pending.{Pending}
+use Rattle.cq_upkeep.specs.declared.state.ViewState.{ViewState}
+
+-- for each join no condition
+abbrev pub none_for : List Join → List Conditions
+none_for joins = map (λ j. record { below = None; behind = None }) joins
+
+-- the chain has the query's joins, and no conditions
+pub record IsChainOf (query : Query) (chain : Chain) : Type 0 where
+  pub first : chain.first ≡ query.first
+  pub condition : chain.condition ≡ None
+  pub joins : joins_of chain.steps.items ≡ query.joins
+  pub conditions : conditions_of chain.steps.items ≡ none_for query.joins
+
+-- these are the joined rows, before WHERE
+abbrev pub AreBehind : Query → Tables → Weighted → Type 0
+AreBehind query tables rows = SameBag rows (chain tables (tables query.first) query.joins)
+
+-- it stands for the joined rows of the tables that WHERE keeps
+abbrev pub LastStandsFor : Query → Tables → Stored → Type 0
+LastStandsFor query tables last = StandsBehind query (joined_rows query tables) last
+
+-- the joins stand for the tables, and the rest for the joined rows that WHERE keeps
+pub record StandsFor (v : ViewState) (tables : Tables) : Type 0 where
+  pub is_of : IsChainOf v.query v.chain
+  pub sides : Stands tables v.chain
+  pub last : LastStandsFor v.query tables v.last
+
+-- no row is there less than never
+abbrev pub AreBags : Tables → Type 0
+AreBags tables = (source : Source) → IsBag (tables source)
+
+-- the rows of each source of a query are stored
+abbrev pub HoldStored : Query → Tables → Type 0
+HoldStored query tables = AllByRecursion (λ s. AreStored (tables s)) (sources_of query)
+
+-- a query that is kept, over bags of stored rows, not too many of them
+pub record CanStart (query : Query) (tables : Tables) : Type 0 where
+  pub can : CanBeKept query
+  pub few : spans nothing tables (sources_of query) ≤ 2 ^ 122
+  pub stored : HoldStored query tables
+  pub bags : AreBags tables
+
+-- the view stands for stored rows, and they and the changes are few enough
+pub record CanPrepare (v : ViewState) (changes : Tables) : Type 0 where
+  pub can : CanBeKept v.query
+  pub tables : Tables
+  pub stands : StandsFor v tables
+  pub few : spans tables changes (sources_of v.query) ≤ 2 ^ 122
+  pub stored : HoldStored v.query tables × HoldStored v.query changes
+
+-- a view stands for what it stood for
+abbrev pub StaysStanding : ViewState → ViewState → Type 0
+StaysStanding old new = (tables : Tables) → StandsFor old tables → StandsFor new tables
+
+-- nothing is changed that is seen of a view, and it stands for what it stood for
+pub record SameView (old new : ViewState) : Type 0 where
+  pub query : new.query ≡ old.query
+  pub epoch : new.epoch ≡ old.epoch
+  pub built : new.built ≡ old.built
+  pub sides : IsStill old.chain new.chain
+  pub last : seen (aggregates_of old.query) new.last ≡ seen (aggregates_of old.query) old.last
+  pub stands : StaysStanding old new
+
+-- changes of these tables wait for the view
+pub record WaitsFor (tables changes : Tables) (v : ViewState) (pending : Pending) : Type 0 where
+  pub rows : Weighted
+  pub given : SameBag (joined_rows v.query (changed tables changes)) (joined_rows v.query tables ++ rows)
+  pub last : IsChangeOf v.query rows pending.change
+  pub sides : WaitFor tables changes v.chain pending.waiting.joins.items
+
+-- whatever tables the view stood for
+abbrev pub IsWaiting : ViewState → Tables → ViewState → Pending → Type 0
+IsWaiting old changes new pending = (tables : Tables) → StandsFor old tables → WaitsFor tables changes new pending
+
+-- there is room for what waits, and no number leaves its range
+pub record CanCommit (v : ViewState) (pending : Pending) : Type 0 where
+  pub sides : AllZip CanTake v.chain.steps.items pending.waiting.joins.items
+  pub last : CanPut v.last pending.change
+
+-- with what waited put in, the view stands for the changed tables
+abbrev pub TakesIn : ViewState → Pending → ViewState → Type 0
+TakesIn old pending new =
+    (tables changes : Tables) → StandsFor old tables → WaitsFor tables changes old pending → AreBags (changed tables changes)
+    → StandsFor new (changed tables changes)

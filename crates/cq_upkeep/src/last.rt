@@ -1,0 +1,102 @@
+//! What a view keeps behind its joins.
+ghost use Rattle.std.specs.Prelude.{◌≡◌, IfOk, []};
+ghost use Rattle.cq_bags.specs.Bag.{IsBag};
+ghost use Rattle.cq_deltas.specs.Keyed.{KeyedGroups, group_at};
+ghost use Rattle.cq_upkeep.specs.Last.{CanFill, CanPut, CanTakeIn, GoesOn, IsChangeOf, StandsBehind, kept_rows, seen};
+ghost use Rattle.cq_upkeep.specs.Query.{CanBeKept, aggregates_of};
+
+use crate::changes::{group_change, image_change};
+use crate::query::aggregates_of;
+use cq_deltas::{GroupChange, Groups};
+use cq_model::{Query, Shape};
+use cq_sides::Weights;
+use std::alloc::{AllocError, Global};
+
+/// What a view keeps behind its joins: the groups of the joined rows, or their images with their weights.
+#[derive(Drop)]
+pub(crate) enum Last {
+    Groups(Groups),
+    Images(Weights),
+}
+
+/// What a change of the joined rows adds to them.
+#[derive(Drop)]
+pub(crate) enum LastChange {
+    Groups(GroupChange),
+    Images(Weights),
+}
+
+impl Last {
+    /// What is kept of these rows, as far as WHERE keeps them.
+    pub(crate) fn of(alloc: Global, query: &Query, rows: &Weights) -> Result<Last, AllocError>
+        requires can { CanBeKept query.now }
+        requires fill { CanFill query.now rows.now.entries }
+        ensures { IfOk result (StandsBehind query.now (kept_rows query.now rows.now.entries)) }
+    {
+        let mut last = Last::empty(alloc, query);
+        match last.prepare(alloc, query, rows) {
+            Ok(change) => {
+                last.commit(change);
+                Ok(last)
+            }
+            Err(fault) => {
+                drop(last);
+                Err(fault)
+            }
+        }
+    }
+
+    /// What is kept of no rows.
+    fn empty(alloc: Global, query: &Query) -> Last
+        ensures { StandsBehind query.now [] result }
+    {
+        match &query.shape {
+            Shape::Plain => Last::Images(Weights::new(alloc)),
+            Shape::Grouped { .. } => Last::Groups(Groups::new(alloc)),
+        }
+    }
+
+    /// Works out what a change of the joined rows adds, as far as WHERE keeps them, and makes all growth for it.
+    pub(crate) fn prepare(
+        &mut self,
+        alloc: Global,
+        query: &Query,
+        rows: &Weights,
+    ) -> Result<LastChange, AllocError>
+        requires can { CanBeKept query.now }
+        requires take { CanTakeIn query.now self.old rows.now.entries }
+        ensures change { IfOk result (IsChangeOf query.now (kept_rows query.now rows.now.entries)) }
+        ensures room { IfOk result (CanPut self.new) }
+        ensures same { seen (aggregates_of query.now) self.new ≡ seen (aggregates_of query.now) self.old }
+    {
+        match self {
+            Last::Groups(groups) => {
+                let change = group_change(alloc, query, rows)?;
+                groups.ready(alloc, aggregates_of(query), &change)?;
+                Ok(LastChange::Groups(change))
+            }
+            Last::Images(images) => {
+                let change = image_change(alloc, query, rows)?;
+                images.reserve(change.len())?;
+                Ok(LastChange::Images(change))
+            }
+        }
+    }
+
+    /// Puts a change in. It takes no memory, and cannot fail.
+    pub(crate) fn commit(&mut self, change: LastChange)
+        requires { CanPut self.old change }
+        ensures { GoesOn self.old change self.new }
+    {
+        match self {
+            Last::Groups(groups) => match change {
+                LastChange::Groups(change) => groups.take(change),
+                LastChange::Images(_) => unreachable!(),
+            },
+            Last::Images(images) => match change {
+                LastChange::Images(change) => images.put_all(change),
+                LastChange::Groups(_) => unreachable!(),
+            },
+        }
+    }
+}

@@ -1,0 +1,19 @@
+//! The kept state of a view over tables that are joined.
+//!
+//! A [`ViewState`] has the sides of its query's joins, and behind them the groups of the joined rows that WHERE keeps,
+//! or their images with their weights. Changes of the tables go in by two steps: [`ViewState::prepare`] works out what
+//! they change, from the stored sides and the changes alone, and makes all growth; [`ViewState::commit`] puts it in,
+//! takes no memory and cannot fail. Then the view stands for the changed tables, and [`ViewState::rows`] shows its
+//! query's bag.
+#![tactic(auto)]
+
+mod changes;
+mod joins;
+mod last;
+mod laws;
+mod query;
+mod showing;
+mod state;
+
+pub use laws::{counts_are_within_work, standing_depends_on_bags};
+pub use state::{Pending, ViewState};

@@ -1,0 +1,125 @@
+//! What a view shows of what it keeps behind its joins.
+ghost use Rattle.std.specs.List.{AllByRecursion};
+ghost use Rattle.std.specs.Prelude.{pos, ◌≡◌, ◌≤ℤ◌, IfErr, IfOk, OnOk, [], map};
+ghost use Rattle.cq_bags.specs.Bag.{IsBag, SameBag, once_each};
+ghost use Rattle.cq_deltas.specs.declared.fault.ShowFault.TheVariants.{SumOutOfRange};
+ghost use Rattle.cq_deltas.specs.Shown.{counted_keys};
+ghost use Rattle.cq_model.specs.Group.{aggregate as shown_of, group_row};
+ghost use Rattle.cq_model.specs.Meaning.{items_of};
+ghost use Rattle.cq_model.specs.Width.{AreNarrowAt};
+ghost use Rattle.cq_upkeep.specs.declared.last.Last.TheVariants.{Groups as AsGroups};
+ghost use Rattle.cq_upkeep.specs.Query.{CanBeKept};
+ghost use Rattle.cq_upkeep.specs.Shown.{AddsTimes, AreKeysOf, AreShowable, ShowsInRange, ShowsOutOfRange, ShowsRows, StandsOnStored, all_rows, is_one_group};
+
+use crate::last::Last;
+use crate::query::aggregates_of;
+use cq_deltas::{Groups, ShowFault};
+use cq_eval::items_of;
+use cq_model::{Aggregate, Expr, Query, Shape};
+use cq_sides::Weights;
+use cq_values::{Row, Value, copy_row};
+use std::alloc::{AllocError, Global};
+
+/// The rows that a query shows of what is kept.
+pub(crate) fn shown_rows(alloc: Global, query: &Query, last: &Last) -> Result<Vec<Row>, ShowFault>
+    requires can { CanBeKept query.now }
+    requires on { StandsOnStored query.now last.now }
+    ensures rows { IfOk result (λ rows. ShowsRows query.now last.now rows.items) }
+    ensures range { OnOk result (ShowsInRange query.now last.now) }
+    ensures fault { IfErr result (λ e. e ≡ SumOutOfRange → ShowsOutOfRange query.now last.now) }
+{
+    match last {
+        Last::Groups(groups) => shown_groups(alloc, query, groups),
+        Last::Images(images) => Ok(listed(alloc, images)?),
+    }
+}
+
+/// The items of each group.
+fn shown_groups(alloc: Global, query: &Query, groups: &Groups) -> Result<Vec<Row>, ShowFault>
+    requires can { CanBeKept query.now }
+    requires on { StandsOnStored query.now (AsGroups groups.now) }
+    ensures rows { IfOk result (λ rows. ShowsRows query.now (AsGroups groups.now) rows.items) }
+    ensures range { OnOk result (ShowsInRange query.now (AsGroups groups.now)) }
+    ensures fault { IfErr result (λ e. e ≡ SumOutOfRange → ShowsOutOfRange query.now (AsGroups groups.now)) }
+{
+    let rows = all_rows(alloc, query, groups)?;
+    Ok(item_rows(alloc, query.items.as_slice(), &rows)?)
+}
+
+/// The row of each group that has rows, and without GROUP BY one row always.
+fn all_rows(alloc: Global, query: &Query, groups: &Groups) -> Result<Vec<Row>, ShowFault>
+    ensures rows { IfOk result (λ rows. rows.items ≡ all_rows query.now.shape groups.now) }
+    ensures keys { AreKeysOf query.now groups.now (counted_keys groups.now) }
+    ensures range { OnOk result (AreShowable query.now groups.now) }
+    ensures fault { IfErr result (λ e. e ≡ SumOutOfRange → AreShowable query.now groups.now → ⊥) }
+{
+    let aggregates = aggregates_of(query);
+    let mut rows = groups.shown_rows(alloc, aggregates)?;
+    if is_one_group(&query.shape) && rows.is_empty() {
+        rows.push(row_of_nothing(alloc, aggregates)?)?;
+    }
+    Ok(rows)
+}
+
+fn is_one_group(shape: &Shape) -> bool
+    ensures { result ≡ is_one_group shape.now }
+{
+    matches!(shape, Shape::Grouped { keys: None, .. })
+}
+
+/// The row of a group without rows and without a key.
+fn row_of_nothing(alloc: Global, aggregates: &[Aggregate]) -> Result<Row, AllocError>
+    ensures { IfOk result (λ row. row ≡ group_row aggregates.now [] []) }
+{
+    let mut row = Row::new(alloc);
+    for aggregate in aggregates {
+        row.push(value_of_nothing(aggregate))?;
+    }
+    Ok(row)
+}
+
+/// What an aggregate shows of no rows.
+fn value_of_nothing(aggregate: &Aggregate) -> Value
+    ensures { result ≡ shown_of aggregate.now [] }
+{
+    match aggregate {
+        Aggregate::CountAll | Aggregate::Count(_) => Value::Number(0),
+        Aggregate::Sum(_) | Aggregate::Min(_) | Aggregate::Max(_) => Value::Null,
+    }
+}
+
+/// The items, worked out in each of the rows.
+fn item_rows(alloc: Global, items: &[Expr], rows: &[Row]) -> Result<Vec<Row>, AllocError>
+    requires { AllByRecursion (AreNarrowAt items.now) rows.now }
+    ensures { IfOk result (λ shown. shown.items ≡ map (items_of items.now) rows.now) }
+{
+    let mut shown = Vec::new(alloc);
+    for row in rows {
+        shown.push(items_of(alloc, items, row.as_slice())?)?;
+    }
+    Ok(shown)
+}
+
+/// Each row as often as its weight says.
+fn listed(alloc: Global, images: &Weights) -> Result<Vec<Row>, AllocError>
+    requires { IsBag images.now.entries }
+    ensures { IfOk result (λ rows. SameBag (once_each rows.items) images.now.entries) }
+{
+    let mut rows = Vec::new(alloc);
+    for place in 0..images.len() {
+        let (row, weight) = images.pair_at(place);
+        push_times(alloc, row, weight, &mut rows)?;
+    }
+    Ok(rows)
+}
+
+/// Adds a row so many times.
+fn push_times(alloc: Global, row: &Row, times: i128, rows: &mut Vec<Row>) -> Result<(), AllocError>
+    requires { pos 0 ≤ℤ times }
+    ensures { OnOk result (AddsTimes row.now times rows.old.items rows.new.items) }
+{
+    for _time in 0..times {
+        rows.push(copy_row(alloc, row.as_slice())?)?;
+    }
+    Ok(())
+}

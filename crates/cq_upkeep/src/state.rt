@@ -1,0 +1,168 @@
+//! A view as it is kept.
+ghost use Rattle.std.specs.Prelude.{◌≡◌, IfErr, IfOk, OnOk};
+ghost use Rattle.cq_chains.specs.Chains.{Stands};
+ghost use Rattle.cq_chains.specs.Sources.{rows_at};
+ghost use Rattle.cq_chains.specs.Work.{CountsEntries, CountsPairs, all_ticks};
+ghost use Rattle.cq_deltas.specs.declared.fault.ShowFault.TheVariants.{SumOutOfRange};
+ghost use Rattle.cq_sides.specs.Ticks.{counted};
+ghost use Rattle.cq_upkeep.specs.Shown.{AreRowsOf, CanShow, IsNotShown, IsShown};
+ghost use Rattle.cq_upkeep.specs.State.{CanCommit, CanPrepare, CanStart, IsChainOf, IsWaiting, LastStandsFor, SameView, StandsFor, StaysStanding, TakesIn};
+
+use crate::joins::joined;
+use crate::last::{Last, LastChange};
+use crate::showing::shown_rows;
+use cq_chains::{Chain, SourceRows, Waiting};
+use cq_deltas::ShowFault;
+use cq_model::Query;
+use cq_values::Row;
+use std::alloc::{AllocError, Global};
+
+/// A view as it is kept: its query, its epochs, the sides of its joins, and what stands behind them.
+#[derive(Drop)]
+pub struct ViewState {
+    query: Query,
+    epoch: u64,
+    built: u64,
+    chain: Chain,
+    last: Last,
+}
+
+/// Changes that wait for [`ViewState::commit`]: those of the joins, and what they add behind them.
+#[derive(Drop)]
+pub struct Pending {
+    waiting: Waiting,
+    change: LastChange,
+}
+
+impl ViewState {
+    /// The view of this query, as its tables stand at the epoch. It counts no work.
+    pub fn build(
+        alloc: Global,
+        query: Query,
+        sources: &[SourceRows],
+        epoch: u64,
+    ) -> Result<ViewState, AllocError>
+        requires { CanStart query (rows_at sources.now) }
+        ensures query { IfOk result (λ v. v.query ≡ query) }
+        ensures epoch { IfOk result (λ v. v.epoch ≡ epoch) }
+        ensures built { IfOk result (λ v. v.built ≡ epoch) }
+        ensures stands { IfOk result (λ v. StandsFor v (rows_at sources.now)) }
+        ensures uncounted { IfOk result (λ v. all_ticks v.chain.steps.items ≡ 0) }
+    {
+        match kept(alloc, &query, sources) {
+            Ok((chain, last)) => Ok(ViewState {
+                query,
+                epoch,
+                built: epoch,
+                chain,
+                last,
+            }),
+            Err(fault) => {
+                drop(query);
+                Err(fault)
+            }
+        }
+    }
+
+    /// The view's query.
+    pub fn query(&self) -> &Query
+        ensures { result.now ≡ self.now.query }
+    {
+        &self.query
+    }
+
+    /// How many writes there were when the view last took one in.
+    pub fn epoch(&self) -> u64
+        ensures { result ≡ self.now.epoch }
+    {
+        self.epoch
+    }
+
+    /// How many writes there were when the view was built.
+    pub fn built(&self) -> u64
+        ensures { result ≡ self.now.built }
+    {
+        self.built
+    }
+
+    /// How many entries the sides of the joins gave and took since the view was built.
+    pub fn work(&self) -> u128
+        ensures { result ≡ counted 0 (all_ticks self.now.chain.steps.items) }
+    {
+        self.chain.ticks()
+    }
+
+    /// Works out what changes of the tables change, from the stored sides and the changes alone, and makes all growth
+    /// for it. Nothing that is shown changes.
+    pub fn prepare(&mut self, alloc: Global, changes: &[SourceRows]) -> Result<Pending, AllocError>
+        requires { CanPrepare self.old (rows_at changes.now) }
+        ensures same { SameView self.old self.new }
+        ensures waiting { IfOk result (IsWaiting self.old (rows_at changes.now) self.new) }
+        ensures ready { IfOk result (CanCommit self.new) }
+        ensures counts { CountsPairs self.old.chain (rows_at changes.now) self.new.chain }
+    {
+        let (rows, waiting) = self.chain.change(alloc, changes)?;
+        let change = self.last.prepare(alloc, &self.query, &rows);
+        drop(rows);
+        match change {
+            Ok(change) => Ok(Pending { waiting, change }),
+            Err(fault) => {
+                drop(waiting);
+                Err(fault)
+            }
+        }
+    }
+
+    /// Puts changes in that wait. It takes no memory, and cannot fail.
+    pub fn commit(&mut self, pending: Pending, epoch: u64)
+        requires { CanCommit self.old pending }
+        ensures query { self.new.query ≡ self.old.query }
+        ensures epoch { self.new.epoch ≡ epoch }
+        ensures built { self.new.built ≡ self.old.built }
+        ensures takes { TakesIn self.old pending self.new }
+        ensures counts { CountsEntries self.old.chain pending.waiting.joins.items self.new.chain }
+    {
+        let Pending { waiting, change } = pending;
+        self.chain.commit(waiting);
+        self.last.commit(change);
+        self.epoch = epoch;
+    }
+
+    /// Takes in writes of other tables.
+    pub fn advance(&mut self, epoch: u64)
+        ensures epoch { self.new ≡ record self.old { epoch = epoch } }
+        ensures stands { StaysStanding self.old self.new }
+    {
+        self.epoch = epoch;
+    }
+
+    /// The rows of the view, in no order that is promised. It costs what the view holds, and no table is read.
+    pub fn rows(&self, alloc: Global) -> Result<Vec<Row>, ShowFault>
+        requires { CanShow self.now }
+        ensures bag { IfOk result (λ rows. AreRowsOf self.now rows.items) }
+        ensures range { OnOk result (IsShown self.now) }
+        ensures fault { IfErr result (λ e. e ≡ SumOutOfRange → IsNotShown self.now) }
+    {
+        shown_rows(alloc, &self.query, &self.last)
+    }
+}
+
+/// The joins of a query, and what stands behind them.
+fn kept(alloc: Global, query: &Query, sources: &[SourceRows]) -> Result<(Chain, Last), AllocError>
+    requires { CanStart query.now (rows_at sources.now) }
+    ensures of { IfOk result (λ r. IsChainOf query.now r.0) }
+    ensures sides { IfOk result (λ r. Stands (rows_at sources.now) r.0) }
+    ensures last { IfOk result (λ r. LastStandsFor query.now (rows_at sources.now) r.1) }
+    ensures uncounted { IfOk result (λ r. all_ticks r.0.steps.items ≡ 0) }
+{
+    let (chain, rows) = joined(alloc, query, sources)?;
+    let last = Last::of(alloc, query, &rows);
+    drop(rows);
+    match last {
+        Ok(last) => Ok((chain, last)),
+        Err(fault) => {
+            drop(chain);
+            Err(fault)
+        }
+    }
+}
