@@ -33,12 +33,6 @@ groups-start query groups keys aggregates having is none =
     subst (λ (gs : KeyedGroups). StandsBehind query [] (stored.Groups gs)) (sym none)
     (subst (λ (s : Shape). LastStands query s [] (Groups (group_at (aggregates_in s) []))) (sym is) (built_last-stands query (Grouped keys aggregates having) []))
 
--- nor do images
-pub images-start : (query : Query) (images : Held) → query.shape ≡ Plain → images.entries ≡ [] → StandsBehind query [] (stored.Images images)
-images-start query images is none =
-    subst (λ (ws : Weighted). LastStands query query.shape [] (Images ws)) (sym none)
-    (subst (λ (s : Shape). LastStands query s [] (Images [])) (sym is) (built_last-stands query Plain []))
-
 -- ---- changes
 groups-by_shape : (query : Query) (shape : Shape) (old new : KeyedGroups) (more : List Addition) (xs dxs ys : Weighted) → GroupsGoOn old more new
     → more ≡ additions (keys_in shape) (aggregates_in shape) dxs → SameBag ys (xs ++ dxs) → IsBag ys

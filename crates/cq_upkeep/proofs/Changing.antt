@@ -1,5 +1,5 @@
 -- What changes of the joined rows add stays in range, where they are few and stored.
-use Rattle.std.proofs.Common.{◌≡◌, ℕ, ℤ, ◌+◌, ◌≤◌, ◌^◌, [], ◌∷◌, take, nat_abs, slice_get, zero, suc, Some, unwrap_or, refl, sym, ◌∙◌, ap, subst, arith}
+use Rattle.std.proofs.Common.{◌≡◌, ℕ, ℤ, ◌+◌, ◌<◌, ◌≤◌, ◌^◌, [], ◌∷◌, take, nat_abs, slice_get, zero, suc, Some, unwrap_or, refl, sym, ◌∙◌, ap, subst, arith}
 use Rattle.std.specs.List.{AllByRecursion}
 use Rattle.cq_values.specs.Value.{Row}
 use Rattle.cq_bags.specs.Bag.{Weighted, SameBag, projected, weight_of}
@@ -10,6 +10,8 @@ use Rattle.cq_deltas.specs.Keyed.{HoldsFor, KeyedGroups, group_at}
 use Rattle.cq_kept.specs.Kept.{Groups, Images, LastStands}
 use Rattle.cq_laws.specs.Sizes.{IsStored}
 use Rattle.cq_model.specs.Meaning.{items_of, keeps}
+use Rattle.cq_model.specs.Sizes.{row_size, stored_size}
+use Rattle.cq_model.specs.Width.{AreNarrowAt, widest}
 use Rattle.cq_model.specs.declared.query.Query.{Query}
 use Rattle.cq_model.specs.declared.query.Shape.{Shape}
 use Rattle.cq_model.specs.declared.query.Shape.TheVariants.{Plain, Grouped}
@@ -21,6 +23,7 @@ use Rattle.cq_chains.proofs.Storing.{stored-filtered}
 use Rattle.cq_chains.specs.Steps.{AreStored}
 use Rattle.cq_upkeep.proofs.Behind.{seen-stands}
 use Rattle.cq_upkeep.proofs.Moves.{counts-move, totals-move}
+use Rattle.cq_upkeep.proofs.Widths.{arguments-narrow, items-narrow}
 use Rattle.cq_upkeep.specs.Last.{AreImages, CanTakeIn, kept_rows, seen}
 use Rattle.cq_upkeep.specs.Query.{CanBeKept, aggregates_in, aggregates_of, key_columns, keys_in}
 use Rattle.cq_upkeep.specs.declared.last.Last.TheVariants as stored
@@ -44,7 +47,8 @@ pub change-holds : (query : Query) (old new : KeyedGroups) (rows : Weighted) →
     → HoldsFor (additions (key_columns query) (aggregates_of query) (kept_rows query rows)) new
 change-holds query old new rows can take same =
     let keep = keeps query.filter in
-    groups-hold query query.shape take.xs (kept_rows query rows) new can.arguments take.rows.0 (stored-filtered keep rows take.rows.1)
+    groups-hold query query.shape take.xs (kept_rows query rows) new
+    (λ row stored. arguments-narrow row stored (aggregates_of query) can.arguments) take.rows.0 (stored-filtered keep rows take.rows.1)
     (omega (arith, take.few, sizes-filtered keep rows)) (seen-stands query (stored.Groups old) (stored.Groups new) same take.xs take.stands)
 
 -- ---- images
@@ -52,20 +56,18 @@ sizes-projected : (f : Row → Row) (xs : Weighted) → sizes (projected f xs) �
 sizes-projected f [] = refl
 sizes-projected f (x ∷ xs) = omega (arith, sizes-cons (f x.0, x.1) (projected f xs), sizes-cons x xs, sizes-projected f xs)
 
-plain-for : (query : Query) (shape : Shape) (xs images : Weighted) → LastStands query shape xs (Images images) → shape ≡ Plain
+-- images stand for rows that are not grouped
+pub plain-for : (query : Query) (shape : Shape) (xs images : Weighted) → LastStands query shape xs (Images images) → shape ≡ Plain
 plain-for query Plain xs images stands = refl
 plain-for query (Grouped keys aggregates having) xs images stands = absurd stands
 
-images-for : (query : Query) (shape : Shape) (xs images : Weighted) → LastStands query shape xs (Images images) → SameBag images (projected (items_of query.items) xs)
+-- and are the images of these
+pub images-for : (query : Query) (shape : Shape) (xs images : Weighted) → LastStands query shape xs (Images images) → SameBag images (projected (items_of query.items) xs)
 images-for query Plain xs images stands = stands
 images-for query (Grouped keys aggregates having) xs images stands = absurd stands
 
 module _ (query : Query) (old : Held) (rows : Weighted) (take : CanTakeIn query (stored.Images old) rows) where
-  -- images stand for rows that are not grouped
-  pub is-plain : query.shape ≡ Plain
-  is-plain = plain-for query query.shape take.xs old.entries take.stands
-
-  -- and no weight leaves its range while few more are put in
+  -- no weight leaves its range while few more are put in
   pub images-small : (new more : Held) → new.entries ≡ old.entries → IsClean more.entries → AreImages query (kept_rows query rows) more → StaysSmall more.entries new.entries
   images-small new more same clean are r =
       let f = items_of query.items in
@@ -89,3 +91,9 @@ pub stored-at : (xs : Weighted) (i : ℕ) (row : Row) (weight : ℤ) → slice_g
 stored-at [] i row weight is stored = absurd (cc is)
 stored-at (x ∷ xs) zero row weight is stored = subst (λ (r : Row). IsStored r) (cc is) stored.0
 stored-at (x ∷ xs) (suc i) row weight is stored = stored-at xs i row weight is stored.1
+
+-- in a stored row that is not grouped no item works out what is too wide
+pub row-narrow : (query : Query) → CanBeKept query → query.shape ≡ Plain → (row : Row) → IsStored row → AreNarrowAt query.items row
+row-narrow query can plain row stored =
+    items-narrow (λ i. stored_size) row stored query.items
+    (subst (λ (s : Shape). AllByRecursion (λ e. widest (row_size s) e < 2 ^ 127) query.items) plain can.items)

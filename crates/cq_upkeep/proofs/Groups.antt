@@ -1,5 +1,5 @@
 -- What the groups show of the rows that they stand for, and where their totals can be shown.
-use Rattle.std.proofs.Common.{◌≡◌, ℕ, ◌⊎◌, inl, inr, Bool, pos, ◌+ℤ◌, ◌<ℤ◌, int_lt, cond, true, false, List, [], ◌∷◌, map, Some, None, refl, sym, ◌∙◌, ap, subst, arith}
+use Rattle.std.proofs.Common.{◌≡◌, ℕ, ◌⊎◌, inl, inr, Bool, pos, ◌+ℤ◌, int_lt, cond, true, false, List, [], ◌∷◌, map, Some, None, refl, sym, ◌∙◌, ap, subst, arith}
 use Rattle.std.specs.List.{AllByRecursion}
 use Rattle.std.proofs.lemmas.Int.{ints}
 use Rattle.cq_values.specs.Keys.{same_row-refl, same_row-same}
@@ -22,14 +22,8 @@ use Rattle.cq_deltas.proofs.NoRows.{nothing-counted}
 use Rattle.cq_deltas.proofs.Small.{ranges-show}
 use Rattle.cq_deltas.specs.Keyed.{KeyedGroups, group_at}
 use Rattle.cq_deltas.specs.Shown.{AllCanBeShown, GroupsCanBeShown, counted_keys, group_rows}
+use Rattle.cq_upkeep.proofs.Listing.{weight-among}
 use Rattle.cq_upkeep.specs.Shown.{or_nothing}
-
--- a row that is listed weighs something
-weight-among : (rows : List Row) (r : Row) → is_among r rows ≡ true → pos 0 <ℤ weight_of (once_each rows) r
-weight-among [] r h = absurd (cc)
-weight-among (s ∷ rows) r h = by_test (same_row s r)
-    (λ b. rw b (omega (arith, ints, weight_of-once_each rows r)))
-    (λ b. rw b (omega (arith, ints, weight-among rows r (rw b at h))))
 
 -- the rows of rows that stand once each
 rows-once : (rows : List Row) → map (λ x. x.0) (once_each rows) ≡ rows

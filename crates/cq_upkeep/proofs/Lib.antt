@@ -1,12 +1,16 @@
 pub mod Behind
 pub mod Changing
+pub mod Fitting
 pub mod Groups
 pub mod Imaging
 pub mod Joining
 pub mod Limits
 pub mod Listing
 pub mod Moves
+pub mod Naming
 pub mod SameBags
 pub mod Showings
+pub mod Sizing
 pub mod Standing
+pub mod Widths
 pub mod Working

@@ -1,5 +1,5 @@
 -- Joined rows and what changes add to them are few where the sources are, and stored.
-use Rattle.std.proofs.Common.{◌∙◌, ◌+◌, ◌*◌, ◌≤◌, ◌^◌, List, [], ◌∷◌, ◌++◌, map, arith}
+use Rattle.std.proofs.Common.{◌∙◌, ℕ, ◌+◌, ◌*◌, ◌≤◌, ◌^◌, List, [], ◌∷◌, ◌++◌, map, arith}
 use Rattle.std.proofs.Math.Nat.{mul_assoc}
 use Rattle.std.proofs.lemmas.Int.{ints}
 use Rattle.std.proofs.lemmas.Nat.{mul-le}
@@ -15,6 +15,7 @@ use Rattle.cq_model.specs.Meaning.{Tables, chain, joined_rows, keeps, meets}
 use Rattle.cq_model.specs.Views.{sources_of}
 use Rattle.cq_model.specs.declared.query.Join.{Join}
 use Rattle.cq_model.specs.declared.query.Query.{Query}
+use Rattle.cq_pushes.proofs.Limits.{join_within-product}
 use Rattle.cq_pushes.proofs.Sizes.{sizes-least}
 use Rattle.cq_sides.proofs.RowByRow.{sizes-append}
 use Rattle.cq_sides.specs.Held.{sizes}
@@ -22,7 +23,7 @@ use Rattle.cq_chains.proofs.Spans.{join-span, sizes-filtered}
 use Rattle.cq_chains.proofs.Storing.{stored-filtered, stored-joined}
 use Rattle.cq_chains.specs.Chains.{nothing, spans}
 use Rattle.cq_chains.specs.Steps.{AreStored, span}
-use Rattle.cq_upkeep.specs.State.{HoldStored}
+use Rattle.cq_upkeep.specs.State.{HoldStored, crossed}
 
 -- a chain and its change are within the product of the spans
 chain-span : (tables changes : Tables) (xs dxs : Weighted) (js : List Join)
@@ -38,6 +39,18 @@ chain-span tables changes xs dxs (j ∷ js) =
     let whole = mul_assoc (span xs dxs) (span ys dys) n in
     omega (arith, rest, whole, mul-le (span (joined on xs ys) (join_change on xs dxs ys dys)) n (span xs dxs * span ys dys) n here (omega arith))
 
+-- a chain is within the product of the sizes
+chain-crossed : (tables : Tables) (xs : Weighted) (js : List Join)
+    → sizes (chain tables xs js) ≤ sizes xs * crossed tables (map (λ j. j.source) js)
+chain-crossed tables xs [] = omega arith
+chain-crossed tables xs (j ∷ js) =
+    let on = meets j.on in
+    let ys = tables j.source in
+    let n = crossed tables (map (λ j. j.source) js) in
+    let rest = chain-crossed tables (joined on xs ys) js in
+    let whole = mul_assoc (sizes xs) (sizes ys) n in
+    omega (arith, rest, whole, mul-le (sizes (joined on xs ys)) n (sizes xs * sizes ys) n (join_within-product on xs ys) (omega arith))
+
 -- a chain of stored rows is stored
 stored-chain : (tables : Tables) (xs : Weighted) (js : List Join) → AreStored xs → AllByRecursion (λ s. AreStored (tables s)) (map (λ j. j.source) js)
     → AreStored (chain tables xs js)
@@ -50,6 +63,12 @@ module _ (query : Query) where
   abbrev all_rows : Tables → Weighted
   all_rows tables = chain tables (tables query.first) query.joins
 
+  -- those that WHERE keeps are no more than the sources' rows, multiplied
+  pub rows-crossed : (tables : Tables) (most : ℕ) → crossed tables (sources_of query) ≤ most → sizes (joined_rows query tables) ≤ most
+  rows-crossed tables most few =
+      omega (arith, few, sizes-filtered (keeps query.filter) (all_rows tables), chain-crossed tables (tables query.first) query.joins)
+
+  -- and stored where these are
   pub rows-stored : (tables : Tables) → HoldStored query tables → AreStored (joined_rows query tables)
   rows-stored tables stored = stored-filtered (keeps query.filter) (all_rows tables) (stored-chain tables (tables query.first) query.joins stored.0 stored.1)
 

@@ -1,5 +1,5 @@
--- Rows that stand as often as their weights say.
-use Rattle.std.proofs.Common.{◌≡◌, ◌∙◌, ℕ, zero, suc, ℤ, ◌+◌, pos, ◌+ℤ◌, ◌≤ℤ◌, false, cond, List, [], ◌∷◌, ◌++◌, take, slice_get, Some, refl, sym, ap, subst, arith}
+-- Rows that stand as often as their weights say, and what holds of them.
+use Rattle.std.proofs.Common.{◌≡◌, ◌∙◌, ℕ, zero, suc, ℤ, ◌+◌, pos, ◌+ℤ◌, ◌≤ℤ◌, ◌<ℤ◌, true, false, cond, List, [], ◌∷◌, ◌++◌, take, slice_get, Some, refl, sym, ap, subst, arith}
 use Rattle.std.proofs.lemmas.Int.{ints}
 use Rattle.std.proofs.lemmas.List.{map-append}
 use Rattle.std.specs.List.{AllByRecursion, IsDistinct}
@@ -7,9 +7,13 @@ use Rattle.std.specs.Map.{keys_of}
 use Rattle.cq_values.specs.Keys.{same_row-equiv, same_row-refl, same_row-same}
 use Rattle.cq_values.specs.Order.{same_row}
 use Rattle.cq_values.specs.Value.{Row}
+use Rattle.cq_bags.proofs.Distincts.{is_among}
+use Rattle.cq_bags.proofs.Listings.{weight_of-once_each}
 use Rattle.cq_bags.proofs.Totals.{by_test, weight_of-append}
 use Rattle.cq_bags.specs.Bag.{Weighted, SameBag, IsBag, once_each, weight_of}
 use Rattle.cq_bags.specs.Size.{IsClean}
+use Rattle.cq_laws.proofs.Groups.{row-to-test}
+use Rattle.cq_laws.proofs.Ranges.{all-from}
 use Rattle.cq_pushes.proofs.Pairing.{taken}
 
 -- ---- one row, so many times
@@ -86,3 +90,25 @@ listed-more xs i x at old new so_far add = record {
       let b = ap (λ (ys : Weighted). weight_of ys q) (taken xs i x at) ∙ weight_of-append (take i xs) (x ∷ []) q in
       omega (arith, ints, a, b, so_far.at q);
 }
+
+-- ---- what holds of them
+-- a row that is listed weighs something
+pub weight-among : (rows : List Row) (r : Row) → is_among r rows ≡ true → pos 0 <ℤ weight_of (once_each rows) r
+weight-among [] r h = absurd (cc)
+weight-among (s ∷ rows) r h = by_test (same_row s r)
+    (λ b. rw b (omega (arith, ints, weight_of-once_each rows r)))
+    (λ b. rw b (omega (arith, ints, weight-among rows r (rw b at h))))
+
+-- what holds of all rows holds of one with a weight
+pub listed-all : (P : Row → Type 0) (ys : Weighted) (r : Row) → AllByRecursion (λ y. P y.0) ys → (weight_of ys r ≡ pos 0 → ⊥) → P r
+listed-all P [] r all weighs = absurd (weighs refl)
+listed-all P (y ∷ ys) r all weighs = by_test (same_row y.0 r)
+    (λ s. subst P (same_row-same y.0 r s) all.0)
+    (λ s. listed-all P ys r all.1 (λ e. weighs (let whole : weight_of (y ∷ ys) r ≡ pos 0 +ℤ weight_of ys r = rw s refl in omega (arith, ints, whole, e))))
+
+-- so it holds of rows that stand as often as these weigh
+pub listed-once : (P : Row → Type 0) (rows : List Row) (ys : Weighted) → SameBag (once_each rows) ys
+    → AllByRecursion (λ y. P y.0) ys → AllByRecursion P rows
+listed-once P rows ys same all = all-from P rows (λ r among.
+    let weight = weight-among rows r (row-to-test r rows among) in
+    listed-all P ys r all (λ none. absurd (omega (arith, ints, weight, same.at r, none))))

@@ -1,38 +1,28 @@
 -- A view shows its query's bag, and can show it where the query's totals are in range.
-use Rattle.std.proofs.Common.{◌≡◌, ℕ, zero, suc, ◌≤◌, ◌<◌, true, pos, ◌+ℤ◌, int_lt, List, [], ◌∷◌, ◌++◌, map, length, None, Some, Option, refl, sym, ◌∙◌, ap, subst, arith}
-use Rattle.std.specs.List.{AllByRecursion}
-use Rattle.std.proofs.lemmas.Int.{ints}
-use Rattle.cq_values.specs.Keys.{same_row-same}
-use Rattle.cq_values.specs.Order.{same_row}
+use Rattle.std.proofs.Common.{◌≡◌, List, [], ◌∷◌, map, None, Some, Option, sym, ◌∙◌, ap, subst}
 use Rattle.cq_values.specs.Value.{Row}
-use Rattle.cq_bags.specs.Bag.{SameBag, IsBag, Weighted, distinct_rows, filtered, once_each, projected, weight_of}
+use Rattle.cq_bags.specs.Bag.{SameBag, IsBag, Weighted, filtered, once_each, projected}
 use Rattle.cq_bags.proofs.Bags.{same-refl}
-use Rattle.cq_bags.proofs.Distincts.{is_among-distinct, once_each-map}
+use Rattle.cq_bags.proofs.Distincts.{once_each-map}
 use Rattle.cq_bags.proofs.Positives.{projected-bag}
-use Rattle.cq_bags.proofs.Totals.{by_test}
-use Rattle.cq_kept.specs.Kept.{Groups, Images, LastStands, shown_row}
+use Rattle.cq_kept.specs.Kept.{Groups, Images, LastStands}
 use Rattle.cq_kept.specs.Shown.{ListsKeys}
-use Rattle.cq_laws.proofs.Fits.{all-map}
-use Rattle.cq_laws.proofs.Groups.{IsRowOf, row-to-test}
 use Rattle.cq_laws.proofs.Positives.{joined_rows-bag}
-use Rattle.cq_laws.proofs.Ranges.{all-from}
 use Rattle.cq_laws.proofs.Shown.{last-shown}
-use Rattle.cq_laws.specs.Sizes.{IsStored}
-use Rattle.cq_model.specs.Expr.{Cond, Expr}
-use Rattle.cq_model.specs.Group.{group_row, key_of, keys_of}
+use Rattle.cq_model.specs.Expr.{Cond}
+use Rattle.cq_model.specs.Group.{group_row}
 use Rattle.cq_model.specs.Meaning.{ShapeInRange, items_of, joined_rows, keeps, shaped, shown}
-use Rattle.cq_model.specs.Sizes.{stored_size}
-use Rattle.cq_model.specs.Width.{AreNarrowAt, sizes_of}
+use Rattle.cq_model.specs.Sizes.{count_size}
 use Rattle.cq_model.specs.declared.query.Query.{Query}
 use Rattle.cq_model.specs.declared.query.Shape.{Shape}
 use Rattle.cq_model.specs.declared.query.Shape.TheVariants.{Plain, Grouped}
-use Rattle.cq_chains.specs.Steps.{AreStored}
 use Rattle.cq_deltas.specs.Keyed.{KeyedGroups, group_at}
 use Rattle.cq_deltas.specs.Shown.{GroupsCanBeShown, counted_keys, group_rows}
-use Rattle.cq_upkeep.proofs.Groups.{can-be-shown, in-range, occurs, one-can-be-shown, one-in-range, one-row}
+use Rattle.cq_upkeep.proofs.Changing.{images-for}
+use Rattle.cq_upkeep.proofs.Groups.{can-be-shown, in-range, one-can-be-shown, one-in-range, one-row}
 use Rattle.cq_upkeep.proofs.Joining.{all-pass}
-use Rattle.cq_upkeep.proofs.Limits.{rows-stored}
-use Rattle.cq_upkeep.specs.Query.{AreItemsNarrow, CanBeKept, HasNoHaving, IsItemNarrow, aggregates_in, aggregates_of}
+use Rattle.cq_upkeep.proofs.Limits.{rows-crossed, rows-stored}
+use Rattle.cq_upkeep.specs.Query.{HasNoHaving, aggregates_in, aggregates_of}
 use Rattle.cq_upkeep.specs.Shown.{AreRowsOf, CanShow, IsNotShown, IsShown, ShowsInRange, ShowsOutOfRange, ShowsRows, StandsOnStored, all_rows}
 use Rattle.cq_upkeep.specs.declared.last.Last.TheVariants as stored
 use Rattle.cq_upkeep.specs.declared.state.ViewState.{ViewState}
@@ -83,86 +73,13 @@ module _ (query : Query) (groups : KeyedGroups) where
     pub groups-out_of_range : (GroupsCanBeShown (aggregates_of query) groups → ⊥) → ShowsOutOfRange query (stored.Groups groups)
     groups-out_of_range cannot xs stands bag range = cannot (shown-by_shape query.shape lists xs stands bag range)
 
--- ---- no item works out what is too wide over them
-items-narrow : (keys : ℕ) (row : Row) → ((i : ℕ) → i < keys → sizes_of row i ≤ stored_size) → (items : List Expr) → AllByRecursion (IsItemNarrow keys) items → AreNarrowAt items row
-items-narrow keys row sized [] narrow = tt
-items-narrow keys row sized (e ∷ items) narrow = (narrow.0 (sizes_of row) sized, items-narrow keys row sized items narrow.1)
-
--- a key of so many columns is of stored numbers, whatever stands behind it
-abbrev IsKeySized : List ℕ → Row → Type 0
-IsKeySized columns k = (rest : Row) (i : ℕ) → i < length columns → sizes_of (k ++ rest) i ≤ stored_size
-
-key-sized : (columns : List ℕ) (row : Row) → IsStored row → IsKeySized columns (key_of columns row)
-key-sized [] row stored rest i h = absurd (omega (arith, h))
-key-sized (c ∷ columns) row stored rest zero h = stored c
-key-sized (c ∷ columns) row stored rest (suc i) h = key-sized columns row stored rest i (omega (arith, h))
-
-keys-sized : (columns : List ℕ) (xs : Weighted) → AreStored xs → AllByRecursion (λ y. IsKeySized columns y.0) (projected (key_of columns) xs)
-keys-sized columns [] stored = tt
-keys-sized columns (x ∷ xs) stored = (key-sized columns x.0 stored.0, keys-sized columns xs stored.1)
-
--- what holds of all rows holds of one with a weight
-listed-all : (P : Row → Type 0) (ys : Weighted) (r : Row) → AllByRecursion (λ y. P y.0) ys → (weight_of ys r ≡ pos 0 → ⊥) → P r
-listed-all P [] r all weighs = absurd (weighs refl)
-listed-all P (y ∷ ys) r all weighs = by_test (same_row y.0 r)
-    (λ s. subst P (same_row-same y.0 r s) all.0)
-    (λ s. listed-all P ys r all.1 (λ e. weighs (let whole : weight_of (y ∷ ys) r ≡ pos 0 +ℤ weight_of ys r = rw s refl in omega (arith, ints, whole, e))))
-
--- so it is with each key that occurs
-occurs-sized : (columns : List ℕ) (xs : Weighted) → AreStored xs → (k : Row) → IsRowOf k (keys_of columns xs) → IsKeySized columns k
-occurs-sized columns xs stored k among =
-    let ys = projected (key_of columns) xs in
-    let there : int_lt (pos 0) (weight_of ys k) ≡ true = sym (is_among-distinct ys k) ∙ row-to-test k (distinct_rows ys) among in
-    listed-all (IsKeySized columns) ys k (keys-sized columns xs stored) (λ none. absurd (let e = sym there ∙ ap (int_lt (pos 0)) none in cc))
-
-module _ (query : Query) (groups : KeyedGroups) where
-  any-narrow : (rows : List Row) → AllByRecursion (IsItemNarrow 0) query.items → AllByRecursion (AreNarrowAt query.items) rows
-  any-narrow [] narrow = tt
-  any-narrow (row ∷ rows) narrow = (items-narrow 0 row (λ i h. absurd (omega (arith, h))) query.items narrow, any-narrow rows narrow)
-
-  narrow-by_shape : (shape : Shape) → AreItemsNarrow shape query.items → ListsKeys (counted_keys groups) (Groups (group_at (aggregates_in shape) groups)) → (xs : Weighted) → AreStored xs
-      → LastStands query shape xs (Groups (group_at (aggregates_in shape) groups)) → AllByRecursion (AreNarrowAt query.items) (all_rows shape groups)
-  narrow-by_shape Plain narrow lists xs stored stand = absurd stand
-  narrow-by_shape (Grouped None aggregates having) narrow lists xs stored stand = any-narrow (all_rows (Grouped None aggregates having) groups) narrow
-  narrow-by_shape (Grouped (Some keys) aggregates having) narrow lists xs stored stand =
-      let row : Row → Row = λ k. shown_row aggregates k (group_at aggregates groups k).kept in
-      all-map (λ k. AreNarrowAt query.items (row k)) (AreNarrowAt query.items) row (λ k h. h) (counted_keys groups)
-      (all-from (λ k. AreNarrowAt query.items (row k)) (counted_keys groups) (λ k among.
-      items-narrow (length keys) (row k) (occurs-sized keys xs stored k (occurs keys aggregates groups xs lists stand k among) _) query.items narrow))
-
-  pub all-narrow : CanBeKept query → StandsOnStored query (stored.Groups groups) → ListsKeys (counted_keys groups) (Groups (group_at (aggregates_of query) groups))
-      → AllByRecursion (AreNarrowAt query.items) (all_rows query.shape groups)
-  all-narrow can on lists = narrow-by_shape query.shape can.items lists on.xs on.stored on.stands
-
 -- ---- images
-images-for : (query : Query) (shape : Shape) (xs images : Weighted) → LastStands query shape xs (Images images) → SameBag images (projected (items_of query.items) (shaped shape xs))
-images-for query Plain xs images stands = stands
-images-for query (Grouped keys aggregates having) xs images stands = absurd stands
-
+-- the images of a bag are one
 pub images-bag : (query : Query) (images : Weighted) (xs : Weighted) → LastStands query query.shape xs (Images images) → IsBag xs → IsBag images
 images-bag query images xs stands bag =
-    let same = bag-for query.shape stands in
+    let same = images-for query query.shape xs images stands in
     let whole = projected-bag (items_of query.items) xs bag in
     record { at = λ r. rw (same.at r) (whole.at r) }
-  where
-    bag-for : (shape : Shape) → LastStands query shape xs (Images images) → SameBag images (projected (items_of query.items) xs)
-    bag-for Plain stands = stands
-    bag-for (Grouped keys aggregates having) stands = absurd stands
-
-range-for : (query : Query) (shape : Shape) (xs images : Weighted) → LastStands query shape xs (Images images) → ShapeInRange shape xs
-range-for query Plain xs images stands = tt
-range-for query (Grouped keys aggregates having) xs images stands = absurd stands
-
--- images show the rows of their query
-pub images-show : (query : Query) (images : Weighted) (rows : List Row) → SameBag (once_each rows) images → (xs : Weighted)
-    → LastStands query query.shape xs (Images images) → IsBag xs → SameBag (once_each rows) (shown query xs)
-images-show query images rows same xs stands bag =
-    let is = images-for query query.shape xs images stands in
-    record { at = λ r. same.at r ∙ is.at r }
-
--- and there is no total to be out of range
-pub images-in_range : (query : Query) (images : Weighted) (xs : Weighted) → LastStands query query.shape xs (Images images) → ShapeInRange query.shape xs
-images-in_range query images xs stands = range-for query query.shape xs images stands
 
 -- ---- views
 module _ (v : ViewState) (can : CanShow v) where
@@ -170,6 +87,7 @@ module _ (v : ViewState) (can : CanShow v) where
   on-stored = record {
     xs = joined_rows v.query can.tables;
     stands = can.stands.last;
+    few = rows-crossed v.query can.tables count_size can.few;
     stored = rows-stored v.query can.tables can.stored;
     bag = joined_rows-bag v.query can.tables can.bags;
   }

@@ -1,13 +1,16 @@
 -- What a view shows: the bag of its query, or that a total is too large to show.
-use Rattle.std.specs.Prelude.{Bool, true, false, if◌then◌else◌, ℤ, List, [], ◌∷◌, ◌++◌, None, Some}
+use Rattle.std.specs.Prelude.{◌≤◌, Bool, true, false, if◌then◌else◌, ℤ, List, [], ◌∷◌, ◌++◌, None, Some}
 use Rattle.cq_values.specs.Value.{Row}
 use Rattle.cq_bags.specs.Bag.{SameBag, Weighted, IsBag, once_each}
 use Rattle.cq_model.specs.Group.{group_row}
 use Rattle.cq_model.specs.Meaning.{MeaningInRange, ShapeInRange, Tables, meaning, shown}
+use Rattle.cq_model.specs.Sizes.{count_size}
+use Rattle.cq_model.specs.Views.{sources_of}
 use Rattle.cq_model.specs.declared.query.Aggregate.{Aggregate}
 use Rattle.cq_model.specs.declared.query.Query.{Query}
 use Rattle.cq_model.specs.declared.query.Shape.{Shape}
 use Rattle.cq_model.specs.declared.query.Shape.TheVariants.{Plain, Grouped}
+use Rattle.cq_sides.specs.Held.{sizes}
 use Rattle.cq_chains.specs.Steps.{AreStored}
 use Rattle.cq_deltas.specs.Keyed.{KeyedGroups, group_at}
 use Rattle.cq_deltas.specs.Shown.{GroupsCanBeShown, group_rows}
@@ -15,7 +18,7 @@ use Rattle.cq_kept.specs.Kept.{Groups}
 use Rattle.cq_kept.specs.Shown.{ListsKeys}
 use Rattle.cq_upkeep.specs.Last.{StandsBehind}
 use Rattle.cq_upkeep.specs.Query.{CanBeKept, aggregates_in, aggregates_of}
-use Rattle.cq_upkeep.specs.State.{AreBags, HoldStored, StandsFor}
+use Rattle.cq_upkeep.specs.State.{AreBags, HoldStored, StandsFor, crossed}
 use Rattle.cq_upkeep.specs.declared.last.Last.{Last as Stored}
 use Rattle.cq_upkeep.specs.declared.state.ViewState.{ViewState}
 
@@ -52,10 +55,11 @@ abbrev pub AddsTimes : Row → ℤ → List Row → List Row → Type 0
 AddsTimes row times old new = SameBag (once_each new) (once_each old ++ (row, times) ∷ [])
 
 -- ---- what stands behind the joins
--- it stands for a bag of stored rows
+-- it stands for a bag of stored rows, not more of them than can be counted
 pub record StandsOnStored (query : Query) (last : Stored) : Type 0 where
   pub xs : Weighted
   pub stands : StandsBehind query xs last
+  pub few : sizes xs ≤ count_size
   pub stored : AreStored xs
   pub bag : IsBag xs
 
@@ -72,11 +76,12 @@ abbrev pub ShowsOutOfRange : Query → Stored → Type 0
 ShowsOutOfRange query last = (xs : Weighted) → StandsBehind query xs last → IsBag xs → ShapeInRange query.shape xs → ⊥
 
 -- ---- views
--- the view stands for bags of stored rows
+-- the view stands for bags of stored rows, and a join of them has not more rows than can be counted
 pub record CanShow (v : ViewState) : Type 0 where
   pub can : CanBeKept v.query
   pub tables : Tables
   pub stands : StandsFor v tables
+  pub few : crossed tables (sources_of v.query) ≤ count_size
   pub stored : HoldStored v.query tables
   pub bags : AreBags tables
 

@@ -1,5 +1,5 @@
 -- A view as it is kept, the tables that it stands for, and what changes of them do.
-use Rattle.std.specs.Prelude.{◌≡◌, ◌≤◌, ◌^◌, List, ◌++◌, map, None}
+use Rattle.std.specs.Prelude.{◌≡◌, ◌≤◌, ◌*◌, ◌^◌, ℕ, List, [], ◌∷◌, ◌++◌, map, None}
 use Rattle.std.specs.List.{AllByRecursion, AllZip}
 use Rattle.cq_bags.specs.Bag.{Weighted, SameBag, IsBag}
 use Rattle.cq_kept.specs.Delta.{changed}
@@ -8,6 +8,7 @@ use Rattle.cq_model.specs.Views.{sources_of}
 use Rattle.cq_model.specs.declared.query.Join.{Join}
 use Rattle.cq_model.specs.declared.query.Query.{Query}
 use Rattle.cq_model.specs.declared.query.Source.{Source}
+use Rattle.cq_sides.specs.Held.{sizes}
 use Rattle.cq_chains.specs.Chains.{IsStill, Stands, WaitFor, conditions_of, joins_of, nothing, spans}
 use Rattle.cq_chains.specs.Steps.{AreStored, CanTake}
 use Rattle.cq_chains.specs.declared.chain.Chain.{Chain}
@@ -50,6 +51,11 @@ AreBags tables = (source : Source) → IsBag (tables source)
 -- the rows of each source of a query are stored
 abbrev pub HoldStored : Query → Tables → Type 0
 HoldStored query tables = AllByRecursion (λ s. AreStored (tables s)) (sources_of query)
+
+-- the sizes of the sources' rows, multiplied: a join of them has no more rows
+abbrev pub crossed : Tables → List Source → ℕ
+crossed tables [] = 1
+crossed tables (source ∷ sources) = sizes (tables source) * crossed tables sources
 
 -- a query that is kept, over bags of stored rows, not too many of them
 pub record CanStart (query : Query) (tables : Tables) : Type 0 where

@@ -1,9 +1,9 @@
 //! What holds of kept views.
-ghost use Rattle.cq_upkeep.specs.Laws.{CountsWithinWork, StandingDependsOnBags};
+ghost use Rattle.cq_upkeep.specs.Laws.{CountsWithinWork, StandingDependsOnSources};
 
-/// A view that stands for bags stands for them however they are listed.
-pub fn standing_depends_on_bags()
-    ensures { StandingDependsOnBags }
+/// A view that stands for the bags of the tables that FROM names stands for them however they are listed.
+pub fn standing_depends_on_sources()
+    ensures { StandingDependsOnSources }
 {}
 
 /// What [`crate::ViewState::prepare`] and [`crate::ViewState::commit`] count is within the work of the query's joins.

@@ -4,10 +4,11 @@
 //! or their images with their weights. Changes of the tables go in by two steps: [`ViewState::prepare`] works out what
 //! they change, from the stored sides and the changes alone, and makes all growth; [`ViewState::commit`] puts it in,
 //! takes no memory and cannot fail. Then the view stands for the changed tables, and [`ViewState::rows`] shows its
-//! query's bag.
+//! query's bag, in rows whose numbers are within [`ViewState::column_sizes`].
 #![tactic(auto)]
 
 mod changes;
+mod columns;
 mod joins;
 mod last;
 mod laws;
@@ -15,5 +16,5 @@ mod query;
 mod showing;
 mod state;
 
-pub use laws::{counts_are_within_work, standing_depends_on_bags};
+pub use laws::{counts_are_within_work, standing_depends_on_sources};
 pub use state::{Pending, ViewState};

@@ -4,8 +4,10 @@ ghost use Rattle.std.specs.Prelude.{pos, ◌≡◌, ◌≤ℤ◌, IfErr, IfOk, O
 ghost use Rattle.cq_bags.specs.Bag.{IsBag, SameBag, once_each};
 ghost use Rattle.cq_deltas.specs.declared.fault.ShowFault.TheVariants.{SumOutOfRange};
 ghost use Rattle.cq_deltas.specs.Shown.{counted_keys};
+ghost use Rattle.cq_laws.specs.Sizes.{HasSizes};
 ghost use Rattle.cq_model.specs.Group.{aggregate as shown_of, group_row};
 ghost use Rattle.cq_model.specs.Meaning.{items_of};
+ghost use Rattle.cq_model.specs.Sizes.{column_sizes};
 ghost use Rattle.cq_model.specs.Width.{AreNarrowAt};
 ghost use Rattle.cq_upkeep.specs.declared.last.Last.TheVariants.{Groups as AsGroups};
 ghost use Rattle.cq_upkeep.specs.Query.{CanBeKept};
@@ -25,6 +27,7 @@ pub(crate) fn shown_rows(alloc: Global, query: &Query, last: &Last) -> Result<Ve
     requires can { CanBeKept query.now }
     requires on { StandsOnStored query.now last.now }
     ensures rows { IfOk result (λ rows. ShowsRows query.now last.now rows.items) }
+    ensures sized { IfOk result (λ rows. AllByRecursion (HasSizes (column_sizes query.now)) rows.items) }
     ensures range { OnOk result (ShowsInRange query.now last.now) }
     ensures fault { IfErr result (λ e. e ≡ SumOutOfRange → ShowsOutOfRange query.now last.now) }
 {
@@ -39,6 +42,7 @@ fn shown_groups(alloc: Global, query: &Query, groups: &Groups) -> Result<Vec<Row
     requires can { CanBeKept query.now }
     requires on { StandsOnStored query.now (AsGroups groups.now) }
     ensures rows { IfOk result (λ rows. ShowsRows query.now (AsGroups groups.now) rows.items) }
+    ensures sized { IfOk result (λ rows. AllByRecursion (HasSizes (column_sizes query.now)) rows.items) }
     ensures range { OnOk result (ShowsInRange query.now (AsGroups groups.now)) }
     ensures fault { IfErr result (λ e. e ≡ SumOutOfRange → ShowsOutOfRange query.now (AsGroups groups.now)) }
 {

@@ -1,15 +1,21 @@
 //! A view as it is kept.
+ghost use Rattle.std.specs.List.{AllByRecursion};
 ghost use Rattle.std.specs.Prelude.{◌≡◌, IfErr, IfOk, OnOk};
 ghost use Rattle.cq_chains.specs.Chains.{Stands};
 ghost use Rattle.cq_chains.specs.Sources.{rows_at};
 ghost use Rattle.cq_chains.specs.Work.{CountsEntries, CountsPairs, all_ticks};
 ghost use Rattle.cq_deltas.specs.declared.fault.ShowFault.TheVariants.{SumOutOfRange};
+ghost use Rattle.cq_laws.specs.Sizes.{HasSizes};
+ghost use Rattle.cq_model.specs.Sizes.{column_sizes};
 ghost use Rattle.cq_sides.specs.Ticks.{counted};
+ghost use Rattle.cq_upkeep.specs.Query.{CanBeKept, reads};
 ghost use Rattle.cq_upkeep.specs.Shown.{AreRowsOf, CanShow, IsNotShown, IsShown};
 ghost use Rattle.cq_upkeep.specs.State.{CanCommit, CanPrepare, CanStart, IsChainOf, IsWaiting, LastStandsFor, SameView, StandsFor, StaysStanding, TakesIn};
 
+use crate::columns::column_sizes;
 use crate::joins::joined;
 use crate::last::{Last, LastChange};
+use crate::query::reads;
 use crate::showing::shown_rows;
 use cq_chains::{Chain, SourceRows, Waiting};
 use cq_deltas::ShowFault;
@@ -92,6 +98,21 @@ impl ViewState {
         self.chain.ticks()
     }
 
+    /// Whether FROM names the table, so that its changes are for the view.
+    pub fn is_on(&self, table: u64) -> bool
+        ensures { result ≡ reads table self.now.query }
+    {
+        reads(&self.query, table)
+    }
+
+    /// How large the numbers in each column of [`ViewState::rows`] can be.
+    pub fn column_sizes(&self, alloc: Global) -> Result<Vec<u128>, AllocError>
+        requires { CanBeKept self.now.query }
+        ensures { IfOk result (λ v. v.items ≡ column_sizes self.now.query) }
+    {
+        column_sizes(alloc, &self.query)
+    }
+
     /// Works out what changes of the tables change, from the stored sides and the changes alone, and makes all growth
     /// for it. Nothing that is shown changes.
     pub fn prepare(&mut self, alloc: Global, changes: &[SourceRows]) -> Result<Pending, AllocError>
@@ -140,6 +161,7 @@ impl ViewState {
     pub fn rows(&self, alloc: Global) -> Result<Vec<Row>, ShowFault>
         requires { CanShow self.now }
         ensures bag { IfOk result (λ rows. AreRowsOf self.now rows.items) }
+        ensures sized { IfOk result (λ rows. AllByRecursion (HasSizes (column_sizes self.now.query)) rows.items) }
         ensures range { OnOk result (IsShown self.now) }
         ensures fault { IfErr result (λ e. e ≡ SumOutOfRange → IsNotShown self.now) }
     {

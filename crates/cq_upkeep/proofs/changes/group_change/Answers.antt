@@ -5,10 +5,26 @@ use Rattle.cq_values.specs.Value.{Row}
 use Rattle.cq_deltas.specs.Additions.{addition, additions}
 use Rattle.cq_deltas.specs.declared.change.Addition.{Addition}
 use Rattle.cq_model.specs.Meaning.{keeps}
+use Rattle.cq_upkeep.proofs.Changing.{stored-at}
 use Rattle.cq_upkeep.proofs.Imaging.{adds-more, kept-same}
+use Rattle.cq_upkeep.proofs.Widths.{arguments-narrow}
 use Rattle.cq_upkeep.specs.Query.{aggregates_of, key_columns}
 use Rattle.cq_upkeep.proofs.changes.group_change.Goals as goal
 use Rattle.cq_upkeep.proofs.changes.group_change.Goals.{then-keeps+in_ok-push, else-keeps}
+
+pub keeps-requires : goal.keeps-requires
+keeps-requires c =
+    let row : Row = c.pair_at-weight.result.0.now in
+    let stored = stored-at c.args.rows.now.entries c.loop-place.place row _ c.pair_at-weight.ensures c.requires.stored in
+    let narrow = c.requires.can.filter row stored in
+    search rules
+
+pub push-requires : goal.push-requires
+push-requires c =
+    let query = c.args.query.now in
+    let row : Row = c.pair_at-weight.result.0.now in
+    let stored = stored-at c.args.rows.now.entries c.loop-place.place row _ c.pair_at-weight.ensures c.requires.stored in
+    rw (c.as_slice-then-keeps.ensures, c.aggregates_of-aggregates.ensures) (arguments-narrow row stored (aggregates_of query) c.requires.can.arguments)
 
 pub loop-place-preserved : goal.loop-place-preserved
 loop-place-preserved c =

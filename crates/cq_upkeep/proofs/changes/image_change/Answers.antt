@@ -6,9 +6,23 @@ use Rattle.cq_bags.specs.Bag.{SameBag}
 use Rattle.cq_model.specs.Meaning.{items_of, keeps}
 use Rattle.cq_sides.specs.Held.{Held}
 use Rattle.cq_pushes.proofs.Pairing.{entry-small}
+use Rattle.cq_upkeep.proofs.Changing.{row-narrow, stored-at}
 use Rattle.cq_upkeep.proofs.Imaging.{gather-more, gather-same}
 use Rattle.cq_upkeep.proofs.changes.image_change.Goals as goal
 use Rattle.cq_upkeep.proofs.changes.image_change.Goals.{then-keeps+in_ok-items_of+in_ok-add, else-keeps}
+
+pub keeps-requires : goal.keeps-requires
+keeps-requires c =
+    let row : Row = c.pair_at-weight.result.0.now in
+    let stored = stored-at c.args.rows.now.entries c.loop-place.place row _ c.pair_at-weight.ensures c.requires.stored in
+    let narrow = c.requires.can.filter row stored in
+    search rules
+
+pub items_of-requires : goal.items_of-requires
+items_of-requires c =
+    let row : Row = c.pair_at-weight.result.0.now in
+    let stored = stored-at c.args.rows.now.entries c.loop-place.place row _ c.pair_at-weight.ensures c.requires.stored in
+    rw (c.as_slice-items.ensures, c.as_slice-then-keeps.ensures) (row-narrow c.args.query.now c.requires.can c.requires.plain row stored)
 
 pub add-requires : goal.add-requires
 add-requires c =

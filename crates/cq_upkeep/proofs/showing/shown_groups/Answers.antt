@@ -3,7 +3,8 @@ use Rattle.cq_deltas.specs.declared.fault.ShowFault.TheVariants.{SumOutOfRange}
 use Rattle.cq_model.specs.Expr.{Expr}
 use Rattle.cq_model.specs.Meaning.{items_of}
 use Rattle.cq_values.specs.Value.{Row}
-use Rattle.cq_upkeep.proofs.Showings.{all-narrow, groups-in_range, groups-out_of_range, groups-shown}
+use Rattle.cq_upkeep.proofs.Showings.{groups-in_range, groups-out_of_range, groups-shown}
+use Rattle.cq_upkeep.proofs.Sizing.{all-narrow, groups-sized}
 use Rattle.cq_upkeep.specs.Shown.{ShowsOutOfRange, all_rows}
 use Rattle.cq_upkeep.specs.declared.last.Last.TheVariants.{Groups}
 use Rattle.cq_upkeep.proofs.showing.shown_groups.Goals as goal
@@ -21,7 +22,7 @@ item_rows-requires c =
     let query = c.args.query.now in
     let groups = c.args.groups.now in
     let rows : c.deref.result.now ≡ all_rows query.shape groups = c.deref.ensures.value ∙ c.in_ok-rows.ensures.rows in
-    rw (rows, c.as_slice.ensures) (all-narrow query groups c.requires.can c.requires.on c.all_rows.ensures.keys)
+    rw (rows, c.as_slice.ensures) (all-narrow query groups c.requires.on c.all_rows.ensures.keys c.in_ok-rows.ensures.range c.requires.can)
 
 pub returns-clause-rows : goal.returns-clause-rows
 returns-clause-rows c =
@@ -31,6 +32,15 @@ returns-clause-rows c =
     let shown : c.in_ok-item_rows.field-0.items ≡ map (items_of query.items) (all_rows query.shape groups) =
     c.in_ok-item_rows.ensures ∙ ap₂ (λ (items : List Expr) (rs : List Row). map (items_of items) rs) c.as_slice.ensures rows in
     groups-shown query groups c.all_rows.ensures.keys c.requires.can.groups c.in_ok-item_rows.field-0.items shown
+
+pub returns-clause-sized : goal.returns-clause-sized
+returns-clause-sized c =
+    let query = c.args.query.now in
+    let groups = c.args.groups.now in
+    let rows : c.deref.result.now ≡ all_rows query.shape groups = c.deref.ensures.value ∙ c.in_ok-rows.ensures.rows in
+    let shown : c.in_ok-item_rows.field-0.items ≡ map (items_of query.items) (all_rows query.shape groups) =
+    c.in_ok-item_rows.ensures ∙ ap₂ (λ (items : List Expr) (rs : List Row). map (items_of items) rs) c.as_slice.ensures rows in
+    groups-sized query groups c.requires.on c.all_rows.ensures.keys c.in_ok-rows.ensures.range c.in_ok-item_rows.field-0.items shown
 
 pub returns-clause-range : goal.returns-clause-range
 returns-clause-range c = groups-in_range c.args.query.now c.args.groups.now c.all_rows.ensures.keys c.in_ok-rows.ensures.range

@@ -1,5 +1,6 @@
 use Rattle.std.proofs.Common.{subst}
 use Rattle.cq_upkeep.proofs.Showings.{images-bag}
+use Rattle.cq_upkeep.proofs.Sizing.{images-sized}
 use Rattle.cq_upkeep.specs.Shown.{StandsOnStored}
 use Rattle.cq_upkeep.specs.declared.last.Last.{Last}
 use Rattle.cq_upkeep.proofs.showing.shown_rows.Goals as goal
@@ -8,3 +9,8 @@ pub listed-requires : goal.listed-requires
 listed-requires c =
     let on = subst (λ (l : Last). StandsOnStored c.args.query.now l) c.in-Images.is c.requires.on in
     images-bag c.args.query.now c.in-Images.images.entries on.xs on.stands on.bag
+
+pub returns-in_ok-listed-in-Images-clause-sized : goal.returns-in_ok-listed-in-Images-clause-sized
+returns-in_ok-listed-in-Images-clause-sized c =
+    let on = subst (λ (l : Last). StandsOnStored c.args.query.now l) c.in-Images.is c.requires.on in
+    images-sized c.args.query.now c.in-Images.images c.in_ok-listed-in-Images.field-0.items c.in_ok-listed-in-Images.ensures on
