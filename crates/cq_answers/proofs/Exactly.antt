@@ -1,5 +1,5 @@
 -- A query that can be worked out with the sizes of columns is exact on the rows that lent rows become.
-use Rattle.std.proofs.Common.{◌≡◌, ◌<◌, ◌+◌, ℕ, suc, ℤ, pos, ◌<ℤ◌, List, [], ◌∷◌, ◌++◌, append_assoc, filter, length, map, get_or, Option, Some, None, Ok, Err, refl, sym, ◌∙◌, ap, inr, subst, arith, Vec, Global}
+use Rattle.std.proofs.Common.{◌≡◌, ◌<◌, ◌+◌, ℕ, suc, pos, ◌<ℤ◌, List, [], ◌∷◌, ◌++◌, append_assoc, filter, length, map, get_or, Option, Some, None, Ok, Err, refl, sym, ◌∙◌, ap, inr, subst, arith, Vec, Global}
 use Rattle.std.specs.Prelude.{if◌then◌else◌}
 use Rattle.std.proofs.lemmas.Int.{ints}
 use Rattle.std.proofs.lemmas.List.{length-append}

@@ -8,7 +8,7 @@ use Rattle.cq_bags.specs.Canonical.{bag_of}
 use Rattle.cq_bags.proofs.Bags.{same-trans}
 use Rattle.cq_binding.specs.declared.fault.Fault.{Fault}
 use Rattle.cq_laws.specs.Laws.{MeaningDependsOnSources, MeansSame}
-use Rattle.cq_laws.specs.Sizes.{HasSizes, RowsKeepSizes}
+use Rattle.cq_laws.specs.Sizes.{HasSizes}
 use Rattle.cq_model.specs.declared.query.Order.{Order}
 use Rattle.cq_model.specs.declared.query.Query.{Query}
 use Rattle.cq_model.specs.declared.query.Source.{Source}
@@ -20,17 +20,18 @@ use Rattle.cq_lent.specs.Lent.{lent_bags, rows_or}
 use Rattle.cq_states.specs.Fitting.{AreFitting}
 use Rattle.cq_states.specs.State.{State, TableOf, queries_of, rows_in, tables_now}
 use Rattle.cq_catalog.specs.Catalog.{alone}
-use Rattle.cq_views.specs.Shown.{AreRowsOf, IsShown}
+use Rattle.cq_upkeep.specs.Shown.{AreRowsOf, IsShown}
 use Rattle.cq_answers.specs.declared.gathered.Gathered.{Gathered}
 use Rattle.cq_answers.specs.Lent.{CanAnswer}
 use Rattle.cq_answers.specs.Reading.{CanRead}
-use Rattle.cq_answers.specs.Gathered.{AreGathered, AreLent, AreRowsThere, AreShownBy, IsBacked, IsGatherFault, IsGathered, IsHidden, IsLent}
+use Rattle.cq_answers.specs.Gathered.{AreGathered, AreLent, AreRowsThere, AreShownBy, HaveColumnsOf, IsGatherFault, IsGathered, IsHidden, IsLent}
 use Rattle.cq_answers.specs.Narrow.{source_sizes}
 use Rattle.cq_answers.specs.Selects.{Selects, SelectsLent, sources_in}
 use Rattle.cq_tables.specs.Views.{AreRight, NamedView, views_of}
+use Rattle.cq_tables.proofs.Bags.{bags_are}
 use Rattle.cq_answers.proofs.Lents.{AreFor, sources-have}
 use Rattle.cq_tables.proofs.Pairs.{pointwise_all}
-use Rattle.cq_answers.proofs.Readings.{backed_there, bases, query_there, rows_same, shown_sized, sizes_there, stands_for, stored_sized}
+use Rattle.cq_answers.proofs.Readings.{bases, query_there, rows_same, sizes_there, stands_for, stored_sized}
 use Rattle.cq_tables.proofs.Rows.{all_there}
 
 -- what was gathered is of sources that are there
@@ -54,7 +55,7 @@ module _ (tables : List TableOf) (views : List NamedView) where
     hidden_out : (s : Source) → IsHidden views s → SourceInRange (tables_now here) (queries_of here) s → ⊥
     hidden_out (Table n) hidden range = hidden
     hidden_out (View place) hidden range =
-        hidden.2 (bases tables views) (stands_for tables views now place hidden.0 right hidden.1)
+        hidden.2 (bases tables views) (stands_for tables views now place hidden.0 right hidden.1) (bags_are tables)
         (subst (λ (o : Option Query). ViewInRange (tables_now here) o) (query_there tables views now place hidden.0 right hidden.1) range)
 
     -- refuses SELECT wherever FROM names it
@@ -67,7 +68,7 @@ module _ (tables : List TableOf) (views : List NamedView) where
           hidden_out w.1.1 w.1.4 (subst (SourceInRange (tables_now here) (queries_of here)) w.1.3 named),
     )
 
-  module _ (now : ℕ) (right : AreRight tables now views) (fitting : AreFitting tables) (backed : AllByRecursion IsBacked views) (law : RowsKeepSizes) where
+  module _ (now : ℕ) (right : AreRight tables now views) (fitting : AreFitting tables) where
     -- of a table
     stored_are : (n : ℕ) (rows : List Row) → bag_of rows ≡ rows_in tables n → AreOf (Table n) rows
     stored_are n rows is = record {
@@ -77,20 +78,28 @@ module _ (tables : List TableOf) (views : List NamedView) where
     }
 
     -- of a view
-    shown_are : (place : ℕ) (v : NamedView) (rows : List Row) → slice_get views place ≡ Some v → AreRowsOf v.kept rows → IsShown v.kept → AreOf (View place) rows
-    shown_are place v rows at bag range =
+    shown_are : (place : ℕ) (v : NamedView) (rows : List Row) → slice_get views place ≡ Some v → AreRowsOf v.kept rows
+        → HaveColumnsOf v.kept rows → IsShown v.kept → AreOf (View place) rows
+    shown_are place v rows at bag sized range =
         let there = query_there tables views now place v right at in
         let stands = stands_for tables views now place v right at in
         record {
-          same = subst (λ (o : Option Query). SameBag (once_each rows) (view_bag (tables_now here) o)) (sym there) (bag (bases tables views) stands);
-          sized = subst (λ ns. AllByRecursion (HasSizes ns) rows) (sym (sizes_there tables views now place v right at)) (shown_sized v rows (backed_there views place v backed at) law bag range);
-          range = subst (λ (o : Option Query). ViewInRange (tables_now here) o) (sym there) (range (bases tables views) stands);
+          same =
+              subst (λ (o : Option Query). SameBag (once_each rows) (view_bag (tables_now here) o)) (sym there)
+              (bag (bases tables views) stands (bags_are tables));
+          sized =
+              subst (λ ns. AllByRecursion (HasSizes ns) rows) (sym (sizes_there tables views now place v right at))
+              sized;
+          range =
+              subst (λ (o : Option Query). ViewInRange (tables_now here) o) (sym there)
+              (range (bases tables views) stands (bags_are tables));
         }
 
     -- of what was gathered and lent
     lent_are : (s : Source) (shown rows : List Row) → AreShownBy views s shown → AreRowsThere tables s shown rows → AreOf s rows
     lent_are (Table n) shown rows by there = stored_are n rows there
-    lent_are (View place) shown rows by there = subst (AreOf (View place)) (sym there) (shown_are place by.0 shown by.1 by.2 by.3)
+    lent_are (View place) shown rows by there =
+        subst (AreOf (View place)) (sym there) (shown_are place by.0 shown by.1 by.2 by.3 by.4)
 
     entry_is : (s : Source) (g : Gathered) (l : Lent) → IsGathered views s g → IsLent tables g l → AreOf l.source l.rows.now
     entry_is s g l gathered lent =

@@ -11,12 +11,12 @@ use Rattle.cq_lent.specs.Lent.{rows_or, same_source}
 use Rattle.cq_states.specs.Pointwise.{Pointwise}
 
 -- a source is itself
-itself : (s : Source) → same_source s s ≡ true
+pub itself : (s : Source) → same_source s s ≡ true
 itself (Table n) = eq-eqb n n refl
 itself (View n) = eq-eqb n n refl
 
 -- and no other one is
-only_itself : (s t : Source) → same_source s t ≡ true → s ≡ t
+pub only_itself : (s t : Source) → same_source s t ≡ true → s ≡ t
 only_itself (Table m) (Table n) e = ap Table (eqb-true m n e)
 only_itself (Table m) (View n) e = absurd (cc e)
 only_itself (View m) (Table n) e = absurd (cc e)

@@ -1,4 +1,5 @@
 pub mod Results
+pub mod Backed
 pub mod Readings
 pub mod Lents
 pub mod Joined

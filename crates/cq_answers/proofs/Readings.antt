@@ -1,5 +1,5 @@
 -- What SELECT reads: the rows of a table, or those that a view keeps, are the bag that its name in FROM stands for.
-use Rattle.std.proofs.Common.{◌≡◌, ℕ, zero, suc, ◌<◌, ◌≤◌, ◌^◌, true, false, List, [], ◌∷◌, map, length, Option, Some, refl, sym, ap, ◌∙◌, inl, inr, arith, subst, Result, Ok, Err}
+use Rattle.std.proofs.Common.{◌≡◌, ℕ, zero, suc, ◌<◌, true, false, List, [], ◌∷◌, map, length, Option, Some, refl, sym, ap, ◌∙◌, inl, inr, arith, subst, Result, Ok, Err}
 use Rattle.std.specs.Prelude.{◌==◌, filter, option_map, slice_get}
 use Rattle.std.specs.List.{AllByRecursion}
 use Rattle.std.proofs.lemmas.Bool.{eqb-true}
@@ -10,8 +10,6 @@ use Rattle.cq_bags.specs.Bag.{SameBag, once_each}
 use Rattle.cq_bags.specs.Canonical.{bag_of}
 use Rattle.cq_bags.proofs.Bags.{same-sym}
 use Rattle.cq_bags.proofs.Canonicals.{same-bag_of}
-use Rattle.cq_model.specs.declared.query.Aggregate.{Aggregate}
-use Rattle.cq_model.specs.declared.query.Aggregate.TheVariants.{CountAll, Count, Sum, Min, Max}
 use Rattle.cq_model.specs.declared.query.Join.{Join}
 use Rattle.cq_model.specs.declared.query.Order.{Order}
 use Rattle.cq_model.specs.declared.query.Query.{Query}
@@ -23,44 +21,24 @@ use Rattle.cq_model.specs.Meaning.{Tables, MeaningInRange, items_of, keeps, mean
 use Rattle.cq_model.specs.Sizes.{column_sizes, stored_sizes}
 use Rattle.cq_model.specs.Views.{tables_alone, view_bag, ViewInRange}
 use Rattle.cq_binding.specs.declared.fault.Fault.{Fault}
-use Rattle.cq_states.specs.Fitting.{AreLimited, AreFitting}
+use Rattle.cq_states.specs.Fitting.{AreFitting}
 use Rattle.cq_states.specs.State.{TableOf, ViewOf, State, columns_in, rows_in, tables_now, queries_of}
-use Rattle.cq_deltas.specs.Additions.{AreTotals}
-use Rattle.cq_laws.proofs.Positives.{once_each-bag}
-use Rattle.cq_laws.specs.Sizes.{CountsOrAdds, HasSizes, RowsKeepSizes, IsStored}
+use Rattle.cq_laws.specs.Sizes.{HasSizes}
 use Rattle.cq_catalog.specs.Catalog.{alone}
-use Rattle.cq_views.specs.Query.{aggregates_of, key_columns, table_of}
-use Rattle.cq_views.specs.View.{StandsFor}
+use Rattle.cq_upkeep.specs.Shown.{AreRowsOf, IsShown}
+use Rattle.cq_upkeep.specs.State.{StandsFor}
 use Rattle.cq_answers.specs.Narrow.{IsConditionSized, IsShapeSized, IsWithin, IsWithinSized, joined_sizes, source_sizes, view_sizes}
-use Rattle.cq_answers.specs.Reading.{plain}
+use Rattle.cq_answers.specs.Reading.{IsSourceThere, plain}
 use Rattle.cq_answers.specs.Selects.{AreListed, Selects, SelectsKept, IsInRange, sources_in}
-use Rattle.cq_views.specs.Shown.{AreRowsOf, IsShown}
 use Rattle.cq_tables.specs.Views.{NamedView, IsRight, AreRight, view_of, views_of}
-use Rattle.cq_answers.specs.Gathered.{IsBacked}
+use Rattle.cq_answers.specs.Gathered.{AreShownBy, HaveColumnsOf, IsBacked, IsHidden, IsReadFault, IsShowFault}
+use Rattle.cq_tables.proofs.Bags.{bags_are}
 use Rattle.cq_answers.proofs.Results.{listing_plain}
-use Rattle.cq_tables.proofs.Rows.{fitting_in, rows_have}
+use Rattle.cq_tables.proofs.Rows.{fitting_in}
 use Rattle.cq_table.proofs.RowLists.{all_of_rows}
-use Rattle.cq_tables.proofs.Stored.{rows_sized, tables_stored}
+use Rattle.cq_tables.proofs.Stored.{rows_sized}
 
--- counts and totals are all that a view shows
-counts_or_adds : (aggregates : List Aggregate) → AreTotals aggregates → AllByRecursion CountsOrAdds aggregates
-counts_or_adds [] h = tt
-counts_or_adds (CountAll ∷ aggregates) h = (tt, counts_or_adds aggregates h.1)
-counts_or_adds (Count e ∷ aggregates) h = (tt, counts_or_adds aggregates h.1)
-counts_or_adds (Sum e ∷ aggregates) h = (tt, counts_or_adds aggregates h.1)
-counts_or_adds (Min e ∷ aggregates) h = absurd h.0
-counts_or_adds (Max e ∷ aggregates) h = absurd h.0
-
--- the rows that a view shows have the sizes of its columns
-pub shown_sized : (v : NamedView) (rows : List Row) → IsBacked v → RowsKeepSizes
-    → AreRowsOf v.kept rows → IsShown v.kept → AllByRecursion (HasSizes (column_sizes v.kept.query)) rows
-shown_sized v rows backed law bag range =
-    let tables : Tables = λ source. once_each backed.rows in
-    let stands : StandsFor v.kept tables = record { bag = once_each-bag backed.rows; stands = backed.stands } in
-    law v.kept.query (key_columns v.kept.query) (aggregates_of v.kept.query) tables backed.rows rows (ap (λ q. q.shape) backed.grouped) (ap (λ q. q.joins) backed.grouped) (ap (λ q. q.distinct) backed.grouped) refl
-    (counts_or_adds (aggregates_of v.kept.query) backed.totals) backed.stored backed.few (range tables stands) (bag tables stands)
-
--- so a query can be worked out on each of them
+-- on rows of these sizes a query can be worked out
 pub within_shown : (sizes : List ℕ) (q : Query) (rows : List Row) → IsWithinSized sizes q → AllByRecursion (HasSizes sizes) rows → AllByRecursion (IsWithin q) rows
 within_shown sizes q [] within sized = tt
 within_shown sizes q (row ∷ rows) within sized = (within row sized.0.sized, within_shown sizes q rows within sized.1)
@@ -71,24 +49,7 @@ right_there tables now [] place v right at = absurd cc
 right_there tables now (w ∷ ws) zero v right at = let same : w ≡ v = cc in subst (IsRight tables now) same right.0
 right_there tables now (w ∷ ws) (suc place) v right at = right_there tables now ws place v right.1 at
 
--- each view is backed by the rows of its table
-pub all_backed : (tables : List TableOf) (now : ℕ) → AreFitting tables → AreLimited (2 ^ 24) tables → (views : List NamedView) → AreRight tables now views → AllByRecursion IsBacked views
-all_backed tables now fitting few [] right = tt
-all_backed tables now fitting few (v ∷ vs) right =
-    let n = table_of v.kept.query in
-    let can = right.0.fits.can_be_kept in (
-      record {
-        grouped = can.grouped;
-        totals = can.totals;
-        rows = rows_in tables n;
-        stored = rows_have (λ rs. AllByRecursion IsStored rs) tt tables n (tables_stored tables fitting);
-        few = omega (arith, rows_have (λ rs. length rs ≤ 2 ^ 24) (omega arith) tables n few);
-        stands = right.0.stands;
-      },
-      all_backed tables now fitting few vs right.1,
-    )
-
--- the one at a place is
+-- where all views are backed, the one at a place is
 pub backed_there : (views : List NamedView) (place : ℕ) (v : NamedView) → AllByRecursion IsBacked views → slice_get views place ≡ Some v → IsBacked v
 backed_there [] place v all at = absurd cc
 backed_there (w ∷ ws) zero v all at = let same : w ≡ v = cc in subst IsBacked same all.0
@@ -97,6 +58,24 @@ backed_there (w ∷ ws) (suc place) v all at = backed_there ws place v all.1 at
 -- as many views are seen as are kept
 pub place_there : (views : List NamedView) (place : ℕ) → place < length (views_of views) → place < length views
 place_there views place h = omega (arith, h, length-map views view_of)
+
+-- ---- A view that FROM names
+-- it is there
+pub view_inside : (tables : List TableOf) (views : List NamedView) (s : Source) (place : ℕ) → s ≡ View place
+    → IsSourceThere tables (views_of views) s → place < length views
+view_inside tables views s place is there =
+    place_there views place (subst (IsSourceThere tables (views_of views)) is there)
+
+module _ (views : List NamedView) (s : Source) (place : ℕ) (v : NamedView) (is : s ≡ View place) (at : slice_get views place ≡ Some v) where
+  -- where it is not shown, nor is the source
+  pub read_fault : (f : Fault) → IsShowFault v.kept f → IsReadFault views s f
+  read_fault f (inl m) = inl m
+  read_fault f (inr w) = inr (w.0, subst (IsHidden views) (sym is) (v, at, w.1))
+
+  -- and what it shows is shown of the source
+  pub shown_by : (rows : List Row) → AreRowsOf v.kept rows → HaveColumnsOf v.kept rows → IsShown v.kept
+      → AreShownBy views s rows
+  shown_by rows bag sized range = subst (λ (t : Source). AreShownBy views t rows) (sym is) (v, at, bag, sized, range)
 
 -- ---- What names in FROM stand for
 module _ (tables : List TableOf) (views : List NamedView) where
@@ -130,7 +109,7 @@ module _ (tables : List TableOf) (views : List NamedView) where
 
     -- it stands for the tables
     pub stands_for : StandsFor v.kept bases
-    stands_for = record { bag = once_each-bag (rows_in tables (table_of v.kept.query)); stands = (right_there tables now views place v right at).stands }
+    stands_for = (right_there tables now views place v right at).stands
 
 -- ---- SELECT from one table or view
 -- a query without groups, joins and DISTINCT
@@ -186,11 +165,11 @@ module _ (tables : List TableOf) (views : List NamedView) (q : Query) (order : O
         shape = is ∙ ap (λ (source : Source). plain source q.filter q.items) first
 
         told : AreListed order (meaning (plain q.first q.filter q.items) (λ source. meaning v.kept.query (bases tables views))) list × MeaningInRange v.kept.query (bases tables views)
-        told = w (bases tables views) (stands_for tables views now place v right at)
+        told = w (bases tables views) (stands_for tables views now place v right at) (bags_are tables)
     from_kept (Err f) is first (inl m) = inl m
     from_kept (Err f) is first (inr w) = inr (
       w.0,
-      λ range. w.1 (bases tables views) (stands_for tables views now place v right at)
+      λ range. w.1 (bases tables views) (stands_for tables views now place v right at) (bags_are tables)
           (subst (λ (o : Option Query). ViewInRange (tables_now (alone tables (views_of views))) o) (query_there tables views now place v right at) (subst (IsInRange tables (views_of views)) shape range).named.0),
     )
       where

@@ -1,43 +1,41 @@
 -- What is read of the sources that FROM names: the rows that views show, and all rows where they are lent.
-use Rattle.std.specs.Prelude.{◌≡◌, ◌≤◌, List, length, ◌⊎◌, Some, slice_get}
+use Rattle.std.specs.Prelude.{◌≡◌, List, ◌⊎◌, Some, slice_get}
 use Rattle.std.specs.List.{AllByRecursion, Any}
 use Rattle.cq_values.specs.Value.{Row}
-use Rattle.cq_bags.specs.Bag.{once_each}
 use Rattle.cq_bags.specs.Canonical.{bag_of}
-use Rattle.cq_deltas.specs.Additions.{AreTotals}
 use Rattle.cq_states.specs.State.{TableOf, rows_in}
-use Rattle.cq_views.specs.Query.{IsGrouped, aggregates_of}
-use Rattle.cq_views.specs.View.{KeptView, Stands}
-use Rattle.cq_laws.specs.Sizes.{IsStored}
-use Rattle.cq_model.specs.Sizes.{count_size}
+use Rattle.cq_laws.specs.Sizes.{HasSizes}
+use Rattle.cq_model.specs.Sizes.{column_sizes}
 use Rattle.cq_binding.specs.declared.fault.Fault.{Fault}
 use Rattle.cq_binding.specs.declared.fault.Fault.TheVariants.{Memory, SumOutOfRange}
 use Rattle.cq_model.specs.declared.query.Source.{Source}
 use Rattle.cq_model.specs.declared.query.Source.TheVariants.{Table, View}
 use Rattle.cq_lent.specs.declared.lent.Lent.{Lent}
 use Rattle.cq_states.specs.Pointwise.{Pointwise}
-use Rattle.cq_views.specs.Shown.{AreRowsOf, IsNotShown, IsShown}
+use Rattle.cq_upkeep.specs.Shown.{AreRowsOf, CanShow, IsNotShown, IsShown}
+use Rattle.cq_upkeep.specs.declared.state.ViewState.{ViewState}
 use Rattle.cq_answers.specs.declared.gathered.Gathered.{Gathered}
 use Rattle.cq_tables.specs.Views.{NamedView}
 
 -- ---- What views show
--- the view counts and adds, and stands for the rows of its table, all of which are stored; there are not too many to be counted
-pub record IsBacked (v : NamedView) : Type 0 where
-  pub grouped : IsGrouped v.kept.query
-  pub totals : AreTotals (aggregates_of v.kept.query)
-  pub rows : List Row
-  pub stored : AllByRecursion IsStored rows
-  pub few : length rows ≤ count_size
-  pub stands : Stands v.kept (once_each rows)
+-- the view stands for bags of stored rows, of which a join has not too many to be counted
+abbrev pub IsBacked : NamedView → Type 0
+IsBacked v = CanShow v.kept
+
+-- the rows have the sizes of the view's columns
+abbrev pub HaveColumnsOf : ViewState → List Row → Type 0
+HaveColumnsOf v rows = AllByRecursion (HasSizes (column_sizes v.query)) rows
 
 -- why the rows of a view are not shown: memory is wanting, or a total is too large
-abbrev pub IsShowFault : KeptView → Fault → Type 0
+abbrev pub IsShowFault : ViewState → Fault → Type 0
 IsShowFault v f = (f ≡ Memory) ⊎ ((f ≡ SumOutOfRange) × IsNotShown v)
 
 -- the rows are those that a view shows, and of a table none are made
 abbrev pub AreShownBy : List NamedView → Source → List Row → Type 0
 AreShownBy views (Table n) rows = Unit {0}
-AreShownBy views (View place) rows = (v : NamedView) × (slice_get views place ≡ Some v) × AreRowsOf v.kept rows × IsShown v.kept
+AreShownBy views (View place) rows =
+    (v : NamedView) × (slice_get views place ≡ Some v) × AreRowsOf v.kept rows × HaveColumnsOf v.kept rows
+    × IsShown v.kept
 
 -- the source is a view with a total that is too large to show
 abbrev pub IsHidden : List NamedView → Source → Type 0

@@ -3,9 +3,9 @@ ghost use Rattle.std.specs.Prelude.{◌≡◌, ℕ, IfErr, IfOk, List, OnOk};
 ghost use Rattle.std.specs.List.{AllByRecursion};
 ghost use Rattle.cq_model.specs.Views.{sources_of};
 ghost use Rattle.cq_states.specs.State.{AreNumbered, TableOf, ViewOf};
-ghost use Rattle.cq_views.specs.Shown.{AreRowsOf, IsShown};
+ghost use Rattle.cq_upkeep.specs.Shown.{AreRowsOf, IsShown};
 ghost use Rattle.cq_answers.specs.Reading.{IsSourceThere};
-ghost use Rattle.cq_answers.specs.Gathered.{AreGathered, AreLent, AreRowsThere, IsBacked, IsGatherFault, IsGathered, IsReadFault, IsShowFault};
+ghost use Rattle.cq_answers.specs.Gathered.{AreGathered, AreLent, AreRowsThere, HaveColumnsOf, IsBacked, IsGatherFault, IsGathered, IsReadFault, IsShowFault};
 ghost use Rattle.cq_answers.specs.Selects.{shown_as};
 ghost use Rattle.cq_tables.specs.Views.{views_of};
 
@@ -67,6 +67,7 @@ fn gather_one(alloc: Global, views: &[View], source: Source) -> Result<Gathered,
 pub fn rows_shown(alloc: Global, view: &View) -> Result<Vec<Row>, Fault>
     requires { IsBacked view.now }
     ensures ok { IfOk result (λ rows. AreRowsOf view.now.kept rows.items) }
+    ensures sized { IfOk result (λ rows. HaveColumnsOf view.now.kept rows.items) }
     ensures range { OnOk result (IsShown view.now.kept) }
     ensures fault { IfErr result (IsShowFault view.now.kept) }
 {
@@ -103,7 +104,7 @@ pub fn lend_all<'a>(
 }
 
 /// The rows of a table where they are, or those that a view showed.
-fn rows_there<'a>(tables: &'a [Table], source: Source, shown: &'a [Row]) -> &'a [Row]
+pub fn rows_there<'a>(tables: &'a [Table], source: Source, shown: &'a [Row]) -> &'a [Row]
     requires numbered { (next : ℕ) × AreNumbered tables.now next }
     requires there { (vs : List ViewOf) × IsSourceThere tables.now vs source }
     ensures { AreRowsThere tables.now source shown.now result.now }

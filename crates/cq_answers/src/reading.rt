@@ -17,9 +17,7 @@ use crate::selection::list;
 use cq_binding::Fault;
 use cq_eval::narrow_is_exact;
 use cq_groups::GroupFault;
-use cq_laws::{
-    groups_keep_sizes, joined_rows_keep_sizes, meaning_depends_on_sources, rows_keep_sizes,
-};
+use cq_laws::{groups_keep_sizes, joined_rows_keep_sizes, meaning_depends_on_sources};
 use cq_lent::{Lent, rows_of};
 use cq_model::{Order, Query, Shape, Source};
 use cq_operators::select;
@@ -95,7 +93,6 @@ fn select_from_view(
     ensures { SelectsKept query.now order.now view.now result }
 {
     let rows = rows_shown(alloc, view)?;
-    rows_keep_sizes();
     Ok(list(alloc, query, order, &rows)?)
 }
 
@@ -117,7 +114,6 @@ fn select_joined(
     let sources = sources_of(alloc, query)?;
     let gathered = gather(alloc, views, &sources)?;
     let lent = lend_all(alloc, tables, &gathered)?;
-    rows_keep_sizes();
     meaning_depends_on_sources();
     list_answer(alloc, &lent, query, order)
 }

@@ -1,5 +1,5 @@
 -- How the stretches of CREATE TABLE and CREATE VIEW make up the whole.
-use Rattle.std.proofs.Common.{◌≡◌, ℕ, Bool, true, false, List, [], ◌∷◌, ◌++◌, length, Option, Some, None, Result, Ok, refl, ap, ◌∙◌}
+use Rattle.std.proofs.Common.{◌≡◌, ℕ, Bool, false, List, [], ◌∷◌, ◌++◌, length, Option, Some, None, Result, ap, ◌∙◌}
 use Rattle.std.specs.Prelude.{option_map}
 use Rattle.cq_binding.specs.declared.bound.Bound.{Bound}
 use Rattle.cq_values.specs.declared.column.ColumnDef.{ColumnDef}
@@ -7,18 +7,16 @@ use Rattle.cq_language.specs.declared.statement.Statement.TheVariants as stateme
 use Rattle.cq_language.specs.declared.statement.Select.{Select}
 use Rattle.cq_binding.specs.declared.fault.Fault.{Fault}
 use Rattle.cq_binding.specs.declared.fault.Fault.TheVariants.{NameTaken}
-use Rattle.cq_binding.specs.Bound.{bound_view}
+use Rattle.cq_binding.specs.Bound.{bound_view, standing}
 use Rattle.cq_binding.specs.Checks.{fault_if, first_fault, too_long, MayRefuse}
-use Rattle.cq_binding.specs.Open.{may_be_kept}
+use Rattle.cq_binding.specs.From.{view_walk}
 use Rattle.cq_binding.specs.ViewChecks.{create_view_checks, view_select_checks}
 use Rattle.cq_binding.specs.Refusal.{column_checks, create_checks, sort_checks}
-use Rattle.cq_states.specs.State.{TableOf, ViewOf, is_taken, table_named}
-use Rattle.cq_catalog.specs.Catalog.{alone, heading, shown_heading, Describes}
+use Rattle.cq_states.specs.State.{TableOf, ViewOf, is_taken}
+use Rattle.cq_catalog.specs.Catalog.{alone}
 use Rattle.cq_binder.specs.Binding.{Binds}
-use Rattle.cq_queries.specs.View.{CreatesView}
-use Rattle.cq_catalog.specs.declared.catalog.TableEntry.{TableEntry}
-use Rattle.cq_catalog.proofs.Faults.{first_fault_append, or_next, refused_front, refused_same, walked_as}
-use Rattle.cq_catalog.proofs.Found.{table_there}
+use Rattle.cq_queries.specs.View.{BindsView}
+use Rattle.cq_catalog.proofs.Faults.{first_fault_append, or_next, refused_front, refused_same, walked_same}
 
 -- ---- CREATE TABLE: under a free name the columns decide, then their number, and then SORT BY
 module _ (name : List ℕ) (columns : List ColumnDef) (sort : List (List ℕ)) (tables : List TableOf) (views : List ViewOf) (free : is_taken name (alone tables views) ≡ false) where
@@ -55,14 +53,14 @@ module _ (name : List ℕ) (columns : List ColumnDef) (sort : List (List ℕ)) (
   sort_decides distinct few = create_ends distinct ∙ first_fault_append entries sort_walk ∙ or_next (first_fault entries) (first_fault sort_walk) few
 
 -- ---- CREATE VIEW: under a free name the query decides
-module _ (name : List ℕ) (v : Select) (tables : List TableOf) (views : List ViewOf) (opened : may_be_kept v ≡ true) (free : is_taken name (alone tables views) ≡ false) where
-  create_view_goes_on : (t : TableOf) → table_named v.first.name tables ≡ Some t → first_fault (create_view_checks name v (alone tables views)) ≡ first_fault (view_select_checks v (Ok t))
-  create_view_goes_on t found = rw (opened, free, found) refl
+module _ (name : List ℕ) (v : Select) (tables : List TableOf) (views : List ViewOf) (free : is_taken name (alone tables views) ≡ false) where
+  abbrev query_walk : List (Option Fault)
+  query_walk = view_select_checks v (view_walk (alone tables views) v)
 
-  -- on the table that was found
-  pub view_created : (e : TableEntry) (result : Result Bound Fault) → Some (shown_heading e) ≡ option_map heading (table_named v.first.name tables)
-      → ((t : TableOf) → Describes e t → CreatesView t name v result) → Binds (alone tables views) (statements.CreateView name v) result
-  view_created e result found walked =
-      let t = table_there e (table_named v.first.name tables) found in
-      walked_as (view_select_checks v (Ok t.0)) (create_view_checks name v (alone tables views)) (bound_view name v t.0) (option_map (bound_view name v) (table_named v.first.name tables)) result (create_view_goes_on t.0 t.1)
-      (ap (option_map (bound_view name v)) t.1) (walked t.0 t.2)
+  query_decides : first_fault (create_view_checks name v (alone tables views)) ≡ first_fault query_walk
+  query_decides = ap (λ (b : Bool). first_fault (fault_if b NameTaken ∷ query_walk)) free
+
+  -- what is bound of the query is the command
+  pub view_created : (result : Result Bound Fault) → BindsView (alone tables views) name v result → Binds (alone tables views) (statements.CreateView name v) result
+  view_created result walked =
+      walked_same query_walk (create_view_checks name v (alone tables views)) (λ (command : Bound). option_map (bound_view name v) (standing (view_walk (alone tables views) v)) ≡ Some command) result query_decides walked

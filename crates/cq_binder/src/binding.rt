@@ -1,7 +1,7 @@
 //! Statements become commands.
 ghost use Rattle.std.specs.Prelude.{◌≡◌, ◌<◌, ◌-◌, ◌^◌, if◌then◌else◌};
 ghost use Rattle.cq_language.specs.declared.statement.Statement.TheVariants.{CreateTable, CreateView, DropTable, DropView};
-ghost use Rattle.cq_binding.specs.declared.fault.Fault.TheVariants.{ClauseInView, UnknownTable, ViewNotWritten};
+ghost use Rattle.cq_binding.specs.declared.fault.Fault.TheVariants.{UnknownTable, ViewNotWritten};
 ghost use Rattle.cq_states.specs.State.{is_taken};
 ghost use Rattle.cq_catalog.specs.Catalog.{names_view, state_of};
 ghost use Rattle.cq_binder.specs.Binding.{Binds};
@@ -16,7 +16,7 @@ use crate::writing::{bind_delete, bind_insert};
 use cq_binding::{Bound, Fault, Sources};
 use cq_catalog::Catalog;
 use cq_language::{Select, Statement};
-use cq_queries::{bind_select, bind_view_on, check_length, check_names, may_be_kept};
+use cq_queries::{bind_select, bind_view, check_length, check_names};
 use cq_values::{ColumnDef, Seq, Text};
 use std::alloc::Global;
 
@@ -42,7 +42,7 @@ pub fn bind<C: Catalog, S: Sources>(
             sort,
         } => bind_create(alloc, catalog, name, columns, sort),
         Statement::DropTable(name) => bind_drop(catalog, name),
-        Statement::CreateView { name, query } => bind_view(alloc, catalog, name, query),
+        Statement::CreateView { name, query } => bind_create_view(alloc, catalog, name, query),
         Statement::DropView(name) => bind_drop_view(catalog, name),
         Statement::Insert { table, rows } => bind_insert(alloc, catalog, table, rows),
         Statement::Copy { table, file } => bind_copy(alloc, catalog, table, file, sources),
@@ -95,7 +95,7 @@ fn check_create<C: Catalog>(
     sort_columns(alloc, columns, sort)
 }
 
-fn bind_view<C: Catalog>(
+fn bind_create_view<C: Catalog>(
     alloc: Global,
     catalog: &C,
     name: &Text,
@@ -103,17 +103,10 @@ fn bind_view<C: Catalog>(
 ) -> Result<Bound, BindFault>
     ensures { Binds (state_of C.tables C.views catalog.now) (CreateView name.now view.now) result }
 {
-    if !may_be_kept(view) {
-        return Err(Fault::Syntax);
-    }
     if is_taken(catalog, name.as_str()) {
         return Err(Fault::NameTaken);
     }
-    let source = view.first.name.as_str();
-    let Some(table) = catalog.table(source) else {
-        return Err(unread(catalog, source));
-    };
-    bind_view_on(alloc, &table, name, view)
+    bind_view(alloc, catalog, name, view)
 }
 
 fn bind_drop<C: Catalog>(catalog: &C, name: &Text) -> Result<Bound, BindFault>
@@ -150,17 +143,6 @@ pub(crate) fn unwritten<C: Catalog>(catalog: &C, name: &str) -> BindFault
 {
     if is_view(catalog, name) {
         Fault::ViewNotWritten
-    } else {
-        Fault::UnknownTable
-    }
-}
-
-/// Why a name that no table has cannot be read by a view.
-fn unread<C: Catalog>(catalog: &C, name: &str) -> BindFault
-    ensures { result ≡ (if names_view name.now (C.views catalog.now) then ClauseInView else UnknownTable) }
-{
-    if is_view(catalog, name) {
-        Fault::ClauseInView
     } else {
         Fault::UnknownTable
     }

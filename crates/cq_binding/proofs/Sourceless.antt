@@ -27,16 +27,14 @@ use Rattle.cq_language.specs.Written.{Written, Choices, Number, Text, Date, Null
 use Rattle.cq_binding.specs.declared.fault.Fault.{Fault}
 use Rattle.cq_binding.specs.declared.fault.Fault.TheVariants as faults
 use Rattle.cq_binding.specs.declared.typing.Typing.{Typing}
-use Rattle.cq_binding.specs.Grouping.{item_scope}
+use Rattle.cq_binding.specs.Grouping.{is_empty, item_scope}
 use Rattle.cq_binding.specs.Scopes.{Named, from_table, of_rows, scope_of}
-use Rattle.cq_binding.specs.From.{From, equality_check, first_walk, from_walk, join_checks, join_walk, joins_walk, passing}
+use Rattle.cq_binding.specs.From.{From, any_source, equality_check, first_walk, from_walk, is_any_view, join_checks, join_walk, joins_walk, no_view, passing, sources_walk, view_walk}
 use Rattle.cq_language.specs.declared.statement.FromSource.{FromSource}
 use Rattle.cq_language.specs.declared.statement.JoinedSource.{JoinedSource}
 use Rattle.cq_language.specs.declared.statement.OnEquality.{OnEquality}
 use Rattle.cq_binding.specs.Headers.{header, shown_by}
-use Rattle.cq_binding.specs.Bound.{view_from}
 use Rattle.cq_binding.specs.Sets.{bound_sets, bound_where}
-use Rattle.cq_binding.specs.Open.{may_be_kept}
 use Rattle.cq_binding.specs.Orders.{is_no_place, key_checks, named_check, order_checks, output_check}
 use Rattle.cq_binding.specs.Checks.{first_fault, fault_if, too_long}
 use Rattle.cq_binding.specs.RowChecks.{fits_column, is_type, constant_check, constant_checks, row_checks}
@@ -44,7 +42,7 @@ use Rattle.cq_printed.specs.Printed.{is_escaped}
 use Rattle.cq_binding.specs.Fields.{field_number, field_value, is_null_field, null_in, stored_number, typed_field}
 use Rattle.cq_binding.specs.Records.{Files, field_values, file_rows, record_row, record_rows}
 use Rattle.cq_binding.specs.SourceChecks.{group_check, group_checks, kept_check, name_check, where_check, value_check}
-use Rattle.cq_binding.specs.ViewChecks.{read_table, repeats, query_checks, view_select_checks}
+use Rattle.cq_binding.specs.ViewChecks.{absent_checks, list_checks, no_clause, repeats, query_checks, view_select_checks}
 use Rattle.cq_binding.specs.Refusal.{column_checks, sort_checks, create_checks, drop_table_checks, written_table, insert_checks, delete_checks, bag_checks, source_checks, select_checks, checks, content_checks, name_checks, refusal, table_checks}
 use Rattle.cq_binding.specs.Kinds.{◌and_then◌, unless, aggregated, number_of, negative, arithmetic, sum_of, product_of, part_of, compared_with, tested, between_them, like_of, negation_of, connected, kept_value, of_type}
 use Rattle.cq_binding.specs.Typing.{Scope, ScopeColumn, column_typing, fault_in, is_meant, knows, listed, of_group, one_meant, resolved, rows_in, typed}
@@ -315,9 +313,6 @@ equality_clean columns before e =
     fault_clean _ (then_clean (resolved columns e.left) _ (resolved_clean columns e.left)
     (λ l. then_clean (resolved columns e.right) _ (resolved_clean columns e.right) (λ r. unless_clean _ faults.TypeMismatch _ refl)))
 
-join_clean : (from : From) (j : JoinedSource) (source : Named) → Clean (join_checks from j source)
-join_clean from j source = (if_clean _ faults.NameTaken refl, (if_clean _ faults.TooManyTables refl, map_clean _ (equality_clean _ _) j.on))
-
 passing_clean : {A : Type 0} (o : Option Fault) (x : A) → tells_source o ≡ false → fails_by_source (passing o x) ≡ false
 passing_clean None x h = refl
 passing_clean (Some f) x h = h
@@ -327,39 +322,61 @@ first_clean [] h = refl
 first_clean (Some f ∷ cs) h = h.0
 first_clean (None ∷ cs) h = first_clean cs h.1
 
-walk_clean : (from : From) (j : JoinedSource) (o : Option Named) → fails_by_source (join_walk from j o) ≡ false
-walk_clean from j None = refl
-walk_clean from j (Some source) = passing_clean _ _ (first_clean (join_checks from j source) (join_clean from j source))
+-- where the check of each source tells of none that failed
+module _ (may : Named → Option Fault) (may_clean : (source : Named) → tells_source (may source) ≡ false) where
+  join_clean : (from : From) (j : JoinedSource) (source : Named) → Clean (join_checks may from j source)
+  join_clean from j source = (if_clean _ faults.NameTaken refl, (if_clean _ faults.TooManyTables refl, (may_clean source, map_clean _ (equality_clean _ _) j.on)))
 
-joins_clean : (s : State) (from : From) (js : List JoinedSource) → fails_by_source (joins_walk s from js) ≡ false
-joins_clean s from [] = refl
-joins_clean s from (j ∷ js) = then_clean (join_walk from j _) _ (walk_clean from j _) (λ wide. joins_clean s wide js)
+  walk_clean : (from : From) (j : JoinedSource) (o : Option Named) → fails_by_source (join_walk may from j o) ≡ false
+  walk_clean from j None = refl
+  walk_clean from j (Some source) = passing_clean _ _ (first_clean (join_checks may from j source) (join_clean from j source))
 
-start_clean : (f : FromSource) (o : Option Named) → fails_by_source (first_walk f o) ≡ false
-start_clean f None = refl
-start_clean f (Some source) = refl
+  joins_clean : (s : State) (from : From) (js : List JoinedSource) → fails_by_source (joins_walk may s from js) ≡ false
+  joins_clean s from [] = refl
+  joins_clean s from (j ∷ js) = then_clean (join_walk may from j _) _ (walk_clean from j _) (λ wide. joins_clean s wide js)
+
+  start_clean : (f : FromSource) (o : Option Named) → fails_by_source (first_walk may f o) ≡ false
+  start_clean f None = refl
+  start_clean f (Some source) = passing_clean (may source) _ (may_clean source)
+
+  sources_clean : (s : State) (q : Select) → fails_by_source (sources_walk may s q) ≡ false
+  sources_clean s q = then_clean (first_walk may q.first _) _ (start_clean q.first _) (λ from. joins_clean s from q.joins)
 
 from_clean : (s : State) (q : Select) → fails_by_source (from_walk s q) ≡ false
-from_clean s q = then_clean (first_walk q.first _) _ (start_clean q.first _) (λ from. joins_clean s from q.joins)
+from_clean s q = sources_clean any_source (λ source. refl) s q
+
+view_from_clean : (s : State) (v : Select) → fails_by_source (view_walk s v) ≡ false
+view_from_clean s v = sources_clean no_view (λ source. if_clean (is_any_view source.source) faults.ClauseInView refl) s v
 
 select_clean : (q : Select) (r : Result From Fault) → fails_by_source r ≡ false → Clean (select_checks q r)
 select_clean q (Err f) h = (h, tt)
 select_clean q (Ok from) h = source_clean q from.columns
 
+-- ---- CREATE VIEW
+absent_clean : (v : Select) → Clean (absent_checks v)
+absent_clean v =
+    let last : List (Option Fault) = no_clause (not (is_empty v.order)) ∷ no_clause (is_some v.limit) ∷ [] in
+    let ended : Clean last = (if_clean (not (is_empty v.order)) faults.ClauseInView refl, (if_clean (is_some v.limit) faults.ClauseInView refl, tt)) in
+    let names = header 1 v.items in
+    (if_clean (is_some v.having) faults.ClauseInView refl, both_clean (order_checks names v.order) last (order_clean names v.order) ended)
+
 query_clean : (v : Select) (columns : List ScopeColumn) → Clean (query_checks v columns)
 query_clean v columns =
     let s = item_scope v columns in
+    let repeated = repeats [] (header 1 v.items) in
     let items : List (Option Fault) = map (kept_check s) (shown_by v.items) in
-    let last : List (Option Fault) = fault_if (repeats [] (header 1 v.items)) faults.NameTaken ∷ too_long (length v.items) ∷ [] in
+    let last : List (Option Fault) = list_checks v ++ where_check s v.having ∷ absent_checks v in
     let shown : Clean items = map_clean (kept_check s) (kept_clean s) (shown_by v.items) in
-    let behind : Clean (items ++ last) = both_clean items last shown (if_clean (repeats [] (header 1 v.items)) faults.NameTaken refl, (long_clean (length v.items), tt)) in
+    let ended : Clean last = (if_clean repeated faults.NameTaken refl, (if_clean v.is_distinct faults.ClauseInView refl, (long_clean (length v.items), (where_clean s v.having, absent_clean v)))) in
+    let behind : Clean (items ++ last) = both_clean items last shown ended in
     let all : Clean (group_checks columns v.group ++ (items ++ last)) = both_clean (group_checks columns v.group) (items ++ last) (groups_clean columns v.group) behind in
     (where_clean (of_rows columns) v.condition, all)
 
-view_clean : (v : Select) (r : Result TableOf Fault) → fails_by_source r ≡ false → Clean (view_select_checks v r)
+view_clean : (v : Select) (r : Result From Fault) → fails_by_source r ≡ false → Clean (view_select_checks v r)
 view_clean v (Err f) h = (h, tt)
-view_clean v (Ok t) h = query_clean v (view_from v t).columns
+view_clean v (Ok from) h = query_clean v from.columns
 
+-- ---- All statements
 table_clean : (b : Bool) (o : Option TableOf) (f : Fault) → is_source f ≡ false → fails_by_source (ok_or o (if b then f else faults.UnknownTable)) ≡ false
 table_clean true o f h = found_clean o f h
 table_clean false o f h = found_clean o faults.UnknownTable refl
@@ -371,8 +388,7 @@ moved_clean (Ok t) h = tt
 all_clean : (files : Files) (s : State) (statement : Statement) → Clean (checks files s statement)
 all_clean files s (statements.CreateTable name columns sort) = create_clean name columns sort s
 all_clean files s (statements.DropTable name) = drop_clean s.views _
-all_clean files s (statements.CreateView name v) =
-    (if_clean (not (may_be_kept v)) faults.Syntax refl, (if_clean _ faults.NameTaken refl, view_clean v (read_table v.first.name s) (table_clean _ _ faults.ClauseInView refl)))
+all_clean files s (statements.CreateView name v) = (if_clean _ faults.NameTaken refl, view_clean v (view_walk s v) (view_from_clean s v))
 all_clean files s (statements.DropView name) = (if_clean _ faults.UnknownTable refl, tt)
 all_clean files s (statements.Insert name rows) = insert_clean s.max_rows rows (written_table name s) (table_clean _ _ faults.ViewNotWritten refl)
 all_clean files s (statements.Copy name file) = copy_clean s.max_rows file (files file) (written_table name s) (table_clean _ _ faults.ViewNotWritten refl)

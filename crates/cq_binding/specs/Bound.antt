@@ -19,7 +19,7 @@ use Rattle.cq_language.specs.Written.{Written}
 use Rattle.cq_states.specs.State.{TableOf, State, table_named, view_place}
 use Rattle.cq_binding.specs.Typing.{Scope, type_of, typed}
 use Rattle.cq_binding.specs.Scopes.{place_in, from_table, scope_of}
-use Rattle.cq_binding.specs.From.{From, first_from, from_walk}
+use Rattle.cq_binding.specs.From.{From, from_walk, view_walk}
 use Rattle.cq_binding.specs.Grouping.{item_scope}
 use Rattle.cq_binding.specs.Queries.{bound_query}
 use Rattle.cq_binding.specs.Records.{Files, file_rows}
@@ -68,21 +68,15 @@ item_columns s place (item ∷ items) =
     record { name = unwrap_or item.alias (shown_name place item.value); ty = type_of (typed s item.value); not_null = false }
     ∷ item_columns s (place + 1) items
 
--- a table as a view reads it
-abbrev pub view_from : Select → TableOf → From
-view_from v t = first_from v.first (from_table t)
-
--- a view of a name on its table
-abbrev pub bound_view : List ℕ → Select → TableOf → Bound
-bound_view name v t =
-    let from = view_from v t in
-    commands.CreateView name (item_columns (item_scope v from.columns) 1 v.items) (bound_query v from)
+-- a view of a name, whose columns are its items over what FROM has joined
+abbrev pub bound_view : List ℕ → Select → From → Bound
+bound_view name v from = commands.CreateView name (item_columns (item_scope v from.columns) 1 v.items) (bound_query v from)
 
 -- a statement whose tables and views are there, with the rows that its file gives
 abbrev pub bound : Files → State → Statement → Option Bound
 bound files s (statements.CreateTable name columns sort) = Some (commands.CreateTable name columns (map (place_in columns) sort))
 bound files s (statements.DropTable name) = option_map (λ t. commands.DropTable t.number) (table_named name s.tables)
-bound files s (statements.CreateView name v) = option_map (bound_view name v) (table_named v.first.name s.tables)
+bound files s (statements.CreateView name v) = option_map (bound_view name v) (standing (view_walk s v))
 bound files s (statements.DropView name) = option_map commands.DropView (view_place name s.views)
 bound files s (statements.Insert name rows) = option_map (λ t. commands.Insert t.number (map row_of rows)) (table_named name s.tables)
 bound files s (statements.Copy name file) =

@@ -1,17 +1,18 @@
 -- FROM: its sources, each joined to those before it by equalities of columns (ISO 9075-2, 7.5 to 7.7 and 7.10).
-use Rattle.std.specs.Prelude.{ℕ, ◌+◌, ◌-◌, nat_lt, Bool, ◌&&◌, ◌||◌, not, if◌then◌else◌, List, [], ◌∷◌, ◌++◌, map, length, Option, Some, None, Result, Ok, Err}
+use Rattle.std.specs.Prelude.{ℕ, ◌+◌, ◌-◌, nat_lt, Bool, true, false, ◌&&◌, ◌||◌, not, if◌then◌else◌, List, [], ◌∷◌, ◌++◌, map, length, Option, Some, None, Result, Ok, Err}
 use denote.Enum.Bare.{sameb}
 use Rattle.cq_values.specs.contracts.ty.Ty as ty
 use Rattle.cq_model.specs.declared.query.Equality.{Equality}
 use Rattle.cq_model.specs.declared.query.Join.{Join}
 use Rattle.cq_model.specs.declared.query.Source.{Source}
+use Rattle.cq_model.specs.declared.query.Source.TheVariants.{Table, View}
 use Rattle.cq_language.specs.declared.statement.FromSource.{FromSource}
 use Rattle.cq_language.specs.declared.statement.JoinedSource.{JoinedSource}
 use Rattle.cq_language.specs.declared.statement.OnEquality.{OnEquality}
 use Rattle.cq_language.specs.declared.statement.Select.{Select}
 use Rattle.cq_states.specs.State.{State}
 use Rattle.cq_binding.specs.declared.fault.Fault.{Fault}
-use Rattle.cq_binding.specs.declared.fault.Fault.TheVariants.{UnknownTable, NameTaken, TypeMismatch, TooManyTables}
+use Rattle.cq_binding.specs.declared.fault.Fault.TheVariants.{UnknownTable, NameTaken, TypeMismatch, TooManyTables, ClauseInView}
 use Rattle.cq_binding.specs.Checks.{first_fault, fault_if}
 use Rattle.cq_binding.specs.Kinds.{◌and_then◌, unless}
 use Rattle.cq_binding.specs.Places.{row_place}
@@ -68,33 +69,57 @@ joined_with from j source = record {
   bases = from.bases + source.bases;
 }
 
--- a source that is joined: its name is its own, there are not too many base tables, and then each equality
-abbrev pub join_checks : From → JoinedSource → Named → List (Option Fault)
-join_checks from j source =
-    fault_if (is_known from.columns (known_as j.source source)) NameTaken
-    ∷ fault_if (nat_lt base_limit (from.bases + source.bases)) TooManyTables
-    ∷ map (equality_check (columns_with from.columns j.source source) (length from.columns)) j.on
-
 -- what stands, unless there is a fault
 abbrev pub passing : {A : Type 0} → Option Fault → A → Result A Fault
 passing None x = Ok x
 passing (Some f) x = Err f
 
+-- ---- The walk, where it is asked of each source whether it may stand in FROM
+-- a source that is joined: its name is its own, there are not too many base tables, it may stand there, and then each equality
+abbrev pub join_checks : (Named → Option Fault) → From → JoinedSource → Named → List (Option Fault)
+join_checks may from j source =
+    fault_if (is_known from.columns (known_as j.source source)) NameTaken
+    ∷ fault_if (nat_lt base_limit (from.bases + source.bases)) TooManyTables
+    ∷ may source
+    ∷ map (equality_check (columns_with from.columns j.source source) (length from.columns)) j.on
+
 -- the walk through a source that is joined, once it is looked up
-abbrev pub join_walk : From → JoinedSource → Option Named → Result From Fault
-join_walk from j None = Err UnknownTable
-join_walk from j (Some source) = passing (first_fault (join_checks from j source)) (joined_with from j source)
+abbrev pub join_walk : (Named → Option Fault) → From → JoinedSource → Option Named → Result From Fault
+join_walk may from j None = Err UnknownTable
+join_walk may from j (Some source) = passing (first_fault (join_checks may from j source)) (joined_with from j source)
 
 -- the walk through the sources behind those so far
-abbrev pub joins_walk : State → From → List JoinedSource → Result From Fault
-joins_walk s from [] = Ok from
-joins_walk s from (j ∷ js) = join_walk from j (source_named j.source.name s) and_then λ wide. joins_walk s wide js
+abbrev pub joins_walk : (Named → Option Fault) → State → From → List JoinedSource → Result From Fault
+joins_walk may s from [] = Ok from
+joins_walk may s from (j ∷ js) = join_walk may from j (source_named j.source.name s) and_then λ wide. joins_walk may s wide js
 
 -- the walk through the first source, once it is looked up
-abbrev pub first_walk : FromSource → Option Named → Result From Fault
-first_walk f None = Err UnknownTable
-first_walk f (Some source) = Ok (first_from f source)
+abbrev pub first_walk : (Named → Option Fault) → FromSource → Option Named → Result From Fault
+first_walk may f None = Err UnknownTable
+first_walk may f (Some source) = passing (may source) (first_from f source)
 
--- the walk through FROM
+-- the walk through all sources
+abbrev pub sources_walk : (Named → Option Fault) → State → Select → Result From Fault
+sources_walk may s q = first_walk may q.first (source_named q.first.name s) and_then λ from. joins_walk may s from q.joins
+
+-- ---- What may stand in FROM
+-- SELECT reads tables and views
+abbrev pub any_source : Named → Option Fault
+any_source source = None
+
+-- the walk through the FROM of a SELECT
 abbrev pub from_walk : State → Select → Result From Fault
-from_walk s q = first_walk q.first (source_named q.first.name s) and_then λ from. joins_walk s from q.joins
+from_walk s q = sources_walk any_source s q
+
+-- whether a source is a view
+abbrev pub is_any_view : Source → Bool
+is_any_view (Table t) = false
+is_any_view (View v) = true
+
+-- a view reads tables alone
+abbrev pub no_view : Named → Option Fault
+no_view source = fault_if (is_any_view source.source) ClauseInView
+
+-- the walk through the FROM of a view
+abbrev pub view_walk : State → Select → Result From Fault
+view_walk s v = sources_walk no_view s v

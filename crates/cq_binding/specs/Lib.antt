@@ -16,7 +16,6 @@ pub mod Fields
 pub mod Records
 pub mod Sources
 pub mod Bound
-pub mod Open
 pub mod SourceChecks
 pub mod ViewChecks
 pub mod UpdateChecks

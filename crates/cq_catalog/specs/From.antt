@@ -3,14 +3,17 @@ use Rattle.std.specs.Prelude.{◌≡◌, ℕ, List, [], ◌∷◌, ◌++◌, map
 use Rattle.cq_language.specs.declared.statement.FromSource.{FromSource}
 use Rattle.cq_language.specs.declared.statement.JoinedSource.{JoinedSource}
 use Rattle.cq_language.specs.declared.statement.OnEquality.{OnEquality}
+use Rattle.cq_language.specs.declared.statement.Select.{Select}
 use Rattle.cq_model.specs.declared.query.Equality.{Equality}
 use Rattle.cq_states.specs.State.{State, TableOf}
 use Rattle.cq_binding.specs.declared.fault.Fault.{Fault}
 use Rattle.cq_binding.specs.declared.fault.Fault.TheVariants.{UnknownTable}
 use Rattle.cq_binding.specs.Checks.{MayRefuse, fault_if}
-use Rattle.cq_binding.specs.From.{From, equality_check, equality_of, first_walk, join_walk}
+use Rattle.cq_binding.specs.From.{From, any_source, equality_check, equality_of, first_walk, join_walk, no_view, sources_walk}
 use Rattle.cq_binding.specs.Scopes.{Named, from_table, source_columns, source_named}
 use Rattle.cq_binding.specs.Typing.{ScopeColumn, fault_in}
+use Rattle.cq_catalog.specs.declared.from.Allowed.{Allowed}
+use Rattle.cq_catalog.specs.declared.from.Allowed.TheVariants.{All, Tables}
 use Rattle.cq_catalog.specs.declared.from.FoundSource.{FoundSource}
 use Rattle.cq_catalog.specs.declared.from.FoundSource.TheVariants.{Table, View}
 use Rattle.cq_catalog.specs.declared.from.FromClause.{FromClause}
@@ -21,6 +24,11 @@ use Rattle.cq_catalog.specs.Walk.{WalksTo}
 -- a walk gives what stands, as it is seen, or is refused with its fault; want of memory may come at any point
 abbrev pub Gives : {A X : Type 0} → Result A Fault → (X → A) → Result X Fault → Type 0
 Gives walk seen result = MatchResult result (λ x. walk ≡ Ok (seen x)) (MayRefuse (fault_in walk))
+
+-- whether a source may stand in FROM
+abbrev pub may_stand : Allowed → Named → Option Fault
+may_stand All = any_source
+may_stand Tables = no_view
 
 -- what was found, as FROM names it
 abbrev pub shown_source : FoundSource → Named
@@ -36,16 +44,20 @@ abbrev pub shown_from : FromClause → From
 shown_from from = record { first = from.first; joins = from.joins; columns = from.columns.items; bases = from.bases }
 
 -- the first source is looked up, and FROM begins with it
-abbrev pub Begins : State → FromSource → Result FromClause Fault → Type 0
-Begins s f result = Gives (first_walk f (source_named f.name s)) shown_from result
+abbrev pub Begins : Allowed → State → FromSource → Result FromClause Fault → Type 0
+Begins allowed s f result = Gives (first_walk (may_stand allowed) f (source_named f.name s)) shown_from result
 
 -- a source is looked up, and joined to those so far
-abbrev pub Joins : State → From → JoinedSource → Result FromClause Fault → Type 0
-Joins s from j result = Gives (join_walk from j (source_named j.source.name s)) shown_from result
+abbrev pub Joins : Allowed → State → From → JoinedSource → Result FromClause Fault → Type 0
+Joins allowed s from j result = Gives (join_walk (may_stand allowed) from j (source_named j.source.name s)) shown_from result
 
 -- or with this source that is there
-abbrev pub JoinsFound : From → JoinedSource → FoundSource → Result FromClause Fault → Type 0
-JoinsFound from j found result = Gives (join_walk from j (Some (shown_source found))) shown_from result
+abbrev pub JoinsFound : Allowed → From → JoinedSource → FoundSource → Result FromClause Fault → Type 0
+JoinsFound allowed from j found result = Gives (join_walk (may_stand allowed) from j (Some (shown_source found))) shown_from result
+
+-- all sources of a query are looked up and joined
+abbrev pub JoinsAll : Allowed → State → Select → Result FromClause Fault → Type 0
+JoinsAll allowed s q result = Gives (sources_walk (may_stand allowed) s q) shown_from result
 
 -- an equality of ON over these columns, of which the source that is joined has those from a place on
 abbrev pub BindsEquality : List ScopeColumn → ℕ → OnEquality → Result Equality Fault → Type 0

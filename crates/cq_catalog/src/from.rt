@@ -1,9 +1,10 @@
 //! FROM: its sources, each joined to those before it.
-ghost use Rattle.std.specs.Prelude.{◌+◌, ◌≡◌, ◌<◌, ◌≤◌, IfOk, OnOk, length, nat_lt};
-ghost use Rattle.cq_binding.specs.From.{base_limit, equality_at, first_from, from_walk, may_equal};
+ghost use Rattle.std.specs.Prelude.{◌+◌, ◌∷◌, ◌≡◌, ◌<◌, ◌≤◌, [], IfOk, OnOk, length, nat_lt};
+ghost use Rattle.cq_binding.specs.From.{base_limit, equality_at, first_from, may_equal};
 ghost use Rattle.cq_binding.specs.Scopes.{source_named};
 ghost use Rattle.cq_catalog.specs.Catalog.{state_of};
-ghost use Rattle.cq_catalog.specs.From.{AreBehind, Begins, BindsEquality, BindsOn, Finds, Gives, Joins, JoinsFound, shown_from, shown_source};
+ghost use Rattle.cq_catalog.specs.From.{AreBehind, Begins, BindsEquality, BindsOn, Finds, Joins, JoinsAll, JoinsFound, may_stand, shown_from, shown_source};
+ghost use Rattle.cq_catalog.specs.Walk.{Passes};
 
 use crate::catalog::{Catalog, TableEntry, ViewEntry};
 use crate::scopes::{known_as, push_shown, push_stored};
@@ -16,6 +17,15 @@ use std::alloc::{AllocError, Global};
 
 /// A query reads at most so many base tables.
 const MAX_BASES: u128 = 4;
+
+/// What may stand in FROM.
+#[derive(Clone, Copy, Debug, PartialEq, Eq)]
+pub enum Allowed {
+    /// Tables and views.
+    All,
+    /// Tables alone.
+    Tables,
+}
 
 /// What a name in FROM stands for.
 #[derive(Drop)]
@@ -53,6 +63,19 @@ impl<'a> FoundSource<'a> {
         }
     }
 
+    /// Refuses a view where it may not stand.
+    fn check(&self, allowed: Allowed) -> Result<(), Fault>
+        ensures { Passes (may_stand allowed (shown_source self.now) ∷ []) result }
+    {
+        match allowed {
+            Allowed::All => Ok(()),
+            Allowed::Tables => match self {
+                FoundSource::Table(_) => Ok(()),
+                FoundSource::View(_) => Err(Fault::ClauseInView),
+            },
+        }
+    }
+
     /// Puts its columns behind these, under the name that it is known by.
     fn push_columns(
         &self,
@@ -77,17 +100,18 @@ pub struct FromClause<'a> {
     bases: usize,
 }
 
-/// The sources of a query, each once it has been walked through.
+/// The sources of a query, each once it has been walked through and where it may stand there.
 pub fn bound_from<'a, C: Catalog>(
     alloc: Global,
     catalog: &'a C,
+    allowed: Allowed,
     select: &'a Select,
 ) -> Result<FromClause<'a>, Fault>
-    ensures { Gives (from_walk (state_of C.tables C.views catalog.now) select.now) shown_from result }
+    ensures { JoinsAll allowed (state_of C.tables C.views catalog.now) select.now result }
 {
-    let mut from = start(alloc, catalog, &select.first)?;
+    let mut from = start(alloc, catalog, allowed, &select.first)?;
     for join in select.joins.as_slice() {
-        from = with_join(alloc, catalog, from, join)?;
+        from = with_join(alloc, catalog, allowed, from, join)?;
     }
     Ok(from)
 }
@@ -96,11 +120,13 @@ pub fn bound_from<'a, C: Catalog>(
 fn start<'a, C: Catalog>(
     alloc: Global,
     catalog: &'a C,
+    allowed: Allowed,
     source: &'a FromSource,
 ) -> Result<FromClause<'a>, Fault>
-    ensures { Begins (state_of C.tables C.views catalog.now) source.now result }
+    ensures { Begins allowed (state_of C.tables C.views catalog.now) source.now result }
 {
     let found = found_source(alloc, catalog, source.name.as_str())?;
+    found.check(allowed)?;
     Ok(first_of(alloc, source, &found)?)
 }
 
@@ -125,22 +151,24 @@ fn first_of<'a>(
 fn with_join<'a, C: Catalog>(
     alloc: Global,
     catalog: &'a C,
+    allowed: Allowed,
     from: FromClause<'a>,
     join: &'a JoinedSource,
 ) -> Result<FromClause<'a>, Fault>
-    ensures { Joins (state_of C.tables C.views catalog.now) (shown_from from.entry) join.now result }
+    ensures { Joins allowed (state_of C.tables C.views catalog.now) (shown_from from.entry) join.now result }
 {
     let found = found_source(alloc, catalog, join.source.name.as_str())?;
-    joined(alloc, from, join, &found)
+    joined(alloc, allowed, from, join, &found)
 }
 
 fn joined<'a>(
     alloc: Global,
+    allowed: Allowed,
     from: FromClause<'a>,
     join: &'a JoinedSource,
     found: &FoundSource<'a>,
 ) -> Result<FromClause<'a>, Fault>
-    ensures { JoinsFound (shown_from from.entry) join.now found.now result }
+    ensures { JoinsFound allowed (shown_from from.entry) join.now found.now result }
 {
     let known = known_as(&join.source, found.name());
     if is_known(&from.columns, known) {
@@ -149,6 +177,7 @@ fn joined<'a>(
     if are_too_many(from.bases, found.bases()) {
         return Err(Fault::TooManyTables);
     }
+    found.check(allowed)?;
     let before = from.columns.len();
     let mut wide = from;
     found.push_columns(&mut wide.columns, known)?;

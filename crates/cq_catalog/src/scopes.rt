@@ -51,7 +51,7 @@ pub(crate) fn push_shown<'a>(
 }
 
 /// The alias of a source, or else its own name.
-pub fn known_as<'a>(from: &'a FromSource, name: &'a str) -> &'a str
+pub(crate) fn known_as<'a>(from: &'a FromSource, name: &'a str) -> &'a str
     ensures { result.now ≡ unwrap_or from.now.alias name.now }
 {
     match &from.alias {

@@ -1,5 +1,5 @@
 -- Commands that were bound: what is known of them, and that carrying them out is the step of their statement.
-use Rattle.std.proofs.Common.{◌≡◌, ◌⊎◌, ℕ, zero, suc, ◌+◌, ◌<◌, Bool, true, false, List, [], ◌∷◌, ◌++◌, map, length, not, Option, Some, None, refl, sym, ap, ◌∙◌, inl, inr, arith, subst, Result, Ok, Err}
+use Rattle.std.proofs.Common.{◌≡◌, ◌⊎◌, ℕ, ◌+◌, ◌<◌, Bool, true, false, List, [], ◌∷◌, ◌++◌, map, length, not, Option, Some, None, refl, sym, ap, ◌∙◌, inl, inr, arith, subst, Result, Ok, Err}
 use Rattle.std.specs.Prelude.{◌==◌, nat_lt, IfSome, is_some, ok_or, option_map, slice_get, unwrap_or, if◌then◌else◌}
 use Rattle.std.specs.List.{AllByRecursion, flat_map}
 use Rattle.std.specs.Option.{option_or}
@@ -26,16 +26,15 @@ use Rattle.cq_steps.specs.declared.answer.Answer.{Answer}
 use Rattle.cq_binding.specs.declared.fault.Fault.{Fault}
 use Rattle.cq_binding.specs.declared.fault.Fault.TheVariants as faults
 use Rattle.cq_binding.specs.Scopes.{Named, bound_condition, from_table, from_view, place_in, scope_of, source_columns, source_named}
-use Rattle.cq_binding.specs.From.{From, from_walk}
+use Rattle.cq_binding.specs.From.{From, any_source, from_walk, no_view, view_walk}
 use Rattle.cq_binding.specs.Headers.{header}
-use Rattle.cq_binding.specs.Bound.{bound, bound_select, bound_update, bound_view, row_of, rows_read, standing, view_from}
+use Rattle.cq_binding.specs.Bound.{bound, bound_select, bound_update, bound_view, row_of, rows_read, standing}
 use Rattle.cq_binding.specs.Records.{Files, file_rows}
 use Rattle.cq_binding.specs.Queries.{bound_query}
 use Rattle.cq_binding.specs.Sets.{bound_sets, bound_where}
 use Rattle.cq_binding.specs.UpdateChecks.{row_checks_of, update_checks, update_walk}
 use Rattle.cq_binding.specs.Checks.{first_fault, fault_if, MayRefuse}
 use Rattle.cq_binding.specs.RowChecks.{row_checks}
-use Rattle.cq_binding.specs.Open.{may_be_kept}
 use Rattle.cq_binding.specs.SourceChecks.{where_check}
 use Rattle.cq_binding.specs.ViewChecks.{create_view_checks, query_checks, view_select_checks}
 use Rattle.cq_binding.specs.Orders.{order_checks}
@@ -57,9 +56,10 @@ use Rattle.cq_catalog.proofs.Found.{has_place}
 use Rattle.cq_answers.specs.Narrow.{IsConditionSized, IsShapeSized, view_sizes}
 use Rattle.cq_engine.specs.Commands.{CanCarryOut, CarriesOut, IsRefused, present, room}
 use Rattle.cq_tables.specs.Tables.{IsThere}
-use Rattle.cq_engine.proofs.Creating.{query_fits, query_shown}
+use Rattle.cq_engine.proofs.Creating.{view_can}
 use Rattle.cq_engine.proofs.Shapes.{filter_sized, shape_sized}
-use Rattle.cq_engine.proofs.Sourced.{IsFound, are_joined, standing_ok}
+use Rattle.cq_engine.proofs.Sourced.{IsFound, IsOneTable, all_at_place, are_joined, are_tables, standing_ok}
+use Rattle.cq_upkeep.specs.Query.{IsTable}
 use Rattle.cq_writes.proofs.Checks.{back_free, first_free, front_free}
 use Rattle.cq_engine.proofs.Fitting.{narrow_rows, stored_keep}
 use Rattle.cq_table.specs.Checks.{value_fault}
@@ -132,12 +132,6 @@ within_views : (name : List ℕ) (views : List ViewOf) (place : ℕ) → view_pl
 within_views name [] place found = absurd (cc found)
 within_views name (v ∷ vs) place found = (position-Some (λ w. is_text w.name name) (v ∷ vs) place v found).0
 
--- what holds of all holds of the one at a place
-all_at_place : {X : Type 0} (P : X → Type 0) (xs : List X) (place : ℕ) (x : X) → AllByRecursion P xs → slice_get xs place ≡ Some x → P x
-all_at_place P [] place x all at = absurd (cc at)
-all_at_place P (y ∷ ys) zero x all at = let same : y ≡ x = cc in subst P same all.0
-all_at_place P (y ∷ ys) (suc place) x all at = all_at_place P ys place x all.1 at
-
 -- the view of a name stands at the place of the name
 view_at_place : (name : List ℕ) (views : List ViewOf) (v : ViewOf) → view_named name views ≡ Some v → slice_get views (unwrap_or (view_place name views) 0) ≡ Some v
 view_at_place name views v named = at_place (view_place name views) refl
@@ -172,21 +166,6 @@ module _ (tables : List TableOf) (views : List ViewOf) (next : ℕ) (numbered : 
       unused : (b : Bool) → is_used t.number views ≡ b → first_fault (fault_if b faults.TableInUse ∷ []) ≡ None → is_used t.number views ≡ false
       unused false e w = e
       unused true e w = absurd (cc w)
-
-  create_view_can : (name : List ℕ) (view : Select) (t : TableOf) → table_named view.first.name tables ≡ Some t → first_fault (create_view_checks name view here) ≡ None → Can (bound_view name view t)
-  create_view_can name view t found free =
-      let fault = if is_some (view_named view.first.name views) then faults.ClauseInView else faults.UnknownTable in
-      let taken = fault_if (is_taken name here) faults.NameTaken in
-      let behind = taken ∷ view_select_checks view (ok_or (table_named view.first.name tables) fault) in
-      let may : may_be_kept view ≡ true = allowed (may_be_kept view) (first_free (fault_if (not (may_be_kept view)) faults.Syntax) behind free) in
-      let rest : first_fault behind ≡ None = back_free (fault_if (not (may_be_kept view)) faults.Syntax ∷ []) behind free in
-      let checks = query_checks view (view_from view t).columns in
-      let walk : first_fault (taken ∷ checks) ≡ None = subst (λ (o : Option TableOf). first_fault (taken ∷ view_select_checks view (ok_or o fault)) ≡ None) found rest in
-      record { shown = query_shown view t; fits = query_fits view t may (back_free (taken ∷ []) checks walk); there = there-found view.first.name t tables found }
-    where
-      allowed : (b : Bool) → fault_if (not b) faults.Syntax ≡ None → b ≡ true
-      allowed true e = refl
-      allowed false e = absurd (cc e)
 
   insert_can : (name : List ℕ) (rows : List (List Constant)) (t : TableOf) → table_named name tables ≡ Some t → first_fault (rows_walk rows (written_table name here)) ≡ None → Can (commands.Insert t.number (map row_of rows))
   insert_can name rows t found free =
@@ -245,13 +224,29 @@ module _ (tables : List TableOf) (views : List ViewOf) (next : ℕ) (numbered : 
       by_table None (Some v) e f is = let same : from_view v (unwrap_or (view_place name views) 0) ≡ source = cc is in subst Found same (view_there name v f)
       by_table None None e f is = absurd (cc is)
 
+  -- a source that is a table counts once
+  one_table : (name : List ℕ) (source : Named) → source_named name here ≡ Some source → IsTable source.source → IsOneTable source
+  one_table name source found table = by_table (table_named name tables) (view_named name views) found
+    where
+      by_table : (o : Option TableOf) (p : Option ViewOf) → option_or (option_map from_table o) (option_map (λ v. from_view v (unwrap_or (view_place name views) 0)) p) ≡ Some source → IsOneTable source
+      by_table (Some t) p is = let same : from_table t ≡ source = cc is in subst IsOneTable same (record { table = tt; base = refl })
+      by_table None (Some v) is = let same : from_view v (unwrap_or (view_place name views) 0) ≡ source = cc is in absurd (subst (λ (n : Named). IsTable n.source) (sym same) table)
+      by_table None None is = absurd (cc is)
+
+  -- a view whose walk has no fault can be built
+  create_view_can : (name : List ℕ) (view : Select) (from : From) → view_walk here view ≡ Ok from → first_fault (create_view_checks name view here) ≡ None → Can (bound_view name view from)
+  create_view_can name view from walked free =
+      let taken = fault_if (is_taken name here) faults.NameTaken in
+      let walk : first_fault (taken ∷ query_checks view from.columns) ≡ None = subst (λ (r : Result From Fault). first_fault (taken ∷ view_select_checks view r) ≡ None) walked free in
+      view_can view from (are_tables here one_table view from walked) (back_free (taken ∷ []) (query_checks view from.columns) walk) tables views (are_joined tables views here source_there no_view view from walked)
+
   -- a query that was bound can be worked out on the rows that join rows of its sources
   module _ (q : Select) where
     select_can : (from : From) → from_walk here q ≡ Ok from → first_fault (select_checks q (from_walk here q)) ≡ None → Can (bound_select q from)
     select_can from walked free =
         let walk : first_fault (source_checks q from.columns) ≡ None = subst (λ (r : Result From Fault). first_fault (select_checks q r) ≡ None) walked free in
         let bag = front_free (bag_checks q from.columns) (order_checks (header 1 q.items) q.order) walk in
-        let are = are_joined tables views here source_there q from walked in
+        let are = are_joined tables views here source_there any_source q from walked in
         let query = bound_query q from in
         record {
           there = are.there;
@@ -267,8 +262,8 @@ module _ (tables : List TableOf) (views : List ViewOf) (next : ℕ) (numbered : 
       let m = mapped (λ t. commands.DropTable t.number) (table_named name tables) command is in
       subst Can m.2 (drop_can name m.0 m.1 free)
   bound_can files (statements.CreateView name view) command free is =
-      let m = mapped (bound_view name view) (table_named view.first.name tables) command is in
-      subst Can m.2 (create_view_can name view m.0 m.1 free)
+      let m = mapped (bound_view name view) (standing (view_walk here view)) command is in
+      subst Can m.2 (create_view_can name view m.0 (standing_ok (view_walk here view) m.0 m.1) free)
   bound_can files (statements.DropView name) command free is =
       let m = mapped commands.DropView (view_place name views) command is in
       subst Can m.2 (within_views name views m.0 m.1)
@@ -483,7 +478,7 @@ module _ (files : Files) (tables : List TableOf) (views : List ViewOf) (now draw
       let m = mapped (λ t. commands.DropTable t.number) (table_named name tables) command is in
       subst (λ (c : Bound). refusal files old (statements.DropTable name) ≡ room old c) m.2 none
   room_decides (statements.CreateView name view) command none is =
-      let m = mapped (bound_view name view) (table_named view.first.name tables) command is in
+      let m = mapped (bound_view name view) (standing (view_walk old view)) command is in
       subst (λ (c : Bound). refusal files old (statements.CreateView name view) ≡ room old c) m.2 none
   room_decides (statements.DropView name) command none is =
       let m = mapped commands.DropView (view_place name views) command is in

@@ -1,277 +1,289 @@
--- CREATE VIEW: what its walk lets pass is a view that can be kept, and stands for its query on its table.
-use Rattle.std.proofs.Common.{◌≡◌, ℕ, suc, ◌+◌, ◌≤◌, ◌<◌, Bool, true, false, List, [], ◌∷◌, ◌++◌, map, length, not, ◌||◌, Option, Some, None, refl, sym, ap, ◌∙◌, arith, subst}
-use Rattle.std.specs.Prelude.{◌==◌, ◌&&◌, if◌then◌else◌, is_none, is_some, nat_lt, option_map, position, unwrap_or}
-use Rattle.std.specs.List.{AllByRecursion, list_all, list_any, position_or_len}
-use Rattle.std.proofs.lemmas.Bool.{ltb-false, ltb-true}
+-- CREATE VIEW: what its walk lets pass is a view that can be kept, on tables that are there.
+use Rattle.std.proofs.Common.{◌≡◌, ℕ, zero, suc, ◌+◌, ◌≤◌, ◌<◌, Bool, true, false, List, [], ◌∷◌, ◌++◌, map, length, not, Option, Some, None, refl, sym, ap, ◌∙◌, arith, subst}
+use Rattle.std.specs.Prelude.{if◌then◌else◌, is_some, option_map, slice_get}
+use Rattle.std.specs.List.{AllByRecursion, flat_map}
 use Rattle.std.proofs.lemmas.List.{append-nil, length-map}
-use Rattle.cq_values.specs.Value.{Row}
-use Rattle.cq_bags.specs.Bag.{SameBag, once_each}
-use Rattle.cq_bags.specs.Canonical.{bag_of}
-use Rattle.cq_bags.proofs.Bags.{same-sym}
-use Rattle.cq_bags.proofs.Canonicals.{same-bag_of}
-use Rattle.cq_bags.proofs.Totals.{by_test}
-use Rattle.cq_laws.specs.Sizes.{IsStored}
+use Rattle.cq_values.specs.declared.column.ColumnDef.{ColumnDef}
 use Rattle.cq_model.specs.declared.query.Aggregate.{Aggregate}
-use Rattle.cq_model.specs.declared.query.Query.{Query}
+use Rattle.cq_model.specs.declared.query.Aggregate.TheVariants.{CountAll, Count, Sum, Min, Max}
+use Rattle.cq_model.specs.declared.query.Shape.{Shape}
 use Rattle.cq_model.specs.declared.query.Shape.TheVariants.{Grouped, Plain}
-use Rattle.cq_model.specs.declared.query.Source.TheVariants.{Table}
-use Rattle.cq_model.specs.Expr.{Expr}
-use Rattle.cq_model.specs.Sizes.{stored_size}
-use Rattle.cq_model.specs.Width.{number_limit, sizes_of, widest}
+use Rattle.cq_model.specs.declared.query.Source.{Source}
+use Rattle.cq_model.specs.declared.query.Source.TheVariants.{Table, View}
+use Rattle.cq_model.specs.Sizes.{aggregate_size, row_size, shown_size, stored_size, stored_sizes}
+use Rattle.cq_model.specs.Views.{sources_of}
+use Rattle.cq_model.specs.Width.{limits_of, number_limit, widest}
 use Rattle.cq_language.specs.declared.statement.Select.{Select}
 use Rattle.cq_language.specs.declared.statement.SelectItem.{SelectItem}
 use Rattle.cq_language.specs.Written.{Written}
-use Rattle.cq_language.specs.Written as tree
 use Rattle.cq_binding.specs.declared.fault.Fault.{Fault}
 use Rattle.cq_binding.specs.declared.fault.Fault.TheVariants.{NameTaken}
-use Rattle.cq_binding.specs.Bound.{item_columns, view_from}
+use Rattle.cq_binding.specs.Bound.{item_columns}
 use Rattle.cq_binding.specs.Checks.{fault_if, first_fault, too_long}
-use Rattle.cq_binding.specs.Grouping.{has_aggregate, is_empty, is_grouped, item_scope}
+use Rattle.cq_binding.specs.From.{From}
+use Rattle.cq_binding.specs.Grouping.{is_empty, is_grouped, item_scope}
 use Rattle.cq_binding.specs.Headers.{header, shown_by}
 use Rattle.cq_binding.specs.Kinds.{kept_value}
-use Rattle.cq_binding.specs.Open.{is_bare, is_of_one_source, is_unordered, may_be_kept, may_be_shown, shows_group}
-use Rattle.cq_binding.specs.Placed.{placed_cond, placed_expr, with_aggregates}
+use Rattle.cq_binding.specs.Placed.{placed_cond, with_aggregates}
 use Rattle.cq_binding.specs.Places.{group_places}
-use Rattle.cq_binding.specs.Queries.{bound_group, bound_query, bound_shape, grouped_shape, having_aggregates, item_aggregates, placed_items}
-use Rattle.cq_binding.specs.Scopes.{from_table, in_groups, known_as, of_rows}
+use Rattle.cq_binding.specs.Queries.{bound_group, bound_query, grouped_shape, having_aggregates, item_aggregates, placed_items}
+use Rattle.cq_binding.specs.Scopes.{from_table, in_groups, of_rows}
 use Rattle.cq_binding.specs.Sets.{bound_where}
 use Rattle.cq_binding.specs.SourceChecks.{group_checks, kept_check, where_check}
-use Rattle.cq_binding.specs.Typing.{Scope, ScopeColumn, kept_fault, typed}
-use Rattle.cq_binding.specs.ViewChecks.{query_checks, repeats}
-use Rattle.cq_exprs.specs.Expressions.{KeepShown, KeepSizes}
-use Rattle.cq_exprs.proofs.Narrow.{typed_is_narrow}
-use Rattle.cq_states.specs.State.{TableOf}
-use Rattle.cq_views.specs.Laws.{StandingDependsOnBag}
-use Rattle.cq_views.specs.Small.{IsItemNarrow}
-use Rattle.cq_views.specs.View.{IsNarrowFor, KeptView, Stands}
+use Rattle.cq_binding.specs.Typing.{Scope, ScopeColumn, size_at}
+use Rattle.cq_binding.specs.Orders.{order_checks}
+use Rattle.cq_binding.specs.ViewChecks.{absent_checks, list_checks, no_clause, query_checks, repeats}
+use Rattle.cq_exprs.specs.Expressions as exprs
+use Rattle.cq_exprs.specs.Expressions.{KeepSizes}
+use Rattle.cq_states.specs.State.{TableOf, ViewOf, columns_in}
+use Rattle.cq_chains.specs.Steps.{IsNarrowOnStored}
+use Rattle.cq_upkeep.specs.Query.{HasNoHaving, IsArgumentNarrow, IsTable, aggregates_in}
 use Rattle.cq_tables.specs.Views.{Fits}
+use Rattle.cq_answers.specs.Narrow.{source_sizes}
 use Rattle.cq_writes.proofs.Checks.{back_free, first_free, front_free}
-use Rattle.cq_engine.proofs.Fitting.{items_walk, narrow_arguments, narrow_where, passed, second_free, size_there, stored_keeps}
-use Rattle.cq_tables.proofs.Places.{found_within}
-use Rattle.cq_engine.proofs.Showing.{all_shown, both_hold, few_shown, is_not, narrow_for_view, none_added, same_value, small_for_view, totals}
-use Rattle.cq_table.proofs.RowLists.{all_of_rows}
+use Rattle.cq_engine.specs.Commands.{CanBuild}
+use Rattle.cq_engine.proofs.Fitting.{items_walk, second_free, narrow_arguments, narrow_items, narrow_where, nothing_shown}
+use Rattle.cq_engine.proofs.Groups.{key_keeps, key_places, told_keep}
+use Rattle.cq_engine.proofs.Sourced.{AreJoined, AreTables, all_at_place}
+use Rattle.cq_engine.proofs.Widths.{items_told, same_told}
 
--- ---- What a view may have
--- a condition that is not there
-nothing_there : {X : Type 0} (o : Option X) → is_none o ≡ true → o ≡ None
-nothing_there None e = refl
-nothing_there (Some x) e = absurd (cc e)
+-- ---- Columns of tables
+-- each has the size of a stored number
+abbrev pub AreStoredSized : List ScopeColumn → Type 0
+AreStoredSized columns = AllByRecursion (λ c. c.size ≡ stored_size) columns
 
--- GROUP BY and items that may be shown, without HAVING and DISTINCT
-record CanKeep (v : Select) : Type 0 where
-  pub plain : v.is_distinct ≡ false
-  pub unfiltered : v.having ≡ None
-  pub grouped : is_empty v.group ≡ false
-  pub shown : list_all may_be_shown (shown_by v.items) ≡ true
+size_stored : (columns : List ScopeColumn) → AreStoredSized columns → (place : ℕ) → place < length columns
+    → size_at columns place ≡ stored_size
+size_stored [] sized place h = absurd (omega (arith, h))
+size_stored (c ∷ columns) sized zero h = sized.0
+size_stored (c ∷ columns) sized (suc place) h = size_stored columns sized.1 place (omega (arith, h))
 
--- as a view may have it
-can_keep : (v : Select) → may_be_kept v ≡ true → CanKeep v
-can_keep v may =
-    let items = both_hold (is_of_one_source v && is_unordered v && not (is_empty v.group) && list_all is_bare v.group) (list_all shows_group v.items) may in
-    let bare = both_hold (is_of_one_source v && is_unordered v && not (is_empty v.group)) (list_all is_bare v.group) items.0 in
-    let group = both_hold (is_of_one_source v && is_unordered v) (not (is_empty v.group)) bare.0 in
-    let source = both_hold (is_of_one_source v) (is_unordered v) group.0 in
-    let having = both_hold (not v.is_distinct && is_empty v.joins) (is_none v.having) source.0 in
-    let joins = both_hold (not v.is_distinct) (is_empty v.joins) having.0 in
-    record {
-      plain = is_not v.is_distinct joins.0;
-      unfiltered = nothing_there v.having having.1;
-      grouped = is_not (is_empty v.group) group.1;
-      shown = sym (all_shown v.items) ∙ items.1;
-    }
+-- so it is with what is joined of tables
+module _ (tables : List TableOf) (views : List ViewOf) where
+  abbrev AllStored : List ℕ → Type 0
+  AllStored sizes = AllByRecursion (λ n. n ≡ stored_size) sizes
 
--- ---- What the walk through a view's query says
--- a list that is not too long has at most 64 entries
-short : (n : ℕ) → too_long n ≡ None → n ≤ 64
-short n e = by_test (nat_lt 64 n)
-    (λ k. absurd (cc (rw k at e)))
-    (λ k. ltb-false 64 n k)
+  both_stored : (xs ys : List ℕ) → AllStored xs → AllStored ys → AllStored (xs ++ ys)
+  both_stored [] ys first second = second
+  both_stored (x ∷ xs) ys first second = (first.0, both_stored xs ys first.1 second)
 
-module _ (v : Select) (columns : List ScopeColumn) (can : CanKeep v) (free : first_fault (query_checks v columns) ≡ None) where
-  abbrev items : List Written
-  items = shown_by v.items
+  columns_stored : (columns : List ColumnDef) → AllStored (stored_sizes columns)
+  columns_stored [] = tt
+  columns_stored (d ∷ columns) = (refl, columns_stored columns)
+
+  source_stored : (s : Source) → IsTable s → AllStored (source_sizes tables views s)
+  source_stored (Table n) is = columns_stored (columns_in tables n)
+  source_stored (View place) is = absurd is
+
+  sources_stored : (sources : List Source) → AllByRecursion IsTable sources
+      → AllStored (flat_map (source_sizes tables views) sources)
+  sources_stored [] are = tt
+  sources_stored (s ∷ sources) are =
+      both_stored (source_sizes tables views s) (flat_map (source_sizes tables views) sources) (source_stored s are.0)
+      (sources_stored sources are.1)
+
+  of_sizes : (columns : List ScopeColumn) → AllStored (map (λ c. c.size) columns) → AreStoredSized columns
+  of_sizes [] all = tt
+  of_sizes (c ∷ columns) all = (all.0, of_sizes columns all.1)
+
+  joined_stored : (from : From) → AreJoined tables views from
+      → AllByRecursion IsTable (from.first ∷ map (λ j. j.source) from.joins) → AreStoredSized from.columns
+  joined_stored from joined are =
+      let sources = from.first ∷ map (λ j. j.source) from.joins in
+      of_sizes from.columns (subst AllStored (sym joined.sizes) (sources_stored sources are))
+
+-- ---- A view's query
+-- arguments that are narrow for SELECT are narrow for a view
+narrow_for_view : (sizes : ℕ → ℕ) (aggregates : List Aggregate)
+    → AllByRecursion (exprs.IsArgumentNarrow sizes) aggregates → AllByRecursion (IsArgumentNarrow sizes) aggregates
+narrow_for_view sizes [] all = tt
+narrow_for_view sizes (CountAll ∷ aggregates) all = (tt, narrow_for_view sizes aggregates all.1)
+narrow_for_view sizes (Count e ∷ aggregates) all = (all.0, narrow_for_view sizes aggregates all.1)
+narrow_for_view sizes (Sum e ∷ aggregates) all = (all.0, narrow_for_view sizes aggregates all.1)
+narrow_for_view sizes (Min e ∷ aggregates) all = (all.0, narrow_for_view sizes aggregates all.1)
+narrow_for_view sizes (Max e ∷ aggregates) all = (all.0, narrow_for_view sizes aggregates all.1)
+
+module _ (v : Select) (columns : List ScopeColumn) (sized : AreStoredSized columns) where
+  abbrev shown : List Written
+  shown = shown_by v.items
 
   abbrev groups : Scope
   groups = in_groups v.group columns
 
+  abbrev rows : Scope
+  rows = of_rows columns
+
+  abbrev aggregates : List Aggregate
+  aggregates = item_aggregates groups v.items
+
+  abbrev stored : ℕ → ℕ
+  stored i = stored_size
+
+  -- the columns promise no less than stored numbers have
+  rows_keep : KeepSizes rows stored
+  rows_keep place inside may = omega (arith, size_stored columns sized place inside)
+
+  -- so WHERE can be worked out in stored rows
+  filter_narrow : where_check rows v.condition ≡ None → IsNarrowOnStored (bound_where rows v.condition)
+  filter_narrow free row is =
+      narrow_where columns v.condition row free
+      (λ place inside may. omega (arith, is place, size_stored columns sized place inside))
+
+  -- ---- Without groups
+  plain_items : first_fault (items_walk kept_value rows shown) ≡ None
+      → AllByRecursion (λ e. widest (row_size Plain) e < number_limit) (placed_items rows [] shown)
+  plain_items free =
+      narrow_items kept_value rows stored rows_keep [] [] _ shown refl (nothing_shown columns _ stored) free
+
+  -- ---- With groups
+  abbrev all_groups : Shape
+  all_groups = Grouped (bound_group columns v.group) aggregates None
+
+  -- in a group's row are the sizes of stored keys and of what is told of stored rows
+  within : (i : ℕ)
+      → row_size all_groups i ≤ limits_of (map stored (group_places columns v.group) ++ map shown_size aggregates) i
+  within i =
+      let same = key_places columns v.group in
+      omega (arith, ap (λ (ks : List ℕ). limits_of (map stored ks ++ map shown_size aggregates) i) same)
+
+  module _ (free : first_fault (items_walk kept_value groups shown) ≡ None) where
+    arguments_narrow : AllByRecursion (IsArgumentNarrow stored) aggregates
+    arguments_narrow =
+        narrow_for_view stored aggregates (narrow_arguments kept_value groups stored rows_keep [] shown free tt)
+
+    -- what is told of stored rows is as large as what is told of the columns
+    told_stored : AllByRecursion (λ a. shown_size a ≡ aggregate_size (size_at columns) a) aggregates
+    told_stored =
+        items_told groups (λ a. shown_size a ≡ aggregate_size (size_at columns) a) refl
+        (same_told columns stored (size_at columns) (λ place inside. sym (size_stored columns sized place inside)))
+        kept_value [] shown free tt
+
+    told_at : (i : ℕ) (a : Aggregate) → slice_get aggregates i ≡ Some a
+        → shown_size a ≤ aggregate_size (size_at columns) a
+    told_at i a at =
+        let P : Aggregate → Type 0 = λ b. shown_size b ≡ aggregate_size (size_at columns) b in
+        omega (arith, all_at_place P aggregates i a told_stored at)
+
+    groups_items : AllByRecursion (λ e. widest (row_size all_groups) e < number_limit) (placed_items groups [] shown)
+    groups_items =
+        narrow_items kept_value groups (row_size all_groups)
+        (key_keeps columns v.group aggregates stored shown_size (row_size all_groups) within
+        (λ place inside. omega (arith, size_stored columns sized place inside)))
+        [] [] aggregates shown (append-nil aggregates)
+        (told_keep columns v.group aggregates stored shown_size (row_size all_groups) within
+        told_at)
+        free
+
+  -- ---- With groups or without
+  -- in arguments and items nothing is too wide, and no group is dropped
+  record IsShapeKept (shape : Shape) (s : Scope) : Type 0 where
+    pub groups : HasNoHaving shape
+    pub arguments : AllByRecursion (IsArgumentNarrow stored) (aggregates_in shape)
+    pub items : AllByRecursion (λ e. widest (row_size shape) e < number_limit) (placed_items s [] shown)
+
+  shape_kept : v.having ≡ None → (grouped : Bool)
+      → first_fault (items_walk kept_value (if grouped then groups else rows) shown) ≡ None
+      → IsShapeKept (if grouped then grouped_shape v columns else Plain) (if grouped then groups else rows)
+  shape_kept none false free = record { groups = tt; arguments = tt; items = plain_items free }
+  shape_kept none true free =
+      let is : grouped_shape v columns ≡ all_groups
+      = ap (λ (h : Option Written). Grouped (bound_group columns v.group) (having_aggregates groups aggregates h)
+      (option_map (placed_cond groups aggregates) h)) none in
+      subst (λ (shape : Shape). IsShapeKept shape groups) (sym is)
+      (record { groups = refl; arguments = arguments_narrow free; items = groups_items free })
+
+-- ---- What was bound
+-- as many columns as items
+columns_shown : (s : Scope) (place : ℕ) (is : List SelectItem) → length (item_columns s place is) ≡ length is
+columns_shown s place [] = refl
+columns_shown s place (item ∷ is) = ap suc (columns_shown s (place + 1) is)
+
+-- and as many values
+items_shown : (s : Scope) (before : List Aggregate) (ws : List Written) → length (placed_items s before ws) ≡ length ws
+items_shown s before [] = refl
+items_shown s before (w ∷ ws) = ap suc (items_shown s (with_aggregates s before w) ws)
+
+-- a query over at most four tables, without DISTINCT and HAVING, whose WHERE and items have no fault
+pub record IsOfView (v : Select) (from : From) : Type 0 where
+  pub tables : AllByRecursion IsTable (sources_of (bound_query v from))
+  pub few : length (sources_of (bound_query v from)) ≤ 4
+  pub each : v.is_distinct ≡ false
+  pub unfiltered : v.having ≡ None
+  pub filter : where_check (of_rows from.columns) v.condition ≡ None
+  pub items : first_fault (items_walk kept_value (item_scope v from.columns) (shown_by v.items)) ≡ None
+
+module _ (tables : List TableOf) (views : List ViewOf) (v : Select) (from : From) (joined : AreJoined tables views from) (is : IsOfView v from) where
+  -- can be kept
+  query_fits : Fits (bound_query v from)
+  query_fits =
+      let sized = joined_stored tables views from joined is.tables in
+      let shape = shape_kept v from.columns sized is.unfiltered (is_grouped v) is.items in
+      record {
+        can = record {
+          tables = is.tables;
+          each = is.each;
+          groups = shape.groups;
+          filter = filter_narrow v from.columns sized is.filter;
+          arguments = shape.arguments;
+          items = shape.items;
+        };
+        few = is.few;
+      }
+
+  -- for a view with a column for each item
+  pub can_build : CanBuild tables views (item_columns (item_scope v from.columns) 1 v.items) (bound_query v from)
+  can_build = record {
+    shown =
+        columns_shown (item_scope v from.columns) 1 v.items
+        ∙ sym (items_shown (item_scope v from.columns) [] (shown_by v.items) ∙ length-map v.items (λ item. item.value));
+    fits = query_fits;
+    there = joined.there;
+  }
+
+-- ---- What a view may have
+-- a clause that no view has
+not_there : (b : Bool) → no_clause b ≡ None → b ≡ false
+not_there false e = refl
+not_there true e = absurd (cc e)
+
+nothing_there : {X : Type 0} (o : Option X) → is_some o ≡ false → o ≡ None
+nothing_there None e = refl
+nothing_there (Some x) e = absurd (cc e)
+
+module _ (v : Select) (from : From) (are : AreTables from) (free : first_fault (query_checks v from.columns) ≡ None) where
   abbrev item_checks : List (Option Fault)
-  item_checks = map (kept_check (item_scope v columns)) items
+  item_checks = map (kept_check (item_scope v from.columns)) (shown_by v.items)
+
+  abbrev having_check : Option Fault
+  having_check = where_check (item_scope v from.columns) v.having
 
   abbrev last_checks : List (Option Fault)
-  last_checks = fault_if (repeats [] (header 1 v.items)) NameTaken ∷ too_long (length v.items) ∷ []
-
-  -- WHERE has no fault
-  where_free : where_check (of_rows columns) v.condition ≡ None
-  where_free = first_free (where_check (of_rows columns) v.condition) (group_checks columns v.group ++ (item_checks ++ last_checks)) free
+  last_checks = list_checks v ++ having_check ∷ absent_checks v
 
   -- behind GROUP BY nothing has a fault
   behind : first_fault (item_checks ++ last_checks) ≡ None
-  behind = back_free (where_check (of_rows columns) v.condition ∷ group_checks columns v.group) (item_checks ++ last_checks) free
+  behind = back_free (where_check (of_rows from.columns) v.condition ∷ group_checks from.columns v.group) (item_checks ++ last_checks) free
 
-  -- there are not too many items
-  few_items : length v.items ≤ 64
-  few_items = short (length v.items) (second_free (fault_if (repeats [] (header 1 v.items)) NameTaken) (too_long (length v.items)) [] (back_free item_checks last_checks behind))
+  -- nor behind the items
+  last : first_fault last_checks ≡ None
+  last = back_free item_checks last_checks behind
 
-  -- the query is grouped, so its items read groups
-  is_grouped_view : is_grouped v ≡ true
-  is_grouped_view = ap (λ (b : Bool). not b || (is_some v.having || list_any has_aggregate items)) can.grouped
+  -- nor behind HAVING
+  absent : first_fault (absent_checks v) ≡ None
+  absent = back_free (having_check ∷ []) (absent_checks v) (back_free (list_checks v) (having_check ∷ absent_checks v) last)
 
-  -- which are those of its table
-  scope_is : item_scope v columns ≡ groups
-  scope_is = ap (λ (b : Bool). if b then groups else of_rows columns) is_grouped_view
-
-  -- no item has a fault
-  items_free : first_fault (items_walk kept_value groups items) ≡ None
-  items_free = subst (λ (s : Scope). first_fault (items_walk kept_value s items) ≡ None) scope_is (front_free item_checks last_checks behind)
-
-  -- the shape of the query
-  shape_is : bound_shape v columns ≡ Grouped (Some (group_places columns v.group)) (item_aggregates groups v.items) None
-  shape_is =
-      let before = item_aggregates groups v.items in
-      ap (λ (b : Bool). if b then grouped_shape v columns else Plain) is_grouped_view
-      ∙ ap (λ (h : Option Written). Grouped (bound_group columns v.group) (having_aggregates groups before h) (option_map (placed_cond groups before) h)) can.unfiltered
-      ∙ ap (λ (b : Bool). Grouped (if b then None else Some (group_places columns v.group)) before None) can.grouped
-
--- ---- Items of groups whose keys are stored numbers
--- a place within a list that was asked for
-place_within : (b : Bool) (i n : ℕ) → nat_lt i n ≡ b → b ≡ true → unwrap_or (if b then Some i else None) 0 < n
-place_within true i n within e = ltb-true i n within
-place_within false i n within e = absurd (cc e)
-
--- where GROUP BY names a column, it has a place there
-grouped_at : (group : List ℕ) (place : ℕ) → list_any (λ g. g == place) group ≡ true → unwrap_or (position (λ g. g == place) group) 0 < length group
-grouped_at group place among =
-    let p : ℕ → Bool = λ g. g == place in
-    place_within (nat_lt (position_or_len p group) (length group)) (position_or_len p group) (length group) refl (found_within p group ∙ among)
-
--- none of no aggregates is too large
-none_large : (s : Scope) (xs : List Aggregate) (sizes : ℕ → ℕ) → xs ≡ [] → KeepShown s xs sizes
-none_large s xs sizes none = subst (λ us. KeepShown s us sizes) (sym none) (λ grouped i a at. absurd (cc at))
-
-module _ (v : Select) (t : TableOf) where
-  abbrev view_columns : List ScopeColumn
-  view_columns = (view_from v t).columns
-
-  abbrev view_groups : Scope
-  view_groups = in_groups v.group view_columns
-
-  abbrev places : List ℕ
-  places = group_places view_columns v.group
-
-  -- the columns of a key keep their sizes
-  key_sizes : (sizes : ℕ → ℕ) → ((i : ℕ) → i < length places → sizes i ≤ stored_size) → KeepSizes view_groups sizes
-  key_sizes sizes kept place within may =
-      omega (arith, kept (unwrap_or (position (λ g. g == place) places) 0) (grouped_at places place may), size_there (known_as v.first (from_table t)) t.columns place within)
-
-  -- what has no aggregate is narrow
-  shown_narrow : (before : List Aggregate) (w : Written) → has_aggregate w ≡ false → kept_fault (typed view_groups w) ≡ None → IsItemNarrow (length places) (placed_expr view_groups before w)
-  shown_narrow before w none free sizes kept =
-      let p = passed kept_value (typed view_groups w) free in
-      let added = none_large view_groups (with_aggregates view_groups [] w ++ []) sizes (append-nil (with_aggregates view_groups [] w) ∙ none_added view_groups [] w none) in
-      subst (λ (e : Expr). widest sizes e < number_limit) (sym (same_value view_groups before w none))
-      (typed_is_narrow view_groups [] [] w p.0 sizes p.1 (key_sizes sizes kept) added).value
-
-  -- and so is what a view may show
-  item_narrow : (before : List Aggregate) (w : Written) → may_be_shown w ≡ true → kept_fault (typed view_groups w) ≡ None → IsItemNarrow (length places) (placed_expr view_groups before w)
-  item_narrow before tree.CountAll may free sizes kept = omega arith
-  item_narrow before (tree.Aggregate function w) may free sizes kept = omega arith
-  item_narrow before w may free sizes kept = shown_narrow before w (is_not (has_aggregate w) may) free sizes kept
-
-  -- so all items are
-  items_narrow : (before : List Aggregate) (ws : List Written) → list_all may_be_shown ws ≡ true → first_fault (items_walk kept_value view_groups ws) ≡ None
-      → AllByRecursion (IsItemNarrow (length places)) (placed_items view_groups before ws)
-  items_narrow before [] may free = tt
-  items_narrow before (w ∷ ws) may free =
-      let p = both_hold (may_be_shown w) (list_all may_be_shown ws) may in
-      let rest = items_walk kept_value view_groups ws in (
-        item_narrow before w p.0 (first_free (kept_fault (typed view_groups w)) rest free),
-        items_narrow (with_aggregates view_groups before w) ws p.1 (back_free (kept_fault (typed view_groups w) ∷ []) rest free),
-      )
-
-  -- ---- The view's query
-  -- the groups of its table's rows
-  abbrev kept_query : Query
-  kept_query = record {
-    first = Table t.number;
-    joins = [];
-    filter = bound_where (of_rows view_columns) v.condition;
-    shape = Grouped (Some places) (item_aggregates view_groups v.items) None;
-    items = placed_items view_groups [] (shown_by v.items);
-    distinct = false;
+  -- so it is a query that a view may have
+  of_view : IsOfView v from
+  of_view = record {
+    tables = are.tables;
+    few = omega (arith, are.counted, are.few);
+    each = not_there v.is_distinct (second_free (fault_if (repeats [] (header 1 v.items)) NameTaken) (no_clause v.is_distinct) (too_long (length v.items) ∷ having_check ∷ absent_checks v) last);
+    unfiltered =
+        nothing_there v.having (not_there (is_some v.having) (first_free (no_clause (is_some v.having)) (order_checks (header 1 v.items) v.order ++ no_clause (not (is_empty v.order)) ∷ no_clause (is_some v.limit) ∷ []) absent));
+    filter = first_free (where_check (of_rows from.columns) v.condition) (group_checks from.columns v.group ++ (item_checks ++ last_checks)) free;
+    items = front_free item_checks last_checks behind;
   }
 
-  -- as many columns as items
-  columns_shown : (s : Scope) (place : ℕ) (is : List SelectItem) → length (item_columns s place is) ≡ length is
-  columns_shown s place [] = refl
-  columns_shown s place (item ∷ is) = ap suc (columns_shown s (place + 1) is)
-
-  -- and as many values
-  items_shown : (s : Scope) (before : List Aggregate) (ws : List Written) → length (placed_items s before ws) ≡ length ws
-  items_shown s before [] = refl
-  items_shown s before (w ∷ ws) = ap suc (items_shown s (with_aggregates s before w) ws)
-
-  -- it has a column for each item
-  pub query_shown : length (item_columns (item_scope v view_columns) 1 v.items) ≡ length (bound_query v (view_from v t)).items
-  query_shown =
-      columns_shown (item_scope v view_columns) 1 v.items
-      ∙ sym (items_shown (item_scope v view_columns) [] (shown_by v.items) ∙ length-map v.items (λ item. item.value))
-
-  module _ (may : may_be_kept v ≡ true) (free : first_fault (query_checks v view_columns) ≡ None) where
-    abbrev can : CanKeep v
-    can = can_keep v may
-
-    -- what was bound is this query
-    query_is : bound_query v (view_from v t) ≡ kept_query
-    query_is =
-        let shape = shape_is v view_columns can free in
-        let items = ap (λ (s : Scope). placed_items s [] (shown_by v.items)) (scope_is v view_columns can free) in
-        let plain = can.plain in
-        λ i. record {
-          first = Table t.number;
-          joins = [];
-          filter = bound_where (of_rows view_columns) v.condition;
-          shape = shape i;
-          items = items i;
-          distinct = plain i;
-        }
-
-    -- it fits the rows that a table stores
-    kept_fits : Fits kept_query
-    kept_fits =
-        let items = items_free v view_columns can free in
-        let stored_sizes = stored_keeps (known_as v.first (from_table t)) t in
-        record {
-          can_be_kept = record {
-            grouped = refl;
-            totals = totals view_groups [] (shown_by v.items) can.shown tt;
-            few = omega (arith, few_shown view_groups [] (shown_by v.items) can.shown, length-map v.items (λ item. item.value), few_items v view_columns can free);
-            items = items_narrow [] (shown_by v.items) can.shown items;
-          };
-          narrow = λ row stored. record {
-            filter = narrow_where view_columns v.condition row (where_free v view_columns can free) (stored_sizes row stored);
-            aggregates = narrow_for_view row (item_aggregates view_groups v.items) (narrow_arguments kept_value view_groups (sizes_of row) (stored_sizes row stored) [] (shown_by v.items) items tt);
-          };
-          small = λ row stored kept.
-              small_for_view row stored (item_aggregates view_groups v.items) (narrow_arguments kept_value view_groups (sizes_of row) (stored_sizes row stored) [] (shown_by v.items) items tt);
-        }
-
-    -- and so does what was bound
-    pub query_fits : Fits (bound_query v (view_from v t))
-    query_fits = subst Fits (sym query_is) kept_fits
-
--- ---- A view that is built
--- rows that are stored are narrow for what fits them
-all_narrow : (q : Query) (rows : List Row) → Fits q → AllByRecursion IsStored rows → AllByRecursion (IsNarrowFor q) rows
-all_narrow q [] fits stored = tt
-all_narrow q (r ∷ rows) fits stored = (fits.narrow r stored.0, all_narrow q rows fits stored.1)
-
-module _ (t : TableOf) (rows : List Row) (same : bag_of rows ≡ t.rows) where
-  -- the rows of a table are narrow as they are stored
-  pub stored_narrow : (q : Query) → Fits q → AllByRecursion IsStored t.rows → AllByRecursion (IsNarrowFor q) rows
-  stored_narrow q fits stored = all_narrow q rows fits (all_of_rows IsStored rows (subst (λ (rs : List Row). AllByRecursion IsStored rs) (sym same) stored))
-
-  -- what stands for the rows as they are stored stands for the table's bag
-  pub stands_for_bag : StandingDependsOnBag → (v : KeptView) → Stands v (once_each rows) → Stands v (once_each t.rows)
-  stands_for_bag law v stands =
-      let listed : SameBag (once_each rows) (once_each t.rows) = subst (λ (rs : List Row). SameBag (once_each rows) (once_each rs)) same (same-sym (once_each (bag_of rows)) (once_each rows) (same-bag_of rows)) in
-      law v (once_each rows) (once_each t.rows) listed stands
+  -- and can be built on tables that are there
+  pub view_can : (tables : List TableOf) (views : List ViewOf) → AreJoined tables views from → CanBuild tables views (item_columns (item_scope v from.columns) 1 v.items) (bound_query v from)
+  view_can tables views joined = can_build tables views v from joined of_view

@@ -7,7 +7,7 @@ use Rattle.cq_values.specs.Value.{Row}
 use Rattle.cq_values.specs.declared.column.ColumnDef.{ColumnDef}
 use Rattle.cq_model.specs.declared.query.Aggregate.{Aggregate}
 use Rattle.cq_model.specs.Sizes.{stored_size, stored_sizes}
-use Rattle.cq_model.specs.Width.{AreNarrowAt, IsNarrowIn, sizes_of}
+use Rattle.cq_model.specs.Width.{IsNarrowIn, number_limit, sizes_of, widest}
 use Rattle.cq_language.specs.Written.{Written}
 use Rattle.cq_binding.specs.declared.fault.Fault.{Fault}
 use Rattle.cq_binding.specs.declared.typing.Typing.{Typing}
@@ -91,11 +91,13 @@ module _ (ask : Typing → Result Typing Fault) (s : Scope) where
   items_walk ws = map (λ w. fault_in (typed s w and_then ask)) ws
 
   -- an item stands where the walk has no fault
-  item_stands : (w : Written) (ws : List Written) → first_fault (items_walk (w ∷ ws)) ≡ None → (t : Typing) × (typed s w ≡ Ok t)
+  pub item_stands : (w : Written) (ws : List Written) → first_fault (items_walk (w ∷ ws)) ≡ None
+      → (t : Typing) × (typed s w ≡ Ok t)
   item_stands w ws free = passed ask (typed s w) (first_free (fault_in (typed s w and_then ask)) (items_walk ws) free)
 
   -- and those behind it have no fault
-  others_free : (w : Written) (ws : List Written) → first_fault (items_walk (w ∷ ws)) ≡ None → first_fault (items_walk ws) ≡ None
+  pub others_free : (w : Written) (ws : List Written) → first_fault (items_walk (w ∷ ws)) ≡ None
+      → first_fault (items_walk ws) ≡ None
   others_free w ws free = back_free (fault_in (typed s w and_then ask) ∷ []) (items_walk ws) free
 
   -- no argument of an aggregate in them is too wide
@@ -114,17 +116,19 @@ module _ (ask : Typing → Result Typing Fault) (s : Scope) where
       let h = items_grow (with_aggregates s before w) ws in
       (g.0 ++ h.0, h.1 ∙ ap (λ us. us ++ h.0) g.1 ∙ append_assoc before g.0 h.0)
 
-  -- no item is too wide at a row that keeps the sizes of the columns and of all aggregates
-  pub narrow_items : (row : Row) → KeepSizes s (sizes_of row) → (before more all : List Aggregate) (ws : List Written) → fold (with_aggregates s) before ws ++ more ≡ all
-      → KeepShown s all (sizes_of row) → first_fault (items_walk ws) ≡ None → AreNarrowAt (placed_items s before ws) row
-  narrow_items row kept before more all [] is shown free = tt
-  narrow_items row kept before more all (w ∷ ws) is shown free =
+  -- no item is too wide where the columns and all aggregates keep their sizes
+  pub narrow_items : (sizes : ℕ → ℕ) → KeepSizes s sizes → (before more all : List Aggregate) (ws : List Written)
+      → fold (with_aggregates s) before ws ++ more ≡ all
+      → KeepShown s all sizes → first_fault (items_walk ws) ≡ None
+      → AllByRecursion (λ e. widest sizes e < number_limit) (placed_items s before ws)
+  narrow_items sizes kept before more all [] is shown free = tt
+  narrow_items sizes kept before more all (w ∷ ws) is shown free =
       let low = with_aggregates s before w in
       let h = items_grow low ws in
       let p = item_stands w ws free in
       let whole : low ++ (h.0 ++ more) ≡ all = sym (append_assoc low h.0 more) ∙ ap (λ us. us ++ more) (sym h.1) ∙ is in
-      let narrow = typed_is_narrow s before (h.0 ++ more) w p.0 (sizes_of row) p.1 kept (subst (λ us. KeepShown s us (sizes_of row)) (sym whole) shown) in
-      (narrow.value, narrow_items row kept low more all ws is shown (others_free w ws free))
+      let narrow = typed_is_narrow s before (h.0 ++ more) w p.0 sizes p.1 kept (subst (λ us. KeepShown s us sizes) (sym whole) shown) in
+      (narrow.value, narrow_items sizes kept low more all ws is shown (others_free w ws free))
 
 module _ (s : Scope) where
   -- HAVING puts its aggregates behind those of the items

@@ -1,5 +1,5 @@
 -- The rows of groups keep the sizes of the key's columns and of what is shown of each group.
-use Rattle.std.proofs.Common.{◌≡◌, ℕ, ◌+◌, Bool, true, false, List, [], ◌∷◌, ◌++◌, map, length, get_or, Option, Some, None, refl, sym, ap, ◌∙◌, arith, subst}
+use Rattle.std.proofs.Common.{◌≡◌, ℕ, ◌+◌, ◌<◌, ◌≤◌, Bool, true, false, List, [], ◌∷◌, ◌++◌, map, length, get_or, Option, Some, None, refl, sym, ap, ◌∙◌, arith, subst}
 use Rattle.std.specs.Prelude.{◌==◌, if◌then◌else◌, position, slice_get, unwrap_or}
 use Rattle.std.specs.List.{list_any}
 use Rattle.std.proofs.lemmas.Bool.{eqb-true, ne_eqb}
@@ -16,7 +16,7 @@ use Rattle.cq_binding.specs.Grouping.{is_empty}
 use Rattle.cq_binding.specs.Places.{group_places}
 use Rattle.cq_binding.specs.Queries.{bound_group}
 use Rattle.cq_binding.specs.Scopes.{in_groups}
-use Rattle.cq_binding.specs.Typing.{ScopeColumn}
+use Rattle.cq_binding.specs.Typing.{ScopeColumn, size_at}
 use Rattle.cq_exprs.specs.Expressions.{KeepShown, KeepSizes}
 use Rattle.cq_tables.proofs.Places.{not_there}
 
@@ -34,15 +34,16 @@ key_size f rest places place among = at (position (λ g. g == place) places) ref
         ∙ ap f (eqb-true (get_or places i 0) place p.1)
 
 -- and behind the key, of each aggregate
-shown_size : (f : Aggregate → ℕ) (key : List ℕ) (aggregates : List Aggregate) (i : ℕ) (a : Aggregate) → slice_get aggregates i ≡ Some a
+told_size : (f : Aggregate → ℕ) (key : List ℕ) (aggregates : List Aggregate) (i : ℕ) (a : Aggregate)
+    → slice_get aggregates i ≡ Some a
     → get_or (key ++ map f aggregates) (length key + i) 0 ≡ f a
-shown_size f key aggregates i a at =
+told_size f key aggregates i a at =
     get_or-append-add key (map f aggregates) i 0
     ∙ get_or-map f aggregates i a 0 (slice_get_within aggregates i a at)
     ∙ ap f (get_or_from_slice_get aggregates i a a at)
 
 -- without GROUP BY the key has no column
-key_places : (columns : List ScopeColumn) (group : List ColumnName) → unwrap_or (bound_group columns group) [] ≡ group_places columns group
+pub key_places : (columns : List ScopeColumn) (group : List ColumnName) → unwrap_or (bound_group columns group) [] ≡ group_places columns group
 key_places columns [] = refl
 key_places columns (c ∷ group) =
     let some : is_empty (c ∷ group) ≡ false = ne_eqb (length (c ∷ group)) 0 (λ e. absurd (omega (arith, e))) in
@@ -52,32 +53,45 @@ module _ (columns : List ScopeColumn) (group : List ColumnName) (aggregates : Li
   abbrev places : List ℕ
   places = group_places columns group
 
+  -- the sizes of a group's row, by those of the columns and of what is told
+  abbrev row_sizes : (ℕ → ℕ) → (Aggregate → ℕ) → List ℕ
+  row_sizes key told = map key places ++ map told aggregates
+
+  -- ---- Sizes within those of the key's columns and of what is told
+  module _ (key : ℕ → ℕ) (told : Aggregate → ℕ) (sizes : ℕ → ℕ) (within : (i : ℕ) → sizes i ≤ limits_of (row_sizes key told) i) where
+    -- where no column promises less, those of the key keep their sizes
+    pub key_keeps : ((place : ℕ) → place < length columns → key place ≤ size_at columns place)
+        → KeepSizes (in_groups group columns) sizes
+    key_keeps small place inside may =
+        let at : ℕ = unwrap_or (position (λ g. g == place) places) 0 in
+        omega (arith, within at, key_size key (map told aggregates) places place may, small place inside)
+
+    -- and where no aggregate can be smaller, so do they
+    pub told_keep : ((i : ℕ) (a : Aggregate) → slice_get aggregates i ≡ Some a → told a ≤ aggregate_size (size_at columns) a) → KeepShown (in_groups group columns) aggregates sizes
+    told_keep small grouped i a at =
+        let is : limits_of (row_sizes key told) (length places + i) ≡ told a
+        = ap (λ (n : ℕ). limits_of (row_sizes key told) (n + i)) (sym (length-map places key))
+        ∙ told_size told (map key places) aggregates i a at in
+        omega (arith, within (length places + i), is, small i a at)
+
+  -- ---- A row of the sizes that groups have
   abbrev sizes : List ℕ
   sizes = map (λ c. c.size) columns
 
-  -- the sizes of the rows of groups
-  abbrev shown_sizes : List ℕ
-  shown_sizes = grouped_sizes sizes (bound_group columns group) aggregates
+  module _ (row : Row) (sized : IsSized (limits_of (grouped_sizes sizes (bound_group columns group) aggregates)) row) where
+    -- is of those of its key's columns and of what is told
+    there : IsSized (limits_of (row_sizes (limits_of sizes) (aggregate_size (limits_of sizes)))) row
+    there =
+        let told = map (aggregate_size (limits_of sizes)) aggregates in
+        subst (λ (ks : List ℕ). IsSized (limits_of (map (limits_of sizes) ks ++ told)) row) (key_places columns group) sized
 
-  -- in which the key has a size for each of its places
-  sizes_are : shown_sizes ≡ map (limits_of sizes) places ++ map (aggregate_size (limits_of sizes)) aggregates
-  sizes_are = ap (λ ks. map (limits_of sizes) ks ++ map (aggregate_size (limits_of sizes)) aggregates) (key_places columns group)
-
-  module _ (row : Row) (sized : IsSized (limits_of shown_sizes) row) where
-    -- a row of these sizes
-    there : IsSized (limits_of (map (limits_of sizes) places ++ map (aggregate_size (limits_of sizes)) aggregates)) row
-    there = subst (λ (ns : List ℕ). IsSized (limits_of ns) row) sizes_are sized
-
-    -- the columns of the key keep their sizes
+    -- so the columns of the key keep their sizes
     pub groups_keep : KeepSizes (in_groups group columns) (sizes_of row)
-    groups_keep place within may =
-        omega (arith, there (unwrap_or (position (λ g. g == place) places) 0), key_size (limits_of sizes) (map (aggregate_size (limits_of sizes)) aggregates) places place may)
+    groups_keep =
+        key_keeps (limits_of sizes) (aggregate_size (limits_of sizes)) (sizes_of row) there
+        (λ place inside. omega arith)
 
     -- and so do the aggregates
     pub groups_show : KeepShown (in_groups group columns) aggregates (sizes_of row)
-    groups_show grouped i a at =
-        let key = map (limits_of sizes) places in
-        let f = aggregate_size (limits_of sizes) in
-        let is : limits_of (key ++ map f aggregates) (length places + i) ≡ f a
-        = ap (λ (n : ℕ). limits_of (key ++ map f aggregates) (n + i)) (sym (length-map places (limits_of sizes))) ∙ shown_size f key aggregates i a at in
-        omega (arith, there (length places + i), is)
+    groups_show =
+        told_keep (limits_of sizes) (aggregate_size (limits_of sizes)) (sizes_of row) there (λ i a at. omega arith)

@@ -1,21 +1,26 @@
 -- Lists of views: what stays the same of them, and where they are right.
 use Rattle.std.proofs.Common.{◌≡◌, ℕ, false, List, [], ◌∷◌, ◌++◌, length, Option, Some, None, refl, sym, ap, ap₂, ◌∙◌, subst}
-use Rattle.std.specs.Prelude.{is_some, ◌==◌}
+use Rattle.std.specs.Prelude.{is_some}
 use Rattle.std.specs.List.{AllByRecursion}
-use Rattle.cq_bags.specs.Bag.{once_each}
+use Rattle.cq_bags.specs.Bag.{SameBag, once_each}
+use Rattle.cq_bags.proofs.Bags.{same-refl}
 use Rattle.cq_binding.specs.Refusal.{is_used}
-use Rattle.cq_states.specs.State.{TableOf, ViewOf, view_named, view_place, rows_in}
-use Rattle.cq_model.specs.declared.query.Query.{Query}
-use Rattle.cq_views.specs.Query.{table_of}
-use Rattle.cq_tables.specs.Taking.{IsSame, AreSame}
-use Rattle.cq_tables.specs.Views.{NamedView, view_of, views_of, IsRight, AreRight, Fits}
 use Rattle.cq_catalog.proofs.Found.{has_place}
-use Rattle.cq_tables.proofs.Pairs.{pointwise_all, pointwise_map}
-use Rattle.cq_tables.proofs.Rows.{rows_left, unused}
-use Rattle.cq_values.specs.Value.{Row}
-use Rattle.cq_views.specs.View.{Stands}
-use Rattle.cq_engine.specs.Commands.{present}
+use Rattle.cq_model.specs.declared.query.Query.{Query}
+use Rattle.cq_model.specs.declared.query.Source.{Source}
+use Rattle.cq_model.specs.declared.query.Source.TheVariants.{Table, View}
+use Rattle.cq_model.specs.Meaning.{Tables}
+use Rattle.cq_model.specs.Views.{is_table, sources_of}
+use Rattle.cq_states.specs.State.{TableOf, ViewOf, view_named, view_place, rows_in}
+use Rattle.cq_upkeep.specs.Laws.{StandingDependsOnSources}
+use Rattle.cq_upkeep.specs.Query.{reads}
+use Rattle.cq_upkeep.specs.State.{StandsFor}
+use Rattle.cq_tables.specs.Taking.{IsSame, AreSame}
+use Rattle.cq_tables.specs.Views.{NamedView, view_of, views_of, IsRight, AreRight, Fits, bags_in}
 use Rattle.cq_tables.proofs.Numbers.{others}
+use Rattle.cq_tables.proofs.Pairs.{pointwise_all, pointwise_map}
+use Rattle.cq_tables.proofs.Rows.{rows_left, unread, unused}
+use Rattle.cq_engine.specs.Commands.{present}
 use Rattle.cq_engine.proofs.Steps.{AreAt}
 
 -- ---- The same views
@@ -36,7 +41,7 @@ right_same tables now v w s r = record {
   shown = ap length s.columns ∙ r.shown ∙ sym (ap (λ (d : Query). length d.items) s.kept.query);
   fits = subst Fits (sym s.kept.query) r.fits;
   epoch = s.kept.epoch ∙ r.epoch;
-  stands = subst (λ (d : Query). Stands w.kept (once_each (rows_in tables (table_of d)))) (sym s.kept.query) (s.kept.stands (once_each (rows_in tables (table_of v.kept.query))) r.stands);
+  stands = s.kept.stands (bags_in tables) r.stands;
 }
 
 pub all_right_same : (tables : List TableOf) (now : ℕ) (vs ws : List NamedView) → AreSame vs ws → AreRight tables now vs → AreRight tables now ws
@@ -53,36 +58,57 @@ pub all_shown : (tables : List TableOf) (now : ℕ) (vs : List NamedView) → Ar
 all_shown tables now [] r = tt
 all_shown tables now (v ∷ vs) r = (r.0.shown, all_shown tables now vs r.1)
 
--- they are right wherever the tables that they stand on have their rows
-pub right_elsewhere : (old new : List TableOf) (now : ℕ) (vs : List NamedView) → AllByRecursion (λ v. rows_in new (table_of v.kept.query) ≡ rows_in old (table_of v.kept.query)) vs → AreRight old now vs → AreRight new now vs
-right_elsewhere old new now [] same r = tt
-right_elsewhere old new now (v ∷ vs) same r = (
-  record { shown = r.0.shown; fits = r.0.fits; epoch = r.0.epoch; stands = subst (λ (rs : List Row). Stands v.kept (once_each rs)) (sym same.0) r.0.stands },
-  right_elsewhere old new now vs same.1 r.1,
-)
-
 pub right_behind : (tables : List TableOf) (now : ℕ) (vs : List NamedView) (v : NamedView) → AreRight tables now vs → IsRight tables now v → AreRight tables now (vs ++ v ∷ [])
 right_behind tables now [] v r one = (one, tt)
 right_behind tables now (w ∷ ws) v r one = (r.0, right_behind tables now ws v r.1 one)
 
-pub right_everywhere : (old new : List TableOf) (now : ℕ) (vs : List NamedView) → ((n : ℕ) → rows_in new n ≡ rows_in old n) → AreRight old now vs → AreRight new now vs
-right_everywhere old new now [] same r = tt
-right_everywhere old new now (v ∷ vs) same r = (
-  record { shown = r.0.shown; fits = r.0.fits; epoch = r.0.epoch; stands = subst (λ (rs : List Row). Stands v.kept (once_each rs)) (sym (same (table_of v.kept.query))) r.0.stands },
-  right_everywhere old new now vs same r.1,
-)
+-- a view that stands for the bags of other tables is right for them
+right_for : (old new : List TableOf) (now : ℕ) (v : NamedView) → StandsFor v.kept (bags_in new) → IsRight old now v
+    → IsRight new now v
+right_for old new now v stands r = record { shown = r.shown; fits = r.fits; epoch = r.epoch; stands = stands }
 
--- without a table that no view stands on
-module _ (n : ℕ) (tables : List TableOf) (now : ℕ) where
-  right_left : (vs : List NamedView) → AllByRecursion (λ v. (table_of v.kept.query == n) ≡ false) vs → AreRight tables now vs → AreRight (others n tables) now vs
-  right_left [] free r = tt
-  right_left (v ∷ vs) free r = (
-    record { shown = r.0.shown; fits = r.0.fits; epoch = r.0.epoch; stands = subst (λ (rs : List Row). Stands v.kept (once_each rs)) (sym (rows_left n tables (table_of v.kept.query) free.0)) r.0.stands },
-    right_left vs free.1 r.1,
+-- they are right wherever each number has its rows
+module _ (old new : List TableOf) (now : ℕ) (same : (n : ℕ) → rows_in new n ≡ rows_in old n) where
+  bag_same : (source : Source) → bags_in new source ≡ bags_in old source
+  bag_same (Table n) = ap once_each (same n)
+  bag_same (View place) = refl
+
+  bags_same : bags_in new ≡ bags_in old
+  bags_same = λ i source. bag_same source i
+
+  pub right_everywhere : (vs : List NamedView) → AreRight old now vs → AreRight new now vs
+  right_everywhere [] r = tt
+  right_everywhere (v ∷ vs) r = (
+    right_for old new now v (subst (λ (tables : Tables). StandsFor v.kept tables) (sym bags_same) r.0.stands) r.0,
+    right_everywhere vs r.1,
   )
 
+-- and without a table that none of them reads
+module _ (law : StandingDependsOnSources) (n : ℕ) (tables : List TableOf) (now : ℕ) where
+  bag_left : (source : Source) → is_table n source ≡ false
+      → SameBag (bags_in tables source) (bags_in (others n tables) source)
+  bag_left (Table m) other = rw (rows_left n tables m other) (same-refl (once_each (rows_in tables m)))
+  bag_left (View place) other = same-refl []
+
+  bags_left : (sources : List Source) → AllByRecursion (λ s. is_table n s ≡ false) sources
+      → AllByRecursion (λ s. SameBag (bags_in tables s) (bags_in (others n tables) s)) sources
+  bags_left [] other = tt
+  bags_left (s ∷ sources) other = (bag_left s other.0, bags_left sources other.1)
+
+  stands_left : (v : NamedView) → reads n v.kept.query ≡ false → StandsFor v.kept (bags_in tables)
+      → StandsFor v.kept (bags_in (others n tables))
+  stands_left v free stands =
+      let sources = sources_of v.kept.query in
+      law v.kept (bags_in tables) (bags_in (others n tables)) (bags_left sources (unread n sources free)) stands
+
+  right_left : (vs : List NamedView) → AllByRecursion (λ v. reads n v.kept.query ≡ false) vs → AreRight tables now vs
+      → AreRight (others n tables) now vs
+  right_left [] free r = tt
+  right_left (v ∷ vs) free r =
+      (right_for tables (others n tables) now v (stands_left v free.0 r.0.stands) r.0, right_left vs free.1 r.1)
+
   pub right_dropped : (vs : List NamedView) → is_used n (views_of vs) ≡ false → AreRight tables now vs → AreRight (others n tables) now vs
-  right_dropped vs free r = right_left vs (unused n tables now vs r free) r
+  right_dropped vs free r = right_left vs (unused n vs free) r
 
 -- ---- Views that are not there
 -- no view has a name that has no place

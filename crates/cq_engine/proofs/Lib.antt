@@ -2,8 +2,9 @@ pub mod Steps
 pub mod Fitting
 pub mod Groups
 pub mod Shapes
-pub mod Showing
+pub mod Widths
 pub mod Kept
+pub mod Entries
 pub mod Creating
 pub mod Assigned
 pub mod Sourced

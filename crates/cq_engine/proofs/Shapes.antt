@@ -54,7 +54,8 @@ module _ (q : Select) (columns : List ScopeColumn) where
   -- over rows, the items can be worked out
   plain_sized : first_fault (items_walk tested (of_rows columns) shown) ≡ None → AreItemsSized sizes (placed_items (of_rows columns) [] shown)
   plain_sized free row sized =
-      narrow_items tested (of_rows columns) row (sized_keeps columns row sized) [] [] _ shown refl (nothing_shown columns _ (sizes_of row)) free
+      narrow_items tested (of_rows columns) (sizes_of row) (sized_keeps columns row sized) [] [] _ shown refl
+      (nothing_shown columns _ (sizes_of row)) free
 
   -- over groups, what is told of them, HAVING and the items can
   module _ (items_free : first_fault (items_walk tested groups shown) ≡ None) (having_free : where_check groups q.having ≡ None) where
@@ -70,7 +71,8 @@ module _ (q : Select) (columns : List ScopeColumn) where
     groups_sized : AreItemsSized all_sizes (placed_items groups [] shown)
     groups_sized row sized =
         let g = having_grows groups before q.having in
-        narrow_items tested groups row (groups_keep columns q.group all row sized) [] g.0 all shown (sym g.1) (groups_show columns q.group all row sized) items_free
+        narrow_items tested groups (sizes_of row) (groups_keep columns q.group all row sized) [] g.0 all shown (sym g.1)
+        (groups_show columns q.group all row sized) items_free
 
   -- so it is, whether the query is grouped or not
   shape_for : (grouped : Bool) → first_fault (items_walk tested (if grouped then groups else of_rows columns) shown) ≡ None → where_check (if grouped then groups else of_rows columns) q.having ≡ None

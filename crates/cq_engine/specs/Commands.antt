@@ -15,12 +15,12 @@ use Rattle.cq_states.specs.Fitting.{AreFitting, AreLimited, FitsColumns}
 use Rattle.cq_states.specs.State.{AreNumbered, TableOf, ViewOf, State, columns_in, rows_in}
 use Rattle.cq_steps.specs.Next.{Trims, at_present}
 use Rattle.cq_steps.specs.Step.{Accepts, IsTooLarge}
-use Rattle.cq_views.specs.Query.{table_of}
+use Rattle.cq_model.specs.Views.{sources_of}
 use Rattle.cq_model.specs.Width.{IsNarrowIn}
 use Rattle.cq_writes.specs.Updates.{CanUpdateIn, value_fault_in}
 use Rattle.cq_tables.specs.Tables.{IsThere}
 use Rattle.cq_tables.specs.Views.{AreRight, Fits, NamedView}
-use Rattle.cq_answers.specs.Reading.{CanRead}
+use Rattle.cq_answers.specs.Reading.{CanRead, IsSourceThere}
 use Rattle.cq_writes.specs.Writing.{room_for}
 
 -- a state in which no change waits
@@ -42,16 +42,16 @@ AreInOrder now drawn max_rows tables views =
 
 -- ---- Commands that were bound
 -- a query that a view with these columns can be built and kept for
-pub record CanBuild (tables : List TableOf) (columns : List ColumnDef) (q : Query) : Type 0 where
+pub record CanBuild (tables : List TableOf) (views : List ViewOf) (columns : List ColumnDef) (q : Query) : Type 0 where
   pub shown : length columns ≡ length q.items
   pub fits : Fits q
-  pub there : IsThere (table_of q) tables
+  pub there : AllByRecursion (IsSourceThere tables views) (sources_of q)
 
 -- what is known of a command that was bound to these tables and views
 abbrev pub CanCarryOut : List TableOf → List ViewOf → Bound → Type 0
 CanCarryOut tables views (commands.CreateTable name columns sort) = Unit {0}
 CanCarryOut tables views (commands.DropTable n) = IsThere n tables × (is_used n views ≡ false)
-CanCarryOut tables views (commands.CreateView name columns q) = CanBuild tables columns q
+CanCarryOut tables views (commands.CreateView name columns q) = CanBuild tables views columns q
 CanCarryOut tables views (commands.DropView place) = place < length views
 CanCarryOut tables views (commands.Insert n rows) = IsThere n tables × AllByRecursion (FitsColumns (columns_in tables n)) rows
 CanCarryOut tables views (commands.Delete n c) = IsThere n tables × AllByRecursion (IsNarrowIn c) (rows_in tables n)

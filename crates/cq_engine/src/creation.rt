@@ -1,21 +1,23 @@
 //! CREATE VIEW.
-ghost use Rattle.std.specs.Prelude.{◌≡◌, ℕ, IfOk, OnErr, OnOk};
-ghost use Rattle.cq_states.specs.Fitting.{AreFitting};
-ghost use Rattle.cq_states.specs.State.{AreNumbered};
+ghost use Rattle.std.specs.List.{AllByRecursion};
+ghost use Rattle.std.specs.Prelude.{◌≡◌, ℕ, IfOk, List, OnErr, OnOk};
+ghost use Rattle.cq_model.specs.Views.{sources_of};
+ghost use Rattle.cq_states.specs.Fitting.{AreFitting, AreLimited, rows_limit};
+ghost use Rattle.cq_states.specs.State.{AreNumbered, ViewOf};
 ghost use Rattle.cq_steps.specs.Next.{new_view};
-ghost use Rattle.cq_views.specs.Query.{table_of};
+ghost use Rattle.cq_answers.specs.Reading.{IsSourceThere};
 ghost use Rattle.cq_engine.specs.Commands.{CanBuild};
-ghost use Rattle.cq_tables.specs.Tables.{IsThere};
-ghost use Rattle.cq_tables.specs.Views.{AreRight, Fits};
+ghost use Rattle.cq_tables.specs.Views.{AreRight, Fits, views_of};
 ghost use Rattle.cq_engine.specs.Views.{IsAdded, IsBuilt};
 
+use crate::gathering::gathered_rows;
 use cq_model::Query;
-use cq_tables::{Table, View, place_numbered};
+use cq_tables::{Table, View};
+use cq_upkeep::{ViewState, standing_depends_on_sources};
 use cq_values::{ColumnDef, Seq, Text};
-use cq_views::{ViewState, standing_depends_on_bag, table_of};
 use std::alloc::{AllocError, Global};
 
-/// Puts a view of this query behind the others, built from its table as it is at this epoch.
+/// Puts a view of this query behind the others, built from its tables as they are at this epoch.
 pub fn create_view_in(
     alloc: Global,
     tables: &[Table],
@@ -27,8 +29,9 @@ pub fn create_view_in(
 ) -> Result<(), AllocError>
     requires numbered { (next : ℕ) × AreNumbered tables.now next }
     requires fitting { AreFitting tables.now }
+    requires limited { AreLimited rows_limit tables.now }
     requires right { AreRight tables.now now views.old.items }
-    requires can_build { CanBuild tables.now columns query }
+    requires can_build { CanBuild tables.now (views_of views.old.items) columns query }
     ensures created { OnOk result (IsAdded (new_view name columns query now) views.old.items views.new.items) }
     ensures right { AreRight tables.now now views.new.items }
     ensures err { OnErr result (views.new.items ≡ views.old.items) }
@@ -38,7 +41,7 @@ pub fn create_view_in(
     Ok(())
 }
 
-/// What is kept of a view, built from the rows of its table.
+/// What is kept of a view, built from the rows of its tables.
 fn built_state(
     alloc: Global,
     tables: &[Table],
@@ -47,12 +50,13 @@ fn built_state(
 ) -> Result<ViewState, AllocError>
     requires numbered { (next : ℕ) × AreNumbered tables.now next }
     requires fitting { AreFitting tables.now }
+    requires limited { AreLimited rows_limit tables.now }
     requires fits { Fits query }
-    requires there { IsThere (table_of query) tables.now }
+    requires there { (views : List ViewOf) × AllByRecursion (IsSourceThere tables.now views) (sources_of query) }
     ensures { IfOk result (IsBuilt tables.now query now) }
 {
-    let place = place_numbered(tables, table_of(&query));
-    let state = ViewState::build(alloc, query, tables[place].rows(), now)?;
-    standing_depends_on_bag();
+    let sources = gathered_rows(alloc, tables, &query)?;
+    let state = ViewState::build(alloc, query, &sources, now)?;
+    standing_depends_on_sources();
     Ok(state)
 }

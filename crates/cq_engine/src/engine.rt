@@ -19,6 +19,7 @@ use cq_language::Statement;
 use cq_model::{Assignment, Cond, Order, Query};
 use cq_steps::Answer;
 use cq_tables::{Table, View, drop_in, drop_view_at, view_place};
+use cq_upkeep::standing_depends_on_sources;
 use cq_values::{ColumnDef, Row, Seq, Text};
 use cq_writes::{delete_in, insert_in, update_in};
 use std::alloc::Global;
@@ -182,6 +183,7 @@ impl Engine {
         ensures rows { OnlyShows self.old (Ok result) self.new }
     {
         drop_in(&mut self.tables, number);
+        standing_depends_on_sources();
         Answer::Done
     }
 

@@ -9,6 +9,7 @@ mod answer_source;
 mod catalog;
 mod creation;
 mod engine;
+mod gathering;
 mod limits;
 
 pub use answer_source::AnswerSource;

@@ -11,7 +11,7 @@ use Rattle.cq_steps.specs.declared.answer.Answer.{Answer}
 use Rattle.cq_binding.specs.declared.fault.Fault.{Fault}
 use Rattle.cq_binding.specs.Scopes.{place_in, from_table, scope_of}
 use Rattle.cq_binding.specs.Sets.{bound_where}
-use Rattle.cq_binding.specs.From.{From, from_walk}
+use Rattle.cq_binding.specs.From.{From, from_walk, view_walk}
 use Rattle.cq_binding.specs.Bound.{row_of, bound_select, bound_update, bound, bound_view, standing, rows_read}
 use Rattle.cq_binding.specs.Records.{Files}
 use Rattle.cq_states.specs.State.{TableOf, State, table_named, view_place, first_state}
@@ -43,7 +43,11 @@ pub bound-fits : (files : Files) (s : State) (statement : Statement) (command : 
 bound-fits files s (statements.CreateTable name columns sort) command e =
     let is : commands.CreateTable name columns (map (place_in columns) sort) ≡ command = cc in subst (Fits s) is tt
 bound-fits files s (statements.DropTable name) command e = of_table s name command (λ t. commands.DropTable t.number) (λ t there. there) e
-bound-fits files s (statements.CreateView name view) command e = of_table s view.first.name command (bound_view name view) (λ t there. tt) e
+bound-fits files s (statements.CreateView name view) command e = found (standing (view_walk s view)) e
+  where
+    found : (o : Option From) → option_map (bound_view name view) o ≡ Some command → Fits s command
+    found None e = absurd (cc)
+    found (Some from) e = let is : bound_view name view from ≡ command = cc in subst (Fits s) is tt
 bound-fits files s (statements.DropView name) command e = placed (view_place name s.views) e
   where
     placed : (o : Option ℕ) → option_map commands.DropView o ≡ Some command → Fits s command

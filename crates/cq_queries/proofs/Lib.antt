@@ -1,7 +1,8 @@
 pub mod Walks
+pub mod Clauses
 pub mod Shapes
 pub mod Selecting
-pub mod Viewing
+pub mod Creating
 pub mod ViewNames
 pub mod BoundItems
 pub mod Ordering

@@ -1,17 +1,15 @@
 -- How the rows of a query become the rows that its items read.
-use Rattle.std.proofs.Common.{◌≡◌, ℕ, Bool, true, false, List, [], ◌∷◌, Option, Some, None, refl, sym, ap, ◌∙◌}
-use Rattle.std.specs.Prelude.{◌&&◌, ◌||◌, not, if◌then◌else◌, is_none, option_map}
-use Rattle.std.specs.List.{list_all, list_any}
+use Rattle.std.proofs.Common.{◌≡◌, ℕ, Bool, true, false, List, [], ◌∷◌, Option, refl, sym, ap, ◌∙◌}
+use Rattle.std.specs.Prelude.{◌||◌, if◌then◌else◌, option_map}
+use Rattle.std.specs.List.{list_any}
 use Rattle.cq_language.specs.declared.statement.Select.{Select}
 use Rattle.cq_language.specs.declared.statement.SelectItem.{SelectItem}
-use Rattle.cq_language.specs.Written.{Written}
 use Rattle.cq_model.specs.declared.query.Aggregate.{Aggregate}
 use Rattle.cq_model.specs.declared.query.Shape.{Shape}
 use Rattle.cq_model.specs.declared.query.Shape.TheVariants.{Grouped, Plain}
 use Rattle.cq_model.specs.Expr.{Cond}
-use Rattle.cq_binding.specs.Grouping.{has_aggregate, is_empty, is_grouped, item_scope}
+use Rattle.cq_binding.specs.Grouping.{has_aggregate, is_grouped, item_scope}
 use Rattle.cq_binding.specs.Headers.{shown_by}
-use Rattle.cq_binding.specs.Open.{is_bare, is_of_one_source, is_unordered, may_be_kept, shows_group}
 use Rattle.cq_binding.specs.Placed.{placed_cond}
 use Rattle.cq_binding.specs.Queries.{bound_group, bound_shape, grouped_shape, having_aggregates, item_aggregates}
 use Rattle.cq_binding.specs.Scopes.{in_groups, of_rows}
@@ -45,43 +43,3 @@ module _ (q : Select) (columns : List ScopeColumn) where
   -- any other shows the joined rows themselves
   pub shape_of_rows : is_grouped q ≡ false → Plain ≡ bound_shape q columns
   shape_of_rows plain = sym (ap (λ (b : Bool). if b then grouped_shape q columns else Plain) plain)
-
--- without HAVING no condition is there, and no aggregate is put behind those of the items
-pub without_having : (s : Scope) (before : List Aggregate) (having : Option Written) → having ≡ None → IsHaving s before before having None
-without_having s before having none =
-    record { is = ap (option_map (placed_cond s before)) (sym none); aggregates = ap (having_aggregates s before) (sym none) }
-
--- both of two tests are passed
-both : (a b : Bool) → (a && b) ≡ true → (a ≡ true) × (b ≡ true)
-both true b e = (refl, e)
-both false b e = absurd (cc e)
-
--- what is not so is false
-is_not : (b : Bool) → not b ≡ true → b ≡ false
-is_not true e = absurd (cc e)
-is_not false e = refl
-
--- what is not there is None
-absent : (o : Option Written) → is_none o ≡ true → o ≡ None
-absent None e = refl
-absent (Some w) e = absurd (cc e)
-
--- ---- What a view may have
-module _ (v : Select) (opened : may_be_kept v ≡ true) where
-  -- it is of one source
-  opens : is_of_one_source v ≡ true
-  opens =
-      let plain = both (is_of_one_source v && is_unordered v) (not (is_empty v.group)) (both _ (list_all is_bare v.group) (both _ (list_all shows_group v.items) opened).0).0 in
-      (both (is_of_one_source v) (is_unordered v) plain.0).0
-
-  -- so it is without DISTINCT and joins, and without HAVING
-  of_one : (not v.is_distinct && is_empty v.joins ≡ true) × (is_none v.having ≡ true)
-  of_one = both (not v.is_distinct && is_empty v.joins) (is_none v.having) opens
-
-  -- it has no HAVING
-  pub kept_without_having : v.having ≡ None
-  kept_without_having = absent v.having of_one.1
-
-  -- and no DISTINCT
-  pub kept_is_bag : v.is_distinct ≡ false
-  kept_is_bag = is_not v.is_distinct (both (not v.is_distinct) (is_empty v.joins) of_one.0).0

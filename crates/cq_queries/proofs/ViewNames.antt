@@ -1,5 +1,5 @@
 -- The names of a view's columns.
-use Rattle.std.proofs.Common.{◌≡◌, ℕ, ◌+◌, Bool, true, false, List, [], ◌∷◌, ◌++◌, map, length, Option, None, refl, sym, ap, ◌∙◌}
+use Rattle.std.proofs.Common.{◌≡◌, ℕ, ◌+◌, Bool, true, false, List, [], ◌∷◌, ◌++◌, map, Option, None, refl, sym, ap, ◌∙◌}
 use Rattle.std.specs.Prelude.{◌||◌, unwrap_or}
 use Rattle.std.specs.List.{list_any}
 use Rattle.std.proofs.lemmas.List.{map-append}
@@ -11,7 +11,7 @@ use Rattle.cq_binding.specs.declared.fault.Fault.TheVariants.{NameTaken}
 use Rattle.cq_binding.specs.Headers.{header, shown_name}
 use Rattle.cq_binding.specs.Bound.{item_columns}
 use Rattle.cq_binding.specs.Typing.{Scope}
-use Rattle.cq_binding.specs.Checks.{first_fault, fault_if, too_long, MayRefuse}
+use Rattle.cq_binding.specs.Checks.{first_fault, fault_if, MayRefuse}
 use Rattle.cq_binding.specs.ViewChecks.{repeats}
 use Rattle.cq_binding.specs.Refusal.{column_checks}
 use Rattle.cq_catalog.proofs.Faults.{first_fault_cons, or_next, refused_first, refused_next, refused_same}
@@ -43,13 +43,10 @@ names_kept : (table : Scope) (place : ℕ) (items : List SelectItem) → names_o
 names_kept table place [] = refl
 names_kept table place (item ∷ items) = ap (λ (ns : List (List ℕ)). unwrap_or item.alias (shown_name place item.value) ∷ ns) (names_kept table (place + 1) items)
 
--- ---- The columns of the items: their names decide, and then their number
-module _ (table : Scope) (items : List SelectItem) (columns : List ColumnDef) (named : columns ≡ item_columns table 1 items) where
+-- ---- The columns of the items: their names decide, and then what stands behind them
+module _ (table : Scope) (items : List SelectItem) (rest : List (Option Fault)) (columns : List ColumnDef) (named : columns ≡ item_columns table 1 items) where
   abbrev repeated : Option Fault
   repeated = fault_if (repeats [] (header 1 items)) NameTaken
-
-  abbrev number : List (Option Fault)
-  number = too_long (length items) ∷ []
 
   -- the columns are walked through as the names
   same_walk : first_fault (column_checks [] columns) ≡ repeated
@@ -58,13 +55,13 @@ module _ (table : Scope) (items : List SelectItem) (columns : List ColumnDef) (n
       ∙ ap (λ (ns : List (List ℕ)). fault_if (repeats [] ns) NameTaken) (names_kept table 1 items)
 
   -- a name refuses
-  pub name_refused : (f : Fault) → MayRefuse (first_fault (column_checks [] columns)) f → MayRefuse (first_fault (repeated ∷ number)) f
-  name_refused f m = rw first_fault_cons (refused_first repeated (first_fault number) f (refused_same (first_fault (column_checks [] columns)) repeated f (sym same_walk) m))
+  pub name_refused : (f : Fault) → MayRefuse (first_fault (column_checks [] columns)) f → MayRefuse (first_fault (repeated ∷ rest)) f
+  name_refused f m = rw first_fault_cons (refused_first repeated (first_fault rest) f (refused_same (first_fault (column_checks [] columns)) repeated f (sym same_walk) m))
 
-  -- there are too many items
-  pub number_refused : (f : Fault) → first_fault (column_checks [] columns) ≡ None → MayRefuse (first_fault number) f → MayRefuse (first_fault (repeated ∷ number)) f
-  number_refused f distinct m = rw first_fault_cons (refused_next repeated (first_fault number) f (sym same_walk ∙ distinct) m)
+  -- what stands behind them refuses
+  pub rest_refused : (f : Fault) → first_fault (column_checks [] columns) ≡ None → MayRefuse (first_fault rest) f → MayRefuse (first_fault (repeated ∷ rest)) f
+  rest_refused f distinct m = rw first_fault_cons (refused_next repeated (first_fault rest) f (sym same_walk ∙ distinct) m)
 
-  -- no place refuses
-  pub names_pass : first_fault (column_checks [] columns) ≡ None → first_fault number ≡ None → first_fault (repeated ∷ number) ≡ None
-  names_pass distinct short = first_fault_cons repeated number ∙ or_next repeated (first_fault number) (sym same_walk ∙ distinct) ∙ short
+  -- nothing refuses
+  pub names_pass : first_fault (column_checks [] columns) ≡ None → first_fault rest ≡ None → first_fault (repeated ∷ rest) ≡ None
+  names_pass distinct free = first_fault_cons repeated rest ∙ or_next repeated (first_fault rest) (sym same_walk ∙ distinct) ∙ free

@@ -1,5 +1,6 @@
 pub mod Conditions
-pub mod Select
 pub mod Items
 pub mod Grouping
+pub mod Parts
+pub mod Select
 pub mod View

@@ -1,26 +1,16 @@
 -- SELECT with its names resolved.
-use Rattle.std.specs.Prelude.{◌≡◌, List, [], Some, option_map, Result}
+use Rattle.std.specs.Prelude.{◌≡◌, List, Some, option_map, Result}
 use Rattle.cq_binding.specs.From.{From, from_walk}
 use Rattle.cq_language.specs.declared.statement.Select.{Select}
 use Rattle.cq_states.specs.State.{State}
 use Rattle.cq_binding.specs.declared.bound.Bound.{Bound}
 use Rattle.cq_binding.specs.declared.fault.Fault.{Fault}
 use Rattle.cq_binding.specs.Bound.{bound_select, standing}
-use Rattle.cq_binding.specs.Grouping.{item_scope}
-use Rattle.cq_binding.specs.Headers.{shown_by}
-use Rattle.cq_binding.specs.Queries.{bound_shape, placed_items}
 use Rattle.cq_binding.specs.Refusal.{bag_checks, select_checks, source_checks}
-use Rattle.cq_binding.specs.Scopes.{of_rows}
-use Rattle.cq_binding.specs.Sets.{bound_where}
 use Rattle.cq_binding.specs.Typing.{ScopeColumn}
-use Rattle.cq_queries.specs.declared.reading.BoundParts.{BoundParts}
+use Rattle.cq_queries.specs.declared.parts.BoundParts.{BoundParts}
+use Rattle.cq_queries.specs.Parts.{AreBoundParts}
 use Rattle.cq_catalog.specs.Walk.{Walked, WalksTo}
-
--- the parts of a query over rows with these columns: WHERE, how rows become the rows that items read, and the items
-pub record AreBoundParts (columns : List ScopeColumn) (q : Select) (parts : BoundParts) : Type 0 where
-  pub filter : parts.filter ≡ bound_where (of_rows columns) q.condition
-  pub shape : parts.shape ≡ bound_shape q columns
-  pub items : parts.items ≡ placed_items (item_scope q columns) [] (shown_by q.items)
 
 -- what makes the bag of a query is bound where it has no fault
 abbrev pub BindsParts : List ScopeColumn → Select → Result BoundParts Fault → Type 0

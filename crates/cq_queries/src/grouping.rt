@@ -1,6 +1,7 @@
-//! GROUP BY and HAVING.
+//! GROUP BY and HAVING, and which queries are of groups.
 ghost use Rattle.std.specs.Prelude.{◌≡◌, map};
-ghost use Rattle.cq_binding.specs.Grouping.{item_scope};
+ghost use Rattle.std.specs.List.{list_any};
+ghost use Rattle.cq_binding.specs.Grouping.{has_aggregate, is_grouped, item_scope};
 ghost use Rattle.cq_binding.specs.Places.{group_places};
 ghost use Rattle.cq_binding.specs.SourceChecks.{group_check, group_checks};
 ghost use Rattle.cq_exprs.specs.Expressions.{scope_of};
@@ -8,10 +9,9 @@ ghost use Rattle.cq_queries.specs.Grouping.{BindsHaving, IsKeyOf, IsShapeOf};
 ghost use Rattle.cq_catalog.specs.Walk.{WalksTo};
 
 use crate::lists::check_length;
-use crate::open::is_grouped;
 use cq_binding::Fault;
-use cq_exprs::{Scope, ScopeColumn, bind_having, resolved};
-use cq_language::{ColumnName, Select, SqlExpr};
+use cq_exprs::{Scope, ScopeColumn, bind_having, has_aggregate, resolved};
+use cq_language::{ColumnName, Select, SelectItem, SqlExpr};
 use cq_model::{Aggregate, Cond, Shape};
 use cq_values::Seq;
 use std::alloc::Global;
@@ -41,6 +41,19 @@ fn name_places(
         places.push(resolved(columns, name)?)?;
     }
     Ok(places)
+}
+
+/// Whether the query has GROUP BY, HAVING or an aggregate among its items.
+fn is_grouped(query: &Select) -> bool
+    ensures { result ≡ is_grouped query.now }
+{
+    !query.group.is_empty() || query.having.is_some() || shows_aggregate(query.items.as_slice())
+}
+
+fn shows_aggregate(items: &[SelectItem]) -> bool
+    ensures { result ≡ list_any (λ item. has_aggregate item.value) items.now }
+{
+    items.iter().any(|item| has_aggregate(item.value.node()))
 }
 
 /// What the items and HAVING read, where the columns of GROUP BY stand at these places: groups, or the joined rows.

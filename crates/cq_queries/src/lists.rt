@@ -1,9 +1,10 @@
-//! Lists of columns and of names: what stands in them twice, and how long they may be.
+//! Lists of columns and of names: what stands in them twice, and how long they may be; and clauses that may not be there.
 ghost use Rattle.std.specs.Prelude.{◌≡◌, ◌∷◌, []};
 ghost use Rattle.std.specs.List.{list_any};
 ghost use Rattle.cq_values.specs.Texts.{is_text};
 ghost use Rattle.cq_binding.specs.Checks.{too_long};
 ghost use Rattle.cq_binding.specs.Refusal.{column_checks};
+ghost use Rattle.cq_binding.specs.ViewChecks.{no_clause};
 ghost use Rattle.cq_catalog.specs.Walk.{Passes};
 
 use cq_binding::Fault;
@@ -30,6 +31,17 @@ pub fn check_length(entries: usize) -> Result<(), Fault>
 {
     if MAX_ENTRIES < entries {
         Err(Fault::LimitExceeded)
+    } else {
+        Ok(())
+    }
+}
+
+/// Refuses a clause that is there and that a view may not have.
+pub(crate) fn refuse_clause(is_there: bool) -> Result<(), Fault>
+    ensures { Passes (no_clause is_there ∷ []) result }
+{
+    if is_there {
+        Err(Fault::ClauseInView)
     } else {
         Ok(())
     }

@@ -2,28 +2,27 @@
 ghost use Rattle.std.specs.Prelude.{◌≡◌, IfOk};
 ghost use Rattle.cq_binding.specs.Bound.{item_columns};
 ghost use Rattle.cq_exprs.specs.Expressions.{scope_of};
-ghost use Rattle.cq_queries.specs.View.{name_walk};
-ghost use Rattle.cq_catalog.specs.Walk.{WalksTo};
+ghost use Rattle.cq_queries.specs.View.{ShowsColumns};
 
-use crate::lists::{check_length, check_names};
+use crate::lists::{check_names, refuse_clause};
 use crate::select::item_name;
 use cq_binding::Fault;
 use cq_exprs::{Scope, type_of};
-use cq_language::SelectItem;
+use cq_language::{Select, SelectItem};
 use cq_values::{ColumnDef, Seq};
 use std::alloc::{AllocError, Global};
 
-/// The columns that the items show, of different names and not too many.
+/// The columns that the items of a view show, of different names and without DISTINCT.
 pub(crate) fn view_columns(
     alloc: Global,
     scope: &Scope<'_>,
-    items: &[SelectItem],
+    view: &Select,
 ) -> Result<Seq<ColumnDef>, Fault>
-    ensures { WalksTo (name_walk items.now) (item_columns (scope_of scope.now) 1 items.now) result }
+    ensures { ShowsColumns (scope_of scope.now) view.now result }
 {
-    let columns = named_columns(alloc, scope, items)?;
+    let columns = named_columns(alloc, scope, view.items.as_slice())?;
     check_names(columns.as_slice())?;
-    check_length(items.len())?;
+    refuse_clause(view.is_distinct)?;
     Ok(columns)
 }
 

@@ -8,13 +8,15 @@ use Rattle.cq_language.specs.declared.statement.Statement.TheVariants as stateme
 use Rattle.cq_language.specs.declared.statement.JoinedSource.{JoinedSource}
 use Rattle.cq_language.specs.declared.statement.Select.{Select}
 use Rattle.cq_binding.specs.declared.fault.Fault.{Fault}
+use Rattle.cq_binding.specs.declared.fault.Fault.TheVariants as faults
 use Rattle.cq_binding.specs.Kinds.{◌and_then◌}
 use Rattle.cq_binding.specs.Scopes.{Named, from_table, from_view, source_named}
-use Rattle.cq_binding.specs.From.{From, first_walk, from_walk, join_walk, joins_walk}
-use Rattle.cq_binding.specs.Bound.{bound, bound_select, standing}
-use Rattle.cq_binding.specs.Checks.{first_fault}
+use Rattle.cq_binding.specs.From.{From, any_source, first_walk, join_walk, joins_walk, no_view, sources_walk}
+use Rattle.cq_binding.specs.Bound.{bound, bound_select, bound_view, standing}
+use Rattle.cq_binding.specs.Checks.{fault_if, first_fault}
 use Rattle.cq_binding.specs.Records.{Files}
 use Rattle.cq_binding.specs.Refusal.{is_used, drop_table_checks, select_checks, refusal}
+use Rattle.cq_binding.specs.ViewChecks.{view_select_checks}
 use Rattle.std.specs.List.{remove, prefix_len, list_any}
 use Rattle.std.proofs.lemmas.List.{map-append, take-map, drop-map, length-map}
 use Rattle.std.specs.Option.{option_or}
@@ -32,7 +34,7 @@ use Rattle.cq_model.specs.Views.{with_views, sources_of, is_table, AnswerInRange
 use Rattle.cq_model.specs.Write.{chosen, left_by, updated}
 use Rattle.cq_steps.specs.declared.answer.Answer.{Answer}
 use Rattle.cq_steps.specs.declared.answer.Answer.TheVariants.{Count, Rows}
-use Rattle.cq_states.specs.State.{TableOf, ViewOf, State, table_named, view_place, view_named, empty_table, rows_in, with_rows, tables_now, queries_of}
+use Rattle.cq_states.specs.State.{TableOf, ViewOf, State, table_named, view_place, view_named, is_taken, empty_table, rows_in, with_rows, tables_now, queries_of}
 use Rattle.cq_steps.specs.Next.{with_all_views, created, new_view, Writes, at_epoch, taken_on, reach, refreshed, Trims, at_present}
 use Rattle.cq_steps.specs.Step.{Shows, Leads, Accepts, AreBetween, GivesUp, IsTooLarge}
 
@@ -102,17 +104,18 @@ behind-alike : {A B : Type 0} (r : Result A Fault) (f g : A → Result B Fault) 
 behind-alike (Ok x) f g same = same x
 behind-alike (Err e) f g same = refl
 
--- FROM is walked through alike
-joins-timeless : (x : State) (js : List JoinedSource) (from : From) → joins_walk (seen x) from js ≡ joins_walk x from js
-joins-timeless x [] from = refl
-joins-timeless x (j ∷ js) from =
-    ap (λ (o : Option Named). join_walk from j o and_then λ wide. joins_walk (seen x) wide js) (source-timeless j.source.name x)
-    ∙ behind-alike (join_walk from j (source_named j.source.name x)) (λ wide. joins_walk (seen x) wide js) (λ wide. joins_walk x wide js) (joins-timeless x js)
+-- FROM is walked through alike, whatever may stand in it
+module _ (may : Named → Option Fault) where
+  joins-timeless : (x : State) (js : List JoinedSource) (from : From) → joins_walk may (seen x) from js ≡ joins_walk may x from js
+  joins-timeless x [] from = refl
+  joins-timeless x (j ∷ js) from =
+      ap (λ (o : Option Named). join_walk may from j o and_then λ wide. joins_walk may (seen x) wide js) (source-timeless j.source.name x)
+      ∙ behind-alike (join_walk may from j (source_named j.source.name x)) (λ wide. joins_walk may (seen x) wide js) (λ wide. joins_walk may x wide js) (joins-timeless x js)
 
-from-timeless : (x : State) (q : Select) → from_walk (seen x) q ≡ from_walk x q
-from-timeless x q =
-    ap (λ (o : Option Named). first_walk q.first o and_then λ from. joins_walk (seen x) from q.joins) (source-timeless q.first.name x)
-    ∙ behind-alike (first_walk q.first (source_named q.first.name x)) (λ from. joins_walk (seen x) from q.joins) (λ from. joins_walk x from q.joins) (joins-timeless x q.joins)
+  from-timeless : (x : State) (q : Select) → sources_walk may (seen x) q ≡ sources_walk may x q
+  from-timeless x q =
+      ap (λ (o : Option Named). first_walk may q.first o and_then λ from. joins_walk may (seen x) from q.joins) (source-timeless q.first.name x)
+      ∙ behind-alike (first_walk may q.first (source_named q.first.name x)) (λ from. joins_walk may (seen x) from q.joins) (λ from. joins_walk may x from q.joins) (joins-timeless x q.joins)
 
 -- the walk sees no epoch
 refusal-seen : (files : Files) (x : State) (s : Statement) → refusal files (seen x) s ≡ refusal files x s
@@ -122,13 +125,15 @@ refusal-seen files x (statements.DropTable name) = used (table_named name x.tabl
     used : (o : Option TableOf) → first_fault (drop_table_checks (map timeless x.views) o) ≡ first_fault (drop_table_checks x.views o)
     used None = refl
     used (Some t) = rw (used-timeless t.number x.views) refl
-refusal-seen files x (statements.CreateView name view) = rw (there-timeless name x.views, there-timeless view.first.name x.views) refl
+refusal-seen files x (statements.CreateView name view) =
+    let taken : is_taken name (seen x) ≡ is_taken name x = rw (there-timeless name x.views) refl in
+    λ i. first_fault (fault_if (taken i) faults.NameTaken ∷ view_select_checks view (from-timeless no_view x view i))
 refusal-seen files x (statements.DropView name) = rw (place-timeless name x.views) refl
 refusal-seen files x (statements.Insert name rows) = rw (there-timeless name x.views) refl
 refusal-seen files x (statements.Copy name file) = rw (there-timeless name x.views) refl
 refusal-seen files x (statements.Delete name condition) = rw (there-timeless name x.views) refl
 refusal-seen files x (statements.Update name sets condition) = rw (there-timeless name x.views) refl
-refusal-seen files x (statements.Select q) = ap (λ (r : Result From Fault). first_fault (select_checks q r)) (from-timeless x q)
+refusal-seen files x (statements.Select q) = ap (λ (r : Result From Fault). first_fault (select_checks q r)) (from-timeless any_source x q)
 refusal-seen files x (statements.Move name rows) = rw (there-timeless name x.views) refl
 refusal-seen files x (statements.Merge name) = rw (there-timeless name x.views) refl
 refusal-seen files x (statements.Refresh view changes) = rw (place-timeless view x.views) refl
@@ -137,11 +142,12 @@ refusal-seen files x (statements.Refresh view changes) = rw (place-timeless view
 bound-seen : (files : Files) (x : State) (s : Statement) → bound files (seen x) s ≡ bound files x s
 bound-seen files x (statements.CreateTable name columns sort) = refl
 bound-seen files x (statements.DropTable name) = refl
-bound-seen files x (statements.CreateView name view) = refl
+bound-seen files x (statements.CreateView name view) =
+    ap (λ (r : Result From Fault). option_map (bound_view name view) (standing r)) (from-timeless no_view x view)
 bound-seen files x (statements.DropView name) = ap (option_map commands.DropView) (place-timeless name x.views)
 bound-seen files x (statements.Insert name rows) = refl
 bound-seen files x (statements.Delete name condition) = refl
-bound-seen files x (statements.Select q) = ap (λ (r : Result From Fault). option_map (bound_select q) (standing r)) (from-timeless x q)
+bound-seen files x (statements.Select q) = ap (λ (r : Result From Fault). option_map (bound_select q) (standing r)) (from-timeless any_source x q)
 bound-seen files x (statements.Move name rows) = refl
 bound-seen files x (statements.Merge name) = refl
 bound-seen files x (statements.Refresh view changes) = ap (option_map (λ place. commands.Refresh place changes)) (place-timeless view x.views)

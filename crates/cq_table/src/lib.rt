@@ -11,4 +11,4 @@ mod in_place;
 mod table;
 
 pub use fault::TableFault;
-pub use table::{Exchange, Table};
+pub use table::{Exchange, Table, check_room};

@@ -144,8 +144,8 @@ impl Table {
     }
 }
 
-/// Refuses more rows than a table may have.
-fn check_room(max_rows: u64, stored: usize, added: usize) -> Result<(), TableFault>
+/// Refuses more rows than a table may have, where some are stored and some are added.
+pub fn check_room(max_rows: u64, stored: usize, added: usize) -> Result<(), TableFault>
     ensures { IsChecked (too_many max_rows (stored + added)) result }
 {
     if u128::from(max_rows) < stored as u128 + added as u128 {

@@ -1,18 +1,21 @@
 -- Views by their names and places.
-use Rattle.std.proofs.Common.{◌≡◌, ℕ, zero, suc, ◌+◌, ◌<◌, ◌≤◌, Bool, true, false, cond, not, List, [], ◌∷◌, ◌++◌, map, length, get_or, set, take, drop, Option, Some, None, refl, sym, ap, ap₂, ◌∙◌, subst, arith}
+use Rattle.std.proofs.Common.{◌≡◌, ℕ, zero, suc, ◌+◌, ◌<◌, ◌≤◌, ◌^◌, Bool, true, false, cond, not, List, [], ◌∷◌, ◌++◌, map, length, get_or, set, take, drop, Option, Some, None, refl, sym, ap, ap₂, ◌∙◌, subst, arith}
 use Rattle.std.specs.Prelude.{◌||◌, position, nat_lt, option_map, slice_get, IfSome}
 use Rattle.std.specs.List.{AllByRecursion, list_any, position_or_len, remove}
 use Rattle.std.proofs.lemmas.Bool.{ltb-true}
 use Rattle.std.proofs.lemmas.List.{length-map, take_all}
 use Rattle.std.proofs.lemmas.Option.{slice_get-map, slice_get_read}
 use Rattle.cq_values.specs.Texts.{is_text}
-use Rattle.cq_bags.specs.Bag.{Weighted}
-use Rattle.cq_deltas.specs.declared.change.Addition.{Addition}
 use Rattle.cq_binding.specs.Refusal.{is_used}
 use Rattle.cq_states.specs.State.{TableOf, view_named, view_place}
+use Rattle.cq_model.specs.Meaning.{Tables}
 use Rattle.cq_model.specs.declared.query.Query.{Query}
-use Rattle.cq_views.specs.Query.{reads}
-use Rattle.cq_tables.specs.Taking.{IsSame, AreSame, IsReady, AreReady, CanTake, CanAllTake, HasTaken, HaveTaken}
+use Rattle.cq_model.specs.Views.{sources_of}
+use Rattle.cq_chains.specs.Chains.{spans}
+use Rattle.cq_upkeep.specs.Query.{CanBeKept, reads}
+use Rattle.cq_upkeep.specs.State.{CanPrepare, HoldStored, StandsFor}
+use Rattle.cq_upkeep.specs.declared.state.Pending.{Pending}
+use Rattle.cq_tables.specs.Taking.{IsSame, AreSame, AllStandFor, CanAllPrepare, IsReady, AreReady, CanTake, CanAllTake, HasTaken, HaveTaken}
 use Rattle.cq_tables.specs.Views.{NamedView, view_of, views_of, IsRight, AreRight}
 use Rattle.cq_tables.proofs.Places.{found_there}
 use Rattle.cq_tables.proofs.Pairs.{pointwise_all, pointwise_at, pointwise_length, pointwise_more}
@@ -84,9 +87,17 @@ pub right_without : (vs : List NamedView) (place : ℕ) (tables : List TableOf) 
 right_without vs place tables now right = all_left (IsRight tables now) vs place right
 
 -- ---- Views at a place, where all are the same as others
-query_of_all : (P : Query → Type 0) (vs ws : List NamedView) (i : ℕ) (d : NamedView) → i < length ws → AreSame vs ws → AllByRecursion (λ v. P v.kept.query) vs → P (get_or ws i d).kept.query
-query_of_all P vs ws i d h s all =
-    all_there (λ w. P w.kept.query) ws i d (pointwise_all IsSame (λ v. P v.kept.query) (λ w. P w.kept.query) (λ v w one p. subst P (sym one.kept.query) p) vs ws s all) h
+-- a view that is the same can be made ready as before
+prepare_same : (changes : Tables) (v w : NamedView) → IsSame v w → CanPrepare v.kept changes → CanPrepare w.kept changes
+prepare_same changes v w s can =
+    let query : v.kept.query ≡ w.kept.query = sym s.kept.query in
+    record {
+      can = subst CanBeKept query can.can;
+      tables = can.tables;
+      stands = s.kept.stands can.tables can.stands;
+      few = subst (λ (q : Query). spans can.tables changes (sources_of q) ≤ 2 ^ 122) query can.few;
+      stored = (subst (λ (q : Query). HoldStored q can.tables) query can.stored.0, subst (λ (q : Query). HoldStored q changes) query can.stored.1);
+    }
 
 module _ (vs now : List NamedView) (i : ℕ) (h : i < length vs) (same : AreSame vs now) where
   -- the place is there
@@ -94,31 +105,40 @@ module _ (vs now : List NamedView) (i : ℕ) (h : i < length vs) (same : AreSame
   within_same = omega (arith, h, pointwise_length IsSame vs now same)
 
   module _ (v : NamedView) (is : v ≡ get_or now i v) where
-    -- what holds of each view's query holds of the one that is there
-    pub query_there : (P : Query → Type 0) → AllByRecursion (λ u. P u.kept.query) vs → P v.kept.query
-    query_there P all = subst (λ (u : NamedView). P u.kept.query) (sym is) (query_of_all P vs now i v within_same same all)
+    -- what goes over from each view to the same one goes over to the one that is there
+    over_there : (P : NamedView → Type 0) → ((u w : NamedView) → IsSame u w → P u → P w) → AllByRecursion P vs → P v
+    over_there P over all = subst P (sym is) (all_there P now i v (pointwise_all IsSame P P over vs now same all) within_same)
+
+    -- it can be made ready
+    pub can_prepare_there : (changes : Tables) → CanAllPrepare changes vs → CanPrepare v.kept changes
+    can_prepare_there changes all = over_there (λ u. CanPrepare u.kept changes) (prepare_same changes) all
+
+    -- it stands for what all of them stand for
+    pub stands_there : (tables : Tables) → AllStandFor tables vs → StandsFor v.kept tables
+    stands_there tables all = over_there (λ u. StandsFor u.kept tables) (λ u w s stands. s.kept.stands tables stands) all
 
     -- the same view is written there
     pub same_written : (x : NamedView) → IsSame v x → AreSame vs (set now i x)
     same_written x one = same_set vs now i x v within_same (subst (λ (u : NamedView). IsSame u x) is one) same
 
   -- one view more is ready
-  pub ready_written : (table : ℕ) (dxs : Weighted) (ps qs : List (Option (List Addition))) (x : NamedView) (p : Option (List Addition)) → AreReady table dxs (take i now) ps → IsReady table dxs x p → qs ≡ ps ++ p ∷ []
-      → AreReady table dxs (take (i + 1) (set now i x)) qs
-  ready_written table dxs ps qs x p ready one is =
-      let more : AreReady table dxs (take (suc i) (set now i x)) (ps ++ p ∷ []) = pointwise_more (IsReady table dxs) now ps i x p within_same ready one in
+  pub ready_written : (table : ℕ) (tables changes : Tables) (ps qs : List (Option Pending)) (x : NamedView) (p : Option Pending) → AreReady table tables changes (take i now) ps → IsReady table tables changes x p → qs ≡ ps ++ p ∷ []
+      → AreReady table tables changes (take (i + 1) (set now i x)) qs
+  ready_written table tables changes ps qs x p ready one is =
+      let more : AreReady table tables changes (take (suc i) (set now i x)) (ps ++ p ∷ []) = pointwise_more (IsReady table tables changes) now ps i x p within_same ready one in
       let next : suc i ≡ i + 1 = omega arith in
-      rw is (subst (λ (n : ℕ). AreReady table dxs (take n (set now i x)) (ps ++ p ∷ [])) next more)
+      rw is (subst (λ (n : ℕ). AreReady table tables changes (take n (set now i x)) (ps ++ p ∷ [])) next more)
 
 -- all of them are ready
-pub ready_all : (table : ℕ) (dxs : Weighted) (vs now : List NamedView) (ps : List (Option (List Addition))) (i : ℕ) → i ≡ length vs → AreSame vs now → AreReady table dxs (take i now) ps → AreReady table dxs now ps
-ready_all table dxs vs now ps i e same ready =
+pub ready_all : (table : ℕ) (tables changes : Tables) (vs now : List NamedView) (ps : List (Option Pending)) (i : ℕ) → i ≡ length vs → AreSame vs now → AreReady table tables changes (take i now) ps
+    → AreReady table tables changes now ps
+ready_all table tables changes vs now ps i e same ready =
     let whole : take i now ≡ now = ap (λ (n : ℕ). take n now) (e ∙ sym (pointwise_length IsSame vs now same)) ∙ take_all (length now) now (omega arith) in
-    subst (λ (ws : List NamedView). AreReady table dxs ws ps) whole ready
+    subst (λ (ws : List NamedView). AreReady table tables changes ws ps) whole ready
 
 -- ---- Views that take their changes in, one after the other
 -- the first of the changes that are left
-pub first_left : (ps : List (Option (List Addition))) (i : ℕ) (p : Option (List Addition)) (qs : List (Option (List Addition))) → drop i ps ≡ p ∷ qs → (i < length ps) × (p ≡ get_or ps i p) × (drop (suc i) ps ≡ qs)
+pub first_left : (ps : List (Option Pending)) (i : ℕ) (p : Option Pending) (qs : List (Option Pending)) → drop i ps ≡ p ∷ qs → (i < length ps) × (p ≡ get_or ps i p) × (drop (suc i) ps ≡ qs)
 first_left [] zero p qs e = absurd (cc e)
 first_left [] (suc i) p qs e = absurd (cc e)
 first_left (o ∷ ps) zero p qs e = (omega arith, cc e, cc e)
@@ -127,24 +147,24 @@ first_left (o ∷ ps) (suc i) p qs e =
     (omega (arith, f.0), f.1, f.2)
 
 -- behind it are the others
-pub behind_first : (ps : List (Option (List Addition))) (i : ℕ) (p : Option (List Addition)) (qs : List (Option (List Addition))) → drop i ps ≡ p ∷ qs → drop (i + 1) ps ≡ qs
+pub behind_first : (ps : List (Option Pending)) (i : ℕ) (p : Option Pending) (qs : List (Option Pending)) → drop i ps ≡ p ∷ qs → drop (i + 1) ps ≡ qs
 behind_first ps i p qs e =
     let next : suc i ≡ i + 1 = omega arith in
     subst (λ (n : ℕ). drop n ps ≡ qs) next (first_left ps i p qs e).2
 
 -- none is left behind the last
-none_left : (ps : List (Option (List Addition))) (i : ℕ) → length (drop i ps) ≡ 0 → length ps ≤ i
+none_left : (ps : List (Option Pending)) (i : ℕ) → length (drop i ps) ≡ 0 → length ps ≤ i
 none_left [] i e = omega arith
 none_left (o ∷ ps) zero e = absurd (omega (arith, e))
 none_left (o ∷ ps) (suc i) e = omega (arith, none_left ps i e)
 
-module _ (epoch : ℕ) (vs now : List NamedView) (ps : List (Option (List Addition))) (i : ℕ) (can : CanAllTake vs ps) (long : length now ≡ length vs) where
+module _ (epoch : ℕ) (vs now : List NamedView) (ps : List (Option Pending)) (i : ℕ) (can : CanAllTake vs ps) (long : length now ≡ length vs) where
   module _ (h : i < length ps) where
     -- the place is there
     pub within_taken : i < length now
     within_taken = omega (arith, h, long, pointwise_length CanTake vs ps can)
 
-    module _ (v : NamedView) (is : v ≡ get_or now i v) (p : Option (List Addition)) (that : p ≡ get_or ps i p) (rest : drop i now ≡ drop i vs) where
+    module _ (v : NamedView) (is : v ≡ get_or now i v) (p : Option Pending) (that : p ≡ get_or ps i p) (rest : drop i now ≡ drop i vs) where
       as_it_was : v ≡ get_or vs i v
       as_it_was =
           let within : i < length vs = omega (arith, h, pointwise_length CanTake vs ps can) in
@@ -153,14 +173,14 @@ module _ (epoch : ℕ) (vs now : List NamedView) (ps : List (Option (List Additi
       -- the view that is there can take its change
       pub can_take_there : CanTake v p
       can_take_there =
-          let change : CanTake (get_or vs i v) p = subst (λ (o : Option (List Addition)). CanTake (get_or vs i v) o) (sym that) (pointwise_at CanTake vs ps i v p h can) in
+          let change : CanTake (get_or vs i v) p = subst (λ (o : Option Pending). CanTake (get_or vs i v) o) (sym that) (pointwise_at CanTake vs ps i v p h can) in
           subst (λ (u : NamedView). CanTake u p) (sym as_it_was) change
 
       -- one view more has taken its change in
       pub taken_written : (x : NamedView) → HaveTaken epoch (take i vs) (take i ps) (take i now) → HasTaken epoch v p x → HaveTaken epoch (take (i + 1) vs) (take (i + 1) ps) (take (i + 1) (set now i x))
       taken_written x taken one =
           let within : i < length vs = omega (arith, h, pointwise_length CanTake vs ps can) in
-          let change : HasTaken epoch v (get_or ps i p) x = subst (λ (o : Option (List Addition)). HasTaken epoch v o x) that one in
+          let change : HasTaken epoch v (get_or ps i p) x = subst (λ (o : Option Pending). HasTaken epoch v o x) that one in
           let more = taken_more epoch vs ps now i x v p within h within_taken taken (subst (λ (u : NamedView). HasTaken epoch u (get_or ps i p) x) as_it_was change) in
           let next : suc i ≡ i + 1 = omega arith in
           subst (λ (n : ℕ). HaveTaken epoch (take n vs) (take n ps) (take n (set now i x))) next more
@@ -179,4 +199,4 @@ module _ (epoch : ℕ) (vs now : List NamedView) (ps : List (Option (List Additi
       let two = take_all i ps end in
       let three = take_all i now (omega (arith, end, long, pointwise_length CanTake vs ps can)) in
       subst (λ (us : List NamedView). HaveTaken epoch us ps now) one
-      (subst (λ (os : List (Option (List Addition))). HaveTaken epoch (take i vs) os now) two (subst (λ (ws : List NamedView). HaveTaken epoch (take i vs) (take i ps) ws) three taken))
+      (subst (λ (os : List (Option Pending)). HaveTaken epoch (take i vs) os now) two (subst (λ (ws : List NamedView). HaveTaken epoch (take i vs) (take i ps) ws) three taken))

@@ -1,17 +1,18 @@
 -- The rows of tables by their numbers, where one table is written, made or taken away.
 use Rattle.std.proofs.Common.{◌≡◌, ℕ, zero, suc, ◌<◌, ◌≤◌, Bool, true, false, List, [], ◌∷◌, ◌++◌, length, get_or, set, refl, sym, ap, ◌∙◌, arith, subst}
 use Rattle.std.specs.Prelude.{◌==◌, ◌||◌}
-use Rattle.std.specs.List.{AllByRecursion}
+use Rattle.std.specs.List.{AllByRecursion, list_any}
 use Rattle.std.proofs.lemmas.Bool.{eq-eqb, eqb-false, eqb-true, ne_eqb}
 use Rattle.cq_values.specs.Value.{Row}
 use Rattle.cq_bags.proofs.Canonicals.{length-bag_of}
 use Rattle.cq_bags.proofs.Totals.{by_test}
-use Rattle.cq_model.specs.declared.query.Query.{Query}
+use Rattle.cq_model.specs.Views.{is_table}
+use Rattle.cq_model.specs.declared.query.Source.{Source}
 use Rattle.cq_binding.specs.Refusal.{is_used}
 use Rattle.cq_states.specs.Fitting.{FitsColumns, AreLimited, AreFitting}
 use Rattle.cq_states.specs.State.{TableOf, columns_in, rows_in, with_rows, AreNumbered}
-use Rattle.cq_views.specs.Query.{reads, table_of}
-use Rattle.cq_tables.specs.Views.{AreRight, NamedView, views_of}
+use Rattle.cq_upkeep.specs.Query.{reads}
+use Rattle.cq_tables.specs.Views.{NamedView, views_of}
 use Rattle.cq_tables.proofs.Numbers.{Above, above_at, above_stay, others}
 use Rattle.cq_table.proofs.RowLists.{all_of_bag}
 
@@ -134,18 +135,27 @@ module _ (n : ℕ) where
       (λ k. rw k (all_left P xs all.1))
       (λ k. rw k (all.0, all_left P xs all.1))
 
--- ---- Tables that no view stands on
--- no view stands on an unused table
-pub unused : (n : ℕ) (tables : List TableOf) (now : ℕ) (vs : List NamedView) → AreRight tables now vs → is_used n (views_of vs) ≡ false
-    → AllByRecursion (λ v. (table_of v.kept.query == n) ≡ false) vs
-unused n tables now [] right free = tt
-unused n tables now (v ∷ vs) right free = both (table_of v.kept.query == n) (is_used n (views_of vs)) refl refl (λ k. unused n tables now vs right.1 k)
-  where
-    walk : (((table_of v.kept.query == n) || false) || is_used n (views_of vs)) ≡ false
-    walk = sym (ap (λ (q : Query). reads n q || is_used n (views_of vs)) right.0.fits.can_be_kept.grouped) ∙ free
+-- ---- Tables that no view reads
+-- a query that does not read the table of a number reads no source that is it
+unread_both : (n : ℕ) (s : Source) (sources : List Source) (b c : Bool) → is_table n s ≡ b → list_any (is_table n) sources ≡ c → (b || c) ≡ false → (is_table n s ≡ false) × (list_any (is_table n) sources ≡ false)
+unread_both n s sources false false e k none = (e, k)
+unread_both n s sources true c e k none = absurd (cc none)
+unread_both n s sources false true e k none = absurd (cc none)
 
-    both : (b c : Bool) → (table_of v.kept.query == n) ≡ b → is_used n (views_of vs) ≡ c → (is_used n (views_of vs) ≡ false → AllByRecursion (λ w. (table_of w.kept.query == n) ≡ false) vs)
-        → AllByRecursion (λ w. (table_of w.kept.query == n) ≡ false) (v ∷ vs)
-    both false false e k later = (e, later k)
-    both true c e k later = absurd (let found : (true || c) ≡ false = sym (λ i. (e i || false) || k i) ∙ walk in cc)
-    both false true e k later = absurd (let found : (false || true) ≡ false = sym (λ i. (e i || false) || k i) ∙ walk in cc)
+pub unread : (n : ℕ) (sources : List Source) → list_any (is_table n) sources ≡ false → AllByRecursion (λ s. is_table n s ≡ false) sources
+unread n [] free = tt
+unread n (s ∷ sources) free =
+    let p = unread_both n s sources (is_table n s) (list_any (is_table n) sources) refl refl free in
+    (p.0, unread n sources p.1)
+
+unused_both : (n : ℕ) (v : NamedView) (vs : List NamedView) (b c : Bool) → reads n v.kept.query ≡ b → is_used n (views_of vs) ≡ c → (b || c) ≡ false → (reads n v.kept.query ≡ false) × (is_used n (views_of vs) ≡ false)
+unused_both n v vs false false e k none = (e, k)
+unused_both n v vs true c e k none = absurd (cc none)
+unused_both n v vs false true e k none = absurd (cc none)
+
+-- no view reads an unused table
+pub unused : (n : ℕ) (vs : List NamedView) → is_used n (views_of vs) ≡ false → AllByRecursion (λ v. reads n v.kept.query ≡ false) vs
+unused n [] free = tt
+unused n (v ∷ vs) free =
+    let p = unused_both n v vs (reads n v.kept.query) (is_used n (views_of vs)) refl refl free in
+    (p.0, unused n vs p.1)

@@ -1,17 +1,24 @@
 -- Lists of views, one view after the other.
 use Rattle.std.proofs.Common.{◌≡◌, ℕ, zero, suc, ◌<◌, List, [], ◌∷◌, length, get_or, set, take, drop, Option, refl, sym, ◌∙◌, arith, subst}
-use Rattle.cq_deltas.specs.declared.change.Addition.{Addition}
-use Rattle.cq_deltas.specs.Keyed.{group_at}
+use Rattle.std.specs.List.{AllZip}
 use Rattle.cq_model.specs.declared.query.Query.{Query}
-use Rattle.cq_views.specs.Query.{aggregates_of}
-use Rattle.cq_views.specs.View.{KeptView, SameView}
+use Rattle.cq_upkeep.specs.Last.{seen}
+use Rattle.cq_upkeep.specs.Query.{aggregates_of}
+use Rattle.cq_upkeep.specs.State.{SameView}
+use Rattle.cq_upkeep.specs.declared.state.Pending.{Pending}
+use Rattle.cq_upkeep.specs.declared.state.ViewState.{ViewState}
+use Rattle.cq_chains.proofs.WholeChains.{still-itself}
+use Rattle.cq_chains.specs.Chains.{IsStill}
+use Rattle.cq_chains.specs.Steps.{HasSameJoin}
+use Rattle.cq_chains.specs.declared.chain.Chain.{Chain}
+use Rattle.cq_chains.specs.declared.step.Step.{Step}
 use Rattle.cq_tables.specs.Taking.{IsSame, AreSame, HasTaken, HaveTaken}
 use Rattle.cq_tables.specs.Views.{NamedView}
 use Rattle.cq_tables.proofs.Pairs.{pointwise_at, pointwise_itself, pointwise_set}
 
 -- ---- Views that stay the same
-same_kept : (v : KeptView) → SameView v v
-same_kept v = record { query = refl; epoch = refl; built = refl; groups = λ k. refl; stands = λ xs h. h }
+same_kept : (v : ViewState) → SameView v v
+same_kept v = record { query = refl; epoch = refl; built = refl; sides = still-itself v.chain; last = refl; stands = λ tables h. h }
 
 pub same_itself : (v : NamedView) → IsSame v v
 same_itself v = record { name = refl; columns = refl; kept = same_kept v.kept }
@@ -19,13 +26,38 @@ same_itself v = record { name = refl; columns = refl; kept = same_kept v.kept }
 pub all_same : (vs : List NamedView) → AreSame vs vs
 all_same vs = pointwise_itself IsSame same_itself vs
 
-kept_then : (u v w : KeptView) → SameView u v → SameView v w → SameView u w
+joins_then : (us vs ws : List Step) → AllZip HasSameJoin us vs → AllZip HasSameJoin vs ws → AllZip HasSameJoin us ws
+joins_then [] [] [] s t = tt
+joins_then [] [] (w ∷ ws) s t = absurd t
+joins_then [] (v ∷ vs) ws s t = absurd s
+joins_then (u ∷ us) [] ws s t = absurd s
+joins_then (u ∷ us) (v ∷ vs) [] s t = absurd t
+joins_then (u ∷ us) (v ∷ vs) (w ∷ ws) s t = (
+  record {
+    source = t.0.source ∙ s.0.source;
+    on = t.0.on ∙ s.0.on;
+    below = t.0.below ∙ s.0.below;
+    behind = t.0.behind ∙ s.0.behind;
+  },
+  joins_then us vs ws s.1 t.1,
+)
+
+still_then : (u v w : Chain) → IsStill u v → IsStill v w → IsStill u w
+still_then u v w s t = record {
+  first = t.first ∙ s.first;
+  condition = t.condition ∙ s.condition;
+  joins = joins_then u.steps.items v.steps.items w.steps.items s.joins t.joins;
+  stands = λ tables h. t.stands tables (s.stands tables h);
+}
+
+kept_then : (u v w : ViewState) → SameView u v → SameView v w → SameView u w
 kept_then u v w s t = record {
   query = t.query ∙ s.query;
   epoch = t.epoch ∙ s.epoch;
   built = t.built ∙ s.built;
-  groups = λ k. subst (λ (d : Query). group_at (aggregates_of d) w.groups k ≡ group_at (aggregates_of d) v.groups k) s.query (t.groups k) ∙ s.groups k;
-  stands = λ xs h. t.stands xs (s.stands xs h);
+  sides = still_then u.chain v.chain w.chain s.sides t.sides;
+  last = subst (λ (q : Query). seen (aggregates_of q) w.last ≡ seen (aggregates_of q) v.last) s.query t.last ∙ s.last;
+  stands = λ tables h. t.stands tables (s.stands tables h);
 }
 
 pub same_then : (u v w : NamedView) → IsSame u v → IsSame v w → IsSame u w
@@ -36,7 +68,7 @@ same_set vs now i x d h one s = pointwise_set IsSame vs now i d x h (same_then (
 
 -- ---- Views that took their changes in, up to a place
 module _ (epoch : ℕ) where
-  pub taken_more : (vs : List NamedView) (ps : List (Option (List Addition))) (now : List NamedView) (i : ℕ) (x d : NamedView) (o : Option (List Addition)) → i < length vs → i < length ps → i < length now
+  pub taken_more : (vs : List NamedView) (ps : List (Option Pending)) (now : List NamedView) (i : ℕ) (x d : NamedView) (o : Option Pending) → i < length vs → i < length ps → i < length now
       → HaveTaken epoch (take i vs) (take i ps) (take i now) → HasTaken epoch (get_or vs i d) (get_or ps i o) x
       → HaveTaken epoch (take (suc i) vs) (take (suc i) ps) (take (suc i) (set now i x))
   taken_more [] ps now i x d o h k j taken one = absurd (omega (arith, h))

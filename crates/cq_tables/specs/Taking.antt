@@ -1,14 +1,12 @@
 -- What the writes of tables do to views.
-use Rattle.std.specs.Prelude.{◌≡◌, ℕ, ℤ, ◌==◌, true, false, List, Option, Some, None, IfSome, map}
-use Rattle.std.specs.Borrow.{Bor}
-use Rattle.std.specs.List.{zip}
-use Rattle.cq_values.specs.Value.{Row}
-use Rattle.cq_bags.specs.Bag.{Weighted}
-use Rattle.cq_deltas.specs.declared.change.Addition.{Addition}
-use Rattle.cq_deltas.specs.Keyed.{HasKeys, HoldsFor}
+use Rattle.std.specs.Prelude.{◌≡◌, ℕ, true, false, List, Option, Some, None, IfSome}
+use Rattle.std.specs.List.{AllByRecursion, zip}
+use Rattle.cq_model.specs.Meaning.{Tables}
 use Rattle.cq_states.specs.Pointwise.{Pointwise}
-use Rattle.cq_views.specs.Query.{table_of}
-use Rattle.cq_views.specs.View.{KeptView, SameView, GoesOn, Stands, change_of, changed, exchanged}
+use Rattle.cq_upkeep.specs.Query.{reads}
+use Rattle.cq_upkeep.specs.State.{CanCommit, CanPrepare, SameView, StandsFor, StaysStanding, TakesIn, WaitsFor}
+use Rattle.cq_upkeep.specs.declared.state.Pending.{Pending}
+use Rattle.cq_upkeep.specs.declared.state.ViewState.{ViewState}
 use Rattle.cq_tables.specs.Views.{NamedView}
 
 -- nothing of a view has changed that is seen of it
@@ -21,49 +19,53 @@ pub record IsSame (old new : NamedView) : Type 0 where
 abbrev pub AreSame : List NamedView → List NamedView → Type 0
 AreSame old new = Pointwise IsSame old new
 
--- a view that is on the table is ready for the change of its rows
-abbrev pub IsReady : ℕ → Weighted → NamedView → Option (List Addition) → Type 0
-IsReady table dxs v None = (table_of v.kept.query == table) ≡ false
-IsReady table dxs v (Some change) = ((table_of v.kept.query == table) ≡ true) × (change ≡ change_of v.kept.query dxs) × HasKeys change v.kept.groups
+-- each view can be made ready for these changes
+abbrev pub CanAllPrepare : Tables → List NamedView → Type 0
+CanAllPrepare changes views = AllByRecursion (λ v. CanPrepare v.kept changes) views
+
+-- each view stands for these tables
+abbrev pub AllStandFor : Tables → List NamedView → Type 0
+AllStandFor tables views = AllByRecursion (λ v. StandsFor v.kept tables) views
+
+-- for a view that reads the table of a number wait changes of these tables; for another one none does
+abbrev pub IsReady : ℕ → Tables → Tables → NamedView → Option Pending → Type 0
+IsReady table tables changes v None = reads table v.kept.query ≡ false
+IsReady table tables changes v (Some pending) = (reads table v.kept.query ≡ true) × WaitsFor tables changes v.kept pending × CanCommit v.kept pending
+
+-- so it is whatever tables the view stood for
+abbrev pub IsReadyFor : ℕ → Tables → NamedView → NamedView → Option Pending → Type 0
+IsReadyFor table changes old new pending = (tables : Tables) → StandsFor old.kept tables → IsReady table tables changes new pending
 
 -- so it is with each view
-abbrev pub AreReady : ℕ → Weighted → List NamedView → List (Option (List Addition)) → Type 0
-AreReady table dxs views changes = Pointwise (IsReady table dxs) views changes
+abbrev pub AreReady : ℕ → Tables → Tables → List NamedView → List (Option Pending) → Type 0
+AreReady table tables changes views pendings = Pointwise (IsReady table tables changes) views pendings
 
--- the same for rows that all have one weight
-abbrev pub AreReadyFor : ℕ → List Row → ℤ → List NamedView → List (Option (List Addition)) → Type 0
-AreReadyFor table rows weight views changes = AreReady table (changed rows weight) views changes
+-- whatever tables the views stood for
+abbrev pub AreReadyFor : ℕ → Tables → List NamedView → List NamedView → List (Option Pending) → Type 0
+AreReadyFor table changes old new pendings = (tables : Tables) → AllStandFor tables old → AreReady table tables changes new pendings
 
--- the same for rows that go while others come
-abbrev pub CanExchange : ℕ → List Row → List Row → List NamedView → List (Option (List Addition)) → Type 0
-CanExchange table gone come views changes = AreReady table (exchanged gone come) views changes
-
--- the same where the rows that go are lent
-abbrev pub CanExchangeLent : ℕ → List (Bor Row) → List Row → List NamedView → List (Option (List Addition)) → Type 0
-CanExchangeLent table gone come views changes = CanExchange table (map (λ r. r.now) gone) come views changes
-
--- a view has room for its change, and stays in range
-abbrev pub CanTake : NamedView → Option (List Addition) → Type 0
-CanTake v change = IfSome change (λ c. HasKeys c v.kept.groups × HoldsFor c v.kept.groups)
+-- a view has room for what waits, and stays in range
+abbrev pub CanTake : NamedView → Option Pending → Type 0
+CanTake v pending = IfSome pending (λ p. CanCommit v.kept p)
 
 -- each view has
-abbrev pub CanAllTake : List NamedView → List (Option (List Addition)) → Type 0
-CanAllTake views changes = Pointwise CanTake views changes
+abbrev pub CanAllTake : List NamedView → List (Option Pending) → Type 0
+CanAllTake views pendings = Pointwise CanTake views pendings
 
--- what groups stand for goes on with the change, where there is one
-abbrev pub GroupsGo : Option (List Addition) → KeptView → KeptView → Type 0
-GroupsGo None old new = (xs : Weighted) → Stands old xs → Stands new xs
-GroupsGo (Some change) old new = GoesOn old change new
+-- what a view stands for goes on with what waited, where something did
+abbrev pub GoesOn : Option Pending → ViewState → ViewState → Type 0
+GoesOn None old new = StaysStanding old new
+GoesOn (Some pending) old new = TakesIn old pending new
 
--- a view has taken its change in, and is at the epoch
-pub record HasTaken (now : ℕ) (old : NamedView) (change : Option (List Addition)) (new : NamedView) : Type 0 where
+-- a view has taken in what waited, and is at the epoch
+pub record HasTaken (now : ℕ) (old : NamedView) (pending : Option Pending) (new : NamedView) : Type 0 where
   pub name : new.name ≡ old.name
   pub columns : new.columns ≡ old.columns
   pub query : new.kept.query ≡ old.kept.query
   pub built : new.kept.built ≡ old.kept.built
   pub epoch : new.kept.epoch ≡ now
-  pub groups : GroupsGo change old.kept new.kept
+  pub goes : GoesOn pending old.kept new.kept
 
--- each view has taken its change in
-abbrev pub HaveTaken : ℕ → List NamedView → List (Option (List Addition)) → List NamedView → Type 0
-HaveTaken epoch old changes new = Pointwise (λ (ready : NamedView × Option (List Addition)) w. HasTaken epoch ready.0 ready.1 w) (zip old changes) new
+-- each view has
+abbrev pub HaveTaken : ℕ → List NamedView → List (Option Pending) → List NamedView → Type 0
+HaveTaken epoch old pendings new = Pointwise (λ (ready : NamedView × Option Pending) w. HasTaken epoch ready.0 ready.1 w) (zip old pendings) new

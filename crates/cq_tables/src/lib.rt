@@ -1,7 +1,7 @@
 //! Tables and views in memory: what each holds, how it is found, and how it changes.
 //!
-//! A [`Table`] holds rows under a number and a name, a [`View`] the groups of its query under a name. A view is made ready for
-//! the rows that come to a table or go from it, which may fail; it then takes them in, which cannot. To its callers a
+//! A [`Table`] holds rows under a number and a name, a [`View`] what is kept of its query under a name. A view is made ready
+//! for what changes in a table, which may fail; it then takes it in, which cannot. To its callers a
 //! [`Table`] is the bag of its rows, and a [`View`] what is kept for its query.
 #![tactic(auto)]
 
@@ -13,4 +13,4 @@ mod views;
 pub use table::Table;
 pub use tables::{drop_in, place_numbered, place_of};
 pub use view::View;
-pub use views::{commit_all, drop_view_at, is_used, prepare_all, prepare_exchanges, view_place};
+pub use views::{commit_all, drop_view_at, is_used, prepare_all, view_place};

@@ -1,19 +1,21 @@
 //! A view under its name.
-ghost use Rattle.std.specs.Prelude.{◌≡◌, ◌==◌, IfErr, IfOk, OnOk, map};
 ghost use Rattle.std.specs.List.{AllByRecursion};
+ghost use Rattle.std.specs.Prelude.{◌≡◌, IfErr, IfOk, OnOk};
+ghost use Rattle.cq_chains.specs.Sources.{rows_at};
 ghost use Rattle.cq_deltas.specs.declared.fault.ShowFault.TheVariants.{SumOutOfRange};
+ghost use Rattle.cq_laws.specs.Sizes.{HasSizes};
 ghost use Rattle.cq_model.specs.Sizes.{column_sizes};
 ghost use Rattle.cq_values.specs.Texts.{is_text};
-ghost use Rattle.cq_views.specs.Small.{StandsOnStored};
-ghost use Rattle.cq_views.specs.Query.{reads, table_of};
-ghost use Rattle.cq_views.specs.View.{IsNarrowFor, changed, exchanged};
-ghost use Rattle.cq_views.specs.Shown.{AreRowsOf, IsNotShown, IsShown};
-ghost use Rattle.cq_tables.specs.Taking.{CanTake, HasTaken, IsReady, IsSame};
+ghost use Rattle.cq_upkeep.specs.Query.{CanBeKept, reads};
+ghost use Rattle.cq_upkeep.specs.Shown.{AreRowsOf, CanShow, IsNotShown, IsShown};
+ghost use Rattle.cq_upkeep.specs.State.{CanPrepare};
+ghost use Rattle.cq_tables.specs.Taking.{CanTake, HasTaken, IsReadyFor, IsSame};
 
+use cq_chains::SourceRows;
 use cq_deltas::ShowFault;
 use cq_model::Query;
+use cq_upkeep::{Pending, ViewState};
 use cq_values::{ColumnDef, Row, Seq, Text};
-use cq_views::{Pending, ViewState};
 use std::alloc::{AllocError, Global};
 use std::marker::Model;
 
@@ -29,17 +31,22 @@ impl Model for View {
     ghost use Rattle.std.specs.Coded.{codes};
     ghost use Rattle.cq_model.specs.contracts.expr.Cond as cond;
     ghost use Rattle.cq_model.specs.contracts.expr.Expr as expr;
+    ghost use Rattle.cq_upkeep.specs.Query.{CanBeKept};
+    ghost use Rattle.cq_upkeep.specs.contracts.state.ViewState as view_state;
     ghost use Rattle.cq_tables.specs.Views.{NamedView};
 
     ghost Value = { NamedView };
 
-    ghost coded = { Prim.hlevel (codes, expr.the_row.coded, cond.the_row.coded) };
+    ghost coded = { Prim.hlevel (codes, expr.the_row.coded, cond.the_row.coded, view_state.the_row.coded) };
 
     ghost view = { λ v. record { name = v.name; columns = v.columns; kept = v.state } };
+
+    ghost invariant = { λ v. CanBeKept v.state.query };
 }
 
 impl View {
     pub fn new(name: Text, columns: Seq<ColumnDef>, state: ViewState) -> View
+        requires { CanBeKept state.query }
         ensures { result ≡ record { name = name; columns = columns; kept = state } }
     {
         View {
@@ -74,10 +81,9 @@ impl View {
         self.columns.as_slice()
     }
 
-    /// Whether the view stands on the table of a number.
+    /// Whether the view reads the table of a number.
     pub fn is_on(&self, table: u64) -> bool
-        ensures value { result ≡ (table_of self.now.kept.query == table) }
-        ensures named { result ≡ reads table self.now.kept.query }
+        ensures { result ≡ reads table self.now.kept.query }
     {
         self.state.is_on(table)
     }
@@ -96,59 +102,38 @@ impl View {
         self.state.epoch()
     }
 
-    /// The rows of the view. It costs what the view holds.
+    /// The rows of the view. It costs what the view holds, and no table is read.
     pub fn rows(&self, alloc: Global) -> Result<Vec<Row>, ShowFault>
-        requires { StandsOnStored self.now.kept }
+        requires { CanShow self.now.kept }
         ensures bag { IfOk result (λ rows. AreRowsOf self.now.kept rows.items) }
+        ensures sized { IfOk result (λ rows. AllByRecursion (HasSizes (column_sizes self.now.kept.query)) rows.items) }
         ensures range { OnOk result (IsShown self.now.kept) }
         ensures fault { IfErr result (λ e. e ≡ SumOutOfRange → IsNotShown self.now.kept) }
     {
         self.state.rows(alloc)
     }
 
-    /// What these rows of a table change in the view, all with one weight, if it stands on that table. All growth for it
-    /// is made, and no group changes.
+    /// Works out what the changes of a table change in the view, if it reads that table, and makes all growth for it.
+    /// Nothing that is shown changes.
     pub fn prepare(
         &mut self,
         alloc: Global,
         table: u64,
-        rows: &[&Row],
-        weight: i128,
+        changes: &[SourceRows],
     ) -> Result<Option<Pending>, AllocError>
-        requires { AllByRecursion (λ r. IsNarrowFor self.old.kept.query r.now) rows.now }
-        ensures kept { IsSame self.old self.new }
-        ensures ready { IfOk result (IsReady table (changed (map (λ r. r.now) rows.now) weight) self.new) }
+        requires { CanPrepare self.old.kept (rows_at changes.now) }
+        ensures same { IsSame self.old self.new }
+        ensures ready { IfOk result (IsReadyFor table (rows_at changes.now) self.old self.new) }
     {
         if !self.state.is_on(table) {
             return Ok(None);
         }
-        let pending = self.state.prepare(alloc, rows, weight)?;
+        let pending = self.state.prepare(alloc, changes)?;
         Ok(Some(pending))
     }
 
-    /// What these rows of a table change in the view, where the first go and the others come, if it stands on that table.
-    /// All growth for it is made, and no group changes.
-    pub fn prepare_exchange(
-        &mut self,
-        alloc: Global,
-        table: u64,
-        gone: &[&Row],
-        come: &[Row],
-    ) -> Result<Option<Pending>, AllocError>
-        requires gone { AllByRecursion (λ r. IsNarrowFor self.old.kept.query r.now) gone.now }
-        requires come { AllByRecursion (IsNarrowFor self.old.kept.query) come.now }
-        ensures kept { IsSame self.old self.new }
-        ensures ready { IfOk result (IsReady table (exchanged (map (λ r. r.now) gone.now) come.now) self.new) }
-    {
-        if !self.is_on(table) {
-            return Ok(None);
-        }
-        let exchange = self.state.prepare_exchange(alloc, gone, come)?;
-        Ok(Some(exchange))
-    }
-
-    /// Takes in the write that the view was made ready for, which is one of another table where there is no change. It
-    /// cannot fail, and takes no memory.
+    /// Takes in the write that the view was made ready for, which is one of a table that it does not read where nothing
+    /// waits. It cannot fail, and takes no memory.
     pub fn commit(&mut self, pending: Option<Pending>, epoch: u64)
         requires { CanTake self.old pending }
         ensures { HasTaken epoch self.old pending self.new }

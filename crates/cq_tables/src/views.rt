@@ -1,17 +1,17 @@
 //! Views under their names, and the writes that they take in.
-ghost use Rattle.std.specs.Prelude.{◌≡◌, ◌<◌, IfOk, length, map, position};
-ghost use Rattle.std.specs.List.{AllByRecursion, list_any, remove};
+ghost use Rattle.std.specs.Prelude.{◌≡◌, ◌<◌, IfOk, length, position};
+ghost use Rattle.std.specs.List.{list_any, remove};
+ghost use Rattle.cq_chains.specs.Sources.{rows_at};
 ghost use Rattle.cq_values.specs.Texts.{is_text};
 ghost use Rattle.cq_binding.specs.Refusal.{is_used};
 ghost use Rattle.cq_states.specs.State.{view_place};
-ghost use Rattle.cq_views.specs.Query.{reads};
-ghost use Rattle.cq_views.specs.View.{IsNarrowFor};
-ghost use Rattle.cq_tables.specs.Taking.{AreReadyFor, AreSame, CanAllTake, CanExchangeLent, HaveTaken};
-ghost use Rattle.cq_tables.specs.Views.{AreNarrowFor, views_of};
+ghost use Rattle.cq_upkeep.specs.Query.{reads};
+ghost use Rattle.cq_tables.specs.Taking.{AreReadyFor, AreSame, CanAllPrepare, CanAllTake, HaveTaken};
+ghost use Rattle.cq_tables.specs.Views.{views_of};
 
 use crate::view::View;
-use cq_values::Row;
-use cq_views::Pending;
+use cq_chains::SourceRows;
+use cq_upkeep::Pending;
 use std::alloc::{AllocError, Global};
 
 /// Where the view of a name stands.
@@ -38,42 +38,21 @@ pub fn is_used(views: &[View], table: u64) -> bool
     is_any_on(views, table)
 }
 
-/// What these rows of a table change in each view, all with one weight. All growth for it is made, and no group changes.
+/// Works out what the changes of a table change in each view that reads it, and makes all growth for it. Nothing that is
+/// shown changes.
 pub fn prepare_all(
     alloc: Global,
     views: &mut Vec<View>,
     table: u64,
-    rows: &[&Row],
-    weight: i128,
+    changes: &[SourceRows],
 ) -> Result<Vec<Option<Pending>>, AllocError>
-    requires { AreNarrowFor views.old.items rows.now }
-    ensures kept { AreSame views.old.items views.new.items }
-    ensures ready { IfOk result (λ ps. AreReadyFor table (map (λ r. r.now) rows.now) weight views.new.items ps.items) }
+    requires { CanAllPrepare (rows_at changes.now) views.old.items }
+    ensures same { AreSame views.old.items views.new.items }
+    ensures ready { IfOk result (λ ps. AreReadyFor table (rows_at changes.now) views.old.items views.new.items ps.items) }
 {
     let mut pendings = Vec::with_capacity(alloc, views.len())?;
     for place in 0..views.len() {
-        pendings.push(views[place].prepare(alloc, table, rows, weight)?)?;
-    }
-    Ok(pendings)
-}
-
-/// What these rows of a table change in each view, where the first go and the others come, in one change. All growth for it
-/// is made, and no group changes.
-pub fn prepare_exchanges(
-    alloc: Global,
-    views: &mut Vec<View>,
-    table: u64,
-    gone: &[&Row],
-    come: &[Row],
-) -> Result<Vec<Option<Pending>>, AllocError>
-    requires gone { AreNarrowFor views.old.items gone.now }
-    requires come { AllByRecursion (λ v. AllByRecursion (IsNarrowFor v.kept.query) come.now) views.old.items }
-    ensures kept { AreSame views.old.items views.new.items }
-    ensures ready { IfOk result (λ ps. CanExchangeLent table gone.now come.now views.new.items ps.items) }
-{
-    let mut pendings = Vec::with_capacity(alloc, views.len())?;
-    for place in 0..views.len() {
-        pendings.push(views[place].prepare_exchange(alloc, table, gone, come)?)?;
+        pendings.push(views[place].prepare(alloc, table, changes)?)?;
     }
     Ok(pendings)
 }

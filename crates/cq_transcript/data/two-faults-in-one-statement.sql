@@ -14,7 +14,7 @@ SELECT zz FROM nope WHERE;
 -- an open row, and no table
 INSERT INTO nope VALUES (1;
 
--- no GROUP BY, a name that is taken, and a view
+-- a name that is taken, and a view
 CREATE VIEW t AS SELECT a FROM v;
 
 -- no table, and wrong types

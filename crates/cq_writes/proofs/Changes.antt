@@ -10,7 +10,7 @@ use Rattle.cq_bags.specs.Canonical.{bag_of}
 use Rattle.cq_bags.proofs.Bags.{same-sym, same-trans}
 use Rattle.cq_bags.proofs.Canonicals.{same-bag_of}
 use Rattle.cq_bags.proofs.Totals.{by_test, weight_of-append}
-use Rattle.cq_views.specs.View.{changed}
+use Rattle.cq_writes.specs.Changing.{changed}
 
 -- rows that come
 pub with_more : (rows more : List Row) → SameBag (once_each (bag_of (rows ++ more))) (once_each rows ++ once_each more)

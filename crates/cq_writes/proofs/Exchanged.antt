@@ -1,26 +1,17 @@
 -- Rows that go while others come: the bag that is left.
-use Rattle.std.proofs.Common.{◌≡◌, ◌+ℤ◌, pos, neg_ℤ, Bool, true, false, not, List, [], ◌∷◌, ◌++◌, map, Ordering, refl, sym, ap, ◌∙◌, arith, subst}
-use Rattle.std.specs.Prelude.{◌||◌, ◌&&◌, filter, if◌then◌else◌}
-use Rattle.std.specs.List.{AllByRecursion, flat_map, list_any}
-use Rattle.std.specs.Ordering.{is_gt}
+use Rattle.std.proofs.Common.{◌≡◌, ◌+ℤ◌, pos, neg_ℤ, Bool, not, List, [], ◌∷◌, ◌++◌, map, sym, ap, ◌∙◌, arith}
+use Rattle.std.specs.Prelude.{filter, if◌then◌else◌}
 use Rattle.std.proofs.lemmas.Int.{ints}
 use Rattle.std.proofs.lemmas.List.{map-append}
-use Rattle.cq_values.specs.declared.column.ColumnDef.{ColumnDef}
-use Rattle.cq_values.specs.Order.{row_cmp}
 use Rattle.cq_values.specs.Value.{Row}
 use Rattle.cq_bags.specs.Bag.{Weighted, SameBag, weight_of, once_each}
-use Rattle.cq_bags.specs.Canonical.{bag_of, sorted_by, with_row}
+use Rattle.cq_bags.specs.Canonical.{bag_of}
 use Rattle.cq_bags.proofs.Bags.{projected-respects}
 use Rattle.cq_bags.proofs.Canonicals.{bag_of-weights, same-bag_of}
 use Rattle.cq_bags.proofs.Distincts.{once_each-map}
 use Rattle.cq_bags.proofs.Totals.{by_test, weight_of-append}
-use Rattle.cq_model.specs.declared.assignment.Assignment.{Assignment}
-use Rattle.cq_model.specs.Eval.{eval}
-use Rattle.cq_binding.specs.declared.fault.Fault.TheVariants.{NumberOutside, NullNotAllowed}
-use Rattle.cq_binding.specs.Checks.{fault_if}
-use Rattle.cq_binding.specs.UpdateChecks.{is_null, is_outside, never_null, value_checks}
-use Rattle.cq_views.specs.View.{changed, exchanged}
 use Rattle.cq_writes.proofs.Changes.{with_fewer}
+use Rattle.cq_writes.specs.Changing.{changed, exchanged}
 
 -- two stretches have their weights together
 weight_both : (xs ys : List Row) (r : Row) → weight_of (once_each (xs ++ ys)) r ≡ weight_of (once_each xs) r +ℤ weight_of (once_each ys) r

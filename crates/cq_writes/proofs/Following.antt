@@ -1,117 +1,136 @@
--- Lists of views: what they stand on, what they are ready for, and how they follow a write.
-use Rattle.std.proofs.Common.{◌≡◌, ℕ, true, false, List, [], ◌∷◌, ◌++◌, length, Option, Some, None, sym, ap, ◌∙◌, subst}
+-- Views that follow a write of one of the tables.
+use Rattle.std.proofs.Common.{◌≡◌, ℕ, true, false, List, [], ◌∷◌, ◌++◌, length, Option, Some, None, refl, sym, ap, ◌∙◌, subst}
 use Rattle.std.specs.Prelude.{◌==◌}
 use Rattle.std.specs.List.{AllByRecursion}
 use Rattle.std.proofs.lemmas.Bool.{eqb-true}
+use Rattle.std.proofs.lemmas.List.{append-nil}
 use Rattle.std.proofs.lemmas.Simd.{map-map}
-use Rattle.cq_values.specs.Value.{Row}
 use Rattle.cq_bags.specs.Bag.{Weighted, SameBag, IsBag, once_each}
+use Rattle.cq_bags.proofs.Bags.{same-append, same-refl, same-sym, same-trans}
 use Rattle.cq_bags.proofs.Totals.{by_test}
-use Rattle.cq_deltas.specs.declared.change.Addition.{Addition}
-use Rattle.cq_deltas.specs.Keyed.{HoldsFor}
+use Rattle.cq_kept.specs.Delta.{changed}
+use Rattle.cq_model.specs.declared.query.Query.{Query}
+use Rattle.cq_model.specs.declared.query.Source.{Source}
+use Rattle.cq_model.specs.declared.query.Source.TheVariants.{Table, View}
+use Rattle.cq_model.specs.Meaning.{Tables}
+use Rattle.cq_model.specs.Views.{is_table, sources_of}
+use Rattle.cq_states.specs.Pointwise.{Pointwise}
 use Rattle.cq_states.specs.State.{TableOf, rows_in}
 use Rattle.cq_steps.specs.Next.{at_epoch}
-use Rattle.cq_model.specs.declared.query.Query.{Query}
-use Rattle.cq_views.specs.Query.{table_of}
-use Rattle.cq_views.specs.Laws.{SmallChangesHold}
-use Rattle.cq_views.specs.Small.{AreSmallFor, CanBeKept}
-use Rattle.cq_views.specs.View.{Stands}
-use Rattle.cq_writes.specs.Following.{StandsOn, StandOn, Follows, Follow, Moved}
-use Rattle.cq_tables.specs.Taking.{IsSame, AreSame, IsReady, AreReady, CanTake, CanAllTake, HasTaken, HaveTaken}
-use Rattle.cq_tables.specs.Views.{NamedView, view_of, Fits, IsRight, AreRight}
+use Rattle.cq_upkeep.specs.Laws.{StandingDependsOnSources}
+use Rattle.cq_upkeep.specs.Query.{reads}
+use Rattle.cq_upkeep.specs.State.{AreBags, StandsFor}
+use Rattle.cq_upkeep.specs.declared.state.Pending.{Pending}
+use Rattle.cq_tables.proofs.Bags.{bags_are}
 use Rattle.cq_tables.proofs.Pairs.{pointwise_all, pointwise_map}
+use Rattle.cq_tables.proofs.Rows.{unread}
+use Rattle.cq_tables.specs.Taking.{AllStandFor, AreReady, AreSame, HasTaken, HaveTaken, IsReady, IsSame}
+use Rattle.cq_tables.specs.Views.{AreRight, Fits, IsRight, NamedView, bags_in, view_of}
+use Rattle.cq_writes.specs.Changing.{AreReadyAt}
+use Rattle.cq_writes.specs.Following.{Follow, Follows, Moved}
 
--- ---- Views of one table
--- views that are right stand on each of the tables
-pub stand_on : (tables : List TableOf) (now : ℕ) (t : TableOf) (vs : List NamedView) → rows_in tables t.number ≡ t.rows → AreRight tables now vs → StandOn t vs
-stand_on tables now t [] rows r = tt
-stand_on tables now t (v ∷ vs) rows r = ((r.0.fits, on), stand_on tables now t vs rows r.1)
-  where
-    on : (table_of v.kept.query == t.number) ≡ true → Stands v.kept (once_each t.rows)
-    on e =
-        let n : (table_of v.kept.query) ≡ t.number = eqb-true (table_of v.kept.query) t.number e in
-        subst (λ (rs : List Row). Stands v.kept (once_each rs)) (ap (rows_in tables) n ∙ rows) r.0.stands
+-- a bag is one however it is listed
+bag-same : (xs ys : Weighted) → SameBag xs ys → IsBag ys → IsBag xs
+bag-same xs ys same bag = record { at = λ r. rw (same.at r) (bag.at r) }
 
--- views that are ready for a small change can take it
-module _ (law : SmallChangesHold) (t : TableOf) (dxs : Weighted) where
-  abbrev pub AreSmall : NamedView → Type 0
-  AreSmall v = AreSmallFor v.kept.query (once_each t.rows) × AreSmallFor v.kept.query dxs
+-- ---- Views that took in what waited
+module _ (law : StandingDependsOnSources) (epoch n : ℕ) (tables changes : Tables) (others : (source : Source) → is_table n source ≡ false → changes source ≡ []) (bags : AreBags (changed tables changes)) where
+  -- sources that are not changed hold the same rows
+  unchanged_all : (sources : List Source) → AllByRecursion (λ s. is_table n s ≡ false) sources → AllByRecursion (λ s. SameBag (tables s) (changed tables changes s)) sources
+  unchanged_all [] other = tt
+  unchanged_all (s ∷ sources) other = (rw (others s other.0, append-nil (tables s)) (same-refl (tables s)), unchanged_all sources other.1)
 
-  can_take : (v w : NamedView) (p : Option (List Addition)) → StandsOn t v → AreSmall v → IsSame v w → IsReady t.number dxs w p → CanTake w p
-  can_take v w None on small s ready = tt
-  can_take v w (Some change) on small s ready =
-      let here : (table_of v.kept.query == t.number) ≡ true = ap (λ (d : Query). table_of d == t.number) (sym s.kept.query) ∙ ready.0 in
-      let holds = law w.kept (once_each t.rows) dxs (subst (λ (d : Query). CanBeKept d) (sym s.kept.query) on.0.can_be_kept) (s.kept.stands (once_each t.rows) (on.1 here))
-      (subst (λ (d : Query). AreSmallFor d (once_each t.rows)) (sym s.kept.query) small.0) (subst (λ (d : Query). AreSmallFor d dxs) (sym s.kept.query) small.1) in
-      (ready.2, subst (λ (c : List Addition). HoldsFor c w.kept.groups) (sym ready.1) holds)
-
-  pub can_all_take : (vs ws : List NamedView) (ps : List (Option (List Addition))) → StandOn t vs → AllByRecursion AreSmall vs → AreSame vs ws → AreReady t.number dxs ws ps → CanAllTake ws ps
-  can_all_take [] [] [] on small s ready = tt
-  can_all_take [] [] (p ∷ ps) on small s ready = absurd ready
-  can_all_take [] (w ∷ ws) ps on small s ready = absurd s
-  can_all_take (v ∷ vs) [] ps on small s ready = absurd s
-  can_all_take (v ∷ vs) (w ∷ ws) [] on small s ready = absurd ready
-  can_all_take (v ∷ vs) (w ∷ ws) (p ∷ ps) on small s ready = (can_take v w p on.0 small.0 s.0 ready.0, can_all_take vs ws ps on.1 small.1 s.1 ready.1)
-
--- views that took a change in follow the table
-module _ (epoch : ℕ) (t u : TableOf) (dxs : Weighted) (number : u.number ≡ t.number) (rows : SameBag (once_each u.rows) (once_each t.rows ++ dxs)) (bag : IsBag (once_each u.rows)) where
-  follows : (v w x : NamedView) (p : Option (List Addition)) → StandsOn t v → IsSame v w → IsReady t.number dxs w p → HasTaken epoch w p x → Follows epoch u v x
-  follows v w x None on s ready taken = record {
+  follows : (v w x : NamedView) (p : Option Pending) → StandsFor v.kept tables → IsSame v w → IsReady n tables changes w p → HasTaken epoch w p x → Follows epoch tables changes v x
+  follows v w x None stands s ready taken = record {
     name = taken.name ∙ s.name;
     columns = taken.columns ∙ s.columns;
     query = taken.query ∙ s.kept.query;
     built = taken.built ∙ s.kept.built;
     epoch = taken.epoch;
-    on = λ e. absurd (let both : true ≡ false = sym e ∙ ap (λ (n : ℕ). table_of x.kept.query == n) number ∙ ap (λ (d : Query). table_of d == t.number) taken.query ∙ ready in cc);
-    off = λ e xs h. taken.groups xs (s.kept.stands xs h);
+    stands =
+        let free : reads n x.kept.query ≡ false = ap (λ (q : Query). reads n q) taken.query ∙ ready in
+        law x.kept tables (changed tables changes) (unchanged_all (sources_of x.kept.query) (unread n (sources_of x.kept.query) free)) (taken.goes tables (s.kept.stands tables stands));
   }
-  follows v w x (Some change) on s ready taken = record {
+  follows v w x (Some p) stands s ready taken = record {
     name = taken.name ∙ s.name;
     columns = taken.columns ∙ s.columns;
     query = taken.query ∙ s.kept.query;
     built = taken.built ∙ s.kept.built;
     epoch = taken.epoch;
-    on = λ e.
-        let here : (table_of v.kept.query == t.number) ≡ true = ap (λ (d : Query). table_of d == t.number) (sym s.kept.query) ∙ ready.0 in
-        taken.groups (once_each t.rows) dxs (once_each u.rows) ready.1 rows bag (s.kept.stands (once_each t.rows) (on.1 here));
-    off = λ e. absurd (let both : false ≡ true = sym e ∙ ap (λ (n : ℕ). table_of x.kept.query == n) number ∙ ap (λ (d : Query). table_of d == t.number) taken.query ∙ ready.0 in cc);
+    stands = taken.goes tables changes (s.kept.stands tables stands) ready.1 bags;
   }
 
-  pub follow : (vs ws xs : List NamedView) (ps : List (Option (List Addition))) → StandOn t vs → AreSame vs ws → AreReady t.number dxs ws ps → HaveTaken epoch ws ps xs → Follow epoch u vs xs
-  follow [] [] [] [] on s ready taken = tt
-  follow [] [] (x ∷ xs) [] on s ready taken = absurd taken
-  follow [] [] xs (p ∷ ps) on s ready taken = absurd ready
-  follow [] (w ∷ ws) xs ps on s ready taken = absurd s
-  follow (v ∷ vs) [] xs ps on s ready taken = absurd s
-  follow (v ∷ vs) (w ∷ ws) xs [] on s ready taken = absurd ready
-  follow (v ∷ vs) (w ∷ ws) [] (p ∷ ps) on s ready taken = absurd taken
-  follow (v ∷ vs) (w ∷ ws) (x ∷ xs) (p ∷ ps) on s ready taken = (follows v w x p on.0 s.0 ready.0 taken.0, follow vs ws xs ps on.1 s.1 ready.1 taken.1)
+  pub all_follow : (vs ws xs : List NamedView) (ps : List (Option Pending)) → AllStandFor tables vs → AreSame vs ws → AreReady n tables changes ws ps → HaveTaken epoch ws ps xs → Pointwise (Follows epoch tables changes) vs xs
+  all_follow [] [] [] [] stand s ready taken = tt
+  all_follow [] [] (x ∷ xs) [] stand s ready taken = absurd taken
+  all_follow [] [] xs (p ∷ ps) stand s ready taken = absurd ready
+  all_follow [] (w ∷ ws) xs ps stand s ready taken = absurd s
+  all_follow (v ∷ vs) [] xs ps stand s ready taken = absurd s
+  all_follow (v ∷ vs) (w ∷ ws) xs [] stand s ready taken = absurd ready
+  all_follow (v ∷ vs) (w ∷ ws) [] (p ∷ ps) stand s ready taken = absurd taken
+  all_follow (v ∷ vs) (w ∷ ws) (x ∷ xs) (p ∷ ps) stand s ready taken = (follows v w x p stand.0 s.0 ready.0 taken.0, all_follow vs ws xs ps stand.1 s.1 ready.1 taken.1)
+
+-- they follow what was changed in a table
+pub follow : StandingDependsOnSources → (epoch : ℕ) (t u : TableOf) (dxs : Weighted) (vs ws xs : List NamedView) (ps : List (Option Pending)) → SameBag (once_each u.rows) (once_each t.rows ++ dxs)
+    → AreSame vs ws → AreReadyAt t.number dxs vs ws ps → HaveTaken epoch ws ps xs → Follow epoch t u vs xs
+follow law epoch t u dxs vs ws xs ps rows same ready taken = record {
+  changes = ready.changes;
+  others = ready.of.others;
+  own =
+      same-trans (once_each u.rows) (once_each t.rows ++ dxs) (once_each t.rows ++ ready.changes (Table t.number)) rows
+      (same-append (once_each t.rows) (once_each t.rows) dxs (ready.changes (Table t.number)) (same-refl (once_each t.rows)) (same-sym (ready.changes (Table t.number)) dxs ready.of.at));
+  each = λ tables stand bags. all_follow law epoch t.number tables ready.changes ready.of.others bags vs ws xs ps stand same (ready.ready tables stand) taken;
+}
 
 -- ---- Views of all tables, where one table was written
-module _ (epoch now : ℕ) (old new : List TableOf) (u : TableOf) (written : rows_in new u.number ≡ u.rows) (others : (n : ℕ) → (n == u.number) ≡ false → rows_in new n ≡ rows_in old n) where
-  moved_view : (v w : NamedView) → Follows epoch u v w → view_of w ≡ at_epoch epoch (view_of v)
-  moved_view v w f = λ i. record { name = f.name i; columns = f.columns i; query = f.query i; epoch = f.epoch i; built = f.built i }
+-- the tables that views are right for are those that they stand for
+pub all_stand : (tables : List TableOf) (now : ℕ) (vs : List NamedView) → AreRight tables now vs → AllStandFor (bags_in tables) vs
+all_stand tables now [] right = tt
+all_stand tables now (v ∷ vs) right = (right.0.stands, all_stand tables now vs right.1)
 
-  moved_right : (v w : NamedView) → Follows epoch u v w → IsRight old now v → IsRight new epoch w
-  moved_right v w f r = record {
-    shown = ap length f.columns ∙ r.shown ∙ sym (ap (λ (d : Query). length d.items) f.query);
-    fits = subst Fits (sym f.query) r.fits;
-    epoch = f.epoch;
-    stands = by_test (table_of w.kept.query == u.number) on off;
-  }
+module _ (law : StandingDependsOnSources) (epoch now : ℕ) (old new : List TableOf) (t u : TableOf) (number : u.number ≡ t.number) (here : rows_in old t.number ≡ t.rows) (written : rows_in new u.number ≡ u.rows)
+    (elsewhere : (n : ℕ) → (n == u.number) ≡ false → rows_in new n ≡ rows_in old n) (vs ws : List NamedView) (f : Follow epoch t u vs ws) (right : AreRight old now vs) where
+  -- the tables with what was changed are the new tables
+  abbrev after : Tables
+  after = changed (bags_in old) f.changes
+
+  after_same : (source : Source) → SameBag (after source) (bags_in new source)
+  after_same (View place) = rw (f.others (View place) refl) (same-refl [])
+  after_same (Table m) = by_test (m == u.number) on off
     where
-      on : (table_of w.kept.query == u.number) ≡ true → Stands w.kept (once_each (rows_in new (table_of w.kept.query)))
-      on e =
-          let n : (table_of w.kept.query) ≡ u.number = eqb-true (table_of w.kept.query) u.number e in
-          subst (λ (rs : List Row). Stands w.kept (once_each rs)) (sym (ap (rows_in new) n ∙ written)) (f.on e)
+      own : SameBag (after (Table t.number)) (bags_in new (Table t.number))
+      own = rw (here, ap (rows_in new) (sym number) ∙ written) (same-sym (once_each u.rows) (once_each t.rows ++ f.changes (Table t.number)) f.own)
 
-      off : (table_of w.kept.query == u.number) ≡ false → Stands w.kept (once_each (rows_in new (table_of w.kept.query)))
-      off e =
-          let same : rows_in new (table_of w.kept.query) ≡ rows_in old (table_of v.kept.query) = others (table_of w.kept.query) e ∙ ap (λ (d : Query). rows_in old (table_of d)) f.query in
-          subst (λ (rs : List Row). Stands w.kept (once_each rs)) (sym same) (f.off e (once_each (rows_in old (table_of v.kept.query))) r.stands)
+      on : (m == u.number) ≡ true → SameBag (after (Table m)) (bags_in new (Table m))
+      on k = subst (λ (i : ℕ). SameBag (after (Table i)) (bags_in new (Table i))) (sym (eqb-true m u.number k ∙ number)) own
 
-  pub moved : (vs ws : List NamedView) → Follow epoch u vs ws → AreRight old now vs → Moved epoch new vs ws
-  moved vs ws f r = record {
-    views = pointwise_map (Follows epoch u) (λ v. at_epoch epoch (view_of v)) view_of moved_view vs ws f ∙ sym (map-map (at_epoch epoch) view_of vs);
-    right = pointwise_all (Follows epoch u) (IsRight old now) (IsRight new epoch) moved_right vs ws f r;
+      off : (m == u.number) ≡ false → SameBag (after (Table m)) (bags_in new (Table m))
+      off k =
+          let other : is_table t.number (Table m) ≡ false = subst (λ (i : ℕ). (m == i) ≡ false) number k in
+          rw (f.others (Table m) other, append-nil (once_each (rows_in old m)), elsewhere m k) (same-refl (once_each (rows_in old m)))
+
+  after_bags : AreBags after
+  after_bags source = bag-same (after source) (bags_in new source) (after_same source) (bags_are new source)
+
+  same_for : (sources : List Source) → AllByRecursion (λ s. SameBag (after s) (bags_in new s)) sources
+  same_for [] = tt
+  same_for (s ∷ sources) = (after_same s, same_for sources)
+
+  moved_view : (v w : NamedView) → Follows epoch (bags_in old) f.changes v w → view_of w ≡ at_epoch epoch (view_of v)
+  moved_view v w g = λ i. record { name = g.name i; columns = g.columns i; query = g.query i; epoch = g.epoch i; built = g.built i }
+
+  moved_right : (v w : NamedView) → Follows epoch (bags_in old) f.changes v w → IsRight old now v → IsRight new epoch w
+  moved_right v w g r = record {
+    shown = ap length g.columns ∙ r.shown ∙ sym (ap (λ (q : Query). length q.items) g.query);
+    fits = subst Fits (sym g.query) r.fits;
+    epoch = g.epoch;
+    stands = law w.kept after (bags_in new) (same_for (sources_of w.kept.query)) g.stands;
   }
+
+  pub moved : Moved epoch new vs ws
+  moved =
+      let each = f.each (bags_in old) (all_stand old now vs right) after_bags in
+      record {
+        views = pointwise_map (Follows epoch (bags_in old) f.changes) (λ v. at_epoch epoch (view_of v)) view_of moved_view vs ws each ∙ sym (map-map (at_epoch epoch) view_of vs);
+        right = pointwise_all (Follows epoch (bags_in old) f.changes) (IsRight old now) (IsRight new epoch) moved_right vs ws each right;
+      }

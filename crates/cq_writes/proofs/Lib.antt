@@ -1,5 +1,6 @@
 pub mod Checks
 pub mod Changes
+pub mod Preparing
 pub mod Exchanged
 pub mod Following
 pub mod Written

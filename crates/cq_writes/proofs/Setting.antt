@@ -1,15 +1,13 @@
 -- The images of rows under SET fit the columns where their values may be stored.
-use Rattle.std.proofs.Common.{◌≡◌, ◌+◌, ◌<◌, ◌++◌, ◌^◌, ℕ, ℤ, neg_ℤ, pos, zero, suc, Bool, true, false, not, List, [], ◌∷◌, length, map, get_or, take, None, refl, sym, ap, ◌∙◌, arith, subst}
-use Rattle.std.specs.Prelude.{◌==◌, ◌&&◌, ◌||◌, FitsSigned, int_lt, if◌then◌else◌, slice_index_or, slice_set}
+use Rattle.std.proofs.Common.{◌≡◌, ◌^◌, ℕ, ℤ, neg_ℤ, pos, zero, suc, Bool, true, false, not, List, [], ◌∷◌, None, refl, arith}
+use Rattle.std.specs.Prelude.{◌&&◌, ◌||◌, FitsSigned, int_lt, slice_set}
 use Rattle.std.specs.Int.{w64}
 use Rattle.std.specs.List.{AllByRecursion, flat_map, list_any}
-use Rattle.std.proofs.lemmas.Bool.{eq-eqb, eqb-true}
 use Rattle.std.proofs.lemmas.Int.{ints}
-use Rattle.std.proofs.lemmas.List.{take_more}
 use Rattle.cq_values.specs.declared.column.ColumnDef.{ColumnDef}
 use Rattle.cq_values.specs.declared.value.Value.{Value}
 use Rattle.cq_values.specs.declared.value.Value.TheVariants.{Null, Number, Day, Text}
-use Rattle.cq_values.specs.Value.{Row, column}
+use Rattle.cq_values.specs.Value.{Row}
 use Rattle.cq_bags.proofs.Totals.{by_test}
 use Rattle.cq_model.specs.declared.assignment.Assignment.{Assignment}
 use Rattle.cq_model.specs.Eval.{eval}

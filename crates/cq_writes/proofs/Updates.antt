@@ -1,5 +1,5 @@
 -- UPDATE on the rows of a table: what is known of those that go and of those that come.
-use Rattle.std.proofs.Common.{◌≡◌, ◌<◌, ◌≤◌, ◌^◌, ℕ, get_or, set, Result, Ok, Err, Bool, List, [], ◌∷◌, ◌++◌, map, length, Option, None, sym, ap, ◌∙◌, arith, subst}
+use Rattle.std.proofs.Common.{◌≡◌, ◌<◌, ◌≤◌, ℕ, get_or, set, Result, Ok, Err, Bool, List, [], ◌∷◌, ◌++◌, map, length, Option, None, sym, ap, ◌∙◌, arith, subst}
 use Rattle.std.specs.Prelude.{filter, if◌then◌else◌}
 use Rattle.std.specs.Result.{OnOk}
 use Rattle.std.specs.List.{AllByRecursion}
@@ -7,7 +7,6 @@ use Rattle.std.proofs.lemmas.List.{length-map}
 use Rattle.cq_values.specs.declared.column.ColumnDef.{ColumnDef}
 use Rattle.cq_values.specs.Value.{Row}
 use Rattle.cq_bags.proofs.Canonicals.{length-bag_of}
-use Rattle.cq_deltas.specs.declared.change.Addition.{Addition}
 use Rattle.cq_laws.specs.Sizes.{IsStored}
 use Rattle.cq_model.specs.declared.assignment.Assignment.{Assignment}
 use Rattle.cq_model.specs.Expr.{Cond}
@@ -18,8 +17,7 @@ use Rattle.cq_binding.specs.Checks.{MayRefuse}
 use Rattle.cq_binding.specs.declared.fault.Fault.{Fault}
 use Rattle.cq_states.specs.Fitting.{AreFitting, AreLimited, FitsColumns, IsFitting}
 use Rattle.cq_states.specs.State.{AreNumbered, TableOf, columns_in, holding, rows_in}
-use Rattle.cq_tables.specs.Taking.{AreSame, CanAllTake}
-use Rattle.cq_writes.specs.Following.{StandOn}
+use Rattle.cq_upkeep.specs.declared.state.Pending.{Pending}
 use Rattle.cq_writes.specs.Updates.{CanSetAll, CanUpdate, IsPrepared, Updates, UpdatesRows, updated_in, value_fault_in}
 use Rattle.cq_tables.specs.Views.{NamedView}
 use Rattle.cq_table.specs.Checks.{CanWorkOut, value_fault, values_fault}
@@ -31,7 +29,7 @@ use Rattle.cq_tables.proofs.Rows.{bounded-with_rows, columns_numbered, fitting-w
 use Rattle.cq_writes.proofs.Setting.{checked_fit}
 use Rattle.cq_table.proofs.RowLists.{all_of_kept, gone_all}
 use Rattle.cq_tables.proofs.Stored.{rows_stored}
-use Rattle.cq_writes.proofs.Written.{can_take_exchange, gone_few, written_here}
+use Rattle.cq_writes.proofs.Written.{written_here}
 
 all_images : (P : Row → Type 0) (image : Row → Row) (rows : List Row) → AllByRecursion (λ r. P (image r)) rows → AllByRecursion P (map image rows)
 all_images P image [] all = tt
@@ -72,7 +70,7 @@ module _ (t : TableOf) (assignments : List Assignment) (c : Option Cond) (can : 
     pub stored_come : values_fault t.columns assignments gone ≡ None → AllByRecursion IsStored (map (image_of assignments) gone)
     stored_come free = rows_stored t.columns (map (image_of assignments) gone) (come_fit free)
 
-module _ (t : TableOf) (assignments : List Assignment) (c : Option Cond) (can : CanUpdate t.columns assignments c t.rows) (ws : List NamedView) (come : List Row) (ps : List (Option (List Addition))) (p : IsPrepared t assignments c ws come ps) where
+module _ (t : TableOf) (assignments : List Assignment) (c : Option Cond) (can : CanUpdate t.columns assignments c t.rows) (vs ws : List NamedView) (come : List Row) (ps : List (Option Pending)) (p : IsPrepared t assignments c vs ws come ps) where
   -- as many come as are chosen
   pub length_come : length come ≡ length (chosen c t.rows)
   length_come = ap length p.images ∙ length-map p.gone (image_of assignments) ∙ length_gone t assignments c can p.gone p.chosen
@@ -89,15 +87,6 @@ module _ (t : TableOf) (assignments : List Assignment) (c : Option Cond) (can : 
   images_fitting fitting =
       let free : values_fault t.columns assignments p.gone ≡ None = fault_same assignments c t.rows p.gone p.chosen t.columns ∙ p.free in
       subst (λ (rs : List Row). AllByRecursion (FitsColumns t.columns) rs) (sym p.images) (come_fit t assignments c can p.gone p.chosen fitting free)
-
-  -- the views can take the exchange in
-  pub can_take_prepared : IsFitting t → length t.rows < 2 ^ 63 → (vs : List NamedView) → StandOn t vs → AreSame vs ws → CanAllTake ws ps
-  can_take_prepared fitting few vs stand same =
-      let free : values_fault t.columns assignments p.gone ≡ None = fault_same assignments c t.rows p.gone p.chosen t.columns ∙ p.free in
-      let stored = subst (λ (rs : List Row). AllByRecursion IsStored rs) (sym p.images) (stored_come t assignments c can p.gone p.chosen fitting free) in
-      can_take_exchange t p.gone come (omega (arith, few))
-      (omega (arith, length_come, length_gone t assignments c can p.gone p.chosen, gone_few (keeps c) t.rows p.gone p.chosen (2 ^ 63) few))
-      (rows_stored t.columns t.rows fitting) (stored_gone t assignments c can p.gone p.chosen fitting) stored vs ws ps stand same p.ready
 
 -- ---- The table of a number
 pub updates_rows : (assignments : List Assignment) (c : Option Cond) (t u : TableOf) (result : Result ℕ Fault) → UpdatesRows assignments c t result u → OnOk result (u ≡ holding (updated assignments c t.rows) t)
@@ -152,7 +141,3 @@ module _ (n : ℕ) (assignments : List Assignment) (c : Option Cond) (tables : L
   updated_bounded most bounded =
       bounded-with_rows n (updated assignments c rows) most tables
       (omega (arith, length-map rows (λ r. if keeps c r then image_of assignments r else r), rows_have (λ rs. length rs ≤ most) (omega arith) tables n bounded)) bounded
-
-  -- there are few rows in a table
-  pub few_rows : (most : ℕ) → most ≤ 2 ^ 24 → AreLimited most tables → length rows < 2 ^ 63
-  few_rows most low bounded = omega (arith, low, rows_have (λ rs. length rs ≤ most) (omega arith) tables n bounded)

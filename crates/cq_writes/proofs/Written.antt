@@ -1,18 +1,15 @@
--- A write of one table: what comes or goes is small for the views on it, and they follow.
-use Rattle.std.proofs.Common.{◌≡◌, ◌+◌, ◌≤◌, ◌<◌, ◌^◌, ℕ, ℤ, pos, neg_ℤ, nat_abs, Bool, not, List, [], ◌∷◌, ◌++◌, map, length, get_or, set, Option, Result, Ok, Err, refl, sym, ap, ◌∙◌, arith, subst}
+-- A write of one table, and the views that follow it.
+use Rattle.std.proofs.Common.{◌≡◌, ◌+◌, ◌≤◌, ◌<◌, ◌^◌, ℕ, pos, neg_ℤ, Bool, not, List, [], ◌∷◌, ◌++◌, length, get_or, set, Option, Result, Ok, Err, sym, ap, ◌∙◌, arith, subst}
 use Rattle.std.specs.Prelude.{filter, nat_lt, None}
 use Rattle.std.specs.Result.{OnErr, OnOk}
 use Rattle.std.specs.List.{AllByRecursion}
 use Rattle.std.proofs.lemmas.Bool.{ltb-false}
-use Rattle.std.proofs.lemmas.Int.{ints}
-use Rattle.std.proofs.lemmas.List.{length-append}
+use Rattle.std.proofs.lemmas.List.{append-nil, length-append}
 use Rattle.cq_values.specs.Value.{Row}
-use Rattle.cq_bags.specs.Bag.{once_each}
+use Rattle.cq_bags.specs.Bag.{Weighted, SameBag, once_each}
 use Rattle.cq_bags.specs.Canonical.{bag_of}
 use Rattle.cq_bags.proofs.Canonicals.{length-bag_of}
 use Rattle.cq_bags.proofs.Totals.{by_test}
-use Rattle.cq_deltas.specs.declared.change.Addition.{Addition}
-use Rattle.cq_laws.proofs.Positives.{once_each-bag}
 use Rattle.cq_binding.specs.declared.fault.Fault.{Fault}
 use Rattle.cq_binding.specs.Checks.{MayRefuse}
 use Rattle.cq_model.specs.Expr.{Cond}
@@ -20,100 +17,45 @@ use Rattle.cq_model.specs.Meaning.{keeps}
 use Rattle.cq_model.specs.Write.{left_by}
 use Rattle.cq_states.specs.Fitting.{FitsColumns, AreLimited, AreFitting}
 use Rattle.cq_states.specs.State.{TableOf, AreNumbered, columns_in, holding, rows_in, with_rows}
-use Rattle.cq_model.specs.declared.query.Query.{Query}
-use Rattle.cq_views.specs.Small.{AreSmallFor, IsSmallFor}
-use Rattle.cq_views.specs.View.{IsNarrowFor, changed, exchanged}
-use Rattle.cq_views.proofs.Moves.{small-changes, small-exchanges, small-rows}
+use Rattle.cq_upkeep.specs.Laws.{StandingDependsOnSources}
+use Rattle.cq_upkeep.specs.declared.state.Pending.{Pending}
 use Rattle.cq_writes.specs.Writing.{Inserts, InsertsRows, deleted_from, inserted_into, room_for}
-use Rattle.cq_writes.specs.Following.{StandOn, Follow, Moved}
-use Rattle.cq_tables.specs.Taking.{AreSame, AreReady, CanAllTake, HaveTaken}
-use Rattle.cq_tables.specs.Views.{NamedView, Fits, AreRight}
+use Rattle.cq_writes.specs.Changing.{AreReadyAt, AreStanding, changed, exchanged}
+use Rattle.cq_writes.specs.Following.{Follow, Moved}
+use Rattle.cq_tables.specs.Taking.{AreSame, HaveTaken}
+use Rattle.cq_tables.specs.Views.{AreRight, Fits, NamedView, bags_in}
 use Rattle.cq_writes.proofs.Changes.{with_fewer, with_more}
 use Rattle.cq_writes.proofs.Exchanged.{with_exchanged}
-use Rattle.cq_writes.proofs.Following.{can_all_take, follow, moved, stand_on}
+use Rattle.cq_writes.proofs.Following.{all_stand, follow, moved}
+use Rattle.cq_tables.proofs.Bags.{bags_few, bags_stored}
 use Rattle.cq_tables.proofs.Numbers.{set-number}
 use Rattle.cq_tables.proofs.Rows.{bounded-with_rows, fitting-with_rows, fitting_in, rows_at, rows_elsewhere, rows_have, rows_numbered, rows_there}
 use Rattle.cq_table.specs.Checks.{too_many}
 use Rattle.cq_table.proofs.RowLists.{all_of_bag, all_of_both, all_of_kept, all_of_rows}
 use Rattle.cq_laws.specs.Sizes.{IsStored}
 
--- ---- Rows that fit views
-module _ (q : Query) (fits : Fits q) where
-  narrow_rows : (rows : List Row) → AllByRecursion IsStored rows → AllByRecursion (IsNarrowFor q) rows
-  narrow_rows [] stored = tt
-  narrow_rows (r ∷ rows) stored = (fits.narrow r stored.0, narrow_rows rows stored.1)
-
-  small_stored : (rows : List Row) → AllByRecursion IsStored rows → AllByRecursion (IsSmallFor q) rows
-  small_stored [] stored = tt
-  small_stored (r ∷ rows) stored = (fits.small r stored.0, small_stored rows stored.1)
-
--- stored rows are narrow for each view
-pub all_narrow : (t : TableOf) (vs : List NamedView) (rows : List Row) → StandOn t vs → AllByRecursion IsStored rows → AllByRecursion (λ v. AllByRecursion (IsNarrowFor v.kept.query) rows) vs
-all_narrow t [] rows stand stored = tt
-all_narrow t (v ∷ vs) rows stand stored = (narrow_rows v.kept.query stand.0.0 rows stored, all_narrow t vs rows stand.1 stored)
-
--- so they are where they are lent
-module _ {X : Type 0} (here : X → Row) where
-  narrow_here : (q : Query) (xs : List X) → AllByRecursion (IsNarrowFor q) (map here xs) → AllByRecursion (λ x. IsNarrowFor q (here x)) xs
-  narrow_here q [] narrow = tt
-  narrow_here q (x ∷ xs) narrow = (narrow.0, narrow_here q xs narrow.1)
-
-  pub all_narrow_here : (vs : List NamedView) (xs : List X) → AllByRecursion (λ v. AllByRecursion (IsNarrowFor v.kept.query) (map here xs)) vs → AllByRecursion (λ v. AllByRecursion (λ x. IsNarrowFor v.kept.query (here x)) xs) vs
-  all_narrow_here [] xs narrow = tt
-  all_narrow_here (v ∷ vs) xs narrow = (narrow_here v.kept.query xs narrow.0, all_narrow_here vs xs narrow.1)
-
--- ---- Rows that go while others come
-module _ (t : TableOf) (gone come : List Row) (few : length t.rows < 2 ^ 64) (few_both : length gone + length come < 2 ^ 64) (stored : AllByRecursion IsStored t.rows) (stored_gone : AllByRecursion IsStored gone) (stored_come : AllByRecursion IsStored come) where
-  both_small : (vs : List NamedView) → StandOn t vs → AllByRecursion (λ v. AreSmallFor v.kept.query (once_each t.rows) × AreSmallFor v.kept.query (exchanged gone come)) vs
-  both_small [] stand = tt
-  both_small (v ∷ vs) stand = (
-    (
-      small-rows v.kept.query t.rows (pos 1) few (small_stored v.kept.query stand.0.0 t.rows stored) (omega (arith, ints)),
-      small-exchanges v.kept.query gone come few_both (small_stored v.kept.query stand.0.0 gone stored_gone) (small_stored v.kept.query stand.0.0 come stored_come),
-    ),
-    both_small vs stand.1,
-  )
-
-  -- views that were made ready for the exchange can take it in
-  pub can_take_exchange : (vs ws : List NamedView) (ps : List (Option (List Addition))) → StandOn t vs → AreSame vs ws → AreReady t.number (exchanged gone come) ws ps → CanAllTake ws ps
-  can_take_exchange vs ws ps stand same ready = can_all_take small-changes t (exchanged gone come) vs ws ps stand (both_small vs stand) same ready
-
--- ---- Rows that all come, or all go
-module _ (t : TableOf) (rows : List Row) (weight : ℤ) (once : nat_abs weight ≤ 1) (few : length t.rows < 2 ^ 64) (few_rows : length rows < 2 ^ 64) (stored : AllByRecursion IsStored t.rows) (stored_rows : AllByRecursion IsStored rows) where
-  all_small : (vs : List NamedView) → StandOn t vs → AllByRecursion (λ v. AreSmallFor v.kept.query (once_each t.rows) × AreSmallFor v.kept.query (changed rows weight)) vs
-  all_small [] stand = tt
-  all_small (v ∷ vs) stand = (
-    (
-      small-rows v.kept.query t.rows (pos 1) few (small_stored v.kept.query stand.0.0 t.rows stored) (omega (arith, ints)),
-      small-rows v.kept.query rows weight few_rows (small_stored v.kept.query stand.0.0 rows stored_rows) once,
-    ),
-    all_small vs stand.1,
-  )
-
-  -- views that were made ready for them can take them in
-  pub can_take_rows : (vs ws : List NamedView) (ps : List (Option (List Addition))) → StandOn t vs → AreSame vs ws → AreReady t.number (changed rows weight) ws ps → CanAllTake ws ps
-  can_take_rows vs ws ps stand same ready = can_all_take small-changes t (changed rows weight) vs ws ps stand (all_small vs stand) same ready
-
-module _ (epoch : ℕ) (t u : TableOf) (vs ws xs : List NamedView) (ps : List (Option (List Addition))) (stand : StandOn t vs) (same : AreSame vs ws) (taken : HaveTaken epoch ws ps xs) where
-  -- views follow the rows of an INSERT
-  pub inserted-follow : (rows : List Row) → u ≡ holding (t.rows ++ rows) t → AreReady t.number (once_each rows) ws ps → Follow epoch u vs xs
+-- ---- Rows that come, and rows that go
+module _ (law : StandingDependsOnSources) (epoch : ℕ) (t u : TableOf) (vs ws xs : List NamedView) (ps : List (Option Pending)) (same : AreSame vs ws) (taken : HaveTaken epoch ws ps xs) where
+  -- the rows of an INSERT
+  pub inserted-follow : (rows : List Row) → u ≡ holding (t.rows ++ rows) t → AreReadyAt t.number (exchanged [] rows) vs ws ps → Follow epoch t u vs xs
   inserted-follow rows is ready =
-      subst (λ (w : TableOf). Follow epoch w vs xs) (sym is)
-      (follow epoch t (holding (t.rows ++ rows) t) (once_each rows) refl (with_more t.rows rows) (once_each-bag (bag_of (t.rows ++ rows))) vs ws xs ps stand same ready taken)
+      subst (λ (w : TableOf). Follow epoch t w vs xs) (sym is) (follow law epoch t (holding (t.rows ++ rows) t) (once_each rows) vs ws xs ps (with_more t.rows rows) same ready taken)
 
-  -- and those of a DELETE
-  pub deleted-follow : (keep : Row → Bool) (gone : List Row) → u ≡ holding (filter (λ row. not (keep row)) t.rows) t → bag_of gone ≡ bag_of (filter keep t.rows) → AreReady t.number (changed gone (neg_ℤ (pos 1))) ws ps → Follow epoch u vs xs
+  -- those of a DELETE
+  pub deleted-follow : (keep : Row → Bool) (gone : List Row) → u ≡ holding (filter (λ row. not (keep row)) t.rows) t → bag_of gone ≡ bag_of (filter keep t.rows) → AreReadyAt t.number (exchanged gone []) vs ws ps
+      → Follow epoch t u vs xs
   deleted-follow keep gone is chosen ready =
-      subst (λ (w : TableOf). Follow epoch w vs xs) (sym is)
-      (follow epoch t (holding (filter (λ row. not (keep row)) t.rows) t) (changed gone (neg_ℤ (pos 1))) refl (with_fewer keep t.rows gone chosen)
-      (once_each-bag (bag_of (filter (λ row. not (keep row)) t.rows))) vs ws xs ps stand same ready taken)
+      let rows = filter (λ row. not (keep row)) t.rows in
+      let nothing : exchanged gone [] ≡ changed gone (neg_ℤ (pos 1)) = append-nil (changed gone (neg_ℤ (pos 1))) in
+      let left = subst (λ (dxs : Weighted). SameBag (once_each (bag_of rows)) (once_each t.rows ++ dxs)) (sym nothing) (with_fewer keep t.rows gone chosen) in
+      subst (λ (w : TableOf). Follow epoch t w vs xs) (sym is) (follow law epoch t (holding rows t) (exchanged gone []) vs ws xs ps left same ready taken)
 
   -- and those of an UPDATE
-  pub exchanged-follow : (keep : Row → Bool) (gone come : List Row) → u ≡ holding (filter (λ row. not (keep row)) t.rows ++ come) t → bag_of gone ≡ bag_of (filter keep t.rows) → AreReady t.number (exchanged gone come) ws ps → Follow epoch u vs xs
+  pub exchanged-follow : (keep : Row → Bool) (gone come : List Row) → u ≡ holding (filter (λ row. not (keep row)) t.rows ++ come) t → bag_of gone ≡ bag_of (filter keep t.rows)
+      → AreReadyAt t.number (exchanged gone come) vs ws ps → Follow epoch t u vs xs
   exchanged-follow keep gone come is chosen ready =
       let rows = filter (λ row. not (keep row)) t.rows ++ come in
-      subst (λ (w : TableOf). Follow epoch w vs xs) (sym is)
-      (follow epoch t (holding rows t) (exchanged gone come) refl (with_exchanged keep t.rows gone chosen come) (once_each-bag (bag_of rows)) vs ws xs ps stand same ready taken)
+      subst (λ (w : TableOf). Follow epoch t w vs xs) (sym is) (follow law epoch t (holding rows t) (exchanged gone come) vs ws xs ps (with_exchanged keep t.rows gone chosen come) same ready taken)
 
 -- ---- The rows that a DELETE takes
 module _ (keep : Row → Bool) where
@@ -135,22 +77,34 @@ module _ (keep : Row → Bool) where
         omega (arith, few, same, kept_few rows)
 
 -- ---- Views of all tables, where the one at a place was written
-module _ (now next : ℕ) (tables : List TableOf) (i : ℕ) (t : TableOf) (vs : List NamedView) (numbered : AreNumbered tables next) (within : i < length tables) (is : t ≡ get_or tables i t) (right : AreRight tables now vs) where
-  -- they stand on it
-  pub stand_at : StandOn t vs
-  stand_at = stand_on tables now t vs (subst (λ (x : TableOf). rows_in tables x.number ≡ x.rows) (sym is) (rows_there tables i t next numbered within)) right
+-- views that are right stand for the tables
+pub standing : (tables : List TableOf) (now : ℕ) (vs : List NamedView) → AreFitting tables → AreLimited (2 ^ 24) tables → AreRight tables now vs → AreStanding vs
+standing tables now vs fitting few right = record {
+  tables = bags_in tables;
+  stored = bags_stored tables fitting;
+  few = bags_few tables few;
+  fits = all_fit vs right;
+  stand = all_stand tables now vs right;
+}
+  where
+    all_fit : (ws : List NamedView) → AreRight tables now ws → AllByRecursion (λ v. Fits v.kept.query) ws
+    all_fit [] r = tt
+    all_fit (w ∷ ws) r = (r.0.fits, all_fit ws r.1)
 
-  -- and are led on with it
-  pub moved_at : (epoch : ℕ) (u : TableOf) (ws : List NamedView) → u.number ≡ t.number → Follow epoch u vs ws → Moved epoch (set tables i u) vs ws
+module _ (law : StandingDependsOnSources) (now next : ℕ) (tables : List TableOf) (i : ℕ) (t : TableOf) (vs : List NamedView) (numbered : AreNumbered tables next) (within : i < length tables) (is : t ≡ get_or tables i t) (right : AreRight tables now vs) where
+  -- they are led on with it
+  pub moved_at : (epoch : ℕ) (u : TableOf) (ws : List NamedView) → u.number ≡ t.number → Follow epoch t u vs ws → Moved epoch (set tables i u) vs ws
   moved_at epoch u ws number f =
       let same : u.number ≡ (get_or tables i t).number = number ∙ ap (λ (x : TableOf). x.number) is in
-      moved epoch now tables (set tables i u) u (rows_at u t tables i next numbered within same) (rows_elsewhere u t tables i within same) vs ws f right
+      let here : rows_in tables t.number ≡ t.rows = subst (λ (x : TableOf). rows_in tables x.number ≡ x.rows) (sym is) (rows_there tables i t next numbered within) in
+      moved law epoch now tables (set tables i u) t u number here (rows_at u t tables i next numbered within same) (rows_elsewhere u t tables i within same) vs ws f right
 
-  pub written-moved : {X E : Type 0} (epoch : ℕ) (u : TableOf) (ws : List NamedView) (rows : List Row) (result : Result X E) → OnOk result (u ≡ holding rows t) → OnOk result (Follow epoch u vs ws) → OnOk result (Moved epoch (set tables i u) vs ws)
+  pub written-moved : {X E : Type 0} (epoch : ℕ) (u : TableOf) (ws : List NamedView) (rows : List Row) (result : Result X E) → OnOk result (u ≡ holding rows t) → OnOk result (Follow epoch t u vs ws) → OnOk result (Moved epoch (set tables i u) vs ws)
   written-moved epoch u ws rows (Ok x) w f = moved_at epoch u ws (ap (λ (y : TableOf). y.number) w) f
   written-moved epoch u ws rows (Err e) w f = tt
 
-  pub inserted_moved : (epoch : ℕ) (u : TableOf) (ws : List NamedView) (max_rows : ℕ) (rows : List Row) (result : Result (Unit {0}) Fault) → InsertsRows max_rows rows t result u → OnOk result (Follow epoch u vs ws) → OnOk result (Moved epoch (set tables i u) vs ws)
+  pub inserted_moved : (epoch : ℕ) (u : TableOf) (ws : List NamedView) (max_rows : ℕ) (rows : List Row) (result : Result (Unit {0}) Fault) → InsertsRows max_rows rows t result u → OnOk result (Follow epoch t u vs ws)
+      → OnOk result (Moved epoch (set tables i u) vs ws)
   inserted_moved epoch u ws max_rows rows (Ok x) w f = moved_at epoch u ws (ap (λ (y : TableOf). y.number) w.1) f
   inserted_moved epoch u ws max_rows rows (Err e) w f = tt
 

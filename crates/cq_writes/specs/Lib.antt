@@ -1,3 +1,4 @@
+pub mod Changing
 pub mod Following
 pub mod Updates
 pub mod Writing

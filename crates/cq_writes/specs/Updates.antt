@@ -6,7 +6,6 @@ use Rattle.cq_values.specs.declared.column.ColumnDef.{ColumnDef}
 use Rattle.cq_values.specs.declared.ty.Ty.{Ty}
 use Rattle.cq_values.specs.declared.ty.Ty.TheVariants as types
 use Rattle.cq_values.specs.Value.{Row}
-use Rattle.cq_deltas.specs.declared.change.Addition.{Addition}
 use Rattle.cq_model.specs.declared.assignment.Assignment.{Assignment}
 use Rattle.cq_model.specs.Eval.{eval}
 use Rattle.cq_model.specs.Expr.{Cond}
@@ -16,9 +15,10 @@ use Rattle.cq_binding.specs.declared.fault.Fault.{Fault}
 use Rattle.cq_binding.specs.Checks.{MayRefuse}
 use Rattle.cq_exprs.specs.Types.{IsOf}
 use Rattle.cq_states.specs.State.{TableOf, columns_in, holding, rows_in, with_rows}
-use Rattle.cq_views.specs.View.{exchanged}
-use Rattle.cq_tables.specs.Taking.{AreReady}
+use Rattle.cq_upkeep.specs.declared.state.Pending.{Pending}
+use Rattle.cq_tables.specs.Taking.{CanAllTake}
 use Rattle.cq_tables.specs.Views.{NamedView}
+use Rattle.cq_writes.specs.Changing.{AreReadyAt, exchanged}
 use Rattle.cq_table.specs.Checks.{value_fault}
 use Rattle.cq_table.specs.Table.{SameRows}
 use Rattle.cq_tables.specs.Tables.{value_fault_of}
@@ -68,13 +68,14 @@ Updates n assignments condition old (Ok count) new =
 Updates n assignments condition old (Err f) new = MayRefuse (value_fault_in old n assignments condition) f
 
 -- the images of the chosen rows are worked out and may be stored, and the views are ready for the exchange
-pub record IsPrepared (t : TableOf) (assignments : List Assignment) (condition : Option Cond) (views : List NamedView) (come : List Row) (changes : List (Option (List Addition))) : Type 0 where
+pub record IsPrepared (t : TableOf) (assignments : List Assignment) (condition : Option Cond) (old new : List NamedView) (come : List Row) (pendings : List (Option Pending)) : Type 0 where
   pub free : value_fault_of t assignments condition ≡ None
   pub gone : List Row
   pub chosen : SameRows gone (chosen condition t.rows)
   pub images : come ≡ map (image_of assignments) gone
-  pub ready : AreReady t.number (exchanged gone come) views changes
+  pub ready : AreReadyAt t.number (exchanged gone come) old new pendings
+  pub can : CanAllTake new pendings
 
--- the images and the changes, as they are kept until then
-abbrev pub ArePrepared : TableOf → List Assignment → Option Cond → List NamedView → (Vec Row Global × Vec (Option (List Addition)) Global) → Type 0
-ArePrepared t assignments condition views prepared = IsPrepared t assignments condition views prepared.0.items prepared.1.items
+-- the images and what waits, as they are kept until then
+abbrev pub ArePrepared : TableOf → List Assignment → Option Cond → List NamedView → List NamedView → (Vec Row Global × Vec (Option Pending) Global) → Type 0
+ArePrepared t assignments condition old new prepared = IsPrepared t assignments condition old new prepared.0.items prepared.1.items

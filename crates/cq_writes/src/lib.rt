@@ -5,6 +5,7 @@
 //! they are then.
 #![tactic(auto)]
 
+mod changing;
 mod deletion;
 mod insertion;
 mod updating;

@@ -1,17 +1,19 @@
 //! The rows that an UPDATE replaces.
-ghost use Rattle.std.specs.Prelude.{◌≡◌, ◌<◌, ◌^◌, IfErr, IfOk, OnErr, OnOk, length};
+ghost use Rattle.std.specs.Prelude.{◌≡◌, ◌≤◌, IfErr, IfOk, OnErr, OnOk, length};
 ghost use Rattle.cq_binding.specs.Checks.{MayRefuse};
-ghost use Rattle.cq_states.specs.Fitting.{IsFitting};
+ghost use Rattle.cq_states.specs.Fitting.{IsFitting, rows_limit};
 ghost use Rattle.cq_tables.specs.Taking.{AreSame};
-ghost use Rattle.cq_writes.specs.Following.{Follow, StandOn};
+ghost use Rattle.cq_writes.specs.Changing.{AreStanding};
+ghost use Rattle.cq_writes.specs.Following.{Follow};
 ghost use Rattle.cq_tables.specs.Tables.{value_fault_of};
 ghost use Rattle.cq_writes.specs.Updates.{ArePrepared, CanUpdate, UpdatesRows};
 
+use crate::changing::prepare_views;
 use cq_binding::Fault;
 use cq_model::{Assignment, Cond};
-use cq_tables::{Table, View, commit_all, prepare_exchanges};
+use cq_tables::{Table, View, commit_all};
+use cq_upkeep::{Pending, standing_depends_on_sources};
 use cq_values::Row;
-use cq_views::Pending;
 use std::alloc::Global;
 
 /// What takes the place of the rows that WHERE keeps, and what that changes in each view.
@@ -28,17 +30,18 @@ pub fn update_rows(
     epoch: u64,
 ) -> Result<usize, Fault>
     requires fitting { IsFitting table.old }
-    requires few { length table.old.rows < 2 ^ 63 }
-    requires stand { StandOn table.old views.old.items }
+    requires few { length table.old.rows ≤ rows_limit }
+    requires stand { AreStanding views.old.items }
     requires can { CanUpdate table.old.columns assignments.now condition.now table.old.rows }
     ensures updates { UpdatesRows assignments.now condition.now table.old result table.new }
-    ensures follow { OnOk result (Follow epoch table.new views.old.items views.new.items) }
+    ensures follow { OnOk result (Follow epoch table.old table.new views.old.items views.new.items) }
     ensures err { OnErr result ((table.new ≡ table.old) × AreSame views.old.items views.new.items) }
 {
     let (images, pendings) = prepared(alloc, table, views, assignments, condition)?;
     let count = images.len();
     table.replace(condition, images);
     commit_all(views, pendings, epoch);
+    standing_depends_on_sources();
     Ok(count)
 }
 
@@ -51,13 +54,14 @@ fn prepared(
     condition: &Option<Cond>,
 ) -> Result<Prepared, Fault>
     requires fitting { IsFitting table.now }
-    requires stand { StandOn table.now views.old.items }
+    requires few { length table.now.rows ≤ rows_limit }
+    requires stand { AreStanding views.old.items }
     requires can { CanUpdate table.now.columns assignments.now condition.now table.now.rows }
     ensures kept { AreSame views.old.items views.new.items }
-    ensures ready { IfOk result (ArePrepared table.now assignments.now condition.now views.new.items) }
+    ensures ready { IfOk result (ArePrepared table.now assignments.now condition.now views.old.items views.new.items) }
     ensures fault { IfErr result (MayRefuse (value_fault_of table.now assignments.now condition.now)) }
 {
     let (chosen, images) = table.images_where(alloc, assignments, condition)?;
-    let pendings = prepare_exchanges(alloc, views, table.number(), &chosen, &images)?;
+    let pendings = prepare_views(alloc, views, table.number(), &chosen, &images)?;
     Ok((images, pendings))
 }

@@ -1,9 +1,9 @@
 //! Writes of the table of a number, which is one of several.
-ghost use Rattle.std.specs.Prelude.{◌≡◌, ◌<◌, ◌^◌, ℕ, IfOk, OnErr, OnOk, length};
+ghost use Rattle.std.specs.Prelude.{◌≡◌, ◌≤◌, ℕ, IfOk, OnErr, OnOk, length};
 ghost use Rattle.std.specs.List.{AllByRecursion};
 ghost use Rattle.cq_model.specs.Width.{IsNarrowIn};
 ghost use Rattle.cq_model.specs.Write.{chosen};
-ghost use Rattle.cq_states.specs.Fitting.{AreFitting, FitsColumns};
+ghost use Rattle.cq_states.specs.Fitting.{AreFitting, AreLimited, FitsColumns, rows_limit};
 ghost use Rattle.cq_states.specs.State.{AreNumbered, columns_in, rows_in};
 ghost use Rattle.cq_tables.specs.Tables.{IsThere};
 ghost use Rattle.cq_tables.specs.Taking.{AreSame};
@@ -18,6 +18,7 @@ use crate::updating::update_rows;
 use cq_binding::Fault;
 use cq_model::{Assignment, Cond};
 use cq_tables::{Table, View, place_numbered};
+use cq_upkeep::standing_depends_on_sources;
 use cq_values::Row;
 use std::alloc::{AllocError, Global};
 
@@ -31,9 +32,11 @@ pub fn insert_in(
     rows: Vec<Row>,
     epoch: u64,
 ) -> Result<(), Fault>
+    requires max { max_rows ≤ rows_limit }
     requires numbered { (next : ℕ) × AreNumbered tables.old.items next }
     requires fitting { AreFitting tables.old.items }
     requires right { (now : ℕ) × AreRight tables.old.items now views.old.items }
+    requires limited { AreLimited rows_limit tables.old.items }
     requires there { IsThere number tables.old.items }
     requires rows { AllByRecursion (FitsColumns (columns_in tables.old.items number)) rows.items }
     ensures inserts { Inserts max_rows number rows.items tables.old.items result tables.new.items }
@@ -41,6 +44,7 @@ pub fn insert_in(
     ensures err { OnErr result ((tables.new.items ≡ tables.old.items) × AreSame views.old.items views.new.items) }
 {
     let place = place_numbered(tables, number);
+    standing_depends_on_sources();
     insert_into(alloc, max_rows, &mut tables[place], views, rows, epoch)
 }
 
@@ -57,6 +61,7 @@ pub fn delete_in(
     requires numbered { (next : ℕ) × AreNumbered tables.old.items next }
     requires fitting { AreFitting tables.old.items }
     requires right { (now : ℕ) × AreRight tables.old.items now views.old.items }
+    requires limited { AreLimited rows_limit tables.old.items }
     requires there { IsThere number tables.old.items }
     requires narrow { AllByRecursion (IsNarrowIn condition.now) (rows_in tables.old.items number) }
     ensures count { IfOk result (λ count. count ≡ length (chosen condition.now (rows_in tables.old.items number))) }
@@ -65,6 +70,7 @@ pub fn delete_in(
     ensures err { OnErr result ((tables.new.items ≡ tables.old.items) × AreSame views.old.items views.new.items) }
 {
     let place = place_numbered(tables, number);
+    standing_depends_on_sources();
     delete_from(alloc, &mut tables[place], views, condition, epoch)
 }
 
@@ -82,14 +88,15 @@ pub fn update_in(
     requires numbered { (next : ℕ) × AreNumbered tables.old.items next }
     requires fitting { AreFitting tables.old.items }
     requires right { (now : ℕ) × AreRight tables.old.items now views.old.items }
+    requires limited { AreLimited rows_limit tables.old.items }
     requires there { IsThere number tables.old.items }
-    requires few { length (rows_in tables.old.items number) < 2 ^ 63 }
     requires can { CanUpdateIn tables.old.items number assignments.now condition.now }
     ensures updates { Updates number assignments.now condition.now tables.old.items result tables.new.items }
     ensures moved { OnOk result (Moved epoch tables.new.items views.old.items views.new.items) }
     ensures err { OnErr result ((tables.new.items ≡ tables.old.items) × AreSame views.old.items views.new.items) }
 {
     let place = place_numbered(tables, number);
+    standing_depends_on_sources();
     update_rows(
         alloc,
         &mut tables[place],

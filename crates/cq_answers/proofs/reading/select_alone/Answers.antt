@@ -5,7 +5,8 @@ use Rattle.cq_states.specs.State.{columns_in}
 use Rattle.cq_answers.specs.Reading.{IsSourceThere}
 use Rattle.cq_answers.specs.Narrow.{IsWithinSized, joined_sizes, source_sizes}
 use Rattle.cq_tables.specs.Views.{views_of}
-use Rattle.cq_answers.proofs.Readings.{all_backed, alone_sizes, alone_within, backed_there, from_kept, from_rows, place_there, sizes_there, stored_sized, within_shown}
+use Rattle.cq_answers.proofs.Backed.{all_backed}
+use Rattle.cq_answers.proofs.Readings.{alone_sizes, alone_within, backed_there, from_kept, from_rows, place_there, sizes_there, stored_sized, within_shown}
 use Rattle.cq_tables.proofs.Rows.{rows_numbered}
 use Rattle.cq_answers.proofs.reading.select_alone.Goals as goal
 
@@ -44,7 +45,7 @@ offset_bounds-views-place c =
     place_there c.args.views.now c.in-View.place (subst (IsSourceThere c.args.tables.now (views_of c.args.views.now)) c.in-View.is c.requires.can_read.there.0) in
     search (rules, there, arith)
 
--- its table backs it
+-- its tables back it
 pub select_from_view-requires-clause-backed : goal.select_from_view-requires-clause-backed
 select_from_view-requires-clause-backed c =
     let tables = c.args.tables.now in

@@ -1,16 +1,15 @@
 use Rattle.cq_model.specs.Meaning.{meaning}
 use Rattle.cq_model.specs.Sizes.{column_sizes}
-use Rattle.cq_answers.proofs.Readings.{shown_sized, within_shown}
+use Rattle.cq_answers.proofs.Readings.{within_shown}
 use Rattle.cq_answers.proofs.Results.{listing_plain}
 use Rattle.cq_answers.proofs.reading.select_from_view.Goals as goal
 
 -- the query can be worked out on each row that the view shows
 pub list-requires : goal.list-requires
 list-requires c =
-    let v = c.args.view.now in
-    let rows = c.in_ok-rows.rows in
-    let told = shown_sized v rows.items c.requires.backed c.rows_keep_sizes.ensures c.in_ok-rows.ensures.ok c.in_ok-rows.ensures.range in
-    rw c.deref.ensures.value (within_shown (column_sizes v.kept.query) c.args.query.now rows.items c.requires.within told)
+    let sizes = column_sizes c.args.view.now.kept.query in
+    rw c.deref.ensures.value (within_shown sizes c.args.query.now c.in_ok-rows.rows.items c.requires.within
+    c.in_ok-rows.ensures.sized)
 
 -- the listing of the rows that the view shows is that of its bag
 pub returns : goal.returns
@@ -18,7 +17,8 @@ returns c =
     let q = c.args.query.now in
     let rows = c.in_ok-rows.rows in
     let listed = rw c.deref.ensures.value at c.in_ok-list.ensures in
-    λ tables stands. (
-      listing_plain q.filter q.items q.first (λ source. meaning c.args.view.now.kept.query tables) c.args.order.now rows.items c.in_ok-list.field-0 (c.in_ok-rows.ensures.ok tables stands) listed,
-      c.in_ok-rows.ensures.range tables stands,
+    λ tables stands bags. (
+      listing_plain q.filter q.items q.first (λ source. meaning c.args.view.now.kept.query tables) c.args.order.now
+          rows.items c.in_ok-list.field-0 (c.in_ok-rows.ensures.ok tables stands bags) listed,
+      c.in_ok-rows.ensures.range tables stands bags,
     )

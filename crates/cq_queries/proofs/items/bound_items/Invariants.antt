@@ -1,8 +1,8 @@
 use Rattle.std.proofs.Common.{◌≡◌, map, drop}
 use Rattle.cq_binding.specs.Headers.{shown_by}
 use Rattle.cq_binding.specs.Checks.{first_fault}
-use Rattle.cq_binding.specs.SourceChecks.{value_check}
 use Rattle.cq_exprs.specs.Expressions.{scope_of}
+use Rattle.cq_queries.specs.Items.{item_check}
 use Rattle.cq_queries.proofs.BoundItems.{AreBoundUpTo}
 use Rattle.cq_queries.proofs.items.bound_items.Given as goal
 
@@ -10,4 +10,4 @@ use Rattle.cq_queries.proofs.items.bound_items.Given as goal
 abbrev pub invariant-loop-item : goal.invariant-loop-item
 invariant-loop-item l =
     AreBoundUpTo (scope_of l.scope) l.initial.aggregates (shown_by l.items) (shown_by (drop l.item-index l.items)) l.aggregates l.values
-    × (first_fault (map (value_check (scope_of l.scope)) (shown_by (drop l.item-index l.items))) ≡ first_fault (map (value_check (scope_of l.scope)) (shown_by l.items)))
+    × (first_fault (map (item_check l.purpose (scope_of l.scope)) (shown_by (drop l.item-index l.items))) ≡ first_fault (map (item_check l.purpose (scope_of l.scope)) (shown_by l.items)))

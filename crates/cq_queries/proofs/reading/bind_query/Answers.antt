@@ -3,7 +3,7 @@ use Rattle.cq_binding.specs.Checks.{first_fault, MayRefuse}
 use Rattle.cq_binding.specs.Refusal.{bag_checks}
 use Rattle.cq_binding.specs.Typing.{ScopeColumn}
 use Rattle.cq_catalog.specs.From.{shown_from}
-use Rattle.cq_queries.specs.Select.{AreBoundParts}
+use Rattle.cq_queries.specs.Parts.{AreBoundParts}
 use Rattle.cq_queries.proofs.Selecting.{bag_refused, order_refused, query_passes, select_made}
 use Rattle.cq_queries.proofs.reading.bind_query.Goals as goal
 
@@ -30,4 +30,4 @@ returns c =
     let free = subst (λ (columns : List ScopeColumn). first_fault (bag_checks q columns) ≡ None) c.deref.ensures.value c.in-Ok.ensures.0 in
     let parts = subst (λ (columns : List ScopeColumn). AreBoundParts columns q c.in-Ok.parts) c.deref.ensures.value c.in-Ok.ensures.1 in
     let keys = rw (c.as_slice-3.ensures, c.as_slice-2.ensures, header) at c.in-Ok-sort_keys.ensures in
-    (query_passes q from free keys.0, select_made q from c.in_ok-header.header c.in-Ok.parts c.in-Ok-sort_keys.keys header keys.1 parts)
+    (query_passes q from free keys.0, select_made q from c.in_ok-header.header c.query_of.result c.in-Ok.parts c.in-Ok-sort_keys.keys header c.query_of.ensures keys.1 parts)

@@ -1,69 +1,18 @@
-use Rattle.std.proofs.Common.{◌≡◌, List, [], ◌∷◌, map, None, Ok, subst}
 use Rattle.std.proofs.lemmas.Result.{err_from_is_err_and}
-use Rattle.cq_model.specs.declared.query.Aggregate.{Aggregate}
-use Rattle.cq_binding.specs.Checks.{first_fault, MayRefuse}
 use Rattle.cq_binding.specs.Grouping.{item_scope}
-use Rattle.cq_binding.specs.Headers.{shown_by}
-use Rattle.cq_binding.specs.SourceChecks.{value_check, where_check}
-use Rattle.cq_binding.specs.Typing.{Scope}
-use Rattle.cq_queries.specs.Conditions.{BindsWhere}
-use Rattle.cq_queries.specs.Grouping.{BindsHaving}
-use Rattle.cq_queries.specs.Items.{AreItems, BindsItems}
-use Rattle.cq_queries.proofs.Selecting.{bag_passes, group_refused, having_refused, items_refused, number_refused}
+use Rattle.cq_binding.specs.Refusal.{bag_checks}
+use Rattle.cq_catalog.proofs.Faults.{walked_same}
+use Rattle.cq_queries.specs.Parts.{AreBoundParts, end_walk}
+use Rattle.cq_queries.proofs.Selecting.{clauses_refused, end_decides}
 use Rattle.cq_queries.proofs.reading.bound_parts.Goals as goal
 
-pub returns-in_err-keys : goal.returns-in_err-keys
-returns-in_err-keys c =
-    let p = err_from_is_err_and c.from_residual-in_err-keys.result c.from_residual-in_err-keys.ensures.1 in
-    let q = c.args.select.now in
-    let filter = subst (λ (s : Scope). first_fault (where_check s q.condition ∷ []) ≡ None) c.of_rows.ensures c.in_ok-filter.ensures.0 in
-    let e = rw c.as_slice.ensures at c.in_err-keys.ensures in
-    rw (p.1, p.2) (group_refused q c.args.columns.now filter c.in_err-keys.field-0.0 e)
-
-pub returns-in-Err : goal.returns-in-Err
-returns-in-Err c =
-    let q = c.args.select.now in
-    let f = c.in-Err.fault in
-    let filter = subst (λ (s : Scope). first_fault (where_check s q.condition ∷ []) ≡ None) c.of_rows.ensures c.in_ok-filter.ensures.0 in
-    let keys = rw c.as_slice.ensures at c.in_ok-keys.ensures in
-    let e = rw c.as_slice-3.ensures at c.in-Err.ensures in
-    let m = subst (λ (s : Scope). MayRefuse (first_fault (map (value_check s) (shown_by q.items))) f) c.item_scope-scope.ensures e in
-    items_refused q c.args.columns.now filter keys.0 f m
-
-pub returns-in-Err-check_length : goal.returns-in-Err-check_length
-returns-in-Err-check_length c =
-    let q = c.args.select.now in
-    let filter = subst (λ (s : Scope). first_fault (where_check s q.condition ∷ []) ≡ None) c.of_rows.ensures c.in_ok-filter.ensures.0 in
-    let keys = rw c.as_slice.ensures at c.in_ok-keys.ensures in
-    let items = rw c.as_slice-3.ensures at c.in-Ok.ensures in
-    let named = subst (λ (s : Scope). first_fault (map (value_check s) (shown_by q.items)) ≡ None) c.item_scope-scope.ensures items.0 in
-    let e = rw c.len.ensures at c.in-Err-check_length.ensures in
-    number_refused q c.args.columns.now filter keys.0 named c.in-Err-check_length.fault e
-
-pub returns-in-Err-bound_having : goal.returns-in-Err-bound_having
-returns-in-Err-bound_having c =
-    let q = c.args.select.now in
-    let f = c.in-Err-bound_having.fault in
-    let filter = subst (λ (s : Scope). first_fault (where_check s q.condition ∷ []) ≡ None) c.of_rows.ensures c.in_ok-filter.ensures.0 in
-    let keys = rw c.as_slice.ensures at c.in_ok-keys.ensures in
-    let items = rw c.as_slice-3.ensures at c.in-Ok.ensures in
-    let named = subst (λ (s : Scope). first_fault (map (value_check s) (shown_by q.items)) ≡ None) c.item_scope-scope.ensures items.0 in
-    let short = rw c.len.ensures at c.in-Ok-check_length.ensures in
-    let m = subst (λ (s : Scope). MayRefuse (first_fault (where_check s q.having ∷ [])) f) c.item_scope-scope.ensures c.in-Err-bound_having.ensures in
-    having_refused q c.args.columns.now filter keys.0 named f short.0 m
+pub returns-in_err-clauses : goal.returns-in_err-clauses
+returns-in_err-clauses c =
+    let p = err_from_is_err_and c.from_residual.result c.from_residual.ensures.1 in
+    rw (p.1, p.2) (clauses_refused c.args.select.now c.args.columns.now c.in_err-clauses.field-0.0 c.in_err-clauses.ensures)
 
 pub returns : goal.returns
 returns c =
     let q = c.args.select.now in
     let columns = c.args.columns.now in
-    let behind = c.bound_items.new.aggregates in
-    let filter = subst (λ (s : Scope). BindsWhere s q.condition (Ok c.in_ok-filter.filter)) c.of_rows.ensures c.in_ok-filter.ensures in
-    let keys = rw c.as_slice.ensures at c.in_ok-keys.ensures in
-    let items = rw c.as_slice-3.ensures at c.in-Ok.ensures in
-    let shown = subst (λ (s : Scope). BindsItems value_check s c.new-aggregates.result behind q.items (Ok c.in-Ok.items)) c.item_scope-scope.ensures items in
-    let first = subst (λ (before : List Aggregate). AreItems (item_scope q columns) before behind q.items c.in-Ok.items) c.new-aggregates.ensures shown.1 in
-    let short = rw c.len.ensures at c.in-Ok-check_length.ensures in
-    let having = subst (λ (s : Scope). BindsHaving s behind c.bound_having.new.aggregates q.having (Ok c.in-Ok-bound_having.having)) c.item_scope-scope.ensures c.in-Ok-bound_having.ensures in (
-      bag_passes q columns filter.0 keys.0 shown.0 short.0 having.0,
-      record { filter = filter.1; shape = c.shape_of-shape.ensures columns behind keys.1 first.aggregates having.1; items = first.values },
-    )
+    walked_same (end_walk (item_scope q columns) q) (bag_checks q columns) (AreBoundParts columns q) c.ended_parts.result (end_decides q columns c.in_ok-clauses.ensures.0) c.ended_parts.ensures

@@ -1,17 +1,14 @@
-use Rattle.std.proofs.Common.{◌≡◌, ◌<◌, length, map, to_z, of_z, arith}
-use Rattle.std.specs.List.{AllByRecursion}
-use Rattle.std.specs.Int.{w128}
-use Rattle.std.proofs.lemmas.Int.{to_z-of_z}
-use Rattle.cq_views.specs.View.{IsNarrowFor, changed}
-use Rattle.cq_tables.proofs.Named.{query_there, ready_all, ready_written, same_written, within_same}
+use Rattle.std.proofs.Common.{◌≡◌, ◌<◌, length, arith}
+use Rattle.cq_chains.specs.Sources.{rows_at}
+use Rattle.cq_tables.proofs.Named.{can_prepare_there, ready_all, ready_written, same_written, stands_there, within_same}
 use Rattle.cq_tables.proofs.Turns.{all_same}
 use Rattle.cq_tables.proofs.views.prepare_all.Goals as goal
 
-pub returns-in_err-pendings-clause-kept : goal.returns-in_err-pendings-clause-kept
-returns-in_err-pendings-clause-kept c = all_same c.args.views.now.items
+pub returns-in_err-pendings-clause-same : goal.returns-in_err-pendings-clause-same
+returns-in_err-pendings-clause-same c = all_same c.args.views.now.items
 
 pub loop-place-init : goal.loop-place-init
-loop-place-init c = (all_same c.args.views.now.items, rw c.in_ok-pendings.ensures.items tt)
+loop-place-init c = (all_same c.args.views.now.items, λ tables stand. rw c.in_ok-pendings.ensures.items tt)
 
 pub index_mut-requires : goal.index_mut-requires
 index_mut-requires c =
@@ -24,36 +21,39 @@ pub prepare-requires : goal.prepare-requires
 prepare-requires c =
     let vs = c.args.views.now in
     let h : c.loop-place.place < length vs.items = omega (arith, c.loop-place-test.true, c.len-place-end.ensures, vs.ok.0) in
-    query_there vs.items c.loop-place.views.items c.loop-place.place h c.loop-place.invariant.0 c.index_mut.result.now c.index_mut.ensures.value (λ q. AllByRecursion (λ r. IsNarrowFor q r.now) c.args.rows.now) c.requires
+    can_prepare_there vs.items c.loop-place.views.items c.loop-place.place h c.loop-place.invariant.0 c.index_mut.result.now c.index_mut.ensures.value (rows_at c.args.changes.now) c.requires
 
-pub returns-in_err-prepare-clause-kept : goal.returns-in_err-prepare-clause-kept
-returns-in_err-prepare-clause-kept c =
+pub returns-in_err-prepare-clause-same : goal.returns-in_err-prepare-clause-same
+returns-in_err-prepare-clause-same c =
     let vs = c.args.views.now in
     let h : c.loop-place.place < length vs.items = omega (arith, c.loop-place-test.true, c.len-place-end.ensures, vs.ok.0) in
-    same_written vs.items c.loop-place.views.items c.loop-place.place h c.loop-place.invariant.0 c.index_mut.result.now c.index_mut.ensures.value c.prepare.new.self c.prepare.ensures.kept
+    same_written vs.items c.loop-place.views.items c.loop-place.place h c.loop-place.invariant.0 c.index_mut.result.now c.index_mut.ensures.value c.prepare.new.self c.prepare.ensures.same
 
-pub returns-in_err-push-clause-kept : goal.returns-in_err-push-clause-kept
-returns-in_err-push-clause-kept c =
+pub returns-in_err-push-clause-same : goal.returns-in_err-push-clause-same
+returns-in_err-push-clause-same c =
     let vs = c.args.views.now in
     let h : c.loop-place.place < length vs.items = omega (arith, c.loop-place-test.true, c.len-place-end.ensures, vs.ok.0) in
-    same_written vs.items c.loop-place.views.items c.loop-place.place h c.loop-place.invariant.0 c.index_mut.result.now c.index_mut.ensures.value c.prepare.new.self c.prepare.ensures.kept
+    same_written vs.items c.loop-place.views.items c.loop-place.place h c.loop-place.invariant.0 c.index_mut.result.now c.index_mut.ensures.value c.prepare.new.self c.prepare.ensures.same
 
 pub loop-place-preserved : goal.loop-place-preserved
 loop-place-preserved c =
-    let vs = c.args.views.now in
-    let h : c.loop-place.place < length vs.items = omega (arith, c.loop-place-test.true, c.len-place-end.ensures, vs.ok.0) in
-    let dxs = changed (map (λ r. r.now) c.args.rows.now) (to_z w128 (of_z w128 c.args.weight)) in (
-      same_written vs.items c.loop-place.views.items c.loop-place.place h c.loop-place.invariant.0 c.index_mut.result.now c.index_mut.ensures.value c.prepare.new.self c.prepare.ensures.kept,
-      ready_written vs.items c.loop-place.views.items c.loop-place.place h c.loop-place.invariant.0 c.args.table dxs c.loop-place.pendings.items c.push.new.self.items c.prepare.new.self c.in_ok-prepare.field-0
-          c.loop-place.invariant.1 c.in_ok-prepare.ensures.ready c.in_ok-push.ensures.items,
+    let vs = c.args.views.now.items in
+    let now = c.loop-place.views.items in
+    let i = c.loop-place.place in
+    let h : i < length vs = omega (arith, c.loop-place-test.true, c.len-place-end.ensures, c.args.views.now.ok.0) in
+    let v = c.index_mut.result.now in
+    let is = c.index_mut.ensures.value in
+    let same = c.loop-place.invariant.0 in (
+      same_written vs now i h same v is c.prepare.new.self c.prepare.ensures.same,
+      λ tables stand. ready_written vs now i h same c.args.table tables (rows_at c.args.changes.now) c.loop-place.pendings.items c.push.new.self.items c.prepare.new.self c.in_ok-prepare.field-0
+          (c.loop-place.invariant.1 tables stand) (c.in_ok-prepare.ensures.ready tables (stands_there vs now i h same v is tables stand)) c.in_ok-push.ensures.items,
     )
 
-pub returns-clause-kept : goal.returns-clause-kept
-returns-clause-kept c = c.loop-place.invariant.0
+pub returns-clause-same : goal.returns-clause-same
+returns-clause-same c = c.loop-place.invariant.0
 
 pub returns-clause-ready : goal.returns-clause-ready
 returns-clause-ready c =
     let vs = c.args.views.now in
     let all : c.loop-place.place ≡ length vs.items = omega (arith, c.loop-place-test.false, c.loop-place.auto.place-end, c.len-place-end.ensures, vs.ok.0) in
-    let weight = to_z-of_z w128 c.args.weight c.ranges.weight in
-    ready_all c.args.table (changed (map (λ r. r.now) c.args.rows.now) c.args.weight) vs.items c.loop-place.views.items c.loop-place.pendings.items c.loop-place.place all c.loop-place.invariant.0 (rw weight at c.loop-place.invariant.1)
+    λ tables stand. ready_all c.args.table tables (rows_at c.args.changes.now) vs.items c.loop-place.views.items c.loop-place.pendings.items c.loop-place.place all c.loop-place.invariant.0 (c.loop-place.invariant.1 tables stand)

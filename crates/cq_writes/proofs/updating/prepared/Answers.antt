@@ -1,10 +1,12 @@
-use Rattle.std.proofs.Common.{◌≡◌, ◌∙◌, None, map}
+use Rattle.std.proofs.Common.{◌≡◌, ◌∙◌, ◌+◌, ◌<◌, ◌^◌, None, length, map, ap, arith}
+use Rattle.std.proofs.lemmas.List.{length-map}
+use Rattle.cq_model.specs.Meaning.{keeps}
 use Rattle.cq_model.specs.Write.{image_of}
 use Rattle.cq_table.specs.Checks.{values_fault}
 use Rattle.cq_table.proofs.Checked.{fault_same}
 use Rattle.cq_tables.proofs.Turns.{all_same}
 use Rattle.cq_writes.proofs.Updates.{can_work_out, stored_come, stored_gone}
-use Rattle.cq_writes.proofs.Written.{all_narrow, all_narrow_here}
+use Rattle.cq_writes.proofs.Written.{gone_few}
 use Rattle.cq_writes.proofs.updating.prepared.Goals as goal
 
 pub images_where-requires : goal.images_where-requires
@@ -12,24 +14,28 @@ images_where-requires c =
     let t = c.args.table.now in
     can_work_out t.columns c.args.assignments.now c.args.condition.now t.rows c.requires.can
 
-pub prepare_exchanges-requires-clause-gone : goal.prepare_exchanges-requires-clause-gone
-prepare_exchanges-requires-clause-gone c =
-    let t = c.args.table.now in
-    let lent = c.in_ok-chosen.chosen.items in
-    let views = c.args.views.now.items in
-    let gone = map (λ r. r.now) lent in
-    let stored = stored_gone t c.args.assignments.now c.args.condition.now c.requires.can gone c.in_ok-chosen.ensures.images.chosen c.requires.fitting in
-    rw c.deref.ensures.value (all_narrow_here (λ r. r.now) views lent (all_narrow t views gone c.requires.stand stored))
+pub prepare_views-requires-clause-gone : goal.prepare_views-requires-clause-gone
+prepare_views-requires-clause-gone c =
+    let gone = map (λ r. r.now) c.in_ok-chosen.chosen.items in
+    rw c.deref.ensures.value (stored_gone c.args.table.now c.args.assignments.now c.args.condition.now c.requires.can gone c.in_ok-chosen.ensures.images.chosen c.requires.fitting)
 
-pub prepare_exchanges-requires-clause-come : goal.prepare_exchanges-requires-clause-come
-prepare_exchanges-requires-clause-come c =
+pub prepare_views-requires-clause-come : goal.prepare_views-requires-clause-come
+prepare_views-requires-clause-come c =
     let t = c.args.table.now in
     let sets = c.args.assignments.now in
     let gone = map (λ r. r.now) c.in_ok-chosen.chosen.items in
     let images = c.in_ok-chosen.ensures.images in
     let free : values_fault t.columns sets gone ≡ None = fault_same sets c.args.condition.now t.rows gone images.chosen t.columns ∙ c.in_ok-chosen.ensures.checked in
-    let stored = stored_come t sets c.args.condition.now c.requires.can gone images.chosen c.requires.fitting free in
-    rw (c.deref-2.ensures.value, images.images) (all_narrow t c.args.views.now.items (map (image_of sets) gone) c.requires.stand stored)
+    rw (c.deref-2.ensures.value, images.images) (stored_come t sets c.args.condition.now c.requires.can gone images.chosen c.requires.fitting free)
+
+pub prepare_views-requires-clause-few : goal.prepare_views-requires-clause-few
+prepare_views-requires-clause-few c =
+    let chosen = c.in_ok-chosen.chosen.items in
+    let gone = map (λ r. r.now) chosen in
+    let images = c.in_ok-chosen.ensures.images in
+    let few : length gone < 2 ^ 24 + 1 = gone_few (keeps c.args.condition.now) c.args.table.now.rows gone images.chosen (2 ^ 24 + 1) (omega (arith, c.requires.few)) in
+    let come : length c.in_ok-chosen.images.items ≡ length gone = ap length images.images ∙ length-map gone (image_of c.args.assignments.now) in
+    rw (c.deref.ensures.value, c.deref-2.ensures.value) (omega (arith, few, come, length-map chosen (λ r. r.now)))
 
 pub returns-clause-ready : goal.returns-clause-ready
 returns-clause-ready c =
@@ -40,6 +46,7 @@ returns-clause-ready c =
       chosen = images.chosen;
       images = images.images;
       ready = rw (c.number.ensures, c.deref.ensures.value, c.deref-2.ensures.value) at c.in_ok-pendings.ensures.ready;
+      can = c.in_ok-pendings.ensures.can;
     }
 
 pub returns-in_err-chosen-clause-kept : goal.returns-in_err-chosen-clause-kept

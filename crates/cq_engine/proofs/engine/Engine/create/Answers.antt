@@ -15,7 +15,9 @@ invariant_of-self-2 c =
       omega (arith, c.self.invariant.0),
       rw (c.in_ok-push.ensures.items, c.new-table.ensures) (numbered-behind made tables c.self.invariant.1),
       rw (c.in_ok-push.ensures.items, c.new-table.ensures) (all_behind IsFitting tables made c.self.invariant.2 tt),
-      rw (c.in_ok-push.ensures.items, c.new-table.ensures) (right_everywhere tables _ c.self.inside.writes c.self.inside.views.items (λ n. rows_before tables made n refl) c.self.invariant.3),
+      rw (c.in_ok-push.ensures.items, c.new-table.ensures)
+          (right_everywhere tables _ c.self.inside.writes (λ n. rows_before tables made n refl) c.self.inside.views.items
+          c.self.invariant.3),
       rw (c.in_ok-push.ensures.items, c.new-table.ensures) (all_behind (λ t. length t.rows ≤ c.self.inside.limits.max_rows) tables made c.self.invariant.4 (omega arith)),
     )
 

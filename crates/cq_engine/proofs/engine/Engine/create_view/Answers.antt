@@ -1,8 +1,14 @@
-use Rattle.std.proofs.Common.{refl}
+use Rattle.std.proofs.Common.{◌^◌, refl}
 use Rattle.cq_tables.specs.Views.{views_of}
+use Rattle.cq_tables.proofs.Rows.{bounded_more}
 use Rattle.cq_engine.proofs.Kept.{all_at}
 use Rattle.cq_engine.proofs.Steps.{create_view_done}
 use Rattle.cq_engine.proofs.engine.Engine.create_view.Goals as goal
+
+pub create_view_in-requires-clause-limited : goal.create_view_in-requires-clause-limited
+create_view_in-requires-clause-limited c =
+    rw c.deref.ensures.value (bounded_more c.self.inside.limits.max_rows (2 ^ 24) c.self.inside.tables.items
+    c.self.inside.limits.in_range.1 c.self.invariant.4)
 
 pub returns-clause-done : goal.returns-clause-done
 returns-clause-done c =

@@ -15,7 +15,8 @@ invariant_of-self c =
       c.self.invariant.0,
       rw c.drop_in.ensures (numbered-others c.args.number tables c.self.inside.drawn c.self.invariant.1),
       rw c.drop_in.ensures (all_left c.args.number IsFitting tables c.self.invariant.2),
-      rw c.drop_in.ensures (right_dropped c.args.number tables c.self.inside.writes c.self.inside.views.items unused c.self.invariant.3),
+      rw c.drop_in.ensures (right_dropped c.standing_depends_on_sources.ensures c.args.number tables
+          c.self.inside.writes c.self.inside.views.items unused c.self.invariant.3),
       rw c.drop_in.ensures (all_left c.args.number (λ t. length t.rows ≤ c.self.inside.limits.max_rows) tables c.self.invariant.4),
     )
 

@@ -1,18 +1,19 @@
-use Rattle.std.proofs.Common.{◌+◌, arith, inl}
+use Rattle.std.proofs.Common.{◌+◌, ◌^◌, arith, inl}
 use Rattle.std.proofs.lemmas.Result.{err_from_is_err_and}
 use Rattle.cq_model.specs.Write.{updated}
 use Rattle.cq_states.specs.State.{rows_in}
 use Rattle.cq_tables.specs.Views.{views_of}
 use Rattle.cq_engine.proofs.Kept.{all_at, all_right_same, unchanged}
 use Rattle.cq_tables.proofs.Numbers.{numbered-later, numbered-with_rows}
+use Rattle.cq_tables.proofs.Rows.{bounded_more}
 use Rattle.cq_engine.proofs.Steps.{update_done}
-use Rattle.cq_writes.proofs.Updates.{few_rows, updated_bounded, updated_fit}
+use Rattle.cq_writes.proofs.Updates.{updated_bounded, updated_fit}
 use Rattle.cq_engine.proofs.engine.Engine.update.Goals as goal
 
-pub update_in-updated-requires-clause-few : goal.update_in-updated-requires-clause-few
-update_in-updated-requires-clause-few c =
-    let limits = c.self.inside.limits in
-    few_rows c.args.table c.args.assignments c.args.filter c.self.inside.tables.items limits.max_rows limits.in_range.1 c.self.invariant.4
+pub update_in-updated-requires-clause-limited : goal.update_in-updated-requires-clause-limited
+update_in-updated-requires-clause-limited c =
+    bounded_more c.self.inside.limits.max_rows (2 ^ 24) c.self.inside.tables.items c.self.inside.limits.in_range.1
+    c.self.invariant.4
 
 pub invariant_of-self : goal.invariant_of-self
 invariant_of-self c =
