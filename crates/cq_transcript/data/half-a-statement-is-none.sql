@@ -33,7 +33,7 @@ drop t;
 -- no name behind DROP TABLE
 drop table;
 
--- no GROUP BY
+-- no GROUP BY, which a view may lack, and no table
 create view v as select a from t;
 
 -- no name behind AS
