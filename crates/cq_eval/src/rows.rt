@@ -15,7 +15,7 @@ pub fn items_of(alloc: Global, items: &[Expr], row: &[Value]) -> Result<Row, All
     ensures { IfOk result (λ values. values ≡ items_of items.now row.now) }
 {
     narrow_is_exact();
-    let mut values = Row::new(alloc);
+    let mut values = Row::with_capacity(alloc, items.len())?;
     for item in items {
         values.push(eval_row(item, row).to_value(alloc)?)?;
     }
@@ -26,7 +26,7 @@ pub fn items_of(alloc: Global, items: &[Expr], row: &[Value]) -> Result<Row, All
 pub fn key_of(alloc: Global, columns: &[usize], row: &[Value]) -> Result<Row, AllocError>
     ensures { IfOk result (λ key. key ≡ key_of columns.now row.now) }
 {
-    let mut key = Row::new(alloc);
+    let mut key = Row::with_capacity(alloc, columns.len())?;
     for column in columns {
         key.push(lend_column(row, *column).to_value(alloc)?)?;
     }

@@ -327,7 +327,7 @@ fn lone_numbers<'c>(columns: &'c [&Vector<'_>]) -> Option<&'c [i64]>
 fn single(alloc: Global, value: &Lent<'_>) -> Result<Row, AllocError>
     ensures { IfOk result (λ key. key ≡ owned value.now ∷ []) }
 {
-    let mut key = Row::new(alloc);
+    let mut key = Row::with_capacity(alloc, 1)?;
     key.push(value.to_value(alloc)?)?;
     Ok(key)
 }
@@ -336,7 +336,7 @@ fn single(alloc: Global, value: &Lent<'_>) -> Result<Row, AllocError>
 fn key_of(alloc: Global, columns: &[&Vector<'_>], place: usize) -> Result<Row, AllocError>
     ensures { IfOk result (λ key. key ≡ row_in columns.now place) }
 {
-    let mut key = Row::new(alloc);
+    let mut key = Row::with_capacity(alloc, columns.len())?;
     for column in columns {
         key.push(column.lend(place).to_value(alloc)?)?;
     }

@@ -60,7 +60,7 @@ pub(crate) fn push_rows(
 fn row_at(alloc: Global, columns: &[Vector<'_>], place: usize) -> Result<Row, AllocError>
     ensures { IfOk result (λ row. row ≡ values_at columns.now place) }
 {
-    let mut row = Row::new(alloc);
+    let mut row = Row::with_capacity(alloc, columns.len())?;
     for column in columns {
         row.push(column.lend(place).to_value(alloc)?)?;
     }

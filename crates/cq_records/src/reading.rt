@@ -36,7 +36,7 @@ fn read_row(
     if record.len() != columns.len() {
         return Err(Fault::BadRecord(at));
     }
-    let mut row = Row::new(alloc);
+    let mut row = Row::with_capacity(alloc, columns.len())?;
     for (i, column) in columns.iter().enumerate() {
         match record.get(i) {
             Some(field) => row.push(read_field(alloc, at, column, field)?)?,

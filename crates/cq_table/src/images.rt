@@ -126,7 +126,7 @@ fn image(alloc: Global, assignments: &[Assignment], old: &[Value]) -> Result<Row
     requires { AreNarrowSets assignments.now old.now }
     ensures { IfOk result (λ row. row ≡ image_of assignments.now old.now) }
 {
-    let mut row = Row::new(alloc);
+    let mut row = Row::with_capacity(alloc, old.len())?;
     for place in 0..old.len() {
         row.push(value_at(assignments, old, place).to_value(alloc)?)?;
     }

@@ -7,15 +7,14 @@ ghost use Rattle.cq_values.specs.Order.{row_cmp, same_row};
 ghost use Rattle.cq_values.specs.Keys.{same_row-equiv, same_row-same};
 
 use crate::value::Value;
-use smallvec::SmallVec;
 use std::alloc::{AllocError, Global};
 use std::hash::{Hash, Hasher};
 use std::marker::Model;
 
-/// A row: a list of values, of which the first four need no memory of their own.
+/// A row: a list of values.
 #[derive(Debug, Drop)]
 pub struct Row {
-    values: SmallVec<Value, 4>,
+    values: Vec<Value>,
 }
 
 impl Model for Row {
@@ -30,8 +29,16 @@ impl Row {
     pub fn new(alloc: Global) -> Row
         ensures { result ≡ [] }
     {
-        let values = SmallVec::new(alloc);
+        let values = Vec::new(alloc);
         Row { values }
+    }
+
+    /// A row without values, with room for so many.
+    pub fn with_capacity(alloc: Global, capacity: usize) -> Result<Row, AllocError>
+        ensures { IfOk result (λ row. row ≡ []) }
+    {
+        let values = Vec::with_capacity(alloc, capacity)?;
+        Ok(Row { values })
     }
 
     pub fn push(&mut self, value: Value) -> Result<(), AllocError>
@@ -39,6 +46,16 @@ impl Row {
         ensures err { OnErr result (self.new ≡ self.old) }
     {
         self.values.push(value)?;
+        Ok(())
+    }
+
+    /// Puts copies of these values behind the others. After an error some are missing.
+    pub fn push_copies(&mut self, alloc: Global, values: &[Value]) -> Result<(), AllocError>
+        ensures { OnOk result (self.new ≡ self.old ++ values.now) }
+    {
+        for value in values {
+            self.push(value.copy(alloc)?)?;
+        }
         Ok(())
     }
 
@@ -59,10 +76,8 @@ impl Row {
 pub fn copy_row(alloc: Global, values: &[Value]) -> Result<Row, AllocError>
     ensures { IfOk result (λ r. r ≡ values.now) }
 {
-    let mut row = Row::new(alloc);
-    for value in values {
-        row.push(value.copy(alloc)?)?;
-    }
+    let mut row = Row::with_capacity(alloc, values.len())?;
+    row.push_copies(alloc, values)?;
     Ok(row)
 }
 

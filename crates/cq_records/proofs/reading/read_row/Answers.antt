@@ -7,7 +7,7 @@ use Rattle.cq_records.proofs.reading.read_row.Goals as goal
 
 pub returns-in_err-read_field-in-Some : goal.returns-in_err-read_field-in-Some
 returns-in_err-read_field-in-Some c =
-    let p = err_from_is_err_and c.from_residual.result c.from_residual.ensures.1 in
+    let p = err_from_is_err_and c.from_residual-in_err-read_field-in-Some.result c.from_residual-in_err-read_field-in-Some.ensures.1 in
     let inv = c.loop-i.invariant in
     let fields = fields_of c.args.«record».now in
     rw (p.1, p.2) (field_refused c.args.at c.args.columns.now fields c.loop-i.i c.index-columns-i.result c.in-Some.field.now c.loop-i-test.true c.index-columns-i.is (sym c.in-Some.ensures.value)
