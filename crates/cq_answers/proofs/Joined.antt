@@ -20,7 +20,7 @@ use Rattle.cq_lent.specs.Lent.{lent_bags, rows_or}
 use Rattle.cq_states.specs.Fitting.{AreFitting}
 use Rattle.cq_states.specs.State.{State, TableOf, queries_of, rows_in, tables_now}
 use Rattle.cq_catalog.specs.Catalog.{alone}
-use Rattle.cq_upkeep.specs.Shown.{AreRowsOf, IsShown}
+use Rattle.cq_kept_views.specs.Shown.{AreRowsOf, IsShown}
 use Rattle.cq_answers.specs.declared.gathered.Gathered.{Gathered}
 use Rattle.cq_answers.specs.Lent.{CanAnswer}
 use Rattle.cq_answers.specs.Reading.{CanRead}
@@ -28,10 +28,9 @@ use Rattle.cq_answers.specs.Gathered.{AreGathered, AreLent, AreRowsThere, AreSho
 use Rattle.cq_answers.specs.Narrow.{source_sizes}
 use Rattle.cq_answers.specs.Selects.{Selects, SelectsLent, sources_in}
 use Rattle.cq_tables.specs.Views.{AreRight, NamedView, views_of}
-use Rattle.cq_tables.proofs.Bags.{bags_are}
 use Rattle.cq_answers.proofs.Lents.{AreFor, sources-have}
 use Rattle.cq_tables.proofs.Pairs.{pointwise_all}
-use Rattle.cq_answers.proofs.Readings.{bases, query_there, rows_same, sizes_there, stands_for, stored_sized}
+use Rattle.cq_answers.proofs.Readings.{bases, query_there, rows_same, sizes_there, stored_sized, suits_for}
 use Rattle.cq_tables.proofs.Rows.{all_there}
 
 -- what was gathered is of sources that are there
@@ -50,12 +49,12 @@ module _ (tables : List TableOf) (views : List NamedView) where
     pub sized : AllByRecursion (HasSizes (source_sizes tables (views_of views) source)) rows
     pub range : SourceInRange (tables_now here) (queries_of here) source
 
-  module _ (now : ℕ) (right : AreRight tables now views) where
+  module _ (now : ℕ) (right : AreRight tables now views) (fitting : AreFitting tables) where
     -- a view that cannot be shown
     hidden_out : (s : Source) → IsHidden views s → SourceInRange (tables_now here) (queries_of here) s → ⊥
     hidden_out (Table n) hidden range = hidden
     hidden_out (View place) hidden range =
-        hidden.2 (bases tables views) (stands_for tables views now place hidden.0 right hidden.1) (bags_are tables)
+        hidden.2 (bases tables views) (suits_for tables views now place hidden.0 right hidden.1 fitting)
         (subst (λ (o : Option Query). ViewInRange (tables_now here) o) (query_there tables views now place hidden.0 right hidden.1) range)
 
     -- refuses SELECT wherever FROM names it
@@ -82,17 +81,17 @@ module _ (tables : List TableOf) (views : List NamedView) where
         → HaveColumnsOf v.kept rows → IsShown v.kept → AreOf (View place) rows
     shown_are place v rows at bag sized range =
         let there = query_there tables views now place v right at in
-        let stands = stands_for tables views now place v right at in
+        let suit = suits_for tables views now place v right at fitting in
         record {
           same =
               subst (λ (o : Option Query). SameBag (once_each rows) (view_bag (tables_now here) o)) (sym there)
-              (bag (bases tables views) stands (bags_are tables));
+              (bag (bases tables views) suit);
           sized =
               subst (λ ns. AllByRecursion (HasSizes ns) rows) (sym (sizes_there tables views now place v right at))
               sized;
           range =
               subst (λ (o : Option Query). ViewInRange (tables_now here) o) (sym there)
-              (range (bases tables views) stands (bags_are tables));
+              (range (bases tables views) suit);
         }
 
     -- of what was gathered and lent

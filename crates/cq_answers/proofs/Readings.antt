@@ -25,16 +25,15 @@ use Rattle.cq_states.specs.Fitting.{AreFitting}
 use Rattle.cq_states.specs.State.{TableOf, ViewOf, State, columns_in, rows_in, tables_now, queries_of}
 use Rattle.cq_laws.specs.Sizes.{HasSizes}
 use Rattle.cq_catalog.specs.Catalog.{alone}
-use Rattle.cq_upkeep.specs.Shown.{AreRowsOf, IsShown}
-use Rattle.cq_upkeep.specs.State.{StandsFor}
+use Rattle.cq_kept_views.specs.Shown.{AreRowsOf, IsShown, Suits}
 use Rattle.cq_answers.specs.Narrow.{IsConditionSized, IsShapeSized, IsWithin, IsWithinSized, joined_sizes, source_sizes, view_sizes}
 use Rattle.cq_answers.specs.Reading.{IsSourceThere, plain}
 use Rattle.cq_answers.specs.Selects.{AreListed, Selects, SelectsKept, IsInRange, sources_in}
 use Rattle.cq_tables.specs.Views.{NamedView, IsRight, AreRight, view_of, views_of}
 use Rattle.cq_answers.specs.Gathered.{AreShownBy, HaveColumnsOf, IsBacked, IsHidden, IsReadFault, IsShowFault}
-use Rattle.cq_tables.proofs.Bags.{bags_are}
 use Rattle.cq_answers.proofs.Results.{listing_plain}
 use Rattle.cq_tables.proofs.Rows.{fitting_in}
+use Rattle.cq_tables.proofs.Wide.{suits}
 use Rattle.cq_table.proofs.RowLists.{all_of_rows}
 use Rattle.cq_tables.proofs.Stored.{rows_sized}
 
@@ -107,9 +106,9 @@ module _ (tables : List TableOf) (views : List NamedView) where
     pub sizes_there : source_sizes tables (views_of views) (View place) ≡ column_sizes v.kept.query
     sizes_there = ap view_sizes view_there
 
-    -- it stands for the tables
-    pub stands_for : StandsFor v.kept bases
-    stands_for = (right_there tables now views place v right at).stands
+    -- the tables suit it
+    pub suits_for : AreFitting tables → Suits v.kept bases
+    suits_for fitting = suits tables now v fitting (right_there tables now views place v right at)
 
 -- ---- SELECT from one table or view
 -- a query without groups, joins and DISTINCT
@@ -148,7 +147,7 @@ module _ (tables : List TableOf) (views : List NamedView) (q : Query) (order : O
       answer = listing_plain q.filter q.items (Table n) (sources_in tables (views_of views)) order stored list (rows_same tables views n stored rows) listed
 
   -- from a view at its place
-  module _ (now place : ℕ) (v : NamedView) (right : AreRight tables now views) (at : slice_get views place ≡ Some v) where
+  module _ (now place : ℕ) (v : NamedView) (right : AreRight tables now views) (at : slice_get views place ≡ Some v) (fitting : AreFitting tables) where
     pub from_kept : (result : Result (List Row) Fault) → q ≡ plain q.first q.filter q.items → q.first ≡ View place → SelectsKept q order v result → Selects tables (views_of views) q order result
     from_kept (Ok list) is first w = subst (Answered list) (sym shape) (
       subst (λ (o : Option Query). AreListed order (meaning (plain q.first q.filter q.items) (λ source. view_bag (tables_now here) o)) list) (sym there) told.0,
@@ -165,11 +164,11 @@ module _ (tables : List TableOf) (views : List NamedView) (q : Query) (order : O
         shape = is ∙ ap (λ (source : Source). plain source q.filter q.items) first
 
         told : AreListed order (meaning (plain q.first q.filter q.items) (λ source. meaning v.kept.query (bases tables views))) list × MeaningInRange v.kept.query (bases tables views)
-        told = w (bases tables views) (stands_for tables views now place v right at) (bags_are tables)
+        told = w (bases tables views) (suits_for tables views now place v right at fitting)
     from_kept (Err f) is first (inl m) = inl m
     from_kept (Err f) is first (inr w) = inr (
       w.0,
-      λ range. w.1 (bases tables views) (stands_for tables views now place v right at) (bags_are tables)
+      λ range. w.1 (bases tables views) (suits_for tables views now place v right at fitting)
           (subst (λ (o : Option Query). ViewInRange (tables_now (alone tables (views_of views))) o) (query_there tables views now place v right at) (subst (IsInRange tables (views_of views)) shape range).named.0),
     )
       where

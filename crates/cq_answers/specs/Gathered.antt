@@ -12,8 +12,8 @@ use Rattle.cq_model.specs.declared.query.Source.{Source}
 use Rattle.cq_model.specs.declared.query.Source.TheVariants.{Table, View}
 use Rattle.cq_lent.specs.declared.lent.Lent.{Lent}
 use Rattle.cq_states.specs.Pointwise.{Pointwise}
-use Rattle.cq_upkeep.specs.Shown.{AreRowsOf, CanShow, IsNotShown, IsShown}
-use Rattle.cq_upkeep.specs.declared.state.ViewState.{ViewState}
+use Rattle.cq_kept_views.specs.Shown.{AreRowsOf, CanShow, IsNotShown, IsShown}
+use Rattle.cq_kept_views.specs.declared.kept_view.KeptView.{KeptView}
 use Rattle.cq_answers.specs.declared.gathered.Gathered.{Gathered}
 use Rattle.cq_tables.specs.Views.{NamedView}
 
@@ -23,11 +23,11 @@ abbrev pub IsBacked : NamedView → Type 0
 IsBacked v = CanShow v.kept
 
 -- the rows have the sizes of the view's columns
-abbrev pub HaveColumnsOf : ViewState → List Row → Type 0
+abbrev pub HaveColumnsOf : KeptView → List Row → Type 0
 HaveColumnsOf v rows = AllByRecursion (HasSizes (column_sizes v.query)) rows
 
 -- why the rows of a view are not shown: memory is wanting, or a total is too large
-abbrev pub IsShowFault : ViewState → Fault → Type 0
+abbrev pub IsShowFault : KeptView → Fault → Type 0
 IsShowFault v f = (f ≡ Memory) ⊎ ((f ≡ SumOutOfRange) × IsNotShown v)
 
 -- the rows are those that a view shows, and of a table none are made

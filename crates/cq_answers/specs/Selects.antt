@@ -15,8 +15,7 @@ use Rattle.cq_states.specs.State.{TableOf, ViewOf, tables_now, queries_of}
 use Rattle.cq_lent.specs.declared.lent.Lent.{Lent}
 use Rattle.cq_lent.specs.Lent.{lent_bags}
 use Rattle.cq_catalog.specs.Catalog.{alone}
-use Rattle.cq_upkeep.specs.Shown.{IsNotShown}
-use Rattle.cq_upkeep.specs.State.{AreBags, StandsFor}
+use Rattle.cq_kept_views.specs.Shown.{IsNotShown, Suits}
 use Rattle.cq_tables.specs.Views.{NamedView}
 use Rattle.cq_answers.specs.Reading.{plain}
 
@@ -46,9 +45,9 @@ abbrev pub SelectsLent : Query → Order → List Lent → Result (List Row) Fau
 SelectsLent q order lent (Ok rows) = AreListed order (meaning q (lent_bags lent)) rows × MeaningInRange q (lent_bags lent)
 SelectsLent q order lent (Err f) = (f ≡ Memory) ⊎ ((f ≡ SumOutOfRange) × (MeaningInRange q (lent_bags lent) → ⊥))
 
--- it does so from what a view keeps, which is the bag of the view's query on each bags that it stands for
+-- it does so from what a view keeps, which is the bag of the view's query on each tables that suit it
 abbrev pub SelectsKept : Query → Order → NamedView → Result (List Row) Fault → Type 0
-SelectsKept q order v (Ok rows) = (tables : Tables) → StandsFor v.kept tables → AreBags tables
+SelectsKept q order v (Ok rows) = (tables : Tables) → Suits v.kept tables
     → AreListed order (meaning (plain q.first q.filter q.items) (λ source. meaning v.kept.query tables)) rows × MeaningInRange v.kept.query tables
 SelectsKept q order v (Err f) = (f ≡ Memory) ⊎ ((f ≡ SumOutOfRange) × IsNotShown v.kept)
 

@@ -3,7 +3,7 @@ ghost use Rattle.std.specs.Prelude.{◌≡◌, ℕ, IfErr, IfOk, List, OnOk};
 ghost use Rattle.std.specs.List.{AllByRecursion};
 ghost use Rattle.cq_model.specs.Views.{sources_of};
 ghost use Rattle.cq_states.specs.State.{AreNumbered, TableOf, ViewOf};
-ghost use Rattle.cq_upkeep.specs.Shown.{AreRowsOf, IsShown};
+ghost use Rattle.cq_kept_views.specs.Shown.{AreRowsOf, IsShown};
 ghost use Rattle.cq_answers.specs.Reading.{IsSourceThere};
 ghost use Rattle.cq_answers.specs.Gathered.{AreGathered, AreLent, AreRowsThere, HaveColumnsOf, IsBacked, IsGatherFault, IsGathered, IsReadFault, IsShowFault};
 ghost use Rattle.cq_answers.specs.Selects.{shown_as};

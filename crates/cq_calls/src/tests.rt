@@ -5,6 +5,7 @@ mod dates;
 mod expressions;
 mod faults;
 mod groups;
+mod narrow_queries;
 mod pieces;
 mod records;
 mod results;

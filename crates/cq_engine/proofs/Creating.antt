@@ -27,7 +27,7 @@ use Rattle.cq_binding.specs.Kinds.{kept_value}
 use Rattle.cq_binding.specs.Placed.{placed_cond, with_aggregates}
 use Rattle.cq_binding.specs.Places.{group_places}
 use Rattle.cq_binding.specs.Queries.{bound_group, bound_query, grouped_shape, having_aggregates, item_aggregates, placed_items}
-use Rattle.cq_binding.specs.Scopes.{from_table, in_groups, of_rows}
+use Rattle.cq_binding.specs.Scopes.{in_groups, of_rows}
 use Rattle.cq_binding.specs.Sets.{bound_where}
 use Rattle.cq_binding.specs.SourceChecks.{group_checks, kept_check, where_check}
 use Rattle.cq_binding.specs.Typing.{Scope, ScopeColumn, size_at}

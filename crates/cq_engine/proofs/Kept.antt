@@ -12,21 +12,22 @@ use Rattle.cq_model.specs.declared.query.Source.TheVariants.{Table, View}
 use Rattle.cq_model.specs.Meaning.{Tables}
 use Rattle.cq_model.specs.Views.{is_table, sources_of}
 use Rattle.cq_states.specs.State.{TableOf, ViewOf, view_named, view_place, rows_in}
-use Rattle.cq_upkeep.specs.Laws.{StandingDependsOnSources}
+use Rattle.cq_kept_views.specs.Laws.{StandingDependsOnSources}
+use Rattle.cq_kept_views.specs.State.{StandsFor}
 use Rattle.cq_upkeep.specs.Query.{reads}
-use Rattle.cq_upkeep.specs.State.{StandsFor}
 use Rattle.cq_tables.specs.Taking.{IsSame, AreSame}
-use Rattle.cq_tables.specs.Views.{NamedView, view_of, views_of, IsRight, AreRight, Fits, bags_in}
+use Rattle.cq_tables.specs.Views.{NamedView, view_of, views_of, AreWide, IsRight, AreRight, Fits, bags_in}
 use Rattle.cq_tables.proofs.Numbers.{others}
 use Rattle.cq_tables.proofs.Pairs.{pointwise_all, pointwise_map}
 use Rattle.cq_tables.proofs.Rows.{rows_left, unread, unused}
+use Rattle.cq_tables.proofs.Wide.{KeepWidths, all-still-wide, wide-left}
 use Rattle.cq_engine.specs.Commands.{present}
 use Rattle.cq_engine.proofs.Steps.{AreAt}
 
 -- ---- The same views
 -- a view of which nothing is changed is the same view
 same_view : (v w : NamedView) → IsSame v w → view_of w ≡ view_of v
-same_view v w s = λ i. record { name = s.name i; columns = s.columns i; query = s.kept.query i; epoch = s.kept.epoch i; built = s.kept.built i }
+same_view v w s = λ i. record { name = s.name i; columns = s.columns i; query = s.kept.query i; epoch = s.kept.state.epoch i; built = s.kept.state.built i }
 
 pub same_views : (vs ws : List NamedView) → AreSame vs ws → views_of ws ≡ views_of vs
 same_views vs ws s = pointwise_map IsSame view_of view_of same_view vs ws s
@@ -40,7 +41,8 @@ right_same : (tables : List TableOf) (now : ℕ) (v w : NamedView) → IsSame v 
 right_same tables now v w s r = record {
   shown = ap length s.columns ∙ r.shown ∙ sym (ap (λ (d : Query). length d.items) s.kept.query);
   fits = subst Fits (sym s.kept.query) r.fits;
-  epoch = s.kept.epoch ∙ r.epoch;
+  epoch = s.kept.state.epoch ∙ r.epoch;
+  wide = subst (λ (q : Query). AreWide tables q w.kept.widths) (sym s.kept.query) (subst (λ (ns : List ℕ). AreWide tables v.kept.query ns) (sym s.kept.widths) r.wide);
   stands = s.kept.stands (bags_in tables) r.stands;
 }
 
@@ -63,12 +65,12 @@ right_behind tables now [] v r one = (one, tt)
 right_behind tables now (w ∷ ws) v r one = (r.0, right_behind tables now ws v r.1 one)
 
 -- a view that stands for the bags of other tables is right for them
-right_for : (old new : List TableOf) (now : ℕ) (v : NamedView) → StandsFor v.kept (bags_in new) → IsRight old now v
-    → IsRight new now v
-right_for old new now v stands r = record { shown = r.shown; fits = r.fits; epoch = r.epoch; stands = stands }
+right_for : (old new : List TableOf) (now : ℕ) (v : NamedView) → AreWide new v.kept.query v.kept.widths → StandsFor v.kept (bags_in new)
+    → IsRight old now v → IsRight new now v
+right_for old new now v wide stands r = record { shown = r.shown; fits = r.fits; epoch = r.epoch; wide = wide; stands = stands }
 
--- they are right wherever each number has its rows
-module _ (old new : List TableOf) (now : ℕ) (same : (n : ℕ) → rows_in new n ≡ rows_in old n) where
+-- they are right wherever each number has its rows, and each table is as wide
+module _ (old new : List TableOf) (now : ℕ) (same : (n : ℕ) → rows_in new n ≡ rows_in old n) (keep : KeepWidths old new) where
   bag_same : (source : Source) → bags_in new source ≡ bags_in old source
   bag_same (Table n) = ap once_each (same n)
   bag_same (View place) = refl
@@ -79,7 +81,7 @@ module _ (old new : List TableOf) (now : ℕ) (same : (n : ℕ) → rows_in new 
   pub right_everywhere : (vs : List NamedView) → AreRight old now vs → AreRight new now vs
   right_everywhere [] r = tt
   right_everywhere (v ∷ vs) r = (
-    right_for old new now v (subst (λ (tables : Tables). StandsFor v.kept tables) (sym bags_same) r.0.stands) r.0,
+    right_for old new now v (all-still-wide old new keep (sources_of v.kept.query) v.kept.widths r.0.wide) (subst (λ (tables : Tables). StandsFor v.kept tables) (sym bags_same) r.0.stands) r.0,
     right_everywhere vs r.1,
   )
 
@@ -105,7 +107,9 @@ module _ (law : StandingDependsOnSources) (n : ℕ) (tables : List TableOf) (now
       → AreRight (others n tables) now vs
   right_left [] free r = tt
   right_left (v ∷ vs) free r =
-      (right_for tables (others n tables) now v (stands_left v free.0 r.0.stands) r.0, right_left vs free.1 r.1)
+      let sources = sources_of v.kept.query in
+      let wide = wide-left n tables sources v.kept.widths (unread n sources free.0) r.0.wide in
+      (right_for tables (others n tables) now v wide (stands_left v free.0 r.0.stands) r.0, right_left vs free.1 r.1)
 
   pub right_dropped : (vs : List NamedView) → is_used n (views_of vs) ≡ false → AreRight tables now vs → AreRight (others n tables) now vs
   right_dropped vs free r = right_left vs (unused n vs free) r

@@ -1,3 +1,4 @@
 pub mod Views
 pub mod Gathering
+pub mod TableWidths
 pub mod Commands

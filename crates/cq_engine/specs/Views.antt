@@ -2,9 +2,9 @@
 use Rattle.std.specs.Prelude.{◌≡◌, ℕ, List, [], ◌∷◌, ◌++◌, Option, option_map}
 use Rattle.cq_model.specs.declared.query.Query.{Query}
 use Rattle.cq_states.specs.State.{TableOf, ViewOf, view_named}
-use Rattle.cq_upkeep.specs.State.{StandsFor}
-use Rattle.cq_upkeep.specs.declared.state.ViewState.{ViewState}
-use Rattle.cq_tables.specs.Views.{NamedView, bags_in, views_of}
+use Rattle.cq_kept_views.specs.State.{StandsFor}
+use Rattle.cq_kept_views.specs.declared.kept_view.KeptView.{KeptView}
+use Rattle.cq_tables.specs.Views.{AreWide, NamedView, bags_in, views_of}
 
 -- the query of the view of a name, if there is one
 abbrev pub query_named : List ℕ → List ViewOf → Option Query
@@ -15,8 +15,9 @@ abbrev pub IsAdded : ViewOf → List NamedView → List NamedView → Type 0
 IsAdded v old new = views_of new ≡ views_of old ++ v ∷ []
 
 -- what is kept of a view that was built from its tables as they are at the epoch
-pub record IsBuilt (tables : List TableOf) (q : Query) (now : ℕ) (v : ViewState) : Type 0 where
+pub record IsBuilt (tables : List TableOf) (q : Query) (now : ℕ) (v : KeptView) : Type 0 where
   pub is_of : v.query ≡ q
-  pub epoch : v.epoch ≡ now
-  pub built : v.built ≡ now
+  pub epoch : v.state.epoch ≡ now
+  pub built : v.state.built ≡ now
+  pub wide : AreWide tables v.query v.widths
   pub stands : StandsFor v (bags_in tables)

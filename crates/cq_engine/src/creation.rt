@@ -11,9 +11,10 @@ ghost use Rattle.cq_tables.specs.Views.{AreRight, Fits, views_of};
 ghost use Rattle.cq_engine.specs.Views.{IsAdded, IsBuilt};
 
 use crate::gathering::gathered_rows;
+use crate::table_widths::widths_of;
+use cq_kept_views::{KeptView, standing_depends_on_sources};
 use cq_model::Query;
 use cq_tables::{Table, View};
-use cq_upkeep::{ViewState, standing_depends_on_sources};
 use cq_values::{ColumnDef, Seq, Text};
 use std::alloc::{AllocError, Global};
 
@@ -47,7 +48,7 @@ fn built_state(
     tables: &[Table],
     query: Query,
     now: u64,
-) -> Result<ViewState, AllocError>
+) -> Result<KeptView, AllocError>
     requires numbered { (next : ℕ) × AreNumbered tables.now next }
     requires fitting { AreFitting tables.now }
     requires limited { AreLimited rows_limit tables.now }
@@ -56,7 +57,8 @@ fn built_state(
     ensures { IfOk result (IsBuilt tables.now query now) }
 {
     let sources = gathered_rows(alloc, tables, &query)?;
-    let state = ViewState::build(alloc, query, &sources, now)?;
+    let widths = widths_of(alloc, tables, &query)?;
+    let state = KeptView::build(alloc, query, widths, &sources, now)?;
     standing_depends_on_sources();
     Ok(state)
 }

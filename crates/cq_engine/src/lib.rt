@@ -11,6 +11,7 @@ mod creation;
 mod engine;
 mod gathering;
 mod limits;
+mod table_widths;
 
 pub use answer_source::AnswerSource;
 pub use catalog::EngineCatalog;

@@ -1,7 +1,6 @@
 -- The bags of tables: stored rows, few enough, none of them less than never.
-use Rattle.std.proofs.Common.{◌≡◌, ◌≤◌, ◌^◌, pos, List, [], ◌∷◌, length, refl, arith}
+use Rattle.std.proofs.Common.{◌≤◌, ◌^◌, List, [], ◌∷◌, length, arith}
 use Rattle.std.specs.List.{AllByRecursion}
-use Rattle.std.proofs.lemmas.Int.{ints}
 use Rattle.cq_values.specs.Value.{Row}
 use Rattle.cq_bags.specs.Bag.{once_each}
 use Rattle.cq_laws.proofs.Positives.{once_each-bag}
@@ -10,20 +9,15 @@ use Rattle.cq_model.specs.declared.query.Source.{Source}
 use Rattle.cq_model.specs.declared.query.Source.TheVariants.{Table, View}
 use Rattle.cq_states.specs.Fitting.{AreFitting, AreLimited}
 use Rattle.cq_states.specs.State.{TableOf}
-use Rattle.cq_sides.proofs.RowByRow.{sizes-cons}
 use Rattle.cq_sides.specs.Held.{sizes}
 use Rattle.cq_chains.specs.Steps.{AreStored}
+use Rattle.cq_upkeep.proofs.Filled.{sizes-once_each}
 use Rattle.cq_upkeep.specs.State.{AreBags}
 use Rattle.cq_tables.specs.Views.{bags_in}
 use Rattle.cq_tables.proofs.Rows.{rows_have}
 use Rattle.cq_tables.proofs.Stored.{tables_stored}
 
--- rows that are there once each have their number as their sizes
-pub sizes-once_each : (rows : List Row) → sizes (once_each rows) ≡ length rows
-sizes-once_each [] = refl
-sizes-once_each (r ∷ rows) = omega (arith, ints, sizes-cons (r, pos 1) (once_each rows), sizes-once_each rows)
-
--- and are stored where the rows are
+-- rows that are there once each are stored where the rows are
 pub stored-once_each : (rows : List Row) → AllByRecursion IsStored rows → AreStored (once_each rows)
 stored-once_each [] stored = tt
 stored-once_each (r ∷ rows) stored = (stored.0, stored-once_each rows stored.1)

@@ -5,4 +5,5 @@ pub mod Stored
 pub mod Rows
 pub mod Bags
 pub mod Turns
+pub mod Wide
 pub mod Named

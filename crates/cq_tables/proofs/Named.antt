@@ -13,7 +13,8 @@ use Rattle.cq_model.specs.declared.query.Query.{Query}
 use Rattle.cq_model.specs.Views.{sources_of}
 use Rattle.cq_chains.specs.Chains.{spans}
 use Rattle.cq_upkeep.specs.Query.{CanBeKept, reads}
-use Rattle.cq_upkeep.specs.State.{CanPrepare, HoldStored, StandsFor}
+use Rattle.cq_kept_views.specs.State.{CanPrepare, StandsFor}
+use Rattle.cq_upkeep.specs.State.{HoldStored}
 use Rattle.cq_upkeep.specs.declared.state.Pending.{Pending}
 use Rattle.cq_tables.specs.Taking.{IsSame, AreSame, AllStandFor, CanAllPrepare, IsReady, AreReady, CanTake, CanAllTake, HasTaken, HaveTaken}
 use Rattle.cq_tables.specs.Views.{NamedView, view_of, views_of, IsRight, AreRight}
@@ -79,7 +80,7 @@ module _ (name : List ℕ) (vs : List NamedView) (place : ℕ) (found : view_pla
       sym at ∙ slice_get-map view_of vs place ∙ ap (option_map view_of) (slice_get_read vs (length vs) place v refl within is)
 
   -- and its epoch is the one that is told
-  pub epoch_there : (v : NamedView) → v ≡ get_or vs place v → option_map (λ w. w.epoch) (view_named name (views_of vs)) ≡ Some v.kept.epoch
+  pub epoch_there : (v : NamedView) → v ≡ get_or vs place v → option_map (λ w. w.epoch) (view_named name (views_of vs)) ≡ Some v.kept.state.epoch
   epoch_there v is = ap (option_map (λ w. w.epoch)) (view_there v is)
 
 -- without it the views are still right

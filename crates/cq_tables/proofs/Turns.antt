@@ -4,7 +4,10 @@ use Rattle.std.specs.List.{AllZip}
 use Rattle.cq_model.specs.declared.query.Query.{Query}
 use Rattle.cq_upkeep.specs.Last.{seen}
 use Rattle.cq_upkeep.specs.Query.{aggregates_of}
-use Rattle.cq_upkeep.specs.State.{SameView}
+use Rattle.cq_kept_views.proofs.Standing.{same-itself}
+use Rattle.cq_kept_views.specs.State.{SameView}
+use Rattle.cq_kept_views.specs.declared.kept_view.KeptView.{KeptView}
+use Rattle.cq_upkeep.specs.State as inner
 use Rattle.cq_upkeep.specs.declared.state.Pending.{Pending}
 use Rattle.cq_upkeep.specs.declared.state.ViewState.{ViewState}
 use Rattle.cq_chains.proofs.WholeChains.{still-itself}
@@ -17,11 +20,8 @@ use Rattle.cq_tables.specs.Views.{NamedView}
 use Rattle.cq_tables.proofs.Pairs.{pointwise_at, pointwise_itself, pointwise_set}
 
 -- ---- Views that stay the same
-same_kept : (v : ViewState) → SameView v v
-same_kept v = record { query = refl; epoch = refl; built = refl; sides = still-itself v.chain; last = refl; stands = λ tables h. h }
-
 pub same_itself : (v : NamedView) → IsSame v v
-same_itself v = record { name = refl; columns = refl; kept = same_kept v.kept }
+same_itself v = record { name = refl; columns = refl; kept = same-itself v.kept }
 
 pub all_same : (vs : List NamedView) → AreSame vs vs
 all_same vs = pointwise_itself IsSame same_itself vs
@@ -50,13 +50,22 @@ still_then u v w s t = record {
   stands = λ tables h. t.stands tables (s.stands tables h);
 }
 
-kept_then : (u v w : ViewState) → SameView u v → SameView v w → SameView u w
-kept_then u v w s t = record {
+state_then : (u v w : ViewState) → inner.SameView u v → inner.SameView v w → inner.SameView u w
+state_then u v w s t = record {
   query = t.query ∙ s.query;
   epoch = t.epoch ∙ s.epoch;
   built = t.built ∙ s.built;
   sides = still_then u.chain v.chain w.chain s.sides t.sides;
   last = subst (λ (q : Query). seen (aggregates_of q) w.last ≡ seen (aggregates_of q) v.last) s.query t.last ∙ s.last;
+  stands = λ tables h. t.stands tables (s.stands tables h);
+}
+
+kept_then : (u v w : KeptView) → SameView u v → SameView v w → SameView u w
+kept_then u v w s t = record {
+  query = t.query ∙ s.query;
+  widths = t.widths ∙ s.widths;
+  columns = t.columns ∙ s.columns;
+  state = state_then u.state v.state w.state s.state t.state;
   stands = λ tables h. t.stands tables (s.stands tables h);
 }
 

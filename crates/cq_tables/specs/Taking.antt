@@ -4,9 +4,9 @@ use Rattle.std.specs.List.{AllByRecursion, zip}
 use Rattle.cq_model.specs.Meaning.{Tables}
 use Rattle.cq_states.specs.Pointwise.{Pointwise}
 use Rattle.cq_upkeep.specs.Query.{reads}
-use Rattle.cq_upkeep.specs.State.{CanCommit, CanPrepare, SameView, StandsFor, StaysStanding, TakesIn, WaitsFor}
+use Rattle.cq_kept_views.specs.State.{CanCommit, CanPrepare, SameView, StandsFor, StaysStanding, TakesIn, WaitsFor}
 use Rattle.cq_upkeep.specs.declared.state.Pending.{Pending}
-use Rattle.cq_upkeep.specs.declared.state.ViewState.{ViewState}
+use Rattle.cq_kept_views.specs.declared.kept_view.KeptView.{KeptView}
 use Rattle.cq_tables.specs.Views.{NamedView}
 
 -- nothing of a view has changed that is seen of it
@@ -53,7 +53,7 @@ abbrev pub CanAllTake : List NamedView → List (Option Pending) → Type 0
 CanAllTake views pendings = Pointwise CanTake views pendings
 
 -- what a view stands for goes on with what waited, where something did
-abbrev pub GoesOn : Option Pending → ViewState → ViewState → Type 0
+abbrev pub GoesOn : Option Pending → KeptView → KeptView → Type 0
 GoesOn None old new = StaysStanding old new
 GoesOn (Some pending) old new = TakesIn old pending new
 
@@ -62,8 +62,9 @@ pub record HasTaken (now : ℕ) (old : NamedView) (pending : Option Pending) (ne
   pub name : new.name ≡ old.name
   pub columns : new.columns ≡ old.columns
   pub query : new.kept.query ≡ old.kept.query
-  pub built : new.kept.built ≡ old.kept.built
-  pub epoch : new.kept.epoch ≡ now
+  pub widths : new.kept.widths ≡ old.kept.widths
+  pub built : new.kept.state.built ≡ old.kept.state.built
+  pub epoch : new.kept.state.epoch ≡ now
   pub goes : GoesOn pending old.kept new.kept
 
 -- each view has

@@ -7,14 +7,15 @@ ghost use Rattle.cq_laws.specs.Sizes.{HasSizes};
 ghost use Rattle.cq_model.specs.Sizes.{column_sizes};
 ghost use Rattle.cq_values.specs.Texts.{is_text};
 ghost use Rattle.cq_upkeep.specs.Query.{CanBeKept, reads};
-ghost use Rattle.cq_upkeep.specs.Shown.{AreRowsOf, CanShow, IsNotShown, IsShown};
-ghost use Rattle.cq_upkeep.specs.State.{CanPrepare};
+ghost use Rattle.cq_kept_views.specs.Shown.{AreRowsOf, CanShow, IsNotShown, IsShown};
+ghost use Rattle.cq_kept_views.specs.State.{CanPrepare};
 ghost use Rattle.cq_tables.specs.Taking.{CanTake, HasTaken, IsReadyFor, IsSame};
 
 use cq_chains::SourceRows;
 use cq_deltas::ShowFault;
+use cq_kept_views::KeptView;
 use cq_model::Query;
-use cq_upkeep::{Pending, ViewState};
+use cq_upkeep::Pending;
 use cq_values::{ColumnDef, Row, Seq, Text};
 use std::alloc::{AllocError, Global};
 use std::marker::Model;
@@ -24,7 +25,7 @@ use std::marker::Model;
 pub struct View {
     name: Text,
     columns: Seq<ColumnDef>,
-    state: ViewState,
+    state: KeptView,
 }
 
 impl Model for View {
@@ -32,12 +33,12 @@ impl Model for View {
     ghost use Rattle.cq_model.specs.contracts.expr.Cond as cond;
     ghost use Rattle.cq_model.specs.contracts.expr.Expr as expr;
     ghost use Rattle.cq_upkeep.specs.Query.{CanBeKept};
-    ghost use Rattle.cq_upkeep.specs.contracts.state.ViewState as view_state;
+    ghost use Rattle.cq_kept_views.specs.contracts.kept_view.KeptView as kept_view;
     ghost use Rattle.cq_tables.specs.Views.{NamedView};
 
     ghost Value = { NamedView };
 
-    ghost coded = { Prim.hlevel (codes, expr.the_row.coded, cond.the_row.coded, view_state.the_row.coded) };
+    ghost coded = { Prim.hlevel (codes, expr.the_row.coded, cond.the_row.coded, kept_view.the_row.coded) };
 
     ghost view = { λ v. record { name = v.name; columns = v.columns; kept = v.state } };
 
@@ -45,7 +46,7 @@ impl Model for View {
 }
 
 impl View {
-    pub fn new(name: Text, columns: Seq<ColumnDef>, state: ViewState) -> View
+    pub fn new(name: Text, columns: Seq<ColumnDef>, state: KeptView) -> View
         requires { CanBeKept state.query }
         ensures { result ≡ record { name = name; columns = columns; kept = state } }
     {
@@ -97,7 +98,7 @@ impl View {
 
     /// How many writes the view has taken in.
     pub fn epoch(&self) -> u64
-        ensures { result ≡ self.now.kept.epoch }
+        ensures { result ≡ self.now.kept.state.epoch }
     {
         self.state.epoch()
     }

@@ -4,7 +4,6 @@ use Rattle.std.proofs.Math.Nat.{mul_assoc}
 use Rattle.std.proofs.lemmas.Int.{ints}
 use Rattle.std.proofs.lemmas.Nat.{mul-le}
 use Rattle.std.specs.List.{AllByRecursion}
-use Rattle.cq_bags.proofs.Bags.{same-trans}
 use Rattle.cq_bags.proofs.Totals.{weight_of-append}
 use Rattle.cq_bags.specs.Bag.{Weighted, SameBag, joined}
 use Rattle.cq_bags.specs.Join.{join_change}
@@ -17,11 +16,10 @@ use Rattle.cq_model.specs.declared.query.Join.{Join}
 use Rattle.cq_model.specs.declared.query.Query.{Query}
 use Rattle.cq_pushes.proofs.Limits.{join_within-product}
 use Rattle.cq_pushes.proofs.Sizes.{sizes-least}
-use Rattle.cq_sides.proofs.RowByRow.{sizes-append}
 use Rattle.cq_sides.specs.Held.{sizes}
 use Rattle.cq_chains.proofs.Spans.{join-span, sizes-filtered}
 use Rattle.cq_chains.proofs.Storing.{stored-filtered, stored-joined}
-use Rattle.cq_chains.specs.Chains.{nothing, spans}
+use Rattle.cq_chains.specs.Chains.{spans}
 use Rattle.cq_chains.specs.Steps.{AreStored, span}
 use Rattle.cq_upkeep.specs.State.{HoldStored, crossed}
 
@@ -86,13 +84,3 @@ module _ (query : Query) where
       } in
       let whole : span (all_rows tables) more ≤ spans tables changes (sources_of query) = chain-span tables changes (tables query.first) (changes query.first) query.joins in
       omega (arith, few, whole, sizes-least given more clean is, sizes-filtered (keeps query.filter) (all_rows tables))
-
-  -- so are the joined rows that a view is built of
-  pub built-few : (tables : Tables) (rows : Weighted) → IsClean rows → SameBag rows (all_rows tables) → spans nothing tables (sources_of query) ≤ 2 ^ 122 → sizes rows ≤ 2 ^ 122
-  built-few tables rows clean same few =
-      let first = tables query.first in
-      let none = chain nothing [] query.joins in
-      let more = chain_change nothing tables [] first query.joins in
-      let law : SameBag (all_rows tables) (none ++ more) = chain-law nothing tables [] first query.joins in
-      let whole : span none more ≤ spans nothing tables (sources_of query) = chain-span nothing tables [] first query.joins in
-      omega (arith, few, whole, sizes-least rows (none ++ more) clean (same-trans rows (all_rows tables) (none ++ more) same law), sizes-append none more)

@@ -3,13 +3,11 @@ use Rattle.std.proofs.Common.{◌≡◌, ℕ, ◌*◌, ◌≤◌, ◌^◌, List,
 use Rattle.std.specs.List.{AllByRecursion}
 use Rattle.cq_bags.proofs.Bags.{filtered-respects}
 use Rattle.cq_bags.proofs.Linears.{filtered-append}
-use Rattle.cq_bags.specs.Bag.{Weighted, SameBag, IsBag}
+use Rattle.cq_bags.specs.Bag.{Weighted, SameBag}
 use Rattle.cq_bags.specs.Size.{IsClean}
 use Rattle.cq_kept.specs.Delta.{changed}
-use Rattle.cq_laws.proofs.Keeps.{last-respects}
 use Rattle.cq_laws.proofs.Positives.{joined_rows-bag}
 use Rattle.cq_model.specs.Meaning.{Tables, chain, joined_rows, keeps}
-use Rattle.cq_model.specs.declared.query.Query.{Query}
 use Rattle.cq_model.specs.declared.query.Source.{Source}
 use Rattle.cq_chains.specs.Chains.{AreWaiting, CanChange, IsChange, IsStill, Takes, rows_of, spans}
 use Rattle.cq_chains.specs.Steps.{AreFew, AreStored, IsNarrowOnStored, span}
@@ -18,33 +16,14 @@ use Rattle.cq_chains.specs.declared.chain.Waiting.{Waiting}
 use Rattle.cq_chains.specs.declared.step.Step.{Step}
 use Rattle.cq_upkeep.proofs.Behind.{seen-stands}
 use Rattle.cq_upkeep.proofs.Joining.{all-sources, chain-narrow, chain-rows, chain-sources, same-chain}
-use Rattle.cq_upkeep.proofs.Limits.{built-few, rows-few, rows-stored}
-use Rattle.cq_upkeep.specs.Last.{CanFill, CanTakeIn, GoesOn, IsChangeOf, StandsBehind, kept_rows, seen}
+use Rattle.cq_upkeep.proofs.Limits.{rows-few, rows-stored}
+use Rattle.cq_upkeep.specs.Last.{CanTakeIn, GoesOn, IsChangeOf, kept_rows, seen}
 use Rattle.cq_upkeep.specs.Query.{aggregates_of}
-use Rattle.cq_upkeep.specs.State.{AreBehind, CanPrepare, CanStart, IsWaiting, SameView, StandsFor, TakesIn}
+use Rattle.cq_upkeep.specs.State.{CanPrepare, IsWaiting, SameView, StandsFor, TakesIn}
 use Rattle.cq_upkeep.specs.declared.last.Last.{Last as Stored}
 use Rattle.cq_upkeep.specs.declared.last.LastChange.{LastChange}
 use Rattle.cq_upkeep.specs.declared.state.Pending.{Pending}
 use Rattle.cq_upkeep.specs.declared.state.ViewState.{ViewState}
-
--- ---- a view that is built
-module _ (query : Query) (tables : Tables) (start : CanStart query tables) (rows : Weighted) (behind : AreBehind query tables rows) where
-  abbrev all_rows : Weighted
-  all_rows = chain tables (tables query.first) query.joins
-
-  kept-same : SameBag (kept_rows query rows) (joined_rows query tables)
-  kept-same = filtered-respects (keeps query.filter) rows all_rows behind
-
-  kept-bag : IsBag (kept_rows query rows)
-  kept-bag = let bag = joined_rows-bag query tables start.bags in record { at = λ r. rw (kept-same.at r) (bag.at r) }
-
-  -- of the joined rows a view can be filled
-  pub can-fill : IsClean rows → AreFew rows → CanFill query rows
-  can-fill clean few = record { few = built-few query tables rows clean behind start.few; rows = few.stored; bag = kept-bag }
-
-  -- and then stands for them
-  pub fills : (last : Stored) → StandsBehind query (kept_rows query rows) last → StandsBehind query (joined_rows query tables) last
-  fills last stands = last-respects query query.shape (kept_rows query rows) (joined_rows query tables) kept-same (seen (aggregates_of query) last) stands
 
 -- ---- a view that changes
 module _ (v : ViewState) (changes : Tables) (can : CanPrepare v changes) where

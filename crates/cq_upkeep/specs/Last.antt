@@ -55,12 +55,6 @@ pub record CanTakeIn (query : Query) (last : Stored) (dxs : Weighted) : Type 0 w
   pub few : sizes xs + sizes dxs ≤ 2 ^ 122
   pub rows : AreStored xs × AreStored dxs
 
--- stored rows that are not too many, and of which WHERE keeps a bag
-pub record CanFill (query : Query) (xs : Weighted) : Type 0 where
-  pub few : sizes xs ≤ 2 ^ 122
-  pub rows : AreStored xs
-  pub bag : IsBag (kept_rows query xs)
-
 -- once the change is put in, it stands for the changed rows
 abbrev pub GoesOn : Stored → LastChange → Stored → Type 0
 GoesOn old more new =

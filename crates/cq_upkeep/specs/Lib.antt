@@ -1,3 +1,4 @@
+pub mod Filling
 pub mod Last
 pub mod Laws
 pub mod Query

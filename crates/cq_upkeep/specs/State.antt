@@ -3,7 +3,7 @@ use Rattle.std.specs.Prelude.{◌≡◌, ◌≤◌, ◌*◌, ◌^◌, ℕ, List,
 use Rattle.std.specs.List.{AllByRecursion, AllZip}
 use Rattle.cq_bags.specs.Bag.{Weighted, SameBag, IsBag}
 use Rattle.cq_kept.specs.Delta.{changed}
-use Rattle.cq_model.specs.Meaning.{Tables, chain, joined_rows}
+use Rattle.cq_model.specs.Meaning.{Tables, joined_rows}
 use Rattle.cq_model.specs.Views.{sources_of}
 use Rattle.cq_model.specs.declared.query.Join.{Join}
 use Rattle.cq_model.specs.declared.query.Query.{Query}
@@ -30,10 +30,6 @@ pub record IsChainOf (query : Query) (chain : Chain) : Type 0 where
   pub joins : joins_of chain.steps.items ≡ query.joins
   pub conditions : conditions_of chain.steps.items ≡ none_for query.joins
 
--- these are the joined rows, before WHERE
-abbrev pub AreBehind : Query → Tables → Weighted → Type 0
-AreBehind query tables rows = SameBag rows (chain tables (tables query.first) query.joins)
-
 -- it stands for the joined rows of the tables that WHERE keeps
 abbrev pub LastStandsFor : Query → Tables → Stored → Type 0
 LastStandsFor query tables last = StandsBehind query (joined_rows query tables) last
@@ -57,12 +53,11 @@ abbrev pub crossed : Tables → List Source → ℕ
 crossed tables [] = 1
 crossed tables (source ∷ sources) = sizes (tables source) * crossed tables sources
 
--- a query that is kept, over bags of stored rows, not too many of them
+-- a query that is kept, over stored rows, not too many of them
 pub record CanStart (query : Query) (tables : Tables) : Type 0 where
   pub can : CanBeKept query
   pub few : spans nothing tables (sources_of query) ≤ 2 ^ 122
   pub stored : HoldStored query tables
-  pub bags : AreBags tables
 
 -- the view stands for stored rows, and they and the changes are few enough
 pub record CanPrepare (v : ViewState) (changes : Tables) : Type 0 where

@@ -13,7 +13,7 @@ use cq_model::{Aggregate, COUNT_SIZE, Expr, ExprTree, Query, STORED_SIZE, Shape,
 use std::alloc::{AllocError, Global};
 
 /// How large the numbers in each column of a view of the query can be.
-pub(crate) fn column_sizes(alloc: Global, query: &Query) -> Result<Vec<u128>, AllocError>
+pub fn column_sizes(alloc: Global, query: &Query) -> Result<Vec<u128>, AllocError>
     requires { CanBeKept query.now }
     ensures { IfOk result (λ v. v.items ≡ column_sizes query.now) }
 {

@@ -1,8 +1,6 @@
 //! What a view keeps behind its joins.
 ghost use Rattle.std.specs.Prelude.{◌≡◌, IfOk, []};
-ghost use Rattle.cq_bags.specs.Bag.{IsBag};
-ghost use Rattle.cq_deltas.specs.Keyed.{KeyedGroups, group_at};
-ghost use Rattle.cq_upkeep.specs.Last.{CanFill, CanPut, CanTakeIn, GoesOn, IsChangeOf, StandsBehind, kept_rows, seen};
+ghost use Rattle.cq_upkeep.specs.Last.{CanPut, CanTakeIn, GoesOn, IsChangeOf, StandsBehind, kept_rows, seen};
 ghost use Rattle.cq_upkeep.specs.Query.{CanBeKept, aggregates_of};
 
 use crate::changes::{group_change, image_change};
@@ -27,27 +25,8 @@ pub(crate) enum LastChange {
 }
 
 impl Last {
-    /// What is kept of these rows, as far as WHERE keeps them.
-    pub(crate) fn of(alloc: Global, query: &Query, rows: &Weights) -> Result<Last, AllocError>
-        requires can { CanBeKept query.now }
-        requires fill { CanFill query.now rows.now.entries }
-        ensures { IfOk result (StandsBehind query.now (kept_rows query.now rows.now.entries)) }
-    {
-        let mut last = Last::empty(alloc, query);
-        match last.prepare(alloc, query, rows) {
-            Ok(change) => {
-                last.commit(change);
-                Ok(last)
-            }
-            Err(fault) => {
-                drop(last);
-                Err(fault)
-            }
-        }
-    }
-
     /// What is kept of no rows.
-    fn empty(alloc: Global, query: &Query) -> Last
+    pub(crate) fn empty(alloc: Global, query: &Query) -> Last
         ensures { StandsBehind query.now [] result }
     {
         match &query.shape {

@@ -4,11 +4,13 @@
 //! or their images with their weights. Changes of the tables go in by two steps: [`ViewState::prepare`] works out what
 //! they change, from the stored sides and the changes alone, and makes all growth; [`ViewState::commit`] puts it in,
 //! takes no memory and cannot fail. Then the view stands for the changed tables, and [`ViewState::rows`] shows its
-//! query's bag, in rows whose numbers are within [`ViewState::column_sizes`].
+//! query's bag, in rows whose numbers are within [`ViewState::column_sizes`]. [`ViewState::build`] lets a view without
+//! rows take in those of its tables, where they are, by the same two steps.
 #![tactic(auto)]
 
 mod changes;
 mod columns;
+mod filling;
 mod joins;
 mod last;
 mod laws;
@@ -16,5 +18,7 @@ mod query;
 mod showing;
 mod state;
 
+pub use columns::column_sizes;
 pub use laws::{counts_are_within_work, standing_depends_on_sources};
+pub use query::reads;
 pub use state::{Pending, ViewState};

@@ -30,7 +30,7 @@ pub(crate) fn aggregates_of(query: &Query) -> &[Aggregate]
 }
 
 /// Whether FROM names the table of a number.
-pub(crate) fn reads(query: &Query, table: u64) -> bool
+pub fn reads(query: &Query, table: u64) -> bool
     ensures { result ≡ reads table query.now }
 {
     is_table(query.first, table) || is_joined(query.joins.as_slice(), table)

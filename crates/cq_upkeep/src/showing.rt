@@ -75,7 +75,7 @@ fn is_one_group(shape: &Shape) -> bool
 fn row_of_nothing(alloc: Global, aggregates: &[Aggregate]) -> Result<Row, AllocError>
     ensures { IfOk result (λ row. row ≡ group_row aggregates.now [] []) }
 {
-    let mut row = Row::new(alloc);
+    let mut row = Row::with_capacity(alloc, aggregates.len())?;
     for aggregate in aggregates {
         row.push(value_of_nothing(aggregate))?;
     }

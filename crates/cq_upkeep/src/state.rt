@@ -1,24 +1,27 @@
 //! A view as it is kept.
 ghost use Rattle.std.specs.List.{AllByRecursion};
 ghost use Rattle.std.specs.Prelude.{◌≡◌, IfErr, IfOk, OnOk};
-ghost use Rattle.cq_chains.specs.Chains.{Stands};
+ghost use Rattle.cq_chains.specs.Chains.{nothing};
 ghost use Rattle.cq_chains.specs.Sources.{rows_at};
 ghost use Rattle.cq_chains.specs.Work.{CountsEntries, CountsPairs, all_ticks};
 ghost use Rattle.cq_deltas.specs.declared.fault.ShowFault.TheVariants.{SumOutOfRange};
 ghost use Rattle.cq_laws.specs.Sizes.{HasSizes};
 ghost use Rattle.cq_model.specs.Sizes.{column_sizes};
 ghost use Rattle.cq_sides.specs.Ticks.{counted};
+ghost use Rattle.cq_upkeep.specs.Filling.{bags_at};
 ghost use Rattle.cq_upkeep.specs.Query.{CanBeKept, reads};
 ghost use Rattle.cq_upkeep.specs.Shown.{AreRowsOf, CanShow, IsNotShown, IsShown};
-ghost use Rattle.cq_upkeep.specs.State.{CanCommit, CanPrepare, CanStart, IsChainOf, IsWaiting, LastStandsFor, SameView, StandsFor, StaysStanding, TakesIn};
+ghost use Rattle.cq_upkeep.specs.State.{CanCommit, CanPrepare, CanStart, IsWaiting, SameView, StandsFor, StaysStanding, TakesIn};
 
 use crate::columns::column_sizes;
+use crate::filling::fill;
 use crate::joins::joined;
 use crate::last::{Last, LastChange};
 use crate::query::reads;
 use crate::showing::shown_rows;
 use cq_chains::{Chain, SourceRows, Waiting};
 use cq_deltas::ShowFault;
+use cq_lent::Lent;
 use cq_model::Query;
 use cq_values::Row;
 use std::alloc::{AllocError, Global};
@@ -41,28 +44,51 @@ pub struct Pending {
 }
 
 impl ViewState {
-    /// The view of this query, as its tables stand at the epoch. It counts no work.
+    /// The view of this query over tables with these rows, at the epoch. It counts no work.
     pub fn build(
         alloc: Global,
         query: Query,
-        sources: &[SourceRows],
+        tables: &[Lent],
         epoch: u64,
     ) -> Result<ViewState, AllocError>
-        requires { CanStart query (rows_at sources.now) }
+        requires { CanStart query (bags_at tables.now) }
         ensures query { IfOk result (λ v. v.query ≡ query) }
         ensures epoch { IfOk result (λ v. v.epoch ≡ epoch) }
         ensures built { IfOk result (λ v. v.built ≡ epoch) }
-        ensures stands { IfOk result (λ v. StandsFor v (rows_at sources.now)) }
+        ensures stands { IfOk result (λ v. StandsFor v (bags_at tables.now)) }
         ensures uncounted { IfOk result (λ v. all_ticks v.chain.steps.items ≡ 0) }
     {
-        match kept(alloc, &query, sources) {
-            Ok((chain, last)) => Ok(ViewState {
-                query,
-                epoch,
-                built: epoch,
-                chain,
-                last,
-            }),
+        let mut view = ViewState::empty(alloc, query, epoch)?;
+        match fill(alloc, &mut view, tables) {
+            Ok(()) => {
+                view.chain.restart();
+                Ok(view)
+            }
+            Err(fault) => {
+                drop(view);
+                Err(fault)
+            }
+        }
+    }
+
+    /// The view of this query over tables without rows.
+    pub fn empty(alloc: Global, query: Query, epoch: u64) -> Result<ViewState, AllocError>
+        ensures query { IfOk result (λ v. v.query ≡ query) }
+        ensures epoch { IfOk result (λ v. v.epoch ≡ epoch) }
+        ensures built { IfOk result (λ v. v.built ≡ epoch) }
+        ensures stands { IfOk result (λ v. StandsFor v nothing) }
+    {
+        match joined(alloc, &query) {
+            Ok(chain) => {
+                let last = Last::empty(alloc, &query);
+                Ok(ViewState {
+                    query,
+                    epoch,
+                    built: epoch,
+                    chain,
+                    last,
+                })
+            }
             Err(fault) => {
                 drop(query);
                 Err(fault)
@@ -103,6 +129,14 @@ impl ViewState {
         ensures { result ≡ reads table self.now.query }
     {
         reads(&self.query, table)
+    }
+
+    /// Counts no work again: what a view took in while it was built is none of its changes.
+    pub fn restart(&mut self)
+        ensures same { SameView self.old self.new }
+        ensures uncounted { all_ticks self.new.chain.steps.items ≡ 0 }
+    {
+        self.chain.restart();
     }
 
     /// How large the numbers in each column of [`ViewState::rows`] can be.
@@ -166,25 +200,5 @@ impl ViewState {
         ensures fault { IfErr result (λ e. e ≡ SumOutOfRange → IsNotShown self.now) }
     {
         shown_rows(alloc, &self.query, &self.last)
-    }
-}
-
-/// The joins of a query, and what stands behind them.
-fn kept(alloc: Global, query: &Query, sources: &[SourceRows]) -> Result<(Chain, Last), AllocError>
-    requires { CanStart query.now (rows_at sources.now) }
-    ensures of { IfOk result (λ r. IsChainOf query.now r.0) }
-    ensures sides { IfOk result (λ r. Stands (rows_at sources.now) r.0) }
-    ensures last { IfOk result (λ r. LastStandsFor query.now (rows_at sources.now) r.1) }
-    ensures uncounted { IfOk result (λ r. all_ticks r.0.steps.items ≡ 0) }
-{
-    let (chain, rows) = joined(alloc, query, sources)?;
-    let last = Last::of(alloc, query, &rows);
-    drop(rows);
-    match last {
-        Ok(last) => Ok((chain, last)),
-        Err(fault) => {
-            drop(chain);
-            Err(fault)
-        }
     }
 }

@@ -17,15 +17,17 @@ use Rattle.cq_model.specs.Views.{is_table, sources_of}
 use Rattle.cq_states.specs.Pointwise.{Pointwise}
 use Rattle.cq_states.specs.State.{TableOf, rows_in}
 use Rattle.cq_steps.specs.Next.{at_epoch}
-use Rattle.cq_upkeep.specs.Laws.{StandingDependsOnSources}
+use Rattle.cq_kept_views.specs.Laws.{StandingDependsOnSources}
+use Rattle.cq_kept_views.specs.State.{StandsFor}
 use Rattle.cq_upkeep.specs.Query.{reads}
-use Rattle.cq_upkeep.specs.State.{AreBags, StandsFor}
+use Rattle.cq_upkeep.specs.State.{AreBags}
 use Rattle.cq_upkeep.specs.declared.state.Pending.{Pending}
 use Rattle.cq_tables.proofs.Bags.{bags_are}
 use Rattle.cq_tables.proofs.Pairs.{pointwise_all, pointwise_map}
 use Rattle.cq_tables.proofs.Rows.{unread}
+use Rattle.cq_tables.proofs.Wide.{KeepWidths, all-still-wide}
 use Rattle.cq_tables.specs.Taking.{AllStandFor, AreReady, AreSame, HasTaken, HaveTaken, IsReady, IsSame}
-use Rattle.cq_tables.specs.Views.{AreRight, Fits, IsRight, NamedView, bags_in, view_of}
+use Rattle.cq_tables.specs.Views.{AreRight, AreWide, Fits, IsRight, NamedView, bags_in, view_of}
 use Rattle.cq_writes.specs.Changing.{AreReadyAt}
 use Rattle.cq_writes.specs.Following.{Follow, Follows, Moved}
 
@@ -45,7 +47,8 @@ module _ (law : StandingDependsOnSources) (epoch n : ℕ) (tables changes : Tabl
     name = taken.name ∙ s.name;
     columns = taken.columns ∙ s.columns;
     query = taken.query ∙ s.kept.query;
-    built = taken.built ∙ s.kept.built;
+    widths = taken.widths ∙ s.kept.widths;
+    built = taken.built ∙ s.kept.state.built;
     epoch = taken.epoch;
     stands =
         let free : reads n x.kept.query ≡ false = ap (λ (q : Query). reads n q) taken.query ∙ ready in
@@ -55,7 +58,8 @@ module _ (law : StandingDependsOnSources) (epoch n : ℕ) (tables changes : Tabl
     name = taken.name ∙ s.name;
     columns = taken.columns ∙ s.columns;
     query = taken.query ∙ s.kept.query;
-    built = taken.built ∙ s.kept.built;
+    widths = taken.widths ∙ s.kept.widths;
+    built = taken.built ∙ s.kept.state.built;
     epoch = taken.epoch;
     stands = taken.goes tables changes (s.kept.stands tables stands) ready.1 bags;
   }
@@ -89,7 +93,7 @@ all_stand tables now [] right = tt
 all_stand tables now (v ∷ vs) right = (right.0.stands, all_stand tables now vs right.1)
 
 module _ (law : StandingDependsOnSources) (epoch now : ℕ) (old new : List TableOf) (t u : TableOf) (number : u.number ≡ t.number) (here : rows_in old t.number ≡ t.rows) (written : rows_in new u.number ≡ u.rows)
-    (elsewhere : (n : ℕ) → (n == u.number) ≡ false → rows_in new n ≡ rows_in old n) (vs ws : List NamedView) (f : Follow epoch t u vs ws) (right : AreRight old now vs) where
+    (elsewhere : (n : ℕ) → (n == u.number) ≡ false → rows_in new n ≡ rows_in old n) (wide : KeepWidths old new) (vs ws : List NamedView) (f : Follow epoch t u vs ws) (right : AreRight old now vs) where
   -- the tables with what was changed are the new tables
   abbrev after : Tables
   after = changed (bags_in old) f.changes
@@ -124,6 +128,9 @@ module _ (law : StandingDependsOnSources) (epoch now : ℕ) (old new : List Tabl
     shown = ap length g.columns ∙ r.shown ∙ sym (ap (λ (q : Query). length q.items) g.query);
     fits = subst Fits (sym g.query) r.fits;
     epoch = g.epoch;
+    wide =
+        subst (λ (q : Query). AreWide new q w.kept.widths) (sym g.query)
+        (subst (λ (ns : List ℕ). AreWide new v.kept.query ns) (sym g.widths) (all-still-wide old new wide (sources_of v.kept.query) v.kept.widths r.wide));
     stands = law w.kept after (bags_in new) (same_for (sources_of w.kept.query)) g.stands;
   }
 

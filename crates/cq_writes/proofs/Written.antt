@@ -17,7 +17,7 @@ use Rattle.cq_model.specs.Meaning.{keeps}
 use Rattle.cq_model.specs.Write.{left_by}
 use Rattle.cq_states.specs.Fitting.{FitsColumns, AreLimited, AreFitting}
 use Rattle.cq_states.specs.State.{TableOf, AreNumbered, columns_in, holding, rows_in, with_rows}
-use Rattle.cq_upkeep.specs.Laws.{StandingDependsOnSources}
+use Rattle.cq_kept_views.specs.Laws.{StandingDependsOnSources}
 use Rattle.cq_upkeep.specs.declared.state.Pending.{Pending}
 use Rattle.cq_writes.specs.Writing.{Inserts, InsertsRows, deleted_from, inserted_into, room_for}
 use Rattle.cq_writes.specs.Changing.{AreReadyAt, AreStanding, changed, exchanged}
@@ -30,6 +30,7 @@ use Rattle.cq_writes.proofs.Following.{all_stand, follow, moved}
 use Rattle.cq_tables.proofs.Bags.{bags_few, bags_stored}
 use Rattle.cq_tables.proofs.Numbers.{set-number}
 use Rattle.cq_tables.proofs.Rows.{bounded-with_rows, fitting-with_rows, fitting_in, rows_at, rows_elsewhere, rows_have, rows_numbered, rows_there}
+use Rattle.cq_tables.proofs.Wide.{keep-set}
 use Rattle.cq_table.specs.Checks.{too_many}
 use Rattle.cq_table.proofs.RowLists.{all_of_bag, all_of_both, all_of_kept, all_of_rows}
 use Rattle.cq_laws.specs.Sizes.{IsStored}
@@ -93,19 +94,20 @@ standing tables now vs fitting few right = record {
 
 module _ (law : StandingDependsOnSources) (now next : ℕ) (tables : List TableOf) (i : ℕ) (t : TableOf) (vs : List NamedView) (numbered : AreNumbered tables next) (within : i < length tables) (is : t ≡ get_or tables i t) (right : AreRight tables now vs) where
   -- they are led on with it
-  pub moved_at : (epoch : ℕ) (u : TableOf) (ws : List NamedView) → u.number ≡ t.number → Follow epoch t u vs ws → Moved epoch (set tables i u) vs ws
-  moved_at epoch u ws number f =
+  pub moved_at : (epoch : ℕ) (u : TableOf) (ws : List NamedView) → u.number ≡ t.number → u.columns ≡ t.columns → Follow epoch t u vs ws → Moved epoch (set tables i u) vs ws
+  moved_at epoch u ws number columns f =
       let same : u.number ≡ (get_or tables i t).number = number ∙ ap (λ (x : TableOf). x.number) is in
       let here : rows_in tables t.number ≡ t.rows = subst (λ (x : TableOf). rows_in tables x.number ≡ x.rows) (sym is) (rows_there tables i t next numbered within) in
-      moved law epoch now tables (set tables i u) t u number here (rows_at u t tables i next numbered within same) (rows_elsewhere u t tables i within same) vs ws f right
+      moved law epoch now tables (set tables i u) t u number here (rows_at u t tables i next numbered within same) (rows_elsewhere u t tables i within same)
+      (keep-set u t tables i same (columns ∙ ap (λ (x : TableOf). x.columns) is)) vs ws f right
 
   pub written-moved : {X E : Type 0} (epoch : ℕ) (u : TableOf) (ws : List NamedView) (rows : List Row) (result : Result X E) → OnOk result (u ≡ holding rows t) → OnOk result (Follow epoch t u vs ws) → OnOk result (Moved epoch (set tables i u) vs ws)
-  written-moved epoch u ws rows (Ok x) w f = moved_at epoch u ws (ap (λ (y : TableOf). y.number) w) f
+  written-moved epoch u ws rows (Ok x) w f = moved_at epoch u ws (ap (λ (y : TableOf). y.number) w) (ap (λ (y : TableOf). y.columns) w) f
   written-moved epoch u ws rows (Err e) w f = tt
 
   pub inserted_moved : (epoch : ℕ) (u : TableOf) (ws : List NamedView) (max_rows : ℕ) (rows : List Row) (result : Result (Unit {0}) Fault) → InsertsRows max_rows rows t result u → OnOk result (Follow epoch t u vs ws)
       → OnOk result (Moved epoch (set tables i u) vs ws)
-  inserted_moved epoch u ws max_rows rows (Ok x) w f = moved_at epoch u ws (ap (λ (y : TableOf). y.number) w.1) f
+  inserted_moved epoch u ws max_rows rows (Ok x) w f = moved_at epoch u ws (ap (λ (y : TableOf). y.number) w.1) (ap (λ (y : TableOf). y.columns) w.1) f
   inserted_moved epoch u ws max_rows rows (Err e) w f = tt
 
 module _ (next : ℕ) (tables : List TableOf) (i : ℕ) (t : TableOf) (numbered : AreNumbered tables next) (within : i < length tables) (is : t ≡ get_or tables i t) (n : ℕ) (number : (get_or tables i t).number ≡ n) where

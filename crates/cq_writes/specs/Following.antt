@@ -9,7 +9,8 @@ use Rattle.cq_model.specs.declared.query.Source.TheVariants.{Table as FromTable}
 use Rattle.cq_states.specs.Pointwise.{Pointwise}
 use Rattle.cq_states.specs.State.{TableOf}
 use Rattle.cq_steps.specs.Next.{at_epoch}
-use Rattle.cq_upkeep.specs.State.{AreBags, StandsFor}
+use Rattle.cq_kept_views.specs.State.{StandsFor}
+use Rattle.cq_upkeep.specs.State.{AreBags}
 use Rattle.cq_tables.specs.Taking.{AllStandFor}
 use Rattle.cq_tables.specs.Views.{AreRight, NamedView, views_of}
 
@@ -18,8 +19,9 @@ pub record Follows (now : ℕ) (tables changes : Tables) (old new : NamedView) :
   pub name : new.name ≡ old.name
   pub columns : new.columns ≡ old.columns
   pub query : new.kept.query ≡ old.kept.query
-  pub built : new.kept.built ≡ old.kept.built
-  pub epoch : new.kept.epoch ≡ now
+  pub widths : new.kept.widths ≡ old.kept.widths
+  pub built : new.kept.state.built ≡ old.kept.state.built
+  pub epoch : new.kept.state.epoch ≡ now
   pub stands : StandsFor new.kept (changed tables changes)
 
 -- a write changed a table t to u, and whatever tables views stood for, they follow

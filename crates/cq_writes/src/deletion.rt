@@ -10,9 +10,9 @@ ghost use Rattle.cq_writes.specs.Changing.{AreStanding};
 ghost use Rattle.cq_writes.specs.Following.{Follow};
 
 use crate::changing::prepare_views;
+use cq_kept_views::standing_depends_on_sources;
 use cq_model::Cond;
 use cq_tables::{Table, View, commit_all};
-use cq_upkeep::standing_depends_on_sources;
 use std::alloc::{AllocError, Global};
 
 /// Takes the rows that WHERE keeps from this table, and tells how many they were. The views on the table follow.

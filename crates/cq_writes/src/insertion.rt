@@ -9,9 +9,9 @@ ghost use Rattle.cq_writes.specs.Writing.{InsertsRows};
 
 use crate::changing::prepare_views;
 use cq_binding::Fault;
+use cq_kept_views::standing_depends_on_sources;
 use cq_table::check_room;
 use cq_tables::{Table, View, commit_all};
-use cq_upkeep::standing_depends_on_sources;
 use cq_values::Row;
 use std::alloc::Global;
 

@@ -10,9 +10,10 @@ ghost use Rattle.cq_writes.specs.Updates.{ArePrepared, CanUpdate, UpdatesRows};
 
 use crate::changing::prepare_views;
 use cq_binding::Fault;
+use cq_kept_views::standing_depends_on_sources;
 use cq_model::{Assignment, Cond};
 use cq_tables::{Table, View, commit_all};
-use cq_upkeep::{Pending, standing_depends_on_sources};
+use cq_upkeep::Pending;
 use cq_values::Row;
 use std::alloc::Global;
 

@@ -16,9 +16,9 @@ use crate::deletion::delete_from;
 use crate::insertion::insert_into;
 use crate::updating::update_rows;
 use cq_binding::Fault;
+use cq_kept_views::standing_depends_on_sources;
 use cq_model::{Assignment, Cond};
 use cq_tables::{Table, View, place_numbered};
-use cq_upkeep::standing_depends_on_sources;
 use cq_values::Row;
 use std::alloc::{AllocError, Global};
 

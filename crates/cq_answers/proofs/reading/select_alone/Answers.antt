@@ -76,4 +76,4 @@ returns-in-View c =
     let v = c.index-views-place.result in
     let inside = place_there views c.in-View.place (subst (IsSourceThere tables (views_of views)) c.in-View.is c.requires.can_read.there.0) in
     let at = slice_get_read views (length views) c.in-View.place v refl inside c.index-views-place.is in
-    from_kept tables views c.args.query.now c.args.order.now c.requires.right.0 c.in-View.place v c.requires.right.1 at c.select_from_view.result c.requires.plain c.in-View.is c.select_from_view.ensures
+    from_kept tables views c.args.query.now c.args.order.now c.requires.right.0 c.in-View.place v c.requires.right.1 at c.requires.fitting c.select_from_view.result c.requires.plain c.in-View.is c.select_from_view.ensures

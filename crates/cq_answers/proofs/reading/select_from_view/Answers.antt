@@ -17,8 +17,8 @@ returns c =
     let q = c.args.query.now in
     let rows = c.in_ok-rows.rows in
     let listed = rw c.deref.ensures.value at c.in_ok-list.ensures in
-    λ tables stands bags. (
+    λ tables suit. (
       listing_plain q.filter q.items q.first (λ source. meaning c.args.view.now.kept.query tables) c.args.order.now
-          rows.items c.in_ok-list.field-0 (c.in_ok-rows.ensures.ok tables stands bags) listed,
-      c.in_ok-rows.ensures.range tables stands bags,
+          rows.items c.in_ok-list.field-0 (c.in_ok-rows.ensures.ok tables suit) listed,
+      c.in_ok-rows.ensures.range tables suit,
     )

@@ -20,7 +20,7 @@ returns-in_err-gathered c =
     let p = err_from_is_err_and c.from_residual-in_err-gathered.result c.from_residual-in_err-gathered.ensures.1 in
     let fault = rw (c.deref.ensures.value, c.in_ok-sources.ensures) at c.in_err-gathered.ensures.fault in
     rw (p.1, p.2)
-    (gather_refused c.args.tables.now c.args.views.now c.requires.right.0 c.requires.right.1 c.args.query.now
+    (gather_refused c.args.tables.now c.args.views.now c.requires.right.0 c.requires.right.1 c.requires.fitting c.args.query.now
     c.args.order.now c.in_err-gathered.field-0.0 fault)
 
 -- and so is each of what was gathered

@@ -1,9 +1,18 @@
+use Rattle.std.proofs.Common.{ℕ, List, subst, sym}
+use Rattle.cq_model.specs.Views.{sources_of}
+use Rattle.cq_model.specs.declared.query.Query.{Query}
+use Rattle.cq_tables.specs.Views.{AreWide}
 use Rattle.cq_engine.proofs.Entries.{can_start, stands_for_tables}
+use Rattle.cq_engine.proofs.TableColumns.{tables-there}
 use Rattle.cq_engine.proofs.creation.built_state.Goals as goal
 
+-- the sources are tables that are there
+pub widths_of-requires-clause-there : goal.widths_of-requires-clause-there
+widths_of-requires-clause-there c = tables-there c.args.tables.now c.requires.there.0 (sources_of c.args.query) c.requires.fits.can.tables c.requires.there.1
+
 -- the rows of the tables are stored, few, and none of them less than never
-pub build-requires : goal.build-requires
-build-requires c =
+pub build-requires-clause-start : goal.build-requires-clause-start
+build-requires-clause-start c =
     rw c.deref.ensures.value
     (can_start c.args.tables.now c.args.query c.in_ok-sources.sources.items c.in_ok-sources.ensures c.requires.fitting
     c.requires.limited c.requires.fits)
@@ -18,6 +27,9 @@ returns c =
       is_of = state.query;
       epoch = state.epoch;
       built = state.built;
+      wide =
+          subst (λ (q : Query). AreWide c.args.tables.now q v.widths) (sym state.query)
+          (subst (λ (ns : List ℕ). AreWide c.args.tables.now c.args.query ns) (sym state.widths) c.in_ok-widths.ensures.wide);
       stands =
           stands_for_tables c.args.tables.now c.args.query c.in_ok-sources.sources.items c.in_ok-sources.ensures
           c.standing_depends_on_sources.ensures v state.query stands;

@@ -19,6 +19,7 @@ returns-clause-right c =
       shown = can.shown ∙ sym (ap (λ (d : Query). length d.items) is.is_of);
       fits = subst Fits (sym is.is_of) can.fits;
       epoch = is.epoch;
+      wide = is.wide;
       stands = is.stands;
     } in
     rw (c.in_ok-push.ensures.items, c.new.ensures) (right_behind tables c.args.now c.args.views.now.items view c.requires.right one)

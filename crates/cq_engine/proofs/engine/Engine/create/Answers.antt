@@ -5,6 +5,7 @@ use Rattle.cq_tables.specs.Views.{views_of}
 use Rattle.cq_engine.proofs.Kept.{all_at, right_everywhere}
 use Rattle.cq_tables.proofs.Numbers.{numbered-behind}
 use Rattle.cq_tables.proofs.Rows.{all_behind, rows_before}
+use Rattle.cq_tables.proofs.Wide.{keep-behind}
 use Rattle.cq_engine.proofs.Steps.{create_done}
 use Rattle.cq_engine.proofs.engine.Engine.create.Goals as goal
 
@@ -16,7 +17,7 @@ invariant_of-self-2 c =
       rw (c.in_ok-push.ensures.items, c.new-table.ensures) (numbered-behind made tables c.self.invariant.1),
       rw (c.in_ok-push.ensures.items, c.new-table.ensures) (all_behind IsFitting tables made c.self.invariant.2 tt),
       rw (c.in_ok-push.ensures.items, c.new-table.ensures)
-          (right_everywhere tables _ c.self.inside.writes (λ n. rows_before tables made n refl) c.self.inside.views.items
+          (right_everywhere tables _ c.self.inside.writes (λ n. rows_before tables made n refl) (keep-behind tables made) c.self.inside.views.items
           c.self.invariant.3),
       rw (c.in_ok-push.ensures.items, c.new-table.ensures) (all_behind (λ t. length t.rows ≤ c.self.inside.limits.max_rows) tables made c.self.invariant.4 (omega arith)),
     )

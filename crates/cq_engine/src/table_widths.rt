@@ -1,0 +1,75 @@
+//! How many columns the tables have that a query names.
+ghost use Rattle.std.specs.List.{AllByRecursion, AllZip};
+ghost use Rattle.std.specs.Prelude.{◌+◌, ◌<◌, ◌≡◌, ◌^◌, ℕ, IfOk, sum};
+ghost use Rattle.cq_model.specs.Views.{sources_of};
+ghost use Rattle.cq_states.specs.State.{AreNumbered};
+ghost use Rattle.cq_engine.specs.TableWidths.{IsTableThere};
+ghost use Rattle.cq_tables.specs.Views.{AreWide, IsWide};
+
+use cq_answers::sources_of;
+use cq_model::{Query, Source};
+use cq_scans::refused_room;
+use cq_tables::{Table, place_numbered};
+use cq_values::Seq;
+use std::alloc::{AllocError, Global};
+
+/// How many columns each table has that FROM names, in its order.
+pub(crate) fn widths_of(
+    alloc: Global,
+    tables: &[Table],
+    query: &Query,
+) -> Result<Seq<usize>, AllocError>
+    requires numbered { (next : ℕ) × AreNumbered tables.now next }
+    requires there { AllByRecursion (IsTableThere tables.now) (sources_of query.now) }
+    ensures wide { IfOk result (λ widths. AreWide tables.now query.now widths) }
+    ensures sum { IfOk result (λ widths. sum widths < 2 ^ 64) }
+{
+    let sources = sources_of(alloc, query)?;
+    all_widths(alloc, tables, &sources)
+}
+
+/// How many columns the table of each of these sources has.
+fn all_widths(alloc: Global, tables: &[Table], sources: &[Source]) -> Result<Seq<usize>, AllocError>
+    requires numbered { (next : ℕ) × AreNumbered tables.now next }
+    requires there { AllByRecursion (IsTableThere tables.now) sources.now }
+    ensures wide { IfOk result (λ widths. AllZip (IsWide tables.now) sources.now widths) }
+    ensures sum { IfOk result (λ widths. sum widths < 2 ^ 64) }
+{
+    let mut widths = Seq::new(alloc);
+    let mut total = 0;
+    for source in sources {
+        let wide = width_of(tables, *source);
+        total = widened(alloc, total, wide)?;
+        widths.push(wide)?;
+    }
+    Ok(widths)
+}
+
+/// How many columns the table of a source has.
+fn width_of(tables: &[Table], source: Source) -> usize
+    requires numbered { (next : ℕ) × AreNumbered tables.now next }
+    requires there { IsTableThere tables.now source }
+    ensures { IsWide tables.now source result }
+{
+    match source {
+        Source::Table(number) => {
+            let place = place_numbered(tables, number);
+            tables[place].columns().len()
+        }
+        Source::View(_) => 0,
+    }
+}
+
+/// How many columns there are with so many more. What is too wide to be counted is refused its room.
+fn widened(alloc: Global, width: usize, more: usize) -> Result<usize, AllocError>
+    ensures wider { IfOk result (λ wider. wider ≡ width + more) }
+    ensures counted { IfOk result (λ wider. wider < 2 ^ 64) }
+{
+    match width.checked_add(more) {
+        Some(wider) => Ok(wider),
+        None => {
+            refused_room(alloc)?;
+            unreachable!()
+        }
+    }
+}

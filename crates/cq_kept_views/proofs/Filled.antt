@@ -1,0 +1,132 @@
+-- A state of a query that takes rows of tables in which are cut to its columns.
+use Rattle.std.proofs.Common.{◌≡◌, ◌∙◌, ◌≤◌, ◌^◌, ℕ, List, [], ◌∷◌, ◌++◌, length, map, Option, Some, None, refl, sym, ap, subst, arith}
+use Rattle.std.proofs.lemmas.List.{map-append}
+use Rattle.std.specs.List.{AllByRecursion}
+use Rattle.cq_values.specs.Value.{Row}
+use Rattle.cq_bags.proofs.Distincts.{once_each-map}
+use Rattle.cq_bags.proofs.Totals.{by_test}
+use Rattle.cq_bags.specs.Bag.{Weighted, once_each}
+use Rattle.cq_chains.specs.Chains.{nothing, spans}
+use Rattle.cq_chains.specs.Steps.{AreStored}
+use Rattle.cq_kept.specs.Delta.{changed}
+use Rattle.cq_kept_views.proofs.Bags.{all-weaker, cut-append, cut-bags, cut-none, cut-sizes, cut-stored}
+use Rattle.cq_kept_views.specs.Cut.{cut_bags, cut_only, cut_table, cut_to, entry_of}
+use Rattle.cq_laws.proofs.Positives.{once_each-bag}
+use Rattle.cq_lent.specs.Lent.{same_source}
+use Rattle.cq_lent.specs.declared.lent.Lent.{Lent}
+use Rattle.cq_model.specs.Group.{key_of}
+use Rattle.cq_model.specs.Meaning.{Tables}
+use Rattle.cq_model.specs.Views.{sources_of}
+use Rattle.cq_model.specs.declared.query.Query.{Query}
+use Rattle.cq_model.specs.declared.query.Source.{Source}
+use Rattle.cq_narrow.proofs.Covered.{only_itself}
+use Rattle.cq_narrow.specs.Narrow.{IsNarrowOf}
+use Rattle.cq_narrow.specs.declared.columns.SourceColumns.{SourceColumns}
+use Rattle.cq_narrow.specs.declared.narrow_query.NarrowQuery.{NarrowQuery}
+use Rattle.cq_upkeep.proofs.Filled.{all-hold, bags_at-bags, can-first, can-second, can-swapped, fills-none, fills-swapped, only-bags, spans-less}
+use Rattle.cq_upkeep.specs.Filling.{CanFill, Fills, bags_at, only}
+use Rattle.cq_upkeep.specs.State.{AreBags, CanStart, HoldStored, StandsFor}
+use Rattle.cq_upkeep.specs.declared.state.ViewState.{ViewState}
+
+-- ---- rows of one table
+module _ (columns : List SourceColumns) (t : Lent) where
+  abbrev rows : Weighted
+  rows = once_each t.rows.now
+
+  -- those of a source without an entry are none
+  no-entry-at : entry_of columns t.source ≡ None → (s : Source) → cut_table columns t s ≡ []
+  no-entry-at none s = by_test (same_source t.source s)
+      (λ k. rw k (subst (λ (o : Option SourceColumns). cut_to o rows ≡ []) (sym (ap (entry_of columns) (sym (only_itself t.source s k)) ∙ none)) refl))
+      (λ k. rw k (cut-none (entry_of columns s)))
+
+  pub no-entry : (v : ViewState) → entry_of columns t.source ≡ None → Fills (cut_table columns t) v v
+  no-entry v none = fills-none v (cut_table columns t) (no-entry-at none)
+
+  -- the others are cut to the columns of its entry
+  entry-at : (x : SourceColumns) → entry_of columns t.source ≡ Some x → (s : Source) → cut_table columns t s ≡ cut_only t.source x.columns t.rows.now s
+  entry-at x found s = by_test (same_source t.source s)
+      (λ k. rw k (ap (λ (o : Option SourceColumns). cut_to o rows) (ap (entry_of columns) (sym (only_itself t.source s k)) ∙ found) ∙ sym (once_each-map (key_of x.columns) t.rows.now)))
+      (λ k. rw k (cut-none (entry_of columns s)))
+
+  pub own-entry : (x : SourceColumns) → entry_of columns t.source ≡ Some x → cut_table columns t ≡ cut_only t.source x.columns t.rows.now
+  own-entry x found = λ i s. entry-at x found s i
+
+  cut_table-bags : AreBags (cut_table columns t)
+  cut_table-bags = cut-bags columns (only t.source rows) (only-bags t.source t.rows.now)
+
+  -- those of the first table come last
+  module _ (v : ViewState) (rest : List Lent) where
+    abbrev others : Tables
+    others = cut_bags columns (bags_at rest)
+
+    others-bags : AreBags others
+    others-bags = cut-bags columns (bags_at rest) (bags_at-bags rest)
+
+    both : cut_bags columns (bags_at (t ∷ rest)) ≡ changed (cut_table columns t) others
+    both = λ i s. cut-append (entry_of columns s) (only t.source rows s) (bags_at rest s) i
+
+    module _ (can : CanFill v (cut_bags columns (bags_at (t ∷ rest)))) where
+      swapped-can : CanFill v (changed others (cut_table columns t))
+      swapped-can = can-swapped v (cut_table columns t) others cut_table-bags others-bags (subst (λ (ts : Tables). CanFill v ts) both can)
+
+      pub others-can : CanFill v others
+      others-can = can-first v others (cut_table columns t) others-bags cut_table-bags swapped-can
+
+      pub own-can : (w : ViewState) → Fills others v w → CanFill w (cut_table columns t)
+      own-can w fills = can-second v others (cut_table columns t) others-bags cut_table-bags w swapped-can fills
+
+    pub all-filled : (w x : ViewState) → Fills others v w → Fills (cut_table columns t) w x → Fills (cut_bags columns (bags_at (t ∷ rest))) v x
+    all-filled w x one two = subst (λ (ts : Tables). Fills ts v x) (sym both) (fills-swapped v others (cut_table columns t) others-bags cut_table-bags w x one two)
+
+-- of no table there are none
+pub no-tables : (columns : List SourceColumns) (v : ViewState) (tables : List Lent) → length tables ≡ 0 → Fills (cut_bags columns (bags_at tables)) v v
+no-tables columns v [] none = fills-none v (cut_bags columns (bags_at [])) (λ s. cut-none (entry_of columns s))
+no-tables columns v (t ∷ tables) none = absurd (omega (arith, none))
+
+-- rows in two parts are cut in two parts
+pub cut-parts : (columns : List ℕ) (left front rest : List Row) → left ≡ front ++ rest → map (key_of columns) left ≡ map (key_of columns) front ++ map (key_of columns) rest
+cut-parts columns left front rest parts = ap (map (key_of columns)) parts ∙ map-append (key_of columns) front rest
+
+-- where no row is left, nothing is to be done
+pub none-left : (v : ViewState) (source : Source) (columns : List ℕ) (left : List Row) → length left ≡ 0 → Fills (cut_only source columns left) v v
+none-left v source columns [] none = fills-none v (cut_only source columns []) (λ s. by_test (same_source source s) (λ k. rw k refl) (λ k. rw k refl))
+none-left v source columns (r ∷ left) none = absurd (omega (arith, none))
+
+-- ---- a state without rows, and the rows of all tables
+-- rows that it can start with can be taken in
+pub start-can : (v : ViewState) (query : Query) (more : Tables) → v.query ≡ query → CanStart query more → AreBags more → StandsFor v nothing → CanFill v more
+start-can v query more is start bags stands =
+    let own : CanStart v.query more = subst (λ (q : Query). CanStart q more) (sym is) start in
+    record {
+      can = record {
+        can = own.can;
+        tables = nothing;
+        stands = stands;
+        few = own.few;
+        stored = (all-hold (λ s. AreStored (nothing s)) (λ s. tt) (sources_of v.query), own.stored);
+      };
+      bags = (λ s. once_each-bag [], bags);
+    }
+
+-- and then it stands for them
+pub start-filled : (v w : ViewState) (more : Tables) → StandsFor v nothing → Fills more v w → StandsFor w more
+start-filled v w more stands fills = fills.stands nothing stands (λ s. once_each-bag [])
+
+-- ---- a query over its columns
+module _ (query : Query) (widths : List ℕ) (narrow : NarrowQuery) (is : IsNarrowOf query widths narrow) where
+  -- over rows that are cut it can be kept as the query can be over the whole ones
+  cut-hold : (tables : Tables) → HoldStored query tables → HoldStored narrow.query (cut_bags narrow.columns tables)
+  cut-hold tables stored =
+      subst (λ (ss : List Source). AllByRecursion (λ s. AreStored (cut_bags narrow.columns tables s)) ss) (sym is.sources)
+      (all-weaker (λ s. AreStored (tables s)) (λ s. AreStored (cut_bags narrow.columns tables s)) (λ s h. cut-stored (entry_of narrow.columns s) (tables s) h) (sources_of query) stored)
+
+  pub cut-start : (tables : Tables) → CanStart query tables → CanStart narrow.query (cut_bags narrow.columns tables)
+  cut-start tables start =
+      let columns = narrow.columns in
+      let less = spans-less nothing (cut_bags columns tables) nothing tables (λ s. omega (arith, cut-sizes (entry_of columns s) (tables s))) (sources_of query) in
+      let few : spans nothing (cut_bags columns tables) (sources_of query) ≤ 2 ^ 122 = omega (arith, less, start.few) in
+      record {
+        can = is.kept start.can;
+        few = subst (λ (ss : List Source). spans nothing (cut_bags columns tables) ss ≤ 2 ^ 122) (sym is.sources) few;
+        stored = cut-hold tables start.stored;
+      }

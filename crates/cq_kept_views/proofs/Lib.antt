@@ -1,0 +1,6 @@
+pub mod Bags
+pub mod Copies
+pub mod Sources
+pub mod Filled
+pub mod Standing
+pub mod Showing

@@ -1,0 +1,8 @@
+use Rattle.std.proofs.Common.{map, take}
+use Rattle.cq_bags.specs.Bag.{SameBag, once_each}
+use Rattle.cq_model.specs.Group.{key_of}
+use Rattle.cq_kept_views.proofs.cutting.cut_once.Given as goal
+
+-- the rows so far, cut, once each
+abbrev pub invariant-loop-row : goal.invariant-loop-row
+invariant-loop-row l = SameBag l.once.entries (once_each (map (key_of l.columns) (take l.row-index l.rows)))

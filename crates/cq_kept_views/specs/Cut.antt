@@ -1,0 +1,64 @@
+-- Rows that are cut to the columns that a query reads of its sources.
+use Rattle.std.specs.Prelude.{◌≡◌, ◌<◌, ◌^◌, ℕ, if◌then◌else◌, List, [], ◌∷◌, map, Option, Some, None}
+use Rattle.cq_values.specs.Value.{Row}
+use Rattle.cq_bags.specs.Bag.{SameBag, Weighted, once_each, projected}
+use Rattle.cq_bags.specs.Size.{IsClean}
+use Rattle.cq_chains.specs.Work.{all_ticks}
+use Rattle.cq_kept.specs.Delta.{SameTables}
+use Rattle.cq_lent.specs.Lent.{same_source}
+use Rattle.cq_lent.specs.declared.lent.Lent.{Lent}
+use Rattle.cq_model.specs.Group.{key_of}
+use Rattle.cq_model.specs.Meaning.{Tables}
+use Rattle.cq_model.specs.declared.query.Query.{Query}
+use Rattle.cq_model.specs.declared.query.Source.{Source}
+use Rattle.cq_narrow.specs.declared.columns.SourceColumns.{SourceColumns}
+use Rattle.cq_sides.specs.Held.{Held, sizes}
+use Rattle.cq_upkeep.specs.Filling.{only}
+use Rattle.cq_upkeep.specs.State.{StandsFor}
+use Rattle.cq_upkeep.specs.declared.state.ViewState.{ViewState}
+
+-- the first entry of a source
+abbrev pub entry_of : List SourceColumns → Source → Option SourceColumns
+entry_of [] source = None
+entry_of (x ∷ columns) source = if same_source x.source source then Some x else entry_of columns source
+
+-- rows with the columns of an entry alone, and none without an entry
+abbrev pub cut_to : Option SourceColumns → Weighted → Weighted
+cut_to None xs = []
+cut_to (Some x) xs = projected (key_of x.columns) xs
+
+-- each source that has an entry by its rows with these columns alone, and the others by none
+abbrev pub cut_bags : List SourceColumns → Tables → Tables
+cut_bags columns tables source = cut_to (entry_of columns source) (tables source)
+
+-- ---- changes
+-- the changes of an entry's source are few enough to be added up
+abbrev pub IsSmall : Tables → SourceColumns → Type 0
+IsSmall changes x = sizes (changes x.source) < 2 ^ 127
+
+-- rows with their weights, cut to columns, each row once
+pub record IsCut (columns : List ℕ) (xs : Weighted) (cut : Held) : Type 0 where
+  pub same : SameBag cut.entries (projected (key_of columns) xs)
+  pub clean : IsClean cut.entries
+
+-- so it is with the changes of each source
+pub record AreCut (columns : List SourceColumns) (changes cut : Tables) : Type 0 where
+  pub same : SameTables cut (cut_bags columns changes)
+  pub clean : (source : Source) → IsClean (cut source)
+
+-- ---- rows of tables, where they are
+-- the rows of one table, each of them once
+abbrev pub cut_table : List SourceColumns → Lent → Tables
+cut_table columns table = cut_bags columns (only table.source (once_each table.rows.now))
+
+-- a source with rows that are cut to these columns, each of them once
+abbrev pub cut_only : Source → List ℕ → List Row → Tables
+cut_only source columns rows = only source (once_each (map (key_of columns) rows))
+
+-- the state of a query at the epoch stands for these rows, and no work was counted
+pub record IsFilled (q : Query) (now : ℕ) (rows : Tables) (state : ViewState) : Type 0 where
+  pub query : state.query ≡ q
+  pub epoch : state.epoch ≡ now
+  pub built : state.built ≡ now
+  pub stands : StandsFor state rows
+  pub uncounted : all_ticks state.chain.steps.items ≡ 0

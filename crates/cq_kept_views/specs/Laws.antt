@@ -1,0 +1,26 @@
+-- What holds of kept views. Each statement is the contract of a function in laws.rt.
+use Rattle.std.specs.Prelude.{◌+◌, ◌≤◌}
+use Rattle.std.specs.List.{AllByRecursion}
+use Rattle.cq_bags.specs.Bag.{SameBag}
+use Rattle.cq_chains.specs.Work.{CountsEntries, all_ticks}
+use Rattle.cq_kept_views.specs.Cut.{cut_bags}
+use Rattle.cq_kept_views.specs.State.{CountsPairs, SameView, StandsFor}
+use Rattle.cq_kept_views.specs.declared.kept_view.KeptView.{KeptView}
+use Rattle.cq_model.specs.Meaning.{Tables}
+use Rattle.cq_model.specs.Views.{sources_of}
+use Rattle.cq_upkeep.specs.Laws.{joins_work}
+use Rattle.cq_upkeep.specs.declared.state.Pending.{Pending}
+
+-- what a view stands for are the bags of the tables that its FROM names, however they are listed
+abbrev pub StandingDependsOnSources : Type 0
+StandingDependsOnSources =
+    (v : KeptView) (tables others : Tables) → AllByRecursion (λ s. SameBag (tables s) (others s)) (sources_of v.query)
+    → StandsFor v tables → StandsFor v others
+
+-- for changes that are prepared and then put in, the counts rise by at most the work of the joins over the rows that are cut
+abbrev pub CountsWithinWork : Type 0
+CountsWithinWork =
+    (tables changes : Tables) (old ready new : KeptView) (pending : Pending)
+    → StandsFor old tables → SameView old ready → (waiting : CountsPairs old changes ready pending)
+    → CountsEntries ready.state.chain pending.waiting.joins.items new.state.chain
+    → all_ticks new.state.chain.steps.items ≤ all_ticks old.state.chain.steps.items + joins_work old.state.query (cut_bags old.columns tables) waiting.cut

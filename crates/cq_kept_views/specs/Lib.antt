@@ -1,0 +1,4 @@
+pub mod Cut
+pub mod State
+pub mod Shown
+pub mod Laws

@@ -1,0 +1,83 @@
+-- A view as it is kept, the tables that it stands for, and what changes of them do.
+use Rattle.std.specs.Prelude.{◌≡◌, ◌≤◌, ◌^◌, ℕ, List}
+use Rattle.cq_chains.specs.Chains.{spans}
+use Rattle.cq_chains.specs.Work.{all_ticks}
+use Rattle.cq_chains.specs.Work as chains
+use Rattle.cq_kept.specs.Delta.{SameTables, changed}
+use Rattle.cq_kept_views.specs.Cut.{cut_bags}
+use Rattle.cq_kept_views.specs.declared.kept_view.KeptView.{KeptView}
+use Rattle.cq_model.specs.Meaning.{Tables}
+use Rattle.cq_model.specs.Views.{sources_of}
+use Rattle.cq_model.specs.declared.query.Query.{Query}
+use Rattle.cq_narrow.specs.Narrow.{IsNarrowOf}
+use Rattle.cq_narrow.specs.declared.columns.SourceColumns.{SourceColumns}
+use Rattle.cq_narrow.specs.declared.narrow_query.NarrowQuery.{NarrowQuery}
+use Rattle.cq_upkeep.specs.Query.{CanBeKept}
+use Rattle.cq_upkeep.specs.State.{AreBags, HoldStored}
+use Rattle.cq_upkeep.specs.State as inner
+use Rattle.cq_upkeep.specs.declared.state.Pending.{Pending}
+use Rattle.cq_upkeep.specs.declared.state.ViewState.{ViewState}
+
+-- the query over rows with the columns alone that it reads
+abbrev pub narrow_query : KeptView → NarrowQuery
+narrow_query v = record { query = v.state.query; columns = v.columns }
+
+-- the state is of the query over the columns that it reads, and stands for the tables' rows that are cut to these
+pub record StandsFor (v : KeptView) (tables : Tables) : Type 0 where
+  pub narrow : IsNarrowOf v.query v.widths (narrow_query v)
+  pub rows : inner.StandsFor v.state (cut_bags v.columns tables)
+
+-- columns of a query, and its state over these at the epoch, which stands for the tables and counted no work
+pub record IsOver (q : Query) (widths : List ℕ) (tables : Tables) (now : ℕ) (made : List SourceColumns × ViewState) : Type 0 where
+  pub narrow : IsNarrowOf q widths (record { query = made.1.query; columns = made.0 })
+  pub epoch : made.1.epoch ≡ now
+  pub built : made.1.built ≡ now
+  pub rows : inner.StandsFor made.1 (cut_bags made.0 tables)
+  pub uncounted : all_ticks made.1.chain.steps.items ≡ 0
+
+-- the view stands for stored rows, and they and the changes are few enough
+pub record CanPrepare (v : KeptView) (changes : Tables) : Type 0 where
+  pub can : CanBeKept v.query
+  pub tables : Tables
+  pub stands : StandsFor v tables
+  pub few : spans tables changes (sources_of v.query) ≤ 2 ^ 122
+  pub stored : HoldStored v.query tables × HoldStored v.query changes
+
+-- a view stands for what it stood for
+abbrev pub StaysStanding : KeptView → KeptView → Type 0
+StaysStanding old new = (tables : Tables) → StandsFor old tables → StandsFor new tables
+
+-- nothing is changed that is seen of a view, and it stands for what it stood for
+pub record SameView (old new : KeptView) : Type 0 where
+  pub query : new.query ≡ old.query
+  pub widths : new.widths ≡ old.widths
+  pub columns : new.columns ≡ old.columns
+  pub state : inner.SameView old.state new.state
+  pub stands : StaysStanding old new
+
+-- changes of these tables wait for the view, cut to the columns that it reads
+pub record WaitsFor (tables changes : Tables) (v : KeptView) (pending : Pending) : Type 0 where
+  pub cut : Tables
+  pub same : SameTables cut (cut_bags v.columns changes)
+  pub waits : inner.WaitsFor (cut_bags v.columns tables) cut v.state pending
+
+-- whatever tables the view stood for
+abbrev pub IsWaiting : KeptView → Tables → KeptView → Pending → Type 0
+IsWaiting old changes new pending = (tables : Tables) → StandsFor old tables → WaitsFor tables changes new pending
+
+-- changes wait as rows that are cut, and the counts rose by at most the pairs that these rows meet
+pub record CountsPairs (old : KeptView) (changes : Tables) (new : KeptView) (pending : Pending) : Type 0 where
+  pub cut : Tables
+  pub same : SameTables cut (cut_bags old.columns changes)
+  pub waits : inner.IsWaiting old.state cut new.state pending
+  pub counts : chains.CountsPairs old.state.chain cut new.state.chain
+
+-- there is room for what waits, and no number leaves its range
+abbrev pub CanCommit : KeptView → Pending → Type 0
+CanCommit v pending = inner.CanCommit v.state pending
+
+-- with what waited put in, the view stands for the changed tables
+abbrev pub TakesIn : KeptView → Pending → KeptView → Type 0
+TakesIn old pending new =
+    (tables changes : Tables) → StandsFor old tables → WaitsFor tables changes old pending → AreBags (changed tables changes)
+    → StandsFor new (changed tables changes)

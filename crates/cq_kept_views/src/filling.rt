@@ -1,0 +1,126 @@
+//! Rows of tables that are cut to the columns that a query reads, and taken in, some at a time.
+ghost use Rattle.std.specs.Prelude.{◌≤◌, IfOk, OnOk, length};
+ghost use Rattle.cq_kept_views.specs.Cut.{IsFilled, cut_bags, cut_only, cut_table};
+ghost use Rattle.cq_upkeep.specs.Filling.{CanFill, Fills, bags_at};
+ghost use Rattle.cq_upkeep.specs.State.{CanStart};
+
+use crate::cutting::{cut_once, entry_of};
+use cq_chains::SourceRows;
+use cq_lent::Lent;
+use cq_model::{Query, Source};
+use cq_narrow::SourceColumns;
+use cq_upkeep::ViewState;
+use cq_values::Row;
+use std::alloc::{AllocError, Global};
+
+/// How many rows of a table are copied at once.
+const ROWS_AT_A_TIME: usize = 1_024;
+
+/// The state of a query over the rows of tables that are cut to its columns. It counts no work.
+pub(crate) fn filled(
+    alloc: Global,
+    query: Query,
+    columns: &[SourceColumns],
+    tables: &[Lent],
+    epoch: u64,
+) -> Result<ViewState, AllocError>
+    requires { CanStart query (cut_bags columns.now (bags_at tables.now)) }
+    ensures { IfOk result (IsFilled query epoch (cut_bags columns.now (bags_at tables.now))) }
+{
+    let mut view = ViewState::empty(alloc, query, epoch)?;
+    match fill(alloc, &mut view, columns, tables) {
+        Ok(()) => {
+            view.restart();
+            Ok(view)
+        }
+        Err(fault) => {
+            drop(view);
+            Err(fault)
+        }
+    }
+}
+
+/// Takes in the rows of tables, those of the last one first. The first one is mostly the largest: its rows come when the
+/// others are there, so that no step adds many joined rows.
+fn fill(
+    alloc: Global,
+    view: &mut ViewState,
+    columns: &[SourceColumns],
+    tables: &[Lent],
+) -> Result<(), AllocError>
+    requires { CanFill view.old (cut_bags columns.now (bags_at tables.now)) }
+    ensures { OnOk result (Fills (cut_bags columns.now (bags_at tables.now)) view.old view.new) }
+{
+    match tables.split_first() {
+        None => Ok(()),
+        Some((table, rest)) => {
+            fill(alloc, view, columns, rest)?;
+            fill_own(alloc, view, columns, table)
+        }
+    }
+}
+
+/// Takes in the rows of one table.
+fn fill_own(
+    alloc: Global,
+    view: &mut ViewState,
+    columns: &[SourceColumns],
+    table: &Lent,
+) -> Result<(), AllocError>
+    requires { CanFill view.old (cut_table columns.now table.now) }
+    ensures { OnOk result (Fills (cut_table columns.now table.now) view.old view.new) }
+{
+    match entry_of(columns, table.source) {
+        None => Ok(()),
+        Some(entry) => fill_from(
+            alloc,
+            view,
+            table.source,
+            entry.columns.as_slice(),
+            table.rows,
+        ),
+    }
+}
+
+/// Takes in the rows of a source, some at a time.
+fn fill_from(
+    alloc: Global,
+    view: &mut ViewState,
+    source: Source,
+    columns: &[usize],
+    rows: &[Row],
+) -> Result<(), AllocError>
+    requires { CanFill view.old (cut_only source columns.now rows.now) }
+    ensures { OnOk result (Fills (cut_only source columns.now rows.now) view.old view.new) }
+{
+    let mut left = rows;
+    while !left.is_empty() {
+        let (front, rest) = left.split_at(left.len().min(ROWS_AT_A_TIME));
+        fill_with(alloc, view, source, columns, front)?;
+        left = rest;
+    }
+    Ok(())
+}
+
+/// Takes in rows of a source, no more of them than are copied at once.
+fn fill_with(
+    alloc: Global,
+    view: &mut ViewState,
+    source: Source,
+    columns: &[usize],
+    rows: &[Row],
+) -> Result<(), AllocError>
+    requires few { length rows.now ≤ 1_024 }
+    requires can { CanFill view.old (cut_only source columns.now rows.now) }
+    ensures { OnOk result (Fills (cut_only source columns.now rows.now) view.old view.new) }
+{
+    let rows = cut_once(alloc, columns, rows)?;
+    let mut changes = Vec::new(alloc);
+    changes.push(SourceRows { source, rows })?;
+    let prepared = view.prepare(alloc, &changes);
+    drop(changes);
+    let pending = prepared?;
+    let epoch = view.epoch();
+    view.commit(pending, epoch);
+    Ok(())
+}

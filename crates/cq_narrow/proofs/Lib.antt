@@ -1,0 +1,10 @@
+pub mod Trees
+pub mod Sources
+pub mod Rows
+pub mod Values
+pub mod Joined
+pub mod Grouped
+pub mod Covered
+pub mod Upkeep
+pub mod Meanings
+pub mod Bags
