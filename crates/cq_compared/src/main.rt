@@ -11,11 +11,13 @@ use std::io::{BufWriter, Write};
 use std::process::ExitCode;
 use std::{fs, io};
 
-const SCRIPTS: [&str; 5] = [
+const SCRIPTS: [&str; 7] = [
     "conditions.sql",
     "groups.sql",
     "joins.sql",
+    "joined-views.sql",
     "long-tables.sql",
+    "self-joined-views.sql",
     "views.sql",
 ];
 

@@ -96,7 +96,7 @@ impl PlainEngine {
 
     /// The answer to a query.
     pub(crate) fn answer(&self, query: &Query, order: &Order) -> Result<Vec<Row>, PlainFault> {
-        let shown = self.shown()?;
+        let shown = self.shown(query)?;
         let answered = self.answer_over(&shown, query, order);
         drop(shown);
         answered
@@ -120,13 +120,15 @@ impl PlainEngine {
         Ok(listing(rows, order)?)
     }
 
-    /// The rows of each view, worked out from the tables.
-    fn shown(&self) -> Result<Vec<Vec<Row>>, PlainFault> {
+    /// The rows of each view that the query names, worked out from the tables, and none of the others.
+    fn shown(&self, query: &Query) -> Result<Vec<Vec<Row>>, PlainFault> {
         let tables = self.lent_tables()?;
         let mut shown = Vec::new(self.alloc);
-        for view in &self.views {
-            if let Bound::CreateView { query, .. } = view {
-                shown.push(answer_on(self.alloc, &tables, query)?)?;
+        for (place, view) in self.views.iter().enumerate() {
+            if is_named(query, Source::View(place as u64)) {
+                shown.push(rows_of_view(self.alloc, &tables, view)?)?;
+            } else {
+                shown.push(Vec::new(self.alloc))?;
             }
         }
         Ok(shown)
@@ -150,5 +152,27 @@ impl PlainEngine {
             }
         }
         None
+    }
+}
+
+/// Whether FROM names the source.
+fn is_named(query: &Query, source: Source) -> bool {
+    query.first == source
+        || query
+            .joins
+            .as_slice()
+            .iter()
+            .any(|join| join.source == source)
+}
+
+/// The rows of the view that this command created, worked out from the tables.
+fn rows_of_view(
+    alloc: Global,
+    tables: &[Lent<'_>],
+    command: &Bound,
+) -> Result<Vec<Row>, PlainFault> {
+    match command {
+        Bound::CreateView { query, .. } => answer_on(alloc, tables, query),
+        _ => Ok(Vec::new(alloc)),
     }
 }

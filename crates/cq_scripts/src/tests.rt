@@ -6,6 +6,7 @@ mod engines;
 mod full_tables;
 mod prefixes;
 mod refused_growths;
+mod refused_writes;
 mod sinks;
 mod sources;
 

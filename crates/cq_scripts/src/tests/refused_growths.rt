@@ -46,7 +46,7 @@ fn are_rows(rows: &[Row], wanted: &[&[i128]]) -> bool {
 }
 
 /// A statement, and the rows that it answers: None of a write.
-type Step = (&'static str, Option<&'static [&'static [i128]]>);
+pub(super) type Step = (&'static str, Option<&'static [&'static [i128]]>);
 
 /// Whether the answer is these rows, or of a write.
 fn is_answered(answer: &Answer, wanted: &Option<&[&[i128]]>) -> bool {
@@ -56,7 +56,7 @@ fn is_answered(answer: &Answer, wanted: &Option<&[&[i128]]>) -> bool {
     }
 }
 
-fn carry_all(
+pub(super) fn carry_all(
     rt: &impl Abort,
     alloc: Global,
     engine: &mut Engine,
