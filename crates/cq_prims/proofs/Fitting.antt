@@ -21,11 +21,11 @@ and_left : (a b : Bool) → (a && b) ≡ true → a ≡ true
 and_left true b e = refl
 and_left false b e = absurd (cc)
 
-and_right : (a b : Bool) → (a && b) ≡ true → b ≡ true
+pub and_right : (a b : Bool) → (a && b) ≡ true → b ≡ true
 and_right true b e = e
 and_right false b e = absurd (cc)
 
-not_true : (a : Bool) → not a ≡ true → a ≡ false
+pub not_true : (a : Bool) → not a ≡ true → a ≡ false
 not_true true e = absurd (cc)
 not_true false e = refl
 
@@ -61,18 +61,22 @@ cut_fits (p ∷ signs) more text h =
     (h.0 ++ found.0, found.1, h.2 ∙ ap (λ l. h.0 ++ l) found.2 ∙ sym (append_assoc h.0 found.0 found.1), found.3)
 
 -- '%' alone fits any text
-any_fits : (text : List ℕ) → Fits (percent ∷ []) text
+pub any_fits : (text : List ℕ) → Fits (percent ∷ []) text
 any_fits text = (text, [], sym (append-nil text), tt, refl)
+
+-- where a text that is not empty stands in another, a character begins
+pub seam_begins : (b : ℕ) (bs : List ℕ) → IsUtf8 (b ∷ bs) → (front rest text : List ℕ) → text ≡ front ++ ((b ∷ bs) ++ rest) → IsCharBoundary text (length front)
+seam_begins b bs u front rest text e =
+    let start = IsCharBoundary-start (b ∷ bs) u in
+    let first : get_or text (length front) 0 ≡ b = ap (λ l. get_or l (length front) 0) e ∙ get_or-append_seam front b (bs ++ rest) 0 in
+    let room : length front ≤ length text = omega (arith, ap {B = ℕ} length e, length-append front (b ∷ (bs ++ rest))) in
+    (room, λ lt high. omega (arith, first, start.1 (omega arith) (omega (arith, first, high))))
 
 -- where a text stands in another, there is a place for it where a character begins
 seam_before : (bs : List ℕ) → IsUtf8 bs → (front rest text : List ℕ) → IsUtf8 text → text ≡ front ++ (bs ++ rest)
     → (before : List ℕ) × (behind : List ℕ) × (text ≡ before ++ (bs ++ behind)) × IsCharBoundary text (length before)
 seam_before [] u front rest text valid e = ([], text, refl, IsCharBoundary-start text valid)
-seam_before (b ∷ bs) u front rest text valid e =
-    let start = IsCharBoundary-start (b ∷ bs) u in
-    let first : get_or text (length front) 0 ≡ b = ap (λ l. get_or l (length front) 0) e ∙ get_or-append_seam front b (bs ++ rest) 0 in
-    let room : length front ≤ length text = omega (arith, ap {B = ℕ} length e, length-append front (b ∷ (bs ++ rest))) in
-    (front, rest, e, (room, λ lt high. omega (arith, first, start.1 (omega arith) (omega (arith, first, high)))))
+seam_before (b ∷ bs) u front rest text valid e = (front, rest, e, seam_begins b bs u front rest text e)
 
 -- ---- on bytes
 module _ (text : List ℕ) (valid : IsUtf8 text) where

@@ -3,6 +3,7 @@
 //! To its callers [`compare`], [`is_null`] and [`like`] give the list of the truths that the conditions have of the values.
 #![tactic(auto)]
 
+mod around;
 mod comparisons;
 mod day_side;
 mod equal_days;
@@ -24,6 +25,7 @@ mod null_test;
 mod nulls;
 mod number_side;
 mod pattern;
+mod pieces;
 mod plain_texts;
 mod sides;
 mod sixteen;

@@ -4,6 +4,8 @@ ghost use Rattle.cq_prims.specs.Patterns.{IsFormOf, IsFrontOf, is_ordinary};
 ghost use Rattle.std.specs.Prelude.{◌∷◌, ◌≡◌, IfOk, IfSome};
 ghost use Rattle.std.specs.Str.{chars};
 
+use crate::around::Around;
+use crate::pieces::{pieces_of, stand_in};
 use cq_values::Text;
 use memchr::memmem::Finder;
 use std::alloc::{AllocError, Global};
@@ -16,14 +18,17 @@ pub struct Pattern {
     form: PatternForm,
 }
 
-/// What a text has to do with the ordinary signs of the pattern. Where there is a `_`, or a `%` elsewhere than at the ends, it
-/// has at least a run of them.
+/// What a text has to do with the ordinary signs of the pattern. Between `%`s, with one at each end, they are pieces,
+/// one behind the other. With two `%`s, one at each end, there may be `_` around the longest run. Of any other pattern
+/// the text has at least a run.
 #[derive(Drop)]
 pub(crate) enum PatternForm {
     Whole(Text),
     Prefix(Text),
     Suffix(Text),
     Infix(Finder<'static>),
+    Pieces(Vec<Finder<'static>>),
+    Around(Around),
     Having(Finder<'static>),
     Other,
 }
@@ -58,6 +63,8 @@ impl Pattern {
             PatternForm::Prefix(front) => text.starts_with(front.as_str()),
             PatternForm::Suffix(end) => text.ends_with(end.as_str()),
             PatternForm::Infix(part) => part.find(text.as_bytes()).is_some(),
+            PatternForm::Pieces(pieces) => stand_in(pieces, text.as_bytes()),
+            PatternForm::Around(around) => around.fits(text),
             PatternForm::Having(run) => {
                 run.find(text.as_bytes()).is_some() && cq_eval::like(pattern, text)
             }
@@ -98,7 +105,13 @@ fn form_of(alloc: Global, pattern: &str) -> Result<PatternForm, AllocError>
             }
         }
     }
-    form_by_run(alloc, pattern)
+    if let Some(pieces) = pieces_of(alloc, pattern)? {
+        return Ok(PatternForm::Pieces(pieces));
+    }
+    match Around::of(alloc, pattern)? {
+        Some(around) => Ok(PatternForm::Around(around)),
+        None => form_by_run(alloc, pattern),
+    }
 }
 
 /// The form of a pattern by its longest run of ordinary signs.
@@ -114,7 +127,7 @@ fn form_by_run(alloc: Global, pattern: &str) -> Result<PatternForm, AllocError>
 }
 
 /// The longest run of ordinary signs. No answer depends on which it is.
-fn longest_run(pattern: &str) -> &str {
+pub(crate) fn longest_run(pattern: &str) -> &str {
     let mut longest = "";
     for run in pattern.split(|sign| sign == '%' || sign == '_') {
         if longest.len() < run.len() {
@@ -125,7 +138,7 @@ fn longest_run(pattern: &str) -> &str {
 }
 
 /// Whether there is neither `%` nor `_`.
-fn is_ordinary(text: &str) -> bool
+pub(crate) fn is_ordinary(text: &str) -> bool
     ensures { result ≡ is_ordinary (chars text.now) }
 {
     text.chars().all(|sign| sign != '%' && sign != '_')

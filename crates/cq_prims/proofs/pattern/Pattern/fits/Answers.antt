@@ -1,10 +1,13 @@
-use Rattle.std.proofs.Common.{◌∙◌, sym, subst}
+use Rattle.std.proofs.Common.{◌∙◌, sym, ap, subst}
 use Rattle.std.proofs.lemmas.Str.Pattern.{starts_text, ends_text}
-use Rattle.std.specs.Str.{IsUtf8}
+use Rattle.std.specs.Str.{IsUtf8, chars}
 use Rattle.memchr.specs.Find.{FindsNeedle}
-use Rattle.cq_prims.specs.Patterns.{IsFormOf}
-use Rattle.cq_prims.specs.declared.pattern.PatternForm.TheVariants.{Whole, Prefix, Suffix, Infix, Having}
-use Rattle.cq_prims.proofs.Fitting.{whole_fits, prefix_fits, suffix_fits, infix_fits, run_missing}
+use Rattle.std.specs.Bool.{Decides}
+use Rattle.cq_model.specs.Like.{like}
+use Rattle.cq_prims.specs.Patterns.{IsFormOf, StandIn}
+use Rattle.cq_prims.proofs.PieceLemmas.{pieces_fit}
+use Rattle.cq_prims.specs.declared.pattern.PatternForm.TheVariants.{Whole, Prefix, Suffix, Infix, Pieces, Around, Having}
+use Rattle.cq_prims.proofs.Fitting.{whole_fits, prefix_fits, suffix_fits, infix_fits, run_missing, chars-percent}
 use Rattle.cq_prims.proofs.pattern.Pattern.fits.Goals as goal
 
 pub returns-in-Whole : goal.returns-in-Whole
@@ -39,6 +42,21 @@ returns-in-Infix c =
     let whole = subst IsUtf8 (c.as_str-pattern.ensures ∙ c.self.view_is) c.as_str-pattern.utf8 in
     let found = subst (λ hay. FindsNeedle hay part 0 c.find.result) c.as_bytes.ensures.value c.find.ensures in
     c.is_some.ensures ∙ infix_fits text c.utf8.text part c.args.self.now whole form c.find.result found
+
+pub returns-in-Pieces : goal.returns-in-Pieces
+returns-in-Pieces c =
+    let text = c.args.text.now in
+    let pieces = c.in-Pieces.pieces in
+    let form = subst (λ p. IsFormOf (Pieces pieces) p) c.self.view_is (subst (λ f. IsFormOf f c.self.inside.text) c.in-Pieces.is c.self.invariant) in
+    let lent = subst (λ ps. Decides c.stand_in.result (StandIn ps c.as_bytes-in-Pieces.result.now)) c.deref.ensures.value c.stand_in.ensures in
+    let stands = subst (λ t. Decides c.stand_in.result (StandIn pieces.items t)) c.as_bytes-in-Pieces.ensures.value lent in
+    pieces_fit pieces.items c.args.self.now text c.utf8.text form c.stand_in.result stands
+
+pub returns-in-Around : goal.returns-in-Around
+returns-in-Around c =
+    let around = c.in-Around.around in
+    let form = subst (λ p. IsFormOf (Around around) p) c.self.view_is (subst (λ f. IsFormOf f c.self.inside.text) c.in-Around.is c.self.invariant) in
+    c.fits.ensures ∙ ap (λ p. like p (chars c.args.text.now)) (sym (ap chars form.0 ∙ chars-percent around.tail))
 
 pub returns-else-is_some : goal.returns-else-is_some
 returns-else-is_some c =
