@@ -1,17 +1,24 @@
 //! The numbers of a column's values.
-ghost use Rattle.std.specs.Prelude.{IfSome, IsSome, None, OnErr, OnOk, true, ◌≡◌, ◌↔◌};
+ghost use Rattle.std.specs.Prelude.{IfSome, IsSome, None, OnErr, OnOk, Some, length, true, ◌<◌, ◌^◌, ◌≡◌, ◌↔◌};
+ghost use Rattle.std.specs.Ordering.{int_eq};
+ghost use Rattle.indexmap.specs.IndexMap.{get};
 ghost use Rattle.cq_values.specs.Lent.{owned};
 ghost use Rattle.cq_values.specs.declared.value.Value.{Value as Datum};
 ghost use Rattle.cq_values.specs.declared.value.Value.TheVariants.{Day as DayOf, Null, Number, Text as TextOf};
-ghost use Rattle.cq_keys.specs.Dictionary.{Agree, PutsAt, is_narrow, number_in};
+ghost use Rattle.cq_keys.specs.Dictionary.{Agree, PutsAt, ReadsAlike, code_in, is_narrow, number_in, small_code, small_place};
 
 use cq_values::Lent;
 use indexmap::IndexMap;
 use std::alloc::{AllocError, Global};
 
-/// A number for each value that was put in, with a map for each kind of values.
+/// The code of what stands in the map: a number that is too large for the list, or that of a key that is not small.
+const FAR: u32 = u32::MAX;
+
+/// A number for each value that was put in, with a map for each kind of values. That of a small number stands in a
+/// list as a code, at the place of the small number.
 #[derive(Drop)]
 pub(crate) struct Dictionary {
+    small: Vec<u32>,
     numbers: IndexMap<i64, usize>,
     wide: IndexMap<i128, usize>,
     days: IndexMap<i32, usize>,
@@ -25,6 +32,7 @@ impl Dictionary {
         ensures { (value : Datum) → number_in result value ≡ None }
     {
         Dictionary {
+            small: Vec::new(alloc),
             numbers: IndexMap::new(alloc),
             wide: IndexMap::new(alloc),
             days: IndexMap::new(alloc),
@@ -48,14 +56,27 @@ impl Dictionary {
         ensures { result ≡ number_in self.now (Number number) }
     {
         match narrow(number) {
-            Some(narrow) => self.numbers.get(&narrow).copied(),
+            Some(narrow) => self.narrow_number(narrow),
             None => self.wide.get(&number).copied(),
         }
     }
 
     /// The number of a number of 64 bits.
+    #[inline(always)]
     pub(crate) fn narrow_number(&self, number: i64) -> Option<usize>
         ensures { result ≡ number_in self.now (Number number) }
+    {
+        match code_at(self.small.as_slice(), number) {
+            0 => None,
+            FAR => self.far_number(number),
+            code => Some(code as usize - 1),
+        }
+    }
+
+    /// What the map of numbers has for one.
+    #[inline(never)]
+    fn far_number(&self, number: i64) -> Option<usize>
+        ensures { result ≡ get int_eq self.now.numbers number }
     {
         self.numbers.get(&number).copied()
     }
@@ -86,13 +107,38 @@ impl Dictionary {
         ensures err { OnErr result (Agree self.old self.new) }
     {
         match narrow(key) {
-            Some(narrow) => {
-                self.numbers.insert(narrow, number)?;
-            }
+            Some(narrow) => self.put_narrow(narrow, number),
             None => {
                 self.wide.insert(key, number)?;
+                Ok(())
             }
         }
+    }
+
+    fn put_narrow(&mut self, key: i64, number: usize) -> Result<(), AllocError>
+        ensures ok { OnOk result (PutsAt self.old (Number key) number self.new) }
+        ensures err { OnErr result (Agree self.old self.new) }
+    {
+        match place_of(key) {
+            Some(place) => self.put_small(key, place, number),
+            None => {
+                self.numbers.insert(key, number)?;
+                Ok(())
+            }
+        }
+    }
+
+    fn put_small(&mut self, key: i64, place: usize, number: usize) -> Result<(), AllocError>
+        requires { small_place key ≡ Some place }
+        ensures ok { OnOk result (PutsAt self.old (Number key) number self.new) }
+        ensures err { OnErr result (Agree self.old self.new) }
+    {
+        make_room(&mut self.small, place)?;
+        let code = code_of(number);
+        if code == FAR {
+            self.numbers.insert(key, number)?;
+        }
+        self.small[place] = code;
         Ok(())
     }
 
@@ -120,4 +166,52 @@ fn narrow(number: i128) -> Option<i64>
     ensures fits { IsSome result ↔ (is_narrow number ≡ true) }
 {
     i64::try_from(number).ok()
+}
+
+/// The place of a small number in a list.
+#[inline(always)]
+fn place_of(number: i64) -> Option<usize>
+    ensures { result ≡ small_place number }
+{
+    if 0 <= number && number < 131_072 {
+        Some(number.unsigned_abs() as usize)
+    } else {
+        None
+    }
+}
+
+/// The code of a number: one more than it, where that is less than `FAR`.
+fn code_of(number: usize) -> u32
+    ensures { result ≡ small_code number }
+{
+    if number < 4_294_967_294 {
+        number as u32 + 1
+    } else {
+        FAR
+    }
+}
+
+/// The code of a number in a list: 0 where it has none, as behind the end, and `FAR` where it is not small.
+#[inline(always)]
+fn code_at(codes: &[u32], number: i64) -> u32
+    ensures { result ≡ code_in codes.now (small_place number) }
+{
+    match place_of(number) {
+        Some(place) if place < codes.len() => codes[place],
+        Some(_) => 0,
+        None => FAR,
+    }
+}
+
+/// Makes the list long enough for a place.
+fn make_room(codes: &mut Vec<u32>, place: usize) -> Result<(), AllocError>
+    requires { place < 2 ^ 17 }
+    ensures alike { ReadsAlike codes.old.items codes.new.items }
+    ensures room { OnOk result (place < length codes.new.items) }
+{
+    if place < codes.len() {
+        return Ok(());
+    }
+    let len = (2 * codes.len()).max(place + 1).min(131_072);
+    codes.resize(len, 0)
 }

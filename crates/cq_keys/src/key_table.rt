@@ -192,6 +192,7 @@ impl KeyTable {
     }
 
     /// The number of the key of one number, None where it was never met.
+    #[inline(always)]
     fn lone_place(&self, value: i64) -> Option<usize>
         requires { self.now.width ≡ 1 }
         ensures { result ≡ place_of self.now.keys (Number value ∷ []) }
