@@ -3,12 +3,13 @@ use Rattle.std.proofs.Common.{◌≡◌, ◌<◌, ◌+◌, ℕ, suc, pos, ◌<�
 use Rattle.std.specs.Prelude.{if◌then◌else◌}
 use Rattle.std.proofs.lemmas.Int.{ints}
 use Rattle.std.proofs.lemmas.List.{length-append}
-use Rattle.std.specs.Borrow.{Bor}
 use Rattle.std.specs.List.{AllByRecursion, flat_map}
 use Rattle.cq_values.specs.Value.{Row}
 use Rattle.cq_bags.specs.Bag.{IsBag, Weighted, distinct, once_each, weight_of}
 use Rattle.cq_bags.specs.Listing.{IsListing}
 use Rattle.cq_binding.specs.declared.fault.Fault.TheVariants as faults
+use Rattle.cq_columns.specs.Stored.{all_rows}
+use Rattle.cq_columns.specs.declared.stored.Stored.{Stored}
 use Rattle.cq_eval.specs.Laws.{NarrowIsExact, NarrowIsExactIn}
 use Rattle.cq_exprs.specs.Expressions.{IsArgumentNarrow}
 use Rattle.cq_groups.specs.Exact.{AreExactOver, IsExactFor}
@@ -19,8 +20,8 @@ use Rattle.cq_joins.specs.Linked.{HaveOneWidth, IsExactBy}
 use Rattle.cq_laws.specs.Sizes.{GroupsKeepSizes, HasSizes, JoinedHaveSizes, JoinedRowsKeepSizes, KeepsColumns, grouped_sizes}
 use Rattle.cq_laws.proofs.Columns.{listed-columns}
 use Rattle.cq_laws.proofs.Positives.{once_each-bag}
-use Rattle.cq_lent.specs.Lent.{lent_bags, rows_or}
-use Rattle.cq_lent.specs.declared.lent.Lent.{Lent}
+use Rattle.cq_sources.specs.Sources.{stored_bags, rows_or}
+use Rattle.cq_sources.specs.declared.stored_source.StoredSource.{StoredSource}
 use Rattle.cq_model.specs.Exact.{AreExactAt}
 use Rattle.cq_model.specs.Expr.{Cond, Expr}
 use Rattle.cq_model.specs.declared.query.Aggregate.{Aggregate}
@@ -115,7 +116,7 @@ module _ (at : NarrowIsExact) (within : NarrowIsExactIn) where
   )
 
 -- ---- own conditions below the joins
-module _ (law : OwnConditionsAreExact) (where_is : Option Cond) (sizes : Source → List ℕ) (lents : List Lent) where
+module _ (law : OwnConditionsAreExact) (where_is : Option Cond) (sizes : Source → List ℕ) (lents : List StoredSource) where
   abbrev rows_at : Source → List Row
   rows_at s = rows_or lents s []
 
@@ -137,17 +138,17 @@ module _ (law : OwnConditionsAreExact) (where_is : Option Cond) (sizes : Source 
 
 -- ---- rows that are lent
 -- the others are the sources of the joins
-links-are : (lents : List Lent) (joins : List Join) (others : List (Bor (List Row))) → rows_of_all others ≡ map (rows_for lents) joins → AreOf (lent_bags lents) joins (links_of joins others)
+links-are : (lents : List StoredSource) (joins : List Join) (others : List Stored) → rows_of_all others ≡ map (rows_for lents) joins → AreOf (stored_bags lents) joins (links_of joins others)
 links-are lents [] [] are = tt
 links-are lents [] (o ∷ others) are = absurd (cc are)
 links-are lents (j ∷ joins) [] are = absurd (cc are)
 links-are lents (j ∷ joins) (o ∷ others) are =
-    let head : o.now ≡ rows_or lents j.source [] = cc are in
+    let head : all_rows o ≡ rows_or lents j.source [] = cc are in
     let tail : rows_of_all others ≡ map (rows_for lents) joins = cc are in
     (refl, ap once_each (sym head), links-are lents joins others tail)
 
 -- one source of rows for each join
-pub others-length : (lents : List Lent) (joins : List Join) (others : List (Bor (List Row))) → rows_of_all others ≡ map (rows_for lents) joins → length others ≡ length joins
+pub others-length : (lents : List StoredSource) (joins : List Join) (others : List Stored) → rows_of_all others ≡ map (rows_for lents) joins → length others ≡ length joins
 others-length lents [] [] are = refl
 others-length lents [] (o ∷ others) are = absurd (cc are)
 others-length lents (j ∷ joins) [] are = absurd (cc are)
@@ -155,18 +156,18 @@ others-length lents (j ∷ joins) (o ∷ others) are =
     let tail : rows_of_all others ≡ map (rows_for lents) joins = cc are in
     omega (arith, others-length lents joins others tail)
 
-module _ (law : ChainOfLists) (lents : List Lent) (q : Query) (first : List Row) (others : List (Bor (List Row))) (is : first ≡ rows_or lents q.first []) (are : AreOthers lents q others) where
+module _ (law : ChainOfLists) (lents : List StoredSource) (q : Query) (first : List Row) (others : List Stored) (is : first ≡ rows_or lents q.first []) (are : AreOthers lents q others) where
   abbrev joined : List Row
   joined = joined_sources q first others
 
-  links_are : AreOf (lent_bags lents) q.joins (links_of q.joins others)
+  links_are : AreOf (stored_bags lents) q.joins (links_of q.joins others)
   links_are = links-are lents q.joins others are
 
-  chained : once_each joined ≡ chain (lent_bags lents) (lent_bags lents q.first) q.joins
-  chained = law.chain (lent_bags lents) first q.joins (links_of q.joins others) links_are ∙ ap (λ (rows : List Row). chain (lent_bags lents) (once_each rows) q.joins) is
+  chained : once_each joined ≡ chain (stored_bags lents) (stored_bags lents q.first) q.joins
+  chained = law.chain (stored_bags lents) first q.joins (links_of q.joins others) links_are ∙ ap (λ (rows : List Row). chain (stored_bags lents) (once_each rows) q.joins) is
 
-  kept : once_each (kept_rows q joined) ≡ joined_rows q (lent_bags lents)
-  kept = law.kept q (lent_bags lents) first (links_of q.joins others) (ap once_each (sym is)) links_are
+  kept : once_each (kept_rows q joined) ≡ joined_rows q (stored_bags lents)
+  kept = law.kept q (stored_bags lents) first (links_of q.joins others) (ap once_each (sym is)) links_are
 
   -- the rows of all sources, in the order of FROM
   all_sources : first ∷ rows_of_all others ≡ map (λ s. rows_or lents s []) (sources_of q)
@@ -193,10 +194,10 @@ module _ (law : ChainOfLists) (lents : List Lent) (q : Query) (first : List Row)
     even = each_source HaveOneWidth (λ s sized. (length (can.sizes s), all-weaker (λ row has. has.values) (rows_or lents s []) sized))
 
     -- joined rows have the sizes of all columns
-    joined_sized : JoinedRowsKeepSizes → JoinedHaveSizes all_sizes q (lent_bags lents)
-    joined_sized law_of_joins = law_of_joins q (lent_bags lents) can.sizes (bags (sources_of q)) (all-weaker (λ s sized. listed-columns (can.sizes s) (rows_or lents s []) sized) (sources_of q) can.rows)
+    joined_sized : JoinedRowsKeepSizes → JoinedHaveSizes all_sizes q (stored_bags lents)
+    joined_sized law_of_joins = law_of_joins q (stored_bags lents) can.sizes (bags (sources_of q)) (all-weaker (λ s sized. listed-columns (can.sizes s) (rows_or lents s []) sized) (sources_of q) can.rows)
       where
-        bags : (sources : List Source) → AllByRecursion (λ s. IsBag (lent_bags lents s)) sources
+        bags : (sources : List Source) → AllByRecursion (λ s. IsBag (stored_bags lents s)) sources
         bags [] = tt
         bags (s ∷ sources) = (once_each-bag (rows_or lents s []), bags sources)
 

@@ -15,8 +15,9 @@ use Rattle.cq_model.specs.declared.query.Source.{Source}
 use Rattle.cq_model.specs.declared.query.Source.TheVariants.{Table, View}
 use Rattle.cq_model.specs.Meaning.{meaning}
 use Rattle.cq_model.specs.Views.{SourceInRange, ViewInRange, sources_of, view_bag}
-use Rattle.cq_lent.specs.declared.lent.Lent.{Lent}
-use Rattle.cq_lent.specs.Lent.{lent_bags, rows_or}
+use Rattle.cq_columns.specs.Stored.{all_rows}
+use Rattle.cq_sources.specs.declared.stored_source.StoredSource.{StoredSource}
+use Rattle.cq_sources.specs.Sources.{stored_bags, rows_or}
 use Rattle.cq_states.specs.Fitting.{AreFitting}
 use Rattle.cq_states.specs.State.{State, TableOf, queries_of, rows_in, tables_now}
 use Rattle.cq_catalog.specs.Catalog.{alone}
@@ -100,12 +101,12 @@ module _ (tables : List TableOf) (views : List NamedView) where
     lent_are (View place) shown rows by there =
         subst (AreOf (View place)) (sym there) (shown_are place by.0 shown by.1 by.2 by.3 by.4)
 
-    entry_is : (s : Source) (g : Gathered) (l : Lent) → IsGathered views s g → IsLent tables g l → AreOf l.source l.rows.now
+    entry_is : (s : Source) (g : Gathered) (l : StoredSource) → IsGathered views s g → IsLent tables g l → AreOf l.source (all_rows l.rows)
     entry_is s g l gathered lent =
-        let there = subst (λ (t : Source). AreRowsThere tables t g.shown l.rows.now) gathered.same lent.rows in
-        subst (λ (t : Source). AreOf t l.rows.now) (sym (lent.source ∙ gathered.same)) (lent_are s g.shown l.rows.now gathered.shown there)
+        let there = subst (λ (t : Source). AreRowsThere tables t g.shown (all_rows l.rows)) gathered.same lent.rows in
+        subst (λ (t : Source). AreOf t (all_rows l.rows)) (sym (lent.source ∙ gathered.same)) (lent_are s g.shown (all_rows l.rows) gathered.shown there)
 
-    entries_are : (sources : List Source) (gs : List Gathered) (lents : List Lent) → AreGathered views sources gs → AreLent tables gs lents → AreFor sources lents × AllByRecursion (λ l. AreOf l.source l.rows.now) lents
+    entries_are : (sources : List Source) (gs : List Gathered) (lents : List StoredSource) → AreGathered views sources gs → AreLent tables gs lents → AreFor sources lents × AllByRecursion (λ l. AreOf l.source (all_rows l.rows)) lents
     entries_are [] [] [] g l = (tt, tt)
     entries_are [] [] (x ∷ lents) g l = absurd l
     entries_are [] (x ∷ gs) lents g l = absurd g
@@ -120,21 +121,21 @@ module _ (tables : List TableOf) (views : List NamedView) where
       abbrev Sizes : Source → List ℕ
       Sizes = source_sizes tables (views_of views)
 
-      module _ (gs : List Gathered) (lents : List Lent) (gathered : AreGathered views (sources_of q) gs) (lent : AreLent tables gs lents) where
+      module _ (gs : List Gathered) (lents : List StoredSource) (gathered : AreGathered views (sources_of q) gs) (lent : AreLent tables gs lents) where
         -- what all entries have, the sources have
         have : (P : Source → List Row → Type 0) → ((s : Source) (rows : List Row) → AreOf s rows → P s rows) → AllByRecursion (λ s. P s (rows_or lents s [])) (sources_of q)
         have P each =
             let entries = entries_are (sources_of q) gs lents gathered lent in
             sources-have P (sources_of q) lents entries.0 (all_each lents entries.1)
           where
-            all_each : (ls : List Lent) → AllByRecursion (λ l. AreOf l.source l.rows.now) ls → AllByRecursion (λ l. P l.source l.rows.now) ls
+            all_each : (ls : List StoredSource) → AllByRecursion (λ l. AreOf l.source (all_rows l.rows)) ls → AllByRecursion (λ l. P l.source (all_rows l.rows)) ls
             all_each [] all = tt
-            all_each (l ∷ ls) all = (each l.source l.rows.now all.0, all_each ls all.1)
+            all_each (l ∷ ls) all = (each l.source (all_rows l.rows) all.0, all_each ls all.1)
 
         -- the query means the same on them
-        means_same : MeaningDependsOnSources → MeansSame q (lent_bags lents) (sources_in tables (views_of views))
+        means_same : MeaningDependsOnSources → MeansSame q (stored_bags lents) (sources_in tables (views_of views))
         means_same law_of_sources =
-            law_of_sources q (lent_bags lents) (sources_in tables (views_of views)) (have (λ s rows. SameBag (once_each rows) (sources_in tables (views_of views) s)) (λ s rows are. are.same))
+            law_of_sources q (stored_bags lents) (sources_in tables (views_of views)) (have (λ s rows. SameBag (once_each rows) (sources_in tables (views_of views) s)) (λ s rows are. are.same))
 
         -- it can be worked out on them
         pub can_answer : CanAnswer lents q
@@ -150,7 +151,7 @@ module _ (tables : List TableOf) (views : List NamedView) where
         selects_joined order law_of_sources (Ok list) w =
             let means = means_same law_of_sources in
             let l = w.0.1 in (
-              (w.0.0, record { same = same-trans (once_each w.0.0) (meaning q (lent_bags lents)) (meaning q (sources_in tables (views_of views))) l.same means.bag; in_order = l.in_order }, w.0.2),
+              (w.0.0, record { same = same-trans (once_each w.0.0) (meaning q (stored_bags lents)) (meaning q (sources_in tables (views_of views))) l.same means.bag; in_order = l.in_order }, w.0.2),
               record { own = means.range.0 w.1; named = have (λ s rows. SourceInRange (tables_now here) (queries_of here) s) (λ s rows are. are.range) },
             )
         selects_joined order law_of_sources (Err f) (inl m) = inl m

@@ -6,8 +6,10 @@ use Rattle.cq_values.specs.Value.{Row}
 use Rattle.cq_bags.proofs.Totals.{by_test}
 use Rattle.cq_model.specs.declared.query.Source.{Source}
 use Rattle.cq_model.specs.declared.query.Source.TheVariants.{Table, View}
-use Rattle.cq_lent.specs.declared.lent.Lent.{Lent}
-use Rattle.cq_lent.specs.Lent.{rows_or, same_source}
+use Rattle.cq_columns.specs.Stored.{all_rows}
+use Rattle.cq_sources.specs.declared.stored_source.StoredSource.{StoredSource}
+use Rattle.cq_lent.specs.Lent.{same_source}
+use Rattle.cq_sources.specs.Sources.{rows_or}
 use Rattle.cq_states.specs.Pointwise.{Pointwise}
 
 -- a source is itself
@@ -23,20 +25,20 @@ only_itself (View m) (Table n) e = absurd (cc e)
 only_itself (View m) (View n) e = ap View (eqb-true m n e)
 
 -- a source has an entry
-abbrev pub IsThereIn : List Lent → Source → Type 0
+abbrev pub IsThereIn : List StoredSource → Source → Type 0
 IsThereIn lents s = list_any (λ l. same_source l.source s) lents ≡ true
 
 -- also with an entry before the others
-there-more : (l : Lent) (lents : List Lent) (sources : List Source) → AllByRecursion (IsThereIn lents) sources → AllByRecursion (IsThereIn (l ∷ lents)) sources
+there-more : (l : StoredSource) (lents : List StoredSource) (sources : List Source) → AllByRecursion (IsThereIn lents) sources → AllByRecursion (IsThereIn (l ∷ lents)) sources
 there-more l lents [] h = tt
 there-more l lents (s ∷ sources) h = (by_test (same_source l.source s) (λ k. rw k refl) (λ k. rw k h.0), there-more l lents sources h.1)
 
 -- the entries were made for these sources, one for each
-abbrev pub AreFor : List Source → List Lent → Type 0
-AreFor sources lents = Pointwise (λ (s : Source) (l : Lent). l.source ≡ s) sources lents
+abbrev pub AreFor : List Source → List StoredSource → Type 0
+AreFor sources lents = Pointwise (λ (s : Source) (l : StoredSource). l.source ≡ s) sources lents
 
 -- so each of these has one
-all-there : (sources : List Source) (lents : List Lent) → AreFor sources lents → AllByRecursion (IsThereIn lents) sources
+all-there : (sources : List Source) (lents : List StoredSource) → AreFor sources lents → AllByRecursion (IsThereIn lents) sources
 all-there [] [] h = tt
 all-there [] (l ∷ lents) h = absurd h
 all-there (s ∷ sources) [] h = absurd h
@@ -46,16 +48,16 @@ all-there (s ∷ sources) (l ∷ lents) h =
 
 module _ (P : Source → List Row → Type 0) where
   -- the first entry of a source has what each has
-  first-has : (lents : List Lent) → AllByRecursion (λ l. P l.source l.rows.now) lents → (s : Source) → IsThereIn lents s → P s (rows_or lents s [])
+  first-has : (lents : List StoredSource) → AllByRecursion (λ l. P l.source (all_rows l.rows)) lents → (s : Source) → IsThereIn lents s → P s (rows_or lents s [])
   first-has [] all s found = absurd (cc found)
   first-has (l ∷ lents) all s found = by_test (same_source l.source s)
-      (λ k. rw k (subst (λ (t : Source). P t l.rows.now) (only_itself l.source s k) all.0))
+      (λ k. rw k (subst (λ (t : Source). P t (all_rows l.rows)) (only_itself l.source s k) all.0))
       (λ k. rw k (first-has lents all.1 s (rw k at found)))
 
-  all-first-have : (lents : List Lent) → AllByRecursion (λ l. P l.source l.rows.now) lents → (sources : List Source) → AllByRecursion (IsThereIn lents) sources → AllByRecursion (λ s. P s (rows_or lents s [])) sources
+  all-first-have : (lents : List StoredSource) → AllByRecursion (λ l. P l.source (all_rows l.rows)) lents → (sources : List Source) → AllByRecursion (IsThereIn lents) sources → AllByRecursion (λ s. P s (rows_or lents s [])) sources
   all-first-have lents all [] there = tt
   all-first-have lents all (s ∷ sources) there = (first-has lents all s there.0, all-first-have lents all sources there.1)
 
   -- so do the rows of each source that entries were made for
-  pub sources-have : (sources : List Source) (lents : List Lent) → AreFor sources lents → AllByRecursion (λ l. P l.source l.rows.now) lents → AllByRecursion (λ s. P s (rows_or lents s [])) sources
+  pub sources-have : (sources : List Source) (lents : List StoredSource) → AreFor sources lents → AllByRecursion (λ l. P l.source (all_rows l.rows)) lents → AllByRecursion (λ s. P s (rows_or lents s [])) sources
   sources-have sources lents made all = all-first-have lents all sources (all-there sources lents made)

@@ -10,7 +10,8 @@ use Rattle.cq_binding.specs.declared.fault.Fault.{Fault}
 use Rattle.cq_binding.specs.declared.fault.Fault.TheVariants.{Memory, SumOutOfRange}
 use Rattle.cq_model.specs.declared.query.Source.{Source}
 use Rattle.cq_model.specs.declared.query.Source.TheVariants.{Table, View}
-use Rattle.cq_lent.specs.declared.lent.Lent.{Lent}
+use Rattle.cq_columns.specs.Stored.{all_rows}
+use Rattle.cq_sources.specs.declared.stored_source.StoredSource.{StoredSource}
 use Rattle.cq_states.specs.Pointwise.{Pointwise}
 use Rattle.cq_kept_views.specs.Shown.{AreRowsOf, CanShow, IsNotShown, IsShown}
 use Rattle.cq_kept_views.specs.declared.kept_view.KeptView.{KeptView}
@@ -66,10 +67,10 @@ AreRowsThere tables (Table n) shown rows = bag_of rows ≡ rows_in tables n
 AreRowsThere tables (View place) shown rows = rows ≡ shown
 
 -- the rows of what was gathered are lent
-pub record IsLent (tables : List TableOf) (gathered : Gathered) (lent : Lent) : Type 0 where
+pub record IsLent (tables : List TableOf) (gathered : Gathered) (lent : StoredSource) : Type 0 where
   pub source : lent.source ≡ gathered.source
-  pub rows : AreRowsThere tables gathered.source gathered.shown lent.rows.now
+  pub rows : AreRowsThere tables gathered.source gathered.shown (all_rows lent.rows)
 
 -- the rows of all that was gathered are lent
-abbrev pub AreLent : List TableOf → List Gathered → List Lent → Type 0
+abbrev pub AreLent : List TableOf → List Gathered → List StoredSource → Type 0
 AreLent tables gathered sources = Pointwise (IsLent tables) gathered sources

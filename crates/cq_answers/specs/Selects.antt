@@ -12,8 +12,8 @@ use Rattle.cq_model.specs.Views.{with_views, AnswerInRange}
 use Rattle.cq_binding.specs.declared.fault.Fault.{Fault}
 use Rattle.cq_binding.specs.declared.fault.Fault.TheVariants.{Memory, SumOutOfRange}
 use Rattle.cq_states.specs.State.{TableOf, ViewOf, tables_now, queries_of}
-use Rattle.cq_lent.specs.declared.lent.Lent.{Lent}
-use Rattle.cq_lent.specs.Lent.{lent_bags}
+use Rattle.cq_sources.specs.declared.stored_source.StoredSource.{StoredSource}
+use Rattle.cq_sources.specs.Sources.{stored_bags}
 use Rattle.cq_catalog.specs.Catalog.{alone}
 use Rattle.cq_kept_views.specs.Shown.{IsNotShown, Suits}
 use Rattle.cq_tables.specs.Views.{NamedView}
@@ -41,9 +41,9 @@ Selects tables views q order (Ok rows) = AreListed order (meaning q (sources_in 
 Selects tables views q order (Err f) = (f ≡ Memory) ⊎ ((f ≡ SumOutOfRange) × (IsInRange tables views q → ⊥))
 
 -- the listing of the query's bag on lent rows, or that a total cannot be shown there
-abbrev pub SelectsLent : Query → Order → List Lent → Result (List Row) Fault → Type 0
-SelectsLent q order lent (Ok rows) = AreListed order (meaning q (lent_bags lent)) rows × MeaningInRange q (lent_bags lent)
-SelectsLent q order lent (Err f) = (f ≡ Memory) ⊎ ((f ≡ SumOutOfRange) × (MeaningInRange q (lent_bags lent) → ⊥))
+abbrev pub SelectsLent : Query → Order → List StoredSource → Result (List Row) Fault → Type 0
+SelectsLent q order lent (Ok rows) = AreListed order (meaning q (stored_bags lent)) rows × MeaningInRange q (stored_bags lent)
+SelectsLent q order lent (Err f) = (f ≡ Memory) ⊎ ((f ≡ SumOutOfRange) × (MeaningInRange q (stored_bags lent) → ⊥))
 
 -- it does so from what a view keeps, which is the bag of the view's query on each tables that suit it
 abbrev pub SelectsKept : Query → Order → NamedView → Result (List Row) Fault → Type 0

@@ -2,6 +2,7 @@
 ghost use Rattle.std.specs.Prelude.{◌≡◌, ℕ, IfErr, IfOk, List, OnOk};
 ghost use Rattle.std.specs.List.{AllByRecursion};
 ghost use Rattle.cq_model.specs.Views.{sources_of};
+ghost use Rattle.cq_columns.specs.Stored.{all_rows};
 ghost use Rattle.cq_states.specs.State.{AreNumbered, TableOf, ViewOf};
 ghost use Rattle.cq_kept_views.specs.Shown.{AreRowsOf, IsShown};
 ghost use Rattle.cq_answers.specs.Reading.{IsSourceThere};
@@ -10,9 +11,10 @@ ghost use Rattle.cq_answers.specs.Selects.{shown_as};
 ghost use Rattle.cq_tables.specs.Views.{views_of};
 
 use cq_binding::Fault;
+use cq_columns::Stored;
 use cq_deltas::ShowFault;
-use cq_lent::Lent;
 use cq_model::{Query, Source};
+use cq_sources::StoredSource;
 use cq_tables::{Table, View, place_numbered};
 use cq_values::{Row, Seq};
 use std::alloc::{AllocError, Global};
@@ -89,7 +91,7 @@ pub fn lend_all<'a>(
     alloc: Global,
     tables: &'a [Table],
     gathered: &'a [Gathered],
-) -> Result<Vec<Lent<'a>>, AllocError>
+) -> Result<Vec<StoredSource<'a>>, AllocError>
     requires numbered { (next : ℕ) × AreNumbered tables.now next }
     requires there { (vs : List ViewOf) × AllByRecursion (λ g. IsSourceThere tables.now vs g.source) gathered.now }
     ensures { IfOk result (λ lent. AreLent tables.now gathered.now lent.items) }
@@ -98,19 +100,19 @@ pub fn lend_all<'a>(
     for one in gathered {
         let source = one.source;
         let rows = rows_there(tables, source, one.shown.as_slice());
-        lent.push(Lent { source, rows })?;
+        lent.push(StoredSource { source, rows })?;
     }
     Ok(lent)
 }
 
 /// The rows of a table where they are, or those that a view showed.
-pub fn rows_there<'a>(tables: &'a [Table], source: Source, shown: &'a [Row]) -> &'a [Row]
+pub fn rows_there<'a>(tables: &'a [Table], source: Source, shown: &'a [Row]) -> Stored<'a>
     requires numbered { (next : ℕ) × AreNumbered tables.now next }
     requires there { (vs : List ViewOf) × IsSourceThere tables.now vs source }
-    ensures { AreRowsThere tables.now source shown.now result.now }
+    ensures { AreRowsThere tables.now source shown.now (all_rows result) }
 {
     match source {
         Source::Table(number) => tables[place_numbered(tables, number)].rows(),
-        Source::View(_) => shown,
+        Source::View(_) => Stored::of(shown),
     }
 }

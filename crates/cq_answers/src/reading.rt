@@ -2,7 +2,8 @@
 ghost use Rattle.std.specs.Prelude.{◌≡◌, ◌↔◌, [], IfOk, IsTrue, ℕ};
 ghost use Rattle.cq_model.specs.declared.query.Shape.TheVariants.{Plain};
 ghost use Rattle.cq_model.specs.Sizes.{column_sizes};
-ghost use Rattle.cq_lent.specs.Lent.{rows_or};
+ghost use Rattle.cq_columns.specs.Stored.{all_rows};
+ghost use Rattle.cq_sources.specs.Sources.{rows_or};
 ghost use Rattle.cq_states.specs.Fitting.{AreLimited, AreFitting, rows_limit};
 ghost use Rattle.cq_states.specs.State.{AreNumbered};
 ghost use Rattle.cq_answers.specs.Lent.{AreOthers, CanAnswer};
@@ -15,13 +16,14 @@ ghost use Rattle.cq_answers.specs.Gathered.{IsBacked};
 use crate::gathered::{gather, lend_all, rows_shown, sources_of};
 use crate::selection::list;
 use cq_binding::Fault;
+use cq_columns::Stored;
 use cq_eval::narrow_is_exact;
 use cq_groups::GroupFault;
 use cq_laws::{groups_keep_sizes, joined_rows_keep_sizes, meaning_depends_on_sources};
-use cq_lent::{Lent, rows_of};
 use cq_model::{Order, Query, Shape, Source};
 use cq_operators::select;
 use cq_plan::{chain_of_lists, own_conditions_are_exact};
+use cq_sources::{StoredSource, rows_of};
 use cq_tables::{Table, View, place_numbered};
 use cq_values::{Row, Seq};
 use std::alloc::{AllocError, Global};
@@ -93,7 +95,7 @@ fn select_from_view(
     ensures { SelectsKept query.now order.now view.now result }
 {
     let rows = rows_shown(alloc, view)?;
-    Ok(list(alloc, query, order, &rows)?)
+    Ok(list(alloc, query, order, Stored::of(&rows))?)
 }
 
 /// The listing of a query on the rows of all its sources, which are joined.
@@ -121,7 +123,7 @@ fn select_joined(
 /// The listing of a query on lent rows, which are joined by their keys.
 fn list_answer(
     alloc: Global,
-    lent: &[Lent<'_>],
+    lent: &[StoredSource<'_>],
     query: &Query,
     order: &Order,
 ) -> Result<Seq<Row>, Fault>
@@ -136,12 +138,12 @@ fn list_answer(
 /// The rows of the source of each join.
 fn others_of<'a>(
     alloc: Global,
-    lent: &[Lent<'a>],
+    lent: &[StoredSource<'a>],
     query: &Query,
-) -> Result<Vec<&'a [Row]>, AllocError>
+) -> Result<Vec<Stored<'a>>, AllocError>
     ensures { IfOk result (λ others. AreOthers lent.now query.now others.items) }
 {
-    let mut others: Vec<&'a [Row]> = Vec::new(alloc);
+    let mut others: Vec<Stored<'a>> = Vec::new(alloc);
     for join in query.joins.as_slice() {
         others.push(rows_of(lent, join.source))?;
     }
@@ -151,14 +153,14 @@ fn others_of<'a>(
 /// The listing of a query on the rows of its sources, which are joined by their keys.
 fn list_joined(
     alloc: Global,
-    lent: &[Lent<'_>],
+    lent: &[StoredSource<'_>],
     query: &Query,
     order: &Order,
-    first: &[Row],
-    others: &[&[Row]],
+    first: Stored<'_>,
+    others: &[Stored<'_>],
 ) -> Result<Seq<Row>, Fault>
     requires can { CanAnswer lent.now query.now }
-    requires first { first.now ≡ rows_or lent.now query.now.first [] }
+    requires first { all_rows first ≡ rows_or lent.now query.now.first [] }
     requires others { AreOthers lent.now query.now others.now }
     ensures { SelectsLent query.now order.now lent.now result }
 {
@@ -167,7 +169,7 @@ fn list_joined(
     joined_rows_keep_sizes();
     groups_keep_sizes();
     own_conditions_are_exact();
-    match select(alloc, query, order, first, others) {
+    match select(alloc, query, order, &first, others) {
         Ok(rows) => Ok(Seq::from_vec(rows)),
         Err(GroupFault::Memory) => Err(Fault::Memory),
         Err(GroupFault::SumOutOfRange) => Err(Fault::SumOutOfRange),

@@ -2,9 +2,11 @@
 ghost use Rattle.std.specs.List.{AllByRecursion};
 ghost use Rattle.std.specs.Prelude.{IfOk};
 ghost use Rattle.cq_bags.specs.Bag.{once_each};
+ghost use Rattle.cq_columns.specs.Stored.{all_rows};
 ghost use Rattle.cq_answers.specs.Narrow.{IsWithin};
 ghost use Rattle.cq_answers.specs.Selects.{AreListed, shown_rows};
 
+use cq_columns::Stored;
 use cq_model::{Order, Query};
 use cq_operators::{ExecFault, listed_rows};
 use cq_plan::Plan;
@@ -16,10 +18,10 @@ pub fn list(
     alloc: Global,
     query: &Query,
     order: &Order,
-    rows: &[Row],
+    rows: Stored<'_>,
 ) -> Result<Seq<Row>, ExecFault>
-    requires { AllByRecursion (IsWithin query.now) rows.now }
-    ensures { IfOk result (AreListed order.now (once_each (shown_rows query.now rows.now))) }
+    requires { AllByRecursion (IsWithin query.now) (all_rows rows) }
+    ensures { IfOk result (AreListed order.now (once_each (shown_rows query.now (all_rows rows.entry)))) }
 {
     let plan = Plan::of(alloc, query)?;
     let list = listed_rows(alloc, &plan, order, rows)?;

@@ -12,8 +12,9 @@ use Rattle.cq_bags.proofs.Canonicals.{bag_of-weights, length-bag_of}
 use Rattle.cq_bags.proofs.Totals.{by_test}
 use Rattle.cq_laws.proofs.Fits.{all-listed}
 use Rattle.cq_laws.specs.Sizes.{IsStored}
+use Rattle.cq_columns.specs.Stored.{all_rows}
 use Rattle.cq_lent.specs.Lent.{same_source}
-use Rattle.cq_lent.specs.declared.lent.Lent.{Lent}
+use Rattle.cq_sources.specs.declared.stored_source.StoredSource.{StoredSource}
 use Rattle.cq_model.specs.declared.query.Query.{Query}
 use Rattle.cq_model.specs.declared.query.Source.{Source}
 use Rattle.cq_model.specs.declared.query.Source.TheVariants.{Table, View}
@@ -24,8 +25,8 @@ use Rattle.cq_chains.specs.Chains.{nothing, spans}
 use Rattle.cq_chains.specs.Steps.{AreStored, span}
 use Rattle.cq_states.specs.Fitting.{AreFitting, AreLimited}
 use Rattle.cq_states.specs.State.{TableOf, rows_in}
-use Rattle.cq_upkeep.proofs.Filled.{sizes-once_each}
-use Rattle.cq_upkeep.specs.Filling.{bags_at, only}
+use Rattle.cq_kept_views.proofs.Taking.{sizes-once_each}
+use Rattle.cq_kept_views.specs.Filling.{bags_at, only}
 use Rattle.cq_kept_views.specs.Laws.{StandingDependsOnSources}
 use Rattle.cq_kept_views.specs.State.{StandsFor}
 use Rattle.cq_kept_views.specs.declared.kept_view.KeptView.{KeptView}
@@ -42,14 +43,14 @@ use Rattle.cq_engine.specs.Gathering.{AreGathered, GathersAlso, is_gathered}
 
 -- ---- Entries
 -- a source that has an entry has one with an entry more
-gathered_still : (gathered : List Lent) (entry : Lent) (s : Source) → is_gathered gathered s ≡ true
+gathered_still : (gathered : List StoredSource) (entry : StoredSource) (s : Source) → is_gathered gathered s ≡ true
     → is_gathered (gathered ++ entry ∷ []) s ≡ true
 gathered_still [] entry s there = absurd (cc there)
 gathered_still (x ∷ xs) entry s there = by_test (same_source x.source s)
     (λ k. rw k refl)
     (λ k. rw k (gathered_still xs entry s (rw k at there)))
 
-all_still : (gathered : List Lent) (entry : Lent) (sources : List Source)
+all_still : (gathered : List StoredSource) (entry : StoredSource) (sources : List Source)
     → AllByRecursion (λ s. is_gathered gathered s ≡ true) sources
     → AllByRecursion (λ s. is_gathered (gathered ++ entry ∷ []) s ≡ true) sources
 all_still gathered entry [] all = tt
@@ -57,7 +58,7 @@ all_still gathered entry (s ∷ sources) all =
     (gathered_still gathered entry s all.0, all_still gathered entry sources all.1)
 
 -- and so has the source of that entry
-gathered_now : (gathered : List Lent) (entry : Lent)
+gathered_now : (gathered : List StoredSource) (entry : StoredSource)
     → is_gathered (gathered ++ entry ∷ []) entry.source ≡ true
 gathered_now [] entry = rw (itself entry.source) refl
 gathered_now (x ∷ xs) entry = by_test (same_source x.source entry.source)
@@ -65,7 +66,7 @@ gathered_now (x ∷ xs) entry = by_test (same_source x.source entry.source)
     (λ k. rw k (gathered_now xs entry))
 
 -- a source that has an entry beside that of another has one without it
-gathered_else : (gathered : List Lent) (entry : Lent) (s : Source) → same_source entry.source s ≡ false
+gathered_else : (gathered : List StoredSource) (entry : StoredSource) (s : Source) → same_source entry.source s ≡ false
     → is_gathered (gathered ++ entry ∷ []) s ≡ true → is_gathered gathered s ≡ true
 gathered_else [] entry s other there = absurd (cc (rw other at there))
 gathered_else (x ∷ xs) entry s other there = by_test (same_source x.source s)
@@ -73,22 +74,22 @@ gathered_else (x ∷ xs) entry s other there = by_test (same_source x.source s)
     (λ k. rw k (gathered_else xs entry s other (rw k at there)))
 
 -- a source that has none has no rows
-bag_none : (gathered : List Lent) (s : Source) → is_gathered gathered s ≡ false → bags_at gathered s ≡ []
+bag_none : (gathered : List StoredSource) (s : Source) → is_gathered gathered s ≡ false → bags_at gathered s ≡ []
 bag_none [] s none = refl
 bag_none (x ∷ xs) s none = by_test (same_source x.source s)
     (λ k. absurd (cc (rw k at none)))
     (λ k. rw k (bag_none xs s (rw k at none)))
 
 -- with an entry more, its rows stand behind the others
-bag_more : (gathered : List Lent) (entry : Lent) (s : Source)
-    → bags_at (gathered ++ entry ∷ []) s ≡ bags_at gathered s ++ only entry.source (once_each entry.rows.now) s
+bag_more : (gathered : List StoredSource) (entry : StoredSource) (s : Source)
+    → bags_at (gathered ++ entry ∷ []) s ≡ bags_at gathered s ++ only entry.source (once_each (all_rows entry.rows)) s
 bag_more gathered entry s =
-    flat_map-append (λ (x : Lent). only x.source (once_each x.rows.now) s) gathered (entry ∷ [])
-    ∙ ap (λ (xs : Weighted). bags_at gathered s ++ xs) (append-nil (only entry.source (once_each entry.rows.now) s))
+    flat_map-append (λ (x : StoredSource). only x.source (once_each (all_rows x.rows)) s) gathered (entry ∷ [])
+    ∙ ap (λ (xs : Weighted). bags_at gathered s ++ xs) (append-nil (only entry.source (once_each (all_rows entry.rows)) s))
 
 module _ (tables : List TableOf) where
   -- a source that has an entry needs no other
-  pub gathered_before : (source : Source) (gathered : List Lent) → is_gathered gathered source ≡ true
+  pub gathered_before : (source : Source) (gathered : List StoredSource) → is_gathered gathered source ≡ true
       → GathersAlso tables source gathered gathered
   gathered_before source gathered there sources are = record {
     bags = are.bags;
@@ -96,19 +97,19 @@ module _ (tables : List TableOf) where
   }
 
   -- a source that has none is given one, with the rows of its table
-  module _ (entry : Lent) (gathered : List Lent) (none : is_gathered gathered entry.source ≡ false) (same : SameBag (once_each entry.rows.now) (bags_in tables entry.source)) where
+  module _ (entry : StoredSource) (gathered : List StoredSource) (none : is_gathered gathered entry.source ≡ false) (same : SameBag (once_each (all_rows entry.rows)) (bags_in tables entry.source)) where
     bags_with : ((s : Source) → is_gathered gathered s ≡ true → SameBag (bags_at gathered s) (bags_in tables s)) → (s : Source)
         → is_gathered (gathered ++ entry ∷ []) s ≡ true → SameBag (bags_at (gathered ++ entry ∷ []) s) (bags_in tables s)
     bags_with before s there =
         subst (λ (xs : Weighted). SameBag xs (bags_in tables s)) (sym (bag_more gathered entry s))
         (by_test (same_source entry.source s) (λ k. rw k (here k)) (λ k. rw k (elsewhere k)))
       where
-        here : same_source entry.source s ≡ true → SameBag (bags_at gathered s ++ once_each entry.rows.now) (bags_in tables s)
+        here : same_source entry.source s ≡ true → SameBag (bags_at gathered s ++ once_each (all_rows entry.rows)) (bags_in tables s)
         here k =
             let is = only_itself entry.source s k in
             let no_rows = bag_none gathered s (subst (λ (t : Source). is_gathered gathered t ≡ false) is none) in
-            subst (λ (xs : Weighted). SameBag (xs ++ once_each entry.rows.now) (bags_in tables s)) (sym no_rows)
-            (subst (λ (t : Source). SameBag (once_each entry.rows.now) (bags_in tables t)) is same)
+            subst (λ (xs : Weighted). SameBag (xs ++ once_each (all_rows entry.rows)) (bags_in tables s)) (sym no_rows)
+            (subst (λ (t : Source). SameBag (once_each (all_rows entry.rows)) (bags_in tables t)) is same)
 
         elsewhere : same_source entry.source s ≡ false → SameBag (bags_at gathered s ++ []) (bags_in tables s)
         elsewhere k =
@@ -132,15 +133,15 @@ module _ (tables : List TableOf) where
 
 -- ---- The rows of each source
 -- its entries' rows, one behind the other
-abbrev rows_for : List Lent → Source → List Row
-rows_for gathered s = flat_map (λ x. if same_source x.source s then x.rows.now else []) gathered
+abbrev rows_for : List StoredSource → Source → List Row
+rows_for gathered s = flat_map (λ x. if same_source x.source s then (all_rows x.rows) else []) gathered
 
 -- each once they are what the source stands for
-rows_listed : (gathered : List Lent) (s : Source) → bags_at gathered s ≡ once_each (rows_for gathered s)
+rows_listed : (gathered : List StoredSource) (s : Source) → bags_at gathered s ≡ once_each (rows_for gathered s)
 rows_listed [] s = refl
 rows_listed (x ∷ xs) s = by_test (same_source x.source s)
-    (λ k. rw k (ap (λ (zs : Weighted). once_each x.rows.now ++ zs) (rows_listed xs s)
-    ∙ sym (map-append (λ (r : Row). (r, pos 1)) x.rows.now (rows_for xs s))))
+    (λ k. rw k (ap (λ (zs : Weighted). once_each (all_rows x.rows) ++ zs) (rows_listed xs s)
+    ∙ sym (map-append (λ (r : Row). (r, pos 1)) (all_rows x.rows) (rows_for xs s))))
     (λ k. rw k (rows_listed xs s))
 
 -- lists with one bag are equally long
@@ -193,7 +194,7 @@ module _ (tables : Tables) (few : (source : Source) → sizes (tables source) �
   spans_few (a ∷ b ∷ c ∷ d ∷ e ∷ sources) h = absurd (omega (arith, h))
 
 -- ---- A view of these rows
-module _ (tables : List TableOf) (query : Query) (gathered : List Lent) (are : AreGathered tables (sources_of query) gathered) where
+module _ (tables : List TableOf) (query : Query) (gathered : List StoredSource) (are : AreGathered tables (sources_of query) gathered) where
   -- what holds of no rows, and of all with the bag of a table, holds of those of any source
   have : (P : Weighted → Type 0) → P []
       → ((rows : List Row) (s : Source) → SameBag (once_each rows) (bags_in tables s) → P (once_each rows)) → (s : Source)

@@ -19,7 +19,7 @@ use cq_kept_views::standing_depends_on_sources;
 use cq_language::Statement;
 use cq_model::{Assignment, Cond, Order, Query};
 use cq_steps::Answer;
-use cq_tables::{Table, View, drop_in, drop_view_at, view_place};
+use cq_tables::{Table, View, drop_in, drop_view_at, move_in, view_place};
 use cq_values::{ColumnDef, Row, Seq, Text};
 use cq_writes::{delete_in, insert_in, update_in};
 use std::alloc::Global;
@@ -154,7 +154,7 @@ impl Engine {
                 query,
                 order,
             } => self.select(header, query, order),
-            Bound::Move { table, rows } => Ok(self.move_rows(table, rows)),
+            Bound::Move { table, rows } => self.move_rows(table, rows),
             Bound::Merge(table) => Ok(self.merge(table)),
             Bound::Refresh { view, changes } => Ok(self.refresh(view, changes)),
         }
@@ -293,15 +293,17 @@ impl Engine {
         Ok(Answer::Count(count as u64))
     }
 
-    /// Each row is in the one store that there is, so that nothing has to be moved.
-    fn move_rows(&self, _table: u64, _rows: u128) -> Answer
-        ensures { CarriesOut self.now (commands.Move _table _rows) (Ok result) self.now }
+    /// The rows go on to columns where they are read faster; none of them changes.
+    fn move_rows(&mut self, table: u64, rows: u128) -> Result<Answer, Fault>
+        requires { CanCarryOut self.old.tables self.old.views (commands.Move table rows) }
+        ensures done { CarriesOut self.old (commands.Move table rows) result self.new }
+        ensures rows { OnlyShows self.old result self.new }
     {
-        let _views = &self.views;
-        Answer::Done
+        move_in(self.alloc, &mut self.tables, table, rows)?;
+        Ok(Answer::Done)
     }
 
-    /// The one store has nothing to be merged.
+    /// Rows in columns are taken away at once, so that nothing has to be merged.
     fn merge(&self, _table: u64) -> Answer
         ensures { CarriesOut self.now (commands.Merge _table) (Ok result) self.now }
     {

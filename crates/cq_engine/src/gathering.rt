@@ -7,8 +7,8 @@ ghost use Rattle.cq_answers.specs.Reading.{IsSourceThere};
 ghost use Rattle.cq_engine.specs.Gathering.{AreGathered, GathersAlso, is_gathered};
 
 use cq_answers::{rows_there, sources_of};
-use cq_lent::Lent;
 use cq_model::{Query, Source};
+use cq_sources::StoredSource;
 use cq_tables::Table;
 use std::alloc::{AllocError, Global};
 
@@ -17,7 +17,7 @@ pub(crate) fn gathered_rows<'a>(
     alloc: Global,
     tables: &'a [Table],
     query: &Query,
-) -> Result<Vec<Lent<'a>>, AllocError>
+) -> Result<Vec<StoredSource<'a>>, AllocError>
     requires numbered { (next : ℕ) × AreNumbered tables.now next }
     requires there { (views : List ViewOf) × AllByRecursion (IsSourceThere tables.now views) (sources_of query.now) }
     ensures { IfOk result (λ gathered. AreGathered tables.now (sources_of query.now) gathered.items) }
@@ -31,7 +31,7 @@ fn gather_all<'a>(
     alloc: Global,
     tables: &'a [Table],
     sources: &[Source],
-) -> Result<Vec<Lent<'a>>, AllocError>
+) -> Result<Vec<StoredSource<'a>>, AllocError>
     requires numbered { (next : ℕ) × AreNumbered tables.now next }
     requires there { (views : List ViewOf) × AllByRecursion (IsSourceThere tables.now views) sources.now }
     ensures { IfOk result (λ gathered. AreGathered tables.now sources.now gathered.items) }
@@ -47,7 +47,7 @@ fn gather_all<'a>(
 fn gather<'a>(
     tables: &'a [Table],
     source: Source,
-    gathered: &mut Vec<Lent<'a>>,
+    gathered: &mut Vec<StoredSource<'a>>,
 ) -> Result<(), AllocError>
     requires numbered { (next : ℕ) × AreNumbered tables.now next }
     requires there { (views : List ViewOf) × IsSourceThere tables.now views source }
@@ -57,12 +57,12 @@ fn gather<'a>(
         return Ok(());
     }
     let rows = rows_there(tables, source, &[]);
-    gathered.push(Lent { source, rows })?;
+    gathered.push(StoredSource { source, rows })?;
     Ok(())
 }
 
 /// Whether the rows of a source were gathered.
-fn is_gathered(gathered: &[Lent], source: Source) -> bool
+fn is_gathered(gathered: &[StoredSource], source: Source) -> bool
     ensures { result ≡ is_gathered gathered.now source }
 {
     gathered.iter().any(|entry| entry.source == source)

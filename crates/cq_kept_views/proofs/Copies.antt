@@ -9,7 +9,7 @@ use Rattle.cq_bags.specs.Bag.{SameBag, Weighted, once_each, projected, weight_of
 use Rattle.cq_pushes.proofs.Pairing.{add-step, left, small-step, taken}
 use Rattle.cq_sides.proofs.RowByRow.{sizes-cons, weight-size}
 use Rattle.cq_sides.specs.Held.{StaysSmall, sizes}
-use Rattle.cq_upkeep.proofs.Filled.{sizes-once_each}
+use Rattle.cq_kept_views.proofs.Taking.{sizes-once_each}
 
 -- ---- rows, each of them once
 module _ (f : Row → Row) (rows : List Row) (i : ℕ) (old : Weighted) (r : Row) (same : SameBag old (once_each (map f (take i rows)))) where

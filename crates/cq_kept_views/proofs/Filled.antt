@@ -1,5 +1,5 @@
 -- A state of a query that takes rows of tables in which are cut to its columns.
-use Rattle.std.proofs.Common.{◌≡◌, ◌∙◌, ◌≤◌, ◌^◌, ℕ, List, [], ◌∷◌, ◌++◌, length, map, Option, Some, None, refl, sym, ap, subst, arith}
+use Rattle.std.proofs.Common.{◌≡◌, ◌∙◌, ◌<◌, ◌≤◌, Bool, IsTrue, false, ◌^◌, ℕ, List, [], ◌∷◌, ◌++◌, length, map, Option, Some, None, refl, sym, ap, subst, arith}
 use Rattle.std.proofs.lemmas.List.{map-append}
 use Rattle.std.specs.List.{AllByRecursion}
 use Rattle.cq_values.specs.Value.{Row}
@@ -8,12 +8,14 @@ use Rattle.cq_bags.proofs.Totals.{by_test}
 use Rattle.cq_bags.specs.Bag.{Weighted, once_each}
 use Rattle.cq_chains.specs.Chains.{nothing, spans}
 use Rattle.cq_chains.specs.Steps.{AreStored}
+use Rattle.cq_columns.specs.Stored.{all_rows}
 use Rattle.cq_kept.specs.Delta.{changed}
 use Rattle.cq_kept_views.proofs.Bags.{all-weaker, cut-append, cut-bags, cut-none, cut-sizes, cut-stored}
+use Rattle.cq_kept_views.proofs.Taking.{all-hold, bags_at-bags, can-first, can-second, can-swapped, fills-none, fills-swapped, only-bags, spans-less}
 use Rattle.cq_kept_views.specs.Cut.{cut_bags, cut_only, cut_table, cut_to, entry_of}
+use Rattle.cq_kept_views.specs.Filling.{CanFill, Fills, bags_at, only}
 use Rattle.cq_laws.proofs.Positives.{once_each-bag}
 use Rattle.cq_lent.specs.Lent.{same_source}
-use Rattle.cq_lent.specs.declared.lent.Lent.{Lent}
 use Rattle.cq_model.specs.Group.{key_of}
 use Rattle.cq_model.specs.Meaning.{Tables}
 use Rattle.cq_model.specs.Views.{sources_of}
@@ -23,15 +25,14 @@ use Rattle.cq_narrow.proofs.Covered.{only_itself}
 use Rattle.cq_narrow.specs.Narrow.{IsNarrowOf}
 use Rattle.cq_narrow.specs.declared.columns.SourceColumns.{SourceColumns}
 use Rattle.cq_narrow.specs.declared.narrow_query.NarrowQuery.{NarrowQuery}
-use Rattle.cq_upkeep.proofs.Filled.{all-hold, bags_at-bags, can-first, can-second, can-swapped, fills-none, fills-swapped, only-bags, spans-less}
-use Rattle.cq_upkeep.specs.Filling.{CanFill, Fills, bags_at, only}
+use Rattle.cq_sources.specs.declared.stored_source.StoredSource.{StoredSource}
 use Rattle.cq_upkeep.specs.State.{AreBags, CanStart, HoldStored, StandsFor}
 use Rattle.cq_upkeep.specs.declared.state.ViewState.{ViewState}
 
 -- ---- rows of one table
-module _ (columns : List SourceColumns) (t : Lent) where
+module _ (columns : List SourceColumns) (t : StoredSource) where
   abbrev rows : Weighted
-  rows = once_each t.rows.now
+  rows = once_each (all_rows t.rows)
 
   -- those of a source without an entry are none
   no-entry-at : entry_of columns t.source ≡ None → (s : Source) → cut_table columns t s ≡ []
@@ -43,19 +44,19 @@ module _ (columns : List SourceColumns) (t : Lent) where
   no-entry v none = fills-none v (cut_table columns t) (no-entry-at none)
 
   -- the others are cut to the columns of its entry
-  entry-at : (x : SourceColumns) → entry_of columns t.source ≡ Some x → (s : Source) → cut_table columns t s ≡ cut_only t.source x.columns t.rows.now s
+  entry-at : (x : SourceColumns) → entry_of columns t.source ≡ Some x → (s : Source) → cut_table columns t s ≡ cut_only t.source x.columns (all_rows t.rows) s
   entry-at x found s = by_test (same_source t.source s)
-      (λ k. rw k (ap (λ (o : Option SourceColumns). cut_to o rows) (ap (entry_of columns) (sym (only_itself t.source s k)) ∙ found) ∙ sym (once_each-map (key_of x.columns) t.rows.now)))
+      (λ k. rw k (ap (λ (o : Option SourceColumns). cut_to o rows) (ap (entry_of columns) (sym (only_itself t.source s k)) ∙ found) ∙ sym (once_each-map (key_of x.columns) (all_rows t.rows))))
       (λ k. rw k (cut-none (entry_of columns s)))
 
-  pub own-entry : (x : SourceColumns) → entry_of columns t.source ≡ Some x → cut_table columns t ≡ cut_only t.source x.columns t.rows.now
+  pub own-entry : (x : SourceColumns) → entry_of columns t.source ≡ Some x → cut_table columns t ≡ cut_only t.source x.columns (all_rows t.rows)
   own-entry x found = λ i s. entry-at x found s i
 
   cut_table-bags : AreBags (cut_table columns t)
-  cut_table-bags = cut-bags columns (only t.source rows) (only-bags t.source t.rows.now)
+  cut_table-bags = cut-bags columns (only t.source rows) (only-bags t.source (all_rows t.rows))
 
   -- those of the first table come last
-  module _ (v : ViewState) (rest : List Lent) where
+  module _ (v : ViewState) (rest : List StoredSource) where
     abbrev others : Tables
     others = cut_bags columns (bags_at rest)
 
@@ -79,7 +80,7 @@ module _ (columns : List SourceColumns) (t : Lent) where
     all-filled w x one two = subst (λ (ts : Tables). Fills ts v x) (sym both) (fills-swapped v others (cut_table columns t) others-bags cut_table-bags w x one two)
 
 -- of no table there are none
-pub no-tables : (columns : List SourceColumns) (v : ViewState) (tables : List Lent) → length tables ≡ 0 → Fills (cut_bags columns (bags_at tables)) v v
+pub no-tables : (columns : List SourceColumns) (v : ViewState) (tables : List StoredSource) → length tables ≡ 0 → Fills (cut_bags columns (bags_at tables)) v v
 no-tables columns v [] none = fills-none v (cut_bags columns (bags_at [])) (λ s. cut-none (entry_of columns s))
 no-tables columns v (t ∷ tables) none = absurd (omega (arith, none))
 
@@ -88,9 +89,15 @@ pub cut-parts : (columns : List ℕ) (left front rest : List Row) → left ≡ f
 cut-parts columns left front rest parts = ap (map (key_of columns)) parts ∙ map-append (key_of columns) front rest
 
 -- where no row is left, nothing is to be done
-pub none-left : (v : ViewState) (source : Source) (columns : List ℕ) (left : List Row) → length left ≡ 0 → Fills (cut_only source columns left) v v
-none-left v source columns [] none = fills-none v (cut_only source columns []) (λ s. by_test (same_source source s) (λ k. rw k refl) (λ k. rw k refl))
-none-left v source columns (r ∷ left) none = absurd (omega (arith, none))
+pub none-left : (v : ViewState) (source : Source) (columns : List ℕ) (left : List Row) → left ≡ [] → Fills (cut_only source columns left) v v
+none-left v source columns left none =
+    subst (λ (rows : List Row). Fills (cut_only source columns rows) v v) (sym none)
+    (fills-none v (cut_only source columns []) (λ s. by_test (same_source source s) (λ k. rw k refl) (λ k. rw k refl)))
+
+-- there are rows where a test for none fails
+pub some-left : (left : List Row) (empty : Bool) → (left ≡ [] → IsTrue empty) → empty ≡ false → 0 < length left
+some-left [] empty is_empty fails = absurd (cc (is_empty refl, fails))
+some-left (r ∷ left) empty is_empty fails = omega arith
 
 -- ---- a state without rows, and the rows of all tables
 -- rows that it can start with can be taken in

@@ -20,7 +20,7 @@ use Rattle.cq_model.specs.declared.query.Query.{Query}
 use Rattle.cq_model.specs.declared.query.Source.{Source}
 use Rattle.cq_narrow.specs.Narrow.{IsNarrowOf}
 use Rattle.cq_pushes.proofs.Sizes.{sizes-least}
-use Rattle.cq_upkeep.proofs.Filled.{all-hold, spans-less}
+use Rattle.cq_kept_views.proofs.Taking.{all-hold, spans-less}
 use Rattle.cq_upkeep.proofs.SameBags.{standing-by_sources}
 use Rattle.cq_upkeep.proofs.Working.{counts-within_work}
 use Rattle.cq_upkeep.specs.State.{AreBags, HoldStored}

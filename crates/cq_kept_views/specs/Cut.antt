@@ -4,16 +4,17 @@ use Rattle.cq_values.specs.Value.{Row}
 use Rattle.cq_bags.specs.Bag.{SameBag, Weighted, once_each, projected}
 use Rattle.cq_bags.specs.Size.{IsClean}
 use Rattle.cq_chains.specs.Work.{all_ticks}
+use Rattle.cq_columns.specs.Stored.{all_rows}
 use Rattle.cq_kept.specs.Delta.{SameTables}
+use Rattle.cq_kept_views.specs.Filling.{only}
 use Rattle.cq_lent.specs.Lent.{same_source}
-use Rattle.cq_lent.specs.declared.lent.Lent.{Lent}
 use Rattle.cq_model.specs.Group.{key_of}
 use Rattle.cq_model.specs.Meaning.{Tables}
 use Rattle.cq_model.specs.declared.query.Query.{Query}
 use Rattle.cq_model.specs.declared.query.Source.{Source}
 use Rattle.cq_narrow.specs.declared.columns.SourceColumns.{SourceColumns}
 use Rattle.cq_sides.specs.Held.{Held, sizes}
-use Rattle.cq_upkeep.specs.Filling.{only}
+use Rattle.cq_sources.specs.declared.stored_source.StoredSource.{StoredSource}
 use Rattle.cq_upkeep.specs.State.{StandsFor}
 use Rattle.cq_upkeep.specs.declared.state.ViewState.{ViewState}
 
@@ -46,10 +47,10 @@ pub record AreCut (columns : List SourceColumns) (changes cut : Tables) : Type 0
   pub same : SameTables cut (cut_bags columns changes)
   pub clean : (source : Source) → IsClean (cut source)
 
--- ---- rows of tables, where they are
+-- ---- rows of tables, where they are stored
 -- the rows of one table, each of them once
-abbrev pub cut_table : List SourceColumns → Lent → Tables
-cut_table columns table = cut_bags columns (only table.source (once_each table.rows.now))
+abbrev pub cut_table : List SourceColumns → StoredSource → Tables
+cut_table columns table = cut_bags columns (only table.source (once_each (all_rows table.rows)))
 
 -- a source with rows that are cut to these columns, each of them once
 abbrev pub cut_only : Source → List ℕ → List Row → Tables

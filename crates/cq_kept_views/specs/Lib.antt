@@ -1,3 +1,4 @@
+pub mod Filling
 pub mod Cut
 pub mod State
 pub mod Shown

@@ -3,15 +3,16 @@ ghost use Rattle.std.specs.Option.{option_copied};
 ghost use Rattle.std.specs.Prelude.{◌<◌, ◌≡◌, ◌≤◌, ◌^◌, IfOk, length, map};
 ghost use Rattle.cq_bags.specs.Bag.{SameBag, once_each};
 ghost use Rattle.cq_bags.specs.Size.{IsClean};
+ghost use Rattle.cq_columns.specs.Stored.{front_rows};
 ghost use Rattle.cq_kept_views.specs.Cut.{IsCut, entry_of};
 ghost use Rattle.cq_model.specs.Group.{key_of};
 ghost use Rattle.cq_sides.specs.Held.{sizes};
 
+use cq_columns::Front;
 use cq_eval::key_of;
 use cq_model::Source;
 use cq_narrow::SourceColumns;
 use cq_sides::Weights;
-use cq_values::Row;
 use std::alloc::{AllocError, Global};
 
 /// The first entry of a source.
@@ -30,15 +31,15 @@ pub(crate) fn entry_of(columns: &[SourceColumns], source: Source) -> Option<&Sou
 pub(crate) fn cut_once(
     alloc: Global,
     columns: &[usize],
-    rows: &[Row],
+    front: &Front,
 ) -> Result<Weights, AllocError>
-    requires { length rows.now ≤ 1_024 }
-    ensures bag { IfOk result (λ w. SameBag w.entries (once_each (map (key_of columns.now) rows.now))) }
+    requires { length (front_rows front.now) ≤ 1_024 }
+    ensures bag { IfOk result (λ w. SameBag w.entries (once_each (map (key_of columns.now) (front_rows front.now)))) }
     ensures clean { IfOk result (λ w. IsClean w.entries) }
 {
     let mut once = Weights::new(alloc);
-    for row in rows {
-        let short = key_of(alloc, columns, row.as_slice())?;
+    for place in 0..front.len() {
+        let short = front.row(place).cut(alloc, columns)?;
         once.add(short, 1)?;
     }
     let _len = once.len();

@@ -1,27 +1,25 @@
 //! Rows of tables that are cut to the columns that a query reads, and taken in, some at a time.
 ghost use Rattle.std.specs.Prelude.{◌≤◌, IfOk, OnOk, length};
+ghost use Rattle.cq_columns.specs.Stored.{all_rows, front_rows};
 ghost use Rattle.cq_kept_views.specs.Cut.{IsFilled, cut_bags, cut_only, cut_table};
-ghost use Rattle.cq_upkeep.specs.Filling.{CanFill, Fills, bags_at};
+ghost use Rattle.cq_kept_views.specs.Filling.{CanFill, Fills, bags_at};
 ghost use Rattle.cq_upkeep.specs.State.{CanStart};
 
 use crate::cutting::{cut_once, entry_of};
 use cq_chains::SourceRows;
-use cq_lent::Lent;
+use cq_columns::{Front, Stored};
 use cq_model::{Query, Source};
 use cq_narrow::SourceColumns;
+use cq_sources::StoredSource;
 use cq_upkeep::ViewState;
-use cq_values::Row;
 use std::alloc::{AllocError, Global};
-
-/// How many rows of a table are copied at once.
-const ROWS_AT_A_TIME: usize = 1_024;
 
 /// The state of a query over the rows of tables that are cut to its columns. It counts no work.
 pub(crate) fn filled(
     alloc: Global,
     query: Query,
     columns: &[SourceColumns],
-    tables: &[Lent],
+    tables: &[StoredSource],
     epoch: u64,
 ) -> Result<ViewState, AllocError>
     requires { CanStart query (cut_bags columns.now (bags_at tables.now)) }
@@ -46,7 +44,7 @@ fn fill(
     alloc: Global,
     view: &mut ViewState,
     columns: &[SourceColumns],
-    tables: &[Lent],
+    tables: &[StoredSource],
 ) -> Result<(), AllocError>
     requires { CanFill view.old (cut_bags columns.now (bags_at tables.now)) }
     ensures { OnOk result (Fills (cut_bags columns.now (bags_at tables.now)) view.old view.new) }
@@ -65,7 +63,7 @@ fn fill_own(
     alloc: Global,
     view: &mut ViewState,
     columns: &[SourceColumns],
-    table: &Lent,
+    table: &StoredSource,
 ) -> Result<(), AllocError>
     requires { CanFill view.old (cut_table columns.now table.now) }
     ensures { OnOk result (Fills (cut_table columns.now table.now) view.old view.new) }
@@ -77,7 +75,7 @@ fn fill_own(
             view,
             table.source,
             entry.columns.as_slice(),
-            table.rows,
+            &table.rows,
         ),
     }
 }
@@ -88,15 +86,15 @@ fn fill_from(
     view: &mut ViewState,
     source: Source,
     columns: &[usize],
-    rows: &[Row],
+    rows: &Stored,
 ) -> Result<(), AllocError>
-    requires { CanFill view.old (cut_only source columns.now rows.now) }
-    ensures { OnOk result (Fills (cut_only source columns.now rows.now) view.old view.new) }
+    requires { CanFill view.old (cut_only source columns.now (all_rows rows.now)) }
+    ensures { OnOk result (Fills (cut_only source columns.now (all_rows rows.now)) view.old view.new) }
 {
-    let mut left = rows;
+    let mut left = *rows;
     while !left.is_empty() {
-        let (front, rest) = left.split_at(left.len().min(ROWS_AT_A_TIME));
-        fill_with(alloc, view, source, columns, front)?;
+        let (front, rest) = left.split_front();
+        fill_with(alloc, view, source, columns, &front)?;
         left = rest;
     }
     Ok(())
@@ -108,13 +106,13 @@ fn fill_with(
     view: &mut ViewState,
     source: Source,
     columns: &[usize],
-    rows: &[Row],
+    front: &Front,
 ) -> Result<(), AllocError>
-    requires few { length rows.now ≤ 1_024 }
-    requires can { CanFill view.old (cut_only source columns.now rows.now) }
-    ensures { OnOk result (Fills (cut_only source columns.now rows.now) view.old view.new) }
+    requires few { length (front_rows front.now) ≤ 1_024 }
+    requires can { CanFill view.old (cut_only source columns.now (front_rows front.now)) }
+    ensures { OnOk result (Fills (cut_only source columns.now (front_rows front.now)) view.old view.new) }
 {
-    let rows = cut_once(alloc, columns, rows)?;
+    let rows = cut_once(alloc, columns, front)?;
     let mut changes = Vec::new(alloc);
     changes.push(SourceRows { source, rows })?;
     let prepared = view.prepare(alloc, &changes);

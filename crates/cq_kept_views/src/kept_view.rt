@@ -9,7 +9,7 @@ ghost use Rattle.cq_kept_views.specs.State.{CanCommit, CanPrepare, CountsPairs, 
 ghost use Rattle.cq_laws.specs.Sizes.{HasSizes};
 ghost use Rattle.cq_model.specs.Sizes.{column_sizes};
 ghost use Rattle.cq_sides.specs.Ticks.{counted};
-ghost use Rattle.cq_upkeep.specs.Filling.{bags_at};
+ghost use Rattle.cq_kept_views.specs.Filling.{bags_at};
 ghost use Rattle.cq_upkeep.specs.Query.{CanBeKept, reads};
 ghost use Rattle.cq_upkeep.specs.State.{CanStart};
 
@@ -17,9 +17,9 @@ use crate::changes::cut_changes;
 use crate::filling::filled;
 use cq_chains::SourceRows;
 use cq_deltas::ShowFault;
-use cq_lent::Lent;
 use cq_model::Query;
 use cq_narrow::{NarrowQuery, SourceColumns};
+use cq_sources::StoredSource;
 use cq_upkeep::{Pending, ViewState, column_sizes, reads};
 use cq_values::{Row, Seq};
 use std::alloc::{AllocError, Global};
@@ -41,7 +41,7 @@ impl KeptView {
         alloc: Global,
         query: Query,
         widths: Seq<usize>,
-        tables: &[Lent],
+        tables: &[StoredSource],
         epoch: u64,
     ) -> Result<KeptView, AllocError>
         requires start { CanStart query (bags_at tables.now) }
@@ -164,7 +164,7 @@ fn built_state(
     alloc: Global,
     query: &Query,
     widths: &[usize],
-    tables: &[Lent],
+    tables: &[StoredSource],
     epoch: u64,
 ) -> Result<(Seq<SourceColumns>, ViewState), AllocError>
     requires start { CanStart query.now (bags_at tables.now) }

@@ -1,11 +1,13 @@
 //! The listing of what a plan shows.
 ghost use Rattle.std.specs.List.{AllByRecursion};
 ghost use Rattle.std.specs.Prelude.{IfOk};
+ghost use Rattle.cq_columns.specs.Stored.{all_rows};
 ghost use Rattle.cq_plan.specs.Plan.{IsWithin, shown_by};
 ghost use Rattle.cq_operators.specs.Listed.{IsListingOf};
 
 use crate::exec::Exec;
 use crate::fault::ExecFault;
+use cq_columns::Stored;
 use cq_listing::Listing;
 use cq_masks::Selection;
 use cq_model::Order;
@@ -19,10 +21,10 @@ pub fn listed_rows<'a>(
     alloc: Global,
     plan: &'a Plan<'a>,
     order: &Order,
-    rows: &'a [Row],
+    rows: Stored<'a>,
 ) -> Result<Vec<Row>, ExecFault>
-    requires { AllByRecursion (IsWithin plan.now) rows.now }
-    ensures { IfOk result (λ list. IsListingOf order.now (shown_by plan.now rows.now) list.items) }
+    requires { AllByRecursion (IsWithin plan.now) (all_rows rows) }
+    ensures { IfOk result (λ list. IsListingOf order.now (shown_by plan.now (all_rows rows.entry)) list.items) }
 {
     let mut exec = Exec::open(plan, rows);
     let mut batch = Batch {

@@ -32,7 +32,7 @@ one-more : (b : Bool) (x : Row) (kept : List Row) (n : ℕ) → length kept ≤ 
 one-more true x kept n le = omega (arith, le)
 one-more false x kept n le = omega (arith, le)
 
-fewer : (p : Row → Bool) (rows : List Row) → length (filter p rows) ≤ length rows
+pub fewer : (p : Row → Bool) (rows : List Row) → length (filter p rows) ≤ length rows
 fewer p [] = omega arith
 fewer p (row ∷ rows) = one-more (p row) row (filter p rows) (length rows) (fewer p rows)
 

@@ -7,8 +7,8 @@ use Rattle.cq_values.specs.Value.{Row}
 use Rattle.cq_values.specs.declared.truth.Truth.{Truth}
 use Rattle.cq_values.specs.declared.truth.Truth.TheVariants.{Unknown}
 use Rattle.cq_masks.specs.Selection.{is_true_at, where_true}
+use Rattle.cq_columns.specs.Places.{rows_at}
 use Rattle.cq_scans.specs.Paired.{ArePlaces}
-use Rattle.cq_scans.specs.Parts.{rows_at}
 use Rattle.cq_scans.proofs.Lists.{all-kept}
 
 -- the row at a place comes first, where the place is kept

@@ -1,5 +1,5 @@
 -- What holds of each row, and what is worked out in each row.
-use Rattle.std.proofs.Common.{◌≡◌, Bool, true, false, cond, List, [], ◌∷◌, map, length, refl, sym, ◌∙◌, ap, ap₂}
+use Rattle.std.proofs.Common.{◌≡◌, Bool, true, false, cond, List, [], ◌∷◌, ◌++◌, map, length, refl, sym, ◌∙◌, ap, ap₂, subst}
 use Rattle.std.proofs.lemmas.List.{length-map}
 use Rattle.std.specs.Prelude.{replicate}
 use Rattle.std.specs.List.{AllByRecursion, filter}
@@ -23,6 +23,14 @@ and-first P false x xs one all = all
 pub all-kept : {X : Type 0} (P : X → Type 0) (keep : X → Bool) (xs : List X) → AllByRecursion P xs → AllByRecursion P (filter keep xs)
 all-kept P keep [] all = tt
 all-kept P keep (x ∷ xs) all = and-first P (keep x) x (filter keep xs) all.0 (all-kept P keep xs all.1)
+
+-- what holds of all holds of those behind a front
+all-rest : {X : Type 0} (P : X → Type 0) (front rest : List X) → AllByRecursion P (front ++ rest) → AllByRecursion P rest
+all-rest P [] rest all = all
+all-rest P (x ∷ front) rest all = all-rest P front rest all.1
+
+pub all-behind : {X : Type 0} (P : X → Type 0) (whole front rest : List X) → whole ≡ front ++ rest → AllByRecursion P whole → AllByRecursion P rest
+all-behind P whole front rest parts all = all-rest P front rest (subst (AllByRecursion P) parts all)
 
 -- functions that agree make the same
 pub map-same : {X Y : Type 0} (f g : X → Y) → ((x : X) → f x ≡ g x) → (xs : List X) → map f xs ≡ map g xs

@@ -1,6 +1,7 @@
 pub mod Operand
 pub mod Scan
 pub mod Kept
+pub mod Flagged
 pub mod Truths
 pub mod Paired
 pub mod Parts

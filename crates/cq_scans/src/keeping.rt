@@ -1,19 +1,19 @@
 //! The rows that a condition keeps.
 ghost use Rattle.std.specs.List.{AllByRecursion, filter};
-ghost use Rattle.std.specs.Prelude.{◌++◌, ◌≡◌, ◌≤◌, IfOk, OnOk, length};
+ghost use Rattle.std.specs.Prelude.{◌≡◌, ◌≤◌, IfOk, OnOk, length};
 ghost use Rattle.cq_model.specs.Exact.{AreExactIn};
 ghost use Rattle.cq_model.specs.Meaning.{keeps};
 ghost use Rattle.cq_model.specs.Width.{IsNarrowIn};
-ghost use Rattle.cq_scans.specs.Kept.{kept_of};
-ghost use Rattle.cq_vectors.specs.Gathered.{lent_rows};
+ghost use Rattle.cq_scans.specs.Kept.{KeepsMore, kept_of};
+ghost use Rattle.cq_columns.specs.Stored.{all_rows, front_rows, stored_rows};
 
 use crate::columns::columns_of;
 use crate::lent::lend_all;
 use crate::scan::Scan;
 use crate::truths::truths_of;
+use cq_columns::{Front, Stored, StoredRow};
 use cq_eval::narrow_is_exact;
 use cq_model::Cond;
-use cq_values::Row;
 use std::alloc::{AllocError, Global};
 
 /// The rows that the condition keeps, where they are: those of which it is True, and all where there is none. It goes
@@ -21,10 +21,10 @@ use std::alloc::{AllocError, Global};
 pub fn kept<'a>(
     alloc: Global,
     condition: &Option<Cond>,
-    rows: &'a [Row],
-) -> Result<Vec<&'a Row>, AllocError>
-    requires { AllByRecursion (IsNarrowIn condition.now) rows.now }
-    ensures { IfOk result (λ kept. lent_rows kept.items ≡ filter (keeps condition.now) rows.now) }
+    rows: &Stored<'a>,
+) -> Result<Vec<StoredRow<'a>>, AllocError>
+    requires { AllByRecursion (IsNarrowIn condition.now) (all_rows rows.now) }
+    ensures { IfOk result (λ k. stored_rows k.items ≡ filter (keeps condition.now) (all_rows rows.now)) }
 {
     narrow_is_exact();
     match condition {
@@ -33,16 +33,20 @@ pub fn kept<'a>(
     }
 }
 
-fn kept_by<'a>(alloc: Global, condition: &Cond, rows: &'a [Row]) -> Result<Vec<&'a Row>, AllocError>
-    requires { AllByRecursion (AreExactIn condition.now) rows.now }
-    ensures { IfOk result (λ kept. lent_rows kept.items ≡ kept_of condition.now rows.now) }
+fn kept_by<'a>(
+    alloc: Global,
+    condition: &Cond,
+    rows: &Stored<'a>,
+) -> Result<Vec<StoredRow<'a>>, AllocError>
+    requires { AllByRecursion (AreExactIn condition.now) (all_rows rows.now) }
+    ensures { IfOk result (λ k. stored_rows k.items ≡ kept_of condition.now (all_rows rows.now)) }
 {
     let columns = columns_of(alloc, condition.tree())?;
     let mut kept = Vec::new(alloc);
-    let mut left = rows;
+    let mut left = *rows;
     while !left.is_empty() {
-        let (front, rest) = left.split_at(left.len().min(1024));
-        keep_front(alloc, condition, &columns, front, &mut kept)?;
+        let (front, rest) = left.split_front();
+        keep_front(alloc, condition, &columns, &front, &mut kept)?;
         left = rest;
     }
     Ok(kept)
@@ -53,19 +57,18 @@ pub fn keep_front<'a>(
     alloc: Global,
     condition: &Cond,
     columns: &[usize],
-    rows: &'a [Row],
-    kept: &mut Vec<&'a Row>,
+    front: &Front<'a>,
+    kept: &mut Vec<StoredRow<'a>>,
 ) -> Result<(), AllocError>
-    requires few { length rows.now ≤ 1024 }
-    requires exact { AllByRecursion (AreExactIn condition.now) rows.now }
-    ensures { OnOk result (lent_rows kept.new.items ≡ lent_rows kept.old.items ++ kept_of condition.now rows.now) }
+    requires few { length (front_rows front.now) ≤ 1024 }
+    requires exact { AllByRecursion (AreExactIn condition.now) (front_rows front.now) }
+    ensures { OnOk result (KeepsMore condition.now front.now kept.old.items kept.new.items) }
 {
-    let scan = Scan::open(alloc, lend_all(alloc, rows)?, columns)?;
+    let scan = Scan::open_front(alloc, *front, columns)?;
     let truths = truths_of(alloc, condition, &scan)?;
-    for place in 0..rows.len() {
-        let row = &rows[place];
+    for place in 0..front.len() {
         if truths.get(place).is_true() {
-            kept.push(row)?;
+            kept.push(front.row(place))?;
         }
     }
     Ok(())

@@ -5,6 +5,7 @@
 #![tactic(auto)]
 
 mod columns;
+mod flags;
 mod keeping;
 mod lent;
 mod operand;
@@ -16,10 +17,11 @@ mod truths;
 mod vectors;
 mod worked;
 
+pub use flags::kept_flags;
 pub use keeping::{keep_front, kept};
 pub use lent::lend_all;
 pub use operand::{Operand, lend_vectors};
-pub use passed::passing;
+pub use passed::{passing, passing_front, scan_passing};
 pub use room::refused_room;
 pub use scan::Scan;
 pub use truths::truths_of;

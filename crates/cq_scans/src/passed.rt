@@ -3,15 +3,16 @@ ghost use Rattle.std.specs.List.{AllByRecursion};
 ghost use Rattle.std.specs.Prelude.{◌≡◌, ◌≤◌, IfOk, length};
 ghost use Rattle.cq_model.specs.Trees.{cond_of};
 ghost use Rattle.cq_scans.specs.Passing.{CanPass, IsExactBehind, conditions_in, passing_one, passing_rows};
-ghost use Rattle.cq_vectors.specs.Gathered.{lent_rows};
+ghost use Rattle.cq_columns.specs.Rows.{rows_in};
+ghost use Rattle.cq_columns.specs.Stored.{all_rows, front_rows, stored_rows};
 
 use crate::columns::columns_of;
-use crate::lent::{lend_all, lent_at};
+use crate::lent::lend_all;
 use crate::scan::Scan;
 use crate::truths::truths_of_tree;
+use cq_columns::{Front, Stored, StoredRow, StoredRows};
 use cq_masks::Selection;
 use cq_model::CondTree;
-use cq_values::Row;
 use std::alloc::{AllocError, Global};
 
 /// The rows that pass all conditions, where they are. In these the values of a row stand behind so many others. It goes
@@ -20,19 +21,19 @@ pub fn passing<'a>(
     alloc: Global,
     before: usize,
     conditions: &[&'a CondTree],
-    rows: &'a [Row],
-) -> Result<Vec<&'a Row>, AllocError>
-    requires { AllByRecursion (CanPass before (conditions_in conditions.now)) rows.now }
-    ensures { IfOk result (λ passing. lent_rows passing.items ≡ passing_rows before conditions.now rows.now) }
+    rows: &Stored<'a>,
+) -> Result<Vec<StoredRow<'a>>, AllocError>
+    requires { AllByRecursion (CanPass before (conditions_in conditions.now)) (all_rows rows.now) }
+    ensures { IfOk result (λ p. stored_rows p.items ≡ passing_rows before conditions.now (all_rows rows.now)) }
 {
     if conditions.is_empty() {
         return lend_all(alloc, rows);
     }
     let mut passing = Vec::new(alloc);
-    let mut left = rows;
+    let mut left = *rows;
     while !left.is_empty() {
-        let (front, rest) = left.split_at(left.len().min(1024));
-        let mut passed = pass_front(alloc, before, conditions, front)?;
+        let (front, rest) = left.split_front();
+        let mut passed = passing_front(alloc, before, conditions, &front)?;
         passing.append(&mut passed)?;
         left = rest;
     }
@@ -40,17 +41,46 @@ pub fn passing<'a>(
 }
 
 /// Those of at most 1,024 rows that pass: each condition is asked of the rows that the ones before it left.
-fn pass_front<'a>(
+pub fn passing_front<'a>(
     alloc: Global,
     before: usize,
     conditions: &[&'a CondTree],
-    rows: &'a [Row],
-) -> Result<Vec<&'a Row>, AllocError>
-    requires few { length rows.now ≤ 1024 }
-    requires exact { AllByRecursion (CanPass before (conditions_in conditions.now)) rows.now }
-    ensures { IfOk result (λ passed. lent_rows passed.items ≡ passing_rows before conditions.now rows.now) }
+    front: &Front<'a>,
+) -> Result<Vec<StoredRow<'a>>, AllocError>
+    requires few { length (front_rows front.now) ≤ 1024 }
+    requires exact { AllByRecursion (CanPass before (conditions_in conditions.now)) (front_rows front.now) }
+    ensures { IfOk result (λ p. stored_rows p.items ≡ passing_rows before conditions.now (front_rows front.now)) }
 {
-    let mut passed = lend_all(alloc, rows)?;
+    let passed = pass_all(alloc, before, conditions, front)?;
+    passed.into_rows(alloc)
+}
+
+/// The same as a scan, of which these columns are gathered: the rows stay places of the front.
+pub fn scan_passing<'a>(
+    alloc: Global,
+    conditions: &[&'a CondTree],
+    front: &Front<'a>,
+    columns: &[usize],
+) -> Result<Scan<'a>, AllocError>
+    requires few { length (front_rows front.now) ≤ 1024 }
+    requires exact { AllByRecursion (CanPass 0 (conditions_in conditions.now)) (front_rows front.now) }
+    ensures { IfOk result (λ scan. scan ≡ passing_rows 0 conditions.now (front_rows front.now)) }
+{
+    let passed = pass_all(alloc, 0, conditions, front)?;
+    Scan::open_stored(alloc, passed, columns)
+}
+
+fn pass_all<'a>(
+    alloc: Global,
+    before: usize,
+    conditions: &[&'a CondTree],
+    front: &Front<'a>,
+) -> Result<StoredRows<'a>, AllocError>
+    requires few { length (front_rows front.now) ≤ 1024 }
+    requires exact { AllByRecursion (CanPass before (conditions_in conditions.now)) (front_rows front.now) }
+    ensures { IfOk result (λ p. rows_in p ≡ passing_rows before conditions.now (front_rows front.now)) }
+{
+    let mut passed = StoredRows::Front(*front);
     for condition in conditions {
         passed = pass_one(alloc, before, condition, &passed)?;
     }
@@ -61,18 +91,17 @@ fn pass_one<'a>(
     alloc: Global,
     before: usize,
     condition: &'a CondTree,
-    rows: &[&'a Row],
-) -> Result<Vec<&'a Row>, AllocError>
-    requires few { length rows.now ≤ 1024 }
-    requires exact { AllByRecursion (IsExactBehind before (cond_of condition.now)) (lent_rows rows.now) }
-    ensures { IfOk result (λ p. lent_rows p.items ≡ passing_one before condition.now (lent_rows rows.now)) }
+    rows: &StoredRows<'a>,
+) -> Result<StoredRows<'a>, AllocError>
+    requires few { length (rows_in rows.now) ≤ 1024 }
+    requires exact { AllByRecursion (IsExactBehind before (cond_of condition.now)) (rows_in rows.now) }
+    ensures { IfOk result (λ p. rows_in p ≡ passing_one before condition.now (rows_in rows.now)) }
 {
     let columns = columns_of(alloc, condition)?;
-    let mut read: Vec<&'a Row> = Vec::new(alloc);
-    read.extend_from_slice(rows)?;
+    let read = rows.copy(alloc)?;
     let scan = Scan::open_behind(alloc, before, read, &columns)?;
     let truths = truths_of_tree(alloc, condition, &scan)?;
     let mut kept = Selection::new();
     kept.set_true(&truths);
-    lent_at(alloc, rows, kept.places())
+    rows.at(alloc, kept.places())
 }

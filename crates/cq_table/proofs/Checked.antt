@@ -1,6 +1,6 @@
 -- Checks of the values that rows get, whatever the order of the rows.
-use Rattle.std.proofs.Common.{◌≡◌, Bool, true, false, List, [], ◌∷◌, ◌++◌, Option, Ordering, refl, sym, ap, ◌∙◌}
-use Rattle.std.specs.Prelude.{◌||◌, ◌&&◌}
+use Rattle.std.proofs.Common.{◌≡◌, ℕ, ◌+◌, ◌<◌, Bool, true, false, List, [], ◌∷◌, ◌++◌, Option, Ordering, add-one, drop, drop-cons, get_or, length, refl, subst, sym, ap, ◌∙◌}
+use Rattle.std.specs.Prelude.{◌||◌, ◌&&◌, None, Some}
 use Rattle.std.specs.List.{AllByRecursion, flat_map, list_any}
 use Rattle.std.specs.Ordering.{is_gt}
 use Rattle.cq_values.specs.declared.column.ColumnDef.{ColumnDef}
@@ -13,10 +13,13 @@ use Rattle.cq_model.specs.Eval.{eval}
 use Rattle.cq_model.specs.Expr.{Cond}
 use Rattle.cq_model.specs.Meaning.{keeps}
 use Rattle.cq_model.specs.Write.{chosen}
-use Rattle.cq_binding.specs.declared.fault.Fault.TheVariants.{NumberOutside, NullNotAllowed}
-use Rattle.cq_binding.specs.Checks.{fault_if, first_fault}
+use Rattle.cq_binding.specs.declared.fault.Fault.{Fault}
+use Rattle.cq_binding.specs.declared.fault.Fault.TheVariants.{NumberOutside, NullNotAllowed, TableFull}
+use Rattle.cq_binding.specs.Checks.{MayRefuse, fault_if, first_fault}
 use Rattle.cq_binding.specs.UpdateChecks.{is_null, is_outside, never_null, value_checks}
-use Rattle.cq_table.specs.Checks.{AreNarrowSets, value_fault, values_fault}
+use Rattle.cq_table.specs.Checks.{AreNarrowSets, fault_of, one_fault, value_fault, values_fault}
+use Rattle.cq_table.specs.declared.fault.TableFault.{TableFault}
+use Rattle.cq_table.specs.declared.fault.TableFault.TheVariants as tables
 use Rattle.cq_table.specs.Table.{SameRows}
 use Rattle.cq_table.proofs.RowLists.{all_of_kept, gone_all}
 
@@ -51,6 +54,40 @@ checks_same columns xs ys same (a ∷ later) =
     let outside = any_same (λ r. is_outside (eval a.value r)) xs ys same in
     let null = any_same (λ r. is_null (eval a.value r)) xs ys same in
     λ i. (fault_if (outside i) NumberOutside ∷ fault_if (never_null columns a.column && null i) NullNotAllowed ∷ []) ++ checks_same columns xs ys same later i
+
+-- the first fault of checks decides, whatever checks come behind them
+decided : (f : Fault) (xs ys : List (Option Fault)) → first_fault xs ≡ Some f → first_fault (xs ++ ys) ≡ Some f
+decided f [] ys is = absurd (cc is)
+decided f (Some g ∷ xs) ys is = is
+decided f (None ∷ xs) ys is = decided f xs ys is
+
+-- and so these do where the others have none
+passed : (xs ys : List (Option Fault)) → first_fault xs ≡ None → first_fault (xs ++ ys) ≡ first_fault ys
+passed [] ys none = refl
+passed (Some g ∷ xs) ys none = absurd (cc none)
+passed (None ∷ xs) ys none = passed xs ys none
+
+refused : (e : TableFault) (xs ys : List (Option Fault)) → MayRefuse (first_fault xs) (fault_of e) → MayRefuse (first_fault (xs ++ ys)) (fault_of e)
+refused tables.Memory xs ys is = tt
+refused tables.Full xs ys is = decided TableFull xs ys is
+refused tables.NumberOutside xs ys is = decided NumberOutside xs ys is
+refused tables.NullNotAllowed xs ys is = decided NullNotAllowed xs ys is
+
+module _ (columns : List ColumnDef) (rows : List Row) (assignments : List Assignment) (i : ℕ) (a : Assignment) (more : i < length assignments) (is : a ≡ get_or assignments i a)
+    (left : first_fault (flat_map (value_checks columns rows) (drop i assignments)) ≡ values_fault columns assignments rows) where
+  abbrev checks_of : List Assignment → List (Option Fault)
+  checks_of some = flat_map (value_checks columns rows) some
+
+  next : checks_of (drop i assignments) ≡ value_checks columns rows a ++ checks_of (drop (i + 1) assignments)
+  next = ap checks_of (drop-cons assignments i a more ∙ ap (λ (n : ℕ). get_or assignments i a ∷ drop n assignments) (sym (add-one i)) ∙ ap (λ (b : Assignment). b ∷ drop (i + 1) assignments) (sym is))
+
+  -- the values of an assignment that have no fault leave the later ones
+  pub value_passed : one_fault columns a rows ≡ None → first_fault (flat_map (value_checks columns rows) (drop (i + 1) assignments)) ≡ values_fault columns assignments rows
+  value_passed none = sym (ap first_fault next ∙ passed (value_checks columns rows a) (checks_of (drop (i + 1) assignments)) none) ∙ left
+
+  -- and its fault is that of all
+  pub value_refused : (e : TableFault) → MayRefuse (one_fault columns a rows) (fault_of e) → MayRefuse (values_fault columns assignments rows) (fault_of e)
+  value_refused e told = subst (λ o. MayRefuse o (fault_of e)) (sym (ap first_fault next) ∙ left) (refused e (value_checks columns rows a) (checks_of (drop (i + 1) assignments)) told)
 
 module _ (assignments : List Assignment) (c : Option Cond) (rows gone : List Row) (is_chosen : SameRows gone (chosen c rows)) where
   -- nothing is too wide in SET at a row that goes

@@ -1,6 +1,6 @@
 pub mod RowLists
 pub mod Bagged
-pub mod Leaving
-pub mod Putting
 pub mod Setting
 pub mod Checked
+pub mod Flagged
+pub mod Widths

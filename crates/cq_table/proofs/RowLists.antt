@@ -1,5 +1,5 @@
--- Lists of rows: what all of them have, in any order and where they are lent.
-use Rattle.std.proofs.Common.{◌≡◌, ◌<◌, get_or, ℕ, zero, suc, Bool, List, [], ◌∷◌, ◌++◌, map, length, sym, arith, subst, Ordering}
+-- Lists of rows: what all of them have, in any order.
+use Rattle.std.proofs.Common.{◌≡◌, Bool, List, [], ◌∷◌, ◌++◌, sym, subst, Ordering}
 use Rattle.std.specs.Prelude.{filter}
 use Rattle.std.specs.List.{AllByRecursion}
 use Rattle.std.specs.Ordering.{is_gt}
@@ -43,21 +43,10 @@ module _ (P : Row → Type 0) where
   unfolding bag_of
   all_of_rows rows a = unsorted row_cmp rows a
 
-  -- and what holds of each holds of the one at a place
-  pub all_at : (rows : List Row) → AllByRecursion P rows → (i : ℕ) (r : Row) → i < length rows → r ≡ get_or rows i r → P r
-  all_at [] a i r h is = absurd (omega (arith, h))
-  all_at (s ∷ rows) a zero r h is = subst P (sym is) a.0
-  all_at (s ∷ rows) a (suc i) r h is = all_at rows a.1 i r (omega (arith, h)) is
-
 module _ (keep : Row → Bool) (rows gone : List Row) (chosen : bag_of gone ≡ bag_of (filter keep rows)) where
   -- what holds of the rows that are kept holds of those that go
   pub gone_all : (P : Row → Type 0) → AllByRecursion P (filter keep rows) → AllByRecursion P gone
   gone_all P all = all_of_rows P gone (subst (λ (rs : List Row). AllByRecursion P rs) (sym chosen) (all_of_bag P (filter keep rows) all))
-
--- what holds of lent rows holds where they are
-pub all_lent : {X : Type 0} (here : X → Row) (P : Row → Type 0) (xs : List X) → AllByRecursion P (map here xs) → AllByRecursion (λ x. P (here x)) xs
-all_lent here P [] all = tt
-all_lent here P (x ∷ xs) all = (all.0, all_lent here P xs all.1)
 
 nothing_for : {X : Type 0} (ys : List X) → AllByRecursion (λ y. Unit {0}) ys
 nothing_for [] = tt

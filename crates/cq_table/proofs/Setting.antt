@@ -1,5 +1,5 @@
 -- What stands in the image of a row under SET.
-use Rattle.std.proofs.Common.{◌≡◌, ◌+◌, ◌<◌, ◌++◌, ℕ, zero, suc, Bool, true, false, List, [], ◌∷◌, length, map, get_or, take, refl, sym, ap, ◌∙◌, arith, subst}
+use Rattle.std.proofs.Common.{◌≡◌, ◌+◌, ◌<◌, ◌++◌, ℕ, zero, suc, Bool, true, false, List, [], ◌∷◌, length, get_or, take, refl, sym, ap, ◌∙◌, arith, subst}
 use Rattle.std.specs.Prelude.{◌==◌, if◌then◌else◌, slice_index_or, slice_set}
 use Rattle.std.specs.List.{list_any}
 use Rattle.std.proofs.lemmas.Bool.{eq-eqb, eqb-true}
@@ -63,7 +63,7 @@ take_column row i h = take_more row i Null h
 
 -- ---- Lists in general
 -- what is among the entries is seen
-pub any_at : {X : Type 0} (here : X → Row) (p : Row → Bool) (xs : List X) (i : ℕ) (x : X) → i < length xs → x ≡ get_or xs i x → p (here x) ≡ true → list_any p (map here xs) ≡ true
-any_at here p [] i x h is hit = absurd (omega (arith, h))
-any_at here p (y ∷ xs) zero x h is hit = rw (ap (λ z. p (here z)) (sym is) ∙ hit) refl
-any_at here p (y ∷ xs) (suc i) x h is hit = by_test (p (here y)) (λ k. rw k refl) (λ k. rw k (any_at here p xs i x (omega (arith, h)) is hit))
+pub any_at : {X : Type 0} (p : X → Bool) (xs : List X) (i : ℕ) (x : X) → i < length xs → x ≡ get_or xs i x → p x ≡ true → list_any p xs ≡ true
+any_at p [] i x h is hit = absurd (omega (arith, h))
+any_at p (y ∷ xs) zero x h is hit = rw (ap p (sym is) ∙ hit) refl
+any_at p (y ∷ xs) (suc i) x h is hit = by_test (p y) (λ k. rw k refl) (λ k. rw k (any_at p xs i x (omega (arith, h)) is hit))

@@ -1,6 +1,5 @@
 -- What a table refuses: rows that it has no room for, and values that its columns cannot have.
 use Rattle.std.specs.Prelude.{◌≡◌, ◌+◌, nat_lt, ℕ, List, length, map, Option, None, Result, MatchResult, Vec}
-use Rattle.std.specs.Borrow.{Bor}
 use Rattle.std.specs.Global.{Global}
 use Rattle.std.specs.List.{AllByRecursion, flat_map}
 use Rattle.cq_values.specs.declared.column.ColumnDef.{ColumnDef}
@@ -62,6 +61,6 @@ pub record AreImages (assignments : List Assignment) (condition : Option Cond) (
   pub chosen : SameRows gone (chosen condition rows)
   pub images : come ≡ map (image_of assignments) gone
 
--- so it is with the rows that are lent and those that were made
-abbrev pub AreExchanged : List Assignment → Option Cond → List Row → (Vec (Bor Row) Global × Vec Row Global) → Type 0
-AreExchanged assignments condition rows exchange = AreImages assignments condition rows (map (λ r. r.now) exchange.0.items) exchange.1.items
+-- so it is with the copies and the rows that were made
+abbrev pub AreExchanged : List Assignment → Option Cond → List Row → (Vec Row Global × Vec Row Global) → Type 0
+AreExchanged assignments condition rows exchange = AreImages assignments condition rows exchange.0.items exchange.1.items

@@ -3,6 +3,7 @@ ghost use Rattle.std.specs.List.{AllByRecursion, list_any};
 ghost use Rattle.std.specs.Prelude.{◌≡◌, ◌<◌, IfOk, length, map};
 ghost use Rattle.cq_values.specs.Lent.{owned};
 ghost use Rattle.cq_values.specs.Value.{column};
+ghost use Rattle.cq_columns.specs.Stored.{stored_rows};
 ghost use Rattle.cq_model.specs.Eval.{eval};
 ghost use Rattle.cq_model.specs.Width.{IsNarrowAt};
 ghost use Rattle.cq_model.specs.Write.{image_of};
@@ -10,6 +11,7 @@ ghost use Rattle.cq_binding.specs.UpdateChecks.{is_null, is_outside, never_null}
 ghost use Rattle.cq_table.specs.Checks.{AreNarrowSets, IsChecked, one_fault, values_fault};
 
 use crate::fault::TableFault;
+use cq_columns::StoredRow;
 use cq_eval::{eval_row, lend_column, narrow_is_exact};
 use cq_model::{Assignment, Expr};
 use cq_values::{ColumnDef, Lent, Row, Value};
@@ -19,10 +21,10 @@ use std::alloc::{AllocError, Global};
 pub fn check_values(
     columns: &[ColumnDef],
     assignments: &[Assignment],
-    rows: &[&Row],
+    rows: &[Row],
 ) -> Result<(), TableFault>
-    requires { AllByRecursion (λ a. AllByRecursion (λ r. IsNarrowAt a.value r.now) rows.now) assignments.now }
-    ensures { IsChecked (values_fault columns.now assignments.now (map (λ r. r.now) rows.now)) result }
+    requires { AllByRecursion (λ a. AllByRecursion (IsNarrowAt a.value) rows.now) assignments.now }
+    ensures { IsChecked (values_fault columns.now assignments.now rows.now) result }
 {
     for assignment in assignments {
         check_value(columns, assignment, rows)?;
@@ -34,10 +36,10 @@ pub fn check_values(
 fn check_value(
     columns: &[ColumnDef],
     assignment: &Assignment,
-    rows: &[&Row],
+    rows: &[Row],
 ) -> Result<(), TableFault>
-    requires { AllByRecursion (λ r. IsNarrowAt assignment.now.value r.now) rows.now }
-    ensures { IsChecked (one_fault columns.now assignment.now (map (λ r. r.now) rows.now)) result }
+    requires { AllByRecursion (IsNarrowAt assignment.now.value) rows.now }
+    ensures { IsChecked (one_fault columns.now assignment.now rows.now) result }
 {
     if gives_outside(&assignment.value, rows) {
         return Err(TableFault::NumberOutside);
@@ -58,9 +60,9 @@ fn is_never_null(columns: &[ColumnDef], place: usize) -> bool
     }
 }
 
-fn gives_outside(value: &Expr, rows: &[&Row]) -> bool
-    requires { AllByRecursion (λ r. IsNarrowAt value.now r.now) rows.now }
-    ensures { result ≡ list_any (λ r. is_outside (eval value.now r)) (map (λ r. r.now) rows.now) }
+fn gives_outside(value: &Expr, rows: &[Row]) -> bool
+    requires { AllByRecursion (IsNarrowAt value.now) rows.now }
+    ensures { result ≡ list_any (λ r. is_outside (eval value.now r)) rows.now }
 {
     narrow_is_exact();
     for row in rows {
@@ -71,9 +73,9 @@ fn gives_outside(value: &Expr, rows: &[&Row]) -> bool
     false
 }
 
-fn gives_null(value: &Expr, rows: &[&Row]) -> bool
-    requires { AllByRecursion (λ r. IsNarrowAt value.now r.now) rows.now }
-    ensures { result ≡ list_any (λ r. is_null (eval value.now r)) (map (λ r. r.now) rows.now) }
+fn gives_null(value: &Expr, rows: &[Row]) -> bool
+    requires { AllByRecursion (IsNarrowAt value.now) rows.now }
+    ensures { result ≡ list_any (λ r. is_null (eval value.now r)) rows.now }
 {
     narrow_is_exact();
     for row in rows {
@@ -106,14 +108,25 @@ fn is_null(value: &Lent<'_>) -> bool
 /// The least number that is too large to be stored.
 const STORED_LIMIT: i128 = 1 << 63;
 
+/// Copies of the rows.
+pub fn copies(alloc: Global, rows: &[StoredRow<'_>]) -> Result<Vec<Row>, AllocError>
+    ensures { IfOk result (λ copies. copies.items ≡ stored_rows rows.now) }
+{
+    let mut copies = Vec::with_capacity(alloc, rows.len())?;
+    for row in rows {
+        copies.push(row.to_row(alloc)?)?;
+    }
+    Ok(copies)
+}
+
 /// The images of the rows. Each expression reads the old row.
 pub fn images(
     alloc: Global,
     assignments: &[Assignment],
-    rows: &[&Row],
+    rows: &[Row],
 ) -> Result<Vec<Row>, AllocError>
-    requires { AllByRecursion (λ r. AreNarrowSets assignments.now r.now) rows.now }
-    ensures { IfOk result (λ images. images.items ≡ map (image_of assignments.now) (map (λ r. r.now) rows.now)) }
+    requires { AllByRecursion (AreNarrowSets assignments.now) rows.now }
+    ensures { IfOk result (λ images. images.items ≡ map (image_of assignments.now) rows.now) }
 {
     let mut images = Vec::with_capacity(alloc, rows.len())?;
     for row in rows {

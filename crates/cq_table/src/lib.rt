@@ -7,8 +7,8 @@
 
 mod fault;
 mod images;
-mod in_place;
 mod table;
 
 pub use fault::TableFault;
+pub use images::copies;
 pub use table::{Exchange, Table, check_room};

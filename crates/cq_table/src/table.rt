@@ -1,7 +1,8 @@
 //! A table in memory.
 ghost use Rattle.std.specs.List.{AllByRecursion};
-ghost use Rattle.std.specs.Prelude.{◌++◌, ◌+◌, ◌≡◌, ◌<◌, ◌^◌, IfOk, OnErr, OnOk, length, map};
+ghost use Rattle.std.specs.Prelude.{◌++◌, ◌+◌, ◌≡◌, ◌<◌, ◌^◌, IfOk, OnErr, OnOk, length};
 ghost use Rattle.cq_bags.specs.Canonical.{bag_of};
+ghost use Rattle.cq_columns.specs.Stored.{all_rows, stored_rows};
 ghost use Rattle.cq_model.specs.Width.{IsNarrowIn};
 ghost use Rattle.cq_model.specs.Write.{chosen, left_by};
 ghost use Rattle.cq_states.specs.Fitting.{FitsColumns};
@@ -9,10 +10,10 @@ ghost use Rattle.cq_table.specs.Checks.{AreExchanged, CanWorkOut, IsChecked, no_
 ghost use Rattle.cq_table.specs.Table.{IsSound, SameRows, limited_to, with_bag, without_rows};
 
 use crate::fault::TableFault;
-use crate::images::{check_values, images};
-use crate::in_place::{put_behind, take_away};
+use crate::images::{check_values, copies, images};
+use cq_columns::{Store, Stored, StoredRow};
 use cq_model::{Assignment, Cond};
-use cq_scans::kept;
+use cq_scans::{kept, kept_flags};
 use cq_values::{ColumnDef, Row, Seq};
 use std::alloc::{AllocError, Global};
 use std::marker::Model;
@@ -23,7 +24,8 @@ pub struct Table {
     columns: Seq<ColumnDef>,
     sort: Seq<usize>,
     max_rows: u64,
-    rows: Vec<Row>,
+    rows: Store,
+    ghost small: { max_rows < 2 ^ 64 },
 }
 
 impl Model for Table {
@@ -31,13 +33,13 @@ impl Model for Table {
 
     ghost Value = { StoredTable };
 
-    ghost view = { λ t. with_bag t.rows.items (without_rows t.columns t.sort t.max_rows) };
+    ghost view = { λ t. with_bag t.rows (without_rows t.columns t.sort t.max_rows) };
 
-    ghost invariant = { λ t. AreSound t.columns t.max_rows t.rows.items };
+    ghost invariant = { λ t. AreSound t.columns t.max_rows t.rows };
 }
 
-/// The rows that an UPDATE takes, where they are stored, and those that come in their places.
-pub type Exchange<'a> = (Vec<&'a Row>, Vec<Row>);
+/// Copies of the rows that an UPDATE takes, and the rows that come in their places.
+pub type Exchange = (Vec<Row>, Vec<Row>);
 
 impl Table {
     /// A table without rows, that may have so many of them.
@@ -48,7 +50,7 @@ impl Table {
             columns,
             sort,
             max_rows,
-            rows: Vec::new(alloc),
+            rows: Store::new(alloc),
         }
     }
 
@@ -64,21 +66,25 @@ impl Table {
         self.rows.len()
     }
 
-    /// The rows as they are stored.
-    pub fn rows(&self) -> &[Row]
-        ensures bag { bag_of result.now ≡ self.now.rows }
+    /// The rows where they are stored.
+    pub fn rows(&self) -> Stored<'_>
+        ensures bag { bag_of (all_rows result) ≡ self.now.rows }
         ensures sound { IsSound self.now }
     {
-        self.rows.as_slice()
+        self.rows.lend()
     }
 
     /// The rows that WHERE keeps, where they are stored.
-    pub fn chosen(&self, alloc: Global, condition: &Option<Cond>) -> Result<Vec<&Row>, AllocError>
+    pub fn chosen(
+        &self,
+        alloc: Global,
+        condition: &Option<Cond>,
+    ) -> Result<Vec<StoredRow<'_>>, AllocError>
         requires { AllByRecursion (IsNarrowIn condition.now) self.now.rows }
-        ensures bag { IfOk result (λ rows. SameRows (map (λ r. r.now) rows.items) (chosen condition.now self.now.rows)) }
+        ensures bag { IfOk result (λ r. SameRows (stored_rows r.items) (chosen condition.now self.now.rows)) }
         ensures few { OnOk result (length self.now.rows < 2 ^ 64) }
     {
-        kept(alloc, condition, &self.rows)
+        kept(alloc, condition, &self.rows.lend())
     }
 
     /// Lets the table have so many rows from now on, if it has no more already.
@@ -100,47 +106,70 @@ impl Table {
         ensures err { OnErr result (self.new ≡ self.old) }
     {
         check_room(self.max_rows, self.rows.len(), rows.len())?;
-        let mut rows = rows;
-        self.rows.append(&mut rows)?;
+        self.rows.append(rows)?;
         Ok(())
     }
 
-    /// Takes the rows that WHERE keeps away, and tells how many they were. It takes no memory.
-    pub fn delete_where(&mut self, condition: &Option<Cond>) -> usize
+    /// Takes the rows that WHERE keeps away, and tells how many they were.
+    pub fn delete_where(
+        &mut self,
+        alloc: Global,
+        condition: &Option<Cond>,
+    ) -> Result<usize, AllocError>
         requires { AllByRecursion (IsNarrowIn condition.now) self.old.rows }
-        ensures count { result ≡ length (chosen condition.now self.old.rows) }
-        ensures left { self.new ≡ with_bag (left_by condition.now self.old.rows) self.old }
+        ensures count { IfOk result (λ count. count ≡ length (chosen condition.now self.old.rows)) }
+        ensures left { OnOk result (self.new ≡ with_bag (left_by condition.now self.old.rows) self.old) }
+        ensures err { OnErr result (self.new ≡ self.old) }
     {
         let before = self.rows.len();
-        take_away(&mut self.rows, condition);
-        before - self.rows.len()
+        let gone = kept_flags(alloc, condition, &self.rows.lend())?;
+        self.rows.remove(alloc, &gone)?;
+        Ok(before - self.rows.len())
     }
 
-    /// The rows that WHERE keeps and their images, where these may be stored. Each expression reads the old row.
+    /// Copies of the rows that WHERE keeps, and their images, where these may be stored. Each expression reads the old
+    /// row.
     pub fn images_where(
         &self,
         alloc: Global,
         assignments: &[Assignment],
         condition: &Option<Cond>,
-    ) -> Result<Exchange<'_>, TableFault>
+    ) -> Result<Exchange, TableFault>
         requires { CanWorkOut assignments.now condition.now self.now.rows }
         ensures checked { IsChecked (value_fault self.now.columns assignments.now condition.now self.now.rows) result }
         ensures images { IfOk result (AreExchanged assignments.now condition.now self.now.rows) }
     {
         let chosen = self.chosen(alloc, condition)?;
-        check_values(self.columns(), assignments, &chosen)?;
-        let images = images(alloc, assignments, &chosen)?;
-        Ok((chosen, images))
+        let gone = copies(alloc, &chosen)?;
+        check_values(self.columns(), assignments, &gone)?;
+        let images = images(alloc, assignments, &gone)?;
+        Ok((gone, images))
     }
 
-    /// Puts these rows in place of those that WHERE keeps, which are as many. It takes no memory.
-    pub fn replace(&mut self, condition: &Option<Cond>, images: Vec<Row>)
+    /// Puts these rows in place of those that WHERE keeps, which are as many.
+    pub fn replace(
+        &mut self,
+        alloc: Global,
+        condition: &Option<Cond>,
+        images: Vec<Row>,
+    ) -> Result<(), AllocError>
         requires narrow { AllByRecursion (IsNarrowIn condition.now) self.old.rows }
         requires count { length images.items ≡ length (chosen condition.now self.old.rows) }
         requires fitting { AllByRecursion (FitsColumns self.old.columns) images.items }
-        ensures { self.new ≡ with_bag (left_by condition.now self.old.rows ++ images.items) self.old }
+        ensures ok { OnOk result (self.new ≡ with_bag (left_by condition.now self.old.rows ++ images.items) self.old) }
+        ensures err { OnErr result (self.new ≡ self.old) }
     {
-        put_behind(&mut self.rows, condition, images);
+        let gone = kept_flags(alloc, condition, &self.rows.lend())?;
+        self.rows.exchange(alloc, &gone, images)
+    }
+
+    /// Moves the first rows that stand one by one into columns: all that are asked for, or none.
+    pub fn move_front(&mut self, alloc: Global, count: u128) -> Result<(), AllocError>
+        ensures { self.new ≡ self.old }
+    {
+        let count = usize::try_from(count).unwrap_or(usize::MAX);
+        let width = self.columns.len();
+        self.rows.move_front(alloc, count, width)
     }
 }
 

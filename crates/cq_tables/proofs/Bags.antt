@@ -11,7 +11,7 @@ use Rattle.cq_states.specs.Fitting.{AreFitting, AreLimited}
 use Rattle.cq_states.specs.State.{TableOf}
 use Rattle.cq_sides.specs.Held.{sizes}
 use Rattle.cq_chains.specs.Steps.{AreStored}
-use Rattle.cq_upkeep.proofs.Filled.{sizes-once_each}
+use Rattle.cq_kept_views.proofs.Taking.{sizes-once_each}
 use Rattle.cq_upkeep.specs.State.{AreBags}
 use Rattle.cq_tables.specs.Views.{bags_in}
 use Rattle.cq_tables.proofs.Rows.{rows_have}

@@ -10,7 +10,6 @@ use Rattle.cq_kept_views.specs.declared.kept_view.KeptView.{KeptView}
 use Rattle.cq_upkeep.specs.State as inner
 use Rattle.cq_upkeep.specs.declared.state.Pending.{Pending}
 use Rattle.cq_upkeep.specs.declared.state.ViewState.{ViewState}
-use Rattle.cq_chains.proofs.WholeChains.{still-itself}
 use Rattle.cq_chains.specs.Chains.{IsStill}
 use Rattle.cq_chains.specs.Steps.{HasSameJoin}
 use Rattle.cq_chains.specs.declared.chain.Chain.{Chain}

@@ -14,7 +14,7 @@ use Rattle.cq_model.specs.declared.query.Source.{Source}
 use Rattle.cq_model.specs.declared.query.Source.TheVariants.{Table, View}
 use Rattle.cq_states.specs.Fitting.{AreFitting, FitsColumn, FitsColumns}
 use Rattle.cq_states.specs.State.{TableOf, columns_in, rows_in}
-use Rattle.cq_tables.specs.Views.{AreWide, IsRight, IsWide, NamedView, bags_in, width_at}
+use Rattle.cq_tables.specs.Views.{IsRight, IsWide, NamedView, bags_in, width_at}
 use Rattle.cq_tables.proofs.Bags.{bags_are}
 use Rattle.cq_tables.proofs.Numbers.{others}
 use Rattle.cq_tables.proofs.Pairs.{pointwise_length}

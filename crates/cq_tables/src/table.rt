@@ -1,8 +1,9 @@
 //! A table under its number and its name.
 ghost use Rattle.std.specs.List.{AllByRecursion};
-ghost use Rattle.std.specs.Prelude.{◌++◌, ◌≡◌, ◌<◌, ◌^◌, IfOk, OnErr, OnOk, length, map};
+ghost use Rattle.std.specs.Prelude.{◌++◌, ◌≡◌, ◌<◌, ◌^◌, IfOk, OnErr, OnOk, length};
 ghost use Rattle.cq_values.specs.Texts.{is_text};
 ghost use Rattle.cq_bags.specs.Canonical.{bag_of};
+ghost use Rattle.cq_columns.specs.Stored.{all_rows, stored_rows};
 ghost use Rattle.cq_states.specs.Fitting.{FitsColumns, IsFitting};
 ghost use Rattle.cq_states.specs.State.{empty_table, holding};
 ghost use Rattle.cq_model.specs.Write.{chosen, left_by};
@@ -11,6 +12,7 @@ ghost use Rattle.cq_table.specs.Checks.{AreExchanged, CanWorkOut, IsChecked};
 ghost use Rattle.cq_table.specs.Table.{SameRows};
 ghost use Rattle.cq_tables.specs.Tables.{no_room_for, value_fault_of};
 
+use cq_columns::{Stored, StoredRow};
 use cq_model::{Assignment, Cond};
 use cq_table::{Exchange, TableFault};
 use cq_values::{ColumnDef, Row, Seq, Text};
@@ -78,8 +80,8 @@ impl Table {
     }
 
     /// The rows as they are stored.
-    pub fn rows(&self) -> &[Row]
-        ensures bag { bag_of result.now ≡ self.now.rows }
+    pub fn rows(&self) -> Stored<'_>
+        ensures bag { bag_of (all_rows result) ≡ self.now.rows }
         ensures fitting { IsFitting self.now }
     {
         self.stored.rows()
@@ -92,9 +94,13 @@ impl Table {
     }
 
     /// The rows that WHERE keeps, where they are stored.
-    pub fn chosen(&self, alloc: Global, condition: &Option<Cond>) -> Result<Vec<&Row>, AllocError>
+    pub fn chosen(
+        &self,
+        alloc: Global,
+        condition: &Option<Cond>,
+    ) -> Result<Vec<StoredRow<'_>>, AllocError>
         requires { AllByRecursion (IsNarrowIn condition.now) self.now.rows }
-        ensures bag { IfOk result (λ rows. SameRows (map (λ r. r.now) rows.items) (chosen condition.now self.now.rows)) }
+        ensures bag { IfOk result (λ rows. SameRows (stored_rows rows.items) (chosen condition.now self.now.rows)) }
         ensures few { OnOk result (length self.now.rows < 2 ^ 64) }
     {
         self.stored.chosen(alloc, condition)
@@ -111,22 +117,27 @@ impl Table {
         self.stored.insert(rows)
     }
 
-    /// Takes the rows that WHERE keeps away, and tells how many they were. It takes no memory.
-    pub fn delete_where(&mut self, condition: &Option<Cond>) -> usize
+    /// Takes the rows that WHERE keeps away, and tells how many they were.
+    pub fn delete_where(
+        &mut self,
+        alloc: Global,
+        condition: &Option<Cond>,
+    ) -> Result<usize, AllocError>
         requires { AllByRecursion (IsNarrowIn condition.now) self.old.rows }
-        ensures count { result ≡ length (chosen condition.now self.old.rows) }
-        ensures left { self.new ≡ holding (left_by condition.now self.old.rows) self.old }
+        ensures count { IfOk result (λ count. count ≡ length (chosen condition.now self.old.rows)) }
+        ensures left { OnOk result (self.new ≡ holding (left_by condition.now self.old.rows) self.old) }
+        ensures err { OnErr result (self.new ≡ self.old) }
     {
-        self.stored.delete_where(condition)
+        self.stored.delete_where(alloc, condition)
     }
 
-    /// The rows that WHERE keeps and their images, where these may be stored. Each expression reads the old row.
+    /// Copies of the rows that WHERE keeps, and their images, where these may be stored. Each expression reads the old row.
     pub fn images_where(
         &self,
         alloc: Global,
         assignments: &[Assignment],
         condition: &Option<Cond>,
-    ) -> Result<Exchange<'_>, TableFault>
+    ) -> Result<Exchange, TableFault>
         requires { CanWorkOut assignments.now condition.now self.now.rows }
         ensures checked { IsChecked (value_fault_of self.now assignments.now condition.now) result }
         ensures images { IfOk result (AreExchanged assignments.now condition.now self.now.rows) }
@@ -134,13 +145,26 @@ impl Table {
         self.stored.images_where(alloc, assignments, condition)
     }
 
-    /// Puts these rows in place of those that WHERE keeps, which are as many. It takes no memory.
-    pub fn replace(&mut self, condition: &Option<Cond>, images: Vec<Row>)
+    /// Moves the first rows that stand one by one to columns, so many of them. No row changes.
+    pub fn move_front(&mut self, alloc: Global, count: u128) -> Result<(), AllocError>
+        ensures { self.new ≡ self.old }
+    {
+        self.stored.move_front(alloc, count)
+    }
+
+    /// Puts these rows in place of those that WHERE keeps, which are as many.
+    pub fn replace(
+        &mut self,
+        alloc: Global,
+        condition: &Option<Cond>,
+        images: Vec<Row>,
+    ) -> Result<(), AllocError>
         requires narrow { AllByRecursion (IsNarrowIn condition.now) self.old.rows }
         requires count { length images.items ≡ length (chosen condition.now self.old.rows) }
         requires fitting { AllByRecursion (FitsColumns self.old.columns) images.items }
-        ensures { self.new ≡ holding (left_by condition.now self.old.rows ++ images.items) self.old }
+        ensures ok { OnOk result (self.new ≡ holding (left_by condition.now self.old.rows ++ images.items) self.old) }
+        ensures err { OnErr result (self.new ≡ self.old) }
     {
-        self.stored.replace(condition, images);
+        self.stored.replace(alloc, condition, images)
     }
 }

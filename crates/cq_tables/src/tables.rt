@@ -5,6 +5,7 @@ ghost use Rattle.cq_states.specs.State.{AreNumbered, TableOf, table_named};
 ghost use Rattle.cq_tables.specs.Tables.{IsThere};
 
 use crate::table::Table;
+use std::alloc::{AllocError, Global};
 
 /// Takes the table of a number away.
 pub fn drop_in(tables: &mut Vec<Table>, number: u64)
@@ -14,6 +15,20 @@ pub fn drop_in(tables: &mut Vec<Table>, number: u64)
 {
     let place = place_numbered(tables, number);
     tables.remove(place);
+}
+
+/// Moves the first rows of the table of a number to columns, so many of those that stand one by one. No row changes.
+pub fn move_in(
+    alloc: Global,
+    tables: &mut Vec<Table>,
+    number: u64,
+    count: u128,
+) -> Result<(), AllocError>
+    requires { IsThere number tables.old.items }
+    ensures { tables.new.items ≡ tables.old.items }
+{
+    let place = place_numbered(tables, number);
+    tables[place].move_front(alloc, count)
 }
 
 /// Where the table of a name stands.

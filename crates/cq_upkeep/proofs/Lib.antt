@@ -1,6 +1,5 @@
 pub mod Behind
 pub mod Changing
-pub mod Filled
 pub mod Fitting
 pub mod Groups
 pub mod Imaging
@@ -13,5 +12,6 @@ pub mod SameBags
 pub mod Showings
 pub mod Sizing
 pub mod Standing
+pub mod Starting
 pub mod Widths
 pub mod Working

@@ -1,4 +1,3 @@
-pub mod Filling
 pub mod Last
 pub mod Laws
 pub mod Query

@@ -4,13 +4,13 @@
 //! or their images with their weights. Changes of the tables go in by two steps: [`ViewState::prepare`] works out what
 //! they change, from the stored sides and the changes alone, and makes all growth; [`ViewState::commit`] puts it in,
 //! takes no memory and cannot fail. Then the view stands for the changed tables, and [`ViewState::rows`] shows its
-//! query's bag, in rows whose numbers are within [`ViewState::column_sizes`]. [`ViewState::build`] lets a view without
-//! rows take in those of its tables, where they are, by the same two steps.
+//! query's bag, in rows whose numbers are within [`ViewState::column_sizes`]. A view starts without rows, as
+//! [`ViewState::empty`] makes it; those of its tables go in by the same two steps, and then [`ViewState::restart`] counts
+//! no work of them.
 #![tactic(auto)]
 
 mod changes;
 mod columns;
-mod filling;
 mod joins;
 mod last;
 mod laws;

@@ -8,20 +8,17 @@ ghost use Rattle.cq_deltas.specs.declared.fault.ShowFault.TheVariants.{SumOutOfR
 ghost use Rattle.cq_laws.specs.Sizes.{HasSizes};
 ghost use Rattle.cq_model.specs.Sizes.{column_sizes};
 ghost use Rattle.cq_sides.specs.Ticks.{counted};
-ghost use Rattle.cq_upkeep.specs.Filling.{bags_at};
 ghost use Rattle.cq_upkeep.specs.Query.{CanBeKept, reads};
 ghost use Rattle.cq_upkeep.specs.Shown.{AreRowsOf, CanShow, IsNotShown, IsShown};
-ghost use Rattle.cq_upkeep.specs.State.{CanCommit, CanPrepare, CanStart, IsWaiting, SameView, StandsFor, StaysStanding, TakesIn};
+ghost use Rattle.cq_upkeep.specs.State.{CanCommit, CanPrepare, IsWaiting, SameView, StandsFor, StaysStanding, TakesIn};
 
 use crate::columns::column_sizes;
-use crate::filling::fill;
 use crate::joins::joined;
 use crate::last::{Last, LastChange};
 use crate::query::reads;
 use crate::showing::shown_rows;
 use cq_chains::{Chain, SourceRows, Waiting};
 use cq_deltas::ShowFault;
-use cq_lent::Lent;
 use cq_model::Query;
 use cq_values::Row;
 use std::alloc::{AllocError, Global};
@@ -44,33 +41,6 @@ pub struct Pending {
 }
 
 impl ViewState {
-    /// The view of this query over tables with these rows, at the epoch. It counts no work.
-    pub fn build(
-        alloc: Global,
-        query: Query,
-        tables: &[Lent],
-        epoch: u64,
-    ) -> Result<ViewState, AllocError>
-        requires { CanStart query (bags_at tables.now) }
-        ensures query { IfOk result (λ v. v.query ≡ query) }
-        ensures epoch { IfOk result (λ v. v.epoch ≡ epoch) }
-        ensures built { IfOk result (λ v. v.built ≡ epoch) }
-        ensures stands { IfOk result (λ v. StandsFor v (bags_at tables.now)) }
-        ensures uncounted { IfOk result (λ v. all_ticks v.chain.steps.items ≡ 0) }
-    {
-        let mut view = ViewState::empty(alloc, query, epoch)?;
-        match fill(alloc, &mut view, tables) {
-            Ok(()) => {
-                view.chain.restart();
-                Ok(view)
-            }
-            Err(fault) => {
-                drop(view);
-                Err(fault)
-            }
-        }
-    }
-
     /// The view of this query over tables without rows.
     pub fn empty(alloc: Global, query: Query, epoch: u64) -> Result<ViewState, AllocError>
         ensures query { IfOk result (λ v. v.query ≡ query) }

@@ -1,11 +1,10 @@
 -- What a write changes, put together row by row, and views that can be made ready for it.
-use Rattle.std.proofs.Common.{◌≡◌, ◌+◌, ◌*◌, ◌<◌, ◌≤◌, ◌^◌, ℕ, ℤ, pos, neg_ℤ, ◌+ℤ◌, true, false, List, [], ◌∷◌, ◌++◌, map, length, get_or, take, Option, Some, None, refl, sym, ap, ◌∙◌, arith, subst}
+use Rattle.std.proofs.Common.{◌≡◌, ◌+◌, ◌*◌, ◌<◌, ◌≤◌, ◌^◌, ℕ, ℤ, pos, neg_ℤ, ◌+ℤ◌, true, false, List, [], ◌∷◌, ◌++◌, length, get_or, take, Option, Some, None, refl, sym, ap, ◌∙◌, arith, subst}
 use Rattle.std.specs.Prelude.{if◌then◌else◌, nat_abs}
-use Rattle.std.specs.Borrow.{Bor}
 use Rattle.std.specs.List.{AllByRecursion}
 use Rattle.std.proofs.lemmas.Bool.{eq-eqb, eqb-false, ne_eqb}
 use Rattle.std.proofs.lemmas.Int.{ints}
-use Rattle.std.proofs.lemmas.List.{map-append, take_more}
+use Rattle.std.proofs.lemmas.List.{append-nil, length-append, map-append, take_more}
 use Rattle.std.proofs.lemmas.Nat.{mul-le}
 use Rattle.cq_values.specs.Value.{Row}
 use Rattle.cq_bags.specs.Bag.{Weighted, SameBag, weight_of}
@@ -63,15 +62,6 @@ module _ (w : ℤ) (init old new : Weighted) (i : ℕ) (copy : Row) (put : SameB
       subst (λ (done : List Row). SameBag new (init ++ changed done w)) (sym (take_more rows i x within ∙ ap (λ (y : Row). take i rows ++ y ∷ []) (sym is)))
       (more_changed w init old new (take i rows) x before (subst (λ (y : Row). SameBag new (old ++ (y, w) ∷ [])) same put))
 
-  -- and where they are lent
-  pub next_lent : (rows : List (Bor Row)) (x : Bor Row) → i < length rows → x ≡ get_or rows i x → copy ≡ x.now → SameBag old (init ++ changed (map (λ r. r.now) (take i rows)) w)
-      → SameBag new (init ++ changed (map (λ r. r.now) (take (i + 1) rows)) w)
-  next_lent rows x within is same before =
-      let more : map (λ r. r.now) (take (i + 1) rows) ≡ map (λ r. r.now) (take i rows) ++ x.now ∷ [] =
-      ap (λ (rs : List (Bor Row)). map (λ r. r.now) rs) (take_more rows i x within ∙ ap (λ (y : Bor Row). take i rows ++ y ∷ []) (sym is)) ∙ map-append (λ r. r.now) (take i rows) (x ∷ []) in
-      subst (λ (done : List Row). SameBag new (init ++ changed done w)) (sym more)
-      (more_changed w init old new (map (λ r. r.now) (take i rows)) x.now before (subst (λ (y : Row). SameBag new (old ++ (y, w) ∷ [])) same put))
-
 -- rows that all come, or all go, have their number as their sizes
 pub sizes-changed : (w : ℤ) → nat_abs w ≡ 1 → (rows : List Row) → sizes (changed rows w) ≡ length rows
 sizes-changed w one [] = refl
@@ -83,6 +73,46 @@ pub still_small : (w : ℤ) (init old : Weighted) (done : List Row) (count : ℕ
 still_small w init old done count r one small more before =
     let whole : weight_of old r ≡ weight_of init r +ℤ weight_of (changed done w) r = before.at r ∙ weight_of-append init (changed done w) r in
     omega (arith, ap nat_abs whole, abs-plus (weight_of init r) (weight_of (changed done w) r), weight-size (changed done w) r, sizes-changed w one done, small r, more)
+
+-- the last row that is left changes
+module _ (w : ℤ) (old new : Weighted) (left : List Row) (r : Row) (put : SameBag new (old ++ (r, w) ∷ [])) where
+  -- what has changed and what is left make up what they did
+  pub last_changed : (whole : Weighted) → SameBag (old ++ changed (left ++ r ∷ []) w) whole → SameBag (new ++ changed left w) whole
+  last_changed whole before = record { at = weights }
+    where
+      weights : (q : Row) → weight_of (new ++ changed left w) q ≡ weight_of whole q
+      weights q =
+          let fewer : weight_of (changed (left ++ r ∷ []) w) q ≡ weight_of (changed left w) q +ℤ weight_of ((r, w) ∷ []) q =
+          ap (λ (xs : Weighted). weight_of xs q) (map-append (λ (x : Row). (x, w)) left (r ∷ [])) ∙ weight_of-append (changed left w) ((r, w) ∷ []) q in
+          omega (
+            arith,
+            ints,
+            put.at q,
+            before.at q,
+            weight_of-append new (changed left w) q,
+            weight_of-append old ((r, w) ∷ []) q,
+            weight_of-append old (changed (left ++ r ∷ []) w) q,
+            fewer,
+          )
+
+  -- and there is room in the range for the others
+  pub last_small : nat_abs w ≡ 1 → StaysInRange (length (left ++ r ∷ [])) old → StaysInRange (length left) new
+  last_small one small q =
+      let weight : weight_of new q ≡ weight_of old q +ℤ weight_of ((r, w) ∷ []) q = put.at q ∙ weight_of-append old ((r, w) ∷ []) q in
+      omega (
+        arith,
+        ap nat_abs weight,
+        abs-plus (weight_of old q) (weight_of ((r, w) ∷ []) q),
+        weight-size ((r, w) ∷ []) q,
+        sizes-changed w one (r ∷ []),
+        small q,
+        length-append left (r ∷ []),
+      )
+
+-- where none is left, all have changed
+pub none_changed : (w : ℤ) (old : Weighted) (left : List Row) → length left ≡ 0 → (whole : Weighted) → SameBag (old ++ changed left w) whole → SameBag old whole
+none_changed w old [] none whole same = subst (λ (xs : Weighted). SameBag xs whole) (append-nil old) same
+none_changed w old (r ∷ left) none whole same = absurd (omega (arith, none))
 
 -- rows that went leave room in the range for as many to come
 pub exchange_small : (old : Weighted) (gone : List Row) (w : ℤ) (come : ℕ) → nat_abs w ≡ 1 → length gone + come ≤ 2 ^ 25 → SameBag old (changed gone w) → StaysInRange come old

@@ -36,7 +36,7 @@ pub fn delete_from(
         let chosen = table.chosen(alloc, condition)?;
         prepare_views(alloc, views, table.number(), &chosen, &[])?
     };
-    let count = table.delete_where(condition);
+    let count = table.delete_where(alloc, condition)?;
     commit_all(views, pendings, epoch);
     standing_depends_on_sources();
     Ok(count)

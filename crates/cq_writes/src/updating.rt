@@ -8,7 +8,7 @@ ghost use Rattle.cq_writes.specs.Following.{Follow};
 ghost use Rattle.cq_tables.specs.Tables.{value_fault_of};
 ghost use Rattle.cq_writes.specs.Updates.{ArePrepared, CanUpdate, UpdatesRows};
 
-use crate::changing::prepare_views;
+use crate::changing::prepare_copied;
 use cq_binding::Fault;
 use cq_kept_views::standing_depends_on_sources;
 use cq_model::{Assignment, Cond};
@@ -40,7 +40,7 @@ pub fn update_rows(
 {
     let (images, pendings) = prepared(alloc, table, views, assignments, condition)?;
     let count = images.len();
-    table.replace(condition, images);
+    table.replace(alloc, condition, images)?;
     commit_all(views, pendings, epoch);
     standing_depends_on_sources();
     Ok(count)
@@ -62,7 +62,7 @@ fn prepared(
     ensures ready { IfOk result (ArePrepared table.now assignments.now condition.now views.old.items views.new.items) }
     ensures fault { IfErr result (MayRefuse (value_fault_of table.now assignments.now condition.now)) }
 {
-    let (chosen, images) = table.images_where(alloc, assignments, condition)?;
-    let pendings = prepare_views(alloc, views, table.number(), &chosen, &images)?;
+    let (gone, images) = table.images_where(alloc, assignments, condition)?;
+    let pendings = prepare_copied(alloc, views, table.number(), gone, &images)?;
     Ok((images, pendings))
 }

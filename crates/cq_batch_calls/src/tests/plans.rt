@@ -4,6 +4,7 @@ ghost use Rattle.cq_model.specs.Expr as terms;
 ghost use Rattle.cq_model.specs.Width.{IsNarrowIn};
 ghost use Rattle.cq_values.specs.Value.{Row as Values};
 
+use cq_columns::Stored;
 use cq_model::{Cond, CondTree, Expr, ExprTree, Order, Query, Shape, Source};
 use cq_operators::listed_rows;
 use cq_plan::Plan;
@@ -83,7 +84,7 @@ fn shown_by(alloc: Global, query: &Query, len: usize) -> Result<Vec<Row>, Fail>
         keys: Seq::new(alloc),
         limit: None,
     };
-    let shown = listed_rows(alloc, &plan, &order, &rows);
+    let shown = listed_rows(alloc, &plan, &order, Stored::of(&rows));
     drop(plan);
     drop(order);
     drop(rows);

@@ -1,4 +1,5 @@
 use Rattle.std.proofs.Common.{◌∙◌, sym, subst}
+use Rattle.cq_columns.specs.Stored.{all_rows}
 use Rattle.cq_model.specs.declared.query.Source.{Source}
 use Rattle.cq_answers.specs.Gathered.{AreRowsThere}
 use Rattle.cq_tables.proofs.Rows.{rows_numbered}
@@ -11,4 +12,4 @@ returns-in-Table c =
     let t = c.index-tables-place_numbered.result in
     let at = c.place_numbered.ensures in
     let rows = rows_numbered tables c.place_numbered.result t c.requires.numbered.0 c.in-Table.number c.requires.numbered.1 at.within c.index-tables-place_numbered.is (at.numbered t) in
-    subst (λ (s : Source). AreRowsThere tables s c.args.shown.now c.rows.result.now) (sym c.in-Table.is) (c.rows.ensures.bag ∙ sym rows)
+    subst (λ (s : Source). AreRowsThere tables s c.args.shown.now (all_rows c.rows.result)) (sym c.in-Table.is) (c.rows.ensures.bag ∙ sym rows)

@@ -1,5 +1,6 @@
 use Rattle.std.proofs.Common.{◌<◌, ◌∙◌, length, refl, sym, ap, subst, arith, rules}
 use Rattle.std.proofs.lemmas.Option.{slice_get_read}
+use Rattle.cq_columns.specs.Stored.{all_rows}
 use Rattle.cq_model.specs.Sizes.{stored_sizes}
 use Rattle.cq_states.specs.State.{columns_in}
 use Rattle.cq_answers.specs.Reading.{IsSourceThere}
@@ -21,10 +22,10 @@ list-requires c =
     let at = c.place_numbered-place.ensures in
     let rows = rows_numbered tables c.place_numbered-place.result t c.requires.numbered.0 n c.requires.numbered.1 at.within c.index-tables-place.is (at.numbered t) in
     let sizes = alone_sizes tables (views_of views) q c.requires.plain ∙ ap (source_sizes tables (views_of views)) c.in-Table.is in
-    let sized = stored_sized tables views n c.rows.result.now c.requires.fitting (c.rows.ensures.bag ∙ sym rows) in
+    let sized = stored_sized tables views n (all_rows c.rows.result) c.requires.fitting (c.rows.ensures.bag ∙ sym rows) in
     let can = c.requires.can_read in
     let within = alone_within (joined_sizes tables (views_of views) q) q c.requires.plain can.filter can.shown in
-    within_shown (stored_sizes (columns_in tables n)) q c.rows.result.now (subst (λ ns. IsWithinSized ns q) sizes within) sized
+    within_shown (stored_sizes (columns_in tables n)) q (all_rows c.rows.result) (subst (λ ns. IsWithinSized ns q) sizes within) sized
 
 -- the listing of the stored rows is that of the table's
 pub returns-in_ok-list-in-Table : goal.returns-in_ok-list-in-Table
@@ -32,7 +33,7 @@ returns-in_ok-list-in-Table c =
     let t = c.index-tables-place.result in
     let at = c.place_numbered-place.ensures in
     let rows = rows_numbered c.args.tables.now c.place_numbered-place.result t c.requires.numbered.0 c.in-Table.number c.requires.numbered.1 at.within c.index-tables-place.is (at.numbered t) in
-    from_rows c.args.tables.now c.args.views.now c.args.query.now c.args.order.now c.in-Table.number c.rows.result.now c.in_ok-list-in-Table.field-0 c.requires.plain c.in-Table.is (c.rows.ensures.bag ∙ sym rows) c.in_ok-list-in-Table.ensures
+    from_rows c.args.tables.now c.args.views.now c.args.query.now c.args.order.now c.in-Table.number (all_rows c.rows.result) c.in_ok-list-in-Table.field-0 c.requires.plain c.in-Table.is (c.rows.ensures.bag ∙ sym rows) c.in_ok-list-in-Table.ensures
 
 -- the place of a view is there
 pub bounds-views-place : goal.bounds-views-place

@@ -1,4 +1,5 @@
 use Rattle.std.proofs.Common.{sym, ◌∙◌}
+use Rattle.cq_columns.specs.Stored.{all_rows}
 use Rattle.cq_engine.proofs.Entries.{gathered_before, gathers_also, there_same}
 use Rattle.cq_engine.proofs.gathering.gather.Goals as goal
 
@@ -17,4 +18,4 @@ returns c =
     let there = rw c.deref.ensures.value at c.is_gathered.ensures in
     rw c.in_ok-push.ensures.items
     (gathers_also tables (record { source = source; rows = rows }) c.args.gathered.now.items
-    (sym there ∙ c.if-is_gathered.false) (there_same tables source rows.now c.rows_there-rows.ensures))
+    (sym there ∙ c.if-is_gathered.false) (there_same tables source (all_rows rows) c.rows_there-rows.ensures))

@@ -1,15 +1,16 @@
-use Rattle.std.proofs.Common.{◌∙◌, ap}
+use Rattle.std.proofs.Common.{◌∙◌, [], ap, arith}
+use Rattle.cq_columns.specs.Stored.{front_rows}
 use Rattle.cq_model.specs.Group.{key_of}
 use Rattle.cq_kept_views.proofs.Copies.{one-more, still-small}
 use Rattle.cq_kept_views.proofs.cutting.cut_once.Goals as goal
 
 pub add-requires : goal.add-requires
 add-requires c =
-    still-small (key_of c.args.columns.now) c.args.rows.now c.loop-row.row-index c.loop-row.once.entries c.in_ok-short.short c.loop-row.invariant c.requires c.loop-row-test.true
+    still-small (key_of c.args.columns.now) (front_rows c.args.front.now) c.loop-place.place c.loop-place.once.entries c.in_ok-short.short c.loop-place.invariant c.requires (omega arith)
 
-pub loop-row-preserved : goal.loop-row-preserved
-loop-row-preserved c =
+pub loop-place-preserved : goal.loop-place-preserved
+loop-place-preserved c =
     let f = key_of c.args.columns.now in
-    let is = c.in_ok-short.ensures ∙ ap f (c.as_slice.ensures ∙ c.row-item.is) in
-    one-more f c.args.rows.now c.loop-row.row-index c.loop-row.once.entries c.in_ok-short.short c.loop-row.invariant c.add.new.self.entries c.row-item.result c.loop-row-test.true is
+    let is = c.in_ok-short.ensures ∙ ap f c.row.ensures in
+    one-more f (front_rows c.args.front.now) c.loop-place.place c.loop-place.once.entries c.in_ok-short.short c.loop-place.invariant c.add.new.self.entries [] (omega arith) is
     c.in_ok-add.ensures.ok

@@ -1,7 +1,8 @@
-use Rattle.std.proofs.Common.{◌≡◌, length, map, rules}
+use Rattle.std.proofs.Common.{◌≡◌, [], map, rules}
+use Rattle.cq_columns.specs.Stored.{all_rows, front_rows}
+use Rattle.cq_kept_views.proofs.Filled.{cut-parts, none-left, some-left}
+use Rattle.cq_kept_views.proofs.Taking.{front-can, left-filled, rest-can}
 use Rattle.cq_model.specs.Group.{key_of}
-use Rattle.cq_upkeep.proofs.Filled.{cut-at, front-can, left-filled, rest-can}
-use Rattle.cq_kept_views.proofs.Filled.{cut-parts, none-left}
 use Rattle.cq_kept_views.proofs.filling.fill_from.Goals as goal
 
 pub loop-left-init : goal.loop-left-init
@@ -11,11 +12,10 @@ pub fill_with-requires-clause-can : goal.fill_with-requires-clause-can
 fill_with-requires-clause-can c =
     let columns = c.args.columns.now in
     let f = key_of columns in
-    let left = c.loop-left.left.now in
-    let front = c.split_at.result.0.now in
-    let rest = c.split_at.result.1.now in
-    let parts = cut-parts columns left front rest (cut-at c.min.result left front rest c.split_at.ensures.front c.split_at.ensures.back) in
-    front-can c.loop-left.view c.args.source (map f left) (map f front) (map f rest) parts c.loop-left.invariant.can
+    let left = all_rows c.loop-left.left in
+    let front = front_rows c.split_front.result.0 in
+    let rest = all_rows c.split_front.result.1 in
+    front-can c.loop-left.view c.args.source (map f left) (map f front) (map f rest) (cut-parts columns left front rest c.split_front.ensures.parts) c.loop-left.invariant.can
 
 pub loop-left-preserved : goal.loop-left-preserved
 loop-left-preserved c =
@@ -23,17 +23,20 @@ loop-left-preserved c =
     let next = c.fill_with.new.view in
     let columns = c.args.columns.now in
     let f = key_of columns in
-    let left = c.loop-left.left.now in
-    let front = c.split_at.result.0.now in
-    let rest = c.split_at.result.1.now in
-    let parts = cut-parts columns left front rest (cut-at c.min.result left front rest c.split_at.ensures.front c.split_at.ensures.back) in
+    let left = all_rows c.loop-left.left in
+    let front = front_rows c.split_front.result.0 in
+    let rest = all_rows c.split_front.result.1 in
+    let parts = cut-parts columns left front rest c.split_front.ensures.parts in
     let filled = c.in_ok-fill_with.ensures in
     record {
       can = rest-can view c.args.source (map f left) (map f front) (map f rest) parts c.loop-left.invariant.can next filled;
       fills = λ last fills. c.loop-left.invariant.fills last (left-filled view c.args.source (map f left) (map f front) (map f rest) parts next last filled fills);
     }
 
+pub loop-left-smaller : goal.loop-left-smaller
+loop-left-smaller c = c.split_front.ensures.less (some-left (all_rows c.loop-left.left) c.is_empty.result c.is_empty.ensures.1 c.loop-left-test.true)
+
 pub returns : goal.returns
 returns c =
-    let none : length c.loop-left.left.now ≡ 0 = search rules in
-    c.loop-left.invariant.fills c.loop-left.view (none-left c.loop-left.view c.args.source c.args.columns.now c.loop-left.left.now none)
+    let none : all_rows c.loop-left.left ≡ [] = c.is_empty.ensures.0 (search rules) in
+    c.loop-left.invariant.fills c.loop-left.view (none-left c.loop-left.view c.args.source c.args.columns.now (all_rows c.loop-left.left) none)

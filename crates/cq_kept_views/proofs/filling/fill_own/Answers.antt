@@ -2,7 +2,7 @@ use Rattle.std.proofs.Common.{OnOk, subst, sym}
 use Rattle.cq_model.specs.Meaning.{Tables}
 use Rattle.cq_kept_views.proofs.Filled.{no-entry, own-entry}
 use Rattle.cq_kept_views.proofs.filling.fill_own.Goals as goal
-use Rattle.cq_upkeep.specs.Filling.{CanFill, Fills}
+use Rattle.cq_kept_views.specs.Filling.{CanFill, Fills}
 
 pub fill_from-requires : goal.fill_from-requires
 fill_from-requires c =

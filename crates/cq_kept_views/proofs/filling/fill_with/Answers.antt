@@ -1,18 +1,19 @@
 use Rattle.std.proofs.Common.{◌∙◌, map}
+use Rattle.cq_columns.specs.Stored.{front_rows}
 use Rattle.cq_model.specs.Group.{key_of}
-use Rattle.cq_upkeep.proofs.Filled.{can-prepare, copies-filled}
+use Rattle.cq_kept_views.proofs.Taking.{can-prepare, copies-filled}
 use Rattle.cq_kept_views.proofs.filling.fill_with.Goals as goal
 
 pub prepare-prepared-requires : goal.prepare-prepared-requires
 prepare-prepared-requires c =
     let once = c.in_ok-rows in
     rw (c.deref.ensures.value, c.in_ok-push.ensures.items, c.new-changes.ensures.items)
-    (can-prepare c.args.view.now c.args.source (map (key_of c.args.columns.now) c.args.rows.now) once.rows.entries once.ensures.clean once.ensures.bag c.requires.can)
+    (can-prepare c.args.view.now c.args.source (map (key_of c.args.columns.now) (front_rows c.args.front.now)) once.rows.entries once.ensures.clean once.ensures.bag c.requires.can)
 
 pub returns : goal.returns
 returns c =
     let once = c.in_ok-rows in
     let waits = rw (c.deref.ensures.value, c.in_ok-push.ensures.items, c.new-changes.ensures.items) at c.in_ok-pending.ensures.waiting in
-    copies-filled c.args.view.now c.args.source (map (key_of c.args.columns.now) c.args.rows.now) once.rows.entries once.ensures.clean once.ensures.bag
+    copies-filled c.args.view.now c.args.source (map (key_of c.args.columns.now) (front_rows c.args.front.now)) once.rows.entries once.ensures.clean once.ensures.bag
     c.prepare-prepared.new.self c.commit.new.self c.in_ok-pending.pending c.prepare-prepared.ensures.same waits c.commit.ensures.takes
     c.commit.ensures.query (c.commit.ensures.epoch ∙ c.epoch-epoch.ensures ∙ c.prepare-prepared.ensures.same.epoch) c.commit.ensures.built

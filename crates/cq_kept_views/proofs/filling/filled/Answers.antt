@@ -1,8 +1,8 @@
 use Rattle.cq_kept_views.proofs.Bags.{cut-bags}
 use Rattle.cq_kept_views.proofs.Filled.{start-can}
 use Rattle.cq_kept_views.specs.Cut.{cut_bags}
-use Rattle.cq_upkeep.proofs.Filled.{bags_at-bags}
-use Rattle.cq_upkeep.specs.Filling.{bags_at}
+use Rattle.cq_kept_views.proofs.Taking.{bags_at-bags}
+use Rattle.cq_kept_views.specs.Filling.{bags_at}
 use Rattle.cq_kept_views.proofs.filling.filled.Goals as goal
 
 pub fill-requires : goal.fill-requires

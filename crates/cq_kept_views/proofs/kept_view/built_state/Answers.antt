@@ -1,5 +1,5 @@
 use Rattle.cq_kept_views.proofs.Filled.{cut-start}
-use Rattle.cq_upkeep.specs.Filling.{bags_at}
+use Rattle.cq_kept_views.specs.Filling.{bags_at}
 use Rattle.cq_kept_views.proofs.kept_view.built_state.Goals as goal
 
 pub filled-requires : goal.filled-requires

@@ -1,4 +1,5 @@
 use Rattle.std.proofs.Common.{◌++◌, ◌∙◌, refl}
+use Rattle.cq_columns.specs.Stored.{all_rows}
 use Rattle.cq_plan.specs.Plan.{shown_by}
 use Rattle.cq_vectors.specs.Batch.{rows_of}
 use Rattle.cq_operators.proofs.Steps.{gave, plan-stays, shown-next, within-next}
@@ -17,6 +18,6 @@ loop-list-preserved c =
       plan = plan-stays plan old new batch gives so_far.plan;
       keys = c.add.ensures.keys ∙ so_far.keys;
       limit = c.add.ensures.limit ∙ so_far.limit;
-      so_far = (all ++ rows_of batch, (shown-next plan old new batch gives so_far.plan all (all ++ rows_of batch) (shown_by plan c.args.rows.now) refl so_far.so_far.1.0, c.in_ok-add.ensures.ok all so_far.so_far.1.1));
+      so_far = (all ++ rows_of batch, (shown-next plan old new batch gives so_far.plan all (all ++ rows_of batch) (shown_by plan (all_rows c.args.rows)) refl so_far.so_far.1.0, c.in_ok-add.ensures.ok all so_far.so_far.1.1));
       within = within-next plan old new batch gives so_far.plan so_far.within;
     }

@@ -1,5 +1,6 @@
 use Rattle.std.proofs.Common.{◌≡◌, ◌++◌, List, length}
 use Rattle.std.specs.List.{AllByRecursion}
+use Rattle.cq_columns.specs.Stored.{all_rows}
 use Rattle.cq_values.specs.Value.{Row}
 use Rattle.cq_plan.specs.Plan.{IsWithin, shown_by}
 use Rattle.cq_listing.specs.Stored.{CanList}
@@ -11,7 +12,7 @@ invariant-loop-list l = record {
   plan : l.exec.plan ≡ l.plan;
   keys : l.list.keys ≡ l.order.keys;
   limit : l.list.limit ≡ l.order.limit;
-  so_far : (all : List Row) × ((all ++ shown_by l.plan l.exec.rows ≡ shown_by l.plan l.rows) × CanList l.list all);
+  so_far : (all : List Row) × ((all ++ shown_by l.plan l.exec.rows ≡ shown_by l.plan (all_rows l.rows)) × CanList l.list all);
   within : AllByRecursion (IsWithin l.plan) l.exec.rows;
 }
 

@@ -1,4 +1,4 @@
-use Rattle.std.proofs.Common.{◌≡◌, drop, map}
+use Rattle.std.proofs.Common.{◌≡◌, drop}
 use Rattle.std.specs.List.{flat_map}
 use Rattle.cq_binding.specs.Checks.{first_fault}
 use Rattle.cq_binding.specs.UpdateChecks.{value_checks}
@@ -7,5 +7,5 @@ use Rattle.cq_table.proofs.images.check_values.Given as goal
 -- the assignments that are left have the first fault of all
 abbrev pub invariant-loop-assignment : goal.invariant-loop-assignment
 invariant-loop-assignment l =
-    first_fault (flat_map (value_checks l.columns (map (λ r. r.now) l.rows)) (drop l.assignment-index l.assignments))
-    ≡ first_fault (flat_map (value_checks l.columns (map (λ r. r.now) l.rows)) l.assignments)
+    first_fault (flat_map (value_checks l.columns l.rows) (drop l.assignment-index l.assignments))
+    ≡ first_fault (flat_map (value_checks l.columns l.rows) l.assignments)

@@ -8,5 +8,5 @@ pub returns-then-is_null : goal.returns-then-is_null
 returns-then-is_null c =
     let row = c.row-item.result in
     let value = rw c.as_slice.ensures at c.eval_row.ensures in
-    let yes : is_null (eval c.args.value.now row.now) ≡ true = sym (c.if-is_null.ensures ∙ ap is_null value) in
-    sym (any_at (λ r. r.now) (λ r. is_null (eval c.args.value.now r)) c.args.rows.now c.loop-row.row-index row c.loop-row-test.true c.row-item.is yes)
+    let yes : is_null (eval c.args.value.now row) ≡ true = sym (c.if-is_null.ensures ∙ ap is_null value) in
+    sym (any_at (λ r. is_null (eval c.args.value.now r)) c.args.rows.now c.loop-row.row-index row c.loop-row-test.true c.row-item.is yes)

@@ -1,4 +1,4 @@
-use Rattle.std.proofs.Common.{◌≡◌, false, map, take}
+use Rattle.std.proofs.Common.{◌≡◌, false, take}
 use Rattle.std.specs.List.{list_any}
 use Rattle.cq_model.specs.Eval.{eval}
 use Rattle.cq_binding.specs.UpdateChecks.{is_null}
@@ -6,4 +6,4 @@ use Rattle.cq_table.proofs.images.gives_null.Given as goal
 
 -- none of the rows so far has such a value
 abbrev pub invariant-loop-row : goal.invariant-loop-row
-invariant-loop-row l = list_any (λ r. is_null (eval l.value r)) (map (λ r. r.now) (take l.row-index l.rows)) ≡ false
+invariant-loop-row l = list_any (λ r. is_null (eval l.value r)) (take l.row-index l.rows) ≡ false

@@ -1,5 +1,4 @@
-use Rattle.std.proofs.Common.{◌++◌, ◌≤◌, ◌+◌, ◌^◌, length, map, neg_ℤ, pos, refl, arith}
-use Rattle.std.proofs.lemmas.List.{length-map}
+use Rattle.std.proofs.Common.{◌++◌, length, neg_ℤ, pos, refl}
 use Rattle.cq_bags.proofs.Bags.{same-append, same-refl, same-trans}
 use Rattle.cq_bags.specs.Bag.{once_each}
 use Rattle.cq_writes.specs.Changing.{changed}
@@ -8,13 +7,11 @@ use Rattle.cq_writes.proofs.changing.changed_rows.Goals as goal
 
 pub add_to-requires : goal.add_to-requires
 add_to-requires c =
-    let gone = map (λ r. r.now) c.args.gone.now in
-    let few : length gone + length c.args.come.now ≤ 2 ^ 25 = omega (arith, c.requires, length-map c.args.gone.now (λ r. r.now)) in
-    exchange_small c.take_away.new.rows.entries gone (neg_ℤ (pos 1)) (length c.args.come.now) refl few (rw c.new-rows.ensures at c.in_ok-take_away.ensures)
+    exchange_small c.take_away.new.rows.entries c.args.gone.items (neg_ℤ (pos 1)) (length c.args.come.now) refl c.requires (rw c.new-rows.ensures at c.in_ok-take_away.ensures)
 
 pub returns-clause-bag : goal.returns-clause-bag
 returns-clause-bag c =
-    let went = changed (map (λ r. r.now) c.args.gone.now) (neg_ℤ (pos 1)) in
+    let went = changed c.args.gone.items (neg_ℤ (pos 1)) in
     let come = once_each c.args.come.now in
     let left = c.take_away.new.rows.entries in
     same-trans c.add_to.new.rows.entries (left ++ come) (went ++ come) c.in_ok-add_to.ensures (same-append left went come come (rw c.new-rows.ensures at c.in_ok-take_away.ensures) (same-refl come))

@@ -1,14 +1,12 @@
-use Rattle.std.proofs.Common.{◌≡◌, ◌∙◌, ◌≤◌, ◌^◌, List, [], false, map, sym, ap, arith}
-use Rattle.std.proofs.lemmas.List.{length-map}
+use Rattle.std.proofs.Common.{◌≡◌, ◌∙◌, List, [], false, sym, ap, arith}
 use Rattle.std.proofs.lemmas.Result.{IfOk-weaker}
 use Rattle.cq_binding.specs.Refusal.{is_used}
-use Rattle.cq_sides.specs.Held.{sizes}
 use Rattle.cq_chains.specs.Sources.{rows_at}
-use Rattle.cq_chains.specs.Steps.{AreStored}
+use Rattle.cq_columns.specs.Stored.{stored_rows}
 use Rattle.cq_tables.proofs.Turns.{all_same}
 use Rattle.cq_tables.specs.Views.{NamedView, views_of}
 use Rattle.cq_writes.specs.Changing.{exchanged}
-use Rattle.cq_writes.proofs.Preparing.{all_take, can_all_prepare, change_only, exchange_few, exchange_stored, only, only_have, ready_unread}
+use Rattle.cq_writes.proofs.Preparing.{all_take, can_all_prepare, ready_unread}
 use Rattle.cq_writes.proofs.changing.prepare_views.Goals as goal
 
 pub prepare_all-requires : goal.prepare_all-requires
@@ -17,7 +15,7 @@ prepare_all-requires c = can_all_prepare (rows_at []) (λ source. tt) (λ source
 pub returns-then-not-is_used-clause-ready : goal.returns-then-not-is_used-clause-ready
 returns-then-not-is_used-clause-ready c =
     let vs = c.args.views.now.items in
-    let dxs = exchanged (map (λ r. r.now) c.args.gone.now) c.args.come.now in
+    let dxs = exchanged (stored_rows c.args.gone.now) c.args.come.now in
     let free : is_used c.args.table (views_of vs) ≡ false = sym (c.is_used.ensures ∙ ap (λ (ws : List NamedView). is_used c.args.table (views_of ws)) c.deref.ensures.value) ∙ c.if-not-is_used.true in
     IfOk-weaker c.prepare_all.result _ _ (λ ps ready. ready_unread c.args.table dxs vs c.prepare_all.new.views.items ps.items free c.prepare_all.ensures.same ready) c.prepare_all.ensures.ready
 
@@ -25,35 +23,5 @@ pub returns-then-not-is_used-clause-can : goal.returns-then-not-is_used-clause-c
 returns-then-not-is_used-clause-can c =
     IfOk-weaker c.prepare_all.result _ _ (λ ps ready. all_take c.args.table (rows_at []) c.args.views.now.items c.prepare_all.new.views.items ps.items c.requires.stand ready) c.prepare_all.ensures.ready
 
-pub returns-in_err-rows-clause-same : goal.returns-in_err-rows-clause-same
-returns-in_err-rows-clause-same c = all_same c.args.views.now.items
-
-pub returns-in_err-push-clause-same : goal.returns-in_err-push-clause-same
-returns-in_err-push-clause-same c = all_same c.args.views.now.items
-
-pub prepare_all-requires-2 : goal.prepare_all-requires-2
-prepare_all-requires-2 c =
-    let n = c.args.table in
-    let rows = c.in_ok-rows.rows in
-    let gone = map (λ r. r.now) c.args.gone.now in
-    let bag = c.in_ok-rows.ensures.bag in
-    let clean = c.in_ok-rows.ensures.clean in
-    let few = exchange_few rows gone c.args.come.now bag clean (omega (arith, c.requires.few, length-map c.args.gone.now (λ r. r.now))) in
-    let stored = exchange_stored rows gone c.args.come.now bag clean c.requires.gone c.requires.come in
-    rw (c.deref-2.ensures.value, c.in_ok-push.ensures.items, c.new-changes.ensures.items)
-    (can_all_prepare (rows_at (only n rows)) (λ source. only_have n rows AreStored stored tt source) (λ source. only_have n rows (λ xs. sizes xs ≤ 2 ^ 25) few (omega arith) source) c.args.views.now.items c.requires.stand)
-
-pub returns-clause-ready : goal.returns-clause-ready
-returns-clause-ready c =
-    let n = c.args.table in
-    let rows = c.in_ok-rows.rows in
-    let dxs = exchanged (map (λ r. r.now) c.args.gone.now) c.args.come.now in
-    IfOk-weaker c.prepare_all-2.result _ _ (λ ps ready. record { changes = rows_at (only n rows); of = change_only n rows dxs c.in_ok-rows.ensures.bag; ready = ready })
-    (rw (c.deref-2.ensures.value, c.in_ok-push.ensures.items, c.new-changes.ensures.items) at c.prepare_all-2.ensures.ready)
-
-pub returns-clause-can : goal.returns-clause-can
-returns-clause-can c =
-    let n = c.args.table in
-    let rows = c.in_ok-rows.rows in
-    IfOk-weaker c.prepare_all-2.result _ _ (λ ps ready. all_take n (rows_at (only n rows)) c.args.views.now.items c.prepare_all-2.new.views.items ps.items c.requires.stand ready)
-    (rw (c.deref-2.ensures.value, c.in_ok-push.ensures.items, c.new-changes.ensures.items) at c.prepare_all-2.ensures.ready)
+pub returns-in_err-gone-clause-same : goal.returns-in_err-gone-clause-same
+returns-in_err-gone-clause-same c = all_same c.args.views.now.items

@@ -1,18 +1,22 @@
-use Rattle.std.proofs.Common.{◌≡◌, ◌∙◌, length, map, neg_ℤ, pos, refl, take, arith}
-use Rattle.std.proofs.lemmas.List.{length-map, length-take-le}
-use Rattle.cq_writes.proofs.Preparing.{next_lent, still_small}
+use Rattle.std.proofs.Common.{◌≡◌, [], ◌∷◌, ◌++◌, length, neg_ℤ, pos, refl, rules}
+use Rattle.cq_writes.proofs.Preparing.{last_changed, last_small, none_changed}
+use Rattle.cq_writes.specs.Changing.{changed}
 use Rattle.cq_writes.proofs.changing.take_away.Goals as goal
 
-pub add-requires : goal.add-requires
-add-requires c =
-    let gone = c.args.gone.now in
-    let i = c.loop-row.row-index in
-    let so_far : length (take i gone) ≡ i = length-take-le i gone (omega (arith, c.loop-row-test.true)) in
-    let as_many = length-map (take i gone) (λ r. r.now) in
-    still_small (neg_ℤ (pos 1)) c.args.rows.now.entries c.loop-row.rows.entries (map (λ r. r.now) (take i gone)) (length gone) c.in_ok-copy_row.field-0 refl c.requires
-    (omega (arith, so_far, as_many, c.loop-row-test.true)) c.loop-row.invariant
+pub rows-preserved : goal.rows-preserved
+rows-preserved c =
+    let w = neg_ℤ (pos 1) in
+    let old = c.rows.rows.entries in
+    let left = c.pop.new.self.items in
+    let r = c.in-Some.row in
+    let last : c.rows.left.items ≡ left ++ r ∷ [] = c.in-Some.ensures.items in
+    record {
+      bag = last_changed w old c.add.new.self.entries left r c.in_ok-add.ensures.ok (c.args.rows.now.entries ++ changed c.args.gone.items w) (rw last at c.rows.invariant.bag);
+      small = last_small w old c.add.new.self.entries left r c.in_ok-add.ensures.ok refl (rw last at c.rows.invariant.small);
+    }
 
-pub loop-row-preserved : goal.loop-row-preserved
-loop-row-preserved c =
-    next_lent (neg_ℤ (pos 1)) c.args.rows.now.entries c.loop-row.rows.entries c.add.new.self.entries c.loop-row.row-index c.in_ok-copy_row.field-0 c.in_ok-add.ensures.ok
-    c.args.gone.now c.row-item.result c.loop-row-test.true c.row-item.is (c.in_ok-copy_row.ensures ∙ c.as_slice.ensures) c.loop-row.invariant
+pub returns : goal.returns
+returns c =
+    let w = neg_ℤ (pos 1) in
+    let none : length c.rows.left.items ≡ 0 = search rules in
+    none_changed w c.rows.rows.entries c.rows.left.items none (c.args.rows.now.entries ++ changed c.args.gone.items w) c.rows.invariant.bag

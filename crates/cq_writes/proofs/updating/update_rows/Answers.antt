@@ -27,11 +27,11 @@ returns-clause-updates c =
     let ready = c.in_ok-images.ensures.ready in (
       ready.free,
       omega (arith, c.len-count.ensures, c.in_ok-images.images.ok.0, length_come c.args.table.now c.args.assignments.now c.args.condition.now c.requires.can vs ws come ps ready),
-      replaced_table c.args.table.now c.args.assignments.now c.args.condition.now c.requires.can vs ws come ps ready c.replace.new.self c.replace.ensures,
+      replaced_table c.args.table.now c.args.assignments.now c.args.condition.now c.requires.can vs ws come ps ready c.replace.new.self c.in_ok-replace.ensures.ok,
     )
 
 pub returns-clause-follow : goal.returns-clause-follow
 returns-clause-follow c =
     let ready = c.in_ok-images.ensures.ready in
     exchanged-follow c.standing_depends_on_sources.ensures c.args.epoch c.args.table.now c.replace.new.self c.args.views.now.items c.prepared.new.views.items c.commit_all.new.views.items c.in_ok-images.pendings.items
-    c.in_ok-images.ensures.kept c.commit_all.ensures (keeps c.args.condition.now) ready.gone c.in_ok-images.images.items c.replace.ensures ready.chosen ready.ready
+    c.in_ok-images.ensures.kept c.commit_all.ensures (keeps c.args.condition.now) ready.gone c.in_ok-images.images.items c.in_ok-replace.ensures.ok ready.chosen ready.ready

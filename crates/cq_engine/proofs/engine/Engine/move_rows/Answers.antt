@@ -1,15 +1,15 @@
-use Rattle.std.proofs.Common.{refl}
+use Rattle.std.proofs.Common.{refl, inl}
 use Rattle.cq_tables.specs.Views.{views_of}
 use Rattle.cq_engine.proofs.Kept.{all_at}
 use Rattle.cq_engine.proofs.Steps.{move_done}
 use Rattle.cq_engine.proofs.engine.Engine.move_rows.Goals as goal
 
-pub returns : goal.returns
-returns c =
+pub returns-clause-done : goal.returns-clause-done
+returns-clause-done c =
     let tables = c.self.inside.tables.items in
     let views = c.self.inside.views.items in
     let now = c.self.inside.writes in
-    rw (← c.self.view_is) (
+    rw (← c.self.view_is, c.move_in.ensures) (
       refl,
-      move_done tables (views_of views) now c.self.inside.drawn c.self.inside.limits.max_rows (all_at tables now views c.self.invariant.3) c.args._table c.args._rows,
+      move_done tables (views_of views) now c.self.inside.drawn c.self.inside.limits.max_rows (all_at tables now views c.self.invariant.3) c.args.table c.args.rows,
     )

@@ -3,4 +3,4 @@ use Rattle.cq_bags.proofs.Canonicals.{length-bag_of}
 use Rattle.cq_table.proofs.table.Table.len.Goals as goal
 
 pub returns : goal.returns
-returns c = rw (← c.self.view_is) (omega (arith, length-bag_of c.self.inside.rows.items))
+returns c = rw (← c.self.view_is) (omega (arith, length-bag_of c.self.inside.rows))

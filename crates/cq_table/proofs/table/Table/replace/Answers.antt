@@ -1,32 +1,43 @@
-use Rattle.std.proofs.Common.{refl, sym, arith, subst}
+use Rattle.std.proofs.Common.{refl, sym, subst, ◌++◌, ◌∙◌}
 use Rattle.std.specs.List.{AllByRecursion}
+use Rattle.std.proofs.lemmas.Result.{on_ok_weaker}
 use Rattle.cq_bags.specs.Canonical.{bag_of}
+use Rattle.cq_columns.specs.Stored.{all_rows}
+use Rattle.cq_columns.specs.Without.{without}
 use Rattle.cq_model.specs.Meaning.{keeps}
-use Rattle.cq_model.specs.Write.{left_by}
 use Rattle.cq_model.specs.Width.{IsNarrowIn}
-use Rattle.cq_table.specs.Table.{StoredTable}
-use Rattle.cq_table.proofs.Bagged.{put_as_stored, sound_put, taken_count}
+use Rattle.cq_table.specs.Table.{AreSound, StoredTable}
+use Rattle.cq_table.proofs.Bagged.{put_as_stored, sound_put}
+use Rattle.cq_table.proofs.Flagged.{as_many, either_way, flagged_left}
 use Rattle.cq_table.proofs.RowLists.{all_of_rows}
 use Rattle.cq_table.proofs.table.Table.replace.Goals as goal
 
-pub put_behind-requires-clause-narrow : goal.put_behind-requires-clause-narrow
-put_behind-requires-clause-narrow c = all_of_rows (IsNarrowIn c.args.condition.now) c.self.inside.rows.items (subst (λ (t : StoredTable). AllByRecursion (IsNarrowIn c.args.condition.now) t.rows) (sym c.self.view_is) c.requires.narrow)
+pub kept_flags-requires : goal.kept_flags-requires
+kept_flags-requires c =
+    let narrow = IsNarrowIn c.args.condition.now in
+    let stored = all_of_rows narrow c.self.inside.rows (subst (λ (t : StoredTable). AllByRecursion narrow t.rows) (sym c.self.view_is) c.requires.narrow) in
+    rw c.lend.ensures stored
 
-pub put_behind-requires-clause-count : goal.put_behind-requires-clause-count
-put_behind-requires-clause-count c =
-    let stored = c.self.inside.rows.items in
-    let count = rw (← c.self.view_is) at c.requires.count in
-    omega (arith, count, taken_count (keeps c.args.condition.now) stored (left_by c.args.condition.now stored) refl)
+pub exchange-requires : goal.exchange-requires
+exchange-requires c = as_many (keeps c.args.condition.now) c.deref.result.now (all_rows c.lend.result) c.self.inside.rows (c.deref.ensures.value ∙ c.in_ok-gone.ensures) c.lend.ensures
 
-pub returns : goal.returns
-returns c =
-    let stored = c.self.inside.rows.items in
-    let t : StoredTable = record { columns = c.self.inside.columns; sort = c.self.inside.sort; max_rows = c.self.inside.max_rows; rows = bag_of stored } in
+pub returns-clause-ok : goal.returns-clause-ok
+returns-clause-ok c =
+    let keep = keeps c.args.condition.now in
+    let flags = c.deref.result.now in
+    let t = c.self.inside in
+    let left = flagged_left keep flags (all_rows c.lend.result) t.rows (c.deref.ensures.value ∙ c.in_ok-gone.ensures) c.lend.ensures in
+    let old : StoredTable = record { columns = t.columns; sort = t.sort; max_rows = t.max_rows; rows = bag_of t.rows } in
     rw (← c.self.view_is)
-    (put_as_stored (keeps c.args.condition.now) stored (left_by c.args.condition.now stored) refl t c.args.images.items c.put_behind.new.rows.items refl c.put_behind.ensures)
+    (on_ok_weaker c.exchange.result (λ is. put_as_stored keep t.rows (without flags t.rows) left old c.args.images.items c.exchange.new.self refl is) c.exchange.ensures.ok)
 
 pub invariant_of-self : goal.invariant_of-self
 invariant_of-self c =
+    let keep = keeps c.args.condition.now in
+    let flags = c.deref.result.now in
     let t = c.self.inside in
-    rw c.put_behind.ensures
-    (sound_put t.columns t.max_rows t.rows.items c.self.invariant (keeps c.args.condition.now) c.args.images.items (rw (← c.self.view_is) at c.requires.fitting) (rw (← c.self.view_is) at c.requires.count))
+    let images = c.args.images.items in
+    let left = flagged_left keep flags (all_rows c.lend.result) t.rows (c.deref.ensures.value ∙ c.in_ok-gone.ensures) c.lend.ensures in
+    let put = sound_put t.columns t.max_rows t.rows c.self.invariant keep images (rw (← c.self.view_is) at c.requires.fitting) (rw (← c.self.view_is) at c.requires.count) in
+    let sound : AreSound t.columns t.max_rows (without flags t.rows ++ images) = rw left put in
+    either_way (AreSound t.columns t.max_rows) c.exchange.result c.exchange.new.self (without flags t.rows ++ images) t.rows c.exchange.ensures.ok c.exchange.ensures.err sound c.self.invariant

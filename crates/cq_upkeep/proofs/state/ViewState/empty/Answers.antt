@@ -1,4 +1,4 @@
-use Rattle.cq_upkeep.proofs.Filled.{starts}
+use Rattle.cq_upkeep.proofs.Starting.{starts}
 use Rattle.cq_upkeep.specs.declared.state.ViewState.{ViewState}
 use Rattle.cq_upkeep.proofs.state.ViewState.empty.Goals as goal
 

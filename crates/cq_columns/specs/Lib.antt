@@ -1,0 +1,7 @@
+pub mod Change
+pub mod Columns
+pub mod Held
+pub mod Stored
+pub mod Places
+pub mod Rows
+pub mod Without

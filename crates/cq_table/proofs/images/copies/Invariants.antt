@@ -1,0 +1,7 @@
+use Rattle.std.proofs.Common.{◌≡◌, take}
+use Rattle.cq_columns.specs.Stored.{stored_rows}
+use Rattle.cq_table.proofs.images.copies.Given as goal
+
+-- the rows so far are copied
+abbrev pub invariant-loop-row : goal.invariant-loop-row
+invariant-loop-row l = l.copies.items ≡ stored_rows (take l.row-index l.rows)
