@@ -80,6 +80,7 @@ fn carry_all_out(rt: &impl Abort, alloc: Global, steps: &[Step]) -> Result<(), F
 const VIEWS: &[Step] = &[
     ("CREATE TABLE t(k INTEGER, a INTEGER)", None),
     ("INSERT INTO t VALUES (1, 5), (2, -3), (2, 8)", None),
+    ("MOVE t 2", None),
     (
         "CREATE VIEW v AS SELECT k, COUNT(*) AS n, SUM(a) AS s FROM t GROUP BY k",
         None,
@@ -112,6 +113,7 @@ const JOINS: &[Step] = &[
         "INSERT INTO t VALUES (1, 5), (1, 7), (3, 1), (4, 7), (5, 9), (6, 5)",
         None,
     ),
+    ("MOVE t 4", None),
     (
         "SELECT x.k, COUNT(*), SUM(y.a) FROM t x JOIN t y ON x.k = y.k WHERE x.a > 1 \
          GROUP BY x.k ORDER BY 3 DESC LIMIT 3",

@@ -20,6 +20,8 @@ const TABLES_AND_VIEWS: &[Step] = &[
         "INSERT INTO l VALUES (1, 10, 2), (1, 11, 1), (2, 10, 4)",
         None,
     ),
+    ("MOVE l 2", None),
+    ("MOVE p 9", None),
     (
         "CREATE VIEW turnover AS SELECT o.shop, SUM(l.q * p.price) AS s, COUNT(*) AS n \
          FROM o JOIN l ON o.id = l.o JOIN p ON l.p = p.id GROUP BY o.shop",
