@@ -1,7 +1,5 @@
-pub mod Change
 pub mod Columns
 pub mod Held
 pub mod Stored
 pub mod Places
 pub mod Rows
-pub mod Without

@@ -68,10 +68,7 @@ fn row_at<'a>(rows: &'a [Row], place: usize) -> &'a Row
     &rows[place]
 }
 
-pub(crate) fn lend_rows<'a>(
-    alloc: Global,
-    rows: &'a [Row],
-) -> Result<Vec<StoredRow<'a>>, AllocError>
+fn lend_rows<'a>(alloc: Global, rows: &'a [Row]) -> Result<Vec<StoredRow<'a>>, AllocError>
     ensures { IfOk result (λ lent. stored_rows lent.items ≡ rows.now) }
 {
     let mut lent: Vec<StoredRow<'a>> = Vec::new(alloc);

@@ -11,9 +11,10 @@ ghost use Rattle.cq_table.specs.Table.{IsSound, SameRows, limited_to, with_bag, 
 
 use crate::fault::TableFault;
 use crate::images::{check_values, copies, images};
-use cq_columns::{Store, Stored, StoredRow};
+use cq_columns::{Stored, StoredRow};
 use cq_model::{Assignment, Cond};
 use cq_scans::{kept, kept_flags};
+use cq_store::Store;
 use cq_values::{ColumnDef, Row, Seq};
 use std::alloc::{AllocError, Global};
 use std::marker::Model;
