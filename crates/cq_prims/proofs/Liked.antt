@@ -1,10 +1,12 @@
 -- LIKE over lists of values.
-use Rattle.std.proofs.Common.{◌≡◌, ℕ, Bool, true, false, List, [], ◌∷◌, map, length, get_or, refl, sym, ap, ap₂, ◌∙◌}
+use Rattle.std.proofs.Common.{◌≡◌, ℕ, ◌<◌, ◌≤◌, ◌+◌, Bor, arith, Bool, true, false, List, [], ◌∷◌, map, length, get_or, refl, sym, ap, ap₂, ◌∙◌}
 use Rattle.std.specs.List.{range_with_len}
-use Rattle.std.proofs.lemmas.List.FromFn.{length-map-range_with_len}
-use Rattle.std.proofs.lemmas.Simd.{zip2-map}
+use Rattle.std.proofs.lemmas.List.FromFn.{length-map-range_with_len, get_or-map-range_with_len}
+use Rattle.std.proofs.lemmas.Simd.{zip2-map, get_or-chunk}
 use Rattle.std.specs.Str.{chars}
-use lib.Lanes.{zip2}
+use lib.Lanes.{zip2, chunk}
+use lib.Seq.{ext_get_or}
+use Rattle.cq_vectors.specs.Columns.{texts_of}
 use lib.ListN.{get_or-map}
 use Rattle.cq_values.specs.declared.value.Value.{Value}
 use Rattle.cq_values.specs.declared.value.Value.TheVariants.{Null, Number, Text, Day}
@@ -14,7 +16,7 @@ use Rattle.cq_values.specs.Order.{bytes}
 use Rattle.cq_prims.specs.Kinds.{is_of_kind, ShowsTexts}
 use Rattle.cq_model.specs.Like.{like}
 use Rattle.cq_masks.specs.TruthMask.{known}
-use Rattle.cq_prims.specs.Patterns.{is_no_text}
+use Rattle.cq_prims.specs.NoText.{is_no_text}
 use Rattle.cq_prims.proofs.Shown.{map-all_places}
 
 map-same : {X Y : Type 0} (f g : X → Y) → ((x : X) → f x ≡ g x) → (xs : List X) → map f xs ≡ map g xs
@@ -64,3 +66,17 @@ by_liked_texts pattern xs texts nulls shows is =
     ∙ zip2-map known answer null places
     ∙ map-same (λ i. known (answer i) (null i)) (λ i. liked (get_or xs i Null) pattern) (λ i. ap (λ (t : List ℕ). known (like (chars pattern) (chars t)) (null i)) (text_at i) ∙ liked_text pattern (get_or xs i Null) (shows.1 i)) places
     ∙ map-all_places (λ v. liked v pattern) Null xs (length xs) refl
+
+-- the answers for a part of some texts are those for all of them from a place on
+pub places_behind : (test : List ℕ → Bool) (texts : List (Bor (List ℕ))) (from n k : ℕ) → n ≤ k
+    → map (λ i. test (get_or (texts_of (chunk from k texts)) i [])) (range_with_len 0 n) ≡ map (λ i. test (get_or (texts_of texts) i [])) (range_with_len from n)
+places_behind test texts from n k many =
+    let part = λ (i : ℕ). test (get_or (texts_of (chunk from k texts)) i []) in
+    let all = λ (i : ℕ). test (get_or (texts_of texts) i []) in
+    let none : Bor (List ℕ) = record { ref_ptr = (0, 0); now = [] } in
+    let bytes_of = λ (t : Bor (List ℕ)). t.now in
+    ext_get_or false _ _ (length-map-range_with_len part 0 n ∙ sym (length-map-range_with_len all from n)) (λ i lt.
+    let within : i < n = omega (arith, lt, length-map-range_with_len part 0 n) in
+    get_or-map-range_with_len part 0 n i i false within (omega arith)
+    ∙ ap test (get_or-map bytes_of (chunk from k texts) i none ∙ ap bytes_of (get_or-chunk from k texts i none (omega (arith, within, many))) ∙ sym (get_or-map bytes_of texts (from + i) none))
+    ∙ sym (get_or-map-range_with_len all from n i (from + i) false within refl))

@@ -4,4 +4,4 @@ pub mod WideSide
 pub mod TextSide
 pub mod Kinds
 pub mod Sides
-pub mod Patterns
+pub mod NoText

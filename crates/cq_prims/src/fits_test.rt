@@ -4,8 +4,8 @@ ghost use Rattle.cq_values.specs.Truth.{is_true};
 ghost use Rattle.cq_values.specs.declared.value.Value.TheVariants.{Null};
 ghost use Rattle.std.specs.Prelude.{length, slice_index_or};
 
-use crate::pattern::Pattern;
 use cq_masks::{PlaceTest, WordTest, answers};
+use cq_patterns::Pattern;
 use cq_values::Lent;
 use cq_vectors::Vector;
 

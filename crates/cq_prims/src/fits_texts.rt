@@ -1,12 +1,13 @@
 //! Whether a text of a column of texts fits a pattern.
 ghost use Rattle.cq_model.specs.Like.{like};
-ghost use Rattle.cq_prims.specs.Patterns.{IsFrontOf};
+ghost use Rattle.cq_patterns.specs.Patterns.{IsFrontOf, answers_of};
 ghost use Rattle.cq_vectors.specs.Columns.{texts_of};
-ghost use Rattle.std.specs.Prelude.{[], ◌≡◌, length, slice_index_or, List, ℕ};
+ghost use Rattle.std.specs.Prelude.{[], ◌+◌, ◌≡◌, ◌≤◌, IfSome, length, slice_index_or, List, ℕ};
 ghost use Rattle.std.specs.Str.{chars};
 
-use crate::pattern::Pattern;
+use crate::having_texts::word_by_run;
 use cq_masks::{PlaceTest, WordTest, answers};
+use cq_patterns::{Pattern, begins};
 
 /// Whether the text of a place fits the pattern.
 #[derive(Drop)]
@@ -28,18 +29,29 @@ impl<'a> PlaceTest for FitsTexts<'a> {
 
 impl<'a> WordTest for FitsTexts<'a> {
     fn word(&self, from: usize) -> u64 {
-        match self.pattern.front() {
-            Some(front) => answers(
-                &BeginsTexts {
-                    texts: self.texts,
-                    pattern: self.pattern,
-                    front,
-                },
-                from,
-                64,
-            ),
+        if let Some(front) = self.pattern.front() {
+            let test = BeginsTexts {
+                texts: self.texts,
+                pattern: self.pattern,
+                front,
+            };
+            return answers(&test, from, 64);
+        }
+        match self.word_by_run(from) {
+            Some(word) => word,
             None => answers(self, from, 64),
         }
+    }
+}
+
+impl<'a> FitsTexts<'a> {
+    /// The same, if the pattern has a run that is sought in all texts at once.
+    fn word_by_run(&self, from: usize) -> Option<u64>
+        requires { from + 64 ≤ length self.now.texts.now }
+        ensures { IfSome result (λ word. word ≡ answers_of self.now.pattern.now (texts_of self.now.texts.now) from) }
+    {
+        let sought = self.pattern.sought()?;
+        word_by_run(&sought, &self.texts[from..from + 64])
     }
 }
 
@@ -61,11 +73,4 @@ impl<'a> PlaceTest for BeginsTexts<'a> {
         let texts = self.texts;
         begins(texts[i], self.front)
     }
-}
-
-/// Whether a text begins with the front, and so fits each pattern that is the front and `%`.
-fn begins(text: &str, front: &str) -> bool
-    ensures { (pattern : List ℕ) → IsFrontOf front.now pattern → result ≡ like (chars pattern) (chars text.now) }
-{
-    text.starts_with(front)
 }

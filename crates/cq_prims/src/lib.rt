@@ -3,7 +3,6 @@
 //! To its callers [`compare`], [`is_null`] and [`like`] give the list of the truths that the conditions have of the values.
 #![tactic(auto)]
 
-mod around;
 mod comparisons;
 mod day_side;
 mod equal_days;
@@ -13,6 +12,7 @@ mod equal_wide;
 mod fits_test;
 mod fits_texts;
 mod fours;
+mod having_texts;
 mod known;
 mod lent_test;
 mod less_days;
@@ -24,8 +24,6 @@ mod no_text_test;
 mod null_test;
 mod nulls;
 mod number_side;
-mod pattern;
-mod pieces;
 mod plain_texts;
 mod sides;
 mod sixteen;
@@ -35,4 +33,3 @@ mod wide_side;
 pub use comparisons::compare;
 pub use likes::like;
 pub use nulls::is_null;
-pub use pattern::Pattern;

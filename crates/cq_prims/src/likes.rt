@@ -6,8 +6,8 @@ use crate::fits_test::FitsTest;
 use crate::fits_texts::FitsTexts;
 use crate::known::set_known_by;
 use crate::no_text_test::NoTextTest;
-use crate::pattern::Pattern;
 use cq_masks::{Plane, TruthMask};
+use cq_patterns::Pattern;
 use cq_vectors::{Form, Vector};
 
 /// Whether the text of each place fits the pattern, and Unknown where there is no text.

@@ -1,5 +1,5 @@
 //! Whether there is no text in a place.
-ghost use Rattle.cq_prims.specs.Patterns.{is_no_text};
+ghost use Rattle.cq_prims.specs.NoText.{is_no_text};
 ghost use Rattle.cq_values.specs.declared.value.Value.TheVariants.{Null};
 ghost use Rattle.std.specs.Prelude.{length, slice_index_or};
 

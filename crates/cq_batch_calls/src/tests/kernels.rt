@@ -2,7 +2,8 @@
 ghost use Rattle.std.specs.Prelude.{IfOk, length, ◌<◌, ◌≡◌, ◌≤◌};
 
 use cq_masks::TruthMask;
-use cq_prims::{Pattern, compare, is_null, like};
+use cq_patterns::Pattern;
+use cq_prims::{compare, is_null, like};
 use cq_values::{Comparison, Day, Lent, Row, Text, Truth, Value};
 use cq_vectors::{Form, Vector};
 use std::alloc::{AllocError, Global};

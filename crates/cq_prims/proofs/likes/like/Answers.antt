@@ -2,7 +2,7 @@ use Rattle.std.proofs.Common.{◌≡◌, ◌∙◌, arith, sym, ap, map, get_or,
 use Rattle.std.specs.List.{range_with_len}
 use Rattle.std.proofs.lemmas.List.FromFn.{length-map-range_with_len}
 use Rattle.cq_values.specs.declared.value.Value.TheVariants.{Null}
-use Rattle.cq_prims.specs.Patterns.{is_no_text}
+use Rattle.cq_prims.specs.NoText.{is_no_text}
 use Rattle.cq_model.specs.Condition.{liked}
 use Rattle.cq_vectors.specs.Form.{values_in}
 use Rattle.cq_vectors.specs.Columns.{texts_of}

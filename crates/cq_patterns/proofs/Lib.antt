@@ -1,0 +1,5 @@
+pub mod Fitting
+pub mod PieceLemmas
+pub mod AroundLemmas
+pub mod PlaceLemmas
+pub mod FormLemmas

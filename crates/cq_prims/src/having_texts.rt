@@ -1,0 +1,45 @@
+//! Whether texts fit a pattern of which they have to have a run.
+ghost use Rattle.cq_model.specs.Like.{like};
+ghost use Rattle.cq_patterns.specs.Patterns.{FindsInEach, answers_of};
+ghost use Rattle.cq_vectors.specs.Columns.{texts_of};
+ghost use Rattle.std.proofs.Props.{props};
+ghost use Rattle.std.specs.Prelude.{[], ◌≡◌, IfSome, length, slice_index_or};
+ghost use Rattle.std.specs.Str.{chars};
+
+use cq_masks::{PlaceTest, answers};
+use cq_patterns::{Sought, first_places};
+
+/// The answers for 64 texts, the first in the lowest bit, if they are short.
+pub(crate) fn word_by_run<'a>(sought: &'a Sought<'a>, texts: &'a [&'a str]) -> Option<u64>
+    requires { length texts.now ≡ 64 }
+    ensures { IfSome result (λ word. word ≡ answers_of sought.now.pattern (texts_of texts.now) 0) }
+{
+    let places = first_places(sought.run(), texts)?;
+    let test = HavingTexts {
+        sought,
+        texts,
+        places,
+    };
+    Some(answers(&test, 0, 64))
+}
+
+/// Whether the text of a place fits the pattern, where the first place of the run is known in each text.
+#[derive(Drop)]
+struct HavingTexts<'a> {
+    sought: &'a Sought<'a>,
+    texts: &'a [&'a str],
+    places: [Option<usize>; 64],
+    ghost many: { length texts.now ≡ 64 },
+    ghost found: { FindsInEach sought.now.run (texts_of texts.now) places } by { Prim.hlevel props },
+}
+
+impl<'a> PlaceTest for HavingTexts<'a> {
+    ghost places = { λ t. length t.texts.now };
+
+    ghost holds = { λ t i. like (chars t.sought.now.pattern) (chars (slice_index_or (texts_of t.texts.now) i [])) };
+
+    fn at(&self, i: usize) -> bool {
+        let texts = self.texts;
+        self.sought.fits(texts[i], self.places[i])
+    }
+}
