@@ -14,7 +14,7 @@ ghost use Rattle.cq_tables.specs.Views.{AreRight, views_of};
 ghost use Rattle.cq_answers.specs.Gathered.{IsBacked};
 
 use crate::gathered::{gather, lend_all, rows_shown, sources_of};
-use crate::selection::list;
+use crate::selection::{list, list_made};
 use cq_binding::Fault;
 use cq_columns::Stored;
 use cq_eval::narrow_is_exact;
@@ -95,7 +95,7 @@ fn select_from_view(
     ensures { SelectsKept query.now order.now view.now result }
 {
     let rows = rows_shown(alloc, view)?;
-    Ok(list(alloc, query, order, Stored::of(&rows))?)
+    Ok(list_made(alloc, query, order, rows)?)
 }
 
 /// The listing of a query on the rows of all its sources, which are joined.

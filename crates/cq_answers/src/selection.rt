@@ -1,6 +1,7 @@
 //! Queries answered from the rows of one source.
+ghost use Rattle.std.specs.Bool.{OnTrue};
 ghost use Rattle.std.specs.List.{AllByRecursion};
-ghost use Rattle.std.specs.Prelude.{IfOk};
+ghost use Rattle.std.specs.Prelude.{◌≡◌, IfOk};
 ghost use Rattle.cq_bags.specs.Bag.{once_each};
 ghost use Rattle.cq_columns.specs.Stored.{all_rows};
 ghost use Rattle.cq_answers.specs.Narrow.{IsWithin};
@@ -8,8 +9,9 @@ ghost use Rattle.cq_answers.specs.Selects.{AreListed, shown_rows};
 
 use cq_columns::Stored;
 use cq_model::{Order, Query};
-use cq_operators::{ExecFault, listed_rows};
+use cq_operators::{ExecFault, listed_rows, rows_in_order};
 use cq_plan::Plan;
+use cq_upkeep::show_whole_rows;
 use cq_values::{Row, Seq};
 use std::alloc::Global;
 
@@ -26,4 +28,31 @@ pub fn list(
     let plan = Plan::of(alloc, query)?;
     let list = listed_rows(alloc, &plan, order, rows)?;
     Ok(Seq::from_vec(list))
+}
+
+/// The same of rows that are made. Where all are shown as they are, they are listed themselves, and none is copied.
+pub fn list_made(
+    alloc: Global,
+    query: &Query,
+    order: &Order,
+    rows: Vec<Row>,
+) -> Result<Seq<Row>, ExecFault>
+    requires { AllByRecursion (IsWithin query.now) rows.items }
+    ensures { IfOk result (AreListed order.now (once_each (shown_rows query.now rows.items))) }
+{
+    if shows_all(query, &rows) {
+        Ok(Seq::from_vec(rows_in_order(alloc, order, rows)?))
+    } else {
+        list(alloc, query, order, Stored::of(&rows))
+    }
+}
+
+/// Whether the query shows all of the rows, and each as it is.
+fn shows_all(query: &Query, rows: &[Row]) -> bool
+    ensures { OnTrue result (shown_rows query.now rows.now ≡ rows.now) }
+{
+    if query.filter.is_some() {
+        return false;
+    }
+    show_whole_rows(query.items.as_slice(), rows)
 }

@@ -1,5 +1,5 @@
 -- What a write at one key leaves at each key.
-use Rattle.std.proofs.Common.{◌≡◌, pos, true, false, cond, List, [], Option, None, Some, is_some, unwrap_or, refl, sym, ◌∙◌, ap, subst, int_eq, true≢false}
+use Rattle.std.proofs.Common.{◌≡◌, pos, Bool, true, false, cond, List, [], Option, None, Some, unwrap_or, refl, sym, ◌∙◌, ap, subst, int_eq}
 use Rattle.std.specs.Option.{option_map, option_map_or}
 use Rattle.cq_values.specs.Value.{Row}
 use Rattle.cq_values.specs.Order.{same_row}
@@ -21,10 +21,6 @@ SetsAt old key w new = (k : Row) → held_at new k ≡ cond (same_row key k) w (
 abbrev pub StaysReady : Option StoredGroup → Option StoredGroup → Type 0
 StaysReady old new = (addends : List (Option Addend)) → IsReadyFor addends old → IsReadyFor addends new
 
-none-there : (o : Option StoredGroup) → is_some o ≡ false → o ≡ None
-none-there None e = refl
-none-there (Some g) e = absurd (true≢false e)
-
 module _ (old new : KeyedGroups) (key : Row) (w : Option StoredGroup) (sets : SetsAt old key w new) where
   at-key : (k : Row) → same_row key k ≡ true → held_at new k ≡ w
   at-key k s = sets k ∙ rw s refl
@@ -43,8 +39,8 @@ module _ (old new : KeyedGroups) (key : Row) (w : Option StoredGroup) (sets : Se
       (λ s. subst (λ (o : Option StoredGroup). R (held_at old k) o) (sym (at-others k s)) (other (held_at old k)))
 
   -- what is written is there
-  pub set-there : is_some w ≡ true → is_some (held_at new key) ≡ true
-  set-there there = ap is_some (at-key key (same_row-refl key)) ∙ there
+  pub set-there : held_at new key ≡ w
+  set-there = at-key key (same_row-refl key)
 
   -- what was ready stays so
   pub set-ready : StaysReady (held_at old key) w → StayReady old new
@@ -56,21 +52,23 @@ module _ (old new : KeyedGroups) (key : Row) (w : Option StoredGroup) (sets : Se
 
 -- a group that is made where none was is that of no rows
 pub made-same : (old new : KeyedGroups) (key copy : Row) (aggregates : List Aggregate) (g : StoredGroup) → copy ≡ key → seen_group g ≡ group_of aggregates [] → SetsAt old copy (Some g) new
-    → is_some (held_at old key) ≡ false → (k : Row) → group_at aggregates new k ≡ group_at aggregates old k
+    → held_at old key ≡ None → (k : Row) → group_at aggregates new k ≡ group_at aggregates old k
 made-same old new key copy aggregates g same empty sets none k =
-    let before : held_at old copy ≡ None = ap (held_at old) same ∙ none-there (held_at old key) none in
+    let before : held_at old copy ≡ None = ap (held_at old) same ∙ none in
     at-each old new copy (Some g) sets (λ o p. unwrap_or (option_map seen_group p) (group_of aggregates []) ≡ unwrap_or (option_map seen_group o) (group_of aggregates []))
     (empty ∙ sym (ap (λ (o : Option StoredGroup). unwrap_or (option_map seen_group o) (group_of aggregates [])) before)) (λ o. refl) k
 
 -- what was ready stays so where a group is made
-pub made-ready : (old new : KeyedGroups) (key copy : Row) (g : StoredGroup) → copy ≡ key → SetsAt old copy (Some g) new → is_some (held_at old key) ≡ false → StayReady old new
+pub made-ready : (old new : KeyedGroups) (key copy : Row) (g : StoredGroup) → copy ≡ key → SetsAt old copy (Some g) new → held_at old key ≡ None → StayReady old new
 made-ready old new key copy g same sets none =
-    let before : held_at old copy ≡ None = ap (held_at old) same ∙ none-there (held_at old key) none in
+    let before : held_at old copy ≡ None = ap (held_at old) same ∙ none in
     set-ready old new copy (Some g) sets (λ addends h. absurd (subst (λ (o : Option StoredGroup). IsReadyFor addends o) before h))
 
--- and the group is there
-pub made-there : (old new : KeyedGroups) (key copy : Row) (g : StoredGroup) → copy ≡ key → SetsAt old copy (Some g) new → is_some (held_at new key) ≡ true
-made-there old new key copy g same sets = ap (λ (k : Row). is_some (held_at new k)) (sym same) ∙ set-there old new copy (Some g) sets refl
+-- and the group is as ready as it was made
+pub made-room : (old new : KeyedGroups) (key copy : Row) (g : StoredGroup) (addends : List (Option Addend)) → copy ≡ key → SetsAt old copy (Some g) new → IsReadyFor addends (Some g) → IsReadyFor addends (held_at new key)
+made-room old new key copy g addends same sets room =
+    subst (λ (k : Row). IsReadyFor addends (held_at new k)) same
+    (subst (λ (o : Option StoredGroup). IsReadyFor addends o) (sym (at-key old new copy (Some g) sets copy (same_row-refl copy))) room)
 
 -- a group is written over
 module _ (old new : KeyedGroups) (key : Row) (g h : StoredGroup) (sets : SetsAt old key (Some h) new) (is : held_at old key ≡ Some g) where
@@ -113,6 +111,10 @@ drop-settles old new key sets empty k = by_test (same_row key k)
     dropped : (o : Option StoredGroup) → IsWithoutRows o → None ≡ settled (option_map seen_group o)
     dropped None e = refl
     dropped (Some g) e = rw e refl
+
+-- what is settled after nothing changed is settled
+pub settled-after : (keys : Row → Bool) (old middle new : KeyedGroups) → ((k : Row) → stored_at middle k ≡ stored_at old k) → AreSettled keys middle new → AreSettled keys old new
+settled-after keys old middle new same drop k = drop k ∙ ap (λ (o : Option Group). cond (keys k) (settled o) o) (same k)
 
 -- a group that has rows is settled
 pub settled-already : (old new : KeyedGroups) (key : Row) → ((k : Row) → stored_at new k ≡ stored_at old k)

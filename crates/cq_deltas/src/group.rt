@@ -10,7 +10,7 @@ use crate::change::Addend;
 use crate::fault::ShowFault;
 use crate::kept::Kept;
 use cq_model::Aggregate;
-use cq_values::{Row, copy_row};
+use cq_values::Row;
 use std::alloc::{AllocError, Global};
 
 /// A group of rows that have one key.
@@ -95,8 +95,9 @@ fn shown_row(
     ensures range { OnOk result (AllCanBeShown aggregates.now (map seen kept.now)) }
     ensures fault { IfErr result (λ e. e ≡ SumOutOfRange → AllCanBeShown aggregates.now (map seen kept.now) → ⊥) }
 {
-    let mut row = copy_row(alloc, key.as_slice())?;
     let len = aggregates.len().min(kept.len());
+    let mut row = Row::with_capacity(alloc, key.len().saturating_add(len))?;
+    row.push_copies(alloc, key.as_slice())?;
     for place in 0..len {
         let value = kept[place].value(alloc, &aggregates[place])?;
         row.push(value)?;

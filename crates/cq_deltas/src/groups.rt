@@ -2,7 +2,7 @@
 ghost use Rattle.std.specs.Map.Iter.{ShowsInOrder, deref_pair};
 ghost use Rattle.std.specs.Option.{option_map_or};
 ghost use Rattle.std.specs.Ordering.{int_eq};
-ghost use Rattle.std.specs.Prelude.{◌++◌, ◌≡◌, IfErr, IfOk, OnOk, Some, [], is_some, true, false, pos};
+ghost use Rattle.std.specs.Prelude.{◌++◌, ◌≡◌, IfErr, IfOk, OnOk, Some, [], None, false, true, pos};
 ghost use Rattle.cq_kept.specs.Kept.{Groups as ByKey};
 ghost use Rattle.cq_deltas.specs.declared.group.Group.{Group as Stored};
 ghost use Rattle.cq_kept.specs.Shown.{ListsKeys};
@@ -57,38 +57,45 @@ impl Groups {
         ensures keys { OnOk result (HasKeys change.now self.new) }
     {
         for addition in change.as_slice() {
-            self.make(alloc, aggregates, &addition.key)?;
-            self.make_room(alloc, addition)?;
+            self.ready_one(alloc, aggregates, addition)?;
         }
         Ok(())
     }
 
-    /// Makes an empty group for a key that has none.
-    fn make(&mut self, alloc: Global, aggregates: &[Aggregate], key: &Row) -> Result<(), AllocError>
+    /// Makes room in a row's group for what the row adds, and the group too, where its key has none.
+    fn ready_one(
+        &mut self,
+        alloc: Global,
+        aggregates: &[Aggregate],
+        addition: &Addition,
+    ) -> Result<(), AllocError>
         ensures groups { (k : Values) → group_at aggregates.now self.new k ≡ group_at aggregates.now self.old k }
-        ensures there { OnOk result (is_some (held_at self.new key.now) ≡ true) }
-        ensures kept { StayReady self.old self.new }
-    {
-        if self.groups.contains_key(key) {
-            return Ok(());
-        }
-        let group = Group::empty(alloc, aggregates)?;
-        let copy = copy_row(alloc, key.as_slice())?;
-        self.groups.insert(copy, group)?;
-        Ok(())
-    }
-
-    /// Makes room in a row's group for what the row adds.
-    fn make_room(&mut self, alloc: Global, addition: &Addition) -> Result<(), AllocError>
-        requires { is_some (held_at self.old addition.now.key) ≡ true }
-        ensures groups { (k : Values) → stored_at self.new k ≡ stored_at self.old k }
         ensures room { OnOk result (IsReadyFor addition.now.addends (held_at self.new addition.now.key)) }
         ensures kept { StayReady self.old self.new }
     {
-        match self.groups.get_mut(&addition.key) {
-            Some(group) => group.ready(alloc, addition.addends.as_slice()),
-            None => unreachable!(),
-        }
+        let Some(group) = self.groups.get_mut(&addition.key) else {
+            return self.make(alloc, aggregates, addition);
+        };
+        group.ready(alloc, addition.addends.as_slice())
+    }
+
+    /// Makes an empty group for a row's key, which has none, with room for what the row adds.
+    fn make(
+        &mut self,
+        alloc: Global,
+        aggregates: &[Aggregate],
+        addition: &Addition,
+    ) -> Result<(), AllocError>
+        requires { held_at self.old addition.now.key ≡ None }
+        ensures groups { (k : Values) → group_at aggregates.now self.new k ≡ group_at aggregates.now self.old k }
+        ensures room { OnOk result (IsReadyFor addition.now.addends (held_at self.new addition.now.key)) }
+        ensures kept { StayReady self.old self.new }
+    {
+        let mut group = Group::empty(alloc, aggregates)?;
+        group.ready(alloc, addition.addends.as_slice())?;
+        let copy = copy_row(alloc, addition.key.as_slice())?;
+        self.groups.insert(copy, group)?;
+        Ok(())
     }
 
     /// Puts a change in that the groups were made ready for. It cannot fail, and takes no memory.
@@ -117,7 +124,7 @@ impl Groups {
         ensures range { OnOk result (GroupsCanBeShown aggregates.now self.now) }
         ensures fault { IfErr result (λ e. e ≡ SumOutOfRange → GroupsCanBeShown aggregates.now self.now → ⊥) }
     {
-        let mut rows = Vec::new(alloc);
+        let mut rows = Vec::with_capacity(alloc, self.groups.len())?;
         for place in 0..self.groups.len() {
             match self.groups.get_index(place) {
                 Some((key, group)) => push_shown(alloc, aggregates, key, group, &mut rows)?,
@@ -163,30 +170,30 @@ impl Groups {
     fn settle(&mut self, addition: &Addition)
         ensures { AreSettled (same_row addition.now.key) self.old self.new }
     {
-        if self.is_empty_at(&addition.key) {
-            drop(self.groups.swap_remove(&addition.key));
-        } else {
-            self.settle_group(addition);
+        if self.settle_group(addition) {
+            self.drop_empty(&addition.key);
         }
     }
 
-    /// Lets the values of a row go from its group where they are counted no longer.
-    fn settle_group(&mut self, addition: &Addition)
-        ensures { (k : Values) → stored_at self.new k ≡ stored_at self.old k }
+    /// Lets the values of a row go from its group where they are counted no longer, and tells whether the group has no
+    /// rows.
+    fn settle_group(&mut self, addition: &Addition) -> bool
+        ensures same { (k : Values) → stored_at self.new k ≡ stored_at self.old k }
+        ensures empty { result ≡ option_map_or (λ g. int_eq g.count (pos 0)) (held_at self.new addition.now.key) false }
     {
         let Some(group) = self.groups.get_mut(&addition.key) else {
-            return;
+            return false;
         };
         group.settle(addition.addends.as_slice());
+        group.count() == 0
     }
 
-    fn is_empty_at(&self, key: &Row) -> bool
-        ensures { result ≡ option_map_or (λ g. int_eq g.count (pos 0)) (held_at self.now key.now) false }
+    /// Drops the group of a key, which has no rows.
+    fn drop_empty(&mut self, key: &Row)
+        requires { option_map_or (λ g. int_eq g.count (pos 0)) (held_at self.old key.now) false ≡ true }
+        ensures { AreSettled (same_row key.now) self.old self.new }
     {
-        match self.groups.get(key) {
-            Some(group) => group.count() == 0,
-            None => false,
-        }
+        drop(self.groups.swap_remove(key));
     }
 }
 

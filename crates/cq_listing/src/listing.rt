@@ -131,10 +131,9 @@ impl<'q> Listing<'q> {
         ensures limit { self.new.limit ≡ self.old.limit }
         ensures rows { OnOk result (self.new.rows ≡ self.old.rows ++ rows.items) }
     {
-        let mut rows = rows;
         let front = self.front;
         self.front = None;
-        self.rows.append(&mut rows)?;
+        append_rows(&mut self.rows, rows)?;
         self.front = front;
         Ok(())
     }
@@ -165,6 +164,19 @@ impl<'q> Listing<'q> {
             self.front = Some(count);
         }
         Ok(())
+    }
+}
+
+/// Puts rows behind others. Where there are no others, the rows are kept where they are.
+fn append_rows(to: &mut Vec<Row>, rows: Vec<Row>) -> Result<(), AllocError>
+    ensures { OnOk result (to.new.items ≡ to.old.items ++ rows.items) }
+{
+    let mut rows = rows;
+    if to.is_empty() {
+        *to = rows;
+        Ok(())
+    } else {
+        to.append(&mut rows)
     }
 }
 

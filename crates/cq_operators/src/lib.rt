@@ -12,5 +12,5 @@ mod sources;
 
 pub use exec::Exec;
 pub use fault::ExecFault;
-pub use listing::listed_rows;
+pub use listing::{listed_rows, rows_in_order};
 pub use selected::select;

@@ -1,4 +1,4 @@
-//! The listing of what a plan shows.
+//! The listing of what a plan shows, and of rows that are made.
 ghost use Rattle.std.specs.List.{AllByRecursion};
 ghost use Rattle.std.specs.Prelude.{IfOk};
 ghost use Rattle.cq_columns.specs.Stored.{all_rows};
@@ -14,7 +14,7 @@ use cq_model::Order;
 use cq_plan::Plan;
 use cq_values::Row;
 use cq_vectors::Batch;
-use std::alloc::Global;
+use std::alloc::{AllocError, Global};
 
 /// The listing of what the plan shows of these rows. Where LIMIT allows few rows, few are made.
 pub fn listed_rows<'a>(
@@ -36,4 +36,18 @@ pub fn listed_rows<'a>(
         list.add(alloc, &batch)?;
     }
     Ok(list.rows(alloc)?)
+}
+
+/// The listing of rows that are made. None of them is copied.
+pub fn rows_in_order(alloc: Global, order: &Order, rows: Vec<Row>) -> Result<Vec<Row>, AllocError>
+    ensures { IfOk result (λ list. IsListingOf order.now rows.items list.items) }
+{
+    let mut list = Listing::new(alloc, order);
+    match list.add_rows(alloc, rows) {
+        Ok(()) => list.rows(alloc),
+        Err(fault) => {
+            drop(list);
+            Err(fault)
+        }
+    }
 }

@@ -13,5 +13,6 @@ pub mod Showings
 pub mod Sizing
 pub mod Standing
 pub mod Starting
+pub mod WholeRows
 pub mod Widths
 pub mod Working

@@ -3,3 +3,4 @@ pub mod Laws
 pub mod Query
 pub mod Shown
 pub mod State
+pub mod WholeRows

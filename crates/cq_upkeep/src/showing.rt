@@ -15,6 +15,7 @@ ghost use Rattle.cq_upkeep.specs.Shown.{AddsTimes, AreKeysOf, AreShowable, Shows
 
 use crate::last::Last;
 use crate::query::aggregates_of;
+use crate::whole_rows::show_whole_rows;
 use cq_deltas::{Groups, ShowFault};
 use cq_eval::items_of;
 use cq_model::{Aggregate, Expr, Query, Shape};
@@ -47,7 +48,7 @@ fn shown_groups(alloc: Global, query: &Query, groups: &Groups) -> Result<Vec<Row
     ensures fault { IfErr result (λ e. e ≡ SumOutOfRange → ShowsOutOfRange query.now (AsGroups groups.now)) }
 {
     let rows = all_rows(alloc, query, groups)?;
-    Ok(item_rows(alloc, query.items.as_slice(), &rows)?)
+    Ok(item_rows(alloc, query.items.as_slice(), rows)?)
 }
 
 /// The row of each group that has rows, and without GROUP BY one row always.
@@ -92,8 +93,20 @@ fn value_of_nothing(aggregate: &Aggregate) -> Value
     }
 }
 
+/// The items in each of the rows. Where they are just its columns, the rows are kept as they are.
+fn item_rows(alloc: Global, items: &[Expr], rows: Vec<Row>) -> Result<Vec<Row>, AllocError>
+    requires { AllByRecursion (AreNarrowAt items.now) rows.items }
+    ensures { IfOk result (λ shown. shown.items ≡ map (items_of items.now) rows.items) }
+{
+    if show_whole_rows(items, &rows) {
+        Ok(rows)
+    } else {
+        worked_out(alloc, items, &rows)
+    }
+}
+
 /// The items, worked out in each of the rows.
-fn item_rows(alloc: Global, items: &[Expr], rows: &[Row]) -> Result<Vec<Row>, AllocError>
+fn worked_out(alloc: Global, items: &[Expr], rows: &[Row]) -> Result<Vec<Row>, AllocError>
     requires { AllByRecursion (AreNarrowAt items.now) rows.now }
     ensures { IfOk result (λ shown. shown.items ≡ map (items_of items.now) rows.now) }
 {

@@ -5,20 +5,18 @@ use Rattle.cq_answers.proofs.Results.{listing_plain}
 use Rattle.cq_answers.proofs.reading.select_from_view.Goals as goal
 
 -- the query can be worked out on each row that the view shows
-pub list-requires : goal.list-requires
-list-requires c =
-    let sizes = column_sizes c.args.view.now.kept.query in
-    rw (c.of.ensures, c.deref.ensures.value) (within_shown sizes c.args.query.now c.in_ok-rows.rows.items c.requires.within
-    c.in_ok-rows.ensures.sized)
+pub list_made-requires : goal.list_made-requires
+list_made-requires c =
+    within_shown (column_sizes c.args.view.now.kept.query) c.args.query.now c.in_ok-rows.rows.items c.requires.within
+    c.in_ok-rows.ensures.sized
 
 -- the listing of the rows that the view shows is that of its bag
 pub returns : goal.returns
 returns c =
     let q = c.args.query.now in
     let rows = c.in_ok-rows.rows in
-    let listed = rw (c.of.ensures, c.deref.ensures.value) at c.in_ok-list.ensures in
     λ tables suit. (
       listing_plain q.filter q.items q.first (λ source. meaning c.args.view.now.kept.query tables) c.args.order.now
-          rows.items c.in_ok-list.field-0 (c.in_ok-rows.ensures.ok tables suit) listed,
+          rows.items c.in_ok-list_made.field-0 (c.in_ok-rows.ensures.ok tables suit) c.in_ok-list_made.ensures,
       c.in_ok-rows.ensures.range tables suit,
     )

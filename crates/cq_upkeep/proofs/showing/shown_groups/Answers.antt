@@ -21,14 +21,14 @@ pub item_rows-requires : goal.item_rows-requires
 item_rows-requires c =
     let query = c.args.query.now in
     let groups = c.args.groups.now in
-    let rows : c.deref.result.now ≡ all_rows query.shape groups = c.deref.ensures.value ∙ c.in_ok-rows.ensures.rows in
+    let rows : c.in_ok-rows.rows.items ≡ all_rows query.shape groups = c.in_ok-rows.ensures.rows in
     rw (rows, c.as_slice.ensures) (all-narrow query groups c.requires.on c.all_rows.ensures.keys c.in_ok-rows.ensures.range c.requires.can)
 
 pub returns-clause-rows : goal.returns-clause-rows
 returns-clause-rows c =
     let query = c.args.query.now in
     let groups = c.args.groups.now in
-    let rows : c.deref.result.now ≡ all_rows query.shape groups = c.deref.ensures.value ∙ c.in_ok-rows.ensures.rows in
+    let rows : c.in_ok-rows.rows.items ≡ all_rows query.shape groups = c.in_ok-rows.ensures.rows in
     let shown : c.in_ok-item_rows.field-0.items ≡ map (items_of query.items) (all_rows query.shape groups) =
     c.in_ok-item_rows.ensures ∙ ap₂ (λ (items : List Expr) (rs : List Row). map (items_of items) rs) c.as_slice.ensures rows in
     groups-shown query groups c.all_rows.ensures.keys c.requires.can.groups c.in_ok-item_rows.field-0.items shown
@@ -37,7 +37,7 @@ pub returns-clause-sized : goal.returns-clause-sized
 returns-clause-sized c =
     let query = c.args.query.now in
     let groups = c.args.groups.now in
-    let rows : c.deref.result.now ≡ all_rows query.shape groups = c.deref.ensures.value ∙ c.in_ok-rows.ensures.rows in
+    let rows : c.in_ok-rows.rows.items ≡ all_rows query.shape groups = c.in_ok-rows.ensures.rows in
     let shown : c.in_ok-item_rows.field-0.items ≡ map (items_of query.items) (all_rows query.shape groups) =
     c.in_ok-item_rows.ensures ∙ ap₂ (λ (items : List Expr) (rs : List Row). map (items_of items) rs) c.as_slice.ensures rows in
     groups-sized query groups c.requires.on c.all_rows.ensures.keys c.in_ok-rows.ensures.range c.in_ok-item_rows.field-0.items shown

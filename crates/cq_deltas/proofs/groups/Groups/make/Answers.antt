@@ -1,17 +1,18 @@
-use Rattle.std.proofs.Common.{◌∙◌, rules}
-use Rattle.cq_deltas.proofs.AtKeys.{made-ready, made-same, made-there}
+use Rattle.std.proofs.Common.{◌∙◌}
+use Rattle.cq_deltas.proofs.AtKeys.{made-ready, made-room, made-same}
 use Rattle.cq_deltas.proofs.groups.Groups.make.Goals as goal
 
 pub returns-clause-groups : goal.returns-clause-groups
 returns-clause-groups c =
-    made-same c.args.self.now c.insert.new.self.entries c.args.key.now c.in_ok-copy.copy c.args.aggregates.now c.in_ok-group.group (c.in_ok-copy.ensures ∙ c.as_slice.ensures) c.in_ok-group.ensures
-    (rw c.self.view_is at c.in_ok-insert.ensures.updates.0) (search rules)
+    made-same c.args.self.now c.insert.new.self.entries c.args.addition.now.key c.in_ok-copy.copy c.args.aggregates.now c.ready.new.self (c.in_ok-copy.ensures ∙ c.as_slice-2.ensures)
+    (c.ready.ensures.seen ∙ c.in_ok-group.ensures) (rw c.self.view_is at c.in_ok-insert.ensures.updates.0) c.requires
 
-pub returns-clause-there : goal.returns-clause-there
-returns-clause-there c =
-    made-there c.args.self.now c.insert.new.self.entries c.args.key.now c.in_ok-copy.copy c.in_ok-group.group (c.in_ok-copy.ensures ∙ c.as_slice.ensures) (rw c.self.view_is at c.in_ok-insert.ensures.updates.0)
+pub returns-clause-room : goal.returns-clause-room
+returns-clause-room c =
+    made-room c.args.self.now c.insert.new.self.entries c.args.addition.now.key c.in_ok-copy.copy c.ready.new.self c.args.addition.now.addends (c.in_ok-copy.ensures ∙ c.as_slice-2.ensures)
+    (rw c.self.view_is at c.in_ok-insert.ensures.updates.0) (rw c.as_slice.ensures at c.in_ok-ready.ensures.room)
 
 pub returns-clause-kept : goal.returns-clause-kept
 returns-clause-kept c =
-    made-ready c.args.self.now c.insert.new.self.entries c.args.key.now c.in_ok-copy.copy c.in_ok-group.group (c.in_ok-copy.ensures ∙ c.as_slice.ensures) (rw c.self.view_is at c.in_ok-insert.ensures.updates.0)
-    (search rules)
+    made-ready c.args.self.now c.insert.new.self.entries c.args.addition.now.key c.in_ok-copy.copy c.ready.new.self (c.in_ok-copy.ensures ∙ c.as_slice-2.ensures) (rw c.self.view_is at c.in_ok-insert.ensures.updates.0)
+    c.requires

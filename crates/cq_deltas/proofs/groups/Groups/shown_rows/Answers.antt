@@ -35,6 +35,9 @@ returns-clause-rows c =
     let end : c.loop-place.place ≡ length c.args.self.now = search rules in
     rows-done c.args.aggregates.now c.args.self.now c.loop-place.place (rw c.self.view_is at c.len-place-end.ensures.unique) end c.loop-place.rows.items c.loop-place.invariant.rows
 
+pub returns-in_err-rows-clause-keys : goal.returns-in_err-rows-clause-keys
+returns-in_err-rows-clause-keys c = lists-keys c.args.aggregates.now c.args.self.now (rw c.self.view_is at c.len.ensures.unique)
+
 pub returns-in_err-push_shown-in-Some-clause-keys : goal.returns-in_err-push_shown-in-Some-clause-keys
 returns-in_err-push_shown-in-Some-clause-keys c = lists-keys c.args.aggregates.now c.args.self.now (rw c.self.view_is at c.len-place-end.ensures.unique)
 

@@ -1,6 +1,6 @@
 use Rattle.std.proofs.Common.{◌≡◌, map, take}
 use Rattle.cq_model.specs.Meaning.{items_of}
-use Rattle.cq_upkeep.proofs.showing.item_rows.Given as goal
+use Rattle.cq_upkeep.proofs.showing.worked_out.Given as goal
 
 -- the items of the rows so far
 abbrev pub invariant-loop-row : goal.invariant-loop-row
