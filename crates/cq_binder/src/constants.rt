@@ -1,4 +1,5 @@
 //! The constants of an INSERT, each for the column at its place.
+ghost use Rattle.std.specs.Prelude.{◌≡◌, [], length};
 ghost use Rattle.cq_language.specs.declared.statement.Constant.TheVariants as constants;
 ghost use Rattle.cq_binding.specs.Bound.{row_of};
 ghost use Rattle.cq_binding.specs.RowChecks.{row_checks};
@@ -23,7 +24,22 @@ pub(crate) fn bound_row(
     if constants.len() != columns.len() {
         return Err(Fault::TypeMismatch);
     }
-    let mut row = Row::new(alloc);
+    let row = Row::with_capacity(alloc, columns.len())?;
+    filled_row(alloc, columns, constants, row)
+}
+
+/// Puts the values of the constants into an empty row, where there are as many of them as columns.
+fn filled_row(
+    alloc: Global,
+    columns: &[ColumnDef],
+    constants: &[Constant],
+    empty: Row,
+) -> Result<Row, Fault>
+    requires empty { empty ≡ [] }
+    requires len { length constants.now ≡ length columns.now }
+    ensures { WalksTo (row_checks columns.now constants.now) (row_of constants.now) result }
+{
+    let mut row = empty;
     for (i, constant) in constants.iter().enumerate() {
         row.push(bound_constant(alloc, &columns[i], constant)?)?;
     }

@@ -68,6 +68,11 @@ constant_reads = record { found = found; only = only } where
       let o = number_makes.only c ts rest e in
       (o.1, o.3, subst (λ (x : Constant). IsConstant x o.1) o.2 o.4)
 
+-- a number without a sign is read as it stands
+pub whole_number_read : (n : ℕ) (ts : List Token) → constant_at (tokens.Number n ∷ ts) ≡ Some (constants.Number (record { is_negative = false; magnitude = n }), ts)
+unfolding constant_at number_constant_at
+whole_number_read n ts = refl
+
 -- rows are read exactly
 pub row_reads : Reads Anything IsRow row_at
 unfolding row_at

@@ -8,5 +8,7 @@ pub mod Spelled
 pub mod Fronts
 pub mod Cuts
 pub mod FirstPieces
+pub mod Runs
+pub mod Numbers
 pub mod Stretches
 pub mod Splits

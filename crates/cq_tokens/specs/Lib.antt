@@ -3,3 +3,4 @@ pub mod Lexing
 pub mod Cutting
 pub mod Piece
 pub mod Laws
+pub mod Runs

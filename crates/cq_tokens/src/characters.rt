@@ -36,6 +36,15 @@ pub fn begins_word_byte(bytes: &[u8]) -> bool
     }
 }
 
+pub fn begins_digit(bytes: &[u8]) -> bool
+    ensures { result ≡ begins is_digit bytes.now }
+{
+    match bytes {
+        [b, ..] => is_digit(*b),
+        [] => false,
+    }
+}
+
 pub fn word_len(bytes: &[u8]) -> usize
     ensures { result ≡ prefix_len is_word_byte bytes.now }
 {

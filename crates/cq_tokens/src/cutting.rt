@@ -1,8 +1,12 @@
 //! Where the first piece of a script ends, in one pass over its bytes.
 ghost use Rattle.std.specs.Prelude.{◌≡◌, ◌≤◌, ◌<◌, length, slice_index};
+ghost use Rattle.std.specs.List.{list_all, prefix_len};
+ghost use Rattle.cq_language.specs.Characters.{is_blank};
 ghost use Rattle.cq_tokens.specs.Cutting.{context_after, ends_piece, stays_blank, is_blank_end, cut_end, cut_blank};
+ghost use Rattle.cq_tokens.specs.Runs.{is_plain};
 
 use crate::characters::is_blank;
+use memchr::memchr3;
 
 /// What a byte stands in.
 #[derive(Clone, Copy)]
@@ -21,6 +25,34 @@ pub struct Cut {
 }
 
 pub fn first_cut(bytes: &[u8]) -> Cut
+    ensures end { result.end ≡ cut_end Context.Outside bytes.now }
+    ensures blank { result.blank ≡ cut_blank Context.Outside bytes.now }
+    ensures within { result.end ≤ length bytes.now }
+    ensures semicolon { result.end < length bytes.now → slice_index bytes.now result.end ≡ 59 }
+{
+    let plain = plain_len(bytes);
+    let (front, rest) = bytes.split_at(plain);
+    let cut = cut_of(rest);
+    let end = plain + cut.end;
+    let blank = is_all_blank(front) && cut.blank;
+    Cut { end, blank }
+}
+
+/// How many bytes stand before the first one that begins a text or a comment, or ends a piece.
+fn plain_len(bytes: &[u8]) -> usize
+    ensures { result ≡ prefix_len is_plain bytes.now }
+{
+    memchr3(b';', b'\'', b'-', bytes).unwrap_or(bytes.len())
+}
+
+fn is_all_blank(bytes: &[u8]) -> bool
+    ensures { result ≡ list_all is_blank bytes.now }
+{
+    bytes.iter().all(|b| is_blank(*b))
+}
+
+/// The first piece, byte by byte.
+fn cut_of(bytes: &[u8]) -> Cut
     ensures end { result.end ≡ cut_end Context.Outside bytes.now }
     ensures blank { result.blank ≡ cut_blank Context.Outside bytes.now }
     ensures within { result.end ≤ length bytes.now }

@@ -1,6 +1,6 @@
 //! The limits of the reader.
 ghost use Rattle.cq_language.specs.Tokens.{opens, closes, is_long_name, is_past_limits};
-ghost use Rattle.std.specs.Prelude.{◌≡◌};
+ghost use Rattle.std.specs.Prelude.{◌≡◌, IsTrue, false};
 
 use cq_language::{Symbol, Token};
 
@@ -35,6 +35,18 @@ fn is_long_name(token: &Token) -> bool
     }
 }
 
+/// Whether a token is a number or a comma, which count for no limit.
+fn is_free(token: &Token) -> bool
+    ensures opens { IsTrue result → opens token.now ≡ 0 }
+    ensures closes { IsTrue result → closes token.now ≡ 0 }
+    ensures name { IsTrue result → is_long_name token.now ≡ false }
+{
+    match token {
+        Token::Number(_) | Token::Symbol(Symbol::Comma) => true,
+        _ => false,
+    }
+}
+
 /// Whether a name has more than 63 bytes, or more than 64 parentheses are open at once.
 #[tactic(auto, unfolding(cq_language::specs::Tokens::is_past_limits))]
 pub fn is_past_limits(tokens: &[Token]) -> bool
@@ -43,6 +55,9 @@ pub fn is_past_limits(tokens: &[Token]) -> bool
     let mut opened = 0u64;
     let mut closed = 0u64;
     for token in tokens {
+        if is_free(token) {
+            continue;
+        }
         opened += opens(token);
         closed += closes(token);
         if is_long_name(token) || closed + MAX_OPEN < opened {

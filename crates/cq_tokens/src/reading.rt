@@ -1,17 +1,21 @@
 //! Texts as tokens.
+ghost use Rattle.cq_language.specs.declared.token.Token.TheVariants as tokens;
 ghost use Rattle.cq_tokens.specs.Lexing.{Gives, gap_at, token_at};
 ghost use Rattle.cq_tokens.specs.Reading.{Reads};
 ghost use Rattle.std.specs.Option.{option_map};
-ghost use Rattle.std.specs.Prelude.{◌≡◌};
+ghost use Rattle.std.specs.Prelude.{◌≡◌, IfSome, None, Some};
 
 use crate::characters::{is_blank, is_digit, is_letter, line_len};
 use crate::fault::TokenFault;
 use crate::quotes::quoted_at;
 use crate::symbols::sign_at;
-use crate::words::{number_at, word_at};
-use cq_language::Token;
+use crate::words::{number_at, small_number_at, word_at};
+use cq_language::{Symbol, Token};
 use cq_values::Seq;
 use std::alloc::Global;
+
+/// Room is made for one token in so many bytes. A text with more tokens takes more room as it is read.
+const TOKEN_LEN: usize = 3;
 
 /// What follows a blank or a comment in front of a text, if one is there.
 #[tactic(auto, unfolding(crate::specs::Lexing::gap_at))]
@@ -39,13 +43,37 @@ fn token_at(alloc: Global, text: &str) -> Result<(Token, &str), TokenFault>
     }
 }
 
+/// A parenthesis or a comma in front of a text, and what follows it.
+#[tactic(auto, unfolding(crate::specs::Lexing::gap_at, crate::specs::Lexing::token_at, crate::specs::Lexing::symbol_at))]
+fn lone_sign_at(text: &str) -> Option<(Symbol, &str)>
+    ensures gap { IfSome result (λ r. gap_at text.now ≡ None) }
+    ensures token { IfSome result (λ r. token_at text.now ≡ Some (tokens.Symbol r.0, r.1.now)) }
+{
+    match text.as_bytes() {
+        [b',', ..] => Some((Symbol::Comma, &text[1..])),
+        [b'(', ..] => Some((Symbol::Open, &text[1..])),
+        [b')', ..] => Some((Symbol::Close, &text[1..])),
+        _ => None,
+    }
+}
+
 /// The tokens of a text: names in lower case, texts without their quotes.
 pub fn tokens(alloc: Global, text: &str) -> Result<Seq<Token>, TokenFault>
     ensures { Reads text.now result }
 {
-    let mut tokens = Seq::new(alloc);
+    let mut tokens = Seq::from_vec(Vec::with_capacity(alloc, text.len() / TOKEN_LEN + 1)?);
     let mut rest = text;
     while !rest.is_empty() {
+        if let Some((symbol, after)) = lone_sign_at(rest) {
+            tokens.push(Token::Symbol(symbol))?;
+            rest = after;
+            continue;
+        }
+        if let Some((number, after)) = small_number_at(rest) {
+            tokens.push(Token::Number(u128::from(number)))?;
+            rest = after;
+            continue;
+        }
         if let Some(after) = gap_at(rest) {
             rest = after;
             continue;

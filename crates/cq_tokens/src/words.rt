@@ -2,12 +2,14 @@
 ghost use Rattle.cq_language.specs.Characters.{is_digit};
 ghost use Rattle.cq_language.specs.Keywords.{keyword_of};
 ghost use Rattle.cq_language.specs.Tokens.{decimal, word_token};
-ghost use Rattle.cq_tokens.specs.Lexing.{Gives, found_in, number_at, word_at};
+ghost use Rattle.cq_language.specs.declared.token.Token.TheVariants as tokens;
+ghost use Rattle.cq_tokens.specs.Lexing.{Gives, found_in, gap_at, number_at, token_at, word_at};
+ghost use Rattle.cq_tokens.specs.Runs.{IsNumberAt};
 ghost use Rattle.std.specs.Char.{to_ascii_lowercase};
 ghost use Rattle.std.specs.List.{list_all};
-ghost use Rattle.std.specs.Prelude.{◌-◌, ◌^◌, ◌≡◌, IfOk, IsTrue, map, min};
+ghost use Rattle.std.specs.Prelude.{◌-◌, ◌^◌, ◌≡◌, IfOk, IfSome, IsTrue, None, Some, map, min};
 
-use crate::characters::{begins_word_byte, digits_len, word_len};
+use crate::characters::{begins_digit, begins_word_byte, digits_len, is_digit, word_len};
 use crate::fault::TokenFault;
 use cq_language::{Keyword, Token};
 use cq_values::Text;
@@ -67,6 +69,9 @@ const KEYWORDS: [(Keyword, &str); 51] = [
     (Keyword::Year, "year"),
 ];
 
+/// One digit more is within 64 bits behind a number up to this one.
+const SMALL: u64 = 1_000_000_000_000_000_000;
+
 fn found_in(table: &[(Keyword, &str)], word: &str) -> Option<Keyword>
     ensures { result ≡ found_in table.now word.now }
 {
@@ -117,6 +122,39 @@ fn number_of(digits: &[u8]) -> u128
             .saturating_add(u128::from(*b - b'0'));
     }
     number
+}
+
+/// The number that the digits in front spell, and how many they are, where it is small.
+fn small_number(bytes: &[u8]) -> Option<(u64, usize)>
+    ensures { IfSome result (IsNumberAt bytes.now) }
+{
+    let mut number = 0u64;
+    for (i, b) in bytes.iter().enumerate() {
+        if !is_digit(*b) {
+            return Some((number, i));
+        }
+        if SMALL < number {
+            return None;
+        }
+        number = number * 10 + u64::from(*b - b'0');
+    }
+    Some((number, bytes.len()))
+}
+
+/// A number of up to 64 bits in front of a text, where no word goes on behind it, and what follows.
+pub fn small_number_at(text: &str) -> Option<(u64, &str)>
+    ensures gap { IfSome result (λ r. gap_at text.now ≡ None) }
+    ensures token { IfSome result (λ r. token_at text.now ≡ Some (tokens.Number r.0, r.1.now)) }
+{
+    if !begins_digit(text.as_bytes()) {
+        return None;
+    }
+    let (number, len) = small_number(text.as_bytes())?;
+    let after = &text[len..];
+    if begins_word_byte(after.as_bytes()) {
+        return None;
+    }
+    Some((number, after))
 }
 
 /// The longest number in front of a text, unless a word goes on behind it, and what follows.

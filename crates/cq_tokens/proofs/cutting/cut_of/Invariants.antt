@@ -1,7 +1,7 @@
 use Rattle.std.proofs.Common.{◌≡◌, ◌+◌, ◌&&◌, drop}
 use Rattle.cq_tokens.specs.declared.cutting.Context.TheVariants.{Outside}
 use Rattle.cq_tokens.specs.Cutting.{cut_end, cut_blank}
-use Rattle.cq_tokens.proofs.cutting.first_cut.Given as goal
+use Rattle.cq_tokens.proofs.cutting.cut_of.Given as goal
 
 -- the rest ends the piece where the whole does, and is blank where the whole is
 abbrev pub invariant-loop-i : goal.invariant-loop-i
