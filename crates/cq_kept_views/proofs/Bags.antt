@@ -6,13 +6,15 @@ use Rattle.cq_bags.proofs.Bags.{projected-respects, same-refl}
 use Rattle.cq_bags.proofs.Linears.{projected-append}
 use Rattle.cq_bags.proofs.Positives.{projected-bag}
 use Rattle.cq_bags.specs.Bag.{IsBag, SameBag, Weighted, projected}
+use Rattle.cq_bags.specs.Join.{HasWidth}
 use Rattle.cq_chains.specs.Steps.{AreStored}
 use Rattle.cq_kept.specs.Delta.{changed}
-use Rattle.cq_kept_views.specs.Cut.{cut_bags, cut_to, entry_of}
+use Rattle.cq_kept.specs.Pushed.{HaveWidths}
+use Rattle.cq_kept_views.specs.Cut.{cut_bags, cut_to, cut_width, entry_of, width_at}
 use Rattle.cq_laws.proofs.Positives.{once_each-bag}
 use Rattle.cq_model.specs.Group.{key_of}
 use Rattle.cq_model.specs.Meaning.{Tables}
-use Rattle.cq_narrow.proofs.Bags.{rows-stored}
+use Rattle.cq_narrow.proofs.Bags.{rows-stored, rows-wide}
 use Rattle.cq_narrow.specs.declared.columns.SourceColumns.{SourceColumns}
 use Rattle.cq_sides.proofs.RowByRow.{sizes-cons}
 use Rattle.cq_sides.specs.Held.{sizes}
@@ -49,6 +51,11 @@ pub cut-same : (x : Option SourceColumns) (xs ys : Weighted) → SameBag xs ys �
 cut-same None xs ys same = same-refl []
 cut-same (Some x) xs ys same = projected-respects (key_of x.columns) xs ys same
 
+-- and has the entry's columns alone
+cut-wide_rows : (x : Option SourceColumns) (xs : Weighted) → HasWidth (cut_width x) (cut_to x xs)
+cut-wide_rows None xs = tt
+cut-wide_rows (Some x) xs = rows-wide x.columns xs
+
 -- a list with the rows of a bag is one
 pub bag-same : (xs ys : Weighted) → SameBag xs ys → IsBag ys → IsBag xs
 bag-same xs ys same bag = record { at = λ r. rw (same.at r) (bag.at r) }
@@ -58,6 +65,10 @@ module _ (columns : List SourceColumns) where
   -- what changes of tables make of them is cut to what the changes that are cut make
   pub cut-changed : (tables changes : Tables) → cut_bags columns (changed tables changes) ≡ changed (cut_bags columns tables) (cut_bags columns changes)
   cut-changed tables changes = λ i s. cut-append (entry_of columns s) (tables s) (changes s) i
+
+  -- rows that are cut are as wide as they are cut to
+  pub cut-wide : (tables : Tables) → HaveWidths (width_at columns) (cut_bags columns tables)
+  cut-wide tables s = cut-wide_rows (entry_of columns s) (tables s)
 
   pub cut-bags : (tables : Tables) → AreBags tables → AreBags (cut_bags columns tables)
   cut-bags tables bags s = cut-bag (entry_of columns s) (tables s) (bags s)

@@ -8,11 +8,13 @@ use Rattle.cq_bags.proofs.Totals.{by_test}
 use Rattle.cq_bags.specs.Bag.{Weighted, once_each}
 use Rattle.cq_chains.specs.Chains.{nothing, spans}
 use Rattle.cq_chains.specs.Steps.{AreStored}
+use Rattle.cq_chains.specs.Work.{all_ticks}
 use Rattle.cq_columns.specs.Stored.{all_rows}
 use Rattle.cq_kept.specs.Delta.{changed}
 use Rattle.cq_kept_views.proofs.Bags.{all-weaker, cut-append, cut-bags, cut-none, cut-sizes, cut-stored}
+use Rattle.cq_kept_views.proofs.Told.{start-wide}
 use Rattle.cq_kept_views.proofs.Taking.{all-hold, bags_at-bags, can-first, can-second, can-swapped, fills-none, fills-swapped, only-bags, spans-less}
-use Rattle.cq_kept_views.specs.Cut.{cut_bags, cut_only, cut_table, cut_to, entry_of}
+use Rattle.cq_kept_views.specs.Cut.{IsFilled, cut_bags, cut_only, cut_table, cut_to, cut_widths, entry_of}
 use Rattle.cq_kept_views.specs.Filling.{CanFill, Fills, bags_at, only}
 use Rattle.cq_laws.proofs.Positives.{once_each-bag}
 use Rattle.cq_lent.specs.Lent.{same_source}
@@ -26,7 +28,7 @@ use Rattle.cq_narrow.specs.Narrow.{IsNarrowOf}
 use Rattle.cq_narrow.specs.declared.columns.SourceColumns.{SourceColumns}
 use Rattle.cq_narrow.specs.declared.narrow_query.NarrowQuery.{NarrowQuery}
 use Rattle.cq_sources.specs.declared.stored_source.StoredSource.{StoredSource}
-use Rattle.cq_upkeep.specs.State.{AreBags, CanStart, HoldStored, StandsFor}
+use Rattle.cq_upkeep.specs.State.{AreAsTold, AreBags, CanStart, HoldStored, SameView, StandsFor}
 use Rattle.cq_upkeep.specs.declared.state.ViewState.{ViewState}
 
 -- ---- rows of one table
@@ -101,23 +103,33 @@ some-left (r ∷ left) empty is_empty fails = omega arith
 
 -- ---- a state without rows, and the rows of all tables
 -- rows that it can start with can be taken in
-pub start-can : (v : ViewState) (query : Query) (more : Tables) → v.query ≡ query → CanStart query more → AreBags more → StandsFor v nothing → CanFill v more
-start-can v query more is start bags stands =
+pub start-can : (v : ViewState) (query : Query) (more : Tables) → v.query ≡ query → CanStart query more → AreBags more → StandsFor v nothing → AreAsTold v nothing more → CanFill v more
+start-can v query more is start bags stands wide =
     let own : CanStart v.query more = subst (λ (q : Query). CanStart q more) (sym is) start in
     record {
       can = record {
         can = own.can;
         tables = nothing;
         stands = stands;
+        wide = wide;
         few = own.few;
         stored = (all-hold (λ s. AreStored (nothing s)) (λ s. tt) (sources_of v.query), own.stored);
       };
       bags = (λ s. once_each-bag [], bags);
     }
 
--- and then it stands for them
-pub start-filled : (v w : ViewState) (more : Tables) → StandsFor v nothing → Fills more v w → StandsFor w more
-start-filled v w more stands fills = fills.stands nothing stands (λ s. once_each-bag [])
+-- and once it has taken them in, and counts no work of them, the state is theirs
+pub counted-anew : (columns : List SourceColumns) (query : Query) (now : ℕ) (rows : Tables) (v w : ViewState) → v.query ≡ query → v.widths ≡ cut_widths columns query
+    → v.epoch ≡ now → v.built ≡ now → StandsFor v nothing → Fills (cut_bags columns rows) v w
+    → (counted : ViewState) → SameView w counted → all_ticks counted.chain.steps.items ≡ 0 → IsFilled columns query now rows counted
+counted-anew columns query now rows v w is widths epoch built stands fills counted still none = record {
+  query = still.query ∙ fills.query ∙ is;
+  widths = still.widths ∙ fills.widths ∙ widths;
+  epoch = still.epoch ∙ fills.epoch ∙ epoch;
+  built = still.built ∙ fills.built ∙ built;
+  stands = still.stands (cut_bags columns rows) (fills.stands nothing stands (λ s. once_each-bag []) (start-wide v columns query rows is widths));
+  uncounted = none;
+}
 
 -- ---- a query over its columns
 module _ (query : Query) (widths : List ℕ) (narrow : NarrowQuery) (is : IsNarrowOf query widths narrow) where

@@ -5,3 +5,4 @@ pub mod Taking
 pub mod Filled
 pub mod Standing
 pub mod Showing
+pub mod Told

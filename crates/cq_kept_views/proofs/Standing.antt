@@ -1,18 +1,19 @@
 -- A view that stands for its tables, while changes wait for it and are put in.
-use Rattle.std.proofs.Common.{◌≡◌, ◌≤◌, ◌^◌, List, refl, sym, subst, arith}
+use Rattle.std.proofs.Common.{◌≡◌, ◌∙◌, ◌≤◌, ◌^◌, List, refl, sym, ap, subst, arith}
 use Rattle.std.specs.List.{AllByRecursion}
 use Rattle.cq_bags.proofs.Bags.{same-append, same-refl}
 use Rattle.cq_bags.specs.Bag.{SameBag}
 use Rattle.cq_chains.proofs.Storing.{stored-merged}
 use Rattle.cq_chains.proofs.WholeChains.{still-itself}
 use Rattle.cq_chains.specs.Chains.{spans}
+use Rattle.cq_chains.specs.Work as chains
 use Rattle.cq_chains.specs.Steps.{AreStored, span}
 use Rattle.cq_kept.specs.Delta.{changed}
 use Rattle.cq_kept_views.proofs.Bags.{all-weaker, bag-same, cut-bags, cut-changed, cut-same, cut-sizes, cut-stored}
 use Rattle.cq_kept_views.proofs.Sources.{small-read}
-use Rattle.cq_kept_views.specs.Cut.{AreCut, IsSmall, cut_bags, entry_of}
+use Rattle.cq_kept_views.specs.Cut.{AreCut, IsSmall, cut_bags, cut_widths, entry_of}
 use Rattle.cq_kept_views.specs.Laws.{CountsWithinWork, StandingDependsOnSources}
-use Rattle.cq_kept_views.specs.State.{CanPrepare, SameView, TakesIn, narrow_query}
+use Rattle.cq_kept_views.specs.State.{CanPrepare, CountsPairs, IsWaiting, SameView, TakesIn, narrow_query}
 use Rattle.cq_kept_views.specs.declared.kept_view.KeptView.{KeptView}
 use Rattle.cq_model.specs.Meaning.{Tables}
 use Rattle.cq_model.specs.Views.{sources_of}
@@ -21,6 +22,7 @@ use Rattle.cq_model.specs.declared.query.Source.{Source}
 use Rattle.cq_narrow.specs.Narrow.{IsNarrowOf}
 use Rattle.cq_pushes.proofs.Sizes.{sizes-least}
 use Rattle.cq_kept_views.proofs.Taking.{all-hold, spans-less}
+use Rattle.cq_kept_views.proofs.Told.{all-wide, changes-wide}
 use Rattle.cq_upkeep.proofs.SameBags.{standing-by_sources}
 use Rattle.cq_upkeep.proofs.Working.{counts-within_work}
 use Rattle.cq_upkeep.specs.State.{AreBags, HoldStored}
@@ -29,10 +31,14 @@ use Rattle.cq_upkeep.specs.declared.state.Pending.{Pending}
 use Rattle.cq_upkeep.specs.declared.state.ViewState.{ViewState}
 
 -- ---- states of the same query
-module _ (v : KeptView) (w : ViewState) (same : w.query ≡ v.state.query) where
+module _ (v : KeptView) (w : ViewState) (same : w.query ≡ v.state.query) (told : w.widths ≡ v.state.widths) where
   -- the query is that over the same columns
   narrow-still : IsNarrowOf v.query v.widths (narrow_query v) → IsNarrowOf v.query v.widths (record { query = w.query; columns = v.columns })
   narrow-still is = subst (λ (q : Query). IsNarrowOf v.query v.widths (record { query = q; columns = v.columns })) (sym same) is
+
+  -- and its sources are as wide
+  widths-still : v.state.widths ≡ cut_widths v.columns v.state.query → w.widths ≡ cut_widths v.columns w.query
+  widths-still is = told ∙ is ∙ ap (cut_widths v.columns) (sym same)
 
   -- with what waited put in, the view stands for the changed tables
   pub all-taken : (pending : Pending) → inner.TakesIn v.state pending w → TakesIn v pending (record v { state = w })
@@ -46,6 +52,7 @@ module _ (v : KeptView) (w : ViewState) (same : w.query ≡ v.state.query) where
       let all : AreBags (changed old waits.cut) = λ s. bag-same (changed old waits.cut s) (now s) (alike s) (cut-bags columns (changed tables changes) bags s) in
       record {
         narrow = narrow-still stands.narrow;
+        widths = widths-still stands.widths;
         rows = standing-by_sources w (changed old waits.cut) now (all-hold (λ s. SameBag (changed old waits.cut s) (now s)) alike (sources_of w.query)) (takes old waits.cut stands.rows waits.waits all);
       }
 
@@ -55,7 +62,7 @@ same-itself v = record {
   query = refl;
   widths = refl;
   columns = refl;
-  state = record { query = refl; epoch = refl; built = refl; sides = still-itself v.state.chain; last = refl; stands = λ tables h. h };
+  state = record { query = refl; widths = refl; epoch = refl; built = refl; sides = still-itself v.state.chain; last = refl; stands = λ tables h. h };
   stands = λ tables h. h;
 }
 
@@ -85,10 +92,24 @@ module _ (v : KeptView) (changes : Tables) (can : CanPrepare v changes) where
           can = is.kept can.can;
           tables = cut_bags v.columns can.tables;
           stands = can.stands.rows;
+          wide = all-wide v can.tables cut can.stands.widths (changes-wide v.columns changes cut are);
           few = subst (λ (ss : List Source). spans (cut_bags v.columns can.tables) cut ss ≤ 2 ^ 122) (sym is.sources) few;
           stored =
               subst (λ (ss : List Source). AllByRecursion (λ s. AreStored (cut_bags v.columns can.tables s)) ss × AllByRecursion (λ s. AreStored (cut s)) ss) (sym is.sources) (before, after);
         }
+
+    module _ (w : ViewState) (pending : Pending) (waits : inner.IsWaiting v.state cut w pending) where
+      -- with what waits for the state the changes wait for the view
+      pub cut-waits : IsWaiting v changes (record v { state = w }) pending
+      cut-waits tables stands = record {
+        cut = cut;
+        same = are.same;
+        waits = waits (cut_bags v.columns tables) stands.rows (all-wide v tables cut stands.widths (changes-wide v.columns changes cut are));
+      }
+
+      -- and what the state counted was for them
+      pub cut-counts : chains.CountsPairs v.state.chain cut w.chain → CountsPairs v changes (record v { state = w }) pending
+      cut-counts counts = record { cut = cut; same = are.same; wide = changes-wide v.columns changes cut are; waits = waits; counts = counts }
 
 -- ---- laws
 pub standing-by_bags : StandingDependsOnSources
@@ -96,6 +117,7 @@ standing-by_bags v tables others same stands =
     let cuts = all-weaker (λ s. SameBag (tables s) (others s)) (λ s. SameBag (cut_bags v.columns tables s) (cut_bags v.columns others s)) (λ s h. cut-same (entry_of v.columns s) (tables s) (others s) h) (sources_of v.query) same in
     record {
       narrow = stands.narrow;
+      widths = stands.widths;
       rows =
           standing-by_sources v.state (cut_bags v.columns tables) (cut_bags v.columns others)
           (subst (λ (ss : List Source). AllByRecursion (λ s. SameBag (cut_bags v.columns tables s) (cut_bags v.columns others s)) ss) (sym stands.narrow.sources) cuts) stands.rows;
@@ -103,5 +125,6 @@ standing-by_bags v tables others same stands =
 
 pub counts-within : CountsWithinWork
 counts-within tables changes old ready new pending stands same waiting entries =
-    counts-within_work (cut_bags old.columns tables) waiting.cut old.state ready.state new.state pending stands.rows same.state waiting.counts
-    (waiting.waits (cut_bags old.columns tables) stands.rows) entries
+    let wide = all-wide old tables waiting.cut stands.widths waiting.wide in
+    counts-within_work (cut_bags old.columns tables) waiting.cut old.state ready.state new.state pending stands.rows wide same.state waiting.counts
+    (waiting.waits (cut_bags old.columns tables) stands.rows wide) entries

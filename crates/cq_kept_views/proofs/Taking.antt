@@ -8,11 +8,14 @@ use Rattle.cq_values.specs.Value.{Row}
 use Rattle.cq_bags.proofs.Bags.{same-append, same-refl}
 use Rattle.cq_bags.proofs.Totals.{by_test, weight_of-append}
 use Rattle.cq_bags.specs.Bag.{Weighted, SameBag, IsBag, once_each}
+use Rattle.cq_bags.specs.Join.{HasWidth}
 use Rattle.cq_bags.specs.Size.{IsClean}
 use Rattle.cq_columns.specs.Stored.{all_rows}
 use Rattle.cq_kept.specs.Delta.{SameTables, changed}
 use Rattle.cq_kept_views.specs.Filling.{CanFill, Fills, bags_at, only}
 use Rattle.cq_laws.proofs.Positives.{once_each-bag}
+use Rattle.cq_laws.specs.Sizes.{IsStored}
+use Rattle.cq_kept_views.proofs.Told.{all-back, all-front, wide-first, wide-second, wide-swapped}
 use Rattle.cq_lent.specs.Lent.{same_source}
 use Rattle.cq_model.specs.Meaning.{Tables}
 use Rattle.cq_model.specs.Views.{sources_of}
@@ -21,13 +24,13 @@ use Rattle.cq_model.specs.declared.query.Source.{Source}
 use Rattle.cq_pushes.proofs.Sizes.{sizes-least}
 use Rattle.cq_sides.proofs.RowByRow.{sizes-append, sizes-cons}
 use Rattle.cq_sides.specs.Held.{sizes}
-use Rattle.cq_chains.proofs.Storing.{stored-append, stored-merged}
+use Rattle.cq_chains.proofs.Storing.{merged-all, stored-append, stored-merged}
 use Rattle.cq_chains.specs.Chains.{spans}
 use Rattle.cq_chains.specs.Steps.{AreStored, span}
 use Rattle.cq_sources.specs.declared.stored_source.StoredSource.{StoredSource}
 use Rattle.cq_upkeep.proofs.SameBags.{standing-by_sources}
 use Rattle.cq_upkeep.specs.Query.{CanBeKept}
-use Rattle.cq_upkeep.specs.State.{AreBags, CanPrepare, HoldStored, IsWaiting, SameView, StandsFor, TakesIn}
+use Rattle.cq_upkeep.specs.State.{AreBags, AreAsTold, CanPrepare, HoldStored, IsWaiting, SameView, StandsFor, TakesIn}
 use Rattle.cq_upkeep.specs.declared.state.Pending.{Pending}
 use Rattle.cq_upkeep.specs.declared.state.ViewState.{ViewState}
 
@@ -57,12 +60,10 @@ spans-less tables changes others more less (s ∷ sources) =
 
 -- ---- Rows beside others
 stored-front : (xs ys : Weighted) → AreStored (xs ++ ys) → AreStored xs
-stored-front [] ys all = tt
-stored-front (x ∷ xs) ys all = (all.0, stored-front xs ys all.1)
+stored-front xs ys all = all-front IsStored xs ys all
 
 stored-back : (xs ys : Weighted) → AreStored (xs ++ ys) → AreStored ys
-stored-back [] ys all = all
-stored-back (x ∷ xs) ys all = stored-back xs ys all.1
+stored-back xs ys all = all-back IsStored xs ys all
 
 pub bag-append : (xs ys : Weighted) → IsBag xs → IsBag ys → IsBag (xs ++ ys)
 bag-append xs ys first second = record { at = λ r. omega (arith, ints, weight_of-append xs ys r, first.at r, second.at r) }
@@ -70,25 +71,28 @@ bag-append xs ys first second = record { at = λ r. omega (arith, ints, weight_o
 pub bags-changed : (tables changes : Tables) → AreBags tables → AreBags changes → AreBags (changed tables changes)
 bags-changed tables changes first second s = bag-append (tables s) (changes s) (first s) (second s)
 
--- a view that has taken rows in has taken in each list with their bag
-pub fills-same : (old new : ViewState) (more others : Tables) → SameTables more others → Fills more old new → Fills others old new
-fills-same old new more others same fills = record {
+-- a view that has taken rows in has taken in each list with their bag, where it is as wide
+pub fills-same : (old new : ViewState) (more others : Tables) → SameTables more others → ((tables : Tables) → AreAsTold old tables others → AreAsTold old tables more)
+    → Fills more old new → Fills others old new
+fills-same old new more others same as_wide fills = record {
   query = fills.query;
+  widths = fills.widths;
   epoch = fills.epoch;
   built = fills.built;
-  stands = λ tables stands bags.
+  stands = λ tables stands bags wide.
       standing-by_sources new (changed tables more) (changed tables others)
       (all-hold (λ s. SameBag (tables s ++ more s) (tables s ++ others s)) (λ s. same-append (tables s) (tables s) (more s) (others s) (same-refl (tables s)) (same.at s)) (sources_of new.query))
-      (fills.stands tables stands bags);
+      (fills.stands tables stands bags (as_wide tables wide));
 }
 
 -- where there is none, it is as it was
 pub fills-none : (v : ViewState) (more : Tables) → ((s : Source) → more s ≡ []) → Fills more v v
 fills-none v more none = record {
   query = refl;
+  widths = refl;
   epoch = refl;
   built = refl;
-  stands = λ tables stands bags.
+  stands = λ tables stands bags wide.
       let same : (s : Source) → tables s ≡ tables s ++ more s = λ s. sym (append-nil (tables s)) ∙ ap (λ (xs : Weighted). tables s ++ xs) (sym (none s)) in
       subst (λ (ts : Tables). StandsFor v ts) (λ i s. same s i) stands;
 }
@@ -98,6 +102,7 @@ module _ (v : ViewState) (a b : Tables) (first : AreBags a) (second : AreBags b)
   pub can-first : CanFill v (changed a b) → CanFill v a
   can-first can =
       let tables = can.can.tables in
+      let wide = wide-first v tables a b can.can.wide in
       let less = spans-less tables a tables (changed a b) (λ s. omega (arith, sizes-append (a s) (b s))) (sources_of v.query) in
       let whole = can.can.stored.1 in
       record {
@@ -105,6 +110,7 @@ module _ (v : ViewState) (a b : Tables) (first : AreBags a) (second : AreBags b)
           can = can.can.can;
           tables = tables;
           stands = can.can.stands;
+          wide = wide;
           few = omega (arith, can.can.few, less);
           stored = (
             can.can.stored.0,
@@ -118,6 +124,7 @@ module _ (v : ViewState) (a b : Tables) (first : AreBags a) (second : AreBags b)
   pub can-swapped : CanFill v (changed a b) → CanFill v (changed b a)
   can-swapped can =
       let tables = can.can.tables in
+      let wide = wide-swapped v tables a b can.can.wide in
       let less = spans-less tables (changed b a) tables (changed a b) (λ s. omega (arith, sizes-append (a s) (b s), sizes-append (b s) (a s))) (sources_of v.query) in
       let whole = can.can.stored.1 in
       record {
@@ -125,6 +132,7 @@ module _ (v : ViewState) (a b : Tables) (first : AreBags a) (second : AreBags b)
           can = can.can.can;
           tables = tables;
           stands = can.can.stands;
+          wide = wide;
           few = omega (arith, can.can.few, less);
           stored = (
             can.can.stored.0,
@@ -149,7 +157,8 @@ module _ (v : ViewState) (a b : Tables) (first : AreBags a) (second : AreBags b)
         can = record {
           can = subst CanBeKept (sym fills.query) can.can.can;
           tables = changed tables a;
-          stands = fills.stands tables can.can.stands can.bags.0;
+          stands = fills.stands tables can.can.stands can.bags.0 (wide-first v tables a b can.can.wide);
+          wide = wide-second v tables a b can.can.wide w fills.query fills.widths;
           few = subst (λ (q : Query). spans (changed tables a) b (sources_of q) ≤ 2 ^ 122) (sym fills.query) few;
           stored = subst (λ (q : Query). HoldStored q (changed tables a) × HoldStored q b) (sym fills.query) (before, after);
         };
@@ -160,16 +169,18 @@ module _ (v : ViewState) (a b : Tables) (first : AreBags a) (second : AreBags b)
   pub fills-both : (w x : ViewState) → Fills a v w → Fills b w x → Fills (changed a b) v x
   fills-both w x one two = record {
     query = two.query ∙ one.query;
+    widths = two.widths ∙ one.widths;
     epoch = two.epoch ∙ one.epoch;
     built = two.built ∙ one.built;
-    stands = λ tables stands bags.
+    stands = λ tables stands bags wide.
         subst (λ (ts : Tables). StandsFor x ts) (λ i s. append_assoc (tables s) (a s) (b s) i)
-        (two.stands (changed tables a) (one.stands tables stands bags) (bags-changed tables a bags first));
+        (two.stands (changed tables a) (one.stands tables stands bags (wide-first v tables a b wide)) (bags-changed tables a bags first)
+        (wide-second v tables a b wide w one.query one.widths));
   }
 
   -- also where the others stand in front
   pub fills-swapped : (w x : ViewState) → Fills a v w → Fills b w x → Fills (changed b a) v x
-  fills-swapped w x one two = fills-same v x (changed a b) (changed b a) (record { at = λ s. swapped s }) (fills-both w x one two)
+  fills-swapped w x one two = fills-same v x (changed a b) (changed b a) (record { at = λ s. swapped s }) (λ tables wide. wide-swapped v tables b a wide) (fills-both w x one two)
     where
       swapped : (s : Source) → SameBag (a s ++ b s) (b s ++ a s)
       swapped s = record { at = λ r. omega (arith, ints, weight_of-append (a s) (b s) r, weight_of-append (b s) (a s) r) }
@@ -212,6 +223,15 @@ module _ (v : ViewState) (source : Source) (left front rest : List Row) (parts :
 
 -- rows as they are copied
 module _ (v : ViewState) (source : Source) (rows : List Row) (once : Weighted) (clean : IsClean once) (same : SameBag once (once_each rows)) where
+  -- they are as wide as the rows
+  copies-wide : (tables : Tables) → AreAsTold v tables (only source (once_each rows)) → AreAsTold v tables (only source once)
+  copies-wide tables wide = record { width = wide.width; told = wide.told; rows = wide.rows; more = λ s. each s }
+    where
+      each : (s : Source) → HasWidth (wide.width s) (only source once s)
+      each s = by_test (same_source source s)
+          (λ k. rw k (merged-all (λ r. length r ≡ wide.width s) once (once_each rows) clean same (rw k at (wide.more s))))
+          (λ k. rw k tt)
+
   pub can-prepare : CanFill v (only source (once_each rows)) → CanPrepare v (only source once)
   can-prepare can =
       let tables = can.can.tables in
@@ -220,6 +240,7 @@ module _ (v : ViewState) (source : Source) (rows : List Row) (once : Weighted) (
         can = can.can.can;
         tables = tables;
         stands = can.can.stands;
+        wide = copies-wide tables can.can.wide;
         few = omega (arith, can.can.few, spans-less tables (only source once) tables (only source (once_each rows)) less (sources_of v.query));
         stored = (
           can.can.stored.0,
@@ -235,14 +256,15 @@ module _ (v : ViewState) (source : Source) (rows : List Row) (once : Weighted) (
       stored s all = by_test (same_source source s) (λ k. rw k (stored-merged once (once_each rows) clean same (rw k at all))) (λ k. rw k tt)
 
   -- what was prepared of them and put in are they
-  pub copies-filled : (w x : ViewState) (pending : Pending) → SameView v w → IsWaiting v (only source once) w pending → TakesIn w pending x → x.query ≡ w.query → x.epoch ≡ v.epoch → x.built ≡ w.built
+  pub copies-filled : (w x : ViewState) (pending : Pending) → SameView v w → IsWaiting v (only source once) w pending → TakesIn w pending x → x.query ≡ w.query → x.widths ≡ w.widths → x.epoch ≡ v.epoch → x.built ≡ w.built
       → Fills (only source (once_each rows)) v x
-  copies-filled w x pending still waits takes query epoch built =
-      fills-same v x (only source once) (only source (once_each rows)) (record { at = alike }) (record {
+  copies-filled w x pending still waits takes query widths epoch built =
+      fills-same v x (only source once) (only source (once_each rows)) (record { at = alike }) copies-wide (record {
         query = query ∙ still.query;
+        widths = widths ∙ still.widths;
         epoch = epoch;
         built = built ∙ still.built;
-        stands = λ tables stands bags. takes tables (only source once) (still.stands tables stands) (waits tables stands) (bags-changed tables (only source once) bags copies-bags);
+        stands = λ tables stands bags wide. takes tables (only source once) (still.stands tables stands) (waits tables stands wide) (bags-changed tables (only source once) bags copies-bags);
       })
     where
       copies-bags : AreBags (only source once)

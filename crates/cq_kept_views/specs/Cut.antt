@@ -1,5 +1,5 @@
 -- Rows that are cut to the columns that a query reads of its sources.
-use Rattle.std.specs.Prelude.{◌≡◌, ◌<◌, ◌^◌, ℕ, if◌then◌else◌, List, [], ◌∷◌, map, Option, Some, None}
+use Rattle.std.specs.Prelude.{◌≡◌, ◌<◌, ◌^◌, ℕ, if◌then◌else◌, List, [], ◌∷◌, length, map, Option, Some, None}
 use Rattle.cq_values.specs.Value.{Row}
 use Rattle.cq_bags.specs.Bag.{SameBag, Weighted, once_each, projected}
 use Rattle.cq_bags.specs.Size.{IsClean}
@@ -10,6 +10,7 @@ use Rattle.cq_kept_views.specs.Filling.{only}
 use Rattle.cq_lent.specs.Lent.{same_source}
 use Rattle.cq_model.specs.Group.{key_of}
 use Rattle.cq_model.specs.Meaning.{Tables}
+use Rattle.cq_model.specs.Views.{sources_of}
 use Rattle.cq_model.specs.declared.query.Query.{Query}
 use Rattle.cq_model.specs.declared.query.Source.{Source}
 use Rattle.cq_narrow.specs.declared.columns.SourceColumns.{SourceColumns}
@@ -31,6 +32,19 @@ cut_to (Some x) xs = projected (key_of x.columns) xs
 -- each source that has an entry by its rows with these columns alone, and the others by none
 abbrev pub cut_bags : List SourceColumns → Tables → Tables
 cut_bags columns tables source = cut_to (entry_of columns source) (tables source)
+
+-- how many columns rows have that are cut to those of an entry
+abbrev pub cut_width : Option SourceColumns → ℕ
+cut_width None = 0
+cut_width (Some x) = length x.columns
+
+-- and those of a source
+abbrev pub width_at : List SourceColumns → Source → ℕ
+width_at columns source = cut_width (entry_of columns source)
+
+-- and those of each source of a query, in the order of FROM
+abbrev pub cut_widths : List SourceColumns → Query → List ℕ
+cut_widths columns q = map (width_at columns) (sources_of q)
 
 -- ---- changes
 -- the changes of an entry's source are few enough to be added up
@@ -56,10 +70,11 @@ cut_table columns table = cut_bags columns (only table.source (once_each (all_ro
 abbrev pub cut_only : Source → List ℕ → List Row → Tables
 cut_only source columns rows = only source (once_each (map (key_of columns) rows))
 
--- the state of a query at the epoch stands for these rows, and no work was counted
-pub record IsFilled (q : Query) (now : ℕ) (rows : Tables) (state : ViewState) : Type 0 where
+-- the state of a query stands at the epoch for rows that are cut to its columns, and no work was counted
+pub record IsFilled (columns : List SourceColumns) (q : Query) (now : ℕ) (rows : Tables) (state : ViewState) : Type 0 where
   pub query : state.query ≡ q
+  pub widths : state.widths ≡ cut_widths columns q
   pub epoch : state.epoch ≡ now
   pub built : state.built ≡ now
-  pub stands : StandsFor state rows
+  pub stands : StandsFor state (cut_bags columns rows)
   pub uncounted : all_ticks state.chain.steps.items ≡ 0

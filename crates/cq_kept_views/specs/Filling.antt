@@ -8,7 +8,7 @@ use Rattle.cq_lent.specs.Lent.{same_source}
 use Rattle.cq_model.specs.Meaning.{Tables}
 use Rattle.cq_model.specs.declared.query.Source.{Source}
 use Rattle.cq_sources.specs.declared.stored_source.StoredSource.{StoredSource}
-use Rattle.cq_upkeep.specs.State.{AreBags, CanPrepare, StandsFor}
+use Rattle.cq_upkeep.specs.State.{AreBags, AreAsTold, CanPrepare, StandsFor}
 use Rattle.cq_upkeep.specs.declared.state.ViewState.{ViewState}
 
 -- a source with these rows, and the others with none
@@ -27,6 +27,8 @@ pub record CanFill (v : ViewState) (more : Tables) : Type 0 where
 -- a state of the same query at the same epochs stands for the rows with these put in
 pub record Fills (more : Tables) (old new : ViewState) : Type 0 where
   pub query : new.query ≡ old.query
+  pub widths : new.widths ≡ old.widths
   pub epoch : new.epoch ≡ old.epoch
   pub built : new.built ≡ old.built
-  pub stands : (tables : Tables) → StandsFor old tables → AreBags tables → StandsFor new (changed tables more)
+  pub stands : (tables : Tables) → StandsFor old tables → AreBags tables → AreAsTold old tables more
+      → StandsFor new (changed tables more)

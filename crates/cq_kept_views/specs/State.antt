@@ -4,7 +4,8 @@ use Rattle.cq_chains.specs.Chains.{spans}
 use Rattle.cq_chains.specs.Work.{all_ticks}
 use Rattle.cq_chains.specs.Work as chains
 use Rattle.cq_kept.specs.Delta.{SameTables, changed}
-use Rattle.cq_kept_views.specs.Cut.{cut_bags}
+use Rattle.cq_kept.specs.Pushed.{HaveWidths}
+use Rattle.cq_kept_views.specs.Cut.{cut_bags, cut_widths, width_at}
 use Rattle.cq_kept_views.specs.declared.kept_view.KeptView.{KeptView}
 use Rattle.cq_model.specs.Meaning.{Tables}
 use Rattle.cq_model.specs.Views.{sources_of}
@@ -25,11 +26,13 @@ narrow_query v = record { query = v.state.query; columns = v.columns }
 -- the state is of the query over the columns that it reads, and stands for the tables' rows that are cut to these
 pub record StandsFor (v : KeptView) (tables : Tables) : Type 0 where
   pub narrow : IsNarrowOf v.query v.widths (narrow_query v)
+  pub widths : v.state.widths ≡ cut_widths v.columns v.state.query
   pub rows : inner.StandsFor v.state (cut_bags v.columns tables)
 
 -- columns of a query, and its state over these at the epoch, which stands for the tables and counted no work
 pub record IsOver (q : Query) (widths : List ℕ) (tables : Tables) (now : ℕ) (made : List SourceColumns × ViewState) : Type 0 where
   pub narrow : IsNarrowOf q widths (record { query = made.1.query; columns = made.0 })
+  pub cut : made.1.widths ≡ cut_widths made.0 made.1.query
   pub epoch : made.1.epoch ≡ now
   pub built : made.1.built ≡ now
   pub rows : inner.StandsFor made.1 (cut_bags made.0 tables)
@@ -69,6 +72,7 @@ IsWaiting old changes new pending = (tables : Tables) → StandsFor old tables �
 pub record CountsPairs (old : KeptView) (changes : Tables) (new : KeptView) (pending : Pending) : Type 0 where
   pub cut : Tables
   pub same : SameTables cut (cut_bags old.columns changes)
+  pub wide : HaveWidths (width_at old.columns) cut
   pub waits : inner.IsWaiting old.state cut new.state pending
   pub counts : chains.CountsPairs old.state.chain cut new.state.chain
 

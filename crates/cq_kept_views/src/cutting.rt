@@ -4,16 +4,20 @@ ghost use Rattle.std.specs.Prelude.{◌<◌, ◌≡◌, ◌≤◌, ◌^◌, IfOk
 ghost use Rattle.cq_bags.specs.Bag.{SameBag, once_each};
 ghost use Rattle.cq_bags.specs.Size.{IsClean};
 ghost use Rattle.cq_columns.specs.Stored.{front_rows};
-ghost use Rattle.cq_kept_views.specs.Cut.{IsCut, entry_of};
+ghost use Rattle.cq_kept_views.specs.Cut.{IsCut, cut_widths, entry_of, width_at};
 ghost use Rattle.cq_model.specs.Group.{key_of};
 ghost use Rattle.cq_sides.specs.Held.{sizes};
 
 use cq_columns::Front;
 use cq_eval::key_of;
-use cq_model::Source;
+use cq_model::{Query, Source};
 use cq_narrow::SourceColumns;
 use cq_sides::Weights;
+use cq_values::Seq;
 use std::alloc::{AllocError, Global};
+
+/// For how many rows room is made at once.
+const ROOM: usize = 1_024;
 
 /// The first entry of a source.
 pub(crate) fn entry_of(columns: &[SourceColumns], source: Source) -> Option<&SourceColumns>
@@ -27,6 +31,31 @@ pub(crate) fn entry_of(columns: &[SourceColumns], source: Source) -> Option<&Sou
     None
 }
 
+/// How many columns the rows of each source of a query are cut to, in the order of FROM.
+pub(crate) fn cut_widths(
+    alloc: Global,
+    columns: &[SourceColumns],
+    query: &Query,
+) -> Result<Seq<usize>, AllocError>
+    ensures { IfOk result (λ widths. widths ≡ cut_widths columns.now query.now) }
+{
+    let mut widths = Seq::new(alloc);
+    widths.push(width_at(columns, query.first))?;
+    for join in query.joins.as_slice() {
+        widths.push(width_at(columns, join.source))?;
+    }
+    Ok(widths)
+}
+
+fn width_at(columns: &[SourceColumns], source: Source) -> usize
+    ensures { result ≡ width_at columns.now source }
+{
+    match entry_of(columns, source) {
+        Some(entry) => entry.columns.len(),
+        None => 0,
+    }
+}
+
 /// Each of these rows once, cut to columns.
 pub(crate) fn cut_once(
     alloc: Global,
@@ -38,6 +67,7 @@ pub(crate) fn cut_once(
     ensures clean { IfOk result (λ w. IsClean w.entries) }
 {
     let mut once = Weights::new(alloc);
+    once.reserve(front.len())?;
     for place in 0..front.len() {
         let short = front.row(place).cut(alloc, columns)?;
         once.add(short, 1)?;
@@ -56,6 +86,7 @@ pub(crate) fn cut_rows(
     ensures { IfOk result (IsCut columns.now rows.now.entries) }
 {
     let mut cut = Weights::new(alloc);
+    cut.reserve(rows.len().min(ROOM))?;
     for place in 0..rows.len() {
         let (row, weight) = rows.pair_at(place);
         let short = key_of(alloc, columns, row.as_slice())?;

@@ -1,11 +1,12 @@
 //! Rows of tables that are cut to the columns that a query reads, and taken in, some at a time.
-ghost use Rattle.std.specs.Prelude.{◌≤◌, IfOk, OnOk, length};
+ghost use Rattle.std.specs.Prelude.{◌≡◌, ◌≤◌, IfOk, OnOk, length};
+ghost use Rattle.cq_chains.specs.Chains.{nothing};
 ghost use Rattle.cq_columns.specs.Stored.{all_rows, front_rows};
-ghost use Rattle.cq_kept_views.specs.Cut.{IsFilled, cut_bags, cut_only, cut_table};
+ghost use Rattle.cq_kept_views.specs.Cut.{IsFilled, cut_bags, cut_only, cut_table, cut_widths};
 ghost use Rattle.cq_kept_views.specs.Filling.{CanFill, Fills, bags_at};
-ghost use Rattle.cq_upkeep.specs.State.{CanStart};
+ghost use Rattle.cq_upkeep.specs.State.{CanStart, StandsFor};
 
-use crate::cutting::{cut_once, entry_of};
+use crate::cutting::{cut_once, cut_widths, entry_of};
 use cq_chains::SourceRows;
 use cq_columns::{Front, Stored};
 use cq_model::{Query, Source};
@@ -23,9 +24,9 @@ pub(crate) fn filled(
     epoch: u64,
 ) -> Result<ViewState, AllocError>
     requires { CanStart query (cut_bags columns.now (bags_at tables.now)) }
-    ensures { IfOk result (IsFilled query epoch (cut_bags columns.now (bags_at tables.now))) }
+    ensures { IfOk result (IsFilled columns.now query epoch (bags_at tables.now)) }
 {
-    let mut view = ViewState::empty(alloc, query, epoch)?;
+    let mut view = empty(alloc, query, columns, epoch)?;
     match fill(alloc, &mut view, columns, tables) {
         Ok(()) => {
             view.restart();
@@ -33,6 +34,28 @@ pub(crate) fn filled(
         }
         Err(fault) => {
             drop(view);
+            Err(fault)
+        }
+    }
+}
+
+/// The state of a query over no rows, which are to be cut to its columns.
+fn empty(
+    alloc: Global,
+    query: Query,
+    columns: &[SourceColumns],
+    epoch: u64,
+) -> Result<ViewState, AllocError>
+    ensures query { IfOk result (λ v. v.query ≡ query) }
+    ensures widths { IfOk result (λ v. v.widths ≡ cut_widths columns.now query) }
+    ensures epoch { IfOk result (λ v. v.epoch ≡ epoch) }
+    ensures built { IfOk result (λ v. v.built ≡ epoch) }
+    ensures stands { IfOk result (λ v. StandsFor v nothing) }
+{
+    match cut_widths(alloc, columns, &query) {
+        Ok(widths) => ViewState::empty(alloc, query, widths, epoch),
+        Err(fault) => {
+            drop(query);
             Err(fault)
         }
     }
@@ -115,9 +138,7 @@ fn fill_with(
     let rows = cut_once(alloc, columns, front)?;
     let mut changes = Vec::new(alloc);
     changes.push(SourceRows { source, rows })?;
-    let prepared = view.prepare(alloc, &changes);
-    drop(changes);
-    let pending = prepared?;
+    let pending = view.prepare(alloc, changes)?;
     let epoch = view.epoch();
     view.commit(pending, epoch);
     Ok(())

@@ -121,9 +121,7 @@ impl KeptView {
         ensures counts { IfOk result (CountsPairs self.old (rows_at changes.now) self.new) }
     {
         let cut = cut_changes(alloc, self.columns.as_slice(), changes)?;
-        let pending = self.state.prepare(alloc, &cut);
-        drop(cut);
-        pending
+        self.state.prepare(alloc, cut)
     }
 
     /// Puts changes in that wait. It takes no memory, and cannot fail.

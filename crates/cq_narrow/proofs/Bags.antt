@@ -31,7 +31,7 @@ key-wide : (columns : List ℕ) (row : Row) → length (key_of columns row) ≡ 
 key-wide [] row = refl
 key-wide (c ∷ columns) row = omega (arith, key-wide columns row)
 
-rows-wide : (columns : List ℕ) (xs : Weighted) → HasWidth (length columns) (projected (key_of columns) xs)
+pub rows-wide : (columns : List ℕ) (xs : Weighted) → HasWidth (length columns) (projected (key_of columns) xs)
 rows-wide columns [] = tt
 rows-wide columns (x ∷ xs) = (key-wide columns x.0, rows-wide columns xs)
 

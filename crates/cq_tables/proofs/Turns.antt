@@ -52,6 +52,7 @@ still_then u v w s t = record {
 state_then : (u v w : ViewState) → inner.SameView u v → inner.SameView v w → inner.SameView u w
 state_then u v w s t = record {
   query = t.query ∙ s.query;
+  widths = t.widths ∙ s.widths;
   epoch = t.epoch ∙ s.epoch;
   built = t.built ∙ s.built;
   sides = still_then u.chain v.chain w.chain s.sides t.sides;

@@ -1,5 +1,6 @@
 pub mod Behind
 pub mod Changing
+pub mod Filtering
 pub mod Fitting
 pub mod Groups
 pub mod Imaging

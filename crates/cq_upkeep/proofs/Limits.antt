@@ -1,23 +1,20 @@
 -- Joined rows and what changes add to them are few where the sources are, and stored.
-use Rattle.std.proofs.Common.{◌∙◌, ℕ, ◌+◌, ◌*◌, ◌≤◌, ◌^◌, List, [], ◌∷◌, ◌++◌, map, arith}
+use Rattle.std.proofs.Common.{ℕ, ◌+◌, ◌*◌, ◌≤◌, ◌^◌, Bool, List, [], ◌∷◌, map, arith}
 use Rattle.std.proofs.Math.Nat.{mul_assoc}
-use Rattle.std.proofs.lemmas.Int.{ints}
 use Rattle.std.proofs.lemmas.Nat.{mul-le}
 use Rattle.std.specs.List.{AllByRecursion}
-use Rattle.cq_bags.proofs.Totals.{weight_of-append}
-use Rattle.cq_bags.specs.Bag.{Weighted, SameBag, joined}
+use Rattle.cq_values.specs.Value.{Row}
+use Rattle.cq_bags.specs.Bag.{Weighted, SameBag, filtered, joined}
 use Rattle.cq_bags.specs.Join.{join_change}
 use Rattle.cq_bags.specs.Size.{IsClean}
-use Rattle.cq_kept.specs.Delta.{chain_change, changed}
-use Rattle.cq_laws.proofs.Chains.{chain-law}
+use Rattle.cq_kept.specs.Delta.{chain_change}
 use Rattle.cq_model.specs.Meaning.{Tables, chain, joined_rows, keeps, meets}
 use Rattle.cq_model.specs.Views.{sources_of}
 use Rattle.cq_model.specs.declared.query.Join.{Join}
 use Rattle.cq_model.specs.declared.query.Query.{Query}
 use Rattle.cq_pushes.proofs.Limits.{join_within-product}
-use Rattle.cq_pushes.proofs.Sizes.{sizes-least}
 use Rattle.cq_sides.specs.Held.{sizes}
-use Rattle.cq_chains.proofs.Spans.{join-span, sizes-filtered}
+use Rattle.cq_chains.proofs.Spans.{join-span, sizes-filtered, sizes-passing}
 use Rattle.cq_chains.proofs.Storing.{stored-filtered, stored-joined}
 use Rattle.cq_chains.specs.Chains.{spans}
 use Rattle.cq_chains.specs.Steps.{AreStored, span}
@@ -70,17 +67,11 @@ module _ (query : Query) where
   pub rows-stored : (tables : Tables) → HoldStored query tables → AreStored (joined_rows query tables)
   rows-stored tables stored = stored-filtered (keeps query.filter) (all_rows tables) (stored-chain tables (tables query.first) query.joins stored.0 stored.1)
 
-  -- rows that change the joined rows, each of them once, are few beside them
-  pub rows-few : (tables changes : Tables) (given : Weighted) → IsClean given → SameBag (all_rows (changed tables changes)) (all_rows tables ++ given)
+  -- rows that are some of those that change the joined rows, each of them once, are few beside them
+  pub rows-few : (tables changes : Tables) (keep : Row → Bool) (given : Weighted) → IsClean given
+      → SameBag given (filtered keep (chain_change tables changes (tables query.first) (changes query.first) query.joins))
       → spans tables changes (sources_of query) ≤ 2 ^ 122 → sizes (joined_rows query tables) + sizes given ≤ 2 ^ 122
-  rows-few tables changes given clean same few =
+  rows-few tables changes keep given clean same few =
       let more = chain_change tables changes (tables query.first) (changes query.first) query.joins in
-      let law = chain-law tables changes (tables query.first) (changes query.first) query.joins in
-      let is : SameBag given more = record {
-        at = λ r.
-            let a = same.at r ∙ weight_of-append (all_rows tables) given r in
-            let b = law.at r ∙ weight_of-append (all_rows tables) more r in
-            omega (arith, ints, a, b);
-      } in
       let whole : span (all_rows tables) more ≤ spans tables changes (sources_of query) = chain-span tables changes (tables query.first) (changes query.first) query.joins in
-      omega (arith, few, whole, sizes-least given more clean is, sizes-filtered (keeps query.filter) (all_rows tables))
+      omega (arith, few, whole, sizes-passing keep given more clean same, sizes-filtered (keeps query.filter) (all_rows tables))

@@ -37,7 +37,7 @@ standing-by_sources v tables others same stands =
     let first : SameBag (tables v.chain.first) (others v.chain.first) =
     subst (λ (s : Source). SameBag (tables s) (others s)) (sym is.first) same.0 in
     let joins : SameSources tables others (map (λ (s : Step). s.source) v.chain.steps.items) =
-    subst (λ (sources : List Source). SameSources tables others sources) (sym (chain-sources v.query v.chain is)) same.1 in
+    subst (λ (sources : List Source). SameSources tables others sources) (sym (chain-sources v.query v.widths v.chain is)) same.1 in
     record {
       is_of = is;
       sides =

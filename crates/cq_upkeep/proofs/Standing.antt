@@ -1,25 +1,27 @@
 -- A view that stands for its tables, while changes wait for it and are put in.
-use Rattle.std.proofs.Common.{◌≡◌, ℕ, ◌*◌, ◌≤◌, ◌^◌, List, ◌++◌, map, refl, sym, subst, arith}
+use Rattle.std.proofs.Common.{◌≡◌, ◌∙◌, ℕ, ◌*◌, ◌≤◌, ◌^◌, List, ◌++◌, map, refl, sym, ap, subst, arith}
 use Rattle.std.specs.List.{AllByRecursion}
 use Rattle.cq_bags.proofs.Bags.{filtered-respects}
 use Rattle.cq_bags.proofs.Linears.{filtered-append}
-use Rattle.cq_bags.specs.Bag.{Weighted, SameBag}
+use Rattle.cq_bags.proofs.Widths.{append-width}
+use Rattle.cq_bags.specs.Bag.{Weighted, SameBag, filtered}
 use Rattle.cq_bags.specs.Size.{IsClean}
-use Rattle.cq_kept.specs.Delta.{changed}
+use Rattle.cq_kept.specs.Delta.{chain_change, changed}
 use Rattle.cq_laws.proofs.Positives.{joined_rows-bag}
-use Rattle.cq_model.specs.Meaning.{Tables, chain, joined_rows, keeps}
+use Rattle.cq_model.specs.Meaning.{Tables, joined_rows, keeps}
 use Rattle.cq_model.specs.declared.query.Source.{Source}
 use Rattle.cq_chains.specs.Chains.{AreWaiting, CanChange, IsChange, IsStill, Takes, rows_of, spans}
-use Rattle.cq_chains.specs.Steps.{AreFew, AreStored, IsNarrowOnStored, span}
+use Rattle.cq_chains.specs.Steps.{AreFew, AreStored, span}
 use Rattle.cq_chains.specs.declared.chain.Chain.{Chain}
 use Rattle.cq_chains.specs.declared.chain.Waiting.{Waiting}
 use Rattle.cq_chains.specs.declared.step.Step.{Step}
 use Rattle.cq_upkeep.proofs.Behind.{seen-stands}
-use Rattle.cq_upkeep.proofs.Joining.{all-sources, chain-narrow, chain-rows, chain-sources, same-chain}
+use Rattle.cq_upkeep.proofs.Joining.{all-sources, chain-kept, chain-narrow, chain-sources, same-chain}
+use Rattle.cq_upkeep.proofs.Filtering.{given-filtered, passes}
 use Rattle.cq_upkeep.proofs.Limits.{rows-few, rows-stored}
 use Rattle.cq_upkeep.specs.Last.{CanTakeIn, GoesOn, IsChangeOf, kept_rows, seen}
 use Rattle.cq_upkeep.specs.Query.{aggregates_of}
-use Rattle.cq_upkeep.specs.State.{CanPrepare, IsWaiting, SameView, StandsFor, TakesIn}
+use Rattle.cq_upkeep.specs.State.{AreAsTold, CanPrepare, IsWaiting, SameView, StandsFor, TakesIn}
 use Rattle.cq_upkeep.specs.declared.last.Last.{Last as Stored}
 use Rattle.cq_upkeep.specs.declared.last.LastChange.{LastChange}
 use Rattle.cq_upkeep.specs.declared.state.Pending.{Pending}
@@ -35,7 +37,7 @@ module _ (v : ViewState) (changes : Tables) (can : CanPrepare v changes) where
   can-change =
       let is = can.stands.is_of in
       let tables = can.tables in
-      let same = chain-sources v.query v.chain is in
+      let same = chain-sources v.query v.widths v.chain is in
       let few : span (tables v.query.first) (changes v.query.first) * spans tables changes (map (λ j. j.source) v.query.joins) ≤ 2 ^ 122 = can.few in
       let here : span (tables v.chain.first) (changes v.chain.first) * spans tables changes sources ≤ 2 ^ 122 =
       subst (λ (s : Source). span (tables s) (changes s) * spans tables changes sources ≤ 2 ^ 122) (sym is.first)
@@ -52,43 +54,48 @@ module _ (v : ViewState) (changes : Tables) (can : CanPrepare v changes) where
         );
         rows = at tables can.stored.0.1;
         changes_stored = at changes can.stored.1.1;
-        narrow = (subst IsNarrowOnStored (sym is.condition) (λ row stored. tt), chain-narrow v.query v.chain is);
+        narrow = chain-narrow v.query v.widths v.chain is can.can.filter;
       }
 
-  -- the joined rows change by what the chain hands on
-  pub all-change : (given : Weighted) → IsChange v.chain changes given → (tables : Tables) → StandsFor v tables
-      → SameBag (chain (changed tables changes) (changed tables changes v.query.first) v.query.joins) (chain tables (tables v.query.first) v.query.joins ++ given)
-  all-change given change tables stands =
-      let old = chain-rows v.query v.chain stands.is_of tables in
-      let new = chain-rows v.query v.chain stands.is_of (changed tables changes) in
-      subst (λ (xs : Weighted). SameBag xs (chain tables (tables v.query.first) v.query.joins ++ given)) new
-      (subst (λ (xs : Weighted). SameBag (rows_of v.chain (changed tables changes)) (xs ++ given)) old (change tables stands.sides))
-
-  -- and what WHERE keeps changes by what WHERE keeps of these
-  kept-change : (given : Weighted) → IsChange v.chain changes given → (tables : Tables) → StandsFor v tables
+  -- what WHERE keeps of the joined rows changes by what it keeps of what the chain hands on
+  kept-change : (given : Weighted) → IsChange v.chain changes given → (tables : Tables) → StandsFor v tables → AreAsTold v tables changes
       → SameBag (joined_rows v.query (changed tables changes)) (joined_rows v.query tables ++ kept_rows v.query given)
-  kept-change given change tables stands =
+  kept-change given change tables stands wide =
       let keep = keeps v.query.filter in
-      let old = chain tables (tables v.query.first) v.query.joins in
-      let new = chain (changed tables changes) (changed tables changes v.query.first) v.query.joins in
-      subst (λ (xs : Weighted). SameBag (joined_rows v.query (changed tables changes)) xs) (filtered-append keep old given)
-      (filtered-respects keep new (old ++ given) (all-change given change tables stands))
+      let old = rows_of v.chain tables in
+      let kept = chain-kept v.query v.widths v.chain stands.is_of wide.width wide.told in
+      let before : filtered keep old ≡ joined_rows v.query tables = kept tables wide.rows in
+      let behind : filtered keep (rows_of v.chain (changed tables changes)) ≡ joined_rows v.query (changed tables changes) =
+      kept (changed tables changes) (λ s. append-width (wide.width s) (tables s) (changes s) (wide.rows s) (wide.more s)) in
+      let parts : filtered keep (old ++ given) ≡ joined_rows v.query tables ++ kept_rows v.query given =
+      filtered-append keep old given ∙ ap (λ (xs : Weighted). xs ++ kept_rows v.query given) before in
+      subst (λ (xs : Weighted). SameBag xs (joined_rows v.query tables ++ kept_rows v.query given)) behind
+      (subst (λ (xs : Weighted). SameBag (filtered keep (rows_of v.chain (changed tables changes))) xs) parts
+      (filtered-respects keep (rows_of v.chain (changed tables changes)) (old ++ given) (change tables stands.sides)))
 
   -- what stands behind the joins can take these in
   pub can-take_in : (given : Weighted) → IsChange v.chain changes given → IsClean given → AreFew given → CanTakeIn v.query v.last given
-  can-take_in given change clean few = record {
-    xs = joined_rows v.query can.tables;
-    stands = can.stands.last;
-    few = rows-few v.query can.tables changes given clean (all-change given change can.tables can.stands) can.few;
-    rows = (rows-stored v.query can.tables can.stored.0, few.stored);
-  }
+  can-take_in given change clean few =
+      let wide = can.wide in
+      let is = can.stands.is_of in
+      let tables = can.tables in
+      let passes = passes wide.width tables changes wide.rows wide.more v.chain can.stands.sides in
+      let own = given-filtered wide.width tables changes wide.rows wide.more v.chain can.stands.sides given change in
+      let whole : SameBag given (filtered passes (chain_change tables changes (tables v.query.first) (changes v.query.first) v.query.joins)) =
+      subst (λ (xs : Weighted). SameBag given (filtered passes xs)) (λ i. chain_change tables changes (tables (is.first i)) (changes (is.first i)) (is.joins i)) own in
+      record {
+        xs = joined_rows v.query tables;
+        stands = can.stands.last;
+        few = rows-few v.query tables changes passes given clean whole can.few;
+        rows = (rows-stored v.query tables can.stored.0, few.stored);
+      }
 
   -- and then they wait
   pub all-wait : (given : Weighted) → IsChange v.chain changes given → (c : Chain) (l : Stored) (waiting : Waiting) (more : LastChange) → IsChangeOf v.query (kept_rows v.query given) more
       → AreWaiting v.chain changes c waiting.joins.items → IsWaiting v changes (record v { chain = c; last = l }) (record { waiting = waiting; change = more })
-  all-wait given change c l waiting more is wait = λ tables stands. record {
+  all-wait given change c l waiting more is wait = λ tables stands wide. record {
     rows = kept_rows v.query given;
-    given = kept-change given change tables stands;
+    given = kept-change given change tables stands wide;
     last = is;
     sides = wait tables stands.sides;
   }
@@ -98,12 +105,13 @@ module _ (v : ViewState) (c : Chain) (l : Stored) where
   pub same-view : IsStill v.chain c → seen (aggregates_of v.query) l ≡ seen (aggregates_of v.query) v.last → SameView v (record v { chain = c; last = l })
   same-view still same = record {
     query = refl;
+    widths = refl;
     epoch = refl;
     built = refl;
     sides = still;
     last = same;
     stands = λ tables stands. record {
-      is_of = same-chain v.query v.chain c still.first still.condition still.joins stands.is_of;
+      is_of = same-chain v.query v.widths v.chain c still.first still.condition still.joins stands.is_of;
       sides = still.stands tables stands.sides;
       last = seen-stands v.query v.last l same (joined_rows v.query tables) stands.last;
     };
@@ -113,7 +121,7 @@ module _ (v : ViewState) (c : Chain) (l : Stored) where
   pub all-taken : (pending : Pending) (epoch : ℕ) → Takes v.chain pending.waiting.joins.items c → GoesOn v.last pending.change l
       → TakesIn v pending (record v { epoch = epoch; chain = c; last = l })
   all-taken pending epoch takes on = λ tables changes stands waits bags. record {
-    is_of = same-chain v.query v.chain c takes.first takes.condition takes.joins stands.is_of;
+    is_of = same-chain v.query v.widths v.chain c takes.first takes.condition takes.joins stands.is_of;
     sides = takes.stands tables changes stands.sides waits.sides;
     last =
         on v.query (joined_rows v.query tables) waits.rows (joined_rows v.query (changed tables changes)) waits.last waits.given

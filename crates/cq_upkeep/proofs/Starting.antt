@@ -4,8 +4,9 @@ use Rattle.cq_bags.specs.Bag.{Weighted, filtered}
 use Rattle.cq_chains.specs.Chains.{Stands, nothing}
 use Rattle.cq_model.specs.Meaning.{chain, keeps}
 use Rattle.cq_model.specs.declared.query.Join.{Join}
+use Rattle.cq_upkeep.specs.Joins.{IsChainOf}
 use Rattle.cq_upkeep.specs.Last.{StandsBehind}
-use Rattle.cq_upkeep.specs.State.{IsChainOf, StandsFor}
+use Rattle.cq_upkeep.specs.State.{StandsFor}
 use Rattle.cq_upkeep.specs.declared.state.ViewState.{ViewState}
 
 -- a chain of no rows has none
@@ -14,7 +15,7 @@ chain-none [] = refl
 chain-none (j ∷ js) = chain-none js
 
 -- a view stands for no rows where its joins do, and what stands behind them
-pub starts : (v : ViewState) → IsChainOf v.query v.chain → Stands nothing v.chain → StandsBehind v.query [] v.last → StandsFor v nothing
+pub starts : (v : ViewState) → IsChainOf v.query v.widths v.chain → Stands nothing v.chain → StandsBehind v.query [] v.last → StandsFor v nothing
 starts v is sides last = record {
   is_of = is;
   sides = sides;

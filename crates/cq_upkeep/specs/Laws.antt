@@ -7,7 +7,7 @@ use Rattle.cq_kept.specs.Delta.{chain_work}
 use Rattle.cq_model.specs.Meaning.{Tables}
 use Rattle.cq_model.specs.Views.{sources_of}
 use Rattle.cq_model.specs.declared.query.Query.{Query}
-use Rattle.cq_upkeep.specs.State.{SameView, StandsFor, WaitsFor}
+use Rattle.cq_upkeep.specs.State.{AreAsTold, SameView, StandsFor, WaitsFor}
 use Rattle.cq_upkeep.specs.declared.state.Pending.{Pending}
 use Rattle.cq_upkeep.specs.declared.state.ViewState.{ViewState}
 
@@ -21,10 +21,10 @@ StandingDependsOnSources =
 abbrev pub joins_work : Query → Tables → Tables → ℕ
 joins_work q tables changes = chain_work tables changes (tables q.first) (changes q.first) q.joins
 
--- for changes that are prepared and then put in, the counts rise by at most the work of the query's joins
+-- for changes that are prepared and then put in, the counts rise by at most the work of the query's joins over all rows
 abbrev pub CountsWithinWork : Type 0
 CountsWithinWork =
     (tables changes : Tables) (old ready new : ViewState) (pending : Pending)
-    → StandsFor old tables → SameView old ready → CountsPairs old.chain changes ready.chain
+    → StandsFor old tables → AreAsTold old tables changes → SameView old ready → CountsPairs old.chain changes ready.chain
     → WaitsFor tables changes ready pending → CountsEntries ready.chain pending.waiting.joins.items new.chain
     → all_ticks new.chain.steps.items ≤ all_ticks old.chain.steps.items + joins_work old.query tables changes

@@ -1,3 +1,4 @@
+pub mod Joins
 pub mod Last
 pub mod Laws
 pub mod Query

@@ -1,34 +1,22 @@
 -- A view as it is kept, the tables that it stands for, and what changes of them do.
-use Rattle.std.specs.Prelude.{◌≡◌, ◌≤◌, ◌*◌, ◌^◌, ℕ, List, [], ◌∷◌, ◌++◌, map, None}
+use Rattle.std.specs.Prelude.{◌≡◌, ◌≤◌, ◌*◌, ◌^◌, ℕ, List, [], ◌∷◌, ◌++◌, map}
 use Rattle.std.specs.List.{AllByRecursion, AllZip}
 use Rattle.cq_bags.specs.Bag.{Weighted, SameBag, IsBag}
 use Rattle.cq_kept.specs.Delta.{changed}
+use Rattle.cq_kept.specs.Pushed.{HaveWidths}
 use Rattle.cq_model.specs.Meaning.{Tables, joined_rows}
 use Rattle.cq_model.specs.Views.{sources_of}
-use Rattle.cq_model.specs.declared.query.Join.{Join}
 use Rattle.cq_model.specs.declared.query.Query.{Query}
 use Rattle.cq_model.specs.declared.query.Source.{Source}
 use Rattle.cq_sides.specs.Held.{sizes}
-use Rattle.cq_chains.specs.Chains.{IsStill, Stands, WaitFor, conditions_of, joins_of, nothing, spans}
+use Rattle.cq_chains.specs.Chains.{IsStill, Stands, WaitFor, nothing, spans}
 use Rattle.cq_chains.specs.Steps.{AreStored, CanTake}
-use Rattle.cq_chains.specs.declared.chain.Chain.{Chain}
-use Rattle.cq_chains.specs.declared.step.Conditions.{Conditions}
+use Rattle.cq_upkeep.specs.Joins.{IsChainOf}
 use Rattle.cq_upkeep.specs.Last.{CanPut, IsChangeOf, StandsBehind, seen}
 use Rattle.cq_upkeep.specs.Query.{CanBeKept, aggregates_of}
 use Rattle.cq_upkeep.specs.declared.last.Last.{Last as Stored}
 use Rattle.cq_upkeep.specs.declared.state.Pending.{Pending}
 use Rattle.cq_upkeep.specs.declared.state.ViewState.{ViewState}
-
--- for each join no condition
-abbrev pub none_for : List Join → List Conditions
-none_for joins = map (λ j. record { below = None; behind = None }) joins
-
--- the chain has the query's joins, and no conditions
-pub record IsChainOf (query : Query) (chain : Chain) : Type 0 where
-  pub first : chain.first ≡ query.first
-  pub condition : chain.condition ≡ None
-  pub joins : joins_of chain.steps.items ≡ query.joins
-  pub conditions : conditions_of chain.steps.items ≡ none_for query.joins
 
 -- it stands for the joined rows of the tables that WHERE keeps
 abbrev pub LastStandsFor : Query → Tables → Stored → Type 0
@@ -36,9 +24,16 @@ LastStandsFor query tables last = StandsBehind query (joined_rows query tables) 
 
 -- the joins stand for the tables, and the rest for the joined rows that WHERE keeps
 pub record StandsFor (v : ViewState) (tables : Tables) : Type 0 where
-  pub is_of : IsChainOf v.query v.chain
+  pub is_of : IsChainOf v.query v.widths v.chain
   pub sides : Stands tables v.chain
   pub last : LastStandsFor v.query tables v.last
+
+-- the rows of the sources and of their changes have as many columns as the view was told
+pub record AreAsTold (v : ViewState) (tables changes : Tables) : Type 0 where
+  pub width : Source → ℕ
+  pub told : map width (sources_of v.query) ≡ v.widths
+  pub rows : HaveWidths width tables
+  pub more : HaveWidths width changes
 
 -- no row is there less than never
 abbrev pub AreBags : Tables → Type 0
@@ -59,11 +54,12 @@ pub record CanStart (query : Query) (tables : Tables) : Type 0 where
   pub few : spans nothing tables (sources_of query) ≤ 2 ^ 122
   pub stored : HoldStored query tables
 
--- the view stands for stored rows, and they and the changes are few enough
+-- the view stands for stored rows, and they and the changes are as wide as it was told, and few enough
 pub record CanPrepare (v : ViewState) (changes : Tables) : Type 0 where
   pub can : CanBeKept v.query
   pub tables : Tables
   pub stands : StandsFor v tables
+  pub wide : AreAsTold v tables changes
   pub few : spans tables changes (sources_of v.query) ≤ 2 ^ 122
   pub stored : HoldStored v.query tables × HoldStored v.query changes
 
@@ -74,6 +70,7 @@ StaysStanding old new = (tables : Tables) → StandsFor old tables → StandsFor
 -- nothing is changed that is seen of a view, and it stands for what it stood for
 pub record SameView (old new : ViewState) : Type 0 where
   pub query : new.query ≡ old.query
+  pub widths : new.widths ≡ old.widths
   pub epoch : new.epoch ≡ old.epoch
   pub built : new.built ≡ old.built
   pub sides : IsStill old.chain new.chain
@@ -87,9 +84,10 @@ pub record WaitsFor (tables changes : Tables) (v : ViewState) (pending : Pending
   pub last : IsChangeOf v.query rows pending.change
   pub sides : WaitFor tables changes v.chain pending.waiting.joins.items
 
--- whatever tables the view stood for
+-- whatever tables the view stood for, as wide as it was told
 abbrev pub IsWaiting : ViewState → Tables → ViewState → Pending → Type 0
-IsWaiting old changes new pending = (tables : Tables) → StandsFor old tables → WaitsFor tables changes new pending
+IsWaiting old changes new pending =
+    (tables : Tables) → StandsFor old tables → AreAsTold old tables changes → WaitsFor tables changes new pending
 
 -- there is room for what waits, and no number leaves its range
 pub record CanCommit (v : ViewState) (pending : Pending) : Type 0 where

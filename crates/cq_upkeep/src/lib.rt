@@ -1,7 +1,8 @@
 //! The kept state of a view over tables that are joined.
 //!
 //! A [`ViewState`] has the sides of its query's joins, and behind them the groups of the joined rows that WHERE keeps,
-//! or their images with their weights. Changes of the tables go in by two steps: [`ViewState::prepare`] works out what
+//! or their images with their weights. A condition of WHERE on one source alone is asked below the joins, so that no
+//! side holds a row that fails it. Changes of the tables go in by two steps: [`ViewState::prepare`] works out what
 //! they change, from the stored sides and the changes alone, and makes all growth; [`ViewState::commit`] puts it in,
 //! takes no memory and cannot fail. Then the view stands for the changed tables, and [`ViewState::rows`] shows its
 //! query's bag, in rows whose numbers are within [`ViewState::column_sizes`]. A view starts without rows, as

@@ -1,12 +1,13 @@
 //! A view as it is kept.
 ghost use Rattle.std.specs.List.{AllByRecursion};
-ghost use Rattle.std.specs.Prelude.{◌≡◌, IfErr, IfOk, OnOk};
+ghost use Rattle.std.specs.Prelude.{◌≡◌, IfErr, IfOk, OnOk, length};
 ghost use Rattle.cq_chains.specs.Chains.{nothing};
 ghost use Rattle.cq_chains.specs.Sources.{rows_at};
 ghost use Rattle.cq_chains.specs.Work.{CountsEntries, CountsPairs, all_ticks};
 ghost use Rattle.cq_deltas.specs.declared.fault.ShowFault.TheVariants.{SumOutOfRange};
 ghost use Rattle.cq_laws.specs.Sizes.{HasSizes};
 ghost use Rattle.cq_model.specs.Sizes.{column_sizes};
+ghost use Rattle.cq_model.specs.Views.{sources_of};
 ghost use Rattle.cq_sides.specs.Ticks.{counted};
 ghost use Rattle.cq_upkeep.specs.Query.{CanBeKept, reads};
 ghost use Rattle.cq_upkeep.specs.Shown.{AreRowsOf, CanShow, IsNotShown, IsShown};
@@ -20,13 +21,15 @@ use crate::showing::shown_rows;
 use cq_chains::{Chain, SourceRows, Waiting};
 use cq_deltas::ShowFault;
 use cq_model::Query;
-use cq_values::Row;
+use cq_values::{Row, Seq};
 use std::alloc::{AllocError, Global};
 
-/// A view as it is kept: its query, its epochs, the sides of its joins, and what stands behind them.
+/// A view as it is kept: its query, how many columns its sources have, its epochs, the sides of its joins, and what
+/// stands behind them.
 #[derive(Drop)]
 pub struct ViewState {
     query: Query,
+    widths: Seq<usize>,
     epoch: u64,
     built: u64,
     chain: Chain,
@@ -41,18 +44,27 @@ pub struct Pending {
 }
 
 impl ViewState {
-    /// The view of this query over tables without rows.
-    pub fn empty(alloc: Global, query: Query, epoch: u64) -> Result<ViewState, AllocError>
+    /// The view of this query over tables without rows. The rows of what FROM names will have so many columns, in its
+    /// order.
+    pub fn empty(
+        alloc: Global,
+        query: Query,
+        widths: Seq<usize>,
+        epoch: u64,
+    ) -> Result<ViewState, AllocError>
+        requires { length widths ≡ length (sources_of query) }
         ensures query { IfOk result (λ v. v.query ≡ query) }
+        ensures widths { IfOk result (λ v. v.widths ≡ widths) }
         ensures epoch { IfOk result (λ v. v.epoch ≡ epoch) }
         ensures built { IfOk result (λ v. v.built ≡ epoch) }
         ensures stands { IfOk result (λ v. StandsFor v nothing) }
     {
-        match joined(alloc, &query) {
+        match joined(alloc, &query, widths.as_slice()) {
             Ok(chain) => {
                 let last = Last::empty(alloc, &query);
                 Ok(ViewState {
                     query,
+                    widths,
                     epoch,
                     built: epoch,
                     chain,
@@ -61,6 +73,7 @@ impl ViewState {
             }
             Err(fault) => {
                 drop(query);
+                drop(widths);
                 Err(fault)
             }
         }
@@ -119,12 +132,16 @@ impl ViewState {
 
     /// Works out what changes of the tables change, from the stored sides and the changes alone, and makes all growth
     /// for it. Nothing that is shown changes.
-    pub fn prepare(&mut self, alloc: Global, changes: &[SourceRows]) -> Result<Pending, AllocError>
-        requires { CanPrepare self.old (rows_at changes.now) }
+    pub fn prepare(
+        &mut self,
+        alloc: Global,
+        changes: Vec<SourceRows>,
+    ) -> Result<Pending, AllocError>
+        requires { CanPrepare self.old (rows_at changes.items) }
         ensures same { SameView self.old self.new }
-        ensures waiting { IfOk result (IsWaiting self.old (rows_at changes.now) self.new) }
+        ensures waiting { IfOk result (IsWaiting self.old (rows_at changes.items) self.new) }
         ensures ready { IfOk result (CanCommit self.new) }
-        ensures counts { CountsPairs self.old.chain (rows_at changes.now) self.new.chain }
+        ensures counts { CountsPairs self.old.chain (rows_at changes.items) self.new.chain }
     {
         let (rows, waiting) = self.chain.change(alloc, changes)?;
         let change = self.last.prepare(alloc, &self.query, &rows);
@@ -142,6 +159,7 @@ impl ViewState {
     pub fn commit(&mut self, pending: Pending, epoch: u64)
         requires { CanCommit self.old pending }
         ensures query { self.new.query ≡ self.old.query }
+        ensures widths { self.new.widths ≡ self.old.widths }
         ensures epoch { self.new.epoch ≡ epoch }
         ensures built { self.new.built ≡ self.old.built }
         ensures takes { TakesIn self.old pending self.new }
