@@ -1,5 +1,5 @@
 -- Rows that stand behind as many others as LIMIT allows.
-use Rattle.std.proofs.Common.{◌≡◌, ℕ, zero, suc, ◌+◌, ◌-◌, ◌≤◌, ◌<◌, Bool, true, false, not, List, [], ◌∷◌, ◌++◌, map, filter, take, drop, length, get_or, refl, sym, ◌∙◌, ap, subst, arith, Ordering, Option, Some, None}
+use Rattle.std.proofs.Common.{◌≡◌, ℕ, zero, suc, ◌-◌, ◌≤◌, ◌<◌, Bool, true, false, List, [], ◌∷◌, ◌++◌, map, filter, take, drop, length, get_or, refl, sym, ◌∙◌, ap, subst, arith, Ordering, Option, Some, None}
 use Rattle.std.specs.Prelude.{IfSome}
 use Rattle.std.specs.Borrow.{Bor}
 use Rattle.std.specs.Slice.{IsItemAt}
@@ -7,18 +7,17 @@ use Rattle.std.specs.List.{AllByRecursion}
 use Rattle.std.specs.Ordering.{is_gt}
 use Rattle.std.specs.Cmp.{IsTotalOrder}
 use Rattle.std.proofs.lemmas.Cmp.{upto, tied_itself}
-use Rattle.std.proofs.lemmas.List.{append-nil, append_assoc, length-take-le, take-append-drop, take-append-le, take-take}
+use Rattle.std.proofs.lemmas.List.{append_assoc, length-take-le, take-append-drop, take-append-le, take-take}
 use Rattle.cq_values.specs.Value.{Row}
 use Rattle.cq_bags.specs.declared.sort_key.SortKey.{SortKey}
-use Rattle.cq_bags.specs.Bag.{Weighted, once_each, SameBag}
+use Rattle.cq_bags.specs.Bag.{Weighted, once_each}
 use Rattle.cq_bags.specs.Canonical.{with_row, sorted_by}
-use Rattle.cq_bags.specs.Listing.{IsInOrder, IsListing, Lists, first_rows, listing_cmp}
+use Rattle.cq_bags.specs.Listing.{IsInOrder, IsListing, first_rows, listing_cmp}
 use Rattle.cq_bags.proofs.Totals.{by_test}
-use Rattle.cq_bags.proofs.Listings.{times_in, listing_cmp_total, one_list, one_listing, after_other}
-use Rattle.cq_bags.proofs.Canonicals.{times_in-append}
+use Rattle.cq_bags.proofs.Listings.{listing_cmp_total, one_list, one_listing, after_other}
 use Rattle.cq_listing.specs.Stored.{StoredListing, CanList, Suffice, TakesIn, with_rows}
 use Rattle.cq_listing.specs.Front.{IsFront, IsWorst}
-use Rattle.cq_listing.proofs.Sorting.{listed, listed-same, listed-swap, listed-append, is_listing, lists-sorted_by, can_list, listed_alike}
+use Rattle.cq_listing.proofs.Sorting.{listed, listed-swap, listed-append, is_listing, lists-sorted_by, can_list, listed_alike}
 
 -- ---- the first rows of a list in order
 all-take : (P : Row → Type 0) (n : ℕ) (rows : List Row) → AllByRecursion P rows → AllByRecursion P (take n rows)

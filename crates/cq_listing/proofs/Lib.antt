@@ -1,3 +1,6 @@
 pub mod Sorting
 pub mod Fronts
 pub mod FirstKeys
+pub mod Tellings
+pub mod Digits
+pub mod Rows

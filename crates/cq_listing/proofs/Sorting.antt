@@ -1,6 +1,5 @@
 -- The first rows in order, and what they depend on.
-use Rattle.std.proofs.Common.{◌≡◌, ℕ, zero, suc, ◌+◌, pos, List, [], ◌∷◌, ◌++◌, take, length, refl, sym, ◌∙◌, ap, arith, cond, subst, Ordering, Option, Some, None}
-use Rattle.std.specs.Prelude.{◌↔◌}
+use Rattle.std.proofs.Common.{◌≡◌, ℕ, zero, suc, pos, List, [], ◌∷◌, ◌++◌, take, refl, sym, ◌∙◌, ap, arith, subst, Ordering, Option, Some, None}
 use Rattle.std.specs.Ordering.{is_gt}
 use Rattle.cq_values.specs.Value.{Row}
 use Rattle.cq_bags.specs.declared.sort_key.SortKey.{SortKey}

@@ -1,3 +1,5 @@
 pub mod Stored
 pub mod Front
 pub mod Places
+pub mod Ranks
+pub mod Packed

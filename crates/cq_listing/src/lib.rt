@@ -5,8 +5,11 @@
 //! is an order with the rows that it keeps, and it [can list](Listing) all that were added.
 #![tactic(auto)]
 
+mod arranging;
 mod comparing;
 mod listing;
+mod packed;
 mod places;
+mod ranks;
 
 pub use listing::Listing;

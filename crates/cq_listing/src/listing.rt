@@ -8,7 +8,8 @@ ghost use Rattle.cq_listing.specs.Front.{IsWorst};
 ghost use Rattle.cq_listing.specs.Places.{ArePlaces, first_key as first_of};
 ghost use Rattle.cq_listing.specs.Stored.{CanList, ListsAll, TakesIn};
 
-use crate::comparing::{cmp_listed, lend_column};
+use crate::arranging::sort;
+use crate::comparing::lend_column;
 use crate::places::{copied, places_before, push_rows};
 use cq_bags::SortKey;
 use cq_model::Order;
@@ -59,7 +60,7 @@ impl<'q> Listing<'q> {
     {
         let places = self.places_of(alloc, batch)?;
         self.push_places(alloc, batch.columns.as_slice(), places.as_slice())?;
-        self.cut()?;
+        self.cut(alloc)?;
         Ok(())
     }
 
@@ -70,7 +71,7 @@ impl<'q> Listing<'q> {
         ensures ok { OnOk result (TakesIn self.old self.new rows.items) }
     {
         self.append(rows)?;
-        self.cut()?;
+        self.cut(alloc)?;
         Ok(())
     }
 
@@ -80,7 +81,7 @@ impl<'q> Listing<'q> {
     {
         let Listing { order, rows, .. } = self;
         let mut rows = rows;
-        sort(&mut rows, order.keys.as_slice())?;
+        sort(alloc, &mut rows, order.keys.as_slice())?;
         Ok(limited(rows, order.limit))
     }
 
@@ -139,27 +140,27 @@ impl<'q> Listing<'q> {
     }
 
     /// Keeps the first rows alone, where there are many more than LIMIT allows.
-    fn cut(&mut self) -> Result<(), AllocError>
+    fn cut(&mut self, alloc: Global) -> Result<(), AllocError>
         ensures keys { self.new.keys ≡ self.old.keys }
         ensures limit { self.new.limit ≡ self.old.limit }
         ensures ok { OnOk result ((all : List Values) → CanList self.old all → CanList self.new all) }
     {
         if let Some(count) = cut_size(self.order.limit) {
             if self.rows.len() >= 2 * count + 1024 {
-                self.cut_to(count)?;
+                self.cut_to(alloc, count)?;
             }
         }
         Ok(())
     }
 
-    fn cut_to(&mut self, count: usize) -> Result<(), AllocError>
+    fn cut_to(&mut self, alloc: Global, count: usize) -> Result<(), AllocError>
         requires { self.old.limit ≡ Some count }
         ensures keys { self.new.keys ≡ self.old.keys }
         ensures limit { self.new.limit ≡ self.old.limit }
         ensures ok { OnOk result ((all : List Values) → CanList self.old all → CanList self.new all) }
     {
         self.front = None;
-        keep_first(&mut self.rows, self.order.keys.as_slice(), count)?;
+        keep_first(alloc, &mut self.rows, self.order.keys.as_slice(), count)?;
         if count <= self.rows.len() {
             self.front = Some(count);
         }
@@ -204,18 +205,16 @@ fn first_key(keys: &[SortKey]) -> SortKey
 }
 
 /// The first rows of the list alone, in order.
-fn keep_first(rows: &mut Vec<Row>, keys: &[SortKey], count: usize) -> Result<(), AllocError>
+fn keep_first(
+    alloc: Global,
+    rows: &mut Vec<Row>,
+    keys: &[SortKey],
+    count: usize,
+) -> Result<(), AllocError>
     ensures { OnOk result (IsListing keys.now (Some count) (once_each rows.old.items) rows.new.items) }
 {
-    sort(rows, keys)?;
+    sort(alloc, rows, keys)?;
     rows.truncate(count);
-    Ok(())
-}
-
-fn sort(rows: &mut Vec<Row>, keys: &[SortKey]) -> Result<(), AllocError>
-    ensures { OnOk result (Lists keys.now (once_each rows.old.items) rows.new.items) }
-{
-    rows.sort_by(|a, b| cmp_listed(keys, a.as_slice(), b.as_slice()))?;
     Ok(())
 }
 

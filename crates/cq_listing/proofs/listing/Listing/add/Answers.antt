@@ -1,5 +1,4 @@
-use Rattle.std.proofs.Common.{◌≡◌, ℕ, ◌-◌, List, ◌++◌, map, length, refl, sym, ◌∙◌, ap, subst, arith, Some, Option}
-use Rattle.cq_listing.specs.Stored.{StoredListing, CanList, Suffice}
+use Rattle.std.proofs.Common.{◌≡◌, ℕ, List, ◌++◌, map, ◌∙◌, ap}
 use Rattle.cq_values.specs.declared.value.Value.{Value}
 use Rattle.cq_vectors.specs.Batch.{row_at, rows_of}
 use Rattle.cq_listing.proofs.Fronts.{takes_in}

@@ -1,9 +1,8 @@
-use Rattle.std.proofs.Common.{◌≡◌, ℕ, ◌-◌, List, ◌++◌, map, length, refl, sym, ◌∙◌, ap, subst, arith, Some, Option}
-use Rattle.cq_listing.specs.Stored.{StoredListing, CanList, Suffice}
-use Rattle.cq_values.specs.Value.{Row}
+use Rattle.std.proofs.Common.{List, ◌∙◌, ap, subst, arith, Some}
+use Rattle.cq_listing.specs.Stored.{StoredListing}
 use Rattle.cq_bags.specs.declared.sort_key.SortKey.{SortKey}
 use Rattle.cq_bags.specs.Bag.{once_each}
-use Rattle.cq_bags.specs.Listing.{IsInOrder, IsListing, listing_cmp}
+use Rattle.cq_bags.specs.Listing.{IsListing}
 use Rattle.cq_listing.proofs.Fronts.{can_list-cut, in_order-first}
 use Rattle.cq_listing.proofs.listing.Listing.cut_to.Goals as goal
 

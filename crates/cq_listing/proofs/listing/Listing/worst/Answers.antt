@@ -1,5 +1,5 @@
-use Rattle.std.proofs.Common.{◌≡◌, ℕ, ◌-◌, List, ◌++◌, map, length, refl, sym, ◌∙◌, ap, subst, arith, Some, Option}
-use Rattle.cq_listing.specs.Stored.{StoredListing, CanList, Suffice}
+use Rattle.std.proofs.Common.{◌-◌, List, ◌∙◌, ap, subst}
+use Rattle.cq_listing.specs.Stored.{StoredListing}
 use Rattle.std.specs.Slice.{IsItemAt}
 use Rattle.cq_values.specs.Value.{Row}
 use Rattle.cq_listing.specs.Front.{IsFront}
