@@ -3,7 +3,6 @@ mod arithmetic;
 mod joins;
 mod kernels;
 mod masks;
-mod own_conditions;
 mod plans;
 mod tables;
 mod vectors;

@@ -1,4 +1,4 @@
-//! Scripts from bytes to bytes, as tests of `run`: each prefix of one, full tables, and sinks and sources that fail on purpose.
+//! Scripts from bytes to bytes, as tests of `run`: each prefix of one, and sinks and sources that fail on purpose.
 #![tactic(auto)]
 
 mod test_sink;

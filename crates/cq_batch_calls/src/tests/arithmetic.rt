@@ -10,6 +10,7 @@ use cq_masks::Selection;
 use cq_values::{Day, DayPart, Lent, Row, Total, Value};
 use cq_vectors::Vector;
 use std::alloc::{AllocError, Global};
+use std::process::Abort;
 use std::test::Fail;
 
 /// Rows of one value each, the given one but for NULL in the first and the last.
@@ -48,34 +49,54 @@ fn the_largest_size_is_that_of_either_sign(rt: HostRuntime) -> Result<(), Fail> 
     Ok(())
 }
 
+/// The length, and the last place.
+const MONTHS: &[(usize, usize)] = &[
+    (3, 2),
+    (63, 62),
+    (64, 63),
+    (65, 64),
+    (1023, 1022),
+    (1024, 1023),
+];
+
+/// Asks that the months are 3 but for NULL at both ends.
+fn check_months(
+    rt: &impl Abort,
+    alloc: Global,
+    days: &Vector<'_>,
+    last: usize,
+) -> Result<(), Fail> {
+    let months = extract(alloc, DayPart::Month, days)?;
+    assert!(rt;
+        is_null(&months.lend(0)) && is_null(&months.lend(last)),
+        "to {last}"
+    );
+    for place in 1..last {
+        assert!(rt; is_number(&months.lend(place), 3), "at {place}");
+    }
+    drop(months);
+    Ok(())
+}
+
+/// Asks the same of a column of so many days.
+fn check_days(rt: &impl Abort, alloc: Global, rows: &[Row], last: usize) -> Result<(), Fail>
+    requires { length rows.now ≤ 1024 }
+{
+    let days = Vector::gather(alloc, rows, 0)?;
+    let checked = check_months(rt, alloc, &days, last);
+    drop(days);
+    checked
+}
+
 #[test]
 fn a_month_is_taken_from_each_day(rt: HostRuntime) -> Result<(), Fail> {
-    // the length, the last place with a day, and the last place of all
-    let cases = [
-        (3, 1, 2),
-        (63, 61, 62),
-        (64, 62, 63),
-        (65, 63, 64),
-        (1023, 1021, 1022),
-        (1024, 1022, 1023),
-    ];
-    let day = match Day::new(59) {
-        Some(day) => Value::Day(day),
-        None => Value::Null,
-    };
-    for (len, place, last) in cases {
-        let rows = rows_of(rt.alloc(), len, &day)?;
+    let day = Day::new(59).map_or(Value::Null, Value::Day);
+    for (len, last) in MONTHS {
+        let rows = rows_of(rt.alloc(), *len, &day)?;
         assert!(rt; rows.len() <= 1024);
-        let days = Vector::gather(rt.alloc(), rows.as_slice(), 0)?;
-        let months = extract(rt.alloc(), DayPart::Month, &days)?;
-        assert!(rt;
-            is_null(&months.lend(0)) && is_null(&months.lend(last)),
-            "length {len}"
-        );
-        assert!(rt;
-            is_number(&months.lend(1), 3) && is_number(&months.lend(place), 3),
-            "length {len}"
-        );
+        let checked = check_days(&rt, rt.alloc(), &rows, *last);
+        drop(rows);
+        checked?;
     }
     Ok(())
 }
@@ -139,91 +160,142 @@ fn result_of<'a>(
     }
 }
 
+/// A base, a length, the last place with a number, and there the sum, difference, product and other sign.
+type Case = (i64, usize, usize, [i128; 4]);
+
+const CASES: &[Case] = &[
+    (0, 63, 61, [0, 122, -3721, -61]),
+    (0, 64, 62, [0, 124, -3844, -62]),
+    (0, 65, 63, [0, 126, -3969, -63]),
+    (0, 1023, 1021, [0, 2042, -1042441, -1021]),
+    (0, 1024, 1022, [0, 2044, -1044484, -1022]),
+    (
+        1 << 62,
+        63,
+        61,
+        [
+            9223372036854775808,
+            122,
+            21267647932558653966460912964485509495,
+            -4611686018427387965,
+        ],
+    ),
+    (
+        1 << 62,
+        64,
+        62,
+        [
+            9223372036854775808,
+            124,
+            21267647932558653966460912964485509372,
+            -4611686018427387966,
+        ],
+    ),
+    (
+        1 << 62,
+        65,
+        63,
+        [
+            9223372036854775808,
+            126,
+            21267647932558653966460912964485509247,
+            -4611686018427387967,
+        ],
+    ),
+    (
+        1 << 62,
+        1023,
+        1021,
+        [
+            9223372036854775808,
+            2042,
+            21267647932558653966460912964484470775,
+            -4611686018427388925,
+        ],
+    ),
+    (
+        1 << 62,
+        1024,
+        1022,
+        [
+            9223372036854775808,
+            2044,
+            21267647932558653966460912964484468732,
+            -4611686018427388926,
+        ],
+    ),
+];
+
+/// Asks for the results of numbers above a base and as far below it, and for NULL at both ends.
+fn check_results(
+    rt: &impl Abort,
+    alloc: Global,
+    a: &Vector<'_>,
+    b: &Vector<'_>,
+    (_, len, place, results): &Case,
+) -> Result<(), Fail> {
+    assert!(rt; a.len() == b.len() && are_small(a) && are_small(b) && *place < 1024);
+    for (sign, result) in "+-*~".chars().zip(results) {
+        let made = result_of(alloc, sign, a, b)?;
+        assert!(rt;
+            made.len() == *len && is_null(&made.lend(0)) && is_null(&made.lend(*place + 1)),
+            "{sign} of {len}"
+        );
+        assert!(rt; is_number(&made.lend(*place), *result), "{sign} of {len}");
+        drop(made);
+    }
+    Ok(())
+}
+
+/// The same of the columns of rows.
+fn check_columns(
+    rt: &impl Abort,
+    alloc: Global,
+    rows: &[Row],
+    others: &[Row],
+    case: &Case,
+) -> Result<(), Fail>
+    requires rows { length rows.now ≤ 1024 }
+    requires others { length others.now ≤ 1024 }
+{
+    let a = Vector::gather(alloc, rows, 0)?;
+    match Vector::gather(alloc, others, 0) {
+        Ok(b) => {
+            let checked = check_results(rt, alloc, &a, &b, case);
+            drop(b);
+            drop(a);
+            checked
+        }
+        Err(fault) => {
+            drop(a);
+            Err(Fail::from(fault))
+        }
+    }
+}
+
+/// The same of the rows of a base.
+fn check_case(rt: &impl Abort, alloc: Global, case: &Case) -> Result<(), Fail> {
+    let (base, len, _, _) = case;
+    let rows = counted(alloc, *base, true, *len)?;
+    match counted(alloc, *base, false, *len) {
+        Ok(others) => {
+            assert!(rt; rows.len() <= 1024 && others.len() <= 1024);
+            let checked = check_columns(rt, alloc, &rows, &others, case);
+            drop(others);
+            drop(rows);
+            checked
+        }
+        Err(fault) => {
+            drop(rows);
+            Err(Fail::from(fault))
+        }
+    }
+}
+
 #[test]
 fn operations_give_the_result_of_each_place(rt: HostRuntime) -> Result<(), Fail> {
-    // the base, the length, the last place with a number, and there the sum, difference, product and other sign
-    let cases = [
-        (0, 63, 61, [0, 122, -3721, -61]),
-        (0, 64, 62, [0, 124, -3844, -62]),
-        (0, 65, 63, [0, 126, -3969, -63]),
-        (0, 1023, 1021, [0, 2042, -1042441, -1021]),
-        (0, 1024, 1022, [0, 2044, -1044484, -1022]),
-        (
-            1 << 62,
-            63,
-            61,
-            [
-                9223372036854775808,
-                122,
-                21267647932558653966460912964485509495,
-                -4611686018427387965,
-            ],
-        ),
-        (
-            1 << 62,
-            64,
-            62,
-            [
-                9223372036854775808,
-                124,
-                21267647932558653966460912964485509372,
-                -4611686018427387966,
-            ],
-        ),
-        (
-            1 << 62,
-            65,
-            63,
-            [
-                9223372036854775808,
-                126,
-                21267647932558653966460912964485509247,
-                -4611686018427387967,
-            ],
-        ),
-        (
-            1 << 62,
-            1023,
-            1021,
-            [
-                9223372036854775808,
-                2042,
-                21267647932558653966460912964484470775,
-                -4611686018427388925,
-            ],
-        ),
-        (
-            1 << 62,
-            1024,
-            1022,
-            [
-                9223372036854775808,
-                2044,
-                21267647932558653966460912964484468732,
-                -4611686018427388926,
-            ],
-        ),
-    ];
-    for (base, len, place, results) in cases {
-        let rows = counted(rt.alloc(), base, true, len)?;
-        let others = counted(rt.alloc(), base, false, len)?;
-        assert!(rt; rows.len() <= 1024 && others.len() <= 1024 && place < 1024);
-        let a = Vector::gather(rt.alloc(), rows.as_slice(), 0)?;
-        let b = Vector::gather(rt.alloc(), others.as_slice(), 0)?;
-        assert!(rt; a.len() == b.len() && are_small(&a) && are_small(&b));
-        for (sign, result) in [
-            ('+', results[0]),
-            ('-', results[1]),
-            ('*', results[2]),
-            ('~', results[3]),
-        ] {
-            let made = result_of(rt.alloc(), sign, &a, &b)?;
-            assert!(rt;
-                made.len() == len && is_null(&made.lend(0)) && is_null(&made.lend(place + 1)),
-                "{sign} of {len}"
-            );
-            assert!(rt; is_number(&made.lend(place), result), "{sign} of {len}");
-        }
+    for case in CASES {
+        check_case(&rt, rt.alloc(), case)?;
     }
     Ok(())
 }

@@ -28,28 +28,3 @@ fn copy_reads_its_source_once_and_counts_its_failure(rt: HostRuntime) -> Result<
     assert_eq!(rt; source.failures(), 1);
     Ok(())
 }
-
-const FULL: &str =
-    "CREATE TABLE t(a INTEGER); COPY t FROM 'f'; COPY t FROM 'f'; SELECT COUNT(*) AS n FROM t;";
-
-#[test]
-fn rows_of_a_file_that_find_no_room_are_refused_as_a_whole(rt: HostRuntime) -> Result<(), Fail> {
-    let mut source = TestSource::new("1\n2\n", 9);
-    let mut sink = TestSink::new(rt.alloc(), Plan::TakesAll);
-    let limits = Limits { max_rows: 3 };
-    let _ended = run(rt.alloc(), FULL.as_bytes(), limits, &mut source, &mut sink);
-    let output = "ok\nok 2\nerror 21 table full\nrows 1\nn\n2\n";
-    assert_eq!(rt; sink.taken(), output.as_bytes());
-    Ok(())
-}
-
-#[test]
-fn a_bad_record_is_told_before_a_full_table(rt: HostRuntime) -> Result<(), Fail> {
-    let mut source = TestSource::new("1\n2\n3\n4\nx\n", 9);
-    let mut sink = TestSink::new(rt.alloc(), Plan::TakesAll);
-    let limits = Limits { max_rows: 3 };
-    let _ended = run(rt.alloc(), FULL.as_bytes(), limits, &mut source, &mut sink);
-    let output = "ok\nerror 26 bad CSV record 5\nerror 26 bad CSV record 5\nrows 1\nn\n0\n";
-    assert_eq!(rt; sink.taken(), output.as_bytes());
-    Ok(())
-}
