@@ -10,7 +10,7 @@ use Rattle.cq_eval.proofs.Trees.{tree-And}
 use Rattle.cq_model.specs.declared.expr.CondTree.{CondTree}
 use Rattle.cq_model.specs.declared.expr.CondTree.TheViews as cond_view
 use Rattle.cq_model.specs.Trees.{cond_of}
-use Rattle.cq_plan.specs.Own.{AreOwnOf, conditions_of}
+use Rattle.cq_plan.specs.Own.{AreOwnOf, AskAllOwnOf, conditions_of}
 use Rattle.cq_own.specs.Moved.{moved_cond}
 use Rattle.cq_own.specs.Own.{IsOwnTest}
 use Rattle.cq_model.specs.Width.{IsNarrowIn}
@@ -26,12 +26,14 @@ parts-moved : (before : ℕ) (trees : List (Bor CondTree)) → map (λ t. moved_
 parts-moved before [] = refl
 parts-moved before (t ∷ trees) = ap (λ (cs : List Cond). moved_cond before (cond_of t.now) ∷ cs) (parts-moved before trees)
 
-module _ (where_is : Option Cond) (before wide : ℕ) (trees : List (Bor CondTree)) (own : AreOwnOf where_is before wide (conditions_of trees)) where
+module _ (where_is : Option Cond) (before wide : ℕ) (trees : List (Bor CondTree)) (own : AreOwnOf where_is before wide (conditions_of trees))
+    (asked : AskAllOwnOf where_is before wide (conditions_of trees)) where
   -- where there are no own conditions, each row passes
   pub none-own : trees ≡ [] → IsOwnTest where_is before wide None
   none-own is = record {
     parts = [];
     own = subst (λ (ts : List (Bor CondTree)). AreOwnOf where_is before wide (conditions_of ts)) is own;
+    all = λ small. subst (λ (ts : List (Bor CondTree)). AskAllOwnOf where_is before wide (conditions_of ts)) is asked;
     same = λ row. refl;
     narrow = λ row h. tt;
   }
@@ -46,6 +48,7 @@ module _ (where_is : Option Cond) (before wide : ℕ) (trees : List (Bor CondTre
       record {
         parts = conditions_of (first ∷ rest);
         own = here;
+        all = λ small. subst (λ (ts : List (Bor CondTree)). AskAllOwnOf where_is before wide (conditions_of ts)) is asked;
         same = λ row.
             ap (λ (c : Cond). is_true (holds c row)) (tree-And head others)
             ∙ joined-passes before wide row (cond_of head.value) (map cond_of others.items) (conditions_of rest) (all ∙ parts-moved before rest) named.1

@@ -1,4 +1,5 @@
-pub mod Chains
-pub mod Owned
+pub mod Asked
 pub mod Below
+pub mod Chains
 pub mod Exactly
+pub mod Owned

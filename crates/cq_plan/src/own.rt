@@ -3,19 +3,21 @@ ghost use Rattle.std.specs.List.{list_all};
 ghost use Rattle.std.specs.Prelude.{IfOk, OnOk, map, ◌≡◌};
 ghost use Rattle.cq_kept.specs.Own.{AreOwn, is_within, names_only, tests_only};
 ghost use Rattle.cq_model.specs.Trees.{cond_of, expr_of};
-ghost use Rattle.cq_plan.specs.Own.{AreOwnOf, StayOwn, conditions_of};
+ghost use Rattle.cq_plan.specs.Own.{AreOwnOf, AskAllOwn, AskAllOwnOf, AskMore, StayOwn, conditions_of};
 
 use cq_model::{Cond, CondTree, ExprTree};
 use std::alloc::{AllocError, Global};
 
-/// The parts of WHERE, joined to the rest by AND, that name the columns of one source alone: so many from a place on.
+/// The parts of WHERE, joined to the rest by AND, that name the columns of one source alone: so many from a place on. A
+/// row of the source that passes them passes all such parts.
 pub fn own_conditions<'q>(
     alloc: Global,
     filter: &'q Option<Cond>,
     before: usize,
     wide: usize,
 ) -> Result<Vec<&'q CondTree>, AllocError>
-    ensures { IfOk result (λ own. AreOwnOf filter.now before wide (conditions_of own.items)) }
+    ensures own { IfOk result (λ own. AreOwnOf filter.now before wide (conditions_of own.items)) }
+    ensures all { IfOk result (λ own. AskAllOwnOf filter.now before wide (conditions_of own.items)) }
 {
     match filter {
         Some(condition) => own_parts(alloc, condition.tree(), before, wide),
@@ -29,7 +31,8 @@ fn own_parts<'q>(
     before: usize,
     wide: usize,
 ) -> Result<Vec<&'q CondTree>, AllocError>
-    ensures { IfOk result (λ own. AreOwn (cond_of tree.now) before wide (conditions_of own.items)) }
+    ensures own { IfOk result (λ own. AreOwn (cond_of tree.now) before wide (conditions_of own.items)) }
+    ensures all { IfOk result (λ own. AskAllOwn (cond_of tree.now) before wide (conditions_of own.items)) }
 {
     let mut own = Vec::new(alloc);
     add_own(tree, before, wide, &mut own)?;
@@ -43,7 +46,8 @@ fn add_own<'q>(
     wide: usize,
     own: &mut Vec<&'q CondTree>,
 ) -> Result<(), AllocError>
-    ensures { OnOk result (StayOwn tree.now before wide own.old.items own.new.items) }
+    ensures own { OnOk result (StayOwn tree.now before wide own.old.items own.new.items) }
+    ensures all { OnOk result (AskMore tree.now before wide own.old.items own.new.items) }
 {
     if tests_only(tree, before, wide) {
         own.push(tree)?;
@@ -56,6 +60,14 @@ fn add_own<'q>(
                 add_own(part, before, wide, own)?;
             }
             Ok(())
+        }
+        // An OR of one part is that part.
+        CondTree::Or(first, rest) => {
+            if rest.is_empty() {
+                add_own(first, before, wide, own)
+            } else {
+                Ok(())
+            }
         }
         _ => Ok(()),
     }
