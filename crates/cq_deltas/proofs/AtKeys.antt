@@ -3,23 +3,18 @@ use Rattle.std.proofs.Common.{◌≡◌, pos, Bool, true, false, cond, List, [],
 use Rattle.std.specs.Option.{option_map, option_map_or}
 use Rattle.cq_values.specs.Value.{Row}
 use Rattle.cq_values.specs.Order.{same_row}
-use Rattle.cq_values.specs.Keys.{same_row-refl, same_row-same}
+use Rattle.cq_values.specs.Keys.{same_row-same}
 use Rattle.cq_bags.proofs.Totals.{by_test}
 use Rattle.cq_model.specs.declared.query.Aggregate.{Aggregate}
 use Rattle.cq_kept.specs.Kept.{Group, group_of}
-use Rattle.cq_deltas.specs.declared.change.Addend.{Addend}
-use Rattle.cq_deltas.specs.declared.change.Addition.{Addition}
+use Rattle.cq_deltas.specs.Additions.{Addition}
 use Rattle.cq_deltas.specs.declared.group.Group.{Group as StoredGroup}
-use Rattle.cq_deltas.specs.Kept.{KeepRoom, group_with, seen_group}
-use Rattle.cq_deltas.specs.Keyed.{AreSettled, IsPut, IsReadyFor, KeyedGroups, StayReady, group_at, group_met, held_at, settled, stored_at}
+use Rattle.cq_deltas.specs.Kept.{group_with, seen_group}
+use Rattle.cq_deltas.specs.Keyed.{AreSettled, IsPut, KeyedGroups, group_at, group_met, held_at, settled, stored_at}
 
 -- new is old with something else at a key
 abbrev pub SetsAt : KeyedGroups → Row → Option StoredGroup → KeyedGroups → Type 0
 SetsAt old key w new = (k : Row) → held_at new k ≡ cond (same_row key k) w (held_at old k)
-
--- what was ready stays so at one key
-abbrev pub StaysReady : Option StoredGroup → Option StoredGroup → Type 0
-StaysReady old new = (addends : List (Option Addend)) → IsReadyFor addends old → IsReadyFor addends new
 
 module _ (old new : KeyedGroups) (key : Row) (w : Option StoredGroup) (sets : SetsAt old key w new) where
   at-key : (k : Row) → same_row key k ≡ true → held_at new k ≡ w
@@ -38,50 +33,20 @@ module _ (old new : KeyedGroups) (key : Row) (w : Option StoredGroup) (sets : Se
       (λ s. subst (λ (o : Option StoredGroup). R o (held_at new k)) (sym (was-at k s)) (subst (λ (o : Option StoredGroup). R (held_at old key) o) (sym (at-key k s)) here))
       (λ s. subst (λ (o : Option StoredGroup). R (held_at old k) o) (sym (at-others k s)) (other (held_at old k)))
 
-  -- what is written is there
-  pub set-there : held_at new key ≡ w
-  set-there = at-key key (same_row-refl key)
-
-  -- what was ready stays so
-  pub set-ready : StaysReady (held_at old key) w → StayReady old new
-  set-ready here k = at-each StaysReady here (λ o addends h. h) k
-
   -- each key has the group that it had
   pub set-same : option_map seen_group w ≡ option_map seen_group (held_at old key) → (k : Row) → stored_at new k ≡ stored_at old k
   set-same same k = at-each (λ o p. option_map seen_group p ≡ option_map seen_group o) same (λ o. refl) k
 
 -- a group that is made where none was is that of no rows
-pub made-same : (old new : KeyedGroups) (key copy : Row) (aggregates : List Aggregate) (g : StoredGroup) → copy ≡ key → seen_group g ≡ group_of aggregates [] → SetsAt old copy (Some g) new
+pub made-same : (old new : KeyedGroups) (key : Row) (aggregates : List Aggregate) (g : StoredGroup) → seen_group g ≡ group_of aggregates [] → SetsAt old key (Some g) new
     → held_at old key ≡ None → (k : Row) → group_at aggregates new k ≡ group_at aggregates old k
-made-same old new key copy aggregates g same empty sets none k =
-    let before : held_at old copy ≡ None = ap (held_at old) same ∙ none in
-    at-each old new copy (Some g) sets (λ o p. unwrap_or (option_map seen_group p) (group_of aggregates []) ≡ unwrap_or (option_map seen_group o) (group_of aggregates []))
-    (empty ∙ sym (ap (λ (o : Option StoredGroup). unwrap_or (option_map seen_group o) (group_of aggregates [])) before)) (λ o. refl) k
+made-same old new key aggregates g empty sets none k =
+    at-each old new key (Some g) sets (λ o p. unwrap_or (option_map seen_group p) (group_of aggregates []) ≡ unwrap_or (option_map seen_group o) (group_of aggregates []))
+    (empty ∙ sym (ap (λ (o : Option StoredGroup). unwrap_or (option_map seen_group o) (group_of aggregates [])) none)) (λ o. refl) k
 
--- what was ready stays so where a group is made
-pub made-ready : (old new : KeyedGroups) (key copy : Row) (g : StoredGroup) → copy ≡ key → SetsAt old copy (Some g) new → held_at old key ≡ None → StayReady old new
-made-ready old new key copy g same sets none =
-    let before : held_at old copy ≡ None = ap (held_at old) same ∙ none in
-    set-ready old new copy (Some g) sets (λ addends h. absurd (subst (λ (o : Option StoredGroup). IsReadyFor addends o) before h))
-
--- and the group is as ready as it was made
-pub made-room : (old new : KeyedGroups) (key copy : Row) (g : StoredGroup) (addends : List (Option Addend)) → copy ≡ key → SetsAt old copy (Some g) new → IsReadyFor addends (Some g) → IsReadyFor addends (held_at new key)
-made-room old new key copy g addends same sets room =
-    subst (λ (k : Row). IsReadyFor addends (held_at new k)) same
-    (subst (λ (o : Option StoredGroup). IsReadyFor addends o) (sym (at-key old new copy (Some g) sets copy (same_row-refl copy))) room)
-
--- a group is written over
-module _ (old new : KeyedGroups) (key : Row) (g h : StoredGroup) (sets : SetsAt old key (Some h) new) (is : held_at old key ≡ Some g) where
-  -- with more room, or with values gone that were not counted
-  pub over-same : seen_group h ≡ seen_group g → (k : Row) → stored_at new k ≡ stored_at old k
-  over-same same = set-same old new key (Some h) sets (ap Some same ∙ sym (ap (option_map seen_group) is))
-
-  pub over-ready : KeepRoom g.kept.items h.kept.items → StayReady old new
-  over-ready kept = set-ready old new key (Some h) sets (λ addends ready. kept addends (subst (λ (o : Option StoredGroup). IsReadyFor addends o) is ready))
-
-  -- so that it is ready
-  pub over-room : (addends : List (Option Addend)) → IsReadyFor addends (Some h) → IsReadyFor addends (held_at new key)
-  over-room addends room = subst (λ (o : Option StoredGroup). IsReadyFor addends o) (sym (at-key old new key (Some h) sets key (same_row-refl key))) room
+-- where a group is written over that shows the same, each key has the group that it had
+pub over-same : (old new : KeyedGroups) (key : Row) (g h : StoredGroup) → SetsAt old key (Some h) new → held_at old key ≡ Some g → seen_group h ≡ seen_group g → (k : Row) → stored_at new k ≡ stored_at old k
+over-same old new key g h sets is same = set-same old new key (Some h) sets (ap Some same ∙ sym (ap (option_map seen_group) is))
 
 -- a row is put in its group, and in no other
 pub put-everywhere : (old new : KeyedGroups) (x : Addition) (g h : StoredGroup) → SetsAt old x.key (Some h) new → seen_group h ≡ group_with x.weight x.addends (seen_group g) → held_at old x.key ≡ Some g → IsPut old x new
@@ -97,18 +62,18 @@ put-everywhere old new x g h sets put is k = by_test (same_row x.key k)
     unmoved (Some h) = refl
 
 -- whether a group is stored that has no rows
-abbrev pub IsWithoutRows : Option StoredGroup → Type 0
-IsWithoutRows o = option_map_or (λ (g : StoredGroup). int_eq g.count (pos 0)) o false ≡ true
+abbrev pub is_without_rows : Option StoredGroup → Bool
+is_without_rows o = option_map_or (λ (g : StoredGroup). int_eq g.count (pos 0)) o false
 
 -- a group that is dropped where it has no rows
-pub drop-settles : (old new : KeyedGroups) (key : Row) → SetsAt old key None new → IsWithoutRows (held_at old key) → AreSettled (same_row key) old new
+pub drop-settles : (old new : KeyedGroups) (key : Row) → SetsAt old key None new → is_without_rows (held_at old key) ≡ true → AreSettled (same_row key) old new
 drop-settles old new key sets empty k = by_test (same_row key k)
     (λ s.
     ap (option_map seen_group) (at-key old new key None sets k s) ∙ dropped (held_at old key) empty
     ∙ ap (λ (o : Option StoredGroup). settled (option_map seen_group o)) (sym (was-at old new key None sets k s)) ∙ rw s refl)
     (λ s. ap (option_map seen_group) (at-others old new key None sets k s) ∙ rw s refl)
   where
-    dropped : (o : Option StoredGroup) → IsWithoutRows o → None ≡ settled (option_map seen_group o)
+    dropped : (o : Option StoredGroup) → is_without_rows o ≡ true → None ≡ settled (option_map seen_group o)
     dropped None e = refl
     dropped (Some g) e = rw e refl
 
@@ -118,13 +83,13 @@ settled-after keys old middle new same drop k = drop k ∙ ap (λ (o : Option Gr
 
 -- a group that has rows is settled
 pub settled-already : (old new : KeyedGroups) (key : Row) → ((k : Row) → stored_at new k ≡ stored_at old k)
-    → option_map_or (λ (g : StoredGroup). int_eq g.count (pos 0)) (held_at old key) false ≡ false → AreSettled (same_row key) old new
+    → is_without_rows (held_at old key) ≡ false → AreSettled (same_row key) old new
 settled-already old new key same full k = same k ∙ by_test (same_row key k)
     (λ s.
     let here : held_at old k ≡ held_at old key = ap (held_at old) (sym (same_row-same key k s)) in
     ap (option_map seen_group) here ∙ stays (held_at old key) full ∙ ap (λ (o : Option StoredGroup). settled (option_map seen_group o)) (sym here) ∙ rw s refl)
     (λ s. rw s refl)
   where
-    stays : (o : Option StoredGroup) → option_map_or (λ (g : StoredGroup). int_eq g.count (pos 0)) o false ≡ false → option_map seen_group o ≡ settled (option_map seen_group o)
+    stays : (o : Option StoredGroup) → is_without_rows o ≡ false → option_map seen_group o ≡ settled (option_map seen_group o)
     stays None e = refl
     stays (Some g) e = rw e refl

@@ -1,8 +1,10 @@
 pub mod AtKeys
 pub mod GoesOn
+pub mod Leaving
 pub mod Listing
 pub mod MetKeys
 pub mod NoRows
+pub mod Places
 pub mod Ranges
 pub mod Rowwise
 pub mod Showing

@@ -1,6 +1,5 @@
--- Which keys a change meets, and that their groups are ready for it.
-use Rattle.std.proofs.Common.{◌≡◌, ℕ, ◌+◌, ◌<◌, pos, false, cond, ◌||◌, int_eq, List, [], ◌∷◌, ◌++◌, take, length, get_or, Option, None, Some, refl, sym, ◌∙◌, ap, subst, add-one, true≢false}
-use Rattle.std.specs.List.{AllByRecursion}
+-- Which keys a change meets, and what it makes of their groups.
+use Rattle.std.proofs.Common.{◌≡◌, ℕ, ◌+◌, ◌<◌, pos, false, cond, ◌||◌, int_eq, List, [], ◌∷◌, ◌++◌, take, length, get_or, Option, None, Some, refl, sym, ◌∙◌, ap, add-one, true≢false}
 use Rattle.std.specs.Option.{option_map}
 use Rattle.std.proofs.Math.Seq.{take-suc}
 use Rattle.std.proofs.lemmas.List.Folds.{list_any-append}
@@ -8,34 +7,16 @@ use Rattle.cq_values.specs.Value.{Row}
 use Rattle.cq_values.specs.Order.{same_row}
 use Rattle.cq_bags.proofs.Totals.{by_test}
 use Rattle.cq_kept.specs.Kept.{Group}
-use Rattle.cq_deltas.specs.declared.change.Addition.{Addition}
-use Rattle.cq_deltas.specs.Keyed.{ArePut, AreSettled, HasKeys, IsPut, IsReadyFor, KeyedGroups, StayReady, Takes, group_met, group_with_all, held_at, is_met, settled, stored_at}
-use Rattle.cq_deltas.proofs.Turns.{all-at}
+use Rattle.cq_deltas.specs.Additions.{Addition}
+use Rattle.cq_deltas.specs.Keyed.{ArePut, AreSettled, IsPut, KeyedGroups, Takes, group_met, group_with_all, is_met, settled, stored_at}
 
--- where each row's group is ready, the next one's is
-pub next-ready : (old now : KeyedGroups) (xs : List Addition) (i : ℕ) (x : Addition) → HasKeys xs old → i < length xs → x ≡ get_or xs i x → StayReady old now → IsReadyFor x.addends (held_at now x.key)
-next-ready old now xs i x keys h is stay =
-    stay x.key x.addends (subst (λ (y : Addition). IsReadyFor y.addends (held_at old y.key)) (sym is) (all-at (λ (y : Addition). IsReadyFor y.addends (held_at old y.key)) xs i x h keys.at))
-
--- with the next row's group made ready, one more is
-pub keys-more : (xs : List Addition) (i : ℕ) (x : Addition) (old new : KeyedGroups) → i < length xs → x ≡ get_or xs i x → HasKeys (take i xs) old → StayReady old new → IsReadyFor x.addends (held_at new x.key)
-    → HasKeys (take (i + 1) xs) new
-keys-more xs i x old new h is keys stay ready = record {
-  at =
-      subst (AllByRecursion (λ (y : Addition). IsReadyFor y.addends (held_at new y.key))) (sym more)
-      (all-append (λ (y : Addition). IsReadyFor y.addends (held_at new y.key)) (take i xs) (x ∷ []) (stayed (take i xs) keys.at) (ready, tt));
-}
+-- no row is put in
+pub put-none : (groups : KeyedGroups) → ArePut groups [] groups
+put-none groups k = same (stored_at groups k)
   where
-    more : take (i + 1) xs ≡ take i xs ++ x ∷ []
-    more = rw (add-one i) (take-suc xs i x h ∙ ap (λ (y : Addition). take i xs ++ y ∷ []) (sym is))
-
-    stayed : (ys : List Addition) → AllByRecursion (λ (y : Addition). IsReadyFor y.addends (held_at old y.key)) ys → AllByRecursion (λ (y : Addition). IsReadyFor y.addends (held_at new y.key)) ys
-    stayed [] all = tt
-    stayed (y ∷ ys) all = (stay y.key y.addends all.0, stayed ys all.1)
-
-    all-append : (P : Addition → Type 0) (ys zs : List Addition) → AllByRecursion P ys → AllByRecursion P zs → AllByRecursion P (ys ++ zs)
-    all-append P [] zs left right = right
-    all-append P (y ∷ ys) zs left right = (left.0, all-append P ys zs left.1 right)
+    same : (o : Option Group) → o ≡ option_map (group_with_all [] k) o
+    same None = refl
+    same (Some g) = refl
 
 -- with the next row put in its group, one more is
 pub put-more : (xs : List Addition) (i : ℕ) (x : Addition) (old now new : KeyedGroups) → i < length xs → x ≡ get_or xs i x → ArePut old (take i xs) now → IsPut now x new → ArePut old (take (i + 1) xs) new
@@ -53,7 +34,7 @@ put-more xs i x old now new h is so_far one k = one k ∙ ap (option_map (λ (g 
     together (Some g) = ap Some (sym (ap (λ (l : List Addition). group_with_all l k g) more ∙ last (take i xs) g))
 
 -- what is settled stays so
-settled-twice : (o : Option Group) → settled (settled o) ≡ settled o
+pub settled-twice : (o : Option Group) → settled (settled o) ≡ settled o
 settled-twice None = refl
 settled-twice (Some g) = by_test (int_eq g.count (pos 0)) (λ b. rw b refl) (λ b. rw (b, b) refl)
 

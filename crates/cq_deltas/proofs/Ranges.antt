@@ -13,7 +13,7 @@ use Rattle.cq_kept.specs.Kept.{Kept, Counted, Totalled, Listed, Group}
 use Rattle.cq_extremes.specs.Extremes.{alone, with_more}
 use Rattle.cq_deltas.specs.declared.change.Addend.{Addend}
 use Rattle.cq_deltas.specs.declared.change.Addend.TheVariants as added
-use Rattle.cq_deltas.specs.declared.change.Addition.{Addition}
+use Rattle.cq_deltas.specs.Additions.{Addition}
 use Rattle.cq_deltas.specs.Kept.{kept_with, all_kept_with, total_move, total_moves, KeptHolds, GroupHolds}
 use Rattle.cq_deltas.specs.Keyed.{KeyedGroups, stored_at, group_met, group_with_all, count_moves, all_total_moves, HoldsFor}
 use Rattle.cq_deltas.proofs.Turns.{holds-less}

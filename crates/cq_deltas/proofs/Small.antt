@@ -8,7 +8,7 @@ use Rattle.cq_model.specs.declared.query.Aggregate.{Aggregate}
 use Rattle.cq_model.specs.declared.query.Aggregate.TheVariants.{CountAll, Count, Sum, Min, Max}
 use Rattle.cq_model.specs.Group.{rows_of_key, InRange, SumInRange}
 use Rattle.cq_kept.specs.Kept.{Kept, Counted, Totalled, Listed, IsKept, AreKept, Group, GroupStands, group_of, kept_of}
-use Rattle.cq_deltas.specs.declared.change.Addition.{Addition}
+use Rattle.cq_deltas.specs.Additions.{Addition}
 use Rattle.cq_deltas.specs.Additions.{additions}
 use Rattle.cq_deltas.specs.Kept.{KeptHolds, GroupHolds}
 use Rattle.cq_deltas.specs.Laws.{AreSmall}

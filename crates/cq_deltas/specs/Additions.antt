@@ -12,7 +12,6 @@ use Rattle.cq_model.specs.Group.{addend, key_of}
 use Rattle.cq_model.specs.Width.{IsNarrowAt, number_limit}
 use Rattle.cq_deltas.specs.declared.change.Addend.{Addend}
 use Rattle.cq_deltas.specs.declared.change.Addend.TheVariants.{Number, Listed}
-use Rattle.cq_deltas.specs.declared.change.Addition.{Addition}
 
 -- what a value adds to a total; NULL is not even counted
 abbrev pub counted_addend : Value → Option Addend
@@ -26,7 +25,13 @@ addend_of r (Sum e) = counted_addend (eval e r)
 addend_of r (Min e) = Some (Listed (eval e r))
 addend_of r (Max e) = Some (Listed (eval e r))
 
--- what a changed row adds: its key, its weight, and what its arguments add
+-- what a changed row adds: to the group of its key so many rows, and to each aggregate what its argument adds
+pub record Addition : Type 0 where
+  pub key : Row
+  pub weight : ℤ
+  pub addends : List (Option Addend)
+
+-- what this row adds, with this weight
 abbrev pub addition : List ℕ → List Aggregate → Row × ℤ → Addition
 addition columns aggregates x = record { key = key_of columns x.0; weight = x.1; addends = map (addend_of x.0) aggregates }
 

@@ -1,8 +1,8 @@
 -- Groups by key, and what a change makes of them.
-use Rattle.std.specs.Prelude.{◌≡◌, ℕ, pos, Bool, if◌then◌else◌, List, [], ◌++◌, nat_abs, Option, None, Some, unwrap_or, fold}
+use Rattle.std.specs.Prelude.{◌≡◌, ◌<◌, ℕ, pos, Bool, if◌then◌else◌, List, [], ◌∷◌, ◌++◌, length, map, nat_abs, Option, None, Some, unwrap_or, fold, slice_get}
 use Rattle.std.specs.Ordering.{int_eq}
 use Rattle.std.specs.List.{AllByRecursion, list_any, sum_by}
-use Rattle.std.specs.Map.{lookup}
+use Rattle.std.specs.Map.{keys_of, lookup, values_of}
 use Rattle.std.specs.Option.{option_map}
 use Rattle.cq_values.specs.Value.{Row}
 use Rattle.cq_values.specs.Order.{same_row}
@@ -13,9 +13,9 @@ use Rattle.cq_model.specs.declared.query.Query.{Query}
 use Rattle.cq_model.specs.declared.query.Shape.TheVariants.{Grouped}
 use Rattle.cq_kept.specs.Kept.{Group, Groups, LastStands, group_of}
 use Rattle.cq_deltas.specs.declared.change.Addend.{Addend}
-use Rattle.cq_deltas.specs.declared.change.Addition.{Addition}
+use Rattle.cq_deltas.specs.declared.change.Placed.{Placed}
 use Rattle.cq_deltas.specs.declared.group.Group.{Group as StoredGroup}
-use Rattle.cq_deltas.specs.Additions.{additions}
+use Rattle.cq_deltas.specs.Additions.{Addition, additions}
 use Rattle.cq_deltas.specs.Kept.{GroupHolds, HaveRoom, group_with, seen_group, total_moves}
 
 -- keys with their groups as they are stored
@@ -59,18 +59,40 @@ stored_after change k stored = if is_met change k then settled (option_map (grou
 pub record Takes (old : KeyedGroups) (change : List Addition) (new : KeyedGroups) : Type 0 where
   pub at : (k : Row) → stored_at new k ≡ stored_after change k (stored_at old k)
 
+-- the key of the group at a place
+abbrev pub key_at : KeyedGroups → ℕ → Row
+key_at groups place = unwrap_or (slice_get (keys_of groups) place) []
+
+-- what a row adds to the group of the key at its place
+abbrev pub addition_at : KeyedGroups → Placed → Addition
+addition_at groups x = record { key = key_at groups x.place; weight = x.weight; addends = x.addends }
+
+-- what a change adds to groups that stand at these places
+abbrev pub additions_at : KeyedGroups → List Placed → List Addition
+additions_at groups change = map (addition_at groups) change
+
 -- a group is there, and has room for what a row adds
 abbrev pub IsReadyFor : List (Option Addend) → Option StoredGroup → Type 0
 IsReadyFor addends None = ⊥
 IsReadyFor addends (Some g) = HaveRoom addends g.kept.items
 
--- what was ready still is
-abbrev pub StayReady : KeyedGroups → KeyedGroups → Type 0
-StayReady old new = (k : Row) (addends : List (Option Addend)) → IsReadyFor addends (held_at old k) → IsReadyFor addends (held_at new k)
+-- so it is with the group at a place
+abbrev pub IsReadyAt : List (Option Addend) → KeyedGroups → ℕ → Type 0
+IsReadyAt addends groups place = IsReadyFor addends (slice_get (values_of groups) place)
+
+-- groups stand where they stood, and what was ready still is
+pub record KeepPlaces (old new : KeyedGroups) : Type 0 where
+  pub keys : (place : ℕ) → place < length old → slice_get (keys_of new) place ≡ slice_get (keys_of old) place
+  pub ready : (place : ℕ) (addends : List (Option Addend)) → IsReadyAt addends old place → IsReadyAt addends new place
 
 -- each row's group is there and has room: what groups have that were made ready for the change
-pub record HasKeys (change : List Addition) (groups : KeyedGroups) : Type 0 where
-  pub at : AllByRecursion (λ x. IsReadyFor x.addends (held_at groups x.key)) change
+pub record HasKeys (change : List Placed) (groups : KeyedGroups) : Type 0 where
+  pub at : AllByRecursion (λ x. IsReadyAt x.addends groups x.place) change
+
+-- what a row adds waits behind the rest of a change, and the groups are ready for them all
+pub record Adds (old : KeyedGroups) (change : List Placed) (x : Addition) (new : KeyedGroups) (more : List Placed) : Type 0 where
+  pub adds : additions_at new more ≡ additions_at old change ++ x ∷ []
+  pub keys : HasKeys more new
 
 -- each stored group has the changed rows put in, and none is dropped
 abbrev pub ArePut : KeyedGroups → List Addition → KeyedGroups → Type 0

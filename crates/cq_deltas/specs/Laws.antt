@@ -8,8 +8,7 @@ use Rattle.cq_model.specs.declared.query.Query.{Query}
 use Rattle.cq_model.specs.declared.query.Shape.TheVariants.{Grouped}
 use Rattle.cq_model.specs.Group.{SumInRange}
 use Rattle.cq_kept.specs.Kept.{Group, GroupStands, Groups, LastStands}
-use Rattle.cq_deltas.specs.declared.change.Addition.{Addition}
-use Rattle.cq_deltas.specs.Additions.{additions}
+use Rattle.cq_deltas.specs.Additions.{Addition, additions}
 use Rattle.cq_deltas.specs.Keyed.{KeyedGroups, group_at, count_moves, all_total_moves, HoldsFor}
 use Rattle.cq_deltas.specs.Shown.{AllCanBeShown}
 use Rattle.cq_model.specs.Width.{number_limit}

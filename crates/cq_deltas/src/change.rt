@@ -1,12 +1,13 @@
 //! What changed rows add to groups.
 ghost use Rattle.std.specs.List.{AllByRecursion};
-ghost use Rattle.std.specs.Prelude.{◌++◌, ◌∷◌, ◌≡◌, IfOk, OnErr, OnOk, [], map};
+ghost use Rattle.std.specs.List.Sorted.{IsPermutation, IsSortedBy};
+ghost use Rattle.std.specs.Prelude.{◌++◌, ◌∷◌, ◌≡◌, IfOk, OnOk, [], map, nat_lt};
 ghost use Rattle.cq_values.specs.Lent.{owned};
-ghost use Rattle.cq_deltas.specs.Additions.{IsNarrow, IsSmall, addend_of, addition, additions, counted_addend};
+ghost use Rattle.cq_deltas.specs.Additions.{IsNarrow, IsSmall, addend_of, counted_addend};
 
-use cq_eval::{eval_row, key_of, narrow_is_exact};
+use cq_eval::{eval_row, narrow_is_exact};
 use cq_model::Aggregate;
-use cq_values::{Lent, Row, Seq, Value};
+use cq_values::{Lent, Seq, Value};
 use std::alloc::{AllocError, Global};
 use std::marker::Model;
 
@@ -19,88 +20,63 @@ pub enum Addend {
     Listed(Value),
 }
 
-/// What a changed row adds: to the group of its key so many rows, and to each aggregate what its argument adds.
+/// What a changed row adds, to the group at a place: so many rows, and to each aggregate what its argument adds.
 #[derive(Debug, Drop)]
-pub struct Addition {
-    pub(crate) key: Row,
+pub struct Placed {
+    pub(crate) place: usize,
     pub(crate) weight: i128,
     pub(crate) addends: Seq<Option<Addend>>,
 }
 
-/// What a change of the rows adds, row by row.
+/// What a change of the rows adds, row by row. It is for the groups that were made ready for it.
 #[derive(Debug, Drop)]
 pub struct GroupChange {
-    additions: Vec<Addition>,
+    rows: Vec<Placed>,
 }
 
 impl Model for GroupChange {
     ghost use Rattle.std.specs.Prelude.{List};
-    ghost use Rattle.cq_deltas.specs.declared.change.Addition.{Addition};
+    ghost use Rattle.cq_deltas.specs.declared.change.Placed.{Placed};
 
-    ghost Value = { List Addition };
+    ghost Value = { List Placed };
 
-    ghost view = { λ c. c.additions.items };
+    ghost view = { λ c. c.rows.items };
 }
 
 impl GroupChange {
+    /// A change of no rows.
     pub fn new(alloc: Global) -> GroupChange
         ensures { result ≡ [] }
     {
         GroupChange {
-            additions: Vec::new(alloc),
+            rows: Vec::new(alloc),
         }
     }
 
-    /// What these rows add, each so often as its weight says, with GROUP BY these columns.
-    pub fn of(
-        alloc: Global,
-        columns: &[usize],
-        aggregates: &[Aggregate],
-        rows: &[(Row, i128)],
-    ) -> Result<GroupChange, AllocError>
-        requires { AllByRecursion (λ x. AllByRecursion (IsNarrow x.0) aggregates.now) rows.now }
-        ensures { IfOk result (λ change. change ≡ additions columns.now aggregates.now rows.now) }
+    pub(crate) fn push(&mut self, row: Placed) -> Result<(), AllocError>
+        ensures { OnOk result (self.new ≡ self.old ++ row ∷ []) }
     {
-        let mut change = GroupChange::new(alloc);
-        for (row, weight) in rows {
-            change.push(alloc, columns, aggregates, row.as_slice(), *weight)?;
-        }
-        Ok(change)
-    }
-
-    /// Adds what one changed row adds.
-    pub fn push(
-        &mut self,
-        alloc: Global,
-        columns: &[usize],
-        aggregates: &[Aggregate],
-        row: &[Value],
-        weight: i128,
-    ) -> Result<(), AllocError>
-        requires { AllByRecursion (IsNarrow row.now) aggregates.now }
-        ensures small { OnOk result (AllByRecursion (IsSmall row.now) aggregates.now) }
-        ensures ok { OnOk result (self.new ≡ self.old ++ addition columns.now aggregates.now (row.now, weight) ∷ []) }
-        ensures err { OnErr result (self.new ≡ self.old) }
-    {
-        let key = key_of(alloc, columns, row)?;
-        let addends = addends_of(alloc, aggregates, row)?;
-        self.additions.push(Addition {
-            key,
-            weight,
-            addends,
-        })?;
+        self.rows.push(row)?;
         Ok(())
     }
 
-    pub fn as_slice(&self) -> &[Addition]
+    pub(crate) fn as_slice(&self) -> &[Placed]
         ensures { result.now ≡ self.now }
     {
-        self.additions.as_slice()
+        self.rows.as_slice()
+    }
+
+    /// Puts the rows in the order of their places, the last place first. It takes no memory.
+    pub(crate) fn sort_from_last(&mut self)
+        ensures moved { IsPermutation self.old self.new }
+        ensures sorted { IsSortedBy (λ x y. nat_lt y.place x.place) self.new }
+    {
+        self.rows.sort_unstable_by(|a, b| b.place.cmp(&a.place));
     }
 }
 
 /// What a row adds to each aggregate.
-fn addends_of(
+pub(crate) fn addends_of(
     alloc: Global,
     aggregates: &[Aggregate],
     row: &[Value],

@@ -1,6 +1,7 @@
 //! A group: how many rows it has, and what is kept of its aggregates.
 ghost use Rattle.std.specs.List.{AllByRecursion};
-ghost use Rattle.std.specs.Prelude.{nat_abs, ◌≡◌, [], IfErr, IfOk, OnOk, map};
+ghost use Rattle.std.specs.Ordering.{int_eq};
+ghost use Rattle.std.specs.Prelude.{nat_abs, pos, ◌≡◌, [], IfErr, IfOk, OnOk, map};
 ghost use Rattle.cq_kept.specs.Kept.{group_of, shown_row};
 ghost use Rattle.cq_deltas.specs.declared.fault.ShowFault.TheVariants.{SumOutOfRange};
 ghost use Rattle.cq_deltas.specs.Shown.{AllCanBeShown, GroupCanBeShown};
@@ -37,6 +38,12 @@ impl Group {
         ensures { result ≡ self.now.count }
     {
         self.count
+    }
+
+    pub(crate) fn is_empty(&self) -> bool
+        ensures { result ≡ int_eq self.now.count (pos 0) }
+    {
+        self.count == 0
     }
 
     /// Makes room for the arguments of a row, and leaves the group as it is.

@@ -1,22 +1,25 @@
 //! Groups by key.
+ghost use Rattle.std.specs.List.{AllByRecursion};
+ghost use Rattle.std.specs.List.Sorted.{IsSortedBy};
 ghost use Rattle.std.specs.Map.Iter.{ShowsInOrder, deref_pair};
-ghost use Rattle.std.specs.Option.{option_map_or};
-ghost use Rattle.std.specs.Ordering.{int_eq};
-ghost use Rattle.std.specs.Prelude.{◌++◌, ◌≡◌, IfErr, IfOk, OnOk, Some, [], None, false, true, pos};
+ghost use Rattle.std.specs.Map.{keys_of};
+ghost use Rattle.std.specs.Prelude.{All, ◌++◌, ◌<◌, ◌≡◌, IfErr, IfOk, OnOk, Some, [], false, length, nat_lt, slice_get, take};
 ghost use Rattle.cq_kept.specs.Kept.{Groups as ByKey};
 ghost use Rattle.cq_deltas.specs.declared.group.Group.{Group as Stored};
 ghost use Rattle.cq_kept.specs.Shown.{ListsKeys};
 ghost use Rattle.cq_values.specs.Order.{same_row};
 ghost use Rattle.cq_values.specs.Value.{Row as Values};
 ghost use Rattle.cq_deltas.specs.declared.fault.ShowFault.TheVariants.{SumOutOfRange};
+ghost use Rattle.cq_deltas.specs.Additions.{IsNarrow, IsSmall, addition};
 ghost use Rattle.cq_deltas.specs.Shown.{EntryCanBeShown, GroupsCanBeShown, counted_keys, entry_row, group_rows};
-ghost use Rattle.cq_deltas.specs.Keyed.{ArePut, AreSettled, GroupsGoOn, HasKeys, HoldsFor, HoldsOne, IsPut, IsReadyFor, StayReady, Takes, group_at, held_at, is_met, stored_at};
+ghost use Rattle.cq_deltas.specs.Keyed.{Adds, ArePut, AreSettled, GroupsGoOn, HasKeys, HoldsFor, HoldsOne, IsPut, IsReadyAt, KeepPlaces, Takes, addition_at, additions_at, group_at, is_met, key_at, stored_at};
 
-use crate::change::{Addition, GroupChange};
+use crate::change::{Addend, GroupChange, Placed, addends_of};
 use crate::fault::ShowFault;
 use crate::group::Group;
+use cq_eval::key_of;
 use cq_model::Aggregate;
-use cq_values::{Row, copy_row};
+use cq_values::{Row, Value};
 use indexmap::IndexMap;
 use indexmap::map::Iter;
 use std::alloc::{AllocError, Global};
@@ -45,68 +48,85 @@ impl Groups {
         }
     }
 
-    /// Makes an empty group for each new key of a change, and room for its values, so that it can be put in without
-    /// growth. No group changes.
+    /// Makes room for what a changed row adds, and puts that behind the rest of a change: [`Groups::take`] then puts it in
+    /// without growth. Where the row's key has no group it gets an empty one. No group changes.
     pub fn ready(
         &mut self,
         alloc: Global,
+        columns: &[usize],
         aggregates: &[Aggregate],
-        change: &GroupChange,
+        row: &[Value],
+        weight: i128,
+        change: &mut GroupChange,
     ) -> Result<(), AllocError>
+        requires narrow { AllByRecursion (IsNarrow row.now) aggregates.now }
+        requires keys { HasKeys change.old self.old }
         ensures groups { (k : Values) → group_at aggregates.now self.new k ≡ group_at aggregates.now self.old k }
-        ensures keys { OnOk result (HasKeys change.now self.new) }
+        ensures small { OnOk result (AllByRecursion (IsSmall row.now) aggregates.now) }
+        ensures adds { OnOk result (Adds self.old change.old (addition columns.now aggregates.now (row.now, weight)) self.new change.new) }
     {
-        for addition in change.as_slice() {
-            self.ready_one(alloc, aggregates, addition)?;
+        let addends = addends_of(alloc, aggregates, row)?;
+        let key = key_of(alloc, columns, row)?;
+        let place = self.place_of(alloc, aggregates, key)?;
+        self.make_room(alloc, place, addends.as_slice())?;
+        change.push(Placed {
+            place,
+            weight,
+            addends,
+        })
+    }
+
+    /// The place of a key's group. Where the key has none, an empty one is put behind the others.
+    fn place_of(
+        &mut self,
+        alloc: Global,
+        aggregates: &[Aggregate],
+        key: Row,
+    ) -> Result<usize, AllocError>
+        ensures groups { (k : Values) → group_at aggregates.now self.new k ≡ group_at aggregates.now self.old k }
+        ensures keep { KeepPlaces self.old self.new }
+        ensures place { IfOk result (λ place. slice_get (keys_of self.new) place ≡ Some key) }
+    {
+        if let Some(place) = self.groups.get_index_of(&key) {
+            return Ok(place);
         }
-        Ok(())
+        let place = self.groups.len();
+        let group = Group::empty(alloc, aggregates)?;
+        self.groups.insert(key, group)?;
+        Ok(place)
     }
 
-    /// Makes room in a row's group for what the row adds, and the group too, where its key has none.
-    fn ready_one(
+    /// Makes room in the group at a place for what a row adds.
+    fn make_room(
         &mut self,
         alloc: Global,
-        aggregates: &[Aggregate],
-        addition: &Addition,
+        place: usize,
+        addends: &[Option<Addend>],
     ) -> Result<(), AllocError>
-        ensures groups { (k : Values) → group_at aggregates.now self.new k ≡ group_at aggregates.now self.old k }
-        ensures room { OnOk result (IsReadyFor addition.now.addends (held_at self.new addition.now.key)) }
-        ensures kept { StayReady self.old self.new }
+        requires { place < length self.old }
+        ensures same { (k : Values) → stored_at self.new k ≡ stored_at self.old k }
+        ensures keep { KeepPlaces self.old self.new }
+        ensures room { OnOk result (IsReadyAt addends.now self.new place) }
     {
-        let Some(group) = self.groups.get_mut(&addition.key) else {
-            return self.make(alloc, aggregates, addition);
-        };
-        group.ready(alloc, addition.addends.as_slice())
-    }
-
-    /// Makes an empty group for a row's key, which has none, with room for what the row adds.
-    fn make(
-        &mut self,
-        alloc: Global,
-        aggregates: &[Aggregate],
-        addition: &Addition,
-    ) -> Result<(), AllocError>
-        requires { held_at self.old addition.now.key ≡ None }
-        ensures groups { (k : Values) → group_at aggregates.now self.new k ≡ group_at aggregates.now self.old k }
-        ensures room { OnOk result (IsReadyFor addition.now.addends (held_at self.new addition.now.key)) }
-        ensures kept { StayReady self.old self.new }
-    {
-        let mut group = Group::empty(alloc, aggregates)?;
-        group.ready(alloc, addition.addends.as_slice())?;
-        let copy = copy_row(alloc, addition.key.as_slice())?;
-        self.groups.insert(copy, group)?;
-        Ok(())
+        match self.groups.get_index_mut(place) {
+            Some(group) => group.ready(alloc, addends),
+            None => unreachable!(),
+        }
     }
 
     /// Puts a change in that the groups were made ready for. It cannot fail, and takes no memory.
     pub fn take(&mut self, change: GroupChange)
         requires keys { HasKeys change self.old }
-        requires holds { HoldsFor change self.old }
-        ensures takes { Takes self.old change self.new }
-        ensures goes_on { GroupsGoOn self.old change self.new }
+        requires holds { HoldsFor (additions_at self.old change) self.old }
+        ensures takes { Takes self.old (additions_at self.old change) self.new }
+        ensures goes_on { GroupsGoOn self.old (additions_at self.old change) self.new }
     {
+        let mut change = change;
         self.put_all(change.as_slice());
-        self.settle_all(change.as_slice());
+        if self.settle_all(change.as_slice()) {
+            change.sort_from_last();
+            self.drop_empty(change.as_slice());
+        }
     }
 
     /// The groups with their keys, also those without rows that were made for a change that never came.
@@ -135,65 +155,87 @@ impl Groups {
     }
 
     /// Puts the rows of a change in their groups.
-    fn put_all(&mut self, additions: &[Addition])
-        requires keys { HasKeys additions.now self.old }
-        requires holds { HoldsFor additions.now self.old }
-        ensures { ArePut self.old additions.now self.new }
+    fn put_all(&mut self, rows: &[Placed])
+        requires keys { HasKeys rows.now self.old }
+        requires holds { HoldsFor (additions_at self.old rows.now) self.old }
+        ensures put { ArePut self.old (additions_at self.old rows.now) self.new }
+        ensures keep { KeepPlaces self.old self.new }
     {
-        for addition in additions {
-            self.put(addition);
+        for row in rows {
+            self.put(row);
         }
     }
 
-    fn put(&mut self, addition: &Addition)
-        requires room { IsReadyFor addition.now.addends (held_at self.old addition.now.key) }
-        requires holds { HoldsOne addition.now self.old }
-        ensures put { IsPut self.old addition.now self.new }
-        ensures kept { StayReady self.old self.new }
+    fn put(&mut self, row: &Placed)
+        requires room { IsReadyAt row.now.addends self.old row.now.place }
+        requires holds { HoldsOne (addition_at self.old row.now) self.old }
+        ensures put { IsPut self.old (addition_at self.old row.now) self.new }
+        ensures keep { KeepPlaces self.old self.new }
     {
-        match self.groups.get_mut(&addition.key) {
-            Some(group) => group.add(addition.weight, addition.addends.as_slice()),
+        match self.groups.get_index_mut(row.place) {
+            Some(group) => group.add(row.weight, row.addends.as_slice()),
             None => unreachable!(),
         }
     }
 
-    /// Drops those groups of a change that it leaves without rows, and those values of the others that it leaves
-    /// uncounted.
-    fn settle_all(&mut self, additions: &[Addition])
-        ensures { AreSettled (is_met additions.now) self.old self.new }
-    {
-        for addition in additions {
-            self.settle(addition);
-        }
-    }
-
-    fn settle(&mut self, addition: &Addition)
-        ensures { AreSettled (same_row addition.now.key) self.old self.new }
-    {
-        if self.settle_group(addition) {
-            self.drop_empty(&addition.key);
-        }
-    }
-
-    /// Lets the values of a row go from its group where they are counted no longer, and tells whether the group has no
-    /// rows.
-    fn settle_group(&mut self, addition: &Addition) -> bool
+    /// Lets values of a change's groups go that are counted no longer, and tells whether one of the groups has no rows.
+    fn settle_all(&mut self, rows: &[Placed]) -> bool
+        requires { HasKeys rows.now self.old }
         ensures same { (k : Values) → stored_at self.new k ≡ stored_at self.old k }
-        ensures empty { result ≡ option_map_or (λ g. int_eq g.count (pos 0)) (held_at self.new addition.now.key) false }
+        ensures keys { keys_of self.new ≡ keys_of self.old }
+        ensures full { result ≡ false → AreSettled (is_met (additions_at self.old rows.now)) self.old self.new }
     {
-        let Some(group) = self.groups.get_mut(&addition.key) else {
-            return false;
-        };
-        group.settle(addition.addends.as_slice());
-        group.count() == 0
+        let mut is_empty = false;
+        for row in rows {
+            is_empty |= self.settle(row);
+        }
+        is_empty
     }
 
-    /// Drops the group of a key, which has no rows.
-    fn drop_empty(&mut self, key: &Row)
-        requires { option_map_or (λ g. int_eq g.count (pos 0)) (held_at self.old key.now) false ≡ true }
-        ensures { AreSettled (same_row key.now) self.old self.new }
+    fn settle(&mut self, row: &Placed) -> bool
+        requires { row.now.place < length self.old }
+        ensures same { (k : Values) → stored_at self.new k ≡ stored_at self.old k }
+        ensures keys { keys_of self.new ≡ keys_of self.old }
+        ensures full { result ≡ false → AreSettled (same_row (key_at self.old row.now.place)) self.old self.new }
     {
-        drop(self.groups.swap_remove(key));
+        match self.groups.get_index_mut(row.place) {
+            Some(group) => {
+                group.settle(row.addends.as_slice());
+                group.is_empty()
+            }
+            None => unreachable!(),
+        }
+    }
+
+    /// Drops those groups of a change that have no rows, the last one first. So the places of the others stay right.
+    fn drop_empty(&mut self, rows: &[Placed])
+        requires there { All (λ x. x.place < length self.old) rows.now }
+        requires sorted { IsSortedBy (λ x y. nat_lt y.place x.place) rows.now }
+        ensures { AreSettled (is_met (additions_at self.old rows.now)) self.old self.new }
+    {
+        let mut end = self.groups.len();
+        for row in rows {
+            // Rows of one group stand together, and the group leaves with the first of them.
+            if row.place < end {
+                self.drop_if_empty(row.place);
+            }
+            end = row.place;
+        }
+    }
+
+    /// Drops the group at a place if it has no rows. The last group takes its place.
+    fn drop_if_empty(&mut self, place: usize)
+        requires { place < length self.old }
+        ensures settled { AreSettled (same_row (key_at self.old place)) self.old self.new }
+        ensures front { take place self.new ≡ take place self.old }
+    {
+        let is_empty = match self.groups.get_index(place) {
+            Some((_, group)) => group.is_empty(),
+            None => unreachable!(),
+        };
+        if is_empty {
+            drop(self.groups.swap_remove_index(place));
+        }
     }
 }
 

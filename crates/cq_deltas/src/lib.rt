@@ -1,8 +1,9 @@
 //! What a grouped view keeps, changed row by row and not worked out anew.
 //!
 //! [`Groups`] has a group for each key: how many rows it has, and for each aggregate a count, an exact total, or the
-//! values with their counts in order. A [`GroupChange`] is what changed rows add. First [`Groups::ready`] makes all
-//! growth, then [`Groups::take`] puts the change in and cannot fail; then the groups are those of the changed rows.
+//! values with their counts in order. A [`GroupChange`] is what changed rows add, each to the group at a place. First
+//! [`Groups::ready`] makes all growth, row by row, then [`Groups::take`] puts the change in and cannot fail; then the
+//! groups are those of the changed rows.
 #![tactic(auto)]
 
 mod change;
@@ -12,7 +13,7 @@ mod groups;
 mod kept;
 mod laws;
 
-pub use change::{Addend, Addition, GroupChange};
+pub use change::{Addend, GroupChange, Placed};
 pub use fault::ShowFault;
 pub use group::Group;
 pub use groups::Groups;

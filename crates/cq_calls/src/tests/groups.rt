@@ -1,36 +1,28 @@
 //! Groups of a change that is put in where there were none.
-ghost use Rattle.std.specs.Prelude.{[]};
+ghost use Rattle.std.specs.Prelude.{◌≡◌, []};
+ghost use Rattle.cq_deltas.specs.Keyed.{HasKeys, additions_at, group_at};
 ghost use Rattle.cq_deltas.specs.Laws.{AreSmall};
+ghost use Rattle.cq_values.specs.Value.{Row as Values};
 
 use cq_deltas::{GroupChange, Groups, ShowFault};
 use cq_model::{Aggregate, Expr};
 use cq_values::{Row, Value};
-use std::alloc::{AllocError, Global};
+use std::alloc::Global;
 use std::test::Fail;
 
-/// The groups of the rows of a change alone.
-fn first_groups(
-    alloc: Global,
-    aggregates: &[Aggregate],
-    change: GroupChange,
-) -> Result<Groups, AllocError>
-    requires { AreSmall [] change }
-{
-    let mut groups = Groups::new(alloc);
-    groups.ready(alloc, aggregates, &change)?;
-    groups.take(change);
-    Ok(groups)
-}
-
-/// What they show.
+/// What groups without rows show, once the rows of a change are put in.
 fn shown_alone(
     alloc: Global,
     aggregates: &[Aggregate],
+    groups: Groups,
     change: GroupChange,
 ) -> Result<Vec<Row>, ShowFault>
-    requires { AreSmall [] change }
+    requires keys { HasKeys change groups }
+    requires none { (k : Values) → group_at aggregates.now groups k ≡ group_at aggregates.now [] k }
+    requires small { AreSmall [] (additions_at groups change) }
 {
-    let groups = first_groups(alloc, aggregates, change)?;
+    let mut groups = groups;
+    groups.take(change);
     groups.shown_rows(alloc, aggregates)
 }
 
@@ -42,10 +34,11 @@ fn under_null(alloc: Global) -> Result<Vec<Row>, ShowFault> {
         Aggregate::Count(Expr::column(1)),
         Aggregate::Sum(Expr::column(1)),
     ];
+    let mut groups = Groups::new(alloc);
     let mut change = GroupChange::new(alloc);
-    change.push(alloc, &[0], &aggregates, &five, 2)?;
-    change.push(alloc, &[0], &aggregates, &null, 1)?;
-    shown_alone(alloc, &aggregates, change)
+    groups.ready(alloc, &[0], &aggregates, &five, 2, &mut change)?;
+    groups.ready(alloc, &[0], &aggregates, &null, 1, &mut change)?;
+    shown_alone(alloc, &aggregates, groups, change)
 }
 
 #[test]
@@ -61,10 +54,18 @@ fn null_is_one_key_and_adds_nothing(rt: HostRuntime) -> Result<(), Fail> {
 fn total(alloc: Global, weight: i8) -> Result<Vec<Row>, ShowFault> {
     let (greatest, zero) = ([Value::Number(i128::MAX)], [Value::Number(0)]);
     let aggregates = [Aggregate::Sum(Expr::column(0))];
+    let mut groups = Groups::new(alloc);
     let mut change = GroupChange::new(alloc);
-    change.push(alloc, &[], &aggregates, &greatest, i128::from(weight))?;
-    change.push(alloc, &[], &aggregates, &zero, 4)?;
-    shown_alone(alloc, &aggregates, change)
+    groups.ready(
+        alloc,
+        &[],
+        &aggregates,
+        &greatest,
+        i128::from(weight),
+        &mut change,
+    )?;
+    groups.ready(alloc, &[], &aggregates, &zero, 4, &mut change)?;
+    shown_alone(alloc, &aggregates, groups, change)
 }
 
 /// How often the greatest number is there, and whether the total can be shown.
@@ -87,13 +88,28 @@ fn ends(alloc: Global, fives: i8, threes: i8) -> Result<Vec<Row>, ShowFault> {
         Aggregate::Min(Expr::column(0)),
         Aggregate::Max(Expr::column(0)),
     ];
+    let mut groups = Groups::new(alloc);
     let mut change = GroupChange::new(alloc);
-    change.push(alloc, &[], &aggregates, &five, 2)?;
-    change.push(alloc, &[], &aggregates, &three, 1)?;
-    change.push(alloc, &[], &aggregates, &null, 1)?;
-    change.push(alloc, &[], &aggregates, &five, -i128::from(fives))?;
-    change.push(alloc, &[], &aggregates, &three, -i128::from(threes))?;
-    shown_alone(alloc, &aggregates, change)
+    groups.ready(alloc, &[], &aggregates, &five, 2, &mut change)?;
+    groups.ready(alloc, &[], &aggregates, &three, 1, &mut change)?;
+    groups.ready(alloc, &[], &aggregates, &null, 1, &mut change)?;
+    groups.ready(
+        alloc,
+        &[],
+        &aggregates,
+        &five,
+        -i128::from(fives),
+        &mut change,
+    )?;
+    groups.ready(
+        alloc,
+        &[],
+        &aggregates,
+        &three,
+        -i128::from(threes),
+        &mut change,
+    )?;
+    shown_alone(alloc, &aggregates, groups, change)
 }
 
 /// How often 5 and 3 leave, and then the least value and the greatest.

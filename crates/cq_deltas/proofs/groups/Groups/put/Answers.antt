@@ -1,33 +1,38 @@
-use Rattle.std.proofs.Common.{◌≡◌, Some, ap, subst, rules, FitsSigned}
+use Rattle.std.proofs.Common.{◌≡◌, Some, slice_get, ap, rules, FitsSigned}
 use Rattle.std.specs.Int.{w128}
+use Rattle.std.specs.Map.{values_of}
 use Rattle.std.specs.Option.{option_map}
 use Rattle.std.proofs.lemmas.Int.{to_z-of_z}
 use Rattle.cq_deltas.specs.Kept.{group_with, seen_group}
-use Rattle.cq_deltas.specs.Keyed.{IsReadyFor, held_at}
-use Rattle.cq_deltas.proofs.AtKeys.{SetsAt, over-ready, put-everywhere}
+use Rattle.cq_deltas.specs.Keyed.{addition_at}
+use Rattle.cq_deltas.proofs.AtKeys.{put-everywhere}
+use Rattle.cq_deltas.proofs.Places.{held-there, over-keep, writes}
 use Rattle.cq_deltas.proofs.groups.Groups.put.Goals as goal
-
-pub add-requires-clause-room : goal.add-requires-clause-room
-add-requires-clause-room c =
-    let there : held_at c.args.self.now c.args.addition.now.key ≡ Some c.in-Some.group.now = search rules in
-    rw c.as_slice.ensures (subst (λ (o : _). IsReadyFor c.args.addition.now.addends o) there c.requires.room)
 
 pub add-requires-clause-holds : goal.add-requires-clause-holds
 add-requires-clause-holds c =
-    let fits : FitsSigned w128 c.args.addition.now.weight = search rules in
-    let there : held_at c.args.self.now c.args.addition.now.key ≡ Some c.in-Some.group.now = search rules in
-    rw (to_z-of_z w128 c.args.addition.now.weight fits, c.as_slice.ensures) (c.requires.holds (seen_group c.in-Some.group.now) (ap (option_map seen_group) there))
+    let row = c.args.row.now in
+    let fits : FitsSigned w128 row.weight = search rules in
+    let at : slice_get (values_of c.args.self.now) row.place ≡ Some c.in-Some.group.now = search rules in
+    let distinct = rw c.self.view_is at c.get_index_mut.ensures.unique in
+    rw (to_z-of_z w128 row.weight fits, c.as_slice.ensures)
+    (c.requires.holds (seen_group c.in-Some.group.now) (ap (option_map seen_group) (held-there c.args.self.now row.place c.in-Some.group.now distinct at)))
 
-pub returns : goal.returns
-returns c =
-    let fits : FitsSigned w128 c.args.addition.now.weight = search rules in
-    let put : seen_group c.add.new.self ≡ group_with c.args.addition.now.weight c.args.addition.now.addends (seen_group c.in-Some.group.now) =
-    rw (to_z-of_z w128 c.args.addition.now.weight fits, c.as_slice.ensures) at c.add.ensures.seen in
-    let there : held_at c.args.self.now c.args.addition.now.key ≡ Some c.in-Some.group.now = search rules in
-    let h = c.get_mut.follows.holds c.add.new.self in
-    let new = (c.get_mut.follows.lender c.add.new.self).entries in
-    let sets : SetsAt c.args.self.now c.args.addition.now.key (Some c.add.new.self) new = rw c.self.view_is at (h.3 (search rules)).0 in
-    record {
-      put = put-everywhere c.args.self.now new c.args.addition.now c.in-Some.group.now c.add.new.self sets put there;
-      kept = over-ready c.args.self.now new c.args.addition.now.key c.in-Some.group.now c.add.new.self sets there c.add.ensures.kept;
-    }
+pub returns-clause-put : goal.returns-clause-put
+returns-clause-put c =
+    let old = c.self.inside.groups in
+    let row = c.args.row.now in
+    let group = c.in-Some.group.now in
+    let fits : FitsSigned w128 row.weight = search rules in
+    let at : slice_get (values_of old.entries) row.place ≡ Some group = search rules in
+    let distinct = c.get_index_mut.ensures.unique in
+    let put : seen_group c.add.new.self ≡ group_with row.weight row.addends (seen_group group) =
+    rw (to_z-of_z w128 row.weight fits, c.as_slice.ensures) at c.add.ensures.seen in
+    rw (← c.self.view_is)
+    (put-everywhere old.entries _ (addition_at old.entries row) group c.add.new.self (writes old row.place group c.add.new.self distinct at) put (held-there old.entries row.place group distinct at))
+
+pub returns-clause-keep : goal.returns-clause-keep
+returns-clause-keep c =
+    let old = c.self.inside.groups.entries in
+    let at : slice_get (values_of old) c.args.row.now.place ≡ Some c.in-Some.group.now = search rules in
+    rw (← c.self.view_is) (over-keep c.in-Some.group.now c.add.new.self old c.args.row.now.place at c.add.ensures.kept)

@@ -1,12 +1,10 @@
-use Rattle.std.proofs.Common.{◌≡◌, take}
-use Rattle.std.specs.Option.{option_map}
-use Rattle.cq_values.specs.Value.{Row}
-use Rattle.cq_deltas.specs.Keyed.{StayReady, group_with_all, stored_at}
+use Rattle.std.proofs.Common.{take}
+use Rattle.cq_deltas.specs.Keyed.{ArePut, KeepPlaces, additions_at}
 use Rattle.cq_deltas.proofs.groups.Groups.put_all.Given as goal
 
--- the rows so far are in their groups, and what was ready is
-abbrev pub invariant-loop-addition : goal.invariant-loop-addition
-invariant-loop-addition l = record {
-  put : (k : Row) → stored_at l.self k ≡ option_map (group_with_all (take l.addition-index l.additions) k) (stored_at l.fn.self k);
-  kept : StayReady l.fn.self l.self;
+-- the rows so far are in their groups, and the groups stand where they stood
+abbrev pub invariant-loop-row : goal.invariant-loop-row
+invariant-loop-row l = record {
+  put : ArePut l.fn.self (take l.row-index (additions_at l.fn.self l.rows)) l.self;
+  keep : KeepPlaces l.fn.self l.self;
 }

@@ -1,9 +1,13 @@
-use Rattle.std.proofs.Common.{◌≡◌, if◌then◌else◌, take}
+use Rattle.std.proofs.Common.{◌≡◌, false, take}
+use Rattle.std.specs.Map.{keys_of}
 use Rattle.cq_values.specs.Value.{Row}
-use Rattle.cq_deltas.specs.Keyed.{is_met, settled, stored_at}
+use Rattle.cq_deltas.specs.Keyed.{AreSettled, additions_at, is_met, stored_at}
 use Rattle.cq_deltas.proofs.groups.Groups.settle_all.Given as goal
 
--- the groups of the keys so far are settled
-abbrev pub invariant-loop-addition : goal.invariant-loop-addition
-invariant-loop-addition l =
-    (k : Row) → stored_at l.self k ≡ (if is_met (take l.addition-index l.additions) k then settled (stored_at l.fn.self k) else stored_at l.fn.self k)
+-- no group is another, and while none without rows is met, those of the rows so far are settled
+abbrev pub invariant-loop-row : goal.invariant-loop-row
+invariant-loop-row l = record {
+  same : (k : Row) → stored_at l.self k ≡ stored_at l.fn.self k;
+  keys : keys_of l.self ≡ keys_of l.fn.self;
+  full : l.is_empty ≡ false → AreSettled (is_met (take l.row-index (additions_at l.fn.self l.rows))) l.fn.self l.self;
+}
