@@ -15,9 +15,9 @@ use Rattle.cq_model.specs.declared.query.Query.{Query}
 use Rattle.cq_model.specs.declared.query.Shape.{Shape}
 use Rattle.cq_model.specs.declared.query.Shape.TheVariants.{Plain, Grouped}
 use Rattle.cq_sides.specs.Held.{Held}
-use Rattle.cq_deltas.specs.Additions.{additions}
-use Rattle.cq_deltas.specs.Keyed.{GroupsGoOn, KeyedGroups, group_at}
-use Rattle.cq_deltas.specs.declared.change.Addition.{Addition}
+use Rattle.cq_deltas.specs.Additions.{Addition, additions}
+use Rattle.cq_deltas.specs.Keyed.{GroupsGoOn, KeyedGroups, additions_at, group_at}
+use Rattle.cq_deltas.specs.declared.change.Placed.{Placed}
 use Rattle.cq_upkeep.specs.Last.{GoesOn, StandsBehind, seen}
 use Rattle.cq_upkeep.specs.Query.{aggregates_in, aggregates_of, keys_in}
 use Rattle.cq_upkeep.specs.declared.last.Last.{Last as Stored}
@@ -40,8 +40,8 @@ groups-by_shape : (query : Query) (shape : Shape) (old new : KeyedGroups) (more 
 groups-by_shape query Plain old new more xs dxs ys on is same bag stands = absurd stands
 groups-by_shape query (Grouped keys aggregates having) old new more xs dxs ys on is same bag stands = on query keys aggregates having xs dxs ys is same bag stands
 
-pub groups-go_on : (old new : KeyedGroups) (more : List Addition) → GroupsGoOn old more new → GoesOn (stored.Groups old) (change.Groups more) (stored.Groups new)
-groups-go_on old new more on query xs dxs ys is same bag stands = groups-by_shape query query.shape old new more xs dxs ys on is same bag stands
+pub groups-go_on : (old new : KeyedGroups) (more : List Placed) → GroupsGoOn old (additions_at old more) new → GoesOn (stored.Groups old) (change.Groups more) (stored.Groups new)
+groups-go_on old new more on query xs dxs ys is same bag stands = groups-by_shape query query.shape old new (additions_at old more) xs dxs ys on is same bag stands
 
 images-by_shape : (query : Query) (shape : Shape) (old more new : Weighted) (xs dxs ys : Weighted) → SameBag new (old ++ more)
     → SameBag more (projected (items_of query.items) dxs) → SameBag ys (xs ++ dxs)

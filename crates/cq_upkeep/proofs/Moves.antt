@@ -20,12 +20,11 @@ use Rattle.cq_values.specs.declared.day_part.DayPart.TheVariants as parts
 use Rattle.cq_sides.proofs.RowByRow.{sizes-cons}
 use Rattle.cq_sides.specs.Held.{sizes}
 use Rattle.cq_chains.specs.Steps.{AreStored}
-use Rattle.cq_deltas.specs.Additions.{IsNarrow, IsSmall, IsSmallAddend, addend_of, addition, additions, counted_addend}
+use Rattle.cq_deltas.specs.Additions.{Addition, IsNarrow, IsSmall, IsSmallAddend, addend_of, addition, additions, counted_addend}
 use Rattle.cq_deltas.specs.Keyed.{all_total_moves, count_moves}
 use Rattle.cq_deltas.specs.Kept.{total_move, total_moves}
 use Rattle.cq_deltas.specs.declared.change.Addend.{Addend}
 use Rattle.cq_deltas.specs.declared.change.Addend.TheVariants as added
-use Rattle.cq_deltas.specs.declared.change.Addition.{Addition}
 
 -- ---- what a stored row adds is small
 part-small : (part : DayPart) → part_limit part ≤ 2 ^ 127

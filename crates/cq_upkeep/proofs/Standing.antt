@@ -27,6 +27,23 @@ use Rattle.cq_upkeep.specs.declared.last.LastChange.{LastChange}
 use Rattle.cq_upkeep.specs.declared.state.Pending.{Pending}
 use Rattle.cq_upkeep.specs.declared.state.ViewState.{ViewState}
 
+module _ (v : ViewState) (changes : Tables) where
+  -- what WHERE keeps of the joined rows changes by what it keeps of what the chain hands on
+  pub kept-change : (given : Weighted) → IsChange v.chain changes given → (tables : Tables) → StandsFor v tables → AreAsTold v tables changes
+      → SameBag (joined_rows v.query (changed tables changes)) (joined_rows v.query tables ++ kept_rows v.query given)
+  kept-change given change tables stands wide =
+      let keep = keeps v.query.filter in
+      let old = rows_of v.chain tables in
+      let kept = chain-kept v.query v.widths v.chain stands.is_of wide.width wide.told in
+      let before : filtered keep old ≡ joined_rows v.query tables = kept tables wide.rows in
+      let behind : filtered keep (rows_of v.chain (changed tables changes)) ≡ joined_rows v.query (changed tables changes) =
+      kept (changed tables changes) (λ s. append-width (wide.width s) (tables s) (changes s) (wide.rows s) (wide.more s)) in
+      let parts : filtered keep (old ++ given) ≡ joined_rows v.query tables ++ kept_rows v.query given =
+      filtered-append keep old given ∙ ap (λ (xs : Weighted). xs ++ kept_rows v.query given) before in
+      subst (λ (xs : Weighted). SameBag xs (joined_rows v.query tables ++ kept_rows v.query given)) behind
+      (subst (λ (xs : Weighted). SameBag (filtered keep (rows_of v.chain (changed tables changes))) xs) parts
+      (filtered-respects keep (rows_of v.chain (changed tables changes)) (old ++ given) (change tables stands.sides)))
+
 -- ---- a view that changes
 module _ (v : ViewState) (changes : Tables) (can : CanPrepare v changes) where
   abbrev sources : List Source
@@ -57,22 +74,6 @@ module _ (v : ViewState) (changes : Tables) (can : CanPrepare v changes) where
         narrow = chain-narrow v.query v.widths v.chain is can.can.filter;
       }
 
-  -- what WHERE keeps of the joined rows changes by what it keeps of what the chain hands on
-  kept-change : (given : Weighted) → IsChange v.chain changes given → (tables : Tables) → StandsFor v tables → AreAsTold v tables changes
-      → SameBag (joined_rows v.query (changed tables changes)) (joined_rows v.query tables ++ kept_rows v.query given)
-  kept-change given change tables stands wide =
-      let keep = keeps v.query.filter in
-      let old = rows_of v.chain tables in
-      let kept = chain-kept v.query v.widths v.chain stands.is_of wide.width wide.told in
-      let before : filtered keep old ≡ joined_rows v.query tables = kept tables wide.rows in
-      let behind : filtered keep (rows_of v.chain (changed tables changes)) ≡ joined_rows v.query (changed tables changes) =
-      kept (changed tables changes) (λ s. append-width (wide.width s) (tables s) (changes s) (wide.rows s) (wide.more s)) in
-      let parts : filtered keep (old ++ given) ≡ joined_rows v.query tables ++ kept_rows v.query given =
-      filtered-append keep old given ∙ ap (λ (xs : Weighted). xs ++ kept_rows v.query given) before in
-      subst (λ (xs : Weighted). SameBag xs (joined_rows v.query tables ++ kept_rows v.query given)) behind
-      (subst (λ (xs : Weighted). SameBag (filtered keep (rows_of v.chain (changed tables changes))) xs) parts
-      (filtered-respects keep (rows_of v.chain (changed tables changes)) (old ++ given) (change tables stands.sides)))
-
   -- what stands behind the joins can take these in
   pub can-take_in : (given : Weighted) → IsChange v.chain changes given → IsClean given → AreFew given → CanTakeIn v.query v.last given
   can-take_in given change clean few =
@@ -91,19 +92,19 @@ module _ (v : ViewState) (changes : Tables) (can : CanPrepare v changes) where
       }
 
   -- and then they wait
-  pub all-wait : (given : Weighted) → IsChange v.chain changes given → (c : Chain) (l : Stored) (waiting : Waiting) (more : LastChange) → IsChangeOf v.query (kept_rows v.query given) more
-      → AreWaiting v.chain changes c waiting.joins.items → IsWaiting v changes (record v { chain = c; last = l }) (record { waiting = waiting; change = more })
-  all-wait given change c l waiting more is wait = λ tables stands wide. record {
+  pub all-wait : (given : Weighted) → IsChange v.chain changes given → (c : Chain) (l : Stored) (ticks : ℕ) (waiting : Waiting) (more : LastChange) → IsChangeOf v.query (kept_rows v.query given) l more
+      → AreWaiting v.chain changes c waiting.joins.items → IsWaiting v changes (record v { chain = c; last = l; ticks = ticks }) (record { waiting = waiting; change = more })
+  all-wait given change c l ticks waiting more is wait = λ tables stands wide. record {
     rows = kept_rows v.query given;
-    given = kept-change given change tables stands wide;
+    given = kept-change v changes given change tables stands wide;
     last = is;
     sides = wait tables stands.sides;
   }
 
 module _ (v : ViewState) (c : Chain) (l : Stored) where
   -- where nothing is changed that is seen of the joins and of what stands behind them, the view is the same
-  pub same-view : IsStill v.chain c → seen (aggregates_of v.query) l ≡ seen (aggregates_of v.query) v.last → SameView v (record v { chain = c; last = l })
-  same-view still same = record {
+  pub same-view : IsStill v.chain c → seen (aggregates_of v.query) l ≡ seen (aggregates_of v.query) v.last → (ticks : ℕ) → SameView v (record v { chain = c; last = l; ticks = ticks })
+  same-view still same ticks = record {
     query = refl;
     widths = refl;
     epoch = refl;

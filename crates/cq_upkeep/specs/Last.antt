@@ -8,8 +8,8 @@ use Rattle.cq_model.specs.declared.query.Query.{Query}
 use Rattle.cq_sides.specs.Held.{Held, StaysSmall, sizes}
 use Rattle.cq_chains.specs.Steps.{AreStored}
 use Rattle.cq_deltas.specs.Additions.{additions}
-use Rattle.cq_deltas.specs.declared.change.Addition.{Addition}
-use Rattle.cq_deltas.specs.Keyed.{HasKeys, HoldsFor, group_at}
+use Rattle.cq_deltas.specs.declared.change.Placed.{Placed}
+use Rattle.cq_deltas.specs.Keyed.{HasKeys, HoldsFor, KeyedGroups, additions_at, group_at}
 use Rattle.cq_upkeep.specs.Query.{aggregates_of, key_columns}
 use Rattle.cq_upkeep.specs.declared.last.Last.{Last as Stored}
 use Rattle.cq_upkeep.specs.declared.last.Last.TheVariants as stored
@@ -34,17 +34,18 @@ abbrev pub AreImages : Query → Weighted → Held → Type 0
 AreImages query xs images = SameBag images.entries (projected (items_of query.items) xs)
 
 -- these are what rows add to the groups
-abbrev pub AreAdded : Query → Weighted → List Addition → Type 0
-AreAdded query xs more = more ≡ additions (key_columns query) (aggregates_of query) xs
+abbrev pub AreAdded : Query → Weighted → KeyedGroups → List Placed → Type 0
+AreAdded query xs groups more = additions_at groups more ≡ additions (key_columns query) (aggregates_of query) xs
 
--- what a change of the rows that WHERE keeps adds to groups, or to images
-abbrev pub IsChangeOf : Query → Weighted → LastChange → Type 0
-IsChangeOf query dxs (change.Groups more) = AreAdded query dxs more
-IsChangeOf query dxs (change.Images more) = AreImages query dxs more
+-- what a change of the rows that WHERE keeps adds to these groups, or to images
+abbrev pub IsChangeOf : Query → Weighted → Stored → LastChange → Type 0
+IsChangeOf query dxs (stored.Groups groups) (change.Groups more) = AreAdded query dxs groups more
+IsChangeOf query dxs (stored.Images rows) (change.Images more) = AreImages query dxs more
+IsChangeOf query dxs last more = ⊥
 
 -- there is room for a change, and no count, total or weight leaves its range
 abbrev pub CanPut : Stored → LastChange → Type 0
-CanPut (stored.Groups groups) (change.Groups more) = HasKeys more groups × HoldsFor more groups
+CanPut (stored.Groups groups) (change.Groups more) = HasKeys more groups × HoldsFor (additions_at groups more) groups
 CanPut (stored.Images rows) (change.Images more) = (length more.entries ≤ rows.room) × StaysSmall more.entries rows.entries
 CanPut last more = ⊥
 
@@ -58,5 +59,5 @@ pub record CanTakeIn (query : Query) (last : Stored) (dxs : Weighted) : Type 0 w
 -- once the change is put in, it stands for the changed rows
 abbrev pub GoesOn : Stored → LastChange → Stored → Type 0
 GoesOn old more new =
-    (query : Query) (xs dxs ys : Weighted) → IsChangeOf query dxs more → SameBag ys (xs ++ dxs) → IsBag ys
+    (query : Query) (xs dxs ys : Weighted) → IsChangeOf query dxs old more → SameBag ys (xs ++ dxs) → IsBag ys
     → StandsBehind query xs old → StandsBehind query ys new

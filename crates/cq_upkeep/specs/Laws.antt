@@ -1,13 +1,14 @@
 -- What holds of kept views. Each statement is the contract of a function in laws.rt.
-use Rattle.std.specs.Prelude.{◌+◌, ◌≤◌, ℕ}
+use Rattle.std.specs.Prelude.{◌+◌, ◌-◌, ◌^◌, ◌≤◌, ℕ, min}
 use Rattle.std.specs.List.{AllByRecursion}
 use Rattle.cq_bags.specs.Bag.{SameBag}
-use Rattle.cq_chains.specs.Work.{CountsEntries, CountsPairs, all_ticks}
-use Rattle.cq_kept.specs.Delta.{chain_work}
-use Rattle.cq_model.specs.Meaning.{Tables}
+use Rattle.cq_chains.specs.Work.{CountsPairs}
+use Rattle.cq_kept.specs.Delta.{chain_work, changed}
+use Rattle.cq_model.specs.Meaning.{Tables, meaning}
 use Rattle.cq_model.specs.Views.{sources_of}
 use Rattle.cq_model.specs.declared.query.Query.{Query}
 use Rattle.cq_upkeep.specs.State.{AreAsTold, SameView, StandsFor, WaitsFor}
+use Rattle.cq_upkeep.specs.Work.{CountsPut, CountsRows, work_of}
 use Rattle.cq_upkeep.specs.declared.state.Pending.{Pending}
 use Rattle.cq_upkeep.specs.declared.state.ViewState.{ViewState}
 
@@ -25,6 +26,13 @@ joins_work q tables changes = chain_work tables changes (tables q.first) (change
 abbrev pub CountsWithinWork : Type 0
 CountsWithinWork =
     (tables changes : Tables) (old ready new : ViewState) (pending : Pending)
-    → StandsFor old tables → AreAsTold old tables changes → SameView old ready → CountsPairs old.chain changes ready.chain
-    → WaitsFor tables changes ready pending → CountsEntries ready.chain pending.waiting.joins.items new.chain
-    → all_ticks new.chain.steps.items ≤ all_ticks old.chain.steps.items + joins_work old.query tables changes
+    → StandsFor old tables → AreAsTold old tables changes → SameView old ready → CountsPairs old.chain changes ready.chain → CountsRows old changes ready
+    → WaitsFor tables changes ready pending → CountsPut ready pending new
+    → work_of new ≤ work_of old + joins_work old.query tables changes
+
+-- and where they change the bag of the query, the counts rise, until they are at their end
+abbrev pub RisesWhereChanged : Type 0
+RisesWhereChanged =
+    (tables changes : Tables) (old ready new : ViewState) (pending : Pending)
+    → StandsFor old tables → AreAsTold old tables changes → CountsPairs old.chain changes ready.chain → CountsRows old changes ready → CountsPut ready pending new
+    → (SameBag (meaning old.query (changed tables changes)) (meaning old.query tables) → ⊥) → min (work_of old + 1) (2 ^ 128 - 1) ≤ work_of new

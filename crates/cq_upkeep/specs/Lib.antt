@@ -5,3 +5,4 @@ pub mod Query
 pub mod Shown
 pub mod State
 pub mod WholeRows
+pub mod Work

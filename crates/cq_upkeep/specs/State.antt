@@ -81,7 +81,7 @@ pub record SameView (old new : ViewState) : Type 0 where
 pub record WaitsFor (tables changes : Tables) (v : ViewState) (pending : Pending) : Type 0 where
   pub rows : Weighted
   pub given : SameBag (joined_rows v.query (changed tables changes)) (joined_rows v.query tables ++ rows)
-  pub last : IsChangeOf v.query rows pending.change
+  pub last : IsChangeOf v.query rows v.last pending.change
   pub sides : WaitFor tables changes v.chain pending.waiting.joins.items
 
 -- whatever tables the view stood for, as wide as it was told

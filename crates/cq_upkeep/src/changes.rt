@@ -4,25 +4,30 @@ ghost use Rattle.cq_bags.specs.Size.{IsClean};
 ghost use Rattle.cq_chains.specs.Steps.{AreStored};
 ghost use Rattle.cq_model.specs.declared.query.Shape.TheVariants.{Plain};
 ghost use Rattle.cq_sides.specs.Held.{sizes};
+ghost use Rattle.cq_deltas.specs.Keyed.{HasKeys, group_at};
 ghost use Rattle.cq_upkeep.specs.Last.{AreAdded, AreImages, kept_rows};
-ghost use Rattle.cq_upkeep.specs.Query.{CanBeKept};
+ghost use Rattle.cq_upkeep.specs.Query.{CanBeKept, aggregates_of};
+ghost use Rattle.cq_values.specs.Value.{Row};
 
 use crate::query::{aggregates_of, key_columns};
-use cq_deltas::GroupChange;
+use cq_deltas::{GroupChange, Groups};
 use cq_eval::{items_of, keeps};
 use cq_model::Query;
 use cq_sides::Weights;
 use std::alloc::{AllocError, Global};
 
-/// What rows add to a view's groups, as far as WHERE keeps them.
+/// What rows add to a view's groups, as far as WHERE keeps them. The groups get room for it, and none changes.
 pub(crate) fn group_change(
     alloc: Global,
     query: &Query,
     rows: &Weights,
+    groups: &mut Groups,
 ) -> Result<GroupChange, AllocError>
     requires can { CanBeKept query.now }
     requires stored { AreStored rows.now.entries }
-    ensures { IfOk result (AreAdded query.now (kept_rows query.now rows.now.entries)) }
+    ensures change { IfOk result (AreAdded query.now (kept_rows query.now rows.now.entries) groups.new) }
+    ensures keys { IfOk result (λ change. HasKeys change groups.new) }
+    ensures same { (k : Row) → group_at (aggregates_of query.now) groups.new k ≡ group_at (aggregates_of query.now) groups.old k }
 {
     let (keys, aggregates) = (key_columns(query), aggregates_of(query));
     let filter = &query.filter;
@@ -30,7 +35,7 @@ pub(crate) fn group_change(
     for place in 0..rows.len() {
         let (row, weight) = rows.pair_at(place);
         if keeps(filter, row.as_slice()) {
-            change.push(alloc, keys, aggregates, row.as_slice(), weight)?;
+            groups.ready(alloc, keys, aggregates, row.as_slice(), weight, &mut change)?;
         }
     }
     Ok(change)

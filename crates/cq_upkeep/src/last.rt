@@ -4,7 +4,6 @@ ghost use Rattle.cq_upkeep.specs.Last.{CanPut, CanTakeIn, GoesOn, IsChangeOf, St
 ghost use Rattle.cq_upkeep.specs.Query.{CanBeKept, aggregates_of};
 
 use crate::changes::{group_change, image_change};
-use crate::query::aggregates_of;
 use cq_deltas::{GroupChange, Groups};
 use cq_model::{Query, Shape};
 use cq_sides::Weights;
@@ -44,14 +43,13 @@ impl Last {
     ) -> Result<LastChange, AllocError>
         requires can { CanBeKept query.now }
         requires take { CanTakeIn query.now self.old rows.now.entries }
-        ensures change { IfOk result (IsChangeOf query.now (kept_rows query.now rows.now.entries)) }
+        ensures change { IfOk result (IsChangeOf query.now (kept_rows query.now rows.now.entries) self.new) }
         ensures room { IfOk result (CanPut self.new) }
         ensures same { seen (aggregates_of query.now) self.new ≡ seen (aggregates_of query.now) self.old }
     {
         match self {
             Last::Groups(groups) => {
-                let change = group_change(alloc, query, rows)?;
-                groups.ready(alloc, aggregates_of(query), &change)?;
+                let change = group_change(alloc, query, rows, groups)?;
                 Ok(LastChange::Groups(change))
             }
             Last::Images(images) => {

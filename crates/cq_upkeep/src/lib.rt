@@ -21,7 +21,7 @@ mod state;
 mod whole_rows;
 
 pub use columns::column_sizes;
-pub use laws::{counts_are_within_work, standing_depends_on_sources};
+pub use laws::{counts_are_within_work, counts_rise_where_changed, standing_depends_on_sources};
 pub use query::reads;
 pub use state::{Pending, ViewState};
 pub use whole_rows::show_whole_rows;

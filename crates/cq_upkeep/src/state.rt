@@ -1,9 +1,9 @@
 //! A view as it is kept.
 ghost use Rattle.std.specs.List.{AllByRecursion};
-ghost use Rattle.std.specs.Prelude.{◌≡◌, IfErr, IfOk, OnOk, length};
+ghost use Rattle.std.specs.Prelude.{◌≡◌, ◌≤◌, IfErr, IfOk, OnOk, length};
 ghost use Rattle.cq_chains.specs.Chains.{nothing};
 ghost use Rattle.cq_chains.specs.Sources.{rows_at};
-ghost use Rattle.cq_chains.specs.Work.{CountsEntries, CountsPairs, all_ticks};
+ghost use Rattle.cq_chains.specs.Work.{CountsPairs};
 ghost use Rattle.cq_deltas.specs.declared.fault.ShowFault.TheVariants.{SumOutOfRange};
 ghost use Rattle.cq_laws.specs.Sizes.{HasSizes};
 ghost use Rattle.cq_model.specs.Sizes.{column_sizes};
@@ -11,6 +11,7 @@ ghost use Rattle.cq_model.specs.Views.{sources_of};
 ghost use Rattle.cq_sides.specs.Ticks.{counted};
 ghost use Rattle.cq_upkeep.specs.Query.{CanBeKept, reads};
 ghost use Rattle.cq_upkeep.specs.Shown.{AreRowsOf, CanShow, IsNotShown, IsShown};
+ghost use Rattle.cq_upkeep.specs.Work.{CountsPut, CountsRows, work_of};
 ghost use Rattle.cq_upkeep.specs.State.{CanCommit, CanPrepare, IsWaiting, SameView, StandsFor, StaysStanding, TakesIn};
 
 use crate::columns::column_sizes;
@@ -24,8 +25,8 @@ use cq_model::Query;
 use cq_values::{Row, Seq};
 use std::alloc::{AllocError, Global};
 
-/// A view as it is kept: its query, how many columns its sources have, its epochs, the sides of its joins, and what
-/// stands behind them.
+/// A view as it is kept: its query, how many columns its sources have, its epochs, the sides of its joins, what stands
+/// behind them, and how many changed rows came there.
 #[derive(Drop)]
 pub struct ViewState {
     query: Query,
@@ -34,6 +35,8 @@ pub struct ViewState {
     built: u64,
     chain: Chain,
     last: Last,
+    /// How many changed rows came behind the joins.
+    ticks: u128,
 }
 
 /// Changes that wait for [`ViewState::commit`]: those of the joins, and what they add behind them.
@@ -69,6 +72,7 @@ impl ViewState {
                     built: epoch,
                     chain,
                     last,
+                    ticks: 0,
                 })
             }
             Err(fault) => {
@@ -100,11 +104,12 @@ impl ViewState {
         self.built
     }
 
-    /// How many entries the sides of the joins gave and took since the view was built.
+    /// How many entries the sides of the joins gave and took since the view was built, and how many changed rows came
+    /// behind the joins.
     pub fn work(&self) -> u128
-        ensures { result ≡ counted 0 (all_ticks self.now.chain.steps.items) }
+        ensures { result ≡ counted 0 (work_of self.now) }
     {
-        self.chain.ticks()
+        self.chain.ticks().saturating_add(self.ticks)
     }
 
     /// Whether FROM names the table, so that its changes are for the view.
@@ -117,9 +122,10 @@ impl ViewState {
     /// Counts no work again: what a view took in while it was built is none of its changes.
     pub fn restart(&mut self)
         ensures same { SameView self.old self.new }
-        ensures uncounted { all_ticks self.new.chain.steps.items ≡ 0 }
+        ensures uncounted { work_of self.new ≡ 0 }
     {
         self.chain.restart();
+        self.ticks = 0;
     }
 
     /// How large the numbers in each column of [`ViewState::rows`] can be.
@@ -142,8 +148,11 @@ impl ViewState {
         ensures waiting { IfOk result (IsWaiting self.old (rows_at changes.items) self.new) }
         ensures ready { IfOk result (CanCommit self.new) }
         ensures counts { CountsPairs self.old.chain (rows_at changes.items) self.new.chain }
+        ensures rows { OnOk result (CountsRows self.old (rows_at changes.items) self.new) }
+        ensures more { work_of self.old ≤ work_of self.new }
     {
         let (rows, waiting) = self.chain.change(alloc, changes)?;
+        self.ticks = self.ticks.saturating_add(rows.len() as u128);
         let change = self.last.prepare(alloc, &self.query, &rows);
         drop(rows);
         match change {
@@ -163,7 +172,7 @@ impl ViewState {
         ensures epoch { self.new.epoch ≡ epoch }
         ensures built { self.new.built ≡ self.old.built }
         ensures takes { TakesIn self.old pending self.new }
-        ensures counts { CountsEntries self.old.chain pending.waiting.joins.items self.new.chain }
+        ensures counts { CountsPut self.old pending self.new }
     {
         let Pending { waiting, change } = pending;
         self.chain.commit(waiting);

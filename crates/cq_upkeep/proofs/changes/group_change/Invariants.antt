@@ -1,9 +1,6 @@
-use Rattle.std.proofs.Common.{◌≡◌, take}
-use Rattle.cq_deltas.specs.Additions.{additions}
-use Rattle.cq_upkeep.specs.Last.{kept_rows}
-use Rattle.cq_upkeep.specs.Query.{aggregates_of, key_columns}
+use Rattle.cq_upkeep.proofs.Imaging.{Readies}
 use Rattle.cq_upkeep.proofs.changes.group_change.Given as goal
 
--- what the rows so far add
+-- what the rows so far add waits for the groups
 abbrev pub invariant-loop-place : goal.invariant-loop-place
-invariant-loop-place l = l.change ≡ additions (key_columns l.query) (aggregates_of l.query) (kept_rows l.query (take l.place l.rows.entries))
+invariant-loop-place l = Readies l.query l.rows.entries l.place l.fn.groups l.groups l.change
