@@ -8,7 +8,6 @@ use Rattle.cq_bags.proofs.Totals.{by_test}
 use Rattle.cq_bags.specs.Bag.{Weighted, once_each}
 use Rattle.cq_chains.specs.Chains.{nothing, spans}
 use Rattle.cq_chains.specs.Steps.{AreStored}
-use Rattle.cq_chains.specs.Work.{all_ticks}
 use Rattle.cq_columns.specs.Stored.{all_rows}
 use Rattle.cq_kept.specs.Delta.{changed}
 use Rattle.cq_kept_views.proofs.Bags.{all-weaker, cut-append, cut-bags, cut-none, cut-sizes, cut-stored}
@@ -29,6 +28,7 @@ use Rattle.cq_narrow.specs.declared.columns.SourceColumns.{SourceColumns}
 use Rattle.cq_narrow.specs.declared.narrow_query.NarrowQuery.{NarrowQuery}
 use Rattle.cq_sources.specs.declared.stored_source.StoredSource.{StoredSource}
 use Rattle.cq_upkeep.specs.State.{AreAsTold, AreBags, CanStart, HoldStored, SameView, StandsFor}
+use Rattle.cq_upkeep.specs.Work.{work_of}
 use Rattle.cq_upkeep.specs.declared.state.ViewState.{ViewState}
 
 -- ---- rows of one table
@@ -121,7 +121,7 @@ start-can v query more is start bags stands wide =
 -- and once it has taken them in, and counts no work of them, the state is theirs
 pub counted-anew : (columns : List SourceColumns) (query : Query) (now : ℕ) (rows : Tables) (v w : ViewState) → v.query ≡ query → v.widths ≡ cut_widths columns query
     → v.epoch ≡ now → v.built ≡ now → StandsFor v nothing → Fills (cut_bags columns rows) v w
-    → (counted : ViewState) → SameView w counted → all_ticks counted.chain.steps.items ≡ 0 → IsFilled columns query now rows counted
+    → (counted : ViewState) → SameView w counted → work_of counted ≡ 0 → IsFilled columns query now rows counted
 counted-anew columns query now rows v w is widths epoch built stands fills counted still none = record {
   query = still.query ∙ fills.query ∙ is;
   widths = still.widths ∙ fills.widths ∙ widths;

@@ -1,8 +1,9 @@
 pub mod Bags
-pub mod Copies
+pub mod Exchanges
 pub mod Sources
 pub mod Taking
 pub mod Filled
 pub mod Standing
 pub mod Showing
+pub mod Rising
 pub mod Told

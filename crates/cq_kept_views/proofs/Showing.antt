@@ -16,7 +16,9 @@ use Rattle.cq_model.specs.Sizes.{column_sizes, count_size}
 use Rattle.cq_model.specs.Views.{sources_of}
 use Rattle.cq_model.specs.declared.query.Source.{Source}
 use Rattle.cq_narrow.proofs.Bags.{are-narrow}
-use Rattle.cq_narrow.specs.Narrow.{narrowed_bags, sources_read}
+use Rattle.cq_kept_views.specs.State.{narrow_query}
+use Rattle.cq_laws.proofs.Meanings.{meaning-same}
+use Rattle.cq_narrow.specs.Narrow.{HaveColumns, IsNarrowOf, narrowed_bags, sources_read}
 use Rattle.cq_narrow.specs.declared.columns.SourceColumns.{SourceColumns}
 use Rattle.cq_sides.specs.Held.{sizes}
 use Rattle.cq_upkeep.proofs.SameBags.{standing-by_sources}
@@ -51,26 +53,36 @@ module _ (v : KeptView) where
   pub same-sizes : CanShow v → column_sizes v.state.query ≡ column_sizes v.query
   same-sizes can = can.stands.narrow.sizes
 
+  module _ (narrow : IsNarrowOf v.query v.widths (narrow_query v)) (tables : Tables) (columns : HaveColumns v.query v.widths tables) where
+    -- rows that are cut are those with the columns alone that the query reads
+    alike : AllByRecursion (λ s. SameBag (cut_bags v.columns tables s) (narrowed_bags v.columns tables s)) (sources_of v.query)
+    alike =
+        let q = v.query in
+        let narrowed = narrowed_bags v.columns tables in
+        let width = columns.width in
+        let read : v.columns ≡ sources_read q v.widths (sources_of q) (map width (sources_of q)) =
+        narrow.columns ∙ ap (sources_read q v.widths (sources_of q)) (sym columns.from) in
+        let same = subst (λ (cs : List SourceColumns). AllByRecursion (λ s. cut_bags cs tables s ≡ narrowed_bags cs tables s) (sources_of q)) (sym read) (entries-read q v.widths width (sources_of q) tables) in
+        all-weaker (λ s. cut_bags v.columns tables s ≡ narrowed s) (λ s. SameBag (cut_bags v.columns tables s) (narrowed s))
+        (λ s h. subst (λ (xs : Weighted). SameBag (cut_bags v.columns tables s) xs) h (same-refl (cut_bags v.columns tables s))) (sources_of q) same
+
+    alike-inside : AllByRecursion (λ s. SameBag (cut_bags v.columns tables s) (narrowed_bags v.columns tables s)) (sources_of v.state.query)
+    alike-inside = subst (λ (ss : List Source). AllByRecursion (λ s. SameBag (cut_bags v.columns tables s) (narrowed_bags v.columns tables s)) ss) (sym narrow.sources) alike
+
+    -- so the query over them has the bag of the view's
+    pub cut-means : SameBag (meaning v.state.query (cut_bags v.columns tables)) (meaning v.query tables)
+    cut-means =
+        subst (λ (xs : Weighted). SameBag (meaning v.state.query (cut_bags v.columns tables)) xs) (narrow.bag tables columns)
+        (meaning-same v.state.query (cut_bags v.columns tables) (narrowed_bags v.columns tables) alike-inside)
+
   module _ (tables : Tables) (suits : Suits v tables) where
     abbrev narrowed : Tables
     narrowed = narrowed_bags v.columns tables
 
-    -- rows that are cut are those with the columns alone that the query reads
-    alike : AllByRecursion (λ s. SameBag (cut_bags v.columns tables s) (narrowed s)) (sources_of v.query)
-    alike =
-        let q = v.query in
-        let width = suits.columns.width in
-        let columns : v.columns ≡ sources_read q v.widths (sources_of q) (map width (sources_of q)) =
-        suits.stands.narrow.columns ∙ ap (sources_read q v.widths (sources_of q)) (sym suits.columns.from) in
-        let same = subst (λ (cs : List SourceColumns). AllByRecursion (λ s. cut_bags cs tables s ≡ narrowed_bags cs tables s) (sources_of q)) (sym columns) (entries-read q v.widths width (sources_of q) tables) in
-        all-weaker (λ s. cut_bags v.columns tables s ≡ narrowed s) (λ s. SameBag (cut_bags v.columns tables s) (narrowed s))
-        (λ s h. subst (λ (xs : Weighted). SameBag (cut_bags v.columns tables s) xs) h (same-refl (cut_bags v.columns tables s))) (sources_of q) same
-
     -- so the state stands for these
     stands-narrow : StandsFor v.state narrowed
     stands-narrow =
-        standing-by_sources v.state (cut_bags v.columns tables) narrowed
-        (subst (λ (ss : List Source). AllByRecursion (λ s. SameBag (cut_bags v.columns tables s) (narrowed s)) ss) (sym suits.stands.narrow.sources) alike) suits.stands.rows
+        standing-by_sources v.state (cut_bags v.columns tables) narrowed (alike-inside suits.stands.narrow tables suits.columns) suits.stands.rows
 
     narrow-bags : AreBags narrowed
     narrow-bags s = (are-narrow v.columns s).bag tables (suits.columns.bags s)

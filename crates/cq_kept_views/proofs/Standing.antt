@@ -1,6 +1,7 @@
 -- A view that stands for its tables, while changes wait for it and are put in.
 use Rattle.std.proofs.Common.{◌≡◌, ◌∙◌, ◌≤◌, ◌^◌, List, refl, sym, ap, subst, arith}
 use Rattle.std.specs.List.{AllByRecursion}
+use Rattle.std.specs.Prelude.{IfOk, OnOk, Ok, Err, Result}
 use Rattle.cq_bags.proofs.Bags.{same-append, same-refl}
 use Rattle.cq_bags.specs.Bag.{SameBag}
 use Rattle.cq_chains.proofs.Storing.{stored-merged}
@@ -10,8 +11,7 @@ use Rattle.cq_chains.specs.Work as chains
 use Rattle.cq_chains.specs.Steps.{AreStored, span}
 use Rattle.cq_kept.specs.Delta.{changed}
 use Rattle.cq_kept_views.proofs.Bags.{all-weaker, bag-same, cut-bags, cut-changed, cut-same, cut-sizes, cut-stored}
-use Rattle.cq_kept_views.proofs.Sources.{small-read}
-use Rattle.cq_kept_views.specs.Cut.{AreCut, IsSmall, cut_bags, cut_widths, entry_of}
+use Rattle.cq_kept_views.specs.Cut.{AreCut, cut_bags, cut_widths, entry_of}
 use Rattle.cq_kept_views.specs.Laws.{CountsWithinWork, StandingDependsOnSources}
 use Rattle.cq_kept_views.specs.State.{CanPrepare, CountsPairs, IsWaiting, SameView, TakesIn, narrow_query}
 use Rattle.cq_kept_views.specs.declared.kept_view.KeptView.{KeptView}
@@ -25,7 +25,8 @@ use Rattle.cq_kept_views.proofs.Taking.{all-hold, spans-less}
 use Rattle.cq_kept_views.proofs.Told.{all-wide, changes-wide}
 use Rattle.cq_upkeep.proofs.SameBags.{standing-by_sources}
 use Rattle.cq_upkeep.proofs.Working.{counts-within_work}
-use Rattle.cq_upkeep.specs.State.{AreBags, HoldStored}
+use Rattle.cq_upkeep.specs.Work.{CountsRows}
+use Rattle.cq_upkeep.specs.State.{AreBags}
 use Rattle.cq_upkeep.specs.State as inner
 use Rattle.cq_upkeep.specs.declared.state.Pending.{Pending}
 use Rattle.cq_upkeep.specs.declared.state.ViewState.{ViewState}
@@ -56,6 +57,11 @@ module _ (v : KeptView) (w : ViewState) (same : w.query ≡ v.state.query) (told
         rows = standing-by_sources w (changed old waits.cut) now (all-hold (λ s. SameBag (changed old waits.cut s) (now s)) alike (sources_of w.query)) (takes old waits.cut stands.rows waits.waits all);
       }
 
+-- what follows of a value and of what holds beside it
+pub ok-both : {T E Q : Type 0} {P R : T → Type 0} (r : Result T E) → ((x : T) → P x → Q → R x) → IfOk r P → OnOk r Q → IfOk r R
+ok-both (Ok x) f p q = f x p q
+ok-both (Err e) f p q = tt
+
 -- a view is as it is
 pub same-itself : (v : KeptView) → SameView v v
 same-itself v = record {
@@ -68,10 +74,6 @@ same-itself v = record {
 
 -- ---- a view that changes
 module _ (v : KeptView) (changes : Tables) (can : CanPrepare v changes) where
-  -- the changes of its sources are few enough to be cut
-  pub can-cut : AllByRecursion (IsSmall changes) v.columns
-  can-cut = subst (AllByRecursion (IsSmall changes)) (sym can.stands.narrow.columns) (small-read v.query v.widths can.tables changes (sources_of v.query) v.widths can.few)
-
   module _ (cut : Tables) (are : AreCut v.columns changes cut) where
     less : (s : Source) → span (cut_bags v.columns can.tables s) (cut s) ≤ span (can.tables s) (changes s)
     less s =
@@ -108,8 +110,8 @@ module _ (v : KeptView) (changes : Tables) (can : CanPrepare v changes) where
       }
 
       -- and what the state counted was for them
-      pub cut-counts : chains.CountsPairs v.state.chain cut w.chain → CountsPairs v changes (record v { state = w }) pending
-      cut-counts counts = record { cut = cut; same = are.same; wide = changes-wide v.columns changes cut are; waits = waits; counts = counts }
+      pub cut-counts : chains.CountsPairs v.state.chain cut w.chain → CountsRows v.state cut w → CountsPairs v changes (record v { state = w }) pending
+      cut-counts counts rows = record { cut = cut; same = are.same; wide = changes-wide v.columns changes cut are; waits = waits; counts = counts; rows = rows }
 
 -- ---- laws
 pub standing-by_bags : StandingDependsOnSources
@@ -124,7 +126,7 @@ standing-by_bags v tables others same stands =
     }
 
 pub counts-within : CountsWithinWork
-counts-within tables changes old ready new pending stands same waiting entries =
+counts-within tables changes old ready new pending stands same waiting put =
     let wide = all-wide old tables waiting.cut stands.widths waiting.wide in
-    counts-within_work (cut_bags old.columns tables) waiting.cut old.state ready.state new.state pending stands.rows wide same.state waiting.counts
-    (waiting.waits (cut_bags old.columns tables) stands.rows wide) entries
+    counts-within_work (cut_bags old.columns tables) waiting.cut old.state ready.state new.state pending stands.rows wide same.state waiting.counts waiting.rows
+    (waiting.waits (cut_bags old.columns tables) stands.rows wide) put

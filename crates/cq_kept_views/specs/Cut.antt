@@ -1,9 +1,8 @@
 -- Rows that are cut to the columns that a query reads of its sources.
-use Rattle.std.specs.Prelude.{◌≡◌, ◌<◌, ◌^◌, ℕ, if◌then◌else◌, List, [], ◌∷◌, length, map, Option, Some, None}
+use Rattle.std.specs.Prelude.{◌≡◌, ℕ, if◌then◌else◌, List, [], ◌∷◌, length, map, Option, Some, None}
 use Rattle.cq_values.specs.Value.{Row}
 use Rattle.cq_bags.specs.Bag.{SameBag, Weighted, once_each, projected}
 use Rattle.cq_bags.specs.Size.{IsClean}
-use Rattle.cq_chains.specs.Work.{all_ticks}
 use Rattle.cq_columns.specs.Stored.{all_rows}
 use Rattle.cq_kept.specs.Delta.{SameTables}
 use Rattle.cq_kept_views.specs.Filling.{only}
@@ -14,9 +13,10 @@ use Rattle.cq_model.specs.Views.{sources_of}
 use Rattle.cq_model.specs.declared.query.Query.{Query}
 use Rattle.cq_model.specs.declared.query.Source.{Source}
 use Rattle.cq_narrow.specs.declared.columns.SourceColumns.{SourceColumns}
-use Rattle.cq_sides.specs.Held.{Held, sizes}
+use Rattle.cq_sides.specs.Held.{Held}
 use Rattle.cq_sources.specs.declared.stored_source.StoredSource.{StoredSource}
 use Rattle.cq_upkeep.specs.State.{StandsFor}
+use Rattle.cq_upkeep.specs.Work.{work_of}
 use Rattle.cq_upkeep.specs.declared.state.ViewState.{ViewState}
 
 -- the first entry of a source
@@ -47,10 +47,6 @@ abbrev pub cut_widths : List SourceColumns → Query → List ℕ
 cut_widths columns q = map (width_at columns) (sources_of q)
 
 -- ---- changes
--- the changes of an entry's source are few enough to be added up
-abbrev pub IsSmall : Tables → SourceColumns → Type 0
-IsSmall changes x = sizes (changes x.source) < 2 ^ 127
-
 -- rows with their weights, cut to columns, each row once
 pub record IsCut (columns : List ℕ) (xs : Weighted) (cut : Held) : Type 0 where
   pub same : SameBag cut.entries (projected (key_of columns) xs)
@@ -77,4 +73,4 @@ pub record IsFilled (columns : List SourceColumns) (q : Query) (now : ℕ) (rows
   pub epoch : state.epoch ≡ now
   pub built : state.built ≡ now
   pub stands : StandsFor state (cut_bags columns rows)
-  pub uncounted : all_ticks state.chain.steps.items ≡ 0
+  pub uncounted : work_of state ≡ 0

@@ -1,14 +1,17 @@
 -- What holds of kept views. Each statement is the contract of a function in laws.rt.
-use Rattle.std.specs.Prelude.{◌+◌, ◌≤◌}
+use Rattle.std.specs.Prelude.{◌+◌, ◌-◌, ◌^◌, ◌≤◌, min}
 use Rattle.std.specs.List.{AllByRecursion}
 use Rattle.cq_bags.specs.Bag.{SameBag}
-use Rattle.cq_chains.specs.Work.{CountsEntries, all_ticks}
+use Rattle.cq_kept.specs.Delta.{changed}
 use Rattle.cq_kept_views.specs.Cut.{cut_bags}
+use Rattle.cq_kept_views.specs.Shown.{Suits}
 use Rattle.cq_kept_views.specs.State.{CountsPairs, SameView, StandsFor}
 use Rattle.cq_kept_views.specs.declared.kept_view.KeptView.{KeptView}
-use Rattle.cq_model.specs.Meaning.{Tables}
+use Rattle.cq_model.specs.Meaning.{Tables, meaning}
 use Rattle.cq_model.specs.Views.{sources_of}
+use Rattle.cq_narrow.specs.Narrow.{HaveColumns}
 use Rattle.cq_upkeep.specs.Laws.{joins_work}
+use Rattle.cq_upkeep.specs.Work.{CountsPut, work_of}
 use Rattle.cq_upkeep.specs.declared.state.Pending.{Pending}
 
 -- what a view stands for are the bags of the tables that its FROM names, however they are listed
@@ -21,6 +24,12 @@ StandingDependsOnSources =
 abbrev pub CountsWithinWork : Type 0
 CountsWithinWork =
     (tables changes : Tables) (old ready new : KeptView) (pending : Pending)
-    → StandsFor old tables → SameView old ready → (waiting : CountsPairs old changes ready pending)
-    → CountsEntries ready.state.chain pending.waiting.joins.items new.state.chain
-    → all_ticks new.state.chain.steps.items ≤ all_ticks old.state.chain.steps.items + joins_work old.state.query (cut_bags old.columns tables) waiting.cut
+    → StandsFor old tables → SameView old ready → (waiting : CountsPairs old changes ready pending) → CountsPut ready.state pending new.state
+    → work_of new.state ≤ work_of old.state + joins_work old.state.query (cut_bags old.columns tables) waiting.cut
+
+-- and where they change the bag of the view's query, the counts rise, until they are at their end
+abbrev pub RisesWhereChanged : Type 0
+RisesWhereChanged =
+    (tables changes : Tables) (old ready new : KeptView) (pending : Pending)
+    → Suits old tables → HaveColumns old.query old.widths (changed tables changes) → CountsPairs old changes ready pending → CountsPut ready.state pending new.state
+    → (SameBag (meaning old.query (changed tables changes)) (meaning old.query tables) → ⊥) → min (work_of old.state + 1) (2 ^ 128 - 1) ≤ work_of new.state

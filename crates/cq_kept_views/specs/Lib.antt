@@ -1,5 +1,6 @@
 pub mod Filling
 pub mod Cut
+pub mod Changes
 pub mod State
 pub mod Shown
 pub mod Laws

@@ -1,7 +1,6 @@
 -- A view as it is kept, the tables that it stands for, and what changes of them do.
 use Rattle.std.specs.Prelude.{◌≡◌, ◌≤◌, ◌^◌, ℕ, List}
 use Rattle.cq_chains.specs.Chains.{spans}
-use Rattle.cq_chains.specs.Work.{all_ticks}
 use Rattle.cq_chains.specs.Work as chains
 use Rattle.cq_kept.specs.Delta.{SameTables, changed}
 use Rattle.cq_kept.specs.Pushed.{HaveWidths}
@@ -16,6 +15,7 @@ use Rattle.cq_narrow.specs.declared.narrow_query.NarrowQuery.{NarrowQuery}
 use Rattle.cq_upkeep.specs.Query.{CanBeKept}
 use Rattle.cq_upkeep.specs.State.{AreBags, HoldStored}
 use Rattle.cq_upkeep.specs.State as inner
+use Rattle.cq_upkeep.specs.Work.{CountsRows, work_of}
 use Rattle.cq_upkeep.specs.declared.state.Pending.{Pending}
 use Rattle.cq_upkeep.specs.declared.state.ViewState.{ViewState}
 
@@ -36,7 +36,7 @@ pub record IsOver (q : Query) (widths : List ℕ) (tables : Tables) (now : ℕ) 
   pub epoch : made.1.epoch ≡ now
   pub built : made.1.built ≡ now
   pub rows : inner.StandsFor made.1 (cut_bags made.0 tables)
-  pub uncounted : all_ticks made.1.chain.steps.items ≡ 0
+  pub uncounted : work_of made.1 ≡ 0
 
 -- the view stands for stored rows, and they and the changes are few enough
 pub record CanPrepare (v : KeptView) (changes : Tables) : Type 0 where
@@ -68,13 +68,15 @@ pub record WaitsFor (tables changes : Tables) (v : KeptView) (pending : Pending)
 abbrev pub IsWaiting : KeptView → Tables → KeptView → Pending → Type 0
 IsWaiting old changes new pending = (tables : Tables) → StandsFor old tables → WaitsFor tables changes new pending
 
--- changes wait as rows that are cut, and the counts rose by at most the pairs that these rows meet
+-- changes wait as rows that are cut, and the counts rose by at most the pairs that these rows meet, and by one for each row
+-- that they add behind the joins
 pub record CountsPairs (old : KeptView) (changes : Tables) (new : KeptView) (pending : Pending) : Type 0 where
   pub cut : Tables
   pub same : SameTables cut (cut_bags old.columns changes)
   pub wide : HaveWidths (width_at old.columns) cut
   pub waits : inner.IsWaiting old.state cut new.state pending
   pub counts : chains.CountsPairs old.state.chain cut new.state.chain
+  pub rows : CountsRows old.state cut new.state
 
 -- there is room for what waits, and no number leaves its range
 abbrev pub CanCommit : KeptView → Pending → Type 0

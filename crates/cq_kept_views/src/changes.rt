@@ -1,66 +1,99 @@
-//! Changes of tables that are cut to the columns that a query reads.
-ghost use Rattle.std.specs.List.{AllByRecursion};
-ghost use Rattle.std.specs.Option.{option_copied};
-ghost use Rattle.std.specs.Prelude.{◌<◌, ◌≡◌, ◌^◌, IfOk};
+//! What a write changes in a table, cut to the columns that a query reads.
+ghost use Rattle.std.specs.Prelude.{◌++◌, IfOk, OnOk, length, map, neg_ℤ, pos};
+ghost use Rattle.cq_bags.specs.Bag.{SameBag};
 ghost use Rattle.cq_chains.specs.Sources.{rows_at};
-ghost use Rattle.cq_kept_views.specs.Cut.{AreCut, IsCut, IsSmall};
-ghost use Rattle.cq_sides.specs.Held.{sizes};
-ghost use Rattle.cq_sides.specs.Keyed.{entries_in};
+ghost use Rattle.cq_columns.specs.Stored.{stored_rows};
+ghost use Rattle.cq_kept_views.specs.Changes.{StaysInRange, changes_of, exchanged, weighed};
+ghost use Rattle.cq_kept_views.specs.Cut.{AreCut, IsCut};
+ghost use Rattle.cq_model.specs.Group.{key_of};
 
-use crate::cutting::cut_rows;
+use crate::cutting::entry_of;
 use cq_chains::SourceRows;
+use cq_columns::StoredRow;
+use cq_eval::key_of;
 use cq_model::Source;
 use cq_narrow::SourceColumns;
 use cq_sides::Weights;
+use cq_values::Row;
 use std::alloc::{AllocError, Global};
 
-/// The changes of these sources, each cut to the columns of its own.
-pub(crate) fn cut_changes(
+/// For how many rows room is made at once.
+const ROOM: usize = 1_024;
+
+/// What a write changes in the table of a number: the rows that leave it, where they are stored, and those that come to
+/// it. They are lent, and each view copies the columns of them that it reads.
+#[derive(Clone, Copy)]
+pub struct TableChange<'a> {
+    pub table: u64,
+    pub gone: &'a [StoredRow<'a>],
+    pub come: &'a [Row],
+}
+
+/// The change of the table, cut to the columns of its entry. Where it has no entry, nothing changes.
+pub(crate) fn cut_change(
     alloc: Global,
     columns: &[SourceColumns],
-    changes: &[SourceRows],
+    change: &TableChange<'_>,
 ) -> Result<Vec<SourceRows>, AllocError>
-    requires { AllByRecursion (IsSmall (rows_at changes.now)) columns.now }
-    ensures { IfOk result (λ v. AreCut columns.now (rows_at changes.now) (rows_at v.items)) }
+    ensures { IfOk result (λ v. AreCut columns.now (changes_of change.now) (rows_at v.items)) }
 {
-    let mut all = Vec::new(alloc);
-    for entry in columns {
-        let rows = cut_change(alloc, entry, changes)?;
-        all.push(SourceRows {
-            source: entry.source,
-            rows,
-        })?;
+    let source = Source::Table(change.table);
+    match entry_of(columns, source) {
+        None => Ok(Vec::new(alloc)),
+        Some(entry) => {
+            let rows = cut_rows(alloc, entry.columns.as_slice(), change.gone, change.come)?;
+            let mut all = Vec::new(alloc);
+            all.push(SourceRows { source, rows })?;
+            Ok(all)
+        }
     }
-    Ok(all)
 }
 
-/// The change of one source.
-fn cut_change(
+/// Rows that go and rows that come, cut to columns. Those that become one row count together.
+fn cut_rows(
     alloc: Global,
-    entry: &SourceColumns,
-    changes: &[SourceRows],
+    columns: &[usize],
+    gone: &[StoredRow],
+    come: &[Row],
 ) -> Result<Weights, AllocError>
-    requires { IsSmall (rows_at changes.now) entry.now }
-    ensures { IfOk result (IsCut entry.now.columns (rows_at changes.now entry.now.source)) }
+    ensures { IfOk result (IsCut columns.now (exchanged (stored_rows gone.now) come.now)) }
 {
-    match change_of(changes, entry.source) {
-        Some(rows) => cut_rows(alloc, entry.columns.as_slice(), rows),
-        None => {
-            let none = Weights::new(alloc);
-            let _len = none.len();
-            Ok(none)
-        }
-    }
+    let mut cut = Weights::new(alloc);
+    cut.reserve(gone.len().saturating_add(come.len()).min(ROOM))?;
+    take_away(alloc, columns, gone, &mut cut)?;
+    add_to(alloc, columns, come, &mut cut)?;
+    let _len = cut.len();
+    Ok(cut)
 }
 
-/// The rows of the first entry of a source.
-fn change_of(changes: &[SourceRows], source: Source) -> Option<&Weights>
-    ensures { entries_in (option_copied result) ≡ rows_at changes.now source }
+/// Each of the rows one time less, cut to columns.
+fn take_away(
+    alloc: Global,
+    columns: &[usize],
+    gone: &[StoredRow],
+    cut: &mut Weights,
+) -> Result<(), AllocError>
+    requires { StaysInRange (length gone.now) cut.old.entries }
+    ensures { OnOk result (SameBag cut.new.entries (cut.old.entries ++ weighed (map (key_of columns.now) (stored_rows gone.now)) (neg_ℤ (pos 1)))) }
 {
-    for entry in changes {
-        if entry.source == source {
-            return Some(&entry.rows);
-        }
+    for row in gone {
+        cut.add(row.cut(alloc, columns)?, -1)?;
     }
-    None
+    Ok(())
+}
+
+/// Each of the rows one time more, cut to columns.
+fn add_to(
+    alloc: Global,
+    columns: &[usize],
+    come: &[Row],
+    cut: &mut Weights,
+) -> Result<(), AllocError>
+    requires { StaysInRange (length come.now) cut.old.entries }
+    ensures { OnOk result (SameBag cut.new.entries (cut.old.entries ++ weighed (map (key_of columns.now) come.now) (pos 1))) }
+{
+    for row in come {
+        cut.add(key_of(alloc, columns, row.as_slice())?, 1)?;
+    }
+    Ok(())
 }

@@ -1,23 +1,18 @@
 //! Rows that are cut to the columns that a query reads.
 ghost use Rattle.std.specs.Option.{option_copied};
-ghost use Rattle.std.specs.Prelude.{◌<◌, ◌≡◌, ◌≤◌, ◌^◌, IfOk, length, map};
+ghost use Rattle.std.specs.Prelude.{◌≡◌, ◌≤◌, IfOk, length, map};
 ghost use Rattle.cq_bags.specs.Bag.{SameBag, once_each};
 ghost use Rattle.cq_bags.specs.Size.{IsClean};
 ghost use Rattle.cq_columns.specs.Stored.{front_rows};
-ghost use Rattle.cq_kept_views.specs.Cut.{IsCut, cut_widths, entry_of, width_at};
+ghost use Rattle.cq_kept_views.specs.Cut.{cut_widths, entry_of, width_at};
 ghost use Rattle.cq_model.specs.Group.{key_of};
-ghost use Rattle.cq_sides.specs.Held.{sizes};
 
 use cq_columns::Front;
-use cq_eval::key_of;
 use cq_model::{Query, Source};
 use cq_narrow::SourceColumns;
 use cq_sides::Weights;
 use cq_values::Seq;
 use std::alloc::{AllocError, Global};
-
-/// For how many rows room is made at once.
-const ROOM: usize = 1_024;
 
 /// The first entry of a source.
 pub(crate) fn entry_of(columns: &[SourceColumns], source: Source) -> Option<&SourceColumns>
@@ -74,24 +69,4 @@ pub(crate) fn cut_once(
     }
     let _len = once.len();
     Ok(once)
-}
-
-/// Rows with weights, cut to columns. Those that become one row count together.
-pub(crate) fn cut_rows(
-    alloc: Global,
-    columns: &[usize],
-    rows: &Weights,
-) -> Result<Weights, AllocError>
-    requires { sizes rows.now.entries < 2 ^ 127 }
-    ensures { IfOk result (IsCut columns.now rows.now.entries) }
-{
-    let mut cut = Weights::new(alloc);
-    cut.reserve(rows.len().min(ROOM))?;
-    for place in 0..rows.len() {
-        let (row, weight) = rows.pair_at(place);
-        let short = key_of(alloc, columns, row.as_slice())?;
-        cut.add(short, weight)?;
-    }
-    let _len = cut.len();
-    Ok(cut)
 }

@@ -1,9 +1,8 @@
 //! A view as it is kept, over the columns that its query reads.
 ghost use Rattle.std.specs.List.{AllByRecursion};
-ghost use Rattle.std.specs.Prelude.{◌<◌, ◌≡◌, ◌^◌, IfErr, IfOk, OnOk, sum};
-ghost use Rattle.cq_chains.specs.Sources.{rows_at};
-ghost use Rattle.cq_chains.specs.Work.{CountsEntries, all_ticks};
+ghost use Rattle.std.specs.Prelude.{◌<◌, ◌≡◌, ◌≤◌, ◌^◌, IfErr, IfOk, OnOk, sum};
 ghost use Rattle.cq_deltas.specs.declared.fault.ShowFault.TheVariants.{SumOutOfRange};
+ghost use Rattle.cq_kept_views.specs.Changes.{changes_of};
 ghost use Rattle.cq_kept_views.specs.Shown.{AreRowsOf, CanShow, IsNotShown, IsShown};
 ghost use Rattle.cq_kept_views.specs.State.{CanCommit, CanPrepare, CountsPairs, IsOver, IsWaiting, SameView, StandsFor, StaysStanding, TakesIn};
 ghost use Rattle.cq_laws.specs.Sizes.{HasSizes};
@@ -12,10 +11,10 @@ ghost use Rattle.cq_sides.specs.Ticks.{counted};
 ghost use Rattle.cq_kept_views.specs.Filling.{bags_at};
 ghost use Rattle.cq_upkeep.specs.Query.{CanBeKept, reads};
 ghost use Rattle.cq_upkeep.specs.State.{CanStart};
+ghost use Rattle.cq_upkeep.specs.Work.{CountsPut, work_of};
 
-use crate::changes::cut_changes;
+use crate::changes::{TableChange, cut_change};
 use crate::filling::filled;
-use cq_chains::SourceRows;
 use cq_deltas::ShowFault;
 use cq_model::Query;
 use cq_narrow::{NarrowQuery, SourceColumns};
@@ -51,7 +50,7 @@ impl KeptView {
         ensures epoch { IfOk result (λ v. v.state.epoch ≡ epoch) }
         ensures built { IfOk result (λ v. v.state.built ≡ epoch) }
         ensures stands { IfOk result (λ v. StandsFor v (bags_at tables.now)) }
-        ensures uncounted { IfOk result (λ v. all_ticks v.state.chain.steps.items ≡ 0) }
+        ensures uncounted { IfOk result (λ v. work_of v.state ≡ 0) }
     {
         match built_state(alloc, &query, widths.as_slice(), tables, epoch) {
             Ok((columns, state)) => Ok(KeptView {
@@ -89,9 +88,10 @@ impl KeptView {
         self.state.built()
     }
 
-    /// How many entries the sides of the joins gave and took since the view was built.
+    /// How many entries the sides of the joins gave and took since the view was built, and how many changed rows came
+    /// behind the joins.
     pub fn work(&self) -> u128
-        ensures { result ≡ counted 0 (all_ticks self.now.state.chain.steps.items) }
+        ensures { result ≡ counted 0 (work_of self.now.state) }
     {
         self.state.work()
     }
@@ -111,16 +111,21 @@ impl KeptView {
         column_sizes(alloc, &self.query)
     }
 
-    /// Works out what changes of the tables change, from the stored sides and the changes alone, and makes all growth
+    /// Works out what the change of a table changes, from the stored sides and the change alone, and makes all growth
     /// for it. Nothing that is shown changes.
-    pub fn prepare(&mut self, alloc: Global, changes: &[SourceRows]) -> Result<Pending, AllocError>
-        requires { CanPrepare self.old (rows_at changes.now) }
+    pub fn prepare(
+        &mut self,
+        alloc: Global,
+        change: &TableChange<'_>,
+    ) -> Result<Pending, AllocError>
+        requires { CanPrepare self.old (changes_of change.now) }
         ensures same { SameView self.old self.new }
-        ensures waiting { IfOk result (IsWaiting self.old (rows_at changes.now) self.new) }
+        ensures waiting { IfOk result (IsWaiting self.old (changes_of change.now) self.new) }
         ensures ready { IfOk result (CanCommit self.new) }
-        ensures counts { IfOk result (CountsPairs self.old (rows_at changes.now) self.new) }
+        ensures counts { IfOk result (CountsPairs self.old (changes_of change.now) self.new) }
+        ensures more { work_of self.old.state ≤ work_of self.new.state }
     {
-        let cut = cut_changes(alloc, self.columns.as_slice(), changes)?;
+        let cut = cut_change(alloc, self.columns.as_slice(), change)?;
         self.state.prepare(alloc, cut)
     }
 
@@ -132,7 +137,7 @@ impl KeptView {
         ensures epoch { self.new.state.epoch ≡ epoch }
         ensures built { self.new.state.built ≡ self.old.state.built }
         ensures takes { TakesIn self.old pending self.new }
-        ensures counts { CountsEntries self.old.state.chain pending.waiting.joins.items self.new.state.chain }
+        ensures counts { CountsPut self.old.state pending self.new.state }
     {
         self.state.commit(pending, epoch);
     }

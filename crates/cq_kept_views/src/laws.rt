@@ -1,5 +1,5 @@
 //! What holds of kept views.
-ghost use Rattle.cq_kept_views.specs.Laws.{CountsWithinWork, StandingDependsOnSources};
+ghost use Rattle.cq_kept_views.specs.Laws.{CountsWithinWork, RisesWhereChanged, StandingDependsOnSources};
 
 /// A view that stands for the bags of the tables that FROM names stands for them however they are listed.
 pub fn standing_depends_on_sources()
@@ -10,4 +10,9 @@ pub fn standing_depends_on_sources()
 /// that are cut to the columns that the query reads.
 pub fn counts_are_within_work()
     ensures { CountsWithinWork }
+{}
+
+/// They count at least one where the bag of the view's query changes.
+pub fn counts_rise_where_changed()
+    ensures { RisesWhereChanged }
 {}

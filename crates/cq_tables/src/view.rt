@@ -1,19 +1,20 @@
 //! A view under its name.
 ghost use Rattle.std.specs.List.{AllByRecursion};
 ghost use Rattle.std.specs.Prelude.{◌≡◌, IfErr, IfOk, OnOk};
-ghost use Rattle.cq_chains.specs.Sources.{rows_at};
 ghost use Rattle.cq_deltas.specs.declared.fault.ShowFault.TheVariants.{SumOutOfRange};
 ghost use Rattle.cq_laws.specs.Sizes.{HasSizes};
 ghost use Rattle.cq_model.specs.Sizes.{column_sizes};
 ghost use Rattle.cq_values.specs.Texts.{is_text};
 ghost use Rattle.cq_upkeep.specs.Query.{CanBeKept, reads};
+ghost use Rattle.cq_upkeep.specs.Work.{work_of};
+ghost use Rattle.cq_sides.specs.Ticks.{counted};
+ghost use Rattle.cq_kept_views.specs.Changes.{changes_of};
 ghost use Rattle.cq_kept_views.specs.Shown.{AreRowsOf, CanShow, IsNotShown, IsShown};
 ghost use Rattle.cq_kept_views.specs.State.{CanPrepare};
 ghost use Rattle.cq_tables.specs.Taking.{CanTake, HasTaken, IsReadyFor, IsSame};
 
-use cq_chains::SourceRows;
 use cq_deltas::ShowFault;
-use cq_kept_views::KeptView;
+use cq_kept_views::{KeptView, TableChange};
 use cq_model::Query;
 use cq_upkeep::Pending;
 use cq_values::{ColumnDef, Row, Seq, Text};
@@ -103,6 +104,21 @@ impl View {
         self.state.epoch()
     }
 
+    /// How many writes there were when the view was built.
+    pub fn built(&self) -> u64
+        ensures { result ≡ self.now.kept.state.built }
+    {
+        self.state.built()
+    }
+
+    /// How many entries the sides of the view's joins gave and took since it was built, and how many changed rows came
+    /// behind the joins.
+    pub fn work(&self) -> u128
+        ensures { result ≡ counted 0 (work_of self.now.kept.state) }
+    {
+        self.state.work()
+    }
+
     /// The rows of the view. It costs what the view holds, and no table is read.
     pub fn rows(&self, alloc: Global) -> Result<Vec<Row>, ShowFault>
         requires { CanShow self.now.kept }
@@ -114,22 +130,21 @@ impl View {
         self.state.rows(alloc)
     }
 
-    /// Works out what the changes of a table change in the view, if it reads that table, and makes all growth for it.
+    /// Works out what the change of a table changes in the view, if it reads that table, and makes all growth for it.
     /// Nothing that is shown changes.
     pub fn prepare(
         &mut self,
         alloc: Global,
-        table: u64,
-        changes: &[SourceRows],
+        change: &TableChange<'_>,
     ) -> Result<Option<Pending>, AllocError>
-        requires { CanPrepare self.old.kept (rows_at changes.now) }
+        requires { CanPrepare self.old.kept (changes_of change.now) }
         ensures same { IsSame self.old self.new }
-        ensures ready { IfOk result (IsReadyFor table (rows_at changes.now) self.old self.new) }
+        ensures ready { IfOk result (IsReadyFor change.now.table (changes_of change.now) self.old self.new) }
     {
-        if !self.state.is_on(table) {
+        if !self.state.is_on(change.table) {
             return Ok(None);
         }
-        let pending = self.state.prepare(alloc, changes)?;
+        let pending = self.state.prepare(alloc, change)?;
         Ok(Some(pending))
     }
 

@@ -1,16 +1,16 @@
 //! Views under their names, and the writes that they take in.
 ghost use Rattle.std.specs.Prelude.{◌≡◌, ◌<◌, IfOk, length, position};
 ghost use Rattle.std.specs.List.{list_any, remove};
-ghost use Rattle.cq_chains.specs.Sources.{rows_at};
 ghost use Rattle.cq_values.specs.Texts.{is_text};
 ghost use Rattle.cq_binding.specs.Refusal.{is_used};
 ghost use Rattle.cq_states.specs.State.{view_place};
 ghost use Rattle.cq_upkeep.specs.Query.{reads};
+ghost use Rattle.cq_kept_views.specs.Changes.{changes_of};
 ghost use Rattle.cq_tables.specs.Taking.{AreReadyFor, AreSame, CanAllPrepare, CanAllTake, HaveTaken};
 ghost use Rattle.cq_tables.specs.Views.{views_of};
 
 use crate::view::View;
-use cq_chains::SourceRows;
+use cq_kept_views::TableChange;
 use cq_upkeep::Pending;
 use std::alloc::{AllocError, Global};
 
@@ -38,21 +38,20 @@ pub fn is_used(views: &[View], table: u64) -> bool
     is_any_on(views, table)
 }
 
-/// Works out what the changes of a table change in each view that reads it, and makes all growth for it. Nothing that is
+/// Works out what the change of a table changes in each view that reads it, and makes all growth for it. Nothing that is
 /// shown changes.
 pub fn prepare_all(
     alloc: Global,
     views: &mut Vec<View>,
-    table: u64,
-    changes: &[SourceRows],
+    change: &TableChange<'_>,
 ) -> Result<Vec<Option<Pending>>, AllocError>
-    requires { CanAllPrepare (rows_at changes.now) views.old.items }
+    requires { CanAllPrepare (changes_of change.now) views.old.items }
     ensures same { AreSame views.old.items views.new.items }
-    ensures ready { IfOk result (λ ps. AreReadyFor table (rows_at changes.now) views.old.items views.new.items ps.items) }
+    ensures ready { IfOk result (λ ps. AreReadyFor change.now.table (changes_of change.now) views.old.items views.new.items ps.items) }
 {
     let mut pendings = Vec::with_capacity(alloc, views.len())?;
     for place in 0..views.len() {
-        pendings.push(views[place].prepare(alloc, table, changes)?)?;
+        pendings.push(views[place].prepare(alloc, change)?)?;
     }
     Ok(pendings)
 }

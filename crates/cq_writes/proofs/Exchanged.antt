@@ -11,7 +11,7 @@ use Rattle.cq_bags.proofs.Canonicals.{bag_of-weights, same-bag_of}
 use Rattle.cq_bags.proofs.Distincts.{once_each-map}
 use Rattle.cq_bags.proofs.Totals.{by_test, weight_of-append}
 use Rattle.cq_writes.proofs.Changes.{with_fewer}
-use Rattle.cq_writes.specs.Changing.{changed, exchanged}
+use Rattle.cq_kept_views.specs.Changes.{exchanged, weighed}
 
 -- two stretches have their weights together
 weight_both : (xs ys : List Row) (r : Row) → weight_of (once_each (xs ++ ys)) r ≡ weight_of (once_each xs) r +ℤ weight_of (once_each ys) r
@@ -31,9 +31,9 @@ module _ (keep : Row → Bool) (rows gone : List Row) (chosen : bag_of gone ≡ 
       (same-bag_of left).at r,
       (same-bag_of (left ++ come)).at r,
       weight_both left come r,
-      weight_of-append (once_each rows) (changed gone (neg_ℤ (pos 1))) r,
+      weight_of-append (once_each rows) (weighed gone (neg_ℤ (pos 1))) r,
       weight_of-append (once_each rows) (exchanged gone come) r,
-      weight_of-append (changed gone (neg_ℤ (pos 1))) (changed come (pos 1)) r,
+      weight_of-append (weighed gone (neg_ℤ (pos 1))) (weighed come (pos 1)) r,
     );
   }
 

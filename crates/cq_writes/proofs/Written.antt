@@ -17,10 +17,11 @@ use Rattle.cq_model.specs.Meaning.{keeps}
 use Rattle.cq_model.specs.Write.{left_by}
 use Rattle.cq_states.specs.Fitting.{FitsColumns, AreLimited, AreFitting}
 use Rattle.cq_states.specs.State.{TableOf, AreNumbered, columns_in, holding, rows_in, with_rows}
+use Rattle.cq_kept_views.specs.Changes.{exchanged, weighed}
 use Rattle.cq_kept_views.specs.Laws.{StandingDependsOnSources}
 use Rattle.cq_upkeep.specs.declared.state.Pending.{Pending}
 use Rattle.cq_writes.specs.Writing.{Inserts, InsertsRows, deleted_from, inserted_into, room_for}
-use Rattle.cq_writes.specs.Changing.{AreReadyAt, AreStanding, changed, exchanged}
+use Rattle.cq_writes.specs.Changing.{AreReadyAt, AreStanding}
 use Rattle.cq_writes.specs.Following.{Follow, Moved}
 use Rattle.cq_tables.specs.Taking.{AreSame, HaveTaken}
 use Rattle.cq_tables.specs.Views.{AreRight, Fits, NamedView, bags_in}
@@ -47,7 +48,7 @@ module _ (law : StandingDependsOnSources) (epoch : ℕ) (t u : TableOf) (vs ws x
       → Follow epoch t u vs xs
   deleted-follow keep gone is chosen ready =
       let rows = filter (λ row. not (keep row)) t.rows in
-      let nothing : exchanged gone [] ≡ changed gone (neg_ℤ (pos 1)) = append-nil (changed gone (neg_ℤ (pos 1))) in
+      let nothing : exchanged gone [] ≡ weighed gone (neg_ℤ (pos 1)) = append-nil (weighed gone (neg_ℤ (pos 1))) in
       let left = subst (λ (dxs : Weighted). SameBag (once_each (bag_of rows)) (once_each t.rows ++ dxs)) (sym nothing) (with_fewer keep t.rows gone chosen) in
       subst (λ (w : TableOf). Follow epoch t w vs xs) (sym is) (follow law epoch t (holding rows t) (exchanged gone []) vs ws xs ps left same ready taken)
 

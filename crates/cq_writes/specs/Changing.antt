@@ -1,8 +1,7 @@
 -- What a write of a table changes, and views that are made ready for it.
-use Rattle.std.specs.Prelude.{◌≡◌, ◌+◌, ◌<◌, ◌≤◌, ◌^◌, ℕ, ℤ, pos, neg_ℤ, nat_abs, false, List, [], ◌++◌, map, Option}
+use Rattle.std.specs.Prelude.{◌≡◌, ◌≤◌, ℕ, false, List, [], Option}
 use Rattle.std.specs.List.{AllByRecursion}
-use Rattle.cq_values.specs.Value.{Row}
-use Rattle.cq_bags.specs.Bag.{Weighted, SameBag, once_each, weight_of}
+use Rattle.cq_bags.specs.Bag.{Weighted, SameBag}
 use Rattle.cq_model.specs.declared.query.Source.{Source}
 use Rattle.cq_model.specs.declared.query.Source.TheVariants.{Table as FromTable}
 use Rattle.cq_model.specs.Meaning.{Tables}
@@ -13,18 +12,6 @@ use Rattle.cq_chains.specs.Steps.{AreStored}
 use Rattle.cq_upkeep.specs.declared.state.Pending.{Pending}
 use Rattle.cq_tables.specs.Taking.{AllStandFor, AreReadyFor}
 use Rattle.cq_tables.specs.Views.{Fits, NamedView}
-
--- each of these rows with one weight: 1 where they come, -1 where they go
-abbrev pub changed : List Row → ℤ → Weighted
-changed rows weight = map (λ r. (r, weight)) rows
-
--- the first rows go, and the others come
-abbrev pub exchanged : List Row → List Row → Weighted
-exchanged gone come = changed gone (neg_ℤ (pos 1)) ++ once_each come
-
--- no weight leaves 127 bits and a sign while so many rows come or go
-abbrev pub StaysInRange : ℕ → Weighted → Type 0
-StaysInRange count xs = (r : Row) → nat_abs (weight_of xs r) + count < 2 ^ 127
 
 -- rows of the table of a number change, and no others
 pub record IsChangeAt (n : ℕ) (dxs : Weighted) (changes : Tables) : Type 0 where

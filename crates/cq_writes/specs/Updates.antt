@@ -15,10 +15,11 @@ use Rattle.cq_binding.specs.declared.fault.Fault.{Fault}
 use Rattle.cq_binding.specs.Checks.{MayRefuse}
 use Rattle.cq_exprs.specs.Types.{IsOf}
 use Rattle.cq_states.specs.State.{TableOf, columns_in, holding, rows_in, with_rows}
+use Rattle.cq_kept_views.specs.Changes.{exchanged}
 use Rattle.cq_upkeep.specs.declared.state.Pending.{Pending}
 use Rattle.cq_tables.specs.Taking.{CanAllTake}
 use Rattle.cq_tables.specs.Views.{NamedView}
-use Rattle.cq_writes.specs.Changing.{AreReadyAt, exchanged}
+use Rattle.cq_writes.specs.Changing.{AreReadyAt}
 use Rattle.cq_table.specs.Checks.{value_fault}
 use Rattle.cq_table.specs.Table.{SameRows}
 use Rattle.cq_tables.specs.Tables.{value_fault_of}

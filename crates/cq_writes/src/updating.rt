@@ -63,6 +63,6 @@ fn prepared(
     ensures fault { IfErr result (MayRefuse (value_fault_of table.now assignments.now condition.now)) }
 {
     let (gone, images) = table.images_where(alloc, assignments, condition)?;
-    let pendings = prepare_copied(alloc, views, table.number(), gone, &images)?;
+    let pendings = prepare_copied(alloc, views, table.number(), &gone, &images)?;
     Ok((images, pendings))
 }

@@ -1,5 +1,5 @@
 use Rattle.std.proofs.Common.{◌≡◌, ◌<◌, length, arith}
-use Rattle.cq_chains.specs.Sources.{rows_at}
+use Rattle.cq_kept_views.specs.Changes.{changes_of}
 use Rattle.cq_tables.proofs.Named.{can_prepare_there, ready_all, ready_written, same_written, stands_there, within_same}
 use Rattle.cq_tables.proofs.Turns.{all_same}
 use Rattle.cq_tables.proofs.views.prepare_all.Goals as goal
@@ -21,7 +21,7 @@ pub prepare-requires : goal.prepare-requires
 prepare-requires c =
     let vs = c.args.views.now in
     let h : c.loop-place.place < length vs.items = omega (arith, c.loop-place-test.true, c.len-place-end.ensures, vs.ok.0) in
-    can_prepare_there vs.items c.loop-place.views.items c.loop-place.place h c.loop-place.invariant.0 c.index_mut.result.now c.index_mut.ensures.value (rows_at c.args.changes.now) c.requires
+    can_prepare_there vs.items c.loop-place.views.items c.loop-place.place h c.loop-place.invariant.0 c.index_mut.result.now c.index_mut.ensures.value (changes_of c.args.change.now) c.requires
 
 pub returns-in_err-prepare-clause-same : goal.returns-in_err-prepare-clause-same
 returns-in_err-prepare-clause-same c =
@@ -45,7 +45,7 @@ loop-place-preserved c =
     let is = c.index_mut.ensures.value in
     let same = c.loop-place.invariant.0 in (
       same_written vs now i h same v is c.prepare.new.self c.prepare.ensures.same,
-      λ tables stand. ready_written vs now i h same c.args.table tables (rows_at c.args.changes.now) c.loop-place.pendings.items c.push.new.self.items c.prepare.new.self c.in_ok-prepare.field-0
+      λ tables stand. ready_written vs now i h same c.args.change.now.table tables (changes_of c.args.change.now) c.loop-place.pendings.items c.push.new.self.items c.prepare.new.self c.in_ok-prepare.field-0
           (c.loop-place.invariant.1 tables stand) (c.in_ok-prepare.ensures.ready tables (stands_there vs now i h same v is tables stand)) c.in_ok-push.ensures.items,
     )
 
@@ -56,4 +56,4 @@ pub returns-clause-ready : goal.returns-clause-ready
 returns-clause-ready c =
     let vs = c.args.views.now in
     let all : c.loop-place.place ≡ length vs.items = omega (arith, c.loop-place-test.false, c.loop-place.auto.place-end, c.len-place-end.ensures, vs.ok.0) in
-    λ tables stand. ready_all c.args.table tables (rows_at c.args.changes.now) vs.items c.loop-place.views.items c.loop-place.pendings.items c.loop-place.place all c.loop-place.invariant.0 (c.loop-place.invariant.1 tables stand)
+    λ tables stand. ready_all c.args.change.now.table tables (changes_of c.args.change.now) vs.items c.loop-place.views.items c.loop-place.pendings.items c.loop-place.place all c.loop-place.invariant.0 (c.loop-place.invariant.1 tables stand)

@@ -1,5 +1,5 @@
 use Rattle.std.proofs.Common.{take}
-use Rattle.cq_chains.specs.Sources.{rows_at}
+use Rattle.cq_kept_views.specs.Changes.{changes_of}
 use Rattle.cq_model.specs.Meaning.{Tables}
 use Rattle.cq_tables.specs.Taking.{AllStandFor, AreReady, AreSame}
 use Rattle.cq_tables.proofs.views.prepare_all.Given as goal
@@ -8,4 +8,4 @@ use Rattle.cq_tables.proofs.views.prepare_all.Given as goal
 abbrev pub invariant-loop-place : goal.invariant-loop-place
 invariant-loop-place l =
     AreSame l.initial.views.items l.views.items
-    × ((tables : Tables) → AllStandFor tables l.initial.views.items → AreReady l.table tables (rows_at l.changes) (take l.place l.views.items) l.pendings.items)
+    × ((tables : Tables) → AllStandFor tables l.initial.views.items → AreReady l.change.table tables (changes_of l.change) (take l.place l.views.items) l.pendings.items)

@@ -1,22 +1,18 @@
-use Rattle.std.proofs.Common.{◌≡◌, ◌∙◌, List, [], false, sym, ap, arith}
-use Rattle.std.proofs.lemmas.Result.{IfOk-weaker}
-use Rattle.cq_binding.specs.Refusal.{is_used}
-use Rattle.cq_chains.specs.Sources.{rows_at}
-use Rattle.cq_tables.specs.Views.{NamedView, views_of}
-use Rattle.cq_writes.specs.Changing.{exchanged}
-use Rattle.cq_writes.proofs.Preparing.{all_take, can_all_prepare, ready_unread}
+use Rattle.std.proofs.Common.{ap, arith, length}
+use Rattle.std.proofs.lemmas.List.{length-map}
+use Rattle.cq_columns.specs.Stored.{row_of}
+use Rattle.cq_tables.proofs.Turns.{all_same}
 use Rattle.cq_writes.proofs.changing.prepare_copied.Goals as goal
 
-pub prepare_all-requires : goal.prepare_all-requires
-prepare_all-requires c = can_all_prepare (rows_at []) (λ source. tt) (λ source. omega arith) c.args.views.now.items c.requires.stand
+pub prepare_views-requires-clause-gone : goal.prepare_views-requires-clause-gone
+prepare_views-requires-clause-gone c = rw (c.deref.ensures.value, c.in_ok-lent.ensures) c.requires.gone
 
-pub returns-else-is_used-clause-ready : goal.returns-else-is_used-clause-ready
-returns-else-is_used-clause-ready c =
-    let vs = c.args.views.now.items in
-    let dxs = exchanged c.args.gone.items c.args.come.now in
-    let free : is_used c.args.table (views_of vs) ≡ false = sym (c.is_used.ensures ∙ ap (λ (ws : List NamedView). is_used c.args.table (views_of ws)) c.deref.ensures.value) ∙ c.if-is_used.false in
-    IfOk-weaker c.prepare_all.result _ _ (λ ps ready. ready_unread c.args.table dxs vs c.prepare_all.new.views.items ps.items free c.prepare_all.ensures.same ready) c.prepare_all.ensures.ready
+pub prepare_views-requires-clause-few : goal.prepare_views-requires-clause-few
+prepare_views-requires-clause-few c =
+    rw c.deref.ensures.value (omega (arith, c.requires.few, length-map c.in_ok-lent.lent.items row_of, ap length c.in_ok-lent.ensures))
 
-pub returns-else-is_used-clause-can : goal.returns-else-is_used-clause-can
-returns-else-is_used-clause-can c =
-    IfOk-weaker c.prepare_all.result _ _ (λ ps ready. all_take c.args.table (rows_at []) c.args.views.now.items c.prepare_all.new.views.items ps.items c.requires.stand ready) c.prepare_all.ensures.ready
+pub returns-clause-ready : goal.returns-clause-ready
+returns-clause-ready c = rw (c.deref.ensures.value, c.in_ok-lent.ensures) at c.prepare_views.ensures.ready
+
+pub returns-in_err-lent-clause-same : goal.returns-in_err-lent-clause-same
+returns-in_err-lent-clause-same c = all_same c.args.views.now.items

@@ -1,27 +1,24 @@
-use Rattle.std.proofs.Common.{◌≡◌, ◌∙◌, List, [], false, sym, ap, arith}
 use Rattle.std.proofs.lemmas.Result.{IfOk-weaker}
-use Rattle.cq_binding.specs.Refusal.{is_used}
-use Rattle.cq_chains.specs.Sources.{rows_at}
-use Rattle.cq_columns.specs.Stored.{stored_rows}
-use Rattle.cq_tables.proofs.Turns.{all_same}
-use Rattle.cq_tables.specs.Views.{NamedView, views_of}
-use Rattle.cq_writes.specs.Changing.{exchanged}
-use Rattle.cq_writes.proofs.Preparing.{all_take, can_all_prepare, ready_unread}
+use Rattle.std.proofs.Common.{arith}
+use Rattle.std.proofs.lemmas.List.{length-map}
+use Rattle.cq_columns.specs.Stored.{row_of, stored_rows}
+use Rattle.cq_writes.proofs.Preparing.{all_take, can_all_prepare, change, change_few, change_stored, change_there}
 use Rattle.cq_writes.proofs.changing.prepare_views.Goals as goal
 
 pub prepare_all-requires : goal.prepare_all-requires
-prepare_all-requires c = can_all_prepare (rows_at []) (λ source. tt) (λ source. omega arith) c.args.views.now.items c.requires.stand
+prepare_all-requires c =
+    let n = c.args.table in
+    let gone = stored_rows c.args.gone.now in
+    let come = c.args.come.now in
+    can_all_prepare (change n gone come) (change_stored n gone come c.requires.gone c.requires.come) (change_few n gone come (omega (arith, c.requires.few, length-map c.args.gone.now row_of))) c.args.views.now.items c.requires.stand
 
-pub returns-then-not-is_used-clause-ready : goal.returns-then-not-is_used-clause-ready
-returns-then-not-is_used-clause-ready c =
-    let vs = c.args.views.now.items in
-    let dxs = exchanged (stored_rows c.args.gone.now) c.args.come.now in
-    let free : is_used c.args.table (views_of vs) ≡ false = sym (c.is_used.ensures ∙ ap (λ (ws : List NamedView). is_used c.args.table (views_of ws)) c.deref.ensures.value) ∙ c.if-not-is_used.true in
-    IfOk-weaker c.prepare_all.result _ _ (λ ps ready. ready_unread c.args.table dxs vs c.prepare_all.new.views.items ps.items free c.prepare_all.ensures.same ready) c.prepare_all.ensures.ready
+pub returns-clause-ready : goal.returns-clause-ready
+returns-clause-ready c =
+    let gone = stored_rows c.args.gone.now in
+    let come = c.args.come.now in
+    IfOk-weaker c.prepare_all.result _ _ (λ ps ready. record { changes = change c.args.table gone come; of = change_there c.args.table gone come; ready = ready }) c.prepare_all.ensures.ready
 
-pub returns-then-not-is_used-clause-can : goal.returns-then-not-is_used-clause-can
-returns-then-not-is_used-clause-can c =
-    IfOk-weaker c.prepare_all.result _ _ (λ ps ready. all_take c.args.table (rows_at []) c.args.views.now.items c.prepare_all.new.views.items ps.items c.requires.stand ready) c.prepare_all.ensures.ready
-
-pub returns-in_err-gone-clause-same : goal.returns-in_err-gone-clause-same
-returns-in_err-gone-clause-same c = all_same c.args.views.now.items
+pub returns-clause-can : goal.returns-clause-can
+returns-clause-can c =
+    let changes = change c.args.table (stored_rows c.args.gone.now) c.args.come.now in
+    IfOk-weaker c.prepare_all.result _ _ (λ ps ready. all_take c.args.table changes c.args.views.now.items c.prepare_all.new.views.items ps.items c.requires.stand ready) c.prepare_all.ensures.ready

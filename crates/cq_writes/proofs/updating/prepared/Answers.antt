@@ -17,7 +17,7 @@ images_where-requires c =
 pub prepare_copied-requires-clause-gone : goal.prepare_copied-requires-clause-gone
 prepare_copied-requires-clause-gone c =
     let gone = c.in_ok-gone.gone.items in
-    stored_gone c.args.table.now c.args.assignments.now c.args.condition.now c.requires.can gone c.in_ok-gone.ensures.images.chosen c.requires.fitting
+    rw c.deref.ensures.value (stored_gone c.args.table.now c.args.assignments.now c.args.condition.now c.requires.can gone c.in_ok-gone.ensures.images.chosen c.requires.fitting)
 
 pub prepare_copied-requires-clause-come : goal.prepare_copied-requires-clause-come
 prepare_copied-requires-clause-come c =
@@ -26,7 +26,7 @@ prepare_copied-requires-clause-come c =
     let gone = c.in_ok-gone.gone.items in
     let images = c.in_ok-gone.ensures.images in
     let free : values_fault t.columns sets gone ≡ None = fault_same sets c.args.condition.now t.rows gone images.chosen t.columns ∙ c.in_ok-gone.ensures.checked in
-    rw (c.deref.ensures.value, images.images) (stored_come t sets c.args.condition.now c.requires.can gone images.chosen c.requires.fitting free)
+    rw (c.deref-2.ensures.value, images.images) (stored_come t sets c.args.condition.now c.requires.can gone images.chosen c.requires.fitting free)
 
 pub prepare_copied-requires-clause-few : goal.prepare_copied-requires-clause-few
 prepare_copied-requires-clause-few c =
@@ -34,7 +34,7 @@ prepare_copied-requires-clause-few c =
     let images = c.in_ok-gone.ensures.images in
     let few : length gone < 2 ^ 24 + 1 = gone_few (keeps c.args.condition.now) c.args.table.now.rows gone images.chosen (2 ^ 24 + 1) (omega (arith, c.requires.few)) in
     let come : length c.in_ok-gone.images.items ≡ length gone = ap length images.images ∙ length-map gone (image_of c.args.assignments.now) in
-    rw c.deref.ensures.value (omega (arith, few, come))
+    rw (c.deref.ensures.value, c.deref-2.ensures.value) (omega (arith, few, come))
 
 pub returns-clause-ready : goal.returns-clause-ready
 returns-clause-ready c =
@@ -44,7 +44,7 @@ returns-clause-ready c =
       gone = c.in_ok-gone.gone.items;
       chosen = images.chosen;
       images = images.images;
-      ready = rw (c.number.ensures, c.deref.ensures.value) at c.in_ok-pendings.ensures.ready;
+      ready = rw (c.number.ensures, c.deref.ensures.value, c.deref-2.ensures.value) at c.in_ok-pendings.ensures.ready;
       can = c.in_ok-pendings.ensures.can;
     }
 
