@@ -1,8 +1,8 @@
 use Rattle.std.proofs.Common.{◌≡◌, ◌∙◌, ◌+◌, ℕ, List, [], ◌∷◌, ◌++◌, take, get_or, sym, ap, subst, arith}
 use Rattle.std.proofs.lemmas.List.{take_all, take_more}
+use Rattle.std.proofs.lemmas.Slice.Zip.{all_zipped_more}
 use Rattle.std.specs.Prelude.{sum}
 use Rattle.std.specs.List.{AllZip}
-use Rattle.cq_kept_views.proofs.Sources.{zip-more}
 use Rattle.cq_model.specs.declared.query.Source.{Source}
 use Rattle.cq_model.specs.declared.query.Source.TheVariants.{Table}
 use Rattle.cq_tables.specs.Views.{IsWide}
@@ -19,7 +19,7 @@ loop-source-preserved c =
     let wide = c.width_of-wide.result in
     let more : take (i + 1) sources ≡ take i sources ++ s ∷ [] = take_more sources i (Table 0) c.loop-source-test.true in
     rw c.in_ok-push.ensures.ok (
-      subst (λ (ss : List Source). AllZip R ss (c.loop-source.widths ++ wide ∷ [])) (sym more) (zip-more R (take i sources) c.loop-source.widths s wide c.loop-source.invariant.0 c.width_of-wide.ensures),
+      subst (λ (ss : List Source). AllZip R ss (c.loop-source.widths ++ wide ∷ [])) (sym more) (all_zipped_more R (take i sources) c.loop-source.widths s wide c.loop-source.invariant.0 c.width_of-wide.ensures),
       sum-more c.loop-source.widths wide ∙ ap (λ (n : ℕ). n + wide) c.loop-source.invariant.1 ∙ sym c.in_ok-total.ensures.wider,
       c.in_ok-total.ensures.counted,
     )
