@@ -23,10 +23,10 @@ fn answer<S: Sources>(
     piece: &Piece<'_>,
     sources: &mut S,
 ) -> Result<Answer, Fault>
-    requires drawn { piece.now.closed ≡ true → engine.old.drawn < 2 ^ 64 - 1 }
+    requires drawn { piece.now.closed ≡ true → engine.old.state.drawn < 2 ^ 64 - 1 }
     requires failures { piece.now.closed ≡ true → S.failures sources.old < 2 ^ 64 - 1 }
-    ensures served { Serves (S.files sources.old) engine.old (piece_of piece.now) result engine.new }
-    ensures rows { OnlyShows engine.old result engine.new }
+    ensures served { Serves (S.files sources.old) engine.old.state (piece_of piece.now) result engine.new.state }
+    ensures rows { OnlyShows engine.old.state result engine.new.state }
     ensures files { S.files sources.new ≡ S.files sources.old }
     ensures failures { S.failures sources.new ≡ S.failures sources.old + source_failures (result ∷ []) }
 {

@@ -4,6 +4,7 @@ pub mod Groups
 pub mod Shapes
 pub mod Widths
 pub mod Kept
+pub mod Stored
 pub mod Entries
 pub mod TableColumns
 pub mod Creating

@@ -2,3 +2,4 @@ pub mod Views
 pub mod Gathering
 pub mod TableWidths
 pub mod Commands
+pub mod Held

@@ -1,5 +1,7 @@
 -- Views that are found under their names, and views that are made.
 use Rattle.std.specs.Prelude.{◌≡◌, ℕ, List, [], ◌∷◌, ◌++◌, Option, option_map}
+use Rattle.std.specs.List.{find}
+use Rattle.cq_values.specs.Texts.{is_text}
 use Rattle.cq_model.specs.declared.query.Query.{Query}
 use Rattle.cq_states.specs.State.{TableOf, ViewOf, view_named}
 use Rattle.cq_kept_views.specs.State.{StandsFor}
@@ -9,6 +11,10 @@ use Rattle.cq_tables.specs.Views.{AreWide, NamedView, bags_in, views_of}
 -- the query of the view of a name, if there is one
 abbrev pub query_named : List ℕ → List ViewOf → Option Query
 query_named name views = option_map (λ v. v.query) (view_named name views)
+
+-- what is stored of the view of a name, if there is one
+abbrev pub stored_named : List ℕ → List NamedView → Option NamedView
+stored_named name views = find (λ v. is_text v.name name) views
 
 -- a view was put behind the others
 abbrev pub IsAdded : ViewOf → List NamedView → List NamedView → Type 0

@@ -1,12 +1,16 @@
 //! The engine, and one step of it.
 ghost use Rattle.std.specs.Prelude.{◌≡◌, ◌<◌, ◌+◌, ◌-◌, ◌^◌, ◌∷◌, [], Ok, option_map};
 ghost use Rattle.cq_binding.specs.declared.bound.Bound.TheVariants as commands;
+ghost use Rattle.cq_sides.specs.Ticks.{counted};
 ghost use Rattle.cq_states.specs.Fitting.{AreLimited, AreFitting};
 ghost use Rattle.cq_states.specs.State.{first_state, view_named};
 ghost use Rattle.cq_steps.specs.Output.{source_failures};
 ghost use Rattle.cq_steps.specs.Step.{StepFrom};
+ghost use Rattle.cq_tables.specs.Views.{AreRight, views_of};
+ghost use Rattle.cq_upkeep.specs.Work.{work_of};
 ghost use Rattle.cq_engine.specs.declared.answer_source.AnswerSource.TheVariants.{Tables};
 ghost use Rattle.cq_engine.specs.Commands.{CanCarryOut, CarriesOut, OnlyShows};
+ghost use Rattle.cq_engine.specs.Views.{stored_named};
 
 use crate::answer_source::AnswerSource;
 use crate::catalog::EngineCatalog;
@@ -43,22 +47,23 @@ impl Model for Engine {
     ghost use Rattle.std.specs.Coded.{codes};
     ghost use Rattle.cq_model.specs.contracts.expr.Cond as cond;
     ghost use Rattle.cq_model.specs.contracts.expr.Expr as expr;
-    ghost use Rattle.cq_states.specs.State.{State};
+    ghost use Rattle.cq_kept_views.specs.contracts.kept_view.KeptView as kept_view;
     ghost use Rattle.cq_tables.specs.Views.{views_of};
     ghost use Rattle.cq_engine.specs.Commands.{AreInOrder, present};
+    ghost use Rattle.cq_engine.specs.Held.{Held};
 
-    ghost Value = { State };
+    ghost Value = { Held };
 
-    ghost coded = { Prim.hlevel (codes, expr.the_row.coded, cond.the_row.coded) };
+    ghost coded = { Prim.hlevel (codes, expr.the_row.coded, cond.the_row.coded, kept_view.the_row.coded) };
 
-    ghost view = { λ e. present e.tables.items (views_of e.views.items) e.writes e.drawn e.limits.max_rows };
+    ghost view = { λ e. record { state = present e.tables.items (views_of e.views.items) e.writes e.drawn e.limits.max_rows; stored = e.views.items } };
 
     ghost invariant = { λ e. AreInOrder e.writes e.drawn e.limits.max_rows e.tables.items e.views.items };
 }
 
 impl Engine {
     pub fn new(alloc: Global, limits: Limits) -> Engine
-        ensures { result ≡ first_state limits.max_rows }
+        ensures { result.state ≡ first_state limits.max_rows }
     {
         Engine {
             alloc,
@@ -72,31 +77,49 @@ impl Engine {
 
     /// How many writes were accepted.
     pub fn now(&self) -> u64
-        ensures { result ≡ self.now.now }
+        ensures { result ≡ self.now.state.now }
     {
         self.writes
     }
 
     /// How many writes and CREATE TABLE statements were accepted.
     pub fn drawn(&self) -> u64
-        ensures { result ≡ self.now.drawn }
+        ensures { result ≡ self.now.state.drawn }
     {
         self.drawn
     }
 
     /// How many writes the view of a name has taken in, if there is one.
     pub fn view_epoch(&self, name: &str) -> Option<u64>
-        ensures { result ≡ option_map (λ v. v.epoch) (view_named name.now self.now.views) }
+        ensures { result ≡ option_map (λ v. v.epoch) (view_named name.now self.now.state.views) }
     {
         let place = view_place(&self.views, name)?;
         Some(self.views[place].epoch())
     }
 
+    /// The stored view of a name, lent, if there is one: its query, its rows and its work are read there.
+    pub fn view_state(&self, name: &str) -> Option<&View>
+        ensures told { option_map (λ v. v.now) result ≡ stored_named name.now self.now.stored }
+        ensures beside { views_of self.now.stored ≡ self.now.state.views }
+        ensures right { AreRight self.now.state.tables self.now.state.now self.now.stored }
+    {
+        let place = view_place(&self.views, name)?;
+        Some(&self.views[place])
+    }
+
+    /// What the view of a name has counted since it was built, if there is one.
+    pub fn view_work(&self, name: &str) -> Option<u128>
+        ensures { result ≡ option_map (λ v. counted 0 (work_of v.kept.state)) (stored_named name.now self.now.stored) }
+    {
+        let view = self.view_state(name)?;
+        Some(view.work())
+    }
+
     /// The tables and views under their names. It takes no memory.
     pub fn catalog(&self) -> EngineCatalog<'_>
-        ensures told { result ≡ (self.now.tables, self.now.views) }
-        ensures fitting { AreFitting self.now.tables }
-        ensures bounded { AreLimited self.now.max_rows self.now.tables }
+        ensures told { result ≡ (self.now.state.tables, self.now.state.views) }
+        ensures fitting { AreFitting self.now.state.tables }
+        ensures bounded { AreLimited self.now.state.max_rows self.now.state.tables }
     {
         EngineCatalog::new(&self.tables, &self.views)
     }
@@ -111,10 +134,10 @@ impl Engine {
     /// Carries out one statement, or refuses it and leaves every table and view as it was. A result leaves them too. COPY
     /// reads its source once, where its names have no fault.
     pub fn step<S: Sources>(&mut self, command: &Command, sources: &mut S) -> Result<Answer, Fault>
-        requires drawn { self.old.drawn < 2 ^ 64 - 1 }
+        requires drawn { self.old.state.drawn < 2 ^ 64 - 1 }
         requires failures { S.failures sources.old < 2 ^ 64 - 1 }
-        ensures step { StepFrom (S.files sources.old) self.old command.now result self.new }
-        ensures rows { OnlyShows self.old result self.new }
+        ensures step { StepFrom (S.files sources.old) self.old.state command.now result self.new.state }
+        ensures rows { OnlyShows self.old.state result self.new.state }
         ensures files { S.files sources.new ≡ S.files sources.old }
         ensures failures { S.failures sources.new ≡ S.failures sources.old + source_failures (result ∷ []) }
     {
@@ -124,10 +147,10 @@ impl Engine {
 
     /// Carries out a command that was bound by the catalog.
     fn carry_out(&mut self, command: Bound) -> Result<Answer, Fault>
-        requires drawn { self.old.drawn < 2 ^ 64 - 1 }
-        requires bound { CanCarryOut self.old.tables self.old.views command }
-        ensures done { CarriesOut self.old command result self.new }
-        ensures rows { OnlyShows self.old result self.new }
+        requires drawn { self.old.state.drawn < 2 ^ 64 - 1 }
+        requires bound { CanCarryOut self.old.state.tables self.old.state.views command }
+        ensures done { CarriesOut self.old.state command result self.new.state }
+        ensures rows { OnlyShows self.old.state result self.new.state }
     {
         match command {
             Bound::CreateTable {
@@ -166,9 +189,9 @@ impl Engine {
         columns: Seq<ColumnDef>,
         sort: Seq<usize>,
     ) -> Result<Answer, Fault>
-        requires { self.old.drawn < 2 ^ 64 - 1 }
-        ensures done { CarriesOut self.old (commands.CreateTable name columns sort) result self.new }
-        ensures rows { OnlyShows self.old result self.new }
+        requires { self.old.state.drawn < 2 ^ 64 - 1 }
+        ensures done { CarriesOut self.old.state (commands.CreateTable name columns sort) result self.new.state }
+        ensures rows { OnlyShows self.old.state result self.new.state }
     {
         let max_rows = self.limits.max_rows;
         let table = Table::new(self.alloc, self.drawn, name, columns, sort, max_rows);
@@ -178,9 +201,9 @@ impl Engine {
     }
 
     fn drop_table(&mut self, number: u64) -> Answer
-        requires { CanCarryOut self.old.tables self.old.views (commands.DropTable number) }
-        ensures done { CarriesOut self.old (commands.DropTable number) (Ok result) self.new }
-        ensures rows { OnlyShows self.old (Ok result) self.new }
+        requires { CanCarryOut self.old.state.tables self.old.state.views (commands.DropTable number) }
+        ensures done { CarriesOut self.old.state (commands.DropTable number) (Ok result) self.new.state }
+        ensures rows { OnlyShows self.old.state (Ok result) self.new.state }
     {
         drop_in(&mut self.tables, number);
         standing_depends_on_sources();
@@ -193,9 +216,9 @@ impl Engine {
         columns: Seq<ColumnDef>,
         query: Query,
     ) -> Result<Answer, Fault>
-        requires { CanCarryOut self.old.tables self.old.views (commands.CreateView name columns query) }
-        ensures done { CarriesOut self.old (commands.CreateView name columns query) result self.new }
-        ensures rows { OnlyShows self.old result self.new }
+        requires { CanCarryOut self.old.state.tables self.old.state.views (commands.CreateView name columns query) }
+        ensures done { CarriesOut self.old.state (commands.CreateView name columns query) result self.new.state }
+        ensures rows { OnlyShows self.old.state result self.new.state }
     {
         let now = self.writes;
         create_view_in(
@@ -211,19 +234,19 @@ impl Engine {
     }
 
     fn drop_view(&mut self, place: usize) -> Answer
-        requires { CanCarryOut self.old.tables self.old.views (commands.DropView place) }
-        ensures done { CarriesOut self.old (commands.DropView place) (Ok result) self.new }
-        ensures rows { OnlyShows self.old (Ok result) self.new }
+        requires { CanCarryOut self.old.state.tables self.old.state.views (commands.DropView place) }
+        ensures done { CarriesOut self.old.state (commands.DropView place) (Ok result) self.new.state }
+        ensures rows { OnlyShows self.old.state (Ok result) self.new.state }
     {
         drop_view_at(&mut self.views, place);
         Answer::Done
     }
 
     fn insert(&mut self, table: u64, rows: Seq<Row>) -> Result<Answer, Fault>
-        requires drawn { self.old.drawn < 2 ^ 64 - 1 }
-        requires bound { CanCarryOut self.old.tables self.old.views (commands.Insert table rows) }
-        ensures done { CarriesOut self.old (commands.Insert table rows) result self.new }
-        ensures rows { OnlyShows self.old result self.new }
+        requires drawn { self.old.state.drawn < 2 ^ 64 - 1 }
+        requires bound { CanCarryOut self.old.state.tables self.old.state.views (commands.Insert table rows) }
+        ensures done { CarriesOut self.old.state (commands.Insert table rows) result self.new.state }
+        ensures rows { OnlyShows self.old.state result self.new.state }
     {
         let max_rows = self.limits.max_rows;
         let epoch = self.writes + 1;
@@ -243,10 +266,10 @@ impl Engine {
     }
 
     fn delete(&mut self, table: u64, condition: Option<Cond>) -> Result<Answer, Fault>
-        requires drawn { self.old.drawn < 2 ^ 64 - 1 }
-        requires bound { CanCarryOut self.old.tables self.old.views (commands.Delete table condition) }
-        ensures done { CarriesOut self.old (commands.Delete table condition) result self.new }
-        ensures rows { OnlyShows self.old result self.new }
+        requires drawn { self.old.state.drawn < 2 ^ 64 - 1 }
+        requires bound { CanCarryOut self.old.state.tables self.old.state.views (commands.Delete table condition) }
+        ensures done { CarriesOut self.old.state (commands.Delete table condition) result self.new.state }
+        ensures rows { OnlyShows self.old.state result self.new.state }
     {
         let epoch = self.writes + 1;
         let deleted = delete_in(
@@ -270,10 +293,10 @@ impl Engine {
         assignments: Seq<Assignment>,
         filter: Option<Cond>,
     ) -> Result<Answer, Fault>
-        requires drawn { self.old.drawn < 2 ^ 64 - 1 }
-        requires bound { CanCarryOut self.old.tables self.old.views (commands.Update table assignments filter) }
-        ensures done { CarriesOut self.old (commands.Update table assignments filter) result self.new }
-        ensures rows { OnlyShows self.old result self.new }
+        requires drawn { self.old.state.drawn < 2 ^ 64 - 1 }
+        requires bound { CanCarryOut self.old.state.tables self.old.state.views (commands.Update table assignments filter) }
+        ensures done { CarriesOut self.old.state (commands.Update table assignments filter) result self.new.state }
+        ensures rows { OnlyShows self.old.state result self.new.state }
     {
         let epoch = self.writes + 1;
         let updated = update_in(
@@ -295,9 +318,9 @@ impl Engine {
 
     /// The rows go on to columns where they are read faster; none of them changes.
     fn move_rows(&mut self, table: u64, rows: u128) -> Result<Answer, Fault>
-        requires { CanCarryOut self.old.tables self.old.views (commands.Move table rows) }
-        ensures done { CarriesOut self.old (commands.Move table rows) result self.new }
-        ensures rows { OnlyShows self.old result self.new }
+        requires { CanCarryOut self.old.state.tables self.old.state.views (commands.Move table rows) }
+        ensures done { CarriesOut self.old.state (commands.Move table rows) result self.new.state }
+        ensures rows { OnlyShows self.old.state result self.new.state }
     {
         move_in(self.alloc, &mut self.tables, table, rows)?;
         Ok(Answer::Done)
@@ -305,7 +328,7 @@ impl Engine {
 
     /// Rows in columns are taken away at once, so that nothing has to be merged.
     fn merge(&self, _table: u64) -> Answer
-        ensures { CarriesOut self.now (commands.Merge _table) (Ok result) self.now }
+        ensures { CarriesOut self.now.state (commands.Merge _table) (Ok result) self.now.state }
     {
         let _views = &self.views;
         Answer::Done
@@ -313,15 +336,15 @@ impl Engine {
 
     /// Each view has taken in each write, so that none has to be taken on.
     fn refresh(&self, _view: usize, _changes: u128) -> Answer
-        ensures { CarriesOut self.now (commands.Refresh _view _changes) (Ok result) self.now }
+        ensures { CarriesOut self.now.state (commands.Refresh _view _changes) (Ok result) self.now.state }
     {
         let _views = &self.views;
         Answer::Done
     }
 
     fn select(&self, header: Seq<Text>, query: Query, order: Order) -> Result<Answer, Fault>
-        requires { CanCarryOut self.now.tables self.now.views (commands.Select header query order) }
-        ensures { CarriesOut self.now (commands.Select header query order) result self.now }
+        requires { CanCarryOut self.now.state.tables self.now.state.views (commands.Select header query order) }
+        ensures { CarriesOut self.now.state (commands.Select header query order) result self.now.state }
     {
         let selected = select_from(self.alloc, &self.tables, &self.views, &query, &order);
         drop(query);

@@ -96,3 +96,63 @@ fn the_catalog_tells_a_table_and_a_view(rt: HostRuntime) -> Result<(), Fail> {
     drop(engine);
     told
 }
+
+/// Tables, and a view on two of them.
+const JOINED: &[&str] = &[
+    "CREATE TABLE t(k INTEGER, a INTEGER)",
+    "CREATE TABLE u(k INTEGER, b INTEGER)",
+    "CREATE TABLE w(k INTEGER)",
+    "INSERT INTO t VALUES (1,5)",
+    "INSERT INTO u VALUES (1,2)",
+    "CREATE VIEW v AS SELECT t.a AS a, u.b AS b FROM t JOIN u ON t.k = u.k",
+];
+
+/// A write, and whether it changes the view.
+const WRITES: &[(&str, bool)] = &[
+    ("INSERT INTO t VALUES (1,7)", true),
+    ("INSERT INTO w VALUES (1)", false),
+    ("DELETE FROM u WHERE k = 1", true),
+];
+
+fn work_rises(rt: &impl Abort, alloc: Global, engine: &mut Engine) -> Result<(), Fail> {
+    let mut before = engine.view_work("v").ok_or("no view")?;
+    assert!(rt; before == 0);
+    for (statement, changes) in WRITES {
+        drop(carry_out(rt, alloc, engine, statement)?);
+        let work = engine.view_work("v").ok_or("no view")?;
+        assert!(rt;
+            if *changes {
+                before < work
+            } else {
+                before == work
+            },
+            "{statement}"
+        );
+        before = work;
+    }
+    Ok(())
+}
+
+fn tells_what_is_stored(rt: &impl Abort, engine: &Engine) -> Result<(), Fail> {
+    let view = engine.view_state("v").ok_or("no view")?;
+    assert!(rt; view.built() == 2 && view.epoch() == 5);
+    assert!(rt; view.columns().len() == 2 && Some(view.work()) == engine.view_work("v"));
+    assert!(rt; engine.view_state("w").is_none() && engine.view_work("w").is_none());
+    Ok(())
+}
+
+fn count_work(rt: &impl Abort, alloc: Global, engine: &mut Engine) -> Result<(), Fail> {
+    for statement in JOINED {
+        drop(carry_out(rt, alloc, engine, statement)?);
+    }
+    work_rises(rt, alloc, engine)?;
+    tells_what_is_stored(rt, engine)
+}
+
+#[test]
+fn a_view_counts_the_writes_that_change_it(rt: HostRuntime) -> Result<(), Fail> {
+    let mut engine = engine(rt.alloc())?;
+    let counted = count_work(&rt, rt.alloc(), &mut engine);
+    drop(engine);
+    counted
+}

@@ -6,7 +6,7 @@ use Rattle.cq_cli.proofs.running.run_text.Given as goal
 abbrev pub invariant-loop-piece : goal.invariant-loop-piece
 invariant-loop-piece g l =
     HasRun (g.S.Sources.files l.fn.sources) l.fn.limits.max_rows l.script l.pieces (g.K.Sink.contents l.fn.out) (g.K.Sink.contents l.out) (g.K.Sink.failures l.fn.out) (g.K.Sink.failures l.out)
-    (g.S.Sources.failures l.fn.sources) (g.S.Sources.failures l.sources) l.engine l.status
+    (g.S.Sources.failures l.fn.sources) (g.S.Sources.failures l.sources) l.engine.state l.status
     × (g.S.Sources.files l.sources ≡ g.S.Sources.files l.fn.sources)
 
 abbrev pub decreases-loop-piece : goal.decreases-loop-piece

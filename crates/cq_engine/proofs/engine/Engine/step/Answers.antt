@@ -41,7 +41,7 @@ returns-clause-step g c =
     let bound = passed_over over.0 (alone tables (views_of views)) c.args.command.now _ _ c.in_ok-bound.bound over.2 in
     let done = rw (← c.self.view_is) at c.carry_out.ensures.done in
     rw (← c.self.view_is)
-    (over.0, over.1, carried over.0 tables (views_of views) c.self.inside.writes c.self.inside.drawn c.self.inside.limits.max_rows (all_at tables c.self.inside.writes views c.self.invariant.3) c.self.invariant.1 c.args.command.now c.in_ok-bound.bound bound.1 bound.2 c.carry_out.result c.carry_out.new.self done)
+    (over.0, over.1, carried over.0 tables (views_of views) c.self.inside.writes c.self.inside.drawn c.self.inside.limits.max_rows (all_at tables c.self.inside.writes views c.self.invariant.3) c.self.invariant.1 c.args.command.now c.in_ok-bound.bound bound.1 bound.2 c.carry_out.result c.carry_out.new.self.state done)
 
 pub returns-clause-failures : goal.returns-clause-failures
 returns-clause-failures g c =
@@ -51,4 +51,4 @@ returns-clause-failures g c =
     let bound = passed_over over.0 (alone tables (views_of views)) c.args.command.now _ _ c.in_ok-bound.bound over.2 in
     let done = rw (← c.self.view_is) at c.carry_out.ensures.done in
     grown_by_none _ _ _ bound.0
-    (carried_counts over.0 tables (views_of views) c.self.inside.writes c.self.inside.drawn c.self.inside.limits.max_rows (all_at tables c.self.inside.writes views c.self.invariant.3) c.self.invariant.1 c.args.command.now c.in_ok-bound.bound bound.1 bound.2 c.carry_out.result c.carry_out.new.self done)
+    (carried_counts over.0 tables (views_of views) c.self.inside.writes c.self.inside.drawn c.self.inside.limits.max_rows (all_at tables c.self.inside.writes views c.self.invariant.3) c.self.invariant.1 c.args.command.now c.in_ok-bound.bound bound.1 bound.2 c.carry_out.result c.carry_out.new.self.state done)
