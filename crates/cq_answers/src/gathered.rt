@@ -14,6 +14,7 @@ use cq_binding::Fault;
 use cq_columns::Stored;
 use cq_deltas::ShowFault;
 use cq_model::{Query, Source};
+use cq_rows::RowList;
 use cq_sources::StoredSource;
 use cq_tables::{Table, View, place_numbered};
 use cq_values::{Row, Seq};
@@ -60,16 +61,19 @@ fn gather_one(alloc: Global, views: &[View], source: Source) -> Result<Gathered,
 {
     let shown = match source {
         Source::Table(_) => Seq::new(alloc),
-        Source::View(place) => Seq::from_vec(rows_shown(alloc, &views[place as usize])?),
+        Source::View(place) => {
+            let rows = rows_shown(alloc, &views[place as usize])?;
+            Seq::from_vec(rows.into_rows(alloc)?)
+        }
     };
     Ok(Gathered { source, shown })
 }
 
 /// The rows that a view shows.
-pub fn rows_shown(alloc: Global, view: &View) -> Result<Vec<Row>, Fault>
+pub fn rows_shown(alloc: Global, view: &View) -> Result<RowList, Fault>
     requires { IsBacked view.now }
-    ensures ok { IfOk result (λ rows. AreRowsOf view.now.kept rows.items) }
-    ensures sized { IfOk result (λ rows. HaveColumnsOf view.now.kept rows.items) }
+    ensures ok { IfOk result (λ rows. AreRowsOf view.now.kept rows) }
+    ensures sized { IfOk result (λ rows. HaveColumnsOf view.now.kept rows) }
     ensures range { OnOk result (IsShown view.now.kept) }
     ensures fault { IfErr result (IsShowFault view.now.kept) }
 {

@@ -23,9 +23,9 @@ use cq_laws::{groups_keep_sizes, joined_rows_keep_sizes, meaning_depends_on_sour
 use cq_model::{Order, Query, Shape, Source};
 use cq_operators::select;
 use cq_plan::{chain_of_lists, own_conditions_are_exact};
+use cq_rows::RowList;
 use cq_sources::{StoredSource, rows_of};
 use cq_tables::{Table, View, place_numbered};
-use cq_values::{Row, Seq};
 use std::alloc::{AllocError, Global};
 
 /// The listing of a query on the tables and views that it names. Rows of one source are read where they are, unless they
@@ -36,7 +36,7 @@ pub fn select_from(
     views: &[View],
     query: &Query,
     order: &Order,
-) -> Result<Seq<Row>, Fault>
+) -> Result<RowList, Fault>
     requires numbered { (next : ℕ) × AreNumbered tables.now next }
     requires fitting { AreFitting tables.now }
     requires few { AreLimited rows_limit tables.now }
@@ -65,7 +65,7 @@ fn select_alone(
     views: &[View],
     query: &Query,
     order: &Order,
-) -> Result<Seq<Row>, Fault>
+) -> Result<RowList, Fault>
     requires numbered { (next : ℕ) × AreNumbered tables.now next }
     requires fitting { AreFitting tables.now }
     requires few { AreLimited rows_limit tables.now }
@@ -89,7 +89,7 @@ fn select_from_view(
     view: &View,
     query: &Query,
     order: &Order,
-) -> Result<Seq<Row>, Fault>
+) -> Result<RowList, Fault>
     requires backed { IsBacked view.now }
     requires within { IsWithinSized (column_sizes view.now.kept.query) query.now }
     ensures { SelectsKept query.now order.now view.now result }
@@ -105,7 +105,7 @@ fn select_joined(
     views: &[View],
     query: &Query,
     order: &Order,
-) -> Result<Seq<Row>, Fault>
+) -> Result<RowList, Fault>
     requires numbered { (next : ℕ) × AreNumbered tables.now next }
     requires fitting { AreFitting tables.now }
     requires few { AreLimited rows_limit tables.now }
@@ -126,7 +126,7 @@ fn list_answer(
     lent: &[StoredSource<'_>],
     query: &Query,
     order: &Order,
-) -> Result<Seq<Row>, Fault>
+) -> Result<RowList, Fault>
     requires { CanAnswer lent.now query.now }
     ensures { SelectsLent query.now order.now lent.now result }
 {
@@ -158,7 +158,7 @@ fn list_joined(
     order: &Order,
     first: Stored<'_>,
     others: &[Stored<'_>],
-) -> Result<Seq<Row>, Fault>
+) -> Result<RowList, Fault>
     requires can { CanAnswer lent.now query.now }
     requires first { all_rows first ≡ rows_or lent.now query.now.first [] }
     requires others { AreOthers lent.now query.now others.now }
@@ -170,7 +170,7 @@ fn list_joined(
     groups_keep_sizes();
     own_conditions_are_exact();
     match select(alloc, query, order, &first, others) {
-        Ok(rows) => Ok(Seq::from_vec(rows)),
+        Ok(rows) => Ok(RowList::listed(rows)),
         Err(GroupFault::Memory) => Err(Fault::Memory),
         Err(GroupFault::SumOutOfRange) => Err(Fault::SumOutOfRange),
     }

@@ -8,11 +8,12 @@ ghost use Rattle.cq_answers.specs.Narrow.{IsWithin};
 ghost use Rattle.cq_answers.specs.Selects.{AreListed, shown_rows};
 
 use cq_columns::Stored;
+use cq_listing::is_listed;
 use cq_model::{Order, Query};
 use cq_operators::{ExecFault, listed_rows, rows_in_order};
 use cq_plan::Plan;
+use cq_rows::RowList;
 use cq_upkeep::show_whole_rows;
-use cq_values::{Row, Seq};
 use std::alloc::Global;
 
 /// The listing of what the items show of the rows that WHERE keeps. Where LIMIT allows few rows, few are made.
@@ -21,13 +22,13 @@ pub fn list(
     query: &Query,
     order: &Order,
     rows: Stored<'_>,
-) -> Result<Seq<Row>, ExecFault>
+) -> Result<RowList, ExecFault>
     requires { AllByRecursion (IsWithin query.now) (all_rows rows) }
     ensures { IfOk result (AreListed order.now (once_each (shown_rows query.now (all_rows rows.entry)))) }
 {
     let plan = Plan::of(alloc, query)?;
     let list = listed_rows(alloc, &plan, order, rows)?;
-    Ok(Seq::from_vec(list))
+    Ok(RowList::listed(list))
 }
 
 /// The same of rows that are made. Where all are shown as they are, they are listed themselves, and none is copied.
@@ -35,20 +36,33 @@ pub fn list_made(
     alloc: Global,
     query: &Query,
     order: &Order,
-    rows: Vec<Row>,
-) -> Result<Seq<Row>, ExecFault>
-    requires { AllByRecursion (IsWithin query.now) rows.items }
-    ensures { IfOk result (AreListed order.now (once_each (shown_rows query.now rows.items))) }
+    rows: RowList,
+) -> Result<RowList, ExecFault>
+    requires { AllByRecursion (IsWithin query.now) rows }
+    ensures { IfOk result (AreListed order.now (once_each (shown_rows query.now rows))) }
 {
     if shows_all(query, &rows) {
-        Ok(Seq::from_vec(rows_in_order(alloc, order, rows)?))
+        list_whole(alloc, order, rows)
     } else {
+        let rows = rows.into_rows(alloc)?;
         list(alloc, query, order, Stored::of(&rows))
     }
 }
 
+/// The listing of rows that are all shown as they are. Where they are in order and no LIMIT cuts them, they stay.
+fn list_whole(alloc: Global, order: &Order, rows: RowList) -> Result<RowList, ExecFault>
+    ensures { IfOk result (AreListed order.now (once_each rows)) }
+{
+    if order.limit.is_none() && is_listed(order.keys.as_slice(), &rows) {
+        Ok(rows)
+    } else {
+        let rows = rows.into_rows(alloc)?;
+        Ok(RowList::listed(rows_in_order(alloc, order, rows)?))
+    }
+}
+
 /// Whether the query shows all of the rows, and each as it is.
-fn shows_all(query: &Query, rows: &[Row]) -> bool
+fn shows_all(query: &Query, rows: &RowList) -> bool
     ensures { OnTrue result (shown_rows query.now rows.now ≡ rows.now) }
 {
     if query.filter.is_some() {

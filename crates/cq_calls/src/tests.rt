@@ -6,6 +6,7 @@ mod expressions;
 mod faults;
 mod groups;
 mod narrow_queries;
+mod orders;
 mod pieces;
 mod records;
 mod results;

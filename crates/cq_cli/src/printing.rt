@@ -44,7 +44,7 @@ pub fn shown(alloc: Global, outcome: Result<Answer, Fault>) -> Printed
         Ok(Answer::Done) => Printed::Done,
         Ok(Answer::Count(n)) => Printed::Count(n),
         Ok(Answer::Rows { header, rows }) => {
-            match print_result(alloc, header.as_slice(), rows.as_slice()) {
+            match print_result(alloc, header.as_slice(), &rows) {
                 Ok(text) => Printed::Rows(text),
                 Err(TextFault::Memory) => Printed::Refused(Fault::Memory),
             }

@@ -6,6 +6,7 @@ use cq_binding::{Bound, Fault};
 use cq_cli::NoSources;
 use cq_engine::{Engine, Limits};
 use cq_plain::PlainFault;
+use cq_rows::RowList;
 use cq_sql::{parse, split};
 use cq_steps::Answer;
 use cq_values::Row;
@@ -104,7 +105,7 @@ fn check_alike(
     match (answer, meant) {
         (Err(Fault::SumOutOfRange), Err(PlainFault::SumOutOfRange)) => Ok(true),
         (Ok(Answer::Rows { rows, .. }), Ok(meant)) => {
-            if rows.as_slice() == meant.as_slice() {
+            if are_meant(rows, meant) {
                 Ok(true)
             } else {
                 Err(Difference::Answer)
@@ -114,4 +115,16 @@ fn check_alike(
         (_, Err(fault)) => Err(Difference::NotWorkedOut(*fault)),
         _ => Err(Difference::Answer),
     }
+}
+
+fn are_meant(rows: &RowList, meant: &[Row]) -> bool {
+    if rows.len() != meant.len() {
+        return false;
+    }
+    for (place, row) in meant.iter().enumerate() {
+        if rows.row(place) != row.as_slice() {
+            return false;
+        }
+    }
+    true
 }

@@ -7,13 +7,14 @@ ghost use Rattle.cq_printed.specs.Printed.{line_text, row_text, rows_text};
 use crate::fault::TextFault;
 use crate::fields::Field;
 use crate::lines::Lines;
-use cq_values::{Row, Seq, Text};
+use cq_rows::RowList;
+use cq_values::{Seq, Text};
 use itoa::Buffer;
 use std::alloc::Global;
 
 /// The text of a result: how many rows there are, the header, and the rows as CSV.
 #[tactic(auto, unfolding(cq_printed::specs::Printed::rows_text))]
-pub fn print_result(alloc: Global, header: &[Text], rows: &[Row]) -> Result<Seq<u8>, TextFault>
+pub fn print_result(alloc: Global, header: &[Text], rows: &RowList) -> Result<Seq<u8>, TextFault>
     ensures { IfOk result (λ t. t ≡ rows_text header.now rows.now) }
 {
     let mut buffer = Buffer::new();
@@ -26,11 +27,11 @@ pub fn print_result(alloc: Global, header: &[Text], rows: &[Row]) -> Result<Seq<
     Ok(Seq::from_vec(lines.into_text()?))
 }
 
-fn add_rows(lines: &mut Lines, rows: &[Row]) -> Result<(), TextFault>
+fn add_rows(lines: &mut Lines, rows: &RowList) -> Result<(), TextFault>
     ensures { OnOk result (AddsLines (flat_map row_text rows.now) lines.old lines.new) }
 {
-    for row in rows {
-        add_line(lines, row.as_slice())?;
+    for place in 0..rows.len() {
+        add_line(lines, rows.row(place))?;
     }
     Ok(())
 }

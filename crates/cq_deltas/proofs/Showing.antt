@@ -51,11 +51,13 @@ module _ (xs : List Aggregate) (kept : List Stored) (i : ℕ) (a : Aggregate) (k
   seen_at : get_or (map seen kept) i (seen k) ≡ seen k
   seen_at = get_or-map seen kept i k (seen k) in_kept ∙ ap seen (sym is_k)
 
-  pub row-more : (key row : Row) (v : Value) → row ≡ shown_row (take i xs) key (take i (map seen kept)) → v ≡ kept_value a (seen k)
-      → row ++ v ∷ [] ≡ shown_row (take (i + 1) xs) key (take (i + 1) (map seen kept))
-  row-more key row v so_far is =
+  pub row-more : (begun key row : Row) (v : Value) → row ≡ begun ++ shown_row (take i xs) key (take i (map seen kept)) → v ≡ kept_value a (seen k)
+      → row ++ v ∷ [] ≡ begun ++ shown_row (take (i + 1) xs) key (take (i + 1) (map seen kept))
+  row-more begun key row v so_far is =
+      let values : Row = shown_values (take i xs) (take i (map seen kept)) in
+      let more : Row = kept_value a (seen k) ∷ [] in
       rw (add-one i, values-more xs (map seen kept) i a (seen k) in_list in_seen, sym is_a, seen_at, so_far, is)
-      (append_assoc key (shown_values (take i xs) (take i (map seen kept))) (kept_value a (seen k) ∷ []))
+      (append_assoc begun (key ++ values) more ∙ ap (λ vs. begun ++ vs) (append_assoc key values more))
 
   pub range-more : AllCanBeShown (take i xs) (take i (map seen kept)) → CanBeShown a (seen k) → AllCanBeShown (take (i + 1) xs) (take (i + 1) (map seen kept))
   range-more all can =
@@ -65,8 +67,8 @@ module _ (xs : List Aggregate) (kept : List Stored) (i : ℕ) (a : Aggregate) (k
   range-at all = rw (sym is_a, seen_at) at (can-at xs (map seen kept) i a (seen k) in_list in_seen all)
 
 module _ (xs : List Aggregate) (kept : List Stored) (n : ℕ) (at_end : min (length xs) (length kept) ≤ n) where
-  pub row-done : (key row : Row) → row ≡ shown_row (take n xs) key (take n (map seen kept)) → row ≡ shown_row xs key (map seen kept)
-  row-done key row so_far = so_far ∙ ap (λ vs. key ++ vs) (values-all xs (map seen kept) n (omega (arith, at_end, length-map kept seen)))
+  pub row-done : (begun key row : Row) → row ≡ begun ++ shown_row (take n xs) key (take n (map seen kept)) → row ≡ begun ++ shown_row xs key (map seen kept)
+  row-done begun key row so_far = so_far ∙ ap (λ vs. begun ++ (key ++ vs)) (values-all xs (map seen kept) n (omega (arith, at_end, length-map kept seen)))
 
   pub range-done : AllCanBeShown (take n xs) (take n (map seen kept)) → AllCanBeShown xs (map seen kept)
   range-done all = can-all xs (map seen kept) n (omega (arith, at_end, length-map kept seen)) all

@@ -85,7 +85,7 @@ pub(crate) fn addends_of(
     ensures ok { IfOk result (λ addends. addends ≡ map (addend_of row.now) aggregates.now) }
     ensures small { OnOk result (AllByRecursion (IsSmall row.now) aggregates.now) }
 {
-    let mut addends = Vec::new(alloc);
+    let mut addends = Vec::with_capacity(alloc, aggregates.len())?;
     for aggregate in aggregates {
         addends.push(addend_of(alloc, aggregate, row)?)?;
     }

@@ -1,7 +1,7 @@
 //! A group: how many rows it has, and what is kept of its aggregates.
 ghost use Rattle.std.specs.List.{AllByRecursion};
 ghost use Rattle.std.specs.Ordering.{int_eq};
-ghost use Rattle.std.specs.Prelude.{nat_abs, pos, ◌≡◌, [], IfErr, IfOk, OnOk, map};
+ghost use Rattle.std.specs.Prelude.{nat_abs, pos, ◌++◌, ◌≡◌, [], IfErr, IfOk, OnOk, map};
 ghost use Rattle.cq_kept.specs.Kept.{group_of, shown_row};
 ghost use Rattle.cq_deltas.specs.declared.fault.ShowFault.TheVariants.{SumOutOfRange};
 ghost use Rattle.cq_deltas.specs.Shown.{AllCanBeShown, GroupCanBeShown};
@@ -11,6 +11,7 @@ use crate::change::Addend;
 use crate::fault::ShowFault;
 use crate::kept::Kept;
 use cq_model::Aggregate;
+use cq_rows::FlatRows;
 use cq_values::Row;
 use std::alloc::{AllocError, Global};
 
@@ -26,7 +27,7 @@ impl Group {
     pub(crate) fn empty(alloc: Global, aggregates: &[Aggregate]) -> Result<Group, AllocError>
         ensures { IfOk result (λ g. seen_group g ≡ group_of aggregates.now []) }
     {
-        let mut kept = Vec::new(alloc);
+        let mut kept = Vec::with_capacity(alloc, aggregates.len())?;
         for aggregate in aggregates {
             kept.push(Kept::empty(alloc, aggregate))?;
         }
@@ -77,18 +78,20 @@ impl Group {
         settle_all(&mut self.kept, addends);
     }
 
-    /// The row that the group shows: its key, and then its aggregates.
-    pub fn shown(
+    /// Puts what the group shows at the end of the row that is begun: its key, and then its aggregates.
+    pub fn show(
         &self,
         alloc: Global,
         aggregates: &[Aggregate],
         key: &Row,
-    ) -> Result<Row, ShowFault>
-        ensures row { IfOk result (λ row. row ≡ shown_row aggregates.now key.now (seen_group self.now).kept) }
+        rows: &mut FlatRows,
+    ) -> Result<(), ShowFault>
+        ensures rows { OnOk result (rows.new.rows ≡ rows.old.rows) }
+        ensures begun { OnOk result (rows.new.begun ≡ rows.old.begun ++ shown_row aggregates.now key.now (seen_group self.now).kept) }
         ensures range { OnOk result (GroupCanBeShown aggregates.now self.now) }
         ensures fault { IfErr result (λ e. e ≡ SumOutOfRange → GroupCanBeShown aggregates.now self.now → ⊥) }
     {
-        shown_row(alloc, aggregates, key, &self.kept)
+        shown_row(alloc, aggregates, key, &self.kept, rows)
     }
 }
 
@@ -97,19 +100,20 @@ fn shown_row(
     aggregates: &[Aggregate],
     key: &Row,
     kept: &[Kept],
-) -> Result<Row, ShowFault>
-    ensures row { IfOk result (λ row. row ≡ shown_row aggregates.now key.now (map seen kept.now)) }
+    rows: &mut FlatRows,
+) -> Result<(), ShowFault>
+    ensures rows { OnOk result (rows.new.rows ≡ rows.old.rows) }
+    ensures begun { OnOk result (rows.new.begun ≡ rows.old.begun ++ shown_row aggregates.now key.now (map seen kept.now)) }
     ensures range { OnOk result (AllCanBeShown aggregates.now (map seen kept.now)) }
     ensures fault { IfErr result (λ e. e ≡ SumOutOfRange → AllCanBeShown aggregates.now (map seen kept.now) → ⊥) }
 {
+    rows.push_copies(alloc, key.as_slice())?;
     let len = aggregates.len().min(kept.len());
-    let mut row = Row::with_capacity(alloc, key.len().saturating_add(len))?;
-    row.push_copies(alloc, key.as_slice())?;
     for place in 0..len {
         let value = kept[place].value(alloc, &aggregates[place])?;
-        row.push(value)?;
+        rows.push(value)?;
     }
-    Ok(row)
+    Ok(())
 }
 
 /// Makes room for each argument of a row in what is kept of its aggregate.

@@ -19,6 +19,7 @@ use crate::fault::ShowFault;
 use crate::group::Group;
 use cq_eval::key_of;
 use cq_model::Aggregate;
+use cq_rows::FlatRows;
 use cq_values::{Row, Value};
 use indexmap::IndexMap;
 use indexmap::map::Iter;
@@ -129,6 +130,15 @@ impl Groups {
         }
     }
 
+    /// Puts the groups in the order of their keys, where there is memory for it. No order is
+    /// promised.
+    pub fn sort(&mut self) -> Result<(), AllocError>
+        ensures { (k : Values) → stored_at self.new k ≡ stored_at self.old k }
+    {
+        self.groups
+            .sort_unstable_by(|a, _, b, _| a.as_slice().cmp(b.as_slice()))
+    }
+
     /// The groups with their keys, also those without rows that were made for a change that never came.
     pub fn iter(&self) -> Iter<'_, Row, Group>
         ensures entries { result ≡ self.now }
@@ -138,13 +148,15 @@ impl Groups {
     }
 
     /// The row of each group that has rows.
-    pub fn shown_rows(&self, alloc: Global, aggregates: &[Aggregate]) -> Result<Vec<Row>, ShowFault>
-        ensures rows { IfOk result (λ rows. rows.items ≡ group_rows aggregates.now self.now) }
+    pub fn shown_rows(&self, alloc: Global, aggregates: &[Aggregate]) -> Result<FlatRows, ShowFault>
+        ensures rows { IfOk result (λ flat. flat.rows ≡ group_rows aggregates.now self.now) }
+        ensures begun { IfOk result (λ flat. flat.begun ≡ []) }
         ensures keys { ListsKeys (counted_keys self.now) (ByKey (group_at aggregates.now self.now)) }
         ensures range { OnOk result (GroupsCanBeShown aggregates.now self.now) }
         ensures fault { IfErr result (λ e. e ≡ SumOutOfRange → GroupsCanBeShown aggregates.now self.now → ⊥) }
     {
-        let mut rows = Vec::with_capacity(alloc, self.groups.len())?;
+        let width = self.row_width(aggregates);
+        let mut rows = FlatRows::with_capacity(alloc, self.groups.len(), width)?;
         for place in 0..self.groups.len() {
             match self.groups.get_index(place) {
                 Some((key, group)) => push_shown(alloc, aggregates, key, group, &mut rows)?,
@@ -152,6 +164,14 @@ impl Groups {
             }
         }
         Ok(rows)
+    }
+
+    /// How many values a group's row has. All keys have as many as the first.
+    fn row_width(&self, aggregates: &[Aggregate]) -> usize {
+        match self.groups.get_index(0) {
+            Some((key, _)) => key.len().saturating_add(aggregates.len()),
+            None => 0,
+        }
     }
 
     /// Puts the rows of a change in their groups.
@@ -245,14 +265,17 @@ fn push_shown(
     aggregates: &[Aggregate],
     key: &Row,
     group: &Group,
-    rows: &mut Vec<Row>,
+    rows: &mut FlatRows,
 ) -> Result<(), ShowFault>
-    ensures rows { OnOk result (rows.new.items ≡ rows.old.items ++ entry_row aggregates.now key.now group.now) }
+    requires { rows.old.begun ≡ [] }
+    ensures rows { OnOk result (rows.new.rows ≡ rows.old.rows ++ entry_row aggregates.now key.now group.now) }
+    ensures begun { OnOk result (rows.new.begun ≡ []) }
     ensures range { OnOk result (EntryCanBeShown aggregates.now key.now group.now) }
     ensures fault { IfErr result (λ e. e ≡ SumOutOfRange → EntryCanBeShown aggregates.now key.now group.now → ⊥) }
 {
     if group.count() > 0 {
-        rows.push(group.shown(alloc, aggregates, key)?)?;
+        group.show(alloc, aggregates, key, rows)?;
+        rows.end_row()?;
     }
     Ok(())
 }

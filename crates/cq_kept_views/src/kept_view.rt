@@ -18,9 +18,10 @@ use crate::filling::filled;
 use cq_deltas::ShowFault;
 use cq_model::Query;
 use cq_narrow::{NarrowQuery, SourceColumns};
+use cq_rows::RowList;
 use cq_sources::StoredSource;
 use cq_upkeep::{Pending, ViewState, column_sizes, reads};
-use cq_values::{Row, Seq};
+use cq_values::Seq;
 use std::alloc::{AllocError, Global};
 
 /// A view as it is kept: its query, how many columns its sources have, which of them it reads, and the state of the
@@ -151,10 +152,10 @@ impl KeptView {
     }
 
     /// The rows of the view, in no order that is promised. It costs what the view holds, and no table is read.
-    pub fn rows(&self, alloc: Global) -> Result<Vec<Row>, ShowFault>
+    pub fn rows(&self, alloc: Global) -> Result<RowList, ShowFault>
         requires { CanShow self.now }
-        ensures bag { IfOk result (λ rows. AreRowsOf self.now rows.items) }
-        ensures sized { IfOk result (λ rows. AllByRecursion (HasSizes (column_sizes self.now.query)) rows.items) }
+        ensures bag { IfOk result (λ rows. AreRowsOf self.now rows) }
+        ensures sized { IfOk result (λ rows. AllByRecursion (HasSizes (column_sizes self.now.query)) rows) }
         ensures range { OnOk result (IsShown self.now) }
         ensures fault { IfErr result (λ e. e ≡ SumOutOfRange → IsNotShown self.now) }
     {

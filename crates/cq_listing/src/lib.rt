@@ -12,4 +12,5 @@ mod packed;
 mod places;
 mod ranks;
 
+pub use arranging::is_listed;
 pub use listing::Listing;

@@ -1,5 +1,6 @@
 //! What an accepted statement is answered with.
-use cq_values::{Row, Seq, Text};
+use cq_rows::RowList;
+use cq_values::{Seq, Text};
 
 /// An answer.
 #[derive(Debug, Drop)]
@@ -9,5 +10,5 @@ pub enum Answer {
     /// So many rows were written.
     Count(u64),
     /// The rows of a result in their order, below the names of its columns.
-    Rows { header: Seq<Text>, rows: Seq<Row> },
+    Rows { header: Seq<Text>, rows: RowList },
 }

@@ -16,8 +16,9 @@ ghost use Rattle.cq_tables.specs.Taking.{CanTake, HasTaken, IsReadyFor, IsSame};
 use cq_deltas::ShowFault;
 use cq_kept_views::{KeptView, TableChange};
 use cq_model::Query;
+use cq_rows::RowList;
 use cq_upkeep::Pending;
-use cq_values::{ColumnDef, Row, Seq, Text};
+use cq_values::{ColumnDef, Seq, Text};
 use std::alloc::{AllocError, Global};
 use std::marker::Model;
 
@@ -120,10 +121,10 @@ impl View {
     }
 
     /// The rows of the view. It costs what the view holds, and no table is read.
-    pub fn rows(&self, alloc: Global) -> Result<Vec<Row>, ShowFault>
+    pub fn rows(&self, alloc: Global) -> Result<RowList, ShowFault>
         requires { CanShow self.now.kept }
-        ensures bag { IfOk result (λ rows. AreRowsOf self.now.kept rows.items) }
-        ensures sized { IfOk result (λ rows. AllByRecursion (HasSizes (column_sizes self.now.kept.query)) rows.items) }
+        ensures bag { IfOk result (λ rows. AreRowsOf self.now.kept rows) }
+        ensures sized { IfOk result (λ rows. AllByRecursion (HasSizes (column_sizes self.now.kept.query)) rows) }
         ensures range { OnOk result (IsShown self.now.kept) }
         ensures fault { IfErr result (λ e. e ≡ SumOutOfRange → IsNotShown self.now.kept) }
     {

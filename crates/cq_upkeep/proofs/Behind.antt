@@ -1,12 +1,12 @@
 -- What stands behind the joins goes on with each change of the joined rows.
-use Rattle.std.proofs.Common.{◌≡◌, ◌∙◌, ℕ, List, [], ◌++◌, Option, sym, subst, arith}
+use Rattle.std.proofs.Common.{◌≡◌, ◌∙◌, ℕ, List, [], ◌++◌, Option, unwrap_or, sym, ap, subst, arith}
 use Rattle.std.proofs.lemmas.Int.{ints}
 use Rattle.cq_values.specs.Value.{Row}
 use Rattle.cq_bags.proofs.Bags.{projected-respects}
 use Rattle.cq_bags.proofs.Linears.{projected-append}
 use Rattle.cq_bags.proofs.Totals.{weight_of-append}
 use Rattle.cq_bags.specs.Bag.{Weighted, SameBag, IsBag, projected}
-use Rattle.cq_kept.specs.Kept.{Groups, Images, Last, LastStands}
+use Rattle.cq_kept.specs.Kept.{Group, Groups, Images, Last, LastStands, group_of}
 use Rattle.cq_laws.proofs.Keeps.{built_last-stands}
 use Rattle.cq_model.specs.Expr.{Cond}
 use Rattle.cq_model.specs.Meaning.{items_of}
@@ -16,7 +16,7 @@ use Rattle.cq_model.specs.declared.query.Shape.{Shape}
 use Rattle.cq_model.specs.declared.query.Shape.TheVariants.{Plain, Grouped}
 use Rattle.cq_sides.specs.Held.{Held}
 use Rattle.cq_deltas.specs.Additions.{Addition, additions}
-use Rattle.cq_deltas.specs.Keyed.{GroupsGoOn, KeyedGroups, additions_at, group_at}
+use Rattle.cq_deltas.specs.Keyed.{GroupsGoOn, KeyedGroups, additions_at, group_at, stored_at}
 use Rattle.cq_deltas.specs.declared.change.Placed.{Placed}
 use Rattle.cq_upkeep.specs.Last.{GoesOn, StandsBehind, seen}
 use Rattle.cq_upkeep.specs.Query.{aggregates_in, aggregates_of, keys_in}
@@ -72,6 +72,12 @@ seen-stands query old new same xs stands = subst (λ (last : Last). LastStands q
 pub groups-alike : (aggregates : List Aggregate) (old new : KeyedGroups) → ((k : Row) → group_at aggregates new k ≡ group_at aggregates old k)
     → seen aggregates (stored.Groups new) ≡ seen aggregates (stored.Groups old)
 groups-alike aggregates old new same = λ i. Groups (λ k. same k i)
+
+-- so are those of which the same is stored by key
+pub stored-alike : (aggregates : List Aggregate) (old new : KeyedGroups) → ((k : Row) → stored_at new k ≡ stored_at old k)
+    → seen aggregates (stored.Groups new) ≡ seen aggregates (stored.Groups old)
+stored-alike aggregates old new same =
+    groups-alike aggregates old new (λ k. ap (λ (o : Option Group). unwrap_or o (group_of aggregates [])) (same k))
 
 -- so it does where the old one and the change are named otherwise
 pub taken-as : (old old' : Stored) (more more' : LastChange) (new : Stored) → old' ≡ old → more' ≡ more → GoesOn old more new → GoesOn old' more' new

@@ -4,6 +4,7 @@ pub mod Filtering
 pub mod Fitting
 pub mod Groups
 pub mod Imaging
+pub mod InTurn
 pub mod Joining
 pub mod Limits
 pub mod Listing

@@ -1,9 +1,9 @@
 -- Items that are columns, each at its place, show a row of so many values as it is.
 use Rattle.std.proofs.Common.{◌≡◌, ℕ, ◌+◌, ◌<◌, Bool, true, false, List, [], ◌∷◌, length, map, get_or, Some, slice_get, refl, sym, ◌∙◌, ap, ap₂, subst, arith}
-use Rattle.std.specs.Prelude.{◌==◌, nat_lt}
+use Rattle.std.specs.Prelude.{nat_lt}
 use Rattle.std.specs.Bool.{OnTrue}
-use Rattle.std.specs.List.{list_all}
-use Rattle.std.proofs.lemmas.Bool.{and_parts, eqb-true, ltb-false, ltb-true}
+use Rattle.std.specs.List.{AllByRecursion}
+use Rattle.std.proofs.lemmas.Bool.{ltb-false, ltb-true}
 use Rattle.std.proofs.lemmas.List.{ext_get_or, get_or-map, length-map}
 use Rattle.std.proofs.lemmas.Option.{get_or_from_slice_get}
 use Rattle.cq_values.specs.declared.value.Value.TheVariants.{Null}
@@ -36,13 +36,11 @@ module _ (items : List Expr) (are : AreColumns items) where
       let long : length (items_of items row) ≡ length items = length-map items (λ (e : Expr). eval e row) in
       ext_get_or Null (items_of items row) row (long ∙ sym wide) (λ i inside. value-at row i (omega (arith, inside, long)))
 
-  rows-shown : (rows : List Row) → list_all (λ row. length row == length items) rows ≡ true → map (items_of items) rows ≡ rows
+  rows-shown : (rows : List Row) → AllByRecursion (λ row. length row ≡ length items) rows → map (items_of items) rows ≡ rows
   rows-shown [] wide = refl
-  rows-shown (row ∷ rows) wide =
-      let both = and_parts _ _ wide in
-      ap₂ (λ (r : Row) (rs : List Row). r ∷ rs) (row-shown row (eqb-true (length row) (length items) both.0)) (rows-shown rows both.1)
+  rows-shown (row ∷ rows) wide = ap₂ (λ (r : Row) (rs : List Row). r ∷ rs) (row-shown row wide.0) (rows-shown rows wide.1)
 
   -- so rows of so many values are all shown as they are
-  pub shown-where : (rows : List Row) (wide : Bool) → wide ≡ list_all (λ row. length row == length items) rows → OnTrue wide (map (items_of items) rows ≡ rows)
-  shown-where rows true is = rows-shown rows (sym is)
-  shown-where rows false is = tt
+  pub shown-where : (rows : List Row) (wide : Bool) → OnTrue wide (AllByRecursion (λ row. length row ≡ length items) rows) → OnTrue wide (map (items_of items) rows ≡ rows)
+  shown-where rows true are = rows-shown rows are
+  shown-where rows false are = tt

@@ -1,5 +1,6 @@
 //! What a view keeps behind its joins.
-ghost use Rattle.std.specs.Prelude.{◌≡◌, IfOk, []};
+ghost use Rattle.std.specs.Prelude.{◌≡◌, IfOk, List, []};
+ghost use Rattle.cq_model.specs.declared.query.Aggregate.{Aggregate};
 ghost use Rattle.cq_upkeep.specs.Last.{CanPut, CanTakeIn, GoesOn, IsChangeOf, StandsBehind, kept_rows, seen};
 ghost use Rattle.cq_upkeep.specs.Query.{CanBeKept, aggregates_of};
 
@@ -74,6 +75,16 @@ impl Last {
                 LastChange::Images(change) => images.put_all(change),
                 LastChange::Groups(_) => unreachable!(),
             },
+        }
+    }
+
+    /// Puts groups in the order of their keys, in which their rows are mostly listed.
+    pub(crate) fn sort(&mut self) -> Result<(), AllocError>
+        ensures { (aggregates : List Aggregate) → seen aggregates self.new ≡ seen aggregates self.old }
+    {
+        match self {
+            Last::Groups(groups) => groups.sort(),
+            Last::Images(_) => Ok(()),
         }
     }
 }

@@ -22,7 +22,8 @@ use crate::showing::shown_rows;
 use cq_chains::{Chain, SourceRows, Waiting};
 use cq_deltas::ShowFault;
 use cq_model::Query;
-use cq_values::{Row, Seq};
+use cq_rows::RowList;
+use cq_values::Seq;
 use std::alloc::{AllocError, Global};
 
 /// A view as it is kept: its query, how many columns its sources have, its epochs, the sides of its joins, what stands
@@ -119,13 +120,16 @@ impl ViewState {
         reads(&self.query, table)
     }
 
-    /// Counts no work again: what a view took in while it was built is none of its changes.
+    /// Ends a build. What the view took in so far counts as no work, since it is none of its
+    /// changes, and groups are put in order, in which most of them stay.
     pub fn restart(&mut self)
         ensures same { SameView self.old self.new }
         ensures uncounted { work_of self.new ≡ 0 }
     {
         self.chain.restart();
         self.ticks = 0;
+        // The order is no promise: where memory is short, the groups stay as they are.
+        let _ = self.last.sort();
     }
 
     /// How large the numbers in each column of [`ViewState::rows`] can be.
@@ -189,10 +193,10 @@ impl ViewState {
     }
 
     /// The rows of the view, in no order that is promised. It costs what the view holds, and no table is read.
-    pub fn rows(&self, alloc: Global) -> Result<Vec<Row>, ShowFault>
+    pub fn rows(&self, alloc: Global) -> Result<RowList, ShowFault>
         requires { CanShow self.now }
-        ensures bag { IfOk result (λ rows. AreRowsOf self.now rows.items) }
-        ensures sized { IfOk result (λ rows. AllByRecursion (HasSizes (column_sizes self.now.query)) rows.items) }
+        ensures bag { IfOk result (λ rows. AreRowsOf self.now rows) }
+        ensures sized { IfOk result (λ rows. AllByRecursion (HasSizes (column_sizes self.now.query)) rows) }
         ensures range { OnOk result (IsShown self.now) }
         ensures fault { IfErr result (λ e. e ≡ SumOutOfRange → IsNotShown self.now) }
     {

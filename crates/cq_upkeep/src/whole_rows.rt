@@ -1,16 +1,16 @@
 //! Items that show each row as it is.
 ghost use Rattle.std.specs.Bool.{OnTrue};
-ghost use Rattle.std.specs.List.{list_all};
-ghost use Rattle.std.specs.Prelude.{◌==◌, ◌≡◌, length, map};
+ghost use Rattle.std.specs.List.{AllByRecursion};
+ghost use Rattle.std.specs.Prelude.{◌≡◌, length, map};
 ghost use Rattle.cq_model.specs.Expr.{Column};
 ghost use Rattle.cq_model.specs.Meaning.{items_of};
 ghost use Rattle.cq_upkeep.specs.WholeRows.{AreColumns};
 
 use cq_model::{Expr, ExprTree};
-use cq_values::Row;
+use cq_rows::RowList;
 
 /// Whether the items are just the columns of each of these rows, in order. Then the rows can be kept, and none is made.
-pub fn show_whole_rows(items: &[Expr], rows: &[Row]) -> bool
+pub fn show_whole_rows(items: &[Expr], rows: &RowList) -> bool
     ensures { OnTrue result (map (items_of items.now) rows.now ≡ rows.now) }
 {
     are_columns(items) && have_width(rows, items.len())
@@ -37,8 +37,13 @@ fn is_column(item: &Expr, place: usize) -> bool
     }
 }
 
-fn have_width(rows: &[Row], width: usize) -> bool
-    ensures { result ≡ list_all (λ row. length row == width) rows.now }
+fn have_width(rows: &RowList, width: usize) -> bool
+    ensures { OnTrue result (AllByRecursion (λ row. length row ≡ width) rows.now) }
 {
-    rows.iter().all(|row| row.len() == width)
+    for place in 0..rows.len() {
+        if rows.row(place).len() != width {
+            return false;
+        }
+    }
+    true
 }

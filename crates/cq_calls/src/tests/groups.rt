@@ -6,7 +6,8 @@ ghost use Rattle.cq_values.specs.Value.{Row as Values};
 
 use cq_deltas::{GroupChange, Groups, ShowFault};
 use cq_model::{Aggregate, Expr};
-use cq_values::{Row, Value};
+use cq_rows::FlatRows;
+use cq_values::Value;
 use std::alloc::Global;
 use std::test::Fail;
 
@@ -16,7 +17,7 @@ fn shown_alone(
     aggregates: &[Aggregate],
     groups: Groups,
     change: GroupChange,
-) -> Result<Vec<Row>, ShowFault>
+) -> Result<FlatRows, ShowFault>
     requires keys { HasKeys change groups }
     requires none { (k : Values) → group_at aggregates.now groups k ≡ group_at aggregates.now [] k }
     requires small { AreSmall [] (additions_at groups change) }
@@ -27,7 +28,7 @@ fn shown_alone(
 }
 
 /// Of the rows NULL and 5, twice, and NULL and NULL: how many there are, how many numbers, and their total, by the first column.
-fn under_null(alloc: Global) -> Result<Vec<Row>, ShowFault> {
+fn under_null(alloc: Global) -> Result<FlatRows, ShowFault> {
     let (five, null) = ([Value::Null, Value::Number(5)], [Value::Null, Value::Null]);
     let aggregates = [
         Aggregate::CountAll,
@@ -46,12 +47,12 @@ fn null_is_one_key_and_adds_nothing(rt: HostRuntime) -> Result<(), Fail> {
     let rows = under_null(rt.alloc())?;
     let (three, two, ten) = (Value::Number(3), Value::Number(2), Value::Number(10));
     assert!(rt; rows.len() == 1);
-    assert!(rt; rows[0].as_slice() == [Value::Null, three, two, ten].as_slice());
+    assert!(rt; rows.row(0) == [Value::Null, three, two, ten].as_slice());
     Ok(())
 }
 
 /// The total of the greatest number, so often, and of four zeros.
-fn total(alloc: Global, weight: i8) -> Result<Vec<Row>, ShowFault> {
+fn total(alloc: Global, weight: i8) -> Result<FlatRows, ShowFault> {
     let (greatest, zero) = ([Value::Number(i128::MAX)], [Value::Number(0)]);
     let aggregates = [Aggregate::Sum(Expr::column(0))];
     let mut groups = Groups::new(alloc);
@@ -82,7 +83,7 @@ fn a_sum_may_leave_its_range_and_come_back(rt: HostRuntime) {
 }
 
 /// MIN and MAX of 5, twice, of 3 and of NULL, where 5 leaves so often and 3 so often.
-fn ends(alloc: Global, fives: i8, threes: i8) -> Result<Vec<Row>, ShowFault> {
+fn ends(alloc: Global, fives: i8, threes: i8) -> Result<FlatRows, ShowFault> {
     let (five, three, null) = ([Value::Number(5)], [Value::Number(3)], [Value::Null]);
     let aggregates = [
         Aggregate::Min(Expr::column(0)),
@@ -132,8 +133,8 @@ fn is(value: &Value, number: &Option<i128>) -> bool {
 fn the_ends_go_on_as_values_leave(rt: HostRuntime) -> Result<(), Fail> {
     for (fives, threes, least, greatest) in ENDS {
         let rows = ends(rt.alloc(), *fives, *threes)?;
-        assert!(rt; rows.len() == 1 && rows[0].len() == 2);
-        let row = rows[0].as_slice();
+        assert!(rt; rows.len() == 1 && rows.row(0).len() == 2);
+        let row = rows.row(0);
         assert!(rt;
             is(&row[0], least) && is(&row[1], greatest),
             "without {fives} and {threes}"

@@ -1,5 +1,6 @@
 //! Printed results beside texts that were written by hand.
 use cq_csvio::print_result;
+use cq_rows::RowList;
 use cq_values::{Day, Row, Text, Value};
 use std::alloc::Global;
 use std::process::Abort;
@@ -49,7 +50,7 @@ fn header_of(alloc: Global, names: &[&str]) -> Result<Vec<Text>, Fail> {
 /// Whether these rows below these names are printed so.
 fn is_printed(alloc: Global, names: &[&str], lists: &[&[Cell]], text: &str) -> Result<bool, Fail> {
     let header = header_of(alloc, names)?;
-    let rows = rows_of(alloc, lists)?;
+    let rows = RowList::listed(rows_of(alloc, lists)?);
     let printed = print_result(alloc, &header, &rows)?;
     Ok(printed.as_slice() == text.as_bytes())
 }

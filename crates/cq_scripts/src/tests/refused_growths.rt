@@ -3,8 +3,9 @@
 use super::engines::{carry_out, engine};
 use cq_binding::Fault;
 use cq_engine::Engine;
+use cq_rows::RowList;
 use cq_steps::Answer;
-use cq_values::{Row, Value};
+use cq_values::Value;
 use std::alloc::Global;
 use std::process::Abort;
 use std::test::Fail;
@@ -27,8 +28,7 @@ fn carried_out(
     }
 }
 
-fn is_row(row: &Row, numbers: &[i128]) -> bool {
-    let values = row.as_slice();
+fn is_row(values: &[Value], numbers: &[i128]) -> bool {
     values.len() == numbers.len()
         && values
             .iter()
@@ -37,12 +37,16 @@ fn is_row(row: &Row, numbers: &[i128]) -> bool {
 }
 
 /// Whether these are the rows, in this order.
-fn are_rows(rows: &[Row], wanted: &[&[i128]]) -> bool {
-    rows.len() == wanted.len()
-        && rows
-            .iter()
-            .zip(wanted)
-            .all(|(row, numbers)| is_row(row, numbers))
+fn are_rows(rows: &RowList, wanted: &[&[i128]]) -> bool {
+    if rows.len() != wanted.len() {
+        return false;
+    }
+    for (place, numbers) in wanted.iter().enumerate() {
+        if !is_row(rows.row(place), numbers) {
+            return false;
+        }
+    }
+    true
 }
 
 /// A statement, and the rows that it answers: None of a write.
@@ -51,7 +55,7 @@ pub(super) type Step = (&'static str, Option<&'static [&'static [i128]]>);
 /// Whether the answer is these rows, or of a write.
 fn is_answered(answer: &Answer, wanted: &Option<&[&[i128]]>) -> bool {
     match (answer, wanted) {
-        (Answer::Rows { rows, .. }, Some(wanted)) => are_rows(rows.as_slice(), wanted),
+        (Answer::Rows { rows, .. }, Some(wanted)) => are_rows(rows, wanted),
         (_, wanted) => wanted.is_none(),
     }
 }

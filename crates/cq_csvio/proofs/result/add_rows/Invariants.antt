@@ -5,6 +5,6 @@ use Rattle.cq_csvio.specs.Lines.{Holds}
 use Rattle.cq_csvio.proofs.result.add_rows.Given as goal
 
 -- the rows so far stand, each as its line
-abbrev pub invariant-loop-row : goal.invariant-loop-row
-invariant-loop-row l =
-    (text : List ℕ) → Holds l.fn.lines.writer text [] → Holds l.lines.writer (text ++ flat_map row_text (take l.row-index l.rows)) []
+abbrev pub invariant-loop-place : goal.invariant-loop-place
+invariant-loop-place l =
+    (text : List ℕ) → Holds l.fn.lines.writer text [] → Holds l.lines.writer (text ++ flat_map row_text (take l.place l.rows)) []

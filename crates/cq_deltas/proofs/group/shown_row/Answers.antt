@@ -14,16 +14,18 @@ returns-in_err-value-clause-fault c =
 
 pub loop-place-preserved : goal.loop-place-preserved
 loop-place-preserved c = record {
-  row =
-      c.in_ok-push.ensures.ok ∙ row-more c.args.aggregates.now c.args.kept.now c.loop-place.place c.index-aggregates-place.result c.index-kept-place.result (omega arith) (omega arith)
-      c.index-aggregates-place.is c.index-kept-place.is c.args.key.now c.loop-place.row c.in_ok-value.value c.loop-place.invariant.row c.in_ok-value.ensures.value;
+  rows = c.in_ok-push.ensures.rows ∙ c.loop-place.invariant.rows;
+  begun =
+      c.in_ok-push.ensures.begun ∙ row-more c.args.aggregates.now c.args.kept.now c.loop-place.place c.index-aggregates-place.result c.index-kept-place.result (omega arith) (omega arith)
+      c.index-aggregates-place.is c.index-kept-place.is c.args.rows.now.begun c.args.key.now c.loop-place.rows.begun c.in_ok-value.value c.loop-place.invariant.begun c.in_ok-value.ensures.value;
   range =
       range-more c.args.aggregates.now c.args.kept.now c.loop-place.place c.index-aggregates-place.result c.index-kept-place.result (omega arith) (omega arith) c.index-aggregates-place.is c.index-kept-place.is
       c.loop-place.invariant.range c.in_ok-value.ensures.range;
 }
 
-pub returns-clause-row : goal.returns-clause-row
-returns-clause-row c = row-done c.args.aggregates.now c.args.kept.now c.loop-place.place (omega arith) c.args.key.now c.loop-place.row c.loop-place.invariant.row
+pub returns-clause-begun : goal.returns-clause-begun
+returns-clause-begun c =
+    row-done c.args.aggregates.now c.args.kept.now c.loop-place.place (omega arith) c.args.rows.now.begun c.args.key.now c.loop-place.rows.begun c.loop-place.invariant.begun
 
 pub returns-clause-range : goal.returns-clause-range
 returns-clause-range c = range-done c.args.aggregates.now c.args.kept.now c.loop-place.place (omega arith) c.loop-place.invariant.range

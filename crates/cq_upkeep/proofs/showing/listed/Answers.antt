@@ -6,8 +6,8 @@ use Rattle.cq_bags.specs.Bag.{SameBag, once_each}
 use Rattle.cq_upkeep.proofs.Listing.{entry-positive, listed-more}
 use Rattle.cq_upkeep.proofs.showing.listed.Goals as goal
 
-pub push_times-requires : goal.push_times-requires
-push_times-requires c =
+pub push_times-requires-clause-times : goal.push_times-requires-clause-times
+push_times-requires-clause-times c =
     let weight = c.pair_at-weight.result.1 in
     let fits : FitsSigned w128 weight = search rules in
     rw (to_z-of_z w128 weight fits) (entry-positive c.args.images.now.entries c.loop-place.place c.pair_at-weight.result.0.now weight c.pair_at-weight.ensures c.len-place-end.ensures.clean c.requires)
@@ -17,6 +17,9 @@ loop-place-preserved c =
     let weight = c.pair_at-weight.result.1 in
     let row : Row = c.pair_at-weight.result.0.now in
     let fits : FitsSigned w128 weight = search rules in
-    let old = c.loop-place.rows.items in
-    let add = subst (λ (n : ℤ). SameBag (once_each c.push_times.new.rows.items) (once_each old ++ (row, n) ∷ [])) (to_z-of_z w128 weight fits) c.in_ok-push_times.ensures in
-    listed-more c.args.images.now.entries c.loop-place.place (row, weight) c.pair_at-weight.ensures old c.push_times.new.rows.items c.loop-place.invariant add
+    let old = c.loop-place.rows.rows in
+    let add = subst (λ (n : ℤ). SameBag (once_each c.push_times.new.rows.rows) (once_each old ++ (row, n) ∷ [])) (to_z-of_z w128 weight fits) c.in_ok-push_times.ensures.rows in
+    record {
+      bag = listed-more c.args.images.now.entries c.loop-place.place (row, weight) c.pair_at-weight.ensures old c.push_times.new.rows.rows c.loop-place.invariant.bag add;
+      begun = c.in_ok-push_times.ensures.begun;
+    }

@@ -21,26 +21,26 @@ pub item_rows-requires : goal.item_rows-requires
 item_rows-requires c =
     let query = c.args.query.now in
     let groups = c.args.groups.now in
-    let rows : c.in_ok-rows.rows.items ≡ all_rows query.shape groups = c.in_ok-rows.ensures.rows in
+    let rows : c.flat.result ≡ all_rows query.shape groups = c.flat.ensures ∙ c.in_ok-rows.ensures.rows in
     rw (rows, c.as_slice.ensures) (all-narrow query groups c.requires.on c.all_rows.ensures.keys c.in_ok-rows.ensures.range c.requires.can)
 
 pub returns-clause-rows : goal.returns-clause-rows
 returns-clause-rows c =
     let query = c.args.query.now in
     let groups = c.args.groups.now in
-    let rows : c.in_ok-rows.rows.items ≡ all_rows query.shape groups = c.in_ok-rows.ensures.rows in
-    let shown : c.in_ok-item_rows.field-0.items ≡ map (items_of query.items) (all_rows query.shape groups) =
+    let rows : c.flat.result ≡ all_rows query.shape groups = c.flat.ensures ∙ c.in_ok-rows.ensures.rows in
+    let shown : c.in_ok-item_rows.field-0 ≡ map (items_of query.items) (all_rows query.shape groups) =
     c.in_ok-item_rows.ensures ∙ ap₂ (λ (items : List Expr) (rs : List Row). map (items_of items) rs) c.as_slice.ensures rows in
-    groups-shown query groups c.all_rows.ensures.keys c.requires.can.groups c.in_ok-item_rows.field-0.items shown
+    groups-shown query groups c.all_rows.ensures.keys c.requires.can.groups c.in_ok-item_rows.field-0 shown
 
 pub returns-clause-sized : goal.returns-clause-sized
 returns-clause-sized c =
     let query = c.args.query.now in
     let groups = c.args.groups.now in
-    let rows : c.in_ok-rows.rows.items ≡ all_rows query.shape groups = c.in_ok-rows.ensures.rows in
-    let shown : c.in_ok-item_rows.field-0.items ≡ map (items_of query.items) (all_rows query.shape groups) =
+    let rows : c.flat.result ≡ all_rows query.shape groups = c.flat.ensures ∙ c.in_ok-rows.ensures.rows in
+    let shown : c.in_ok-item_rows.field-0 ≡ map (items_of query.items) (all_rows query.shape groups) =
     c.in_ok-item_rows.ensures ∙ ap₂ (λ (items : List Expr) (rs : List Row). map (items_of items) rs) c.as_slice.ensures rows in
-    groups-sized query groups c.requires.on c.all_rows.ensures.keys c.in_ok-rows.ensures.range c.in_ok-item_rows.field-0.items shown
+    groups-sized query groups c.requires.on c.all_rows.ensures.keys c.in_ok-rows.ensures.range c.in_ok-item_rows.field-0 shown
 
 pub returns-clause-range : goal.returns-clause-range
 returns-clause-range c = groups-in_range c.args.query.now c.args.groups.now c.all_rows.ensures.keys c.in_ok-rows.ensures.range

@@ -10,7 +10,7 @@ listed-requires c =
     let on = subst (λ (l : Last). StandsOnStored c.args.query.now l) c.in-Images.is c.requires.on in
     images-bag c.args.query.now c.in-Images.images.entries on.xs on.stands on.bag
 
-pub returns-in_ok-listed-in-Images-clause-sized : goal.returns-in_ok-listed-in-Images-clause-sized
-returns-in_ok-listed-in-Images-clause-sized c =
+pub returns-in_ok-rows-in-Images-clause-sized : goal.returns-in_ok-rows-in-Images-clause-sized
+returns-in_ok-rows-in-Images-clause-sized c =
     let on = subst (λ (l : Last). StandsOnStored c.args.query.now l) c.in-Images.is c.requires.on in
-    images-sized c.args.query.now c.in-Images.images c.in_ok-listed-in-Images.field-0.items c.in_ok-listed-in-Images.ensures on
+    rw c.flat.ensures (images-sized c.args.query.now c.in-Images.images c.in_ok-rows-in-Images.rows.rows c.in_ok-rows-in-Images.ensures on)

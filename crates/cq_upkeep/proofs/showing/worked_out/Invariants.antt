@@ -3,5 +3,5 @@ use Rattle.cq_model.specs.Meaning.{items_of}
 use Rattle.cq_upkeep.proofs.showing.worked_out.Given as goal
 
 -- the items of the rows so far
-abbrev pub invariant-loop-row : goal.invariant-loop-row
-invariant-loop-row l = l.shown.items ≡ map (items_of l.items) (take l.row-index l.rows)
+abbrev pub invariant-loop-place : goal.invariant-loop-place
+invariant-loop-place l = l.shown.items ≡ map (items_of l.items) (take l.place l.rows)

@@ -26,14 +26,15 @@ loop-place-preserved c =
     let e : Row × StoredGroup = (c.in-Some.key.now, c.in-Some.group.now) in
     let entry : Some e ≡ slice_get table c.loop-place.place = rw c.self.view_is at c.in-Some.ensures.entry in
     record {
-      rows = c.in_ok-push_shown-in-Some.ensures.rows ∙ rows-more aggregates table c.loop-place.place e entry c.loop-place.rows.items c.loop-place.invariant.rows;
+      rows = c.in_ok-push_shown-in-Some.ensures.rows ∙ rows-more aggregates table c.loop-place.place e entry c.loop-place.rows.rows c.loop-place.invariant.rows;
+      begun = c.in_ok-push_shown-in-Some.ensures.begun;
       range = range-more aggregates table c.loop-place.place e entry c.loop-place.invariant.range c.in_ok-push_shown-in-Some.ensures.range;
     }
 
 pub returns-clause-rows : goal.returns-clause-rows
 returns-clause-rows c =
     let end : c.loop-place.place ≡ length c.args.self.now = search rules in
-    rows-done c.args.aggregates.now c.args.self.now c.loop-place.place (rw c.self.view_is at c.len-place-end.ensures.unique) end c.loop-place.rows.items c.loop-place.invariant.rows
+    rows-done c.args.aggregates.now c.args.self.now c.loop-place.place (rw c.self.view_is at c.len-place-end.ensures.unique) end c.loop-place.rows.rows c.loop-place.invariant.rows
 
 pub returns-in_err-rows-clause-keys : goal.returns-in_err-rows-clause-keys
 returns-in_err-rows-clause-keys c = lists-keys c.args.aggregates.now c.args.self.now (rw c.self.view_is at c.len.ensures.unique)

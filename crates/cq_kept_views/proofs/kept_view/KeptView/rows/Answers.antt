@@ -6,7 +6,7 @@ pub rows-requires : goal.rows-requires
 rows-requires c = can-show c.args.self.now c.requires
 
 pub returns-clause-bag : goal.returns-clause-bag
-returns-clause-bag c = IfOk-weaker c.rows.result _ _ (λ rows are. all-shown c.args.self.now rows.items are) c.rows.ensures.bag
+returns-clause-bag c = IfOk-weaker c.rows.result _ _ (λ rows are. all-shown c.args.self.now rows are) c.rows.ensures.bag
 
 pub returns-clause-sized : goal.returns-clause-sized
 returns-clause-sized c = rw (same-sizes c.args.self.now c.requires) at c.rows.ensures.sized

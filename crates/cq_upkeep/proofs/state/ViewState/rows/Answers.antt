@@ -6,7 +6,7 @@ pub shown_rows-requires-clause-on : goal.shown_rows-requires-clause-on
 shown_rows-requires-clause-on c = on-stored c.args.self.now c.requires
 
 pub returns-clause-bag : goal.returns-clause-bag
-returns-clause-bag c = IfOk-weaker c.shown_rows.result _ _ (λ rows shows. view-shown c.args.self.now c.requires rows.items shows) c.shown_rows.ensures.rows
+returns-clause-bag c = IfOk-weaker c.shown_rows.result _ _ (λ rows shows. view-shown c.args.self.now c.requires rows shows) c.shown_rows.ensures.rows
 
 pub returns-clause-range : goal.returns-clause-range
 returns-clause-range c = on_ok_weaker c.shown_rows.result (view-in_range c.args.self.now c.requires) c.shown_rows.ensures.range

@@ -1,0 +1,11 @@
+//! The rows of an answer: each in a list of its own, or the values of all of them in one list.
+//!
+//! To make a row in a list of its own takes a block of memory. What a view shows is made anew for each read, and so its
+//! rows are [`FlatRows`]; rows that an operator lists are kept as they are. An answer has either as a [`RowList`].
+#![tactic(auto)]
+
+mod flat;
+mod list;
+
+pub use flat::FlatRows;
+pub use list::RowList;

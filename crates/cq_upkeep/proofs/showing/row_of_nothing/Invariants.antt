@@ -1,7 +1,0 @@
-use Rattle.std.proofs.Common.{◌≡◌, [], map, take}
-use Rattle.cq_model.specs.Group.{aggregate}
-use Rattle.cq_upkeep.proofs.showing.row_of_nothing.Given as goal
-
--- what the aggregates so far show of no rows
-abbrev pub invariant-loop-aggregate : goal.invariant-loop-aggregate
-invariant-loop-aggregate l = l.row ≡ map (λ a. aggregate a []) (take l.aggregate-index l.aggregates)
