@@ -1,5 +1,5 @@
 -- The tokens of a text, one after the other from the left.
-use Rattle.std.proofs.Common.{◌≡◌, ℕ, ◌<◌, ◌==◌, true, false, List, [], ◌∷◌, ◌++◌, length, Option, Some, None, Err, refl, sym, ap, ◌∙◌, subst, append_assoc, arith}
+use Rattle.std.proofs.Common.{◌≡◌, ℕ, ◌<◌, ◌≤◌, ◌==◌, Bool, true, false, cond, List, [], ◌∷◌, ◌++◌, length, Option, Some, None, Err, refl, sym, ap, ◌∙◌, subst, append_assoc, arith}
 use Rattle.std.proofs.lemmas.Bool.Decides.{nat_tests}
 use Rattle.std.proofs.lemmas.List.{append-nil}
 use Rattle.cq_language.specs.declared.token.Token.{Token}
@@ -7,7 +7,7 @@ use Rattle.cq_language.specs.Lexemes.{Lexeme, blank, comment, word, digits, quot
 use Rattle.cq_language.specs.Tokens.{tokens_of, HasTokens}
 use Rattle.cq_tokens.specs.declared.fault.TokenFault.{TokenFault}
 use Rattle.cq_tokens.specs.declared.fault.TokenFault.TheVariants as faults
-use Rattle.cq_tokens.specs.Lexing.{Gives, gap_at, token_at}
+use Rattle.cq_tokens.specs.Lexing.{Gives, gap_at, past_space, token_at}
 use Rattle.cq_tokens.specs.Reading.{Reads}
 use Rattle.cq_tokens.proofs.Spelled.{told, Read, front_at, at_gap, at_token, at_none, front_found}
 use Rattle.cq_tokens.proofs.Fronts.{Fronts, gap_only, token_only, front_shrinks}
@@ -104,6 +104,19 @@ skips text front rest after e so_far = record {
       (more.0, left.1 ∙ ap (λ (us : List Token). front ++ us) more.1, more.2);
 }
 
+space_is_gap : (b : ℕ) (bs : List ℕ) → (b == 32) ≡ true → gap_at (b ∷ bs) ≡ Some bs
+unfolding gap_at
+space_is_gap b bs e = rw e refl
+
+skips_here : (text : List ℕ) (front : List Token) (b : ℕ) (bs : List ℕ) (v : Bool) → (b == 32) ≡ v → Continues text front (b ∷ bs) → Continues text front (cond v bs (b ∷ bs))
+skips_here text front b bs true e so_far = skips text front (b ∷ bs) bs (space_is_gap b bs e) so_far
+skips_here text front b bs false e so_far = so_far
+
+-- past a space, if one is there
+skips_space : (text : List ℕ) (front : List Token) (rest : List ℕ) → Continues text front rest → Continues text front (past_space rest)
+skips_space text front [] so_far = so_far
+skips_space text front (b ∷ bs) so_far = skips_here text front b bs (b == 32) refl so_far
+
 -- past a token
 pub takes : (text : List ℕ) (front : List Token) (rest : List ℕ) (t : Token) (after : List ℕ) → gap_at rest ≡ None → token_at rest ≡ Some (t, after)
     → Continues text front rest → Continues text (front ++ t ∷ []) after
@@ -114,6 +127,11 @@ takes text front rest t after none e so_far = record {
       let more = others rest (Some t) after left.0 (at_token rest t after none e) left.2 in
       (more.0, left.1 ∙ ap (λ (us : List Token). front ++ us) more.1 ∙ sym (append_assoc front (t ∷ []) more.0), more.2);
 }
+
+-- past a token and a space behind it
+pub takes_spaced : (text : List ℕ) (front : List Token) (rest : List ℕ) (t : Token) (after behind : List ℕ) → gap_at rest ≡ None → token_at rest ≡ Some (t, after) → behind ≡ past_space after
+    → Continues text front rest → Continues text (front ++ t ∷ []) behind
+takes_spaced text front rest t after behind none e is so_far = rw is (skips_space text (front ++ t ∷ []) after (takes text front rest t after none e so_far))
 
 -- with nothing left, the tokens so far are those of the text
 pub is_done : (text : List ℕ) (front : List Token) (rest : List ℕ) → (length rest == 0) ≡ true → Continues text front rest → HasTokens text front
@@ -137,3 +155,10 @@ gap_shrinks rest after e = front_shrinks rest None after (gap_only rest after e)
 
 pub token_shrinks : (rest : List ℕ) (t : Token) (after : List ℕ) → gap_at rest ≡ None → token_at rest ≡ Some (t, after) → length after < length rest
 token_shrinks rest t after none e = front_shrinks rest (Some t) after (token_only rest t after none e)
+
+past_space_shrinks : (rest : List ℕ) → length (past_space rest) ≤ length rest
+past_space_shrinks [] = omega arith
+past_space_shrinks (b ∷ bs) = grind arith
+
+pub spaced_shrinks : (rest : List ℕ) (t : Token) (after behind : List ℕ) → gap_at rest ≡ None → token_at rest ≡ Some (t, after) → behind ≡ past_space after → length behind < length rest
+spaced_shrinks rest t after behind none e is = rw is (omega (arith, past_space_shrinks after, token_shrinks rest t after none e))

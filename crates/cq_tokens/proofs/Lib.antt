@@ -2,7 +2,7 @@ pub mod Decisions
 pub mod Prefixes
 pub mod Boundaries
 pub mod Contents
-pub mod Keywords
+pub mod KeywordTables
 pub mod Signs
 pub mod Spelled
 pub mod Fronts

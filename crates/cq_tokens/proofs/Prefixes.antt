@@ -1,5 +1,5 @@
 -- The longest part of a text in front whose bytes all pass a test.
-use Rattle.std.proofs.Common.{◌≡◌, ℕ, suc, ◌+◌, Bool, true, false, cond, List, [], ◌∷◌, ◌++◌, length, take, drop, refl, sym, ap, ◌∙◌}
+use Rattle.std.proofs.Common.{◌≡◌, ℕ, zero, suc, ◌+◌, ◌<◌, Bool, true, false, cond, List, [], ◌∷◌, ◌++◌, length, take, drop, refl, sym, ap, ◌∙◌, arith}
 use Rattle.std.proofs.Math.Numerals.{one-add}
 use Rattle.std.proofs.lemmas.List.{take_at, drop_at}
 use Rattle.std.specs.List.{prefix_len, list_all}
@@ -45,3 +45,14 @@ pub prefix_cut : (p : ℕ → Bool) (front rest : List ℕ) → list_all p front
 prefix_cut p front rest all stops =
     let len : prefix_len p (front ++ rest) ≡ length front = prefix_found p front rest all stops in
     (take_at front rest (prefix_len p (front ++ rest)) (sym len), drop_at front rest (prefix_len p (front ++ rest)) (sym len))
+
+front_here : (p : ℕ → Bool) (n b : ℕ) (bs : List ℕ) (v : Bool) → p b ≡ v → (prefix_len p (take n bs) < n → prefix_len p bs ≡ prefix_len p (take n bs))
+    → cond v (1 + prefix_len p (take n bs)) 0 < suc n → cond v (1 + prefix_len p bs) 0 ≡ cond v (1 + prefix_len p (take n bs)) 0
+front_here p n b bs true e more ends = ap (λ (k : ℕ). 1 + k) (more (omega arith))
+front_here p n b bs false e more ends = refl
+
+-- where the longest such part of the first bytes ends among them, it is that of all bytes
+pub prefix_of_first : (p : ℕ → Bool) (n : ℕ) (bs : List ℕ) → prefix_len p (take n bs) < n → prefix_len p bs ≡ prefix_len p (take n bs)
+prefix_of_first p zero bs ends = absurd (omega arith)
+prefix_of_first p (suc n) [] ends = refl
+prefix_of_first p (suc n) (b ∷ bs) ends = front_here p n b bs (p b) refl (prefix_of_first p n bs) ends

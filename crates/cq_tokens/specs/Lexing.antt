@@ -94,6 +94,11 @@ gap_at (b ∷ bs) =
     else if is_dash b && begins is_dash bs then Some (drop (prefix_len (λ c. not (c == 10)) (b ∷ bs)) (b ∷ bs))
     else None
 
+-- what follows a space in front, or the text where none is there
+abbrev pub past_space : List ℕ → List ℕ
+past_space [] = []
+past_space (b ∷ bs) = if b == 32 then bs else b ∷ bs
+
 -- the token in front, where no blank and no comment is there
 unfoldable pub token_at : List ℕ → Option (Token × List ℕ)
 token_at [] = None

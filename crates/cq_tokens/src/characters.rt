@@ -1,7 +1,7 @@
 //! Kinds of bytes, and how far a kind goes on.
 ghost use Rattle.cq_language.specs.Characters.{is_blank, is_letter, is_digit, is_word_byte, begins};
 ghost use Rattle.std.specs.List.{prefix_len};
-ghost use Rattle.std.specs.Prelude.{◌≡◌, ◌==◌, not};
+ghost use Rattle.std.specs.Prelude.{◌≡◌, ◌-◌, ◌==◌, MatchOption, false, not, true};
 
 pub fn is_blank(b: u8) -> bool
     ensures { result ≡ is_blank b }
@@ -21,10 +21,18 @@ pub fn is_digit(b: u8) -> bool
     b'0' <= b && b <= b'9'
 }
 
+/// The number that a digit stands for.
+pub fn digit_value(b: u8) -> Option<u64>
+    ensures { MatchOption result (is_digit b ≡ false) (λ n. (is_digit b ≡ true) × (n ≡ b - 48)) }
+{
+    let value = u64::from(b).wrapping_sub(u64::from(b'0'));
+    (value <= 9).then_some(value)
+}
+
 pub fn is_word_byte(b: u8) -> bool
     ensures { result ≡ is_word_byte b }
 {
-    is_letter(b) || is_digit(b)
+    b'0' <= b && (is_letter(b) || is_digit(b))
 }
 
 pub fn begins_word_byte(bytes: &[u8]) -> bool

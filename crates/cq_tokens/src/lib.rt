@@ -8,6 +8,7 @@
 mod characters;
 mod cutting;
 mod fault;
+mod keywords;
 mod laws;
 mod limits;
 mod pieces;

@@ -1,9 +1,9 @@
 //! Texts as tokens.
 ghost use Rattle.cq_language.specs.declared.token.Token.TheVariants as tokens;
-ghost use Rattle.cq_tokens.specs.Lexing.{Gives, gap_at, token_at};
+ghost use Rattle.cq_tokens.specs.Lexing.{Gives, gap_at, past_space, token_at};
 ghost use Rattle.cq_tokens.specs.Reading.{Reads};
 ghost use Rattle.std.specs.Option.{option_map};
-ghost use Rattle.std.specs.Prelude.{◌≡◌, IfSome, None, Some};
+ghost use Rattle.std.specs.Prelude.{◌≡◌, IfSome, None, Some, drop};
 
 use crate::characters::{is_blank, is_digit, is_letter, line_len};
 use crate::fault::TokenFault;
@@ -43,16 +43,27 @@ fn token_at(alloc: Global, text: &str) -> Result<(Token, &str), TokenFault>
     }
 }
 
-/// A parenthesis or a comma in front of a text, and what follows it.
+/// What follows a space in front of a text, or the text where none is there.
+fn after_space(text: &str) -> &str
+    ensures { result.now ≡ past_space text.now }
+{
+    match text.as_bytes() {
+        [b' ', ..] => &text[1..],
+        _ => text,
+    }
+}
+
+/// A parenthesis or a comma in front of a text, and what follows it and a space behind it.
 #[tactic(auto, unfolding(crate::specs::Lexing::gap_at, crate::specs::Lexing::token_at, crate::specs::Lexing::symbol_at))]
 fn lone_sign_at(text: &str) -> Option<(Symbol, &str)>
     ensures gap { IfSome result (λ r. gap_at text.now ≡ None) }
-    ensures token { IfSome result (λ r. token_at text.now ≡ Some (tokens.Symbol r.0, r.1.now)) }
+    ensures token { IfSome result (λ r. token_at text.now ≡ Some (tokens.Symbol r.0, drop 1 text.now)) }
+    ensures rest { IfSome result (λ r. r.1.now ≡ past_space (drop 1 text.now)) }
 {
     match text.as_bytes() {
-        [b',', ..] => Some((Symbol::Comma, &text[1..])),
-        [b'(', ..] => Some((Symbol::Open, &text[1..])),
-        [b')', ..] => Some((Symbol::Close, &text[1..])),
+        [b',', ..] => Some((Symbol::Comma, after_space(&text[1..]))),
+        [b'(', ..] => Some((Symbol::Open, after_space(&text[1..]))),
+        [b')', ..] => Some((Symbol::Close, after_space(&text[1..]))),
         _ => None,
     }
 }
@@ -64,13 +75,22 @@ pub fn tokens(alloc: Global, text: &str) -> Result<Seq<Token>, TokenFault>
     let mut tokens = Seq::from_vec(Vec::with_capacity(alloc, text.len() / TOKEN_LEN + 1)?);
     let mut rest = text;
     while !rest.is_empty() {
-        if let Some((symbol, after)) = lone_sign_at(rest) {
-            tokens.push(Token::Symbol(symbol))?;
-            rest = after;
+        if let Some((number, after)) = small_number_at(rest) {
+            match lone_sign_at(after) {
+                Some((Symbol::Comma, behind)) => {
+                    tokens.push(Token::Number(u128::from(number)))?;
+                    tokens.push(Token::Symbol(Symbol::Comma))?;
+                    rest = behind;
+                }
+                _ => {
+                    tokens.push(Token::Number(u128::from(number)))?;
+                    rest = after;
+                }
+            }
             continue;
         }
-        if let Some((number, after)) = small_number_at(rest) {
-            tokens.push(Token::Number(u128::from(number)))?;
+        if let Some((symbol, after)) = lone_sign_at(rest) {
+            tokens.push(Token::Symbol(symbol))?;
             rest = after;
             continue;
         }

@@ -1,94 +1,21 @@
 //! Words as keywords and names, and digits as numbers.
 ghost use Rattle.cq_language.specs.Characters.{is_digit};
-ghost use Rattle.cq_language.specs.Keywords.{keyword_of};
 ghost use Rattle.cq_language.specs.Tokens.{decimal, word_token};
 ghost use Rattle.cq_language.specs.declared.token.Token.TheVariants as tokens;
-ghost use Rattle.cq_tokens.specs.Lexing.{Gives, found_in, gap_at, number_at, token_at, word_at};
+ghost use Rattle.cq_tokens.specs.Lexing.{Gives, gap_at, number_at, token_at, word_at};
 ghost use Rattle.cq_tokens.specs.Runs.{IsNumberAt};
-ghost use Rattle.std.specs.Char.{to_ascii_lowercase};
 ghost use Rattle.std.specs.List.{list_all};
-ghost use Rattle.std.specs.Prelude.{◌-◌, ◌^◌, ◌≡◌, IfOk, IfSome, IsTrue, None, Some, map, min};
+ghost use Rattle.std.specs.Prelude.{◌-◌, ◌^◌, ◌≡◌, ◌≤◌, IfOk, IfSome, IsTrue, None, Some, length, min};
 
-use crate::characters::{begins_digit, begins_word_byte, digits_len, is_digit, word_len};
+use crate::characters::{begins_digit, begins_word_byte, digit_value, digits_len, word_len};
 use crate::fault::TokenFault;
-use cq_language::{Keyword, Token};
+use crate::keywords::keyword_of;
+use cq_language::Token;
 use cq_values::Text;
 use std::alloc::{AllocError, Global};
 
-const KEYWORDS: [(Keyword, &str); 51] = [
-    (Keyword::And, "and"),
-    (Keyword::As, "as"),
-    (Keyword::Asc, "asc"),
-    (Keyword::Between, "between"),
-    (Keyword::By, "by"),
-    (Keyword::Copy, "copy"),
-    (Keyword::Count, "count"),
-    (Keyword::Create, "create"),
-    (Keyword::Date, "date"),
-    (Keyword::Day, "day"),
-    (Keyword::Delete, "delete"),
-    (Keyword::Desc, "desc"),
-    (Keyword::Distinct, "distinct"),
-    (Keyword::Drop, "drop"),
-    (Keyword::Extract, "extract"),
-    (Keyword::From, "from"),
-    (Keyword::Group, "group"),
-    (Keyword::Having, "having"),
-    (Keyword::In, "in"),
-    (Keyword::Inner, "inner"),
-    (Keyword::Insert, "insert"),
-    (Keyword::Integer, "integer"),
-    (Keyword::Into, "into"),
-    (Keyword::Is, "is"),
-    (Keyword::Join, "join"),
-    (Keyword::Left, "left"),
-    (Keyword::Like, "like"),
-    (Keyword::Limit, "limit"),
-    (Keyword::Max, "max"),
-    (Keyword::Merge, "merge"),
-    (Keyword::Min, "min"),
-    (Keyword::Month, "month"),
-    (Keyword::Move, "move"),
-    (Keyword::Not, "not"),
-    (Keyword::Null, "null"),
-    (Keyword::On, "on"),
-    (Keyword::Or, "or"),
-    (Keyword::Order, "order"),
-    (Keyword::Outer, "outer"),
-    (Keyword::Refresh, "refresh"),
-    (Keyword::Select, "select"),
-    (Keyword::Set, "set"),
-    (Keyword::Sort, "sort"),
-    (Keyword::Sum, "sum"),
-    (Keyword::Table, "table"),
-    (Keyword::Text, "text"),
-    (Keyword::Update, "update"),
-    (Keyword::Values, "values"),
-    (Keyword::View, "view"),
-    (Keyword::Where, "where"),
-    (Keyword::Year, "year"),
-];
-
-/// One digit more is within 64 bits behind a number up to this one.
-const SMALL: u64 = 1_000_000_000_000_000_000;
-
-fn found_in(table: &[(Keyword, &str)], word: &str) -> Option<Keyword>
-    ensures { result ≡ found_in table.now word.now }
-{
-    for (keyword, spelling) in table {
-        if word.eq_ignore_ascii_case(spelling) {
-            return Some(*keyword);
-        }
-    }
-    None
-}
-
-/// The keyword that a word is in lower case, if it is one.
-fn keyword_of(word: &str) -> Option<Keyword>
-    ensures { result ≡ keyword_of (map to_ascii_lowercase word.now) }
-{
-    found_in(&KEYWORDS, word)
-}
+/// So many digits spell a number of up to 64 bits, whatever they are.
+const FEW: usize = 16;
 
 /// A keyword takes no memory.
 fn word_token(alloc: Global, word: &str) -> Result<Token, AllocError>
@@ -124,21 +51,32 @@ fn number_of(digits: &[u8]) -> u128
     number
 }
 
-/// The number that the digits in front spell, and how many they are, where it is small.
-fn small_number(bytes: &[u8]) -> Option<(u64, usize)>
-    ensures { IfSome result (IsNumberAt bytes.now) }
+/// The number that the digits in front of a few bytes spell, and how many they are.
+fn number_within(bytes: &[u8]) -> (u64, usize)
+    requires { length bytes.now ≤ 16 }
+    ensures { IsNumberAt bytes.now result }
 {
     let mut number = 0u64;
     for (i, b) in bytes.iter().enumerate() {
-        if !is_digit(*b) {
-            return Some((number, i));
-        }
-        if SMALL < number {
-            return None;
-        }
-        number = number * 10 + u64::from(*b - b'0');
+        let Some(value) = digit_value(*b) else {
+            return (number, i);
+        };
+        number = number * 10 + value;
     }
-    Some((number, bytes.len()))
+    (number, bytes.len())
+}
+
+/// The number that the digits in front spell, and how many they are, where they are few.
+fn small_number(bytes: &[u8]) -> Option<(u64, usize)>
+    ensures { IfSome result (IsNumberAt bytes.now) }
+{
+    match bytes.get(..FEW) {
+        Some(front) => {
+            let (number, len) = number_within(front);
+            (len < FEW).then_some((number, len))
+        }
+        None => Some(number_within(bytes)),
+    }
 }
 
 /// A number of up to 64 bits in front of a text, where no word goes on behind it, and what follows.

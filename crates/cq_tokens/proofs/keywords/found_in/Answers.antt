@@ -1,5 +1,5 @@
-use Rattle.cq_tokens.proofs.Keywords.{is_here, is_behind}
-use Rattle.cq_tokens.proofs.words.found_in.Goals as goal
+use Rattle.cq_tokens.proofs.KeywordTables.{is_here, is_behind}
+use Rattle.cq_tokens.proofs.keywords.found_in.Goals as goal
 
 pub returns-then-eq_ignore_ascii_case : goal.returns-then-eq_ignore_ascii_case
 returns-then-eq_ignore_ascii_case c =

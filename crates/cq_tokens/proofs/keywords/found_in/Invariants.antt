@@ -1,6 +1,6 @@
 use Rattle.std.proofs.Common.{◌≡◌, drop}
 use Rattle.cq_tokens.specs.Lexing.{found_in}
-use Rattle.cq_tokens.proofs.words.found_in.Given as goal
+use Rattle.cq_tokens.proofs.keywords.found_in.Given as goal
 
 -- what the rest of the table finds is what all of it finds
 abbrev pub invariant-loop-keyword : goal.invariant-loop-keyword
