@@ -16,7 +16,7 @@ use crate::constants::bound_row;
 use cq_binding::Bound;
 use cq_catalog::{Catalog, TableEntry, table_columns};
 use cq_exprs::Scope;
-use cq_language::{Constant, SqlExpr};
+use cq_language::{ConstantRows, SqlExpr};
 use cq_model::Cond;
 use cq_queries::bound_where;
 use cq_values::{ColumnDef, Row, Seq, Text};
@@ -27,7 +27,7 @@ pub(crate) fn bind_insert<C: Catalog>(
     alloc: Global,
     catalog: &C,
     name: &Text,
-    rows: &Seq<Seq<Constant>>,
+    rows: &ConstantRows,
 ) -> Result<Bound, BindFault>
     ensures { Binds (state_of C.tables C.views catalog.now) (statements.Insert name.now rows.now) result }
 {
@@ -36,7 +36,7 @@ pub(crate) fn bind_insert<C: Catalog>(
     };
     Ok(Bound::Insert {
         table: table.number,
-        rows: bound_rows(alloc, table.columns, rows.as_slice())?,
+        rows: bound_rows(alloc, table.columns, rows)?,
     })
 }
 
@@ -44,14 +44,13 @@ pub(crate) fn bind_insert<C: Catalog>(
 fn bound_rows(
     alloc: Global,
     columns: &[ColumnDef],
-    rows: &[Seq<Constant>],
+    rows: &ConstantRows,
 ) -> Result<Seq<Row>, BindFault>
     ensures { WalksTo (flat_map (row_checks columns.now) rows.now) (map row_of rows.now) result }
 {
     let mut made = Vec::with_capacity(alloc, rows.len())?;
-    for row in rows {
-        let constants = row.as_slice();
-        made.push(bound_row(alloc, columns, constants)?)?;
+    for place in 0..rows.len() {
+        made.push(bound_row(alloc, columns, rows.row(place))?)?;
     }
     Ok(Seq::from_vec(made))
 }

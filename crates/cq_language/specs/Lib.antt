@@ -7,6 +7,7 @@ pub mod Codes
 pub mod Spelling
 pub mod Expression
 pub mod Parts
+pub mod ConstantRows
 pub mod Query
 pub mod Sentence
 pub mod Pieces

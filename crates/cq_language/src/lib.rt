@@ -4,10 +4,12 @@
 //! reader is proved against these definitions.
 #![tactic(auto)]
 
+mod constant_rows;
 mod statement;
 mod token;
 mod written;
 
+pub use constant_rows::ConstantRows;
 pub use statement::{
     Constant, FromSource, JoinedSource, Literal, OnEquality, OrderKey, OutputColumn, Select,
     SelectItem, SetClause, Statement,

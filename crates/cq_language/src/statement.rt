@@ -1,4 +1,5 @@
 //! Statements as trees.
+use crate::constant_rows::ConstantRows;
 use crate::written::{ColumnName, SqlExpr};
 use cq_values::{ColumnDef, Seq, Text};
 
@@ -103,7 +104,7 @@ pub enum Statement {
     DropView(Text),
     Insert {
         table: Text,
-        rows: Seq<Seq<Constant>>,
+        rows: ConstantRows,
     },
     Delete {
         table: Text,

@@ -1,6 +1,7 @@
 pub mod Places
 pub mod NameReads
 pub mod ConstantReads
+pub mod RowReads
 pub mod Tables
 pub mod Sources
 pub mod Orders

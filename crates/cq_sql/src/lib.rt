@@ -12,6 +12,7 @@ mod laws;
 mod names;
 mod order;
 mod query;
+mod rows;
 mod select_item;
 mod sentences;
 mod source;

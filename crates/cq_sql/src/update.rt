@@ -3,8 +3,8 @@ ghost use Rattle.std.specs.Prelude.{◌≡◌};
 ghost use Rattle.cq_reader.specs.Gives.{Gives};
 ghost use Rattle.cq_sql.specs.Grammar.{copy_at, delete_at, insert_at, merge_at, move_at, set_clause_at, update_at};
 
-use crate::constants::Rows;
 use crate::names::{Names, Numbers, Texts};
+use crate::rows::rows_at;
 use cq_expr_reader::SqlExpressions;
 use cq_language::{Keyword, SetClause, Statement, Symbol, Token};
 use cq_reader::{Lead, Readable, SqlFault, expect_keyword, expect_symbol, list_of, tail_of};
@@ -18,7 +18,7 @@ pub fn insert_at(alloc: Global, tokens: &[Token]) -> Result<(Statement, &[Token]
     let rest = expect_keyword(Keyword::Into, tokens)?;
     let (table, rest) = Names::read(alloc, rest)?;
     let rest = expect_keyword(Keyword::Values, rest)?;
-    let (rows, rest) = list_of::<Rows>(alloc, Lead::Comma, rest)?;
+    let (rows, rest) = rows_at(alloc, rest)?;
     Ok((Statement::Insert { table, rows }, rest))
 }
 

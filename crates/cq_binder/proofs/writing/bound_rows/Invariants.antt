@@ -6,7 +6,7 @@ use Rattle.cq_binding.specs.RowChecks.{row_checks}
 use Rattle.cq_binder.proofs.writing.bound_rows.Given as goal
 
 -- the rows so far are made, and those that are left have the first fault of all
-abbrev pub invariant-loop-row : goal.invariant-loop-row
-invariant-loop-row l =
-    (l.made.items ≡ map row_of (take l.row-index l.rows))
-    × (first_fault (flat_map (row_checks l.columns) (drop l.row-index l.rows)) ≡ first_fault (flat_map (row_checks l.columns) l.rows))
+abbrev pub invariant-loop-place : goal.invariant-loop-place
+invariant-loop-place l =
+    (l.made.items ≡ map row_of (take l.place l.rows))
+    × (first_fault (flat_map (row_checks l.columns) (drop l.place l.rows)) ≡ first_fault (flat_map (row_checks l.columns) l.rows))
