@@ -7,7 +7,7 @@ ghost use Rattle.cq_printed.specs.Printed.{line_text, row_text, rows_text};
 use crate::fault::TextFault;
 use crate::fields::Field;
 use crate::lines::Lines;
-use cq_rows::RowList;
+use cq_rows::{RowList, rows_come_in_turn};
 use cq_values::{Seq, Text};
 use itoa::Buffer;
 use std::alloc::Global;
@@ -30,6 +30,7 @@ pub fn print_result(alloc: Global, header: &[Text], rows: &RowList) -> Result<Se
 fn add_rows(lines: &mut Lines, rows: &RowList) -> Result<(), TextFault>
     ensures { OnOk result (AddsLines (flat_map row_text rows.now) lines.old lines.new) }
 {
+    rows_come_in_turn();
     for place in 0..rows.len() {
         add_line(lines, rows.row(place))?;
     }

@@ -1,8 +1,6 @@
 -- The first rows in order, and what they depend on.
-use Rattle.std.proofs.Common.{◌≡◌, ℕ, zero, suc, ◌+◌, pos, Bool, true, false, List, [], ◌∷◌, ◌++◌, take, length, refl, sym, ◌∙◌, ap, arith, subst, get_or, Ordering, Less, Equal, Greater, Option, Some, None}
-use Rattle.std.specs.Bool.{OnTrue}
-use Rattle.std.specs.List.{AllAdjacentBelow, IsAllAdjacentAnswer}
-use Rattle.std.specs.Ordering.{is_gt, is_le, is_lt, ordering_reverse}
+use Rattle.std.proofs.Common.{◌≡◌, ℕ, zero, suc, ◌+◌, pos, false, List, [], ◌∷◌, ◌++◌, take, refl, sym, ◌∙◌, ap, arith, subst, get_or, Ordering, Less, Equal, Greater, Option, Some, None}
+use Rattle.std.specs.Ordering.{is_gt, is_lt, ordering_reverse}
 use Rattle.cq_values.specs.Value.{Row}
 use Rattle.cq_bags.specs.declared.sort_key.SortKey.{SortKey}
 use Rattle.cq_bags.specs.Bag.{SameBag, once_each}
@@ -12,6 +10,7 @@ use Rattle.cq_bags.proofs.Totals.{by_test}
 use Rattle.cq_bags.proofs.Listings.{times_in, weight_of-once_each, listing_cmp_total, one_list, one_listing}
 use Rattle.cq_bags.proofs.Canonicals.{times_in-sorted_by, times_in-append, in_order-sorted_by}
 use Rattle.cq_bags.proofs.Sorts.{in_order-sorted}
+use Rattle.cq_listing.specs.InOrder.{EachInOrder}
 use Rattle.cq_listing.specs.Stored.{StoredListing, CanList}
 
 -- ---- the rows in order
@@ -26,30 +25,19 @@ lists-sorted_by keys rows others t = record {
   in_order = in_order-sorted_by (listing_cmp_total keys) rows;
 }
 
-turned : (o : Ordering) → true ≡ is_le o → is_lt (ordering_reverse o) ≡ false
+turned : (o : Ordering) → is_gt o ≡ false → is_lt (ordering_reverse o) ≡ false
 turned Less h = refl
 turned Equal h = refl
 turned Greater h = absurd (cc h)
 
--- rows of which each stands with the next one in order are the list of their bag
-pub lists-adjacent : (keys : List SortKey) (rows : List Row) (all : Bool) → IsAllAdjacentAnswer (λ r s b. b ≡ is_le (listing_cmp keys r s)) rows all
-    → OnTrue all (Lists keys (once_each rows) rows)
-lists-adjacent keys rows false pairs = tt
-lists-adjacent keys rows true pairs =
+-- rows of which each stands in order with the one in front of it are the list of their bag
+pub lists-in_order : (keys : List SortKey) (rows : List Row) → EachInOrder keys rows → Lists keys (once_each rows) rows
+lists-in_order keys rows each =
     let o = listing_cmp_total keys in
     record {
       same = record { at = λ r. refl };
-      in_order = in_order-sorted o rows (λ k d low high. ap is_lt (o.antisymm (get_or rows (k + 1) d) (get_or rows k d)) ∙ turned _ (pairs k d high));
+      in_order = in_order-sorted o rows (λ k d low high. ap is_lt (o.antisymm (get_or rows (k + 1) d) (get_or rows k d)) ∙ turned _ (each k d high));
     }
-
-no_less : (o : Ordering) → is_gt o ≡ false → true ≡ is_le o
-no_less Less h = refl
-no_less Equal h = refl
-no_less Greater h = absurd (cc h)
-
--- the same of rows that were looked at pair by pair
-pub lists-pairs : (keys : List SortKey) (rows : List Row) → AllAdjacentBelow (λ r s. is_gt (listing_cmp keys r s) ≡ false) rows (length rows) → Lists keys (once_each rows) rows
-lists-pairs keys rows pairs = lists-adjacent keys rows true (λ k d high. no_less _ (pairs k d high))
 
 -- the first of these rows in order
 abbrev pub listed : List SortKey → Option ℕ → List Row → List Row

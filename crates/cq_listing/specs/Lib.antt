@@ -1,3 +1,4 @@
+pub mod InOrder
 pub mod Stored
 pub mod Front
 pub mod Places

@@ -17,7 +17,7 @@ pub(crate) fn places_before(
     worst: &Lent<'_>,
     places: &[u16],
 ) -> Result<Vec<u16>, AllocError>
-    ensures { IfOk result (λ kept. kept.items ≡ before descending column.now (owned worst.now) places.now) }
+    ensures { IfOk result (λ v. v.items ≡ before descending column.now (owned worst.now) places.now) }
 {
     let mut kept = Vec::new(alloc);
     kept.reserve(places.len())?;

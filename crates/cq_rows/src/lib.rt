@@ -5,7 +5,9 @@
 #![tactic(auto)]
 
 mod flat;
+mod laws;
 mod list;
 
 pub use flat::FlatRows;
+pub use laws::rows_come_in_turn;
 pub use list::RowList;
