@@ -7,7 +7,7 @@ use Rattle.cq_model.specs.Meaning.{Tables}
 use Rattle.cq_model.specs.Sizes.{count_size}
 use Rattle.cq_model.specs.Views.{sources_of}
 use Rattle.cq_model.specs.declared.query.Source.{Source}
-use Rattle.cq_sides.specs.Held.{sizes}
+use Rattle.cq_weights.specs.Held.{sizes}
 use Rattle.cq_states.specs.Fitting.{AreFitting, AreLimited}
 use Rattle.cq_states.specs.State.{TableOf}
 use Rattle.cq_upkeep.specs.State.{crossed}

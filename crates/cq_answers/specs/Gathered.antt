@@ -3,7 +3,7 @@ use Rattle.std.specs.Prelude.{◌≡◌, List, ◌⊎◌, Some, slice_get}
 use Rattle.std.specs.List.{AllByRecursion, Any}
 use Rattle.cq_values.specs.Value.{Row}
 use Rattle.cq_bags.specs.Canonical.{bag_of}
-use Rattle.cq_states.specs.State.{TableOf, rows_in}
+use Rattle.cq_states.specs.State.{TableOf, ViewOf, rows_in}
 use Rattle.cq_laws.specs.Sizes.{HasSizes}
 use Rattle.cq_model.specs.Sizes.{column_sizes}
 use Rattle.cq_binding.specs.declared.fault.Fault.{Fault}
@@ -15,6 +15,7 @@ use Rattle.cq_sources.specs.declared.stored_source.StoredSource.{StoredSource}
 use Rattle.cq_states.specs.Pointwise.{Pointwise}
 use Rattle.cq_kept_views.specs.Shown.{AreRowsOf, CanShow, IsNotShown, IsShown}
 use Rattle.cq_kept_views.specs.declared.kept_view.KeptView.{KeptView}
+use Rattle.cq_answers.specs.Reading.{IsSourceThere}
 use Rattle.cq_answers.specs.declared.gathered.Gathered.{Gathered}
 use Rattle.cq_tables.specs.Views.{NamedView}
 
@@ -65,6 +66,10 @@ AreGathered views sources gathered = Pointwise (IsGathered views) sources gather
 abbrev pub AreRowsThere : List TableOf → Source → List Row → List Row → Type 0
 AreRowsThere tables (Table n) shown rows = bag_of rows ≡ rows_in tables n
 AreRowsThere tables (View place) shown rows = rows ≡ shown
+
+-- each table of which something was gathered is there
+abbrev pub CanLend : List TableOf → List Gathered → Type 0
+CanLend tables gathered = (views : List ViewOf) × AllByRecursion (λ g. IsSourceThere tables views g.source) gathered
 
 -- the rows of what was gathered are lent
 pub record IsLent (tables : List TableOf) (gathered : Gathered) (lent : StoredSource) : Type 0 where

@@ -20,6 +20,14 @@ abbrev pub IsSourceThere : List TableOf → List ViewOf → Source → Type 0
 IsSourceThere tables views (Table n) = IsThere n tables
 IsSourceThere tables views (View place) = place < length views
 
+-- so it is with each of these sources that is a table
+abbrev pub AreTablesThere : List TableOf → List Source → Type 0
+AreTablesThere tables sources = (views : List ViewOf) × AllByRecursion (IsSourceThere tables views) sources
+
+-- and with each that is a view
+abbrev pub AreViewsThere : List ViewOf → List Source → Type 0
+AreViewsThere views sources = (tables : List TableOf) × AllByRecursion (IsSourceThere tables views) sources
+
 -- a query whose sources are there, and that can be worked out on each row that joins rows of them, and on their groups
 pub record CanRead (tables : List TableOf) (views : List ViewOf) (q : Query) : Type 0 where
   pub there : AllByRecursion (IsSourceThere tables views) (sources_of q)

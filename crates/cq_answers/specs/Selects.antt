@@ -1,7 +1,7 @@
 -- What SELECT answers from tables and from views.
 use Rattle.std.specs.Prelude.{◌≡◌, ◌⊎◌, List, map, filter, Result, Ok, Err}
 use Rattle.cq_values.specs.Value.{Row}
-use Rattle.cq_bags.specs.Bag.{Weighted}
+use Rattle.cq_bags.specs.Bag.{Weighted, once_each}
 use Rattle.cq_bags.specs.Listing.{IsListing}
 use Rattle.cq_deltas.specs.declared.fault.ShowFault.{ShowFault}
 use Rattle.cq_deltas.specs.declared.fault.ShowFault.TheVariants as shown_fault
@@ -26,6 +26,10 @@ shown_rows q rows = map (items_of q.items) (filter (keeps q.filter) rows)
 -- the rows are the one list of these in an order, cut by its LIMIT
 abbrev pub AreListed : Order → Weighted → List Row → Type 0
 AreListed order bag rows = IsListing order.keys order.limit bag rows
+
+-- the rows are the list of what the items show of these
+abbrev pub ListsShown : Query → Order → List Row → List Row → Type 0
+ListsShown q order rows listed = AreListed order (once_each (shown_rows q rows)) listed
 
 -- the bags that the names in FROM stand for
 abbrev pub sources_in : List TableOf → List ViewOf → Tables

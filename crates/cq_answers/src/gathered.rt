@@ -5,8 +5,8 @@ ghost use Rattle.cq_model.specs.Views.{sources_of};
 ghost use Rattle.cq_columns.specs.Stored.{all_rows};
 ghost use Rattle.cq_states.specs.State.{AreNumbered, TableOf, ViewOf};
 ghost use Rattle.cq_kept_views.specs.Shown.{AreRowsOf, IsShown};
-ghost use Rattle.cq_answers.specs.Reading.{IsSourceThere};
-ghost use Rattle.cq_answers.specs.Gathered.{AreGathered, AreLent, AreRowsThere, HaveColumnsOf, IsBacked, IsGatherFault, IsGathered, IsReadFault, IsShowFault};
+ghost use Rattle.cq_answers.specs.Reading.{AreViewsThere, IsSourceThere};
+ghost use Rattle.cq_answers.specs.Gathered.{AreGathered, AreLent, AreRowsThere, CanLend, HaveColumnsOf, IsBacked, IsGatherFault, IsGathered, IsReadFault, IsShowFault};
 ghost use Rattle.cq_answers.specs.Selects.{shown_as};
 ghost use Rattle.cq_tables.specs.Views.{views_of};
 
@@ -42,7 +42,7 @@ pub fn sources_of(alloc: Global, query: &Query) -> Result<Vec<Source>, AllocErro
 /// What the views among the sources show.
 pub fn gather(alloc: Global, views: &[View], sources: &[Source]) -> Result<Vec<Gathered>, Fault>
     requires backed { AllByRecursion IsBacked views.now }
-    requires there { (ts : List TableOf) × AllByRecursion (IsSourceThere ts (views_of views.now)) sources.now }
+    requires there { AreViewsThere (views_of views.now) sources.now }
     ensures ok { IfOk result (λ gathered. AreGathered views.now sources.now gathered.items) }
     ensures fault { IfErr result (IsGatherFault views.now sources.now) }
 {
@@ -97,7 +97,7 @@ pub fn lend_all<'a>(
     gathered: &'a [Gathered],
 ) -> Result<Vec<StoredSource<'a>>, AllocError>
     requires numbered { (next : ℕ) × AreNumbered tables.now next }
-    requires there { (vs : List ViewOf) × AllByRecursion (λ g. IsSourceThere tables.now vs g.source) gathered.now }
+    requires there { CanLend tables.now gathered.now }
     ensures { IfOk result (λ lent. AreLent tables.now gathered.now lent.items) }
 {
     let mut lent = Vec::new(alloc);

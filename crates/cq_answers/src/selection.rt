@@ -5,7 +5,7 @@ ghost use Rattle.std.specs.Prelude.{◌≡◌, IfOk};
 ghost use Rattle.cq_bags.specs.Bag.{once_each};
 ghost use Rattle.cq_columns.specs.Stored.{all_rows};
 ghost use Rattle.cq_answers.specs.Narrow.{IsWithin};
-ghost use Rattle.cq_answers.specs.Selects.{AreListed, shown_rows};
+ghost use Rattle.cq_answers.specs.Selects.{AreListed, ListsShown, shown_rows};
 
 use cq_columns::Stored;
 use cq_listing::is_listed;
@@ -24,7 +24,7 @@ pub fn list(
     rows: Stored<'_>,
 ) -> Result<RowList, ExecFault>
     requires { AllByRecursion (IsWithin query.now) (all_rows rows) }
-    ensures { IfOk result (AreListed order.now (once_each (shown_rows query.now (all_rows rows.entry)))) }
+    ensures { IfOk result (ListsShown query.now order.now (all_rows rows.entry)) }
 {
     let plan = Plan::of(alloc, query)?;
     let list = listed_rows(alloc, &plan, order, rows)?;
@@ -39,7 +39,7 @@ pub fn list_made(
     rows: RowList,
 ) -> Result<RowList, ExecFault>
     requires { AllByRecursion (IsWithin query.now) rows }
-    ensures { IfOk result (AreListed order.now (once_each (shown_rows query.now rows))) }
+    ensures { IfOk result (ListsShown query.now order.now rows) }
 {
     if shows_all(query, &rows) {
         list_whole(alloc, order, rows)

@@ -15,7 +15,7 @@ use Rattle.cq_model.specs.Group.{key_of, rows_of_key}
 use Rattle.cq_kept.specs.Kept.{Group, GroupStands, Groups, LastStands, group_of}
 use Rattle.cq_laws.proofs.Keeps.{last-respects}
 use Rattle.cq_deltas.specs.Additions.{Addition}
-use Rattle.cq_deltas.specs.declared.change.Placed.{Placed}
+use Rattle.cq_deltas.specs.Placed.{Placed}
 use Rattle.cq_deltas.specs.Keyed.{IsReadyAt, KeyedGroups, additions_at, key_at, stored_at, group_at, is_met, group_with_all, settled, HasKeys, Takes, GroupsGoOn}
 use Rattle.cq_deltas.proofs.MetKeys.{unmet-stays}
 use Rattle.cq_deltas.proofs.NoRows.{empty-stands}

@@ -1,5 +1,5 @@
 -- Groups without rows leave, the last one first.
-use Rattle.std.proofs.Common.{◌≡◌, ℕ, zero, suc, ◌+◌, ◌<◌, ◌≤◌, true, false, ◌||◌, map, List, [], ◌∷◌, length, take, get_or, slice_get, nat_lt, Bool, if◌then◌else◌, Option, unwrap_or, All, refl, sym, ◌∙◌, ap, subst, arith}
+use Rattle.std.proofs.Common.{◌≡◌, ℕ, zero, suc, ◌+◌, ◌<◌, ◌≤◌, true, false, ◌||◌, map, List, [], ◌∷◌, length, take, get_or, slice_get, Some, nat_lt, Bool, if◌then◌else◌, Option, unwrap_or, All, refl, sym, ◌∙◌, ap, subst, arith}
 use Rattle.std.proofs.lemmas.Bool.Decides.{nat_tests}
 use Rattle.std.specs.List.Sorted.{IsPermutation, IsSortedBy}
 use Rattle.std.specs.Cmp.{IsStrictWeakOrder}
@@ -7,11 +7,12 @@ use Rattle.std.specs.Map.{keys_of}
 use Rattle.std.proofs.lemmas.List.{get_or_default, length-map, length-take, take-take}
 use Rattle.std.proofs.lemmas.List.Folds.{list_any_more}
 use Rattle.std.proofs.lemmas.List.Sorted.{All-permutation, IsPermutation-map, IsStrictWeakOrder-by_number, IsStrictWeakOrder-flip, list_any-IsPermutation, sorted_far}
+use Rattle.std.proofs.lemmas.Option.{get_or_from_slice_get, slice_get_within}
 use Rattle.cq_values.specs.Value.{Row}
 use Rattle.cq_values.specs.Order.{same_row}
 use Rattle.cq_values.specs.Keys.{same_row-refl, same_row-same}
 use Rattle.cq_bags.proofs.Totals.{by_test}
-use Rattle.cq_deltas.specs.declared.change.Placed.{Placed}
+use Rattle.cq_deltas.specs.Placed.{Placed}
 use Rattle.cq_deltas.specs.Additions.{Addition}
 use Rattle.cq_deltas.specs.declared.group.Group.{Group as StoredGroup}
 use Rattle.cq_deltas.specs.Keyed.{ArePut, AreSettled, HasKeys, KeepPlaces, KeyedGroups, Takes, addition_at, additions_at, is_met, key_at, settled, stored_at}
@@ -21,8 +22,8 @@ use Rattle.cq_deltas.proofs.Places.{addition-is, addition-within, all-additions,
 use Rattle.cq_deltas.proofs.Turns.{all-at}
 
 -- the order of places from the last to the first
-pub falls : IsStrictWeakOrder (λ (x y : Placed). nat_lt y.place x.place)
-falls = IsStrictWeakOrder-flip (λ (x y : Placed). nat_lt x.place y.place) (IsStrictWeakOrder-by_number (λ (x : Placed). x.place))
+pub falls : {T : Type 0} (place : T → ℕ) → IsStrictWeakOrder (λ (x y : T). nat_lt (place y) (place x))
+falls place = IsStrictWeakOrder-flip (λ x y. nat_lt (place x) (place y)) (IsStrictWeakOrder-by_number place)
 
 -- keys before a place are those of the list that is cut there
 key-before : (groups : KeyedGroups) (n place : ℕ) → place < n → slice_get (keys_of (take n groups)) place ≡ slice_get (keys_of groups) place
@@ -53,7 +54,13 @@ module _ (old : KeyedGroups) (rows : List Placed) where
   leave-all i end now h leaves = subst (λ (xs : List Addition). AreSettled (is_met xs) old now) (all-additions old rows i h) leaves.done
 
 module _ (old : KeyedGroups) (rows : List Placed) (fall : IsSortedBy (λ x y. nat_lt y.place x.place) rows) (there : All (λ x. x.place < length old) rows)
-    (i end : ℕ) (now : KeyedGroups) (x : Placed) (h : i < length rows) (is : x ≡ get_or rows i x) (leaves : Leaves old rows i end now) where
+    (i end : ℕ) (now : KeyedGroups) (x : Placed) (at : slice_get rows i ≡ Some x) (leaves : Leaves old rows i end now) where
+  h : i < length rows
+  h = slice_get_within rows i x at
+
+  is : x ≡ get_or rows i x
+  is = sym (get_or_from_slice_get rows i x x at)
+
   abbrev xs : List Addition
   xs = additions_at old rows
 
@@ -61,10 +68,10 @@ module _ (old : KeyedGroups) (rows : List Placed) (fall : IsSortedBy (λ x y. na
   here = addition_at old x
 
   within : i < length xs
-  within = addition-within old rows i x h is
+  within = addition-within old rows i x at
 
   is-here : here ≡ get_or xs i here
-  is-here = addition-is old rows i x h is
+  is-here = addition-is old rows i x at
 
   stands : x.place < length old
   stands = subst (λ (y : Placed). y.place < length old) (sym is) (there i x h)
@@ -86,9 +93,9 @@ module _ (old : KeyedGroups) (rows : List Placed) (fall : IsSortedBy (λ x y. na
 
   rest-now : (j : ℕ) (d : Placed) → i + 1 ≤ j → j < length rows → (get_or rows j d).place ≤ x.place
   rest-now j d g n =
-      let at : get_or rows i d ≡ x = get_or_default rows i d x h ∙ sym is in
-      let far : nat_lt (get_or rows i d).place (get_or rows j d).place ≡ false = sorted_far (λ (p q : Placed). nat_lt q.place p.place) falls rows fall i j d (omega (arith, g)) n in
-      grind (arith, nat_tests, ap (λ (y : Placed). y.place) at, far)
+      let here : get_or rows i d ≡ x = get_or_default rows i d x h ∙ sym is in
+      let far : nat_lt (get_or rows i d).place (get_or rows j d).place ≡ false = sorted_far (λ (p q : Placed). nat_lt q.place p.place) (falls (λ (p : Placed). p.place)) rows fall i j d (omega (arith, g)) n in
+      grind (arith, nat_tests, ap (λ (y : Placed). y.place) here, far)
 
   -- its group leaves if it has no rows
   pub leave-next : x.place < end → (new : KeyedGroups) → AreSettled (same_row (key_at now x.place)) now new → take x.place new ≡ take x.place now → Leaves old rows (i + 1) x.place new
@@ -106,18 +113,18 @@ module _ (old : KeyedGroups) (rows : List Placed) (fall : IsSortedBy (λ x y. na
   pub leave-again : (x.place < end → ⊥) → Leaves old rows (i + 1) x.place now
   leave-again past = record {
     done = settled-more xs i here old now now within is-here leaves.done again;
-    front = subst (λ (n : ℕ). take n now ≡ take n old) (sym at) leaves.front;
+    front = subst (λ (n : ℕ). take n now ≡ take n old) (sym same) leaves.front;
     met = λ n. met-now;
     rest = rest-now;
   }
     where
-      at : x.place ≡ end
-      at = by_test (nat_lt x.place end)
+      same : x.place ≡ end
+      same = by_test (nat_lt x.place end)
           (λ b. absurd (past (grind (arith, nat_tests, b))))
           (λ b. grind (arith, nat_tests, b, ap (λ (y : Placed). y.place) is, leaves.rest i x (omega arith) h))
 
       met-before : is_met (take i xs) here.key ≡ true
-      met-before = rw at (leaves.met (omega (arith, at, stands)))
+      met-before = rw same (leaves.met (omega (arith, same, stands)))
 
       again : AreSettled (same_row here.key) now now
       again k = by_test (same_row here.key k)

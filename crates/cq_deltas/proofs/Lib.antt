@@ -10,3 +10,4 @@ pub mod Rowwise
 pub mod Showing
 pub mod Small
 pub mod Turns
+pub mod Waiting

@@ -1,10 +1,10 @@
 -- Groups by their places.
-use Rattle.std.proofs.Common.{◌≡◌, ℕ, zero, suc, ◌<◌, ◌≤◌, true, List, [], ◌∷◌, ◌++◌, length, take, get_or, position, slice_get, Option, Some, is_some, unwrap_or, refl, sym, ◌∙◌, ap, ap₂, subst, arith}
+use Rattle.std.proofs.Common.{◌≡◌, ℕ, zero, suc, ◌+◌, ◌<◌, ◌≤◌, true, List, [], ◌∷◌, ◌++◌, length, take, get_or, position, slice_get, Option, Some, is_some, unwrap_or, refl, sym, ◌∙◌, ap, ap₂, subst, arith}
 use Rattle.std.specs.List.{AllByRecursion, IsDistinct}
 use Rattle.std.specs.Map.{keys_of, values_of}
-use Rattle.std.proofs.lemmas.List.{get_or-map, length-map, map-append, take_all}
+use Rattle.std.proofs.lemmas.List.{get_or-map, length-append, length-map, map-append, take_all}
 use Rattle.std.proofs.lemmas.List.Quantifiers.{position-Some}
-use Rattle.std.proofs.lemmas.Option.{slice_get-get_or}
+use Rattle.std.proofs.lemmas.Option.{get_or_from_slice_get, slice_get-get_or, slice_get_within}
 use Rattle.std.proofs.lemmas.Map.Entries.{lookup_from_place}
 use Rattle.indexmap.specs.IndexMap.{IndexMap}
 use Rattle.indexmap.specs.Layout.{set_value_at}
@@ -14,7 +14,7 @@ use Rattle.cq_values.specs.Order.{same_row}
 use Rattle.cq_values.specs.Keys.{same_row-equiv, same_row-refl, same_row-same}
 use Rattle.cq_bags.proofs.Totals.{by_test}
 use Rattle.cq_deltas.specs.declared.change.Addend.{Addend}
-use Rattle.cq_deltas.specs.declared.change.Placed.{Placed}
+use Rattle.cq_deltas.specs.Placed.{Placed}
 use Rattle.cq_deltas.specs.declared.group.Group.{Group as StoredGroup}
 use Rattle.cq_deltas.specs.Additions.{Addition}
 use Rattle.cq_deltas.specs.Kept.{HaveRoom, KeepRoom}
@@ -169,11 +169,24 @@ place-found groups k i is =
     slice_get-get_or (keys_of groups) i k found.0 ∙ ap Some (sym (same_row-same k (get_or (keys_of groups) i k) found.1))
 
 -- ---- the rows of a change, one after the other
+-- the last row is the one that was put behind the others
+pub last-row : (rows : List Placed) (x y : Placed) (i : ℕ) → i + 1 ≡ length (rows ++ x ∷ []) → slice_get (rows ++ x ∷ []) i ≡ Some y → y ≡ x
+last-row [] x y zero n at = ap (λ (o : Option Placed). unwrap_or o x) (sym at)
+last-row [] x y (suc i) n at = absurd (omega (arith, n))
+last-row (r ∷ rows) x y zero n at = absurd (omega (arith, n, length-append rows (x ∷ [])))
+last-row (r ∷ rows) x y (suc i) n at = last-row rows x y i (omega (arith, n)) at
+
 -- at the end all are done
 pub all-additions : (groups : KeyedGroups) (rows : List Placed) (i : ℕ) → length rows ≤ i → take i (additions_at groups rows) ≡ additions_at groups rows
 all-additions groups rows i h = take_all i (additions_at groups rows) (omega (arith, h, length-map rows (addition_at groups)))
 
-module _ (old : KeyedGroups) (rows : List Placed) (i : ℕ) (x : Placed) (h : i < length rows) (is : x ≡ get_or rows i x) where
+module _ (old : KeyedGroups) (rows : List Placed) (i : ℕ) (x : Placed) (at : slice_get rows i ≡ Some x) where
+  h : i < length rows
+  h = slice_get_within rows i x at
+
+  is : x ≡ get_or rows i x
+  is = sym (get_or_from_slice_get rows i x x at)
+
   pub addition-within : i < length (additions_at old rows)
   addition-within = omega (arith, h, length-map rows (addition_at old))
 

@@ -25,6 +25,10 @@ addend_of r (Sum e) = counted_addend (eval e r)
 addend_of r (Min e) = Some (Listed (eval e r))
 addend_of r (Max e) = Some (Listed (eval e r))
 
+-- what a row adds to each aggregate
+abbrev pub addends_of : Row → List Aggregate → List (Option Addend)
+addends_of r aggregates = map (addend_of r) aggregates
+
 -- what a changed row adds: to the group of its key so many rows, and to each aggregate what its argument adds
 pub record Addition : Type 0 where
   pub key : Row
@@ -33,7 +37,7 @@ pub record Addition : Type 0 where
 
 -- what this row adds, with this weight
 abbrev pub addition : List ℕ → List Aggregate → Row × ℤ → Addition
-addition columns aggregates x = record { key = key_of columns x.0; weight = x.1; addends = map (addend_of x.0) aggregates }
+addition columns aggregates x = record { key = key_of columns x.0; weight = x.1; addends = addends_of x.0 aggregates }
 
 -- what a change of the rows adds
 abbrev pub additions : List ℕ → List Aggregate → Weighted → List Addition

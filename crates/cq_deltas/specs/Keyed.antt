@@ -13,10 +13,10 @@ use Rattle.cq_model.specs.declared.query.Query.{Query}
 use Rattle.cq_model.specs.declared.query.Shape.TheVariants.{Grouped}
 use Rattle.cq_kept.specs.Kept.{Group, Groups, LastStands, group_of}
 use Rattle.cq_deltas.specs.declared.change.Addend.{Addend}
-use Rattle.cq_deltas.specs.declared.change.Placed.{Placed}
 use Rattle.cq_deltas.specs.declared.group.Group.{Group as StoredGroup}
 use Rattle.cq_deltas.specs.Additions.{Addition, additions}
 use Rattle.cq_deltas.specs.Kept.{GroupHolds, HaveRoom, group_with, seen_group, total_moves}
+use Rattle.cq_deltas.specs.Placed.{Placed}
 
 -- keys with their groups as they are stored
 abbrev pub KeyedGroups : Type 0
@@ -58,6 +58,10 @@ stored_after change k stored = if is_met change k then settled (option_map (grou
 -- new is old with the change put in
 pub record Takes (old : KeyedGroups) (change : List Addition) (new : KeyedGroups) : Type 0 where
   pub at : (k : Row) → stored_at new k ≡ stored_after change k (stored_at old k)
+
+-- the group of the key stands at the place
+abbrev pub StandsAt : KeyedGroups → Row → ℕ → Type 0
+StandsAt groups k place = slice_get (keys_of groups) place ≡ Some k
 
 -- the key of the group at a place
 abbrev pub key_at : KeyedGroups → ℕ → Row

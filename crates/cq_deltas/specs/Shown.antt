@@ -1,11 +1,12 @@
 -- What the stored groups show.
-use Rattle.std.specs.Prelude.{pos, int_lt, List, [], ◌∷◌, map, filter}
+use Rattle.std.specs.Prelude.{◌≡◌, ◌++◌, pos, int_lt, List, [], ◌∷◌, map, filter}
 use Rattle.std.specs.List.{AllByRecursion}
 use Rattle.cq_values.specs.Value.{Row}
 use Rattle.cq_model.specs.declared.query.Aggregate.{Aggregate}
 use Rattle.cq_model.specs.declared.query.Aggregate.TheVariants.{Sum}
 use Rattle.cq_model.specs.Group.{InRange}
 use Rattle.cq_kept.specs.Kept.{Kept, Totalled, shown_row}
+use Rattle.cq_rows.specs.Flat.{Flat}
 use Rattle.cq_deltas.specs.declared.group.Group.{Group as StoredGroup}
 use Rattle.cq_deltas.specs.Kept.{seen_group}
 use Rattle.cq_deltas.specs.Keyed.{KeyedGroups, group_at}
@@ -23,6 +24,10 @@ AllCanBeShown aggregates kept = Unit {0}
 -- and of a group as it is stored
 abbrev pub GroupCanBeShown : List Aggregate → StoredGroup → Type 0
 GroupCanBeShown aggregates group = AllCanBeShown aggregates (seen_group group).kept
+
+-- the row that is begun goes on with a group's row: the key, and then what the aggregates show
+abbrev pub ShowsRow : List Aggregate → Row → List Kept → Flat → Flat → Type 0
+ShowsRow aggregates key kept old new = new.begun ≡ old.begun ++ shown_row aggregates key kept
 
 -- the groups that have rows
 abbrev pub counted : KeyedGroups → KeyedGroups

@@ -1,13 +1,14 @@
 //! What changed rows add to groups.
 ghost use Rattle.std.specs.List.{AllByRecursion};
 ghost use Rattle.std.specs.List.Sorted.{IsPermutation, IsSortedBy};
-ghost use Rattle.std.specs.Prelude.{◌++◌, ◌∷◌, ◌≡◌, IfOk, OnOk, [], map, nat_lt};
+ghost use Rattle.std.specs.Prelude.{◌++◌, ◌<◌, ◌∷◌, ◌≡◌, ◌≤◌, IfOk, OnOk, Some, [], length, nat_lt, slice_get};
 ghost use Rattle.cq_values.specs.Lent.{owned};
-ghost use Rattle.cq_deltas.specs.Additions.{IsNarrow, IsSmall, addend_of, counted_addend};
+ghost use Rattle.cq_deltas.specs.Additions.{IsNarrow, IsSmall, addend_of, addends_of, counted_addend};
+ghost use Rattle.cq_deltas.specs.Placed.{placed_at, row_read};
 
 use cq_eval::{eval_row, narrow_is_exact};
 use cq_model::Aggregate;
-use cq_values::{Lent, Seq, Value};
+use cq_values::{Lent, Value};
 use std::alloc::{AllocError, Global};
 use std::marker::Model;
 
@@ -20,27 +21,41 @@ pub enum Addend {
     Listed(Value),
 }
 
+/// A changed row that waits for the group at a place: how often it is there, and where its addends stand among those of
+/// its change.
+#[derive(Clone, Copy, Debug)]
+pub(crate) struct Waiting {
+    place: usize,
+    weight: i128,
+    start: usize,
+    end: usize,
+}
+
 /// What a changed row adds, to the group at a place: so many rows, and to each aggregate what its argument adds.
-#[derive(Debug, Drop)]
-pub struct Placed {
+#[derive(Clone, Copy)]
+pub(crate) struct PlacedRow<'a> {
     pub(crate) place: usize,
     pub(crate) weight: i128,
-    pub(crate) addends: Seq<Option<Addend>>,
+    pub(crate) addends: &'a [Option<Addend>],
 }
 
 /// What a change of the rows adds, row by row. It is for the groups that were made ready for it.
 #[derive(Debug, Drop)]
 pub struct GroupChange {
-    rows: Vec<Placed>,
+    rows: Vec<Waiting>,
+    /// What all rows add, row behind row.
+    addends: Vec<Option<Addend>>,
 }
 
 impl Model for GroupChange {
     ghost use Rattle.std.specs.Prelude.{List};
-    ghost use Rattle.cq_deltas.specs.declared.change.Placed.{Placed};
+    ghost use Rattle.cq_deltas.specs.Placed.{AreWithin, Placed, rows_in};
 
     ghost Value = { List Placed };
 
-    ghost view = { λ c. c.rows.items };
+    ghost view = { λ c. rows_in c.addends.items c.rows.items };
+
+    ghost invariant = { λ c. AreWithin c.addends.items c.rows.items };
 }
 
 impl GroupChange {
@@ -50,20 +65,52 @@ impl GroupChange {
     {
         GroupChange {
             rows: Vec::new(alloc),
+            addends: Vec::new(alloc),
         }
     }
 
-    pub(crate) fn push(&mut self, row: Placed) -> Result<(), AllocError>
-        ensures { OnOk result (self.new ≡ self.old ++ row ∷ []) }
+    /// Puts a row behind the others, with what it adds to each aggregate.
+    pub(crate) fn push(
+        &mut self,
+        alloc: Global,
+        place: usize,
+        aggregates: &[Aggregate],
+        row: &[Value],
+        weight: i128,
+    ) -> Result<(), AllocError>
+        requires { AllByRecursion (IsNarrow row.now) aggregates.now }
+        ensures row { OnOk result (self.new ≡ self.old ++ placed_at place aggregates.now row.now weight ∷ []) }
+        ensures small { OnOk result (AllByRecursion (IsSmall row.now) aggregates.now) }
     {
-        self.rows.push(row)?;
+        let start = self.addends.len();
+        push_addends(alloc, aggregates, row, &mut self.addends)?;
+        let end = self.addends.len();
+        self.rows.push(Waiting {
+            place,
+            weight,
+            start,
+            end,
+        })?;
         Ok(())
     }
 
-    pub(crate) fn as_slice(&self) -> &[Placed]
-        ensures { result.now ≡ self.now }
+    pub(crate) fn len(&self) -> usize
+        ensures { result ≡ length self.now }
     {
-        self.rows.as_slice()
+        self.rows.len()
+    }
+
+    /// The row at an index.
+    pub(crate) fn row(&self, index: usize) -> PlacedRow<'_>
+        requires { index < length self.now }
+        ensures { slice_get self.now index ≡ Some (row_read result) }
+    {
+        let row = self.rows[index];
+        PlacedRow {
+            place: row.place,
+            weight: row.weight,
+            addends: &self.addends[row.start..row.end],
+        }
     }
 
     /// Puts the rows in the order of their places, the last place first. It takes no memory.
@@ -75,21 +122,22 @@ impl GroupChange {
     }
 }
 
-/// What a row adds to each aggregate.
-pub(crate) fn addends_of(
+/// Puts what a row adds to each aggregate behind the others. After an error some are missing.
+fn push_addends(
     alloc: Global,
     aggregates: &[Aggregate],
     row: &[Value],
-) -> Result<Seq<Option<Addend>>, AllocError>
+    addends: &mut Vec<Option<Addend>>,
+) -> Result<(), AllocError>
     requires { AllByRecursion (IsNarrow row.now) aggregates.now }
-    ensures ok { IfOk result (λ addends. addends ≡ map (addend_of row.now) aggregates.now) }
+    ensures ok { OnOk result (addends.new.items ≡ addends.old.items ++ addends_of row.now aggregates.now) }
     ensures small { OnOk result (AllByRecursion (IsSmall row.now) aggregates.now) }
+    ensures none_less { length addends.old.items ≤ length addends.new.items }
 {
-    let mut addends = Vec::with_capacity(alloc, aggregates.len())?;
     for aggregate in aggregates {
         addends.push(addend_of(alloc, aggregate, row)?)?;
     }
-    Ok(Seq::from_vec(addends))
+    Ok(())
 }
 
 /// What a row adds to an aggregate, and `None` where it is not counted.

@@ -1,10 +1,10 @@
 //! A group: how many rows it has, and what is kept of its aggregates.
 ghost use Rattle.std.specs.List.{AllByRecursion};
 ghost use Rattle.std.specs.Ordering.{int_eq};
-ghost use Rattle.std.specs.Prelude.{nat_abs, pos, ◌++◌, ◌≡◌, [], IfErr, IfOk, OnOk, map};
-ghost use Rattle.cq_kept.specs.Kept.{group_of, shown_row};
+ghost use Rattle.std.specs.Prelude.{nat_abs, pos, ◌≡◌, [], IfErr, IfOk, OnOk, map};
+ghost use Rattle.cq_kept.specs.Kept.{group_of};
 ghost use Rattle.cq_deltas.specs.declared.fault.ShowFault.TheVariants.{SumOutOfRange};
-ghost use Rattle.cq_deltas.specs.Shown.{AllCanBeShown, GroupCanBeShown};
+ghost use Rattle.cq_deltas.specs.Shown.{AllCanBeShown, GroupCanBeShown, ShowsRow};
 ghost use Rattle.cq_deltas.specs.Kept.{GroupHolds, HaveRoom, KeepRoom, KeptHolds, all_kept_with, group_with, seen, seen_group, total_moves};
 
 use crate::change::Addend;
@@ -87,7 +87,7 @@ impl Group {
         rows: &mut FlatRows,
     ) -> Result<(), ShowFault>
         ensures rows { OnOk result (rows.new.rows ≡ rows.old.rows) }
-        ensures begun { OnOk result (rows.new.begun ≡ rows.old.begun ++ shown_row aggregates.now key.now (seen_group self.now).kept) }
+        ensures begun { OnOk result (ShowsRow aggregates.now key.now (seen_group self.now).kept rows.old rows.new) }
         ensures range { OnOk result (GroupCanBeShown aggregates.now self.now) }
         ensures fault { IfErr result (λ e. e ≡ SumOutOfRange → GroupCanBeShown aggregates.now self.now → ⊥) }
     {
@@ -103,7 +103,7 @@ fn shown_row(
     rows: &mut FlatRows,
 ) -> Result<(), ShowFault>
     ensures rows { OnOk result (rows.new.rows ≡ rows.old.rows) }
-    ensures begun { OnOk result (rows.new.begun ≡ rows.old.begun ++ shown_row aggregates.now key.now (map seen kept.now)) }
+    ensures begun { OnOk result (ShowsRow aggregates.now key.now (map seen kept.now) rows.old rows.new) }
     ensures range { OnOk result (AllCanBeShown aggregates.now (map seen kept.now)) }
     ensures fault { IfErr result (λ e. e ≡ SumOutOfRange → AllCanBeShown aggregates.now (map seen kept.now) → ⊥) }
 {

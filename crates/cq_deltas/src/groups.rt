@@ -3,18 +3,20 @@ ghost use Rattle.std.specs.List.{AllByRecursion};
 ghost use Rattle.std.specs.List.Sorted.{IsSortedBy};
 ghost use Rattle.std.specs.Map.Iter.{ShowsInOrder, deref_pair};
 ghost use Rattle.std.specs.Map.{keys_of};
-ghost use Rattle.std.specs.Prelude.{All, ◌++◌, ◌<◌, ◌≡◌, IfErr, IfOk, OnOk, Some, [], false, length, nat_lt, slice_get, take};
+ghost use Rattle.std.specs.Prelude.{All, ◌++◌, ◌<◌, ◌≡◌, IfErr, IfOk, OnOk, [], false, length, nat_lt, take};
 ghost use Rattle.cq_kept.specs.Kept.{Groups as ByKey};
 ghost use Rattle.cq_deltas.specs.declared.group.Group.{Group as Stored};
 ghost use Rattle.cq_kept.specs.Shown.{ListsKeys};
+ghost use Rattle.cq_model.specs.Group.{key_of};
 ghost use Rattle.cq_values.specs.Order.{same_row};
 ghost use Rattle.cq_values.specs.Value.{Row as Values};
 ghost use Rattle.cq_deltas.specs.declared.fault.ShowFault.TheVariants.{SumOutOfRange};
 ghost use Rattle.cq_deltas.specs.Additions.{IsNarrow, IsSmall, addition};
 ghost use Rattle.cq_deltas.specs.Shown.{EntryCanBeShown, GroupsCanBeShown, counted_keys, entry_row, group_rows};
-ghost use Rattle.cq_deltas.specs.Keyed.{Adds, ArePut, AreSettled, GroupsGoOn, HasKeys, HoldsFor, HoldsOne, IsPut, IsReadyAt, KeepPlaces, Takes, addition_at, additions_at, group_at, is_met, key_at, stored_at};
+ghost use Rattle.cq_deltas.specs.Keyed.{Adds, ArePut, AreSettled, GroupsGoOn, HasKeys, HoldsFor, HoldsOne, IsPut, IsReadyAt, KeepPlaces, StandsAt, Takes, addition_at, additions_at, group_at, is_met, key_at, stored_at};
+ghost use Rattle.cq_deltas.specs.Placed.{row_read};
 
-use crate::change::{Addend, GroupChange, Placed, addends_of};
+use crate::change::{Addend, GroupChange, PlacedRow};
 use crate::fault::ShowFault;
 use crate::group::Group;
 use cq_eval::key_of;
@@ -66,15 +68,11 @@ impl Groups {
         ensures small { OnOk result (AllByRecursion (IsSmall row.now) aggregates.now) }
         ensures adds { OnOk result (Adds self.old change.old (addition columns.now aggregates.now (row.now, weight)) self.new change.new) }
     {
-        let addends = addends_of(alloc, aggregates, row)?;
         let key = key_of(alloc, columns, row)?;
         let place = self.place_of(alloc, aggregates, key)?;
-        self.make_room(alloc, place, addends.as_slice())?;
-        change.push(Placed {
-            place,
-            weight,
-            addends,
-        })
+        change.push(alloc, place, aggregates, row, weight)?;
+        let last = change.row(change.len() - 1);
+        self.make_room(alloc, place, last.addends)
     }
 
     /// The place of a key's group. Where the key has none, an empty one is put behind the others.
@@ -86,7 +84,7 @@ impl Groups {
     ) -> Result<usize, AllocError>
         ensures groups { (k : Values) → group_at aggregates.now self.new k ≡ group_at aggregates.now self.old k }
         ensures keep { KeepPlaces self.old self.new }
-        ensures place { IfOk result (λ place. slice_get (keys_of self.new) place ≡ Some key) }
+        ensures place { IfOk result (StandsAt self.new key) }
     {
         if let Some(place) = self.groups.get_index_of(&key) {
             return Ok(place);
@@ -123,10 +121,10 @@ impl Groups {
         ensures goes_on { GroupsGoOn self.old (additions_at self.old change) self.new }
     {
         let mut change = change;
-        self.put_all(change.as_slice());
-        if self.settle_all(change.as_slice()) {
+        self.put_all(&change);
+        if self.settle_all(&change) {
             change.sort_from_last();
-            self.drop_empty(change.as_slice());
+            self.drop_empty(&change);
         }
     }
 
@@ -175,52 +173,52 @@ impl Groups {
     }
 
     /// Puts the rows of a change in their groups.
-    fn put_all(&mut self, rows: &[Placed])
-        requires keys { HasKeys rows.now self.old }
-        requires holds { HoldsFor (additions_at self.old rows.now) self.old }
-        ensures put { ArePut self.old (additions_at self.old rows.now) self.new }
+    fn put_all(&mut self, change: &GroupChange)
+        requires keys { HasKeys change.now self.old }
+        requires holds { HoldsFor (additions_at self.old change.now) self.old }
+        ensures put { ArePut self.old (additions_at self.old change.now) self.new }
         ensures keep { KeepPlaces self.old self.new }
     {
-        for row in rows {
-            self.put(row);
+        for index in 0..change.len() {
+            self.put(change.row(index));
         }
     }
 
-    fn put(&mut self, row: &Placed)
-        requires room { IsReadyAt row.now.addends self.old row.now.place }
-        requires holds { HoldsOne (addition_at self.old row.now) self.old }
-        ensures put { IsPut self.old (addition_at self.old row.now) self.new }
+    fn put(&mut self, row: PlacedRow<'_>)
+        requires room { IsReadyAt (row_read row).addends self.old row.place }
+        requires holds { HoldsOne (addition_at self.old (row_read row)) self.old }
+        ensures put { IsPut self.old (addition_at self.old (row_read row.entry)) self.new }
         ensures keep { KeepPlaces self.old self.new }
     {
         match self.groups.get_index_mut(row.place) {
-            Some(group) => group.add(row.weight, row.addends.as_slice()),
+            Some(group) => group.add(row.weight, row.addends),
             None => unreachable!(),
         }
     }
 
     /// Lets values of a change's groups go that are counted no longer, and tells whether one of the groups has no rows.
-    fn settle_all(&mut self, rows: &[Placed]) -> bool
-        requires { HasKeys rows.now self.old }
+    fn settle_all(&mut self, change: &GroupChange) -> bool
+        requires { HasKeys change.now self.old }
         ensures same { (k : Values) → stored_at self.new k ≡ stored_at self.old k }
         ensures keys { keys_of self.new ≡ keys_of self.old }
-        ensures full { result ≡ false → AreSettled (is_met (additions_at self.old rows.now)) self.old self.new }
+        ensures full { result ≡ false → AreSettled (is_met (additions_at self.old change.now)) self.old self.new }
     {
         let mut is_empty = false;
-        for row in rows {
-            is_empty |= self.settle(row);
+        for index in 0..change.len() {
+            is_empty |= self.settle(change.row(index));
         }
         is_empty
     }
 
-    fn settle(&mut self, row: &Placed) -> bool
-        requires { row.now.place < length self.old }
+    fn settle(&mut self, row: PlacedRow<'_>) -> bool
+        requires { row.place < length self.old }
         ensures same { (k : Values) → stored_at self.new k ≡ stored_at self.old k }
         ensures keys { keys_of self.new ≡ keys_of self.old }
-        ensures full { result ≡ false → AreSettled (same_row (key_at self.old row.now.place)) self.old self.new }
+        ensures full { result ≡ false → AreSettled (same_row (key_at self.old row.entry.place)) self.old self.new }
     {
         match self.groups.get_index_mut(row.place) {
             Some(group) => {
-                group.settle(row.addends.as_slice());
+                group.settle(row.addends);
                 group.is_empty()
             }
             None => unreachable!(),
@@ -228,13 +226,14 @@ impl Groups {
     }
 
     /// Drops those groups of a change that have no rows, the last one first. So the places of the others stay right.
-    fn drop_empty(&mut self, rows: &[Placed])
-        requires there { All (λ x. x.place < length self.old) rows.now }
-        requires sorted { IsSortedBy (λ x y. nat_lt y.place x.place) rows.now }
-        ensures { AreSettled (is_met (additions_at self.old rows.now)) self.old self.new }
+    fn drop_empty(&mut self, change: &GroupChange)
+        requires there { All (λ x. x.place < length self.old) change.now }
+        requires sorted { IsSortedBy (λ x y. nat_lt y.place x.place) change.now }
+        ensures { AreSettled (is_met (additions_at self.old change.now)) self.old self.new }
     {
         let mut end = self.groups.len();
-        for row in rows {
+        for index in 0..change.len() {
+            let row = change.row(index);
             // Rows of one group stand together, and the group leaves with the first of them.
             if row.place < end {
                 self.drop_if_empty(row.place);

@@ -13,7 +13,7 @@ mod groups;
 mod kept;
 mod laws;
 
-pub use change::{Addend, GroupChange, Placed};
+pub use change::{Addend, GroupChange};
 pub use fault::ShowFault;
 pub use group::Group;
 pub use groups::Groups;

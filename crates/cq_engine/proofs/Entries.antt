@@ -20,7 +20,7 @@ use Rattle.cq_model.specs.declared.query.Source.{Source}
 use Rattle.cq_model.specs.declared.query.Source.TheVariants.{Table, View}
 use Rattle.cq_model.specs.Meaning.{Tables}
 use Rattle.cq_model.specs.Views.{sources_of}
-use Rattle.cq_sides.specs.Held.{sizes}
+use Rattle.cq_weights.specs.Held.{sizes}
 use Rattle.cq_chains.specs.Chains.{nothing, spans}
 use Rattle.cq_chains.specs.Steps.{AreStored, span}
 use Rattle.cq_states.specs.Fitting.{AreFitting, AreLimited}

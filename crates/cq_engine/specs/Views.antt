@@ -1,11 +1,14 @@
 -- Views that are found under their names, and views that are made.
 use Rattle.std.specs.Prelude.{◌≡◌, ℕ, List, [], ◌∷◌, ◌++◌, Option, option_map}
+use Rattle.std.specs.Global.{Vec}
 use Rattle.std.specs.List.{find}
 use Rattle.cq_values.specs.Texts.{is_text}
 use Rattle.cq_model.specs.declared.query.Query.{Query}
 use Rattle.cq_states.specs.State.{TableOf, ViewOf, view_named}
 use Rattle.cq_kept_views.specs.State.{StandsFor}
 use Rattle.cq_kept_views.specs.declared.kept_view.KeptView.{KeptView}
+use Rattle.cq_sides.specs.Ticks.{counted}
+use Rattle.cq_upkeep.specs.Work.{work_of}
 use Rattle.cq_tables.specs.Views.{AreWide, NamedView, bags_in, views_of}
 
 -- the query of the view of a name, if there is one
@@ -16,9 +19,13 @@ query_named name views = option_map (λ v. v.query) (view_named name views)
 abbrev pub stored_named : List ℕ → List NamedView → Option NamedView
 stored_named name views = find (λ v. is_text v.name name) views
 
+-- what the view of a name has counted, if there is one
+abbrev pub work_named : List ℕ → List NamedView → Option ℕ
+work_named name views = option_map (λ v. counted 0 (work_of v.kept.state)) (stored_named name views)
+
 -- a view was put behind the others
-abbrev pub IsAdded : ViewOf → List NamedView → List NamedView → Type 0
-IsAdded v old new = views_of new ≡ views_of old ++ v ∷ []
+abbrev pub IsAdded : ViewOf → Vec NamedView → Vec NamedView → Type 0
+IsAdded v old new = views_of new.items ≡ views_of old.items ++ v ∷ []
 
 -- what is kept of a view that was built from its tables as they are at the epoch
 pub record IsBuilt (tables : List TableOf) (q : Query) (now : ℕ) (v : KeptView) : Type 0 where

@@ -1,11 +1,10 @@
 //! CREATE VIEW.
-ghost use Rattle.std.specs.List.{AllByRecursion};
-ghost use Rattle.std.specs.Prelude.{◌≡◌, ℕ, IfOk, List, OnErr, OnOk};
+ghost use Rattle.std.specs.Prelude.{◌≡◌, ℕ, IfOk, OnErr, OnOk};
 ghost use Rattle.cq_model.specs.Views.{sources_of};
 ghost use Rattle.cq_states.specs.Fitting.{AreFitting, AreLimited, rows_limit};
-ghost use Rattle.cq_states.specs.State.{AreNumbered, ViewOf};
+ghost use Rattle.cq_states.specs.State.{AreNumbered};
 ghost use Rattle.cq_steps.specs.Next.{new_view};
-ghost use Rattle.cq_answers.specs.Reading.{IsSourceThere};
+ghost use Rattle.cq_answers.specs.Reading.{AreTablesThere};
 ghost use Rattle.cq_engine.specs.Commands.{CanBuild};
 ghost use Rattle.cq_tables.specs.Views.{AreRight, Fits, views_of};
 ghost use Rattle.cq_engine.specs.Views.{IsAdded, IsBuilt};
@@ -33,7 +32,7 @@ pub fn create_view_in(
     requires limited { AreLimited rows_limit tables.now }
     requires right { AreRight tables.now now views.old.items }
     requires can_build { CanBuild tables.now (views_of views.old.items) columns query }
-    ensures created { OnOk result (IsAdded (new_view name columns query now) views.old.items views.new.items) }
+    ensures created { OnOk result (IsAdded (new_view name columns query now) views.old views.new) }
     ensures right { AreRight tables.now now views.new.items }
     ensures err { OnErr result (views.new.items ≡ views.old.items) }
 {
@@ -53,7 +52,7 @@ fn built_state(
     requires fitting { AreFitting tables.now }
     requires limited { AreLimited rows_limit tables.now }
     requires fits { Fits query }
-    requires there { (views : List ViewOf) × AllByRecursion (IsSourceThere tables.now views) (sources_of query) }
+    requires there { AreTablesThere tables.now (sources_of query) }
     ensures { IfOk result (IsBuilt tables.now query now) }
 {
     let sources = gathered_rows(alloc, tables, &query)?;

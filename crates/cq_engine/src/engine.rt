@@ -1,16 +1,15 @@
 //! The engine, and one step of it.
 ghost use Rattle.std.specs.Prelude.{◌≡◌, ◌<◌, ◌+◌, ◌-◌, ◌^◌, ◌∷◌, [], Ok, option_map};
 ghost use Rattle.cq_binding.specs.declared.bound.Bound.TheVariants as commands;
-ghost use Rattle.cq_sides.specs.Ticks.{counted};
 ghost use Rattle.cq_states.specs.Fitting.{AreLimited, AreFitting};
 ghost use Rattle.cq_states.specs.State.{first_state, view_named};
 ghost use Rattle.cq_steps.specs.Output.{source_failures};
 ghost use Rattle.cq_steps.specs.Step.{StepFrom};
 ghost use Rattle.cq_tables.specs.Views.{AreRight, views_of};
-ghost use Rattle.cq_upkeep.specs.Work.{work_of};
 ghost use Rattle.cq_engine.specs.declared.answer_source.AnswerSource.TheVariants.{Tables};
-ghost use Rattle.cq_engine.specs.Commands.{CanCarryOut, CarriesOut, OnlyShows};
-ghost use Rattle.cq_engine.specs.Views.{stored_named};
+ghost use Rattle.cq_engine.specs.Commands.{OnlyShows};
+ghost use Rattle.cq_engine.specs.Held.{CanDo, Does};
+ghost use Rattle.cq_engine.specs.Views.{stored_named, work_named};
 
 use crate::answer_source::AnswerSource;
 use crate::catalog::EngineCatalog;
@@ -109,7 +108,7 @@ impl Engine {
 
     /// What the view of a name has counted since it was built, if there is one.
     pub fn view_work(&self, name: &str) -> Option<u128>
-        ensures { result ≡ option_map (λ v. counted 0 (work_of v.kept.state)) (stored_named name.now self.now.stored) }
+        ensures { result ≡ work_named name.now self.now.stored }
     {
         let view = self.view_state(name)?;
         Some(view.work())
@@ -148,8 +147,8 @@ impl Engine {
     /// Carries out a command that was bound by the catalog.
     fn carry_out(&mut self, command: Bound) -> Result<Answer, Fault>
         requires drawn { self.old.state.drawn < 2 ^ 64 - 1 }
-        requires bound { CanCarryOut self.old.state.tables self.old.state.views command }
-        ensures done { CarriesOut self.old.state command result self.new.state }
+        requires bound { CanDo self.old command }
+        ensures done { Does self.old command result self.new }
         ensures rows { OnlyShows self.old.state result self.new.state }
     {
         match command {
@@ -190,7 +189,7 @@ impl Engine {
         sort: Seq<usize>,
     ) -> Result<Answer, Fault>
         requires { self.old.state.drawn < 2 ^ 64 - 1 }
-        ensures done { CarriesOut self.old.state (commands.CreateTable name columns sort) result self.new.state }
+        ensures done { Does self.old (commands.CreateTable name columns sort) result self.new }
         ensures rows { OnlyShows self.old.state result self.new.state }
     {
         let max_rows = self.limits.max_rows;
@@ -201,8 +200,8 @@ impl Engine {
     }
 
     fn drop_table(&mut self, number: u64) -> Answer
-        requires { CanCarryOut self.old.state.tables self.old.state.views (commands.DropTable number) }
-        ensures done { CarriesOut self.old.state (commands.DropTable number) (Ok result) self.new.state }
+        requires { CanDo self.old (commands.DropTable number) }
+        ensures done { Does self.old (commands.DropTable number) (Ok result) self.new }
         ensures rows { OnlyShows self.old.state (Ok result) self.new.state }
     {
         drop_in(&mut self.tables, number);
@@ -216,8 +215,8 @@ impl Engine {
         columns: Seq<ColumnDef>,
         query: Query,
     ) -> Result<Answer, Fault>
-        requires { CanCarryOut self.old.state.tables self.old.state.views (commands.CreateView name columns query) }
-        ensures done { CarriesOut self.old.state (commands.CreateView name columns query) result self.new.state }
+        requires { CanDo self.old (commands.CreateView name columns query) }
+        ensures done { Does self.old (commands.CreateView name columns query) result self.new }
         ensures rows { OnlyShows self.old.state result self.new.state }
     {
         let now = self.writes;
@@ -234,8 +233,8 @@ impl Engine {
     }
 
     fn drop_view(&mut self, place: usize) -> Answer
-        requires { CanCarryOut self.old.state.tables self.old.state.views (commands.DropView place) }
-        ensures done { CarriesOut self.old.state (commands.DropView place) (Ok result) self.new.state }
+        requires { CanDo self.old (commands.DropView place) }
+        ensures done { Does self.old (commands.DropView place) (Ok result) self.new }
         ensures rows { OnlyShows self.old.state (Ok result) self.new.state }
     {
         drop_view_at(&mut self.views, place);
@@ -244,8 +243,8 @@ impl Engine {
 
     fn insert(&mut self, table: u64, rows: Seq<Row>) -> Result<Answer, Fault>
         requires drawn { self.old.state.drawn < 2 ^ 64 - 1 }
-        requires bound { CanCarryOut self.old.state.tables self.old.state.views (commands.Insert table rows) }
-        ensures done { CarriesOut self.old.state (commands.Insert table rows) result self.new.state }
+        requires bound { CanDo self.old (commands.Insert table rows) }
+        ensures done { Does self.old (commands.Insert table rows) result self.new }
         ensures rows { OnlyShows self.old.state result self.new.state }
     {
         let max_rows = self.limits.max_rows;
@@ -267,8 +266,8 @@ impl Engine {
 
     fn delete(&mut self, table: u64, condition: Option<Cond>) -> Result<Answer, Fault>
         requires drawn { self.old.state.drawn < 2 ^ 64 - 1 }
-        requires bound { CanCarryOut self.old.state.tables self.old.state.views (commands.Delete table condition) }
-        ensures done { CarriesOut self.old.state (commands.Delete table condition) result self.new.state }
+        requires bound { CanDo self.old (commands.Delete table condition) }
+        ensures done { Does self.old (commands.Delete table condition) result self.new }
         ensures rows { OnlyShows self.old.state result self.new.state }
     {
         let epoch = self.writes + 1;
@@ -294,8 +293,8 @@ impl Engine {
         filter: Option<Cond>,
     ) -> Result<Answer, Fault>
         requires drawn { self.old.state.drawn < 2 ^ 64 - 1 }
-        requires bound { CanCarryOut self.old.state.tables self.old.state.views (commands.Update table assignments filter) }
-        ensures done { CarriesOut self.old.state (commands.Update table assignments filter) result self.new.state }
+        requires bound { CanDo self.old (commands.Update table assignments filter) }
+        ensures done { Does self.old (commands.Update table assignments filter) result self.new }
         ensures rows { OnlyShows self.old.state result self.new.state }
     {
         let epoch = self.writes + 1;
@@ -318,8 +317,8 @@ impl Engine {
 
     /// The rows go on to columns where they are read faster; none of them changes.
     fn move_rows(&mut self, table: u64, rows: u128) -> Result<Answer, Fault>
-        requires { CanCarryOut self.old.state.tables self.old.state.views (commands.Move table rows) }
-        ensures done { CarriesOut self.old.state (commands.Move table rows) result self.new.state }
+        requires { CanDo self.old (commands.Move table rows) }
+        ensures done { Does self.old (commands.Move table rows) result self.new }
         ensures rows { OnlyShows self.old.state result self.new.state }
     {
         move_in(self.alloc, &mut self.tables, table, rows)?;
@@ -328,7 +327,7 @@ impl Engine {
 
     /// Rows in columns are taken away at once, so that nothing has to be merged.
     fn merge(&self, _table: u64) -> Answer
-        ensures { CarriesOut self.now.state (commands.Merge _table) (Ok result) self.now.state }
+        ensures { Does self.now (commands.Merge _table) (Ok result) self.now }
     {
         let _views = &self.views;
         Answer::Done
@@ -336,15 +335,15 @@ impl Engine {
 
     /// Each view has taken in each write, so that none has to be taken on.
     fn refresh(&self, _view: usize, _changes: u128) -> Answer
-        ensures { CarriesOut self.now.state (commands.Refresh _view _changes) (Ok result) self.now.state }
+        ensures { Does self.now (commands.Refresh _view _changes) (Ok result) self.now }
     {
         let _views = &self.views;
         Answer::Done
     }
 
     fn select(&self, header: Seq<Text>, query: Query, order: Order) -> Result<Answer, Fault>
-        requires { CanCarryOut self.now.state.tables self.now.state.views (commands.Select header query order) }
-        ensures { CarriesOut self.now.state (commands.Select header query order) result self.now.state }
+        requires { CanDo self.now (commands.Select header query order) }
+        ensures { Does self.now (commands.Select header query order) result self.now }
     {
         let selected = select_from(self.alloc, &self.tables, &self.views, &query, &order);
         drop(query);

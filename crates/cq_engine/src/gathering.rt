@@ -1,9 +1,8 @@
 //! The rows that a view is built from.
-ghost use Rattle.std.specs.List.{AllByRecursion};
 ghost use Rattle.std.specs.Prelude.{◌≡◌, ℕ, IfOk, List, OnOk};
 ghost use Rattle.cq_model.specs.Views.{sources_of};
 ghost use Rattle.cq_states.specs.State.{AreNumbered, ViewOf};
-ghost use Rattle.cq_answers.specs.Reading.{IsSourceThere};
+ghost use Rattle.cq_answers.specs.Reading.{AreTablesThere, IsSourceThere};
 ghost use Rattle.cq_engine.specs.Gathering.{AreGathered, GathersAlso, is_gathered};
 
 use cq_answers::{rows_there, sources_of};
@@ -19,7 +18,7 @@ pub(crate) fn gathered_rows<'a>(
     query: &Query,
 ) -> Result<Vec<StoredSource<'a>>, AllocError>
     requires numbered { (next : ℕ) × AreNumbered tables.now next }
-    requires there { (views : List ViewOf) × AllByRecursion (IsSourceThere tables.now views) (sources_of query.now) }
+    requires there { AreTablesThere tables.now (sources_of query.now) }
     ensures { IfOk result (λ gathered. AreGathered tables.now (sources_of query.now) gathered.items) }
 {
     let sources = sources_of(alloc, query)?;
@@ -33,7 +32,7 @@ fn gather_all<'a>(
     sources: &[Source],
 ) -> Result<Vec<StoredSource<'a>>, AllocError>
     requires numbered { (next : ℕ) × AreNumbered tables.now next }
-    requires there { (views : List ViewOf) × AllByRecursion (IsSourceThere tables.now views) sources.now }
+    requires there { AreTablesThere tables.now sources.now }
     ensures { IfOk result (λ gathered. AreGathered tables.now sources.now gathered.items) }
 {
     let mut gathered = Vec::new(alloc);

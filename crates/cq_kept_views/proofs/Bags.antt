@@ -16,8 +16,8 @@ use Rattle.cq_model.specs.Group.{key_of}
 use Rattle.cq_model.specs.Meaning.{Tables}
 use Rattle.cq_narrow.proofs.Bags.{rows-stored, rows-wide}
 use Rattle.cq_narrow.specs.declared.columns.SourceColumns.{SourceColumns}
-use Rattle.cq_sides.proofs.RowByRow.{sizes-cons}
-use Rattle.cq_sides.specs.Held.{sizes}
+use Rattle.cq_weights.proofs.RowByRow.{sizes-cons}
+use Rattle.cq_weights.specs.Held.{sizes}
 use Rattle.cq_upkeep.specs.State.{AreBags}
 
 -- ---- rows of one source

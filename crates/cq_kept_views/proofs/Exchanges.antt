@@ -20,8 +20,8 @@ use Rattle.cq_model.specs.Group.{key_of}
 use Rattle.cq_model.specs.declared.query.Source.{Source}
 use Rattle.cq_narrow.proofs.Covered.{only_itself}
 use Rattle.cq_narrow.specs.declared.columns.SourceColumns.{SourceColumns}
-use Rattle.cq_sides.proofs.RowByRow.{abs-plus, sizes-cons, weight-size}
-use Rattle.cq_sides.specs.Held.{Held, sizes}
+use Rattle.cq_weights.proofs.RowByRow.{abs-plus, sizes-cons, weight-size}
+use Rattle.cq_weights.specs.Held.{Held, sizes}
 
 -- ---- one row after the other
 -- rows that all come, or all go, have their number as their sizes

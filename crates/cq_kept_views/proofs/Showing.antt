@@ -20,7 +20,7 @@ use Rattle.cq_kept_views.specs.State.{narrow_query}
 use Rattle.cq_laws.proofs.Meanings.{meaning-same}
 use Rattle.cq_narrow.specs.Narrow.{HaveColumns, IsNarrowOf, narrowed_bags, sources_read}
 use Rattle.cq_narrow.specs.declared.columns.SourceColumns.{SourceColumns}
-use Rattle.cq_sides.specs.Held.{sizes}
+use Rattle.cq_weights.specs.Held.{sizes}
 use Rattle.cq_upkeep.proofs.SameBags.{standing-by_sources}
 use Rattle.cq_upkeep.specs.Shown as inner
 use Rattle.cq_upkeep.specs.State.{AreBags, StandsFor, crossed}

@@ -22,8 +22,8 @@ use Rattle.cq_model.specs.Views.{sources_of}
 use Rattle.cq_model.specs.declared.query.Query.{Query}
 use Rattle.cq_model.specs.declared.query.Source.{Source}
 use Rattle.cq_pushes.proofs.Sizes.{sizes-least}
-use Rattle.cq_sides.proofs.RowByRow.{sizes-append, sizes-cons}
-use Rattle.cq_sides.specs.Held.{sizes}
+use Rattle.cq_weights.proofs.RowByRow.{sizes-append, sizes-cons}
+use Rattle.cq_weights.specs.Held.{sizes}
 use Rattle.cq_chains.proofs.Storing.{merged-all, stored-append, stored-merged}
 use Rattle.cq_chains.specs.Chains.{spans}
 use Rattle.cq_chains.specs.Steps.{AreStored, span}

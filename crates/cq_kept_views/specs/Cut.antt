@@ -1,11 +1,12 @@
 -- Rows that are cut to the columns that a query reads of its sources.
-use Rattle.std.specs.Prelude.{◌≡◌, ℕ, if◌then◌else◌, List, [], ◌∷◌, length, map, Option, Some, None}
+use Rattle.std.specs.Prelude.{◌≡◌, ◌++◌, ℕ, pos, neg_ℤ, if◌then◌else◌, List, [], ◌∷◌, length, map, Option, Some, None}
 use Rattle.cq_values.specs.Value.{Row}
 use Rattle.cq_bags.specs.Bag.{SameBag, Weighted, once_each, projected}
 use Rattle.cq_bags.specs.Size.{IsClean}
 use Rattle.cq_columns.specs.Stored.{all_rows}
 use Rattle.cq_kept.specs.Delta.{SameTables}
-use Rattle.cq_kept_views.specs.Filling.{only}
+use Rattle.cq_kept_views.specs.Changes.{weighed}
+use Rattle.cq_kept_views.specs.Filling.{Fills, only}
 use Rattle.cq_lent.specs.Lent.{same_source}
 use Rattle.cq_model.specs.Group.{key_of}
 use Rattle.cq_model.specs.Meaning.{Tables}
@@ -13,7 +14,7 @@ use Rattle.cq_model.specs.Views.{sources_of}
 use Rattle.cq_model.specs.declared.query.Query.{Query}
 use Rattle.cq_model.specs.declared.query.Source.{Source}
 use Rattle.cq_narrow.specs.declared.columns.SourceColumns.{SourceColumns}
-use Rattle.cq_sides.specs.Held.{Held}
+use Rattle.cq_weights.specs.Held.{Held}
 use Rattle.cq_sources.specs.declared.stored_source.StoredSource.{StoredSource}
 use Rattle.cq_upkeep.specs.State.{StandsFor}
 use Rattle.cq_upkeep.specs.Work.{work_of}
@@ -57,6 +58,14 @@ pub record AreCut (columns : List SourceColumns) (changes cut : Tables) : Type 0
   pub same : SameTables cut (cut_bags columns changes)
   pub clean : (source : Source) → IsClean (cut source)
 
+-- each of these rows comes once more, cut to columns
+abbrev pub AddsCut : List ℕ → List Row → Held → Held → Type 0
+AddsCut columns rows old new = SameBag new.entries (old.entries ++ weighed (map (key_of columns) rows) (pos 1))
+
+-- and each of these goes once
+abbrev pub TakesCut : List ℕ → List Row → Held → Held → Type 0
+TakesCut columns rows old new = SameBag new.entries (old.entries ++ weighed (map (key_of columns) rows) (neg_ℤ (pos 1)))
+
 -- ---- rows of tables, where they are stored
 -- the rows of one table, each of them once
 abbrev pub cut_table : List SourceColumns → StoredSource → Tables
@@ -65,6 +74,14 @@ cut_table columns table = cut_bags columns (only table.source (once_each (all_ro
 -- a source with rows that are cut to these columns, each of them once
 abbrev pub cut_only : Source → List ℕ → List Row → Tables
 cut_only source columns rows = only source (once_each (map (key_of columns) rows))
+
+-- each of these rows once, cut to columns
+abbrev pub IsCutOnce : List ℕ → List Row → Held → Type 0
+IsCutOnce columns rows cut = SameBag cut.entries (once_each (map (key_of columns) rows))
+
+-- a state takes in these rows of a source, cut to columns
+abbrev pub FillsFrom : Source → List ℕ → List Row → ViewState → ViewState → Type 0
+FillsFrom source columns rows old new = Fills (cut_only source columns rows) old new
 
 -- the state of a query stands at the epoch for rows that are cut to its columns, and no work was counted
 pub record IsFilled (columns : List SourceColumns) (q : Query) (now : ℕ) (rows : Tables) (state : ViewState) : Type 0 where

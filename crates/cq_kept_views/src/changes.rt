@@ -1,11 +1,9 @@
 //! What a write changes in a table, cut to the columns that a query reads.
-ghost use Rattle.std.specs.Prelude.{◌++◌, IfOk, OnOk, length, map, neg_ℤ, pos};
-ghost use Rattle.cq_bags.specs.Bag.{SameBag};
+ghost use Rattle.std.specs.Prelude.{IfOk, OnOk, length};
 ghost use Rattle.cq_chains.specs.Sources.{rows_at};
 ghost use Rattle.cq_columns.specs.Stored.{stored_rows};
-ghost use Rattle.cq_kept_views.specs.Changes.{StaysInRange, changes_of, exchanged, weighed};
-ghost use Rattle.cq_kept_views.specs.Cut.{AreCut, IsCut};
-ghost use Rattle.cq_model.specs.Group.{key_of};
+ghost use Rattle.cq_kept_views.specs.Changes.{StaysInRange, changes_of, exchanged};
+ghost use Rattle.cq_kept_views.specs.Cut.{AddsCut, AreCut, IsCut, TakesCut};
 
 use crate::cutting::entry_of;
 use cq_chains::SourceRows;
@@ -13,8 +11,8 @@ use cq_columns::StoredRow;
 use cq_eval::key_of;
 use cq_model::Source;
 use cq_narrow::SourceColumns;
-use cq_sides::Weights;
 use cq_values::Row;
+use cq_weights::Weights;
 use std::alloc::{AllocError, Global};
 
 /// For how many rows room is made at once.
@@ -74,7 +72,7 @@ fn take_away(
     cut: &mut Weights,
 ) -> Result<(), AllocError>
     requires { StaysInRange (length gone.now) cut.old.entries }
-    ensures { OnOk result (SameBag cut.new.entries (cut.old.entries ++ weighed (map (key_of columns.now) (stored_rows gone.now)) (neg_ℤ (pos 1)))) }
+    ensures { OnOk result (TakesCut columns.now (stored_rows gone.now) cut.old cut.new) }
 {
     for row in gone {
         cut.add(row.cut(alloc, columns)?, -1)?;
@@ -90,7 +88,7 @@ fn add_to(
     cut: &mut Weights,
 ) -> Result<(), AllocError>
     requires { StaysInRange (length come.now) cut.old.entries }
-    ensures { OnOk result (SameBag cut.new.entries (cut.old.entries ++ weighed (map (key_of columns.now) come.now) (pos 1))) }
+    ensures { OnOk result (AddsCut columns.now come.now cut.old cut.new) }
 {
     for row in come {
         cut.add(key_of(alloc, columns, row.as_slice())?, 1)?;

@@ -1,17 +1,15 @@
 //! Rows that are cut to the columns that a query reads.
 ghost use Rattle.std.specs.Option.{option_copied};
-ghost use Rattle.std.specs.Prelude.{◌≡◌, ◌≤◌, IfOk, length, map};
-ghost use Rattle.cq_bags.specs.Bag.{SameBag, once_each};
+ghost use Rattle.std.specs.Prelude.{◌≡◌, ◌≤◌, IfOk, length};
 ghost use Rattle.cq_bags.specs.Size.{IsClean};
 ghost use Rattle.cq_columns.specs.Stored.{front_rows};
-ghost use Rattle.cq_kept_views.specs.Cut.{cut_widths, entry_of, width_at};
-ghost use Rattle.cq_model.specs.Group.{key_of};
+ghost use Rattle.cq_kept_views.specs.Cut.{IsCutOnce, cut_widths, entry_of, width_at};
 
 use cq_columns::Front;
 use cq_model::{Query, Source};
 use cq_narrow::SourceColumns;
-use cq_sides::Weights;
 use cq_values::Seq;
+use cq_weights::Weights;
 use std::alloc::{AllocError, Global};
 
 /// The first entry of a source.
@@ -58,7 +56,7 @@ pub(crate) fn cut_once(
     front: &Front,
 ) -> Result<Weights, AllocError>
     requires { length (front_rows front.now) ≤ 1_024 }
-    ensures bag { IfOk result (λ w. SameBag w.entries (once_each (map (key_of columns.now) (front_rows front.now)))) }
+    ensures bag { IfOk result (IsCutOnce columns.now (front_rows front.now)) }
     ensures clean { IfOk result (λ w. IsClean w.entries) }
 {
     let mut once = Weights::new(alloc);

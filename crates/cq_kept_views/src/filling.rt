@@ -2,7 +2,7 @@
 ghost use Rattle.std.specs.Prelude.{◌≡◌, ◌≤◌, IfOk, OnOk, length};
 ghost use Rattle.cq_chains.specs.Chains.{nothing};
 ghost use Rattle.cq_columns.specs.Stored.{all_rows, front_rows};
-ghost use Rattle.cq_kept_views.specs.Cut.{IsFilled, cut_bags, cut_only, cut_table, cut_widths};
+ghost use Rattle.cq_kept_views.specs.Cut.{FillsFrom, IsFilled, cut_bags, cut_only, cut_table, cut_widths};
 ghost use Rattle.cq_kept_views.specs.Filling.{CanFill, Fills, bags_at};
 ghost use Rattle.cq_upkeep.specs.State.{CanStart, StandsFor};
 
@@ -112,7 +112,7 @@ fn fill_from(
     rows: &Stored,
 ) -> Result<(), AllocError>
     requires { CanFill view.old (cut_only source columns.now (all_rows rows.now)) }
-    ensures { OnOk result (Fills (cut_only source columns.now (all_rows rows.now)) view.old view.new) }
+    ensures { OnOk result (FillsFrom source columns.now (all_rows rows.now) view.old view.new) }
 {
     let mut left = *rows;
     while !left.is_empty() {
@@ -133,7 +133,7 @@ fn fill_with(
 ) -> Result<(), AllocError>
     requires few { length (front_rows front.now) ≤ 1_024 }
     requires can { CanFill view.old (cut_only source columns.now (front_rows front.now)) }
-    ensures { OnOk result (Fills (cut_only source columns.now (front_rows front.now)) view.old view.new) }
+    ensures { OnOk result (FillsFrom source columns.now (front_rows front.now) view.old view.new) }
 {
     let rows = cut_once(alloc, columns, front)?;
     let mut changes = Vec::new(alloc);

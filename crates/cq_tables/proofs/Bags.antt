@@ -9,7 +9,7 @@ use Rattle.cq_model.specs.declared.query.Source.{Source}
 use Rattle.cq_model.specs.declared.query.Source.TheVariants.{Table, View}
 use Rattle.cq_states.specs.Fitting.{AreFitting, AreLimited}
 use Rattle.cq_states.specs.State.{TableOf}
-use Rattle.cq_sides.specs.Held.{sizes}
+use Rattle.cq_weights.specs.Held.{sizes}
 use Rattle.cq_chains.specs.Steps.{AreStored}
 use Rattle.cq_kept_views.proofs.Taking.{sizes-once_each}
 use Rattle.cq_upkeep.specs.State.{AreBags}

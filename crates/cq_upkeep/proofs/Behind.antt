@@ -14,10 +14,10 @@ use Rattle.cq_model.specs.declared.query.Aggregate.{Aggregate}
 use Rattle.cq_model.specs.declared.query.Query.{Query}
 use Rattle.cq_model.specs.declared.query.Shape.{Shape}
 use Rattle.cq_model.specs.declared.query.Shape.TheVariants.{Plain, Grouped}
-use Rattle.cq_sides.specs.Held.{Held}
+use Rattle.cq_weights.specs.Held.{Held}
 use Rattle.cq_deltas.specs.Additions.{Addition, additions}
 use Rattle.cq_deltas.specs.Keyed.{GroupsGoOn, KeyedGroups, additions_at, group_at, stored_at}
-use Rattle.cq_deltas.specs.declared.change.Placed.{Placed}
+use Rattle.cq_deltas.specs.Placed.{Placed}
 use Rattle.cq_upkeep.specs.Last.{GoesOn, StandsBehind, seen}
 use Rattle.cq_upkeep.specs.Query.{aggregates_in, aggregates_of, keys_in}
 use Rattle.cq_upkeep.specs.declared.last.Last.{Last as Stored}

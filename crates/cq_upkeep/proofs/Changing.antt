@@ -16,8 +16,8 @@ use Rattle.cq_model.specs.declared.query.Query.{Query}
 use Rattle.cq_model.specs.declared.query.Shape.{Shape}
 use Rattle.cq_model.specs.declared.query.Shape.TheVariants.{Plain, Grouped}
 use Rattle.cq_pushes.proofs.Sizes.{sizes-least}
-use Rattle.cq_sides.proofs.RowByRow.{sizes-cons, weight-size}
-use Rattle.cq_sides.specs.Held.{Held, StaysSmall, sizes}
+use Rattle.cq_weights.proofs.RowByRow.{sizes-cons, weight-size}
+use Rattle.cq_weights.specs.Held.{Held, StaysSmall, sizes}
 use Rattle.cq_chains.proofs.Spans.{sizes-filtered}
 use Rattle.cq_chains.proofs.Storing.{stored-filtered}
 use Rattle.cq_chains.specs.Steps.{AreStored}

@@ -11,6 +11,7 @@ pub mod Listing
 pub mod Moves
 pub mod Naming
 pub mod SameBags
+pub mod SameLast
 pub mod Showings
 pub mod Sizing
 pub mod Standing

@@ -13,7 +13,7 @@ use Rattle.cq_model.specs.Views.{sources_of}
 use Rattle.cq_model.specs.declared.query.Join.{Join}
 use Rattle.cq_model.specs.declared.query.Query.{Query}
 use Rattle.cq_pushes.proofs.Limits.{join_within-product}
-use Rattle.cq_sides.specs.Held.{sizes}
+use Rattle.cq_weights.specs.Held.{sizes}
 use Rattle.cq_chains.proofs.Spans.{join-span, sizes-filtered, sizes-passing}
 use Rattle.cq_chains.proofs.Storing.{stored-filtered, stored-joined}
 use Rattle.cq_chains.specs.Chains.{spans}

@@ -17,8 +17,8 @@ use Rattle.cq_model.specs.declared.query.Aggregate.{Aggregate}
 use Rattle.cq_model.specs.declared.query.Aggregate.TheVariants.{CountAll, Count, Sum, Min, Max}
 use Rattle.cq_values.specs.declared.day_part.DayPart.{DayPart}
 use Rattle.cq_values.specs.declared.day_part.DayPart.TheVariants as parts
-use Rattle.cq_sides.proofs.RowByRow.{sizes-cons}
-use Rattle.cq_sides.specs.Held.{sizes}
+use Rattle.cq_weights.proofs.RowByRow.{sizes-cons}
+use Rattle.cq_weights.specs.Held.{sizes}
 use Rattle.cq_chains.specs.Steps.{AreStored}
 use Rattle.cq_deltas.specs.Additions.{Addition, IsNarrow, IsSmall, IsSmallAddend, addend_of, addition, additions, counted_addend}
 use Rattle.cq_deltas.specs.Keyed.{all_total_moves, count_moves}

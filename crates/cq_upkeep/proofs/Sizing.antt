@@ -22,7 +22,7 @@ use Rattle.cq_model.specs.declared.query.Aggregate.{Aggregate}
 use Rattle.cq_model.specs.declared.query.Query.{Query}
 use Rattle.cq_model.specs.declared.query.Shape.{Shape}
 use Rattle.cq_model.specs.declared.query.Shape.TheVariants.{Plain, Grouped}
-use Rattle.cq_sides.specs.Held.{Held, sizes}
+use Rattle.cq_weights.specs.Held.{Held, sizes}
 use Rattle.cq_chains.proofs.Spans.{sizes-filtered}
 use Rattle.cq_chains.proofs.Storing.{stored-filtered}
 use Rattle.cq_chains.specs.Steps.{AreStored}

@@ -93,7 +93,7 @@ module _ (v : ViewState) (changes : Tables) (can : CanPrepare v changes) where
 
   -- and then they wait
   pub all-wait : (given : Weighted) → IsChange v.chain changes given → (c : Chain) (l : Stored) (ticks : ℕ) (waiting : Waiting) (more : LastChange) → IsChangeOf v.query (kept_rows v.query given) l more
-      → AreWaiting v.chain changes c waiting.joins.items → IsWaiting v changes (record v { chain = c; last = l; ticks = ticks }) (record { waiting = waiting; change = more })
+      → AreWaiting v.chain changes c waiting → IsWaiting v changes (record v { chain = c; last = l; ticks = ticks }) (record { waiting = waiting; change = more })
   all-wait given change c l ticks waiting more is wait = λ tables stands wide. record {
     rows = kept_rows v.query given;
     given = kept-change v changes given change tables stands wide;

@@ -1,14 +1,15 @@
 -- What a view keeps behind its joins as it is stored, and what changes of the joined rows make of it.
 use Rattle.std.specs.Prelude.{◌≡◌, ◌+◌, ◌≤◌, ◌^◌, List, ◌++◌, length}
+use Rattle.cq_values.specs.Value.{Row}
 use Rattle.cq_bags.specs.Bag.{Weighted, SameBag, IsBag, filtered, projected}
 use Rattle.cq_kept.specs.Kept.{Last, Images, Groups, LastStands}
 use Rattle.cq_model.specs.Meaning.{items_of, keeps}
 use Rattle.cq_model.specs.declared.query.Aggregate.{Aggregate}
 use Rattle.cq_model.specs.declared.query.Query.{Query}
-use Rattle.cq_sides.specs.Held.{Held, StaysSmall, sizes}
+use Rattle.cq_weights.specs.Held.{Held, StaysSmall, sizes}
 use Rattle.cq_chains.specs.Steps.{AreStored}
 use Rattle.cq_deltas.specs.Additions.{additions}
-use Rattle.cq_deltas.specs.declared.change.Placed.{Placed}
+use Rattle.cq_deltas.specs.Placed.{Placed}
 use Rattle.cq_deltas.specs.Keyed.{HasKeys, HoldsFor, KeyedGroups, additions_at, group_at}
 use Rattle.cq_upkeep.specs.Query.{aggregates_of, key_columns}
 use Rattle.cq_upkeep.specs.declared.last.Last.{Last as Stored}
@@ -36,6 +37,10 @@ AreImages query xs images = SameBag images.entries (projected (items_of query.it
 -- these are what rows add to the groups
 abbrev pub AreAdded : Query → Weighted → KeyedGroups → List Placed → Type 0
 AreAdded query xs groups more = additions_at groups more ≡ additions (key_columns query) (aggregates_of query) xs
+
+-- each key has the group that it had
+abbrev pub GroupsStay : Query → KeyedGroups → KeyedGroups → Type 0
+GroupsStay query old new = (k : Row) → group_at (aggregates_of query) new k ≡ group_at (aggregates_of query) old k
 
 -- what a change of the rows that WHERE keeps adds to these groups, or to images
 abbrev pub IsChangeOf : Query → Weighted → Stored → LastChange → Type 0

@@ -1,3 +1,5 @@
+pub mod GroupLaws
+pub mod Grouping
 pub mod Joins
 pub mod Last
 pub mod Laws

@@ -1,5 +1,5 @@
 -- What a view shows: the bag of its query, or that a total is too large to show.
-use Rattle.std.specs.Prelude.{◌≤◌, Bool, true, false, if◌then◌else◌, ℤ, List, [], ◌∷◌, ◌++◌, None, Some}
+use Rattle.std.specs.Prelude.{◌≡◌, ◌≤◌, Bool, true, false, if◌then◌else◌, ℤ, List, [], ◌∷◌, ◌++◌, None, Some}
 use Rattle.cq_values.specs.Value.{Row}
 use Rattle.cq_bags.specs.Bag.{SameBag, Weighted, IsBag, once_each}
 use Rattle.cq_model.specs.Group.{group_row}
@@ -10,9 +10,11 @@ use Rattle.cq_model.specs.declared.query.Aggregate.{Aggregate}
 use Rattle.cq_model.specs.declared.query.Query.{Query}
 use Rattle.cq_model.specs.declared.query.Shape.{Shape}
 use Rattle.cq_model.specs.declared.query.Shape.TheVariants.{Plain, Grouped}
-use Rattle.cq_sides.specs.Held.{sizes}
+use Rattle.cq_weights.specs.Held.{sizes}
 use Rattle.cq_chains.specs.Steps.{AreStored}
 use Rattle.cq_deltas.specs.Keyed.{KeyedGroups, group_at}
+use Rattle.cq_deltas.specs.declared.fault.ShowFault.{ShowFault}
+use Rattle.cq_deltas.specs.declared.fault.ShowFault.TheVariants.{SumOutOfRange}
 use Rattle.cq_deltas.specs.Shown.{GroupsCanBeShown, group_rows}
 use Rattle.cq_kept.specs.Kept.{Groups}
 use Rattle.cq_kept.specs.Shown.{ListsKeys}
@@ -74,6 +76,10 @@ ShowsInRange query last = (xs : Weighted) → StandsBehind query xs last → IsB
 -- and one of them cannot
 abbrev pub ShowsOutOfRange : Query → Stored → Type 0
 ShowsOutOfRange query last = (xs : Weighted) → StandsBehind query xs last → IsBag xs → ShapeInRange query.shape xs → ⊥
+
+-- the fault tells of one only where there is one
+abbrev pub TellsOutOfRange : Query → Stored → ShowFault → Type 0
+TellsOutOfRange query last fault = fault ≡ SumOutOfRange → ShowsOutOfRange query last
 
 -- ---- views
 -- the view stands for bags of stored rows, and a join of them has not more rows than can be counted

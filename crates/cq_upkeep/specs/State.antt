@@ -8,7 +8,7 @@ use Rattle.cq_model.specs.Meaning.{Tables, joined_rows}
 use Rattle.cq_model.specs.Views.{sources_of}
 use Rattle.cq_model.specs.declared.query.Query.{Query}
 use Rattle.cq_model.specs.declared.query.Source.{Source}
-use Rattle.cq_sides.specs.Held.{sizes}
+use Rattle.cq_weights.specs.Held.{sizes}
 use Rattle.cq_chains.specs.Chains.{IsStill, Stands, WaitFor, nothing, spans}
 use Rattle.cq_chains.specs.Steps.{AreStored, CanTake}
 use Rattle.cq_upkeep.specs.Joins.{IsChainOf}

@@ -1,52 +1,39 @@
-//! What changes of the joined rows add to groups, or to images.
+//! What changes of the joined rows add to images.
 ghost use Rattle.std.specs.Prelude.{◌<◌, ◌≡◌, ◌^◌, IfOk};
 ghost use Rattle.cq_bags.specs.Size.{IsClean};
 ghost use Rattle.cq_chains.specs.Steps.{AreStored};
 ghost use Rattle.cq_model.specs.declared.query.Shape.TheVariants.{Plain};
-ghost use Rattle.cq_sides.specs.Held.{sizes};
-ghost use Rattle.cq_deltas.specs.Keyed.{HasKeys, group_at};
-ghost use Rattle.cq_upkeep.specs.Last.{AreAdded, AreImages, kept_rows};
-ghost use Rattle.cq_upkeep.specs.Query.{CanBeKept, aggregates_of};
-ghost use Rattle.cq_values.specs.Value.{Row};
+ghost use Rattle.cq_weights.specs.Held.{sizes};
+ghost use Rattle.cq_upkeep.specs.Last.{AreImages, CanPut, CanTakeIn, kept_rows};
+ghost use Rattle.cq_upkeep.specs.Query.{CanBeKept};
+ghost use Rattle.cq_upkeep.specs.declared.last.Last.TheVariants as stored;
+ghost use Rattle.cq_upkeep.specs.declared.last.LastChange.TheVariants as added;
 
-use crate::query::{aggregates_of, key_columns};
-use cq_deltas::{GroupChange, Groups};
 use cq_eval::{items_of, keeps};
 use cq_model::Query;
-use cq_sides::Weights;
+use cq_weights::Weights;
 use std::alloc::{AllocError, Global};
 
-/// What rows add to a view's groups, as far as WHERE keeps them. The groups get room for it, and none changes.
-pub(crate) fn group_change(
+/// Works out what rows add to a view's images, as far as WHERE keeps them, and makes all growth for it.
+pub(crate) fn ready_images(
     alloc: Global,
     query: &Query,
     rows: &Weights,
-    groups: &mut Groups,
-) -> Result<GroupChange, AllocError>
+    images: &mut Weights,
+) -> Result<Weights, AllocError>
     requires can { CanBeKept query.now }
-    requires stored { AreStored rows.now.entries }
-    ensures change { IfOk result (AreAdded query.now (kept_rows query.now rows.now.entries) groups.new) }
-    ensures keys { IfOk result (λ change. HasKeys change groups.new) }
-    ensures same { (k : Row) → group_at (aggregates_of query.now) groups.new k ≡ group_at (aggregates_of query.now) groups.old k }
+    requires take { CanTakeIn query.now (stored.Images images.old) rows.now.entries }
+    ensures change { IfOk result (AreImages query.now (kept_rows query.now rows.now.entries)) }
+    ensures room { IfOk result (λ more. CanPut (stored.Images images.new) (added.Images more)) }
+    ensures same { images.new.entries ≡ images.old.entries }
 {
-    let (keys, aggregates) = (key_columns(query), aggregates_of(query));
-    let filter = &query.filter;
-    let mut change = GroupChange::new(alloc);
-    for place in 0..rows.len() {
-        let (row, weight) = rows.pair_at(place);
-        if keeps(filter, row.as_slice()) {
-            groups.ready(alloc, keys, aggregates, row.as_slice(), weight, &mut change)?;
-        }
-    }
+    let change = image_change(alloc, query, rows)?;
+    images.reserve(change.len())?;
     Ok(change)
 }
 
 /// The images of rows, as far as WHERE keeps them, with their weights.
-pub(crate) fn image_change(
-    alloc: Global,
-    query: &Query,
-    rows: &Weights,
-) -> Result<Weights, AllocError>
+fn image_change(alloc: Global, query: &Query, rows: &Weights) -> Result<Weights, AllocError>
     requires can { CanBeKept query.now }
     requires plain { query.now.shape ≡ Plain }
     requires stored { AreStored rows.now.entries }

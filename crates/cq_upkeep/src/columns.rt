@@ -4,7 +4,7 @@ ghost use Rattle.std.specs.Prelude.{◌+◌, ◌<◌, ◌≡◌, IfOk, map, true
 ghost use Rattle.cq_kept.specs.Own.{names_only};
 ghost use Rattle.cq_model.specs.Sizes.{column_sizes, shown_size, stored_size};
 ghost use Rattle.cq_model.specs.Trees.{expr_of};
-ghost use Rattle.cq_model.specs.Width.{extent_limit, limits_of, number_limit, widest, width};
+ghost use Rattle.cq_model.specs.Width.{extent_limit, limits_of as limits, number_limit, widest, width};
 ghost use Rattle.cq_upkeep.specs.Query.{CanBeKept, IsArgumentNarrow, aggregates_of, group_sizes};
 
 use crate::query::{aggregates_of, key_columns};
@@ -86,7 +86,7 @@ fn size_over_rows(alloc: Global, expr: &Expr) -> Result<u128, AllocError>
 
 /// A stored number's size for each column that an expression can name.
 fn stored_columns(alloc: Global, expr: &Expr) -> Result<Vec<u128>, AllocError>
-    ensures { IfOk result (λ v. width expr.now (limits_of v.items) ≡ width expr.now (λ i. stored_size)) }
+    ensures { IfOk result (λ v. width expr.now (limits v.items) ≡ width expr.now (λ i. stored_size)) }
 {
     let mut columns = vec![in alloc; STORED_SIZE; greatest_column(expr.tree())]?;
     columns.push(STORED_SIZE)?;

@@ -1,13 +1,11 @@
 //! What a view keeps behind its joins.
-ghost use Rattle.std.specs.Prelude.{◌≡◌, IfOk, List, []};
+ghost use Rattle.std.specs.Prelude.{◌≡◌, List, []};
 ghost use Rattle.cq_model.specs.declared.query.Aggregate.{Aggregate};
-ghost use Rattle.cq_upkeep.specs.Last.{CanPut, CanTakeIn, GoesOn, IsChangeOf, StandsBehind, kept_rows, seen};
-ghost use Rattle.cq_upkeep.specs.Query.{CanBeKept, aggregates_of};
+ghost use Rattle.cq_upkeep.specs.Last.{CanPut, GoesOn, StandsBehind, seen};
 
-use crate::changes::{group_change, image_change};
 use cq_deltas::{GroupChange, Groups};
 use cq_model::{Query, Shape};
-use cq_sides::Weights;
+use cq_weights::Weights;
 use std::alloc::{AllocError, Global};
 
 /// What a view keeps behind its joins: the groups of the joined rows, or their images with their weights.
@@ -32,32 +30,6 @@ impl Last {
         match &query.shape {
             Shape::Plain => Last::Images(Weights::new(alloc)),
             Shape::Grouped { .. } => Last::Groups(Groups::new(alloc)),
-        }
-    }
-
-    /// Works out what a change of the joined rows adds, as far as WHERE keeps them, and makes all growth for it.
-    pub(crate) fn prepare(
-        &mut self,
-        alloc: Global,
-        query: &Query,
-        rows: &Weights,
-    ) -> Result<LastChange, AllocError>
-        requires can { CanBeKept query.now }
-        requires take { CanTakeIn query.now self.old rows.now.entries }
-        ensures change { IfOk result (IsChangeOf query.now (kept_rows query.now rows.now.entries) self.new) }
-        ensures room { IfOk result (CanPut self.new) }
-        ensures same { seen (aggregates_of query.now) self.new ≡ seen (aggregates_of query.now) self.old }
-    {
-        match self {
-            Last::Groups(groups) => {
-                let change = group_change(alloc, query, rows, groups)?;
-                Ok(LastChange::Groups(change))
-            }
-            Last::Images(images) => {
-                let change = image_change(alloc, query, rows)?;
-                images.reserve(change.len())?;
-                Ok(LastChange::Images(change))
-            }
         }
     }
 

@@ -12,6 +12,7 @@
 
 mod changes;
 mod columns;
+mod grouping;
 mod joins;
 mod last;
 mod laws;

@@ -11,7 +11,7 @@ ghost use Rattle.cq_model.specs.Sizes.{column_sizes};
 ghost use Rattle.cq_model.specs.Width.{AreNarrowAt};
 ghost use Rattle.cq_upkeep.specs.declared.last.Last.TheVariants.{Groups as AsGroups};
 ghost use Rattle.cq_upkeep.specs.Query.{CanBeKept};
-ghost use Rattle.cq_upkeep.specs.Shown.{AddsTimes, AreKeysOf, AreShowable, ShowsInRange, ShowsOutOfRange, ShowsRows, StandsOnStored, all_rows, is_one_group};
+ghost use Rattle.cq_upkeep.specs.Shown.{AddsTimes, AreKeysOf, AreShowable, ShowsInRange, ShowsRows, StandsOnStored, TellsOutOfRange, all_rows, is_one_group};
 
 use crate::last::Last;
 use crate::query::aggregates_of;
@@ -19,9 +19,9 @@ use crate::whole_rows::show_whole_rows;
 use cq_deltas::{Groups, ShowFault};
 use cq_eval::items_of;
 use cq_model::{Aggregate, Expr, Query, Shape};
-use cq_rows::{FlatRows, RowList};
-use cq_sides::Weights;
+use cq_rows::{FlatRows, RowList, rows_come_in_turn};
 use cq_values::{Row, Value};
+use cq_weights::Weights;
 use std::alloc::{AllocError, Global};
 
 /// The rows that a query shows of what is kept.
@@ -31,7 +31,7 @@ pub(crate) fn shown_rows(alloc: Global, query: &Query, last: &Last) -> Result<Ro
     ensures rows { IfOk result (λ rows. ShowsRows query.now last.now rows) }
     ensures sized { IfOk result (λ rows. AllByRecursion (HasSizes (column_sizes query.now)) rows) }
     ensures range { OnOk result (ShowsInRange query.now last.now) }
-    ensures fault { IfErr result (λ e. e ≡ SumOutOfRange → ShowsOutOfRange query.now last.now) }
+    ensures fault { IfErr result (TellsOutOfRange query.now last.now) }
 {
     match last {
         Last::Groups(groups) => shown_groups(alloc, query, groups),
@@ -49,7 +49,7 @@ fn shown_groups(alloc: Global, query: &Query, groups: &Groups) -> Result<RowList
     ensures rows { IfOk result (λ rows. ShowsRows query.now (AsGroups groups.now) rows) }
     ensures sized { IfOk result (λ rows. AllByRecursion (HasSizes (column_sizes query.now)) rows) }
     ensures range { OnOk result (ShowsInRange query.now (AsGroups groups.now)) }
-    ensures fault { IfErr result (λ e. e ≡ SumOutOfRange → ShowsOutOfRange query.now (AsGroups groups.now)) }
+    ensures fault { IfErr result (TellsOutOfRange query.now (AsGroups groups.now)) }
 {
     let rows = all_rows(alloc, query, groups)?;
     Ok(item_rows(alloc, query.items.as_slice(), RowList::flat(rows))?)
@@ -114,6 +114,7 @@ fn worked_out(alloc: Global, items: &[Expr], rows: &RowList) -> Result<Vec<Row>,
     requires { AllByRecursion (AreNarrowAt items.now) rows.now }
     ensures { IfOk result (λ shown. shown.items ≡ map (items_of items.now) rows.now) }
 {
+    rows_come_in_turn();
     let mut shown = Vec::with_capacity(alloc, rows.len())?;
     for place in 0..rows.len() {
         shown.push(items_of(alloc, items, rows.row(place))?)?;

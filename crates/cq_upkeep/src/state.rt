@@ -14,7 +14,9 @@ ghost use Rattle.cq_upkeep.specs.Shown.{AreRowsOf, CanShow, IsNotShown, IsShown}
 ghost use Rattle.cq_upkeep.specs.Work.{CountsPut, CountsRows, work_of};
 ghost use Rattle.cq_upkeep.specs.State.{CanCommit, CanPrepare, IsWaiting, SameView, StandsFor, StaysStanding, TakesIn};
 
+use crate::changes::ready_images;
 use crate::columns::column_sizes;
+use crate::grouping::stream_groups;
 use crate::joins::joined;
 use crate::last::{Last, LastChange};
 use crate::query::reads;
@@ -155,15 +157,31 @@ impl ViewState {
         ensures rows { OnOk result (CountsRows self.old (rows_at changes.items) self.new) }
         ensures more { work_of self.old ≤ work_of self.new }
     {
-        let (rows, waiting) = self.chain.change(alloc, changes)?;
-        self.ticks = self.ticks.saturating_add(rows.len() as u128);
-        let change = self.last.prepare(alloc, &self.query, &rows);
-        drop(rows);
-        match change {
-            Ok(change) => Ok(Pending { waiting, change }),
-            Err(fault) => {
-                drop(waiting);
-                Err(fault)
+        let (query, chain) = (&self.query, &mut self.chain);
+        match &mut self.last {
+            Last::Groups(groups) => {
+                let ticks = &mut self.ticks;
+                let (waiting, change) = stream_groups(alloc, query, chain, changes, groups, ticks)?;
+                Ok(Pending {
+                    waiting,
+                    change: LastChange::Groups(change),
+                })
+            }
+            Last::Images(images) => {
+                let (rows, waiting) = chain.change(alloc, changes)?;
+                self.ticks = self.ticks.saturating_add(rows.len() as u128);
+                let change = ready_images(alloc, query, &rows, images);
+                drop(rows);
+                match change {
+                    Ok(change) => Ok(Pending {
+                        waiting,
+                        change: LastChange::Images(change),
+                    }),
+                    Err(fault) => {
+                        drop(waiting);
+                        Err(fault)
+                    }
+                }
             }
         }
     }

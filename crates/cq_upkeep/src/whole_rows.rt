@@ -7,7 +7,7 @@ ghost use Rattle.cq_model.specs.Meaning.{items_of};
 ghost use Rattle.cq_upkeep.specs.WholeRows.{AreColumns};
 
 use cq_model::{Expr, ExprTree};
-use cq_rows::RowList;
+use cq_rows::{RowList, rows_come_in_turn};
 
 /// Whether the items are just the columns of each of these rows, in order. Then the rows can be kept, and none is made.
 pub fn show_whole_rows(items: &[Expr], rows: &RowList) -> bool
@@ -40,6 +40,7 @@ fn is_column(item: &Expr, place: usize) -> bool
 fn have_width(rows: &RowList, width: usize) -> bool
     ensures { OnTrue result (AllByRecursion (λ row. length row ≡ width) rows.now) }
 {
+    rows_come_in_turn();
     for place in 0..rows.len() {
         if rows.row(place).len() != width {
             return false;

@@ -10,8 +10,8 @@ use Rattle.cq_model.specs.declared.query.Source.{Source}
 use Rattle.cq_model.specs.declared.query.Source.TheVariants.{Table, View}
 use Rattle.cq_model.specs.Meaning.{Tables}
 use Rattle.cq_model.specs.Views.{is_table, sources_of}
-use Rattle.cq_sides.proofs.RowByRow.{sizes-append}
-use Rattle.cq_sides.specs.Held.{sizes}
+use Rattle.cq_weights.proofs.RowByRow.{sizes-append}
+use Rattle.cq_weights.specs.Held.{sizes}
 use Rattle.cq_chains.proofs.Storing.{stored-append}
 use Rattle.cq_chains.specs.Chains.{spans}
 use Rattle.cq_chains.specs.Steps.{AreStored, span}

@@ -7,7 +7,7 @@ use Rattle.cq_model.specs.declared.query.Source.TheVariants.{Table as FromTable}
 use Rattle.cq_model.specs.Meaning.{Tables}
 use Rattle.cq_model.specs.Views.{is_table}
 use Rattle.cq_states.specs.Fitting.{rows_limit}
-use Rattle.cq_sides.specs.Held.{sizes}
+use Rattle.cq_weights.specs.Held.{sizes}
 use Rattle.cq_chains.specs.Steps.{AreStored}
 use Rattle.cq_upkeep.specs.declared.state.Pending.{Pending}
 use Rattle.cq_tables.specs.Taking.{AllStandFor, AreReadyFor}

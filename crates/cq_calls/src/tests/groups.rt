@@ -82,43 +82,29 @@ fn a_sum_may_leave_its_range_and_come_back(rt: HostRuntime) {
     }
 }
 
-/// MIN and MAX of 5, twice, of 3 and of NULL, where 5 leaves so often and 3 so often.
+/// MIN and MAX of 5, twice, of 3, so often, and of NULL, where 5 comes so often more, or leaves.
 fn ends(alloc: Global, fives: i8, threes: i8) -> Result<FlatRows, ShowFault> {
     let (five, three, null) = ([Value::Number(5)], [Value::Number(3)], [Value::Null]);
     let aggregates = [
         Aggregate::Min(Expr::column(0)),
         Aggregate::Max(Expr::column(0)),
     ];
+    let (fives, threes) = (i128::from(fives), i128::from(threes));
     let mut groups = Groups::new(alloc);
     let mut change = GroupChange::new(alloc);
     groups.ready(alloc, &[], &aggregates, &five, 2, &mut change)?;
-    groups.ready(alloc, &[], &aggregates, &three, 1, &mut change)?;
+    groups.ready(alloc, &[], &aggregates, &three, threes, &mut change)?;
     groups.ready(alloc, &[], &aggregates, &null, 1, &mut change)?;
-    groups.ready(
-        alloc,
-        &[],
-        &aggregates,
-        &five,
-        -i128::from(fives),
-        &mut change,
-    )?;
-    groups.ready(
-        alloc,
-        &[],
-        &aggregates,
-        &three,
-        -i128::from(threes),
-        &mut change,
-    )?;
+    groups.ready(alloc, &[], &aggregates, &five, fives, &mut change)?;
     shown_alone(alloc, &aggregates, groups, change)
 }
 
-/// How often 5 and 3 leave, and then the least value and the greatest.
+/// How often 5 comes, or leaves, and how often 3 is there, and then the least value and the greatest.
 const ENDS: &[(i8, i8, Option<i128>, Option<i128>)] = &[
-    (1, 0, Some(3), Some(5)),
-    (1, 1, Some(5), Some(5)),
-    (2, 0, Some(3), Some(3)),
-    (2, 1, None, None),
+    (-1, 1, Some(3), Some(5)),
+    (-1, 0, Some(5), Some(5)),
+    (-2, 1, Some(3), Some(3)),
+    (-2, 0, None, None),
 ];
 
 fn is(value: &Value, number: &Option<i128>) -> bool {
@@ -137,7 +123,7 @@ fn the_ends_go_on_as_values_leave(rt: HostRuntime) -> Result<(), Fail> {
         let row = rows.row(0);
         assert!(rt;
             is(&row[0], least) && is(&row[1], greatest),
-            "without {fives} and {threes}"
+            "5 {fives} times, 3 {threes} times"
         );
     }
     Ok(())

@@ -4,7 +4,7 @@ use Rattle.std.proofs.lemmas.Int.{to_z-of_z}
 use Rattle.cq_values.specs.Value.{Row}
 use Rattle.cq_bags.specs.Bag.{SameBag}
 use Rattle.cq_model.specs.Meaning.{items_of, keeps}
-use Rattle.cq_sides.specs.Held.{Held}
+use Rattle.cq_weights.specs.Held.{Held}
 use Rattle.cq_pushes.proofs.Pairing.{entry-small}
 use Rattle.cq_upkeep.proofs.Changing.{row-narrow, stored-at}
 use Rattle.cq_upkeep.proofs.Imaging.{gather-more, gather-same}

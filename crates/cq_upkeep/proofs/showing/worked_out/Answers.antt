@@ -8,5 +8,5 @@ items_of-requires c = all-there (AreNarrowAt c.args.items.now) c.args.rows.now c
 
 pub loop-place-preserved : goal.loop-place-preserved
 loop-place-preserved c =
-    made-more c.args.rows.now c.loop-place.place c.row.result.now c.row.ensures (items_of c.args.items.now) c.loop-place.shown.items c.push.new.self.items c.in_ok-items_of.field-0
+    made-more c.rows_come_in_turn.ensures c.args.rows.now c.loop-place.place c.row.result.now c.row.ensures (items_of c.args.items.now) c.loop-place.shown.items c.push.new.self.items c.in_ok-items_of.field-0
     c.loop-place.invariant c.in_ok-push.ensures.items c.in_ok-items_of.ensures

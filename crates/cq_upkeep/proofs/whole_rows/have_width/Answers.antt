@@ -7,4 +7,4 @@ pub loop-place-preserved : goal.loop-place-preserved
 loop-place-preserved c =
     let row : Row = c.row.result.now in
     let wide : length row ≡ c.args.width = search rules in
-    all-more c.args.rows.now c.loop-place.place row c.row.ensures (λ row. length row ≡ c.args.width) c.loop-place.invariant wide
+    all-more c.rows_come_in_turn.ensures c.args.rows.now c.loop-place.place row c.row.ensures (λ row. length row ≡ c.args.width) c.loop-place.invariant wide

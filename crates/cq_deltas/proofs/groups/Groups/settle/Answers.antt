@@ -8,7 +8,7 @@ use Rattle.cq_deltas.proofs.groups.Groups.settle.Goals as goal
 pub returns : goal.returns
 returns c =
     let old = c.self.inside.groups in
-    let place = c.args.row.now.place in
+    let place = c.args.row.place in
     let group = c.in-Some.group.now in
     let at : slice_get (values_of old.entries) place ≡ Some group = search rules in
     let distinct = c.get_index_mut.ensures.unique in

@@ -5,20 +5,19 @@ use Rattle.cq_deltas.proofs.Places.{kept-keys}
 use Rattle.cq_deltas.proofs.groups.Groups.take.Goals as goal
 
 pub settle_all-requires : goal.settle_all-requires
-settle_all-requires c = rw c.as_slice-2.ensures (kept-keys c.args.self.now c.put_all.new.self c.put_all.ensures.keep c.args.change c.requires.keys)
+settle_all-requires c = kept-keys c.args.self.now c.put_all.new.self c.put_all.ensures.keep c.args.change c.requires.keys
 
 pub returns : goal.returns
 returns c =
     let takes : Takes c.args.self.now (additions_at c.args.self.now c.args.change) c.settle_all.new.self =
-    all-taken c.args.self.now c.put_all.new.self c.settle_all.new.self c.args.change c.requires.keys c.put_all.ensures.keep (rw c.as_slice.ensures at c.put_all.ensures.put)
-    (rw c.as_slice-2.ensures at (c.settle_all.ensures.full c.if-settle_all.false)) in
+    all-taken c.args.self.now c.put_all.new.self c.settle_all.new.self c.args.change c.requires.keys c.put_all.ensures.keep c.put_all.ensures.put
+    (c.settle_all.ensures.full c.if-settle_all.false) in
     record { takes = takes; goes_on = groups-go-on c.args.self.now c.settle_all.new.self c.args.change c.requires.keys takes }
 
 pub drop_empty-requires-clause-there : goal.drop_empty-requires-clause-there
 drop_empty-requires-clause-there c =
-    rw c.as_slice-then-settle_all.ensures
-    (moved-there c.put_all.new.self c.settle_all.new.self c.args.change c.sort_from_last.new.self c.settle_all.ensures.keys c.sort_from_last.ensures.moved
-    (kept-keys c.args.self.now c.put_all.new.self c.put_all.ensures.keep c.args.change c.requires.keys))
+    moved-there c.put_all.new.self c.settle_all.new.self c.args.change c.sort_from_last.new.self c.settle_all.ensures.keys c.sort_from_last.ensures.moved
+    (kept-keys c.args.self.now c.put_all.new.self c.put_all.ensures.keep c.args.change c.requires.keys)
 
 pub returns-then-settle_all : goal.returns-then-settle_all
 returns-then-settle_all c =
@@ -28,7 +27,7 @@ returns-then-settle_all c =
     let new = c.drop_empty.new.self in
     let settles : AreSettled (is_met (additions_at middle c.args.change)) middle new =
     moved-settled middle third c.args.change c.sort_from_last.new.self c.settle_all.ensures.keys c.sort_from_last.ensures.moved new c.settle_all.ensures.same
-    (rw c.as_slice-then-settle_all.ensures at c.drop_empty.ensures) in
+    c.drop_empty.ensures in
     let takes : Takes old (additions_at old c.args.change) new =
-    all-taken old middle new c.args.change c.requires.keys c.put_all.ensures.keep (rw c.as_slice.ensures at c.put_all.ensures.put) settles in
+    all-taken old middle new c.args.change c.requires.keys c.put_all.ensures.keep c.put_all.ensures.put settles in
     record { takes = takes; goes_on = groups-go-on old new c.args.change c.requires.keys takes }

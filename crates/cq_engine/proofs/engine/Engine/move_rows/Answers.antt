@@ -1,4 +1,4 @@
-use Rattle.std.proofs.Common.{refl, inl}
+use Rattle.std.proofs.Common.{refl}
 use Rattle.cq_tables.specs.Views.{views_of}
 use Rattle.cq_engine.proofs.Kept.{all_at}
 use Rattle.cq_engine.proofs.Steps.{move_done}
