@@ -2,8 +2,8 @@
 #![tactic(auto)]
 
 use cq_cli::{Limits, Writer, run_program};
-use cq_folder::Folder;
-use cq_options::{LineFault, Options, options_of};
+use cq_cli_folder::Folder;
+use cq_cli_options::{LineFault, Options, options_of};
 use std::io::BufWriter;
 use std::process::ExitCode;
 use std::{env, fs, io};

@@ -5,22 +5,22 @@ use Rattle.std.specs.Prelude.{length, nat_lt, is_none, option_map}
 use Rattle.cq_values.specs.Value.{Row}
 use Rattle.cq_values.specs.declared.column.ColumnDef.{ColumnDef}
 use Rattle.cq_model.specs.Sizes.{text_limit}
-use Rattle.cq_language.specs.declared.statement.Statement.TheVariants.{Copy}
-use Rattle.cq_states.specs.State.{TableOf, ViewOf, State, table_named}
-use Rattle.cq_binding.specs.declared.bound.Bound.TheVariants as commands
-use Rattle.cq_binding.specs.declared.fault.Fault.{Fault}
-use Rattle.cq_binding.specs.declared.fault.Fault.TheVariants as faults
-use Rattle.cq_binding.specs.declared.sources.SourceFault.{SourceFault}
-use Rattle.cq_binding.specs.declared.sources.SourceFault.TheVariants as gave
-use Rattle.cq_binding.specs.Bound.{rows_read}
-use Rattle.cq_binding.specs.Checks.{first_fault, fault_if, MayRefuse}
-use Rattle.cq_binding.specs.Records.{Files, file_rows}
-use Rattle.cq_binding.specs.Refusal.{name_checks, reads_source, written_table}
-use Rattle.cq_binding.specs.Typing.{fault_in}
-use Rattle.cq_binding.specs.Sources.{AreTold, Reads, fault_of}
-use Rattle.cq_catalog.specs.Catalog.{alone, names_view}
-use Rattle.cq_catalog.proofs.Faults.{none_append, refused_back, refused_front, refused_with}
-use Rattle.cq_records.specs.Reading.{ReadsRows}
+use Rattle.cq_sql_language.specs.declared.statement.Statement.TheVariants.{Copy}
+use Rattle.cq_model_state.specs.State.{TableOf, ViewOf, State, table_named}
+use Rattle.cq_binder_rules.specs.declared.bound.Bound.TheVariants as commands
+use Rattle.cq_binder_rules.specs.declared.fault.Fault.{Fault}
+use Rattle.cq_binder_rules.specs.declared.fault.Fault.TheVariants as faults
+use Rattle.cq_binder_rules.specs.declared.sources.SourceFault.{SourceFault}
+use Rattle.cq_binder_rules.specs.declared.sources.SourceFault.TheVariants as gave
+use Rattle.cq_binder_rules.specs.Bound.{rows_read}
+use Rattle.cq_binder_rules.specs.Checks.{first_fault, fault_if, MayRefuse}
+use Rattle.cq_binder_rules.specs.Records.{Files, file_rows}
+use Rattle.cq_binder_rules.specs.Refusal.{name_checks, reads_source, written_table}
+use Rattle.cq_binder_rules.specs.Typing.{fault_in}
+use Rattle.cq_binder_rules.specs.Sources.{AreTold, Reads, fault_of}
+use Rattle.cq_binder_queries.specs.Catalog.{alone, names_view}
+use Rattle.cq_binder_queries.proofs.Faults.{none_append, refused_back, refused_front, refused_with}
+use Rattle.cq_csvio_read.specs.Reading.{ReadsRows}
 use Rattle.cq_binder.specs.Binding.{records_walk}
 use Rattle.cq_binder.specs.Sourced.{IsBound, over, failed}
 

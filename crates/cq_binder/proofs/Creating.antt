@@ -1,22 +1,22 @@
 -- How the stretches of CREATE TABLE and CREATE VIEW make up the whole.
 use Rattle.std.proofs.Common.{◌≡◌, ℕ, Bool, false, List, [], ◌∷◌, ◌++◌, length, Option, Some, None, Result, ap, ◌∙◌}
 use Rattle.std.specs.Prelude.{option_map}
-use Rattle.cq_binding.specs.declared.bound.Bound.{Bound}
+use Rattle.cq_binder_rules.specs.declared.bound.Bound.{Bound}
 use Rattle.cq_values.specs.declared.column.ColumnDef.{ColumnDef}
-use Rattle.cq_language.specs.declared.statement.Statement.TheVariants as statements
-use Rattle.cq_language.specs.declared.statement.Select.{Select}
-use Rattle.cq_binding.specs.declared.fault.Fault.{Fault}
-use Rattle.cq_binding.specs.declared.fault.Fault.TheVariants.{NameTaken}
-use Rattle.cq_binding.specs.Bound.{bound_view, standing}
-use Rattle.cq_binding.specs.Checks.{fault_if, first_fault, too_long, MayRefuse}
-use Rattle.cq_binding.specs.From.{view_walk}
-use Rattle.cq_binding.specs.ViewChecks.{create_view_checks, view_select_checks}
-use Rattle.cq_binding.specs.Refusal.{column_checks, create_checks, sort_checks}
-use Rattle.cq_states.specs.State.{TableOf, ViewOf, is_taken}
-use Rattle.cq_catalog.specs.Catalog.{alone}
+use Rattle.cq_sql_language.specs.declared.statement.Statement.TheVariants as statements
+use Rattle.cq_sql_language.specs.declared.statement.Select.{Select}
+use Rattle.cq_binder_rules.specs.declared.fault.Fault.{Fault}
+use Rattle.cq_binder_rules.specs.declared.fault.Fault.TheVariants.{NameTaken}
+use Rattle.cq_binder_rules.specs.Bound.{bound_view, standing}
+use Rattle.cq_binder_rules.specs.Checks.{fault_if, first_fault, too_long, MayRefuse}
+use Rattle.cq_binder_rules.specs.From.{view_walk}
+use Rattle.cq_binder_rules.specs.ViewChecks.{create_view_checks, view_select_checks}
+use Rattle.cq_binder_rules.specs.Refusal.{column_checks, create_checks, sort_checks}
+use Rattle.cq_model_state.specs.State.{TableOf, ViewOf, is_taken}
+use Rattle.cq_binder_queries.specs.Catalog.{alone}
 use Rattle.cq_binder.specs.Binding.{Binds}
-use Rattle.cq_queries.specs.View.{BindsView}
-use Rattle.cq_catalog.proofs.Faults.{first_fault_append, or_next, refused_front, refused_same, walked_same}
+use Rattle.cq_binder_queries.specs.View.{BindsView}
+use Rattle.cq_binder_queries.proofs.Faults.{first_fault_append, or_next, refused_front, refused_same, walked_same}
 
 -- ---- CREATE TABLE: under a free name the columns decide, then their number, and then SORT BY
 module _ (name : List ℕ) (columns : List ColumnDef) (sort : List (List ℕ)) (tables : List TableOf) (views : List ViewOf) (free : is_taken name (alone tables views) ≡ false) where

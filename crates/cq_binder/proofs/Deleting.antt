@@ -2,18 +2,18 @@
 use Rattle.std.proofs.Common.{◌≡◌, ℕ, List, [], ◌∷◌, Option, Some, refl, ap, ap₂, sym, ◌∙◌}
 use Rattle.std.specs.Prelude.{option_map}
 use Rattle.cq_model.specs.Expr.{Cond}
-use Rattle.cq_language.specs.Written.{Written}
-use Rattle.cq_binding.specs.declared.bound.Bound.{Bound}
-use Rattle.cq_binding.specs.declared.bound.Bound.TheVariants as commands
-use Rattle.cq_binding.specs.declared.fault.Fault.{Fault}
-use Rattle.cq_binding.specs.Scopes.{from_table, scope_of}
-use Rattle.cq_binding.specs.Sets.{bound_where}
-use Rattle.cq_binding.specs.Checks.{first_fault, MayRefuse}
-use Rattle.cq_binding.specs.SourceChecks.{where_check}
-use Rattle.cq_binding.specs.Refusal.{delete_checks, written_table}
-use Rattle.cq_states.specs.State.{TableOf, ViewOf, table_named}
-use Rattle.cq_catalog.specs.Catalog.{alone}
-use Rattle.cq_catalog.proofs.Faults.{refused_same}
+use Rattle.cq_sql_language.specs.Written.{Written}
+use Rattle.cq_binder_rules.specs.declared.bound.Bound.{Bound}
+use Rattle.cq_binder_rules.specs.declared.bound.Bound.TheVariants as commands
+use Rattle.cq_binder_rules.specs.declared.fault.Fault.{Fault}
+use Rattle.cq_binder_rules.specs.Scopes.{from_table, scope_of}
+use Rattle.cq_binder_rules.specs.Sets.{bound_where}
+use Rattle.cq_binder_rules.specs.Checks.{first_fault, MayRefuse}
+use Rattle.cq_binder_rules.specs.SourceChecks.{where_check}
+use Rattle.cq_binder_rules.specs.Refusal.{delete_checks, written_table}
+use Rattle.cq_model_state.specs.State.{TableOf, ViewOf, table_named}
+use Rattle.cq_binder_queries.specs.Catalog.{alone}
+use Rattle.cq_binder_queries.proofs.Faults.{refused_same}
 
 -- the command on a table
 abbrev pub delete_command : Option Written → TableOf → Bound

@@ -11,16 +11,16 @@ use Rattle.cq_values.specs.declared.ty.Ty.{Ty}
 use Rattle.cq_values.specs.declared.ty.Ty.TheVariants as types
 use Rattle.cq_values.specs.declared.value.Value.TheVariants.{Day, Null}
 use Rattle.cq_values.specs.Dates.{day_named}
-use Rattle.cq_bags.proofs.Totals.{by_test}
-use Rattle.cq_language.specs.declared.statement.Constant.{Constant}
-use Rattle.cq_language.specs.declared.statement.Constant.TheVariants as constants
-use Rattle.cq_language.specs.declared.statement.Literal.{Literal}
-use Rattle.cq_binding.specs.declared.fault.Fault.{Fault}
-use Rattle.cq_binding.specs.Bound.{constant_value, literal_value, row_of}
-use Rattle.cq_binding.specs.Checks.{first_fault}
-use Rattle.cq_binding.specs.RowChecks.{fits_column, is_type, constant_check, constant_checks, row_checks}
-use Rattle.cq_states.specs.Fitting.{FitsColumn, FitsColumns}
-use Rattle.cq_catalog.proofs.Faults.{first_fault_append}
+use Rattle.cq_model_bags.proofs.Totals.{by_test}
+use Rattle.cq_sql_language.specs.declared.statement.Constant.{Constant}
+use Rattle.cq_sql_language.specs.declared.statement.Constant.TheVariants as constants
+use Rattle.cq_sql_language.specs.declared.statement.Literal.{Literal}
+use Rattle.cq_binder_rules.specs.declared.fault.Fault.{Fault}
+use Rattle.cq_binder_rules.specs.Bound.{constant_value, literal_value, row_of}
+use Rattle.cq_binder_rules.specs.Checks.{first_fault}
+use Rattle.cq_binder_rules.specs.RowChecks.{fits_column, is_type, constant_check, constant_checks, row_checks}
+use Rattle.cq_model_state.specs.Fitting.{FitsColumn, FitsColumns}
+use Rattle.cq_binder_queries.proofs.Faults.{first_fault_append}
 
 -- a type that passes the test is the one that is asked for
 one_type : (t u : Ty) → is_type t u ≡ true → t ≡ u

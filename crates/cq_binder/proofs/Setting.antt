@@ -5,25 +5,25 @@ use Rattle.std.specs.Option.{option_or}
 use Rattle.std.proofs.lemmas.List.{at_drop_more, take_more}
 use Rattle.std.proofs.lemmas.List.Quantifiers.{position-Some}
 use Rattle.cq_values.specs.Texts.{is_text}
-use Rattle.cq_language.specs.declared.statement.SetClause.{SetClause}
-use Rattle.cq_language.specs.Written.{Written}
+use Rattle.cq_sql_language.specs.declared.statement.SetClause.{SetClause}
+use Rattle.cq_sql_language.specs.Written.{Written}
 use Rattle.cq_model.specs.Expr.{Cond}
 use Rattle.cq_model.specs.declared.assignment.Assignment.{Assignment}
-use Rattle.cq_binding.specs.declared.fault.Fault.{Fault}
-use Rattle.cq_binding.specs.declared.typing.Typing.{Typing}
-use Rattle.cq_binding.specs.Checks.{first_fault, MayRefuse}
-use Rattle.cq_binding.specs.declared.bound.Bound.TheVariants as commands
-use Rattle.cq_binding.specs.Bound.{bound_update}
-use Rattle.cq_binding.specs.Refusal.{written_table}
-use Rattle.cq_binding.specs.Places.{named_place}
-use Rattle.cq_binding.specs.Scopes.{from_table, scope_of}
-use Rattle.cq_binding.specs.Sets.{bound_sets, bound_where}
-use Rattle.cq_binding.specs.Typing.{Scope, ScopeColumn, set_fault, type_at, typed}
-use Rattle.cq_binding.specs.UpdateChecks.{is_set, set_check, set_checks, update_walk}
-use Rattle.cq_states.specs.State.{TableOf, ViewOf, table_named}
-use Rattle.cq_catalog.specs.Catalog.{alone}
+use Rattle.cq_binder_rules.specs.declared.fault.Fault.{Fault}
+use Rattle.cq_binder_rules.specs.declared.typing.Typing.{Typing}
+use Rattle.cq_binder_rules.specs.Checks.{first_fault, MayRefuse}
+use Rattle.cq_binder_rules.specs.declared.bound.Bound.TheVariants as commands
+use Rattle.cq_binder_rules.specs.Bound.{bound_update}
+use Rattle.cq_binder_rules.specs.Refusal.{written_table}
+use Rattle.cq_binder_rules.specs.Places.{named_place}
+use Rattle.cq_binder_rules.specs.Scopes.{from_table, scope_of}
+use Rattle.cq_binder_rules.specs.Sets.{bound_sets, bound_where}
+use Rattle.cq_binder_rules.specs.Typing.{Scope, ScopeColumn, set_fault, type_at, typed}
+use Rattle.cq_binder_rules.specs.UpdateChecks.{is_set, set_check, set_checks, update_walk}
+use Rattle.cq_model_state.specs.State.{TableOf, ViewOf, table_named}
+use Rattle.cq_binder_queries.specs.Catalog.{alone}
 use Rattle.cq_binder.specs.Binding.{sets_walk}
-use Rattle.cq_catalog.proofs.Faults.{first_fault_append, one_check, refused_first, refused_same, refused_with}
+use Rattle.cq_binder_queries.proofs.Faults.{first_fault_append, one_check, refused_first, refused_same, refused_with}
 
 -- a column at its place has its type
 type_there : (columns : List ScopeColumn) (i : ℕ) (d : ScopeColumn) → i < length columns → d ≡ get_or columns i d → type_at columns i ≡ d.ty

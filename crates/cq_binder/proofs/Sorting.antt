@@ -6,13 +6,13 @@ use Rattle.std.specs.Option.{option_or}
 use Rattle.std.proofs.lemmas.List.{at_drop_more, map-append, take_more}
 use Rattle.cq_values.specs.Texts.{is_text}
 use Rattle.cq_values.specs.declared.column.ColumnDef.{ColumnDef}
-use Rattle.cq_binding.specs.declared.fault.Fault.{Fault}
-use Rattle.cq_binding.specs.declared.fault.Fault.TheVariants.{NameTaken}
-use Rattle.cq_binding.specs.Scopes.{column_place, place_in}
-use Rattle.cq_binding.specs.Checks.{first_fault, fault_if}
-use Rattle.cq_binding.specs.SourceChecks.{name_check}
-use Rattle.cq_binding.specs.Refusal.{sort_checks}
-use Rattle.cq_catalog.proofs.Faults.{first_fault_append, single}
+use Rattle.cq_binder_rules.specs.declared.fault.Fault.{Fault}
+use Rattle.cq_binder_rules.specs.declared.fault.Fault.TheVariants.{NameTaken}
+use Rattle.cq_binder_rules.specs.Scopes.{column_place, place_in}
+use Rattle.cq_binder_rules.specs.Checks.{first_fault, fault_if}
+use Rattle.cq_binder_rules.specs.SourceChecks.{name_check}
+use Rattle.cq_binder_rules.specs.Refusal.{sort_checks}
+use Rattle.cq_binder_queries.proofs.Faults.{first_fault_append, single}
 
 module _ (columns : List ColumnDef) where
   -- the places of a name behind others

@@ -1,22 +1,22 @@
 -- What binding a statement gives.
 use Rattle.std.specs.Prelude.{◌≡◌, ℕ, List, [], ◌∷◌, ◌++◌, Option, Some, Result, Ok, Err}
 use Rattle.std.specs.List.{flat_map}
-use Rattle.cq_binding.specs.declared.bound.Bound.{Bound}
-use Rattle.cq_language.specs.declared.statement.Constant.{Constant}
-use Rattle.cq_language.specs.declared.statement.SetClause.{SetClause}
-use Rattle.cq_language.specs.declared.statement.Statement.{Statement}
-use Rattle.cq_language.specs.declared.statement.Statement.TheVariants as statements
-use Rattle.cq_language.specs.Written.{Written}
-use Rattle.cq_binding.specs.declared.fault.Fault.{Fault}
-use Rattle.cq_binding.specs.Scopes.{from_table, scope_of}
-use Rattle.cq_binding.specs.UpdateChecks.{update_walk}
-use Rattle.cq_binding.specs.Bound.{bound}
-use Rattle.cq_binding.specs.RowChecks.{row_checks}
-use Rattle.cq_binding.specs.Records.{Files, file_rows}
-use Rattle.cq_binding.specs.Refusal.{checks, name_checks, written_table}
-use Rattle.cq_binding.specs.Typing.{fault_in}
-use Rattle.cq_states.specs.State.{TableOf, State}
-use Rattle.cq_catalog.specs.Walk.{Walked}
+use Rattle.cq_binder_rules.specs.declared.bound.Bound.{Bound}
+use Rattle.cq_sql_language.specs.declared.statement.Constant.{Constant}
+use Rattle.cq_sql_language.specs.declared.statement.SetClause.{SetClause}
+use Rattle.cq_sql_language.specs.declared.statement.Statement.{Statement}
+use Rattle.cq_sql_language.specs.declared.statement.Statement.TheVariants as statements
+use Rattle.cq_sql_language.specs.Written.{Written}
+use Rattle.cq_binder_rules.specs.declared.fault.Fault.{Fault}
+use Rattle.cq_binder_rules.specs.Scopes.{from_table, scope_of}
+use Rattle.cq_binder_rules.specs.UpdateChecks.{update_walk}
+use Rattle.cq_binder_rules.specs.Bound.{bound}
+use Rattle.cq_binder_rules.specs.RowChecks.{row_checks}
+use Rattle.cq_binder_rules.specs.Records.{Files, file_rows}
+use Rattle.cq_binder_rules.specs.Refusal.{checks, name_checks, written_table}
+use Rattle.cq_binder_rules.specs.Typing.{fault_in}
+use Rattle.cq_model_state.specs.State.{TableOf, State}
+use Rattle.cq_binder_queries.specs.Walk.{Walked}
 
 -- INSERT: the name, then each row
 abbrev pub rows_walk : List (List Constant) → Result TableOf Fault → List (Option Fault)

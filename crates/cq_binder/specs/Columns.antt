@@ -1,11 +1,11 @@
 -- CREATE TABLE, and the columns behind SORT BY.
 use Rattle.std.specs.Prelude.{ℕ, List, map, Result}
 use Rattle.cq_values.specs.declared.column.ColumnDef.{ColumnDef}
-use Rattle.cq_binding.specs.declared.fault.Fault.{Fault}
-use Rattle.cq_binding.specs.Scopes.{place_in}
-use Rattle.cq_binding.specs.Refusal.{create_checks}
-use Rattle.cq_states.specs.State.{State}
-use Rattle.cq_catalog.specs.Walk.{WalksTo}
+use Rattle.cq_binder_rules.specs.declared.fault.Fault.{Fault}
+use Rattle.cq_binder_rules.specs.Scopes.{place_in}
+use Rattle.cq_binder_rules.specs.Refusal.{create_checks}
+use Rattle.cq_model_state.specs.State.{State}
+use Rattle.cq_binder_queries.specs.Walk.{WalksTo}
 
 -- where the columns of these names stand
 abbrev pub sort_places : List ColumnDef → List (List ℕ) → List ℕ

@@ -1,17 +1,17 @@
 -- What binding a statement gives where its file comes from a source, which may fail.
 use Rattle.std.specs.Prelude.{◌≡◌, ℕ, ◌+◌, Bool, true, false, Option, Result, Err}
-use Rattle.cq_language.specs.declared.statement.Statement.{Statement}
-use Rattle.cq_language.specs.declared.statement.Statement.TheVariants as statements
-use Rattle.cq_states.specs.State.{State}
-use Rattle.cq_binding.specs.declared.bound.Bound.{Bound}
-use Rattle.cq_binding.specs.declared.fault.Fault.{Fault}
-use Rattle.cq_binding.specs.declared.fault.Fault.TheVariants.{SourceFailed}
-use Rattle.cq_binding.specs.declared.sources.Sources.{Ghosts as Sources}
-use Rattle.cq_binding.specs.Records.{Files}
-use Rattle.cq_binding.specs.Sources.{AreTold}
-use Rattle.cq_binding.specs.Refusal.{reads_source}
-use Rattle.cq_catalog.specs.declared.catalog.Catalog.{Ghosts as Catalog}
-use Rattle.cq_catalog.specs.Catalog.{state_of}
+use Rattle.cq_sql_language.specs.declared.statement.Statement.{Statement}
+use Rattle.cq_sql_language.specs.declared.statement.Statement.TheVariants as statements
+use Rattle.cq_model_state.specs.State.{State}
+use Rattle.cq_binder_rules.specs.declared.bound.Bound.{Bound}
+use Rattle.cq_binder_rules.specs.declared.fault.Fault.{Fault}
+use Rattle.cq_binder_rules.specs.declared.fault.Fault.TheVariants.{SourceFailed}
+use Rattle.cq_binder_rules.specs.declared.sources.Sources.{Ghosts as Sources}
+use Rattle.cq_binder_rules.specs.Records.{Files}
+use Rattle.cq_binder_rules.specs.Sources.{AreTold}
+use Rattle.cq_binder_rules.specs.Refusal.{reads_source}
+use Rattle.cq_binder_queries.specs.declared.catalog.Catalog.{Ghosts as Catalog}
+use Rattle.cq_binder_queries.specs.Catalog.{state_of}
 use Rattle.cq_binder.specs.Binding.{Binds, BindsOver}
 
 -- whether a statement names a file

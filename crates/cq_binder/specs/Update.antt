@@ -1,18 +1,18 @@
 -- UPDATE with its names resolved.
 use Rattle.std.specs.Prelude.{◌≡◌, List, [], Option, Result}
-use Rattle.cq_language.specs.declared.statement.SetClause.{SetClause}
-use Rattle.cq_language.specs.Written.{Written}
+use Rattle.cq_sql_language.specs.declared.statement.SetClause.{SetClause}
+use Rattle.cq_sql_language.specs.Written.{Written}
 use Rattle.cq_model.specs.declared.assignment.Assignment.{Assignment}
 use Rattle.cq_model.specs.Expr.{Cond}
-use Rattle.cq_binding.specs.declared.fault.Fault.{Fault}
-use Rattle.cq_binding.specs.Sets.{bound_set, bound_sets, bound_where}
-use Rattle.cq_binding.specs.Typing.{Scope}
-use Rattle.cq_binding.specs.UpdateChecks.{set_check, set_checks, update_walk}
-use Rattle.cq_binding.specs.Scopes.{from_table, scope_of}
-use Rattle.cq_states.specs.State.{TableOf}
-use Rattle.cq_catalog.specs.declared.catalog.TableEntry.{TableEntry}
-use Rattle.cq_catalog.specs.Catalog.{Describes}
-use Rattle.cq_catalog.specs.Walk.{Walked, WalksTo}
+use Rattle.cq_binder_rules.specs.declared.fault.Fault.{Fault}
+use Rattle.cq_binder_rules.specs.Sets.{bound_set, bound_sets, bound_where}
+use Rattle.cq_binder_rules.specs.Typing.{Scope}
+use Rattle.cq_binder_rules.specs.UpdateChecks.{set_check, set_checks, update_walk}
+use Rattle.cq_binder_rules.specs.Scopes.{from_table, scope_of}
+use Rattle.cq_model_state.specs.State.{TableOf}
+use Rattle.cq_binder_queries.specs.declared.catalog.TableEntry.{TableEntry}
+use Rattle.cq_binder_queries.specs.Catalog.{Describes}
+use Rattle.cq_binder_queries.specs.Walk.{Walked, WalksTo}
 
 -- an assignment behind those before it is bound where it has no fault
 abbrev pub BindsSet : Scope → List SetClause → SetClause → Result Assignment Fault → Type 0

@@ -1,9 +1,9 @@
 //! Statements become commands.
 ghost use Rattle.std.specs.Prelude.{◌≡◌, ◌<◌, ◌-◌, ◌^◌, if◌then◌else◌};
-ghost use Rattle.cq_language.specs.declared.statement.Statement.TheVariants.{CreateTable, CreateView, DropTable, DropView};
-ghost use Rattle.cq_binding.specs.declared.fault.Fault.TheVariants.{UnknownTable, ViewNotWritten};
-ghost use Rattle.cq_states.specs.State.{is_taken};
-ghost use Rattle.cq_catalog.specs.Catalog.{names_view, state_of};
+ghost use Rattle.cq_sql_language.specs.declared.statement.Statement.TheVariants.{CreateTable, CreateView, DropTable, DropView};
+ghost use Rattle.cq_binder_rules.specs.declared.fault.Fault.TheVariants.{UnknownTable, ViewNotWritten};
+ghost use Rattle.cq_model_state.specs.State.{is_taken};
+ghost use Rattle.cq_binder_queries.specs.Catalog.{names_view, state_of};
 ghost use Rattle.cq_binder.specs.Binding.{Binds};
 ghost use Rattle.cq_binder.specs.Columns.{WalksCreate};
 ghost use Rattle.cq_binder.specs.Sourced.{BindsFrom};
@@ -13,10 +13,9 @@ use crate::copying::bind_copy;
 use crate::moving::{bind_merge, bind_move, bind_refresh};
 use crate::updating::bind_update;
 use crate::writing::{bind_delete, bind_insert};
-use cq_binding::{Bound, Fault, Sources};
-use cq_catalog::Catalog;
-use cq_language::{Select, Statement};
-use cq_queries::{bind_select, bind_view, check_length, check_names};
+use cq_binder_queries::{Catalog, bind_select, bind_view, check_length, check_names};
+use cq_binder_rules::{Bound, Fault, Sources};
+use cq_sql_language::{Select, Statement};
 use cq_values::{ColumnDef, Seq, Text};
 use std::alloc::Global;
 

@@ -1,12 +1,12 @@
 //! The columns of a table that is created, and where those behind SORT BY stand.
 ghost use Rattle.std.specs.Prelude.{◌≡◌, IfOk, []};
-ghost use Rattle.cq_binding.specs.Refusal.{sort_checks};
+ghost use Rattle.cq_binder_rules.specs.Refusal.{sort_checks};
 ghost use Rattle.cq_binder.specs.Columns.{sort_places};
-ghost use Rattle.cq_catalog.specs.Walk.{WalksTo};
+ghost use Rattle.cq_binder_queries.specs.Walk.{WalksTo};
 
-use cq_binding::Fault;
-use cq_exprs::column_place;
-use cq_queries::is_named;
+use cq_binder_expressions::column_place;
+use cq_binder_queries::is_named;
+use cq_binder_rules::Fault;
 use cq_values::{ColumnDef, Seq, Text};
 use std::alloc::{AllocError, Global};
 

@@ -1,15 +1,15 @@
 //! The constants of an INSERT, each for the column at its place.
 ghost use Rattle.std.specs.Prelude.{◌≡◌, [], length};
-ghost use Rattle.cq_language.specs.declared.statement.Constant.TheVariants as constants;
-ghost use Rattle.cq_binding.specs.Bound.{row_of};
-ghost use Rattle.cq_binding.specs.RowChecks.{row_checks};
+ghost use Rattle.cq_sql_language.specs.declared.statement.Constant.TheVariants as constants;
+ghost use Rattle.cq_binder_rules.specs.Bound.{row_of};
+ghost use Rattle.cq_binder_rules.specs.RowChecks.{row_checks};
 ghost use Rattle.cq_binder.specs.Constants.{BindsConstant};
-ghost use Rattle.cq_catalog.specs.Walk.{WalksTo};
+ghost use Rattle.cq_binder_queries.specs.Walk.{WalksTo};
 
 use crate::literals::{fits_column, literal_number};
-use cq_binding::Fault;
-use cq_language::{Constant, Literal};
+use cq_binder_rules::Fault;
 use cq_model::MAX_TEXT;
+use cq_sql_language::{Constant, Literal};
 use cq_values::{ColumnDef, Row, Text, Ty, Value, date_of};
 use std::alloc::Global;
 

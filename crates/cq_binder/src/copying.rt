@@ -1,17 +1,17 @@
 //! COPY.
 ghost use Rattle.std.specs.Prelude.{◌≡◌, ◌<◌, ◌-◌, ◌^◌, ◌∷◌, [], length, nat_lt};
-ghost use Rattle.cq_binding.specs.Checks.{fault_if};
-ghost use Rattle.cq_binding.specs.declared.fault.Fault.TheVariants.{TextTooLong};
-ghost use Rattle.cq_language.specs.declared.statement.Statement.TheVariants.{Copy};
+ghost use Rattle.cq_binder_rules.specs.Checks.{fault_if};
+ghost use Rattle.cq_binder_rules.specs.declared.fault.Fault.TheVariants.{TextTooLong};
+ghost use Rattle.cq_sql_language.specs.declared.statement.Statement.TheVariants.{Copy};
 ghost use Rattle.cq_model.specs.Sizes.{text_limit};
 ghost use Rattle.cq_binder.specs.Sourced.{BindsFrom};
-ghost use Rattle.cq_catalog.specs.Walk.{Passes};
+ghost use Rattle.cq_binder_queries.specs.Walk.{Passes};
 
 use crate::binding::{BindFault, unwritten};
-use cq_binding::{Bound, Fault, Sources};
-use cq_catalog::Catalog;
+use cq_binder_queries::Catalog;
+use cq_binder_rules::{Bound, Fault, Sources};
+use cq_csvio_read::read_rows;
 use cq_model::MAX_TEXT;
-use cq_records::read_rows;
 use cq_values::Text;
 use std::alloc::Global;
 

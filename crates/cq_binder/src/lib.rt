@@ -2,7 +2,7 @@
 //!
 //! [`bind`] makes the command that a statement is, with the names that a [`Catalog`] knows. The functions below it walk one
 //! stretch of the statement's places each, in their order: a stretch is either passed, with what it gives, or refused with
-//! its first fault (`Walked`); want of memory may come at any point. What reads is bound by `cq_queries`.
+//! its first fault (`Walked`); want of memory may come at any point. What reads is bound by `cq_binder_queries`.
 #![tactic(auto)]
 
 mod binding;
@@ -16,5 +16,5 @@ mod updating;
 mod writing;
 
 pub use binding::{BindFault, bind};
-pub use cq_catalog::{Catalog, TableEntry, ViewEntry};
+pub use cq_binder_queries::{Catalog, TableEntry, ViewEntry};
 pub use laws::checked_rows_fit;

@@ -1,9 +1,9 @@
 //! Whole numbers as they are written.
 ghost use Rattle.std.specs.Prelude.{◌≡◌, ◌<◌, ◌^◌};
-ghost use Rattle.cq_binding.specs.Bound.{literal_value};
-ghost use Rattle.cq_binding.specs.RowChecks.{fits_column};
+ghost use Rattle.cq_binder_rules.specs.Bound.{literal_value};
+ghost use Rattle.cq_binder_rules.specs.RowChecks.{fits_column};
 
-use cq_language::Literal;
+use cq_sql_language::Literal;
 
 /// Whether a column can hold it: stored numbers have 64 bits with a sign.
 pub(crate) fn fits_column(literal: &Literal) -> bool

@@ -1,11 +1,11 @@
 //! MOVE, MERGE and REFRESH.
-ghost use Rattle.cq_language.specs.declared.statement.Statement.TheVariants.{Merge, Move, Refresh};
-ghost use Rattle.cq_catalog.specs.Catalog.{state_of};
+ghost use Rattle.cq_sql_language.specs.declared.statement.Statement.TheVariants.{Merge, Move, Refresh};
+ghost use Rattle.cq_binder_queries.specs.Catalog.{state_of};
 ghost use Rattle.cq_binder.specs.Binding.{Binds};
 
 use crate::binding::{BindFault, unwritten};
-use cq_binding::{Bound, Fault};
-use cq_catalog::Catalog;
+use cq_binder_queries::Catalog;
+use cq_binder_rules::{Bound, Fault};
 use cq_values::Text;
 
 /// MOVE.

@@ -1,19 +1,18 @@
 //! UPDATE.
 ghost use Rattle.std.specs.Prelude.{◌≡◌};
-ghost use Rattle.cq_language.specs.declared.statement.Statement.TheVariants.{Update};
-ghost use Rattle.cq_binding.specs.UpdateChecks.{is_set};
-ghost use Rattle.cq_exprs.specs.Expressions.{scope_of};
-ghost use Rattle.cq_catalog.specs.Catalog.{state_of};
+ghost use Rattle.cq_sql_language.specs.declared.statement.Statement.TheVariants.{Update};
+ghost use Rattle.cq_binder_rules.specs.UpdateChecks.{is_set};
+ghost use Rattle.cq_binder_expressions.specs.Expressions.{scope_of};
+ghost use Rattle.cq_binder_queries.specs.Catalog.{state_of};
 ghost use Rattle.cq_binder.specs.Binding.{Binds};
 ghost use Rattle.cq_binder.specs.Update.{BindsSet, BindsSets, BindsUpdate, BindsUpdateOf};
 
 use crate::binding::{BindFault, unwritten};
-use cq_binding::{Bound, Fault};
-use cq_catalog::{Catalog, TableEntry, table_columns};
-use cq_exprs::{Scope, bind_of, named_place, typing_of};
-use cq_language::{SetClause, SqlExpr};
+use cq_binder_expressions::{Scope, bind_of, named_place, typing_of};
+use cq_binder_queries::{Catalog, TableEntry, bound_where, table_columns};
+use cq_binder_rules::{Bound, Fault};
 use cq_model::{Assignment, Cond};
-use cq_queries::bound_where;
+use cq_sql_language::{SetClause, SqlExpr};
 use cq_values::{Seq, Text};
 use std::alloc::Global;
 

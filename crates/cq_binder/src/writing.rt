@@ -1,24 +1,23 @@
 //! INSERT and DELETE.
 ghost use Rattle.std.specs.Prelude.{map};
 ghost use Rattle.std.specs.List.{flat_map};
-ghost use Rattle.cq_language.specs.declared.statement.Statement.TheVariants as statements;
-ghost use Rattle.cq_binding.specs.Bound.{row_of};
-ghost use Rattle.cq_binding.specs.RowChecks.{row_checks};
-ghost use Rattle.cq_binding.specs.Scopes.{from_table, scope_of};
-ghost use Rattle.cq_states.specs.State.{TableOf};
-ghost use Rattle.cq_catalog.specs.Catalog.{Describes, state_of};
+ghost use Rattle.cq_sql_language.specs.declared.statement.Statement.TheVariants as statements;
+ghost use Rattle.cq_binder_rules.specs.Bound.{row_of};
+ghost use Rattle.cq_binder_rules.specs.RowChecks.{row_checks};
+ghost use Rattle.cq_binder_rules.specs.Scopes.{from_table, scope_of};
+ghost use Rattle.cq_model_state.specs.State.{TableOf};
+ghost use Rattle.cq_binder_queries.specs.Catalog.{Describes, state_of};
 ghost use Rattle.cq_binder.specs.Binding.{Binds};
-ghost use Rattle.cq_queries.specs.Conditions.{BindsWhere};
-ghost use Rattle.cq_catalog.specs.Walk.{WalksTo};
+ghost use Rattle.cq_binder_queries.specs.Conditions.{BindsWhere};
+ghost use Rattle.cq_binder_queries.specs.Walk.{WalksTo};
 
 use crate::binding::{BindFault, unwritten};
 use crate::constants::bound_row;
-use cq_binding::Bound;
-use cq_catalog::{Catalog, TableEntry, table_columns};
-use cq_exprs::Scope;
-use cq_language::{ConstantRows, SqlExpr};
+use cq_binder_expressions::Scope;
+use cq_binder_queries::{Catalog, TableEntry, bound_where, table_columns};
+use cq_binder_rules::Bound;
 use cq_model::Cond;
-use cq_queries::bound_where;
+use cq_sql_language::{ConstantRows, SqlExpr};
 use cq_values::{ColumnDef, Row, Seq, Text};
 use std::alloc::Global;
 

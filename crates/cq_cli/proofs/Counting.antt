@@ -1,17 +1,17 @@
 -- How many statements and failures a piece counts.
 use Rattle.std.proofs.Common.{◌≡◌, ℕ, ◌+◌, ◌≤◌, Bool, true, false, [], ◌∷◌, Option, Result, Ok, Err, ap, arith, if◌then◌else◌}
-use Rattle.cq_language.specs.Pieces.{PieceOf}
-use Rattle.cq_binding.specs.declared.bound.Bound.{Bound}
-use Rattle.cq_binding.specs.declared.bound.Bound.TheVariants as commands
-use Rattle.cq_language.specs.declared.statement.Statement.{Statement}
-use Rattle.cq_steps.specs.declared.answer.Answer.{Answer}
-use Rattle.cq_binding.specs.declared.fault.Fault.{Fault}
-use Rattle.cq_binding.specs.declared.fault.Fault.TheVariants as faults
-use Rattle.cq_binding.specs.Records.{Files}
-use Rattle.cq_states.specs.State.{State}
-use Rattle.cq_steps.specs.Step.{Leads, Does, Refuses, by_walk, for_memory, source_failed, memory_on_the_way, too_large, Step}
-use Rattle.cq_steps.specs.Output.{Serves, rest_without_semicolon, sentence, no_sentence, past_limits, out_of_memory}
-use Rattle.cq_steps.specs.Output.{source_failures}
+use Rattle.cq_sql_language.specs.Pieces.{PieceOf}
+use Rattle.cq_binder_rules.specs.declared.bound.Bound.{Bound}
+use Rattle.cq_binder_rules.specs.declared.bound.Bound.TheVariants as commands
+use Rattle.cq_sql_language.specs.declared.statement.Statement.{Statement}
+use Rattle.cq_model_step.specs.declared.answer.Answer.{Answer}
+use Rattle.cq_binder_rules.specs.declared.fault.Fault.{Fault}
+use Rattle.cq_binder_rules.specs.declared.fault.Fault.TheVariants as faults
+use Rattle.cq_binder_rules.specs.Records.{Files}
+use Rattle.cq_model_state.specs.State.{State}
+use Rattle.cq_model_step.specs.Step.{Leads, Does, Refuses, by_walk, for_memory, source_failed, memory_on_the_way, too_large, Step}
+use Rattle.cq_model_step.specs.Output.{Serves, rest_without_semicolon, sentence, no_sentence, past_limits, out_of_memory}
+use Rattle.cq_model_step.specs.Output.{source_failures}
 
 -- the number that is drawn next
 abbrev next : State → ℕ

@@ -1,17 +1,17 @@
 -- Runs that go on, end, and are cut off.
 use Rattle.std.proofs.Common.{◌≡◌, ℕ, ◌+◌, ◌-◌, ◌^◌, ◌≤◌, ◌<◌, Bool, true, false, cond, if◌then◌else◌, not, List, [], ◌∷◌, ◌++◌, count_by, length, filter, Option, Result, Ok, Err, IfOk, refl, sym, ap, subst, ◌∙◌, append_assoc, arith}
-use Rattle.cq_binding.specs.declared.fault.Fault.TheVariants.{NotUtf8}
+use Rattle.cq_binder_rules.specs.declared.fault.Fault.TheVariants.{NotUtf8}
 use Rattle.std.specs.Str.{IsUtf8}
 use Rattle.std.specs.Io.KnownBytes.{Appends, Keeps}
 use Rattle.std.proofs.lemmas.Grind.{flat_map-append}
 use Rattle.std.proofs.lemmas.List.{append-nil}
 use Rattle.std.proofs.lemmas.List.Sums.{sum_by-append}
-use Rattle.cq_language.specs.Pieces.{PieceOf, HasPieces}
-use Rattle.cq_steps.specs.declared.answer.Answer.{Answer}
-use Rattle.cq_binding.specs.declared.fault.Fault.{Fault}
-use Rattle.cq_binding.specs.Records.{Files}
-use Rattle.cq_states.specs.State.{State, first_state}
-use Rattle.cq_steps.specs.Output.{answered, is_source_failure, not_utf8, Runs, Serves, outcome_text, output_of, source_failures, statements_among}
+use Rattle.cq_sql_language.specs.Pieces.{PieceOf, HasPieces}
+use Rattle.cq_model_step.specs.declared.answer.Answer.{Answer}
+use Rattle.cq_binder_rules.specs.declared.fault.Fault.{Fault}
+use Rattle.cq_binder_rules.specs.Records.{Files}
+use Rattle.cq_model_state.specs.State.{State, first_state}
+use Rattle.cq_model_step.specs.Output.{answered, is_source_failure, not_utf8, Runs, Serves, outcome_text, output_of, source_failures, statements_among}
 use Rattle.cq_cli.specs.declared.endings.Status.{Status}
 use Rattle.cq_cli.specs.declared.endings.Status.TheVariants.{AllAccepted, SomeRefused}
 use Rattle.cq_cli.specs.declared.endings.RunFault.{RunFault}

@@ -1,16 +1,16 @@
 -- What is printed for a piece is the text of an outcome that the piece may have.
 use Rattle.std.proofs.Common.{◌≡◌, ℕ, ◌+◌, Bool, true, false, List, [], ◌∷◌, Option, Result, Ok, Err, IfOk, refl}
 use Rattle.cq_values.specs.Value.{Row}
-use Rattle.cq_language.specs.Pieces.{PieceOf}
-use Rattle.cq_steps.specs.declared.answer.Answer.{Answer}
-use Rattle.cq_steps.specs.declared.answer.Answer.TheVariants.{Done, Count, Rows}
-use Rattle.cq_binding.specs.declared.fault.Fault.{Fault}
-use Rattle.cq_binding.specs.declared.fault.Fault.TheVariants as faults
-use Rattle.cq_binding.specs.Records.{Files}
-use Rattle.cq_states.specs.State.{State}
-use Rattle.cq_steps.specs.Step.{for_memory}
-use Rattle.cq_steps.specs.Output.{Serves, rest_without_semicolon, sentence, no_sentence, past_limits, out_of_memory}
-use Rattle.cq_steps.specs.Output.{outcome_text, source_failures}
+use Rattle.cq_sql_language.specs.Pieces.{PieceOf}
+use Rattle.cq_model_step.specs.declared.answer.Answer.{Answer}
+use Rattle.cq_model_step.specs.declared.answer.Answer.TheVariants.{Done, Count, Rows}
+use Rattle.cq_binder_rules.specs.declared.fault.Fault.{Fault}
+use Rattle.cq_binder_rules.specs.declared.fault.Fault.TheVariants as faults
+use Rattle.cq_binder_rules.specs.Records.{Files}
+use Rattle.cq_model_state.specs.State.{State}
+use Rattle.cq_model_step.specs.Step.{for_memory}
+use Rattle.cq_model_step.specs.Output.{Serves, rest_without_semicolon, sentence, no_sentence, past_limits, out_of_memory}
+use Rattle.cq_model_step.specs.Output.{outcome_text, source_failures}
 use Rattle.cq_engine.specs.Commands.{OnlyShows}
 use Rattle.cq_cli.specs.declared.printing.Printed.{Printed}
 use Rattle.cq_cli.specs.declared.printing.Printed.TheVariants as prints

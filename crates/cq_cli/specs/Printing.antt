@@ -1,12 +1,12 @@
 -- What is printed for a statement.
 use Rattle.std.specs.Prelude.{◌≡◌, ℕ, List, [], ◌∷◌, ◌++◌, codes, Result, Ok, Err, IfOk}
 use Rattle.std.specs.Fmt.{decimal}
-use Rattle.cq_steps.specs.declared.answer.Answer.{Answer}
-use Rattle.cq_steps.specs.declared.answer.Answer.TheVariants.{Done, Count, Rows}
-use Rattle.cq_binding.specs.declared.fault.Fault.{Fault}
-use Rattle.cq_binding.specs.declared.fault.Fault.TheVariants.{Memory}
-use Rattle.cq_binding.specs.FaultText.{fault_text}
-use Rattle.cq_printed.specs.Printed.{rows_text}
+use Rattle.cq_model_step.specs.declared.answer.Answer.{Answer}
+use Rattle.cq_model_step.specs.declared.answer.Answer.TheVariants.{Done, Count, Rows}
+use Rattle.cq_binder_rules.specs.declared.fault.Fault.{Fault}
+use Rattle.cq_binder_rules.specs.declared.fault.Fault.TheVariants.{Memory}
+use Rattle.cq_binder_rules.specs.FaultText.{fault_text}
+use Rattle.cq_values.specs.Printed.{rows_text}
 use Rattle.cq_cli.specs.declared.endings.Status.{Status}
 use Rattle.cq_cli.specs.declared.endings.Status.TheVariants.{AllAccepted, SomeRefused}
 use Rattle.cq_cli.specs.declared.printing.Printed.{Printed}

@@ -1,16 +1,16 @@
 -- What a run of a script does.
 use Rattle.std.specs.Prelude.{◌≡◌, ℕ, ◌+◌, Bool, true, false, if◌then◌else◌, List, ◌++◌, Option, Result, Ok, Err, IfOk}
 use Rattle.std.specs.List.{list_all}
-use Rattle.cq_steps.specs.declared.answer.Answer.{Answer}
-use Rattle.cq_binding.specs.Records.{Files}
-use Rattle.cq_binding.specs.declared.fault.Fault.{Fault}
-use Rattle.cq_steps.specs.Output.{HasOutcomes, output_of, source_failures}
+use Rattle.cq_model_step.specs.declared.answer.Answer.{Answer}
+use Rattle.cq_binder_rules.specs.Records.{Files}
+use Rattle.cq_binder_rules.specs.declared.fault.Fault.{Fault}
+use Rattle.cq_model_step.specs.Output.{HasOutcomes, output_of, source_failures}
 use Rattle.cq_cli.specs.declared.endings.Status.{Status}
 use Rattle.cq_cli.specs.declared.endings.Status.TheVariants.{AllAccepted, SomeRefused}
 use Rattle.cq_cli.specs.declared.endings.RunFault.{RunFault}
 use Rattle.cq_cli.specs.declared.endings.RunFault.TheVariants.{Output}
 use Rattle.cq_cli.specs.declared.sink.Sink.{Ghosts as Sink}
-use Rattle.cq_binding.specs.declared.sources.Sources.{Ghosts as Sources}
+use Rattle.cq_binder_rules.specs.declared.sources.Sources.{Ghosts as Sources}
 use Rattle.cq_cli.specs.Writing.{Wrote}
 
 -- whether the outcome of a statement is an answer

@@ -1,16 +1,16 @@
 //! Answers on their way out.
 ghost use Rattle.std.specs.Prelude.{◌≡◌, ◌<◌, ◌-◌, ◌^◌, ◌++◌, ◌∷◌, [], IfOk, codes};
 ghost use Rattle.std.specs.Fmt.{decimal};
-ghost use Rattle.cq_binding.specs.FaultText.{fault_text, number_text};
+ghost use Rattle.cq_binder_rules.specs.FaultText.{fault_text, number_text};
 ghost use Rattle.cq_cli.specs.Sinks.{Writes};
 ghost use Rattle.cq_cli.specs.Printing.{Shows, printed_status, printed_text};
 
 use crate::endings::{RunFault, Status};
 use crate::putting::put_all;
 use crate::sink::Sink;
-use cq_binding::Fault;
+use cq_binder_rules::Fault;
 use cq_csvio::{TextFault, print_result};
-use cq_steps::Answer;
+use cq_model_step::Answer;
 use cq_values::Seq;
 use itoa::Buffer;
 use std::alloc::Global;

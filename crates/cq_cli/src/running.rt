@@ -1,7 +1,7 @@
 //! Scripts from bytes to bytes.
 ghost use Rattle.std.specs.Prelude.{◌≡◌, ◌<◌, ◌+◌, ◌-◌, ◌^◌, ◌∷◌, [], OnOk, length, true};
-ghost use Rattle.cq_steps.specs.Output.{Serves, source_failures};
-ghost use Rattle.cq_tokens.specs.Piece.{piece_of};
+ghost use Rattle.cq_model_step.specs.Output.{Serves, source_failures};
+ghost use Rattle.cq_sql_tokens.specs.Piece.{piece_of};
 ghost use Rattle.cq_engine.specs.Commands.{OnlyShows};
 ghost use Rattle.cq_cli.specs.Printing.{Tells};
 ghost use Rattle.cq_cli.specs.Running.{Answers};
@@ -9,11 +9,11 @@ ghost use Rattle.cq_cli.specs.Running.{Answers};
 use crate::endings::{RunFault, Status};
 use crate::printing::{Printed, print, shown};
 use crate::sink::Sink;
-use cq_binding::Fault;
+use cq_binder_rules::Fault;
 use cq_engine::{Engine, Limits, Sources};
+use cq_model_step::Answer;
 use cq_sql::{Piece, SqlFault, parse, split};
-use cq_steps::Answer;
-use cq_tokens::closed_pieces_fit;
+use cq_sql_tokens::closed_pieces_fit;
 use std::alloc::Global;
 
 /// What a piece is answered with.

@@ -9,7 +9,7 @@ use Rattle.csv.specs.Writing as csv
 use Rattle.csv.specs.declared.writer.Writer.{Writer}
 use Rattle.csv.specs.declared.writer.QuoteStyle.TheVariants as style
 use Rattle.csv.proofs.WriteFacts.{blank-more, row-more}
-use Rattle.cq_printed.specs.Printed.{field_text, in_quotes, line_text, wants_quotes}
+use Rattle.cq_values.specs.Printed.{field_text, in_quotes, line_text, wants_quotes}
 use Rattle.cq_csvio.specs.Lines.{Holds, setup}
 
 four : (p q r s : Bool) → (p || q || (r || s) || false || false) ≡ (p || q || r || s)

@@ -4,7 +4,7 @@ use Rattle.std.specs.Global.{Global}
 use Rattle.csv.specs.Writing.{default_writer, fields_written, has_written, is_blank, row_body, with_flexible, writer_pending, writer_setup, writer_under}
 use Rattle.csv.specs.declared.writer.Writer.{Writer}
 use Rattle.csv.specs.declared.writer.WriterBuilder.{WriterBuilder}
-use Rattle.cq_printed.specs.Printed.{line_text}
+use Rattle.cq_values.specs.Printed.{line_text}
 use Rattle.cq_csvio.specs.declared.lines.Lines.{Lines}
 
 -- the defaults of `csv`, for lines that may differ in their number of fields

@@ -1,7 +1,7 @@
 //! Texts and values as fields.
 ghost use Rattle.std.specs.Prelude.{◌≡◌, List, OnOk, ℕ};
 ghost use Rattle.cq_csvio.specs.Lines.{Adds};
-ghost use Rattle.cq_printed.specs.Printed.{date_text, two_digits, value_text};
+ghost use Rattle.cq_values.specs.Printed.{date_text, two_digits, value_text};
 
 use crate::fault::TextFault;
 use crate::lines::Lines;
@@ -45,7 +45,7 @@ impl Field for Value {
     }
 }
 
-#[tactic(auto, unfolding(cq_printed::specs::Printed::date_text))]
+#[tactic(auto, unfolding(cq_values::specs::Printed::date_text))]
 fn date_bytes(day: Day) -> [u8; 10]
     ensures { result ≡ date_text day }
 {

@@ -2,18 +2,18 @@
 ghost use Rattle.std.specs.Prelude.{◌≡◌, IfOk, OnOk, map};
 ghost use Rattle.std.specs.List.{flat_map};
 ghost use Rattle.cq_csvio.specs.Lines.{AddsLines};
-ghost use Rattle.cq_printed.specs.Printed.{line_text, row_text, rows_text};
+ghost use Rattle.cq_values.specs.Printed.{line_text, row_text, rows_text};
 
 use crate::fault::TextFault;
 use crate::fields::Field;
 use crate::lines::Lines;
-use cq_rows::{RowList, rows_come_in_turn};
 use cq_values::{Seq, Text};
+use cq_values_rows::{RowList, rows_come_in_turn};
 use itoa::Buffer;
 use std::alloc::Global;
 
 /// The text of a result: how many rows there are, the header, and the rows as CSV.
-#[tactic(auto, unfolding(cq_printed::specs::Printed::rows_text))]
+#[tactic(auto, unfolding(cq_values::specs::Printed::rows_text))]
 pub fn print_result(alloc: Global, header: &[Text], rows: &RowList) -> Result<Seq<u8>, TextFault>
     ensures { IfOk result (λ t. t ≡ rows_text header.now rows.now) }
 {

@@ -4,9 +4,9 @@ use Rattle.std.specs.Option.{option_map, option_map_or}
 use Rattle.cq_values.specs.Value.{Row}
 use Rattle.cq_values.specs.Order.{same_row}
 use Rattle.cq_values.specs.Keys.{same_row-same}
-use Rattle.cq_bags.proofs.Totals.{by_test}
+use Rattle.cq_model_bags.proofs.Totals.{by_test}
 use Rattle.cq_model.specs.declared.query.Aggregate.{Aggregate}
-use Rattle.cq_kept.specs.Kept.{Group, group_of}
+use Rattle.cq_views_model.specs.Kept.{Group, group_of}
 use Rattle.cq_deltas.specs.Additions.{Addition}
 use Rattle.cq_deltas.specs.declared.group.Group.{Group as StoredGroup}
 use Rattle.cq_deltas.specs.Kept.{group_with, seen_group}

@@ -5,15 +5,15 @@ use Rattle.std.specs.List.{AllByRecursion}
 use Rattle.std.specs.Option.{option_map}
 use Rattle.cq_values.specs.Value.{Row}
 use Rattle.cq_values.specs.Order.{same_row}
-use Rattle.cq_bags.specs.Bag.{Weighted, IsBag}
-use Rattle.cq_bags.proofs.Bags.{same-sym}
-use Rattle.cq_bags.proofs.Totals.{by_test}
-use Rattle.cq_bags.proofs.Positives.{filtered-bag}
+use Rattle.cq_model_bags.specs.Bag.{Weighted, IsBag}
+use Rattle.cq_model_bags.proofs.Bags.{same-sym}
+use Rattle.cq_model_bags.proofs.Totals.{by_test}
+use Rattle.cq_model_bags.proofs.Positives.{filtered-bag}
 use Rattle.cq_model.specs.declared.query.Aggregate.{Aggregate}
 use Rattle.cq_model.specs.declared.query.Shape.TheVariants.{Grouped}
 use Rattle.cq_model.specs.Group.{key_of, rows_of_key}
-use Rattle.cq_kept.specs.Kept.{Group, GroupStands, Groups, LastStands, group_of}
-use Rattle.cq_laws.proofs.Keeps.{last-respects}
+use Rattle.cq_views_model.specs.Kept.{Group, GroupStands, Groups, LastStands, group_of}
+use Rattle.cq_model_laws.proofs.Keeps.{last-respects}
 use Rattle.cq_deltas.specs.Additions.{Addition}
 use Rattle.cq_deltas.specs.Placed.{Placed}
 use Rattle.cq_deltas.specs.Keyed.{IsReadyAt, KeyedGroups, additions_at, key_at, stored_at, group_at, is_met, group_with_all, settled, HasKeys, Takes, GroupsGoOn}

@@ -11,7 +11,7 @@ use Rattle.std.proofs.lemmas.Option.{get_or_from_slice_get, slice_get_within}
 use Rattle.cq_values.specs.Value.{Row}
 use Rattle.cq_values.specs.Order.{same_row}
 use Rattle.cq_values.specs.Keys.{same_row-refl, same_row-same}
-use Rattle.cq_bags.proofs.Totals.{by_test}
+use Rattle.cq_model_bags.proofs.Totals.{by_test}
 use Rattle.cq_deltas.specs.Placed.{Placed}
 use Rattle.cq_deltas.specs.Additions.{Addition}
 use Rattle.cq_deltas.specs.declared.group.Group.{Group as StoredGroup}

@@ -1,7 +1,10 @@
 pub mod AtKeys
+pub mod Built
+pub mod Ends
 pub mod GoesOn
 pub mod Leaving
 pub mod Listing
+pub mod Lookups
 pub mod MetKeys
 pub mod NoRows
 pub mod Places
@@ -11,3 +14,4 @@ pub mod Showing
 pub mod Small
 pub mod Turns
 pub mod Waiting
+pub mod Writes

@@ -6,11 +6,11 @@ use Rattle.std.proofs.Math.IntN.{+ℤ_idl}
 use Rattle.cq_values.specs.Value.{Row}
 use Rattle.cq_values.specs.Order.{same_row}
 use Rattle.cq_values.specs.Keys.{same_row-refl, same_row-equiv, same_row-same}
-use Rattle.cq_bags.specs.Bag.{weight_of, once_each}
-use Rattle.cq_bags.proofs.Totals.{by_test}
+use Rattle.cq_model_bags.specs.Bag.{weight_of, once_each}
+use Rattle.cq_model_bags.proofs.Totals.{by_test}
 use Rattle.cq_model.specs.declared.query.Aggregate.{Aggregate}
-use Rattle.cq_kept.specs.Kept.{Group, Groups, shown_row}
-use Rattle.cq_kept.specs.Shown.{ListsKeys}
+use Rattle.cq_views_model.specs.Kept.{Group, Groups, shown_row}
+use Rattle.cq_views_model.specs.Shown.{ListsKeys}
 use Rattle.cq_deltas.specs.declared.group.Group.{Group as StoredGroup}
 use Rattle.cq_deltas.specs.Kept.{seen_group}
 use Rattle.cq_deltas.specs.Keyed.{KeyedGroups, group_at}

@@ -5,8 +5,8 @@ use Rattle.std.proofs.Math.Seq.{take-suc}
 use Rattle.std.proofs.lemmas.List.Folds.{list_any-append}
 use Rattle.cq_values.specs.Value.{Row}
 use Rattle.cq_values.specs.Order.{same_row}
-use Rattle.cq_bags.proofs.Totals.{by_test}
-use Rattle.cq_kept.specs.Kept.{Group}
+use Rattle.cq_model_bags.proofs.Totals.{by_test}
+use Rattle.cq_views_model.specs.Kept.{Group}
 use Rattle.cq_deltas.specs.Additions.{Addition}
 use Rattle.cq_deltas.specs.Keyed.{ArePut, AreSettled, IsPut, KeyedGroups, Takes, group_met, group_with_all, is_met, settled, stored_at}
 

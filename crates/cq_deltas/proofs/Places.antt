@@ -12,7 +12,7 @@ use Rattle.indexmap.proofs.CallerLemmas.{updates-with_value_at}
 use Rattle.cq_values.specs.Value.{Row}
 use Rattle.cq_values.specs.Order.{same_row}
 use Rattle.cq_values.specs.Keys.{same_row-equiv, same_row-refl, same_row-same}
-use Rattle.cq_bags.proofs.Totals.{by_test}
+use Rattle.cq_model_bags.proofs.Totals.{by_test}
 use Rattle.cq_deltas.specs.declared.change.Addend.{Addend}
 use Rattle.cq_deltas.specs.Placed.{Placed}
 use Rattle.cq_deltas.specs.declared.group.Group.{Group as StoredGroup}

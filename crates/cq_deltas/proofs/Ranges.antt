@@ -7,17 +7,17 @@ use Rattle.std.proofs.lemmas.List.Sums.{sum_by-cons, sum_by_more_le}
 use Rattle.cq_values.specs.Value.{Row}
 use Rattle.cq_values.specs.Order.{same_row}
 use Rattle.cq_values.specs.declared.value.Value.{Value}
-use Rattle.cq_bags.specs.Bag.{Weighted, weight_of}
-use Rattle.cq_bags.proofs.Totals.{by_test, weight_of-append}
-use Rattle.cq_kept.specs.Kept.{Kept, Counted, Totalled, Listed, Group}
-use Rattle.cq_extremes.specs.Extremes.{alone, with_more}
+use Rattle.cq_model_bags.specs.Bag.{Weighted, weight_of}
+use Rattle.cq_model_bags.proofs.Totals.{by_test, weight_of-append}
+use Rattle.cq_views_model.specs.Kept.{Kept, Counted, Totalled, Listed, Group}
+use Rattle.cq_deltas.specs.Extremes.{alone, with_more}
 use Rattle.cq_deltas.specs.declared.change.Addend.{Addend}
 use Rattle.cq_deltas.specs.declared.change.Addend.TheVariants as added
 use Rattle.cq_deltas.specs.Additions.{Addition}
 use Rattle.cq_deltas.specs.Kept.{kept_with, all_kept_with, total_move, total_moves, KeptHolds, GroupHolds}
 use Rattle.cq_deltas.specs.Keyed.{KeyedGroups, stored_at, group_met, group_with_all, count_moves, all_total_moves, HoldsFor}
 use Rattle.cq_deltas.proofs.Turns.{holds-less}
-use Rattle.cq_extremes.proofs.Writes.{more-added}
+use Rattle.cq_deltas.proofs.Writes.{more-added}
 
 all-holds-less : (counts totals c t : ℕ) (ks : List Kept) → c ≤ counts → t ≤ totals → AllByRecursion (KeptHolds counts totals) ks → AllByRecursion (KeptHolds c t) ks
 all-holds-less counts totals c t [] x y h = tt

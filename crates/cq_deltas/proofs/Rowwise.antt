@@ -7,20 +7,20 @@ use Rattle.cq_values.specs.declared.value.Value.{Value}
 use Rattle.cq_values.specs.declared.value.Value.TheVariants.{Null, Number, Day, Text}
 use Rattle.cq_values.specs.Value.{Row}
 use Rattle.cq_values.specs.Order.{same_row}
-use Rattle.cq_bags.specs.Bag.{Weighted, SameBag}
-use Rattle.cq_bags.proofs.Bags.{same-refl, same-trans, same-append}
-use Rattle.cq_bags.proofs.Linears.{filtered-append, projected-append}
-use Rattle.cq_bags.proofs.Totals.{by_test, total-append}
+use Rattle.cq_model_bags.specs.Bag.{Weighted, SameBag}
+use Rattle.cq_model_bags.proofs.Bags.{same-refl, same-trans, same-append}
+use Rattle.cq_model_bags.proofs.Linears.{filtered-append, projected-append}
+use Rattle.cq_model_bags.proofs.Totals.{by_test, total-append}
 use Rattle.cq_model.specs.Expr.{Expr}
 use Rattle.cq_model.specs.declared.query.Aggregate.{Aggregate}
 use Rattle.cq_model.specs.declared.query.Aggregate.TheVariants.{CountAll, Count, Sum, Min, Max}
 use Rattle.cq_model.specs.Condition.{is_null}
 use Rattle.cq_model.specs.Eval.{eval}
 use Rattle.cq_model.specs.Group.{addend, count_all, count_values, sum_values, value_bag, key_of, rows_of_key}
-use Rattle.cq_kept.specs.Kept.{Kept, Counted, Totalled, Listed, IsKept, AreKept, Group, GroupStands}
-use Rattle.cq_laws.proofs.Groups.{count-append, sum-append}
-use Rattle.cq_extremes.specs.Extremes.{alone, with_more}
-use Rattle.cq_extremes.proofs.Writes.{more-added}
+use Rattle.cq_views_model.specs.Kept.{Kept, Counted, Totalled, Listed, IsKept, AreKept, Group, GroupStands}
+use Rattle.cq_model_laws.proofs.Groups.{count-append, sum-append}
+use Rattle.cq_deltas.specs.Extremes.{alone, with_more}
+use Rattle.cq_deltas.proofs.Writes.{more-added}
 use Rattle.cq_deltas.specs.Additions.{addend_of, additions, counted_addend}
 use Rattle.cq_deltas.specs.Kept.{kept_with, all_kept_with, group_with}
 use Rattle.cq_deltas.specs.Keyed.{group_with_all}

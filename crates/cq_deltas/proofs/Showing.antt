@@ -4,7 +4,7 @@ use Rattle.std.proofs.lemmas.List.{length-map, get_or-map}
 use Rattle.cq_values.specs.declared.value.Value.{Value}
 use Rattle.cq_values.specs.Value.{Row}
 use Rattle.cq_model.specs.declared.query.Aggregate.{Aggregate}
-use Rattle.cq_kept.specs.Kept.{Kept, kept_value, shown_values, shown_row}
+use Rattle.cq_views_model.specs.Kept.{Kept, kept_value, shown_values, shown_row}
 use Rattle.cq_deltas.specs.declared.kept.Kept.{Kept as Stored}
 use Rattle.cq_deltas.specs.Kept.{seen}
 use Rattle.cq_deltas.specs.Shown.{CanBeShown, AllCanBeShown}

@@ -3,11 +3,11 @@ use Rattle.std.proofs.Common.{◌≡◌, ℕ, ◌+◌, ◌<◌, ◌≤◌, ◌^�
 use Rattle.std.specs.List.{AllByRecursion}
 use Rattle.std.proofs.lemmas.Int.{ints}
 use Rattle.cq_values.specs.Value.{Row}
-use Rattle.cq_bags.specs.Bag.{Weighted}
+use Rattle.cq_model_bags.specs.Bag.{Weighted}
 use Rattle.cq_model.specs.declared.query.Aggregate.{Aggregate}
 use Rattle.cq_model.specs.declared.query.Aggregate.TheVariants.{CountAll, Count, Sum, Min, Max}
 use Rattle.cq_model.specs.Group.{rows_of_key, InRange, SumInRange}
-use Rattle.cq_kept.specs.Kept.{Kept, Counted, Totalled, Listed, IsKept, AreKept, Group, GroupStands, group_of, kept_of}
+use Rattle.cq_views_model.specs.Kept.{Kept, Counted, Totalled, Listed, IsKept, AreKept, Group, GroupStands, group_of, kept_of}
 use Rattle.cq_deltas.specs.Additions.{Addition}
 use Rattle.cq_deltas.specs.Additions.{additions}
 use Rattle.cq_deltas.specs.Kept.{KeptHolds, GroupHolds}
@@ -17,7 +17,7 @@ use Rattle.cq_deltas.specs.Shown.{CanBeShown, AllCanBeShown}
 use Rattle.cq_deltas.proofs.NoRows.{none-stands}
 use Rattle.cq_deltas.proofs.Ranges.{group_with_all-holds}
 use Rattle.cq_deltas.proofs.Rowwise.{rowwise-stands}
-use Rattle.cq_extremes.specs.Extremes.{alone}
+use Rattle.cq_deltas.specs.Extremes.{alone}
 
 -- of what is kept of the same rows, one holds while another does
 alike-holds : (counts totals : ℕ) (a : Aggregate) (xs : Weighted) (k l : Kept) → IsKept a xs k → IsKept a xs l → KeptHolds counts totals k → KeptHolds counts totals l

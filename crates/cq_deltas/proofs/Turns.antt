@@ -3,9 +3,9 @@ use Rattle.std.proofs.Common.{◌≡◌, ℕ, zero, suc, ◌+◌, ◌<◌, ◌�
 use Rattle.std.specs.List.{AllByRecursion}
 use Rattle.std.proofs.lemmas.List.{length-map, get_or-map, map-set}
 use Rattle.cq_values.specs.declared.value.Value.{Value}
-use Rattle.cq_bags.specs.Bag.{weight_of}
-use Rattle.cq_kept.specs.Kept.{Kept, Counted, Totalled, Listed}
-use Rattle.cq_extremes.specs.Extremes.{alone}
+use Rattle.cq_model_bags.specs.Bag.{weight_of}
+use Rattle.cq_views_model.specs.Kept.{Kept, Counted, Totalled, Listed}
+use Rattle.cq_deltas.specs.Extremes.{alone}
 use Rattle.cq_deltas.specs.declared.change.Addend.{Addend}
 use Rattle.cq_deltas.specs.declared.kept.Kept.{Kept as Stored}
 use Rattle.cq_deltas.specs.Kept.{seen, kept_with, all_kept_with, total_move, total_moves, HasRoomFor, HaveRoom, KeepRoom, KeepsRoomFor, KeptHolds}

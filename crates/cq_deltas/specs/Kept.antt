@@ -2,9 +2,9 @@
 use Rattle.std.specs.Prelude.{◌≤◌, ◌<◌, ◌^◌, ℕ, ◌+◌, ℤ, ◌+ℤ◌, ◌*ℤ◌, nat_abs, max, List, [], ◌∷◌, map, Option, None, Some}
 use Rattle.std.specs.List.{AllByRecursion}
 use Rattle.cq_values.specs.declared.value.Value.{Value}
-use Rattle.cq_bags.specs.Bag.{weight_of}
-use Rattle.cq_kept.specs.Kept.{Kept, Counted, Totalled, Listed, Group}
-use Rattle.cq_extremes.specs.Extremes.{HasRoom, alone, with_more}
+use Rattle.cq_model_bags.specs.Bag.{weight_of}
+use Rattle.cq_views_model.specs.Kept.{Kept, Counted, Totalled, Listed, Group}
+use Rattle.cq_deltas.specs.Extremes.{HasRoom, alone, with_more}
 use Rattle.cq_deltas.specs.declared.change.Addend.{Addend}
 use Rattle.cq_deltas.specs.declared.change.Addend.TheVariants as added
 use Rattle.cq_deltas.specs.declared.group.Group.{Group as StoredGroup}

@@ -1,13 +1,15 @@
--- What holds of groups that stand for rows. Each statement is the contract of a function in laws.rt.
-use Rattle.std.specs.Prelude.{◌<◌, ◌≤◌, ◌^◌, ◌↔◌, ℕ, ◌+◌, List, [], Option, unwrap_or}
+-- What holds of groups that stand for rows, and of counted values. Each statement is the contract of a function in laws.rt.
+use Rattle.std.specs.Prelude.{◌<◌, ◌≤◌, ◌^◌, ◌↔◌, ℕ, ◌+◌, ℤ, List, [], Option, unwrap_or}
 use Rattle.std.specs.List.{AllByRecursion}
-use Rattle.cq_bags.specs.Bag.{Weighted}
+use Rattle.cq_values.specs.Value.{Row}
+use Rattle.cq_model_bags.specs.Bag.{Weighted}
+use Rattle.cq_deltas.specs.Extremes.{IsAdded, with_more}
 use Rattle.cq_model.specs.Expr.{Cond}
 use Rattle.cq_model.specs.declared.query.Aggregate.{Aggregate}
 use Rattle.cq_model.specs.declared.query.Query.{Query}
 use Rattle.cq_model.specs.declared.query.Shape.TheVariants.{Grouped}
 use Rattle.cq_model.specs.Group.{SumInRange}
-use Rattle.cq_kept.specs.Kept.{Group, GroupStands, Groups, LastStands}
+use Rattle.cq_views_model.specs.Kept.{Group, GroupStands, Groups, LastStands}
 use Rattle.cq_deltas.specs.Additions.{Addition, additions}
 use Rattle.cq_deltas.specs.Keyed.{KeyedGroups, group_at, count_moves, all_total_moves, HoldsFor}
 use Rattle.cq_deltas.specs.Shown.{AllCanBeShown}
@@ -30,3 +32,7 @@ abbrev pub RangesShow : Type 0
 RangesShow =
     (aggregates : List Aggregate) (xs : Weighted) (group : Group) → GroupStands aggregates xs group
     → AllCanBeShown aggregates group.kept ↔ AllByRecursion (λ a. SumInRange a xs) aggregates
+
+-- a row whose weight is added in order is in the bag so many times more
+abbrev pub MoreIsAdded : Type 0
+MoreIsAdded = (r : Row) (w : ℤ) (xs : Weighted) → IsAdded r w xs (with_more r w xs)

@@ -1,6 +1,7 @@
 pub mod Additions
+pub mod Extremes
 pub mod Kept
-pub mod Laws
 pub mod Keyed
+pub mod Laws
 pub mod Placed
 pub mod Shown

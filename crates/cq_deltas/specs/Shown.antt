@@ -5,8 +5,8 @@ use Rattle.cq_values.specs.Value.{Row}
 use Rattle.cq_model.specs.declared.query.Aggregate.{Aggregate}
 use Rattle.cq_model.specs.declared.query.Aggregate.TheVariants.{Sum}
 use Rattle.cq_model.specs.Group.{InRange}
-use Rattle.cq_kept.specs.Kept.{Kept, Totalled, shown_row}
-use Rattle.cq_rows.specs.Flat.{Flat}
+use Rattle.cq_views_model.specs.Kept.{Kept, Totalled, shown_row}
+use Rattle.cq_values_rows.specs.Flat.{Flat}
 use Rattle.cq_deltas.specs.declared.group.Group.{Group as StoredGroup}
 use Rattle.cq_deltas.specs.Kept.{seen_group}
 use Rattle.cq_deltas.specs.Keyed.{KeyedGroups, group_at}

@@ -6,8 +6,8 @@ ghost use Rattle.cq_values.specs.Lent.{owned};
 ghost use Rattle.cq_deltas.specs.Additions.{IsNarrow, IsSmall, addend_of, addends_of, counted_addend};
 ghost use Rattle.cq_deltas.specs.Placed.{placed_at, row_read};
 
-use cq_eval::{eval_row, narrow_is_exact};
 use cq_model::Aggregate;
+use cq_model_eval::{eval_row, narrow_is_exact};
 use cq_values::{Lent, Value};
 use std::alloc::{AllocError, Global};
 use std::marker::Model;

@@ -1,5 +1,5 @@
-//! What holds of groups that stand for rows.
-ghost use Rattle.cq_deltas.specs.Laws.{RangesShow, SmallRowsHold};
+//! What holds of groups that stand for rows, and of counted values.
+ghost use Rattle.cq_deltas.specs.Laws.{MoreIsAdded, RangesShow, SmallRowsHold};
 
 /// A change can be put in groups while the rows that they stand for and the change are not too many and too large.
 pub fn small_rows_hold()
@@ -9,4 +9,9 @@ pub fn small_rows_hold()
 /// The groups can be shown exactly where the totals of their rows are in range.
 pub fn ranges_show()
     ensures { RangesShow }
+{}
+
+/// A row whose weight is added in order is in the bag so many times more.
+pub fn more_is_added()
+    ensures { MoreIsAdded }
 {}

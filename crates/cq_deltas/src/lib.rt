@@ -7,6 +7,7 @@
 #![tactic(auto)]
 
 mod change;
+mod extremes;
 mod fault;
 mod group;
 mod groups;
@@ -14,8 +15,9 @@ mod kept;
 mod laws;
 
 pub use change::{Addend, GroupChange};
+pub use extremes::Extremes;
 pub use fault::ShowFault;
 pub use group::Group;
 pub use groups::Groups;
 pub use kept::{CountedTotal, Kept};
-pub use laws::{ranges_show, small_rows_hold};
+pub use laws::{more_is_added, ranges_show, small_rows_hold};

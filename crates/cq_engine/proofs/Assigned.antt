@@ -10,33 +10,33 @@ use Rattle.cq_values.specs.declared.ty.Ty.TheVariants as types
 use Rattle.cq_values.specs.declared.value.Value.{Value}
 use Rattle.cq_values.specs.declared.value.Value.TheVariants.{Null, Number, Day, Text}
 use Rattle.cq_values.specs.Value.{Row, column}
-use Rattle.cq_laws.specs.Sizes.{IsStored}
-use Rattle.cq_language.specs.declared.statement.SetClause.{SetClause}
-use Rattle.cq_language.specs.Written.{Written}
+use Rattle.cq_model_laws.specs.Sizes.{IsStored}
+use Rattle.cq_sql_language.specs.declared.statement.SetClause.{SetClause}
+use Rattle.cq_sql_language.specs.Written.{Written}
 use Rattle.cq_model.specs.Eval.{eval}
 use Rattle.cq_model.specs.Width.{sizes_of}
-use Rattle.cq_binding.specs.declared.fault.Fault.{Fault}
-use Rattle.cq_binding.specs.declared.fault.Fault.TheVariants.{NameTaken, TypeMismatch}
-use Rattle.cq_binding.specs.declared.typing.Kind.{Kind}
-use Rattle.cq_binding.specs.declared.typing.Kind.TheVariants as kinds
-use Rattle.cq_binding.specs.declared.typing.Typing.{Typing}
-use Rattle.cq_binding.specs.Checks.{fault_if, first_fault}
-use Rattle.cq_binding.specs.Kinds.{◌and_then◌, is_of, of_type, unless}
-use Rattle.cq_binding.specs.Places.{named_place}
-use Rattle.cq_binding.specs.Scopes.{bound_value, from_table, of_rows, scope_of}
-use Rattle.cq_binding.specs.Sets.{bound_set, bound_sets, bound_where}
-use Rattle.cq_binding.specs.SourceChecks.{where_check}
-use Rattle.cq_binding.specs.Typing.{Scope, fault_in, type_at, typed}
-use Rattle.cq_binding.specs.UpdateChecks.{column_check, column_type, is_set, set_check, set_checks, type_check, update_walk}
-use Rattle.cq_exprs.specs.Expressions.{KeepSizes}
-use Rattle.cq_exprs.specs.Types.{IsOf, IsOfKind, KeepTypes}
-use Rattle.cq_exprs.proofs.Typed.{typed_is_of_its_kind}
-use Rattle.cq_states.specs.Fitting.{FitsColumn, FitsColumns, IsFitting}
-use Rattle.cq_states.specs.State.{TableOf}
-use Rattle.cq_writes.specs.Updates.{CanSet, CanSetAll, CanUpdate, declared_type}
-use Rattle.cq_writes.proofs.Checks.{back_free, first_free, front_free}
+use Rattle.cq_binder_rules.specs.declared.fault.Fault.{Fault}
+use Rattle.cq_binder_rules.specs.declared.fault.Fault.TheVariants.{NameTaken, TypeMismatch}
+use Rattle.cq_binder_rules.specs.declared.typing.Kind.{Kind}
+use Rattle.cq_binder_rules.specs.declared.typing.Kind.TheVariants as kinds
+use Rattle.cq_binder_rules.specs.declared.typing.Typing.{Typing}
+use Rattle.cq_binder_rules.specs.Checks.{fault_if, first_fault}
+use Rattle.cq_binder_rules.specs.Kinds.{◌and_then◌, is_of, of_type, unless}
+use Rattle.cq_binder_rules.specs.Places.{named_place}
+use Rattle.cq_binder_rules.specs.Scopes.{bound_value, from_table, of_rows, scope_of}
+use Rattle.cq_binder_rules.specs.Sets.{bound_set, bound_sets, bound_where}
+use Rattle.cq_binder_rules.specs.SourceChecks.{where_check}
+use Rattle.cq_binder_rules.specs.Typing.{Scope, fault_in, type_at, typed}
+use Rattle.cq_binder_rules.specs.UpdateChecks.{column_check, column_type, is_set, set_check, set_checks, type_check, update_walk}
+use Rattle.cq_binder_expressions.specs.Expressions.{KeepSizes}
+use Rattle.cq_binder_expressions.specs.Types.{IsOf, IsOfKind, KeepTypes}
+use Rattle.cq_binder_expressions.proofs.Typed.{typed_is_of_its_kind}
+use Rattle.cq_model_state.specs.Fitting.{FitsColumn, FitsColumns, IsFitting}
+use Rattle.cq_model_state.specs.State.{TableOf}
+use Rattle.cq_engine_writes.specs.Updates.{CanSet, CanSetAll, CanUpdate, declared_type}
+use Rattle.cq_engine_writes.proofs.Checks.{back_free, first_free, front_free}
 use Rattle.cq_engine.proofs.Fitting.{narrow_over, narrow_rows, passed, read_columns, stored_keep, stored_keeps}
-use Rattle.cq_tables.proofs.Stored.{rows_stored}
+use Rattle.cq_engine_tables.proofs.Stored.{rows_stored}
 
 -- a value of a kind that is of a type is of that type
 of_kind : (t : Ty) (k : Kind) (v : Value) → is_of t k ≡ true → IsOfKind k v → IsOf t v

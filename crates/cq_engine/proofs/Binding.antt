@@ -10,65 +10,65 @@ use Rattle.std.proofs.lemmas.List.Quantifiers.{position-Some}
 use Rattle.cq_values.specs.declared.column.ColumnDef.{ColumnDef}
 use Rattle.cq_values.specs.Texts.{is_text}
 use Rattle.cq_values.specs.Value.{Row}
-use Rattle.cq_bags.proofs.Totals.{by_test}
-use Rattle.cq_laws.specs.Sizes.{IsStored}
-use Rattle.cq_binding.specs.declared.bound.Bound.{Bound}
-use Rattle.cq_binding.specs.declared.bound.Bound.TheVariants as commands
-use Rattle.cq_language.specs.declared.statement.Constant.{Constant}
-use Rattle.cq_language.specs.declared.statement.Select.{Select}
-use Rattle.cq_language.specs.declared.statement.SetClause.{SetClause}
-use Rattle.cq_language.specs.declared.statement.Statement.{Statement}
-use Rattle.cq_language.specs.declared.statement.Statement.TheVariants as statements
+use Rattle.cq_model_bags.proofs.Totals.{by_test}
+use Rattle.cq_model_laws.specs.Sizes.{IsStored}
+use Rattle.cq_binder_rules.specs.declared.bound.Bound.{Bound}
+use Rattle.cq_binder_rules.specs.declared.bound.Bound.TheVariants as commands
+use Rattle.cq_sql_language.specs.declared.statement.Constant.{Constant}
+use Rattle.cq_sql_language.specs.declared.statement.Select.{Select}
+use Rattle.cq_sql_language.specs.declared.statement.SetClause.{SetClause}
+use Rattle.cq_sql_language.specs.declared.statement.Statement.{Statement}
+use Rattle.cq_sql_language.specs.declared.statement.Statement.TheVariants as statements
 use Rattle.cq_model.specs.Sizes.{stored_size, stored_sizes}
 use Rattle.cq_model.specs.Width.{IsNarrowIn}
-use Rattle.cq_language.specs.Written.{Written}
-use Rattle.cq_steps.specs.declared.answer.Answer.{Answer}
-use Rattle.cq_binding.specs.declared.fault.Fault.{Fault}
-use Rattle.cq_binding.specs.declared.fault.Fault.TheVariants as faults
-use Rattle.cq_binding.specs.Scopes.{Named, bound_condition, from_table, from_view, place_in, scope_of, source_columns, source_named}
-use Rattle.cq_binding.specs.From.{From, any_source, from_walk, no_view, view_walk}
-use Rattle.cq_binding.specs.Headers.{header}
-use Rattle.cq_binding.specs.Bound.{bound, bound_select, bound_update, bound_view, row_of, rows_read, standing}
-use Rattle.cq_binding.specs.Records.{Files, file_rows}
-use Rattle.cq_binding.specs.Queries.{bound_query}
-use Rattle.cq_binding.specs.Sets.{bound_sets, bound_where}
-use Rattle.cq_binding.specs.UpdateChecks.{row_checks_of, update_checks, update_walk}
-use Rattle.cq_binding.specs.Checks.{first_fault, fault_if, MayRefuse}
-use Rattle.cq_binding.specs.RowChecks.{row_checks}
-use Rattle.cq_binding.specs.SourceChecks.{where_check}
-use Rattle.cq_binding.specs.ViewChecks.{create_view_checks, query_checks, view_select_checks}
-use Rattle.cq_binding.specs.Orders.{order_checks}
-use Rattle.cq_binding.specs.Refusal.{bag_checks, is_used, content_checks, delete_checks, drop_table_checks, insert_checks, checks, name_checks, reads_source, refusal, select_checks, source_checks, written_table}
-use Rattle.cq_states.specs.Fitting.{FitsColumns, AreFitting, IsFitting}
-use Rattle.cq_states.specs.State.{TableOf, ViewOf, State, columns_in, is_taken, rows_in, table_named, view_named, view_place, AreNumbered}
-use Rattle.cq_steps.specs.Next.{reach, with_all_views}
-use Rattle.cq_steps.specs.Output.{source_failures}
-use Rattle.cq_steps.specs.Step.{AreBetween, IsTooLarge, Refuses, by_walk, for_memory, source_failed, too_large, Step}
-use Rattle.cq_catalog.specs.Catalog.{alone as bare}
-use Rattle.cq_binding.proofs.Sourceless.{is_source, tells_source, sourceless}
+use Rattle.cq_sql_language.specs.Written.{Written}
+use Rattle.cq_model_step.specs.declared.answer.Answer.{Answer}
+use Rattle.cq_binder_rules.specs.declared.fault.Fault.{Fault}
+use Rattle.cq_binder_rules.specs.declared.fault.Fault.TheVariants as faults
+use Rattle.cq_binder_rules.specs.Scopes.{Named, bound_condition, from_table, from_view, place_in, scope_of, source_columns, source_named}
+use Rattle.cq_binder_rules.specs.From.{From, any_source, from_walk, no_view, view_walk}
+use Rattle.cq_binder_rules.specs.Headers.{header}
+use Rattle.cq_binder_rules.specs.Bound.{bound, bound_select, bound_update, bound_view, row_of, rows_read, standing}
+use Rattle.cq_binder_rules.specs.Records.{Files, file_rows}
+use Rattle.cq_binder_rules.specs.Queries.{bound_query}
+use Rattle.cq_binder_rules.specs.Sets.{bound_sets, bound_where}
+use Rattle.cq_binder_rules.specs.UpdateChecks.{row_checks_of, update_checks, update_walk}
+use Rattle.cq_binder_rules.specs.Checks.{first_fault, fault_if, MayRefuse}
+use Rattle.cq_binder_rules.specs.RowChecks.{row_checks}
+use Rattle.cq_binder_rules.specs.SourceChecks.{where_check}
+use Rattle.cq_binder_rules.specs.ViewChecks.{create_view_checks, query_checks, view_select_checks}
+use Rattle.cq_binder_rules.specs.Orders.{order_checks}
+use Rattle.cq_binder_rules.specs.Refusal.{bag_checks, is_used, content_checks, delete_checks, drop_table_checks, insert_checks, checks, name_checks, reads_source, refusal, select_checks, source_checks, written_table}
+use Rattle.cq_model_state.specs.Fitting.{FitsColumns, AreFitting, IsFitting}
+use Rattle.cq_model_state.specs.State.{TableOf, ViewOf, State, columns_in, is_taken, rows_in, table_named, view_named, view_place, AreNumbered}
+use Rattle.cq_model_step.specs.Next.{reach, with_all_views}
+use Rattle.cq_model_step.specs.Output.{source_failures}
+use Rattle.cq_model_step.specs.Step.{AreBetween, IsTooLarge, Refuses, by_walk, for_memory, source_failed, too_large, Step}
+use Rattle.cq_binder_queries.specs.Catalog.{alone as bare}
+use Rattle.cq_binder_rules.proofs.Sourceless.{is_source, tells_source, sourceless}
 use Rattle.cq_binder.specs.Sourced.{IsBound, names_file, alone, over, failed}
-use Rattle.cq_binding.specs.Sources.{AreTold}
+use Rattle.cq_binder_rules.specs.Sources.{AreTold}
 use Rattle.cq_binder.specs.Binding.{Binds, BindsOver, binding_checks, records_walk, rows_walk, sets_walk}
-use Rattle.cq_catalog.proofs.Faults.{first_fault_append, or_next, single}
+use Rattle.cq_binder_queries.proofs.Faults.{first_fault_append, or_next, single}
 use Rattle.cq_binder.proofs.Fitting.{rows_fit}
-use Rattle.cq_records.proofs.Fits.{rows_fit as file_rows_fit}
-use Rattle.cq_catalog.proofs.Found.{has_place}
-use Rattle.cq_answers.specs.Narrow.{IsConditionSized, IsShapeSized, view_sizes}
+use Rattle.cq_csvio_read.proofs.Fits.{rows_fit as file_rows_fit}
+use Rattle.cq_binder_queries.proofs.Found.{has_place}
+use Rattle.cq_engine_answers.specs.Narrow.{IsConditionSized, IsShapeSized, view_sizes}
 use Rattle.cq_engine.specs.Commands.{CanCarryOut, CarriesOut, IsRefused, present, room}
-use Rattle.cq_tables.specs.Tables.{IsThere}
+use Rattle.cq_engine_tables.specs.Tables.{IsThere}
 use Rattle.cq_engine.proofs.Creating.{view_can}
 use Rattle.cq_engine.proofs.Shapes.{filter_sized, shape_sized}
 use Rattle.cq_engine.proofs.Sourced.{IsFound, IsOneTable, all_at_place, are_joined, are_tables, standing_ok}
-use Rattle.cq_upkeep.specs.Query.{IsTable}
-use Rattle.cq_writes.proofs.Checks.{back_free, first_free, front_free}
+use Rattle.cq_views_state.specs.Query.{IsTable}
+use Rattle.cq_engine_writes.proofs.Checks.{back_free, first_free, front_free}
 use Rattle.cq_engine.proofs.Fitting.{narrow_rows, stored_keep}
 use Rattle.cq_table.specs.Checks.{value_fault}
-use Rattle.cq_writes.specs.Updates.{CanUpdate}
+use Rattle.cq_engine_writes.specs.Updates.{CanUpdate}
 use Rattle.cq_engine.proofs.Assigned.{update_fits}
 use Rattle.cq_engine.proofs.Counting.{grown_by_none, grown_by_one, none_counted, one_counted}
-use Rattle.cq_tables.proofs.Numbers.{Above}
-use Rattle.cq_tables.proofs.Places.{found_there}
-use Rattle.cq_tables.proofs.Stored.{rows_stored}
+use Rattle.cq_engine_tables.proofs.Numbers.{Above}
+use Rattle.cq_engine_tables.proofs.Places.{found_there}
+use Rattle.cq_engine_tables.proofs.Stored.{rows_stored}
 use Rattle.cq_engine.proofs.Steps.{AreAt, all_between}
 
 -- what an optional value is mapped to

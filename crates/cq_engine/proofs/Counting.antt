@@ -1,10 +1,10 @@
 -- How often a source failed, as the outcome of one statement tells it.
 use Rattle.std.proofs.Common.{◌≡◌, ℕ, ◌+◌, false, [], ◌∷◌, Result, Err, refl, arith}
-use Rattle.cq_binding.specs.declared.fault.Fault.{Fault}
-use Rattle.cq_binding.specs.declared.fault.Fault.TheVariants as faults
-use Rattle.cq_binding.proofs.Sourceless.{is_source}
-use Rattle.cq_steps.specs.declared.answer.Answer.{Answer}
-use Rattle.cq_steps.specs.Output.{is_source_failure, source_failures}
+use Rattle.cq_binder_rules.specs.declared.fault.Fault.{Fault}
+use Rattle.cq_binder_rules.specs.declared.fault.Fault.TheVariants as faults
+use Rattle.cq_binder_rules.proofs.Sourceless.{is_source}
+use Rattle.cq_model_step.specs.declared.answer.Answer.{Answer}
+use Rattle.cq_model_step.specs.Output.{is_source_failure, source_failures}
 
 failure_is : (f : Fault) → is_source f ≡ false → is_source_failure (Err f) ≡ false
 failure_is faults.SourceFailed h = absurd (cc)

@@ -13,34 +13,34 @@ use Rattle.cq_model.specs.declared.query.Source.TheVariants.{Table, View}
 use Rattle.cq_model.specs.Sizes.{aggregate_size, row_size, shown_size, stored_size, stored_sizes}
 use Rattle.cq_model.specs.Views.{sources_of}
 use Rattle.cq_model.specs.Width.{limits_of, number_limit, widest}
-use Rattle.cq_language.specs.declared.statement.Select.{Select}
-use Rattle.cq_language.specs.declared.statement.SelectItem.{SelectItem}
-use Rattle.cq_language.specs.Written.{Written}
-use Rattle.cq_binding.specs.declared.fault.Fault.{Fault}
-use Rattle.cq_binding.specs.declared.fault.Fault.TheVariants.{NameTaken}
-use Rattle.cq_binding.specs.Bound.{item_columns}
-use Rattle.cq_binding.specs.Checks.{fault_if, first_fault, too_long}
-use Rattle.cq_binding.specs.From.{From}
-use Rattle.cq_binding.specs.Grouping.{is_empty, is_grouped, item_scope}
-use Rattle.cq_binding.specs.Headers.{header, shown_by}
-use Rattle.cq_binding.specs.Kinds.{kept_value}
-use Rattle.cq_binding.specs.Placed.{placed_cond, with_aggregates}
-use Rattle.cq_binding.specs.Places.{group_places}
-use Rattle.cq_binding.specs.Queries.{bound_group, bound_query, grouped_shape, having_aggregates, item_aggregates, placed_items}
-use Rattle.cq_binding.specs.Scopes.{in_groups, of_rows}
-use Rattle.cq_binding.specs.Sets.{bound_where}
-use Rattle.cq_binding.specs.SourceChecks.{group_checks, kept_check, where_check}
-use Rattle.cq_binding.specs.Typing.{Scope, ScopeColumn, size_at}
-use Rattle.cq_binding.specs.Orders.{order_checks}
-use Rattle.cq_binding.specs.ViewChecks.{absent_checks, list_checks, no_clause, query_checks, repeats}
-use Rattle.cq_exprs.specs.Expressions as exprs
-use Rattle.cq_exprs.specs.Expressions.{KeepSizes}
-use Rattle.cq_states.specs.State.{TableOf, ViewOf, columns_in}
-use Rattle.cq_chains.specs.Steps.{IsNarrowOnStored}
-use Rattle.cq_upkeep.specs.Query.{HasNoHaving, IsArgumentNarrow, IsTable, aggregates_in}
-use Rattle.cq_tables.specs.Views.{Fits}
-use Rattle.cq_answers.specs.Narrow.{source_sizes}
-use Rattle.cq_writes.proofs.Checks.{back_free, first_free, front_free}
+use Rattle.cq_sql_language.specs.declared.statement.Select.{Select}
+use Rattle.cq_sql_language.specs.declared.statement.SelectItem.{SelectItem}
+use Rattle.cq_sql_language.specs.Written.{Written}
+use Rattle.cq_binder_rules.specs.declared.fault.Fault.{Fault}
+use Rattle.cq_binder_rules.specs.declared.fault.Fault.TheVariants.{NameTaken}
+use Rattle.cq_binder_rules.specs.Bound.{item_columns}
+use Rattle.cq_binder_rules.specs.Checks.{fault_if, first_fault, too_long}
+use Rattle.cq_binder_rules.specs.From.{From}
+use Rattle.cq_binder_rules.specs.Grouping.{is_empty, is_grouped, item_scope}
+use Rattle.cq_binder_rules.specs.Headers.{header, shown_by}
+use Rattle.cq_binder_rules.specs.Kinds.{kept_value}
+use Rattle.cq_binder_rules.specs.Placed.{placed_cond, with_aggregates}
+use Rattle.cq_binder_rules.specs.Places.{group_places}
+use Rattle.cq_binder_rules.specs.Queries.{bound_group, bound_query, grouped_shape, having_aggregates, item_aggregates, placed_items}
+use Rattle.cq_binder_rules.specs.Scopes.{in_groups, of_rows}
+use Rattle.cq_binder_rules.specs.Sets.{bound_where}
+use Rattle.cq_binder_rules.specs.SourceChecks.{group_checks, kept_check, where_check}
+use Rattle.cq_binder_rules.specs.Typing.{Scope, ScopeColumn, size_at}
+use Rattle.cq_binder_rules.specs.Orders.{order_checks}
+use Rattle.cq_binder_rules.specs.ViewChecks.{absent_checks, list_checks, no_clause, query_checks, repeats}
+use Rattle.cq_binder_expressions.specs.Expressions as exprs
+use Rattle.cq_binder_expressions.specs.Expressions.{KeepSizes}
+use Rattle.cq_model_state.specs.State.{TableOf, ViewOf, columns_in}
+use Rattle.cq_deltas_joins.specs.Steps.{IsNarrowOnStored}
+use Rattle.cq_views_state.specs.Query.{HasNoHaving, IsArgumentNarrow, IsTable, aggregates_in}
+use Rattle.cq_engine_tables.specs.Views.{Fits}
+use Rattle.cq_engine_answers.specs.Narrow.{source_sizes}
+use Rattle.cq_engine_writes.proofs.Checks.{back_free, first_free, front_free}
 use Rattle.cq_engine.specs.Commands.{CanBuild}
 use Rattle.cq_engine.proofs.Fitting.{items_walk, second_free, narrow_arguments, narrow_items, narrow_where, nothing_shown}
 use Rattle.cq_engine.proofs.Groups.{key_keeps, key_places, told_keep}

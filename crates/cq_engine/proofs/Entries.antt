@@ -6,39 +6,39 @@ use Rattle.std.proofs.lemmas.List.{append-nil, map-append}
 use Rattle.std.proofs.lemmas.List.Concat.{flat_map-append}
 use Rattle.std.proofs.lemmas.Nat.{mul-le}
 use Rattle.cq_values.specs.Value.{Row}
-use Rattle.cq_bags.specs.Bag.{Weighted, SameBag, once_each}
-use Rattle.cq_bags.proofs.Bags.{same-refl}
-use Rattle.cq_bags.proofs.Canonicals.{bag_of-weights, length-bag_of}
-use Rattle.cq_bags.proofs.Totals.{by_test}
-use Rattle.cq_laws.proofs.Fits.{all-listed}
-use Rattle.cq_laws.specs.Sizes.{IsStored}
-use Rattle.cq_columns.specs.Stored.{all_rows}
-use Rattle.cq_lent.specs.Lent.{same_source}
-use Rattle.cq_sources.specs.declared.stored_source.StoredSource.{StoredSource}
+use Rattle.cq_model_bags.specs.Bag.{Weighted, SameBag, once_each}
+use Rattle.cq_model_bags.proofs.Bags.{same-refl}
+use Rattle.cq_model_bags.proofs.Canonicals.{bag_of-weights, length-bag_of}
+use Rattle.cq_model_bags.proofs.Totals.{by_test}
+use Rattle.cq_model_laws.proofs.Fits.{all-listed}
+use Rattle.cq_model_laws.specs.Sizes.{IsStored}
+use Rattle.cq_table_columns.specs.Stored.{all_rows}
+use Rattle.cq_model.specs.Sources.{same_source}
+use Rattle.cq_table_columns.specs.declared.stored_source.StoredSource.{StoredSource}
 use Rattle.cq_model.specs.declared.query.Query.{Query}
 use Rattle.cq_model.specs.declared.query.Source.{Source}
 use Rattle.cq_model.specs.declared.query.Source.TheVariants.{Table, View}
 use Rattle.cq_model.specs.Meaning.{Tables}
 use Rattle.cq_model.specs.Views.{sources_of}
-use Rattle.cq_weights.specs.Held.{sizes}
-use Rattle.cq_chains.specs.Chains.{nothing, spans}
-use Rattle.cq_chains.specs.Steps.{AreStored, span}
-use Rattle.cq_states.specs.Fitting.{AreFitting, AreLimited}
-use Rattle.cq_states.specs.State.{TableOf, rows_in}
-use Rattle.cq_kept_views.proofs.Taking.{sizes-once_each}
-use Rattle.cq_kept_views.specs.Filling.{bags_at, only}
-use Rattle.cq_kept_views.specs.Laws.{StandingDependsOnSources}
-use Rattle.cq_kept_views.specs.State.{StandsFor}
-use Rattle.cq_kept_views.specs.declared.kept_view.KeptView.{KeptView}
-use Rattle.cq_upkeep.specs.State.{CanStart}
-use Rattle.cq_tables.specs.Views.{Fits, bags_in}
-use Rattle.cq_tables.proofs.Bags.{bags_few, stored-once_each}
-use Rattle.cq_tables.proofs.Rows.{all_behind, rows_have}
-use Rattle.cq_tables.proofs.Stored.{tables_stored}
-use Rattle.cq_answers.specs.Gathered.{AreRowsThere}
-use Rattle.cq_answers.proofs.Backed.{all_sources}
-use Rattle.cq_answers.proofs.Lents.{itself, only_itself}
-use Rattle.cq_answers.proofs.Readings.{rows_same}
+use Rattle.cq_sides_weights.specs.Held.{sizes}
+use Rattle.cq_deltas_joins.specs.Chains.{nothing, spans}
+use Rattle.cq_deltas_joins.specs.Steps.{AreStored, span}
+use Rattle.cq_model_state.specs.Fitting.{AreFitting, AreLimited}
+use Rattle.cq_model_state.specs.State.{TableOf, rows_in}
+use Rattle.cq_views.proofs.Taking.{sizes-once_each}
+use Rattle.cq_views.specs.Filling.{bags_at, only}
+use Rattle.cq_views.specs.Laws.{StandingDependsOnSources}
+use Rattle.cq_views.specs.State.{StandsFor}
+use Rattle.cq_views.specs.declared.kept_view.KeptView.{KeptView}
+use Rattle.cq_views_state.specs.State.{CanStart}
+use Rattle.cq_engine_tables.specs.Views.{Fits, bags_in}
+use Rattle.cq_engine_tables.proofs.Bags.{bags_few, stored-once_each}
+use Rattle.cq_engine_tables.proofs.Rows.{all_behind, rows_have}
+use Rattle.cq_engine_tables.proofs.Stored.{tables_stored}
+use Rattle.cq_engine_answers.specs.Gathered.{AreRowsThere}
+use Rattle.cq_engine_answers.proofs.Backed.{all_sources}
+use Rattle.cq_engine_answers.proofs.Lents.{itself, only_itself}
+use Rattle.cq_engine_answers.proofs.Readings.{rows_same}
 use Rattle.cq_engine.specs.Gathering.{AreGathered, GathersAlso, is_gathered}
 
 -- ---- Entries

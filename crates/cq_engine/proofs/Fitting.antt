@@ -8,22 +8,22 @@ use Rattle.cq_values.specs.declared.column.ColumnDef.{ColumnDef}
 use Rattle.cq_model.specs.declared.query.Aggregate.{Aggregate}
 use Rattle.cq_model.specs.Sizes.{stored_size, stored_sizes}
 use Rattle.cq_model.specs.Width.{IsNarrowIn, number_limit, sizes_of, widest}
-use Rattle.cq_language.specs.Written.{Written}
-use Rattle.cq_binding.specs.declared.fault.Fault.{Fault}
-use Rattle.cq_binding.specs.declared.typing.Typing.{Typing}
-use Rattle.cq_binding.specs.Checks.{first_fault}
-use Rattle.cq_binding.specs.Kinds.{◌and_then◌, negation_of}
-use Rattle.cq_binding.specs.Placed.{placed_cond, with_aggregates}
-use Rattle.cq_binding.specs.Queries.{having_aggregates, placed_items}
-use Rattle.cq_binding.specs.Scopes.{from_table, of_rows, scope_column, source_columns}
-use Rattle.cq_binding.specs.Sets.{bound_where}
-use Rattle.cq_binding.specs.SourceChecks.{where_check}
-use Rattle.cq_binding.specs.Typing.{Scope, ScopeColumn, fault_in, rows_in, size_at, typed}
-use Rattle.cq_exprs.specs.Expressions.{IsArgumentNarrow, IsNarrow, KeepShown, KeepSizes}
-use Rattle.cq_exprs.proofs.Narrow.{Grows, arguments_are_narrow, grows, typed_is_narrow}
-use Rattle.cq_laws.specs.Sizes.{IsStored}
-use Rattle.cq_writes.proofs.Checks.{back_free, first_free}
-use Rattle.cq_states.specs.State.{TableOf}
+use Rattle.cq_sql_language.specs.Written.{Written}
+use Rattle.cq_binder_rules.specs.declared.fault.Fault.{Fault}
+use Rattle.cq_binder_rules.specs.declared.typing.Typing.{Typing}
+use Rattle.cq_binder_rules.specs.Checks.{first_fault}
+use Rattle.cq_binder_rules.specs.Kinds.{◌and_then◌, negation_of}
+use Rattle.cq_binder_rules.specs.Placed.{placed_cond, with_aggregates}
+use Rattle.cq_binder_rules.specs.Queries.{having_aggregates, placed_items}
+use Rattle.cq_binder_rules.specs.Scopes.{from_table, of_rows, scope_column, source_columns}
+use Rattle.cq_binder_rules.specs.Sets.{bound_where}
+use Rattle.cq_binder_rules.specs.SourceChecks.{where_check}
+use Rattle.cq_binder_rules.specs.Typing.{Scope, ScopeColumn, fault_in, rows_in, size_at, typed}
+use Rattle.cq_binder_expressions.specs.Expressions.{IsArgumentNarrow, IsNarrow, KeepShown, KeepSizes}
+use Rattle.cq_binder_expressions.proofs.Narrow.{Grows, arguments_are_narrow, grows, typed_is_narrow}
+use Rattle.cq_model_laws.specs.Sizes.{IsStored}
+use Rattle.cq_engine_writes.proofs.Checks.{back_free, first_free}
+use Rattle.cq_model_state.specs.State.{TableOf}
 
 -- ---- Checks without a fault
 

@@ -7,18 +7,18 @@ use Rattle.std.proofs.lemmas.List.{get_or-append-add, get_or-map, get_or_append_
 use Rattle.std.proofs.lemmas.List.Quantifiers.{position-Some}
 use Rattle.std.proofs.lemmas.Option.{get_or_from_slice_get, slice_get_within}
 use Rattle.cq_values.specs.Value.{Row}
-use Rattle.cq_language.specs.declared.written.ColumnName.{ColumnName}
-use Rattle.cq_laws.specs.Sizes.{IsSized, grouped_sizes}
+use Rattle.cq_sql_language.specs.declared.written.ColumnName.{ColumnName}
+use Rattle.cq_model_laws.specs.Sizes.{IsSized, grouped_sizes}
 use Rattle.cq_model.specs.declared.query.Aggregate.{Aggregate}
 use Rattle.cq_model.specs.Sizes.{aggregate_size}
 use Rattle.cq_model.specs.Width.{limits_of, sizes_of}
-use Rattle.cq_binding.specs.Grouping.{is_empty}
-use Rattle.cq_binding.specs.Places.{group_places}
-use Rattle.cq_binding.specs.Queries.{bound_group}
-use Rattle.cq_binding.specs.Scopes.{in_groups}
-use Rattle.cq_binding.specs.Typing.{ScopeColumn, size_at}
-use Rattle.cq_exprs.specs.Expressions.{KeepShown, KeepSizes}
-use Rattle.cq_tables.proofs.Places.{not_there}
+use Rattle.cq_binder_rules.specs.Grouping.{is_empty}
+use Rattle.cq_binder_rules.specs.Places.{group_places}
+use Rattle.cq_binder_rules.specs.Queries.{bound_group}
+use Rattle.cq_binder_rules.specs.Scopes.{in_groups}
+use Rattle.cq_binder_rules.specs.Typing.{ScopeColumn, size_at}
+use Rattle.cq_binder_expressions.specs.Expressions.{KeepShown, KeepSizes}
+use Rattle.cq_engine_tables.proofs.Places.{not_there}
 
 -- what is read of a key's column is told of the column that has a place in the key
 key_size : (f : ℕ → ℕ) (rest places : List ℕ) (place : ℕ) → list_any (λ g. g == place) places ≡ true

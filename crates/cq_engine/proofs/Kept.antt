@@ -2,25 +2,25 @@
 use Rattle.std.proofs.Common.{◌≡◌, ℕ, false, List, [], ◌∷◌, ◌++◌, length, Option, Some, None, refl, sym, ap, ap₂, ◌∙◌, subst}
 use Rattle.std.specs.Prelude.{is_some}
 use Rattle.std.specs.List.{AllByRecursion}
-use Rattle.cq_bags.specs.Bag.{SameBag, once_each}
-use Rattle.cq_bags.proofs.Bags.{same-refl}
-use Rattle.cq_binding.specs.Refusal.{is_used}
-use Rattle.cq_catalog.proofs.Found.{has_place}
+use Rattle.cq_model_bags.specs.Bag.{SameBag, once_each}
+use Rattle.cq_model_bags.proofs.Bags.{same-refl}
+use Rattle.cq_binder_rules.specs.Refusal.{is_used}
+use Rattle.cq_binder_queries.proofs.Found.{has_place}
 use Rattle.cq_model.specs.declared.query.Query.{Query}
 use Rattle.cq_model.specs.declared.query.Source.{Source}
 use Rattle.cq_model.specs.declared.query.Source.TheVariants.{Table, View}
 use Rattle.cq_model.specs.Meaning.{Tables}
 use Rattle.cq_model.specs.Views.{is_table, sources_of}
-use Rattle.cq_states.specs.State.{TableOf, ViewOf, view_named, view_place, rows_in}
-use Rattle.cq_kept_views.specs.Laws.{StandingDependsOnSources}
-use Rattle.cq_kept_views.specs.State.{StandsFor}
-use Rattle.cq_upkeep.specs.Query.{reads}
-use Rattle.cq_tables.specs.Taking.{IsSame, AreSame}
-use Rattle.cq_tables.specs.Views.{NamedView, view_of, views_of, AreWide, IsRight, AreRight, Fits, bags_in}
-use Rattle.cq_tables.proofs.Numbers.{others}
-use Rattle.cq_tables.proofs.Pairs.{pointwise_all, pointwise_map}
-use Rattle.cq_tables.proofs.Rows.{rows_left, unread, unused}
-use Rattle.cq_tables.proofs.Wide.{KeepWidths, all-still-wide, wide-left}
+use Rattle.cq_model_state.specs.State.{TableOf, ViewOf, view_named, view_place, rows_in}
+use Rattle.cq_views.specs.Laws.{StandingDependsOnSources}
+use Rattle.cq_views.specs.State.{StandsFor}
+use Rattle.cq_views_state.specs.Query.{reads}
+use Rattle.cq_engine_tables.specs.Taking.{IsSame, AreSame}
+use Rattle.cq_engine_tables.specs.Views.{NamedView, view_of, views_of, AreWide, IsRight, AreRight, Fits, bags_in}
+use Rattle.cq_engine_tables.proofs.Numbers.{others}
+use Rattle.cq_engine_tables.proofs.Pairs.{pointwise_all, pointwise_map}
+use Rattle.cq_engine_tables.proofs.Rows.{rows_left, unread, unused}
+use Rattle.cq_engine_tables.proofs.Wide.{KeepWidths, all-still-wide, wide-left}
 use Rattle.cq_engine.specs.Commands.{present}
 use Rattle.cq_engine.proofs.Steps.{AreAt}
 

@@ -1,28 +1,28 @@
 -- A query whose checks have no fault can be worked out on the rows that join its sources, and on their groups.
 use Rattle.std.proofs.Common.{◌≡◌, ℕ, Bool, true, false, List, [], ◌∷◌, ◌++◌, map, length, Option, None, refl, sym}
 use Rattle.std.specs.Prelude.{if◌then◌else◌, option_map}
-use Rattle.cq_laws.specs.Sizes.{IsSized, grouped_sizes}
+use Rattle.cq_model_laws.specs.Sizes.{IsSized, grouped_sizes}
 use Rattle.cq_model.specs.declared.query.Aggregate.{Aggregate}
 use Rattle.cq_model.specs.declared.query.Shape.TheVariants.{Plain}
 use Rattle.cq_model.specs.Width.{limits_of, sizes_of}
 use Rattle.cq_values.specs.Value.{Row}
-use Rattle.cq_language.specs.declared.statement.Select.{Select}
-use Rattle.cq_language.specs.Written.{Written}
-use Rattle.cq_binding.specs.declared.fault.Fault.{Fault}
-use Rattle.cq_binding.specs.Checks.{first_fault, too_long}
-use Rattle.cq_binding.specs.Grouping.{is_grouped, item_scope}
-use Rattle.cq_binding.specs.Headers.{shown_by}
-use Rattle.cq_binding.specs.Kinds.{tested}
-use Rattle.cq_binding.specs.Placed.{placed_cond}
-use Rattle.cq_binding.specs.Queries.{bound_group, bound_shape, grouped_shape, having_aggregates, item_aggregates, placed_items}
-use Rattle.cq_binding.specs.Refusal.{bag_checks}
-use Rattle.cq_binding.specs.Scopes.{in_groups, of_rows}
-use Rattle.cq_binding.specs.Sets.{bound_where}
-use Rattle.cq_binding.specs.SourceChecks.{group_checks, value_check, where_check}
-use Rattle.cq_binding.specs.Typing.{Scope, ScopeColumn}
-use Rattle.cq_exprs.specs.Expressions.{KeepSizes}
-use Rattle.cq_answers.specs.Narrow.{AreArgumentsSized, AreItemsSized, IsConditionSized, IsShapeSized}
-use Rattle.cq_writes.proofs.Checks.{back_free, first_free, front_free}
+use Rattle.cq_sql_language.specs.declared.statement.Select.{Select}
+use Rattle.cq_sql_language.specs.Written.{Written}
+use Rattle.cq_binder_rules.specs.declared.fault.Fault.{Fault}
+use Rattle.cq_binder_rules.specs.Checks.{first_fault, too_long}
+use Rattle.cq_binder_rules.specs.Grouping.{is_grouped, item_scope}
+use Rattle.cq_binder_rules.specs.Headers.{shown_by}
+use Rattle.cq_binder_rules.specs.Kinds.{tested}
+use Rattle.cq_binder_rules.specs.Placed.{placed_cond}
+use Rattle.cq_binder_rules.specs.Queries.{bound_group, bound_shape, grouped_shape, having_aggregates, item_aggregates, placed_items}
+use Rattle.cq_binder_rules.specs.Refusal.{bag_checks}
+use Rattle.cq_binder_rules.specs.Scopes.{in_groups, of_rows}
+use Rattle.cq_binder_rules.specs.Sets.{bound_where}
+use Rattle.cq_binder_rules.specs.SourceChecks.{group_checks, value_check, where_check}
+use Rattle.cq_binder_rules.specs.Typing.{Scope, ScopeColumn}
+use Rattle.cq_binder_expressions.specs.Expressions.{KeepSizes}
+use Rattle.cq_engine_answers.specs.Narrow.{AreArgumentsSized, AreItemsSized, IsConditionSized, IsShapeSized}
+use Rattle.cq_engine_writes.proofs.Checks.{back_free, first_free, front_free}
 use Rattle.cq_engine.proofs.Fitting.{having_arguments, having_grows, items_walk, narrow_arguments, narrow_having, narrow_items, narrow_where, nothing_shown, second_free}
 use Rattle.cq_engine.proofs.Groups.{groups_keep, groups_show}
 

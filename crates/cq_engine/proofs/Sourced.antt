@@ -6,27 +6,27 @@ use Rattle.std.specs.List.{AllByRecursion, flat_map, zip}
 use Rattle.std.proofs.lemmas.List.{append-nil, append_assoc, length-append, map-append}
 use Rattle.std.proofs.lemmas.Simd.{map-map}
 use Rattle.std.proofs.lemmas.Slice.Zip.{seconds-zip}
-use Rattle.cq_bags.proofs.Totals.{by_test}
-use Rattle.cq_language.specs.declared.statement.FromSource.{FromSource}
-use Rattle.cq_language.specs.declared.statement.JoinedSource.{JoinedSource}
-use Rattle.cq_language.specs.declared.statement.Select.{Select}
+use Rattle.cq_model_bags.proofs.Totals.{by_test}
+use Rattle.cq_sql_language.specs.declared.statement.FromSource.{FromSource}
+use Rattle.cq_sql_language.specs.declared.statement.JoinedSource.{JoinedSource}
+use Rattle.cq_sql_language.specs.declared.statement.Select.{Select}
 use Rattle.cq_model.specs.declared.query.Join.{Join}
 use Rattle.cq_model.specs.declared.query.Source.{Source}
 use Rattle.cq_model.specs.declared.query.Source.TheVariants.{Table, View}
-use Rattle.cq_binding.specs.declared.fault.Fault.{Fault}
-use Rattle.cq_binding.specs.declared.fault.Fault.TheVariants.{ClauseInView, NameTaken, TooManyTables}
-use Rattle.cq_binding.specs.Bound.{standing}
-use Rattle.cq_binding.specs.Checks.{fault_if, first_fault}
-use Rattle.cq_binding.specs.From.{From, columns_with, equality_check, first_from, first_walk, is_any_view, join_checks, join_walk, joined_with, joins_walk, no_view, passing, sources_walk, view_walk}
-use Rattle.cq_binding.specs.Scopes.{Named, known_as, scope_column, source_columns, source_named}
-use Rattle.cq_binding.specs.Typing.{ScopeColumn, is_known}
-use Rattle.cq_states.specs.State.{State, TableOf, ViewOf}
-use Rattle.cq_exprs.proofs.Narrow.{stood}
-use Rattle.cq_answers.specs.Reading.{IsSourceThere}
-use Rattle.cq_answers.specs.Narrow.{source_sizes}
-use Rattle.cq_upkeep.specs.Query.{IsTable}
-use Rattle.cq_tables.proofs.Rows.{all_behind}
-use Rattle.cq_writes.proofs.Checks.{back_free, first_free}
+use Rattle.cq_binder_rules.specs.declared.fault.Fault.{Fault}
+use Rattle.cq_binder_rules.specs.declared.fault.Fault.TheVariants.{ClauseInView, NameTaken, TooManyTables}
+use Rattle.cq_binder_rules.specs.Bound.{standing}
+use Rattle.cq_binder_rules.specs.Checks.{fault_if, first_fault}
+use Rattle.cq_binder_rules.specs.From.{From, columns_with, equality_check, first_from, first_walk, is_any_view, join_checks, join_walk, joined_with, joins_walk, no_view, passing, sources_walk, view_walk}
+use Rattle.cq_binder_rules.specs.Scopes.{Named, known_as, scope_column, source_columns, source_named}
+use Rattle.cq_binder_rules.specs.Typing.{ScopeColumn, is_known}
+use Rattle.cq_model_state.specs.State.{State, TableOf, ViewOf}
+use Rattle.cq_binder_expressions.proofs.Narrow.{stood}
+use Rattle.cq_engine_answers.specs.Reading.{IsSourceThere}
+use Rattle.cq_engine_answers.specs.Narrow.{source_sizes}
+use Rattle.cq_views_state.specs.Query.{IsTable}
+use Rattle.cq_engine_tables.proofs.Rows.{all_behind}
+use Rattle.cq_engine_writes.proofs.Checks.{back_free, first_free}
 use Rattle.cq_engine.proofs.Fitting.{second_free}
 
 -- what stood was given

@@ -4,11 +4,11 @@ use Rattle.std.specs.Prelude.{◌==◌, Bool, Err, Ok, filter, if◌then◌else�
 use Rattle.std.specs.List.{AllByRecursion, list_any, remove}
 use Rattle.std.proofs.Math.Nat.{add-zero}
 use Rattle.cq_values.specs.Value.{Row}
-use Rattle.cq_bags.specs.Bag.{Weighted, once_each, difference}
-use Rattle.cq_bags.proofs.Bags.{same-refl}
-use Rattle.cq_bags.proofs.Totals.{by_test}
-use Rattle.cq_binding.specs.declared.bound.Bound.{Bound}
-use Rattle.cq_binding.specs.declared.bound.Bound.TheVariants as commands
+use Rattle.cq_model_bags.specs.Bag.{Weighted, once_each, difference}
+use Rattle.cq_model_bags.proofs.Bags.{same-refl}
+use Rattle.cq_model_bags.proofs.Totals.{by_test}
+use Rattle.cq_binder_rules.specs.declared.bound.Bound.{Bound}
+use Rattle.cq_binder_rules.specs.declared.bound.Bound.TheVariants as commands
 use Rattle.cq_model.specs.declared.assignment.Assignment.{Assignment}
 use Rattle.cq_model.specs.Expr.{Cond}
 use Rattle.cq_model.specs.declared.query.Order.{Order}
@@ -16,15 +16,15 @@ use Rattle.cq_model.specs.declared.query.Query.{Query}
 use Rattle.cq_values.specs.declared.column.ColumnDef.{ColumnDef}
 use Rattle.cq_model.specs.Views.{is_view, sources_of}
 use Rattle.cq_model.specs.Write.{chosen, left_by, updated}
-use Rattle.cq_steps.specs.declared.answer.Answer.{Answer}
-use Rattle.cq_steps.specs.declared.answer.Answer.TheVariants.{Done, Count, Rows}
-use Rattle.cq_binding.specs.declared.fault.Fault.{Fault}
-use Rattle.cq_binding.specs.Checks.{MayRefuse}
-use Rattle.cq_states.specs.State.{TableOf, ViewOf, State, rows_in, empty_table, with_rows, tables_now}
-use Rattle.cq_steps.specs.Next.{at_epoch, new_view, reach, taken_on, written, Writes}
-use Rattle.cq_steps.specs.Step.{AreBetween, Leads}
+use Rattle.cq_model_step.specs.declared.answer.Answer.{Answer}
+use Rattle.cq_model_step.specs.declared.answer.Answer.TheVariants.{Done, Count, Rows}
+use Rattle.cq_binder_rules.specs.declared.fault.Fault.{Fault}
+use Rattle.cq_binder_rules.specs.Checks.{MayRefuse}
+use Rattle.cq_model_state.specs.State.{TableOf, ViewOf, State, rows_in, empty_table, with_rows, tables_now}
+use Rattle.cq_model_step.specs.Next.{at_epoch, new_view, reach, taken_on, written, Writes}
+use Rattle.cq_model_step.specs.Step.{AreBetween, Leads}
 use Rattle.cq_engine.specs.Commands.{present, IsDone, IsRefused}
-use Rattle.cq_answers.specs.Selects.{Selects}
+use Rattle.cq_engine_answers.specs.Selects.{Selects}
 
 -- ---- Views at one epoch
 abbrev pub AreAt : ℕ → List ViewOf → Type 0

@@ -3,10 +3,10 @@ use Rattle.std.proofs.Common.{◌≡◌, ℕ, false, List, length, get_or, Optio
 use Rattle.std.specs.Prelude.{IfSome, is_some, slice_get}
 use Rattle.std.proofs.lemmas.Option.{slice_get_read}
 use Rattle.cq_values.specs.Texts.{is_text}
-use Rattle.cq_states.specs.State.{view_place}
-use Rattle.cq_tables.specs.Views.{NamedView, views_of}
-use Rattle.cq_tables.proofs.Named.{place_named, within}
-use Rattle.cq_tables.proofs.Places.{found_there, same_presence}
+use Rattle.cq_model_state.specs.State.{view_place}
+use Rattle.cq_engine_tables.specs.Views.{NamedView, views_of}
+use Rattle.cq_engine_tables.proofs.Named.{place_named, within}
+use Rattle.cq_engine_tables.proofs.Places.{found_there, same_presence}
 use Rattle.cq_engine.specs.Views.{stored_named}
 
 -- what is stored of the view of a name is what is read at the place of its name

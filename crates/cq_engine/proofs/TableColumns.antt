@@ -4,13 +4,13 @@ use Rattle.std.specs.Prelude.{◌==◌, sum}
 use Rattle.std.specs.List.{AllByRecursion}
 use Rattle.std.proofs.lemmas.Bool.{eq-eqb, ne_eqb}
 use Rattle.std.proofs.lemmas.List.Sums.{sum_by-append}
-use Rattle.cq_answers.specs.Reading.{IsSourceThere}
+use Rattle.cq_engine_answers.specs.Reading.{IsSourceThere}
 use Rattle.cq_model.specs.declared.query.Source.{Source}
 use Rattle.cq_model.specs.declared.query.Source.TheVariants.{Table, View}
-use Rattle.cq_states.specs.State.{AreNumbered, TableOf, ViewOf}
-use Rattle.cq_tables.proofs.Numbers.{above_at}
-use Rattle.cq_tables.specs.Views.{width_at}
-use Rattle.cq_upkeep.specs.Query.{IsTable}
+use Rattle.cq_model_state.specs.State.{AreNumbered, TableOf, ViewOf}
+use Rattle.cq_engine_tables.proofs.Numbers.{above_at}
+use Rattle.cq_engine_tables.specs.Views.{width_at}
+use Rattle.cq_views_state.specs.Query.{IsTable}
 use Rattle.cq_engine.specs.TableWidths.{IsTableThere}
 
 -- a source that is a table and is there is a table that is there

@@ -3,24 +3,24 @@ use Rattle.std.proofs.Common.{◌≡◌, ℕ, ◌<◌, Bool, true, List, [], ◌
 use Rattle.std.specs.Prelude.{◌&&◌}
 use Rattle.std.specs.List.{AllByRecursion, fold}
 use Rattle.cq_values.specs.declared.day_part.DayPart.{DayPart}
-use Rattle.cq_language.specs.declared.written.AggregateFunction.{AggregateFunction}
-use Rattle.cq_language.specs.declared.written.AggregateFunction.TheVariants as functions
-use Rattle.cq_language.specs.declared.written.ColumnName.{ColumnName}
-use Rattle.cq_language.specs.Written.{Written, Choices, Number, Text, Date, Null, Column, Extract, CountAll, Aggregate, Parens, Negative, Times, Plus, Minus, Compare, IsNull, Between, In, Like, Not, And, Or, NoChoice, Choice}
+use Rattle.cq_sql_language.specs.declared.written.AggregateFunction.{AggregateFunction}
+use Rattle.cq_sql_language.specs.declared.written.AggregateFunction.TheVariants as functions
+use Rattle.cq_sql_language.specs.declared.written.ColumnName.{ColumnName}
+use Rattle.cq_sql_language.specs.Written.{Written, Choices, Number, Text, Date, Null, Column, Extract, CountAll, Aggregate, Parens, Negative, Times, Plus, Minus, Compare, IsNull, Between, In, Like, Not, And, Or, NoChoice, Choice}
 use Rattle.cq_model.specs.declared.query.Aggregate.{Aggregate as Shown}
 use Rattle.cq_model.specs.declared.query.Aggregate.TheVariants as shown
 use Rattle.cq_model.specs.Sizes.{aggregate_size}
 use Rattle.cq_model.specs.Width.{Extent, extent_of, extent_plus, extent_times, part_limit, width}
-use Rattle.cq_binding.specs.declared.fault.Fault.{Fault}
-use Rattle.cq_binding.specs.declared.typing.Typing.{Typing}
-use Rattle.cq_binding.specs.Checks.{first_fault}
-use Rattle.cq_binding.specs.Kinds.{◌and_then◌, aggregated, agree, between_them, compared_with, connected, like_of, negation_of, negative, part_of, product_of, sum_of, tested, text_of}
-use Rattle.cq_binding.specs.Placed.{aggregate_of, placed_expr, with_aggregates, with_choices}
-use Rattle.cq_binding.specs.Places.{row_place}
-use Rattle.cq_binding.specs.Scopes.{of_rows}
-use Rattle.cq_binding.specs.Typing.{Scope, ScopeColumn, column_typing, listed, of_group, resolved, rows_in, typed}
-use Rattle.cq_exprs.proofs.Narrow.{resolved_at, resolved_within, stood}
-use Rattle.cq_tables.proofs.Rows.{all_behind}
+use Rattle.cq_binder_rules.specs.declared.fault.Fault.{Fault}
+use Rattle.cq_binder_rules.specs.declared.typing.Typing.{Typing}
+use Rattle.cq_binder_rules.specs.Checks.{first_fault}
+use Rattle.cq_binder_rules.specs.Kinds.{◌and_then◌, aggregated, agree, between_them, compared_with, connected, like_of, negation_of, negative, part_of, product_of, sum_of, tested, text_of}
+use Rattle.cq_binder_rules.specs.Placed.{aggregate_of, placed_expr, with_aggregates, with_choices}
+use Rattle.cq_binder_rules.specs.Places.{row_place}
+use Rattle.cq_binder_rules.specs.Scopes.{of_rows}
+use Rattle.cq_binder_rules.specs.Typing.{Scope, ScopeColumn, column_typing, listed, of_group, resolved, rows_in, typed}
+use Rattle.cq_binder_expressions.proofs.Narrow.{resolved_at, resolved_within, stood}
+use Rattle.cq_engine_tables.proofs.Rows.{all_behind}
 use Rattle.cq_engine.proofs.Fitting.{item_stands, items_walk, others_free}
 
 -- the extent of a column of this size

@@ -2,26 +2,26 @@
 use Rattle.std.specs.Prelude.{◌≡◌, ◌⊎◌, ◌<◌, ◌≤◌, ℕ, false, List, [], length, Option, None, Result, Ok, Err}
 use Rattle.std.specs.List.{AllByRecursion}
 use Rattle.cq_values.specs.declared.column.ColumnDef.{ColumnDef}
-use Rattle.cq_binding.specs.declared.bound.Bound.{Bound}
-use Rattle.cq_binding.specs.declared.bound.Bound.TheVariants as commands
+use Rattle.cq_binder_rules.specs.declared.bound.Bound.{Bound}
+use Rattle.cq_binder_rules.specs.declared.bound.Bound.TheVariants as commands
 use Rattle.cq_model.specs.declared.query.Query.{Query}
-use Rattle.cq_steps.specs.declared.answer.Answer.{Answer}
-use Rattle.cq_steps.specs.declared.answer.Answer.TheVariants.{Rows}
-use Rattle.cq_binding.specs.declared.fault.Fault.{Fault}
-use Rattle.cq_binding.specs.declared.fault.Fault.TheVariants.{SumOutOfRange}
-use Rattle.cq_binding.specs.Checks.{MayRefuse}
-use Rattle.cq_binding.specs.Refusal.{is_used}
-use Rattle.cq_states.specs.Fitting.{AreFitting, AreLimited, FitsColumns}
-use Rattle.cq_states.specs.State.{AreNumbered, TableOf, ViewOf, State, columns_in, rows_in}
-use Rattle.cq_steps.specs.Next.{Trims, at_present}
-use Rattle.cq_steps.specs.Step.{Accepts, IsTooLarge}
+use Rattle.cq_model_step.specs.declared.answer.Answer.{Answer}
+use Rattle.cq_model_step.specs.declared.answer.Answer.TheVariants.{Rows}
+use Rattle.cq_binder_rules.specs.declared.fault.Fault.{Fault}
+use Rattle.cq_binder_rules.specs.declared.fault.Fault.TheVariants.{SumOutOfRange}
+use Rattle.cq_binder_rules.specs.Checks.{MayRefuse}
+use Rattle.cq_binder_rules.specs.Refusal.{is_used}
+use Rattle.cq_model_state.specs.Fitting.{AreFitting, AreLimited, FitsColumns}
+use Rattle.cq_model_state.specs.State.{AreNumbered, TableOf, ViewOf, State, columns_in, rows_in}
+use Rattle.cq_model_step.specs.Next.{Trims, at_present}
+use Rattle.cq_model_step.specs.Step.{Accepts, IsTooLarge}
 use Rattle.cq_model.specs.Views.{sources_of}
 use Rattle.cq_model.specs.Width.{IsNarrowIn}
-use Rattle.cq_writes.specs.Updates.{CanUpdateIn, value_fault_in}
-use Rattle.cq_tables.specs.Tables.{IsThere}
-use Rattle.cq_tables.specs.Views.{AreRight, Fits, NamedView}
-use Rattle.cq_answers.specs.Reading.{CanRead, IsSourceThere}
-use Rattle.cq_writes.specs.Writing.{room_for}
+use Rattle.cq_engine_writes.specs.Updates.{CanUpdateIn, value_fault_in}
+use Rattle.cq_engine_tables.specs.Tables.{IsThere}
+use Rattle.cq_engine_tables.specs.Views.{AreRight, Fits, NamedView}
+use Rattle.cq_engine_answers.specs.Reading.{CanRead, IsSourceThere}
+use Rattle.cq_engine_writes.specs.Writing.{room_for}
 
 -- a state in which no change waits
 abbrev pub present : List TableOf → List ViewOf → ℕ → ℕ → ℕ → State

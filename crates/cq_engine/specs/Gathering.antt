@@ -1,13 +1,13 @@
 -- The rows that are gathered to build a view from.
 use Rattle.std.specs.Prelude.{◌≡◌, Bool, true, List, [], ◌∷◌, ◌++◌}
 use Rattle.std.specs.List.{AllByRecursion, list_any}
-use Rattle.cq_bags.specs.Bag.{SameBag}
-use Rattle.cq_lent.specs.Lent.{same_source}
-use Rattle.cq_sources.specs.declared.stored_source.StoredSource.{StoredSource}
+use Rattle.cq_model_bags.specs.Bag.{SameBag}
+use Rattle.cq_model.specs.Sources.{same_source}
+use Rattle.cq_table_columns.specs.declared.stored_source.StoredSource.{StoredSource}
 use Rattle.cq_model.specs.declared.query.Source.{Source}
-use Rattle.cq_states.specs.State.{TableOf}
-use Rattle.cq_tables.specs.Views.{bags_in}
-use Rattle.cq_kept_views.specs.Filling.{bags_at}
+use Rattle.cq_model_state.specs.State.{TableOf}
+use Rattle.cq_engine_tables.specs.Views.{bags_in}
+use Rattle.cq_views.specs.Filling.{bags_at}
 
 -- whether a source has an entry
 abbrev pub is_gathered : List StoredSource → Source → Bool

@@ -1,10 +1,10 @@
 -- What an engine holds: the state that statements move, and beside it what is stored of each view.
 use Rattle.std.specs.Prelude.{List, Result}
-use Rattle.cq_binding.specs.declared.bound.Bound.{Bound}
-use Rattle.cq_binding.specs.declared.fault.Fault.{Fault}
-use Rattle.cq_steps.specs.declared.answer.Answer.{Answer}
-use Rattle.cq_states.specs.State.{State}
-use Rattle.cq_tables.specs.Views.{NamedView}
+use Rattle.cq_binder_rules.specs.declared.bound.Bound.{Bound}
+use Rattle.cq_binder_rules.specs.declared.fault.Fault.{Fault}
+use Rattle.cq_model_step.specs.declared.answer.Answer.{Answer}
+use Rattle.cq_model_state.specs.State.{State}
+use Rattle.cq_engine_tables.specs.Views.{NamedView}
 use Rattle.cq_engine.specs.Commands.{CanCarryOut, CarriesOut}
 
 -- the state, and what is stored of its views in their order

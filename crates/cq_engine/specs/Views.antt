@@ -4,12 +4,12 @@ use Rattle.std.specs.Global.{Vec}
 use Rattle.std.specs.List.{find}
 use Rattle.cq_values.specs.Texts.{is_text}
 use Rattle.cq_model.specs.declared.query.Query.{Query}
-use Rattle.cq_states.specs.State.{TableOf, ViewOf, view_named}
-use Rattle.cq_kept_views.specs.State.{StandsFor}
-use Rattle.cq_kept_views.specs.declared.kept_view.KeptView.{KeptView}
+use Rattle.cq_model_state.specs.State.{TableOf, ViewOf, view_named}
+use Rattle.cq_views.specs.State.{StandsFor}
+use Rattle.cq_views.specs.declared.kept_view.KeptView.{KeptView}
 use Rattle.cq_sides.specs.Ticks.{counted}
-use Rattle.cq_upkeep.specs.Work.{work_of}
-use Rattle.cq_tables.specs.Views.{AreWide, NamedView, bags_in, views_of}
+use Rattle.cq_views_state.specs.Work.{work_of}
+use Rattle.cq_engine_tables.specs.Views.{AreWide, NamedView, bags_in, views_of}
 
 -- the query of the view of a name, if there is one
 abbrev pub query_named : List ℕ → List ViewOf → Option Query

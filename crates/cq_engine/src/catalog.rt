@@ -2,11 +2,11 @@
 ghost use Rattle.std.specs.Prelude.{◌≡◌, length, option_map};
 ghost use Rattle.cq_model.specs.Views.{sources_of};
 ghost use Rattle.cq_engine.specs.Views.{query_named};
-ghost use Rattle.cq_tables.specs.Views.{views_of};
+ghost use Rattle.cq_engine_tables.specs.Views.{views_of};
 
 use cq_binder::{Catalog, TableEntry, ViewEntry};
+use cq_engine_tables::{Table, View, place_of};
 use cq_model::Query;
-use cq_tables::{Table, View, place_of};
 use std::alloc::{AllocError, Global};
 use std::marker::Model;
 
@@ -22,8 +22,8 @@ impl<'a> Model for EngineCatalog<'a> {
     ghost use Rattle.std.specs.Prelude.{List};
     ghost use Rattle.cq_model.specs.contracts.expr.Cond as cond;
     ghost use Rattle.cq_model.specs.contracts.expr.Expr as expr;
-    ghost use Rattle.cq_states.specs.State.{TableOf, ViewOf};
-    ghost use Rattle.cq_tables.specs.Views.{views_of};
+    ghost use Rattle.cq_model_state.specs.State.{TableOf, ViewOf};
+    ghost use Rattle.cq_engine_tables.specs.Views.{views_of};
 
     ghost Value = { List TableOf × List ViewOf };
 
@@ -43,7 +43,7 @@ impl<'a> EngineCatalog<'a> {
     pub fn query(&self, name: &str) -> Option<&Query>
         ensures { option_map (λ q. q.now) result ≡ query_named name.now self.now.1 }
     {
-        let place = cq_tables::view_place(self.views, name)?;
+        let place = cq_engine_tables::view_place(self.views, name)?;
         Some(self.views[place].query())
     }
 }
@@ -64,7 +64,7 @@ impl Catalog for EngineCatalog<'_> {
     }
 
     fn view(&self, alloc: Global, name: &str) -> Result<Option<ViewEntry<'_>>, AllocError> {
-        let Some(place) = cq_tables::view_place(self.views, name) else {
+        let Some(place) = cq_engine_tables::view_place(self.views, name) else {
             return Ok(None);
         };
         let view = &self.views[place];
@@ -78,11 +78,11 @@ impl Catalog for EngineCatalog<'_> {
     }
 
     fn view_place(&self, name: &str) -> Option<usize> {
-        cq_tables::view_place(self.views, name)
+        cq_engine_tables::view_place(self.views, name)
     }
 
     fn is_used(&self, table: u64) -> bool {
-        cq_tables::is_used(self.views, table)
+        cq_engine_tables::is_used(self.views, table)
     }
 }
 

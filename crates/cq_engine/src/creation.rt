@@ -1,20 +1,20 @@
 //! CREATE VIEW.
 ghost use Rattle.std.specs.Prelude.{◌≡◌, ℕ, IfOk, OnErr, OnOk};
 ghost use Rattle.cq_model.specs.Views.{sources_of};
-ghost use Rattle.cq_states.specs.Fitting.{AreFitting, AreLimited, rows_limit};
-ghost use Rattle.cq_states.specs.State.{AreNumbered};
-ghost use Rattle.cq_steps.specs.Next.{new_view};
-ghost use Rattle.cq_answers.specs.Reading.{AreTablesThere};
+ghost use Rattle.cq_model_state.specs.Fitting.{AreFitting, AreLimited, rows_limit};
+ghost use Rattle.cq_model_state.specs.State.{AreNumbered};
+ghost use Rattle.cq_model_step.specs.Next.{new_view};
+ghost use Rattle.cq_engine_answers.specs.Reading.{AreTablesThere};
 ghost use Rattle.cq_engine.specs.Commands.{CanBuild};
-ghost use Rattle.cq_tables.specs.Views.{AreRight, Fits, views_of};
+ghost use Rattle.cq_engine_tables.specs.Views.{AreRight, Fits, views_of};
 ghost use Rattle.cq_engine.specs.Views.{IsAdded, IsBuilt};
 
 use crate::gathering::gathered_rows;
 use crate::table_widths::widths_of;
-use cq_kept_views::{KeptView, standing_depends_on_sources};
+use cq_engine_tables::{Table, View};
 use cq_model::Query;
-use cq_tables::{Table, View};
 use cq_values::{ColumnDef, Seq, Text};
+use cq_views::{KeptView, standing_depends_on_sources};
 use std::alloc::{AllocError, Global};
 
 /// Puts a view of this query behind the others, built from its tables as they are at this epoch.

@@ -1,11 +1,11 @@
 //! The engine, and one step of it.
 ghost use Rattle.std.specs.Prelude.{◌≡◌, ◌<◌, ◌+◌, ◌-◌, ◌^◌, ◌∷◌, [], Ok, option_map};
-ghost use Rattle.cq_binding.specs.declared.bound.Bound.TheVariants as commands;
-ghost use Rattle.cq_states.specs.Fitting.{AreLimited, AreFitting};
-ghost use Rattle.cq_states.specs.State.{first_state, view_named};
-ghost use Rattle.cq_steps.specs.Output.{source_failures};
-ghost use Rattle.cq_steps.specs.Step.{StepFrom};
-ghost use Rattle.cq_tables.specs.Views.{AreRight, views_of};
+ghost use Rattle.cq_binder_rules.specs.declared.bound.Bound.TheVariants as commands;
+ghost use Rattle.cq_model_state.specs.Fitting.{AreLimited, AreFitting};
+ghost use Rattle.cq_model_state.specs.State.{first_state, view_named};
+ghost use Rattle.cq_model_step.specs.Output.{source_failures};
+ghost use Rattle.cq_model_step.specs.Step.{StepFrom};
+ghost use Rattle.cq_engine_tables.specs.Views.{AreRight, views_of};
 ghost use Rattle.cq_engine.specs.declared.answer_source.AnswerSource.TheVariants.{Tables};
 ghost use Rattle.cq_engine.specs.Commands.{OnlyShows};
 ghost use Rattle.cq_engine.specs.Held.{CanDo, Does};
@@ -15,16 +15,16 @@ use crate::answer_source::AnswerSource;
 use crate::catalog::EngineCatalog;
 use crate::creation::create_view_in;
 use crate::limits::Limits;
-use cq_answers::select_from;
 use cq_binder::bind;
-use cq_binding::{Bound, Fault, Sources};
-use cq_kept_views::standing_depends_on_sources;
-use cq_language::Statement;
+use cq_binder_rules::{Bound, Fault, Sources};
+use cq_engine_answers::select_from;
+use cq_engine_tables::{Table, View, drop_in, drop_view_at, move_in, view_place};
+use cq_engine_writes::{delete_in, insert_in, update_in};
 use cq_model::{Assignment, Cond, Order, Query};
-use cq_steps::Answer;
-use cq_tables::{Table, View, drop_in, drop_view_at, move_in, view_place};
+use cq_model_step::Answer;
+use cq_sql_language::Statement;
 use cq_values::{ColumnDef, Row, Seq, Text};
-use cq_writes::{delete_in, insert_in, update_in};
+use cq_views::standing_depends_on_sources;
 use std::alloc::Global;
 use std::marker::Model;
 
@@ -46,8 +46,8 @@ impl Model for Engine {
     ghost use Rattle.std.specs.Coded.{codes};
     ghost use Rattle.cq_model.specs.contracts.expr.Cond as cond;
     ghost use Rattle.cq_model.specs.contracts.expr.Expr as expr;
-    ghost use Rattle.cq_kept_views.specs.contracts.kept_view.KeptView as kept_view;
-    ghost use Rattle.cq_tables.specs.Views.{views_of};
+    ghost use Rattle.cq_views.specs.contracts.kept_view.KeptView as kept_view;
+    ghost use Rattle.cq_engine_tables.specs.Views.{views_of};
     ghost use Rattle.cq_engine.specs.Commands.{AreInOrder, present};
     ghost use Rattle.cq_engine.specs.Held.{Held};
 

@@ -1,14 +1,14 @@
 //! The rows that a view is built from.
 ghost use Rattle.std.specs.Prelude.{◌≡◌, ℕ, IfOk, List, OnOk};
 ghost use Rattle.cq_model.specs.Views.{sources_of};
-ghost use Rattle.cq_states.specs.State.{AreNumbered, ViewOf};
-ghost use Rattle.cq_answers.specs.Reading.{AreTablesThere, IsSourceThere};
+ghost use Rattle.cq_model_state.specs.State.{AreNumbered, ViewOf};
+ghost use Rattle.cq_engine_answers.specs.Reading.{AreTablesThere, IsSourceThere};
 ghost use Rattle.cq_engine.specs.Gathering.{AreGathered, GathersAlso, is_gathered};
 
-use cq_answers::{rows_there, sources_of};
+use cq_engine_answers::{rows_there, sources_of};
+use cq_engine_tables::Table;
 use cq_model::{Query, Source};
-use cq_sources::StoredSource;
-use cq_tables::Table;
+use cq_table_columns::StoredSource;
 use std::alloc::{AllocError, Global};
 
 /// The rows of each table that FROM names, where they are.

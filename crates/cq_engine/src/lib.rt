@@ -15,7 +15,7 @@ mod table_widths;
 
 pub use answer_source::AnswerSource;
 pub use catalog::EngineCatalog;
-pub use cq_binding::{SourceFault, Sources};
-pub use cq_tables::View;
+pub use cq_binder_rules::{SourceFault, Sources};
+pub use cq_engine_tables::View;
 pub use engine::{Command, Engine};
 pub use limits::Limits;

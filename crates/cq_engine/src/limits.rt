@@ -1,6 +1,6 @@
 //! The limits that a caller sets.
 ghost use Rattle.std.specs.Prelude.{◌≡◌, ◌≤◌, ◌↔◌, IfSome, IsSome};
-ghost use Rattle.cq_states.specs.Fitting.{rows_limit};
+ghost use Rattle.cq_model_state.specs.Fitting.{rows_limit};
 
 /// How many rows a table may have.
 #[derive(Clone, Copy, Debug)]

@@ -2,14 +2,14 @@
 ghost use Rattle.std.specs.List.{AllByRecursion, AllZip};
 ghost use Rattle.std.specs.Prelude.{◌+◌, ◌<◌, ◌≡◌, ◌^◌, ℕ, IfOk, sum};
 ghost use Rattle.cq_model.specs.Views.{sources_of};
-ghost use Rattle.cq_states.specs.State.{AreNumbered};
+ghost use Rattle.cq_model_state.specs.State.{AreNumbered};
 ghost use Rattle.cq_engine.specs.TableWidths.{IsTableThere};
-ghost use Rattle.cq_tables.specs.Views.{AreWide, IsWide};
+ghost use Rattle.cq_engine_tables.specs.Views.{AreWide, IsWide};
 
-use cq_answers::sources_of;
+use cq_engine_answers::sources_of;
+use cq_engine_tables::{Table, place_numbered};
 use cq_model::{Query, Source};
-use cq_scans::refused_room;
-use cq_tables::{Table, place_numbered};
+use cq_operators_scans::refused_room;
 use cq_values::Seq;
 use std::alloc::{AllocError, Global};
 

@@ -6,7 +6,7 @@ use Rattle.cq_values.specs.declared.value.Value.{Value}
 use Rattle.cq_values.specs.declared.value.Value.TheVariants.{Null, Number}
 use Rattle.cq_values.specs.Value.{Row, column}
 use Rattle.cq_values.specs.Order.{value_cmp, same_row}
-use Rattle.cq_bags.specs.Bag.{Weighted, total, filtered, projected, distinct_rows, once_each}
+use Rattle.cq_model_bags.specs.Bag.{Weighted, total, filtered, projected, distinct_rows, once_each}
 use Rattle.cq_model.specs.Expr.{Expr}
 use Rattle.cq_model.specs.declared.query.Aggregate.{Aggregate}
 use Rattle.cq_model.specs.declared.query.Aggregate.TheVariants.{CountAll, Count, Sum, Min, Max}

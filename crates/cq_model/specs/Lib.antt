@@ -11,4 +11,5 @@ pub mod Exact
 pub mod Meaning
 pub mod Write
 pub mod Sizes
+pub mod Sources
 pub mod Views

@@ -3,7 +3,7 @@ use Rattle.std.specs.Prelude.{Bool, true, if◌then◌else◌, List, [], ◌∷�
 use Rattle.std.specs.List.{list_all}
 use Rattle.cq_values.specs.Truth.{is_true}
 use Rattle.cq_values.specs.Value.{Row, column}
-use Rattle.cq_bags.specs.Bag.{Weighted, filtered, projected, joined, distinct}
+use Rattle.cq_model_bags.specs.Bag.{Weighted, filtered, projected, joined, distinct}
 use Rattle.cq_model.specs.Expr.{Expr, Cond}
 use Rattle.cq_model.specs.declared.query.Equality.{Equality}
 use Rattle.cq_model.specs.declared.query.Join.{Join}

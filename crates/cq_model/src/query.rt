@@ -1,6 +1,6 @@
 //! Queries with their names resolved.
 use crate::expr::{Cond, Expr};
-use cq_bags::SortKey;
+use cq_model_bags::SortKey;
 use cq_values::Seq;
 
 /// What a name in FROM stands for. A view stands for the bag of its query.

@@ -1,5 +1,11 @@
+pub mod Added
+pub mod Collected
 pub mod Exec
+pub mod Linked
 pub mod Listed
+pub mod Pairs
 pub mod Selected
-pub mod Sources
 pub mod Showing
+pub mod Shown
+pub mod Sources
+pub mod Taking

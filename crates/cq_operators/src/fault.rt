@@ -1,9 +1,9 @@
 //! Why a plan was not worked out to its end.
 ghost use Rattle.std.specs.Prelude.{◌≡◌};
-ghost use Rattle.cq_binding.specs.declared.fault.Fault.TheVariants as faults;
+ghost use Rattle.cq_binder_rules.specs.declared.fault.Fault.TheVariants as faults;
 ghost use Rattle.cq_operators.specs.declared.fault.ExecFault.TheVariants.{Memory};
 
-use cq_binding::Fault;
+use cq_binder_rules::Fault;
 use std::alloc::{AllocError, AllocFailed};
 use thiserror::Error;
 

@@ -1,19 +1,19 @@
 //! The listing of what a plan shows, and of rows that are made.
 ghost use Rattle.std.specs.List.{AllByRecursion};
 ghost use Rattle.std.specs.Prelude.{IfOk};
-ghost use Rattle.cq_columns.specs.Stored.{all_rows};
+ghost use Rattle.cq_table_columns.specs.Stored.{all_rows};
 ghost use Rattle.cq_plan.specs.Plan.{IsWithin, shown_by};
 ghost use Rattle.cq_operators.specs.Listed.{IsListingOf};
 
 use crate::exec::Exec;
 use crate::fault::ExecFault;
-use cq_columns::Stored;
-use cq_listing::Listing;
-use cq_masks::Selection;
 use cq_model::Order;
+use cq_operators_listing::Listing;
 use cq_plan::Plan;
+use cq_table_columns::Stored;
 use cq_values::Row;
 use cq_vectors::Batch;
+use cq_vectors_masks::Selection;
 use std::alloc::{AllocError, Global};
 
 /// The listing of what the plan shows of these rows. Where LIMIT allows few rows, few are made.

@@ -21,8 +21,8 @@ use Rattle.cq_values.specs.Keys.{value_cmp_total}
 use Rattle.cq_values.specs.Order.{number, bytes, value_cmp}
 use Rattle.cq_values.specs.Truth.{truth_of, not_truth, is_true}
 use Rattle.cq_model.specs.Condition.{is_null}
-use Rattle.cq_masks.specs.TruthMask.{known}
-use Rattle.cq_masks.specs.Plane.{either}
+use Rattle.cq_vectors_masks.specs.TruthMask.{known}
+use Rattle.cq_vectors_masks.specs.Plane.{either}
 use Rattle.cq_prims.specs.Kinds.{is_of_kind, ShowsNumbers, ShowsTexts}
 
 -- answers that are right wherever no value is NULL give the truths of a comparison

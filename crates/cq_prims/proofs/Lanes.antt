@@ -15,9 +15,9 @@ use Rattle.std.proofs.Math.Seq.{take-length}
 use Rattle.std.proofs.lemmas.List.{length-drop, length-map, map-append, take-replicate, drop-replicate}
 use Rattle.std.proofs.lemmas.List.FromFn.{length-map-range_with_len, get_or-map-range_with_len}
 use Rattle.std.proofs.lemmas.Simd.{length-chunk, get_or-chunk, length-zip2, get_or-zip2, mask_l-lt, mask_l-mod, tops_compared}
-use Rattle.cq_masks.proofs.BlockLemmas.{or-mask_l}
+use Rattle.cq_vectors_masks.proofs.BlockLemmas.{or-mask_l}
 use Rattle.cq_prims.proofs.Shown.{map-replicate}
-use Rattle.cq_masks.proofs.WalkLemmas.{range_with_len-add}
+use Rattle.cq_vectors_masks.proofs.WalkLemmas.{range_with_len-add}
 
 -- the bits of signed numbers are read as those numbers
 pub signed : (w : Width) (xs : List ℤ) → ((k : ℕ) → SFits w (get_or xs k (pos 0))) → map (to_z w) (map (of_z w) xs) ≡ xs

@@ -15,7 +15,7 @@ use Rattle.cq_model.specs.Condition.{is_null, liked}
 use Rattle.cq_values.specs.Order.{bytes}
 use Rattle.cq_prims.specs.Kinds.{is_of_kind, ShowsTexts}
 use Rattle.cq_model.specs.Like.{like}
-use Rattle.cq_masks.specs.TruthMask.{known}
+use Rattle.cq_vectors_masks.specs.TruthMask.{known}
 use Rattle.cq_prims.specs.NoText.{is_no_text}
 use Rattle.cq_prims.proofs.Shown.{map-all_places}
 

@@ -4,7 +4,7 @@ use Rattle.std.specs.Bool.{OnTrue}
 use Rattle.std.proofs.lemmas.List.{length-map}
 use Rattle.std.proofs.lemmas.Simd.{length-replicate, length-zip2}
 use lib.Lanes.{zip2}
-use Rattle.cq_masks.specs.Plane.{either}
+use Rattle.cq_vectors_masks.specs.Plane.{either}
 use Rattle.cq_model.specs.Condition.{is_null}
 use Rattle.cq_values.specs.declared.value.Value.{Value}
 use Rattle.cq_prims.proofs.Shown.{map-replicate}

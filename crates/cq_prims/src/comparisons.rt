@@ -17,9 +17,9 @@ use crate::less_texts::LessTexts;
 use crate::less_wide::LessWide;
 use crate::nulls::{is_null_lent, nulls_of_both};
 use crate::sides::{Sides, sides_of};
-use cq_masks::TruthMask;
 use cq_values::{Comparison, Lent, Truth};
 use cq_vectors::{Form, Vector};
+use cq_vectors_masks::TruthMask;
 
 /// The truth of the comparison in each place: numbers and days by lanes, texts byte by byte.
 pub fn compare(comparison: Comparison, a: &Vector<'_>, b: &Vector<'_>, to: &mut TruthMask)
@@ -55,7 +55,7 @@ fn constant_truth(comparison: Comparison, a: &Vector<'_>, b: &Vector<'_>) -> Opt
     ensures { IfSome result (λ truth. zip2 (compared comparison) a.now b.now ≡ replicate (length a.now) truth) }
 {
     match (constant_of(a), constant_of(b)) {
-        (Some(v), Some(w)) => Some(cq_eval::compare(comparison, v, w)),
+        (Some(v), Some(w)) => Some(cq_model_eval::compare(comparison, v, w)),
         (Some(v), None) if is_null_lent(v) => Some(Truth::Unknown),
         (None, Some(w)) if is_null_lent(w) => Some(Truth::Unknown),
         _ => None,

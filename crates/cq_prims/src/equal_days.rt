@@ -4,7 +4,7 @@ ghost use Rattle.std.specs.Prelude.{◌≡◌, length, pos, slice_index_or};
 
 use crate::day_side::DaySide;
 use crate::sixteen::{SixteenTest, four_sixteens};
-use cq_masks::{PlaceTest, WordTest};
+use cq_vectors_masks::{PlaceTest, WordTest};
 use std::simd::prelude::*;
 
 /// Whether the two days are one.

@@ -4,7 +4,7 @@ ghost use Rattle.std.specs.Str.{bytes_eq};
 
 use crate::plain_texts::PlainTexts;
 use crate::text_side::TextSide;
-use cq_masks::{PlaceTest, WordTest, answers};
+use cq_vectors_masks::{PlaceTest, WordTest, answers};
 
 /// Whether the two texts have the same bytes.
 #[derive(Drop)]

@@ -3,7 +3,7 @@ ghost use Rattle.std.specs.Ordering.{int_eq};
 ghost use Rattle.std.specs.Prelude.{◌≡◌, length, pos, slice_index_or};
 
 use crate::wide_side::WideSide;
-use cq_masks::{PlaceTest, WordTest, answers};
+use cq_vectors_masks::{PlaceTest, WordTest, answers};
 
 /// Whether the left number equals the right one.
 #[derive(Drop)]

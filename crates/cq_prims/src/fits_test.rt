@@ -4,10 +4,10 @@ ghost use Rattle.cq_values.specs.Truth.{is_true};
 ghost use Rattle.cq_values.specs.declared.value.Value.TheVariants.{Null};
 ghost use Rattle.std.specs.Prelude.{length, slice_index_or};
 
-use cq_masks::{PlaceTest, WordTest, answers};
-use cq_patterns::Pattern;
+use cq_prims_like::Pattern;
 use cq_values::Lent;
 use cq_vectors::Vector;
+use cq_vectors_masks::{PlaceTest, WordTest, answers};
 
 /// Whether the text of a place fits the pattern.
 #[derive(Drop)]

@@ -1,13 +1,13 @@
 //! Whether a text of a column of texts fits a pattern.
 ghost use Rattle.cq_model.specs.Like.{like};
-ghost use Rattle.cq_patterns.specs.Patterns.{IsFrontOf, answers_of};
+ghost use Rattle.cq_prims_like.specs.Patterns.{IsFrontOf, answers_of};
 ghost use Rattle.cq_vectors.specs.Columns.{texts_of};
 ghost use Rattle.std.specs.Prelude.{[], ◌+◌, ◌≡◌, ◌≤◌, IfSome, length, slice_index_or, List, ℕ};
 ghost use Rattle.std.specs.Str.{chars};
 
 use crate::having_texts::word_by_run;
-use cq_masks::{PlaceTest, WordTest, answers};
-use cq_patterns::{Pattern, begins};
+use cq_prims_like::{Pattern, begins};
+use cq_vectors_masks::{PlaceTest, WordTest, answers};
 
 /// Whether the text of a place fits the pattern.
 #[derive(Drop)]

@@ -3,7 +3,7 @@ ghost use Rattle.std.specs.List.{range_with_len};
 ghost use Rattle.std.specs.Prelude.{◌*◌, ◌+◌, ◌<◌, ◌^◌, ◌≡◌, ◌≤◌, map};
 ghost use Rattle.std.specs.Simd.Lanes.{mask_l};
 
-use cq_masks::PlaceTest;
+use cq_vectors_masks::PlaceTest;
 
 /// A test of each place, four at a time: for 64 bits it is quicker than sixteen.
 pub(crate) trait FourTest: PlaceTest {

@@ -1,13 +1,13 @@
 //! Whether texts fit a pattern of which they have to have a run.
 ghost use Rattle.cq_model.specs.Like.{like};
-ghost use Rattle.cq_patterns.specs.Patterns.{FindsInEach, answers_of};
+ghost use Rattle.cq_prims_like.specs.Patterns.{FindsInEach, answers_of};
 ghost use Rattle.cq_vectors.specs.Columns.{texts_of};
 ghost use Rattle.std.proofs.Props.{props};
 ghost use Rattle.std.specs.Prelude.{[], ◌≡◌, IfSome, length, slice_index_or};
 ghost use Rattle.std.specs.Str.{chars};
 
-use cq_masks::{PlaceTest, answers};
-use cq_patterns::{Sought, first_places};
+use cq_prims_like::{Sought, first_places};
+use cq_vectors_masks::{PlaceTest, answers};
 
 /// The answers for 64 texts, the first in the lowest bit, if they are short.
 pub(crate) fn word_by_run<'a>(sought: &'a Sought<'a>, texts: &'a [&'a str]) -> Option<u64>

@@ -1,10 +1,10 @@
 //! Truths of a test that is not known where a value is NULL.
-ghost use Rattle.cq_masks.specs.TruthMask.{known};
+ghost use Rattle.cq_vectors_masks.specs.TruthMask.{known};
 ghost use Rattle.std.specs.List.{range_with_len};
 ghost use Rattle.std.specs.Prelude.{◌≡◌, ◌≤◌, length, map};
 ghost use Rattle.std.specs.Simd.Lanes.{zip2};
 
-use cq_masks::{Plane, TruthMask, WordTest};
+use cq_vectors_masks::{Plane, TruthMask, WordTest};
 
 /// The answers of the test, and Unknown where a value is NULL.
 pub(crate) fn set_known_by<T: WordTest>(test: &T, nulls: &Plane, to: &mut TruthMask)

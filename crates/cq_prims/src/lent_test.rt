@@ -4,10 +4,10 @@ ghost use Rattle.cq_values.specs.Truth.{is_true};
 ghost use Rattle.cq_values.specs.Value.{column};
 ghost use Rattle.std.specs.Prelude.{◌≡◌, length};
 
-use cq_eval::compare;
-use cq_masks::{PlaceTest, WordTest, answers};
+use cq_model_eval::compare;
 use cq_values::Comparison;
 use cq_vectors::Vector;
+use cq_vectors_masks::{PlaceTest, WordTest, answers};
 
 /// Whether the comparison of the two values of a place is True.
 #[derive(Drop)]

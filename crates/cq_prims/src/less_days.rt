@@ -3,7 +3,7 @@ ghost use Rattle.std.specs.Prelude.{◌≡◌, int_lt, length, pos, slice_index_
 
 use crate::day_side::DaySide;
 use crate::sixteen::{SixteenTest, four_sixteens};
-use cq_masks::{PlaceTest, WordTest};
+use cq_vectors_masks::{PlaceTest, WordTest};
 use std::simd::prelude::*;
 
 /// Whether the left day is before the right one.

@@ -3,7 +3,7 @@ ghost use Rattle.std.specs.Prelude.{◌≡◌, int_lt, length, pos, slice_index_
 
 use crate::fours::{FourTest, sixteen_fours};
 use crate::number_side::NumberSide;
-use cq_masks::{PlaceTest, WordTest};
+use cq_vectors_masks::{PlaceTest, WordTest};
 use std::simd::prelude::*;
 
 /// Whether the left number is less than the right one.

@@ -4,7 +4,7 @@ ghost use Rattle.std.specs.Ordering.{is_lt, nat_cmp};
 ghost use Rattle.std.specs.Prelude.{◌≡◌, [], length, slice_index_or};
 
 use crate::text_side::TextSide;
-use cq_masks::{PlaceTest, WordTest, answers};
+use cq_vectors_masks::{PlaceTest, WordTest, answers};
 
 /// Whether the left text stands before the right one, byte by byte.
 #[derive(Drop)]

@@ -6,9 +6,9 @@ use crate::fits_test::FitsTest;
 use crate::fits_texts::FitsTexts;
 use crate::known::set_known_by;
 use crate::no_text_test::NoTextTest;
-use cq_masks::{Plane, TruthMask};
-use cq_patterns::Pattern;
+use cq_prims_like::Pattern;
 use cq_vectors::{Form, Vector};
+use cq_vectors_masks::{Plane, TruthMask};
 
 /// Whether the text of each place fits the pattern, and Unknown where there is no text.
 pub fn like(a: &Vector<'_>, pattern: &Pattern, to: &mut TruthMask)

@@ -3,9 +3,9 @@ ghost use Rattle.cq_prims.specs.NoText.{is_no_text};
 ghost use Rattle.cq_values.specs.declared.value.Value.TheVariants.{Null};
 ghost use Rattle.std.specs.Prelude.{length, slice_index_or};
 
-use cq_masks::{PlaceTest, WordTest, answers};
 use cq_values::Lent;
 use cq_vectors::Vector;
+use cq_vectors_masks::{PlaceTest, WordTest, answers};
 
 /// Whether the value of a place is NULL, or no text.
 #[derive(Drop)]

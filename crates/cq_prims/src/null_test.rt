@@ -5,8 +5,8 @@ ghost use Rattle.cq_values.specs.declared.value.Value.TheVariants.{Null};
 ghost use Rattle.std.specs.Prelude.{length, map, slice_index_or};
 
 use crate::nulls::is_null_lent;
-use cq_masks::{PlaceTest, WordTest, answers};
 use cq_values::Lent;
+use cq_vectors_masks::{PlaceTest, WordTest, answers};
 
 /// Whether the value of a place is NULL.
 #[derive(Drop)]

@@ -1,5 +1,5 @@
 //! Where the values of vectors are NULL.
-ghost use Rattle.cq_masks.specs.Plane.{either};
+ghost use Rattle.cq_vectors_masks.specs.Plane.{either};
 ghost use Rattle.cq_model.specs.Condition.{is_null};
 ghost use Rattle.cq_values.specs.Lent.{owned};
 ghost use Rattle.cq_values.specs.Truth.{truth_of};
@@ -8,9 +8,9 @@ ghost use Rattle.std.specs.Prelude.{◌≡◌, IfSome, false, length, map, repli
 ghost use Rattle.std.specs.Simd.Lanes.{zip2};
 
 use crate::null_test::NullTest;
-use cq_masks::{Plane, TruthMask};
 use cq_values::Lent;
 use cq_vectors::{Form, Vector};
+use cq_vectors_masks::{Plane, TruthMask};
 
 /// Where the value is NULL: never Unknown.
 pub fn is_null(a: &Vector<'_>, to: &mut TruthMask)

@@ -1,16 +1,16 @@
 -- Constants and rows are read exactly.
 use Rattle.std.proofs.Common.{◌≡◌, ℕ, Bool, true, false, List, [], ◌∷◌, ◌++◌, Some, refl, ap, subst, ◌∙◌}
-use Rattle.cq_language.specs.declared.statement.Constant.{Constant}
-use Rattle.cq_language.specs.declared.statement.Constant.TheVariants as constants
-use Rattle.cq_language.specs.declared.statement.Literal.{Literal}
-use Rattle.cq_language.specs.declared.token.Keyword.TheVariants as keywords
-use Rattle.cq_language.specs.declared.token.Symbol.TheVariants as symbols
-use Rattle.cq_language.specs.declared.token.Token.{Token}
-use Rattle.cq_language.specs.declared.token.Token.TheVariants as tokens
-use Rattle.cq_language.specs.Parts.{IsLiteral, IsConstant, IsRow, sign_tokens}
-use Rattle.cq_reader.proofs.Exact.{Reads, Makes, Anything, parts_of, sign_leads}
-use Rattle.cq_reader.proofs.Steps.{last_makes, lead_last, lead_makes, made_reads, part_makes}
-use Rattle.cq_reader.proofs.Lists.{comma_reads}
+use Rattle.cq_sql_language.specs.declared.statement.Constant.{Constant}
+use Rattle.cq_sql_language.specs.declared.statement.Constant.TheVariants as constants
+use Rattle.cq_sql_language.specs.declared.statement.Literal.{Literal}
+use Rattle.cq_sql_language.specs.declared.token.Keyword.TheVariants as keywords
+use Rattle.cq_sql_language.specs.declared.token.Symbol.TheVariants as symbols
+use Rattle.cq_sql_language.specs.declared.token.Token.{Token}
+use Rattle.cq_sql_language.specs.declared.token.Token.TheVariants as tokens
+use Rattle.cq_sql_language.specs.Parts.{IsLiteral, IsConstant, IsRow, sign_tokens}
+use Rattle.cq_sql_expressions.proofs.Exact.{Reads, Makes, Anything, parts_of, sign_leads}
+use Rattle.cq_sql_expressions.proofs.Steps.{last_makes, lead_last, lead_makes, made_reads, part_makes}
+use Rattle.cq_sql_expressions.proofs.Lists.{comma_reads}
 use Rattle.cq_sql.specs.Parts.{literal_at, number_constant_at, constant_at, row_at}
 
 -- whole numbers are read exactly, with their signs

@@ -1,12 +1,12 @@
 -- What a piece is, from its tokens and their tree.
 use Rattle.std.proofs.Common.{◌≡◌, ℕ, false, List, Result, Ok, Err, refl, ap, subst, ◌∙◌}
 use Rattle.std.specs.Prelude.{IfOk}
-use Rattle.cq_language.specs.declared.statement.Statement.{Statement}
-use Rattle.cq_language.specs.declared.token.Token.{Token}
-use Rattle.cq_language.specs.Tokens.{HasTokens, is_past_limits}
-use Rattle.cq_language.specs.Sentence.{IsStatement, IsNoSentence}
-use Rattle.cq_reader.specs.declared.fault.SqlFault.{SqlFault}
-use Rattle.cq_reader.specs.declared.fault.SqlFault.TheVariants.{Memory, Syntax, LimitExceeded}
+use Rattle.cq_sql_language.specs.declared.statement.Statement.{Statement}
+use Rattle.cq_sql_language.specs.declared.token.Token.{Token}
+use Rattle.cq_sql_language.specs.Tokens.{HasTokens, is_past_limits}
+use Rattle.cq_sql_language.specs.Sentence.{IsStatement, IsNoSentence}
+use Rattle.cq_sql_expressions.specs.declared.fault.SqlFault.{SqlFault}
+use Rattle.cq_sql_expressions.specs.declared.fault.SqlFault.TheVariants.{Memory, Syntax, LimitExceeded}
 use Rattle.cq_sql.specs.Parses.{Parses}
 
 -- a text without tokens is no sentence

@@ -1,14 +1,14 @@
 -- Names, numbers, texts and names of columns are read exactly.
 use Rattle.std.proofs.Common.{◌≡◌, ℕ, List, [], ◌∷◌, ◌++◌, Option, Some, None, refl, ap}
-use Rattle.cq_language.specs.declared.token.Symbol.TheVariants as symbols
-use Rattle.cq_language.specs.declared.token.Token.{Token}
-use Rattle.cq_language.specs.declared.token.Token.TheVariants as tokens
-use Rattle.cq_language.specs.declared.written.ColumnName.{ColumnName}
-use Rattle.cq_language.specs.Parts.{IsName, IsNumber, IsText}
-use Rattle.cq_language.specs.Query.{IsColumnName}
-use Rattle.cq_language.specs.Spelling.{column_tokens}
-use Rattle.cq_reader.specs.Read.{after_symbol}
-use Rattle.cq_reader.proofs.Exact.{Reads, Anything, parts_of}
+use Rattle.cq_sql_language.specs.declared.token.Symbol.TheVariants as symbols
+use Rattle.cq_sql_language.specs.declared.token.Token.{Token}
+use Rattle.cq_sql_language.specs.declared.token.Token.TheVariants as tokens
+use Rattle.cq_sql_language.specs.declared.written.ColumnName.{ColumnName}
+use Rattle.cq_sql_language.specs.Parts.{IsName, IsNumber, IsText}
+use Rattle.cq_sql_language.specs.Query.{IsColumnName}
+use Rattle.cq_sql_language.specs.Spelling.{column_tokens}
+use Rattle.cq_sql_expressions.specs.Read.{after_symbol}
+use Rattle.cq_sql_expressions.proofs.Exact.{Reads, Anything, parts_of}
 use Rattle.cq_sql.specs.Parts.{name_at, number_at, text_at, column_name_at}
 
 -- names are read exactly

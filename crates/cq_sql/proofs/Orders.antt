@@ -1,16 +1,16 @@
 -- What a result is sorted by is read exactly.
 use Rattle.std.proofs.Common.{◌≡◌, Bool, true, false, List, [], ◌∷◌, ◌++◌, Some, None, refl, ap, subst, inl, inr}
-use Rattle.cq_language.specs.declared.statement.OrderKey.{OrderKey}
-use Rattle.cq_language.specs.declared.statement.OutputColumn.{OutputColumn}
-use Rattle.cq_language.specs.declared.statement.OutputColumn.TheVariants as outputs
-use Rattle.cq_language.specs.declared.token.Keyword.TheVariants as keywords
-use Rattle.cq_language.specs.declared.token.Token.{Token}
-use Rattle.cq_language.specs.declared.token.Token.TheVariants as tokens
-use Rattle.cq_language.specs.Parts.{◌before◌}
-use Rattle.cq_language.specs.Query.{output_token, IsDirection, IsOrderKey}
-use Rattle.cq_reader.specs.Read.{after_keyword}
-use Rattle.cq_reader.proofs.Exact.{Reads, Anything, parts_of}
-use Rattle.cq_reader.proofs.Steps.{by_same, last_makes, made_reads, next_makes}
+use Rattle.cq_sql_language.specs.declared.statement.OrderKey.{OrderKey}
+use Rattle.cq_sql_language.specs.declared.statement.OutputColumn.{OutputColumn}
+use Rattle.cq_sql_language.specs.declared.statement.OutputColumn.TheVariants as outputs
+use Rattle.cq_sql_language.specs.declared.token.Keyword.TheVariants as keywords
+use Rattle.cq_sql_language.specs.declared.token.Token.{Token}
+use Rattle.cq_sql_language.specs.declared.token.Token.TheVariants as tokens
+use Rattle.cq_sql_language.specs.Parts.{◌before◌}
+use Rattle.cq_sql_language.specs.Query.{output_token, IsDirection, IsOrderKey}
+use Rattle.cq_sql_expressions.specs.Read.{after_keyword}
+use Rattle.cq_sql_expressions.proofs.Exact.{Reads, Anything, parts_of}
+use Rattle.cq_sql_expressions.proofs.Steps.{by_same, last_makes, made_reads, next_makes}
 use Rattle.cq_sql.specs.Queries.{output_at, direction_at, order_key_at}
 
 -- name or int

@@ -1,18 +1,18 @@
 -- What stands behind a clause of a query: each clause has its place, and the words of later clauses end it.
 use Rattle.std.proofs.Common.{◌≡◌, ℕ, ◌≤◌, ◌<◌, List, [], ◌∷◌, ◌++◌, Option, Some, None, refl, sym, ap, subst, ◌∙◌, append_assoc, arith, inl, inr, ◌⊎◌}
-use Rattle.cq_language.specs.declared.token.Keyword.{Keyword}
-use Rattle.cq_language.specs.declared.token.Keyword.TheVariants as keywords
-use Rattle.cq_language.specs.declared.token.Symbol.{Symbol}
-use Rattle.cq_language.specs.declared.token.Token.{Token}
-use Rattle.cq_language.specs.declared.token.Token.TheVariants as tokens
-use Rattle.cq_language.specs.Parts.{◌before◌, IsWord, IsCondition, IsListBy}
-use Rattle.cq_language.specs.Query.{IsLimit}
-use Rattle.cq_language.specs.Written.{Written}
-use Rattle.cq_expr_reader.proofs.Conditions.{EndsExpression}
-use Rattle.cq_expr_reader.proofs.Tight.{joint}
-use Rattle.cq_reader.specs.Lists.{after_join}
-use Rattle.cq_reader.specs.Read.{after_keyword, after_symbol}
-use Rattle.cq_reader.proofs.Exact.{keyword_takes, symbol_takes}
+use Rattle.cq_sql_language.specs.declared.token.Keyword.{Keyword}
+use Rattle.cq_sql_language.specs.declared.token.Keyword.TheVariants as keywords
+use Rattle.cq_sql_language.specs.declared.token.Symbol.{Symbol}
+use Rattle.cq_sql_language.specs.declared.token.Token.{Token}
+use Rattle.cq_sql_language.specs.declared.token.Token.TheVariants as tokens
+use Rattle.cq_sql_language.specs.Parts.{◌before◌, IsWord, IsCondition, IsListBy}
+use Rattle.cq_sql_language.specs.Query.{IsLimit}
+use Rattle.cq_sql_language.specs.Written.{Written}
+use Rattle.cq_sql_expressions.proofs.Conditions.{EndsExpression}
+use Rattle.cq_sql_expressions.proofs.Tight.{joint}
+use Rattle.cq_sql_expressions.specs.Lists.{after_join}
+use Rattle.cq_sql_expressions.specs.Read.{after_keyword, after_symbol}
+use Rattle.cq_sql_expressions.proofs.Exact.{keyword_takes, symbol_takes}
 use Rattle.cq_sql.specs.Parts.{name_at}
 
 -- the place of the clause that the word begins; no clause is 0

@@ -1,30 +1,30 @@
 -- Queries are read exactly, clause by clause.
 use Rattle.std.proofs.Common.{◌≡◌, ℕ, ◌≤◌, Bool, true, false, List, [], ◌∷◌, ◌++◌, Option, Some, None, refl, sym, ap, subst, ◌∙◌, append_assoc, arith, inl, inr}
-use Rattle.cq_language.specs.declared.statement.FromSource.{FromSource}
-use Rattle.cq_language.specs.declared.statement.JoinedSource.{JoinedSource}
-use Rattle.cq_language.specs.declared.statement.OrderKey.{OrderKey}
-use Rattle.cq_language.specs.declared.statement.Select.{Select}
-use Rattle.cq_language.specs.declared.statement.SelectItem.{SelectItem}
-use Rattle.cq_language.specs.declared.token.Keyword.{Keyword}
-use Rattle.cq_language.specs.declared.token.Keyword.TheVariants as keywords
-use Rattle.cq_language.specs.declared.token.Symbol.TheVariants as symbols
-use Rattle.cq_language.specs.declared.token.Token.{Token}
-use Rattle.cq_language.specs.declared.token.Token.TheVariants as tokens
-use Rattle.cq_language.specs.declared.written.ColumnName.{ColumnName}
-use Rattle.cq_language.specs.Expression.{IsExpression}
-use Rattle.cq_language.specs.Parts.{◌before◌, IsWord, IsCondition, IsListBy, IsNumber, Each, Separated}
-use Rattle.cq_language.specs.Query.{IsDistinct, IsAlias, IsSelectItem, IsSource, IsColumnName, AreJoinWords, IsJoin, IsOrderKey, IsLimit, IsSelect}
-use Rattle.cq_language.specs.Written.{Written}
-use Rattle.cq_expr_reader.specs.Chains.{joined_at}
-use Rattle.cq_expr_reader.specs.Expressions.{primary_of, factor_of, product_of, sum_of, predicate_of, negation_of, operand_of, expression_of, expression_at}
-use Rattle.cq_expr_reader.proofs.Conditions.{EndsExpression, expression_reads}
-use Rattle.cq_reader.specs.declared.leads.Lead.TheVariants as leads
-use Rattle.cq_reader.specs.Lists.{list_at}
-use Rattle.cq_reader.specs.Read.{after_keyword}
-use Rattle.cq_reader.proofs.Exact.{Reads, Anything, Nothing, parts_of, keyword_takes, word_leads}
-use Rattle.cq_reader.proofs.Lists.{EndsList, comma_reads}
-use Rattle.cq_reader.proofs.Steps.{by_same, last_makes, lead_makes, made_reads, part_makes, with_ends}
-use Rattle.cq_reader.proofs.Tails.{EndsTail, IsTail, tail_reads, list_behind_reads}
+use Rattle.cq_sql_language.specs.declared.statement.FromSource.{FromSource}
+use Rattle.cq_sql_language.specs.declared.statement.JoinedSource.{JoinedSource}
+use Rattle.cq_sql_language.specs.declared.statement.OrderKey.{OrderKey}
+use Rattle.cq_sql_language.specs.declared.statement.Select.{Select}
+use Rattle.cq_sql_language.specs.declared.statement.SelectItem.{SelectItem}
+use Rattle.cq_sql_language.specs.declared.token.Keyword.{Keyword}
+use Rattle.cq_sql_language.specs.declared.token.Keyword.TheVariants as keywords
+use Rattle.cq_sql_language.specs.declared.token.Symbol.TheVariants as symbols
+use Rattle.cq_sql_language.specs.declared.token.Token.{Token}
+use Rattle.cq_sql_language.specs.declared.token.Token.TheVariants as tokens
+use Rattle.cq_sql_language.specs.declared.written.ColumnName.{ColumnName}
+use Rattle.cq_sql_language.specs.Expression.{IsExpression}
+use Rattle.cq_sql_language.specs.Parts.{◌before◌, IsWord, IsCondition, IsListBy, IsNumber, Each, Separated}
+use Rattle.cq_sql_language.specs.Query.{IsDistinct, IsAlias, IsSelectItem, IsSource, IsColumnName, AreJoinWords, IsJoin, IsOrderKey, IsLimit, IsSelect}
+use Rattle.cq_sql_language.specs.Written.{Written}
+use Rattle.cq_sql_expressions.specs.Chains.{joined_at}
+use Rattle.cq_sql_expressions.specs.Expressions.{primary_of, factor_of, product_of, sum_of, predicate_of, negation_of, operand_of, expression_of, expression_at}
+use Rattle.cq_sql_expressions.proofs.Conditions.{EndsExpression, expression_reads}
+use Rattle.cq_sql_expressions.specs.declared.leads.Lead.TheVariants as leads
+use Rattle.cq_sql_expressions.specs.Lists.{list_at}
+use Rattle.cq_sql_expressions.specs.Read.{after_keyword}
+use Rattle.cq_sql_expressions.proofs.Exact.{Reads, Anything, Nothing, parts_of, keyword_takes, word_leads}
+use Rattle.cq_sql_expressions.proofs.Lists.{EndsList, comma_reads}
+use Rattle.cq_sql_expressions.proofs.Steps.{by_same, last_makes, lead_makes, made_reads, part_makes, with_ends}
+use Rattle.cq_sql_expressions.proofs.Tails.{EndsTail, IsTail, tail_reads, list_behind_reads}
 use Rattle.cq_sql.specs.declared.later.LaterClauses.{LaterClauses}
 use Rattle.cq_sql.specs.Parts.{condition_at}
 use Rattle.cq_sql.specs.Queries.{distinct_at, select_item_at, limit_at, later_at, query_of, query_at}

@@ -1,18 +1,18 @@
 -- Rows are read one behind the other, as each of them is read by itself.
 use Rattle.std.proofs.Common.{◌≡◌, ℕ, zero, suc, ◌-◌, ◌+◌, ◌<◌, List, [], ◌∷◌, ◌++◌, length, Option, Some, None, refl, sym, ap, ◌∙◌, arith, length-append}
 use Rattle.std.specs.Option.{option_map}
-use Rattle.cq_language.specs.declared.statement.Constant.{Constant}
-use Rattle.cq_language.specs.declared.token.Symbol.TheVariants as symbols
-use Rattle.cq_language.specs.declared.token.Token.{Token}
-use Rattle.cq_language.specs.ConstantRows.{onto_last}
-use Rattle.cq_language.proofs.Cuts.{onto_last-append}
-use Rattle.cq_reader.specs.declared.fault.SqlFault.{SqlFault}
-use Rattle.cq_reader.specs.declared.fault.SqlFault.TheVariants as errors
-use Rattle.cq_reader.specs.declared.leads.Lead.TheVariants as leads
-use Rattle.cq_reader.specs.Gives.{Fails}
-use Rattle.cq_reader.specs.Lists.{chain_from, led, list_at, more_at, stop_or_go}
-use Rattle.cq_reader.specs.Read.{◌>>=◌, done, followed_by, behind, after_symbol}
-use Rattle.cq_reader.proofs.Chains.{turn_goes_on, turn_breaks, turn_fails, turn_stops}
+use Rattle.cq_sql_language.specs.declared.statement.Constant.{Constant}
+use Rattle.cq_sql_language.specs.declared.token.Symbol.TheVariants as symbols
+use Rattle.cq_sql_language.specs.declared.token.Token.{Token}
+use Rattle.cq_sql_language.specs.ConstantRows.{onto_last}
+use Rattle.cq_sql_language.proofs.Cuts.{onto_last-append}
+use Rattle.cq_sql_expressions.specs.declared.fault.SqlFault.{SqlFault}
+use Rattle.cq_sql_expressions.specs.declared.fault.SqlFault.TheVariants as errors
+use Rattle.cq_sql_expressions.specs.declared.leads.Lead.TheVariants as leads
+use Rattle.cq_sql_expressions.specs.Gives.{Fails}
+use Rattle.cq_sql_expressions.specs.Lists.{chain_from, led, list_at, more_at, stop_or_go}
+use Rattle.cq_sql_expressions.specs.Read.{◌>>=◌, done, followed_by, behind, after_symbol}
+use Rattle.cq_sql_expressions.proofs.Chains.{turn_goes_on, turn_breaks, turn_fails, turn_stops}
 use Rattle.cq_sql.specs.Parts.{constant_at, row_at}
 use Rattle.cq_sql.specs.Rows.{constant_led, last_row_at, more_rows_at, row_behind}
 

@@ -1,20 +1,20 @@
 -- What FROM names, and the sources that are joined to it, are read exactly.
 use Rattle.std.proofs.Common.{◌≡◌, ℕ, List, [], ◌∷◌, ◌++◌, Option, Some, None, refl, sym, ap, subst, ◌∙◌, inl, inr}
-use Rattle.cq_language.specs.declared.statement.FromSource.{FromSource}
-use Rattle.cq_language.specs.declared.statement.JoinedSource.{JoinedSource}
-use Rattle.cq_language.specs.declared.statement.OnEquality.{OnEquality}
-use Rattle.cq_language.specs.declared.token.Keyword.TheVariants as keywords
-use Rattle.cq_language.specs.declared.token.Symbol.TheVariants as symbols
-use Rattle.cq_language.specs.declared.token.Token.{Token}
-use Rattle.cq_language.specs.declared.token.Token.TheVariants as tokens
-use Rattle.cq_language.specs.Parts.{◌before◌, IsName, IsWord, Each, SeparatedBy}
-use Rattle.cq_language.specs.Query.{IsAlias, IsKnownAs, IsSource, IsEquality, AreJoinWords, IsJoin}
-use Rattle.cq_reader.specs.declared.leads.Lead.TheVariants as leads
-use Rattle.cq_reader.specs.Read.{after_keyword}
-use Rattle.cq_reader.proofs.Exact.{Reads, Anything, parts_of, sign_leads, word_leads}
-use Rattle.cq_reader.proofs.Lists.{EndsList, and_reads, more_reads}
-use Rattle.cq_reader.proofs.Steps.{by_same, last_makes, lead_makes, made_reads, next_makes, part_makes}
-use Rattle.cq_reader.proofs.Tails.{EndsTail, IsTail, tail_reads}
+use Rattle.cq_sql_language.specs.declared.statement.FromSource.{FromSource}
+use Rattle.cq_sql_language.specs.declared.statement.JoinedSource.{JoinedSource}
+use Rattle.cq_sql_language.specs.declared.statement.OnEquality.{OnEquality}
+use Rattle.cq_sql_language.specs.declared.token.Keyword.TheVariants as keywords
+use Rattle.cq_sql_language.specs.declared.token.Symbol.TheVariants as symbols
+use Rattle.cq_sql_language.specs.declared.token.Token.{Token}
+use Rattle.cq_sql_language.specs.declared.token.Token.TheVariants as tokens
+use Rattle.cq_sql_language.specs.Parts.{◌before◌, IsName, IsWord, Each, SeparatedBy}
+use Rattle.cq_sql_language.specs.Query.{IsAlias, IsKnownAs, IsSource, IsEquality, AreJoinWords, IsJoin}
+use Rattle.cq_sql_expressions.specs.declared.leads.Lead.TheVariants as leads
+use Rattle.cq_sql_expressions.specs.Read.{after_keyword}
+use Rattle.cq_sql_expressions.proofs.Exact.{Reads, Anything, parts_of, sign_leads, word_leads}
+use Rattle.cq_sql_expressions.proofs.Lists.{EndsList, and_reads, more_reads}
+use Rattle.cq_sql_expressions.proofs.Steps.{by_same, last_makes, lead_makes, made_reads, next_makes, part_makes}
+use Rattle.cq_sql_expressions.proofs.Tails.{EndsTail, IsTail, tail_reads}
 use Rattle.cq_sql.specs.Parts.{name_at}
 use Rattle.cq_sql.specs.Queries.{alias_at, known_as_at, source_at, equality_at, joined_source_at, joins_at}
 use Rattle.cq_sql.proofs.NameReads.{EndsColumn, name_reads, column_name_reads}

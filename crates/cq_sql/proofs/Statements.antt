@@ -1,23 +1,23 @@
 -- Statements of each kind are read exactly, behind their first words.
 use Rattle.std.proofs.Common.{◌≡◌, ℕ, List, [], ◌++◌, Option, refl, arith}
 use Rattle.cq_values.specs.declared.column.ColumnDef.{ColumnDef}
-use Rattle.cq_language.specs.declared.statement.Constant.{Constant}
-use Rattle.cq_language.specs.declared.statement.Select.{Select}
-use Rattle.cq_language.specs.declared.statement.SetClause.{SetClause}
-use Rattle.cq_language.specs.declared.statement.Statement.TheVariants as statements
-use Rattle.cq_language.specs.declared.token.Keyword.TheVariants as keywords
-use Rattle.cq_language.specs.declared.token.Symbol.TheVariants as symbols
-use Rattle.cq_language.specs.declared.token.Token.{Token}
-use Rattle.cq_language.specs.Parts.{◌before◌, IsColumn, IsListBy, IsName, IsNumber, IsRow, IsSign, IsText, IsWhere, IsWord, Separated}
-use Rattle.cq_language.specs.Query.{IsSelect}
-use Rattle.cq_language.specs.Sentence.{IsSetClause}
-use Rattle.cq_language.specs.Written.{Written}
-use Rattle.cq_expr_reader.proofs.Conditions.{EndsExpression, expression_reads}
-use Rattle.cq_reader.specs.declared.leads.Lead.TheVariants as leads
-use Rattle.cq_reader.proofs.Exact.{Reads, Makes, Nothing, sign_leads, word_leads}
-use Rattle.cq_reader.proofs.Lists.{EndsList, comma_reads}
-use Rattle.cq_reader.proofs.Steps.{last_makes, lead_makes, made_reads, next_makes, part_makes, with_ends}
-use Rattle.cq_reader.proofs.Tails.{list_behind_reads}
+use Rattle.cq_sql_language.specs.declared.statement.Constant.{Constant}
+use Rattle.cq_sql_language.specs.declared.statement.Select.{Select}
+use Rattle.cq_sql_language.specs.declared.statement.SetClause.{SetClause}
+use Rattle.cq_sql_language.specs.declared.statement.Statement.TheVariants as statements
+use Rattle.cq_sql_language.specs.declared.token.Keyword.TheVariants as keywords
+use Rattle.cq_sql_language.specs.declared.token.Symbol.TheVariants as symbols
+use Rattle.cq_sql_language.specs.declared.token.Token.{Token}
+use Rattle.cq_sql_language.specs.Parts.{◌before◌, IsColumn, IsListBy, IsName, IsNumber, IsRow, IsSign, IsText, IsWhere, IsWord, Separated}
+use Rattle.cq_sql_language.specs.Query.{IsSelect}
+use Rattle.cq_sql_language.specs.Sentence.{IsSetClause}
+use Rattle.cq_sql_language.specs.Written.{Written}
+use Rattle.cq_sql_expressions.proofs.Conditions.{EndsExpression, expression_reads}
+use Rattle.cq_sql_expressions.specs.declared.leads.Lead.TheVariants as leads
+use Rattle.cq_sql_expressions.proofs.Exact.{Reads, Makes, Nothing, sign_leads, word_leads}
+use Rattle.cq_sql_expressions.proofs.Lists.{EndsList, comma_reads}
+use Rattle.cq_sql_expressions.proofs.Steps.{last_makes, lead_makes, made_reads, next_makes, part_makes, with_ends}
+use Rattle.cq_sql_expressions.proofs.Tails.{list_behind_reads}
 use Rattle.cq_sql.specs.Grammar.{create_table_at, drop_table_at, create_view_at, drop_view_at, insert_at, copy_at, delete_at, set_clause_at, update_at, select_at, move_at, merge_at, refresh_at}
 use Rattle.cq_sql.specs.Parts.{condition_at}
 use Rattle.cq_sql.proofs.ConstantReads.{row_reads}

@@ -3,15 +3,15 @@ use Rattle.std.proofs.Common.{◌≡◌, ℕ, Bool, true, false, List, [], ◌�
 use Rattle.cq_values.specs.declared.column.ColumnDef.{ColumnDef}
 use Rattle.cq_values.specs.declared.ty.Ty.{Ty}
 use Rattle.cq_values.specs.declared.ty.Ty.TheVariants as types
-use Rattle.cq_language.specs.declared.token.Keyword.{Keyword}
-use Rattle.cq_language.specs.declared.token.Keyword.TheVariants as keywords
-use Rattle.cq_language.specs.declared.token.Token.{Token}
-use Rattle.cq_language.specs.declared.token.Token.TheVariants as tokens
-use Rattle.cq_language.specs.Parts.{◌before◌, IsName, IsWord, IsColumn, type_word, not_null_tokens}
-use Rattle.cq_reader.specs.Read.{done, behind, after_keyword}
-use Rattle.cq_reader.proofs.Exact.{Reads, Makes, Anything, bind_some, parts_of, word_leads}
-use Rattle.cq_reader.proofs.Steps.{by_same, last_makes, lead_last, made_reads, next_makes}
-use Rattle.cq_reader.proofs.Tails.{EndsTail, IsTailOr, tail_or_reads}
+use Rattle.cq_sql_language.specs.declared.token.Keyword.{Keyword}
+use Rattle.cq_sql_language.specs.declared.token.Keyword.TheVariants as keywords
+use Rattle.cq_sql_language.specs.declared.token.Token.{Token}
+use Rattle.cq_sql_language.specs.declared.token.Token.TheVariants as tokens
+use Rattle.cq_sql_language.specs.Parts.{◌before◌, IsName, IsWord, IsColumn, type_word, not_null_tokens}
+use Rattle.cq_sql_expressions.specs.Read.{done, behind, after_keyword}
+use Rattle.cq_sql_expressions.proofs.Exact.{Reads, Makes, Anything, bind_some, parts_of, word_leads}
+use Rattle.cq_sql_expressions.proofs.Steps.{by_same, last_makes, lead_last, made_reads, next_makes}
+use Rattle.cq_sql_expressions.proofs.Tails.{EndsTail, IsTailOr, tail_or_reads}
 use Rattle.cq_sql.specs.Parts.{type_of, type_at, not_null_at, column_at}
 use Rattle.cq_sql.proofs.NameReads.{name_reads}
 

@@ -2,19 +2,19 @@
 use Rattle.std.proofs.Common.{◌≡◌, List, [], ◌∷◌, ◌++◌, Some, None, refl, sym, ap, subst, ◌∙◌, append_assoc}
 use Rattle.std.specs.Prelude.{Result, Ok, Err, IfOk}
 use Rattle.std.proofs.lemmas.List.{append-nil}
-use Rattle.cq_language.specs.declared.statement.Statement.{Statement}
-use Rattle.cq_language.specs.declared.statement.Statement.TheVariants as statements
-use Rattle.cq_language.specs.declared.token.Keyword.{Keyword}
-use Rattle.cq_language.specs.declared.token.Keyword.TheVariants as keywords
-use Rattle.cq_language.specs.declared.token.Token.{Token}
-use Rattle.cq_language.specs.declared.token.Token.TheVariants as tokens
-use Rattle.cq_language.specs.Parts.{◌before◌, IsWord}
-use Rattle.cq_language.specs.Sentence.{IsStatement}
-use Rattle.cq_reader.specs.declared.fault.SqlFault.{SqlFault}
-use Rattle.cq_reader.specs.declared.fault.SqlFault.TheVariants as errors
-use Rattle.cq_reader.specs.Gives.{Gives}
-use Rattle.cq_reader.specs.Read.{Reader}
-use Rattle.cq_reader.proofs.Exact.{Reads, Makes, Nothing, bind_some}
+use Rattle.cq_sql_language.specs.declared.statement.Statement.{Statement}
+use Rattle.cq_sql_language.specs.declared.statement.Statement.TheVariants as statements
+use Rattle.cq_sql_language.specs.declared.token.Keyword.{Keyword}
+use Rattle.cq_sql_language.specs.declared.token.Keyword.TheVariants as keywords
+use Rattle.cq_sql_language.specs.declared.token.Token.{Token}
+use Rattle.cq_sql_language.specs.declared.token.Token.TheVariants as tokens
+use Rattle.cq_sql_language.specs.Parts.{◌before◌, IsWord}
+use Rattle.cq_sql_language.specs.Sentence.{IsStatement}
+use Rattle.cq_sql_expressions.specs.declared.fault.SqlFault.{SqlFault}
+use Rattle.cq_sql_expressions.specs.declared.fault.SqlFault.TheVariants as errors
+use Rattle.cq_sql_expressions.specs.Gives.{Gives}
+use Rattle.cq_sql_expressions.specs.Read.{Reader}
+use Rattle.cq_sql_expressions.proofs.Exact.{Reads, Makes, Nothing, bind_some}
 use Rattle.cq_sql.specs.Grammar.{create_at, drop_at, select_at, statement_at, if_all_read, whole_statement}
 use Rattle.cq_sql.proofs.Statements.{create_table_makes, drop_table_makes, create_view_makes, drop_view_makes, insert_makes, copy_makes, delete_makes, update_makes, select_makes, move_makes, merge_makes, refresh_makes}
 

@@ -1,16 +1,16 @@
 -- How statements are read, as functions on lists: what a sentence is, the model says.
 use Rattle.std.specs.Prelude.{List, [], ◌∷◌, Option, Some, None}
-use Rattle.cq_language.specs.declared.statement.SetClause.{SetClause}
-use Rattle.cq_language.specs.declared.statement.Statement.{Statement}
-use Rattle.cq_language.specs.declared.statement.Statement.TheVariants as statements
-use Rattle.cq_language.specs.declared.token.Keyword.TheVariants as keywords
-use Rattle.cq_language.specs.declared.token.Symbol.TheVariants as symbols
-use Rattle.cq_language.specs.declared.token.Token.{Token}
-use Rattle.cq_language.specs.declared.token.Token.TheVariants as tokens
-use Rattle.cq_expr_reader.specs.Expressions.{expression_at}
-use Rattle.cq_reader.specs.declared.leads.Lead.TheVariants as leads
-use Rattle.cq_reader.specs.Lists.{list_at, list_behind}
-use Rattle.cq_reader.specs.Read.{◌>>=◌, Reader, done, followed_by, behind, after_keyword, after_symbol}
+use Rattle.cq_sql_language.specs.declared.statement.SetClause.{SetClause}
+use Rattle.cq_sql_language.specs.declared.statement.Statement.{Statement}
+use Rattle.cq_sql_language.specs.declared.statement.Statement.TheVariants as statements
+use Rattle.cq_sql_language.specs.declared.token.Keyword.TheVariants as keywords
+use Rattle.cq_sql_language.specs.declared.token.Symbol.TheVariants as symbols
+use Rattle.cq_sql_language.specs.declared.token.Token.{Token}
+use Rattle.cq_sql_language.specs.declared.token.Token.TheVariants as tokens
+use Rattle.cq_sql_expressions.specs.Expressions.{expression_at}
+use Rattle.cq_sql_expressions.specs.declared.leads.Lead.TheVariants as leads
+use Rattle.cq_sql_expressions.specs.Lists.{list_at, list_behind}
+use Rattle.cq_sql_expressions.specs.Read.{◌>>=◌, Reader, done, followed_by, behind, after_keyword, after_symbol}
 use Rattle.cq_sql.specs.Parts.{name_at, number_at, text_at, column_at, row_at, condition_at}
 use Rattle.cq_sql.specs.Queries.{query_at}
 

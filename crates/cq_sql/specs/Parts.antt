@@ -3,19 +3,19 @@ use Rattle.std.specs.Prelude.{ℕ, Bool, true, false, List, ◌∷◌, Option, S
 use Rattle.cq_values.specs.declared.column.ColumnDef.{ColumnDef}
 use Rattle.cq_values.specs.declared.ty.Ty.{Ty}
 use Rattle.cq_values.specs.declared.ty.Ty.TheVariants as types
-use Rattle.cq_language.specs.declared.statement.Constant.{Constant}
-use Rattle.cq_language.specs.declared.statement.Constant.TheVariants as constants
-use Rattle.cq_language.specs.declared.statement.Literal.{Literal}
-use Rattle.cq_language.specs.declared.token.Keyword.{Keyword}
-use Rattle.cq_language.specs.declared.token.Keyword.TheVariants as keywords
-use Rattle.cq_language.specs.declared.token.Symbol.TheVariants as symbols
-use Rattle.cq_language.specs.declared.token.Token.TheVariants as tokens
-use Rattle.cq_language.specs.declared.written.ColumnName.{ColumnName}
-use Rattle.cq_language.specs.Written.{Written}
-use Rattle.cq_expr_reader.specs.Expressions.{expression_at}
-use Rattle.cq_reader.specs.declared.leads.Lead.TheVariants as leads
-use Rattle.cq_reader.specs.Lists.{list_at, tail_at, tail_or}
-use Rattle.cq_reader.specs.Read.{◌>>=◌, Reader, done, followed_by, behind, after_keyword, after_symbol}
+use Rattle.cq_sql_language.specs.declared.statement.Constant.{Constant}
+use Rattle.cq_sql_language.specs.declared.statement.Constant.TheVariants as constants
+use Rattle.cq_sql_language.specs.declared.statement.Literal.{Literal}
+use Rattle.cq_sql_language.specs.declared.token.Keyword.{Keyword}
+use Rattle.cq_sql_language.specs.declared.token.Keyword.TheVariants as keywords
+use Rattle.cq_sql_language.specs.declared.token.Symbol.TheVariants as symbols
+use Rattle.cq_sql_language.specs.declared.token.Token.TheVariants as tokens
+use Rattle.cq_sql_language.specs.declared.written.ColumnName.{ColumnName}
+use Rattle.cq_sql_language.specs.Written.{Written}
+use Rattle.cq_sql_expressions.specs.Expressions.{expression_at}
+use Rattle.cq_sql_expressions.specs.declared.leads.Lead.TheVariants as leads
+use Rattle.cq_sql_expressions.specs.Lists.{list_at, tail_at, tail_or}
+use Rattle.cq_sql_expressions.specs.Read.{◌>>=◌, Reader, done, followed_by, behind, after_keyword, after_symbol}
 
 -- takes a name from the front, as it is spelled in lower case
 abbrev pub name_at : Reader (List ℕ)

@@ -1,20 +1,20 @@
 -- How queries are read, clause by clause, as functions on lists: what a query is, the model says.
 use Rattle.std.specs.Prelude.{ℕ, Bool, true, false, List, [], ◌∷◌, Option, Some, None}
-use Rattle.cq_language.specs.declared.statement.FromSource.{FromSource}
-use Rattle.cq_language.specs.declared.statement.JoinedSource.{JoinedSource}
-use Rattle.cq_language.specs.declared.statement.OnEquality.{OnEquality}
-use Rattle.cq_language.specs.declared.statement.OrderKey.{OrderKey}
-use Rattle.cq_language.specs.declared.statement.OutputColumn.{OutputColumn}
-use Rattle.cq_language.specs.declared.statement.OutputColumn.TheVariants as outputs
-use Rattle.cq_language.specs.declared.statement.Select.{Select}
-use Rattle.cq_language.specs.declared.statement.SelectItem.{SelectItem}
-use Rattle.cq_language.specs.declared.token.Keyword.TheVariants as keywords
-use Rattle.cq_language.specs.declared.token.Symbol.TheVariants as symbols
-use Rattle.cq_language.specs.declared.token.Token.TheVariants as tokens
-use Rattle.cq_expr_reader.specs.Expressions.{expression_at}
-use Rattle.cq_reader.specs.declared.leads.Lead.TheVariants as leads
-use Rattle.cq_reader.specs.Lists.{more_at, list_at, tail_at, list_behind}
-use Rattle.cq_reader.specs.Read.{Reader, done, followed_by, behind, after_keyword, after_symbol}
+use Rattle.cq_sql_language.specs.declared.statement.FromSource.{FromSource}
+use Rattle.cq_sql_language.specs.declared.statement.JoinedSource.{JoinedSource}
+use Rattle.cq_sql_language.specs.declared.statement.OnEquality.{OnEquality}
+use Rattle.cq_sql_language.specs.declared.statement.OrderKey.{OrderKey}
+use Rattle.cq_sql_language.specs.declared.statement.OutputColumn.{OutputColumn}
+use Rattle.cq_sql_language.specs.declared.statement.OutputColumn.TheVariants as outputs
+use Rattle.cq_sql_language.specs.declared.statement.Select.{Select}
+use Rattle.cq_sql_language.specs.declared.statement.SelectItem.{SelectItem}
+use Rattle.cq_sql_language.specs.declared.token.Keyword.TheVariants as keywords
+use Rattle.cq_sql_language.specs.declared.token.Symbol.TheVariants as symbols
+use Rattle.cq_sql_language.specs.declared.token.Token.TheVariants as tokens
+use Rattle.cq_sql_expressions.specs.Expressions.{expression_at}
+use Rattle.cq_sql_expressions.specs.declared.leads.Lead.TheVariants as leads
+use Rattle.cq_sql_expressions.specs.Lists.{more_at, list_at, tail_at, list_behind}
+use Rattle.cq_sql_expressions.specs.Read.{Reader, done, followed_by, behind, after_keyword, after_symbol}
 use Rattle.cq_sql.specs.declared.later.LaterClauses.{LaterClauses}
 use Rattle.cq_sql.specs.Parts.{name_at, number_at, column_name_at, condition_at}
 

@@ -1,13 +1,13 @@
 -- How rows are read one behind the other, as functions on lists.
 use Rattle.std.specs.Prelude.{List, [], ◌∷◌, ◌++◌, length, Option, Some}
 use Rattle.std.specs.Option.{option_map}
-use Rattle.cq_language.specs.declared.statement.Constant.{Constant}
-use Rattle.cq_language.specs.declared.token.Symbol.TheVariants as symbols
-use Rattle.cq_language.specs.declared.token.Token.{Token}
-use Rattle.cq_language.specs.ConstantRows.{onto_last}
-use Rattle.cq_reader.specs.declared.leads.Lead.TheVariants as leads
-use Rattle.cq_reader.specs.Lists.{chain_from, more_at}
-use Rattle.cq_reader.specs.Read.{◌>>=◌, Reader, done, followed_by, behind, after_symbol}
+use Rattle.cq_sql_language.specs.declared.statement.Constant.{Constant}
+use Rattle.cq_sql_language.specs.declared.token.Symbol.TheVariants as symbols
+use Rattle.cq_sql_language.specs.declared.token.Token.{Token}
+use Rattle.cq_sql_language.specs.ConstantRows.{onto_last}
+use Rattle.cq_sql_expressions.specs.declared.leads.Lead.TheVariants as leads
+use Rattle.cq_sql_expressions.specs.Lists.{chain_from, more_at}
+use Rattle.cq_sql_expressions.specs.Read.{◌>>=◌, Reader, done, followed_by, behind, after_symbol}
 use Rattle.cq_sql.specs.Parts.{constant_at, row_at}
 
 -- one more constant of the last row, where a comma stands in front of it

@@ -1,9 +1,9 @@
 //! Constants.
-ghost use Rattle.cq_reader.specs.Gives.{Gives};
+ghost use Rattle.cq_sql_expressions.specs.Gives.{Gives};
 ghost use Rattle.cq_sql.specs.Parts.{constant_at, literal_at, number_constant_at};
 
-use cq_language::{Constant, Keyword, Literal, Symbol, Token};
-use cq_reader::{Readable, SqlFault};
+use cq_sql_expressions::{Readable, SqlFault};
+use cq_sql_language::{Constant, Keyword, Literal, Symbol, Token};
 use std::alloc::Global;
 
 fn literal_at(tokens: &[Token]) -> Result<(Literal, &[Token]), SqlFault>

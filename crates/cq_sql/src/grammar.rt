@@ -1,17 +1,17 @@
 //! Tokens as statements.
 ghost use Rattle.std.specs.Prelude.{◌≡◌, IfOk};
-ghost use Rattle.cq_language.specs.Sentence.{IsStatement};
-ghost use Rattle.cq_language.specs.declared.statement.Statement.{Statement};
-ghost use Rattle.cq_reader.specs.declared.fault.SqlFault.TheVariants.{LimitExceeded, Syntax};
-ghost use Rattle.cq_reader.specs.Gives.{Gives};
+ghost use Rattle.cq_sql_language.specs.Sentence.{IsStatement};
+ghost use Rattle.cq_sql_language.specs.declared.statement.Statement.{Statement};
+ghost use Rattle.cq_sql_expressions.specs.declared.fault.SqlFault.TheVariants.{LimitExceeded, Syntax};
+ghost use Rattle.cq_sql_expressions.specs.Gives.{Gives};
 ghost use Rattle.cq_sql.specs.Grammar.{create_at, drop_at, statement_at, whole_statement};
 
 use crate::query::select_at;
 use crate::table::{create_table_at, drop_table_at};
 use crate::update::{copy_at, delete_at, insert_at, merge_at, move_at, update_at};
 use crate::view::{create_view_at, drop_view_at, refresh_at};
-use cq_language::{Keyword, Statement, Token};
-use cq_reader::SqlFault;
+use cq_sql_expressions::SqlFault;
+use cq_sql_language::{Keyword, Statement, Token};
 use std::alloc::Global;
 
 fn create_at(alloc: Global, tokens: &[Token]) -> Result<(Statement, &[Token]), SqlFault>

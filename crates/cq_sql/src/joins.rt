@@ -1,12 +1,14 @@
 //! The sources that are joined, and the equalities that they are joined by.
 ghost use Rattle.std.specs.Prelude.{◌≡◌};
-ghost use Rattle.cq_reader.specs.Gives.{Gives};
+ghost use Rattle.cq_sql_expressions.specs.Gives.{Gives};
 ghost use Rattle.cq_sql.specs.Queries.{equality_at, joined_source_at, joins_at};
 
 use crate::names::ColumnNames;
 use crate::source::Sources;
-use cq_language::{JoinedSource, Keyword, OnEquality, Symbol, Token};
-use cq_reader::{Lead, Readable, SqlFault, expect_keyword, expect_symbol, list_of, more_of};
+use cq_sql_expressions::{
+    Lead, Readable, SqlFault, expect_keyword, expect_symbol, list_of, more_of,
+};
+use cq_sql_language::{JoinedSource, Keyword, OnEquality, Symbol, Token};
 use cq_values::Seq;
 use std::alloc::Global;
 

@@ -1,13 +1,12 @@
 //! The clauses of a query from WHERE on.
 ghost use Rattle.std.specs.Prelude.{◌≡◌};
-ghost use Rattle.cq_reader.specs.Gives.{Gives};
+ghost use Rattle.cq_sql_expressions.specs.Gives.{Gives};
 ghost use Rattle.cq_sql.specs.Queries.{later_at};
 
 use crate::names::{ColumnNames, Numbers};
 use crate::order::OrderKeys;
-use cq_expr_reader::SqlExpressions;
-use cq_language::{ColumnName, Keyword, OrderKey, SqlExpr, Token};
-use cq_reader::{SqlFault, list_behind, tail_of};
+use cq_sql_expressions::{SqlExpressions, SqlFault, list_behind, tail_of};
+use cq_sql_language::{ColumnName, Keyword, OrderKey, SqlExpr, Token};
 use cq_values::Seq;
 use std::alloc::Global;
 

@@ -20,9 +20,8 @@ mod table;
 mod update;
 mod view;
 
-pub use cq_expr_reader::{expression_of, one_expression};
-pub use cq_reader::SqlFault;
-pub use cq_tokens::{Piece, Pieces, split};
+pub use cq_sql_expressions::{SqlFault, expression_of, one_expression};
+pub use cq_sql_tokens::{Piece, Pieces, split};
 pub use grammar::tree_of;
 pub use laws::one_tree;
 pub use sentences::parse;

@@ -1,8 +1,8 @@
 //! Names, names of columns, numbers without a sign, and texts.
 ghost use Rattle.cq_sql.specs.Parts.{column_name_at, name_at, number_at, text_at};
 
-use cq_language::{ColumnName, Symbol, Token};
-use cq_reader::{Readable, SqlFault};
+use cq_sql_expressions::{Readable, SqlFault};
+use cq_sql_language::{ColumnName, Symbol, Token};
 use cq_values::Text;
 use std::alloc::Global;
 

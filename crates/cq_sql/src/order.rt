@@ -1,10 +1,10 @@
 //! What a result is sorted by.
 ghost use Rattle.std.specs.Prelude.{◌≡◌, Some};
-ghost use Rattle.cq_reader.specs.Gives.{Gives};
+ghost use Rattle.cq_sql_expressions.specs.Gives.{Gives};
 ghost use Rattle.cq_sql.specs.Queries.{direction_at, order_key_at, output_at};
 
-use cq_language::{Keyword, OrderKey, OutputColumn, Token};
-use cq_reader::{Readable, SqlFault};
+use cq_sql_expressions::{Readable, SqlFault};
+use cq_sql_language::{Keyword, OrderKey, OutputColumn, Token};
 use std::alloc::Global;
 
 fn output_at(alloc: Global, tokens: &[Token]) -> Result<(OutputColumn, &[Token]), SqlFault>

@@ -1,6 +1,6 @@
 //! Queries.
 ghost use Rattle.std.specs.Prelude.{◌≡◌, Some};
-ghost use Rattle.cq_reader.specs.Gives.{Gives};
+ghost use Rattle.cq_sql_expressions.specs.Gives.{Gives};
 ghost use Rattle.cq_sql.specs.Grammar.{select_at};
 ghost use Rattle.cq_sql.specs.Queries.{distinct_at, query_at, query_of};
 
@@ -8,8 +8,8 @@ use crate::joins::joins_at;
 use crate::later::{LaterClauses, later_at};
 use crate::select_item::SelectItems;
 use crate::source::Sources;
-use cq_language::{FromSource, JoinedSource, Keyword, Select, SelectItem, Statement, Token};
-use cq_reader::{Lead, Readable, SqlFault, expect_keyword, list_of};
+use cq_sql_expressions::{Lead, Readable, SqlFault, expect_keyword, list_of};
+use cq_sql_language::{FromSource, JoinedSource, Keyword, Select, SelectItem, Statement, Token};
 use cq_values::Seq;
 use std::alloc::Global;
 

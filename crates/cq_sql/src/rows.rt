@@ -1,17 +1,17 @@
 //! The rows of an INSERT.
 ghost use Rattle.std.specs.Prelude.{◌<◌, ◌∷◌, ◌≡◌, IfSome, false, length};
-ghost use Rattle.cq_language.specs.declared.statement.Constant.TheVariants as constants;
-ghost use Rattle.cq_language.specs.declared.token.Symbol.TheVariants as symbols;
-ghost use Rattle.cq_language.specs.declared.token.Token.TheVariants as signs;
-ghost use Rattle.cq_reader.specs.declared.leads.Lead.TheVariants as leads;
-ghost use Rattle.cq_reader.specs.Gives.{Gives};
-ghost use Rattle.cq_reader.specs.Lists.{list_at};
+ghost use Rattle.cq_sql_language.specs.declared.statement.Constant.TheVariants as constants;
+ghost use Rattle.cq_sql_language.specs.declared.token.Symbol.TheVariants as symbols;
+ghost use Rattle.cq_sql_language.specs.declared.token.Token.TheVariants as signs;
+ghost use Rattle.cq_sql_expressions.specs.declared.leads.Lead.TheVariants as leads;
+ghost use Rattle.cq_sql_expressions.specs.Gives.{Gives};
+ghost use Rattle.cq_sql_expressions.specs.Lists.{list_at};
 ghost use Rattle.cq_sql.specs.Parts.{row_at};
 ghost use Rattle.cq_sql.specs.Rows.{last_row_at, more_rows_at, row_behind};
 
 use crate::constants::Constants;
-use cq_language::{Constant, ConstantRows, Literal, Symbol, Token};
-use cq_reader::{Readable, SqlFault, after_symbol, expect_symbol};
+use cq_sql_expressions::{Readable, SqlFault, after_symbol, expect_symbol};
+use cq_sql_language::{Constant, ConstantRows, Literal, Symbol, Token};
 use std::alloc::Global;
 
 /// At least one row, and each later one behind a comma.
@@ -28,7 +28,7 @@ pub fn rows_at(alloc: Global, tokens: &[Token]) -> Result<(ConstantRows, &[Token
 }
 
 /// More rows behind those that were read before, each behind its comma.
-#[tactic(auto, unfolding(crate::specs::Rows::more_rows_at, cq_reader::specs::Lists::more_at))]
+#[tactic(auto, unfolding(crate::specs::Rows::more_rows_at, cq_sql_expressions::specs::Lists::more_at))]
 fn more_rows<'a>(
     alloc: Global,
     rows: &mut ConstantRows,

@@ -2,9 +2,8 @@
 ghost use Rattle.cq_sql.specs.Queries.{select_item_at};
 
 use crate::names::Names;
-use cq_expr_reader::SqlExpressions;
-use cq_language::{Keyword, SelectItem, Token};
-use cq_reader::{Readable, SqlFault, tail_of};
+use cq_sql_expressions::{Readable, SqlExpressions, SqlFault, tail_of};
+use cq_sql_language::{Keyword, SelectItem, Token};
 use std::alloc::Global;
 
 pub struct SelectItems;

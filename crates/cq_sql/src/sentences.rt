@@ -2,9 +2,9 @@
 ghost use Rattle.cq_sql.specs.Parses.{Parses};
 
 use crate::grammar::tree_of;
-use cq_language::Statement;
-use cq_reader::SqlFault;
-use cq_tokens::{TokenFault, is_past_limits, one_cut, tokens};
+use cq_sql_expressions::SqlFault;
+use cq_sql_language::Statement;
+use cq_sql_tokens::{TokenFault, is_past_limits, one_cut, tokens};
 use std::alloc::Global;
 
 /// The tree of a piece. A fault of its tokens is told before a limit, and a limit before the grammar.

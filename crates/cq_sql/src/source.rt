@@ -1,11 +1,11 @@
 //! What FROM names, and the name that it is known by.
 ghost use Rattle.std.specs.Prelude.{◌≡◌};
-ghost use Rattle.cq_reader.specs.Gives.{Gives};
+ghost use Rattle.cq_sql_expressions.specs.Gives.{Gives};
 ghost use Rattle.cq_sql.specs.Queries.{known_as_at, source_at};
 
 use crate::names::Names;
-use cq_language::{FromSource, Keyword, Token};
-use cq_reader::{Readable, SqlFault, tail_of};
+use cq_sql_expressions::{Readable, SqlFault, tail_of};
+use cq_sql_language::{FromSource, Keyword, Token};
 use cq_values::Text;
 use std::alloc::Global;
 

@@ -1,14 +1,14 @@
 //! The columns of a table, and the order that its rows are kept in.
 ghost use Rattle.std.specs.Prelude.{◌≡◌};
-ghost use Rattle.cq_reader.specs.Gives.{Gives};
+ghost use Rattle.cq_sql_expressions.specs.Gives.{Gives};
 ghost use Rattle.cq_sql.specs.Grammar.{create_table_at, drop_table_at};
 ghost use Rattle.cq_sql.specs.Parts.{column_at, not_null_at, type_at, type_of};
 
 use crate::names::Names;
-use cq_language::{Keyword, Statement, Symbol, Token};
-use cq_reader::{
+use cq_sql_expressions::{
     Lead, Readable, SqlFault, after_keyword, expect_keyword, expect_symbol, list_behind, list_of,
 };
+use cq_sql_language::{Keyword, Statement, Symbol, Token};
 use cq_values::{ColumnDef, Ty};
 use std::alloc::Global;
 
@@ -35,7 +35,7 @@ fn type_at(tokens: &[Token]) -> Result<(Ty, &[Token]), SqlFault>
     }
 }
 
-#[tactic(auto, unfolding(cq_reader::specs::Lists::tail_or))]
+#[tactic(auto, unfolding(cq_sql_expressions::specs::Lists::tail_or))]
 fn not_null_at(tokens: &[Token]) -> Result<(bool, &[Token]), SqlFault>
     ensures { Gives (λ x. (x.0, x.1.now)) result (not_null_at tokens.now) }
 {

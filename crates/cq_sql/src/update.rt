@@ -1,13 +1,14 @@
 //! The statements that write rows, and those that move them to the read store.
 ghost use Rattle.std.specs.Prelude.{◌≡◌};
-ghost use Rattle.cq_reader.specs.Gives.{Gives};
+ghost use Rattle.cq_sql_expressions.specs.Gives.{Gives};
 ghost use Rattle.cq_sql.specs.Grammar.{copy_at, delete_at, insert_at, merge_at, move_at, set_clause_at, update_at};
 
 use crate::names::{Names, Numbers, Texts};
 use crate::rows::rows_at;
-use cq_expr_reader::SqlExpressions;
-use cq_language::{Keyword, SetClause, Statement, Symbol, Token};
-use cq_reader::{Lead, Readable, SqlFault, expect_keyword, expect_symbol, list_of, tail_of};
+use cq_sql_expressions::{
+    Lead, Readable, SqlExpressions, SqlFault, expect_keyword, expect_symbol, list_of, tail_of,
+};
+use cq_sql_language::{Keyword, SetClause, Statement, Symbol, Token};
 use std::alloc::Global;
 
 /// What follows INSERT.

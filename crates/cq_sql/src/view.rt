@@ -1,12 +1,12 @@
 //! The statements on views.
 ghost use Rattle.std.specs.Prelude.{◌≡◌};
-ghost use Rattle.cq_reader.specs.Gives.{Gives};
+ghost use Rattle.cq_sql_expressions.specs.Gives.{Gives};
 ghost use Rattle.cq_sql.specs.Grammar.{create_view_at, drop_view_at, refresh_at};
 
 use crate::names::{Names, Numbers};
 use crate::query::Queries;
-use cq_language::{Keyword, Statement, Token};
-use cq_reader::{Readable, SqlFault, expect_keyword};
+use cq_sql_expressions::{Readable, SqlFault, expect_keyword};
+use cq_sql_language::{Keyword, Statement, Token};
 use std::alloc::Global;
 
 /// What follows CREATE VIEW.

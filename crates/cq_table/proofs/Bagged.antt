@@ -5,13 +5,13 @@ use Rattle.std.specs.List.{AllByRecursion}
 use Rattle.std.proofs.lemmas.List.{length-append}
 use Rattle.std.proofs.lemmas.List.Filters.{length-filter_both}
 use Rattle.cq_values.specs.Value.{Row}
-use Rattle.cq_bags.specs.Bag.{Weighted, SameBag, once_each, filtered}
-use Rattle.cq_bags.specs.Canonical.{bag_of}
-use Rattle.cq_bags.proofs.Bags.{same-sym, filtered-respects}
-use Rattle.cq_bags.proofs.Distincts.{once_each-filter}
-use Rattle.cq_bags.proofs.Canonicals.{bag_of-again, bag_of-weights, length-bag_of, same-bag_of}
+use Rattle.cq_model_bags.specs.Bag.{Weighted, SameBag, once_each, filtered}
+use Rattle.cq_model_bags.specs.Canonical.{bag_of}
+use Rattle.cq_model_bags.proofs.Bags.{same-sym, filtered-respects}
+use Rattle.cq_model_bags.proofs.Distincts.{once_each-filter}
+use Rattle.cq_model_bags.proofs.Canonicals.{bag_of-again, bag_of-weights, length-bag_of, same-bag_of}
 use Rattle.cq_values.specs.declared.column.ColumnDef.{ColumnDef}
-use Rattle.cq_states.specs.Fitting.{FitsColumns}
+use Rattle.cq_model_state.specs.Fitting.{FitsColumns}
 use Rattle.cq_table.specs.Table.{AreSound, StoredTable, with_bag, without_rows}
 use Rattle.cq_table.proofs.RowLists.{all_of_bag, all_of_both, all_of_kept}
 

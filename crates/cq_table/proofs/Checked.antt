@@ -6,17 +6,17 @@ use Rattle.std.specs.Ordering.{is_gt}
 use Rattle.cq_values.specs.declared.column.ColumnDef.{ColumnDef}
 use Rattle.cq_values.specs.Order.{row_cmp}
 use Rattle.cq_values.specs.Value.{Row}
-use Rattle.cq_bags.specs.Canonical.{bag_of, sorted_by, with_row}
-use Rattle.cq_bags.proofs.Totals.{by_test}
+use Rattle.cq_model_bags.specs.Canonical.{bag_of, sorted_by, with_row}
+use Rattle.cq_model_bags.proofs.Totals.{by_test}
 use Rattle.cq_model.specs.declared.assignment.Assignment.{Assignment}
 use Rattle.cq_model.specs.Eval.{eval}
 use Rattle.cq_model.specs.Expr.{Cond}
 use Rattle.cq_model.specs.Meaning.{keeps}
 use Rattle.cq_model.specs.Write.{chosen}
-use Rattle.cq_binding.specs.declared.fault.Fault.{Fault}
-use Rattle.cq_binding.specs.declared.fault.Fault.TheVariants.{NumberOutside, NullNotAllowed, TableFull}
-use Rattle.cq_binding.specs.Checks.{MayRefuse, fault_if, first_fault}
-use Rattle.cq_binding.specs.UpdateChecks.{is_null, is_outside, never_null, value_checks}
+use Rattle.cq_binder_rules.specs.declared.fault.Fault.{Fault}
+use Rattle.cq_binder_rules.specs.declared.fault.Fault.TheVariants.{NumberOutside, NullNotAllowed, TableFull}
+use Rattle.cq_binder_rules.specs.Checks.{MayRefuse, fault_if, first_fault}
+use Rattle.cq_binder_rules.specs.UpdateChecks.{is_null, is_outside, never_null, value_checks}
 use Rattle.cq_table.specs.Checks.{AreNarrowSets, fault_of, one_fault, value_fault, values_fault}
 use Rattle.cq_table.specs.declared.fault.TableFault.{TableFault}
 use Rattle.cq_table.specs.declared.fault.TableFault.TheVariants as tables

@@ -3,7 +3,7 @@ use Rattle.std.proofs.Common.{◌≡◌, Bool, true, false, cond, not, List, [],
 use Rattle.std.specs.Prelude.{OnErr, OnOk, Result, filter}
 use Rattle.std.proofs.lemmas.List.{length-map}
 use Rattle.cq_values.specs.Value.{Row}
-use Rattle.cq_store.specs.Without.{without}
+use Rattle.cq_table_store.specs.Without.{without}
 
 -- the first row leaves, or it stays
 one_out : (gone : Bool) (flags : List Bool) (row : Row) (rows : List Row) → without (gone ∷ flags) (row ∷ rows) ≡ cond (not gone) (row ∷ without flags rows) (without flags rows)

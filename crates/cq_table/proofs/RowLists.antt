@@ -5,9 +5,9 @@ use Rattle.std.specs.List.{AllByRecursion}
 use Rattle.std.specs.Ordering.{is_gt}
 use Rattle.cq_values.specs.Order.{row_cmp}
 use Rattle.cq_values.specs.Value.{Row}
-use Rattle.cq_bags.specs.Canonical.{bag_of, with_row, sorted_by}
-use Rattle.cq_bags.proofs.Totals.{by_test}
-pub use Rattle.cq_scans.proofs.Lists.{all-kept as all_of_kept}
+use Rattle.cq_model_bags.specs.Canonical.{bag_of, with_row, sorted_by}
+use Rattle.cq_model_bags.proofs.Totals.{by_test}
+pub use Rattle.cq_operators_scans.proofs.Lists.{all-kept as all_of_kept}
 
 module _ (P : Row → Type 0) where
   pub all_of_both : (xs ys : List Row) → AllByRecursion P xs → AllByRecursion P ys → AllByRecursion P (xs ++ ys)

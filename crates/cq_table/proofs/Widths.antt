@@ -3,10 +3,10 @@ use Rattle.std.proofs.Common.{◌≡◌, suc, List, [], ◌∷◌, length, refl,
 use Rattle.std.specs.List.{AllByRecursion}
 use Rattle.cq_values.specs.Value.{Row}
 use Rattle.cq_values.specs.declared.column.ColumnDef.{ColumnDef}
-use Rattle.cq_columns.specs.Columns.{AreWide}
-use Rattle.cq_states.specs.Fitting.{FitsColumn, FitsColumns}
-use Rattle.cq_states.specs.Pointwise.{Pointwise}
-use Rattle.cq_scans.proofs.Lists.{all-weaker}
+use Rattle.cq_table_columns.specs.Columns.{AreWide}
+use Rattle.cq_model_state.specs.Fitting.{FitsColumn, FitsColumns}
+use Rattle.cq_model_state.specs.Pointwise.{Pointwise}
+use Rattle.cq_operators_scans.proofs.Lists.{all-weaker}
 
 -- two lists that are related entry by entry are of one length
 same_length : {A B : Type 0} (R : A → B → Type 0) (xs : List A) (ys : List B) → Pointwise R xs ys → length ys ≡ length xs

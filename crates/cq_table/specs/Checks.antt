@@ -8,10 +8,10 @@ use Rattle.cq_model.specs.declared.assignment.Assignment.{Assignment}
 use Rattle.cq_model.specs.Expr.{Cond}
 use Rattle.cq_model.specs.Width.{IsNarrowAt, IsNarrowIn}
 use Rattle.cq_model.specs.Write.{chosen, image_of}
-use Rattle.cq_binding.specs.declared.fault.Fault.{Fault}
-use Rattle.cq_binding.specs.declared.fault.Fault.TheVariants as faults
-use Rattle.cq_binding.specs.Checks.{MayRefuse, fault_if, first_fault}
-use Rattle.cq_binding.specs.UpdateChecks.{image_checks, value_checks}
+use Rattle.cq_binder_rules.specs.declared.fault.Fault.{Fault}
+use Rattle.cq_binder_rules.specs.declared.fault.Fault.TheVariants as faults
+use Rattle.cq_binder_rules.specs.Checks.{MayRefuse, fault_if, first_fault}
+use Rattle.cq_binder_rules.specs.UpdateChecks.{image_checks, value_checks}
 use Rattle.cq_table.specs.declared.fault.TableFault.{TableFault}
 use Rattle.cq_table.specs.declared.fault.TableFault.TheVariants as tables
 use Rattle.cq_table.specs.Table.{SameRows, StoredTable}

@@ -3,8 +3,8 @@ use Rattle.std.specs.Prelude.{◌≡◌, ◌≤◌, ℕ, List, [], length}
 use Rattle.std.specs.List.{AllByRecursion}
 use Rattle.cq_values.specs.declared.column.ColumnDef.{ColumnDef}
 use Rattle.cq_values.specs.Value.{Row}
-use Rattle.cq_bags.specs.Canonical.{bag_of}
-use Rattle.cq_states.specs.Fitting.{FitsColumns}
+use Rattle.cq_model_bags.specs.Canonical.{bag_of}
+use Rattle.cq_model_state.specs.Fitting.{FitsColumns}
 
 -- a table: the columns that its segments are sorted by, how many rows it may have, and the one list that stands for its bag
 pub record StoredTable : Type 0 where

@@ -3,7 +3,7 @@ ghost use Rattle.std.specs.Prelude.{◌≡◌};
 ghost use Rattle.cq_table.specs.Checks.{fault_of};
 ghost use Rattle.cq_table.specs.declared.fault.TableFault.TheVariants.{Memory};
 
-use cq_binding::Fault;
+use cq_binder_rules::Fault;
 use std::alloc::{AllocError, AllocFailed};
 use thiserror::Error;
 

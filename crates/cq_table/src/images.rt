@@ -3,17 +3,17 @@ ghost use Rattle.std.specs.List.{AllByRecursion, list_any};
 ghost use Rattle.std.specs.Prelude.{◌≡◌, ◌<◌, IfOk, length, map};
 ghost use Rattle.cq_values.specs.Lent.{owned};
 ghost use Rattle.cq_values.specs.Value.{column};
-ghost use Rattle.cq_columns.specs.Stored.{stored_rows};
+ghost use Rattle.cq_table_columns.specs.Stored.{stored_rows};
 ghost use Rattle.cq_model.specs.Eval.{eval};
 ghost use Rattle.cq_model.specs.Width.{IsNarrowAt};
 ghost use Rattle.cq_model.specs.Write.{image_of};
-ghost use Rattle.cq_binding.specs.UpdateChecks.{is_null, is_outside, never_null};
+ghost use Rattle.cq_binder_rules.specs.UpdateChecks.{is_null, is_outside, never_null};
 ghost use Rattle.cq_table.specs.Checks.{AreNarrowSets, IsChecked, one_fault, values_fault};
 
 use crate::fault::TableFault;
-use cq_columns::StoredRow;
-use cq_eval::{eval_row, lend_column, narrow_is_exact};
 use cq_model::{Assignment, Expr};
+use cq_model_eval::{eval_row, lend_column, narrow_is_exact};
+use cq_table_columns::StoredRow;
 use cq_values::{ColumnDef, Lent, Row, Value};
 use std::alloc::{AllocError, Global};
 

@@ -1,20 +1,20 @@
 //! A table in memory.
 ghost use Rattle.std.specs.List.{AllByRecursion};
 ghost use Rattle.std.specs.Prelude.{◌++◌, ◌+◌, ◌≡◌, ◌<◌, ◌^◌, IfOk, OnErr, OnOk, length};
-ghost use Rattle.cq_bags.specs.Canonical.{bag_of};
-ghost use Rattle.cq_columns.specs.Stored.{all_rows, stored_rows};
+ghost use Rattle.cq_model_bags.specs.Canonical.{bag_of};
+ghost use Rattle.cq_table_columns.specs.Stored.{all_rows, stored_rows};
 ghost use Rattle.cq_model.specs.Width.{IsNarrowIn};
 ghost use Rattle.cq_model.specs.Write.{chosen, left_by};
-ghost use Rattle.cq_states.specs.Fitting.{FitsColumns};
+ghost use Rattle.cq_model_state.specs.Fitting.{FitsColumns};
 ghost use Rattle.cq_table.specs.Checks.{AreExchanged, CanWorkOut, IsChecked, no_room, too_many, value_fault};
 ghost use Rattle.cq_table.specs.Table.{IsSound, SameRows, limited_to, with_bag, without_rows};
 
 use crate::fault::TableFault;
 use crate::images::{check_values, copies, images};
-use cq_columns::{Stored, StoredRow};
 use cq_model::{Assignment, Cond};
-use cq_scans::{kept, kept_flags};
-use cq_store::Store;
+use cq_operators_scans::{kept, kept_flags};
+use cq_table_columns::{Stored, StoredRow};
+use cq_table_store::Store;
 use cq_values::{ColumnDef, Row, Seq};
 use std::alloc::{AllocError, Global};
 use std::marker::Model;

@@ -3,8 +3,8 @@ ghost use Rattle.std.specs.Prelude.{IfOk, OnOk, ◌++◌, ◌≡◌};
 ghost use Rattle.cq_vectors.specs.Batch.{row_at, rows_of};
 
 use crate::vector::Vector;
-use cq_masks::Selection;
 use cq_values::Row;
+use cq_vectors_masks::Selection;
 use std::alloc::{AllocError, Global};
 
 /// Columns of as many values as there are rows, and the places of the rows that still count.

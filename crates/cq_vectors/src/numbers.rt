@@ -10,8 +10,8 @@ ghost use Rattle.cq_values.specs.Value.{column as column_at};
 ghost use Rattle.cq_vectors.specs.Columns.{AllFit, ZeroWhere, number_unless};
 ghost use Rattle.cq_vectors.specs.Gathered.{IsNumber, column_of, lent_rows};
 
-use cq_masks::Plane;
 use cq_values::{Lent, Row, Value};
+use cq_vectors_masks::Plane;
 use std::alloc::{AllocError, Global};
 use std::marker::Model;
 

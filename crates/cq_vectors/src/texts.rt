@@ -9,8 +9,8 @@ ghost use Rattle.cq_values.specs.Value.{column as column_at};
 ghost use Rattle.cq_vectors.specs.Columns.{EmptyWhere, text_unless, texts_of};
 ghost use Rattle.cq_vectors.specs.Gathered.{IsText, column_of, lent_rows};
 
-use cq_masks::Plane;
 use cq_values::{Lent, Row, Value};
+use cq_vectors_masks::Plane;
 use std::alloc::{AllocError, Global};
 use std::marker::Model;
 

@@ -1,6 +1,6 @@
 use Rattle.std.proofs.Common.{◌≡◌, false, rules}
-use Rattle.cq_states.specs.State.{is_taken}
-use Rattle.cq_catalog.specs.Catalog.{alone}
+use Rattle.cq_model_state.specs.State.{is_taken}
+use Rattle.cq_binder_queries.specs.Catalog.{alone}
 use Rattle.cq_binder.proofs.Creating.{view_created}
 use Rattle.cq_binder.proofs.binding.bind_create_view.Goals as goal
 

@@ -1,11 +1,11 @@
 use Rattle.std.proofs.Common.{◌≡◌, ℕ, false, rules, List, [], map}
 use Rattle.std.proofs.lemmas.Result.{err_from_is_err_and}
-use Rattle.cq_binding.specs.Scopes.{place_in}
-use Rattle.cq_binding.specs.Refusal.{create_checks, sort_checks}
-use Rattle.cq_states.specs.State.{is_taken}
-use Rattle.cq_catalog.specs.Catalog.{alone}
+use Rattle.cq_binder_rules.specs.Scopes.{place_in}
+use Rattle.cq_binder_rules.specs.Refusal.{create_checks, sort_checks}
+use Rattle.cq_model_state.specs.State.{is_taken}
+use Rattle.cq_binder_queries.specs.Catalog.{alone}
 use Rattle.cq_binder.proofs.Creating.{columns_refused, length_refused, sort_decides}
-use Rattle.cq_catalog.proofs.Faults.{walked_same}
+use Rattle.cq_binder_queries.proofs.Faults.{walked_same}
 use Rattle.cq_binder.proofs.binding.check_create.Goals as goal
 
 pub returns-in_err-check_names : goal.returns-in_err-check_names

@@ -1,6 +1,6 @@
 use Rattle.std.proofs.Common.{◌∙◌, ap}
 use Rattle.std.specs.Prelude.{is_some}
-use Rattle.cq_catalog.proofs.Found.{has_place}
+use Rattle.cq_binder_queries.proofs.Found.{has_place}
 use Rattle.cq_binder.proofs.binding.is_view.Goals as goal
 
 pub returns : goal.returns

@@ -1,5 +1,5 @@
 use Rattle.std.proofs.Common.{true, false, sym, ◌∙◌, take}
-use Rattle.cq_catalog.proofs.Faults.{found, passed}
+use Rattle.cq_binder_queries.proofs.Faults.{found, passed}
 use Rattle.cq_binder.proofs.Sorting.{names_more, places_more, repeat_decides}
 use Rattle.cq_binder.proofs.columns.sort_columns.Goals as goal
 

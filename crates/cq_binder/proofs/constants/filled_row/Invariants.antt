@@ -1,7 +1,7 @@
 use Rattle.std.proofs.Common.{◌≡◌, take, drop}
-use Rattle.cq_binding.specs.Bound.{row_of}
-use Rattle.cq_binding.specs.Checks.{first_fault}
-use Rattle.cq_binding.specs.RowChecks.{constant_checks}
+use Rattle.cq_binder_rules.specs.Bound.{row_of}
+use Rattle.cq_binder_rules.specs.Checks.{first_fault}
+use Rattle.cq_binder_rules.specs.RowChecks.{constant_checks}
 use Rattle.cq_binder.proofs.constants.filled_row.Given as goal
 
 -- the values so far are those of the constants so far, and the constants that are left have the first fault of all

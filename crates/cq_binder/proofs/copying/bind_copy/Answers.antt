@@ -1,7 +1,7 @@
 use Rattle.std.proofs.Common.{◌≡◌, ap, rules}
 use Rattle.std.proofs.lemmas.Result.{err_from_is_err_and}
-use Rattle.cq_states.specs.State.{table_named}
-use Rattle.cq_catalog.proofs.Found.{table_absent, table_there}
+use Rattle.cq_model_state.specs.State.{table_named}
+use Rattle.cq_binder_queries.proofs.Found.{table_absent, table_there}
 use Rattle.cq_binder.proofs.CopiedFiles.{bad_file, copied, gave_nothing, named_too_long, unwritten_bound}
 use Rattle.cq_binder.proofs.copying.bind_copy.Goals as goal
 

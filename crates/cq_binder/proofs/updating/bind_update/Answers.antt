@@ -1,7 +1,7 @@
 use Rattle.std.proofs.Common.{ap, ◌∙◌}
 use Rattle.std.proofs.lemmas.Result.{err_from_is_err_and}
-use Rattle.cq_states.specs.State.{table_named}
-use Rattle.cq_catalog.proofs.Found.{table_there}
+use Rattle.cq_model_state.specs.State.{table_named}
+use Rattle.cq_binder_queries.proofs.Found.{table_there}
 use Rattle.cq_binder.proofs.Setting.{update_named, walk_decides, walk_refused}
 use Rattle.cq_binder.proofs.updating.bind_update.Goals as goal
 

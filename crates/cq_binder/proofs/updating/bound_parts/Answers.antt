@@ -1,7 +1,7 @@
 use Rattle.std.proofs.Common.{◌∙◌, ap, subst}
-use Rattle.cq_binding.specs.Scopes.{from_table, of_rows, source_columns}
-use Rattle.cq_binding.specs.Typing.{Scope}
-use Rattle.cq_catalog.specs.Catalog.{Heading}
+use Rattle.cq_binder_rules.specs.Scopes.{from_table, of_rows, source_columns}
+use Rattle.cq_binder_rules.specs.Typing.{Scope}
+use Rattle.cq_binder_queries.specs.Catalog.{Heading}
 use Rattle.cq_binder.specs.Update.{BindsUpdate}
 use Rattle.cq_binder.proofs.updating.bound_parts.Goals as goal
 

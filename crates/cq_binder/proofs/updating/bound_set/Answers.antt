@@ -2,11 +2,11 @@ use Rattle.std.proofs.Common.{◌≡◌, rules, sym, ap, ◌∙◌, subst, false
 use Rattle.std.specs.Prelude.{Ok, Err, Some}
 use Rattle.std.proofs.lemmas.Result.{err_from_is_err_and}
 use Rattle.cq_values.specs.declared.ty.Ty.{Ty}
-use Rattle.cq_binding.specs.Checks.{MayRefuse}
-use Rattle.cq_binding.specs.Places.{named_place}
-use Rattle.cq_binding.specs.Typing.{ScopeColumn, set_fault, typed}
-use Rattle.cq_binding.specs.UpdateChecks.{is_set}
-use Rattle.cq_exprs.specs.Expressions.{scope_of}
+use Rattle.cq_binder_rules.specs.Checks.{MayRefuse}
+use Rattle.cq_binder_rules.specs.Places.{named_place}
+use Rattle.cq_binder_rules.specs.Typing.{ScopeColumn, set_fault, typed}
+use Rattle.cq_binder_rules.specs.UpdateChecks.{is_set}
+use Rattle.cq_binder_expressions.specs.Expressions.{scope_of}
 use Rattle.cq_binder.proofs.Setting.{expression_refused, type_refused}
 use Rattle.cq_binder.proofs.updating.bound_set.Goals as goal
 

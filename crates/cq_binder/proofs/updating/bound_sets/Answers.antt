@@ -1,5 +1,5 @@
 use Rattle.std.proofs.lemmas.Result.{err_from_is_err_and}
-use Rattle.cq_exprs.specs.Expressions.{scope_of}
+use Rattle.cq_binder_expressions.specs.Expressions.{scope_of}
 use Rattle.cq_binder.proofs.Setting.{sets_refused}
 use Rattle.cq_binder.proofs.updating.bound_sets.Goals as goal
 

@@ -1,8 +1,8 @@
 use Rattle.std.proofs.Common.{[], ◌∷◌}
-use Rattle.cq_binding.specs.SourceChecks.{where_check}
-use Rattle.cq_binding.specs.UpdateChecks.{set_checks}
-use Rattle.cq_exprs.specs.Expressions.{scope_of}
-use Rattle.cq_catalog.proofs.Faults.{refused_back}
+use Rattle.cq_binder_rules.specs.SourceChecks.{where_check}
+use Rattle.cq_binder_rules.specs.UpdateChecks.{set_checks}
+use Rattle.cq_binder_expressions.specs.Expressions.{scope_of}
+use Rattle.cq_binder_queries.proofs.Faults.{refused_back}
 use Rattle.cq_binder.proofs.updating.set_parts.Goals as goal
 
 pub returns-in-Err : goal.returns-in-Err

@@ -1,8 +1,8 @@
 use Rattle.std.proofs.Common.{ap, ◌∙◌}
 use Rattle.std.proofs.lemmas.Result.{err_from_is_err_and}
-use Rattle.cq_states.specs.State.{table_named}
+use Rattle.cq_model_state.specs.State.{table_named}
 use Rattle.cq_binder.proofs.Deleting.{deleted, where_decides, where_refused}
-use Rattle.cq_catalog.proofs.Found.{table_there}
+use Rattle.cq_binder_queries.proofs.Found.{table_there}
 use Rattle.cq_binder.proofs.writing.bind_delete.Goals as goal
 
 pub returns-in_err-where_on : goal.returns-in_err-where_on

@@ -2,10 +2,10 @@ use Rattle.std.proofs.Common.{◌≡◌, ◌∙◌, ◌+◌, ◌++◌, ◌∷◌
 use Rattle.std.proofs.lemmas.List.{map-append, take_more}
 use Rattle.std.proofs.lemmas.Option.{get_or_from_slice_get, slice_get_within}
 use Rattle.std.proofs.lemmas.Result.{err_from_is_err_and}
-use Rattle.cq_language.specs.declared.statement.Constant.{Constant}
+use Rattle.cq_sql_language.specs.declared.statement.Constant.{Constant}
 use Rattle.cq_values.specs.Value.{Row}
-use Rattle.cq_binding.specs.Bound.{row_of}
-use Rattle.cq_catalog.proofs.Faults.{rows_more, passed, refused_first, refused_same}
+use Rattle.cq_binder_rules.specs.Bound.{row_of}
+use Rattle.cq_binder_queries.proofs.Faults.{rows_more, passed, refused_first, refused_same}
 use Rattle.cq_binder.proofs.writing.bound_rows.Goals as goal
 
 pub returns-in_err-bound_row : goal.returns-in_err-bound_row

@@ -1,8 +1,8 @@
 use Rattle.std.proofs.Common.{◌≡◌, map, take, drop}
 use Rattle.std.specs.List.{flat_map}
-use Rattle.cq_binding.specs.Bound.{row_of}
-use Rattle.cq_binding.specs.Checks.{first_fault}
-use Rattle.cq_binding.specs.RowChecks.{row_checks}
+use Rattle.cq_binder_rules.specs.Bound.{row_of}
+use Rattle.cq_binder_rules.specs.Checks.{first_fault}
+use Rattle.cq_binder_rules.specs.RowChecks.{row_checks}
 use Rattle.cq_binder.proofs.writing.bound_rows.Given as goal
 
 -- the rows so far are made, and those that are left have the first fault of all

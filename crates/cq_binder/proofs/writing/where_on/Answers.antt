@@ -1,8 +1,8 @@
 use Rattle.std.proofs.Common.{◌∙◌, ap, subst}
-use Rattle.cq_binding.specs.Scopes.{from_table, of_rows, source_columns}
-use Rattle.cq_binding.specs.Typing.{Scope}
-use Rattle.cq_catalog.specs.Catalog.{Heading}
-use Rattle.cq_queries.specs.Conditions.{BindsWhere}
+use Rattle.cq_binder_rules.specs.Scopes.{from_table, of_rows, source_columns}
+use Rattle.cq_binder_rules.specs.Typing.{Scope}
+use Rattle.cq_binder_queries.specs.Catalog.{Heading}
+use Rattle.cq_binder_queries.specs.Conditions.{BindsWhere}
 use Rattle.cq_binder.proofs.writing.where_on.Goals as goal
 
 pub returns : goal.returns

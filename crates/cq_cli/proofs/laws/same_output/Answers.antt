@@ -1,4 +1,4 @@
-use Rattle.cq_steps.proofs.Decided.{refusals_decide}
+use Rattle.cq_model_step.proofs.Decided.{refusals_decide}
 use Rattle.cq_cli.proofs.laws.same_output.Goals as goal
 
 pub returns : goal.returns

@@ -1,6 +1,6 @@
 use Rattle.std.proofs.Common.{rules, ◌≡◌, ◌++◌, ◌∷◌, [], codes}
 use Rattle.std.proofs.lemmas.Result.{err_from_is_err_and}
-use Rattle.cq_binding.specs.FaultText.{fault_text}
+use Rattle.cq_binder_rules.specs.FaultText.{fault_text}
 use Rattle.cq_cli.proofs.Writes.{wrote_then, prefix_of_more}
 use Rattle.cq_cli.proofs.printing.put_fault.Goals as goal
 

@@ -1,5 +1,5 @@
 use Rattle.std.proofs.Common.{rules}
-use Rattle.cq_steps.specs.Output.{sentence}
+use Rattle.cq_model_step.specs.Output.{sentence}
 use Rattle.cq_cli.proofs.running.answer.Goals as goal
 
 pub returns-in-Ok-clause-served : goal.returns-in-Ok-clause-served

@@ -1,6 +1,6 @@
 use Rattle.std.proofs.Common.{rules, arith, refl, subst, ◌∙◌}
-use Rattle.cq_steps.specs.Output.{Serves}
-use Rattle.cq_tokens.specs.Piece.{piece_of}
+use Rattle.cq_model_step.specs.Output.{Serves}
+use Rattle.cq_sql_tokens.specs.Piece.{piece_of}
 use Rattle.cq_cli.proofs.Runs.{cut_off, ends, has_reads, has_room, passes, serves, starts}
 use Rattle.cq_cli.proofs.Serving.{serves_piece}
 use Rattle.cq_cli.proofs.running.run_text.Goals as goal

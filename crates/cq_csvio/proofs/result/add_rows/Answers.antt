@@ -3,7 +3,7 @@ use Rattle.std.proofs.lemmas.Grind.{flat_map-append}
 use Rattle.std.proofs.lemmas.List.{append-nil}
 use Rattle.std.specs.List.{flat_map}
 use Rattle.cq_csvio.specs.Lines.{Holds}
-use Rattle.cq_printed.specs.Printed.{row_text}
+use Rattle.cq_values.specs.Printed.{row_text}
 use Rattle.cq_csvio.proofs.result.add_rows.Goals as goal
 
 pub loop-place-preserved : goal.loop-place-preserved

@@ -1,6 +1,6 @@
 use Rattle.std.proofs.Common.{◌++◌, [], ℕ, List, take}
 use Rattle.std.specs.List.{flat_map}
-use Rattle.cq_printed.specs.Printed.{row_text}
+use Rattle.cq_values.specs.Printed.{row_text}
 use Rattle.cq_csvio.specs.Lines.{Holds}
 use Rattle.cq_csvio.proofs.result.add_rows.Given as goal
 

@@ -2,7 +2,7 @@ use Rattle.std.proofs.Common.{rules, ◌≡◌, ◌∙◌, ◌++◌, ◌∷◌, 
 use Rattle.std.proofs.lemmas.List.{map-id}
 use Rattle.std.specs.Prelude.{codes}
 use Rattle.std.specs.Fmt.{decimal}
-use Rattle.cq_printed.specs.Printed.{line_text, rows_text}
+use Rattle.cq_values.specs.Printed.{line_text, rows_text}
 use Rattle.cq_csvio.proofs.result.print_result.Goals as goal
 
 pub returns : goal.returns

@@ -1,5 +1,5 @@
 use Rattle.std.proofs.Common.{◌≡◌, ◌++◌, map, take}
-use Rattle.cq_kept.specs.Kept.{shown_row}
+use Rattle.cq_views_model.specs.Kept.{shown_row}
 use Rattle.cq_deltas.specs.Kept.{seen}
 use Rattle.cq_deltas.specs.Shown.{AllCanBeShown}
 use Rattle.cq_deltas.proofs.group.shown_row.Given as goal

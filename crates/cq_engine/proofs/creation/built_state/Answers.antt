@@ -1,7 +1,7 @@
 use Rattle.std.proofs.Common.{ℕ, List, subst, sym}
 use Rattle.cq_model.specs.Views.{sources_of}
 use Rattle.cq_model.specs.declared.query.Query.{Query}
-use Rattle.cq_tables.specs.Views.{AreWide}
+use Rattle.cq_engine_tables.specs.Views.{AreWide}
 use Rattle.cq_engine.proofs.Entries.{can_start, stands_for_tables}
 use Rattle.cq_engine.proofs.TableColumns.{tables-there}
 use Rattle.cq_engine.proofs.creation.built_state.Goals as goal

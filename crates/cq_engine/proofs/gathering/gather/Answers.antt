@@ -1,5 +1,5 @@
 use Rattle.std.proofs.Common.{sym, ◌∙◌}
-use Rattle.cq_columns.specs.Stored.{all_rows}
+use Rattle.cq_table_columns.specs.Stored.{all_rows}
 use Rattle.cq_engine.proofs.Entries.{gathered_before, gathers_also, there_same}
 use Rattle.cq_engine.proofs.gathering.gather.Goals as goal
 

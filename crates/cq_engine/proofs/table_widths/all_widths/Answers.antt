@@ -4,7 +4,7 @@ use Rattle.std.proofs.lemmas.Slice.Zip.{all_zipped_more}
 use Rattle.std.specs.List.{AllZip}
 use Rattle.cq_model.specs.declared.query.Source.{Source}
 use Rattle.cq_model.specs.declared.query.Source.TheVariants.{Table}
-use Rattle.cq_tables.specs.Views.{IsWide}
+use Rattle.cq_engine_tables.specs.Views.{IsWide}
 use Rattle.cq_engine.proofs.TableColumns.{sum-more}
 use Rattle.cq_engine.proofs.table_widths.all_widths.Goals as goal
 

@@ -1,7 +1,7 @@
 use Rattle.std.proofs.Common.{◌≡◌, ◌<◌, ◌^◌, take}
 use Rattle.std.specs.Prelude.{sum}
 use Rattle.std.specs.List.{AllZip}
-use Rattle.cq_tables.specs.Views.{IsWide}
+use Rattle.cq_engine_tables.specs.Views.{IsWide}
 use Rattle.cq_engine.proofs.table_widths.all_widths.Given as goal
 
 -- the sources so far have these widths, and they are counted

@@ -2,7 +2,7 @@ use Rattle.std.proofs.Common.{length, sym, subst}
 use Rattle.cq_model.specs.declared.query.Source.{Source}
 use Rattle.cq_engine.proofs.TableColumns.{width-numbered}
 use Rattle.cq_engine.specs.TableWidths.{IsTableThere}
-use Rattle.cq_tables.specs.Views.{IsWide}
+use Rattle.cq_engine_tables.specs.Views.{IsWide}
 use Rattle.cq_engine.proofs.table_widths.width_of.Goals as goal
 
 -- the table at the place has the columns of its number

@@ -1,5 +1,5 @@
 use Rattle.std.proofs.Common.{◌++◌, ◌∙◌, refl}
-use Rattle.cq_columns.specs.Stored.{all_rows}
+use Rattle.cq_table_columns.specs.Stored.{all_rows}
 use Rattle.cq_plan.specs.Plan.{shown_by}
 use Rattle.cq_vectors.specs.Batch.{rows_of}
 use Rattle.cq_operators.proofs.Steps.{gave, plan-stays, shown-next, within-next}

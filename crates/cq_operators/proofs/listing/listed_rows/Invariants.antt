@@ -1,9 +1,9 @@
 use Rattle.std.proofs.Common.{◌≡◌, ◌++◌, List, length}
 use Rattle.std.specs.List.{AllByRecursion}
-use Rattle.cq_columns.specs.Stored.{all_rows}
+use Rattle.cq_table_columns.specs.Stored.{all_rows}
 use Rattle.cq_values.specs.Value.{Row}
 use Rattle.cq_plan.specs.Plan.{IsWithin, shown_by}
-use Rattle.cq_listing.specs.Stored.{CanList}
+use Rattle.cq_operators_listing.specs.Stored.{CanList}
 use Rattle.cq_operators.proofs.listing.listed_rows.Given as goal
 
 -- what the list stands for and what the plan shows of the rows that remain make up all

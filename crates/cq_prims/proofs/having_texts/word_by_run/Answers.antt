@@ -1,6 +1,6 @@
 use Rattle.std.proofs.Common.{subst}
 use Rattle.cq_vectors.specs.Columns.{texts_of}
-use Rattle.cq_patterns.specs.Patterns.{FindsInEach}
+use Rattle.cq_prims_like.specs.Patterns.{FindsInEach}
 use Rattle.cq_prims.proofs.having_texts.word_by_run.Goals as goal
 
 pub invariant_of-test : goal.invariant_of-test

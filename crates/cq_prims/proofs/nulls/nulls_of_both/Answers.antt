@@ -1,6 +1,6 @@
 use Rattle.std.proofs.Common.{◌∙◌, ap, ap₂, length}
 use lib.Lanes.{zip2}
-use Rattle.cq_masks.specs.Plane.{either}
+use Rattle.cq_vectors_masks.specs.Plane.{either}
 use Rattle.cq_prims.proofs.NullLemmas.{left_nulls, length_either, right_nulls}
 use Rattle.cq_prims.proofs.nulls.nulls_of_both.Goals as goal
 

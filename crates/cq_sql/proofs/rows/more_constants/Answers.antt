@@ -1,8 +1,8 @@
 use Rattle.std.proofs.Common.{◌-◌, ◌∷◌, length, arith, refl, sym, ◌∙◌}
 use Rattle.std.proofs.lemmas.Result.{err_from_is_err_and}
-use Rattle.cq_language.specs.declared.token.Token.TheVariants as signs
-use Rattle.cq_language.proofs.Cuts.{onto_last-len}
-use Rattle.cq_reader.proofs.Chains.{runs_out}
+use Rattle.cq_sql_language.specs.declared.token.Token.TheVariants as signs
+use Rattle.cq_sql_language.proofs.Cuts.{onto_last-len}
+use Rattle.cq_sql_expressions.proofs.Chains.{runs_out}
 use Rattle.cq_sql.specs.Rows.{constant_led, last_row_at}
 use Rattle.cq_sql.proofs.ConstantReads.{whole_number_read}
 use Rattle.cq_sql.proofs.RowReads.{constant_goes_on, constant_fails, constants_stop}

@@ -1,5 +1,5 @@
 use Rattle.std.proofs.Common.{◌≡◌, ◌<◌, ◌-◌, length}
-use Rattle.cq_reader.specs.Lists.{chain_from}
+use Rattle.cq_sql_expressions.specs.Lists.{chain_from}
 use Rattle.cq_sql.specs.Rows.{constant_led, last_row_at}
 use Rattle.cq_sql.proofs.rows.more_constants.Given as goal
 

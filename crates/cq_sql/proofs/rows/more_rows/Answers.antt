@@ -1,9 +1,9 @@
 use Rattle.std.proofs.Common.{◌-◌, length, arith, sym, ◌∙◌}
 use Rattle.std.proofs.lemmas.Result.{err_from_is_err_and}
-use Rattle.cq_reader.specs.declared.leads.Lead.TheVariants as leads
-use Rattle.cq_reader.specs.Lists.{led}
-use Rattle.cq_reader.proofs.Chains.{runs_out}
-use Rattle.cq_reader.proofs.Turns.{entries_stop}
+use Rattle.cq_sql_expressions.specs.declared.leads.Lead.TheVariants as leads
+use Rattle.cq_sql_expressions.specs.Lists.{led}
+use Rattle.cq_sql_expressions.proofs.Chains.{runs_out}
+use Rattle.cq_sql_expressions.proofs.Turns.{entries_stop}
 use Rattle.cq_sql.specs.Parts.{row_at}
 use Rattle.cq_sql.specs.Rows.{more_rows_at}
 use Rattle.cq_sql.proofs.RowReads.{row_goes_on, row_fails}

@@ -1,6 +1,6 @@
 use Rattle.std.proofs.Common.{◌≡◌, ◌-◌}
-use Rattle.cq_reader.specs.declared.leads.Lead.TheVariants as leads
-use Rattle.cq_reader.specs.Lists.{chain_from, led}
+use Rattle.cq_sql_expressions.specs.declared.leads.Lead.TheVariants as leads
+use Rattle.cq_sql_expressions.specs.Lists.{chain_from, led}
 use Rattle.cq_sql.specs.Parts.{row_at}
 use Rattle.cq_sql.specs.Rows.{more_rows_at}
 use Rattle.cq_sql.proofs.rows.more_rows.Given as goal

@@ -1,9 +1,9 @@
 use Rattle.std.proofs.Common.{◌≡◌, ◌∙◌, List, sym, ap, subst, false}
 use Rattle.std.specs.Prelude.{IfOk}
-use Rattle.cq_language.specs.declared.statement.Statement.{Statement}
-use Rattle.cq_language.specs.declared.token.Token.{Token}
-use Rattle.cq_language.specs.Sentence.{IsStatement}
-use Rattle.cq_language.specs.Tokens.{is_past_limits}
+use Rattle.cq_sql_language.specs.declared.statement.Statement.{Statement}
+use Rattle.cq_sql_language.specs.declared.token.Token.{Token}
+use Rattle.cq_sql_language.specs.Sentence.{IsStatement}
+use Rattle.cq_sql_language.specs.Tokens.{is_past_limits}
 use Rattle.cq_sql.proofs.Decided.{no_tokens, decided}
 use Rattle.cq_sql.proofs.sentences.parse.Goals as goal
 

@@ -1,7 +1,7 @@
 use Rattle.std.proofs.Common.{◌≡◌, drop}
 use Rattle.std.specs.List.{flat_map}
-use Rattle.cq_binding.specs.Checks.{first_fault}
-use Rattle.cq_binding.specs.UpdateChecks.{value_checks}
+use Rattle.cq_binder_rules.specs.Checks.{first_fault}
+use Rattle.cq_binder_rules.specs.UpdateChecks.{value_checks}
 use Rattle.cq_table.proofs.images.check_values.Given as goal
 
 -- the assignments that are left have the first fault of all

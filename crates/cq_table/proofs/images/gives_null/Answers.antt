@@ -1,6 +1,6 @@
 use Rattle.std.proofs.Common.{◌≡◌, true, sym, ap, ◌∙◌}
 use Rattle.cq_model.specs.Eval.{eval}
-use Rattle.cq_binding.specs.UpdateChecks.{is_null}
+use Rattle.cq_binder_rules.specs.UpdateChecks.{is_null}
 use Rattle.cq_table.proofs.Setting.{any_at}
 use Rattle.cq_table.proofs.images.gives_null.Goals as goal
 

@@ -1,7 +1,7 @@
 use Rattle.std.proofs.Common.{◌≡◌, false, take}
 use Rattle.std.specs.List.{list_any}
 use Rattle.cq_model.specs.Eval.{eval}
-use Rattle.cq_binding.specs.UpdateChecks.{is_outside}
+use Rattle.cq_binder_rules.specs.UpdateChecks.{is_outside}
 use Rattle.cq_table.proofs.images.gives_outside.Given as goal
 
 -- none of the rows so far has such a value

@@ -1,5 +1,5 @@
 use Rattle.std.proofs.Common.{◌≡◌, [], map, take}
-use Rattle.cq_kept.specs.Kept.{kept_of}
+use Rattle.cq_views_model.specs.Kept.{kept_of}
 use Rattle.cq_deltas.specs.Kept.{seen}
 use Rattle.cq_deltas.proofs.group.Group.empty.Given as goal
 

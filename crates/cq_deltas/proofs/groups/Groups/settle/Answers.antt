@@ -1,6 +1,6 @@
 use Rattle.std.proofs.Common.{◌≡◌, ◌∙◌, Some, ap, sym, int_eq, pos, slice_get, rules}
 use Rattle.std.specs.Map.{values_of}
-use Rattle.cq_kept.specs.Kept.{Group as Seen}
+use Rattle.cq_views_model.specs.Kept.{Group as Seen}
 use Rattle.cq_deltas.proofs.AtKeys.{is_without_rows, over-same, settled-already}
 use Rattle.cq_deltas.proofs.Places.{held-there, over-keys, writes}
 use Rattle.cq_deltas.proofs.groups.Groups.settle.Goals as goal

@@ -1,9 +1,9 @@
 use Rattle.std.proofs.Common.{Some, sym, ap, ◌∙◌}
 use Rattle.std.specs.Prelude.{option_map}
 use Rattle.cq_model.specs.declared.query.Query.{Query}
-use Rattle.cq_tables.specs.Views.{NamedView, view_of, views_of}
+use Rattle.cq_engine_tables.specs.Views.{NamedView, view_of, views_of}
 use Rattle.cq_engine.proofs.Kept.{view_absent}
-use Rattle.cq_tables.proofs.Named.{view_there}
+use Rattle.cq_engine_tables.proofs.Named.{view_there}
 use Rattle.cq_engine.proofs.catalog.EngineCatalog.query.Goals as goal
 
 pub returns-in_err-place : goal.returns-in_err-place

@@ -3,11 +3,11 @@ use Rattle.cq_model.specs.declared.query.Query.{Query}
 use Rattle.cq_model.specs.Views.{sources_of}
 use Rattle.std.specs.Prelude.{option_map, unwrap_or}
 use Rattle.cq_model.specs.declared.query.Source.TheVariants.{View}
-use Rattle.cq_binding.specs.Scopes.{from_view}
-use Rattle.cq_states.specs.State.{view_place}
-use Rattle.cq_tables.specs.Views.{NamedView, view_of, views_of}
+use Rattle.cq_binder_rules.specs.Scopes.{from_view}
+use Rattle.cq_model_state.specs.State.{view_place}
+use Rattle.cq_engine_tables.specs.Views.{NamedView, view_of, views_of}
 use Rattle.cq_engine.proofs.Kept.{view_absent}
-use Rattle.cq_tables.proofs.Named.{view_there}
+use Rattle.cq_engine_tables.proofs.Named.{view_there}
 use Rattle.cq_engine.proofs.catalog.EngineCatalogCatalog.view.Goals as goal
 
 pub returns-in_default : goal.returns-in_default

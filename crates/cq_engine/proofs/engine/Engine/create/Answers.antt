@@ -1,11 +1,11 @@
 use Rattle.std.proofs.Common.{◌≤◌, length, arith, refl}
-use Rattle.cq_states.specs.Fitting.{IsFitting}
-use Rattle.cq_states.specs.State.{empty_table}
-use Rattle.cq_tables.specs.Views.{views_of}
+use Rattle.cq_model_state.specs.Fitting.{IsFitting}
+use Rattle.cq_model_state.specs.State.{empty_table}
+use Rattle.cq_engine_tables.specs.Views.{views_of}
 use Rattle.cq_engine.proofs.Kept.{all_at, right_everywhere}
-use Rattle.cq_tables.proofs.Numbers.{numbered-behind}
-use Rattle.cq_tables.proofs.Rows.{all_behind, rows_before}
-use Rattle.cq_tables.proofs.Wide.{keep-behind}
+use Rattle.cq_engine_tables.proofs.Numbers.{numbered-behind}
+use Rattle.cq_engine_tables.proofs.Rows.{all_behind, rows_before}
+use Rattle.cq_engine_tables.proofs.Wide.{keep-behind}
 use Rattle.cq_engine.proofs.Steps.{create_done}
 use Rattle.cq_engine.proofs.engine.Engine.create.Goals as goal
 

@@ -1,6 +1,6 @@
 use Rattle.std.proofs.Common.{◌^◌, refl}
-use Rattle.cq_tables.specs.Views.{views_of}
-use Rattle.cq_tables.proofs.Rows.{bounded_more}
+use Rattle.cq_engine_tables.specs.Views.{views_of}
+use Rattle.cq_engine_tables.proofs.Rows.{bounded_more}
 use Rattle.cq_engine.proofs.Kept.{all_at}
 use Rattle.cq_engine.proofs.Steps.{create_view_done}
 use Rattle.cq_engine.proofs.engine.Engine.create_view.Goals as goal

@@ -1,13 +1,13 @@
 use Rattle.std.proofs.Common.{◌+◌, ◌^◌, arith, inl, refl}
 use Rattle.std.proofs.lemmas.Result.{err_from_is_err_and}
 use Rattle.cq_model.specs.Write.{left_by}
-use Rattle.cq_states.specs.State.{rows_in}
-use Rattle.cq_tables.specs.Views.{views_of}
+use Rattle.cq_model_state.specs.State.{rows_in}
+use Rattle.cq_engine_tables.specs.Views.{views_of}
 use Rattle.cq_engine.proofs.Kept.{all_at, all_right_same, unchanged}
-use Rattle.cq_tables.proofs.Numbers.{numbered-later, numbered-with_rows}
-use Rattle.cq_tables.proofs.Rows.{bounded_more}
+use Rattle.cq_engine_tables.proofs.Numbers.{numbered-later, numbered-with_rows}
+use Rattle.cq_engine_tables.proofs.Rows.{bounded_more}
 use Rattle.cq_engine.proofs.Steps.{delete_done}
-use Rattle.cq_writes.proofs.Written.{left_bounded, left_fit}
+use Rattle.cq_engine_writes.proofs.Written.{left_bounded, left_fit}
 use Rattle.cq_engine.proofs.engine.Engine.delete.Goals as goal
 
 pub delete_in-deleted-requires-clause-limited : goal.delete_in-deleted-requires-clause-limited

@@ -1,10 +1,10 @@
 use Rattle.std.proofs.Common.{◌≡◌, ◌≤◌, false, length, refl}
-use Rattle.cq_binding.specs.Refusal.{is_used}
-use Rattle.cq_states.specs.Fitting.{IsFitting}
-use Rattle.cq_tables.specs.Views.{views_of}
+use Rattle.cq_binder_rules.specs.Refusal.{is_used}
+use Rattle.cq_model_state.specs.Fitting.{IsFitting}
+use Rattle.cq_engine_tables.specs.Views.{views_of}
 use Rattle.cq_engine.proofs.Kept.{all_at, right_dropped}
-use Rattle.cq_tables.proofs.Numbers.{numbered-others}
-use Rattle.cq_tables.proofs.Rows.{all_left}
+use Rattle.cq_engine_tables.proofs.Numbers.{numbered-others}
+use Rattle.cq_engine_tables.proofs.Rows.{all_left}
 use Rattle.cq_engine.proofs.Steps.{drop_done}
 use Rattle.cq_engine.proofs.engine.Engine.drop_table.Goals as goal
 

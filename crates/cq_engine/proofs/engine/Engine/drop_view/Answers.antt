@@ -1,7 +1,7 @@
 use Rattle.std.proofs.Common.{refl, sym, ap, ◌∙◌}
-use Rattle.cq_tables.specs.Views.{view_of, views_of}
+use Rattle.cq_engine_tables.specs.Views.{view_of, views_of}
 use Rattle.cq_engine.proofs.Kept.{all_at}
-use Rattle.cq_tables.proofs.Named.{remove-map, right_without}
+use Rattle.cq_engine_tables.proofs.Named.{remove-map, right_without}
 use Rattle.cq_engine.proofs.Steps.{drop_view_done}
 use Rattle.cq_engine.proofs.engine.Engine.drop_view.Goals as goal
 

@@ -1,12 +1,12 @@
 use Rattle.std.proofs.Common.{◌+◌, ◌++◌, ◌^◌, arith, inl}
 use Rattle.std.proofs.lemmas.Result.{err_from_is_err_and}
-use Rattle.cq_states.specs.State.{rows_in}
-use Rattle.cq_tables.specs.Views.{views_of}
+use Rattle.cq_model_state.specs.State.{rows_in}
+use Rattle.cq_engine_tables.specs.Views.{views_of}
 use Rattle.cq_engine.proofs.Kept.{all_at, all_right_same, unchanged}
-use Rattle.cq_tables.proofs.Numbers.{numbered-later, numbered-with_rows}
-use Rattle.cq_tables.proofs.Rows.{bounded_more}
+use Rattle.cq_engine_tables.proofs.Numbers.{numbered-later, numbered-with_rows}
+use Rattle.cq_engine_tables.proofs.Rows.{bounded_more}
 use Rattle.cq_engine.proofs.Steps.{insert_done}
-use Rattle.cq_writes.proofs.Written.{inserted_bounded, inserted_fit}
+use Rattle.cq_engine_writes.proofs.Written.{inserted_bounded, inserted_fit}
 use Rattle.cq_engine.proofs.engine.Engine.insert.Goals as goal
 
 pub insert_in-requires-clause-limited : goal.insert_in-requires-clause-limited

@@ -1,5 +1,5 @@
 use Rattle.std.proofs.Common.{refl}
-use Rattle.cq_tables.specs.Views.{views_of}
+use Rattle.cq_engine_tables.specs.Views.{views_of}
 use Rattle.cq_engine.proofs.Kept.{all_at}
 use Rattle.cq_engine.proofs.Steps.{merge_done}
 use Rattle.cq_engine.proofs.engine.Engine.merge.Goals as goal

@@ -1,8 +1,8 @@
 use Rattle.std.proofs.Common.{◌^◌, refl}
 use Rattle.std.proofs.lemmas.Result.{err_from_is_err_and}
-use Rattle.cq_tables.specs.Views.{views_of}
+use Rattle.cq_engine_tables.specs.Views.{views_of}
 use Rattle.cq_engine.proofs.Kept.{all_at}
-use Rattle.cq_tables.proofs.Rows.{bounded_more}
+use Rattle.cq_engine_tables.proofs.Rows.{bounded_more}
 use Rattle.cq_engine.proofs.Steps.{select_done, select_refused}
 use Rattle.cq_engine.proofs.engine.Engine.select.Goals as goal
 

@@ -1,7 +1,7 @@
 use Rattle.std.proofs.Common.{sym, ap, ◌∙◌}
 use Rattle.std.specs.Prelude.{option_map}
-use Rattle.cq_tables.specs.Views.{views_of}
-use Rattle.cq_tables.proofs.Named.{epoch_there}
+use Rattle.cq_engine_tables.specs.Views.{views_of}
+use Rattle.cq_engine_tables.proofs.Named.{epoch_there}
 use Rattle.cq_engine.proofs.Kept.{view_absent}
 use Rattle.cq_engine.proofs.engine.Engine.view_epoch.Goals as goal
 

@@ -4,7 +4,7 @@ use Rattle.std.specs.Str.{chars}
 use Rattle.std.proofs.lemmas.Option.{IfSome_then}
 use Rattle.cq_model.specs.Like.{like}
 use Rattle.cq_vectors.specs.Columns.{texts_of}
-use Rattle.cq_patterns.specs.Patterns.{answers_of}
+use Rattle.cq_prims_like.specs.Patterns.{answers_of}
 use Rattle.cq_prims.proofs.Liked.{places_behind}
 use Rattle.cq_prims.proofs.fits_texts.FitsTexts.word_by_run.Goals as goal
 

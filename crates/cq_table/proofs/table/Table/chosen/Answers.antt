@@ -3,8 +3,8 @@ use Rattle.std.specs.Prelude.{filter}
 use Rattle.std.specs.List.{AllByRecursion}
 use Rattle.std.proofs.lemmas.Result.{IfOk-weaker}
 use Rattle.cq_values.specs.Value.{Row}
-use Rattle.cq_bags.specs.Canonical.{bag_of}
-use Rattle.cq_bags.proofs.Canonicals.{length-bag_of}
+use Rattle.cq_model_bags.specs.Canonical.{bag_of}
+use Rattle.cq_model_bags.proofs.Canonicals.{length-bag_of}
 use Rattle.cq_model.specs.Meaning.{keeps}
 use Rattle.cq_model.specs.Width.{IsNarrowIn}
 use Rattle.cq_table.specs.Table.{StoredTable}

@@ -1,7 +1,7 @@
 use Rattle.std.proofs.Common.{refl, sym, arith, subst, ◌∙◌}
 use Rattle.std.specs.List.{AllByRecursion}
-use Rattle.cq_bags.specs.Canonical.{bag_of}
-use Rattle.cq_columns.specs.Stored.{all_rows}
+use Rattle.cq_model_bags.specs.Canonical.{bag_of}
+use Rattle.cq_table_columns.specs.Stored.{all_rows}
 use Rattle.cq_model.specs.Meaning.{keeps}
 use Rattle.cq_table.specs.Table.{StoredTable}
 use Rattle.cq_model.specs.Width.{IsNarrowIn}

@@ -1,8 +1,8 @@
 use Rattle.std.proofs.Common.{◌≡◌, ◌+◌, None, length, subst, arith}
 use Rattle.std.proofs.lemmas.Result.{err_from_is_err_and}
-use Rattle.cq_bags.specs.Canonical.{bag_of}
-use Rattle.cq_bags.proofs.Canonicals.{length-bag_of}
-use Rattle.cq_binding.specs.Checks.{MayRefuse}
+use Rattle.cq_model_bags.specs.Canonical.{bag_of}
+use Rattle.cq_model_bags.proofs.Canonicals.{length-bag_of}
+use Rattle.cq_binder_rules.specs.Checks.{MayRefuse}
 use Rattle.cq_table.specs.Checks.{fault_of, too_many}
 use Rattle.cq_table.proofs.table.Table.limit.Goals as goal
 

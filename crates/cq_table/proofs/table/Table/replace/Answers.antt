@@ -1,9 +1,9 @@
 use Rattle.std.proofs.Common.{refl, sym, subst, ◌++◌, ◌∙◌}
 use Rattle.std.specs.List.{AllByRecursion}
 use Rattle.std.proofs.lemmas.Result.{on_ok_weaker}
-use Rattle.cq_bags.specs.Canonical.{bag_of}
-use Rattle.cq_columns.specs.Stored.{all_rows}
-use Rattle.cq_store.specs.Without.{without}
+use Rattle.cq_model_bags.specs.Canonical.{bag_of}
+use Rattle.cq_table_columns.specs.Stored.{all_rows}
+use Rattle.cq_table_store.specs.Without.{without}
 use Rattle.cq_model.specs.Meaning.{keeps}
 use Rattle.cq_model.specs.Width.{IsNarrowIn}
 use Rattle.cq_table.specs.Table.{AreSound, StoredTable}

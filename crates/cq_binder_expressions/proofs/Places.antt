@@ -1,0 +1,259 @@
+-- What a chain of nodes comes to with places for names, behind the aggregates before it.
+use Rattle.std.proofs.Common.{arith, Bool, ◌≡◌, ◌⊎◌, inl, inr, ◌<◌, ◌++◌, List, [], ◌∷◌, map, length, refl, sym, ◌∙◌, ap, ap₂, subst, Box, Vec, Global}
+use Rattle.std.proofs.lemmas.List.{append-nil, nil_from_length}
+use Rattle.std.specs.List.{fold}
+use Rattle.cq_values.specs.declared.value.Value.TheVariants as values
+use Rattle.cq_sql_language.specs.declared.written.ExprNode.{ExprNode}
+use Rattle.cq_sql_language.specs.declared.written.ExprNode.TheOpen as node
+use Rattle.cq_sql_language.specs.declared.written.ExprNode.TheViews as nodes
+use Rattle.cq_sql_language.specs.declared.written.ExprNode.TheFolds.{fold-roll-ExprNode}
+use Rattle.cq_sql_language.specs.declared.written.ExprNode.TheVariants.{rolls-And, rolls-In, rolls-Or, rolls-Product, rolls-Sum}
+use Rattle.cq_sql_language.specs.declared.written.Sign.{Sign}
+use Rattle.cq_sql_language.specs.declared.written.Sign.TheVariants as signs
+use Rattle.cq_sql_language.specs.Written.{Written, choices, signed, terms, written, written_step, Times, And, In, Or}
+use Rattle.cq_model.specs.declared.expr.CondTree.{CondTree}
+use Rattle.cq_model.specs.declared.expr.CondTree.TheFolds.{fold-roll-CondTree}
+use Rattle.cq_model.specs.declared.expr.CondTree.TheOpen as cond_node
+use Rattle.cq_model.specs.declared.expr.CondTree.TheVariants as conds
+use Rattle.cq_model.specs.declared.expr.CondTree.TheViews as cond_view
+use Rattle.cq_model.specs.declared.expr.ExprTree.{ExprTree}
+use Rattle.cq_model.specs.declared.expr.ExprTree.TheViews as view
+use Rattle.cq_model.specs.declared.query.Aggregate.{Aggregate}
+use Rattle.cq_model.specs.Expr.{Cond, Expr}
+use Rattle.cq_model.specs.Expr as placed
+use Rattle.cq_model.specs.Trees.{cond_of, cond_step, expr_of}
+use Rattle.cq_binder_rules.specs.Placed.{placed_cond, placed_expr, placed_exprs, turned, with_aggregates, with_choices}
+use Rattle.cq_binder_rules.specs.Typing.{Scope}
+use Rattle.cq_model_eval.proofs.Trees.{tree-And, tree-Or, tree-Product, tree-Sum}
+use Rattle.cq_binder_expressions.specs.declared.placing.Tree.{Tree}
+use Rattle.cq_binder_expressions.specs.declared.placing.Tree.TheVariants.{Condition, Value}
+use Rattle.cq_binder_expressions.specs.Nodes.{AreConditions, AreTerms, AreValues, IsPlaced, condition_in, value_in, with_nodes}
+use Rattle.cq_binder_expressions.specs.Terms.{each_placed, later_terms, with_terms}
+
+module _ (first : Box ExprNode Global) (rest : Vec ExprNode Global) where
+  pub written-Product : written (nodes.Product first rest) ≡ fold Times (written first.value) (map written rest.items)
+  written-Product = ap written (sym (rolls-Product first rest)) ∙ fold-roll-ExprNode Written written_step (node.Product first rest)
+
+  pub written-Sum : (ss : Vec Sign Global) → written (nodes.Sum first ss rest) ≡ terms (written first.value) ss.items (map written rest.items)
+  written-Sum ss = ap written (sym (rolls-Sum first ss rest)) ∙ fold-roll-ExprNode Written written_step (node.Sum first ss rest)
+
+  pub written-And : written (nodes.And first rest) ≡ fold And (written first.value) (map written rest.items)
+  written-And = ap written (sym (rolls-And first rest)) ∙ fold-roll-ExprNode Written written_step (node.And first rest)
+
+  pub written-Or : written (nodes.Or first rest) ≡ fold Or (written first.value) (map written rest.items)
+  written-Or = ap written (sym (rolls-Or first rest)) ∙ fold-roll-ExprNode Written written_step (node.Or first rest)
+
+pub written-In : (negated : Bool) (value : Box ExprNode Global) (among : Vec ExprNode Global) → written (nodes.In negated value among) ≡ In negated (written value.value) (choices (map written among.items))
+written-In negated value among = ap written (sym (rolls-In negated value among)) ∙ fold-roll-ExprNode Written written_step (node.In negated value among)
+
+-- a condition tree of IN
+tree-In : (e : ExprTree) (es : Vec ExprTree Global) → cond_of (conds.In e es) ≡ placed.In (expr_of e) (map expr_of es.items)
+tree-In e es = ap cond_of (sym (conds.rolls-In e es)) ∙ fold-roll-CondTree Cond cond_step (cond_node.In e es)
+
+module _ (join : Written → Written → Written) where
+  -- what holds of every join of two parts holds of a chain of two or more
+  joined : (P : Written → Type 0) → ((a b : Written) → P (join a b)) → (a b : Written) (ws : List Written) → P (fold join (join a b) ws)
+  joined P each a b [] = each a b
+  joined P each a b (w ∷ ws) = joined P each (join a b) w ws
+
+  -- and so of a chain with a later part
+  several : (P : Written → Type 0) → ((a b : Written) → P (join a b)) → (a : Written) (ns : List ExprNode) → 0 < length ns → P (fold join a (map written ns))
+  several P each a [] some = absurd (omega (arith, some))
+  several P each a (n ∷ ns) some = joined P each a (written n) (map written ns)
+
+module _ (s : Scope) where
+  -- the list behind IN, entry by entry
+  placed_choices : (before : List Aggregate) (ws : List Written) → placed_exprs s before (choices ws) ≡ each_placed placed_expr s before ws
+  placed_choices before [] = refl
+  placed_choices before (w ∷ ws) = ap (λ (es : List Expr). placed_expr s before w ∷ es) (placed_choices (with_aggregates s before w) ws)
+
+  -- and the aggregates in it
+  chosen : (before : List Aggregate) (ws : List Written) → with_choices s before (choices ws) ≡ fold (with_aggregates s) before ws
+  chosen before [] = refl
+  chosen before (w ∷ ws) = chosen (with_aggregates s before w) ws
+
+module _ (s : Scope) (before : List Aggregate) where
+  -- the aggregates of a chain are those of its parts
+  with_chain : (join : Written → Written → Written) → ((a b : Written) → with_aggregates s before (join a b) ≡ with_aggregates s (with_aggregates s before a) b) → (w : Written) (ws : List Written)
+      → with_aggregates s before (fold join w ws) ≡ fold (with_aggregates s) (with_aggregates s before w) ws
+  with_chain join joins w [] = refl
+  with_chain join joins w (v ∷ ws) = with_chain join joins (join w v) ws ∙ ap (λ (b : List Aggregate). fold (with_aggregates s) b ws) (joins w v)
+
+  -- the parts of a chain, each behind the aggregates of those before it
+  chain : {X : Type 0} (put : Scope → List Aggregate → Written → X) (join : Written → Written → Written) (on : X → X → X)
+      → ((a b : Written) → put s before (join a b) ≡ on (put s before a) (put s (with_aggregates s before a) b)) → ((a b : Written) → with_aggregates s before (join a b) ≡ with_aggregates s (with_aggregates s before a) b)
+      → (w : Written) (ws : List Written) → put s before (fold join w ws) ≡ fold on (put s before w) (each_placed put s (with_aggregates s before w) ws)
+  chain put join on puts joins w [] = refl
+  chain {X = X} put join on puts joins w (v ∷ ws) =
+      chain put join on puts joins (join w v) ws ∙ ap₂ (λ (x : X) (b : List Aggregate). fold on x (each_placed put s b ws)) (puts w v) (joins w v)
+
+  -- the aggregates of a sum are those of its terms
+  with_sum : (w : Written) (ss : List Sign) (ws : List Written) → with_aggregates s before (terms w ss ws) ≡ with_terms s (with_aggregates s before w) ss ws
+  with_sum w [] ws = refl
+  with_sum w (x ∷ ss) [] = refl
+  with_sum w (signs.Plus ∷ ss) (v ∷ ws) = with_sum _ ss ws
+  with_sum w (signs.Minus ∷ ss) (v ∷ ws) = with_sum _ ss ws
+
+  -- a sum is the first term and the later ones
+  placed-terms : (w : Written) (ss : List Sign) (ws : List Written) → placed_expr s before (terms w ss ws) ≡ fold placed.Plus (placed_expr s before w) (later_terms s (with_aggregates s before w) ss ws)
+  placed-terms w [] ws = refl
+  placed-terms w (x ∷ ss) [] = refl
+  placed-terms w (signs.Plus ∷ ss) (v ∷ ws) = placed-terms _ ss ws
+  placed-terms w (signs.Minus ∷ ss) (v ∷ ws) = placed-terms _ ss ws
+
+  -- what is no condition
+  abbrev IsTested : Written → Type 0
+  IsTested w = placed_cond s before w ≡ placed.IsNull (placed_expr s before w)
+
+  -- what is no value
+  abbrev IsUnvalued : Written → Type 0
+  IsUnvalued w = placed_expr s before w ≡ placed.Literal values.Null
+
+  sign_tested : (x : Sign) (a b : Written) → IsTested (signed x a b)
+  sign_tested signs.Plus a b = refl
+  sign_tested signs.Minus a b = refl
+
+  sum_tested : (a : Written) (ss : List Sign) (ws : List Written) → IsTested a → IsTested (terms a ss ws)
+  sum_tested a [] ws is = is
+  sum_tested a (x ∷ ss) [] is = is
+  sum_tested a (x ∷ ss) (w ∷ ws) is = sum_tested (signed x a w) ss ws (sign_tested x a w)
+
+  -- a sum of several terms is a value
+  several_terms : (a : Written) (ss : List Sign) (ns : List ExprNode) → 0 < length ss → 0 < length ns → IsTested (terms a ss (map written ns))
+  several_terms a [] ns some more = absurd (omega (arith, some))
+  several_terms a (x ∷ ss) [] some more = absurd (omega (arith, more))
+  several_terms a (x ∷ ss) (n ∷ ns) some more = sum_tested (signed x a (written n)) ss (map written ns) (sign_tested x a (written n))
+
+  -- what is written in another way is placed as it is
+  pub placed_as : (v w : Written) (tree : Tree) (after : List Aggregate) → w ≡ v → IsPlaced s before v tree after → IsPlaced s before w tree after
+  placed_as v w tree after same is = subst (λ (u : Written). IsPlaced s before u tree after) (sym same) is
+
+-- a chain of one part is that part
+pub alone : (n : ExprNode) (first : Box ExprNode Global) (rest : Vec ExprNode Global) → length rest.items ≡ 0 → (n ≡ nodes.And first rest) ⊎ (n ≡ nodes.Or first rest) → written n ≡ written first.value
+alone n first rest none (inl is) = ap written is ∙ written-And first rest ∙ ap (λ (ns : List ExprNode). fold And (written first.value) (map written ns)) (nil_from_length rest.items none)
+alone n first rest none (inr is) = ap written is ∙ written-Or first rest ∙ ap (λ (ns : List ExprNode). fold Or (written first.value) (map written ns)) (nil_from_length rest.items none)
+
+-- a sum of one term is that term
+pub one_term : (n : ExprNode) (first : Box ExprNode Global) (ss : Vec Sign Global) (rest : Vec ExprNode Global) → (length ss.items ≡ 0) ⊎ (length rest.items ≡ 0) → n ≡ nodes.Sum first ss rest → written n ≡ written first.value
+one_term n first ss rest ends is = ap written is ∙ written-Sum first rest ss ∙ none ends where
+  unsigned : (us : List Sign) → terms (written first.value) us [] ≡ written first.value
+  unsigned [] = refl
+  unsigned (u ∷ us) = refl
+
+  none : (length ss.items ≡ 0) ⊎ (length rest.items ≡ 0) → terms (written first.value) ss.items (map written rest.items) ≡ written first.value
+  none (inl e) = ap (λ (us : List Sign). terms (written first.value) us (map written rest.items)) (nil_from_length ss.items e)
+  none (inr e) = ap (λ (ns : List ExprNode). terms (written first.value) ss.items (map written ns)) (nil_from_length rest.items e) ∙ unsigned ss.items
+
+module _ (s : Scope) (before middle after : List Aggregate) (n : ExprNode) (first : Box ExprNode Global) (rest : Vec ExprNode Global) (tree : Tree) (is_first : IsPlaced s before (written first.value) tree middle) where
+  -- the aggregates of a chain, once those of its parts are known
+  chain_aggregates : (join : Written → Written → Written) → ((a b : Written) → with_aggregates s before (join a b) ≡ with_aggregates s (with_aggregates s before a) b)
+      → after ≡ with_nodes s middle rest.items → after ≡ with_aggregates s before (fold join (written first.value) (map written rest.items))
+  chain_aggregates join joins are =
+      are ∙ ap (λ (b : List Aggregate). with_nodes s b rest.items) is_first.aggregates ∙ sym (with_chain s before join joins (written first.value) (map written rest.items))
+
+  -- a product of what the factors come to
+  pub product_placed : (head : Box ExprTree Global) (trees : Vec ExprTree Global) → n ≡ nodes.Product first rest → 0 < length rest.items → expr_of head.value ≡ value_in tree
+      → AreValues s middle rest.items trees.items after → IsPlaced s before (written n) (Value (view.Product head trees)) after
+  product_placed head trees is some same are =
+      let value : expr_of (view.Product head trees) ≡ placed_expr s before (fold Times (written first.value) (map written rest.items)) =
+      tree-Product head trees ∙ ap₂ (fold placed.Times) (same ∙ is_first.value) (are.each ∙ ap (λ (b : List Aggregate). each_placed placed_expr s b (map written rest.items)) is_first.aggregates)
+      ∙ sym (chain s before placed_expr Times placed.Times (λ a b. refl) (λ a b. refl) (written first.value) (map written rest.items)) in
+      placed_as s before _ (written n) _ after (ap written is ∙ written-Product first rest) (record {
+        value = value;
+        condition = ap placed.IsNull value ∙ sym (several Times (IsTested s before) (λ a b. refl) (written first.value) rest.items some);
+        aggregates = chain_aggregates Times (λ a b. refl) are.aggregates;
+      })
+
+  -- a sum of what the terms come to
+  pub sum_placed : (ss : Vec Sign Global) (head : Box ExprTree Global) (trees : Vec ExprTree Global) → n ≡ nodes.Sum first ss rest → 0 < length ss.items → 0 < length rest.items → expr_of head.value ≡ value_in tree
+      → AreTerms s middle ss.items rest.items trees.items after → IsPlaced s before (written n) (Value (view.Sum head trees)) after
+  sum_placed ss head trees is some more same are =
+      let value : expr_of (view.Sum head trees) ≡ placed_expr s before (terms (written first.value) ss.items (map written rest.items)) =
+      tree-Sum head trees ∙ ap₂ (fold placed.Plus) (same ∙ is_first.value) (are.values ∙ ap (λ (b : List Aggregate). later_terms s b ss.items (map written rest.items)) is_first.aggregates)
+      ∙ sym (placed-terms s before (written first.value) ss.items (map written rest.items)) in
+      placed_as s before _ (written n) _ after (ap written is ∙ written-Sum first rest ss) (record {
+        value = value;
+        condition = ap placed.IsNull value ∙ sym (several_terms s before (written first.value) ss.items rest.items some more);
+        aggregates =
+            are.aggregates ∙ ap (λ (b : List Aggregate). with_terms s b ss.items (map written rest.items)) is_first.aggregates
+            ∙ sym (with_sum s before (written first.value) ss.items (map written rest.items));
+      })
+
+  -- the conditions of the later parts of a chain
+  later_conditions : (trees : List CondTree) → AreConditions s middle rest.items trees after → map cond_of trees ≡ each_placed placed_cond s (with_aggregates s before (written first.value)) (map written rest.items)
+  later_conditions trees are = are.each ∙ ap (λ (b : List Aggregate). each_placed placed_cond s b (map written rest.items)) is_first.aggregates
+
+  -- AND of what the parts come to
+  pub and_placed : (head : Box CondTree Global) (trees : Vec CondTree Global) → n ≡ nodes.And first rest → 0 < length rest.items → cond_of head.value ≡ condition_in tree
+      → AreConditions s middle rest.items trees.items after → IsPlaced s before (written n) (Condition (cond_view.And head trees)) after
+  and_placed head trees is some same are =
+      placed_as s before _ (written n) _ after (ap written is ∙ written-And first rest) (record {
+        value = sym (several And (IsUnvalued s before) (λ a b. refl) (written first.value) rest.items some);
+        condition =
+            tree-And head trees ∙ ap₂ (fold placed.And) (same ∙ is_first.condition) (later_conditions trees.items are)
+            ∙ sym (chain s before placed_cond And placed.And (λ a b. refl) (λ a b. refl) (written first.value) (map written rest.items));
+        aggregates = chain_aggregates And (λ a b. refl) are.aggregates;
+      })
+
+  -- and OR
+  pub or_placed : (head : Box CondTree Global) (trees : Vec CondTree Global) → n ≡ nodes.Or first rest → 0 < length rest.items → cond_of head.value ≡ condition_in tree
+      → AreConditions s middle rest.items trees.items after → IsPlaced s before (written n) (Condition (cond_view.Or head trees)) after
+  or_placed head trees is some same are =
+      placed_as s before _ (written n) _ after (ap written is ∙ written-Or first rest) (record {
+        value = sym (several Or (IsUnvalued s before) (λ a b. refl) (written first.value) rest.items some);
+        condition =
+            tree-Or head trees ∙ ap₂ (fold placed.Or) (same ∙ is_first.condition) (later_conditions trees.items are)
+            ∙ sym (chain s before placed_cond Or placed.Or (λ a b. refl) (λ a b. refl) (written first.value) (map written rest.items));
+        aggregates = chain_aggregates Or (λ a b. refl) are.aggregates;
+      })
+
+  -- IN of what the value and the choices come to, or NOT of it
+  pub in_placed : (negated : Bool) (value : ExprTree) (among : Vec ExprTree Global) (test : CondTree) → n ≡ nodes.In negated first rest → expr_of value ≡ value_in tree
+      → AreValues s middle rest.items among.items after → cond_of test ≡ turned negated (cond_of (conds.In value among)) → IsPlaced s before (written n) (Condition test) after
+  in_placed negated value among test is same are tests =
+      placed_as s before _ (written n) _ after (ap written is ∙ written-In negated first rest) (record {
+        value = refl;
+        condition =
+            tests ∙ ap (turned negated) (
+            tree-In value among ∙ ap₂ placed.In (same ∙ is_first.value) (
+            are.each ∙ ap (λ (b : List Aggregate). each_placed placed_expr s b (map written rest.items)) is_first.aggregates
+            ∙ sym (placed_choices s (with_aggregates s before (written first.value)) (map written rest.items))
+            )
+            );
+        aggregates =
+            are.aggregates ∙ ap (λ (b : List Aggregate). with_nodes s b rest.items) is_first.aggregates
+            ∙ sym (chosen s (with_aggregates s before (written first.value)) (map written rest.items));
+      })
+
+-- the trees that are made and the nodes that are left make the whole
+pub record Makes {T X : Type 0} (of : T → X) (put : Scope → List Aggregate → Written → X) (s : Scope) (start : List Aggregate) (ns : List ExprNode) (made : List T) (before : List Aggregate) (left : List ExprNode) : Type 0 where
+  pub each : map of made ++ each_placed put s before (map written left) ≡ each_placed put s start (map written ns)
+  pub aggregates : with_nodes s before left ≡ with_nodes s start ns
+
+-- the terms that are made and those that are left make the whole
+pub record MakesTerms (s : Scope) (start : List Aggregate) (ss : List Sign) (ns : List ExprNode) (made : List ExprTree) (before : List Aggregate) (signs_left : List Sign) (left : List ExprNode) : Type 0 where
+  pub values : map expr_of made ++ later_terms s before signs_left (map written left) ≡ later_terms s start ss (map written ns)
+  pub aggregates : with_terms s before signs_left (map written left) ≡ with_terms s start ss (map written ns)
+
+module _ (s : Scope) (start : List Aggregate) (ss : List Sign) (ns : List ExprNode) (made : List ExprTree) (before : List Aggregate) (signs_left : List Sign) (left : List ExprNode) (so_far : MakesTerms s start ss ns made before signs_left left) where
+  -- no sign or no term is left
+  pub terms_end : (signs_left ≡ []) ⊎ (left ≡ []) → AreTerms s start ss ns made before
+  terms_end ends = record {
+    values = sym (append-nil (map expr_of made)) ∙ ap (λ (es : List Expr). map expr_of made ++ es) (sym (none ends)) ∙ so_far.values;
+    aggregates = sym (none_with ends) ∙ so_far.aggregates;
+  } where
+    unsigned : (us : List Sign) → later_terms s before us [] ≡ []
+    unsigned [] = refl
+    unsigned (u ∷ us) = refl
+
+    none : (signs_left ≡ []) ⊎ (left ≡ []) → later_terms s before signs_left (map written left) ≡ []
+    none (inl e) = ap (λ (us : List Sign). later_terms s before us (map written left)) e
+    none (inr e) = ap (λ (ms : List ExprNode). later_terms s before signs_left (map written ms)) e ∙ unsigned signs_left
+
+    unsigned_with : (us : List Sign) → with_terms s before us [] ≡ before
+    unsigned_with [] = refl
+    unsigned_with (u ∷ us) = refl
+
+    none_with : (signs_left ≡ []) ⊎ (left ≡ []) → with_terms s before signs_left (map written left) ≡ before
+    none_with (inl e) = ap (λ (us : List Sign). with_terms s before us (map written left)) e
+    none_with (inr e) = ap (λ (ms : List ExprNode). with_terms s before signs_left (map written ms)) e ∙ unsigned_with signs_left

@@ -1,0 +1,324 @@
+//! What is written with places for names, and aggregates as columns of a group's row.
+ghost use Rattle.std.specs.Prelude.{◌≡◌, ◌+◌, ◌++◌, ◌∷◌, [], IfOk, OnOk, length};
+ghost use Rattle.cq_model.specs.Trees.{cond_of, expr_of};
+ghost use Rattle.cq_sql_language.specs.Written.{written};
+ghost use Rattle.cq_binder_rules.specs.Placed.{aggregate_of, named_day, turned, written_number};
+ghost use Rattle.cq_binder_rules.specs.Places.{next_place};
+ghost use Rattle.cq_binder_expressions.specs.Expressions.{scope_of};
+ghost use Rattle.cq_binder_expressions.specs.Nodes.{AreValues, MakesConditions, MakesTerms, PlacesTree, condition_in, value_in};
+ghost use Rattle.cq_binder_expressions.specs.Terms.{signed_term};
+
+use crate::scope::Scope;
+use cq_model::{Aggregate, CondTree, Expr, ExprTree};
+use cq_sql_language::{AggregateFunction, ExprNode, Sign};
+use cq_values::{Seq, Value, date_of};
+use std::alloc::{AllocError, Global};
+
+/// What is written: a value or a condition.
+#[derive(Drop)]
+pub(crate) enum Tree {
+    Value(ExprTree),
+    Condition(CondTree),
+}
+
+impl Tree {
+    /// The value that it is. A condition is none, and NULL stands for it.
+    pub(crate) fn into_value(self) -> ExprTree
+        ensures { expr_of result ≡ value_in self }
+    {
+        match self {
+            Tree::Value(value) => value,
+            Tree::Condition(_) => ExprTree::Literal(Value::Null),
+        }
+    }
+
+    /// The condition that it is. A value is none, and whether it is NULL stands for it.
+    pub(crate) fn into_condition(self) -> CondTree
+        ensures { cond_of result ≡ condition_in self }
+    {
+        match self {
+            Tree::Value(value) => CondTree::IsNull(value),
+            Tree::Condition(condition) => condition,
+        }
+    }
+}
+
+/// What a node says. Its aggregates are put behind these. A chain of one part is that part.
+#[cycle(trees)]
+pub(crate) fn tree_of(
+    alloc: Global,
+    scope: &Scope<'_>,
+    aggregates: &mut Seq<Aggregate>,
+    node: &ExprNode,
+) -> Result<Tree, AllocError>
+    ensures { IfOk result (PlacesTree (scope_of scope.now) aggregates.old (written node.now) aggregates.new) }
+{
+    match node {
+        ExprNode::Number(n) => Ok(Tree::Value(ExprTree::Literal(whole(*n)))),
+        ExprNode::Text(text) => Ok(Tree::Value(ExprTree::Literal(Value::Text(text.copy(alloc)?)))),
+        ExprNode::Date(text) => Ok(Tree::Value(ExprTree::Literal(day(text.as_str())))),
+        ExprNode::Null => Ok(Tree::Value(ExprTree::Literal(Value::Null))),
+        ExprNode::Column(column) => Ok(Tree::Value(ExprTree::Column(scope.place_of(column)))),
+        ExprNode::Extract(part, value) => {
+            let value = tree_of(alloc, scope, aggregates, value)?.into_value();
+            Ok(Tree::Value(ExprTree::Extract(*part, Box::new(alloc, value)?)))
+        }
+        ExprNode::CountAll => {
+            let place = push_aggregate(scope, aggregates, Aggregate::CountAll)?;
+            Ok(Tree::Value(ExprTree::Column(place)))
+        }
+        ExprNode::Aggregate(function, argument) => {
+            let mut none = Seq::new(alloc);
+            let argument = tree_of(alloc, &scope.rows(), &mut none, argument);
+            drop(none);
+            let aggregate = aggregate_of(*function, Expr::new(argument?.into_value()));
+            let place = push_aggregate(scope, aggregates, aggregate)?;
+            Ok(Tree::Value(ExprTree::Column(place)))
+        }
+        ExprNode::Parens(inner) => tree_of(alloc, scope, aggregates, inner),
+        ExprNode::Negative(value) => {
+            let value = tree_of(alloc, scope, aggregates, value)?.into_value();
+            Ok(Tree::Value(ExprTree::Negate(Box::new(alloc, value)?)))
+        }
+        ExprNode::Product(first, rest) => {
+            let first = tree_of(alloc, scope, aggregates, first)?;
+            if rest.is_empty() {
+                return Ok(first);
+            }
+            let first = Box::new(alloc, first.into_value())?;
+            match value_trees(alloc, scope, aggregates, rest) {
+                Ok(rest) => Ok(Tree::Value(ExprTree::Product(first, rest))),
+                Err(fault) => {
+                    drop(first);
+                    Err(fault)
+                }
+            }
+        }
+        ExprNode::Sum(first, signs, rest) => {
+            let first = tree_of(alloc, scope, aggregates, first)?;
+            if signs.is_empty() || rest.is_empty() {
+                return Ok(first);
+            }
+            let first = Box::new(alloc, first.into_value())?;
+            match term_trees(alloc, scope, aggregates, signs, rest) {
+                Ok(rest) => Ok(Tree::Value(ExprTree::Sum(first, rest))),
+                Err(fault) => {
+                    drop(first);
+                    Err(fault)
+                }
+            }
+        }
+        ExprNode::Compare(comparison, a, b) => {
+            let a = tree_of(alloc, scope, aggregates, a)?.into_value();
+            match tree_of(alloc, scope, aggregates, b) {
+                Ok(b) => Ok(Tree::Condition(CondTree::Compare(*comparison, a, b.into_value()))),
+                Err(fault) => {
+                    drop(a);
+                    Err(fault)
+                }
+            }
+        }
+        ExprNode::IsNull(negated, value) => {
+            let value = tree_of(alloc, scope, aggregates, value)?.into_value();
+            let test = turned(alloc, *negated, CondTree::IsNull(value))?;
+            Ok(Tree::Condition(test))
+        }
+        ExprNode::Between(negated, value, least, greatest) => {
+            let value = tree_of(alloc, scope, aggregates, value)?.into_value();
+            let least = match tree_of(alloc, scope, aggregates, least) {
+                Ok(least) => least.into_value(),
+                Err(fault) => {
+                    drop(value);
+                    return Err(fault);
+                }
+            };
+            let greatest = match tree_of(alloc, scope, aggregates, greatest) {
+                Ok(greatest) => greatest.into_value(),
+                Err(fault) => {
+                    drop(least);
+                    drop(value);
+                    return Err(fault);
+                }
+            };
+            let test = turned(alloc, *negated, CondTree::Between(value, least, greatest))?;
+            Ok(Tree::Condition(test))
+        }
+        ExprNode::In(negated, value, choices) => {
+            let value = tree_of(alloc, scope, aggregates, value)?.into_value();
+            let choices = match value_trees(alloc, scope, aggregates, choices) {
+                Ok(choices) => choices,
+                Err(fault) => {
+                    drop(value);
+                    return Err(fault);
+                }
+            };
+            let test = turned(alloc, *negated, CondTree::In(value, choices))?;
+            Ok(Tree::Condition(test))
+        }
+        ExprNode::Like(negated, value, pattern) => {
+            let pattern = pattern.copy(alloc)?;
+            let value = tree_of(alloc, scope, aggregates, value)?.into_value();
+            let test = turned(alloc, *negated, CondTree::Like(value, pattern))?;
+            Ok(Tree::Condition(test))
+        }
+        ExprNode::Not(part) => {
+            let part = tree_of(alloc, scope, aggregates, part)?.into_condition();
+            Ok(Tree::Condition(CondTree::Not(Box::new(alloc, part)?)))
+        }
+        ExprNode::And(first, rest) => {
+            let first = tree_of(alloc, scope, aggregates, first)?;
+            if rest.is_empty() {
+                return Ok(first);
+            }
+            let first = Box::new(alloc, first.into_condition())?;
+            match condition_trees(alloc, scope, aggregates, rest) {
+                Ok(rest) => Ok(Tree::Condition(CondTree::And(first, rest))),
+                Err(fault) => {
+                    drop(first);
+                    Err(fault)
+                }
+            }
+        }
+        ExprNode::Or(first, rest) => {
+            let first = tree_of(alloc, scope, aggregates, first)?;
+            if rest.is_empty() {
+                return Ok(first);
+            }
+            let first = Box::new(alloc, first.into_condition())?;
+            match condition_trees(alloc, scope, aggregates, rest) {
+                Ok(rest) => Ok(Tree::Condition(CondTree::Or(first, rest))),
+                Err(fault) => {
+                    drop(first);
+                    Err(fault)
+                }
+            }
+        }
+    }
+}
+
+/// The values that are written one after another.
+#[cycle(trees)]
+fn value_trees(
+    alloc: Global,
+    scope: &Scope<'_>,
+    aggregates: &mut Seq<Aggregate>,
+    nodes: &[ExprNode],
+) -> Result<Vec<ExprTree>, AllocError>
+    ensures { IfOk result (λ v. AreValues (scope_of scope.now) aggregates.old nodes.now v.items aggregates.new) }
+{
+    let mut trees = Vec::with_capacity(alloc, nodes.len())?;
+    for node in nodes {
+        trees.push(tree_of(alloc, scope, aggregates, node)?.into_value())?;
+    }
+    Ok(trees)
+}
+
+/// The later terms of a sum.
+#[cycle(trees)]
+fn term_trees(
+    alloc: Global,
+    scope: &Scope<'_>,
+    aggregates: &mut Seq<Aggregate>,
+    signs: &[Sign],
+    nodes: &[ExprNode],
+) -> Result<Vec<ExprTree>, AllocError>
+    ensures { IfOk result (MakesTerms (scope_of scope.now) aggregates.old signs.now nodes.now aggregates.new) }
+{
+    let mut terms = Vec::with_capacity(alloc, nodes.len())?;
+    for (sign, node) in signs.iter().zip(nodes) {
+        let term = tree_of(alloc, scope, aggregates, node)?.into_value();
+        terms.push(signed_tree(alloc, *sign, term)?)?;
+    }
+    Ok(terms)
+}
+
+/// The conditions that are written one after another.
+#[cycle(trees)]
+fn condition_trees(
+    alloc: Global,
+    scope: &Scope<'_>,
+    aggregates: &mut Seq<Aggregate>,
+    nodes: &[ExprNode],
+) -> Result<Vec<CondTree>, AllocError>
+    ensures { IfOk result (MakesConditions (scope_of scope.now) aggregates.old nodes.now aggregates.new) }
+{
+    let mut trees = Vec::with_capacity(alloc, nodes.len())?;
+    for node in nodes {
+        trees.push(tree_of(alloc, scope, aggregates, node)?.into_condition())?;
+    }
+    Ok(trees)
+}
+
+/// A term behind a minus is negated.
+fn signed_tree(alloc: Global, sign: Sign, term: ExprTree) -> Result<ExprTree, AllocError>
+    ensures { IfOk result (λ t. expr_of t ≡ signed_term sign (expr_of term)) }
+{
+    match sign {
+        Sign::Plus => Ok(term),
+        Sign::Minus => Ok(ExprTree::Negate(Box::new(alloc, term)?)),
+    }
+}
+
+/// Puts an aggregate behind these, and tells where it stands in its group's row.
+fn push_aggregate(
+    scope: &Scope<'_>,
+    aggregates: &mut Seq<Aggregate>,
+    aggregate: Aggregate,
+) -> Result<usize, AllocError>
+    ensures place { IfOk result (λ place. place ≡ next_place (scope_of scope.now) aggregates.old) }
+    ensures pushed { OnOk result (aggregates.new ≡ aggregates.old ++ aggregate ∷ []) }
+{
+    let place = place_behind(scope.key(), aggregates.as_slice());
+    aggregates.push(aggregate)?;
+    Ok(place)
+}
+
+/// Where the next aggregate stands in a group's row: behind the key and the aggregates so far.
+fn place_behind(key: &[usize], aggregates: &[Aggregate]) -> usize
+    ensures { result ≡ length key.now + length aggregates.now }
+{
+    key.len() + aggregates.len()
+}
+
+/// An aggregate of an argument's values.
+fn aggregate_of(function: AggregateFunction, argument: Expr) -> Aggregate
+    ensures { result ≡ aggregate_of function argument }
+{
+    match function {
+        AggregateFunction::Count => Aggregate::Count(argument),
+        AggregateFunction::Sum => Aggregate::Sum(argument),
+        AggregateFunction::Min => Aggregate::Min(argument),
+        AggregateFunction::Max => Aggregate::Max(argument),
+    }
+}
+
+/// A whole number, and NULL where it has more than 127 bits.
+fn whole(n: u128) -> Value
+    ensures { result ≡ written_number n }
+{
+    match i128::try_from(n) {
+        Ok(number) => Value::Number(number),
+        Err(_) => Value::Null,
+    }
+}
+
+/// The day that a text names, and NULL where it names none.
+fn day(text: &str) -> Value
+    ensures { result ≡ named_day text.now }
+{
+    match date_of(text) {
+        Ok(day) => Value::Day(day),
+        Err(_) => Value::Null,
+    }
+}
+
+/// NOT in a test negates the whole test.
+fn turned(alloc: Global, negated: bool, test: CondTree) -> Result<CondTree, AllocError>
+    ensures { IfOk result (λ t. cond_of t ≡ turned negated (cond_of test)) }
+{
+    if negated {
+        Ok(CondTree::Not(Box::new(alloc, test)?))
+    } else {
+        Ok(test)
+    }
+}

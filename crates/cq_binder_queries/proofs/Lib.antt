@@ -1,0 +1,13 @@
+pub mod BareNames
+pub mod BoundItems
+pub mod Clauses
+pub mod Creating
+pub mod Faults
+pub mod Found
+pub mod Joining
+pub mod Ordering
+pub mod Selecting
+pub mod Shapes
+pub mod SourceColumns
+pub mod ViewNames
+pub mod Walks

@@ -1,0 +1,9 @@
+pub mod Catalog
+pub mod Conditions
+pub mod From
+pub mod Grouping
+pub mod Items
+pub mod Parts
+pub mod Select
+pub mod View
+pub mod Walk

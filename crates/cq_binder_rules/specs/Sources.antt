@@ -1,0 +1,28 @@
+-- What a source answers.
+use Rattle.std.specs.Prelude.{◌≡◌, ℕ, ◌+◌, List, Option, Some, None, Result, Ok, Err, Vec}
+use Rattle.std.specs.Global.{Global}
+use Rattle.cq_binder_rules.specs.declared.fault.Fault.{Fault}
+use Rattle.cq_binder_rules.specs.declared.fault.Fault.TheVariants as faults
+use Rattle.cq_binder_rules.specs.Records.{Files}
+use Rattle.cq_binder_rules.specs.declared.sources.SourceFault.{SourceFault}
+use Rattle.cq_binder_rules.specs.declared.sources.SourceFault.TheVariants.{Failed, Memory}
+
+-- these are the files that a source tells; where it tells none, as a folder of the system, they are any
+abbrev pub AreTold : Option Files → Files → Type 0
+AreTold None files = Unit {0}
+AreTold (Some told) files = files ≡ told
+
+-- the file, or want of memory, or a failure that is counted
+abbrev pub ReadsFile : List ℕ → ℕ → ℕ → Result (Vec ℕ Global) SourceFault → Type 0
+ReadsFile file before after (Ok bytes) = (bytes.items ≡ file) × (after ≡ before)
+ReadsFile file before after (Err Memory) = after ≡ before
+ReadsFile file before after (Err Failed) = after ≡ before + 1
+
+-- the file of a name is read
+abbrev pub Reads : Option Files → List ℕ → ℕ → ℕ → Result (Vec ℕ Global) SourceFault → Type 0
+Reads told name before after result = (files : Files) × AreTold told files × ReadsFile (files name) before after result
+
+-- the refusal of a COPY whose source gave nothing
+abbrev pub fault_of : SourceFault → Fault
+fault_of Failed = faults.SourceFailed
+fault_of Memory = faults.Memory

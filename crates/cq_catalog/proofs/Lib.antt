@@ -1,4 +1,0 @@
-pub mod Faults
-pub mod Found
-pub mod SourceColumns
-pub mod Joining

@@ -1,0 +1,68 @@
+//! The folder that a script's files lie in.
+ghost use Rattle.std.specs.Prelude.{◌≡◌, None};
+
+use crate::file_name::is_file_name;
+use cq_binder_rules::{SourceFault, Sources};
+use std::alloc::Global;
+use std::marker::Model;
+use std::{fs, io};
+
+/// The files of one folder, which need not be there before one is read.
+#[derive(Drop)]
+pub struct Folder<'a> {
+    rt: &'a HostRuntime,
+    path: &'a str,
+    failures: u64,
+}
+
+impl<'a> Model for Folder<'a> {
+    ghost use Rattle.std.specs.Prelude.{ℕ};
+
+    ghost Value = { ℕ };
+
+    ghost view = { λ folder. folder.failures };
+}
+
+impl Folder<'_> {
+    pub fn new<'a>(rt: &'a HostRuntime, path: &'a str) -> Folder<'a>
+        ensures { result ≡ 0 }
+    {
+        Folder {
+            rt,
+            path,
+            failures: 0,
+        }
+    }
+
+    /// The bytes of a file.
+    fn bytes(&self, alloc: Global, name: &str) -> Result<Vec<u8>, SourceFault> {
+        if !is_file_name(name) {
+            return Err(SourceFault::Failed);
+        }
+        let path = format!(in alloc; "{}/{name}", self.path)?;
+        match fs::read(self.rt, path.as_str()) {
+            Ok(bytes) => Ok(bytes),
+            Err(error) => match error.kind() {
+                io::ErrorKind::OutOfMemory => Err(SourceFault::Memory),
+                _ => Err(SourceFault::Failed),
+            },
+        }
+    }
+}
+
+impl Sources for Folder<'_> {
+    ghost files = { λ _. None };
+
+    ghost failures = { λ folder. folder };
+
+    fn read(&mut self, alloc: Global, name: &str) -> Result<Vec<u8>, SourceFault> {
+        match self.bytes(alloc, name) {
+            Ok(bytes) => Ok(bytes),
+            Err(SourceFault::Memory) => Err(SourceFault::Memory),
+            Err(SourceFault::Failed) => {
+                self.failures += 1;
+                Err(SourceFault::Failed)
+            }
+        }
+    }
+}

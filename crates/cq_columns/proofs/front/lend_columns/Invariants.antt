@@ -1,7 +1,0 @@
-use Rattle.std.proofs.Common.{◌≡◌, take}
-use Rattle.cq_columns.specs.Stored.{stored_rows}
-use Rattle.cq_columns.proofs.front.lend_columns.Given as goal
-
--- the rows so far are lent
-abbrev pub invariant-loop-place : goal.invariant-loop-place
-invariant-loop-place l = stored_rows l.lent.items ≡ take l.place l.columns

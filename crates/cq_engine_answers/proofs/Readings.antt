@@ -1,0 +1,176 @@
+-- What SELECT reads: the rows of a table, or those that a view keeps, are the bag that its name in FROM stands for.
+use Rattle.std.proofs.Common.{◌≡◌, ℕ, zero, suc, ◌<◌, true, false, List, [], ◌∷◌, map, length, Option, Some, refl, sym, ap, ◌∙◌, inl, inr, arith, subst, Result, Ok, Err}
+use Rattle.std.specs.Prelude.{◌==◌, filter, option_map, slice_get}
+use Rattle.std.specs.List.{AllByRecursion}
+use Rattle.std.proofs.lemmas.Bool.{eqb-true}
+use Rattle.std.proofs.lemmas.List.{append-nil, length-map}
+use Rattle.std.proofs.lemmas.Option.{slice_get-map}
+use Rattle.cq_values.specs.Value.{Row}
+use Rattle.cq_model_bags.specs.Bag.{SameBag, once_each}
+use Rattle.cq_model_bags.specs.Canonical.{bag_of}
+use Rattle.cq_model_bags.proofs.Bags.{same-sym}
+use Rattle.cq_model_bags.proofs.Canonicals.{same-bag_of}
+use Rattle.cq_model.specs.declared.query.Join.{Join}
+use Rattle.cq_model.specs.declared.query.Order.{Order}
+use Rattle.cq_model.specs.declared.query.Query.{Query}
+use Rattle.cq_model.specs.declared.query.Shape.{Shape}
+use Rattle.cq_model.specs.declared.query.Shape.TheVariants.{Plain}
+use Rattle.cq_model.specs.declared.query.Source.{Source}
+use Rattle.cq_model.specs.declared.query.Source.TheVariants.{Table, View}
+use Rattle.cq_model.specs.Meaning.{Tables, MeaningInRange, items_of, keeps, meaning}
+use Rattle.cq_model.specs.Sizes.{column_sizes, stored_sizes}
+use Rattle.cq_model.specs.Views.{tables_alone, view_bag, ViewInRange}
+use Rattle.cq_binder_rules.specs.declared.fault.Fault.{Fault}
+use Rattle.cq_model_state.specs.Fitting.{AreFitting}
+use Rattle.cq_model_state.specs.State.{TableOf, ViewOf, State, columns_in, rows_in, tables_now, queries_of}
+use Rattle.cq_model_laws.specs.Sizes.{HasSizes}
+use Rattle.cq_binder_queries.specs.Catalog.{alone}
+use Rattle.cq_views.specs.Shown.{AreRowsOf, IsShown, Suits}
+use Rattle.cq_engine_answers.specs.Narrow.{IsConditionSized, IsShapeSized, IsWithin, IsWithinSized, joined_sizes, source_sizes, view_sizes}
+use Rattle.cq_engine_answers.specs.Reading.{IsSourceThere, plain}
+use Rattle.cq_engine_answers.specs.Selects.{AreListed, Selects, SelectsKept, IsInRange, sources_in}
+use Rattle.cq_engine_tables.specs.Views.{NamedView, IsRight, AreRight, view_of, views_of}
+use Rattle.cq_engine_answers.specs.Gathered.{AreShownBy, HaveColumnsOf, IsBacked, IsHidden, IsReadFault, IsShowFault}
+use Rattle.cq_engine_answers.proofs.Results.{listing_plain}
+use Rattle.cq_engine_tables.proofs.Rows.{fitting_in}
+use Rattle.cq_engine_tables.proofs.Wide.{suits}
+use Rattle.cq_table.proofs.RowLists.{all_of_rows}
+use Rattle.cq_engine_tables.proofs.Stored.{rows_sized}
+
+-- on rows of these sizes a query can be worked out
+pub within_shown : (sizes : List ℕ) (q : Query) (rows : List Row) → IsWithinSized sizes q → AllByRecursion (HasSizes sizes) rows → AllByRecursion (IsWithin q) rows
+within_shown sizes q [] within sized = tt
+within_shown sizes q (row ∷ rows) within sized = (within row sized.0.sized, within_shown sizes q rows within sized.1)
+
+-- what all have, the one at a place has
+right_there : (tables : List TableOf) (now : ℕ) (views : List NamedView) (place : ℕ) (v : NamedView) → AreRight tables now views → slice_get views place ≡ Some v → IsRight tables now v
+right_there tables now [] place v right at = absurd cc
+right_there tables now (w ∷ ws) zero v right at = let same : w ≡ v = cc in subst (IsRight tables now) same right.0
+right_there tables now (w ∷ ws) (suc place) v right at = right_there tables now ws place v right.1 at
+
+-- where all views are backed, the one at a place is
+pub backed_there : (views : List NamedView) (place : ℕ) (v : NamedView) → AllByRecursion IsBacked views → slice_get views place ≡ Some v → IsBacked v
+backed_there [] place v all at = absurd cc
+backed_there (w ∷ ws) zero v all at = let same : w ≡ v = cc in subst IsBacked same all.0
+backed_there (w ∷ ws) (suc place) v all at = backed_there ws place v all.1 at
+
+-- as many views are seen as are kept
+pub place_there : (views : List NamedView) (place : ℕ) → place < length (views_of views) → place < length views
+place_there views place h = omega (arith, h, length-map views view_of)
+
+-- ---- A view that FROM names
+-- it is there
+pub view_inside : (tables : List TableOf) (views : List NamedView) (s : Source) (place : ℕ) → s ≡ View place
+    → IsSourceThere tables (views_of views) s → place < length views
+view_inside tables views s place is there =
+    place_there views place (subst (IsSourceThere tables (views_of views)) is there)
+
+module _ (views : List NamedView) (s : Source) (place : ℕ) (v : NamedView) (is : s ≡ View place) (at : slice_get views place ≡ Some v) where
+  -- where it is not shown, nor is the source
+  pub read_fault : (f : Fault) → IsShowFault v.kept f → IsReadFault views s f
+  read_fault f (inl m) = inl m
+  read_fault f (inr w) = inr (w.0, subst (IsHidden views) (sym is) (v, at, w.1))
+
+  -- and what it shows is shown of the source
+  pub shown_by : (rows : List Row) → AreRowsOf v.kept rows → HaveColumnsOf v.kept rows → IsShown v.kept
+      → AreShownBy views s rows
+  shown_by rows bag sized range = subst (λ (t : Source). AreShownBy views t rows) (sym is) (v, at, bag, sized, range)
+
+-- ---- What names in FROM stand for
+module _ (tables : List TableOf) (views : List NamedView) where
+  abbrev pub bases : Tables
+  bases = tables_alone (tables_now (alone tables (views_of views)))
+
+  -- rows are those of a table's number where their bag is
+  pub rows_same : (n : ℕ) (stored : List Row) → bag_of stored ≡ rows_in tables n → SameBag (once_each stored) (once_each (rows_in tables n))
+  rows_same n stored rows =
+      subst (λ (rs : List Row). SameBag (once_each stored) (once_each rs)) rows (same-sym (once_each (bag_of stored)) (once_each stored) (same-bag_of stored))
+
+  -- they have the sizes of its columns
+  pub stored_sized : (n : ℕ) (stored : List Row) → AreFitting tables → bag_of stored ≡ rows_in tables n → AllByRecursion (HasSizes (stored_sizes (columns_in tables n))) stored
+  stored_sized n stored fitting rows =
+      let columns = columns_in tables n in
+      all_of_rows (HasSizes (stored_sizes columns)) stored
+      (subst (λ (rs : List Row). AllByRecursion (HasSizes (stored_sizes columns)) rs) (sym rows) (rows_sized columns (rows_in tables n) (fitting_in n tables fitting)))
+
+  -- a view at its place
+  module _ (now place : ℕ) (v : NamedView) (right : AreRight tables now views) (at : slice_get views place ≡ Some v) where
+    view_there : slice_get (views_of views) place ≡ Some (view_of v)
+    view_there = slice_get-map view_of views place ∙ ap (option_map view_of) at
+
+    -- its place has its query
+    pub query_there : queries_of (alone tables (views_of views)) place ≡ Some v.kept.query
+    query_there = slice_get-map (λ w. w.query) (views_of views) place ∙ ap (option_map (λ w. w.query)) view_there
+
+    -- and the sizes of its columns
+    pub sizes_there : source_sizes tables (views_of views) (View place) ≡ column_sizes v.kept.query
+    sizes_there = ap view_sizes view_there
+
+    -- the tables suit it
+    pub suits_for : AreFitting tables → Suits v.kept bases
+    suits_for fitting = suits tables now v fitting (right_there tables now views place v right at)
+
+-- ---- SELECT from one table or view
+-- a query without groups, joins and DISTINCT
+pub plain_query : (q : Query) → q.shape ≡ Plain → (length q.joins == 0) ≡ true → q.distinct ≡ false → q ≡ plain q.first q.filter q.items
+plain_query q shape joins distinct =
+    let none : q.joins ≡ [] = no_joins q.joins joins in
+    λ i. record { first = q.first; joins = none i; filter = q.filter; shape = shape i; items = q.items; distinct = distinct i }
+  where
+    no_joins : (js : List Join) → (length js == 0) ≡ true → js ≡ []
+    no_joins [] e = refl
+    no_joins (j ∷ js) e = absurd (omega (arith, eqb-true (length (j ∷ js)) 0 e))
+
+-- a query without joins reads columns of one source's sizes
+pub alone_sizes : (tables : List TableOf) (views : List ViewOf) (q : Query) → q ≡ plain q.first q.filter q.items → joined_sizes tables views q ≡ source_sizes tables views q.first
+alone_sizes tables views q is = ap (joined_sizes tables views) is ∙ append-nil (source_sizes tables views q.first)
+
+-- on a row of which it can be worked out
+pub alone_within : (sizes : List ℕ) (q : Query) → q ≡ plain q.first q.filter q.items → IsConditionSized sizes q.filter → IsShapeSized sizes q.shape q.items → IsWithinSized sizes q
+alone_within sizes q is filter shown row sized =
+    let items : IsShapeSized sizes Plain q.items = subst (λ (shape : Shape). IsShapeSized sizes shape q.items) (ap (λ p. p.shape) is) shown in
+    record { condition = filter row sized; items = items row sized }
+
+module _ (tables : List TableOf) (views : List NamedView) (q : Query) (order : Order) where
+  abbrev Answered : List Row → Query → Type 0
+  Answered list p = AreListed order (meaning p (sources_in tables (views_of views))) list × IsInRange tables (views_of views) p
+
+  -- from a table, whose rows are those of its number
+  pub from_rows : (n : ℕ) (stored list : List Row) → q ≡ plain q.first q.filter q.items → q.first ≡ Table n → bag_of stored ≡ rows_in tables n
+      → AreListed order (once_each (map (items_of q.items) (filter (keeps q.filter) stored))) list → Selects tables (views_of views) q order (Ok list)
+  from_rows n stored list is first rows listed = subst (Answered list) (sym shape) (answer, record { own = tt; named = (tt, tt) })
+    where
+      shape : q ≡ plain (Table n) q.filter q.items
+      shape = is ∙ ap (λ (source : Source). plain source q.filter q.items) first
+
+      answer : AreListed order (meaning (plain (Table n) q.filter q.items) (sources_in tables (views_of views))) list
+      answer = listing_plain q.filter q.items (Table n) (sources_in tables (views_of views)) order stored list (rows_same tables views n stored rows) listed
+
+  -- from a view at its place
+  module _ (now place : ℕ) (v : NamedView) (right : AreRight tables now views) (at : slice_get views place ≡ Some v) (fitting : AreFitting tables) where
+    pub from_kept : (result : Result (List Row) Fault) → q ≡ plain q.first q.filter q.items → q.first ≡ View place → SelectsKept q order v result → Selects tables (views_of views) q order result
+    from_kept (Ok list) is first w = subst (Answered list) (sym shape) (
+      subst (λ (o : Option Query). AreListed order (meaning (plain q.first q.filter q.items) (λ source. view_bag (tables_now here) o)) list) (sym there) told.0,
+      record { own = tt; named = (subst (λ (o : Option Query). ViewInRange (tables_now here) o) (sym there) told.1, tt) },
+    )
+      where
+        here : State
+        here = alone tables (views_of views)
+
+        there : queries_of here place ≡ Some v.kept.query
+        there = query_there tables views now place v right at
+
+        shape : q ≡ plain (View place) q.filter q.items
+        shape = is ∙ ap (λ (source : Source). plain source q.filter q.items) first
+
+        told : AreListed order (meaning (plain q.first q.filter q.items) (λ source. meaning v.kept.query (bases tables views))) list × MeaningInRange v.kept.query (bases tables views)
+        told = w (bases tables views) (suits_for tables views now place v right at fitting)
+    from_kept (Err f) is first (inl m) = inl m
+    from_kept (Err f) is first (inr w) = inr (
+      w.0,
+      λ range. w.1 (bases tables views) (suits_for tables views now place v right at fitting)
+          (subst (λ (o : Option Query). ViewInRange (tables_now (alone tables (views_of views))) o) (query_there tables views now place v right at) (subst (IsInRange tables (views_of views)) shape range).named.0),
+    )
+      where
+        shape : q ≡ plain (View place) q.filter q.items
+        shape = is ∙ ap (λ (source : Source). plain source q.filter q.items) first

@@ -1,0 +1,126 @@
+-- How wide the tables are that a query names, where one of them is written, made or taken away.
+use Rattle.std.proofs.Common.{◌≡◌, ◌∙◌, ℕ, zero, suc, false, List, [], ◌∷◌, ◌++◌, length, map, get_or, set, Some, refl, sym}
+use Rattle.std.specs.Prelude.{◌==◌, if◌then◌else◌}
+use Rattle.std.specs.List.{AllByRecursion, AllZip}
+use Rattle.std.proofs.lemmas.Bool.{eqb-false, eqb-true, ne_eqb}
+use Rattle.cq_values.specs.Value.{Row}
+use Rattle.cq_values.specs.declared.column.ColumnDef.{ColumnDef}
+use Rattle.cq_model_bags.proofs.Totals.{by_test}
+use Rattle.cq_model_bags.specs.Bag.{once_each}
+use Rattle.cq_model_bags.specs.Join.{HasWidth}
+use Rattle.cq_views.specs.Shown.{Suits}
+use Rattle.cq_model.specs.Views.{is_table, sources_of}
+use Rattle.cq_model.specs.declared.query.Source.{Source}
+use Rattle.cq_model.specs.declared.query.Source.TheVariants.{Table, View}
+use Rattle.cq_model_state.specs.Fitting.{AreFitting, FitsColumn, FitsColumns}
+use Rattle.cq_model_state.specs.State.{TableOf, columns_in, rows_in}
+use Rattle.cq_engine_tables.specs.Views.{IsRight, IsWide, NamedView, bags_in, width_at}
+use Rattle.cq_engine_tables.proofs.Bags.{bags_are}
+use Rattle.cq_engine_tables.proofs.Numbers.{others}
+use Rattle.cq_engine_tables.proofs.Pairs.{pointwise_length}
+use Rattle.cq_engine_tables.proofs.Rows.{fitting_in}
+
+-- ---- Tables that are as wide
+-- each table that was there is there, and has as many columns
+abbrev pub KeepWidths : List TableOf → List TableOf → Type 0
+KeepWidths old new = (n wide : ℕ) → width_at old n ≡ Some wide → width_at new n ≡ Some wide
+
+module _ (old new : List TableOf) (keep : KeepWidths old new) where
+  still-wide : (s : Source) (wide : ℕ) → IsWide old s wide → IsWide new s wide
+  still-wide (Table n) wide is = keep n wide is
+  still-wide (View place) wide is = is
+
+  -- so are those that a query names
+  pub all-still-wide : (sources : List Source) (widths : List ℕ) → AllZip (IsWide old) sources widths → AllZip (IsWide new) sources widths
+  all-still-wide [] [] all = tt
+  all-still-wide [] (w ∷ widths) all = absurd all
+  all-still-wide (s ∷ sources) [] all = absurd all
+  all-still-wide (s ∷ sources) (w ∷ widths) all = (still-wide s w all.0, all-still-wide sources widths all.1)
+
+-- a table in the place of one of its number and columns
+module _ (u d : TableOf) where
+  widths-set : (ts : List TableOf) (i : ℕ) → u.number ≡ (get_or ts i d).number → u.columns ≡ (get_or ts i d).columns → (n : ℕ) → width_at (set ts i u) n ≡ width_at ts n
+  widths-set [] i number columns n = refl
+  widths-set (x ∷ xs) zero number columns n = λ j. if number j == n then Some (length (columns j)) else width_at xs n
+  widths-set (x ∷ xs) (suc i) number columns n = by_test (x.number == n)
+      (λ k. rw k refl)
+      (λ k. rw k (widths-set xs i number columns n))
+
+  pub keep-set : (ts : List TableOf) (i : ℕ) → u.number ≡ (get_or ts i d).number → u.columns ≡ (get_or ts i d).columns → KeepWidths ts (set ts i u)
+  keep-set ts i number columns n wide is = rw (widths-set ts i number columns n) is
+
+-- a table behind the others
+pub keep-behind : (ts : List TableOf) (t : TableOf) → KeepWidths ts (ts ++ t ∷ [])
+keep-behind [] t n wide is = absurd (cc is)
+keep-behind (x ∷ xs) t n wide is = by_test (x.number == n)
+    (λ k. rw k (rw k at is))
+    (λ k. rw k (keep-behind xs t n wide (rw k at is)))
+
+-- one table fewer
+module _ (n : ℕ) where
+  widths-left : (ts : List TableOf) (m : ℕ) → (m == n) ≡ false → width_at (others n ts) m ≡ width_at ts m
+  widths-left [] m other = refl
+  widths-left (x ∷ xs) m other = by_test (x.number == n)
+      (λ k.
+      let first : (x.number == m) ≡ false = ne_eqb x.number m (λ e. eqb-false m n other (sym e ∙ eqb-true x.number n k)) in
+      rw (k, first) (widths-left xs m other))
+      (λ k. rw k (by_test (x.number == m) (λ j. rw j refl) (λ j. rw j (widths-left xs m other))))
+
+  one-left : (ts : List TableOf) (s : Source) (wide : ℕ) → is_table n s ≡ false → IsWide ts s wide → IsWide (others n ts) s wide
+  one-left ts (Table m) wide other is = rw (widths-left ts m other) is
+  one-left ts (View place) wide other is = is
+
+  -- those that a query names are as wide, where it does not name that one
+  pub wide-left : (ts : List TableOf) (sources : List Source) (widths : List ℕ) → AllByRecursion (λ s. is_table n s ≡ false) sources
+      → AllZip (IsWide ts) sources widths → AllZip (IsWide (others n ts)) sources widths
+  wide-left ts [] [] free all = tt
+  wide-left ts [] (w ∷ widths) free all = absurd all
+  wide-left ts (s ∷ sources) [] free all = absurd all
+  wide-left ts (s ∷ sources) (w ∷ widths) free all = (one-left ts s w free.0 all.0, wide-left ts sources widths free.1 all.1)
+
+-- ---- Rows that are as wide
+-- rows that fit columns are as many values wide
+rows-wide : (columns : List ColumnDef) (rows : List Row) → AllByRecursion (FitsColumns columns) rows → HasWidth (length columns) (once_each rows)
+rows-wide columns [] fit = tt
+rows-wide columns (r ∷ rows) fit = (pointwise_length FitsColumn columns r fit.0, rows-wide columns rows fit.1)
+
+some-same : (n m : ℕ) → Some n ≡ Some m → n ≡ m
+some-same n m e = cc e
+
+module _ (tables : List TableOf) where
+  -- how many columns the rows of a source have
+  abbrev pub width_of : Source → ℕ
+  width_of (Table n) = length (columns_in tables n)
+  width_of (View place) = zero
+
+  columns-wide : (ts : List TableOf) (n wide : ℕ) → width_at ts n ≡ Some wide → length (columns_in ts n) ≡ wide
+  columns-wide [] n wide is = absurd (cc is)
+  columns-wide (x ∷ xs) n wide is = by_test (x.number == n)
+      (λ k. rw k (some-same (length x.columns) wide (rw k at is)))
+      (λ k. rw k (columns-wide xs n wide (rw k at is)))
+
+  all-widths : (sources : List Source) (widths : List ℕ) → AllZip (IsWide tables) sources widths → map width_of sources ≡ widths
+  all-widths [] [] all = refl
+  all-widths [] (w ∷ widths) all = absurd all
+  all-widths (s ∷ sources) [] all = absurd all
+  all-widths (Table n ∷ sources) (w ∷ widths) all =
+      let own = columns-wide tables n w all.0 in
+      let rest = all-widths sources widths all.1 in
+      λ i. own i ∷ rest i
+  all-widths (View place ∷ sources) (w ∷ widths) all = absurd all.0
+
+  bags-wide : AreFitting tables → (s : Source) → HasWidth (width_of s) (bags_in tables s)
+  bags-wide fitting (Table n) = rows-wide (columns_in tables n) (rows_in tables n) (fitting_in n tables fitting)
+  bags-wide fitting (View place) = tt
+
+  -- a view that is right for tables suits them where their rows fit
+  pub suits : (now : ℕ) (v : NamedView) → AreFitting tables → IsRight tables now v → Suits v.kept (bags_in tables)
+  suits now v fitting right = record {
+    stands = right.stands;
+    columns = record {
+      width = width_of;
+      from = all-widths (sources_of v.kept.query) v.kept.widths right.wide;
+      rows = bags-wide fitting;
+      bags = bags_are tables;
+    };
+  }

@@ -1,0 +1,9 @@
+use Rattle.cq_values.specs.Texts.{is_text}
+use Rattle.cq_engine_tables.proofs.Places.{found_there, same_presence}
+use Rattle.cq_engine_tables.proofs.tables.place_of.Goals as goal
+
+pub returns-clause-found : goal.returns-clause-found
+returns-clause-found c = rw c.position_of.ensures (found_there (λ t. is_text t.name c.args.name.now) c.args.tables.now)
+
+pub returns-clause-named : goal.returns-clause-named
+returns-clause-named c = rw c.position_of.ensures (same_presence (λ t. is_text t.name c.args.name.now) c.args.tables.now)

@@ -1,0 +1,26 @@
+-- Tables by their numbers, and the rows that they hold.
+use Rattle.std.specs.Prelude.{◌≡◌, ◌+◌, ℕ, List, ◌==◌, true, length, Option}
+use Rattle.std.specs.List.{list_any}
+use Rattle.cq_values.specs.Value.{Row}
+use Rattle.cq_model.specs.declared.assignment.Assignment.{Assignment}
+use Rattle.cq_model.specs.Expr.{Cond}
+use Rattle.cq_binder_rules.specs.declared.fault.Fault.{Fault}
+use Rattle.cq_model_state.specs.State.{TableOf}
+use Rattle.cq_table.specs.Checks.{too_many, value_fault}
+use Rattle.cq_table.specs.Table.{StoredTable}
+
+-- a table has the number
+abbrev pub IsThere : ℕ → List TableOf → Type 0
+IsThere n tables = list_any (λ t. t.number == n) tables ≡ true
+
+-- a stored table under its number and its name
+abbrev pub named : ℕ → List ℕ → StoredTable → TableOf
+named number name t = record { number = number; name = name; columns = t.columns; sort = t.sort; rows = t.rows }
+
+-- whether the rows are too many for a table that may have so many
+abbrev pub no_room_for : ℕ → TableOf → List Row → Option Fault
+no_room_for max_rows t rows = too_many max_rows (length t.rows + length rows)
+
+-- why the values that the chosen rows of a table get may not be stored
+abbrev pub value_fault_of : TableOf → List Assignment → Option Cond → Option Fault
+value_fault_of t assignments condition = value_fault t.columns assignments condition t.rows

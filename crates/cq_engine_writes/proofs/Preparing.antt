@@ -1,0 +1,123 @@
+-- What a write changes, and views that can be made ready for it.
+use Rattle.std.proofs.Common.{◌≡◌, ◌+◌, ◌*◌, ◌≤◌, ◌^◌, ℕ, ℤ, pos, neg_ℤ, false, List, [], ◌∷◌, length, Option, Some, None, refl, sym, arith}
+use Rattle.std.specs.List.{AllByRecursion}
+use Rattle.std.proofs.lemmas.Bool.{eq-eqb, eqb-false, ne_eqb}
+use Rattle.std.proofs.lemmas.Nat.{mul-le}
+use Rattle.cq_values.specs.Value.{Row}
+use Rattle.cq_model_bags.proofs.Bags.{same-refl}
+use Rattle.cq_model_laws.specs.Sizes.{IsStored}
+use Rattle.cq_model.specs.declared.query.Source.{Source}
+use Rattle.cq_model.specs.declared.query.Source.TheVariants.{Table, View}
+use Rattle.cq_model.specs.Meaning.{Tables}
+use Rattle.cq_model.specs.Views.{is_table, sources_of}
+use Rattle.cq_sides_weights.proofs.RowByRow.{sizes-append}
+use Rattle.cq_sides_weights.specs.Held.{sizes}
+use Rattle.cq_deltas_joins.proofs.Storing.{stored-append}
+use Rattle.cq_deltas_joins.specs.Chains.{spans}
+use Rattle.cq_deltas_joins.specs.Steps.{AreStored, span}
+use Rattle.cq_views_state.specs.declared.state.Pending.{Pending}
+use Rattle.cq_engine_tables.specs.Taking.{AllStandFor, AreReady, AreReadyFor, CanAllPrepare, CanAllTake}
+use Rattle.cq_engine_tables.specs.Views.{Fits, NamedView}
+use Rattle.cq_views.proofs.Exchanges.{sizes-weighed}
+use Rattle.cq_views.proofs.Taking.{only-have}
+use Rattle.cq_views.specs.Changes.{exchanged, weighed}
+use Rattle.cq_views.specs.Filling.{only}
+use Rattle.cq_engine_writes.specs.Changing.{AreStanding, IsChangeAt}
+
+-- ---- The change of one table
+-- stored rows that all come, or all go
+stored-weighed : (w : ℤ) (rows : List Row) → AllByRecursion IsStored rows → AreStored (weighed rows w)
+stored-weighed w [] stored = tt
+stored-weighed w (r ∷ rows) stored = (stored.0, stored-weighed w rows stored.1)
+
+module _ (n : ℕ) (gone come : List Row) where
+  abbrev pub change : Tables
+  change = only (Table n) (exchanged gone come)
+
+  -- its rows change, and no others
+  pub change_there : IsChangeAt n (exchanged gone come) change
+  change_there = record { at = rw (eq-eqb n n refl) (same-refl (exchanged gone come)); others = elsewhere }
+    where
+      elsewhere : (source : Source) → is_table n source ≡ false → change source ≡ []
+      elsewhere (Table m) other = rw (ne_eqb n m (λ e. eqb-false m n other (sym e))) refl
+      elsewhere (View place) other = refl
+
+  -- they are stored where those are that go and that come
+  pub change_stored : AllByRecursion IsStored gone → AllByRecursion IsStored come → (source : Source) → AreStored (change source)
+  change_stored first second =
+      only-have AreStored (Table n) (exchanged gone come)
+      (stored-append (weighed gone (neg_ℤ (pos 1))) (weighed come (pos 1)) (stored-weighed (neg_ℤ (pos 1)) gone first) (stored-weighed (pos 1) come second)) tt
+
+  -- and few
+  pub change_few : length gone + length come ≤ 2 ^ 25 → (source : Source) → sizes (change source) ≤ 2 ^ 25
+  change_few few =
+      only-have (λ xs. sizes xs ≤ 2 ^ 25) (Table n) (exchanged gone come)
+      (omega (
+        arith,
+        sizes-append (weighed gone (neg_ℤ (pos 1))) (weighed come (pos 1)),
+        sizes-weighed (neg_ℤ (pos 1)) refl gone,
+        sizes-weighed (pos 1) refl come,
+        few,
+      )) (omega arith)
+
+-- ---- Views that can be made ready
+module _ (tables changes : Tables) (each : (source : Source) → span (tables source) (changes source) ≤ 2 ^ 26) where
+  more_spans : (source : Source) (sources : List Source) (m : ℕ) → spans tables changes sources ≤ m → spans tables changes (source ∷ sources) ≤ 2 ^ 26 * m
+  more_spans source sources m h = mul-le (span (tables source) (changes source)) (spans tables changes sources) (2 ^ 26) m (each source) h
+
+  -- at most four sources of few rows are few
+  spans_few : (sources : List Source) → length sources ≤ 4 → spans tables changes sources ≤ 2 ^ 122
+  spans_few [] h = omega arith
+  spans_few (a ∷ []) h = omega (arith, more_spans a [] 1 (omega arith))
+  spans_few (a ∷ b ∷ []) h = omega (arith, more_spans a (b ∷ []) (2 ^ 26) (omega (arith, more_spans b [] 1 (omega arith))))
+  spans_few (a ∷ b ∷ c ∷ []) h =
+      let last : spans tables changes (c ∷ []) ≤ 2 ^ 26 = omega (arith, more_spans c [] 1 (omega arith)) in
+      let two : spans tables changes (b ∷ c ∷ []) ≤ 2 ^ 52 = omega (arith, more_spans b (c ∷ []) (2 ^ 26) last) in
+      omega (arith, more_spans a (b ∷ c ∷ []) (2 ^ 52) two)
+  spans_few (a ∷ b ∷ c ∷ d ∷ []) h =
+      let last : spans tables changes (d ∷ []) ≤ 2 ^ 26 = omega (arith, more_spans d [] 1 (omega arith)) in
+      let two : spans tables changes (c ∷ d ∷ []) ≤ 2 ^ 52 = omega (arith, more_spans c (d ∷ []) (2 ^ 26) last) in
+      let three : spans tables changes (b ∷ c ∷ d ∷ []) ≤ 2 ^ 78 = omega (arith, more_spans b (c ∷ d ∷ []) (2 ^ 52) two) in
+      omega (arith, more_spans a (b ∷ c ∷ d ∷ []) (2 ^ 78) three)
+  spans_few (a ∷ b ∷ c ∷ d ∷ e ∷ sources) h = absurd (omega (arith, h))
+
+-- what holds of each source holds of all of these
+all_hold : (P : Source → Type 0) → ((source : Source) → P source) → (sources : List Source) → AllByRecursion P sources
+all_hold P each [] = tt
+all_hold P each (s ∷ sources) = (each s, all_hold P each sources)
+
+-- views that stand can be made ready for few stored changes
+pub can_all_prepare : (changes : Tables) → ((source : Source) → AreStored (changes source)) → ((source : Source) → sizes (changes source) ≤ 2 ^ 25) → (views : List NamedView) → AreStanding views
+    → CanAllPrepare changes views
+can_all_prepare changes stored few views standing = each views standing.fits standing.stand
+  where
+    spans_small : (source : Source) → span (standing.tables source) (changes source) ≤ 2 ^ 26
+    spans_small source = omega (arith, standing.few source, few source)
+
+    each : (vs : List NamedView) → AllByRecursion (λ v. Fits v.kept.query) vs → AllStandFor standing.tables vs → CanAllPrepare changes vs
+    each [] fits stand = tt
+    each (v ∷ vs) fits stand = (
+      record {
+        can = fits.0.can;
+        tables = standing.tables;
+        stands = stand.0;
+        few = spans_few standing.tables changes spans_small (sources_of v.kept.query) fits.0.few;
+        stored = (
+          all_hold (λ s. AreStored (standing.tables s)) standing.stored (sources_of v.kept.query),
+          all_hold (λ s. AreStored (changes s)) stored (sources_of v.kept.query),
+        );
+      },
+      each vs fits.1 stand.1,
+    )
+
+-- ---- Views that are ready
+-- views for which changes wait have room for them
+pub take_ready : (n : ℕ) (tables changes : Tables) (ws : List NamedView) (ps : List (Option Pending)) → AreReady n tables changes ws ps → CanAllTake ws ps
+take_ready n tables changes [] [] ready = tt
+take_ready n tables changes [] (p ∷ ps) ready = absurd ready
+take_ready n tables changes (w ∷ ws) [] ready = absurd ready
+take_ready n tables changes (w ∷ ws) (None ∷ ps) ready = (tt, take_ready n tables changes ws ps ready.1)
+take_ready n tables changes (w ∷ ws) (Some p ∷ ps) ready = (ready.0.2, take_ready n tables changes ws ps ready.1)
+
+pub all_take : (n : ℕ) (changes : Tables) (vs ws : List NamedView) (ps : List (Option Pending)) → AreStanding vs → AreReadyFor n changes vs ws ps → CanAllTake ws ps
+all_take n changes vs ws ps standing ready = take_ready n standing.tables changes ws ps (ready standing.tables standing.stand)

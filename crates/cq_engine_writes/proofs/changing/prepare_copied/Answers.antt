@@ -1,0 +1,18 @@
+use Rattle.std.proofs.Common.{ap, arith, length}
+use Rattle.std.proofs.lemmas.List.{length-map}
+use Rattle.cq_table_columns.specs.Stored.{row_of}
+use Rattle.cq_engine_tables.proofs.Turns.{all_same}
+use Rattle.cq_engine_writes.proofs.changing.prepare_copied.Goals as goal
+
+pub prepare_views-requires-clause-gone : goal.prepare_views-requires-clause-gone
+prepare_views-requires-clause-gone c = rw (c.deref.ensures.value, c.in_ok-lent.ensures) c.requires.gone
+
+pub prepare_views-requires-clause-few : goal.prepare_views-requires-clause-few
+prepare_views-requires-clause-few c =
+    rw c.deref.ensures.value (omega (arith, c.requires.few, length-map c.in_ok-lent.lent.items row_of, ap length c.in_ok-lent.ensures))
+
+pub returns-clause-ready : goal.returns-clause-ready
+returns-clause-ready c = rw (c.deref.ensures.value, c.in_ok-lent.ensures) at c.prepare_views.ensures.ready
+
+pub returns-in_err-lent-clause-same : goal.returns-in_err-lent-clause-same
+returns-in_err-lent-clause-same c = all_same c.args.views.now.items

@@ -1,0 +1,48 @@
+use Rattle.std.proofs.Common.{◌≡◌, List, length, subst, sym, ◌≤◌, ◌^◌}
+use Rattle.std.specs.Prelude.{IfOk}
+use Rattle.std.specs.List.{AllByRecursion}
+use Rattle.cq_values.specs.Value.{Row}
+use Rattle.cq_model.specs.Write.{chosen, left_by}
+use Rattle.cq_model.specs.Width.{IsNarrowIn}
+use Rattle.cq_model_state.specs.State.{TableOf}
+use Rattle.cq_engine_tables.proofs.Rows.{all_there, rows_numbered}
+use Rattle.cq_engine_writes.proofs.Written.{standing, written-moved, written-number}
+use Rattle.cq_engine_writes.proofs.writing.delete_in.Goals as goal
+
+pub delete_from-requires-clause-few : goal.delete_from-requires-clause-few
+delete_from-requires-clause-few c =
+    let t = c.index_mut.result.now in
+    let at = rw c.deref.ensures.value at c.place_numbered-place.ensures in
+    subst (λ (x : TableOf). length x.rows ≤ 2 ^ 24) (sym c.index_mut.ensures.value) (all_there (λ x. length x.rows ≤ 2 ^ 24) c.args.tables.now.items c.place_numbered-place.result t c.requires.limited at.within)
+
+pub delete_from-requires-clause-stand : goal.delete_from-requires-clause-stand
+delete_from-requires-clause-stand c = standing c.args.tables.now.items c.requires.right.0 c.args.views.now.items c.requires.fitting c.requires.limited c.requires.right.1
+
+pub delete_from-requires-clause-narrow : goal.delete_from-requires-clause-narrow
+delete_from-requires-clause-narrow c =
+    let t = c.index_mut.result.now in
+    let at = rw c.deref.ensures.value at c.place_numbered-place.ensures in
+    let rows = rows_numbered c.args.tables.now.items c.place_numbered-place.result t c.requires.numbered.0 c.args.number c.requires.numbered.1 at.within c.index_mut.ensures.value (at.numbered t) in
+    subst (λ (rs : List Row). AllByRecursion (IsNarrowIn c.args.condition.now) rs) rows c.requires.narrow
+
+pub returns-clause-count : goal.returns-clause-count
+returns-clause-count c =
+    let t = c.index_mut.result.now in
+    let at = rw c.deref.ensures.value at c.place_numbered-place.ensures in
+    let rows = rows_numbered c.args.tables.now.items c.place_numbered-place.result t c.requires.numbered.0 c.args.number c.requires.numbered.1 at.within c.index_mut.ensures.value (at.numbered t) in
+    subst (λ (rs : List Row). IfOk c.delete_from.result (λ count. count ≡ length (chosen c.args.condition.now rs))) (sym rows) c.delete_from.ensures.count
+
+pub returns-clause-left : goal.returns-clause-left
+returns-clause-left c =
+    let t = c.index_mut.result.now in
+    let at = rw c.deref.ensures.value at c.place_numbered-place.ensures in
+    written-number c.requires.numbered.0 c.args.tables.now.items c.place_numbered-place.result t c.requires.numbered.1 at.within c.index_mut.ensures.value c.args.number (at.numbered t)
+    c.delete_from.new.table (left_by c.args.condition.now) c.delete_from.result c.delete_from.ensures.left
+
+pub returns-clause-moved : goal.returns-clause-moved
+returns-clause-moved c =
+    let t = c.index_mut.result.now in
+    let at = rw c.deref.ensures.value at c.place_numbered-place.ensures in
+    written-moved c.standing_depends_on_sources.ensures c.requires.right.0 c.requires.numbered.0 c.args.tables.now.items c.place_numbered-place.result t c.args.views.now.items
+    c.requires.numbered.1 at.within c.index_mut.ensures.value c.requires.right.1 c.args.epoch c.delete_from.new.table c.delete_from.new.views.items (left_by c.args.condition.now t.rows) c.delete_from.result
+    c.delete_from.ensures.left c.delete_from.ensures.follow

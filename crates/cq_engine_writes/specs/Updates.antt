@@ -1,0 +1,82 @@
+-- UPDATE on rows that it was bound to: what is known of it, and what it leaves.
+use Rattle.std.specs.Prelude.{◌≡◌, ℕ, List, length, map, slice_index_or, Option, None, Result, Ok, Err, Vec}
+use Rattle.std.specs.Global.{Global}
+use Rattle.std.specs.List.{AllByRecursion}
+use Rattle.cq_values.specs.declared.column.ColumnDef.{ColumnDef}
+use Rattle.cq_values.specs.declared.ty.Ty.{Ty}
+use Rattle.cq_values.specs.declared.ty.Ty.TheVariants as types
+use Rattle.cq_values.specs.Value.{Row}
+use Rattle.cq_model.specs.declared.assignment.Assignment.{Assignment}
+use Rattle.cq_model.specs.Eval.{eval}
+use Rattle.cq_model.specs.Expr.{Cond}
+use Rattle.cq_model.specs.Width.{IsNarrowAt, IsNarrowIn}
+use Rattle.cq_model.specs.Write.{chosen, image_of, updated}
+use Rattle.cq_binder_rules.specs.declared.fault.Fault.{Fault}
+use Rattle.cq_binder_rules.specs.Checks.{MayRefuse}
+use Rattle.cq_binder_expressions.specs.Types.{IsOf}
+use Rattle.cq_model_state.specs.State.{TableOf, columns_in, holding, rows_in, with_rows}
+use Rattle.cq_views.specs.Changes.{exchanged}
+use Rattle.cq_views_state.specs.declared.state.Pending.{Pending}
+use Rattle.cq_engine_tables.specs.Taking.{CanAllTake}
+use Rattle.cq_engine_tables.specs.Views.{NamedView}
+use Rattle.cq_engine_writes.specs.Changing.{AreReadyAt}
+use Rattle.cq_table.specs.Checks.{value_fault}
+use Rattle.cq_table.specs.Table.{SameRows}
+use Rattle.cq_engine_tables.specs.Tables.{value_fault_of}
+
+-- the type of the column at a place, which is there
+abbrev pub declared_type : List ColumnDef → ℕ → Ty
+declared_type columns place = slice_index_or (map (λ c. c.ty) columns) place types.Integer
+
+-- nothing in an assignment is too wide at a row, and its value is of the column's type
+pub record CanSet (columns : List ColumnDef) (row : Row) (a : Assignment) : Type 0 where
+  pub narrow : IsNarrowAt a.value row
+  pub typed : IsOf (declared_type columns a.column) (eval a.value row)
+
+-- so it is with all assignments
+abbrev pub CanSetAll : List ColumnDef → List Assignment → Row → Type 0
+CanSetAll columns assignments row = AllByRecursion (CanSet columns row) assignments
+
+-- WHERE and SET can be worked out on each of the rows
+pub record CanUpdate (columns : List ColumnDef) (assignments : List Assignment) (condition : Option Cond) (rows : List Row) : Type 0 where
+  pub narrow : AllByRecursion (IsNarrowIn condition) rows
+  pub sets : AllByRecursion (CanSetAll columns assignments) rows
+
+-- so it is in the table of a number
+abbrev pub CanUpdateIn : List TableOf → ℕ → List Assignment → Option Cond → Type 0
+CanUpdateIn tables n assignments condition = CanUpdate (columns_in tables n) assignments condition (rows_in tables n)
+
+-- each row that WHERE chooses is replaced by its image, where the images may be stored, and the chosen ones are counted
+abbrev pub UpdatesRows : List Assignment → Option Cond → TableOf → Result ℕ Fault → TableOf → Type 0
+UpdatesRows assignments condition old (Ok count) new =
+    (value_fault_of old assignments condition ≡ None) × (count ≡ length (chosen condition old.rows))
+    × (new ≡ holding (updated assignments condition old.rows) old)
+UpdatesRows assignments condition old (Err f) new = MayRefuse (value_fault_of old assignments condition) f
+
+-- the tables with the chosen rows of the table of a number replaced
+abbrev pub updated_in : ℕ → List Assignment → Option Cond → List TableOf → List TableOf
+updated_in n assignments condition tables = with_rows n (updated assignments condition (rows_in tables n)) tables
+
+-- the same of the table of a number
+abbrev pub value_fault_in : List TableOf → ℕ → List Assignment → Option Cond → Option Fault
+value_fault_in tables n assignments condition = value_fault (columns_in tables n) assignments condition (rows_in tables n)
+
+-- the rows of the table of a number are updated
+abbrev pub Updates : ℕ → List Assignment → Option Cond → List TableOf → Result ℕ Fault → List TableOf → Type 0
+Updates n assignments condition old (Ok count) new =
+    (value_fault_in old n assignments condition ≡ None) × (count ≡ length (chosen condition (rows_in old n)))
+    × (new ≡ updated_in n assignments condition old)
+Updates n assignments condition old (Err f) new = MayRefuse (value_fault_in old n assignments condition) f
+
+-- the images of the chosen rows are worked out and may be stored, and the views are ready for the exchange
+pub record IsPrepared (t : TableOf) (assignments : List Assignment) (condition : Option Cond) (old new : List NamedView) (come : List Row) (pendings : List (Option Pending)) : Type 0 where
+  pub free : value_fault_of t assignments condition ≡ None
+  pub gone : List Row
+  pub chosen : SameRows gone (chosen condition t.rows)
+  pub images : come ≡ map (image_of assignments) gone
+  pub ready : AreReadyAt t.number (exchanged gone come) old new pendings
+  pub can : CanAllTake new pendings
+
+-- the images and what waits, as they are kept until then
+abbrev pub ArePrepared : TableOf → List Assignment → Option Cond → List NamedView → List NamedView → (Vec Row Global × Vec (Option Pending) Global) → Type 0
+ArePrepared t assignments condition old new prepared = IsPrepared t assignments condition old new prepared.0.items prepared.1.items

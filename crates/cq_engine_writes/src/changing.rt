@@ -1,0 +1,56 @@
+//! What a write changes in the views.
+ghost use Rattle.std.specs.List.{AllByRecursion};
+ghost use Rattle.std.specs.Prelude.{◌+◌, ◌≤◌, ◌^◌, IfOk, length};
+ghost use Rattle.cq_table_columns.specs.Stored.{stored_rows};
+ghost use Rattle.cq_views.specs.Changes.{exchanged};
+ghost use Rattle.cq_model_laws.specs.Sizes.{IsStored};
+ghost use Rattle.cq_engine_tables.specs.Taking.{AreSame, CanAllTake};
+ghost use Rattle.cq_engine_writes.specs.Changing.{AreReadyAt, AreStanding};
+
+use cq_engine_tables::{View, prepare_all};
+use cq_table_columns::{Front, StoredRow};
+use cq_values::Row;
+use cq_views::TableChange;
+use cq_views_state::Pending;
+use std::alloc::{AllocError, Global};
+
+/// Makes the views ready for a write of a table that the first rows leave and the others come to. The rows are lent to
+/// the views that read the table. Nothing that is shown changes.
+pub(crate) fn prepare_views(
+    alloc: Global,
+    views: &mut Vec<View>,
+    table: u64,
+    gone: &[StoredRow],
+    come: &[Row],
+) -> Result<Vec<Option<Pending>>, AllocError>
+    requires stand { AreStanding views.old.items }
+    requires gone { AllByRecursion IsStored (stored_rows gone.now) }
+    requires come { AllByRecursion IsStored come.now }
+    requires few { length gone.now + length come.now ≤ 2 ^ 25 }
+    ensures same { AreSame views.old.items views.new.items }
+    ensures ready { IfOk result (λ ps. AreReadyAt table (exchanged (stored_rows gone.now) come.now) views.old.items views.new.items ps.items) }
+    ensures can { IfOk result (λ ps. CanAllTake views.new.items ps.items) }
+{
+    let change = TableChange { table, gone, come };
+    prepare_all(alloc, views, &change)
+}
+
+/// Makes them ready where the rows that leave are copies.
+pub(crate) fn prepare_copied(
+    alloc: Global,
+    views: &mut Vec<View>,
+    table: u64,
+    gone: &[Row],
+    come: &[Row],
+) -> Result<Vec<Option<Pending>>, AllocError>
+    requires stand { AreStanding views.old.items }
+    requires gone { AllByRecursion IsStored gone.now }
+    requires come { AllByRecursion IsStored come.now }
+    requires few { length gone.now + length come.now ≤ 2 ^ 25 }
+    ensures same { AreSame views.old.items views.new.items }
+    ensures ready { IfOk result (λ ps. AreReadyAt table (exchanged gone.now come.now) views.old.items views.new.items ps.items) }
+    ensures can { IfOk result (λ ps. CanAllTake views.new.items ps.items) }
+{
+    let lent = Front::Rows(gone).rows(alloc)?;
+    prepare_views(alloc, views, table, &lent, come)
+}

@@ -1,0 +1,43 @@
+//! The rows that a DELETE takes.
+ghost use Rattle.std.specs.List.{AllByRecursion};
+ghost use Rattle.std.specs.Prelude.{◌≡◌, ◌≤◌, IfOk, OnErr, OnOk, length};
+ghost use Rattle.cq_model.specs.Write.{chosen, left_by};
+ghost use Rattle.cq_model_state.specs.Fitting.{IsFitting, rows_limit};
+ghost use Rattle.cq_model_state.specs.State.{holding};
+ghost use Rattle.cq_model.specs.Width.{IsNarrowIn};
+ghost use Rattle.cq_engine_tables.specs.Taking.{AreSame};
+ghost use Rattle.cq_engine_writes.specs.Changing.{AreStanding};
+ghost use Rattle.cq_engine_writes.specs.Following.{Follow};
+
+use crate::changing::prepare_views;
+use cq_engine_tables::{Table, View, commit_all};
+use cq_model::Cond;
+use cq_views::standing_depends_on_sources;
+use std::alloc::{AllocError, Global};
+
+/// Takes the rows that WHERE keeps from this table, and tells how many they were. The views on the table follow.
+pub fn delete_from(
+    alloc: Global,
+    table: &mut Table,
+    views: &mut Vec<View>,
+    condition: &Option<Cond>,
+    epoch: u64,
+) -> Result<usize, AllocError>
+    requires fitting { IsFitting table.old }
+    requires few { length table.old.rows ≤ rows_limit }
+    requires stand { AreStanding views.old.items }
+    requires narrow { AllByRecursion (IsNarrowIn condition.now) table.old.rows }
+    ensures count { IfOk result (λ count. count ≡ length (chosen condition.now table.old.rows)) }
+    ensures left { OnOk result (table.new ≡ holding (left_by condition.now table.old.rows) table.old) }
+    ensures follow { OnOk result (Follow epoch table.old table.new views.old.items views.new.items) }
+    ensures err { OnErr result ((table.new ≡ table.old) × AreSame views.old.items views.new.items) }
+{
+    let pendings = {
+        let chosen = table.chosen(alloc, condition)?;
+        prepare_views(alloc, views, table.number(), &chosen, &[])?
+    };
+    let count = table.delete_where(alloc, condition)?;
+    commit_all(views, pendings, epoch);
+    standing_depends_on_sources();
+    Ok(count)
+}

@@ -1,0 +1,41 @@
+//! The rows that an INSERT brings.
+ghost use Rattle.std.specs.Prelude.{◌≡◌, ◌≤◌, OnErr, OnOk};
+ghost use Rattle.std.specs.List.{AllByRecursion};
+ghost use Rattle.cq_model_state.specs.Fitting.{FitsColumns, IsFitting, rows_limit};
+ghost use Rattle.cq_engine_tables.specs.Taking.{AreSame};
+ghost use Rattle.cq_engine_writes.specs.Changing.{AreStanding};
+ghost use Rattle.cq_engine_writes.specs.Following.{Follow};
+ghost use Rattle.cq_engine_writes.specs.Writing.{InsertsRows};
+
+use crate::changing::prepare_views;
+use cq_binder_rules::Fault;
+use cq_engine_tables::{Table, View, commit_all};
+use cq_table::check_room;
+use cq_values::Row;
+use cq_views::standing_depends_on_sources;
+use std::alloc::Global;
+
+/// Adds the rows to this table, or none of them. The views on the table take them in.
+pub fn insert_into(
+    alloc: Global,
+    max_rows: u64,
+    table: &mut Table,
+    views: &mut Vec<View>,
+    rows: Vec<Row>,
+    epoch: u64,
+) -> Result<(), Fault>
+    requires fitting { IsFitting table.old }
+    requires limited { max_rows ≤ rows_limit }
+    requires stand { AreStanding views.old.items }
+    requires rows { AllByRecursion (FitsColumns table.old.columns) rows.items }
+    ensures inserts { InsertsRows max_rows rows.items table.old result table.new }
+    ensures follow { OnOk result (Follow epoch table.old table.new views.old.items views.new.items) }
+    ensures err { OnErr result ((table.new ≡ table.old) × AreSame views.old.items views.new.items) }
+{
+    check_room(max_rows, table.len(), rows.len())?;
+    let pendings = prepare_views(alloc, views, table.number(), &[], &rows)?;
+    table.insert(max_rows, rows)?;
+    commit_all(views, pendings, epoch);
+    standing_depends_on_sources();
+    Ok(())
+}

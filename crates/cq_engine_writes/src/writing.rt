@@ -1,0 +1,108 @@
+//! Writes of the table of a number, which is one of several.
+ghost use Rattle.std.specs.Prelude.{◌≡◌, ◌≤◌, ℕ, IfOk, OnErr, OnOk, length};
+ghost use Rattle.std.specs.List.{AllByRecursion};
+ghost use Rattle.cq_model.specs.Width.{IsNarrowIn};
+ghost use Rattle.cq_model.specs.Write.{chosen};
+ghost use Rattle.cq_model_state.specs.Fitting.{AreFitting, AreLimited, FitsColumns, rows_limit};
+ghost use Rattle.cq_model_state.specs.State.{AreNumbered, columns_in, rows_in};
+ghost use Rattle.cq_engine_tables.specs.Tables.{IsThere};
+ghost use Rattle.cq_engine_tables.specs.Taking.{AreSame};
+ghost use Rattle.cq_engine_tables.specs.Views.{AreRight};
+ghost use Rattle.cq_engine_writes.specs.Following.{Moved};
+ghost use Rattle.cq_engine_writes.specs.Updates.{CanUpdateIn, Updates};
+ghost use Rattle.cq_engine_writes.specs.Writing.{Inserts, deleted_from};
+
+use crate::deletion::delete_from;
+use crate::insertion::insert_into;
+use crate::updating::update_rows;
+use cq_binder_rules::Fault;
+use cq_engine_tables::{Table, View, place_numbered};
+use cq_model::{Assignment, Cond};
+use cq_values::Row;
+use cq_views::standing_depends_on_sources;
+use std::alloc::{AllocError, Global};
+
+/// Adds the rows to the table of a number, where they fit. The views on it take them in, and each view is at the epoch.
+pub fn insert_in(
+    alloc: Global,
+    max_rows: u64,
+    tables: &mut Vec<Table>,
+    views: &mut Vec<View>,
+    number: u64,
+    rows: Vec<Row>,
+    epoch: u64,
+) -> Result<(), Fault>
+    requires max { max_rows ≤ rows_limit }
+    requires numbered { (next : ℕ) × AreNumbered tables.old.items next }
+    requires fitting { AreFitting tables.old.items }
+    requires right { (now : ℕ) × AreRight tables.old.items now views.old.items }
+    requires limited { AreLimited rows_limit tables.old.items }
+    requires there { IsThere number tables.old.items }
+    requires rows { AllByRecursion (FitsColumns (columns_in tables.old.items number)) rows.items }
+    ensures inserts { Inserts max_rows number rows.items tables.old.items result tables.new.items }
+    ensures moved { OnOk result (Moved epoch tables.new.items views.old.items views.new.items) }
+    ensures err { OnErr result ((tables.new.items ≡ tables.old.items) × AreSame views.old.items views.new.items) }
+{
+    let place = place_numbered(tables, number);
+    standing_depends_on_sources();
+    insert_into(alloc, max_rows, &mut tables[place], views, rows, epoch)
+}
+
+/// Takes the rows that WHERE keeps from the table of a number, and tells how many they were. The views on it follow, and
+/// each view is at the epoch.
+pub fn delete_in(
+    alloc: Global,
+    tables: &mut Vec<Table>,
+    views: &mut Vec<View>,
+    number: u64,
+    condition: &Option<Cond>,
+    epoch: u64,
+) -> Result<usize, AllocError>
+    requires numbered { (next : ℕ) × AreNumbered tables.old.items next }
+    requires fitting { AreFitting tables.old.items }
+    requires right { (now : ℕ) × AreRight tables.old.items now views.old.items }
+    requires limited { AreLimited rows_limit tables.old.items }
+    requires there { IsThere number tables.old.items }
+    requires narrow { AllByRecursion (IsNarrowIn condition.now) (rows_in tables.old.items number) }
+    ensures count { IfOk result (λ count. count ≡ length (chosen condition.now (rows_in tables.old.items number))) }
+    ensures left { OnOk result (tables.new.items ≡ deleted_from number condition.now tables.old.items) }
+    ensures moved { OnOk result (Moved epoch tables.new.items views.old.items views.new.items) }
+    ensures err { OnErr result ((tables.new.items ≡ tables.old.items) × AreSame views.old.items views.new.items) }
+{
+    let place = place_numbered(tables, number);
+    standing_depends_on_sources();
+    delete_from(alloc, &mut tables[place], views, condition, epoch)
+}
+
+/// Replaces each row that WHERE keeps in the table of a number by its image, and tells how many they were, where the images
+/// may be stored. The views on it follow, and each view is at the epoch.
+pub fn update_in(
+    alloc: Global,
+    tables: &mut Vec<Table>,
+    views: &mut Vec<View>,
+    number: u64,
+    assignments: &[Assignment],
+    condition: &Option<Cond>,
+    epoch: u64,
+) -> Result<usize, Fault>
+    requires numbered { (next : ℕ) × AreNumbered tables.old.items next }
+    requires fitting { AreFitting tables.old.items }
+    requires right { (now : ℕ) × AreRight tables.old.items now views.old.items }
+    requires limited { AreLimited rows_limit tables.old.items }
+    requires there { IsThere number tables.old.items }
+    requires can { CanUpdateIn tables.old.items number assignments.now condition.now }
+    ensures updates { Updates number assignments.now condition.now tables.old.items result tables.new.items }
+    ensures moved { OnOk result (Moved epoch tables.new.items views.old.items views.new.items) }
+    ensures err { OnErr result ((tables.new.items ≡ tables.old.items) × AreSame views.old.items views.new.items) }
+{
+    let place = place_numbered(tables, number);
+    standing_depends_on_sources();
+    update_rows(
+        alloc,
+        &mut tables[place],
+        views,
+        assignments,
+        condition,
+        epoch,
+    )
+}

@@ -1,5 +1,0 @@
-use Rattle.cq_epochs.proofs.Follows.{follows-accepts}
-use Rattle.cq_epochs.proofs.laws.earlier_epochs_stay.Goals as goal
-
-pub returns : goal.returns
-returns c = λ old new command answer epoch n sound fits a there low high. (follows-accepts old new command answer sound fits a).stays epoch n low high there

@@ -1,5 +1,0 @@
-use Rattle.cq_epochs.proofs.Stays.{first-sound, step-sound}
-use Rattle.cq_epochs.proofs.laws.states_stay_sound.Goals as goal
-
-pub returns : goal.returns
-returns c = record { first = first-sound; step = step-sound }

@@ -1,5 +1,0 @@
-use Rattle.cq_eval.proofs.Likes as likes
-use Rattle.cq_eval.proofs.pattern.like_decides.Goals as goal
-
-pub returns : goal.returns
-returns c = likes.like_decides

@@ -1,5 +1,0 @@
-use Rattle.cq_exprs.proofs.Typed.{typed_is_of_its_kind}
-use Rattle.cq_exprs.proofs.laws.typed_is_of_its_kind.Goals as goal
-
-pub returns : goal.returns
-returns c = typed_is_of_its_kind

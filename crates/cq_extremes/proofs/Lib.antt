@@ -1,4 +1,0 @@
-pub mod Built
-pub mod Ends
-pub mod Lookups
-pub mod Writes

@@ -1,7 +1,0 @@
-use Rattle.std.proofs.Common.{refl}
-use Rattle.cq_extremes.specs.Extremes.{with_more}
-use Rattle.cq_extremes.proofs.Writes.{more-added}
-use Rattle.cq_extremes.proofs.laws.more_is_added.Goals as goal
-
-pub returns : goal.returns
-returns c = λ r w xs. more-added r w xs (with_more r w xs) refl

@@ -1,0 +1,12 @@
+use Rattle.std.proofs.Common.{◌≡◌, List, take}
+use Rattle.cq_values.specs.Value.{Row}
+use Rattle.cq_hash_groups.specs.Groups.{Holds}
+use Rattle.cq_hash_groups.proofs.Showing.{AreShown, shown_rows}
+use Rattle.cq_hash_groups.proofs.group_table.GroupTable.rows.Given as goal
+
+-- the groups so far are shown, whichever rows the table is of
+abbrev pub invariant-loop-group : goal.invariant-loop-group
+invariant-loop-group l = record {
+  rows : (of : List Row) → Holds l.self of → l.rows.items ≡ shown_rows l.self.keys l.self.aggregates of (take l.group l.keys);
+  range : (of : List Row) → Holds l.self of → AreShown l.self.keys l.self.aggregates of (take l.group l.keys);
+}

@@ -1,0 +1,140 @@
+-- Groups of the rows that were added to a table, and what is kept of them.
+use Rattle.std.specs.Prelude.{◌≡◌, ℕ, ◌≤◌, ℤ, pos, ◌+ℤ◌, not, List, [], ◌∷◌, ◌++◌, length, map, filter, Option, Some, None, slice_index_or, unwrap_or, Vec}
+use Rattle.std.specs.Global.{Global}
+use Rattle.cq_values.specs.declared.value.Value.{Value}
+use Rattle.cq_values.specs.declared.value.Value.TheVariants.{Number}
+use Rattle.cq_values.specs.Order.{same_row}
+use Rattle.cq_values.specs.Value.{Row}
+use Rattle.cq_model_bags.specs.Bag.{firsts, once_each}
+use Rattle.cq_model.specs.Condition.{is_null}
+use Rattle.cq_model.specs.Eval.{eval}
+use Rattle.cq_model.specs.Group.{SumsInRange, addend, extreme, grouped, key_of}
+use Rattle.cq_model.specs.Sizes.{count_size}
+use Rattle.cq_model.specs.declared.query.Aggregate.{Aggregate}
+use Rattle.cq_model.specs.declared.query.Aggregate.TheVariants.{CountAll, Count, Sum, Min, Max}
+use Rattle.cq_vectors.specs.Gathered.{column_of}
+use Rattle.cq_hash_groups.specs.declared.fault.GroupFault.{GroupFault}
+use Rattle.cq_hash_groups.specs.declared.fault.GroupFault.TheVariants.{SumOutOfRange}
+use Rattle.cq_hash_groups.specs.declared.bests.Extreme.{Extreme}
+use Rattle.cq_hash_groups.specs.declared.bests.Extreme.TheVariants.{Least, Greatest}
+use Rattle.cq_hash_groups.specs.declared.slots.Slots.{Slots}
+use Rattle.cq_hash_groups.specs.declared.slots.Slots.TheVariants.{Counts, Sums, Bests}
+use Rattle.cq_hash_groups.specs.declared.sums.Sum.{Sum as Summed}
+use Rattle.cq_hash_groups.specs.Puts.{best_of, summed}
+use Rattle.cq_hash_groups.specs.Slots.{AreWithin, grown_slots, no_slots, put_slots}
+
+-- a table of groups: what is asked, how many rows there were, the keys that were met, and what is kept for each aggregate
+pub record StoredGroups : Type 0 where
+  pub keys : Option (List ℕ)
+  pub aggregates : List Aggregate
+  pub count : ℕ
+  pub found : List Row
+  pub slots : List Slots
+
+-- of these parts
+abbrev pub stored : Option (List ℕ) → List Aggregate → ℕ → List Row → List Slots → StoredGroups
+stored keys aggregates count found slots = record { keys = keys; aggregates = aggregates; count = count; found = found; slots = slots }
+
+-- the columns of GROUP BY, and none without it
+abbrev pub group_columns : Option (List ℕ) → List ℕ
+group_columns keys = unwrap_or keys []
+
+-- without GROUP BY there is one group from the start
+abbrev pub first_keys : Option (List ℕ) → List Row
+first_keys None = [] ∷ []
+first_keys (Some columns) = []
+
+-- the key of each row
+abbrev pub keys_in : Option (List ℕ) → List Row → List Row
+keys_in keys rows = map (key_of (group_columns keys)) rows
+
+-- the columns that make up the keys
+abbrev pub columns_in : Option (List ℕ) → List Row → List (List Value)
+columns_in keys rows = map (column_of rows) (group_columns keys)
+
+-- the keys of the groups of these rows, as they were first met
+abbrev pub group_keys : Option (List ℕ) → List Row → List Row
+group_keys keys rows = firsts (first_keys keys ++ map (key_of (group_columns keys)) rows)
+
+-- the rows that have a key
+abbrev pub rows_at : List ℕ → List Row → Row → List Row
+rows_at columns rows key = filter (λ r. same_row (key_of columns r) key) rows
+
+-- what an aggregate reads of a row: each row itself counts for COUNT(*)
+abbrev pub argument : Aggregate → Row → Value
+argument CountAll r = Number (pos 0)
+argument (Count e) r = eval e r
+argument (Sum e) r = eval e r
+argument (Min e) r = eval e r
+argument (Max e) r = eval e r
+
+-- values other than NULL
+abbrev pub known : List Value → List Value
+known values = filter (λ v. not (is_null v)) values
+
+-- what values add to a sum together
+abbrev pub total_of : List Value → ℤ
+total_of [] = pos 0
+total_of (v ∷ values) = addend v +ℤ total_of values
+
+-- how many values other than NULL there are
+abbrev pub kept_count : List Value → ℕ
+kept_count values = length (known values)
+
+-- their exact total
+abbrev pub kept_sum : List Value → Summed
+kept_sum values = summed (length (known values)) (total_of (known values))
+
+-- the best of them
+abbrev pub kept_best : Extreme → List Value → Value
+kept_best which values = extreme (best_of which) (known values)
+
+-- of each group what is kept of its values
+abbrev pub kept_each : {S : Type 0} → (List Value → S) → (Row → Value) → List ℕ → List Row → List Row → List S
+kept_each kept value columns rows keys = map (λ key. kept (map value (rows_at columns rows key))) keys
+
+-- what is kept for an aggregate of the groups of these keys
+abbrev pub slots_at : List ℕ → List Row → List Row → Aggregate → Slots
+slots_at columns rows keys CountAll = Counts (kept_each kept_count (argument CountAll) columns rows keys)
+slots_at columns rows keys (Count e) = Counts (kept_each kept_count (argument (Count e)) columns rows keys)
+slots_at columns rows keys (Sum e) = Sums (kept_each kept_sum (argument (Sum e)) columns rows keys)
+slots_at columns rows keys (Min e) = Bests Least (kept_each (kept_best Least) (argument (Min e)) columns rows keys)
+slots_at columns rows keys (Max e) = Bests Greatest (kept_each (kept_best Greatest) (argument (Max e)) columns rows keys)
+
+-- the table is the one of these rows
+pub record Holds (t : StoredGroups) (rows : List Row) : Type 0 where
+  pub count : t.count ≡ length rows
+  pub found : t.found ≡ group_keys t.keys rows
+  pub slots : t.slots ≡ map (slots_at (group_columns t.keys) rows t.found) t.aggregates
+
+-- the rows of the groups are those of these rows
+abbrev pub AreGroups : StoredGroups → List Row → Vec Row Global → Type 0
+AreGroups t rows groups = once_each groups.items ≡ grouped t.keys t.aggregates (once_each rows)
+
+-- in no group is a SUM's total too large to show
+abbrev pub CanBeShown : StoredGroups → List Row → Type 0
+CanBeShown t rows = SumsInRange t.keys t.aggregates (once_each rows)
+
+-- a fault for a total is told only where one cannot be shown
+abbrev pub IsGroupsFault : StoredGroups → List Row → GroupFault → Type 0
+IsGroupsFault t rows e = e ≡ SumOutOfRange → CanBeShown t rows → ⊥
+
+-- for no aggregate has a group more values than this
+abbrev pub AreAllWithin : ℕ → List Slots → Type 0
+AreAllWithin most slots = (place : ℕ) → AreWithin most (slice_index_or slots place no_slots)
+
+-- keys are as wide as GROUP BY says, and no group has more values than there were rows
+pub record IsTable (keys : Option (List ℕ)) (values count : ℕ) (slots : List Slots) : Type 0 where
+  pub width : values ≡ length (group_columns keys)
+  pub few : count ≤ count_size
+  pub within : AreAllWithin count slots
+
+-- with the rows of a batch added to what is kept for one aggregate
+abbrev pub added_slots : ℕ → List ℕ → List Row → Aggregate → Slots → Slots
+added_slots groups numbers rows a slots = put_slots numbers (map (argument a) rows) (grown_slots groups slots)
+
+-- and for each aggregate
+abbrev pub all_added : ℕ → List ℕ → List Row → List Aggregate → List Slots → List Slots
+all_added groups numbers rows [] slots = slots
+all_added groups numbers rows (a ∷ aggregates) [] = []
+all_added groups numbers rows (a ∷ aggregates) (s ∷ slots) = added_slots groups numbers rows a s ∷ all_added groups numbers rows aggregates slots

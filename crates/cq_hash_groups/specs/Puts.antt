@@ -1,0 +1,67 @@
+-- How values are put into what is kept of groups, each into the group of its number.
+use Rattle.std.specs.Prelude.{ℕ, ℤ, ◌+◌, ◌*◌, ◌^◌, ◌≤◌, ◌<◌, pos, ◌+ℤ◌, ◌==◌, nat_abs, if◌then◌else◌, ◌≡◌, false, List, [], ◌∷◌, length, slice_index_or, slice_set}
+use Rattle.std.specs.List.{AllByRecursion}
+use Rattle.cq_values.specs.declared.value.Value.{Value}
+use Rattle.cq_values.specs.declared.value.Value.TheVariants.{Null, Number}
+use Rattle.cq_model.specs.Condition.{is_null}
+use Rattle.cq_model.specs.Group.{addend, lower, higher}
+use Rattle.cq_hash_groups.specs.declared.bests.Extreme.{Extreme}
+use Rattle.cq_hash_groups.specs.declared.bests.Extreme.TheVariants.{Least, Greatest}
+use Rattle.cq_hash_groups.specs.declared.sums.Sum.{Sum}
+
+-- the values put into the groups of their numbers, one after the other, where a group that is not there has nothing
+abbrev pub put_all : {S : Type 0} → (S → Value → S) → S → List ℕ → List Value → List S → List S
+put_all put nothing [] values slots = slots
+put_all put nothing (n ∷ numbers) [] slots = slots
+put_all put nothing (n ∷ numbers) (v ∷ values) slots =
+    put_all put nothing numbers values (slice_set slots n (put (slice_index_or slots n nothing) v))
+
+-- none of the values is NULL
+abbrev pub AreKnown : List Value → Type 0
+AreKnown values = (place : ℕ) → place < length values → is_null (slice_index_or values place Null) ≡ false
+
+-- NULL is not counted
+abbrev pub put_count : ℕ → Value → ℕ
+put_count count v = if is_null v then count else count + 1
+
+-- so many values with a total
+abbrev pub summed : ℕ → ℤ → Sum
+summed count total = record { count = count; total = total }
+
+-- the sum of no values
+abbrev pub no_sum : Sum
+no_sum = summed 0 (pos 0)
+
+-- NULL is not counted and adds nothing
+abbrev pub put_sum : Sum → Value → Sum
+put_sum sum v = if is_null v then sum else summed (sum.count + 1) (sum.total +ℤ addend v)
+
+-- the better one of two values
+abbrev pub best_of : Extreme → Value → Value → Value
+best_of Least v w = lower v w
+best_of Greatest v w = higher v w
+
+-- the best so far and one value more: NULL is no value
+abbrev pub put_best : Extreme → Value → Value → Value
+put_best which best v = if is_null v then best else (if is_null best then v else best_of which best v)
+
+-- no group has more values than this
+abbrev pub AreCountsWithin : ℕ → List ℕ → Type 0
+AreCountsWithin most counts = (group : ℕ) → slice_index_or counts group 0 ≤ most
+
+-- a sum of at most so many values
+pub record IsSumWithin (most : ℕ) (sum : Sum) : Type 0 where
+  pub count : sum.count ≤ most
+  pub total : nat_abs sum.total ≤ most * 2 ^ 127
+
+-- no group has a sum of more values than this
+abbrev pub AreSumsWithin : ℕ → List Sum → Type 0
+AreSumsWithin most sums = (group : ℕ) → IsSumWithin most (slice_index_or sums group no_sum)
+
+-- each number is that of a group
+abbrev pub AreNumbers : ℕ → List ℕ → Type 0
+AreNumbers groups numbers = AllByRecursion (λ number. number < groups) numbers
+
+-- the total of values, and NULL of none
+abbrev pub shown_sum : Sum → Value
+shown_sum sum = if sum.count == 0 then Null else Number sum.total

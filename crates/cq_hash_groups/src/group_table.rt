@@ -1,0 +1,127 @@
+//! Groups of rows, as they are added.
+ghost use Rattle.std.specs.List.{AllByRecursion};
+ghost use Rattle.std.specs.Prelude.{◌+◌, ◌++◌, ◌≡◌, ◌≤◌, IfErr, IfOk, List, OnOk, [], length};
+ghost use Rattle.cq_model.specs.Sizes.{count_size};
+ghost use Rattle.cq_values.specs.Value.{Row as Values};
+ghost use Rattle.cq_hash_groups.specs.Exact.{AreExactOver};
+ghost use Rattle.cq_hash_groups.specs.Groups.{AreGroups, CanBeShown, Holds, IsGroupsFault};
+
+use crate::adding::{add_all, first_slots};
+use crate::fault::GroupFault;
+use crate::keys::{first_groups, number_rows};
+use crate::shown::shown_row;
+use crate::slots::Slots;
+use cq_hash_keys::KeyTable;
+use cq_model::Aggregate;
+use cq_operators_scans::{Scan, refused_room};
+use cq_values::{Row, Seq};
+use std::alloc::{AllocError, Global};
+use std::marker::Model;
+
+/// How many rows can be counted.
+const COUNT_SIZE: u128 = 1 << 96;
+
+/// Groups of rows, as they were first met, with what each aggregate needs of them.
+#[derive(Drop)]
+pub struct GroupTable<'q> {
+    keys: &'q Option<Seq<usize>>,
+    aggregates: &'q [Aggregate],
+    count: u128,
+    found: KeyTable,
+    slots: Vec<Slots>,
+}
+
+impl<'q> Model for GroupTable<'q> {
+    ghost use Rattle.std.specs.Coded.{codes};
+    ghost use Rattle.cq_model.specs.contracts.expr.Expr as expr;
+    ghost use Rattle.cq_hash_groups.specs.Groups.{IsTable, StoredGroups, stored};
+
+    ghost Value = { StoredGroups };
+
+    ghost coded = { Prim.hlevel (codes, expr.the_row.coded) };
+
+    ghost view = { λ t. stored t.keys.now t.aggregates.now t.count t.found.keys t.slots.items };
+
+    ghost invariant = { λ t. IsTable t.keys.now t.found.width t.count t.slots.items };
+}
+
+impl<'q> GroupTable<'q> {
+    /// The groups of no rows: without GROUP BY there is one.
+    pub fn new(
+        alloc: Global,
+        keys: &'q Option<Seq<usize>>,
+        aggregates: &'q [Aggregate],
+    ) -> Result<GroupTable<'q>, AllocError>
+        ensures holds { IfOk result (λ table. Holds table []) }
+        ensures keys { IfOk result (λ table. table.keys ≡ keys.now) }
+        ensures aggregates { IfOk result (λ table. table.aggregates ≡ aggregates.now) }
+    {
+        let found = first_groups(alloc, keys)?;
+        match first_slots(alloc, aggregates, found.len()) {
+            Ok(slots) => Ok(GroupTable {
+                keys,
+                aggregates,
+                count: 0,
+                found,
+                slots,
+            }),
+            Err(fault) => {
+                drop(found);
+                Err(fault)
+            }
+        }
+    }
+
+    /// Adds rows to their groups. After an `Err` the table stands for no rows that one could name. More than 2^96 rows are
+    /// refused: there is no memory for their count.
+    pub fn add(&mut self, alloc: Global, scan: &Scan<'q>) -> Result<(), AllocError>
+        requires exact { AllByRecursion (AreExactOver self.old.aggregates) scan.now }
+        ensures holds { OnOk result ((rows : List Values) → Holds self.old rows → Holds self.new (rows ++ scan.now)) }
+        ensures count { OnOk result (self.new.count ≡ self.old.count + length scan.now) }
+        ensures keys { self.new.keys ≡ self.old.keys }
+        ensures aggregates { self.new.aggregates ≡ self.old.aggregates }
+    {
+        let count = counted(alloc, self.count, scan.len())?;
+        let mut numbers = Vec::new(alloc);
+        number_rows(alloc, self.keys, scan, &mut self.found, &mut numbers)?;
+        let groups = self.found.len();
+        self.count = count;
+        add_all(
+            alloc,
+            self.aggregates,
+            scan,
+            groups,
+            &numbers,
+            &mut self.slots,
+        )
+    }
+
+    /// The row of each group: its key, and then its aggregates.
+    pub fn rows(&self, alloc: Global) -> Result<Vec<Row>, GroupFault>
+        ensures ok { (rows : List Values) → Holds self.now rows → IfOk result (AreGroups self.now rows) }
+        ensures range { (rows : List Values) → Holds self.now rows → OnOk result (CanBeShown self.now rows) }
+        ensures few { (rows : List Values) → Holds self.now rows → OnOk result (length rows ≤ count_size) }
+        ensures fault { (rows : List Values) → Holds self.now rows → IfErr result (IsGroupsFault self.now rows) }
+    {
+        let keys = self.found.keys();
+        let mut rows = Vec::new(alloc);
+        for group in 0..keys.len() {
+            let row = shown_row(alloc, &keys[group], &self.slots, group)?;
+            rows.push(row)?;
+        }
+        Ok(rows)
+    }
+}
+
+/// How many rows there are with so many more.
+fn counted(alloc: Global, count: u128, more: usize) -> Result<u128, AllocError>
+    requires { count ≤ count_size }
+    ensures all { IfOk result (λ all. all ≡ count + more) }
+    ensures few { IfOk result (λ all. all ≤ count_size) }
+{
+    let all = count + more as u128;
+    if all > COUNT_SIZE {
+        refused_room(alloc)?;
+    }
+    Ok(all)
+}

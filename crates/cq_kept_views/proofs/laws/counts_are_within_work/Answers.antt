@@ -1,5 +1,0 @@
-use Rattle.cq_kept_views.proofs.Standing.{counts-within}
-use Rattle.cq_kept_views.proofs.laws.counts_are_within_work.Goals as goal
-
-pub returns : goal.returns
-returns c = counts-within

@@ -1,5 +1,0 @@
-use Rattle.cq_kept_views.proofs.Rising.{rises-where_bag_changes}
-use Rattle.cq_kept_views.proofs.laws.counts_rise_where_changed.Goals as goal
-
-pub returns : goal.returns
-returns c = rises-where_bag_changes

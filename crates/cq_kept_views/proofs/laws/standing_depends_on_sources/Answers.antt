@@ -1,5 +1,0 @@
-use Rattle.cq_kept_views.proofs.Standing.{standing-by_bags}
-use Rattle.cq_kept_views.proofs.laws.standing_depends_on_sources.Goals as goal
-
-pub returns : goal.returns
-returns c = standing-by_bags

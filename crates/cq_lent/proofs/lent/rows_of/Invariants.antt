@@ -1,7 +1,0 @@
-use Rattle.std.proofs.Common.{◌≡◌, [], drop}
-use Rattle.cq_lent.specs.Lent.{rows_or}
-use Rattle.cq_lent.proofs.lent.rows_of.Given as goal
-
--- the source is looked for among the entries that are left
-abbrev pub invariant-loop-lent : goal.invariant-loop-lent
-invariant-loop-lent l = rows_or (drop l.lent-index l.sources) l.source [] ≡ rows_or l.sources l.source []

@@ -1,8 +1,0 @@
-use Rattle.std.proofs.Common.{length, ◌≡◌, ℕ, ◌<◌, ◌*◌, ◌-◌, ◌^◌, min, get_or, w64}
-use Rattle.std.specs.Int.{bit_not}
-use Rattle.std.specs.Int.RustNames.{bit_and, bit_or}
-use Rattle.cq_masks.proofs.plane.neither_words.Given as goal
-
--- the words below k are made
-abbrev pub invariant-loop-k : goal.invariant-loop-k
-invariant-loop-k l = (length l.words ≡ 16) × ((j : ℕ) → j < l.k → (get_or l.a j 0 < 2 ^ 64) × (get_or l.b j 0 < 2 ^ 64) × (get_or l.words j 0 ≡ bit_and (2 ^ min (l.len - 64 * j) 64 - 1) (bit_not w64 (bit_or (get_or l.a j 0) (get_or l.b j 0)))))

@@ -1,0 +1,7 @@
+use Rattle.std.proofs.Common.{◌≡◌, take}
+use Rattle.cq_model.specs.Meaning.{items_of}
+use Rattle.cq_model_eval.proofs.rows.items_of.Given as goal
+
+-- the values so far are those of the items so far
+abbrev pub invariant-loop-item : goal.invariant-loop-item
+invariant-loop-item l = l.values ≡ items_of (take l.item-index l.items) l.row

@@ -1,5 +1,0 @@
-use Rattle.cq_narrow.proofs.Bags.{are-narrow, same-narrow}
-use Rattle.cq_narrow.proofs.laws.narrow_rows_go_along.Goals as goal
-
-pub returns : goal.returns
-returns c = record { each = are-narrow; same = same-narrow }

@@ -1,0 +1,54 @@
+//! Rows with the ranks of what their listing compares first.
+ghost use Rattle.std.specs.Prelude.{◌≡◌};
+ghost use Rattle.cq_model_bags.specs.Listing.{listing_cmp};
+ghost use Rattle.cq_operators_listing.specs.Packed.{AreListedAs, cmp_packed as by_ranks, packed};
+
+use crate::comparing::cmp_listed;
+use crate::ranks::row_ranks;
+use cq_model_bags::SortKey;
+use cq_values::Row;
+use std::cmp::Ordering;
+
+/// A row with one number for what its listing compares first and second. Where two such numbers differ, their rows
+/// stand as the numbers do.
+#[derive(Drop)]
+pub(crate) struct Packed {
+    ranks: u128,
+    row: Row,
+}
+
+impl Packed {
+    pub(crate) fn new(keys: &[SortKey], row: Row) -> Packed
+        ensures { result ≡ packed keys.now row }
+    {
+        let ranks = row_ranks(keys, row.as_slice());
+        Packed { ranks, row }
+    }
+
+    pub(crate) fn into_row(self) -> Row
+        ensures { result ≡ self.row }
+    {
+        let Packed { row, .. } = self;
+        row
+    }
+}
+
+/// Which row stands first. The rows themselves are compared only where their ranks are equal.
+#[inline]
+pub(crate) fn cmp_packed(keys: &[SortKey], a: &Packed, b: &Packed) -> Ordering
+    ensures ranked { result ≡ by_ranks keys.now a.now b.now }
+    ensures listed { AreListedAs keys.now a.now b.now result }
+{
+    match a.ranks.cmp(&b.ranks) {
+        Ordering::Equal => cmp_rows(keys, &a.row, &b.row),
+        ordering => ordering,
+    }
+}
+
+#[cold]
+#[inline(never)]
+fn cmp_rows(keys: &[SortKey], a: &Row, b: &Row) -> Ordering
+    ensures { result ≡ listing_cmp keys.now a.now b.now }
+{
+    cmp_listed(keys, a.as_slice(), b.as_slice())
+}

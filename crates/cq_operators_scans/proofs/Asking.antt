@@ -1,0 +1,102 @@
+-- Rows that pass conditions, one after the other.
+use Rattle.std.proofs.Common.{◌≡◌, ℕ, suc, ◌+◌, ◌<◌, ◌≤◌, Bool, true, false, ◌&&◌, cond, List, [], ◌∷◌, map, drop, length, get_or, refl, sym, ◌∙◌, ap, subst, arith, add-one, drop-cons}
+use Rattle.std.specs.Prelude.{◌==◌}
+use Rattle.std.specs.Borrow.{Bor}
+use Rattle.std.specs.List.{AllByRecursion, filter}
+use Rattle.std.proofs.lemmas.Bool.{eqb-true}
+use Rattle.std.proofs.lemmas.List.{drop_all}
+use Rattle.cq_model_eval.proofs.Conditions.{map-map}
+use Rattle.cq_views_model.specs.Own.{in_place, passes_own}
+use Rattle.cq_values.specs.Value.{Row}
+use Rattle.cq_values.specs.declared.truth.Truth.{Truth}
+use Rattle.cq_model.specs.Condition.{holds}
+use Rattle.cq_model.specs.Exact.{AreExactIn}
+use Rattle.cq_model.specs.Expr.{Cond}
+use Rattle.cq_model.specs.Trees.{cond_of}
+use Rattle.cq_model.specs.declared.expr.CondTree.{CondTree}
+use Rattle.cq_operators_scans.specs.Passing.{CanPass, IsExactBehind, conditions_in, passes_one, passing_rows}
+use Rattle.cq_operators_scans.proofs.Lists.{all-kept, all-map, all-weaker}
+
+-- where there is no condition all pass
+none-asked : (before : ℕ) (rows : List Row) → passing_rows before [] rows ≡ rows
+none-asked before [] = refl
+none-asked before (row ∷ rows) = ap (λ rs. row ∷ rs) (none-asked before rows)
+
+-- of an empty list of them
+pub empty-asked : (before : ℕ) (conditions : List (Bor CondTree)) (rows : List Row) → (length conditions == 0) ≡ true → passing_rows before conditions rows ≡ rows
+empty-asked before [] rows e = none-asked before rows
+empty-asked before (c ∷ cs) rows e = absurd (omega (arith, eqb-true (length (c ∷ cs)) 0 e))
+
+-- no more are kept than there are
+one-more : (b : Bool) (x : Row) (kept : List Row) (n : ℕ) → length kept ≤ n → length (cond b (x ∷ kept) kept) ≤ suc n
+one-more true x kept n le = omega (arith, le)
+one-more false x kept n le = omega (arith, le)
+
+pub fewer : (p : Row → Bool) (rows : List Row) → length (filter p rows) ≤ length rows
+fewer p [] = omega arith
+fewer p (row ∷ rows) = one-more (p row) row (filter p rows) (length rows) (fewer p rows)
+
+-- a row that passes both tests is kept by one after the other
+both-kept : (p q : Row → Bool) (b : Bool) (row : Row) (rows : List Row) → filter q (cond b (row ∷ rows) rows) ≡ cond (b && q row) (row ∷ filter q rows) (filter q rows)
+both-kept p q true row rows = refl
+both-kept p q false row rows = refl
+
+one-after-other : (p q : Row → Bool) (rows : List Row) → filter q (filter p rows) ≡ filter (λ row. p row && q row) rows
+one-after-other p q [] = refl
+one-after-other p q (row ∷ rows) = both-kept p q (p row) row (filter p rows) ∙ ap (λ rs. cond (p row && q row) (row ∷ rs) rs) (one-after-other p q rows)
+
+-- Of some conditions the first ones were asked, and the rows that passed are those of which the rest is to be asked.
+pub record LeftToPass (before : ℕ) (left conditions : List (Bor CondTree)) (passed rows : List Row) : Type 0 where
+  pub few : length passed ≤ 1024
+  pub exact : AllByRecursion (CanPass before (conditions_in left)) passed
+  pub completes : passing_rows before left passed ≡ passing_rows before conditions rows
+
+-- none was asked yet
+pub none-asked-yet : (before : ℕ) (conditions : List (Bor CondTree)) (passed rows : List Row) → passed ≡ rows → length rows ≤ 1024
+    → AllByRecursion (CanPass before (conditions_in conditions)) rows → LeftToPass before conditions conditions passed rows
+none-asked-yet before conditions passed rows are few exact = record {
+  few = omega (arith, ap length are, few);
+  exact = subst (AllByRecursion (CanPass before (conditions_in conditions))) (sym are) exact;
+  completes = ap (passing_rows before conditions) are;
+}
+
+module _ (before : ℕ) (first : Bor CondTree) (left conditions : List (Bor CondTree)) (passed rows : List Row) (asked : LeftToPass before (first ∷ left) conditions passed rows) where
+  exact-first : AllByRecursion (IsExactBehind before (cond_of first.now)) passed
+  exact-first = all-weaker (λ row h. h.0) passed asked.exact
+
+  asked-first : (kept : List Row) → kept ≡ filter (passes_one before first.now) passed → LeftToPass before left conditions kept rows
+  asked-first kept is = record {
+    few = omega (arith, ap length is, fewer (passes_one before first.now) passed, asked.few);
+    exact = subst (AllByRecursion (CanPass before (conditions_in left))) (sym is) (all-kept (CanPass before (conditions_in left)) (passes_one before first.now) passed (all-weaker (λ row h. h.1) passed asked.exact));
+    completes = ap (passing_rows before left) is ∙ one-after-other (passes_one before first.now) (passes_own before (conditions_in left)) passed ∙ asked.completes;
+  }
+
+module _ (before : ℕ) (conditions : List (Bor CondTree)) (i : ℕ) (condition : Bor CondTree) (more : i < length conditions) (is : condition ≡ get_or conditions i condition) (passed rows : List Row)
+    (asked : LeftToPass before (drop i conditions) conditions passed rows) where
+  at-next : LeftToPass before (condition ∷ drop (i + 1) conditions) conditions passed rows
+  at-next =
+      subst (λ (left : List (Bor CondTree)). LeftToPass before left conditions passed rows)
+      (drop-cons conditions i condition more ∙ ap (λ (n : ℕ). get_or conditions i condition ∷ drop n conditions) (sym (add-one i)) ∙ ap (λ (c : Bor CondTree). c ∷ drop (i + 1) conditions) (sym is)) asked
+
+  -- the next condition can be asked of those that passed
+  pub exact-next : AllByRecursion (IsExactBehind before (cond_of condition.now)) passed
+  exact-next = exact-first before condition (drop (i + 1) conditions) conditions passed rows at-next
+
+  -- and leaves those of which the rest is to be asked
+  pub asked-next : (kept : List Row) → kept ≡ filter (passes_one before condition.now) passed → LeftToPass before (drop (i + 1) conditions) conditions kept rows
+  asked-next = asked-first before condition (drop (i + 1) conditions) conditions passed rows at-next
+
+-- when all were asked, the rows that passed are the ones
+pub all-asked : (before : ℕ) (conditions : List (Bor CondTree)) (i : ℕ) → length conditions ≤ i → (passed rows : List Row)
+    → LeftToPass before (drop i conditions) conditions passed rows → passed ≡ passing_rows before conditions rows
+all-asked before conditions i le passed rows asked =
+    sym (ap (λ (left : List (Bor CondTree)). passing_rows before left passed) (drop_all i conditions le) ∙ none-asked before passed) ∙ asked.completes
+
+module _ (before : ℕ) (c : Cond) (rows : List Row) where
+  -- the truths of the rows behind NULLs are those of the condition in them
+  pub truths-behind : (scan : List Row) (truths : List Truth) → scan ≡ map (in_place before) rows → truths ≡ map (holds c) scan → truths ≡ map (λ row. holds c (in_place before row)) rows
+  truths-behind scan truths is are = are ∙ ap (map (holds c)) is ∙ map-map (in_place before) (holds c) rows
+
+  -- in which it is exact
+  pub exact-behind : (scan : List Row) → scan ≡ map (in_place before) rows → AllByRecursion (IsExactBehind before c) rows → AllByRecursion (AreExactIn c) scan
+  exact-behind scan is exact = subst (AllByRecursion (AreExactIn c)) (sym is) (all-map (AreExactIn c) (in_place before) (λ row h. h) rows exact)

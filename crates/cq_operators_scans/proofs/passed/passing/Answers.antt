@@ -1,0 +1,27 @@
+use Rattle.std.proofs.Common.{◌∙◌, ◌++◌, ap, sym, List}
+use Rattle.std.proofs.lemmas.List.{map-append}
+use Rattle.std.proofs.lemmas.Result.{IfOk-weaker}
+use Rattle.cq_table_columns.specs.Stored.{all_rows, front_rows, row_of, stored_rows}
+use Rattle.cq_views_model.specs.Own.{passes_own}
+use Rattle.cq_values.specs.Value.{Row}
+use Rattle.cq_operators_scans.specs.Passing.{CanPass, conditions_in}
+use Rattle.cq_operators_scans.proofs.Asking.{empty-asked}
+use Rattle.cq_operators_scans.proofs.Fronts.{front-kept}
+use Rattle.cq_operators_scans.proofs.Lists.{all-behind}
+use Rattle.cq_operators_scans.proofs.passed.passing.Goals as goal
+
+pub loop-left-preserved : goal.loop-left-preserved
+loop-left-preserved c =
+    let left = all_rows c.loop-left.left in
+    let front = front_rows c.split_front.result.0 in
+    let rest = all_rows c.split_front.result.1 in
+    let conditions = conditions_in c.args.conditions.now in
+    let so_far = stored_rows c.loop-left.passing.items in
+    let more = ap stored_rows c.in_ok-append.ensures.items ∙ map-append row_of c.loop-left.passing.items c.in_ok-passed.passed.items ∙ ap (λ (rows : List Row). so_far ++ rows) c.in_ok-passed.ensures in record {
+      passing = front-kept (passes_own c.args.before conditions) left front rest c.split_front.ensures.parts so_far _ _ more c.loop-left.invariant.passing;
+      exact = all-behind (CanPass c.args.before conditions) left front rest c.split_front.ensures.parts c.loop-left.invariant.exact;
+    }
+
+pub returns-then-is_empty : goal.returns-then-is_empty
+returns-then-is_empty c =
+    IfOk-weaker c.lend_all.result _ _ (λ lent h. h ∙ sym (empty-asked c.args.before c.args.conditions.now (all_rows c.args.rows.now) (sym c.is_empty.ensures ∙ c.if-is_empty.true))) c.lend_all.ensures

@@ -1,0 +1,78 @@
+use Rattle.std.proofs.Common.{rules}
+use Rattle.std.proofs.lemmas.Result.{IfOk-weaker}
+use Rattle.cq_model.specs.declared.expr.ExprTree.TheViews.{the_lemmas}
+use Rattle.cq_model.specs.Expr.{Plus, Times}
+use Rattle.cq_model.specs.Eval.{eval, plus, times}
+use Rattle.cq_model.specs.Trees.{expr_of}
+use Rattle.cq_model_eval.proofs.Chains.{products, sums}
+use Rattle.cq_values.specs.Lent.{owned}
+use Rattle.cq_operators_scans.specs.Operand.{values_worked}
+use Rattle.cq_operators_scans.proofs.Lists.{same-length}
+use Rattle.cq_operators_scans.proofs.Valuing.{extract-exact, extracted-values, factor-exact, fits, fits-at, literal-values, negated-fits, negated-values, next, part-exact, term-exact}
+use Rattle.cq_operators_scans.proofs.vectors.+worked_out.Goals as goal
+
+pub negated-requires : goal.negated-requires
+negated-requires t c =
+    fits-at _ (negated-fits c.args.scan.now c.args.tree.now c.in-Negate.part c.deref.result.now c.in-Negate.is c.deref.ensures c.requires (values_worked c.args.scan.now c.in_ok-part-in-Negate.part) c.in_ok-part-in-Negate.ensures)
+
+pub worked_out-requires-in-Sum : goal.worked_out-requires-in-Sum
+worked_out-requires-in-Sum t c =
+    (search (rules, the_lemmas), term-exact c.args.scan.now c.args.tree.now c.in-Sum.first c.in-Sum.rest c.deref-in-Sum.result.now c.deref-in-Sum.ensures c.in-Sum.is c.requires)
+
+pub worked_out-requires-in-loop-term : goal.worked_out-requires-in-loop-term
+worked_out-requires-in-loop-term t c =
+    (search (rules, the_lemmas), part-exact Plus plus sums c.args.scan.now (expr_of c.args.tree.now) c.deref-term-items.result.now c.loop-term.term-index c.term-item.result (values_worked c.args.scan.now c.loop-term.sum) c.loop-term-test.true c.term-item.is c.loop-term.invariant c.requires)
+
+pub plus-requires-clause-same : goal.plus-requires-clause-same
+plus-requires-clause-same t c =
+    same-length (eval c.loop-term.invariant.front) (eval (expr_of c.term-item.result)) c.args.scan.now (values_worked c.args.scan.now c.loop-term.sum) (values_worked c.args.scan.now c.in-Ok.term) c.loop-term.invariant.are c.in-Ok.ensures
+
+pub plus-requires-clause-fits : goal.plus-requires-clause-fits
+plus-requires-clause-fits t c =
+    fits-at _ (fits Plus plus sums c.args.scan.now (expr_of c.args.tree.now) c.deref-term-items.result.now c.loop-term.term-index c.term-item.result (values_worked c.args.scan.now c.loop-term.sum) c.loop-term-test.true c.term-item.is
+    (values_worked c.args.scan.now c.in-Ok.term) c.in-Ok.ensures c.loop-term.invariant c.requires)
+
+pub worked_out-requires-in-Product : goal.worked_out-requires-in-Product
+worked_out-requires-in-Product t c =
+    (search (rules, the_lemmas), factor-exact c.args.scan.now c.args.tree.now c.in-Product.first c.in-Product.rest c.deref-in-Product.result.now c.deref-in-Product.ensures c.in-Product.is c.requires)
+
+pub worked_out-requires-in-loop-factor : goal.worked_out-requires-in-loop-factor
+worked_out-requires-in-loop-factor t c =
+    (search (rules, the_lemmas), part-exact Times times products c.args.scan.now (expr_of c.args.tree.now) c.deref-factor-items.result.now c.loop-factor.factor-index c.factor-item.result (values_worked c.args.scan.now c.loop-factor.product) c.loop-factor-test.true c.factor-item.is c.loop-factor.invariant c.requires)
+
+pub times-requires-clause-same : goal.times-requires-clause-same
+times-requires-clause-same t c =
+    same-length (eval c.loop-factor.invariant.front) (eval (expr_of c.factor-item.result)) c.args.scan.now (values_worked c.args.scan.now c.loop-factor.product) (values_worked c.args.scan.now c.in-Ok-worked_out.factor) c.loop-factor.invariant.are c.in-Ok-worked_out.ensures
+
+pub times-requires-clause-fits : goal.times-requires-clause-fits
+times-requires-clause-fits t c =
+    fits-at _ (fits Times times products c.args.scan.now (expr_of c.args.tree.now) c.deref-factor-items.result.now c.loop-factor.factor-index c.factor-item.result (values_worked c.args.scan.now c.loop-factor.product) c.loop-factor-test.true c.factor-item.is
+    (values_worked c.args.scan.now c.in-Ok-worked_out.factor) c.in-Ok-worked_out.ensures c.loop-factor.invariant c.requires)
+
+pub worked_out-requires-in-Extract : goal.worked_out-requires-in-Extract
+worked_out-requires-in-Extract t c =
+    (search (rules, the_lemmas), extract-exact c.args.scan.now c.args.tree.now c.in-Extract.day_part c.in-Extract.part c.deref-in-Extract.result.now c.in-Extract.is c.deref-in-Extract.ensures c.requires)
+
+pub loop-term-preserved : goal.loop-term-preserved
+loop-term-preserved t c =
+    next Plus plus sums c.args.scan.now (expr_of c.args.tree.now) c.deref-term-items.result.now c.loop-term.term-index c.term-item.result (values_worked c.args.scan.now c.loop-term.sum) c.loop-term-test.true c.term-item.is
+    (values_worked c.args.scan.now c.in-Ok.term) c.in-Ok.ensures (values_worked c.args.scan.now c.in_ok-sum-in-Sum-2.sum) c.in_ok-sum-in-Sum-2.ensures c.loop-term.invariant
+
+pub loop-factor-preserved : goal.loop-factor-preserved
+loop-factor-preserved t c =
+    next Times times products c.args.scan.now (expr_of c.args.tree.now) c.deref-factor-items.result.now c.loop-factor.factor-index c.factor-item.result (values_worked c.args.scan.now c.loop-factor.product) c.loop-factor-test.true c.factor-item.is
+    (values_worked c.args.scan.now c.in-Ok-worked_out.factor) c.in-Ok-worked_out.ensures (values_worked c.args.scan.now c.in_ok-product-in-Product-2.product) c.in_ok-product-in-Product-2.ensures c.loop-factor.invariant
+
+pub returns-in-Literal : goal.returns-in-Literal
+returns-in-Literal t c =
+    literal-values c.args.scan.now c.args.tree.now c.in-Literal.value (owned c.lend.result) c.len.result c.new-values.result c.in-Literal.is c.lend.ensures c.len.ensures.len c.new-values.ensures
+
+pub returns-in_ok-part-in-Negate : goal.returns-in_ok-part-in-Negate
+returns-in_ok-part-in-Negate t c =
+    IfOk-weaker c.negated.result _ _ (λ made h. negated-values c.args.scan.now c.args.tree.now (values_worked c.args.scan.now made) (values_worked c.args.scan.now c.in_ok-part-in-Negate.part) c.deref.result.now c.in_ok-part-in-Negate.ensures
+    c.in-Negate.part c.in-Negate.is c.deref.ensures h) c.negated.ensures
+
+pub returns-in_ok-part-in-Extract : goal.returns-in_ok-part-in-Extract
+returns-in_ok-part-in-Extract t c =
+    IfOk-weaker c.extracted.result _ _ (λ made h. extracted-values c.args.scan.now c.args.tree.now (values_worked c.args.scan.now made) (values_worked c.args.scan.now c.in_ok-part-in-Extract.part) c.deref-in-Extract.result.now c.in_ok-part-in-Extract.ensures
+    c.in-Extract.day_part c.in-Extract.part c.in-Extract.is c.deref-in-Extract.ensures h) c.extracted.ensures

@@ -1,0 +1,33 @@
+-- Values that are lent, or were worked out.
+use Rattle.std.specs.Prelude.{◌≡◌, List}
+use Rattle.std.specs.Simd.Lanes.{zip2}
+use Rattle.cq_values.specs.declared.value.Value.{Value}
+use Rattle.cq_values.specs.Value.{Row}
+use Rattle.cq_model.specs.Eval.{plus, times}
+use Rattle.cq_vectors.specs.Gathered.{column_of}
+use Rattle.cq_operators_scans.specs.declared.operand.Operand.{Operand}
+use Rattle.cq_operators_scans.specs.declared.operand.Operand.TheVariants as operand
+use Rattle.cq_operators_scans.specs.declared.worked.Worked.{Worked}
+use Rattle.cq_operators_scans.specs.declared.worked.Worked.TheVariants as worked
+
+-- the values of an operand, lent or its own
+abbrev pub values_in : Operand → List Value
+values_in (operand.Lent vector) = vector.now
+values_in (operand.Own vector) = vector
+
+-- the values of a column of rows, or those that were worked out
+abbrev pub values_worked : List Row → Worked → List Value
+values_worked rows (worked.Column place) = column_of rows place
+values_worked rows (worked.Values vector) = vector
+
+-- it was worked out to these values
+abbrev pub WorksOut : List Row → List Value → Worked → Type 0
+WorksOut rows values made = values_worked rows made ≡ values
+
+-- the sums of two such
+abbrev pub sums_worked : List Row → Worked → Worked → List Value
+sums_worked rows a b = zip2 plus (values_worked rows a) (values_worked rows b)
+
+-- and their products
+abbrev pub products_worked : List Row → Worked → Worked → List Value
+products_worked rows a b = zip2 times (values_worked rows a) (values_worked rows b)

@@ -1,0 +1,36 @@
+-- Rows of one source that pass conditions of their own, with NULL in the columns of the sources before it.
+use Rattle.std.specs.Prelude.{ℕ, Bool, List, map}
+use Rattle.std.specs.Borrow.{Bor}
+use Rattle.std.specs.List.{AllByRecursion, filter}
+use Rattle.cq_values.specs.Truth.{is_true}
+use Rattle.cq_values.specs.Value.{Row}
+use Rattle.cq_views_model.specs.Own.{in_place, passes_own}
+use Rattle.cq_model.specs.Condition.{holds}
+use Rattle.cq_model.specs.Exact.{AreExactIn}
+use Rattle.cq_model.specs.Expr.{Cond}
+use Rattle.cq_model.specs.Trees.{cond_of}
+use Rattle.cq_model.specs.declared.expr.CondTree.{CondTree}
+
+-- the conditions of trees that are lent
+abbrev pub conditions_in : List (Bor CondTree) → List Cond
+conditions_in trees = map (λ tree. cond_of tree.now) trees
+
+-- the results of one fit 128 bits in a row
+abbrev pub IsExactBehind : ℕ → Cond → Row → Type 0
+IsExactBehind before c row = AreExactIn c (in_place before row)
+
+-- and those of each
+abbrev pub CanPass : ℕ → List Cond → Row → Type 0
+CanPass before conditions row = AllByRecursion (λ c. AreExactIn c (in_place before row)) conditions
+
+-- whether a row passes one of them
+abbrev pub passes_one : ℕ → CondTree → Row → Bool
+passes_one before tree row = is_true (holds (cond_of tree) (in_place before row))
+
+-- the rows that do
+abbrev pub passing_one : ℕ → CondTree → List Row → List Row
+passing_one before tree rows = filter (passes_one before tree) rows
+
+-- the rows that pass them all
+abbrev pub passing_rows : ℕ → List (Bor CondTree) → List Row → List Row
+passing_rows before conditions rows = filter (passes_own before (conditions_in conditions)) rows

@@ -1,0 +1,216 @@
+//! The truth of a condition in each row of a scan.
+ghost use Rattle.std.specs.Prelude.{◌≡◌, IfOk, length, map};
+ghost use Rattle.std.specs.List.{AllByRecursion};
+ghost use Rattle.std.specs.Simd.Lanes.{zip2};
+ghost use Rattle.cq_values.specs.Comparison.{compared};
+ghost use Rattle.cq_values.specs.Truth.{and_truth, or_truth, truth_of};
+ghost use Rattle.cq_model.specs.Condition.{holds, is_null, liked};
+ghost use Rattle.cq_model.specs.Eval.{eval};
+ghost use Rattle.cq_model.specs.Exact.{AreExactAt, AreExactIn, IsExactAt};
+ghost use Rattle.cq_model.specs.Trees.{cond_of, expr_of};
+ghost use Rattle.cq_operators_scans.specs.Truths.{AreCompared, AreTruths, between_at, compared_at, is_one_at};
+
+use crate::scan::Scan;
+use crate::vectors::vector_of_tree;
+use cq_model::{Cond, CondTree, ExprTree};
+use cq_prims::{compare, is_null, like};
+use cq_prims_like::Pattern;
+use cq_values::{Comparison, Truth};
+use cq_vectors::Vector;
+use cq_vectors_masks::TruthMask;
+use std::alloc::{AllocError, Global};
+
+/// The truth of the condition in each row.
+pub fn truths_of<'a>(
+    alloc: Global,
+    cond: &'a Cond,
+    scan: &Scan<'a>,
+) -> Result<TruthMask, AllocError>
+    requires { AllByRecursion (AreExactIn cond.now) scan.now }
+    ensures { IfOk result (λ truths. truths ≡ map (holds cond.now) scan.now) }
+{
+    truths_of_tree(alloc, cond.tree(), scan)
+}
+
+pub(crate) fn truths_of_tree<'a>(
+    alloc: Global,
+    tree: &'a CondTree,
+    scan: &Scan<'a>,
+) -> Result<TruthMask, AllocError>
+    requires { AllByRecursion (AreExactIn (cond_of tree.now)) scan.now }
+    ensures { IfOk result (λ truths. truths ≡ map (holds (cond_of tree.now)) scan.now) }
+{
+    match tree {
+        CondTree::Compare(comparison, a, b) => compared_in(alloc, *comparison, a, b, scan),
+        CondTree::IsNull(expr) => nulls_in(alloc, expr, scan),
+        CondTree::Between(expr, least, greatest) => between_in(alloc, expr, least, greatest, scan),
+        CondTree::In(expr, choices) => one_of_in(alloc, expr, choices, scan),
+        CondTree::Like(expr, pattern) => likes_in(alloc, expr, pattern.as_str(), scan),
+        CondTree::Not(part) => {
+            let mut truths = TruthMask::new();
+            truths.set_not(&truths_of_tree(alloc, part, scan)?);
+            Ok(truths)
+        }
+        CondTree::And(first, rest) => {
+            let mut truths = truths_of_tree(alloc, first, scan)?;
+            for part in rest {
+                truths = both(&truths, &truths_of_tree(alloc, part, scan)?);
+            }
+            Ok(truths)
+        }
+        CondTree::Or(first, rest) => {
+            let mut truths = truths_of_tree(alloc, first, scan)?;
+            for choice in rest {
+                truths = either(&truths, &truths_of_tree(alloc, choice, scan)?);
+            }
+            Ok(truths)
+        }
+    }
+}
+
+fn compared_in<'a>(
+    alloc: Global,
+    comparison: Comparison,
+    a: &'a ExprTree,
+    b: &'a ExprTree,
+    scan: &Scan<'a>,
+) -> Result<TruthMask, AllocError>
+    requires a { AllByRecursion (IsExactAt (expr_of a.now)) scan.now }
+    requires b { AllByRecursion (IsExactAt (expr_of b.now)) scan.now }
+    ensures { IfOk result (AreTruths (compared_at comparison a.now b.now) scan.now) }
+{
+    let a = vector_of_tree(alloc, a, scan)?;
+    let truths = compared_with(alloc, comparison, a.vector(), b, scan);
+    drop(a);
+    truths
+}
+
+fn nulls_in<'a>(alloc: Global, expr: &'a ExprTree, scan: &Scan<'a>) -> Result<TruthMask, AllocError>
+    requires { AllByRecursion (IsExactAt (expr_of expr.now)) scan.now }
+    ensures { IfOk result (λ truths. truths ≡ map (λ r. truth_of (is_null (eval (expr_of expr.now) r))) scan.now) }
+{
+    let values = vector_of_tree(alloc, expr, scan)?;
+    let mut truths = TruthMask::new();
+    is_null(values.vector(), &mut truths);
+    drop(values);
+    Ok(truths)
+}
+
+fn likes_in<'a>(
+    alloc: Global,
+    expr: &'a ExprTree,
+    pattern: &str,
+    scan: &Scan<'a>,
+) -> Result<TruthMask, AllocError>
+    requires { AllByRecursion (IsExactAt (expr_of expr.now)) scan.now }
+    ensures { IfOk result (λ truths. truths ≡ map (λ r. liked (eval (expr_of expr.now) r) pattern.now) scan.now) }
+{
+    let values = vector_of_tree(alloc, expr, scan)?;
+    let truths = liked(alloc, values.vector(), pattern);
+    drop(values);
+    truths
+}
+
+fn between_in<'a>(
+    alloc: Global,
+    expr: &'a ExprTree,
+    least: &'a ExprTree,
+    greatest: &'a ExprTree,
+    scan: &Scan<'a>,
+) -> Result<TruthMask, AllocError>
+    requires value { AllByRecursion (IsExactAt (expr_of expr.now)) scan.now }
+    requires least { AllByRecursion (IsExactAt (expr_of least.now)) scan.now }
+    requires greatest { AllByRecursion (IsExactAt (expr_of greatest.now)) scan.now }
+    ensures { IfOk result (AreTruths (between_at expr.now least.now greatest.now) scan.now) }
+{
+    let value = vector_of_tree(alloc, expr, scan)?;
+    let (from, to) = (Comparison::GreaterOrEqual, Comparison::LessOrEqual);
+    let from_least = compared_with(alloc, from, value.vector(), least, scan);
+    let to_greatest = compared_with(alloc, to, value.vector(), greatest, scan);
+    drop(value);
+    let from_least = from_least?;
+    let to_greatest = to_greatest?;
+    Ok(both(&from_least, &to_greatest))
+}
+
+/// Whether the value equals one of the choices.
+fn one_of_in<'a>(
+    alloc: Global,
+    expr: &'a ExprTree,
+    choices: &'a [ExprTree],
+    scan: &Scan<'a>,
+) -> Result<TruthMask, AllocError>
+    requires value { AllByRecursion (IsExactAt (expr_of expr.now)) scan.now }
+    requires choices { AllByRecursion (AreExactAt (map expr_of choices.now)) scan.now }
+    ensures { IfOk result (AreTruths (is_one_at expr.now choices.now) scan.now) }
+{
+    let value = vector_of_tree(alloc, expr, scan)?;
+    let mut truths = TruthMask::new();
+    truths.set_all(Truth::False, scan.len());
+    for choice in choices {
+        match compared_with(alloc, Comparison::Equal, value.vector(), choice, scan) {
+            Ok(equal) => truths = either(&truths, &equal),
+            Err(fault) => {
+                drop(value);
+                return Err(fault);
+            }
+        }
+    }
+    drop(value);
+    Ok(truths)
+}
+
+/// These values, compared with the expression's.
+fn compared_with<'a>(
+    alloc: Global,
+    comparison: Comparison,
+    values: &Vector<'_>,
+    expr: &'a ExprTree,
+    scan: &Scan<'a>,
+) -> Result<TruthMask, AllocError>
+    requires exact { AllByRecursion (IsExactAt (expr_of expr.now)) scan.now }
+    requires same { length values.now ≡ length scan.now }
+    ensures { IfOk result (AreCompared comparison values.now expr.now scan.now) }
+{
+    let others = vector_of_tree(alloc, expr, scan)?;
+    let truths = compared(comparison, values, others.vector());
+    drop(others);
+    Ok(truths)
+}
+
+/// Which of these values are like the pattern.
+fn liked(alloc: Global, values: &Vector<'_>, pattern: &str) -> Result<TruthMask, AllocError>
+    ensures { IfOk result (λ truths. truths ≡ map (λ v. liked v pattern.now) values.now) }
+{
+    let pattern = Pattern::new(alloc, pattern)?;
+    let mut truths = TruthMask::new();
+    like(values, &pattern, &mut truths);
+    Ok(truths)
+}
+
+fn compared(comparison: Comparison, a: &Vector<'_>, b: &Vector<'_>) -> TruthMask
+    requires { length a.now ≡ length b.now }
+    ensures { result ≡ zip2 (compared comparison) a.now b.now }
+{
+    let mut truths = TruthMask::new();
+    compare(comparison, a, b, &mut truths);
+    truths
+}
+
+fn both(a: &TruthMask, b: &TruthMask) -> TruthMask
+    requires { length a.now ≡ length b.now }
+    ensures { result ≡ zip2 and_truth a.now b.now }
+{
+    let mut truths = TruthMask::new();
+    truths.set_and(a, b);
+    truths
+}
+
+fn either(a: &TruthMask, b: &TruthMask) -> TruthMask
+    requires { length a.now ≡ length b.now }
+    ensures { result ≡ zip2 or_truth a.now b.now }
+{
+    let mut truths = TruthMask::new();
+    truths.set_or(a, b);
+    truths
+}

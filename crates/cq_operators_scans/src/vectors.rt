@@ -1,0 +1,109 @@
+//! The values of an expression in each row of a scan.
+ghost use Rattle.std.specs.Prelude.{◌≡◌, IfOk, map};
+ghost use Rattle.std.specs.List.{AllByRecursion};
+ghost use Rattle.cq_model.specs.Eval.{eval};
+ghost use Rattle.cq_model.specs.Exact.{IsExactAt};
+ghost use Rattle.cq_model.specs.Trees.{expr_of};
+ghost use Rattle.cq_operators_scans.specs.Operand.{values_in, values_worked};
+
+use crate::operand::Operand;
+use crate::scan::Scan;
+use crate::worked::Worked;
+use cq_model::{Expr, ExprTree};
+use cq_vectors::{Form, Vector};
+use std::alloc::{AllocError, Global};
+
+/// The value of the expression in each row. A column that was gathered is lent.
+pub fn vector_of<'s, 'a>(
+    alloc: Global,
+    expr: &'a Expr,
+    scan: &'s Scan<'a>,
+) -> Result<Operand<'s, 'a>, AllocError>
+    requires { AllByRecursion (IsExactAt expr.now) scan.now }
+    ensures { IfOk result (λ values. values_in values ≡ map (eval expr.now) scan.now) }
+{
+    vector_of_tree(alloc, expr.tree(), scan)
+}
+
+/// The same, each time made.
+pub fn own_vector_of<'a>(
+    alloc: Global,
+    expr: &'a Expr,
+    scan: &Scan<'a>,
+) -> Result<Vector<'a>, AllocError>
+    requires { AllByRecursion (IsExactAt expr.now) scan.now }
+    ensures { IfOk result (λ values. values ≡ map (eval expr.now) scan.now) }
+{
+    match worked_out(alloc, expr.tree(), scan)? {
+        Worked::Column(place) => scan.gather(alloc, place),
+        Worked::Values(values) => Ok(values),
+    }
+}
+
+pub(crate) fn vector_of_tree<'s, 'a>(
+    alloc: Global,
+    tree: &'a ExprTree,
+    scan: &'s Scan<'a>,
+) -> Result<Operand<'s, 'a>, AllocError>
+    requires { AllByRecursion (IsExactAt (expr_of tree.now)) scan.now }
+    ensures { IfOk result (λ values. values_in values ≡ map (eval (expr_of tree.now)) scan.now) }
+{
+    match worked_out(alloc, tree, scan)? {
+        Worked::Column(place) => scan.column(alloc, place),
+        Worked::Values(values) => Ok(Operand::Own(values)),
+    }
+}
+
+/// What the expression comes to. No column is gathered that is not worked with.
+fn worked_out<'a>(
+    alloc: Global,
+    tree: &'a ExprTree,
+    scan: &Scan<'a>,
+) -> Result<Worked<'a>, AllocError>
+    requires { AllByRecursion (IsExactAt (expr_of tree.now)) scan.now }
+    ensures { IfOk result (λ found. values_worked scan.now found ≡ map (eval (expr_of tree.now)) scan.now) }
+{
+    match tree {
+        ExprTree::Column(place) => Ok(Worked::Column(*place)),
+        ExprTree::Literal(value) => {
+            let values = Vector::new(Form::Constant(value.lend(), scan.len()));
+            Ok(Worked::Values(values))
+        }
+        ExprTree::Negate(part) => {
+            let part = worked_out(alloc, part, scan)?;
+            part.negated(alloc, scan)
+        }
+        ExprTree::Sum(first, rest) => {
+            let mut sum = worked_out(alloc, first, scan)?;
+            for term in rest {
+                let term = match worked_out(alloc, term, scan) {
+                    Ok(term) => term,
+                    Err(fault) => {
+                        drop(sum);
+                        return Err(fault);
+                    }
+                };
+                sum = sum.plus(alloc, term, scan)?;
+            }
+            Ok(sum)
+        }
+        ExprTree::Product(first, rest) => {
+            let mut product = worked_out(alloc, first, scan)?;
+            for factor in rest {
+                let factor = match worked_out(alloc, factor, scan) {
+                    Ok(factor) => factor,
+                    Err(fault) => {
+                        drop(product);
+                        return Err(fault);
+                    }
+                };
+                product = product.times(alloc, factor, scan)?;
+            }
+            Ok(product)
+        }
+        ExprTree::Extract(day_part, part) => {
+            let part = worked_out(alloc, part, scan)?;
+            part.extracted(alloc, *day_part, scan)
+        }
+    }
+}

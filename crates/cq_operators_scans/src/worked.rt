@@ -1,0 +1,171 @@
+//! What expressions come to: a column, or values that were worked out.
+ghost use Rattle.std.specs.Prelude.{◌≡◌, IfOk, length, map};
+ghost use Rattle.cq_prims_arithmetic.specs.Operation.{AllInRange};
+ghost use Rattle.cq_model.specs.Eval.{extracted, negated};
+ghost use Rattle.cq_operators_scans.specs.Operand.{WorksOut, products_worked, sums_worked, values_in, values_worked};
+
+use crate::operand::Operand;
+use crate::scan::Scan;
+use cq_prims_arithmetic::{add, extract, mul, neg};
+use cq_values::DayPart;
+use cq_vectors::Vector;
+use std::alloc::{AllocError, Global};
+
+/// A column of a scan, of which nothing was made yet, or values that were worked out.
+#[derive(Drop)]
+pub(crate) enum Worked<'a> {
+    Column(usize),
+    Values(Vector<'a>),
+}
+
+impl<'a> Worked<'a> {
+    /// The values, lent where they are there.
+    pub(crate) fn lend<'s>(
+        &'s self,
+        alloc: Global,
+        scan: &'s Scan<'a>,
+    ) -> Result<Operand<'s, 'a>, AllocError>
+        ensures { IfOk result (λ values. values_in values ≡ values_worked scan.now self.now) }
+    {
+        match self {
+            Worked::Column(place) => scan.column(alloc, *place),
+            Worked::Values(values) => Ok(Operand::Lent(values)),
+        }
+    }
+
+    /// The sum with another one in each row.
+    pub(crate) fn plus(
+        self,
+        alloc: Global,
+        other: Worked<'a>,
+        scan: &Scan<'a>,
+    ) -> Result<Worked<'a>, AllocError>
+        requires same { length (values_worked scan.now self) ≡ length (values_worked scan.now other) }
+        requires fits { AllInRange (sums_worked scan.now self other) }
+        ensures { IfOk result (WorksOut scan.now (sums_worked scan.now self.entry other.entry)) }
+    {
+        let made = sum(alloc, &self, &other, scan);
+        drop(self);
+        drop(other);
+        Ok(Worked::Values(made?))
+    }
+
+    /// The product with another one in each row.
+    pub(crate) fn times(
+        self,
+        alloc: Global,
+        other: Worked<'a>,
+        scan: &Scan<'a>,
+    ) -> Result<Worked<'a>, AllocError>
+        requires same { length (values_worked scan.now self) ≡ length (values_worked scan.now other) }
+        requires fits { AllInRange (products_worked scan.now self other) }
+        ensures { IfOk result (WorksOut scan.now (products_worked scan.now self.entry other.entry)) }
+    {
+        let made = product(alloc, &self, &other, scan);
+        drop(self);
+        drop(other);
+        Ok(Worked::Values(made?))
+    }
+
+    /// The numbers with the other sign.
+    pub(crate) fn negated(self, alloc: Global, scan: &Scan<'a>) -> Result<Worked<'a>, AllocError>
+        requires { AllInRange (map negated (values_worked scan.now self)) }
+        ensures { IfOk result (WorksOut scan.now (map negated (values_worked scan.now self.entry))) }
+    {
+        let made = opposite(alloc, &self, scan);
+        drop(self);
+        Ok(Worked::Values(made?))
+    }
+
+    /// A part of each day.
+    pub(crate) fn extracted(
+        self,
+        alloc: Global,
+        part: DayPart,
+        scan: &Scan<'a>,
+    ) -> Result<Worked<'a>, AllocError>
+        ensures { IfOk result (WorksOut scan.now (map (extracted part) (values_worked scan.now self.entry))) }
+    {
+        let made = parts(alloc, part, &self, scan);
+        drop(self);
+        Ok(Worked::Values(made?))
+    }
+}
+
+fn sum<'a>(
+    alloc: Global,
+    a: &Worked<'a>,
+    b: &Worked<'a>,
+    scan: &Scan<'a>,
+) -> Result<Vector<'a>, AllocError>
+    requires same { length (values_worked scan.now a.now) ≡ length (values_worked scan.now b.now) }
+    requires fits { AllInRange (sums_worked scan.now a.now b.now) }
+    ensures { IfOk result (λ made. made ≡ sums_worked scan.now a.now b.now) }
+{
+    let a = a.lend(alloc, scan)?;
+    match b.lend(alloc, scan) {
+        Ok(b) => {
+            let made = add(alloc, a.vector(), b.vector());
+            drop(b);
+            drop(a);
+            made
+        }
+        Err(fault) => {
+            drop(a);
+            Err(fault)
+        }
+    }
+}
+
+fn product<'a>(
+    alloc: Global,
+    a: &Worked<'a>,
+    b: &Worked<'a>,
+    scan: &Scan<'a>,
+) -> Result<Vector<'a>, AllocError>
+    requires same { length (values_worked scan.now a.now) ≡ length (values_worked scan.now b.now) }
+    requires fits { AllInRange (products_worked scan.now a.now b.now) }
+    ensures { IfOk result (λ made. made ≡ products_worked scan.now a.now b.now) }
+{
+    let a = a.lend(alloc, scan)?;
+    match b.lend(alloc, scan) {
+        Ok(b) => {
+            let made = mul(alloc, a.vector(), b.vector());
+            drop(b);
+            drop(a);
+            made
+        }
+        Err(fault) => {
+            drop(a);
+            Err(fault)
+        }
+    }
+}
+
+fn opposite<'a>(
+    alloc: Global,
+    numbers: &Worked<'a>,
+    scan: &Scan<'a>,
+) -> Result<Vector<'a>, AllocError>
+    requires { AllInRange (map negated (values_worked scan.now numbers.now)) }
+    ensures { IfOk result (λ made. made ≡ map negated (values_worked scan.now numbers.now)) }
+{
+    let numbers = numbers.lend(alloc, scan)?;
+    let made = neg(alloc, numbers.vector());
+    drop(numbers);
+    made
+}
+
+fn parts<'a>(
+    alloc: Global,
+    part: DayPart,
+    days: &Worked<'a>,
+    scan: &Scan<'a>,
+) -> Result<Vector<'a>, AllocError>
+    ensures { IfOk result (λ made. made ≡ map (extracted part) (values_worked scan.now days.now)) }
+{
+    let days = days.lend(alloc, scan)?;
+    let made = extract(alloc, part, days.vector());
+    drop(days);
+    made
+}

@@ -1,9 +1,0 @@
-use Rattle.std.proofs.Common.{arith, ◌∙◌}
-use Rattle.cq_plain.proofs.ListedGroups.{total-next}
-use Rattle.cq_plain.proofs.aggregates.sum.Goals as goal
-
-pub loop-value-preserved : goal.loop-value-preserved
-loop-value-preserved c = (
-  c.add_value.ensures.sum ∙ total-next c.args.values.now c.loop-value.value-index c.value-item.result c.loop-value.total c.loop-value-test.true c.value-item.is c.loop-value.invariant.0,
-  omega (arith, c.add_value.ensures.small, c.loop-value.invariant.1),
-)

@@ -1,0 +1,53 @@
+//! Operations in 128 bits on columns without NULLs, each pair of forms by a loop of its own.
+ghost use Rattle.std.specs.Int.{w128};
+ghost use Rattle.std.specs.Prelude.{IfOk, length, map, ◌≡◌};
+ghost use Rattle.std.specs.Simd.Lanes.{zip2};
+ghost use Rattle.cq_values.specs.declared.value.Value.TheVariants.{Number};
+ghost use Rattle.cq_vectors.specs.Columns.{AllFit};
+ghost use Rattle.cq_prims_arithmetic.specs.Operation.{AllInRange, lifted};
+
+use crate::operation::Operation;
+use crate::wide_side::WideSide;
+use cq_vectors::{Form, Vector, WideNumbers};
+use cq_vectors_masks::Plane;
+use std::alloc::{AllocError, Global};
+
+/// The results of two vectors whose numbers are these.
+pub(crate) fn wide<'a, O: Operation, A: WideSide, B: WideSide>(
+    alloc: Global,
+    left: &Vector<'_>,
+    right: &Vector<'_>,
+    a: &A,
+    b: &B,
+) -> Result<Vector<'a>, AllocError>
+    requires same { length left.now ≡ length right.now }
+    requires first { left.now ≡ map Number (A.numbers a.now) }
+    requires second { right.now ≡ map Number (B.numbers b.now) }
+    requires fits { AllInRange (zip2 (lifted O.apply) left.now right.now) }
+    ensures { IfOk result (λ made. made ≡ zip2 (lifted O.apply) left.now right.now) }
+{
+    let len = left.len();
+    let values = wide_results::<O, A, B>(alloc, a, b, len)?;
+    let mut nulls = Plane::new();
+    nulls.set_all(false, len);
+    Ok(Vector::new(Form::Wide(WideNumbers::new(values, nulls))))
+}
+
+fn wide_results<O: Operation, A: WideSide, B: WideSide>(
+    alloc: Global,
+    a: &A,
+    b: &B,
+    len: usize,
+) -> Result<Vec<i128>, AllocError>
+    requires left { length (A.numbers a.now) ≡ len }
+    requires right { length (B.numbers b.now) ≡ len }
+    requires fits { AllFit w128 (zip2 O.apply (A.numbers a.now) (B.numbers b.now)) }
+    ensures { IfOk result (λ made. made.items ≡ zip2 O.apply (A.numbers a.now) (B.numbers b.now)) }
+{
+    let mut values = Vec::new(alloc);
+    values.reserve(len)?;
+    for i in 0..len {
+        values.push_reserved(O::wide(a.at(i), b.at(i)));
+    }
+    Ok(values)
+}

@@ -1,9 +1,0 @@
-pub mod Walks
-pub mod Clauses
-pub mod Shapes
-pub mod Selecting
-pub mod Creating
-pub mod ViewNames
-pub mod BoundItems
-pub mod Ordering
-pub mod BareNames

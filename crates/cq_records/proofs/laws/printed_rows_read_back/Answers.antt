@@ -1,5 +1,0 @@
-use Rattle.cq_records.proofs.Printed.{printed_back}
-use Rattle.cq_records.proofs.laws.printed_rows_read_back.Goals as goal
-
-pub returns : goal.returns
-returns c = printed_back

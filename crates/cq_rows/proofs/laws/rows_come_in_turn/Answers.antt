@@ -1,5 +1,0 @@
-use Rattle.cq_rows.proofs.InTurn.{come_in_turn}
-use Rattle.cq_rows.proofs.laws.rows_come_in_turn.Goals as goal
-
-pub returns : goal.returns
-returns c = come_in_turn

@@ -1,0 +1,17 @@
+-- How far each reader of expressions stands from the parentheses below it.
+use Rattle.std.proofs.Common.{ℕ}
+use Rattle.cq_sql_expressions.specs.declared.links.Operator.{Operator}
+use Rattle.cq_sql_expressions.specs.declared.links.Operator.TheVariants as operators
+use Rattle.cq_sql_expressions.specs.declared.links.Link.{Link}
+use Rattle.cq_sql_expressions.specs.declared.links.Link.TheVariants as links
+
+-- the rank of the reader of an operator's parts
+abbrev pub operand_rank : Operator → ℕ
+operand_rank operators.Times = 3
+operand_rank operators.And = 12
+operand_rank operators.Or = 15
+
+-- the rank of the reader of the parts that a link stands between
+abbrev pub part_rank : Link → ℕ
+part_rank (links.Operator operator) = operand_rank operator
+part_rank links.Comma = 8

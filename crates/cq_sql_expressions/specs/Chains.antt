@@ -1,0 +1,64 @@
+-- Chains of parts, as readers on lists: what stands between the parts, and what they make.
+use Rattle.std.specs.Prelude.{List, [], ◌∷◌, ◌++◌, length, fold, Option, Some, None}
+use Rattle.std.specs.Option.{option_map}
+use Rattle.cq_sql_language.specs.declared.token.Keyword.TheVariants as keywords
+use Rattle.cq_sql_language.specs.declared.token.Symbol.TheVariants as symbols
+use Rattle.cq_sql_language.specs.declared.token.Token.{Token}
+use Rattle.cq_sql_language.specs.declared.token.Token.TheVariants as tokens
+use Rattle.cq_sql_language.specs.declared.written.Sign.{Sign}
+use Rattle.cq_sql_language.specs.declared.written.Sign.TheVariants as signs
+use Rattle.cq_sql_language.specs.Written.{Written, Parens, Extract, Aggregate, Times, And, Or, signed}
+use Rattle.cq_sql_expressions.specs.declared.atoms.Opening.{Opening}
+use Rattle.cq_sql_expressions.specs.declared.atoms.Opening.TheVariants as openings
+use Rattle.cq_sql_expressions.specs.declared.links.Operator.{Operator}
+use Rattle.cq_sql_expressions.specs.declared.links.Operator.TheVariants as operators
+use Rattle.cq_sql_expressions.specs.declared.links.Link.{Link}
+use Rattle.cq_sql_expressions.specs.declared.links.Link.TheVariants as links
+use Rattle.cq_sql_expressions.specs.Lists.{chain_from}
+use Rattle.cq_sql_expressions.specs.Read.{◌>>=◌, Reader, done, followed_by, after_keyword, after_symbol}
+
+-- the tokens behind this link, if it stands in front
+abbrev pub after_link : Link → List Token → Option (List Token)
+after_link (links.Operator operators.Or) = after_keyword keywords.Or
+after_link (links.Operator operators.And) = after_keyword keywords.And
+after_link (links.Operator operators.Times) = after_symbol symbols.Star
+after_link links.Comma = after_symbol symbols.Comma
+
+-- takes the sign of a later term from the front
+abbrev pub sign_at : Reader Sign
+sign_at (tokens.Symbol symbols.Plus ∷ ts) = Some (signs.Plus, ts)
+sign_at (tokens.Symbol symbols.Minus ∷ ts) = Some (signs.Minus, ts)
+sign_at ts = None
+
+-- what an operator makes of the parts on its two sides
+abbrev pub join : Operator → Written → Written → Written
+join operators.Or = Or
+join operators.And = And
+join operators.Times = Times
+
+-- what an opening makes of what stands in the parentheses
+abbrev pub enclosed : Opening → Written → Written
+enclosed openings.Parens w = Parens w
+enclosed (openings.Extract part) w = Extract part w
+enclosed (openings.Aggregate function) w = Aggregate function w
+
+-- one more part, where the link stands in front of it
+unfoldable pub linked_part : Link → Reader Written → List Written → List Token → Option (Option (List Written × List Token))
+linked_part link part ws ts = option_map (λ us. part us >>= λ r. Some (ws ++ r.0 ∷ [], r.1)) (after_link link ts)
+
+-- takes the later parts of a chain, behind those that were read before
+unfoldable pub more_parts : Link → Reader Written → List Written → Reader (List Written)
+more_parts link part ws ts = chain_from (linked_part link part) (length ts) ws ts
+
+-- takes a chain of parts with this operator between them
+unfoldable pub joined_at : Operator → Reader Written → Reader Written
+joined_at operator part =
+    followed_by part (λ first. followed_by (more_parts (links.Operator operator) part []) (λ others. done (fold (join operator) first others)))
+
+-- one more term, where a sign stands in front of it
+unfoldable pub signed_term : Reader Written → Written → List Token → Option (Option (Written × List Token))
+signed_term term w ts = option_map (λ s. term s.1 >>= λ r. Some (signed s.0 w r.0, r.1)) (sign_at ts)
+
+-- takes the later terms of a sum, behind what was read before
+unfoldable pub more_terms : Reader Written → Written → Reader Written
+more_terms term w ts = chain_from (signed_term term) (length ts) w ts

@@ -1,0 +1,360 @@
+//! The levels of the grammar of expressions, each read by one function.
+//!
+//! A chain is read by a loop, so that a long one takes no deep recursion; `depth` is how many pairs of parentheses may still open.
+ghost use Rattle.std.specs.Prelude.{◌≡◌, ◌∷◌, ◌++◌, [], OnOk};
+ghost use Rattle.cq_sql_language.specs.Written.{written};
+ghost use Rattle.cq_sql_expressions.specs.Chains.{joined_at, more_parts, more_terms};
+ghost use Rattle.cq_sql_expressions.specs.Trees.{GivesTree, GivesTrees, trees};
+ghost use Rattle.cq_sql_expressions.specs.Expressions.{between_of, choices_of, content_of, enclosed_choices, factor_of, negation_of, operand_of, part_of, parts_in, predicate_of, primary_of, product_of, readers, sum_of, tested};
+
+use crate::atoms::{Opening, atom_at, opening_at, text_at};
+use crate::fault::SqlFault;
+use crate::links::{Link, Operator, after_link, sign_at};
+use crate::nodes::{
+    among, between, compared, enclosed, joined, like, negation, negative, null_test, only, summed,
+};
+use crate::predicates::{Test, test_at};
+use crate::read::{after_keyword, after_symbol, expect_keyword, expect_symbol};
+use cq_sql_language::{ExprNode, Keyword, Sign, Symbol, Token};
+use std::alloc::{AllocError, Global};
+
+#[cycle(expressions)]
+#[tactic(auto, unfolding(crate::specs::Chains::joined_at))]
+pub fn chain_at(
+    alloc: Global,
+    operator: Operator,
+    depth: usize,
+    tokens: &[Token],
+) -> Result<(ExprNode, &[Token]), SqlFault>
+    ensures { GivesTree result (joined_at operator (operand_of (readers depth) operator) tokens.now) }
+{
+    let link = Link::Operator(operator);
+    let (first, rest) = part_at(alloc, link, depth, tokens)?;
+    match more_parts(alloc, link, depth, Vec::new(alloc), rest) {
+        Ok((others, rest)) => Ok((joined(alloc, operator, first, others)?, rest)),
+        Err(fault) => {
+            drop(first);
+            Err(fault)
+        }
+    }
+}
+
+#[cycle(expressions)]
+#[tactic(auto, unfolding(crate::specs::Chains::more_parts))]
+fn more_parts(
+    alloc: Global,
+    link: Link,
+    depth: usize,
+    before: Vec<ExprNode>,
+    tokens: &[Token],
+) -> Result<(Vec<ExprNode>, &[Token]), SqlFault>
+    ensures { GivesTrees result (more_parts link (parts_in depth link) (trees before) tokens.now) }
+{
+    let (mut parts, mut rest) = (before, tokens);
+    for _ in 0..tokens.len() {
+        match after_link(link, rest) {
+            Some(after) => {
+                let (part, next) = part_at(alloc, link, depth, after)?;
+                parts.push(part)?;
+                rest = next;
+            }
+            None => return Ok((parts, rest)),
+        }
+    }
+    Ok((parts, rest))
+}
+
+#[cycle(expressions)]
+#[tactic(auto, unfolding(crate::specs::Expressions::operand_of))]
+fn part_at(
+    alloc: Global,
+    link: Link,
+    depth: usize,
+    tokens: &[Token],
+) -> Result<(ExprNode, &[Token]), SqlFault>
+    ensures { GivesTree result (part_of (readers depth) link tokens.now) }
+{
+    match link {
+        Link::Operator(Operator::Or) => chain_at(alloc, Operator::And, depth, tokens),
+        Link::Operator(Operator::And) => negation_at(alloc, depth, tokens),
+        Link::Operator(Operator::Times) => factor_at(alloc, depth, tokens),
+        Link::Comma => sum_at(alloc, depth, tokens),
+    }
+}
+
+#[cycle(expressions)]
+#[tactic(auto, unfolding(crate::specs::Expressions::negation_of))]
+fn negation_at(
+    alloc: Global,
+    depth: usize,
+    tokens: &[Token],
+) -> Result<(ExprNode, &[Token]), SqlFault>
+    ensures { GivesTree result (negation_of (readers depth) tokens.now) }
+{
+    match after_keyword(Keyword::Not, tokens) {
+        Some(rest) => {
+            let (condition, rest) = predicate_at(alloc, depth, rest)?;
+            Ok((negation(alloc, condition)?, rest))
+        }
+        None => predicate_at(alloc, depth, tokens),
+    }
+}
+
+#[cycle(expressions)]
+#[tactic(auto, unfolding(crate::specs::Expressions::predicate_of))]
+fn predicate_at(
+    alloc: Global,
+    depth: usize,
+    tokens: &[Token],
+) -> Result<(ExprNode, &[Token]), SqlFault>
+    ensures { GivesTree result (predicate_of (readers depth) tokens.now) }
+{
+    let (value, rest) = sum_at(alloc, depth, tokens)?;
+    match test_at(rest) {
+        Some((test, after)) => tested(alloc, depth, value, test, after),
+        None => Ok((value, rest)),
+    }
+}
+
+#[cycle(expressions)]
+#[tactic(auto, unfolding(crate::specs::Expressions::tested))]
+fn tested(
+    alloc: Global,
+    depth: usize,
+    value: ExprNode,
+    test: Test,
+    tokens: &[Token],
+) -> Result<(ExprNode, &[Token]), SqlFault>
+    ensures { GivesTree result (tested (readers depth) (written value) test tokens.now) }
+{
+    match test {
+        Test::Compare(comparison) => {
+            let (other, rest) = match sum_at(alloc, depth, tokens) {
+                Ok(read) => read,
+                Err(fault) => {
+                    drop(value);
+                    return Err(fault);
+                }
+            };
+            Ok((compared(alloc, comparison, value, other)?, rest))
+        }
+        Test::Between(negated) => between_at(alloc, depth, negated, value, tokens),
+        Test::In(negated) => {
+            let (values, rest) = match choices_at(alloc, depth, tokens) {
+                Ok(read) => read,
+                Err(fault) => {
+                    drop(value);
+                    return Err(fault);
+                }
+            };
+            Ok((among(alloc, negated, value, values)?, rest))
+        }
+        Test::IsNull(negated) => Ok((null_test(alloc, negated, value)?, tokens)),
+        Test::Like(negated) => {
+            let (pattern, rest) = match text_at(alloc, tokens) {
+                Ok(read) => read,
+                Err(fault) => {
+                    drop(value);
+                    return Err(fault);
+                }
+            };
+            Ok((like(alloc, negated, value, pattern)?, rest))
+        }
+    }
+}
+
+#[cycle(expressions)]
+#[tactic(auto, unfolding(crate::specs::Expressions::between_of))]
+fn between_at(
+    alloc: Global,
+    depth: usize,
+    negated: bool,
+    value: ExprNode,
+    tokens: &[Token],
+) -> Result<(ExprNode, &[Token]), SqlFault>
+    ensures { GivesTree result (between_of (readers depth) negated (written value) tokens.now) }
+{
+    let (least, rest) = match sum_at(alloc, depth, tokens) {
+        Ok(read) => read,
+        Err(fault) => {
+            drop(value);
+            return Err(fault);
+        }
+    };
+    let rest = match expect_keyword(Keyword::And, rest) {
+        Ok(rest) => rest,
+        Err(fault) => {
+            drop(least);
+            drop(value);
+            return Err(fault);
+        }
+    };
+    let (greatest, rest) = match sum_at(alloc, depth, rest) {
+        Ok(read) => read,
+        Err(fault) => {
+            drop(least);
+            drop(value);
+            return Err(fault);
+        }
+    };
+    Ok((between(alloc, negated, value, (least, greatest))?, rest))
+}
+
+#[cycle(expressions)]
+#[tactic(auto, unfolding(crate::specs::Expressions::enclosed_choices))]
+fn choices_at(
+    alloc: Global,
+    depth: usize,
+    tokens: &[Token],
+) -> Result<(Vec<ExprNode>, &[Token]), SqlFault>
+    ensures { GivesTrees result (enclosed_choices (readers depth) tokens.now) }
+{
+    let rest = expect_symbol(Symbol::Open, tokens)?;
+    let (choices, rest) = entries_at(alloc, depth, rest)?;
+    match expect_symbol(Symbol::Close, rest) {
+        Ok(rest) => Ok((choices, rest)),
+        Err(fault) => {
+            drop(choices);
+            Err(fault)
+        }
+    }
+}
+
+#[cycle(expressions)]
+fn entries_at(
+    alloc: Global,
+    depth: usize,
+    tokens: &[Token],
+) -> Result<(Vec<ExprNode>, &[Token]), SqlFault>
+    ensures { GivesTrees result (choices_of (readers depth) tokens.now) }
+{
+    if depth == 0 {
+        return Err(SqlFault::Syntax);
+    }
+    let (first, rest) = sum_at(alloc, depth - 1, tokens)?;
+    more_parts(alloc, Link::Comma, depth - 1, only(alloc, first)?, rest)
+}
+
+#[cycle(expressions)]
+#[tactic(auto, unfolding(crate::specs::Expressions::sum_of, crate::specs::Expressions::product_of, crate::specs::Expressions::operand_of))]
+fn sum_at(alloc: Global, depth: usize, tokens: &[Token]) -> Result<(ExprNode, &[Token]), SqlFault>
+    ensures { GivesTree result (sum_of (readers depth) tokens.now) }
+{
+    let (first, rest) = chain_at(alloc, Operator::Times, depth, tokens)?;
+    more_terms(alloc, depth, first, rest)
+}
+
+#[cycle(expressions)]
+#[tactic(auto, unfolding(crate::specs::Chains::more_terms))]
+fn more_terms(
+    alloc: Global,
+    depth: usize,
+    first: ExprNode,
+    tokens: &[Token],
+) -> Result<(ExprNode, &[Token]), SqlFault>
+    ensures { GivesTree result (more_terms (product_of (readers depth)) (written first) tokens.now) }
+{
+    let (mut signs, mut terms) = (Vec::new(alloc), Vec::new(alloc));
+    let mut rest = tokens;
+    for _ in 0..tokens.len() {
+        match sign_at(rest) {
+            Some((sign, after)) => {
+                let (term, next) = match chain_at(alloc, Operator::Times, depth, after) {
+                    Ok(read) => read,
+                    Err(fault) => {
+                        drop(terms);
+                        drop(first);
+                        return Err(fault);
+                    }
+                };
+                match add_term(&mut signs, &mut terms, sign, term) {
+                    Ok(()) => rest = next,
+                    Err(fault) => {
+                        drop(terms);
+                        drop(first);
+                        return Err(SqlFault::from(fault));
+                    }
+                }
+            }
+            None => return Ok((summed(alloc, first, signs, terms)?, rest)),
+        }
+    }
+    Ok((summed(alloc, first, signs, terms)?, rest))
+}
+
+/// Puts a later term of a sum behind these, and its sign behind theirs.
+fn add_term(
+    signs: &mut Vec<Sign>,
+    terms: &mut Vec<ExprNode>,
+    sign: Sign,
+    term: ExprNode,
+) -> Result<(), AllocError>
+    ensures sign { OnOk result (signs.new.items ≡ signs.old.items ++ sign ∷ []) }
+    ensures term { OnOk result (terms.new.items ≡ terms.old.items ++ term ∷ []) }
+{
+    terms.push(term)?;
+    signs.push(sign)?;
+    Ok(())
+}
+
+#[cycle(expressions)]
+#[tactic(auto, unfolding(crate::specs::Expressions::factor_of))]
+fn factor_at(
+    alloc: Global,
+    depth: usize,
+    tokens: &[Token],
+) -> Result<(ExprNode, &[Token]), SqlFault>
+    ensures { GivesTree result (factor_of (readers depth) tokens.now) }
+{
+    match after_symbol(Symbol::Minus, tokens) {
+        Some(rest) => {
+            let (value, rest) = primary_at(alloc, depth, rest)?;
+            Ok((negative(alloc, value)?, rest))
+        }
+        None => primary_at(alloc, depth, tokens),
+    }
+}
+
+#[cycle(expressions)]
+#[tactic(auto, unfolding(crate::specs::Expressions::primary_of))]
+fn primary_at(
+    alloc: Global,
+    depth: usize,
+    tokens: &[Token],
+) -> Result<(ExprNode, &[Token]), SqlFault>
+    ensures { GivesTree result (primary_of (readers depth) tokens.now) }
+{
+    match opening_at(tokens) {
+        Some((opening, rest)) => {
+            let (content, rest) = content_at(alloc, opening, depth, rest)?;
+            match expect_symbol(Symbol::Close, rest) {
+                Ok(rest) => Ok((enclosed(alloc, opening, content)?, rest)),
+                Err(fault) => {
+                    drop(content);
+                    Err(fault)
+                }
+            }
+        }
+        None => atom_at(alloc, tokens),
+    }
+}
+
+#[cycle(expressions)]
+#[tactic(auto, using(crate::proofs::Depths::content_shut))]
+fn content_at(
+    alloc: Global,
+    opening: Opening,
+    depth: usize,
+    tokens: &[Token],
+) -> Result<(ExprNode, &[Token]), SqlFault>
+    ensures { GivesTree result (content_of (readers depth) opening tokens.now) }
+{
+    if depth == 0 {
+        return Err(SqlFault::Syntax);
+    }
+    match opening {
+        Opening::Parens => chain_at(alloc, Operator::Or, depth - 1, tokens),
+        Opening::Extract(_) => sum_at(alloc, depth - 1, tokens),
+        Opening::Aggregate(_) => sum_at(alloc, depth - 1, tokens),
+    }
+}

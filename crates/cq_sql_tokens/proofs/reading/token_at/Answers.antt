@@ -1,0 +1,7 @@
+use Rattle.std.proofs.Common.{arith}
+use Rattle.cq_sql_tokens.proofs.Boundaries.{after_first}
+use Rattle.cq_sql_tokens.proofs.reading.token_at.Goals as goal
+
+pub range_from-requires : goal.range_from-requires
+range_from-requires c =
+    λ _. after_first c.args.text.now c.as_bytes.result.now c.as_bytes.ensures.value c.utf8.text c.in-len1-up.len_at_least (omega (arith, c.in-39))

@@ -1,0 +1,59 @@
+//! The values of a column of rows.
+ghost use Rattle.std.specs.Prelude.{IfOk, IfSome, length, map, ◌≡◌, ◌≤◌};
+ghost use Rattle.cq_table_columns.specs.Stored.{stored_rows};
+ghost use Rattle.cq_values.specs.Lent.{owned};
+ghost use Rattle.cq_vectors.specs.Gathered.{column_of, lent_rows};
+
+use crate::narrow::narrowed;
+use crate::stored_row::StoredRow;
+use cq_values::{Lent, Row};
+use cq_vectors::Vector;
+use std::alloc::{AllocError, Global};
+
+/// The values of a column of rows, where a row that is too short has NULL.
+pub fn gather<'a>(
+    alloc: Global,
+    rows: &[StoredRow<'a>],
+    column: usize,
+) -> Result<Vector<'a>, AllocError>
+    requires { length rows.now ≤ 1024 }
+    ensures { IfOk result (λ vector. vector ≡ column_of (stored_rows rows.now) column) }
+{
+    if let Some(alone) = lend_alone(alloc, rows)? {
+        return Vector::gather_lent(alloc, alone.as_slice(), column);
+    }
+    let lent = lend_values(alloc, rows, column)?;
+    let form = narrowed(alloc, lent)?;
+    Ok(Vector::new(form))
+}
+
+/// The rows, or None where one does not stand alone.
+fn lend_alone<'a>(alloc: Global, rows: &[StoredRow<'a>]) -> Result<Option<Vec<&'a Row>>, AllocError>
+    ensures { IfOk result (λ found. IfSome found (λ lent. lent_rows lent.items ≡ stored_rows rows.now)) }
+{
+    let mut lent: Vec<&'a Row> = Vec::new(alloc);
+    lent.reserve(rows.len())?;
+    for row in rows {
+        match row {
+            StoredRow::Alone(row) => lent.push_reserved(*row),
+            StoredRow::InColumns(..) => return Ok(None),
+        }
+    }
+    Ok(Some(lent))
+}
+
+/// The values of a column where they stand.
+pub(crate) fn lend_values<'a>(
+    alloc: Global,
+    rows: &[StoredRow<'a>],
+    column: usize,
+) -> Result<Vec<Lent<'a>>, AllocError>
+    ensures { IfOk result (λ lent. map owned lent.items ≡ column_of (stored_rows rows.now) column) }
+{
+    let mut lent: Vec<Lent<'a>> = Vec::new(alloc);
+    lent.reserve(rows.len())?;
+    for row in rows {
+        lent.push_reserved(row.lend(column));
+    }
+    Ok(lent)
+}

@@ -1,0 +1,84 @@
+//! Rows where they are stored.
+ghost use Rattle.std.specs.Prelude.{◌≡◌, ◌≤◌, IfOk, length};
+ghost use Rattle.cq_table_columns.specs.Places.{AreBelow, rows_at};
+ghost use Rattle.cq_table_columns.specs.Rows.{rows_in};
+ghost use Rattle.cq_table_columns.specs.Stored.{stored_rows};
+ghost use Rattle.cq_vectors.specs.Gathered.{column_of};
+
+use crate::chosen::Chosen;
+use crate::front::Front;
+use crate::gathering::gather;
+use crate::places::lent_at;
+use crate::stored_row::StoredRow;
+use cq_vectors::Vector;
+use std::alloc::{AllocError, Global};
+
+/// Rows where they are stored: those of a list, those of a front, or those at some places of a front.
+#[derive(Drop)]
+pub enum StoredRows<'a> {
+    Listed(Vec<StoredRow<'a>>),
+    Front(Front<'a>),
+    Chosen(Chosen<'a>),
+}
+
+impl<'a> StoredRows<'a> {
+    pub fn len(&self) -> usize
+        ensures { result ≡ length (rows_in self.now) }
+    {
+        match self {
+            StoredRows::Listed(rows) => rows.len(),
+            StoredRows::Front(front) => front.len(),
+            StoredRows::Chosen(chosen) => chosen.len(),
+        }
+    }
+
+    /// The values of a column, where a row that is too short has NULL.
+    pub fn gather(&self, alloc: Global, column: usize) -> Result<Vector<'a>, AllocError>
+        requires { length (rows_in self.now) ≤ 1024 }
+        ensures { IfOk result (λ vector. vector ≡ column_of (rows_in self.now) column) }
+    {
+        match self {
+            StoredRows::Listed(rows) => gather(alloc, rows, column),
+            StoredRows::Front(front) => front.gather(alloc, column),
+            StoredRows::Chosen(chosen) => chosen.gather(alloc, column),
+        }
+    }
+
+    /// Those at some places.
+    pub fn at(&self, alloc: Global, places: &[u16]) -> Result<StoredRows<'a>, AllocError>
+        requires { AreBelow (length (rows_in self.now)) places.now }
+        ensures { IfOk result (λ rows. rows_in rows ≡ rows_at (rows_in self.now) places.now) }
+    {
+        match self {
+            StoredRows::Listed(rows) => Ok(StoredRows::Listed(lent_at(alloc, rows, places)?)),
+            StoredRows::Front(front) => Ok(StoredRows::Chosen(Chosen::of(alloc, front, places)?)),
+            StoredRows::Chosen(chosen) => Ok(StoredRows::Chosen(chosen.at(alloc, places)?)),
+        }
+    }
+
+    /// The same once more. Of a front no row is copied.
+    pub fn copy(&self, alloc: Global) -> Result<StoredRows<'a>, AllocError>
+        ensures { IfOk result (λ rows. rows_in rows ≡ rows_in self.now) }
+    {
+        match self {
+            StoredRows::Listed(rows) => {
+                let mut copied: Vec<StoredRow<'a>> = Vec::new(alloc);
+                copied.extend_from_slice(rows)?;
+                Ok(StoredRows::Listed(copied))
+            }
+            StoredRows::Front(front) => Ok(StoredRows::Front(*front)),
+            StoredRows::Chosen(chosen) => Ok(StoredRows::Chosen(chosen.copy(alloc)?)),
+        }
+    }
+
+    /// A list of them: no new one where they stand in one.
+    pub fn into_rows(self, alloc: Global) -> Result<Vec<StoredRow<'a>>, AllocError>
+        ensures { IfOk result (λ rows. stored_rows rows.items ≡ rows_in self.entry) }
+    {
+        match self {
+            StoredRows::Listed(rows) => Ok(rows),
+            StoredRows::Front(front) => front.rows(alloc),
+            StoredRows::Chosen(chosen) => chosen.rows(alloc),
+        }
+    }
+}

@@ -1,5 +1,0 @@
-use Rattle.cq_tables.proofs.Turns.{same_itself}
-use Rattle.cq_tables.proofs.view.View.prepare.Goals as goal
-
-pub returns-then-not-is_on-clause-same : goal.returns-then-not-is_on-clause-same
-returns-then-not-is_on-clause-same c = same_itself c.args.self.now

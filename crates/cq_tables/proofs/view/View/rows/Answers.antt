@@ -1,4 +1,0 @@
-use Rattle.cq_tables.proofs.view.View.rows.Goals as goal
-
-pub returns-clause-fault : goal.returns-clause-fault
-returns-clause-fault c = rw (← c.self.view_is) c.rows.ensures.fault

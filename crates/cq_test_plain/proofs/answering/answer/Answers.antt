@@ -1,0 +1,47 @@
+use Rattle.std.proofs.Common.{sym, ap, subst, ◌∙◌, inl}
+use Rattle.std.proofs.lemmas.Result.{IfOk-weaker, IfErr-weaker}
+use Rattle.cq_model_bags.specs.Bag.{once_each}
+use Rattle.cq_model.specs.Meaning.{MeaningInRange, meaning}
+use Rattle.cq_model.specs.Views.{with_views}
+use Rattle.cq_test_plain.specs.SourceRows.{lent_bags}
+use Rattle.cq_test_plain.specs.Stored.{query_at, rows_at, stored_bags}
+use Rattle.cq_test_plain.specs.Wide.{IsQueryWide}
+use Rattle.cq_test_plain.proofs.Agreeing.{meaning-agrees, range-agrees, range-back, wide-agrees, same-bag}
+use Rattle.cq_test_plain.proofs.Exits.{tells_more}
+use Rattle.cq_test_plain.proofs.Lents.{bags-held}
+use Rattle.cq_test_plain.proofs.answering.answer.Goals as goal
+
+pub returns-clause-same_bag : goal.returns-clause-same_bag
+returns-clause-same_bag c =
+    let tables = c.args.database.now.tables in
+    let whole = with_views (rows_at tables) (query_at c.args.database.now.views) in
+    let held = rw (c.as_slice.ensures, c.deref.ensures.value) at c.in_ok-sources.ensures in
+    let stored = ap lent_bags c.deref-2.ensures.value ∙ bags-held tables c.in_ok-views.views.items c.in_ok-sources.sources.items held in
+    IfOk-weaker c.answer_on.result _ _
+    (λ rows e. same-bag (once_each rows.items) (meaning c.args.query.now whole)
+    (e ∙ ap (meaning c.args.query.now) stored ∙ meaning-agrees c.args.query.now (stored_bags tables c.in_ok-views.views.items) whole c.in_ok-views.ensures.ok))
+    c.answer_on.ensures.ok
+
+pub returns-clause-range : goal.returns-clause-range
+returns-clause-range c =
+    let tables = c.args.database.now.tables in
+    let whole = with_views (rows_at tables) (query_at c.args.database.now.views) in
+    let held = rw (c.as_slice.ensures, c.deref.ensures.value) at c.in_ok-sources.ensures in
+    let stored = ap lent_bags c.deref-2.ensures.value ∙ bags-held tables c.in_ok-views.views.items c.in_ok-sources.sources.items held in
+    IfOk-weaker c.answer_on.result _ _
+    (λ rows r. record {
+      own = range-agrees c.args.query.now (stored_bags tables c.in_ok-views.views.items) whole c.in_ok-views.ensures.ok (subst (MeaningInRange c.args.query.now) stored r);
+      named = c.in_ok-views.ensures.range;
+    })
+    c.answer_on.ensures.range
+
+pub returns-clause-fault : goal.returns-clause-fault
+returns-clause-fault c =
+    let tables = c.args.database.now.tables in
+    let whole = with_views (rows_at tables) (query_at c.args.database.now.views) in
+    let held = rw (c.as_slice.ensures, c.deref.ensures.value) at c.in_ok-sources.ensures in
+    let stored = ap lent_bags c.deref-2.ensures.value ∙ bags-held tables c.in_ok-views.views.items c.in_ok-sources.sources.items held in
+    IfErr-weaker c.answer_on.result _ _
+    (λ e t. tells_more (λ wide. inl (wide-agrees c.args.query.now (stored_bags tables c.in_ok-views.views.items) whole c.in_ok-views.ensures.ok (subst (IsQueryWide c.args.query.now) stored wide)))
+    (λ outside all. outside (subst (MeaningInRange c.args.query.now) (sym stored) (range-back c.args.query.now (stored_bags tables c.in_ok-views.views.items) whole c.in_ok-views.ensures.ok all.own))) e t)
+    c.answer_on.ensures.fault

@@ -1,0 +1,15 @@
+pub mod Faults
+pub mod Rows
+pub mod Joins
+pub mod Repeats
+pub mod OfGroups
+pub mod Wide
+pub mod Stored
+pub mod Lent
+pub mod Named
+pub mod Databases
+pub mod Totals
+pub mod WideWrites
+pub mod Replacements
+pub mod FaultsOf
+pub mod SourceRows

@@ -1,0 +1,123 @@
+//! What is told of a group's rows.
+ghost use Rattle.std.specs.Prelude.{◌+ℤ◌, ◌+◌, ◌^◌, ◌≡◌, ◌≤◌, IfErr, IfOk, OnOk, length, nat_abs, pos};
+ghost use Rattle.cq_model_bags.specs.Bag.{once_each};
+ghost use Rattle.cq_model.specs.Group.{InRange, SumInRange, addend, aggregate, extreme, higher, lower};
+ghost use Rattle.cq_test_plain.specs.Faults.{Tells};
+ghost use Rattle.cq_test_plain.specs.FaultsOf.{IsAggregateFault};
+ghost use Rattle.cq_test_plain.specs.OfGroups.{known_values};
+ghost use Rattle.cq_test_plain.specs.Totals.{shown_total, total_of};
+ghost use Rattle.cq_test_plain.specs.Wide.{AtSomeRow, IsWideAt};
+ghost use Rattle.cq_model.specs.Width.{number_limit};
+
+use crate::evaluation::value_at;
+use crate::fault::PlainFault;
+use cq_model::{Aggregate, Expr};
+use cq_values::{Row, Total, Value};
+use std::alloc::{AllocError, Global};
+
+/// An aggregate over these rows.
+pub(crate) fn aggregate(alloc: Global, kind: &Aggregate, rows: &[Row]) -> Result<Value, PlainFault>
+    ensures ok { IfOk result (λ v. v ≡ aggregate kind.now (once_each rows.now)) }
+    ensures range { OnOk result (SumInRange kind.now (once_each rows.now)) }
+    ensures fault { IfErr result (IsAggregateFault kind.now rows.now) }
+{
+    match kind {
+        Aggregate::CountAll => Ok(count(rows)),
+        Aggregate::Count(expr) => Ok(count(&values_of(alloc, expr, rows)?)),
+        Aggregate::Sum(expr) => sum(&values_of(alloc, expr, rows)?),
+        Aggregate::Min(expr) => Ok(least(alloc, &values_of(alloc, expr, rows)?)?),
+        Aggregate::Max(expr) => Ok(greatest(alloc, &values_of(alloc, expr, rows)?)?),
+    }
+}
+
+/// The values of the expression in the rows, one by one, without NULL.
+fn values_of(alloc: Global, expr: &Expr, rows: &[Row]) -> Result<Vec<Value>, PlainFault>
+    ensures ok { IfOk result (λ values. values.items ≡ known_values expr.now rows.now) }
+    ensures fault { IfErr result (Tells (AtSomeRow (IsWideAt expr.now) (once_each rows.now)) ⊥) }
+{
+    let mut values = Vec::new(alloc);
+    for row in rows {
+        let value = value_at(alloc, expr, row.as_slice())?;
+        if !matches!(value, Value::Null) {
+            values.push(value)?;
+        }
+    }
+    Ok(values)
+}
+
+fn count<T>(items: &[T]) -> Value
+    ensures { result ≡ Value.Number (pos (length items.now)) }
+{
+    Value::Number(items.len() as i128)
+}
+
+/// The exact total, of values without NULL.
+fn sum(values: &[Value]) -> Result<Value, PlainFault>
+    ensures ok { IfOk result (λ v. v ≡ shown_total values.now) }
+    ensures range { OnOk result (InRange (total_of values.now)) }
+    ensures fault { IfErr result (Tells ⊥ (InRange (total_of values.now) → ⊥)) }
+{
+    let mut total = Total::new();
+    for value in values {
+        add_value(&mut total, value);
+    }
+    let Some(total) = total.to_i128() else {
+        return Err(PlainFault::SumOutOfRange);
+    };
+    if values.is_empty() {
+        Ok(Value::Null)
+    } else {
+        Ok(Value::Number(total))
+    }
+}
+
+/// NULL, days and texts add nothing.
+fn add_value(total: &mut Total, value: &Value)
+    requires { nat_abs total.old ≤ 2 ^ 249 }
+    ensures sum { total.new ≡ total.old +ℤ addend value.now }
+    ensures small { nat_abs total.new ≤ nat_abs total.old + number_limit }
+{
+    if let Value::Number(n) = value {
+        total.add(*n);
+    }
+}
+
+/// The value that comes first in the total order, and NULL where there is none.
+fn least(alloc: Global, values: &[Value]) -> Result<Value, AllocError>
+    ensures { IfOk result (λ v. v ≡ extreme lower values.now) }
+{
+    let Some(first) = values.first() else {
+        return Ok(Value::Null);
+    };
+    let mut least = first;
+    for value in values {
+        least = lower(least, value);
+    }
+    least.copy(alloc)
+}
+
+fn lower<'a>(a: &'a Value, b: &'a Value) -> &'a Value
+    ensures { result.now ≡ lower a.now b.now }
+{
+    if a > b { b } else { a }
+}
+
+/// The value that comes last in the total order, and NULL where there is none.
+fn greatest(alloc: Global, values: &[Value]) -> Result<Value, AllocError>
+    ensures { IfOk result (λ v. v ≡ extreme higher values.now) }
+{
+    let Some(first) = values.first() else {
+        return Ok(Value::Null);
+    };
+    let mut greatest = first;
+    for value in values {
+        greatest = higher(greatest, value);
+    }
+    greatest.copy(alloc)
+}
+
+fn higher<'a>(a: &'a Value, b: &'a Value) -> &'a Value
+    ensures { result.now ≡ higher a.now b.now }
+{
+    if a > b { a } else { b }
+}

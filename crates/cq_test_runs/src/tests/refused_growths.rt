@@ -1,0 +1,135 @@
+//! One growth that is refused, wherever it comes: the statement is refused and changes nothing, and goes well when it is
+//! given once more. tools/fail-alloc runs this with each growth refused in turn.
+use super::engines::{carry_out, engine};
+use cq_binder_rules::Fault;
+use cq_engine::Engine;
+use cq_model_step::Answer;
+use cq_values::Value;
+use cq_values_rows::RowList;
+use std::alloc::Global;
+use std::process::Abort;
+use std::test::Fail;
+
+/// Carries a statement out, once more where memory was wanting; what was refused has changed nothing.
+fn carried_out(
+    rt: &impl Abort,
+    alloc: Global,
+    engine: &mut Engine,
+    text: &str,
+) -> Result<Answer, Fault> {
+    let before = (engine.now(), engine.drawn(), engine.view_epoch("v"));
+    match carry_out(rt, alloc, engine, text) {
+        Err(Fault::Memory) => {
+            let after = (engine.now(), engine.drawn(), engine.view_epoch("v"));
+            assert!(rt; before == after, "{text}");
+            carry_out(rt, alloc, engine, text)
+        }
+        first => first,
+    }
+}
+
+fn is_row(values: &[Value], numbers: &[i128]) -> bool {
+    values.len() == numbers.len()
+        && values
+            .iter()
+            .zip(numbers)
+            .all(|(value, number)| *value == Value::Number(*number))
+}
+
+/// Whether these are the rows, in this order.
+fn are_rows(rows: &RowList, wanted: &[&[i128]]) -> bool {
+    if rows.len() != wanted.len() {
+        return false;
+    }
+    for (place, numbers) in wanted.iter().enumerate() {
+        if !is_row(rows.row(place), numbers) {
+            return false;
+        }
+    }
+    true
+}
+
+/// A statement, and the rows that it answers: None of a write.
+pub(super) type Step = (&'static str, Option<&'static [&'static [i128]]>);
+
+/// Whether the answer is these rows, or of a write.
+fn is_answered(answer: &Answer, wanted: &Option<&[&[i128]]>) -> bool {
+    match (answer, wanted) {
+        (Answer::Rows { rows, .. }, Some(wanted)) => are_rows(rows, wanted),
+        (_, wanted) => wanted.is_none(),
+    }
+}
+
+pub(super) fn carry_all(
+    rt: &impl Abort,
+    alloc: Global,
+    engine: &mut Engine,
+    steps: &[Step],
+) -> Result<(), Fail> {
+    for (text, wanted) in steps {
+        let answer = carried_out(rt, alloc, engine, text)?;
+        assert!(rt; is_answered(&answer, wanted), "{text}: {answer:?}");
+        drop(answer);
+    }
+    Ok(())
+}
+
+fn carry_all_out(rt: &impl Abort, alloc: Global, steps: &[Step]) -> Result<(), Fail> {
+    let mut engine = engine(alloc)?;
+    let carried = carry_all(rt, alloc, &mut engine, steps);
+    drop(engine);
+    carried
+}
+
+const VIEWS: &[Step] = &[
+    ("CREATE TABLE t(k INTEGER, a INTEGER)", None),
+    ("INSERT INTO t VALUES (1, 5), (2, -3), (2, 8)", None),
+    ("MOVE t 2", None),
+    (
+        "CREATE VIEW v AS SELECT k, COUNT(*) AS n, SUM(a) AS s FROM t GROUP BY k",
+        None,
+    ),
+    (
+        "CREATE VIEW w AS SELECT a, COUNT(*) AS n FROM t WHERE a > 0 GROUP BY a",
+        None,
+    ),
+    ("INSERT INTO t VALUES (1, 7), (3, 1), (4, 7), (5, 9)", None),
+    ("DELETE FROM t WHERE k = 2", None),
+    ("INSERT INTO t VALUES (6, 5)", None),
+    (
+        "SELECT k, n, s FROM v",
+        Some(&[&[1, 2, 12], &[3, 1, 1], &[4, 1, 7], &[5, 1, 9], &[6, 1, 5]]),
+    ),
+    (
+        "SELECT a, n FROM w",
+        Some(&[&[1, 1], &[5, 2], &[7, 2], &[9, 1]]),
+    ),
+];
+
+#[test]
+fn one_refused_growth_changes_nothing(rt: HostRuntime) -> Result<(), Fail> {
+    carry_all_out(&rt, rt.alloc(), VIEWS)
+}
+
+const JOINS: &[Step] = &[
+    ("CREATE TABLE t(k INTEGER, a INTEGER)", None),
+    (
+        "INSERT INTO t VALUES (1, 5), (1, 7), (3, 1), (4, 7), (5, 9), (6, 5)",
+        None,
+    ),
+    ("MOVE t 4", None),
+    (
+        "SELECT x.k, COUNT(*), SUM(y.a) FROM t x JOIN t y ON x.k = y.k WHERE x.a > 1 \
+         GROUP BY x.k ORDER BY 3 DESC LIMIT 3",
+        Some(&[&[1, 4, 24], &[5, 1, 9], &[4, 1, 7]]),
+    ),
+    (
+        "SELECT DISTINCT a FROM t ORDER BY a DESC",
+        Some(&[&[9], &[7], &[5], &[1]]),
+    ),
+];
+
+#[test]
+fn one_refused_growth_of_a_join_changes_nothing(rt: HostRuntime) -> Result<(), Fail> {
+    carry_all_out(&rt, rt.alloc(), JOINS)
+}

@@ -1,5 +1,0 @@
-use Rattle.cq_tokens.proofs.Splits.{closed_pieces_fit}
-use Rattle.cq_tokens.proofs.laws.closed_pieces_fit.Goals as goal
-
-pub returns : goal.returns
-returns c = closed_pieces_fit

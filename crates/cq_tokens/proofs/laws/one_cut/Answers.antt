@@ -1,5 +1,0 @@
-use Rattle.cq_tokens.proofs.Cuts.{one_cut}
-use Rattle.cq_tokens.proofs.laws.one_cut.Goals as goal
-
-pub returns : goal.returns
-returns c = one_cut

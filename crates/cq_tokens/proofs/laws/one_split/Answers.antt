@@ -1,5 +1,0 @@
-use Rattle.cq_tokens.proofs.Splits.{one_split}
-use Rattle.cq_tokens.proofs.laws.one_split.Goals as goal
-
-pub returns : goal.returns
-returns c = one_split

@@ -1,5 +1,0 @@
-use Rattle.cq_tokens.proofs.Splits.{has_pieces_of}
-use Rattle.cq_tokens.proofs.pieces.split.Goals as goal
-
-pub returns : goal.returns
-returns c = has_pieces_of c.args.script.now

@@ -1,5 +1,0 @@
-use Rattle.cq_upkeep.proofs.Working.{counts-within_work}
-use Rattle.cq_upkeep.proofs.laws.counts_are_within_work.Goals as goal
-
-pub returns : goal.returns
-returns c = counts-within_work

@@ -1,5 +1,0 @@
-use Rattle.cq_upkeep.proofs.Working.{rises-where_changed}
-use Rattle.cq_upkeep.proofs.laws.counts_rise_where_changed.Goals as goal
-
-pub returns : goal.returns
-returns c = rises-where_changed

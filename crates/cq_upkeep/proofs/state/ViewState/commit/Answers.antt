@@ -1,5 +1,0 @@
-use Rattle.cq_upkeep.proofs.Standing.{all-taken}
-use Rattle.cq_upkeep.proofs.state.ViewState.commit.Goals as goal
-
-pub returns-clause-takes : goal.returns-clause-takes
-returns-clause-takes c = all-taken c.args.self.now c.commit.new.self c.commit-2.new.self c.args.pending c.args.epoch c.commit.ensures.takes c.commit-2.ensures

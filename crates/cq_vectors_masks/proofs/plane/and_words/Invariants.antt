@@ -1,0 +1,7 @@
+use Rattle.std.proofs.Common.{◌≡◌, ◌^◌, ℕ, ◌<◌, get_or, length}
+use Rattle.std.specs.Int.RustNames.{bit_and}
+use Rattle.cq_vectors_masks.proofs.plane.and_words.Given as goal
+
+-- the words below k are made
+abbrev pub invariant-loop-k : goal.invariant-loop-k
+invariant-loop-k l = (length l.words ≡ 16) × ((j : ℕ) → j < l.k → (get_or l.b j 0 < 2 ^ 64) × (get_or l.words j 0 ≡ bit_and (get_or l.a j 0) (get_or l.b j 0)))

@@ -1,0 +1,14 @@
+use Rattle.std.proofs.Common.{◌≡◌, ◌∙◌, map}
+use Rattle.std.specs.Option.{option_map}
+use Rattle.cq_model.specs.declared.query.Shape.TheVariants.{Grouped}
+use Rattle.cq_views_columns.specs.Places.{place_in}
+use Rattle.cq_views_columns.specs.Renamed.{renamed_aggregate}
+use Rattle.cq_views_columns.proofs.Trees.{same-condition}
+use Rattle.cq_views_columns.proofs.renamed.renamed_groups.Goals as goal
+
+pub returns-in-Ok : goal.returns-in-Ok
+returns-in-Ok c =
+    let keys : c.in_ok-keys.keys ≡ option_map (map (place_in c.args.places.now)) c.args.keys.now = c.in_ok-keys.ensures in
+    let aggregates : c.in-Ok.aggregates ≡ map (renamed_aggregate (place_in c.args.places.now)) c.args.aggregates.now = c.in-Ok.ensures in
+    let having : c.in_ok-having.having ≡ c.args.having.now = c.in_ok-having.ensures ∙ same-condition c.args.having.now in
+    λ i. Grouped (keys i) (aggregates i) (having i)

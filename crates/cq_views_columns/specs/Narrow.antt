@@ -1,0 +1,80 @@
+-- A query over rows that have the columns alone which it reads.
+use Rattle.std.specs.Prelude.{◌≡◌, ◌↔◌, ℕ, if◌then◌else◌, List, [], ◌∷◌, map, filter}
+use Rattle.std.specs.List.{range_with_len}
+use Rattle.std.specs.Option.{option_map}
+use Rattle.cq_model_bags.specs.Bag.{IsBag, projected}
+use Rattle.cq_views_model.specs.Pushed.{HaveWidths}
+use Rattle.cq_model.specs.Sources.{same_source}
+use Rattle.cq_model.specs.Group.{key_of}
+use Rattle.cq_model.specs.Meaning.{Tables, meaning, MeaningInRange}
+use Rattle.cq_model.specs.Sizes.{column_sizes}
+use Rattle.cq_model.specs.Views.{sources_of}
+use Rattle.cq_model.specs.declared.query.Equality.{Equality}
+use Rattle.cq_model.specs.declared.query.Join.{Join}
+use Rattle.cq_model.specs.declared.query.Query.{Query}
+use Rattle.cq_model.specs.declared.query.Source.{Source}
+use Rattle.cq_views_state.specs.Query.{CanBeKept}
+use Rattle.cq_views_columns.specs.Places.{place_in, places_from}
+use Rattle.cq_views_columns.specs.Reads.{is_read}
+use Rattle.cq_views_columns.specs.Renamed.{renamed_cond, renamed_items, renamed_shape}
+use Rattle.cq_views_columns.specs.declared.columns.SourceColumns.{SourceColumns}
+use Rattle.cq_views_columns.specs.declared.narrow_query.NarrowQuery.{NarrowQuery}
+
+-- the columns of a source, by its first entry
+abbrev pub columns_at : List SourceColumns → Source → List ℕ
+columns_at [] source = []
+columns_at (x ∷ sources) source = if same_source x.source source then x.columns else columns_at sources source
+
+-- the rows of each source with these columns alone
+abbrev pub narrowed_bags : List SourceColumns → Tables → Tables
+narrowed_bags columns tables source = projected (key_of (columns_at columns source)) (tables source)
+
+-- the columns of a source that a query reads, rising
+abbrev pub columns_read : Query → List ℕ → Source → ℕ → List ℕ
+columns_read q widths source wide = filter (is_read q widths source) (range_with_len 0 wide)
+
+-- those of each of several sources of these widths
+abbrev pub sources_read : Query → List ℕ → List Source → List ℕ → List SourceColumns
+sources_read q all (s ∷ sources) (wide ∷ widths) = record { source = s; columns = columns_read q all s wide } ∷ sources_read q all sources widths
+sources_read q all sources widths = []
+
+-- an ON over rows with these columns alone
+abbrev pub renamed_on : (ℕ → ℕ) → List ℕ → List Equality → List Equality
+renamed_on to own on = map (λ e. record { left = to e.left; right = place_in own e.right }) on
+
+-- and a join
+abbrev pub renamed_join : (ℕ → ℕ) → (Source → List ℕ) → Join → Join
+renamed_join to columns join = record { source = join.source; on = renamed_on to (columns join.source) join.on }
+
+-- a query over rows with these columns alone; these are their places in the joined rows
+abbrev pub renamed_query : List ℕ → (Source → List ℕ) → Query → Query
+renamed_query places columns q = record {
+  first = q.first;
+  joins = map (renamed_join (place_in places) columns) q.joins;
+  filter = option_map (renamed_cond (place_in places)) q.filter;
+  shape = renamed_shape (place_in places) q.shape;
+  items = renamed_items (place_in places) q.shape q.items;
+  distinct = q.distinct;
+}
+
+-- a query over rows with these columns alone, whose sources have these widths
+abbrev pub renamed_over : Query → List Source → List ℕ → List SourceColumns → Query
+renamed_over q sources widths columns = renamed_query (places_from (columns_at columns) 0 sources widths) (columns_at columns) q
+
+-- bags whose rows have as many columns as these widths say, source by source of FROM
+pub record HaveColumns (q : Query) (widths : List ℕ) (tables : Tables) : Type 0 where
+  pub width : Source → ℕ
+  pub from : map width (sources_of q) ≡ widths
+  pub rows : HaveWidths width tables
+  pub bags : (source : Source) → IsBag (tables source)
+
+-- it reads the same columns alone, has the same bag over the narrower rows, and is kept and shown wherever the query is
+pub record IsNarrowOf (query : Query) (widths : List ℕ) (new : NarrowQuery) : Type 0 where
+  pub columns : new.columns ≡ sources_read query widths (sources_of query) widths
+  pub bag : (tables : Tables) → HaveColumns query widths tables → meaning new.query (narrowed_bags new.columns tables) ≡ meaning query tables
+  pub range : (tables : Tables) → HaveColumns query widths tables
+      → MeaningInRange new.query (narrowed_bags new.columns tables) ↔ MeaningInRange query tables
+  pub sources : sources_of new.query ≡ sources_of query
+  pub distinct : new.query.distinct ≡ query.distinct
+  pub sizes : column_sizes new.query ≡ column_sizes query
+  pub kept : CanBeKept query → CanBeKept new.query

@@ -1,0 +1,56 @@
+//! A query, and the columns of its sources that it is over.
+ghost use Rattle.std.specs.Prelude.{◌<◌, ◌^◌, ◌≡◌, IfOk, sum};
+ghost use Rattle.cq_views_columns.specs.Narrow.{IsNarrowOf, renamed_over};
+
+use crate::columns::{SourceColumns, sources_of, sources_read};
+use crate::laws::renamed_means_same;
+use crate::places::places_of;
+use crate::renamed::renamed_query;
+use cq_model::{Query, Source};
+use cq_values::Seq;
+use std::alloc::{AllocError, Global};
+
+/// A query over rows that have these columns of the sources' rows alone.
+#[derive(Debug, Drop)]
+pub struct NarrowQuery {
+    pub query: Query,
+    /// The columns of each source, in the order of FROM.
+    pub columns: Seq<SourceColumns>,
+}
+
+impl NarrowQuery {
+    /// The query over the columns that it reads. The rows of what FROM names have so many columns, in its order.
+    pub fn of(alloc: Global, query: &Query, widths: &[usize]) -> Result<NarrowQuery, AllocError>
+        requires { sum widths.now < 2 ^ 64 }
+        ensures { IfOk result (IsNarrowOf query.now widths.now) }
+    {
+        renamed_means_same();
+        let sources = sources_of(alloc, query)?;
+        let columns = sources_read(alloc, query, &sources, widths)?;
+        match renamed_over(alloc, query, &sources, widths, &columns) {
+            Ok(query) => Ok(NarrowQuery {
+                query,
+                columns: Seq::from_vec(columns),
+            }),
+            Err(fault) => {
+                drop(columns);
+                Err(fault)
+            }
+        }
+    }
+}
+
+/// The query with its columns renamed to where they stand among these.
+fn renamed_over(
+    alloc: Global,
+    query: &Query,
+    sources: &[Source],
+    widths: &[usize],
+    columns: &[SourceColumns],
+) -> Result<Query, AllocError>
+    requires { sum widths.now < 2 ^ 64 }
+    ensures { IfOk result (λ q. q ≡ renamed_over query.now sources.now widths.now columns.now) }
+{
+    let places = places_of(alloc, columns, sources, widths)?;
+    renamed_query(alloc, query, &places, columns)
+}

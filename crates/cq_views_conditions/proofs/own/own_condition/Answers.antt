@@ -1,0 +1,14 @@
+use Rattle.std.proofs.Common.{Some, rules, subst, sym}
+use Rattle.std.proofs.lemmas.List.{nil_from_length}
+use Rattle.cq_model.specs.Expr.{Cond}
+use Rattle.cq_views_conditions.specs.Own.{IsOwnTest}
+use Rattle.cq_views_conditions.proofs.Owned.{none-own, some-own}
+use Rattle.cq_views_conditions.proofs.own.own_condition.Goals as goal
+
+pub returns-in-Ok : goal.returns-in-Ok
+returns-in-Ok c =
+    subst (λ (condition : Cond). IsOwnTest c.args.filter.now c.args.before c.args.wide (Some condition)) (sym c.new-in-Ok.ensures)
+    (some-own c.args.filter.now c.args.before c.args.wide c.in_ok-own.own.items c.in_ok-own.ensures.own c.in_ok-own.ensures.all c.in-Some.first.now c.in-Some.rest.now c.in_ok-first-2.first c.in-Ok.rest (search rules) (search rules) (search rules))
+
+pub returns-in_default : goal.returns-in_default
+returns-in_default c = none-own c.args.filter.now c.args.before c.args.wide c.in_ok-own.own.items c.in_ok-own.ensures.own c.in_ok-own.ensures.all (nil_from_length c.in_ok-own.own.items (search rules))

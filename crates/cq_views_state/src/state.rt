@@ -1,0 +1,223 @@
+//! A view as it is kept.
+ghost use Rattle.std.specs.List.{AllByRecursion};
+ghost use Rattle.std.specs.Prelude.{◌≡◌, ◌≤◌, IfErr, IfOk, OnOk, length};
+ghost use Rattle.cq_deltas_joins.specs.Chains.{nothing};
+ghost use Rattle.cq_deltas_joins.specs.Sources.{rows_at};
+ghost use Rattle.cq_deltas_joins.specs.Work.{CountsPairs};
+ghost use Rattle.cq_deltas.specs.declared.fault.ShowFault.TheVariants.{SumOutOfRange};
+ghost use Rattle.cq_model_laws.specs.Sizes.{HasSizes};
+ghost use Rattle.cq_model.specs.Sizes.{column_sizes};
+ghost use Rattle.cq_model.specs.Views.{sources_of};
+ghost use Rattle.cq_sides.specs.Ticks.{counted};
+ghost use Rattle.cq_views_state.specs.Query.{CanBeKept, reads};
+ghost use Rattle.cq_views_state.specs.Shown.{AreRowsOf, CanShow, IsNotShown, IsShown};
+ghost use Rattle.cq_views_state.specs.Work.{CountsPut, CountsRows, work_of};
+ghost use Rattle.cq_views_state.specs.State.{CanCommit, CanPrepare, IsWaiting, SameView, StandsFor, StaysStanding, TakesIn};
+
+use crate::changes::ready_images;
+use crate::columns::column_sizes;
+use crate::grouping::stream_groups;
+use crate::joins::joined;
+use crate::last::{Last, LastChange};
+use crate::query::reads;
+use crate::showing::shown_rows;
+use cq_deltas::ShowFault;
+use cq_deltas_joins::{Chain, SourceRows, Waiting};
+use cq_model::Query;
+use cq_values::Seq;
+use cq_values_rows::RowList;
+use std::alloc::{AllocError, Global};
+
+/// A view as it is kept: its query, how many columns its sources have, its epochs, the sides of its joins, what stands
+/// behind them, and how many changed rows came there.
+#[derive(Drop)]
+pub struct ViewState {
+    query: Query,
+    widths: Seq<usize>,
+    epoch: u64,
+    built: u64,
+    chain: Chain,
+    last: Last,
+    /// How many changed rows came behind the joins.
+    ticks: u128,
+}
+
+/// Changes that wait for [`ViewState::commit`]: those of the joins, and what they add behind them.
+#[derive(Drop)]
+pub struct Pending {
+    waiting: Waiting,
+    change: LastChange,
+}
+
+impl ViewState {
+    /// The view of this query over tables without rows. The rows of what FROM names will have so many columns, in its
+    /// order.
+    pub fn empty(
+        alloc: Global,
+        query: Query,
+        widths: Seq<usize>,
+        epoch: u64,
+    ) -> Result<ViewState, AllocError>
+        requires { length widths ≡ length (sources_of query) }
+        ensures query { IfOk result (λ v. v.query ≡ query) }
+        ensures widths { IfOk result (λ v. v.widths ≡ widths) }
+        ensures epoch { IfOk result (λ v. v.epoch ≡ epoch) }
+        ensures built { IfOk result (λ v. v.built ≡ epoch) }
+        ensures stands { IfOk result (λ v. StandsFor v nothing) }
+    {
+        match joined(alloc, &query, widths.as_slice()) {
+            Ok(chain) => {
+                let last = Last::empty(alloc, &query);
+                Ok(ViewState {
+                    query,
+                    widths,
+                    epoch,
+                    built: epoch,
+                    chain,
+                    last,
+                    ticks: 0,
+                })
+            }
+            Err(fault) => {
+                drop(query);
+                drop(widths);
+                Err(fault)
+            }
+        }
+    }
+
+    /// The view's query.
+    pub fn query(&self) -> &Query
+        ensures { result.now ≡ self.now.query }
+    {
+        &self.query
+    }
+
+    /// How many writes there were when the view last took one in.
+    pub fn epoch(&self) -> u64
+        ensures { result ≡ self.now.epoch }
+    {
+        self.epoch
+    }
+
+    /// How many writes there were when the view was built.
+    pub fn built(&self) -> u64
+        ensures { result ≡ self.now.built }
+    {
+        self.built
+    }
+
+    /// How many entries the sides of the joins gave and took since the view was built, and how many changed rows came
+    /// behind the joins.
+    pub fn work(&self) -> u128
+        ensures { result ≡ counted 0 (work_of self.now) }
+    {
+        self.chain.ticks().saturating_add(self.ticks)
+    }
+
+    /// Whether FROM names the table, so that its changes are for the view.
+    pub fn is_on(&self, table: u64) -> bool
+        ensures { result ≡ reads table self.now.query }
+    {
+        reads(&self.query, table)
+    }
+
+    /// Ends a build. What the view took in so far counts as no work, since it is none of its
+    /// changes, and groups are put in order, in which most of them stay.
+    pub fn restart(&mut self)
+        ensures same { SameView self.old self.new }
+        ensures uncounted { work_of self.new ≡ 0 }
+    {
+        self.chain.restart();
+        self.ticks = 0;
+        // The order is no promise: where memory is short, the groups stay as they are.
+        let _ = self.last.sort();
+    }
+
+    /// How large the numbers in each column of [`ViewState::rows`] can be.
+    pub fn column_sizes(&self, alloc: Global) -> Result<Vec<u128>, AllocError>
+        requires { CanBeKept self.now.query }
+        ensures { IfOk result (λ v. v.items ≡ column_sizes self.now.query) }
+    {
+        column_sizes(alloc, &self.query)
+    }
+
+    /// Works out what changes of the tables change, from the stored sides and the changes alone, and makes all growth
+    /// for it. Nothing that is shown changes.
+    pub fn prepare(
+        &mut self,
+        alloc: Global,
+        changes: Vec<SourceRows>,
+    ) -> Result<Pending, AllocError>
+        requires { CanPrepare self.old (rows_at changes.items) }
+        ensures same { SameView self.old self.new }
+        ensures waiting { IfOk result (IsWaiting self.old (rows_at changes.items) self.new) }
+        ensures ready { IfOk result (CanCommit self.new) }
+        ensures counts { CountsPairs self.old.chain (rows_at changes.items) self.new.chain }
+        ensures rows { OnOk result (CountsRows self.old (rows_at changes.items) self.new) }
+        ensures more { work_of self.old ≤ work_of self.new }
+    {
+        let (query, chain) = (&self.query, &mut self.chain);
+        match &mut self.last {
+            Last::Groups(groups) => {
+                let ticks = &mut self.ticks;
+                let (waiting, change) = stream_groups(alloc, query, chain, changes, groups, ticks)?;
+                Ok(Pending {
+                    waiting,
+                    change: LastChange::Groups(change),
+                })
+            }
+            Last::Images(images) => {
+                let (rows, waiting) = chain.change(alloc, changes)?;
+                self.ticks = self.ticks.saturating_add(rows.len() as u128);
+                let change = ready_images(alloc, query, &rows, images);
+                drop(rows);
+                match change {
+                    Ok(change) => Ok(Pending {
+                        waiting,
+                        change: LastChange::Images(change),
+                    }),
+                    Err(fault) => {
+                        drop(waiting);
+                        Err(fault)
+                    }
+                }
+            }
+        }
+    }
+
+    /// Puts changes in that wait. It takes no memory, and cannot fail.
+    pub fn commit(&mut self, pending: Pending, epoch: u64)
+        requires { CanCommit self.old pending }
+        ensures query { self.new.query ≡ self.old.query }
+        ensures widths { self.new.widths ≡ self.old.widths }
+        ensures epoch { self.new.epoch ≡ epoch }
+        ensures built { self.new.built ≡ self.old.built }
+        ensures takes { TakesIn self.old pending self.new }
+        ensures counts { CountsPut self.old pending self.new }
+    {
+        let Pending { waiting, change } = pending;
+        self.chain.commit(waiting);
+        self.last.commit(change);
+        self.epoch = epoch;
+    }
+
+    /// Takes in writes of other tables.
+    pub fn advance(&mut self, epoch: u64)
+        ensures epoch { self.new ≡ record self.old { epoch = epoch } }
+        ensures stands { StaysStanding self.old self.new }
+    {
+        self.epoch = epoch;
+    }
+
+    /// The rows of the view, in no order that is promised. It costs what the view holds, and no table is read.
+    pub fn rows(&self, alloc: Global) -> Result<RowList, ShowFault>
+        requires { CanShow self.now }
+        ensures bag { IfOk result (λ rows. AreRowsOf self.now rows) }
+        ensures sized { IfOk result (λ rows. AllByRecursion (HasSizes (column_sizes self.now.query)) rows) }
+        ensures range { OnOk result (IsShown self.now) }
+        ensures fault { IfErr result (λ e. e ≡ SumOutOfRange → IsNotShown self.now) }
+    {
+        shown_rows(alloc, &self.query, &self.last)
+    }
+}
