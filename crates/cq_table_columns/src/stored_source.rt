@@ -3,8 +3,8 @@ ghost use Rattle.std.specs.Prelude.{◌≡◌, []};
 ghost use Rattle.cq_table_columns.specs.Stored.{all_rows};
 ghost use Rattle.cq_table_columns.specs.Sources.{rows_or};
 
+use crate::stored::Stored;
 use cq_model::Source;
-use cq_table_columns::Stored;
 
 /// The rows of a source, where they are stored.
 #[derive(Clone, Copy)]
