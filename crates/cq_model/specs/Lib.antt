@@ -13,3 +13,5 @@ pub mod Write
 pub mod Sizes
 pub mod Sources
 pub mod Views
+pub mod Own
+pub mod Pushed

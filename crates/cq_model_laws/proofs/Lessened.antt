@@ -21,7 +21,7 @@ use Rattle.cq_model.specs.declared.query.Source.{Source}
 use Rattle.cq_views_model.specs.Delta.{join_work, chain_change, chain_work, last_work, view_work}
 use Rattle.cq_model.specs.Group.{key_of}
 use Rattle.cq_model.specs.Meaning.{Tables, meets, keeps, items_of}
-use Rattle.cq_views_model.specs.Pushed.{Below, Pushed, next, HaveWidths}
+use Rattle.cq_model.specs.Pushed.{Below, Pushed, next, HaveWidths}
 use Rattle.cq_views_model.specs.Standing.{Sides, SidesStand, next_change, sides_change, sides_work, Stored, Stands, stored_work}
 use Rattle.cq_model_laws.proofs.Pushed.{filtered-filtered, both, next-filtered}
 use Rattle.cq_model_laws.proofs.Standings.{next-respects}

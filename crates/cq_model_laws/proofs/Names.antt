@@ -9,7 +9,7 @@ use Rattle.cq_values.specs.Comparison.{compared}
 use Rattle.cq_model.specs.Condition.{is_null, liked, between, any_of, holds}
 use Rattle.cq_model.specs.Eval.{negated, plus, times, extracted, eval}
 use Rattle.cq_model.specs.Expr.{Expr, Column, Literal, Negate, Plus, Times, Extract, Cond, Compare, IsNull, Between, In, Like, Not, And, Or}
-use Rattle.cq_views_model.specs.Own.{is_within, names_only, tests_only}
+use Rattle.cq_model.specs.Own.{is_within, names_only, tests_only}
 
 -- what holds of both holds of each
 pub both-first : (a b : Bool) → a && b ≡ true → a ≡ true

@@ -14,8 +14,8 @@ use Rattle.cq_model_bags.proofs.Totals.{by_test}
 use Rattle.cq_model.specs.Expr.{Cond}
 use Rattle.cq_model.specs.Condition.{holds}
 use Rattle.cq_model.specs.Meaning.{keeps}
-use Rattle.cq_views_model.specs.Own.{is_within, tests_only, IsPart, whole, before_and, behind_and, in_place, passes_own, AreOwn}
-use Rattle.cq_views_model.specs.Pushed.{IsImplied}
+use Rattle.cq_model.specs.Own.{is_within, tests_only, IsPart, whole, before_and, behind_and, in_place, passes_own, AreOwn}
+use Rattle.cq_model.specs.Pushed.{IsImplied}
 use Rattle.cq_model_laws.proofs.Names.{both-first, both-second, holds-same}
 
 -- AND is True where both parts are

@@ -10,7 +10,7 @@ use Rattle.cq_model.specs.declared.query.Join.{Join}
 use Rattle.cq_model.specs.declared.query.Query.{Query}
 use Rattle.cq_model.specs.declared.query.Source.{Source}
 use Rattle.cq_model.specs.Meaning.{Tables, meets, chain, keeps, joined_rows}
-use Rattle.cq_views_model.specs.Pushed.{Below, Pushed, next, pushed_chain, pushed_rows, HaveWidths, IsImplied, AreImplied, AreBelow}
+use Rattle.cq_model.specs.Pushed.{Below, Pushed, next, pushed_chain, pushed_rows, HaveWidths, IsImplied, AreImplied, AreBelow}
 
 -- two filters are one of both conditions
 pub filtered-filtered : (keep also : Row → Bool) (xs : Weighted) → filtered also (filtered keep xs) ≡ filtered (λ r. keep r && also r) xs

@@ -14,8 +14,8 @@ use Rattle.cq_model.specs.Group.{count_all, count_values, sum_values, aggregate,
 use Rattle.cq_model.specs.Meaning.{Tables, chain, keeps, joined_rows, shown, meaning, MeaningInRange}
 use Rattle.cq_model.specs.Views.{with_views, AnswerInRange, sources_of}
 use Rattle.cq_views_model.specs.Delta.{SameTables, changed, chain_change, joined_change, view_work}
-use Rattle.cq_views_model.specs.Pushed.{Pushed, pushed_rows, HaveWidths, IsImplied, AreBelow}
-use Rattle.cq_views_model.specs.Own.{passes_own, AreOwn}
+use Rattle.cq_model.specs.Pushed.{Pushed, pushed_rows, HaveWidths, IsImplied, AreBelow}
+use Rattle.cq_model.specs.Own.{passes_own, AreOwn}
 use Rattle.cq_views_model.specs.Kept.{Kept, IsKept, kept_value, Group, GroupStands, Last, LastStands, shown_row}
 use Rattle.cq_views_model.specs.Shown.{shown_rows, ListsKeys}
 use Rattle.cq_views_model.specs.Standing.{Stored, Stands, built, stored_change, stored_after, stored_work}

@@ -6,7 +6,7 @@ use Rattle.std.specs.List.{AllByRecursion, filter}
 use Rattle.std.proofs.lemmas.Bool.{eqb-true}
 use Rattle.std.proofs.lemmas.List.{drop_all}
 use Rattle.cq_model_eval.proofs.Conditions.{map-map}
-use Rattle.cq_views_model.specs.Own.{in_place, passes_own}
+use Rattle.cq_model.specs.Own.{in_place, passes_own}
 use Rattle.cq_values.specs.Value.{Row}
 use Rattle.cq_values.specs.declared.truth.Truth.{Truth}
 use Rattle.cq_model.specs.Condition.{holds}

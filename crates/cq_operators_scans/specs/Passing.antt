@@ -4,7 +4,7 @@ use Rattle.std.specs.Borrow.{Bor}
 use Rattle.std.specs.List.{AllByRecursion, filter}
 use Rattle.cq_values.specs.Truth.{is_true}
 use Rattle.cq_values.specs.Value.{Row}
-use Rattle.cq_views_model.specs.Own.{in_place, passes_own}
+use Rattle.cq_model.specs.Own.{in_place, passes_own}
 use Rattle.cq_model.specs.Condition.{holds}
 use Rattle.cq_model.specs.Exact.{AreExactIn}
 use Rattle.cq_model.specs.Expr.{Cond}

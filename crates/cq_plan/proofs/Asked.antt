@@ -6,7 +6,7 @@ use Rattle.std.specs.Prelude.{◌==◌, ◌+◌, Ok, Err, OnOk, Result}
 use Rattle.std.specs.Vec.{vec_len}
 use Rattle.std.proofs.lemmas.Bool.Decides.{nat_tests}
 use Rattle.cq_model_eval.proofs.Trees.{tree-And, tree-Or}
-use Rattle.cq_views_model.specs.Own.{IsPart, whole, before_and, behind_and, in_place, passes_own, tests_only}
+use Rattle.cq_model.specs.Own.{IsPart, whole, before_and, behind_and, in_place, passes_own, tests_only}
 use Rattle.cq_model.specs.Condition.{holds}
 use Rattle.cq_model.specs.Expr.{And, Cond, Or}
 use Rattle.cq_model.specs.Trees.{cond_of}

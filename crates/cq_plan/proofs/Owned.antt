@@ -3,7 +3,7 @@ use Rattle.std.proofs.Common.{◌≡◌, ℕ, zero, suc, ◌<◌, Bool, true, fa
 use Rattle.std.specs.Borrow.{Bor}
 use Rattle.std.specs.List.{fold, list_all}
 use Rattle.cq_model_eval.proofs.Trees.{through, tree-And, tree-Or, tree-Product, tree-Sum}
-use Rattle.cq_views_model.specs.Own.{AreOwn, IsPart, whole, before_and, behind_and, names_only, tests_only}
+use Rattle.cq_model.specs.Own.{AreOwn, IsPart, whole, before_and, behind_and, names_only, tests_only}
 use Rattle.cq_model.specs.Expr.{And, Cond, Or, Plus, Times}
 use Rattle.cq_model.specs.Trees.{cond_of, expr_of}
 use Rattle.cq_model.specs.declared.expr.CondTree.{CondTree}

@@ -1,6 +1,6 @@
 -- Sources whose rows pass conditions of WHERE before any join, where these are the source's own.
 use Rattle.std.specs.Prelude.{◌≡◌, ℕ, ◌+◌, List, [], ◌∷◌, Option, filter}
-use Rattle.cq_views_model.specs.Own.{passes_own}
+use Rattle.cq_model.specs.Own.{passes_own}
 use Rattle.cq_model.specs.Expr.{Cond}
 use Rattle.cq_values.specs.Value.{Row}
 use Rattle.cq_plan.specs.Chain.{Link}

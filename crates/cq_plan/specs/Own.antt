@@ -1,7 +1,7 @@
 -- Conditions of WHERE that are one source's own: they name its columns alone, and AND joins them to the rest.
 use Rattle.std.specs.Prelude.{◌≡◌, ℕ, true, List, [], map, Option, Some, None}
 use Rattle.std.specs.Borrow.{Bor}
-use Rattle.cq_views_model.specs.Own.{AreOwn, IsPart, in_place, passes_own, tests_only}
+use Rattle.cq_model.specs.Own.{AreOwn, IsPart, in_place, passes_own, tests_only}
 use Rattle.cq_values.specs.Truth.{is_true}
 use Rattle.cq_values.specs.Value.{Row}
 use Rattle.cq_model.specs.Condition.{holds}

@@ -1,7 +1,7 @@
 //! The conditions of WHERE that are one source's own. Its rows may be asked for them before any join.
 ghost use Rattle.std.specs.List.{list_all};
 ghost use Rattle.std.specs.Prelude.{IfOk, OnOk, map, ◌≡◌};
-ghost use Rattle.cq_views_model.specs.Own.{AreOwn, is_within, names_only, tests_only};
+ghost use Rattle.cq_model.specs.Own.{AreOwn, is_within, names_only, tests_only};
 ghost use Rattle.cq_model.specs.Trees.{cond_of, expr_of};
 ghost use Rattle.cq_plan.specs.Own.{AreOwnOf, AskAllOwn, AskAllOwnOf, AskMore, StayOwn, conditions_of};
 

@@ -9,7 +9,7 @@ use Rattle.cq_model_bags.specs.Bag.{IsBag, SameBag, Weighted, projected}
 use Rattle.cq_model_bags.specs.Join.{HasWidth}
 use Rattle.cq_deltas_joins.specs.Steps.{AreStored}
 use Rattle.cq_views_model.specs.Delta.{changed}
-use Rattle.cq_views_model.specs.Pushed.{HaveWidths}
+use Rattle.cq_model.specs.Pushed.{HaveWidths}
 use Rattle.cq_views.specs.Cut.{cut_bags, cut_to, cut_width, entry_of, width_at}
 use Rattle.cq_model_laws.proofs.Positives.{once_each-bag}
 use Rattle.cq_model.specs.Group.{key_of}

@@ -7,7 +7,7 @@ use Rattle.cq_model_bags.specs.Bag.{Weighted}
 use Rattle.cq_deltas_joins.proofs.Storing.{merged-all}
 use Rattle.cq_deltas_joins.specs.Chains.{nothing}
 use Rattle.cq_views_model.specs.Delta.{changed}
-use Rattle.cq_views_model.specs.Pushed.{HaveWidths}
+use Rattle.cq_model.specs.Pushed.{HaveWidths}
 use Rattle.cq_views.proofs.Bags.{cut-wide}
 use Rattle.cq_views.specs.Cut.{AreCut, cut_bags, cut_widths, width_at}
 use Rattle.cq_views.specs.declared.kept_view.KeptView.{KeptView}

@@ -3,7 +3,7 @@ use Rattle.std.specs.Prelude.{◌≡◌, ◌≤◌, ◌^◌, ℕ, List}
 use Rattle.cq_deltas_joins.specs.Chains.{spans}
 use Rattle.cq_deltas_joins.specs.Work as chains
 use Rattle.cq_views_model.specs.Delta.{SameTables, changed}
-use Rattle.cq_views_model.specs.Pushed.{HaveWidths}
+use Rattle.cq_model.specs.Pushed.{HaveWidths}
 use Rattle.cq_views.specs.Cut.{cut_bags, cut_widths, width_at}
 use Rattle.cq_views.specs.declared.kept_view.KeptView.{KeptView}
 use Rattle.cq_model.specs.Meaning.{Tables}

@@ -11,7 +11,7 @@ use Rattle.cq_model_bags.specs.Bag.{Weighted, joined, pairs_of, projected}
 use Rattle.cq_model_bags.specs.Join.{HasWidth}
 use Rattle.cq_model_bags.proofs.Totals.{by_test}
 use Rattle.cq_model_bags.proofs.Widths.{joined-width}
-use Rattle.cq_views_model.specs.Pushed.{HaveWidths}
+use Rattle.cq_model.specs.Pushed.{HaveWidths}
 use Rattle.cq_model.specs.Group.{key_of}
 use Rattle.cq_model.specs.Meaning.{Tables, chain, meets}
 use Rattle.cq_model.specs.declared.query.Equality.{Equality}

@@ -7,7 +7,7 @@ use Rattle.cq_values.specs.Value.{Row, column}
 use Rattle.cq_model_bags.specs.Bag.{IsBag, Weighted, distinct, filtered, projected}
 use Rattle.cq_model_bags.specs.Join.{HasWidth}
 use Rattle.cq_model_bags.proofs.Widths.{filtered-width}
-use Rattle.cq_views_model.specs.Pushed.{HaveWidths}
+use Rattle.cq_model.specs.Pushed.{HaveWidths}
 use Rattle.cq_model_laws.proofs.Positives.{joined_rows-bag}
 use Rattle.cq_model.specs.Group.{key_of}
 use Rattle.cq_model.specs.Meaning.{MeaningInRange, ShapeInRange, Tables, chain, joined_rows, keeps, meaning, shown}

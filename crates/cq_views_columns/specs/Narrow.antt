@@ -3,7 +3,7 @@ use Rattle.std.specs.Prelude.{◌≡◌, ◌↔◌, ℕ, if◌then◌else◌, Li
 use Rattle.std.specs.List.{range_with_len}
 use Rattle.std.specs.Option.{option_map}
 use Rattle.cq_model_bags.specs.Bag.{IsBag, projected}
-use Rattle.cq_views_model.specs.Pushed.{HaveWidths}
+use Rattle.cq_model.specs.Pushed.{HaveWidths}
 use Rattle.cq_model.specs.Sources.{same_source}
 use Rattle.cq_model.specs.Group.{key_of}
 use Rattle.cq_model.specs.Meaning.{Tables, meaning, MeaningInRange}

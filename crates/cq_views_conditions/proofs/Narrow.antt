@@ -2,7 +2,7 @@
 use Rattle.std.proofs.Common.{◌≡◌, ℕ, ◌≤◌, ◌<◌, ◌^◌, max, true, ◌&&◌, List, [], ◌∷◌, map, Option, None, Some, refl, ap, arith}
 use Rattle.std.specs.List.{AllByRecursion, fold, list_all}
 use Rattle.cq_values.specs.Value.{Row}
-use Rattle.cq_views_model.specs.Own.{IsPart, whole, before_and, behind_and, in_place, names_only, tests_only}
+use Rattle.cq_model.specs.Own.{IsPart, whole, before_and, behind_and, in_place, names_only, tests_only}
 use Rattle.cq_model_laws.proofs.Names.{both-first, both-second}
 use Rattle.cq_model.specs.Expr.{Expr, Column, Literal, Negate, Plus, Times, Extract, Cond, Compare, IsNull, Between, In, Like, Not, And, Or}
 use Rattle.cq_model.specs.Width.{Extent, IsNarrowIn, extent_of, extent_plus, extent_times, part_limit, sizes_of, value_size, widest, widest_in, width}

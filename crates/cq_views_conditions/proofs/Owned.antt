@@ -3,7 +3,7 @@ use Rattle.std.proofs.Common.{◌≡◌, ℕ, Bool, true, ◌&&◌, List, [], �
 use Rattle.std.specs.Borrow.{Bor}
 use Rattle.std.specs.List.{AllByRecursion, fold}
 use Rattle.cq_values.specs.Truth.{is_true}
-use Rattle.cq_views_model.specs.Own.{passes_own, tests_only}
+use Rattle.cq_model.specs.Own.{passes_own, tests_only}
 use Rattle.cq_model.specs.Condition.{holds}
 use Rattle.cq_model.specs.Expr.{Cond, And}
 use Rattle.cq_model_eval.proofs.Trees.{tree-And}

@@ -12,7 +12,7 @@ use Rattle.cq_values.specs.declared.value.Value.TheVariants.{Null}
 use Rattle.cq_values.specs.Comparison.{compared}
 use Rattle.cq_values.specs.Truth.{is_true, not_truth, and_truth, or_truth, truth_of}
 use Rattle.cq_values.specs.Value.{Row, column}
-use Rattle.cq_views_model.specs.Own.{in_place, is_within, names_only, passes_own, tests_only}
+use Rattle.cq_model.specs.Own.{in_place, is_within, names_only, passes_own, tests_only}
 use Rattle.cq_model_laws.proofs.Names.{both-first, both-second}
 use Rattle.cq_model.specs.Condition.{any_of, between, holds, is_null, liked}
 use Rattle.cq_model.specs.Eval.{eval, extracted, negated, plus, times}

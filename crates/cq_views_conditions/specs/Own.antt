@@ -1,7 +1,7 @@
 -- One condition on the rows of a source, in place of the parts of WHERE that are its own.
 use Rattle.std.specs.Prelude.{◌≡◌, ◌<◌, ◌^◌, ℕ, List, Option}
 use Rattle.cq_values.specs.Value.{Row}
-use Rattle.cq_views_model.specs.Own.{in_place, passes_own}
+use Rattle.cq_model.specs.Own.{in_place, passes_own}
 use Rattle.cq_model.specs.Expr.{Cond}
 use Rattle.cq_model.specs.Meaning.{keeps}
 use Rattle.cq_model.specs.Width.{IsNarrowIn}

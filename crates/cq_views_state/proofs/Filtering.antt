@@ -10,7 +10,7 @@ use Rattle.cq_model_bags.proofs.Widths.{append-width, joined-filtered, joined-wi
 use Rattle.cq_model_bags.specs.Bag.{Weighted, SameBag, filtered, joined, weight_of}
 use Rattle.cq_model_bags.specs.Join.{HasWidth, join_change}
 use Rattle.cq_views_model.specs.Delta.{chain_change, chain_work, changed, join_work}
-use Rattle.cq_views_model.specs.Pushed.{HaveWidths}
+use Rattle.cq_model.specs.Pushed.{HaveWidths}
 use Rattle.cq_views_model.specs.Standing.{built_sides, sides_work}
 use Rattle.cq_model_laws.proofs.Chains.{chain-law}
 use Rattle.cq_model_laws.proofs.Pushed.{both, filtered-filtered, next-filtered}

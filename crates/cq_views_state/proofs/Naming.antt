@@ -6,7 +6,7 @@ use Rattle.std.proofs.lemmas.List.{get_or-replicate, replicate_more}
 use Rattle.std.specs.List.{fold}
 use Rattle.cq_model_eval.proofs.Chains.{chain-end, chain-next}
 use Rattle.cq_model_eval.proofs.Trees.{through, tree-Product, tree-Sum}
-use Rattle.cq_views_model.specs.Own.{is_within, names_only}
+use Rattle.cq_model.specs.Own.{is_within, names_only}
 use Rattle.cq_model_laws.proofs.Names.{both-first, both-second}
 use Rattle.cq_model.specs.declared.expr.ExprTree.{ExprTree}
 use Rattle.cq_model.specs.declared.expr.ExprTree.TheViews as view

@@ -3,7 +3,7 @@ use Rattle.std.specs.Prelude.{◌≡◌, ◌≤◌, ◌*◌, ◌^◌, ℕ, List,
 use Rattle.std.specs.List.{AllByRecursion, AllZip}
 use Rattle.cq_model_bags.specs.Bag.{Weighted, SameBag, IsBag}
 use Rattle.cq_views_model.specs.Delta.{changed}
-use Rattle.cq_views_model.specs.Pushed.{HaveWidths}
+use Rattle.cq_model.specs.Pushed.{HaveWidths}
 use Rattle.cq_model.specs.Meaning.{Tables, joined_rows}
 use Rattle.cq_model.specs.Views.{sources_of}
 use Rattle.cq_model.specs.declared.query.Query.{Query}

@@ -1,7 +1,7 @@
 //! How large the numbers in the columns of a view can be.
 ghost use Rattle.std.specs.List.{AllByRecursion};
 ghost use Rattle.std.specs.Prelude.{◌+◌, ◌<◌, ◌≡◌, IfOk, map, true};
-ghost use Rattle.cq_views_model.specs.Own.{names_only};
+ghost use Rattle.cq_model.specs.Own.{names_only};
 ghost use Rattle.cq_model.specs.Sizes.{column_sizes, shown_size, stored_size};
 ghost use Rattle.cq_model.specs.Trees.{expr_of};
 ghost use Rattle.cq_model.specs.Width.{extent_limit, limits_of as limits, number_limit, widest, width};

@@ -1,6 +1,6 @@
 use Rattle.std.proofs.Common.{List, map, ◌∙◌, ap}
 use Rattle.std.proofs.lemmas.Result.{IfOk-weaker}
-use Rattle.cq_views_model.specs.Own.{in_place}
+use Rattle.cq_model.specs.Own.{in_place}
 use Rattle.cq_model.specs.Condition.{holds}
 use Rattle.cq_model.specs.Trees.{cond_of}
 use Rattle.cq_values.specs.Value.{Row}

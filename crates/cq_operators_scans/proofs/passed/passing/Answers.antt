@@ -2,7 +2,7 @@ use Rattle.std.proofs.Common.{◌∙◌, ◌++◌, ap, sym, List}
 use Rattle.std.proofs.lemmas.List.{map-append}
 use Rattle.std.proofs.lemmas.Result.{IfOk-weaker}
 use Rattle.cq_table_columns.specs.Stored.{all_rows, front_rows, row_of, stored_rows}
-use Rattle.cq_views_model.specs.Own.{passes_own}
+use Rattle.cq_model.specs.Own.{passes_own}
 use Rattle.cq_values.specs.Value.{Row}
 use Rattle.cq_operators_scans.specs.Passing.{CanPass, conditions_in}
 use Rattle.cq_operators_scans.proofs.Asking.{empty-asked}

@@ -1,5 +1,5 @@
 use Rattle.std.proofs.Common.{sym}
-use Rattle.cq_views_model.specs.Own.{whole}
+use Rattle.cq_model.specs.Own.{whole}
 use Rattle.cq_model.specs.Trees.{cond_of}
 use Rattle.cq_plan.proofs.Asked.{ask-and, ask-next, ask-or, ask-pushed, ask-same, on-ok, or-of-one, own-same}
 use Rattle.cq_plan.proofs.Owned.{first-is-part, later-is-part, own-through}

@@ -1,6 +1,6 @@
 use Rattle.std.proofs.Common.{◌≡◌, drop}
 use Rattle.std.specs.List.{list_all}
-use Rattle.cq_views_model.specs.Own.{tests_only}
+use Rattle.cq_model.specs.Own.{tests_only}
 use Rattle.cq_model.specs.Trees.{cond_of}
 use Rattle.cq_plan.proofs.own.+tests_only.Given as goal
 

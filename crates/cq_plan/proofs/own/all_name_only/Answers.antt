@@ -1,7 +1,7 @@
 use Rattle.std.proofs.Common.{◌∙◌, rules, tests, sym}
 use Rattle.std.proofs.lemmas.Iterator.{YieldsList-from_slice}
 use Rattle.std.proofs.lemmas.Iterator.Search.{all_from_yields_List}
-use Rattle.cq_views_model.specs.Own.{names_only}
+use Rattle.cq_model.specs.Own.{names_only}
 use Rattle.cq_model.specs.Trees.{expr_of}
 use Rattle.cq_plan.proofs.Owned.{all-map}
 use Rattle.cq_plan.proofs.own.all_name_only.Goals as goal

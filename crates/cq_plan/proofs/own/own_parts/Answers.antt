@@ -1,4 +1,4 @@
-use Rattle.cq_views_model.specs.Own.{whole}
+use Rattle.cq_model.specs.Own.{whole}
 use Rattle.cq_model.specs.Trees.{cond_of}
 use Rattle.cq_plan.proofs.Owned.{none-own}
 use Rattle.cq_plan.proofs.own.own_parts.Goals as goal

@@ -1,5 +1,5 @@
 use Rattle.std.proofs.Common.{◌≡◌, ◌∷◌, [], ◌++◌, ◌+◌, true, replicate, sym, ap, ◌∙◌, rules}
-use Rattle.cq_views_model.specs.Own.{names_only}
+use Rattle.cq_model.specs.Own.{names_only}
 use Rattle.cq_model.specs.Sizes.{stored_size}
 use Rattle.cq_views_state.proofs.Naming.{stored-columns}
 use Rattle.cq_views_state.proofs.columns.stored_columns.Goals as goal
