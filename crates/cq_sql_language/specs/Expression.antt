@@ -4,7 +4,7 @@ use Rattle.cq_sql_language.specs.declared.token.Token.{Token}
 use Rattle.cq_sql_language.specs.Spelling.{spelled}
 use Rattle.cq_sql_language.specs.Written.{Written, Choices, Number, Text, Date, Null, Column, Extract, CountAll, Aggregate, Parens, Negative, Times, Plus, Minus, Compare, IsNull, Between, In, Like, Not, And, Or, NoChoice, Choice}
 
--- how tightly a node holds its parts together, by the rules of the grammar (docs/ARCHITECTURE.md, The grammar):
+-- how tightly a node holds its parts together, by the rules of the grammar (docs/LANGUAGE.md, The grammar):
 -- 0 expr (OR), 1 conj (AND), 2 neg (NOT), 3 pred (a test), 4 sum, 5 prod, 6 a minus, 7 what stands for itself
 abbrev pub tightness : Written → ℕ
 tightness (Or a b) = 0
