@@ -1,12 +1,16 @@
 -- When two lists name one bag, and what keeps it.
-use Rattle.std.proofs.Common.{◌++◌, refl, sym, ◌∙◌}
+use Rattle.std.proofs.Common.{◌≡◌, ◌++◌, refl, sym, ◌∙◌, ap}
 use Rattle.cq_values.specs.Value.{Row}
 use Rattle.std.specs.Prelude.{Bool}
-use Rattle.cq_model_bags.specs.Bag.{Weighted, SameBag, filtered, projected}
+use Rattle.cq_model_bags.specs.Bag.{Weighted, weight_of, SameBag, filtered, projected}
 use Rattle.cq_model_bags.proofs.Totals.{weight_of-append, weight_of-filtered, weight_of-total, total-projected, total-respects, is_row}
 
 pub same-refl : (xs : Weighted) → SameBag xs xs
 same-refl xs = record { at = λ r. refl }
+
+-- one list names one bag
+pub same-equal : (xs ys : Weighted) → xs ≡ ys → SameBag xs ys
+same-equal xs ys e = record { at = λ r. ap (λ (zs : Weighted). weight_of zs r) e }
 
 pub same-sym : (xs ys : Weighted) → SameBag xs ys → SameBag ys xs
 same-sym xs ys s = record { at = λ r. sym (s.at r) }

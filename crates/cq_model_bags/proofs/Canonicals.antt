@@ -23,7 +23,8 @@ pub times_in-sorted_by : (cmp : Row → Row → Ordering) (rows : List Row) (q :
 times_in-sorted_by cmp [] q = refl
 times_in-sorted_by cmp (r ∷ rows) q = times_in-with_row cmp r (sorted_by cmp rows) q ∙ ap {B = ℕ} (λ n. cond (same_row r q) 1 0 + n) (times_in-sorted_by cmp rows q)
 
-all-with_row : (P : Row → Type 0) (cmp : Row → Row → Ordering) (r : Row) (rows : List Row) → P r → AllByRecursion P rows → AllByRecursion P (with_row cmp r rows)
+-- what holds of a row and of all others holds of all together
+pub all-with_row : (P : Row → Type 0) (cmp : Row → Row → Ordering) (r : Row) (rows : List Row) → P r → AllByRecursion P rows → AllByRecursion P (with_row cmp r rows)
 all-with_row P cmp r [] p all = (p, tt)
 all-with_row P cmp r (s ∷ rows) p all = by_test (is_gt (cmp r s))
     (λ k. rw k (all.0, all-with_row P cmp r rows p all.1))

@@ -9,6 +9,7 @@ use Rattle.cq_values.specs.Keys.{same_row-same}
 use Rattle.cq_model_bags.specs.Bag.{Weighted, weight_of, SameBag, IsBag, once_each, projected, firsts, distinct_rows, distinct, total}
 use Rattle.cq_model_bags.proofs.Integers.{mul-distribute-right}
 use Rattle.cq_model_bags.proofs.Totals.{by_test, is_row, weight_of-total, total-respects, total-projected}
+use Rattle.cq_model_bags.proofs.Lists.{all-filter}
 use Rattle.cq_model_bags.proofs.Distincts.{weight_of-distinct}
 
 -- rows with the weights that a list gives them
@@ -53,12 +54,7 @@ positive-sum w t (r ∷ rows) p =
     rw k (omega (arith, ints, rest.0, p.0), sym (so_positive ((pos 1 *ℤ w r) *ℤ pos 1 +ℤ more) (omega (arith, ints, rest.0, p.0)))))
     (λ k. rw (k, *ℤ-zero (pos 1 *ℤ w r), +ℤ_idl more) rest)
 
--- what holds of all holds of what a filter keeps
-all-filter : (P : Row → Type 0) (keep : Row → Bool) (rows : List Row) → AllByRecursion P rows → AllByRecursion P (filter keep rows)
-all-filter P keep [] a = tt
-all-filter P keep (r ∷ rows) a = by_test (keep r) (λ k. rw k (a.0, all-filter P keep rows a.1)) (λ k. rw k (all-filter P keep rows a.1))
-
--- and of the first ones
+-- what holds of all holds of the first ones
 all-firsts : (P : Row → Type 0) (rows : List Row) → AllByRecursion P rows → AllByRecursion P (firsts rows)
 all-firsts P [] a = tt
 all-firsts P (r ∷ rows) a = (a.0, all-filter P (λ s. not (same_row r s)) (firsts rows) (all-firsts P rows a.1))

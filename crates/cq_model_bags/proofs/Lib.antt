@@ -1,5 +1,6 @@
 pub mod Integers
 pub mod Totals
+pub mod Lists
 pub mod Bags
 pub mod Linears
 pub mod Joins
@@ -11,5 +12,6 @@ pub mod Fewer
 pub mod Positives
 pub mod Merges
 pub mod Listings
+pub mod Once
 pub mod Canonicals
 pub mod Sorts

@@ -1,10 +1,10 @@
 -- Bags, with no row below zero, are kept by each operator.
-use Rattle.std.proofs.Common.{ℤ, pos, negsuc, ◌*ℤ◌, ◌≤ℤ◌, Bool, true, false, cond, List, [], ◌∷◌, ◌++◌, sym, ◌∙◌, arith, subst}
+use Rattle.std.proofs.Common.{ℤ, pos, negsuc, ◌*ℤ◌, ◌≤ℤ◌, ◌<ℤ◌, Bool, true, false, cond, List, [], ◌∷◌, ◌++◌, sym, ◌∙◌, arith, subst}
 use Rattle.std.proofs.lemmas.Int.{ints}
 use Rattle.cq_values.specs.Value.{Row}
 use Rattle.cq_values.specs.Order.{same_row}
-use Rattle.cq_model_bags.specs.Bag.{Weighted, weight_of, IsBag, once_each, filtered, projected, joined, distinct, distinct_rows, total}
-use Rattle.cq_model_bags.proofs.Totals.{is_row, weight_of-total, weight_of-filtered, total-projected, total-respects}
+use Rattle.cq_model_bags.specs.Bag.{Weighted, weight_of, SameBag, IsBag, once_each, filtered, projected, joined, distinct, distinct_rows, total}
+use Rattle.cq_model_bags.proofs.Totals.{by_test, is_row, weight_of-total, weight_of-filtered, total-projected, total-respects}
 use Rattle.cq_model_bags.proofs.Joins.{beside, weight_of-joined}
 use Rattle.cq_model_bags.proofs.Entries.{weighed, bag-entries}
 
@@ -35,9 +35,19 @@ test-positive false n h = omega (arith, ints)
 row-positive : (r q : Row) → pos 0 ≤ℤ is_row r q
 row-positive r q = test-positive (same_row q r) (pos 1) (omega (arith, ints))
 
+-- a list with the rows of a bag is one
+pub bag-same : (xs ys : Weighted) → SameBag xs ys → IsBag ys → IsBag xs
+bag-same xs ys same bag = record { at = λ r. rw (same.at r) (bag.at r) }
+
 -- a filter of a bag is a bag
 pub filtered-bag : (keep : Row → Bool) (xs : Weighted) → IsBag xs → IsBag (filtered keep xs)
 filtered-bag keep xs b = record { at = λ r. subst (λ n. pos 0 ≤ℤ n) (sym (weight_of-filtered keep xs r)) (test-positive (keep r) (weight_of xs r) (b.at r)) }
+
+-- and a row that a filter keeps was there before
+pub kept-there : (keep : Row → Bool) (xs : Weighted) (row : Row) → pos 0 <ℤ weight_of (filtered keep xs) row → pos 0 <ℤ weight_of xs row
+kept-there keep xs row h =
+    let weighs : pos 0 <ℤ cond (keep row) (weight_of xs row) (pos 0) = subst (λ n. pos 0 <ℤ n) (weight_of-filtered keep xs row) h in
+    by_test (keep row) (λ k. rw k at weighs) (λ k. absurd (let none : pos 0 <ℤ pos 0 = rw k at weighs in omega (arith, ints)))
 
 -- the images of a bag are a bag
 pub projected-bag : (f : Row → Row) (xs : Weighted) → IsBag xs → IsBag (projected f xs)

@@ -10,6 +10,7 @@ use Rattle.cq_values.specs.Value.{Row}
 use Rattle.cq_values.specs.Order.{same_row}
 use Rattle.cq_model_bags.specs.Bag.{SameBag, once_each}
 use Rattle.cq_model_bags.specs.Listing.{IsInOrder}
+use Rattle.cq_model_bags.proofs.Lists.{all-listed}
 use Rattle.cq_model_bags.proofs.Listings.{times_in, weight_of-once_each}
 
 times_in-sum : (r : Row) (xs : List Row) → times_in r xs ≡ sum_by (λ s. cond (same_row s r) 1 0) xs
@@ -28,14 +29,10 @@ not_lt Less h = absurd (cc)
 not_lt Equal h = refl
 not_lt Greater h = refl
 
-all-from_index : (P : Row → Type 0) (xs : List Row) → ((j : ℕ) (d : Row) → j < length xs → P (get_or xs j d)) → AllByRecursion P xs
-all-from_index P [] f = tt
-all-from_index P (x ∷ xs) f = (f 0 x (omega arith), all-from_index P xs (λ j d h. f (suc j) d (omega arith)))
-
 in_order-from_index : (cmp : Row → Row → Ordering) (xs : List Row) → ((i j : ℕ) (d : Row) → i ≤ j → j < length xs → is_gt (cmp (get_or xs i d) (get_or xs j d)) ≡ false) → IsInOrder cmp xs
 in_order-from_index cmp [] f = tt
 in_order-from_index cmp (x ∷ xs) f = (
-  all-from_index (λ s. is_gt (cmp x s) ≡ false) xs (λ j d h. f 0 (suc j) d (omega arith) (omega arith)),
+  all-listed (λ s. is_gt (cmp x s) ≡ false) xs (λ j d h. f 0 (suc j) d (omega arith) (omega arith)),
   in_order-from_index cmp xs (λ i j d p q. f (suc i) (suc j) d (omega arith) (omega arith)),
 )
 
