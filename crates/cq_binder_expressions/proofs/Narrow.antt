@@ -28,6 +28,7 @@ use Rattle.cq_binder_rules.specs.Typing.{Scope, ScopeColumn, column_typing, is_m
 use Rattle.cq_binder_rules.specs.Scopes.{of_rows}
 use Rattle.cq_binder_rules.specs.Places.{next_place, place_of, read_place, row_place}
 use Rattle.cq_binder_expressions.specs.Expressions.{ArgumentsAreNarrow, IsArgumentNarrow, IsNarrow, KeepShown, KeepSizes, TypedIsNarrow}
+use Rattle.cq_model_bags.proofs.Lists.{all-push}
 
 -- what stands behind a first step, stands behind what that step gives
 pub stood : {A B : Type 0} (r : Result A Fault) (g : A → Result B Fault) (y : B) → (r and_then g) ≡ Ok y → (x : A) × (r ≡ Ok x) × (g x ≡ Ok y)
@@ -365,10 +366,6 @@ typed_is_narrow s before more w t sizes e kept shown_kept =
     narrow s sizes kept full (counts_keep s sizes full shown_kept) (tells_keep s sizes full shown_kept) before more w t e refl
 
 -- ---- Arguments
-one_more : (P : Shown → Type 0) (xs : List Shown) (x : Shown) → AllByRecursion P xs → P x → AllByRecursion P (xs ++ x ∷ [])
-one_more P [] x all one = (one, tt)
-one_more P (y ∷ ys) x all one = (all.0, one_more P ys x all.1 one)
-
 argument_narrow : (function : AggregateFunction) (sizes : ℕ → ℕ) (e : Expr) → widest sizes e < 2 ^ 127 → IsArgumentNarrow sizes (aggregate_of function e)
 argument_narrow functions.Count sizes e narrow = narrow
 argument_narrow functions.Sum sizes e narrow = narrow
@@ -389,12 +386,12 @@ module _ (s : Scope) (sizes : ℕ → ℕ) (kept : KeepSizes (rows_in s) sizes) 
     arguments before (Extract part a) t e all =
         let p = stood (typed s a) (part_of part) t e in
         arguments before a p.0 p.1 all
-    arguments before CountAll t e all = one_more (IsArgumentNarrow sizes) before shown.CountAll all tt
+    arguments before CountAll t e all = all-push (IsArgumentNarrow sizes) before shown.CountAll all tt
     arguments before (Aggregate function a) t e all =
         let p = stood (typed (rows_in s) a and_then aggregated function) (of_group s) t e in
         let q = stood (typed (rows_in s) a) (aggregated function) p.0 p.1 in
         let placed = placed_expr (rows_in s) [] a in
-        one_more (IsArgumentNarrow sizes) before (aggregate_of function placed) all
+        all-push (IsArgumentNarrow sizes) before (aggregate_of function placed) all
         (argument_narrow function sizes placed (narrow_over_rows s.columns [] a q.0 sizes q.1 kept).value)
     arguments before (Parens a) t e all = arguments before a t e all
     arguments before (Negative a) t e all =

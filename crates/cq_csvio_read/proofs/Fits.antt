@@ -1,6 +1,6 @@
 -- The rows that a file makes in columns fit them.
 use Rattle.std.proofs.Common.{◌≡◌, ℕ, ◌+◌, ◌==◌, ℤ, pos, neg_ℤ, Bool, true, false, List, [], ◌∷◌, length, Option, Some, None, Result, Ok, Err, refl, subst, inl, inr, FitsSigned, arith}
-use Rattle.std.proofs.lemmas.Bool.{cases_Bool, eqb-true, leb-true}
+use Rattle.std.proofs.lemmas.Bool.{cases_Bool, eqb-true, leb-true, not-true}
 use Rattle.std.proofs.lemmas.Int.{ints}
 use Rattle.std.specs.Int.{w64}
 use Rattle.std.specs.List.{AllByRecursion}
@@ -38,10 +38,6 @@ before_ok (Err f) rest whole e = absurd (cc e)
 before_ok (Ok x) (Err f) whole e = absurd (cc e)
 before_ok (Ok x) (Ok more) whole e = (x, more, refl, refl, ok_same (x ∷ more) whole e)
 
-allowed : (b : Bool) → not b ≡ true → b ≡ false
-allowed true e = absurd (cc e)
-allowed false e = refl
-
 number_fits : (n : ℤ) → (int_le (neg_ℤ (pos stored_size)) n && int_lt n (pos stored_size)) ≡ true → FitsSigned w64 n
 number_fits n e = grind (arith, ints)
 
@@ -72,7 +68,7 @@ value_fits at d t v e = elim (cases_Bool (is_utf8 t)) [
   | inl text ↦ elim (cases_Bool (is_null_field d.ty t)) [
     | inl null ↦
         let k = taken (not d.not_null) NullNotAllowed values.Null v (rw (text, null) at e) in
-        subst (λ (w : Value). FitsColumn d w) k.1 (allowed d.not_null k.0)
+        subst (λ (w : Value). FitsColumn d w) k.1 (not-true d.not_null k.0)
     | inr there ↦ typed_fits at d d.ty t v refl (rw (text, there) at e)
   ]
   | inr broken ↦ absurd (cc (rw broken at e))

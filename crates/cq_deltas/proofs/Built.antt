@@ -1,7 +1,6 @@
 -- Values that are put in one by one.
 use Rattle.std.proofs.Common.{◌≡◌, ℕ, ◌+◌, ◌≤◌, ◌<◌, ◌^◌, nat_abs, ℤ, pos, ◌+ℤ◌, [], ◌∷◌, ◌++◌, take, length, get_or, refl, sym, ◌∙◌, ap, arith}
 use Rattle.std.specs.List.{sum_by}
-use Rattle.std.proofs.lemmas.Int.{ints}
 use Rattle.std.proofs.lemmas.List.{take_more}
 use Rattle.std.proofs.lemmas.List.Sums.{sum_by-cons, sum_by_more_le}
 use Rattle.cq_values.specs.declared.value.Value.{Value}
@@ -11,9 +10,7 @@ use Rattle.cq_model_bags.specs.Bag.{Weighted, weight_of, SameBag}
 use Rattle.cq_model_bags.proofs.Totals.{by_test, weight_of-append}
 use Rattle.cq_deltas.specs.Extremes.{alone, as_rows}
 use Rattle.cq_deltas.proofs.Lookups.{Entries}
-
-abs-plus : (a b : ℤ) → nat_abs (a +ℤ b) ≤ nat_abs a + nat_abs b
-abs-plus a b = omega (arith, ints)
+use Rattle.cq_model_bags.proofs.Integers.{abs-plus}
 
 -- no value weighs more than all the weights together
 weight-size : (xs : Entries) (r : Row) → nat_abs (weight_of (as_rows xs) r) ≤ sum_by (λ x. nat_abs x.1) xs

@@ -25,10 +25,12 @@ use Rattle.cq_model_bags.specs.Bag.{Weighted, weight_of, SameBag, distinct_rows}
 use Rattle.cq_model_bags.proofs.Totals.{by_test}
 use Rattle.cq_model_bags.proofs.Bags.{same-sym}
 use Rattle.cq_model_bags.proofs.Distincts.{is_among-distinct}
-use Rattle.cq_model_laws.proofs.Extremes.{IsOne, IsChoice, lower-choice, higher-choice, IsUpTo, IsDownTo, up_to-itself, extreme-one, extreme-best, extreme-same}
-use Rattle.cq_model_laws.proofs.Groups.{row-from-test, row-to-test, kept_values, value-from-rows, value-to-rows, kept_values-respect}
+use Rattle.cq_model_laws.proofs.Groups.{kept_values-respect}
 use Rattle.cq_deltas.specs.Extremes.{AreCounts, IsExtreme, alone, as_rows, held_of}
-use Rattle.cq_deltas.proofs.Lookups.{Entries, listed, is_value, absent, at-first, at-rest, less-apart, listed-weight, nonzero-same, null-apart, null-value, some-none, value-itself}
+use Rattle.cq_deltas.proofs.Lookups.{Entries, listed, is_value, absent, at-first, at-rest, less-apart, listed-weight, nonzero-same, null-apart, some-none, value-itself}
+use Rattle.cq_model.proofs.Occurring.{kept_values, row-from-test, row-to-test, value-from-rows, value-to-rows}
+use Rattle.cq_model.proofs.Extremes.{IsChoice, IsDownTo, IsOne, IsUpTo, extreme-best, extreme-one, extreme-same, higher-choice, lower-choice, up_to-itself}
+use Rattle.cq_model.proofs.Conditions.{null-value}
 
 -- whether a value is counted
 abbrev pub is_there : Value × ℤ → Bool

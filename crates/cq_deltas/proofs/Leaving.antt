@@ -19,7 +19,7 @@ use Rattle.cq_deltas.specs.Keyed.{ArePut, AreSettled, HasKeys, KeepPlaces, Keyed
 use Rattle.cq_deltas.proofs.AtKeys.{settled-after}
 use Rattle.cq_deltas.proofs.MetKeys.{settled-more, settled-twice, taken}
 use Rattle.cq_deltas.proofs.Places.{addition-is, addition-within, all-additions, kept-additions, keys-there}
-use Rattle.cq_deltas.proofs.Turns.{all-at}
+use Rattle.cq_model_bags.proofs.Lists.{all-at}
 
 -- the order of places from the last to the first
 pub falls : {T : Type 0} (place : T → ℕ) → IsStrictWeakOrder (λ (x y : T). nat_lt (place y) (place x))

@@ -18,6 +18,7 @@ use Rattle.cq_model.specs.Condition.{is_null}
 use Rattle.cq_model_bags.specs.Bag.{Weighted, weight_of, SameBag}
 use Rattle.cq_model_bags.proofs.Totals.{by_test, weight_of-append}
 use Rattle.cq_deltas.specs.Extremes.{AreCounts, HasRoom, IsGone, alone, as_rows, held_of, nonzero}
+use Rattle.cq_model.proofs.Conditions.{null-value}
 
 -- values with their counts
 abbrev pub Entries : Type 0
@@ -57,12 +58,6 @@ pub less-apart : (v w : Value) → value_cmp v w ≡ Less → same_row (alone v)
 less-apart v w e = same_alone v w ∙ ap is_eq e
 
 -- ---- NULL
-pub null-value : (v : Value) → is_null v ≡ true → v ≡ Null
-null-value Null h = refl
-null-value (Number m) h = absurd (true≢false (sym h))
-null-value (Day d) h = absurd (true≢false (sym h))
-null-value (Text t) h = absurd (true≢false (sym h))
-
 -- it comes after each other value
 pub null-last : (v : Value) → is_null v ≡ false → value_cmp v Null ≡ Less
 null-last Null h = absurd (true≢false h)

@@ -20,7 +20,7 @@ use Rattle.cq_deltas.specs.Additions.{Addition}
 use Rattle.cq_deltas.specs.Kept.{HaveRoom, KeepRoom}
 use Rattle.cq_deltas.specs.Keyed.{Adds, HasKeys, IsReadyAt, IsReadyFor, KeepPlaces, KeyedGroups, addition_at, additions_at, held_at, key_at, stored_at}
 use Rattle.cq_deltas.proofs.AtKeys.{SetsAt}
-use Rattle.cq_deltas.proofs.Turns.{all-at}
+use Rattle.cq_model_bags.proofs.Lists.{all-at}
 
 -- ---- what stands at a place
 -- a group that is ready is there

@@ -18,6 +18,7 @@ use Rattle.cq_deltas.specs.Kept.{kept_with, all_kept_with, total_move, total_mov
 use Rattle.cq_deltas.specs.Keyed.{KeyedGroups, stored_at, group_met, group_with_all, count_moves, all_total_moves, HoldsFor}
 use Rattle.cq_deltas.proofs.Turns.{holds-less}
 use Rattle.cq_deltas.proofs.Writes.{more-added}
+use Rattle.cq_model_bags.proofs.Integers.{abs-plus}
 
 all-holds-less : (counts totals c t : ℕ) (ks : List Kept) → c ≤ counts → t ≤ totals → AllByRecursion (KeptHolds counts totals) ks → AllByRecursion (KeptHolds c t) ks
 all-holds-less counts totals c t [] x y h = tt
@@ -26,9 +27,6 @@ all-holds-less counts totals c t (k ∷ ks) x y h = (holds-less counts totals c 
 -- what holds of a group while much moves holds while less does
 group-holds-less : (counts totals c t : ℕ) (g : Group) → c ≤ counts → t ≤ totals → GroupHolds counts totals g → GroupHolds c t g
 group-holds-less counts totals c t g x y h = record { count = omega (arith, x, h.count); kept = all-holds-less counts totals c t g.kept x y h.kept }
-
-abs-plus : (a b : ℤ) → nat_abs (a +ℤ b) ≤ nat_abs a + nat_abs b
-abs-plus a b = omega (arith, ints)
 
 -- a value's count moves by no more than the row's weight
 more-holds : (values : Weighted) (u : Value) (w : ℤ) (c : ℕ) → ((v : Value) → nat_abs (weight_of values (alone v)) + (nat_abs w + c) < 2 ^ 127)

@@ -9,6 +9,7 @@ use Rattle.cq_deltas.specs.Extremes.{alone}
 use Rattle.cq_deltas.specs.declared.change.Addend.{Addend}
 use Rattle.cq_deltas.specs.declared.kept.Kept.{Kept as Stored}
 use Rattle.cq_deltas.specs.Kept.{seen, kept_with, all_kept_with, total_move, total_moves, HasRoomFor, HaveRoom, KeepRoom, KeepsRoomFor, KeptHolds}
+use Rattle.cq_model_bags.proofs.Lists.{all-at}
 
 -- what holds while much moves holds while less does
 pub holds-less : (counts totals c t : ℕ) (k : Kept) → c ≤ counts → t ≤ totals → KeptHolds counts totals k → KeptHolds c t k
@@ -18,12 +19,6 @@ holds-less counts totals c t (Listed values) x y h = λ v. less v (h v)
   where
     less : (v : Value) → nat_abs (weight_of values (alone v)) + counts < 2 ^ 127 → nat_abs (weight_of values (alone v)) + c < 2 ^ 127
     less v e = omega (arith, x, e)
-
--- what holds of all holds at a place
-pub all-at : {X : Type 0} (P : X → Type 0) (xs : List X) (i : ℕ) (d : X) → i < length xs → AllByRecursion P xs → P (get_or xs i d)
-all-at P [] i d h a = absurd (omega (arith, h))
-all-at P (x ∷ xs) zero d h a = a.0
-all-at P (x ∷ xs) (suc i) d h a = all-at P xs i d (omega (arith, h)) a.1
 
 -- an argument moves its total no further than any may
 move-within : (w : ℤ) (vs : List (Option Addend)) (i : ℕ) (v : Option Addend) → i < length vs → total_move w (get_or vs i v) ≤ total_moves w vs

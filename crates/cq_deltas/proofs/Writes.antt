@@ -21,7 +21,8 @@ use Rattle.cq_model.specs.Condition.{is_null}
 use Rattle.cq_model_bags.specs.Bag.{Weighted, weight_of, SameBag}
 use Rattle.cq_model_bags.proofs.Totals.{by_test, weight_of-append}
 use Rattle.cq_deltas.specs.Extremes.{HasRoom, IsAdded, IsGone, KeepsOtherRoom, KeepsRoom, alone, held_of, in_front, nonzero, with_more}
-use Rattle.cq_deltas.proofs.Lookups.{Entries, listed, is_value, alone_cmp, same_alone, value-same, value-itself, null-value, null-last, null-after, some-none, at-first, at-rest, first-count, all-looked_up, zero-weight, found-room, room-found, no-entry}
+use Rattle.cq_deltas.proofs.Lookups.{Entries, listed, is_value, alone_cmp, same_alone, value-same, value-itself, null-last, null-after, some-none, at-first, at-rest, first-count, all-looked_up, zero-weight, found-room, room-found, no-entry}
+use Rattle.cq_model.proofs.Conditions.{null-value}
 
 by_order : {P : Type 0} (o : Ordering) → (o ≡ Less → P) → (o ≡ Equal → P) → (o ≡ Greater → P) → P
 by_order Less f g h = f refl

@@ -58,7 +58,7 @@ use Rattle.cq_engine.specs.Commands.{CanCarryOut, CarriesOut, IsRefused, present
 use Rattle.cq_engine_tables.specs.Tables.{IsThere}
 use Rattle.cq_engine.proofs.Creating.{view_can}
 use Rattle.cq_engine.proofs.Shapes.{filter_sized, shape_sized}
-use Rattle.cq_engine.proofs.Sourced.{IsFound, IsOneTable, all_at_place, are_joined, are_tables, standing_ok}
+use Rattle.cq_engine.proofs.Sourced.{IsFound, IsOneTable, are_joined, are_tables, standing_ok}
 use Rattle.cq_views_state.specs.Query.{IsTable}
 use Rattle.cq_engine_writes.proofs.Checks.{back_free, first_free, front_free}
 use Rattle.cq_engine.proofs.Fitting.{narrow_rows, stored_keep}
@@ -70,6 +70,7 @@ use Rattle.cq_engine_tables.proofs.Numbers.{Above}
 use Rattle.cq_engine_tables.proofs.Places.{found_there}
 use Rattle.cq_engine_tables.proofs.Stored.{rows_stored}
 use Rattle.cq_engine.proofs.Steps.{AreAt, all_between}
+use Rattle.cq_model_bags.proofs.Lists.{all-there}
 
 -- what an optional value is mapped to
 mapped : {X Y : Type 0} (f : X → Y) (o : Option X) (y : Y) → option_map f o ≡ Some y → (x : X) × (o ≡ Some x) × (f x ≡ y)
@@ -212,7 +213,7 @@ module _ (tables : List TableOf) (views : List ViewOf) (next : ℕ) (numbered : 
       let at = view_at_place name views v named in record {
         there = slice_get_within views (unwrap_or (view_place name views) 0) v at;
         sizes = ap view_sizes at;
-        even = all_at_place (λ (w : ViewOf). length w.columns ≡ length w.query.items) views (unwrap_or (view_place name views) 0) v shown at ∙ sym (length-map v.query.items _);
+        even = all-there (λ (w : ViewOf). length w.columns ≡ length w.query.items) views (unwrap_or (view_place name views) 0) v at shown ∙ sym (length-map v.query.items _);
       }
 
   source_there : (name : List ℕ) (source : Named) → source_named name here ≡ Some source → Found source

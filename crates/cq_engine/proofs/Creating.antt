@@ -44,8 +44,9 @@ use Rattle.cq_engine_writes.proofs.Checks.{back_free, first_free, front_free}
 use Rattle.cq_engine.specs.Commands.{CanBuild}
 use Rattle.cq_engine.proofs.Fitting.{items_walk, second_free, narrow_arguments, narrow_items, narrow_where, nothing_shown}
 use Rattle.cq_engine.proofs.Groups.{key_keeps, key_places, told_keep}
-use Rattle.cq_engine.proofs.Sourced.{AreJoined, AreTables, all_at_place}
+use Rattle.cq_engine.proofs.Sourced.{AreJoined, AreTables}
 use Rattle.cq_engine.proofs.Widths.{items_told, same_told}
+use Rattle.cq_model_bags.proofs.Lists.{all-there}
 
 -- ---- Columns of tables
 -- each has the size of a stored number
@@ -162,7 +163,7 @@ module _ (v : Select) (columns : List ScopeColumn) (sized : AreStoredSized colum
         → shown_size a ≤ aggregate_size (size_at columns) a
     told_at i a at =
         let P : Aggregate → Type 0 = λ b. shown_size b ≡ aggregate_size (size_at columns) b in
-        omega (arith, all_at_place P aggregates i a told_stored at)
+        omega (arith, all-there P aggregates i a at told_stored)
 
     groups_items : AllByRecursion (λ e. widest (row_size all_groups) e < number_limit) (placed_items groups [] shown)
     groups_items =

@@ -33,13 +33,13 @@ use Rattle.cq_views.specs.declared.kept_view.KeptView.{KeptView}
 use Rattle.cq_views_state.specs.State.{CanStart}
 use Rattle.cq_engine_tables.specs.Views.{Fits, bags_in}
 use Rattle.cq_engine_tables.proofs.Bags.{bags_few, stored-once_each}
-use Rattle.cq_engine_tables.proofs.Rows.{all_behind, rows_have}
+use Rattle.cq_engine_tables.proofs.Rows.{rows_have}
 use Rattle.cq_engine_tables.proofs.Stored.{tables_stored}
 use Rattle.cq_engine_answers.specs.Gathered.{AreRowsThere}
-use Rattle.cq_engine_answers.proofs.Backed.{all_sources}
-use Rattle.cq_engine_answers.proofs.Lents.{itself, only_itself}
 use Rattle.cq_engine_answers.proofs.Readings.{rows_same}
 use Rattle.cq_engine.specs.Gathering.{AreGathered, GathersAlso, is_gathered}
+use Rattle.cq_model_bags.proofs.Lists.{all-of, all-push}
+use Rattle.cq_model.proofs.SameSources.{itself, only_itself}
 
 -- ---- Entries
 -- a source that has an entry has one with an entry more
@@ -93,7 +93,7 @@ module _ (tables : List TableOf) where
       → GathersAlso tables source gathered gathered
   gathered_before source gathered there sources are = record {
     bags = are.bags;
-    all = all_behind (λ s. is_gathered gathered s ≡ true) sources source are.all there;
+    all = all-push (λ s. is_gathered gathered s ≡ true) sources source are.all there;
   }
 
   -- a source that has none is given one, with the rows of its table
@@ -120,7 +120,7 @@ module _ (tables : List TableOf) where
     gathers_also sources are = record {
       bags = bags_with are.bags;
       all =
-          all_behind (λ s. is_gathered (gathered ++ entry ∷ []) s ≡ true) sources entry.source
+          all-push (λ s. is_gathered (gathered ++ entry ∷ []) s ≡ true) sources entry.source
           (all_still gathered entry sources are.all)
           (gathered_now gathered entry);
     }
@@ -215,7 +215,7 @@ module _ (tables : List TableOf) (query : Query) (gathered : List StoredSource) 
         spans_few (bags_at gathered) (have (λ xs. sizes xs ≤ 2 ^ 24) (omega arith) (few_as tables limited))
         (sources_of query) fits.few;
     stored =
-        all_sources (λ s. AreStored (bags_at gathered s)) (have AreStored tt (stored_as tables fitting))
+        all-of (λ s. AreStored (bags_at gathered s)) (have AreStored tt (stored_as tables fitting))
         (sources_of query);
   }
 

@@ -1,6 +1,6 @@
 -- What FROM joins is there, with the sizes of its columns.
-use Rattle.std.proofs.Common.{◌≡◌, ◌+◌, ◌≤◌, ℕ, zero, suc, List, [], ◌∷◌, ◌++◌, map, length, Option, Some, None, Result, Ok, Err, refl, sym, ap, ◌∙◌, arith, subst}
-use Rattle.std.specs.Prelude.{nat_lt, slice_get}
+use Rattle.std.proofs.Common.{◌≡◌, ◌+◌, ◌≤◌, ℕ, List, [], ◌∷◌, ◌++◌, map, length, Option, Some, None, Result, Ok, Err, refl, sym, ap, ◌∙◌, arith, subst}
+use Rattle.std.specs.Prelude.{nat_lt}
 use Rattle.std.proofs.lemmas.Bool.{ltb-false}
 use Rattle.std.specs.List.{AllByRecursion, flat_map, zip}
 use Rattle.std.proofs.lemmas.List.{append-nil, append_assoc, length-append, map-append}
@@ -25,9 +25,9 @@ use Rattle.cq_binder_expressions.proofs.Narrow.{stood}
 use Rattle.cq_engine_answers.specs.Reading.{IsSourceThere}
 use Rattle.cq_engine_answers.specs.Narrow.{source_sizes}
 use Rattle.cq_views_state.specs.Query.{IsTable}
-use Rattle.cq_engine_tables.proofs.Rows.{all_behind}
 use Rattle.cq_engine_writes.proofs.Checks.{back_free, first_free}
 use Rattle.cq_engine.proofs.Fitting.{second_free}
+use Rattle.cq_model_bags.proofs.Lists.{all-push}
 
 -- what stood was given
 pub standing_ok : (r : Result From Fault) (from : From) → standing r ≡ Some from → r ≡ Ok from
@@ -47,13 +47,6 @@ columns_sized known source even =
 flat_one_more : {X Y : Type 0} (f : X → List Y) (xs : List X) (x : X) → flat_map f (xs ++ x ∷ []) ≡ flat_map f xs ++ f x
 flat_one_more f [] x = append-nil (f x)
 flat_one_more f (y ∷ ys) x = ap (λ zs. f y ++ zs) (flat_one_more f ys x) ∙ sym (append_assoc (f y) (flat_map f ys) (f x))
-
--- what holds of all holds of the one at a place
-pub all_at_place : {X : Type 0} (P : X → Type 0) (xs : List X) (place : ℕ) (x : X) → AllByRecursion P xs
-    → slice_get xs place ≡ Some x → P x
-all_at_place P [] place x all at = absurd (cc at)
-all_at_place P (y ∷ ys) zero x all at = let same : y ≡ x = cc in subst P same all.0
-all_at_place P (y ∷ ys) (suc place) x all at = all_at_place P ys place x all.1 at
 
 -- the sources of what was joined
 abbrev pub sources_joined : From → List Source
@@ -86,7 +79,7 @@ module _ (tables : List TableOf) (views : List ViewOf) where
   module _ (s : State) (found : (name : List ℕ) (source : Named) → source_named name s ≡ Some source → IsFound source) (may : Named → Option Fault) where
     one_more : (from : From) (j : JoinedSource) (source : Named) → AreJoined from → IsFound source → AreJoined (joined_with from j source)
     one_more from j source are is = record {
-      there = subst (AllByRecursion (IsSourceThere tables views)) (sym (sources_more from j source)) (all_behind (IsSourceThere tables views) (sources_joined from) source.source are.there is.there);
+      there = subst (AllByRecursion (IsSourceThere tables views)) (sym (sources_more from j source)) (all-push (IsSourceThere tables views) (sources_joined from) source.source are.there is.there);
       sizes =
           map-append (λ (c : ScopeColumn). c.size) from.columns (source_columns (known_as j.source source) source)
           ∙ (λ i. are.sizes i ++ (columns_sized (known_as j.source source) source is.even ∙ sym is.sizes) i)
@@ -149,7 +142,7 @@ module _ (s : State) (one : (name : List ℕ) (source : Named) → source_named 
 
   table_more : (from : From) (j : JoinedSource) (source : Named) → AreTables from → IsOneTable source → from.bases + source.bases ≤ 4 → AreTables (joined_with from j source)
   table_more from j source are is few = record {
-    tables = subst (AllByRecursion IsTable) (sym (sources_more from j source)) (all_behind IsTable (sources_joined from) source.source are.tables is.table);
+    tables = subst (AllByRecursion IsTable) (sym (sources_more from j source)) (all-push IsTable (sources_joined from) source.source are.tables is.table);
     counted = omega (arith, ap length (sources_more from j source), length-append (sources_joined from) (source.source ∷ []), are.counted, is.base);
     few = few;
   }

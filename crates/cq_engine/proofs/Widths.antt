@@ -20,8 +20,8 @@ use Rattle.cq_binder_rules.specs.Places.{row_place}
 use Rattle.cq_binder_rules.specs.Scopes.{of_rows}
 use Rattle.cq_binder_rules.specs.Typing.{Scope, ScopeColumn, column_typing, listed, of_group, resolved, rows_in, typed}
 use Rattle.cq_binder_expressions.proofs.Narrow.{resolved_at, resolved_within, stood}
-use Rattle.cq_engine_tables.proofs.Rows.{all_behind}
 use Rattle.cq_engine.proofs.Fitting.{item_stands, items_walk, others_free}
+use Rattle.cq_model_bags.proofs.Lists.{all-push}
 
 -- the extent of a column of this size
 abbrev column_extent : ℕ → Extent
@@ -106,11 +106,11 @@ module _ (s : Scope) (P : Shown → Type 0) (count : P shown.CountAll) (told : (
     all_told before (Extract part a) t e all =
         let p = stood (typed s a) (part_of part) t e in
         all_told before a p.0 p.1 all
-    all_told before CountAll t e all = all_behind P before shown.CountAll all count
+    all_told before CountAll t e all = all-push P before shown.CountAll all count
     all_told before (Aggregate function a) t e all =
         let p = stood (typed (rows_in s) a and_then aggregated function) (of_group s) t e in
         let q = stood (typed (rows_in s) a) (aggregated function) p.0 p.1 in
-        all_behind P before (aggregate_of function (placed_expr (rows_in s) [] a)) all (told function a q.0 q.1)
+        all-push P before (aggregate_of function (placed_expr (rows_in s) [] a)) all (told function a q.0 q.1)
     all_told before (Parens a) t e all = all_told before a t e all
     all_told before (Negative a) t e all =
         let p = stood (typed s a) negative t e in

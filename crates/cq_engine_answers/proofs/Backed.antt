@@ -14,12 +14,7 @@ use Rattle.cq_views_state.specs.State.{crossed}
 use Rattle.cq_engine_tables.specs.Views.{AreRight, IsRight, NamedView, bags_in}
 use Rattle.cq_engine_tables.proofs.Bags.{bags_are, bags_few, bags_stored}
 use Rattle.cq_engine_answers.specs.Gathered.{IsBacked}
-
--- what holds of each source holds of several
-pub all_sources : (P : Source → Type 0) → ((source : Source) → P source) → (sources : List Source)
-    → AllByRecursion P sources
-all_sources P each [] = tt
-all_sources P each (s ∷ sources) = (each s, all_sources P each sources)
+use Rattle.cq_model_bags.proofs.Lists.{all-of}
 
 -- ---- Joins of up to four sources
 module _ (tables : Tables) (few : (source : Source) → sizes (tables source) ≤ 2 ^ 24) where
@@ -61,7 +56,7 @@ module _ (tables : List TableOf) (now : ℕ) (fitting : AreFitting tables) (few 
         can = right.fits.can;
         tables = bags_in tables;
         stands = right.stands;
-        stored = all_sources (λ s. AreStored (bags_in tables s)) (bags_stored tables fitting) sources;
+        stored = all-of (λ s. AreStored (bags_in tables s)) (bags_stored tables fitting) sources;
         bags = bags_are tables;
         few = crossed_few (bags_in tables) (bags_few tables few) sources right.fits.few;
       }

@@ -1,5 +1,5 @@
 -- A query that can be worked out with the sizes of columns is exact on the rows that lent rows become.
-use Rattle.std.proofs.Common.{◌≡◌, ◌<◌, ◌+◌, ℕ, suc, pos, ◌<ℤ◌, List, [], ◌∷◌, ◌++◌, append_assoc, filter, length, map, get_or, Option, Some, None, Ok, Err, refl, sym, ◌∙◌, ap, inr, subst, arith, Vec, Global}
+use Rattle.std.proofs.Common.{◌≡◌, ◌<◌, ◌+◌, ℕ, pos, ◌<ℤ◌, List, [], ◌∷◌, ◌++◌, append_assoc, filter, length, map, get_or, Option, Some, None, Ok, Err, refl, sym, ◌∙◌, ap, inr, subst, arith, Vec, Global}
 use Rattle.std.specs.Prelude.{if◌then◌else◌}
 use Rattle.std.proofs.lemmas.Int.{ints}
 use Rattle.std.proofs.lemmas.List.{length-append}
@@ -14,8 +14,6 @@ use Rattle.cq_model_eval.specs.Laws.{NarrowIsExact, NarrowIsExactIn}
 use Rattle.cq_binder_expressions.specs.Expressions.{IsArgumentNarrow}
 use Rattle.cq_hash_groups.specs.Exact.{AreExactOver, IsExactFor}
 use Rattle.cq_hash_groups.specs.declared.fault.GroupFault.TheVariants.{SumOutOfRange}
-use Rattle.cq_hash_groups.proofs.Listed.{count_all-listed}
-use Rattle.cq_hash_groups.proofs.Once.{is_there}
 use Rattle.cq_operators.specs.Linked.{HaveOneWidth, IsExactBy}
 use Rattle.cq_model_laws.specs.Sizes.{GroupsKeepSizes, HasSizes, JoinedHaveSizes, JoinedRowsKeepSizes, KeepsColumns, grouped_sizes}
 use Rattle.cq_model_laws.proofs.Columns.{listed-columns}
@@ -39,25 +37,22 @@ use Rattle.cq_model.specs.Width.{IsNarrowIn, sizes_of}
 use Rattle.cq_operators.specs.Selected.{AreCounted, CanAskBelow, CanAskOwn, CanAskSources, CanSelect, CanShape, CanShow, SelectsRows, joined_sources, kept_rows, links_of, rows_in, rows_of_all}
 use Rattle.cq_plan.specs.Chain.{AreOf, HaveValues}
 use Rattle.cq_plan.specs.Laws.{ChainOfLists, OwnConditionsAreExact}
-use Rattle.cq_operators_scans.proofs.Lists.{all-kept, all-weaker}
 use Rattle.cq_engine_answers.specs.Lent.{AreOthers, CanAnswer, HaveSizes, rows_for}
 use Rattle.cq_engine_answers.specs.Narrow.{AreArgumentsSized, AreItemsSized, IsConditionSized, IsShapeSized}
 use Rattle.cq_engine_answers.specs.Selects.{SelectsLent}
+use Rattle.cq_model_bags.proofs.Lists.{all-filter, all-listed, all-weaker}
+use Rattle.cq_model_bags.proofs.Once.{is_there}
+use Rattle.cq_model.proofs.ListedValues.{count_all-listed}
 
 -- ---- rows that are there
--- what holds of each row that is there holds of each that is listed
-listed-all : (P : Row → Type 0) (rows : List Row) → ((i : ℕ) (d : Row) → i < length rows → P (get_or rows i d)) → AllByRecursion P rows
-listed-all P [] f = tt
-listed-all P (r ∷ rows) f = (f 0 r (omega arith), listed-all P rows (λ i d h. f (suc i) d (omega arith)))
-
 all-there : (P : Row → Type 0) (rows : List Row) → ((row : Row) → pos 0 <ℤ weight_of (once_each rows) row → P row) → AllByRecursion P rows
-all-there P rows each = listed-all P rows (λ i d h. each (get_or rows i d) (is_there rows i d h))
+all-there P rows each = all-listed P rows (λ i d h. each (get_or rows i d) (is_there rows i d h))
 
 -- ---- what is worked out in rows whose columns have sizes
 module _ (at : NarrowIsExact) (within : NarrowIsExactIn) where
   -- a condition
   exact_by : (sizes : List ℕ) (condition : Option Cond) (rows : List Row) → IsConditionSized sizes condition → AllByRecursion (HasSizes sizes) rows → AllByRecursion (IsExactBy condition) rows
-  exact_by sizes condition rows can = all-weaker (λ row has. one condition row (can row has.sized)) rows
+  exact_by sizes condition rows can = all-weaker _ _ (λ row has. one condition row (can row has.sized)) rows
     where
       one : (c : Option Cond) (row : Row) → IsNarrowIn c row → IsExactBy c row
       one None row narrow = tt
@@ -65,11 +60,11 @@ module _ (at : NarrowIsExact) (within : NarrowIsExactIn) where
 
   -- items
   items_exact : (sizes : List ℕ) (items : List Expr) (rows : List Row) → AreItemsSized sizes items → AllByRecursion (HasSizes sizes) rows → AllByRecursion (AreExactAt items) rows
-  items_exact sizes items rows can = all-weaker (λ row has. all-weaker (λ e narrow. at e row narrow) items (can row has.sized)) rows
+  items_exact sizes items rows can = all-weaker _ _ (λ row has. all-weaker _ _ (λ e narrow. at e row narrow) items (can row has.sized)) rows
 
   -- the arguments of aggregates
   over_exact : (sizes : List ℕ) (aggregates : List Aggregate) (rows : List Row) → AreArgumentsSized sizes aggregates → AllByRecursion (HasSizes sizes) rows → AllByRecursion (AreExactOver aggregates) rows
-  over_exact sizes aggregates rows can = all-weaker (λ row has. all-weaker (λ a narrow. one row a narrow) aggregates (can row has.sized)) rows
+  over_exact sizes aggregates rows can = all-weaker _ _ (λ row has. all-weaker _ _ (λ a narrow. one row a narrow) aggregates (can row has.sized)) rows
     where
       one : (row : Row) (a : Aggregate) → IsArgumentNarrow (sizes_of row) a → IsExactFor a row
       one row CountAll narrow = tt
@@ -105,7 +100,7 @@ module _ (at : NarrowIsExact) (within : NarrowIsExactIn) where
         let have = groups_sized counted in
         record {
           exact = exact_by of_groups having groups tested have;
-          kept = items_exact of_groups items (filter (keeps having) groups) shown (all-kept (HasSizes of_groups) (keeps having) groups have);
+          kept = items_exact of_groups items (filter (keeps having) groups) shown (all-filter (HasSizes of_groups) (keeps having) groups have);
         }
 
   can_shape : GroupsKeepSizes → (sizes : List ℕ) (shape : Shape) (items : List Expr) (rows : List Row) → IsShapeSized sizes shape items → AllByRecursion (HasSizes sizes) rows → CanShape shape items rows
@@ -130,7 +125,7 @@ module _ (law : OwnConditionsAreExact) (where_is : Option Cond) (sizes : Source 
   can_ask front before [] is sized some can = tt
   can_ask front before (s ∷ sources) is sized some can = λ wide values. (
     subst (λ n. CanAskOwn where_is n wide (rows_at s)) (sym is)
-        (λ cs own. law where_is front (sizes s) (flat_map sizes sources) wide cs (rows_at s) can own (all-weaker (λ row has. has.sized) (rows_at s) sized.0)),
+        (λ cs own. law where_is front (sizes s) (flat_map sizes sources) wide cs (rows_at s) can own (all-weaker _ _ (λ row has. has.sized) (rows_at s) sized.0)),
     can_ask (front ++ sizes s) (before + wide) sources
         (omega (arith, is, length-append front (sizes s), one-width wide (sizes s) (rows_at s) some.0 values sized.0))
         sized.1 some.1 (subst (λ ns. IsConditionSized ns where_is) (sym (append_assoc front (sizes s) (flat_map sizes sources))) can),
@@ -191,11 +186,11 @@ module _ (law : ChainOfLists) (lents : List StoredSource) (q : Query) (first : L
 
     -- the rows of each have one width
     pub even : AllByRecursion HaveOneWidth (first ∷ rows_of_all others)
-    even = each_source HaveOneWidth (λ s sized. (length (can.sizes s), all-weaker (λ row has. has.values) (rows_or lents s []) sized))
+    even = each_source HaveOneWidth (λ s sized. (length (can.sizes s), all-weaker _ _ (λ row has. has.values) (rows_or lents s []) sized))
 
     -- joined rows have the sizes of all columns
     joined_sized : JoinedRowsKeepSizes → JoinedHaveSizes all_sizes q (stored_bags lents)
-    joined_sized law_of_joins = law_of_joins q (stored_bags lents) can.sizes (bags (sources_of q)) (all-weaker (λ s sized. listed-columns (can.sizes s) (rows_or lents s []) sized) (sources_of q) can.rows)
+    joined_sized law_of_joins = law_of_joins q (stored_bags lents) can.sizes (bags (sources_of q)) (all-weaker _ _ (λ s sized. listed-columns (can.sizes s) (rows_or lents s []) sized) (sources_of q) can.rows)
       where
         bags : (sources : List Source) → AllByRecursion (λ s. IsBag (stored_bags lents s)) sources
         bags [] = tt

@@ -32,7 +32,7 @@ use Rattle.cq_engine_tables.specs.Views.{AreRight, NamedView, views_of}
 use Rattle.cq_engine_answers.proofs.Lents.{AreFor, sources-have}
 use Rattle.cq_engine_tables.proofs.Pairs.{pointwise_all}
 use Rattle.cq_engine_answers.proofs.Readings.{bases, query_there, rows_same, sizes_there, stored_sized, suits_for}
-use Rattle.cq_engine_tables.proofs.Rows.{all_there}
+use Rattle.cq_model_bags.proofs.Lists.{all-at}
 
 -- what was gathered is of sources that are there
 pub gathered_there : (P : Source → Type 0) (views : List NamedView) (sources : List Source) (gs : List Gathered) → AreGathered views sources gs → AllByRecursion P sources → AllByRecursion (λ g. P g.source) gs
@@ -64,7 +64,7 @@ module _ (tables : List TableOf) (views : List NamedView) where
     gather_refused q order f (inr w) = inr (
       w.0,
       λ range.
-          let named = all_there (SourceInRange (tables_now here) (queries_of here)) (sources_of q) w.1.0 w.1.1 range.named w.1.2 in
+          let named = all-at (SourceInRange (tables_now here) (queries_of here)) (sources_of q) w.1.0 w.1.1 w.1.2 range.named in
           hidden_out w.1.1 w.1.4 (subst (SourceInRange (tables_now here) (queries_of here)) w.1.3 named),
     )
 

@@ -1,28 +1,15 @@
 -- Lent rows: what each entry has, the rows of each source have that entries were made for.
-use Rattle.std.proofs.Common.{◌≡◌, true, List, [], ◌∷◌, refl, ap, sym, subst}
-use Rattle.std.proofs.lemmas.Bool.{eq-eqb, eqb-true}
+use Rattle.std.proofs.Common.{◌≡◌, true, List, [], ◌∷◌, refl, sym, subst}
 use Rattle.std.specs.List.{AllByRecursion, list_any}
 use Rattle.cq_values.specs.Value.{Row}
 use Rattle.cq_model_bags.proofs.Totals.{by_test}
 use Rattle.cq_model.specs.declared.query.Source.{Source}
-use Rattle.cq_model.specs.declared.query.Source.TheVariants.{Table, View}
 use Rattle.cq_table_columns.specs.Stored.{all_rows}
 use Rattle.cq_table_columns.specs.declared.stored_source.StoredSource.{StoredSource}
 use Rattle.cq_model.specs.Sources.{same_source}
 use Rattle.cq_table_columns.specs.Sources.{rows_or}
 use Rattle.cq_model_state.specs.Pointwise.{Pointwise}
-
--- a source is itself
-pub itself : (s : Source) → same_source s s ≡ true
-itself (Table n) = eq-eqb n n refl
-itself (View n) = eq-eqb n n refl
-
--- and no other one is
-pub only_itself : (s t : Source) → same_source s t ≡ true → s ≡ t
-only_itself (Table m) (Table n) e = ap Table (eqb-true m n e)
-only_itself (Table m) (View n) e = absurd (cc e)
-only_itself (View m) (Table n) e = absurd (cc e)
-only_itself (View m) (View n) e = ap View (eqb-true m n e)
+use Rattle.cq_model.proofs.SameSources.{itself, only_itself}
 
 -- a source has an entry
 abbrev pub IsThereIn : List StoredSource → Source → Type 0

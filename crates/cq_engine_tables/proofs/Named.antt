@@ -4,7 +4,7 @@ use Rattle.std.specs.Prelude.{◌||◌, position, nat_lt, option_map, slice_get,
 use Rattle.std.specs.List.{AllByRecursion, list_any, position_or_len, remove}
 use Rattle.std.proofs.lemmas.Bool.{ltb-true}
 use Rattle.std.proofs.lemmas.List.{length-map, take_all}
-use Rattle.std.proofs.lemmas.Option.{slice_get-map, slice_get_read}
+use Rattle.std.proofs.lemmas.Option.{same_Some, slice_get-map, slice_get_read}
 use Rattle.cq_values.specs.Texts.{is_text}
 use Rattle.cq_binder_rules.specs.Refusal.{is_used}
 use Rattle.cq_model_state.specs.State.{TableOf, view_named, view_place}
@@ -20,8 +20,8 @@ use Rattle.cq_engine_tables.specs.Taking.{IsSame, AreSame, AllStandFor, CanAllPr
 use Rattle.cq_engine_tables.specs.Views.{NamedView, view_of, views_of, IsRight, AreRight}
 use Rattle.cq_engine_tables.proofs.Places.{found_there}
 use Rattle.cq_engine_tables.proofs.Pairs.{pointwise_all, pointwise_at, pointwise_length, pointwise_more}
-use Rattle.cq_engine_tables.proofs.Rows.{all_there}
 use Rattle.cq_engine_tables.proofs.Turns.{same_set, taken_more, rest_same, rest_left}
+use Rattle.cq_model_bags.proofs.Lists.{all-at, all-remove}
 
 -- ---- Tests of images
 module _ {X Y : Type 0} (f : X → Y) where
@@ -40,13 +40,6 @@ module _ {X Y : Type 0} (f : X → Y) where
   remove-map (x ∷ xs) zero = refl
   remove-map (x ∷ xs) (suc i) = ap (λ (ys : List Y). f x ∷ ys) (remove-map xs i)
 
--- what holds of all holds without one of them
-all_left : {X : Type 0} (P : X → Type 0) (xs : List X) (i : ℕ) → AllByRecursion P xs → AllByRecursion P (remove xs i)
-all_left P [] zero h = tt
-all_left P [] (suc i) h = tt
-all_left P (x ∷ xs) zero h = h.1
-all_left P (x ∷ xs) (suc i) h = (h.0, all_left P xs i h.1)
-
 -- ---- Views under their names
 -- the view of a name stands where it stands among those that are kept
 pub place_named : (name : List ℕ) (vs : List NamedView) → view_place name (views_of vs) ≡ position (λ v. is_text v.name name) vs
@@ -58,16 +51,13 @@ used_by n [] = refl
 used_by n (v ∷ vs) = ap (λ b. reads n v.kept.query || b) (used_by n vs)
 
 -- ---- A view that was found
-some_same : (n m : ℕ) → Some n ≡ Some m → n ≡ m
-some_same n m e = cc e
-
 module _ (name : List ℕ) (vs : List NamedView) (place : ℕ) (found : view_place name (views_of vs) ≡ Some place) where
   -- it stands among them
   abbrev first : ℕ
   first = position_or_len (λ v. is_text v.name name) vs
 
   among : (b : Bool) → nat_lt first (length vs) ≡ b → cond b (Some first) None ≡ Some place → place < length vs
-  among true e h = subst (λ (n : ℕ). n < length vs) (some_same first place h) (ltb-true first (length vs) e)
+  among true e h = subst (λ (n : ℕ). n < length vs) (same_Some first place h) (ltb-true first (length vs) e)
   among false e h = absurd (cc h)
 
   pub within : place < length vs
@@ -85,7 +75,7 @@ module _ (name : List ℕ) (vs : List NamedView) (place : ℕ) (found : view_pla
 
 -- without it the views are still right
 pub right_without : (vs : List NamedView) (place : ℕ) (tables : List TableOf) (now : ℕ) → AreRight tables now vs → AreRight tables now (remove vs place)
-right_without vs place tables now right = all_left (IsRight tables now) vs place right
+right_without vs place tables now right = all-remove (IsRight tables now) vs place right
 
 -- ---- Views at a place, where all are the same as others
 -- a view that is the same can be made ready as before
@@ -108,7 +98,7 @@ module _ (vs now : List NamedView) (i : ℕ) (h : i < length vs) (same : AreSame
   module _ (v : NamedView) (is : v ≡ get_or now i v) where
     -- what goes over from each view to the same one goes over to the one that is there
     over_there : (P : NamedView → Type 0) → ((u w : NamedView) → IsSame u w → P u → P w) → AllByRecursion P vs → P v
-    over_there P over all = subst P (sym is) (all_there P now i v (pointwise_all IsSame P P over vs now same all) within_same)
+    over_there P over all = subst P (sym is) (all-at P now i v within_same (pointwise_all IsSame P P over vs now same all))
 
     -- it can be made ready
     pub can_prepare_there : (changes : Tables) → CanAllPrepare changes vs → CanPrepare v.kept changes

@@ -38,12 +38,6 @@ module _ (u d : TableOf) where
       (λ k. rw k refl)
       (λ k. rw k (rows_elsewhere xs i (omega (arith, h)) same n other))
 
--- what all have, the one at a place has
-pub all_there : {X : Type 0} (P : X → Type 0) (ts : List X) (i : ℕ) (d : X) → AllByRecursion P ts → i < length ts → P (get_or ts i d)
-all_there P [] i d all h = absurd (omega (arith, h))
-all_there P (x ∷ xs) zero d all h = all.0
-all_there P (x ∷ xs) (suc i) d all h = all_there P xs i d all.1 (omega (arith, h))
-
 -- what the rows of all tables have, those of a number have
 pub rows_have : (P : List Row → Type 0) → P [] → (tables : List TableOf) (n : ℕ) → AllByRecursion (λ t. P t.rows) tables → P (rows_in tables n)
 rows_have P none [] n all = none
@@ -111,11 +105,6 @@ bounded_more few most (x ∷ xs) le bounded = (omega (arith, le, bounded.0), bou
 pub rows_before : (ts : List TableOf) (t : TableOf) (n : ℕ) → t.rows ≡ [] → rows_in (ts ++ t ∷ []) n ≡ rows_in ts n
 rows_before [] t n none = by_test (t.number == n) (λ k. rw k none) (λ k. rw k refl)
 rows_before (x ∷ xs) t n none = by_test (x.number == n) (λ k. rw k refl) (λ k. rw k (rows_before xs t n none))
-
--- what it and the others have, all have
-pub all_behind : {X : Type 0} (P : X → Type 0) (ts : List X) (t : X) → AllByRecursion P ts → P t → AllByRecursion P (ts ++ t ∷ [])
-all_behind P [] t all own = (own, tt)
-all_behind P (x ∷ xs) t all own = (all.0, all_behind P xs t all.1 own)
 
 -- ---- One table fewer
 module _ (n : ℕ) where

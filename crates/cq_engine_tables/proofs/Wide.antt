@@ -19,6 +19,7 @@ use Rattle.cq_engine_tables.proofs.Bags.{bags_are}
 use Rattle.cq_engine_tables.proofs.Numbers.{others}
 use Rattle.cq_engine_tables.proofs.Pairs.{pointwise_length}
 use Rattle.cq_engine_tables.proofs.Rows.{fitting_in}
+use Rattle.std.proofs.lemmas.Option.{same_Some}
 
 -- ---- Tables that are as wide
 -- each table that was there is there, and has as many columns
@@ -84,9 +85,6 @@ rows-wide : (columns : List ColumnDef) (rows : List Row) → AllByRecursion (Fit
 rows-wide columns [] fit = tt
 rows-wide columns (r ∷ rows) fit = (pointwise_length FitsColumn columns r fit.0, rows-wide columns rows fit.1)
 
-some-same : (n m : ℕ) → Some n ≡ Some m → n ≡ m
-some-same n m e = cc e
-
 module _ (tables : List TableOf) where
   -- how many columns the rows of a source have
   abbrev pub width_of : Source → ℕ
@@ -96,7 +94,7 @@ module _ (tables : List TableOf) where
   columns-wide : (ts : List TableOf) (n wide : ℕ) → width_at ts n ≡ Some wide → length (columns_in ts n) ≡ wide
   columns-wide [] n wide is = absurd (cc is)
   columns-wide (x ∷ xs) n wide is = by_test (x.number == n)
-      (λ k. rw k (some-same (length x.columns) wide (rw k at is)))
+      (λ k. rw k (same_Some (length x.columns) wide (rw k at is)))
       (λ k. rw k (columns-wide xs n wide (rw k at is)))
 
   all-widths : (sources : List Source) (widths : List ℕ) → AllZip (IsWide tables) sources widths → map width_of sources ≡ widths

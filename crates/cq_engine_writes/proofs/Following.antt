@@ -5,7 +5,7 @@ use Rattle.std.specs.List.{AllByRecursion}
 use Rattle.std.proofs.lemmas.Bool.{eqb-true}
 use Rattle.std.proofs.lemmas.List.{append-nil}
 use Rattle.std.proofs.lemmas.Simd.{map-map}
-use Rattle.cq_model_bags.specs.Bag.{Weighted, SameBag, IsBag, once_each}
+use Rattle.cq_model_bags.specs.Bag.{Weighted, SameBag, once_each}
 use Rattle.cq_model_bags.proofs.Bags.{same-append, same-refl, same-sym, same-trans}
 use Rattle.cq_model_bags.proofs.Totals.{by_test}
 use Rattle.cq_views_model.specs.Delta.{changed}
@@ -30,10 +30,7 @@ use Rattle.cq_engine_tables.specs.Taking.{AllStandFor, AreReady, AreSame, HasTak
 use Rattle.cq_engine_tables.specs.Views.{AreRight, AreWide, Fits, IsRight, NamedView, bags_in, view_of}
 use Rattle.cq_engine_writes.specs.Changing.{AreReadyAt}
 use Rattle.cq_engine_writes.specs.Following.{Follow, Follows, Moved}
-
--- a bag is one however it is listed
-bag-same : (xs ys : Weighted) → SameBag xs ys → IsBag ys → IsBag xs
-bag-same xs ys same bag = record { at = λ r. rw (same.at r) (bag.at r) }
+use Rattle.cq_model_bags.proofs.Positives.{bag-same}
 
 -- ---- Views that took in what waited
 module _ (law : StandingDependsOnSources) (epoch n : ℕ) (tables changes : Tables) (others : (source : Source) → is_table n source ≡ false → changes source ≡ []) (bags : AreBags (changed tables changes)) where

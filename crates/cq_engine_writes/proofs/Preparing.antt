@@ -23,6 +23,7 @@ use Rattle.cq_views.proofs.Taking.{only-have}
 use Rattle.cq_views.specs.Changes.{exchanged, weighed}
 use Rattle.cq_views.specs.Filling.{only}
 use Rattle.cq_engine_writes.specs.Changing.{AreStanding, IsChangeAt}
+use Rattle.cq_model_bags.proofs.Lists.{all-of}
 
 -- ---- The change of one table
 -- stored rows that all come, or all go
@@ -81,11 +82,6 @@ module _ (tables changes : Tables) (each : (source : Source) → span (tables so
       omega (arith, more_spans a (b ∷ c ∷ d ∷ []) (2 ^ 78) three)
   spans_few (a ∷ b ∷ c ∷ d ∷ e ∷ sources) h = absurd (omega (arith, h))
 
--- what holds of each source holds of all of these
-all_hold : (P : Source → Type 0) → ((source : Source) → P source) → (sources : List Source) → AllByRecursion P sources
-all_hold P each [] = tt
-all_hold P each (s ∷ sources) = (each s, all_hold P each sources)
-
 -- views that stand can be made ready for few stored changes
 pub can_all_prepare : (changes : Tables) → ((source : Source) → AreStored (changes source)) → ((source : Source) → sizes (changes source) ≤ 2 ^ 25) → (views : List NamedView) → AreStanding views
     → CanAllPrepare changes views
@@ -103,8 +99,8 @@ can_all_prepare changes stored few views standing = each views standing.fits sta
         stands = stand.0;
         few = spans_few standing.tables changes spans_small (sources_of v.kept.query) fits.0.few;
         stored = (
-          all_hold (λ s. AreStored (standing.tables s)) standing.stored (sources_of v.kept.query),
-          all_hold (λ s. AreStored (changes s)) stored (sources_of v.kept.query),
+          all-of (λ s. AreStored (standing.tables s)) standing.stored (sources_of v.kept.query),
+          all-of (λ s. AreStored (changes s)) stored (sources_of v.kept.query),
         );
       },
       each vs fits.1 stand.1,

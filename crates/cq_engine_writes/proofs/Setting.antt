@@ -18,9 +18,10 @@ use Rattle.cq_binder_rules.specs.Checks.{fault_if, first_fault}
 use Rattle.cq_binder_rules.specs.UpdateChecks.{is_null, is_outside, never_null, value_checks}
 use Rattle.cq_binder_expressions.specs.Types.{IsOf}
 use Rattle.cq_model_state.specs.Fitting.{FitsColumn, FitsColumns}
-use Rattle.cq_table.proofs.RowLists.{both_of, turned}
+use Rattle.cq_table.proofs.RowLists.{turned}
 use Rattle.cq_engine_writes.specs.Updates.{CanSetAll, declared_type}
 use Rattle.cq_engine_writes.proofs.Checks.{back_free, first_free, front_free}
+use Rattle.cq_model_bags.proofs.Lists.{all-both}
 
 -- ---- Values that may be stored
 -- a number that is not outside has 64 bits with a sign
@@ -77,7 +78,7 @@ module _ (columns : List ColumnDef) (rows : List Row) where
   one_free a free =
       let outside = fault_if (list_any (λ r. is_outside (eval a.value r)) rows) NumberOutside in
       let null = fault_if (never_null columns a.column && list_any (λ r. is_null (eval a.value r)) rows) NullNotAllowed in
-      both_of (λ r. is_outside (eval a.value r) ≡ false) (λ r. (never_null columns a.column && is_null (eval a.value r)) ≡ false) rows
+      all-both (λ r. is_outside (eval a.value r) ≡ false) (λ r. (never_null columns a.column && is_null (eval a.value r)) ≡ false) (MayStand columns a) (λ r inside there. (inside, there)) rows
       (none_any (λ r. is_outside (eval a.value r)) rows (if_free (list_any (λ r. is_outside (eval a.value r)) rows) NumberOutside (first_free outside (null ∷ []) free)))
       (none_and (never_null columns a.column) (λ r. is_null (eval a.value r)) rows
       (if_free (never_null columns a.column && list_any (λ r. is_null (eval a.value r)) rows) NullNotAllowed (first_free null [] (back_free (outside ∷ []) (null ∷ []) free))))

@@ -27,13 +27,10 @@ use Rattle.cq_engine_writes.proofs.Exchanged.{same_replaced}
 use Rattle.cq_model_bags.proofs.Totals.{by_test}
 use Rattle.cq_engine_tables.proofs.Rows.{bounded-with_rows, columns_numbered, fitting-with_rows, fitting_in, rows_have, rows_numbered}
 use Rattle.cq_engine_writes.proofs.Setting.{checked_fit}
-use Rattle.cq_table.proofs.RowLists.{all_of_kept, gone_all}
+use Rattle.cq_table.proofs.RowLists.{gone_all}
 use Rattle.cq_engine_tables.proofs.Stored.{rows_stored}
 use Rattle.cq_engine_writes.proofs.Written.{written_here}
-
-all_images : (P : Row → Type 0) (image : Row → Row) (rows : List Row) → AllByRecursion (λ r. P (image r)) rows → AllByRecursion P (map image rows)
-all_images P image [] all = tt
-all_images P image (r ∷ rows) all = (all.0, all_images P image rows all.1)
+use Rattle.cq_model_bags.proofs.Lists.{all-filter, all-map}
 
 -- nothing is too wide in assignments that can be carried out on a row
 narrow_sets : (columns : List ColumnDef) (assignments : List Assignment) (row : Row) → CanSetAll columns assignments row → AllByRecursion (λ (a : Assignment). IsNarrowAt a.value row) assignments
@@ -50,7 +47,7 @@ can_work_out columns assignments c rows can = record { narrow = can.narrow; sets
 
 module _ (t : TableOf) (assignments : List Assignment) (c : Option Cond) (can : CanUpdate t.columns assignments c t.rows) (gone : List Row) (is_chosen : SameRows gone (chosen c t.rows)) where
   sets_gone : AllByRecursion (CanSetAll t.columns assignments) gone
-  sets_gone = gone_all (keeps c) t.rows gone is_chosen (CanSetAll t.columns assignments) (all_of_kept (CanSetAll t.columns assignments) (keeps c) t.rows can.sets)
+  sets_gone = gone_all (keeps c) t.rows gone is_chosen (CanSetAll t.columns assignments) (all-filter (CanSetAll t.columns assignments) (keeps c) t.rows can.sets)
 
   -- as many go as are chosen
   pub length_gone : length gone ≡ length (chosen c t.rows)
@@ -58,14 +55,14 @@ module _ (t : TableOf) (assignments : List Assignment) (c : Option Cond) (can : 
 
   module _ (fitting : IsFitting t) where
     fits_gone : AllByRecursion (FitsColumns t.columns) gone
-    fits_gone = gone_all (keeps c) t.rows gone is_chosen (FitsColumns t.columns) (all_of_kept (FitsColumns t.columns) (keeps c) t.rows fitting)
+    fits_gone = gone_all (keeps c) t.rows gone is_chosen (FitsColumns t.columns) (all-filter (FitsColumns t.columns) (keeps c) t.rows fitting)
 
     pub stored_gone : AllByRecursion IsStored gone
     stored_gone = rows_stored t.columns gone fits_gone
 
     -- the images fit where their values have no fault
     pub come_fit : values_fault t.columns assignments gone ≡ None → AllByRecursion (FitsColumns t.columns) (map (image_of assignments) gone)
-    come_fit free = all_images (FitsColumns t.columns) (image_of assignments) gone (checked_fit t.columns assignments gone fits_gone sets_gone free)
+    come_fit free = all-map (λ r. FitsColumns t.columns (image_of assignments r)) (FitsColumns t.columns) (image_of assignments) (λ r fits. fits) gone (checked_fit t.columns assignments gone fits_gone sets_gone free)
 
     pub stored_come : values_fault t.columns assignments gone ≡ None → AllByRecursion IsStored (map (image_of assignments) gone)
     stored_come free = rows_stored t.columns (map (image_of assignments) gone) (come_fit free)
@@ -134,7 +131,7 @@ module _ (n : ℕ) (assignments : List Assignment) (c : Option Cond) (tables : L
   pub updated_fit : (next : ℕ) → AreNumbered tables next → AreFitting tables → CanUpdate columns assignments c rows → value_fault_in tables n assignments c ≡ None → AreFitting (updated_in n assignments c tables)
   updated_fit next numbered fitting can free =
       let own = fitting_in n tables fitting in
-      let images = checked_fit columns assignments (chosen c rows) (all_of_kept (FitsColumns columns) (keeps c) rows own) (all_of_kept (CanSetAll columns assignments) (keeps c) rows can.sets) free in
+      let images = checked_fit columns assignments (chosen c rows) (all-filter (FitsColumns columns) (keeps c) rows own) (all-filter (CanSetAll columns assignments) (keeps c) rows can.sets) free in
       fitting-with_rows n (updated assignments c rows) tables next numbered fitting (all_replaced (FitsColumns columns) (keeps c) (image_of assignments) rows own images)
 
   pub updated_bounded : (most : ℕ) → AreLimited most tables → AreLimited most (updated_in n assignments c tables)

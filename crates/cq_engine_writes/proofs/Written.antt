@@ -33,8 +33,9 @@ use Rattle.cq_engine_tables.proofs.Numbers.{set-number}
 use Rattle.cq_engine_tables.proofs.Rows.{bounded-with_rows, fitting-with_rows, fitting_in, rows_at, rows_elsewhere, rows_have, rows_numbered, rows_there}
 use Rattle.cq_engine_tables.proofs.Wide.{keep-set}
 use Rattle.cq_table.specs.Checks.{too_many}
-use Rattle.cq_table.proofs.RowLists.{all_of_bag, all_of_both, all_of_kept, all_of_rows}
+use Rattle.cq_table.proofs.RowLists.{all_of_bag, all_of_rows}
 use Rattle.cq_model_laws.specs.Sizes.{IsStored}
+use Rattle.cq_model_bags.proofs.Lists.{all-append, all-filter}
 
 -- ---- Rows that come, and rows that go
 module _ (law : StandingDependsOnSources) (epoch : ℕ) (t u : TableOf) (vs ws xs : List NamedView) (ps : List (Option Pending)) (same : AreSame vs ws) (taken : HaveTaken epoch ws ps xs) where
@@ -70,7 +71,7 @@ module _ (keep : Row → Bool) where
   module _ (rows gone : List Row) (chosen : bag_of gone ≡ bag_of (filter keep rows)) where
     -- are stored
     pub gone_stored : AllByRecursion IsStored rows → AllByRecursion IsStored gone
-    gone_stored stored = all_of_rows IsStored gone (subst (λ (rs : List Row). AllByRecursion IsStored rs) (sym chosen) (all_of_bag IsStored (filter keep rows) (all_of_kept IsStored keep rows stored)))
+    gone_stored stored = all_of_rows IsStored gone (subst (λ (rs : List Row). AllByRecursion IsStored rs) (sym chosen) (all_of_bag IsStored (filter keep rows) (all-filter IsStored keep rows stored)))
 
     -- and no more than there were
     pub gone_few : (bound : ℕ) → length rows < bound → length gone < bound
@@ -139,7 +140,7 @@ module _ (n : ℕ) where
   module _ (rows : List Row) (tables : List TableOf) where
     pub inserted_fit : (next : ℕ) → AreNumbered tables next → AreFitting tables → AllByRecursion (FitsColumns (columns_in tables n)) rows → AreFitting (inserted_into n rows tables)
     inserted_fit next numbered fitting own =
-        fitting-with_rows n (rows_in tables n ++ rows) tables next numbered fitting (all_of_both (FitsColumns (columns_in tables n)) (rows_in tables n) rows (fitting_in n tables fitting) own)
+        fitting-with_rows n (rows_in tables n ++ rows) tables next numbered fitting (all-append (FitsColumns (columns_in tables n)) (rows_in tables n) rows (fitting_in n tables fitting) own)
 
     pub inserted_bounded : (most : ℕ) → room_for most tables n rows ≡ None → AreLimited most tables → AreLimited most (inserted_into n rows tables)
     inserted_bounded most room bounded = by_test (nat_lt most (length (rows_in tables n) + length rows))
@@ -152,7 +153,7 @@ module _ (n : ℕ) where
 
     pub left_fit : (next : ℕ) → AreNumbered tables next → AreFitting tables → AreFitting (deleted_from n condition tables)
     left_fit next numbered fitting =
-        fitting-with_rows n (left_by condition (rows_in tables n)) tables next numbered fitting (all_of_kept (FitsColumns (columns_in tables n)) stay (rows_in tables n) (fitting_in n tables fitting))
+        fitting-with_rows n (left_by condition (rows_in tables n)) tables next numbered fitting (all-filter (FitsColumns (columns_in tables n)) stay (rows_in tables n) (fitting_in n tables fitting))
 
     pub left_bounded : (most : ℕ) → AreLimited most tables → AreLimited most (deleted_from n condition tables)
     left_bounded most bounded =

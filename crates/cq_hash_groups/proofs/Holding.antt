@@ -13,9 +13,9 @@ use Rattle.cq_hash_groups.specs.Puts.{AreNumbers}
 use Rattle.cq_hash_groups.specs.Slots.{CanShow, shown_at}
 use Rattle.cq_hash_groups.proofs.Keeping.{slots-added}
 use Rattle.cq_hash_groups.proofs.KeysMet.{AreApart, apart-firsts, keys-more}
-use Rattle.cq_hash_groups.proofs.Putting.{all-at}
 use Rattle.cq_hash_groups.proofs.Showing.{AreShown, all-range, grouped-ranges, range-all, shown-all, shown_rows}
 use Rattle.cq_hash_groups.proofs.Turns.{each-added}
+use Rattle.cq_model_bags.proofs.Lists.{all-at}
 
 -- what is kept, with rows added to the groups of their keys
 pub slots-hold : (keys : Option (List ℕ)) (aggregates : List Aggregate) (rows more found next : List Row) (numbers : List ℕ) → found ≡ group_keys keys rows → next ≡ firsts (found ++ map (key_of (group_columns keys)) more)

@@ -19,7 +19,7 @@ use Rattle.cq_hash_groups.specs.Puts.{put_all, put_count, put_sum, put_best, no_
 use Rattle.cq_hash_groups.specs.Slots.{grown, grown_slots, empty_slots}
 use Rattle.cq_hash_groups.proofs.ValuesPut.{count-push, sum-push, best-push}
 use Rattle.cq_hash_groups.proofs.KeysMet.{AreApart, apart-sym, rows-append}
-use Rattle.cq_hash_groups.proofs.Putting.{all-at}
+use Rattle.cq_model_bags.proofs.Lists.{all-at}
 
 -- a function that is the same at rows apart from one
 same-apart : {S : Type 0} (f g : Row → S) (k : Row) (keys : List Row) → AllByRecursion (λ j. same_row k j ≡ false) keys → ((j : Row) → same_row k j ≡ false → g j ≡ f j) → map f keys ≡ map g keys

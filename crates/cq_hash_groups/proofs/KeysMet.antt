@@ -10,6 +10,9 @@ use Rattle.cq_model_bags.proofs.Totals.{by_test}
 use Rattle.cq_model_bags.proofs.Distincts.{is_among, is_among-firsts}
 use Rattle.cq_model.specs.Group.{key_of}
 use Rattle.cq_hash_groups.specs.Groups.{group_columns, first_keys, group_keys, rows_at}
+use Rattle.cq_model_bags.proofs.Lists.{all-filter}
+use Rattle.cq_model_bags.proofs.Once.{kept-apart, others-apart}
+use Rattle.std.proofs.lemmas.List.Elements.{filter-append}
 
 -- a row that is not the other's same, seen from the other
 pub apart-sym : (r s : Row) → same_row r s ≡ false → same_row s r ≡ false
@@ -22,27 +25,14 @@ abbrev pub AreApart : List Row → Type 0
 AreApart [] = Unit {0}
 AreApart (r ∷ rows) = AllByRecursion (λ s. same_row r s ≡ false) rows × AreApart rows
 
-all-filter : (P : Row → Type 0) (keep : Row → Bool) (rows : List Row) → AllByRecursion P rows → AllByRecursion P (filter keep rows)
-all-filter P keep [] a = tt
-all-filter P keep (r ∷ rows) a = by_test (keep r) (λ k. rw k (a.0, all-filter P keep rows a.1)) (λ k. rw k (all-filter P keep rows a.1))
-
 apart-filter : (keep : Row → Bool) (rows : List Row) → AreApart rows → AreApart (filter keep rows)
 apart-filter keep [] a = tt
 apart-filter keep (r ∷ rows) a =
     by_test (keep r) (λ k. rw k (all-filter (λ s. same_row r s ≡ false) keep rows a.0, apart-filter keep rows a.1)) (λ k. rw k (apart-filter keep rows a.1))
 
-others-apart : (r : Row) (rows : List Row) → AllByRecursion (λ s. same_row r s ≡ false) (filter (λ s. not (same_row r s)) rows)
-others-apart r [] = tt
-others-apart r (s ∷ rows) = by_test (same_row r s) (λ k. rw k (others-apart r rows)) (λ k. rw k (k, others-apart r rows))
-
 pub apart-firsts : (rows : List Row) → AreApart (firsts rows)
 apart-firsts [] = tt
 apart-firsts (r ∷ rows) = (others-apart r (firsts rows), apart-filter (λ s. not (same_row r s)) (firsts rows) (apart-firsts rows))
-
--- rows that are apart from one are kept where those that are it go
-kept-apart : (r : Row) (rows : List Row) → AllByRecursion (λ s. same_row r s ≡ false) rows → filter (λ s. not (same_row r s)) rows ≡ rows
-kept-apart r [] a = refl
-kept-apart r (s ∷ rows) a = let here : same_row r s ≡ false = a.0 in rw here (ap (λ (xs : List Row). s ∷ xs) (kept-apart r rows a.1))
 
 firsts-apart : (rows : List Row) → AreApart rows → firsts rows ≡ rows
 firsts-apart [] a = refl
@@ -50,10 +40,6 @@ firsts-apart (r ∷ rows) a =
     ap (λ (xs : List Row). r ∷ filter (λ s. not (same_row r s)) xs) (firsts-apart rows a.1) ∙ ap (λ (xs : List Row). r ∷ xs) (kept-apart r rows a.0)
 
 -- ---- keys that are new
-filter-append : (keep : Row → Bool) (xs ys : List Row) → filter keep (xs ++ ys) ≡ filter keep xs ++ filter keep ys
-filter-append keep [] ys = refl
-filter-append keep (x ∷ xs) ys = by_test (keep x) (λ k. rw k (ap (λ (zs : List Row). x ∷ zs) (filter-append keep xs ys))) (λ k. rw k (filter-append keep xs ys))
-
 -- those that are among neither
 abbrev pub new_of : List Row → List Row → List Row
 new_of known rows = filter (λ s. not (is_among s known)) rows

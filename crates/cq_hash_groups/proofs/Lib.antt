@@ -1,12 +1,8 @@
 pub mod Columns
-pub mod Extremes
 pub mod Holding
 pub mod Keeping
 pub mod KeysMet
 pub mod Known
-pub mod Listed
-pub mod Occurring
-pub mod Once
 pub mod Putting
 pub mod Showing
 pub mod Turns

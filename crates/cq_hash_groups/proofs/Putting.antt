@@ -1,6 +1,5 @@
 -- Values put into groups, one after the other.
 use Rattle.std.proofs.Common.{◌≡◌, ℕ, zero, suc, ◌+◌, ◌<◌, ◌≤◌, Bool, cond, List, [], ◌∷◌, ◌++◌, drop, take, length, get_or, set, replicate, sym, ◌∙◌, ap, ap₂, arith, subst, Ordering, Less, Equal, Greater}
-use Rattle.std.specs.List.{AllByRecursion}
 use Rattle.std.proofs.lemmas.List.{drop_more, drop_all, get_or_default}
 use Rattle.std.proofs.Math.Seq.{take-append_seam}
 use Rattle.std.specs.Ordering.{is_gt, is_lt}
@@ -13,12 +12,6 @@ use Rattle.cq_model.specs.Condition.{is_null}
 use Rattle.cq_model.specs.Group.{higher}
 use Rattle.cq_hash_groups.specs.declared.sums.Sum.{Sum}
 use Rattle.cq_hash_groups.specs.Puts.{put_all, put_count, no_sum, AreCountsWithin, AreSumsWithin, IsSumWithin, AreNumbers}
-
--- what holds of all holds at a place
-pub all-at : {X : Type 0} (P : X → Type 0) (xs : List X) (i : ℕ) (d : X) → i < length xs → AllByRecursion P xs → P (get_or xs i d)
-all-at P [] i d h a = absurd (omega (arith, h))
-all-at P (x ∷ xs) zero d h a = a.0
-all-at P (x ∷ xs) (suc i) d h a = all-at P xs i d (omega (arith, h)) a.1
 
 -- numbers of some groups are those of more
 pub numbers-of_more : (few many : ℕ) (numbers : List ℕ) → few ≤ many → AreNumbers few numbers → AreNumbers many numbers

@@ -15,13 +15,15 @@ use Rattle.cq_model.specs.declared.query.Aggregate.{Aggregate}
 use Rattle.cq_model.specs.declared.query.Aggregate.TheVariants.{CountAll, Count, Sum, Min, Max}
 use Rattle.cq_model.specs.Eval.{eval}
 use Rattle.cq_model.specs.Group.{InRange, SumInRange, SumsInRange, aggregate, group_row, grouped, key_of, keys_of, rows_of_key}
-use Rattle.cq_hash_groups.proofs.Listed.{shown_total, count-of, count_all-of, max-of, min-of, sum-of, sum-in_range, sum-shows}
-use Rattle.cq_hash_groups.proofs.Once.{distinct-once}
 use Rattle.cq_hash_groups.specs.declared.bests.Extreme.TheVariants.{Least, Greatest}
-use Rattle.cq_hash_groups.specs.Groups.{argument, group_columns, group_keys, kept_best, kept_count, kept_each, kept_sum, known, rows_at, slots_at, total_of}
+use Rattle.cq_hash_groups.specs.Groups.{argument, group_columns, group_keys, kept_best, kept_count, kept_each, kept_sum, known, rows_at, slots_at}
 use Rattle.cq_hash_groups.specs.declared.sums.Sum.{Sum as Summed}
 use Rattle.cq_hash_groups.specs.Puts.{no_sum, shown_sum}
 use Rattle.cq_hash_groups.specs.Slots.{CanShow, shown_at}
+use Rattle.cq_model_bags.proofs.Lists.{all-weaker}
+use Rattle.cq_model_bags.proofs.Once.{distinct-once}
+use Rattle.cq_model.specs.Totals.{shown_total, total_of}
+use Rattle.cq_model.proofs.ListedValues.{count-of, count_all-of, max-of, min-of, sum-in_range, sum-of, sum-shows}
 
 -- each row counts
 count-rows : (rows : List Row) → kept_count (map (λ r. Number (pos 0)) rows) ≡ length rows
@@ -105,10 +107,6 @@ map-same : (f g : Row → Row) → ((k : Row) → f k ≡ g k) → (keys : List 
 map-same f g h [] = refl
 map-same f g h (k ∷ keys) = ap₂ (λ (r : Row) (rs : List Row). r ∷ rs) (h k) (map-same f g h keys)
 
-all-same : (P Q : Row → Type 0) → ((k : Row) → P k → Q k) → (keys : List Row) → AllByRecursion P keys → AllByRecursion Q keys
-all-same P Q h [] a = tt
-all-same P Q h (k ∷ keys) a = (h k a.0, all-same P Q h keys a.1)
-
 pub rows-are_grouped : (keys : Option (List ℕ)) (aggregates : List Aggregate) (rows : List Row) → once_each (shown_rows keys aggregates rows (group_keys keys rows)) ≡ grouped keys aggregates (once_each rows)
 rows-are_grouped None aggregates rows =
     ap (λ (found : List Row). once_each (shown_rows None aggregates rows found)) (one-key rows) ∙ ap (λ (rs : List Row). once_each (group_row aggregates [] (once_each rs) ∷ [])) (all-rows rows)
@@ -125,11 +123,11 @@ ranges-are_grouped None aggregates rows h =
     subst (λ (rs : List Row). InEach aggregates (once_each rs)) (all-rows rows) one.0
 ranges-are_grouped (Some columns) aggregates rows h =
     subst (AllByRecursion (λ (k : Row). InEach aggregates (rows_of_key columns k (once_each rows)))) (keys-met columns rows)
-    (all-same (λ (k : Row). InEach aggregates (once_each (rows_at columns rows k))) (λ (k : Row). InEach aggregates (rows_of_key columns k (once_each rows))) (λ k a. subst (InEach aggregates) (own-rows columns rows k) a) (firsts (map (key_of columns) rows)) h)
+    (all-weaker (λ (k : Row). InEach aggregates (once_each (rows_at columns rows k))) (λ (k : Row). InEach aggregates (rows_of_key columns k (once_each rows))) (λ k a. subst (InEach aggregates) (own-rows columns rows k) a) (firsts (map (key_of columns) rows)) h)
 
 pub grouped-ranges : (keys : Option (List ℕ)) (aggregates : List Aggregate) (rows : List Row) → SumsInRange keys aggregates (once_each rows) → AreShown keys aggregates rows (group_keys keys rows)
 grouped-ranges None aggregates rows h =
     subst (AreShown None aggregates rows) (sym (one-key rows)) (subst (λ (rs : List Row). InEach aggregates (once_each rs)) (sym (all-rows rows)) h, tt)
 grouped-ranges (Some columns) aggregates rows h =
-    all-same (λ (k : Row). InEach aggregates (rows_of_key columns k (once_each rows))) (λ (k : Row). InEach aggregates (once_each (rows_at columns rows k))) (λ k a. subst (InEach aggregates) (sym (own-rows columns rows k)) a) (firsts (map (key_of columns) rows))
+    all-weaker (λ (k : Row). InEach aggregates (rows_of_key columns k (once_each rows))) (λ (k : Row). InEach aggregates (once_each (rows_at columns rows k))) (λ k a. subst (InEach aggregates) (sym (own-rows columns rows k)) a) (firsts (map (key_of columns) rows))
     (subst (AllByRecursion (λ (k : Row). InEach aggregates (rows_of_key columns k (once_each rows)))) (sym (keys-met columns rows)) h)

@@ -12,7 +12,8 @@ use Rattle.cq_hash_groups.specs.Groups.{AreAllWithin, added_slots, all_added}
 use Rattle.cq_hash_groups.specs.declared.slots.Slots.TheVariants.{Counts, Sums, Bests}
 use Rattle.cq_hash_groups.specs.Puts.{IsSumWithin, no_sum}
 use Rattle.cq_hash_groups.specs.Slots.{AreWithin, empty_slots, groups_in, grown_slots, no_slots}
-use Rattle.cq_hash_groups.proofs.Putting.{all-at, at-grown, sums-more}
+use Rattle.cq_hash_groups.proofs.Putting.{at-grown, sums-more}
+use Rattle.cq_model_bags.proofs.Lists.{all-at}
 
 -- what is exact over each row for all aggregates is so for one
 pub exact-for : (aggregates : List Aggregate) (place : ℕ) (d : Aggregate) → place < length aggregates → (rows : List Row) → AllByRecursion (AreExactOver aggregates) rows → AllByRecursion (IsExactFor (get_or aggregates place d)) rows

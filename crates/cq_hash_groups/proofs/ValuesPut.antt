@@ -1,17 +1,18 @@
 -- How what is kept of values changes with one value more.
-use Rattle.std.proofs.Common.{◌≡◌, ◌+ℤ◌, false, cond, List, [], ◌∷◌, ◌++◌, length, refl, sym, ◌∙◌, ap, ap₂, arith, subst, ◌⊎◌, inl, inr}
+use Rattle.std.proofs.Common.{◌≡◌, false, cond, List, [], ◌∷◌, ◌++◌, length, refl, sym, ◌∙◌, ap, ap₂, subst, ◌⊎◌, inl, inr}
 use Rattle.std.specs.List.{AllByRecursion}
-use Rattle.std.proofs.lemmas.Int.{ints}
 use Rattle.std.proofs.lemmas.List.{length-append}
 use Rattle.cq_values.specs.declared.value.Value.{Value}
 use Rattle.cq_model_bags.proofs.Totals.{by_test}
 use Rattle.cq_model.specs.Condition.{is_null}
-use Rattle.cq_model.specs.Group.{addend, extreme}
-use Rattle.cq_hash_groups.proofs.Extremes.{IsOne, IsChoice, extreme-one, extreme-best, lower-choice, higher-choice}
+use Rattle.cq_model.specs.Group.{extreme}
 use Rattle.cq_hash_groups.specs.declared.bests.Extreme.{Extreme}
 use Rattle.cq_hash_groups.specs.declared.bests.Extreme.TheVariants.{Least, Greatest}
-use Rattle.cq_hash_groups.specs.Groups.{known, total_of, kept_count, kept_sum, kept_best}
+use Rattle.cq_hash_groups.specs.Groups.{known, kept_count, kept_sum, kept_best}
 use Rattle.cq_hash_groups.specs.Puts.{best_of, put_best, put_count, put_sum, summed}
+use Rattle.cq_model.proofs.Extremes.{IsChoice, IsOne, extreme-best, extreme-one, higher-choice, lower-choice}
+use Rattle.cq_model.specs.Totals.{total_of}
+use Rattle.cq_model.proofs.ListedValues.{total-push}
 
 -- NULL is not known
 known-push : (vs : List Value) (v : Value) → known (vs ++ v ∷ []) ≡ cond (is_null v) (known vs) (known vs ++ v ∷ [])
@@ -24,10 +25,6 @@ pub count-push : (vs : List Value) (v : Value) → kept_count (vs ++ v ∷ []) �
 count-push vs v = ap length (known-push vs v) ∙ by_test (is_null v)
     (λ k. rw k refl)
     (λ k. rw k (length-append (known vs) (v ∷ []) ∙ refl))
-
-total-push : (vs : List Value) (v : Value) → total_of (vs ++ v ∷ []) ≡ total_of vs +ℤ addend v
-total-push [] v = omega (arith, ints)
-total-push (w ∷ vs) v = omega (arith, ints, total-push vs v)
 
 pub sum-push : (vs : List Value) (v : Value) → kept_sum (vs ++ v ∷ []) ≡ put_sum (kept_sum vs) v
 sum-push vs v = ap (λ (ws : List Value). summed (length ws) (total_of ws)) (known-push vs v) ∙ by_test (is_null v)

@@ -1,5 +1,5 @@
 -- Groups of the rows that were added to a table, and what is kept of them.
-use Rattle.std.specs.Prelude.{◌≡◌, ℕ, ◌≤◌, ℤ, pos, ◌+ℤ◌, not, List, [], ◌∷◌, ◌++◌, length, map, filter, Option, Some, None, slice_index_or, unwrap_or, Vec}
+use Rattle.std.specs.Prelude.{◌≡◌, ℕ, ◌≤◌, pos, not, List, [], ◌∷◌, ◌++◌, length, map, filter, Option, Some, None, slice_index_or, unwrap_or, Vec}
 use Rattle.std.specs.Global.{Global}
 use Rattle.cq_values.specs.declared.value.Value.{Value}
 use Rattle.cq_values.specs.declared.value.Value.TheVariants.{Number}
@@ -8,7 +8,7 @@ use Rattle.cq_values.specs.Value.{Row}
 use Rattle.cq_model_bags.specs.Bag.{firsts, once_each}
 use Rattle.cq_model.specs.Condition.{is_null}
 use Rattle.cq_model.specs.Eval.{eval}
-use Rattle.cq_model.specs.Group.{SumsInRange, addend, extreme, grouped, key_of}
+use Rattle.cq_model.specs.Group.{SumsInRange, extreme, grouped, key_of}
 use Rattle.cq_model.specs.Sizes.{count_size}
 use Rattle.cq_model.specs.declared.query.Aggregate.{Aggregate}
 use Rattle.cq_model.specs.declared.query.Aggregate.TheVariants.{CountAll, Count, Sum, Min, Max}
@@ -22,6 +22,7 @@ use Rattle.cq_hash_groups.specs.declared.slots.Slots.TheVariants.{Counts, Sums, 
 use Rattle.cq_hash_groups.specs.declared.sums.Sum.{Sum as Summed}
 use Rattle.cq_hash_groups.specs.Puts.{best_of, summed}
 use Rattle.cq_hash_groups.specs.Slots.{AreWithin, grown_slots, no_slots, put_slots}
+use Rattle.cq_model.specs.Totals.{total_of}
 
 -- a table of groups: what is asked, how many rows there were, the keys that were met, and what is kept for each aggregate
 pub record StoredGroups : Type 0 where
@@ -71,11 +72,6 @@ argument (Max e) r = eval e r
 -- values other than NULL
 abbrev pub known : List Value → List Value
 known values = filter (λ v. not (is_null v)) values
-
--- what values add to a sum together
-abbrev pub total_of : List Value → ℤ
-total_of [] = pos 0
-total_of (v ∷ values) = addend v +ℤ total_of values
 
 -- how many values other than NULL there are
 abbrev pub kept_count : List Value → ℕ

@@ -18,9 +18,7 @@ use Rattle.cq_hash_keys.specs.Dictionary.{PutsAt, number_in}
 use Rattle.cq_hash_keys.specs.Keys.{HasValues, IsNumberOf, key_at, values_of}
 use Rattle.cq_hash_keys.proofs.Numbering.{stays}
 use Rattle.cq_hash_keys.proofs.Places.{one-value}
-
-some-same : (m n : ℕ) → Some m ≡ Some n → m ≡ n
-some-same m n e = cc e
+use Rattle.std.proofs.lemmas.Option.{same_Some}
 
 by-sum : {A B P : Type 0} → A ⊎ B → (A → P) → (B → P) → P
 by-sum (inl a) f g = f a
@@ -37,7 +35,7 @@ module _ (keys : List Row) (at : ℕ) where
   values-put old new v number puts has before w n is = by_test (same_row (w ∷ []) (v ∷ []))
       (λ s.
       let e : w ≡ v = one-value w v (same_row-same (w ∷ []) (v ∷ []) s) in
-      let same : number ≡ n = some-same number n (sym puts.there ∙ ap (number_in new) (sym e) ∙ is) in
+      let same : number ≡ n = same_Some number n (sym puts.there ∙ ap (number_in new) (sym e) ∙ is) in
       subst (HasValue keys at w) same (subst (λ u. HasValue keys at u number) (sym e) has))
       (λ s. before w n (sym (puts.others w (λ e. true≢false (sym (same_row-refl (v ∷ [])) ∙ ap (λ (u : Value). same_row (u ∷ []) (v ∷ [])) (sym e) ∙ s))) ∙ is))
 
@@ -47,7 +45,7 @@ module _ (keys : List Row) (at : ℕ) where
   pairs-put old new pair number puts follows before p n is = by_test (same_pair pair p)
       (λ s.
       let e : pair ≡ p = pair-same pair p s in
-      let same : number ≡ n = some-same number n (sym (puts p ∙ ap (λ b. cond b (Some number) (old p)) s) ∙ is) in
+      let same : number ≡ n = same_Some number n (sym (puts p ∙ ap (λ b. cond b (Some number) (old p)) s) ∙ is) in
       subst (Follows keys at p) same (subst (λ q. Follows keys at q number) e follows))
       (λ s. before p n (sym (puts p ∙ ap (λ b. cond b (Some number) (old p)) s) ∙ is))
     where

@@ -2,7 +2,7 @@
 use Rattle.std.proofs.Common.{◌≡◌, ℕ, suc, ◌<◌, ℤ, pos, Bool, false, List, [], ◌∷◌, map, length, get_or, refl, sym, ◌∙◌, ap, ap₂, subst, arith}
 use Rattle.std.specs.List.{AllByRecursion}
 use Rattle.std.specs.Simd.Lanes.{zip2}
-use Rattle.std.proofs.lemmas.List.{get_or-map, length-map}
+use Rattle.std.proofs.lemmas.List.{get_or-map, length-map, nil_from_length}
 use Rattle.cq_values.specs.declared.value.Value.{Value}
 use Rattle.cq_values.specs.declared.value.Value.TheVariants.{Null, Number}
 use Rattle.cq_values.specs.Value.{Row}
@@ -21,14 +21,10 @@ clear-numbers (n ∷ numbers) (b ∷ flags) same clear =
 pub number-key : (numbers : List ℤ) (place : ℕ) → place < length numbers → Number (get_or numbers place (pos 0)) ∷ [] ≡ row_at (map Number numbers ∷ []) place
 number-key numbers place lt = ap (λ (v : Value). v ∷ []) (sym (get_or-map Number numbers place (pos 0) Null lt))
 
-no-values : (row : Row) → length row ≡ 0 → row ≡ []
-no-values [] none = refl
-no-values (v ∷ row) none = absurd (omega (arith, none))
-
 -- where keys have no values the first is the one
 pub empty-key : (width : ℕ) (keys : List Row) → AllByRecursion (HasValues width) keys → width ≡ 0 → 0 < length keys → IsNumberOf keys [] 0
 empty-key width [] wide none some = absurd (omega (arith, some))
-empty-key width (k ∷ keys) wide none some = (omega arith, no-values k (wide.0 ∙ none))
+empty-key width (k ∷ keys) wide none some = (omega arith, nil_from_length k (wide.0 ∙ none))
 
 -- the keys of numbers are those of a column of them
 pub keys-of_column : (len : ℕ) (numbers : List ℤ) (columns : List (List Value)) → columns ≡ map Number numbers ∷ [] → AllByRecursion (HasLength len) columns

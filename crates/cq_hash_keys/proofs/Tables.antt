@@ -1,7 +1,7 @@
 -- Tables of keys of one value, as one more is put in.
 use Rattle.std.proofs.Common.{◌≡◌, ℕ, zero, suc, ◌+◌, ◌<◌, Bool, true, false, ◌||◌, cond, List, [], ◌∷◌, ◌++◌, length, get_or, Some, None, refl, sym, ◌∙◌, ap, arith, true≢false}
 use Rattle.std.proofs.lemmas.Grind.{common_steps}
-use Rattle.std.specs.List.{AllByRecursion, IsDistinct, list_any, position, position_or_len}
+use Rattle.std.specs.List.{IsDistinct, list_any, position, position_or_len}
 use Rattle.std.proofs.lemmas.List.Quantifiers.{position-Some}
 use Rattle.indexmap.specs.IndexSet.{insert_key}
 use Rattle.cq_values.specs.declared.value.Value.{Value}
@@ -13,6 +13,7 @@ use Rattle.cq_hash_keys.specs.declared.dictionary.Dictionary.{Dictionary}
 use Rattle.cq_hash_keys.specs.Dictionary.{PutsAt, number_in}
 use Rattle.cq_hash_keys.specs.Keys.{AreKeys, HasValues, IsNumberOf, IsTable, place_of}
 use Rattle.cq_hash_keys.proofs.Places.{finds-more, no-further}
+use Rattle.cq_model_bags.proofs.Lists.{all-push}
 
 module _ {X : Type 0} (test : X → Bool) where
   -- one of the list passes
@@ -43,10 +44,6 @@ none-there keys key none = any-none (same_row key) keys (past-the-end (same_row 
 -- a new key goes behind
 pub goes-behind : (keys : List Row) (key : Row) → place_of keys key ≡ None → keys ++ key ∷ [] ≡ insert_key same_row keys key
 goes-behind keys key none = sym (ap (λ b. cond b keys (keys ++ key ∷ [])) (none-there keys key none))
-
-all-push : (P : Row → Type 0) (keys : List Row) (key : Row) → AllByRecursion P keys → P key → AllByRecursion P (keys ++ key ∷ [])
-all-push P [] key all p = (p, tt)
-all-push P (k ∷ keys) key all p = (all.0, all-push P keys key all.1 p)
 
 -- keys of which no two are the same stay so
 once-push : (keys : List Row) (key : Row) → list_any (same_row key) keys ≡ false → IsDistinct same_row keys → IsDistinct same_row (keys ++ key ∷ [])

@@ -7,6 +7,7 @@ pub mod Like
 pub mod Condition
 pub mod Width
 pub mod Group
+pub mod Totals
 pub mod Exact
 pub mod Meaning
 pub mod Write

@@ -10,8 +10,8 @@ use Rattle.cq_model_bags.specs.Bag.{IsBag, Weighted, distinct, distinct_rows, fi
 use Rattle.cq_model_bags.proofs.Entries.{ArePositive, bag-entries, distinct_rows-positive, weighed}
 use Rattle.cq_model_bags.proofs.Joins.{beside, weight_of-joined}
 use Rattle.cq_model_bags.proofs.Listings.{weight_of-once_each}
-use Rattle.cq_model_bags.proofs.Positives.{joined-bag}
-use Rattle.cq_model_bags.proofs.Totals.{by_test, is_row, total-respects, weight_of-filtered}
+use Rattle.cq_model_bags.proofs.Positives.{joined-bag, kept-there}
+use Rattle.cq_model_bags.proofs.Totals.{by_test, is_row, total-respects}
 use Rattle.cq_model.specs.declared.query.Join.{Join}
 use Rattle.cq_model.specs.declared.query.Query.{Query}
 use Rattle.cq_model.specs.declared.query.Source.{Source}
@@ -72,12 +72,6 @@ parts-of on xs ys b c row h =
       second_there = right.1;
       whole = same_row-same (left.0 ++ right.0) row (both-hold (on left.0 right.0) (same_row (left.0 ++ right.0) row) right.2);
     }
-
--- a row that a condition keeps was there before
-kept-there : (keep : Row → Bool) (xs : Weighted) (row : Row) → pos 0 <ℤ weight_of (filtered keep xs) row → pos 0 <ℤ weight_of xs row
-kept-there keep xs row h = by_test (keep row)
-    (λ k. let weighs = weight_of-filtered keep xs row in subst (λ n. pos 0 <ℤ n) (rw k at weighs) h)
-    (λ k. let weighs = weight_of-filtered keep xs row in let none : pos 0 <ℤ pos 0 = subst (λ n. pos 0 <ℤ n) (rw k at weighs) h in absurd (omega (arith, ints, none)))
 
 -- ---- sizes of rows
 -- values of these sizes stand beside them

@@ -18,8 +18,9 @@ use Rattle.cq_model_bags.proofs.Totals.{by_test}
 use Rattle.cq_model_bags.proofs.Bags.{same-sym}
 use Rattle.cq_model_bags.proofs.Distincts.{is_among-distinct}
 use Rattle.cq_model_bags.proofs.Entries.{image-there}
-use Rattle.cq_model_laws.proofs.Extremes.{IsOne, IsChoice, IsUpTo, IsDownTo, extreme-same, lower-choice, higher-choice}
-use Rattle.cq_model_laws.proofs.Groups.{IsRowOf, row-from-test, row-to-test, kept_values, value-from-rows, value-to-rows, kept_values-respect}
+use Rattle.cq_model_laws.proofs.Groups.{kept_values-respect}
+use Rattle.cq_model.proofs.Occurring.{IsRowOf, kept_values, row-from-test, row-to-test, value-from-rows, value-to-rows}
+use Rattle.cq_model.proofs.Extremes.{IsChoice, IsDownTo, IsOne, IsUpTo, extreme-same, higher-choice, lower-choice}
 
 -- a row that passes is found
 any-from : (t : Row → Bool) (rows : List Row) → list_any t rows ≡ true → (r : Row) × IsRowOf r rows × (t r ≡ true)

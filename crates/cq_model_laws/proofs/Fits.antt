@@ -1,5 +1,5 @@
 -- What is shown of stored rows fits its size.
-use Rattle.std.proofs.Common.{◌≡◌, ℕ, zero, suc, ◌≤◌, ◌<◌, ◌^◌, ℤ, pos, ◌≤ℤ◌, int_lt, Bool, true, false, cond, List, [], ◌∷◌, ◌++◌, map, filter, length, sym, ◌∙◌, ap, subst, inl, inr, arith}
+use Rattle.std.proofs.Common.{◌≡◌, ℕ, zero, suc, ◌≤◌, ◌<◌, ◌^◌, ℤ, pos, ◌≤ℤ◌, int_lt, Bool, true, false, cond, List, [], ◌∷◌, ◌++◌, map, length, sym, ◌∙◌, ap, subst, inl, inr, arith}
 use Rattle.std.proofs.lemmas.Int.{ints}
 use Rattle.std.specs.List.{AllByRecursion}
 use Rattle.std.specs.Ordering.{int_eq}
@@ -21,8 +21,8 @@ use Rattle.cq_model.specs.Group.{count_values, sum_values, aggregate, InRange, S
 use Rattle.cq_model.specs.Sizes.{shown_size}
 use Rattle.cq_model.specs.Width.{value_size}
 use Rattle.cq_model_laws.specs.Sizes.{CountsOrAdds}
-use Rattle.cq_model_laws.proofs.Groups.{IsRowOf, row-to-test}
 use Rattle.cq_model_laws.proofs.Ranges.{all-at, all-from}
+use Rattle.cq_model.proofs.Occurring.{IsRowOf, row-to-test}
 
 -- ---- values of a size
 -- a number is within a size
@@ -55,16 +55,6 @@ beside-append (v ∷ vs) [] ws ms h k = absurd h
 beside-append (v ∷ vs) (n ∷ ns) ws ms h k = (h.0, beside-append vs ns ws ms h.1 k)
 
 -- ---- rows that are listed
--- what all rows have, those have that a test keeps
-pub all-filter : (P : Row → Type 0) (keep : Row → Bool) (rows : List Row) → AllByRecursion P rows → AllByRecursion P (filter keep rows)
-all-filter P keep [] all = tt
-all-filter P keep (r ∷ rows) all = by_test (keep r) (λ k. rw k (all.0, all-filter P keep rows all.1)) (λ k. rw k (all-filter P keep rows all.1))
-
--- images have it where it holds of what they are of
-pub all-map : (P Q : Row → Type 0) (f : Row → Row) → ((r : Row) → P r → Q (f r)) → (rows : List Row) → AllByRecursion P rows → AllByRecursion Q (map f rows)
-all-map P Q f g [] all = tt
-all-map P Q f g (r ∷ rows) all = (g r all.0, all-map P Q f g rows all.1)
-
 -- a row that is listed occurs
 times-of : (r : Row) (rows : List Row) → IsRowOf r rows → 0 < times_in r rows
 times-of r [] h = absurd h

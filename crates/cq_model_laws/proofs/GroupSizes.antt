@@ -24,9 +24,10 @@ use Rattle.cq_model.specs.Sizes.{aggregate_size}
 use Rattle.cq_model_laws.specs.Sizes.{GroupsKeepSizes, HasSizes, KeepsColumns, grouped_sizes}
 use Rattle.cq_model.proofs.Extents.{value-within}
 use Rattle.cq_model_laws.proofs.Columns.{bag-term, filtered-columns, listed-columns, sizes-beside}
-use Rattle.cq_model_laws.proofs.Fits.{FitBeside, Fits, IsCount, all-map, beside-append, count-fits, null-fits, sum-fits, test-within}
-use Rattle.cq_model_laws.proofs.Groups.{IsRowOf}
+use Rattle.cq_model_laws.proofs.Fits.{FitBeside, Fits, IsCount, beside-append, count-fits, null-fits, sum-fits, test-within}
 use Rattle.cq_model_laws.proofs.Ranges.{all-at, all-from}
+use Rattle.cq_model_bags.proofs.Lists.{all-map}
+use Rattle.cq_model.proofs.Occurring.{IsRowOf}
 
 -- ---- counts
 -- sums of smaller terms over a bag are smaller

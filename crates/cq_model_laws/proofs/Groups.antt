@@ -1,10 +1,9 @@
 -- A group's row is one of the bag.
-use Rattle.std.proofs.Common.{◌≡◌, ℕ, pos, ◌+ℤ◌, Bool, true, not, ◌||◌, cond, List, [], ◌∷◌, ◌++◌, map, filter, refl, sym, ◌∙◌, ap, ◌⊎◌, inl, inr, Option, Some, None, int_lt, subst}
+use Rattle.std.proofs.Common.{◌≡◌, ℕ, pos, ◌+ℤ◌, Bool, not, cond, List, [], ◌∷◌, ◌++◌, map, refl, sym, ◌∙◌, ap, Option, Some, None, int_lt, subst}
 use Rattle.cq_values.specs.declared.value.Value.{Value}
 use Rattle.cq_values.specs.declared.value.Value.TheVariants.{Number}
 use Rattle.cq_values.specs.Value.{Row}
 use Rattle.cq_values.specs.Order.{same_row}
-use Rattle.cq_values.specs.Keys.{same_row-refl, same_row-same}
 use Rattle.cq_model.specs.Expr.{Expr}
 use Rattle.cq_model.specs.declared.query.Aggregate.{Aggregate}
 use Rattle.cq_model.specs.declared.query.Aggregate.TheVariants.{CountAll, Count, Sum, Min, Max}
@@ -12,55 +11,17 @@ use Rattle.cq_model.specs.Condition.{is_null}
 use Rattle.cq_model.specs.Eval.{eval}
 use Rattle.cq_model_bags.specs.Bag.{Weighted, SameBag, projected, distinct_rows, distinct}
 use Rattle.cq_model.specs.Group.{addend, count_all, count_values, sum_values, values_of, aggregate, key_of, rows_of_key, group_row, keys_of, grouped}
-use Rattle.cq_model_bags.proofs.Totals.{by_test, total-append, total-respects}
+use Rattle.cq_model_bags.proofs.Totals.{total-append, total-respects}
 use Rattle.cq_model_bags.proofs.Bags.{filtered-respects, projected-respects, same-sym}
-use Rattle.cq_model_bags.proofs.Distincts.{is_among, once_each-map, distinct-respects, is_among-distinct}
-use Rattle.cq_model_laws.proofs.Extremes.{IsOne, extreme-same, lower-choice, higher-choice}
+use Rattle.cq_model_bags.proofs.Distincts.{once_each-map, distinct-respects, is_among-distinct}
+use Rattle.cq_model.proofs.Occurring.{IsRowOf, kept_values, row-from-test, row-to-test, value-from-rows, value-to-rows}
+use Rattle.cq_model.proofs.Extremes.{IsOne, extreme-same, higher-choice, lower-choice}
 
 -- ---- counts and sums of a change add up
 pub count-append : (e : Expr) (xs dxs : Weighted) → count_values e (xs ++ dxs) ≡ count_values e xs +ℤ count_values e dxs
 count-append e xs dxs = total-append (λ r. cond (is_null (eval e r)) (pos 0) (pos 1)) xs dxs
 
 -- ---- which values occur
-abbrev pub IsRowOf : Row → List Row → Type 0
-IsRowOf r [] = ⊥
-IsRowOf r (s ∷ rows) = (r ≡ s) ⊎ IsRowOf r rows
-
--- a row that the test finds is listed
-pub row-from-test : (r : Row) (rows : List Row) → is_among r rows ≡ true → IsRowOf r rows
-row-from-test r [] h = absurd (cc)
-row-from-test r (s ∷ rows) h = by_test (same_row s r)
-    (λ k. inl (sym (same_row-same s r k)))
-    (λ k. inr (row-from-test r rows (sym (ap (λ b. b || is_among r rows) k) ∙ h)))
-
--- the test finds a row that is listed
-pub row-to-test : (r : Row) (rows : List Row) → IsRowOf r rows → is_among r rows ≡ true
-row-to-test r [] h = absurd h
-row-to-test r (s ∷ rows) (inl e) = rw (e, same_row-refl s) refl
-row-to-test r (s ∷ rows) (inr h) = by_test (same_row s r) (λ k. rw k refl) (λ k. rw k (row-to-test r rows h))
-
--- the values that pass a test, of these rows
-abbrev pub kept_values : (Row → Value) → (Value → Bool) → List Row → List Value
-kept_values f keep rows = filter keep (map f rows)
-
--- a value that is kept is that of a row
-pub value-from-rows : (f : Row → Value) (keep : Value → Bool) (rows : List Row) (v : Value) → IsOne v (kept_values f keep rows) → (r : Row) × IsRowOf r rows × (f r ≡ v) × (keep v ≡ true)
-value-from-rows f keep [] v h = absurd h
-value-from-rows f keep (s ∷ rows) v h = by_test (keep (f s))
-    (λ k. elim (rw k at h) [
-      | inl e ↦ (s, inl refl, sym e, ap keep e ∙ k)
-      | inr t ↦ let q = value-from-rows f keep rows v t in (q.0, inr q.1, q.2, q.3)
-    ])
-    (λ k. let q = value-from-rows f keep rows v (rw k at h) in (q.0, inr q.1, q.2, q.3))
-
--- a row's value is kept where it passes
-pub value-to-rows : (f : Row → Value) (keep : Value → Bool) (rows : List Row) (r : Row) → IsRowOf r rows → keep (f r) ≡ true → IsOne (f r) (kept_values f keep rows)
-value-to-rows f keep [] r h k = absurd h
-value-to-rows f keep (s ∷ rows) r (inl e) k = let t : keep (f s) ≡ true = sym (ap (λ x. keep (f x)) e) ∙ k in rw t (inl (ap f e))
-value-to-rows f keep (s ∷ rows) r (inr h) k = by_test (keep (f s))
-    (λ t. rw t (inr (value-to-rows f keep rows r h k)))
-    (λ t. rw t (value-to-rows f keep rows r h k))
-
 -- totals add up
 pub sum-append : (e : Expr) (xs dxs : Weighted) → sum_values e (xs ++ dxs) ≡ sum_values e xs +ℤ sum_values e dxs
 sum-append e xs dxs = total-append (λ r. addend (eval e r)) xs dxs

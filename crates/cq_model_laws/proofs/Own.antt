@@ -5,32 +5,17 @@ use Rattle.std.proofs.Math.ListN.{get_or-append}
 use Rattle.std.proofs.Math.Seq.{get_or-append_right}
 use Rattle.std.proofs.lemmas.Bool.Decides.{nat_tests}
 use Rattle.std.proofs.lemmas.List.{length-append, length-replicate}
-use Rattle.cq_values.specs.declared.truth.Truth.{Truth}
-use Rattle.cq_values.specs.declared.truth.Truth.TheVariants.{True, False, Unknown}
 use Rattle.cq_values.specs.declared.value.Value.TheVariants.{Null}
-use Rattle.cq_values.specs.Truth.{is_true, and_truth}
+use Rattle.cq_values.specs.Truth.{is_true}
 use Rattle.cq_values.specs.Value.{Row, column}
 use Rattle.cq_model_bags.proofs.Totals.{by_test}
 use Rattle.cq_model.specs.Expr.{Cond}
 use Rattle.cq_model.specs.Condition.{holds}
 use Rattle.cq_model.specs.Meaning.{keeps}
-use Rattle.cq_model.specs.Own.{is_within, tests_only, IsPart, whole, before_and, behind_and, in_place, passes_own, AreOwn}
+use Rattle.cq_model.specs.Own.{is_within, tests_only, IsPart, in_place, passes_own, AreOwn}
 use Rattle.cq_model.specs.Pushed.{IsImplied}
 use Rattle.cq_model_laws.proofs.Names.{both-first, both-second, holds-same}
-
--- AND is True where both parts are
-both-true : (a b : Truth) → is_true (and_truth a b) ≡ true → (is_true a ≡ true) × (is_true b ≡ true)
-both-true True b h = (refl, h)
-both-true False b h = absurd (cc)
-both-true Unknown True h = absurd (cc)
-both-true Unknown False h = absurd (cc)
-both-true Unknown Unknown h = absurd (cc)
-
--- where a condition is True, so is each part that is joined by AND
-part-true : (c filter : Cond) → IsPart c filter → (r : Row) → is_true (holds filter r) ≡ true → is_true (holds c r) ≡ true
-part-true c filter (whole d) r h = h
-part-true c filter (before_and part a b is) r h = part-true part a is r (both-true (holds a r) (holds b r) h).0
-part-true c filter (behind_and part a b is) r h = part-true part b is r (both-true (holds a r) (holds b r) h).1
+use Rattle.cq_model.proofs.Conditions.{part-true}
 
 -- the columns of a part are those of its row in place
 column-part : (before wide : ℕ) (r s t : Row) → length r ≡ before → length s ≡ wide → (i : ℕ) → is_within before wide i ≡ true → column (r ++ s ++ t) i ≡ column (in_place before s) i

@@ -1,6 +1,6 @@
 -- Conditions that WHERE implies may be put below the joins.
 use Rattle.std.proofs.Common.{◌≡◌, ℕ, ◌+◌, ◌≤◌, Bool, true, false, ◌&&◌, List, [], ◌∷◌, ◌++◌, length, take, drop, refl, sym, ◌∙◌, ap, arith, append_assoc}
-use Rattle.std.proofs.lemmas.List.{append-nil, take-append-drop, length-take-le, length-drop}
+use Rattle.std.proofs.lemmas.List.{append-nil, length-drop, length-take-le, nil_from_length, take-append-drop}
 use Rattle.cq_values.specs.Value.{Row}
 use Rattle.cq_model_bags.specs.Bag.{Weighted, filtered, joined}
 use Rattle.cq_model_bags.specs.Join.{HasWidth}
@@ -18,11 +18,6 @@ filtered-filtered keep also [] = refl
 filtered-filtered keep also (x ∷ xs) = by_test (keep x.0)
     (λ k. by_test (also x.0) (λ a. rw (k, a, filtered-filtered keep also xs) refl) (λ a. rw (k, a, filtered-filtered keep also xs) refl))
     (λ k. rw (k, filtered-filtered keep also xs) refl)
-
--- a row of no columns
-no_row : (r : Row) → length r ≡ 0 → r ≡ []
-no_row [] e = refl
-no_row (v ∷ r) e = absurd (omega arith)
 
 -- WHERE drops what an implied condition drops
 implied-filtered : (whole keep : Row → Bool) (n : ℕ) → IsImplied whole keep 0 n → (xs : Weighted) → HasWidth n xs → filtered whole (filtered keep xs) ≡ filtered whole xs
@@ -44,7 +39,7 @@ both-implied whole keep also then n m i j k = record {
       let front : length (take n s) ≡ n = length-take-le n s short in
       let back : length (drop n s) ≡ m = omega (arith, length-drop n s, w) in
       let parts : take n s ++ drop n s ≡ s = take-append-drop n s in
-      let bare : r ≡ [] = no_row r e in
+      let bare : r ≡ [] = nil_from_length r e in
       ap (λ q. whole (q ++ s ++ t)) bare
       ∙ by_test (then s)
       (λ c. by_test (keep (take n s))

@@ -19,9 +19,10 @@ use Rattle.cq_model.specs.declared.query.Source.{Source}
 use Rattle.cq_model.specs.declared.query.Source.TheVariants.{Table, View}
 use Rattle.cq_model.specs.Meaning.{Tables, joined_rows, ShapeInRange, MeaningInRange}
 use Rattle.cq_model.specs.Views.{tables_alone, view_bag, with_views, ViewInRange, SourceInRange, sources_of, AnswerInRange}
-use Rattle.cq_model_laws.proofs.Groups.{IsRowOf, rows-respect, sum-respects}
+use Rattle.cq_model_laws.proofs.Groups.{rows-respect, sum-respects}
 use Rattle.cq_model_laws.proofs.Chains.{SameSources, all-same}
 use Rattle.cq_model_laws.proofs.Meanings.{joined_rows-same, meaning-respects}
+use Rattle.cq_model.proofs.Occurring.{IsRowOf}
 
 -- what holds of all rows holds of each that is listed
 pub all-at : (P : Row → Type 0) (rows : List Row) → AllByRecursion P rows → (r : Row) → IsRowOf r rows → P r

@@ -1,11 +1,11 @@
 -- The rows of groups keep the sizes of a query's columns.
-use Rattle.std.proofs.Common.{◌≡◌, ℕ, ◌≤◌, ◌^◌, Bool, false, cond, List, [], ◌∷◌, ◌++◌, map, filter, length, refl, sym, ◌∙◌, ap, subst, arith}
+use Rattle.std.proofs.Common.{◌≡◌, ℕ, ◌≤◌, ◌^◌, Bool, false, cond, List, [], ◌∷◌, ◌++◌, map, filter, length, sym, ◌∙◌, ap, subst, arith}
 use Rattle.std.proofs.lemmas.List.Sums.{length-filter, count_by-le-length}
 use Rattle.std.specs.List.{AllByRecursion}
 use Rattle.std.specs.Prelude.{Some, None}
 use Rattle.cq_values.specs.Order.{same_row}
 use Rattle.cq_values.specs.Value.{Row}
-use Rattle.cq_model_bags.specs.Bag.{Weighted, SameBag, once_each, filtered, projected, distinct, distinct_rows}
+use Rattle.cq_model_bags.specs.Bag.{SameBag, once_each, filtered, projected, distinct, distinct_rows}
 use Rattle.cq_model_bags.proofs.Distincts.{once_each-filter, once_each-map}
 use Rattle.cq_model.specs.Expr.{Expr}
 use Rattle.cq_model.specs.declared.query.Aggregate.{Aggregate}
@@ -18,9 +18,11 @@ use Rattle.cq_model.specs.Width.{width}
 use Rattle.cq_model_laws.specs.Sizes.{HasSizes, IsSized, CountsOrAdds, RowsKeepSizes, IsStored}
 use Rattle.cq_model.proofs.Extents.{value-within}
 use Rattle.cq_model_laws.proofs.Columns.{sizes-beside}
-use Rattle.cq_model_laws.proofs.Fits.{FitBeside, beside-at, beside-append, aggregates-fit, all-filter, all-map, all-listed, row-of-bag}
-use Rattle.cq_model_laws.proofs.Groups.{IsRowOf}
+use Rattle.cq_model_laws.proofs.Fits.{FitBeside, beside-at, beside-append, aggregates-fit, all-listed, row-of-bag}
 use Rattle.cq_model_laws.proofs.Ranges.{all-at, all-from}
+use Rattle.cq_model_bags.proofs.Lists.{all-filter, all-map}
+use Rattle.cq_model.proofs.Occurring.{IsRowOf}
+use Rattle.cq_model.proofs.Conditions.{all-pass}
 
 -- a key's columns are of a row
 key-fits : (columns : List ℕ) (r : Row) → IsStored r → FitBeside (key_of columns r) (map (λ k. stored_size) columns)
@@ -64,11 +66,6 @@ items-fit : (items : List Expr) (row : Row) (sizes : ℕ → ℕ) → IsSized si
 items-fit [] row sizes fits = tt
 items-fit (e ∷ items) row sizes fits = (value-within row sizes fits e, items-fit items row sizes fits)
 
--- HAVING that is absent keeps every group
-kept-all : (xs : Weighted) → filtered (keeps None) xs ≡ xs
-kept-all [] = refl
-kept-all (x ∷ xs) = ap (λ ys. x ∷ ys) (kept-all xs)
-
 -- ---- the query
 module _ (q : Query) (keys : List ℕ) (aggregates : List Aggregate) (tables : Tables) (rows : List Row) (shape : q.shape ≡ Grouped (Some keys) aggregates None)
     (joins : q.joins ≡ []) (distinct_off : q.distinct ≡ false) (first : tables q.first ≡ once_each rows) where
@@ -84,7 +81,7 @@ module _ (q : Query) (keys : List ℕ) (aggregates : List Aggregate) (tables : T
   joined-is = ap (filtered (keeps q.filter)) (ap (chain tables (tables q.first)) joins ∙ first) ∙ sym (once_each-filter (keeps q.filter) rows)
 
   shaped-is : shaped q.shape (joined_rows q tables) ≡ once_each group_rows
-  shaped-is = ap (λ s. shaped s (joined_rows q tables)) shape ∙ ap (shaped (Grouped (Some keys) aggregates None)) joined-is ∙ kept-all (once_each group_rows)
+  shaped-is = ap (λ s. shaped s (joined_rows q tables)) shape ∙ ap (shaped (Grouped (Some keys) aggregates None)) joined-is ∙ all-pass (once_each group_rows)
 
   meaning-is : meaning q tables ≡ once_each (map (items_of q.items) group_rows)
   meaning-is =

@@ -1,11 +1,11 @@
 -- What comes of commands: tables at epochs that are past stay, and the state is sound.
-use Rattle.std.proofs.Common.{◌≡◌, ℕ, ◌+◌, ◌-◌, ◌≤◌, ◌<◌, pos, ◌≤ℤ◌, not, eqb, nat_le, List, [], ◌∷◌, ◌++◌, length, inl, inr, refl, sym, ◌∙◌, ap, ap₂, subst, arith}
+use Rattle.std.proofs.Common.{◌≡◌, ℕ, ◌+◌, ◌-◌, ◌≤◌, ◌<◌, not, eqb, nat_le, List, [], ◌∷◌, ◌++◌, length, inl, inr, refl, sym, ◌∙◌, ap₂, subst, arith}
 use Rattle.std.specs.Prelude.{filter}
 use Rattle.std.specs.List.{AllByRecursion, remove}
 use Rattle.std.proofs.lemmas.Bool.Decides.{nat_tests}
 use Rattle.std.proofs.lemmas.List.{length-append, length-drop}
 use Rattle.cq_values.specs.Value.{Row}
-use Rattle.cq_model_bags.specs.Bag.{Weighted, weight_of, SameBag, IsBag, once_each, negative, difference}
+use Rattle.cq_model_bags.specs.Bag.{Weighted, SameBag, IsBag, once_each, negative, difference}
 use Rattle.cq_model_bags.proofs.Totals.{by_test}
 use Rattle.cq_model_laws.proofs.Positives.{once_each-bag}
 use Rattle.cq_binder_rules.specs.declared.bound.Bound.{Bound}
@@ -18,10 +18,12 @@ use Rattle.cq_model_step.specs.Next.{with_tables, with_all_views, created, new_v
 use Rattle.cq_model_step.specs.Step.{Leads, Accepts}
 use Rattle.cq_model_step_laws.specs.Sound.{IsThere, Fits, IsInTime, IsSound}
 use Rattle.cq_model_step_laws.specs.Laws.{IsNewTable}
-use Rattle.cq_model_step_laws.proofs.Each.{each-append, each-remove, each-drop, each-weaker, each-both}
 use Rattle.cq_model_step_laws.proofs.Numbers.{rows_in-absent, there-with_rows, rows_in-created, there-created, there-old_or_new, rows_in-dropped, there-dropped, numbered-below, numbered-weaker, numbered-created, numbered-dropped, numbered-with_rows}
 use Rattle.cq_model_step_laws.proofs.Pasts.{change_of-below, at-present, at-same, at-without_front, at-written}
 use Rattle.cq_model_step_laws.proofs.Times.{reach-in_time, taken_on-in_time}
+use Rattle.cq_model_bags.proofs.Lists.{all-append, all-both, all-drop, all-remove, all-weaker}
+use Rattle.cq_model_bags.proofs.Positives.{bag-same}
+use Rattle.cq_model_bags.proofs.Bags.{same-equal}
 
 -- a later state: the tables at epochs that both can tell are the same, and it is sound
 pub record Follows (old new : State) : Type 0 where
@@ -29,20 +31,12 @@ pub record Follows (old new : State) : Type 0 where
   pub stays : (epoch n : ℕ) → new.passed ≤ epoch → epoch ≤ old.now → IsThere n new.tables → SameBag (tables_at new epoch n) (tables_at old epoch n)
   pub sound : IsSound new
 
--- one list names one bag
-same-equal : (xs ys : Weighted) → xs ≡ ys → SameBag xs ys
-same-equal xs ys e = record { at = λ r. ap (λ zs. weight_of zs r) e }
-
--- what names a bag is one
-bag-same : (xs ys : Weighted) → SameBag xs ys → IsBag ys → IsBag xs
-bag-same xs ys s b = record { at = λ r. subst (λ w. pos 0 ≤ℤ w) (sym (s.at r)) (b.at r) }
-
 -- the number that is drawn next has no row at any epoch
 pub at-drawn : (s : State) → IsSound s → (epoch : ℕ) → tables_at s epoch s.drawn ≡ []
 at-drawn s sound epoch =
     let rows : rows_in s.tables s.drawn ≡ [] = rows_in-absent s.drawn s.tables (λ there. let low = numbered-below s.tables s.drawn sound.numbered s.drawn there in absurd (omega arith)) in
     let changes : change_of (above s epoch) s.drawn ≡ [] =
-    change_of-below (above s epoch) s.drawn (each-drop (λ c. c.table < s.drawn) (epoch - s.passed) s.queue sound.known) in
+    change_of-below (above s epoch) s.drawn (all-drop (λ c. c.table < s.drawn) (epoch - s.passed) s.queue sound.known) in
     ap₂ (λ (us : List Row) (ds : Weighted). once_each us ++ negative ds) rows changes
 
 -- ---- each way to a next state
@@ -71,7 +65,7 @@ follows-created s name columns sort sound =
         numbered = numbered-created s.tables s.drawn name columns sort sound.numbered;
         whole = sound.whole;
         drawn = omega arith;
-        known = each-weaker (λ c. c.table < s.drawn) (λ c. c.table < s.drawn + 1) (λ c low. omega arith) s.queue sound.known;
+        known = all-weaker (λ c. c.table < s.drawn) (λ c. c.table < s.drawn + 1) (λ c low. omega arith) s.queue sound.known;
         epochs = sound.epochs;
         bags = λ epoch n low high there. rw (same epoch n) (elim (there-old_or_new s.tables s.drawn name columns sort n there) [
           | inl old ↦ sound.bags epoch n low high old
@@ -125,8 +119,8 @@ module _ (s : State) (n : ℕ) (rows : List Row) (change : Weighted) (is : SameB
           numbered = numbered-weaker (with_rows n rows s.tables) s.drawn (s.drawn + 1) (omega arith) (numbered-with_rows n rows s.tables s.drawn sound.numbered);
           whole = whole-written;
           drawn = omega arith;
-          known = each-append (λ c. c.table < s.drawn + 1) s.queue (record { table = n; rows = change } ∷ []) (each-weaker (λ c. c.table < s.drawn) (λ c. c.table < s.drawn + 1) (λ c low. omega arith) s.queue sound.known) (omega arith, tt);
-          epochs = each-weaker (IsInTime s.passed s.now) (IsInTime s.passed (s.now + 1)) (λ v t. let high = t.reached in record { built = t.built; kept = t.kept; reached = omega arith }) s.views sound.epochs;
+          known = all-append (λ c. c.table < s.drawn + 1) s.queue (record { table = n; rows = change } ∷ []) (all-weaker (λ c. c.table < s.drawn) (λ c. c.table < s.drawn + 1) (λ c low. omega arith) s.queue sound.known) (omega arith, tt);
+          epochs = all-weaker (IsInTime s.passed s.now) (IsInTime s.passed (s.now + 1)) (λ v t. let high = t.reached in record { built = t.built; kept = t.kept; reached = omega arith }) s.views sound.epochs;
           bags = bags-written;
         };
       }
@@ -148,9 +142,9 @@ follows-leads old new (commands.CreateView name columns q) answer sound fits l =
     let whole = sound.whole in
     let new_one : IsInTime old.passed old.now (new_view name columns q old.now) = record { built = omega arith; kept = omega arith; reached = omega arith } in
     subst (Follows old) (sym l.1) (follows-views old (old.views ++ new_view name columns q old.now ∷ []) sound
-    (each-append (IsInTime old.passed old.now) old.views (new_view name columns q old.now ∷ []) sound.epochs (new_one, tt)))
+    (all-append (IsInTime old.passed old.now) old.views (new_view name columns q old.now ∷ []) sound.epochs (new_one, tt)))
 follows-leads old new (commands.DropView place) answer sound fits l =
-    subst (Follows old) (sym l.1) (follows-views old (remove old.views place) sound (each-remove (IsInTime old.passed old.now) old.views place sound.epochs))
+    subst (Follows old) (sym l.1) (follows-views old (remove old.views place) sound (all-remove (IsInTime old.passed old.now) old.views place sound.epochs))
 follows-leads old new (commands.Insert n rows) answer sound fits l = follows-writes old new n (rows_in old.tables n ++ rows) sound fits l.1
 follows-leads old new (commands.Delete n c) answer sound fits l = follows-writes old new n (left_by c (rows_in old.tables n)) sound fits l.1
 follows-leads old new (commands.Update n assignments c) answer sound fits l = follows-writes old new n (updated assignments c (rows_in old.tables n)) sound fits l.1
@@ -173,8 +167,8 @@ follows-without_front old s count within passed f =
         numbered = sound.numbered;
         whole = omega (arith, length-drop count s.queue);
         drawn = sound.drawn;
-        known = each-drop (λ c. c.table < s.drawn) count s.queue sound.known;
-        epochs = each-both (IsInTime s.passed s.now) (λ v. s.passed + count ≤ v.epoch) (IsInTime (s.passed + count) s.now) (λ v i low. record { built = i.built; kept = low; reached = i.reached }) s.views sound.epochs passed;
+        known = all-drop (λ c. c.table < s.drawn) count s.queue sound.known;
+        epochs = all-both (IsInTime s.passed s.now) (λ v. s.passed + count ≤ v.epoch) (IsInTime (s.passed + count) s.now) (λ v i low. record { built = i.built; kept = low; reached = i.reached }) s.views sound.epochs passed;
         bags = λ epoch n low high there. rw (at-without_front s count epoch n low) (sound.bags epoch n (omega arith) high there);
       };
     }

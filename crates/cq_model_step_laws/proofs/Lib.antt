@@ -1,4 +1,3 @@
-pub mod Each
 pub mod Numbers
 pub mod Pasts
 pub mod Times

@@ -8,7 +8,7 @@ use Rattle.cq_model_bags.proofs.Totals.{by_test}
 use Rattle.cq_values.specs.declared.column.ColumnDef.{ColumnDef}
 use Rattle.cq_model_state.specs.State.{TableOf, rows_in, empty_table, with_rows, AreNumbered}
 use Rattle.cq_model_step_laws.specs.Sound.{IsThere}
-use Rattle.cq_model_step_laws.proofs.Each.{each-append, each-filter}
+use Rattle.cq_model_bags.proofs.Lists.{all-append, all-filter}
 
 -- a table that is among the later ones is there
 pub there-behind : (n : ℕ) (t : TableOf) (ts : List TableOf) → IsThere n ts → IsThere n (t ∷ ts)
@@ -104,13 +104,13 @@ pub numbered-created : (tables : List TableOf) (next : ℕ) (name : List ℕ) (c
 numbered-created [] next name columns sort a = (omega arith, tt, tt)
 numbered-created (t ∷ ts) next name columns sort a =
     let here = a.0 in
-    (omega arith, each-append (λ u. t.number < u.number) ts (empty_table next name columns sort ∷ []) a.1 (a.0, tt), numbered-created ts next name columns sort a.2)
+    (omega arith, all-append (λ u. t.number < u.number) ts (empty_table next name columns sort ∷ []) a.1 (a.0, tt), numbered-created ts next name columns sort a.2)
 
 -- a dropped one leaves the others
 pub numbered-dropped : (keep : TableOf → Bool) (tables : List TableOf) (next : ℕ) → AreNumbered tables next → AreNumbered (filter keep tables) next
 numbered-dropped keep [] next a = tt
 numbered-dropped keep (t ∷ ts) next a = by_test (keep t)
-    (λ k. rw k (a.0, each-filter (λ u. t.number < u.number) keep ts a.1, numbered-dropped keep ts next a.2))
+    (λ k. rw k (a.0, all-filter (λ u. t.number < u.number) keep ts a.1, numbered-dropped keep ts next a.2))
     (λ k. rw k (numbered-dropped keep ts next a.2))
 
 -- a write changes no number

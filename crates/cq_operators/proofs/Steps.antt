@@ -1,5 +1,5 @@
 -- Steps of a plan, one after the other.
-use Rattle.std.proofs.Common.{◌≡◌, Bool, true, List, [], ◌∷◌, ◌++◌, sym, ◌∙◌, ap, subst}
+use Rattle.std.proofs.Common.{◌≡◌, Bool, true, List, ◌++◌, sym, ◌∙◌, ap, subst}
 use Rattle.std.proofs.lemmas.List.{append_assoc}
 use Rattle.std.specs.List.{AllByRecursion}
 use Rattle.std.specs.Prelude.{Ok}
@@ -9,15 +9,11 @@ use Rattle.cq_vectors.specs.declared.batch.Batch.{Batch}
 use Rattle.cq_plan.specs.Plan.{IsWithin, shown_by}
 use Rattle.cq_plan.specs.declared.plan.Plan.{Plan}
 use Rattle.cq_operators.specs.Exec.{Gives, GivesNext, Remaining}
+use Rattle.cq_model_bags.proofs.Lists.{all-back}
 
 -- a step that answers true gave rows
 pub gave : (old new : Remaining) (before after : Batch) (b : Bool) → b ≡ true → GivesNext old new before after (Ok b) → Gives old new after
 gave old new before after b is gives = subst (λ (a : Bool). GivesNext old new before after (Ok a)) is gives
-
--- what holds of each row holds of each behind the front
-all-behind : (P : Row → Type 0) (front rows : List Row) → AllByRecursion P (front ++ rows) → AllByRecursion P rows
-all-behind P [] rows all = all
-all-behind P (row ∷ front) rows all = all-behind P front rows all.1
 
 module _ (plan : Plan) (old new : Remaining) (batch : Batch) (gives : Gives old new batch) (same : old.plan ≡ plan) where
   -- the plan stays
@@ -33,4 +29,4 @@ module _ (plan : Plan) (old new : Remaining) (batch : Batch) (gives : Gives old 
 
   -- it can be worked out on the rows behind
   pub within-next : AllByRecursion (IsWithin plan) old.rows → AllByRecursion (IsWithin plan) new.rows
-  within-next within = all-behind (IsWithin plan) gives.front new.rows (subst (λ (rows : List Row). AllByRecursion (IsWithin plan) rows) gives.split within)
+  within-next within = all-back (IsWithin plan) gives.front new.rows (subst (λ (rows : List Row). AllByRecursion (IsWithin plan) rows) gives.split within)

@@ -18,22 +18,13 @@ use Rattle.cq_model_bags.proofs.Listings.{listing_cmp_total, one_list, one_listi
 use Rattle.cq_operators_listing.specs.Stored.{StoredListing, CanList, Suffice, TakesIn, with_rows}
 use Rattle.cq_operators_listing.specs.Front.{IsFront, IsWorst}
 use Rattle.cq_operators_listing.proofs.Sorting.{listed, listed-swap, listed-append, is_listing, lists-sorted_by, can_list, listed_alike}
+use Rattle.cq_model_bags.proofs.Lists.{all-at, all-take}
 
 -- ---- the first rows of a list in order
-all-take : (P : Row → Type 0) (n : ℕ) (rows : List Row) → AllByRecursion P rows → AllByRecursion P (take n rows)
-all-take P zero rows all = tt
-all-take P (suc n) [] all = tt
-all-take P (suc n) (r ∷ rows) all = (all.0, all-take P n rows all.1)
-
 in_order-take : (cmp : Row → Row → Ordering) (n : ℕ) (rows : List Row) → IsInOrder cmp rows → IsInOrder cmp (take n rows)
 in_order-take cmp zero rows p = tt
 in_order-take cmp (suc n) [] p = tt
 in_order-take cmp (suc n) (r ∷ rows) p = (all-take (λ s. is_gt (cmp r s) ≡ false) n rows p.0, in_order-take cmp n rows p.1)
-
-all-at : (P : Row → Type 0) (rows : List Row) (i : ℕ) (d : Row) → i < length rows → AllByRecursion P rows → P (get_or rows i d)
-all-at P [] i d h all = absurd (omega arith)
-all-at P (r ∷ rows) zero d h all = all.0
-all-at P (r ∷ rows) (suc i) d h all = all-at P rows i d (omega arith) all.1
 
 -- no row up to a place stands behind the row there
 before-last : {cmp : Row → Row → Ordering} (o : IsTotalOrder cmp) (rows : List Row) (i : ℕ) (d : Row) → i < length rows → IsInOrder cmp rows

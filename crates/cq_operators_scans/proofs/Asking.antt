@@ -15,7 +15,7 @@ use Rattle.cq_model.specs.Expr.{Cond}
 use Rattle.cq_model.specs.Trees.{cond_of}
 use Rattle.cq_model.specs.declared.expr.CondTree.{CondTree}
 use Rattle.cq_operators_scans.specs.Passing.{CanPass, IsExactBehind, conditions_in, passes_one, passing_rows}
-use Rattle.cq_operators_scans.proofs.Lists.{all-kept, all-map, all-weaker}
+use Rattle.cq_model_bags.proofs.Lists.{all-filter, all-map, all-weaker}
 
 -- where there is no condition all pass
 none-asked : (before : ℕ) (rows : List Row) → passing_rows before [] rows ≡ rows
@@ -62,12 +62,12 @@ none-asked-yet before conditions passed rows are few exact = record {
 
 module _ (before : ℕ) (first : Bor CondTree) (left conditions : List (Bor CondTree)) (passed rows : List Row) (asked : LeftToPass before (first ∷ left) conditions passed rows) where
   exact-first : AllByRecursion (IsExactBehind before (cond_of first.now)) passed
-  exact-first = all-weaker (λ row h. h.0) passed asked.exact
+  exact-first = all-weaker _ _ (λ row h. h.0) passed asked.exact
 
   asked-first : (kept : List Row) → kept ≡ filter (passes_one before first.now) passed → LeftToPass before left conditions kept rows
   asked-first kept is = record {
     few = omega (arith, ap length is, fewer (passes_one before first.now) passed, asked.few);
-    exact = subst (AllByRecursion (CanPass before (conditions_in left))) (sym is) (all-kept (CanPass before (conditions_in left)) (passes_one before first.now) passed (all-weaker (λ row h. h.1) passed asked.exact));
+    exact = subst (AllByRecursion (CanPass before (conditions_in left))) (sym is) (all-filter (CanPass before (conditions_in left)) (passes_one before first.now) passed (all-weaker _ _ (λ row h. h.1) passed asked.exact));
     completes = ap (passing_rows before left) is ∙ one-after-other (passes_one before first.now) (passes_own before (conditions_in left)) passed ∙ asked.completes;
   }
 
@@ -99,4 +99,4 @@ module _ (before : ℕ) (c : Cond) (rows : List Row) where
 
   -- in which it is exact
   pub exact-behind : (scan : List Row) → scan ≡ map (in_place before) rows → AllByRecursion (IsExactBehind before c) rows → AllByRecursion (AreExactIn c) scan
-  exact-behind scan is exact = subst (AllByRecursion (AreExactIn c)) (sym is) (all-map (AreExactIn c) (in_place before) (λ row h. h) rows exact)
+  exact-behind scan is exact = subst (AllByRecursion (AreExactIn c)) (sym is) (all-map _ (AreExactIn c) (in_place before) (λ row h. h) rows exact)

@@ -22,7 +22,8 @@ use Rattle.cq_model_eval.specs.Choices.{equals_one}
 use Rattle.cq_model_eval.proofs.Chains.{chain-end, chain-next}
 use Rattle.cq_model_eval.proofs.Conditions as chain
 use Rattle.cq_model_eval.proofs.Conditions.{at-place, map-map}
-use Rattle.cq_operators_scans.proofs.Lists.{all-weaker, map-same, replicate-map}
+use Rattle.cq_operators_scans.proofs.Lists.{replicate-map}
+use Rattle.cq_model_bags.proofs.Lists.{all-weaker, map-same}
 
 -- the truth of a part in a row
 abbrev pub part_holds : CondTree → Row → Truth
@@ -77,18 +78,18 @@ module _ (rows : List Row) (whole : CondTree) (first : Box CondTree Global) (res
   module _ (exact : AllByRecursion (AreExactIn (cond_of whole)) rows) where
     -- where a chain is exact in each row, so is its first part
     pub and-first : whole ≡ view.And first rest → AllByRecursion (AreExactIn (cond_of head)) rows
-    and-first is = all-weaker (λ row e. (chain.and-exact row whole first rest head items one same e is).0) rows exact
+    and-first is = all-weaker _ _ (λ row e. (chain.and-exact row whole first rest head items one same e is).0) rows exact
 
     pub or-first : whole ≡ view.Or first rest → AllByRecursion (AreExactIn (cond_of head)) rows
-    or-first is = all-weaker (λ row e. (chain.or-exact row whole first rest head items one same e is).0) rows exact
+    or-first is = all-weaker _ _ (λ row e. (chain.or-exact row whole first rest head items one same e is).0) rows exact
 
     -- and so is the part at a place
     module _ (i : ℕ) (part : CondTree) (more : i < length items) (at : part ≡ get_or items i part) where
       pub and-part : whole ≡ view.And first rest → AllByRecursion (AreExactIn (cond_of part)) rows
-      and-part is = all-weaker (λ row e. chain.and-part row whole first rest head items one same e i part more at is) rows exact
+      and-part is = all-weaker _ _ (λ row e. chain.and-part row whole first rest head items one same e i part more at is) rows exact
 
       pub or-part : whole ≡ view.Or first rest → AllByRecursion (AreExactIn (cond_of part)) rows
-      or-part is = all-weaker (λ row e. chain.or-part row whole first rest head items one same e i part more at is) rows exact
+      or-part is = all-weaker _ _ (λ row e. chain.or-part row whole first rest head items one same e i part more at is) rows exact
 
 module _ (rows : List Row) (e : Expr) (choices : List ExprTree) where
   -- before its first choice IN is False
@@ -101,4 +102,4 @@ module _ (rows : List Row) (e : Expr) (choices : List ExprTree) where
 
   -- where all choices are exact in each row, so is the one at a place
   pub choice-exact : (i : ℕ) (choice : ExprTree) → i < length choices → choice ≡ get_or choices i choice → AllByRecursion (AreExactAt (map expr_of choices)) rows → AllByRecursion (IsExactAt (expr_of choice)) rows
-  choice-exact i choice more at exact = all-weaker (λ row all. at-place (λ x. IsExactAt x row) expr_of choices i choice choice more at all) rows exact
+  choice-exact i choice more at exact = all-weaker _ _ (λ row all. at-place (λ x. IsExactAt x row) expr_of choices i choice choice more at all) rows exact

@@ -1,6 +1,5 @@
 -- Rows that are kept one after the other.
-use Rattle.std.proofs.Common.{◌≡◌, ℕ, ◌+◌, ◌<◌, Bool, true, false, List, [], ◌∷◌, ◌++◌, map, take, length, get_or, refl, sym, ◌∙◌, ap, add-one, cond}
-use Rattle.std.specs.Prelude.{None}
+use Rattle.std.proofs.Common.{◌≡◌, ℕ, ◌+◌, ◌<◌, Bool, true, false, List, [], ◌∷◌, ◌++◌, map, take, length, get_or, sym, ◌∙◌, ap, add-one, cond}
 use Rattle.std.specs.List.{filter}
 use Rattle.std.proofs.Math.Seq.{take-suc}
 use Rattle.std.proofs.lemmas.List.{get_or-map, append-nil, append_assoc}
@@ -11,13 +10,7 @@ use Rattle.cq_values.specs.declared.truth.Truth.{Truth}
 use Rattle.cq_values.specs.declared.truth.Truth.TheVariants.{Unknown}
 use Rattle.cq_model.specs.Condition.{holds}
 use Rattle.cq_model.specs.Expr.{Cond}
-use Rattle.cq_model.specs.Meaning.{keeps}
 use Rattle.cq_operators_scans.specs.Kept.{keeps_true}
-
--- without a condition all rows are kept
-pub none-kept : (rows : List Row) → filter (keeps None) rows ≡ rows
-none-kept [] = refl
-none-kept (row ∷ rows) = ap (λ rs. row ∷ rs) (none-kept rows)
 
 -- a truth of a mask is that of the row at its place
 pub true-at : (c : Cond) (rows : List Row) (truths : List Truth) (i : ℕ) (row : Row) → truths ≡ map (holds c) rows → i < length rows → row ≡ get_or rows i [] → is_true (get_or truths i Unknown) ≡ keeps_true c row

@@ -9,7 +9,7 @@ use Rattle.cq_values.specs.declared.truth.Truth.TheVariants.{Unknown}
 use Rattle.cq_vectors_masks.specs.Selection.{is_true_at, where_true}
 use Rattle.cq_table_columns.specs.Places.{rows_at}
 use Rattle.cq_operators_scans.specs.Paired.{ArePlaces}
-use Rattle.cq_operators_scans.proofs.Lists.{all-kept}
+use Rattle.cq_model_bags.proofs.Lists.{all-filter}
 
 -- the row at a place comes first, where the place is kept
 one-at : (b : Bool) (rows : List Row) (place : ℕ) (places : List ℕ) → rows_at rows (cond b (place ∷ places) places) ≡ cond b (get_or rows place [] ∷ rows_at rows places) (rows_at rows places)
@@ -50,4 +50,4 @@ module _ (test : Row → Truth) (rows : List Row) (truths : List Truth) (are : t
   pub kept-places : ArePlaces rows places
   kept-places =
       subst (ArePlaces rows) (sym is)
-      (all-kept (λ (place : ℕ). place < length rows) (is_true_at truths) (range_with_len 0 (length truths)) (below (length rows) 0 (length truths) (omega (arith, long))))
+      (all-filter (λ (place : ℕ). place < length rows) (is_true_at truths) (range_with_len 0 (length truths)) (below (length rows) 0 (length truths) (omega (arith, long))))

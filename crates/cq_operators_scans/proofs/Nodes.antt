@@ -23,7 +23,7 @@ use Rattle.cq_model.specs.Exact.{AreExactAt, AreExactIn, IsExactAt}
 use Rattle.cq_model.specs.Expr.{Cond, Expr, Compare, IsNull, Between, In, Like, Not}
 use Rattle.cq_model.specs.Trees.{cond_of, cond_step, expr_of}
 use Rattle.cq_model_eval.proofs.Conditions.{map-map}
-use Rattle.cq_operators_scans.proofs.Lists.{all-weaker}
+use Rattle.cq_model_bags.proofs.Lists.{all-weaker}
 
 tree-Not : (part : Box CondTree Global) → cond_of (view.Not part) ≡ Not (cond_of part.value)
 tree-Not part = ap cond_of (sym (rolls-Not part)) ∙ fold-roll-CondTree Cond cond_step (node.Not part)
@@ -56,7 +56,7 @@ module _ (rows : List Row) (tree : CondTree) where
     -- where a comparison is exact in each row, so are both sides
     pub compare-exact : (c : Comparison) (a b : ExprTree) → tree ≡ variant.Compare c a b → AllByRecursion (IsExactAt (expr_of a)) rows × AllByRecursion (IsExactAt (expr_of b)) rows
     compare-exact c a b is =
-        let e = exact-as (Compare c (expr_of a) (expr_of b)) (ap cond_of is ∙ tree-Compare c a b) exact in (all-weaker (λ row h. h.0) rows e, all-weaker (λ row h. h.1) rows e)
+        let e = exact-as (Compare c (expr_of a) (expr_of b)) (ap cond_of is ∙ tree-Compare c a b) exact in (all-weaker _ _ (λ row h. h.0) rows e, all-weaker _ _ (λ row h. h.1) rows e)
 
     pub null-exact : (x : ExprTree) → tree ≡ variant.IsNull x → AllByRecursion (IsExactAt (expr_of x)) rows
     null-exact x is = exact-as (IsNull (expr_of x)) (ap cond_of is ∙ tree-IsNull x) exact
@@ -66,12 +66,12 @@ module _ (rows : List Row) (tree : CondTree) where
         → AllByRecursion (IsExactAt (expr_of x)) rows × AllByRecursion (IsExactAt (expr_of a)) rows × AllByRecursion (IsExactAt (expr_of b)) rows
     between-exact x a b is =
         let e = exact-as (Between (expr_of x) (expr_of a) (expr_of b)) (ap cond_of is ∙ tree-Between x a b) exact in
-        (all-weaker (λ row h. h.0) rows e, all-weaker (λ row h. h.1) rows e, all-weaker (λ row h. h.2) rows e)
+        (all-weaker _ _ (λ row h. h.0) rows e, all-weaker _ _ (λ row h. h.1) rows e, all-weaker _ _ (λ row h. h.2) rows e)
 
     pub in-exact : (x : ExprTree) (choices : Vec ExprTree Global) → tree ≡ variant.In x choices
         → AllByRecursion (IsExactAt (expr_of x)) rows × AllByRecursion (AreExactAt (map expr_of choices.items)) rows
     in-exact x choices is =
-        let e = exact-as (In (expr_of x) (map expr_of choices.items)) (ap cond_of is ∙ tree-In x choices) exact in (all-weaker (λ row h. h.0) rows e, all-weaker (λ row h. h.1) rows e)
+        let e = exact-as (In (expr_of x) (map expr_of choices.items)) (ap cond_of is ∙ tree-In x choices) exact in (all-weaker _ _ (λ row h. h.0) rows e, all-weaker _ _ (λ row h. h.1) rows e)
 
     pub like-exact : (x : ExprTree) (pattern : List ℕ) → tree ≡ variant.Like x pattern → AllByRecursion (IsExactAt (expr_of x)) rows
     like-exact x pattern is = exact-as (Like (expr_of x) pattern) (ap cond_of is ∙ tree-Like x pattern) exact

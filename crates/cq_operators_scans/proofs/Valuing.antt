@@ -21,7 +21,8 @@ use Rattle.cq_model_eval.proofs.Chains.{IsArithmetic, chain-end, chain-next, fir
 use Rattle.cq_model_eval.proofs.Conditions.{map-map}
 use Rattle.cq_model_eval.proofs.Trees.{tree-Extract, tree-Negate, tree-Product, tree-Sum}
 use Rattle.cq_prims_arithmetic.specs.Operation.{AllInRange}
-use Rattle.cq_operators_scans.proofs.Lists.{all-map, all-weaker, map-same, replicate-map}
+use Rattle.cq_operators_scans.proofs.Lists.{replicate-map}
+use Rattle.cq_model_bags.proofs.Lists.{all-map, all-weaker, map-same}
 
 -- what fits wherever there is a value fits at each place
 pub fits-at : (values : List Value) → AllByRecursion ValueInRange values → AllInRange values
@@ -43,14 +44,14 @@ module _ (node : Expr → Expr → Expr) (op : Value → Value → Value) (arith
 
     -- where the whole is exact in each row, so is the next part
     pub part-exact : Valuing node rows (drop i items) values whole → AllByRecursion (IsExactAt whole) rows → AllByRecursion (IsExactAt (expr_of part)) rows
-    part-exact v exact = all-weaker (λ row e. (at-row v row e).0) rows exact
+    part-exact v exact = all-weaker _ _ (λ row e. (at-row v row e).0) rows exact
 
     module _ (others : List Value) (are : others ≡ map (eval (expr_of part)) rows) where
       -- and what it makes of the prefix fits in each row
       pub fits : Valuing node rows (drop i items) values whole → AllByRecursion (IsExactAt whole) rows → AllByRecursion ValueInRange (zip2 op values others)
       fits v exact =
           subst (AllByRecursion ValueInRange) (sym (zip2_of_maps op (eval v.front) (eval (expr_of part)) rows v.are are))
-          (all-map ValueInRange (λ row. op (eval v.front row) (eval (expr_of part) row)) (λ row e. (at-row v row e).1) rows exact)
+          (all-map _ ValueInRange (λ row. op (eval v.front row) (eval (expr_of part) row)) (λ row e. (at-row v row e).1) rows exact)
 
       -- one part more
       pub next : (made : List Value) → made ≡ zip2 op values others → Valuing node rows (drop i items) values whole → Valuing node rows (drop (i + 1) items) made whole
@@ -77,26 +78,26 @@ module _ (rows : List Row) (tree : ExprTree) (first : Box ExprTree Global) (rest
 
   -- where a chain is exact, so is its first part
   pub term-exact : tree ≡ view.Sum first rest → AllByRecursion (IsExactAt (expr_of tree)) rows → AllByRecursion (IsExactAt (expr_of head)) rows
-  term-exact is exact = all-weaker (λ row e. first-term row tree first rest head one is e) rows exact
+  term-exact is exact = all-weaker _ _ (λ row e. first-term row tree first rest head one is e) rows exact
 
   pub factor-exact : tree ≡ view.Product first rest → AllByRecursion (IsExactAt (expr_of tree)) rows → AllByRecursion (IsExactAt (expr_of head)) rows
-  factor-exact is exact = all-weaker (λ row e. first-factor row tree first rest head one is e) rows exact
+  factor-exact is exact = all-weaker _ _ (λ row e. first-factor row tree first rest head one is e) rows exact
 
 module _ (rows : List Row) (tree : ExprTree) (part : Box ExprTree Global) (x : ExprTree) (is : tree ≡ view.Negate part) (same : x ≡ part.value) (exact : AllByRecursion (IsExactAt (expr_of tree)) rows) where
   -- where a minus is exact, so is its part
   pub negated-exact : AllByRecursion (IsExactAt (expr_of x)) rows
-  negated-exact = all-weaker (λ row e. (negated-part row tree part x is same e).0) rows exact
+  negated-exact = all-weaker _ _ (λ row e. (negated-part row tree part x is same e).0) rows exact
 
   -- and the negated numbers fit
   pub negated-fits : (values : List Value) → values ≡ map (eval (expr_of x)) rows → AllByRecursion ValueInRange (map negated values)
   negated-fits values are =
       subst (λ (vs : List Value). AllByRecursion ValueInRange (map negated vs)) (sym are)
-      (all-map ValueInRange negated (λ v fit. fit) (map (eval (expr_of x)) rows) (all-map (λ v. ValueInRange (negated v)) (eval (expr_of x)) (λ row e. (negated-part row tree part x is same e).1) rows exact))
+      (all-map _ ValueInRange negated (λ v fit. fit) (map (eval (expr_of x)) rows) (all-map _ (λ v. ValueInRange (negated v)) (eval (expr_of x)) (λ row e. (negated-part row tree part x is same e).1) rows exact))
 
 -- where a part of a day is exact, so is the day
 pub extract-exact : (rows : List Row) (tree : ExprTree) (day_part : DayPart) (part : Box ExprTree Global) (x : ExprTree) → tree ≡ view.Extract day_part part → x ≡ part.value
     → AllByRecursion (IsExactAt (expr_of tree)) rows → AllByRecursion (IsExactAt (expr_of x)) rows
-extract-exact rows tree day_part part x is same exact = all-weaker (λ row e. rw same (rw (is, tree-Extract day_part part) at e)) rows exact
+extract-exact rows tree day_part part x is same exact = all-weaker _ _ (λ row e. rw same (rw (is, tree-Extract day_part part) at e)) rows exact
 
 module _ (rows : List Row) (tree : ExprTree) (made values : List Value) (x : ExprTree) (are : values ≡ map (eval (expr_of x)) rows) where
   -- the negated values are those of the minus

@@ -1,5 +1,5 @@
 -- What own conditions ask of a source's rows.
-use Rattle.std.proofs.Common.{◌≡◌, ℕ, ◌<◌, zero, suc, Bool, true, false, ◌&&◌, List, [], ◌∷◌, ◌++◌, map, length, get_or, refl, sym, ◌∙◌, ap, subst, arith, Vec, Box, Global, ◌⊎◌, inl, inr, ◌≤◌}
+use Rattle.std.proofs.Common.{◌≡◌, ℕ, ◌<◌, zero, suc, true, false, ◌&&◌, List, [], ◌∷◌, ◌++◌, map, length, get_or, refl, sym, ◌∙◌, ap, subst, arith, Vec, Box, Global, ◌⊎◌, inl, inr, ◌≤◌}
 use Rattle.std.specs.Borrow.{Bor}
 use Rattle.std.specs.List.{fold}
 use Rattle.std.specs.Prelude.{◌==◌, ◌+◌, Ok, Err, OnOk, Result}
@@ -17,50 +17,30 @@ use Rattle.cq_values.specs.Truth.{and_truth, is_true}
 use Rattle.cq_values.specs.Value.{Row}
 use Rattle.cq_values.specs.declared.truth.Truth.{Truth}
 use Rattle.cq_values.specs.declared.truth.Truth.TheVariants.{True, False, Unknown}
-
--- AND is True exactly where both parts are
-both-true : (a b : Truth) → is_true (and_truth a b) ≡ true → (is_true a ≡ true) × (is_true b ≡ true)
-both-true True b h = (refl, h)
-both-true False b h = absurd (cc)
-both-true Unknown True h = absurd (cc)
-both-true Unknown False h = absurd (cc)
-both-true Unknown Unknown h = absurd (cc)
+use Rattle.std.proofs.lemmas.Bool.{and_parts}
+use Rattle.cq_model.proofs.Conditions.{part-true}
 
 true-both : (a b : Truth) → is_true a ≡ true → is_true b ≡ true → is_true (and_truth a b) ≡ true
 true-both True b h k = k
 true-both False b h k = absurd (cc)
 true-both Unknown b h k = absurd (cc)
 
--- where a condition is True, so is each part that is joined by AND
-part-true : (c filter : Cond) → IsPart c filter → (r : Row) → is_true (holds filter r) ≡ true → is_true (holds c r) ≡ true
-part-true c filter (whole d) r h = h
-part-true c filter (before_and part a b is) r h = part-true part a is r (both-true (holds a r) (holds b r) h).0
-part-true c filter (behind_and part a b is) r h = part-true part b is r (both-true (holds a r) (holds b r) h).1
-
 pub on-ok : {T E P Q : Type 0} (r : Result T E) → (P → Q) → OnOk r P → OnOk r Q
 on-ok (Ok v) f p = f p
 on-ok (Err e) f p = tt
-
-first-true : (a b : Bool) → a && b ≡ true → a ≡ true
-first-true true b h = refl
-first-true false b h = h
-
-second-true : (a b : Bool) → a && b ≡ true → b ≡ true
-second-true true b h = h
-second-true false b h = absurd (cc)
 
 module _ (before wide : ℕ) where
   -- conditions of which some stand in front
   front-passes : (row : Row) (cs ds : List Cond) → passes_own before (cs ++ ds) row ≡ true → passes_own before cs row ≡ true
   front-passes row [] ds h = refl
   front-passes row (c ∷ cs) ds h =
-      let one = first-true (is_true (holds c (in_place before row))) (passes_own before (cs ++ ds) row) h in
-      let more = front-passes row cs ds (second-true (is_true (holds c (in_place before row))) (passes_own before (cs ++ ds) row) h) in
+      let one = (and_parts (is_true (holds c (in_place before row))) (passes_own before (cs ++ ds) row) h).0 in
+      let more = front-passes row cs ds (and_parts (is_true (holds c (in_place before row))) (passes_own before (cs ++ ds) row) h).1 in
       ap (λ b. b && passes_own before cs row) one ∙ more
 
   back-passes : (row : Row) (cs ds : List Cond) → passes_own before (cs ++ ds) row ≡ true → passes_own before ds row ≡ true
   back-passes row [] ds h = h
-  back-passes row (c ∷ cs) ds h = back-passes row cs ds (second-true (is_true (holds c (in_place before row))) (passes_own before (cs ++ ds) row) h)
+  back-passes row (c ∷ cs) ds h = back-passes row cs ds (and_parts (is_true (holds c (in_place before row))) (passes_own before (cs ++ ds) row) h).1
 
   -- a row passes each part of this condition that names the source's columns alone
   abbrev pub Covered : Row → Cond → Type 0
@@ -69,8 +49,8 @@ module _ (before wide : ℕ) where
   covered-and : (row : Row) (a b : Cond) → Covered row a → Covered row b → Covered row (And a b)
   covered-and row a b f g part (whole d) h =
       true-both (holds a (in_place before row)) (holds b (in_place before row))
-      (f a (whole a) (first-true (tests_only before wide a) (tests_only before wide b) h))
-      (g b (whole b) (second-true (tests_only before wide a) (tests_only before wide b) h))
+      (f a (whole a) (and_parts (tests_only before wide a) (tests_only before wide b) h).0)
+      (g b (whole b) (and_parts (tests_only before wide a) (tests_only before wide b) h).1)
   covered-and row a b f g part (before_and p x y is) h = f part is h
   covered-and row a b f g part (behind_and p x y is) h = g part is h
 
@@ -109,7 +89,7 @@ module _ (before wide : ℕ) where
       record {
         kept = λ row h. front-passes row (conditions_of old) (cond_of tree.now ∷ []) (of row h);
         all = λ part row is named h. part-true part (cond_of tree.now) is (in_place before row)
-            (first-true (is_true (holds (cond_of tree.now) (in_place before row))) true (back-passes row (conditions_of old) (cond_of tree.now ∷ []) (of row h)));
+            (and_parts (is_true (holds (cond_of tree.now) (in_place before row))) true (back-passes row (conditions_of old) (cond_of tree.now ∷ []) (of row h))).0;
       }
 
   -- ---- OR

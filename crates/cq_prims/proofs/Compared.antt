@@ -24,6 +24,7 @@ use Rattle.cq_model.specs.Condition.{is_null}
 use Rattle.cq_vectors_masks.specs.TruthMask.{known}
 use Rattle.cq_vectors_masks.specs.Plane.{either}
 use Rattle.cq_prims.specs.Kinds.{is_of_kind, ShowsNumbers, ShowsTexts}
+use Rattle.cq_model.proofs.Conditions.{null-value}
 
 -- answers that are right wherever no value is NULL give the truths of a comparison
 pub known_compared : (c : Comparison) (h : ℕ → Bool) (xs ys : List Value) → length xs ≡ length ys
@@ -266,19 +267,13 @@ null_right_side c n xs e = ap (λ (k : ℕ). zip2 (compared c) xs (replicate k N
     all_unknown [] = refl
     all_unknown (z ∷ zs) = ap₂ (λ t l. t ∷ l) (compared_null c z) (all_unknown zs)
 
-null_is : (v : Value) → is_null v ≡ true → v ≡ Null
-null_is Null h = refl
-null_is (Number n) h = absurd (cc)
-null_is (Day n) h = absurd (cc)
-null_is (Text t) h = absurd (cc)
-
 module _ (c : Comparison) (xs ys : List Value) (same : length xs ≡ length ys) where
   pub constants_compared : (v w : Value) → xs ≡ replicate (length xs) v → ys ≡ replicate (length ys) w → zip2 (compared c) xs ys ≡ replicate (length xs) (compared c v w)
   constants_compared v w p q = ap₂ (zip2 (compared c)) p (q ∙ ap (λ (n : ℕ). replicate n w) (sym same)) ∙ zip2-replicate (compared c) (length xs) v w
 
   pub null_compared : (v : Value) → is_null v ≡ true → xs ≡ replicate (length xs) v → zip2 (compared c) xs ys ≡ replicate (length xs) Unknown
-  null_compared v h p = ap (λ l. zip2 (compared c) l ys) (p ∙ ap (λ (u : Value). replicate (length xs) u) (null_is v h)) ∙ null_left c (length xs) ys same
+  null_compared v h p = ap (λ l. zip2 (compared c) l ys) (p ∙ ap (λ (u : Value). replicate (length xs) u) (null-value v h)) ∙ null_left c (length xs) ys same
 
   pub compared_with_null : (w : Value) → is_null w ≡ true → ys ≡ replicate (length ys) w → zip2 (compared c) xs ys ≡ replicate (length xs) Unknown
   compared_with_null w h q =
-      ap (zip2 (compared c) xs) (q ∙ ap₂ (λ (n : ℕ) (u : Value). replicate n u) (sym same) (null_is w h)) ∙ null_right_side c (length xs) xs refl
+      ap (zip2 (compared c) xs) (q ∙ ap₂ (λ (n : ℕ) (u : Value). replicate n u) (sym same) (null-value w h)) ∙ null_right_side c (length xs) xs refl

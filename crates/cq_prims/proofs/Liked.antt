@@ -1,5 +1,5 @@
 -- LIKE over lists of values.
-use Rattle.std.proofs.Common.{◌≡◌, ℕ, ◌<◌, ◌≤◌, ◌+◌, Bor, arith, Bool, true, false, List, [], ◌∷◌, map, length, get_or, refl, sym, ap, ap₂, ◌∙◌}
+use Rattle.std.proofs.Common.{◌≡◌, ℕ, ◌<◌, ◌≤◌, ◌+◌, Bor, arith, Bool, true, false, List, [], map, length, get_or, refl, sym, ap, ◌∙◌}
 use Rattle.std.specs.List.{range_with_len}
 use Rattle.std.proofs.lemmas.List.FromFn.{length-map-range_with_len, get_or-map-range_with_len}
 use Rattle.std.proofs.lemmas.Simd.{zip2-map, get_or-chunk}
@@ -18,10 +18,7 @@ use Rattle.cq_model.specs.Like.{like}
 use Rattle.cq_vectors_masks.specs.TruthMask.{known}
 use Rattle.cq_prims.specs.NoText.{is_no_text}
 use Rattle.cq_prims.proofs.Shown.{map-all_places}
-
-map-same : {X Y : Type 0} (f g : X → Y) → ((x : X) → f x ≡ g x) → (xs : List X) → map f xs ≡ map g xs
-map-same f g h [] = refl
-map-same f g h (x ∷ xs) = ap₂ (λ a l. a ∷ l) (h x) (map-same f g h xs)
+use Rattle.cq_model_bags.proofs.Lists.{map-same}
 
 known_truth : (b : Bool) → known (is_true (truth_of b)) false ≡ truth_of b
 known_truth true = refl

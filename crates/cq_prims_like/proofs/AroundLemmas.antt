@@ -13,8 +13,9 @@ use Rattle.cq_model.specs.Like.{percent, underscore, Fits, like}
 use Rattle.cq_model_eval.proofs.Likes.{by_test, like_decides}
 use Rattle.cq_prims_like.specs.declared.around.Around.{Around as RunAndSigns}
 use Rattle.cq_prims_like.specs.Patterns.{signs_of, IsAround, IsAroundOf, FitsAt, fits_around, stands_for, are_single}
-use Rattle.cq_prims_like.proofs.Fitting.{and_left, and_right, not_true, front_taken, front_given, seam_begins, any_fits, chars-percent}
+use Rattle.cq_prims_like.proofs.Fitting.{and_left, and_right, front_taken, front_given, seam_begins, any_fits, chars-percent}
 use Rattle.cq_prims_like.proofs.PieceLemmas.{rest_valid}
+use Rattle.std.proofs.lemmas.Bool.{not-true}
 
 -- a text that fits signs and more signs is a text that fits the first ones, and one that fits the others
 fits_split : (signs more text : List ℕ) → Fits (signs ++ more) text → (front : List ℕ) × (rest : List ℕ) × (text ≡ front ++ rest) × Fits signs front × Fits more rest
@@ -45,7 +46,7 @@ one_of_one (x ∷ y ∷ l) e = absurd (omega arith)
 
 one_letter : (sign : ℕ) → not (eqb sign percent) ≡ true → (letters : List ℕ) → Fits (sign ∷ []) letters → (letter : ℕ) × (letters ≡ letter ∷ []) × (stands_for sign letter ≡ true)
 one_letter sign single letters h =
-    let many : eqb sign percent ≡ false = not_true (eqb sign percent) single in
+    let many : eqb sign percent ≡ false = not-true (eqb sign percent) single in
     let whole : letters ≡ h.0 = h.2 ∙ ap (λ l. h.0 ++ l) h.4 ∙ append-nil h.0 in
     by_test (eqb sign underscore)
     (λ one. let found = one_of_one h.0 (rw (many, one) at h.3) in (found.0, whole ∙ found.1, ap (λ b. b || eqb found.0 sign) one))
@@ -53,7 +54,7 @@ one_letter sign single letters h =
 
 letter_fits : (sign letter : ℕ) → not (eqb sign percent) ≡ true → stands_for sign letter ≡ true → Fits (sign ∷ []) (letter ∷ [])
 letter_fits sign letter single met =
-    let many : eqb sign percent ≡ false = not_true (eqb sign percent) single in
+    let many : eqb sign percent ≡ false = not-true (eqb sign percent) single in
     by_test (eqb sign underscore)
     (λ one. (letter ∷ [], [], refl, rw (many, one) (omega arith), refl))
     (λ one. (letter ∷ [], [], refl, rw (many, one) (ap (λ (n : ℕ). n ∷ []) (eqb-true letter sign (sym (ap (λ b. b || eqb letter sign) one) ∙ met))), refl))

@@ -16,6 +16,7 @@ use Rattle.std.proofs.Math.Seq.{take-append_seam, drop-append_seam, get_or-appen
 use Rattle.cq_model.specs.Like.{percent, underscore, StandsFor, Fits, like}
 use Rattle.cq_model_eval.proofs.Likes.{like_decides}
 use Rattle.cq_prims_like.specs.Patterns.{IsRunOf, stands_for_itself, is_ordinary}
+use Rattle.std.proofs.lemmas.Bool.{not-true}
 
 pub and_left : (a b : Bool) → (a && b) ≡ true → a ≡ true
 and_left true b e = refl
@@ -25,21 +26,17 @@ pub and_right : (a b : Bool) → (a && b) ≡ true → b ≡ true
 and_right true b e = e
 and_right false b e = absurd (cc)
 
-pub not_true : (a : Bool) → not a ≡ true → a ≡ false
-not_true true e = absurd (cc)
-not_true false e = refl
-
 -- an ordinary sign stands for itself alone
 itself : (p : ℕ) (front : List ℕ) → stands_for_itself p ≡ true → StandsFor p front → front ≡ p ∷ []
 itself p front o s =
-    let many : eqb p percent ≡ false = not_true (eqb p percent) (and_left (not (eqb p percent)) _ o) in
-    let one : eqb p underscore ≡ false = not_true (eqb p underscore) (and_right (not (eqb p percent)) _ o) in
+    let many : eqb p percent ≡ false = not-true (eqb p percent) (and_left (not (eqb p percent)) _ o) in
+    let one : eqb p underscore ≡ false = not-true (eqb p underscore) (and_right (not (eqb p percent)) _ o) in
     rw (many, one) at s
 
 stands : (p : ℕ) → stands_for_itself p ≡ true → StandsFor p (p ∷ [])
 stands p o =
-    let many : eqb p percent ≡ false = not_true (eqb p percent) (and_left (not (eqb p percent)) _ o) in
-    let one : eqb p underscore ≡ false = not_true (eqb p underscore) (and_right (not (eqb p percent)) _ o) in
+    let many : eqb p percent ≡ false = not-true (eqb p percent) (and_left (not (eqb p percent)) _ o) in
+    let one : eqb p underscore ≡ false = not-true (eqb p underscore) (and_right (not (eqb p percent)) _ o) in
     rw (many, one) refl
 
 -- ordinary signs take themselves off the front of a text, and what is left of the pattern fits the rest

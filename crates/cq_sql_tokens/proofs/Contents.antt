@@ -3,8 +3,9 @@ use Rattle.std.proofs.Common.{◌≡◌, ◌≢◌, ℕ, suc, ◌<◌, Bool, tru
 use Rattle.std.proofs.lemmas.List.{append-nil}
 use Rattle.cq_sql_language.specs.Characters.{is_quote, begins, doubled}
 use Rattle.cq_sql_language.specs.declared.token.Token.TheVariants as tokens
-use Rattle.cq_sql_tokens.proofs.Decisions.{byte_is, byte_is_not}
+use Rattle.cq_sql_tokens.proofs.Decisions.{byte_is_not}
 use Rattle.cq_sql_tokens.specs.Lexing.{onto, content_at, quoted_at}
+use Rattle.std.proofs.lemmas.Bool.{eqb-true}
 
 -- what was read before stands before what is still read
 abbrev pub with_front : List ℕ → Option (List ℕ × List ℕ) → Option (List ℕ × List ℕ)
@@ -73,7 +74,7 @@ pub is_open : (front rest : List ℕ) (all : Content) → HasNoQuote rest → wi
 is_open front rest all none so_far = sym so_far ∙ ap (with_front front) (never_ends rest none)
 
 found_by : (b : ℕ) (bs rest : List ℕ) (v : Bool) → is_quote b ≡ v → content_at false (doubled bs ++ 39 ∷ rest) ≡ Some (bs, rest) → content_at false ((cond v (39 ∷ 39 ∷ []) (b ∷ []) ++ doubled bs) ++ 39 ∷ rest) ≡ Some (b ∷ bs, rest)
-found_by b bs rest true e h = rw (h, byte_is b 39 e) refl
+found_by b bs rest true e h = rw (h, eqb-true b 39 e) refl
 found_by b bs rest false e h = rw (e, h) refl
 
 -- what is spelled is read
@@ -119,7 +120,7 @@ cut_here : (s : Bool) (b : ℕ) (bs q rest : List ℕ) (v : Bool) → is_quote b
 cut_here false b bs q rest true e cut read =
     let here : content_at true bs ≡ Some (q, rest) = rw e at read in
     let rest_cut = cut true q here in
-    (ap (λ (x : ℕ). x ∷ bs) (byte_is b 39 e) ∙ rest_cut.0, rest_cut.1)
+    (ap (λ (x : ℕ). x ∷ bs) (eqb-true b 39 e) ∙ rest_cut.0, rest_cut.1)
 cut_here false b bs q rest false e cut read =
     let here : onto b (content_at false bs) ≡ Some (q, rest) = rw e at read in
     let inner = onto_some b (content_at false bs) q rest here in
@@ -129,7 +130,7 @@ cut_here true b bs q rest true e cut read =
     let here : onto b (content_at false bs) ≡ Some (q, rest) = rw e at read in
     let inner = onto_some b (content_at false bs) q rest here in
     let rest_cut = cut false inner.0 inner.1 in
-    (onto_quote b bs inner.0 rest (byte_is b 39 e) rest_cut.0 ∙ ap (λ (xs : List ℕ). doubled xs ++ 39 ∷ rest) (sym inner.2), rest_cut.1)
+    (onto_quote b bs inner.0 rest (eqb-true b 39 e) rest_cut.0 ∙ ap (λ (xs : List ℕ). doubled xs ++ 39 ∷ rest) (sym inner.2), rest_cut.1)
 cut_here true b bs q rest false e cut read =
     let here : Some ([], b ∷ bs) ≡ Some (q, rest) = rw e at read in
     let parts = same_content [] q (b ∷ bs) rest here in

@@ -13,10 +13,6 @@ taken v x y e = rw e refl
 pub passed : {A : Type 0} (v : Bool) (x y : A) → v ≡ false → cond v x y ≡ y
 passed v x y e = rw e refl
 
-pub is_false : (v : Bool) → not v ≡ true → v ≡ false
-is_false true e = absurd cc
-is_false false e = refl
-
 pub is_true : (v : Bool) → not v ≡ false → v ≡ true
 is_true true e = refl
 is_true false e = absurd cc
@@ -38,9 +34,6 @@ second_false false w e f = absurd cc
 
 pub neither : (v w : Bool) → v ≡ false → w ≡ false → (v || w) ≡ false
 neither v w e f = rw (e, f) refl
-
-pub byte_is : (b k : ℕ) → (b == k) ≡ true → b ≡ k
-byte_is b k e = grind (arith, nat_tests)
 
 pub byte_is_not : (b k : ℕ) → (b ≡ k → ⊥) → (b == k) ≡ false
 byte_is_not b k h = grind (arith, nat_tests)

@@ -10,11 +10,13 @@ use Rattle.cq_sql_language.specs.Characters.{is_blank, is_letter, is_digit, is_w
 use Rattle.cq_sql_language.specs.Lexemes.{Lexeme, blank, comment, word, digits, quoted, symbol, symbol_spelling, spelling, lengthens, Stands}
 use Rattle.cq_sql_language.specs.Tokens.{word_token, number_token}
 use Rattle.cq_sql_tokens.specs.Lexing.{◌>>=◌, content_at, quoted_at, word_at, number_at, symbol_at, sign_at, gap_at, token_at}
-use Rattle.cq_sql_tokens.proofs.Decisions.{either, is_true, both_true, byte_is}
+use Rattle.cq_sql_tokens.proofs.Decisions.{either, is_true, both_true}
 use Rattle.cq_sql_tokens.proofs.Prefixes.{prefix_passes, prefix_stops, prefix_cons}
 use Rattle.cq_sql_tokens.proofs.Contents.{content_only}
 use Rattle.cq_sql_tokens.proofs.Spelled.{told, Found, found, letter_goes_on}
 use Rattle.cq_sql_tokens.proofs.Signs.{sign_only, spelling_is_ascii, IsSign}
+use Rattle.std.proofs.lemmas.Bool.{eqb-true}
+use Rattle.std.proofs.lemmas.Option.{same_Some}
 
 -- a lexeme that stands in front and makes this token, or none
 pub record Fronts (text : List ℕ) (t : Option Token) (rest : List ℕ) : Type 0 where
@@ -22,9 +24,6 @@ pub record Fronts (text : List ℕ) (t : Option Token) (rest : List ℕ) : Type 
   pub cut : text ≡ spelling lexeme ++ rest
   pub stands : Stands lexeme rest
   pub makes : told lexeme ≡ t
-
-some_same : {A : Type 0} (x y : A) → Some x ≡ Some y → x ≡ y
-some_same x y e = cc
 
 token_of : Token → Found → Token
 token_of d (Some r) = r.0
@@ -54,7 +53,7 @@ comment_only b (c ∷ cs) rest here is =
     let after : drop (prefix_len goes cs) cs ≡ rest = ap (λ (n : ℕ). drop n (b ∷ c ∷ cs)) (sym len) ∙ is in
     record {
       lexeme = comment (take (prefix_len goes cs) cs);
-      cut = ap₂ (λ (x y : ℕ). x ∷ y ∷ cs) (byte_is b 45 dashes.0) (byte_is c 45 dashes.1) ∙ ap (λ (xs : List ℕ). 45 ∷ 45 ∷ xs) (sym (take-append-drop (prefix_len goes cs) cs) ∙ ap (λ (xs : List ℕ). take (prefix_len goes cs) cs ++ xs) after);
+      cut = ap₂ (λ (x y : ℕ). x ∷ y ∷ cs) (eqb-true b 45 dashes.0) (eqb-true c 45 dashes.1) ∙ ap (λ (xs : List ℕ). 45 ∷ 45 ∷ xs) (sym (take-append-drop (prefix_len goes cs) cs) ∙ ap (λ (xs : List ℕ). take (prefix_len goes cs) cs ++ xs) after);
       stands = (prefix_passes goes cs, line_ends rest (ap (begins goes) (sym after) ∙ prefix_stops goes cs));
       makes = refl;
     }
@@ -64,9 +63,9 @@ unfolding gap_at
 gap_only [] rest e = absurd cc
 gap_only (b ∷ bs) rest e =
     either (is_blank b) (Some bs) _ (Some rest) e
-    (λ here is. record { lexeme = blank b; cut = ap (λ (xs : List ℕ). b ∷ xs) (some_same bs rest is); stands = here; makes = refl })
+    (λ here is. record { lexeme = blank b; cut = ap (λ (xs : List ℕ). b ∷ xs) (same_Some bs rest is); stands = here; makes = refl })
     (λ _ more. either (is_dash b && begins is_dash bs) (Some (drop (prefix_len (λ c. not (c == 10)) (b ∷ bs)) (b ∷ bs))) None (Some rest) more
-    (λ here is. comment_only b bs rest here (some_same _ rest is))
+    (λ here is. comment_only b bs rest here (same_Some _ rest is))
     (λ _ is. absurd cc))
 
 -- the cut behind the longest part that passes, where the first byte does
@@ -115,7 +114,7 @@ quoted_only b bs t rest here is =
     let cut = content_only bs read.0 rest read.1 in
     record {
       lexeme = quoted read.0;
-      cut = ap₂ (λ (x : ℕ) (xs : List ℕ). x ∷ xs) (byte_is b 39 here) (cut.0 ∙ sym (append_assoc (doubled read.0) (39 ∷ []) rest));
+      cut = ap₂ (λ (x : ℕ) (xs : List ℕ). x ∷ xs) (eqb-true b 39 here) (cut.0 ∙ sym (append_assoc (doubled read.0) (39 ∷ []) rest));
       stands = ap not cut.1;
       makes = ap (λ (u : Token). Some u) read.2;
     }

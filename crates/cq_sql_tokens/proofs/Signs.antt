@@ -7,8 +7,9 @@ use Rattle.cq_sql_language.specs.declared.token.Symbol.TheVariants as symbols
 use Rattle.cq_sql_language.specs.Characters.{begins, is_blank, is_dash}
 use Rattle.cq_sql_language.specs.Lexemes.{symbol_spelling, lengthens}
 use Rattle.cq_sql_tokens.specs.Lexing.{symbol_at, less_at, greater_at, gap_at}
-use Rattle.cq_sql_tokens.proofs.Decisions.{either, both_false, second_false, neither, byte_is}
+use Rattle.cq_sql_tokens.proofs.Decisions.{either, both_false, second_false, neither}
 use Rattle.cq_sql_tokens.proofs.Boundaries.{after_ascii_part}
+use Rattle.std.proofs.lemmas.Bool.{eqb-true}
 
 abbrev Sign : Type 0
 Sign = Symbol × ℕ
@@ -70,7 +71,7 @@ moved text s t m n e h =
 
 single : (b k : ℕ) (bs : List ℕ) (s : Symbol) → (b == k) ≡ true → symbol_spelling s ≡ k ∷ [] → (gap_at (b ∷ bs) ≡ None → begins (lengthens s) bs ≡ false) → IsSign (b ∷ bs) s 1
 single b k bs s here is last = record {
-  spelling = ap (λ (x : ℕ). x ∷ bs) (byte_is b k here) ∙ ap (λ (xs : List ℕ). xs ++ bs) (sym is);
+  spelling = ap (λ (x : ℕ). x ∷ bs) (eqb-true b k here) ∙ ap (λ (xs : List ℕ). xs ++ bs) (sym is);
   len = sym (ap (λ (xs : List ℕ). length xs) is);
   ends = last;
 }
@@ -93,16 +94,16 @@ less_is : (bs : List ℕ) (t : Symbol) (n : ℕ) → Some (less_at bs) ≡ sign 
 less_is [] t n e = moved (60 ∷ []) symbols.Less t 1 n e (single 60 60 [] symbols.Less refl refl (λ _. refl))
 less_is (b ∷ bs) t n e =
     either (b == 62) (symbols.NotEqual, 2) (cond (b == 61) (symbols.LessOrEqual, 2) (symbols.Less, 1)) (less_at (b ∷ bs)) refl
-    (λ here is. moved (60 ∷ b ∷ bs) symbols.NotEqual t 2 n (ap (λ (r : Sign). Some r) is ∙ e) (subst (λ (x : ℕ). IsSign (60 ∷ x ∷ bs) symbols.NotEqual 2) (sym (byte_is b 62 here)) (double 60 62 bs symbols.NotEqual refl (none_longer bs))))
+    (λ here is. moved (60 ∷ b ∷ bs) symbols.NotEqual t 2 n (ap (λ (r : Sign). Some r) is ∙ e) (subst (λ (x : ℕ). IsSign (60 ∷ x ∷ bs) symbols.NotEqual 2) (sym (eqb-true b 62 here)) (double 60 62 bs symbols.NotEqual refl (none_longer bs))))
     (λ other more. either (b == 61) (symbols.LessOrEqual, 2) (symbols.Less, 1) (less_at (b ∷ bs)) more
-    (λ here is. moved (60 ∷ b ∷ bs) symbols.LessOrEqual t 2 n (ap (λ (r : Sign). Some r) is ∙ e) (subst (λ (x : ℕ). IsSign (60 ∷ x ∷ bs) symbols.LessOrEqual 2) (sym (byte_is b 61 here)) (double 60 61 bs symbols.LessOrEqual refl (none_longer bs))))
+    (λ here is. moved (60 ∷ b ∷ bs) symbols.LessOrEqual t 2 n (ap (λ (r : Sign). Some r) is ∙ e) (subst (λ (x : ℕ). IsSign (60 ∷ x ∷ bs) symbols.LessOrEqual 2) (sym (eqb-true b 61 here)) (double 60 61 bs symbols.LessOrEqual refl (none_longer bs))))
     (λ another is. moved (60 ∷ b ∷ bs) symbols.Less t 1 n (ap (λ (r : Sign). Some r) is ∙ e) (single 60 60 (b ∷ bs) symbols.Less refl refl (λ _. neither (b == 62) (b == 61) other another))))
 
 greater_is : (bs : List ℕ) (t : Symbol) (n : ℕ) → Some (greater_at bs) ≡ sign t n → IsSign (62 ∷ bs) t n
 greater_is [] t n e = moved (62 ∷ []) symbols.Greater t 1 n e (single 62 62 [] symbols.Greater refl refl (λ _. refl))
 greater_is (b ∷ bs) t n e =
     either (b == 61) (symbols.GreaterOrEqual, 2) (symbols.Greater, 1) (greater_at (b ∷ bs)) refl
-    (λ here is. moved (62 ∷ b ∷ bs) symbols.GreaterOrEqual t 2 n (ap (λ (r : Sign). Some r) is ∙ e) (subst (λ (x : ℕ). IsSign (62 ∷ x ∷ bs) symbols.GreaterOrEqual 2) (sym (byte_is b 61 here)) (double 62 61 bs symbols.GreaterOrEqual refl (none_longer bs))))
+    (λ here is. moved (62 ∷ b ∷ bs) symbols.GreaterOrEqual t 2 n (ap (λ (r : Sign). Some r) is ∙ e) (subst (λ (x : ℕ). IsSign (62 ∷ x ∷ bs) symbols.GreaterOrEqual 2) (sym (eqb-true b 61 here)) (double 62 61 bs symbols.GreaterOrEqual refl (none_longer bs))))
     (λ other is. moved (62 ∷ b ∷ bs) symbols.Greater t 1 n (ap (λ (r : Sign). Some r) is ∙ e) (single 62 62 (b ∷ bs) symbols.Greater refl refl (λ _. other)))
 
 -- a symbol that is read is spelled so
@@ -115,8 +116,8 @@ sign_only (b ∷ bs) t n e =
     either (b == 44) (sign symbols.Comma 1) _ (sign t n) e2 (λ here is. moved (b ∷ bs) symbols.Comma t 1 n is (single b 44 bs symbols.Comma here refl (λ _. none_longer bs))) (λ _ e3.
     either (b == 46) (sign symbols.Dot 1) _ (sign t n) e3 (λ here is. moved (b ∷ bs) symbols.Dot t 1 n is (single b 46 bs symbols.Dot here refl (λ _. none_longer bs))) (λ _ e4.
     either (b == 61) (sign symbols.Equal 1) _ (sign t n) e4 (λ here is. moved (b ∷ bs) symbols.Equal t 1 n is (single b 61 bs symbols.Equal here refl (λ _. none_longer bs))) (λ _ e5.
-    either (b == 60) (Some (less_at bs)) _ (sign t n) e5 (λ here is. subst (λ (x : ℕ). IsSign (x ∷ bs) t n) (sym (byte_is b 60 here)) (less_is bs t n is)) (λ _ e6.
-    either (b == 62) (Some (greater_at bs)) _ (sign t n) e6 (λ here is. subst (λ (x : ℕ). IsSign (x ∷ bs) t n) (sym (byte_is b 62 here)) (greater_is bs t n is)) (λ _ e7.
+    either (b == 60) (Some (less_at bs)) _ (sign t n) e5 (λ here is. subst (λ (x : ℕ). IsSign (x ∷ bs) t n) (sym (eqb-true b 60 here)) (less_is bs t n is)) (λ _ e6.
+    either (b == 62) (Some (greater_at bs)) _ (sign t n) e6 (λ here is. subst (λ (x : ℕ). IsSign (x ∷ bs) t n) (sym (eqb-true b 62 here)) (greater_is bs t n is)) (λ _ e7.
     either (b == 43) (sign symbols.Plus 1) _ (sign t n) e7 (λ here is. moved (b ∷ bs) symbols.Plus t 1 n is (single b 43 bs symbols.Plus here refl (λ _. none_longer bs))) (λ _ e8.
     either (b == 45) (sign symbols.Minus 1) _ (sign t n) e8 (λ here is. moved (b ∷ bs) symbols.Minus t 1 n is (single b 45 bs symbols.Minus here refl (no_second_dash b bs here))) (λ _ e9.
     either (b == 42) (sign symbols.Star 1) None (sign t n) e9 (λ here is. moved (b ∷ bs) symbols.Star t 1 n is (single b 42 bs symbols.Star here refl (λ _. none_longer bs))) (λ _ e10. absurd cc))))))))))

@@ -11,10 +11,11 @@ use Rattle.cq_sql_language.specs.Characters.{is_blank, is_letter, is_digit, is_w
 use Rattle.cq_sql_language.specs.Lexemes.{Lexeme, blank, comment, word, digits, quoted, symbol, symbol_spelling, spelling, lengthens, Stands}
 use Rattle.cq_sql_language.specs.Tokens.{word_token, number_token}
 use Rattle.cq_sql_tokens.specs.Lexing.{◌>>=◌, content_at, word_at, number_at, sign_at, gap_at, token_at}
-use Rattle.cq_sql_tokens.proofs.Decisions.{taken, passed, is_false, first_false}
+use Rattle.cq_sql_tokens.proofs.Decisions.{taken, passed, first_false}
 use Rattle.cq_sql_tokens.proofs.Prefixes.{prefix_cut}
 use Rattle.cq_sql_tokens.proofs.Contents.{content_found, is_quoted}
 use Rattle.cq_sql_tokens.proofs.Signs.{sign_found}
+use Rattle.std.proofs.lemmas.Bool.{not-true}
 
 -- the token that a lexeme makes, if it makes one
 abbrev pub told : Lexeme → Option Token
@@ -147,7 +148,7 @@ symbol_found s rest e =
 pub front_found : (l : Lexeme) (rest : List ℕ) → Stands l rest → front_at (spelling l ++ rest) ≡ Some (told l, rest)
 front_found (blank b) rest h = blank_found b rest h
 front_found (comment c) rest h = comment_found c rest h.0 h.1
-front_found (word b bs) rest h = word_found b bs rest h.0 h.1 (is_false (begins is_word_byte rest) h.2)
-front_found (digits b bs) rest h = number_found b bs rest h.0 h.1 (is_false (begins is_word_byte rest) h.2)
-front_found (quoted q) rest h = quoted_found q rest (is_false (begins is_quote rest) h)
-front_found (symbol s) rest h = symbol_found s rest (is_false (begins (lengthens s) rest) h)
+front_found (word b bs) rest h = word_found b bs rest h.0 h.1 (not-true (begins is_word_byte rest) h.2)
+front_found (digits b bs) rest h = number_found b bs rest h.0 h.1 (not-true (begins is_word_byte rest) h.2)
+front_found (quoted q) rest h = quoted_found q rest (not-true (begins is_quote rest) h)
+front_found (symbol s) rest h = symbol_found s rest (not-true (begins (lengthens s) rest) h)

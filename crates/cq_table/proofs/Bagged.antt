@@ -13,7 +13,8 @@ use Rattle.cq_model_bags.proofs.Canonicals.{bag_of-again, bag_of-weights, length
 use Rattle.cq_values.specs.declared.column.ColumnDef.{ColumnDef}
 use Rattle.cq_model_state.specs.Fitting.{FitsColumns}
 use Rattle.cq_table.specs.Table.{AreSound, StoredTable, with_bag, without_rows}
-use Rattle.cq_table.proofs.RowLists.{all_of_bag, all_of_both, all_of_kept}
+use Rattle.cq_table.proofs.RowLists.{all_of_bag}
+use Rattle.cq_model_bags.proofs.Lists.{all-append, all-filter}
 
 -- no rows are the empty bag
 pub bag_of_none : bag_of [] ≡ []
@@ -82,7 +83,7 @@ module _ (columns : List ColumnDef) (max_rows : ℕ) (stored : List Row) (sound 
     left = filter (λ row. not (keep row)) stored
 
     fitting_left : AllByRecursion (FitsColumns columns) left
-    fitting_left = all_of_kept (FitsColumns columns) (λ row. not (keep row)) stored sound.fitting
+    fitting_left = all-filter (FitsColumns columns) (λ row. not (keep row)) stored sound.fitting
 
     -- without those that go
     pub sound_left : AreSound columns max_rows left
@@ -91,6 +92,6 @@ module _ (columns : List ColumnDef) (max_rows : ℕ) (stored : List Row) (sound 
     -- and with as many in their places
     pub sound_put : (images : List Row) → AllByRecursion (FitsColumns columns) images → length images ≡ length (filter keep (bag_of stored)) → AreSound columns max_rows (left ++ images)
     sound_put images fitting count = record {
-      fitting = all_of_both (FitsColumns columns) left images fitting_left fitting;
+      fitting = all-append (FitsColumns columns) left images fitting_left fitting;
       limited = omega (arith, sound.limited, count, taken_count keep stored left refl, length-append left images);
     }

@@ -21,7 +21,8 @@ use Rattle.cq_table.specs.Checks.{AreNarrowSets, fault_of, one_fault, value_faul
 use Rattle.cq_table.specs.declared.fault.TableFault.{TableFault}
 use Rattle.cq_table.specs.declared.fault.TableFault.TheVariants as tables
 use Rattle.cq_table.specs.Table.{SameRows}
-use Rattle.cq_table.proofs.RowLists.{all_of_kept, gone_all}
+use Rattle.cq_table.proofs.RowLists.{gone_all}
+use Rattle.cq_model_bags.proofs.Lists.{all-filter}
 
 swapped : (a b c : Bool) → (a || (b || c)) ≡ (b || (a || c))
 swapped true true c = refl
@@ -92,7 +93,7 @@ module _ (columns : List ColumnDef) (rows : List Row) (assignments : List Assign
 module _ (assignments : List Assignment) (c : Option Cond) (rows gone : List Row) (is_chosen : SameRows gone (chosen c rows)) where
   -- nothing is too wide in SET at a row that goes
   pub narrow_gone : AllByRecursion (AreNarrowSets assignments) rows → AllByRecursion (AreNarrowSets assignments) gone
-  narrow_gone narrow = gone_all (keeps c) rows gone is_chosen (AreNarrowSets assignments) (all_of_kept (AreNarrowSets assignments) (keeps c) rows narrow)
+  narrow_gone narrow = gone_all (keeps c) rows gone is_chosen (AreNarrowSets assignments) (all-filter (AreNarrowSets assignments) (keeps c) rows narrow)
 
   -- the first fault of the rows that go is that of the chosen ones
   pub fault_same : (columns : List ColumnDef) → values_fault columns assignments gone ≡ value_fault columns assignments c rows

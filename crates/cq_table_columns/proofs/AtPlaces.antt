@@ -1,15 +1,9 @@
 -- Places of places.
-use Rattle.std.proofs.Common.{◌≡◌, ℕ, zero, suc, ◌+◌, ◌<◌, List, [], ◌∷◌, ◌++◌, length, get_or, take, refl, sym, ap, ap₂, ◌∙◌, arith}
-use Rattle.std.specs.List.{AllByRecursion}
+use Rattle.std.proofs.Common.{◌≡◌, ℕ, ◌+◌, ◌<◌, List, [], ◌∷◌, ◌++◌, length, get_or, take, refl, sym, ap, ap₂, ◌∙◌, arith}
 use Rattle.std.proofs.lemmas.List.{get_or-map, get_or_default, length-map, map-append, take_more}
 use Rattle.cq_values.specs.Value.{Row}
 use Rattle.cq_table_columns.specs.Places.{AreBelow, items_at, places_at, rows_at}
-
--- what holds of all holds at each place
-all-at : {X : Type 0} (P : X → Type 0) (xs : List X) (i : ℕ) (d : X) → i < length xs → AllByRecursion P xs → P (get_or xs i d)
-all-at P [] i d lt all = absurd (omega (arith, lt))
-all-at P (x ∷ xs) zero d lt all = all.0
-all-at P (x ∷ xs) (suc i) d lt all = all-at P xs i d (omega (arith, lt)) all.1
+use Rattle.cq_model_bags.proofs.Lists.{all-at}
 
 -- they are below the same end
 pub below-at : (end : ℕ) (all places : List ℕ) → AreBelow end all → AreBelow (length all) places → AreBelow end (places_at all places)

@@ -7,11 +7,7 @@ use Rattle.cq_model.specs.Expr.{Cond, Expr, Column}
 use Rattle.cq_model.specs.Width.{AreNarrowAt, IsNarrowIn}
 use Rattle.cq_plan.specs.Plan.{IsWithin}
 use Rattle.cq_plan.specs.declared.plan.Plan.{Plan}
-
--- what holds of anything holds of each
-all-of : {X : Type 0} (P : X → Type 0) → ((x : X) → P x) → (xs : List X) → AllByRecursion P xs
-all-of P each [] = tt
-all-of P each (x ∷ xs) = (each x, all-of P each xs)
+use Rattle.cq_model_bags.proofs.Lists.{all-of}
 
 -- two columns are narrow in each row, and a filter that is narrow in each row is so in these
 pub columns-within : (plan : Plan) (condition : Option Cond) → plan.filter.now ≡ condition → plan.items.now ≡ Column 1 ∷ Column 0 ∷ [] → ((row : Row) → IsNarrowIn condition row) → (rows : List Row) → AllByRecursion (IsWithin plan) rows

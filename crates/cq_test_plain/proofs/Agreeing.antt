@@ -5,7 +5,7 @@ use Rattle.std.proofs.lemmas.List.{get_or_append_left, get_or_past, get_or_push,
 use Rattle.std.specs.Prelude.{if◌then◌else◌, nat_eq, slice_get}
 use Rattle.std.specs.List.{AllByRecursion, Any, list_any}
 use Rattle.cq_values.specs.Value.{Row}
-use Rattle.cq_model_bags.specs.Bag.{Weighted, SameBag, weight_of, distinct, filtered, joined, once_each}
+use Rattle.cq_model_bags.specs.Bag.{Weighted, SameBag, distinct, filtered, joined, once_each}
 use Rattle.cq_model_bags.specs.Listing.{IsListing}
 use Rattle.cq_model_bags.specs.declared.sort_key.SortKey.{SortKey}
 use Rattle.cq_model_bags.proofs.Bags.{same-trans}
@@ -146,10 +146,6 @@ module _ (q : Query) (tables others : Tables) (all : AllByRecursion (λ source. 
 
   pub wide-agrees : IsQueryWide q tables → IsQueryWide q others
   wide-agrees w = subst (λ (xs : Weighted). AtSomeRow (IsWideIn q.filter) xs ⊎ IsShownWide q (filtered (keeps q.filter) xs)) (all-agrees q tables others all) w
-
--- one bag under two names
-pub same-bag : (xs ys : Weighted) → xs ≡ ys → SameBag xs ys
-same-bag xs ys e = record { at = λ r. ap (λ (zs : Weighted). weight_of zs r) e }
 
 -- a listing is one of the bag
 pub listing-respects : (keys : List SortKey) (limit : Option ℕ) (xs ys : Weighted) (rows : List Row) → SameBag xs ys → IsListing keys limit xs rows → IsListing keys limit ys rows

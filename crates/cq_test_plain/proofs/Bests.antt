@@ -5,7 +5,8 @@ use Rattle.std.specs.List.{AllByRecursion}
 use Rattle.std.proofs.lemmas.List.{take_more}
 use Rattle.cq_values.specs.declared.value.Value.{Value}
 use Rattle.cq_model.specs.Group.{extreme}
-use Rattle.cq_model_laws.proofs.Extremes.{IsOne, IsChoice, extreme-one, extreme-best}
+use Rattle.cq_model_bags.proofs.Lists.{all-push, all-weaker}
+use Rattle.cq_model.proofs.Extremes.{IsChoice, IsOne, extreme-best, extreme-one}
 
 -- one of the values, and as good as each of these
 pub record IsBest (R : Value → Value → Type 0) (v : Value) (values these : List Value) : Type 0 where
@@ -23,14 +24,6 @@ pub one_at : (values : List Value) (i : ℕ) (d : Value) → i < length values �
 one_at [] i d h = absurd (omega arith)
 one_at (v ∷ values) zero d h = inl refl
 one_at (v ∷ values) (suc i) d h = inr (one_at values i d (omega arith))
-
-all-push : (P : Value → Type 0) (values : List Value) (v : Value) → AllByRecursion P values → P v → AllByRecursion P (values ++ v ∷ [])
-all-push P [] v all p = (p, tt)
-all-push P (w ∷ values) v all p = (all.0, all-push P values v all.1 p)
-
-all-weaker : (P Q : Value → Type 0) → ((v : Value) → P v → Q v) → (values : List Value) → AllByRecursion P values → AllByRecursion Q values
-all-weaker P Q f [] all = tt
-all-weaker P Q f (v ∷ values) all = (f v all.0, all-weaker P Q f values all.1)
 
 module _ {best : Value → Value → Value} {R : Value → Value → Type 0} (c : IsChoice best R) where
   -- before the first step it is the first value

@@ -15,7 +15,7 @@ use Rattle.cq_test_plain.specs.Faults.{Tells}
 use Rattle.cq_test_plain.specs.FaultsOf.{IsShapeFault, IsShownFault}
 use Rattle.cq_test_plain.specs.Wide.{IsCountable, IsItemWide, IsWideAmong}
 use Rattle.cq_test_plain.proofs.Exits.{tells_more}
-use Rattle.cq_test_plain.proofs.ListedGroups.{count_all-listed}
+use Rattle.cq_model.proofs.ListedValues.{count_all-listed}
 
 module _ (rows : List Row) (few : length rows < 2 ^ 64) where
   -- as many as a vector can hold are not too many

@@ -1,25 +1,19 @@
 -- What is wrong with a group is wrong with the rows.
-use Rattle.std.proofs.Common.{◌≡◌, ℕ, zero, suc, ◌<◌, pos, ◌<ℤ◌, Bool, cond, List, [], ◌∷◌, Some, length, get_or, sym, subst, arith}
+use Rattle.std.proofs.Common.{◌≡◌, ℕ, ◌<◌, Bool, List, Some, length, get_or, sym, subst}
 use Rattle.std.specs.List.{AllByRecursion, Any}
-use Rattle.std.proofs.lemmas.Int.{ints}
 use Rattle.cq_values.specs.Value.{Row}
 use Rattle.cq_values.specs.Order.{same_row}
-use Rattle.cq_model_bags.specs.Bag.{Weighted, weight_of, filtered}
-use Rattle.cq_model_bags.proofs.Totals.{by_test, weight_of-filtered}
+use Rattle.cq_model_bags.specs.Bag.{Weighted, filtered}
 use Rattle.cq_model.specs.declared.query.Aggregate.{Aggregate}
 use Rattle.cq_model.specs.declared.query.Aggregate.TheVariants.{CountAll, Count, Sum, Min, Max}
 use Rattle.cq_model.specs.Group.{SumInRange, SumsInRange, key_of, keys_of, rows_of_key}
 use Rattle.cq_test_plain.specs.Wide.{AtSomeRow, IsWideAt, IsWideOver}
 use Rattle.cq_test_plain.proofs.Exits.{any_more}
-
--- a row that a filter keeps is there
-kept_there : (keep : Row → Bool) (xs : Weighted) (row : Row) → pos 0 <ℤ weight_of (filtered keep xs) row → pos 0 <ℤ weight_of xs row
-kept_there keep xs row w =
-    let v : pos 0 <ℤ cond (keep row) (weight_of xs row) (pos 0) = subst (λ n. pos 0 <ℤ n) (weight_of-filtered keep xs row) w in
-    by_test (keep row) (λ k. rw k at v) (λ k. absurd (let u : pos 0 <ℤ pos 0 = rw k at v in omega (arith, ints)))
+use Rattle.cq_model_bags.proofs.Lists.{all-at}
+use Rattle.cq_model_bags.proofs.Positives.{kept-there}
 
 at_kept : (P : Row → Type 0) (keep : Row → Bool) (xs : Weighted) → AtSomeRow P (filtered keep xs) → AtSomeRow P xs
-at_kept P keep xs h = (h.0, kept_there keep xs h.0 h.1, h.2)
+at_kept P keep xs h = (h.0, kept-there keep xs h.0 h.1, h.2)
 
 -- an aggregate that is too wide over some rows is so over all
 wide_over_kept : (keep : Row → Bool) (xs : Weighted) (a : Aggregate) → IsWideOver (filtered keep xs) a → IsWideOver xs a
@@ -28,11 +22,6 @@ wide_over_kept keep xs (Count e) h = at_kept (IsWideAt e) keep xs h
 wide_over_kept keep xs (Sum e) h = at_kept (IsWideAt e) keep xs h
 wide_over_kept keep xs (Min e) h = at_kept (IsWideAt e) keep xs h
 wide_over_kept keep xs (Max e) h = at_kept (IsWideAt e) keep xs h
-
-all_at : (P : Row → Type 0) (rows : List Row) (i : ℕ) (d : Row) → i < length rows → AllByRecursion P rows → P (get_or rows i d)
-all_at P [] i d h all = absurd (omega arith)
-all_at P (r ∷ rows) zero d h all = all.0
-all_at P (r ∷ rows) (suc i) d h all = all_at P rows i d (omega arith) all.1
 
 -- so is the query where a group is
 pub group_wide : (columns : List ℕ) (aggregates : List Aggregate) (key : Row) (xs : Weighted) → Any (IsWideOver (rows_of_key columns key xs)) aggregates → Any (IsWideOver xs) aggregates
@@ -43,4 +32,4 @@ pub group_outside : (columns : List ℕ) (aggregates : List Aggregate) (key : Ro
     → (AllByRecursion (λ a. SumInRange a (rows_of_key columns key xs)) aggregates → ⊥) → SumsInRange (Some columns) aggregates xs → ⊥
 group_outside columns aggregates key xs keys i are h is outside all =
     let P : Row → Type 0 = λ k. AllByRecursion (λ a. SumInRange a (rows_of_key columns k xs)) aggregates in
-    outside (subst P (sym is) (all_at P keys i key h (subst (AllByRecursion P) (sym are) all)))
+    outside (subst P (sym is) (all-at P keys i key h (subst (AllByRecursion P) (sym are) all)))

@@ -1,7 +1,6 @@
 pub mod Once
 pub mod Bests
 pub mod Narrow
-pub mod ListedGroups
 pub mod Exits
 pub mod GroupFaults
 pub mod Agreeing

@@ -8,7 +8,6 @@ pub mod Stored
 pub mod Lent
 pub mod Named
 pub mod Databases
-pub mod Totals
 pub mod WideWrites
 pub mod Replacements
 pub mod FaultsOf

@@ -5,7 +5,7 @@ ghost use Rattle.cq_model.specs.Group.{InRange, SumInRange, addend, aggregate, e
 ghost use Rattle.cq_test_plain.specs.Faults.{Tells};
 ghost use Rattle.cq_test_plain.specs.FaultsOf.{IsAggregateFault};
 ghost use Rattle.cq_test_plain.specs.OfGroups.{known_values};
-ghost use Rattle.cq_test_plain.specs.Totals.{shown_total, total_of};
+ghost use Rattle.cq_model.specs.Totals.{shown_total, total_of};
 ghost use Rattle.cq_test_plain.specs.Wide.{AtSomeRow, IsWideAt};
 ghost use Rattle.cq_model.specs.Width.{number_limit};
 

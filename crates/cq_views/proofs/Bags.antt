@@ -1,6 +1,5 @@
 -- What becomes of bags of rows that are cut to columns.
 use Rattle.std.proofs.Common.{◌≡◌, ◌≤◌, List, [], ◌∷◌, ◌++◌, Option, Some, None, refl, arith}
-use Rattle.std.specs.List.{AllByRecursion}
 use Rattle.cq_values.specs.Value.{Row}
 use Rattle.cq_model_bags.proofs.Bags.{projected-respects, same-refl}
 use Rattle.cq_model_bags.proofs.Linears.{projected-append}
@@ -56,10 +55,6 @@ cut-wide_rows : (x : Option SourceColumns) (xs : Weighted) → HasWidth (cut_wid
 cut-wide_rows None xs = tt
 cut-wide_rows (Some x) xs = rows-wide x.columns xs
 
--- a list with the rows of a bag is one
-pub bag-same : (xs ys : Weighted) → SameBag xs ys → IsBag ys → IsBag xs
-bag-same xs ys same bag = record { at = λ r. rw (same.at r) (bag.at r) }
-
 -- ---- rows of all sources
 module _ (columns : List SourceColumns) where
   -- what changes of tables make of them is cut to what the changes that are cut make
@@ -74,7 +69,3 @@ module _ (columns : List SourceColumns) where
   cut-bags tables bags s = cut-bag (entry_of columns s) (tables s) (bags s)
 
 -- ---- several sources
--- what follows for each of them follows for all
-pub all-weaker : {X : Type 0} (P Q : X → Type 0) → ((x : X) → P x → Q x) → (xs : List X) → AllByRecursion P xs → AllByRecursion Q xs
-all-weaker P Q follows [] all = tt
-all-weaker P Q follows (x ∷ xs) all = (follows x all.0, all-weaker P Q follows xs all.1)

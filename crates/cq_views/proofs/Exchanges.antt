@@ -2,7 +2,6 @@
 use Rattle.std.proofs.Common.{◌≡◌, ◌∙◌, ◌+◌, ◌<◌, ◌^◌, ℕ, ℤ, pos, neg_ℤ, ◌+ℤ◌, nat_abs, List, [], ◌∷◌, ◌++◌, length, map, take, get_or, Option, Some, None, refl, sym, ap, ap₂, subst, arith}
 use Rattle.std.proofs.lemmas.Int.{ints}
 use Rattle.std.proofs.lemmas.List.{length-map, length-take-le, map-append, take_more}
-use Rattle.std.specs.List.{IsDistinct}
 use Rattle.cq_values.specs.Value.{Row}
 use Rattle.cq_model_bags.proofs.Bags.{same-append, same-refl, same-trans}
 use Rattle.cq_model_bags.proofs.Linears.{projected-append}
@@ -18,10 +17,12 @@ use Rattle.cq_views.specs.Filling.{only}
 use Rattle.cq_model.specs.Sources.{same_source}
 use Rattle.cq_model.specs.Group.{key_of}
 use Rattle.cq_model.specs.declared.query.Source.{Source}
-use Rattle.cq_views_columns.proofs.Covered.{only_itself}
 use Rattle.cq_views_columns.specs.declared.columns.SourceColumns.{SourceColumns}
-use Rattle.cq_sides_weights.proofs.RowByRow.{abs-plus, sizes-cons, weight-size}
+use Rattle.cq_sides_weights.proofs.RowByRow.{sizes-cons, weight-size}
 use Rattle.cq_sides_weights.specs.Held.{Held, sizes}
+use Rattle.cq_model_bags.proofs.Sizes.{clean-nil}
+use Rattle.cq_model_bags.proofs.Integers.{abs-plus}
+use Rattle.cq_model.proofs.SameSources.{only_itself}
 
 -- ---- one row after the other
 -- rows that all come, or all go, have their number as their sizes
@@ -97,10 +98,6 @@ all-cut_rows columns gone come left cut went came =
     (same-trans cut (left ++ in_) (out ++ in_) came (same-append left out in_ in_ went (same-refl in_)))
 
 -- ---- the change of one table
-pub none-clean : IsClean []
-unfolding IsDistinct
-none-clean = record { once = tt; weighs = λ r h. absurd (cc) }
-
 module _ (columns : List SourceColumns) (source : Source) (xs : Weighted) where
   -- rows of one source are cut to the columns of its entry
   cut-only : (x : Option SourceColumns) → entry_of columns source ≡ x → (s : Source) → cut_to (entry_of columns s) (only source xs s) ≡ only source (cut_to x xs) s
@@ -110,7 +107,7 @@ module _ (columns : List SourceColumns) (source : Source) (xs : Weighted) where
 
   -- without an entry none is left
   pub no-entry : entry_of columns source ≡ None → AreCut columns (only source xs) (rows_at [])
-  no-entry none = record { same = record { at = λ s. subst (λ (ys : Weighted). SameBag [] ys) (sym (cut-only None none s ∙ nothing s)) (same-refl []) }; clean = λ s. none-clean }
+  no-entry none = record { same = record { at = λ s. subst (λ (ys : Weighted). SameBag [] ys) (sym (cut-only None none s ∙ nothing s)) (same-refl []) }; clean = λ s. clean-nil }
     where
       nothing : (s : Source) → only source [] s ≡ []
       nothing s = by_test (same_source source s) (λ k. rw k refl) (λ k. rw k refl)
@@ -119,7 +116,7 @@ module _ (columns : List SourceColumns) (source : Source) (xs : Weighted) where
   pub own-entry : (x : SourceColumns) → entry_of columns source ≡ Some x → (rows : Held) → IsCut x.columns xs rows → AreCut columns (only source xs) (rows_at (record { source = source; rows = rows } ∷ []))
   own-entry x found rows is = record {
     same = record { at = λ s. subst (λ (ys : Weighted). SameBag (only source rows.entries s) ys) (sym (cut-only (Some x) found s)) (alike s) };
-    clean = only-have IsClean source rows.entries is.clean none-clean;
+    clean = only-have IsClean source rows.entries is.clean clean-nil;
   }
     where
       alike : (s : Source) → SameBag (only source rows.entries s) (only source (projected (key_of x.columns) xs) s)

@@ -10,9 +10,9 @@ use Rattle.cq_deltas_joins.specs.Chains.{nothing, spans}
 use Rattle.cq_deltas_joins.specs.Steps.{AreStored}
 use Rattle.cq_table_columns.specs.Stored.{all_rows}
 use Rattle.cq_views_model.specs.Delta.{changed}
-use Rattle.cq_views.proofs.Bags.{all-weaker, cut-append, cut-bags, cut-none, cut-sizes, cut-stored}
+use Rattle.cq_views.proofs.Bags.{cut-append, cut-bags, cut-none, cut-sizes, cut-stored}
 use Rattle.cq_views.proofs.Told.{start-wide}
-use Rattle.cq_views.proofs.Taking.{all-hold, bags_at-bags, can-first, can-second, can-swapped, fills-none, fills-swapped, only-bags, spans-less}
+use Rattle.cq_views.proofs.Taking.{bags_at-bags, can-first, can-second, can-swapped, fills-none, fills-swapped, only-bags, spans-less}
 use Rattle.cq_views.specs.Cut.{IsFilled, cut_bags, cut_only, cut_table, cut_to, cut_widths, entry_of}
 use Rattle.cq_views.specs.Filling.{CanFill, Fills, bags_at, only}
 use Rattle.cq_model_laws.proofs.Positives.{once_each-bag}
@@ -22,7 +22,6 @@ use Rattle.cq_model.specs.Meaning.{Tables}
 use Rattle.cq_model.specs.Views.{sources_of}
 use Rattle.cq_model.specs.declared.query.Query.{Query}
 use Rattle.cq_model.specs.declared.query.Source.{Source}
-use Rattle.cq_views_columns.proofs.Covered.{only_itself}
 use Rattle.cq_views_columns.specs.Narrow.{IsNarrowOf}
 use Rattle.cq_views_columns.specs.declared.columns.SourceColumns.{SourceColumns}
 use Rattle.cq_views_columns.specs.declared.narrow_query.NarrowQuery.{NarrowQuery}
@@ -30,6 +29,8 @@ use Rattle.cq_table_columns.specs.declared.stored_source.StoredSource.{StoredSou
 use Rattle.cq_views_state.specs.State.{AreAsTold, AreBags, CanStart, HoldStored, SameView, StandsFor}
 use Rattle.cq_views_state.specs.Work.{work_of}
 use Rattle.cq_views_state.specs.declared.state.ViewState.{ViewState}
+use Rattle.cq_model_bags.proofs.Lists.{all-of, all-weaker}
+use Rattle.cq_model.proofs.SameSources.{only_itself}
 
 -- ---- rows of one table
 module _ (columns : List SourceColumns) (t : StoredSource) where
@@ -113,7 +114,7 @@ start-can v query more is start bags stands wide =
         stands = stands;
         wide = wide;
         few = own.few;
-        stored = (all-hold (λ s. AreStored (nothing s)) (λ s. tt) (sources_of v.query), own.stored);
+        stored = (all-of (λ s. AreStored (nothing s)) (λ s. tt) (sources_of v.query), own.stored);
       };
       bags = (λ s. once_each-bag [], bags);
     }

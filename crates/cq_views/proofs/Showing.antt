@@ -6,7 +6,7 @@ use Rattle.cq_values.specs.Value.{Row}
 use Rattle.cq_model_bags.proofs.Bags.{same-refl}
 use Rattle.cq_model_bags.specs.Bag.{SameBag, Weighted, once_each}
 use Rattle.cq_deltas_joins.specs.Steps.{AreStored}
-use Rattle.cq_views.proofs.Bags.{all-weaker, cut-bags, cut-sizes, cut-stored}
+use Rattle.cq_views.proofs.Bags.{cut-bags, cut-sizes, cut-stored}
 use Rattle.cq_views.proofs.Sources.{entries-read}
 use Rattle.cq_views.specs.Cut.{cut_bags, entry_of}
 use Rattle.cq_views.specs.Shown.{AreRowsOf, CanShow, IsNotShown, IsShown, Suits}
@@ -24,6 +24,7 @@ use Rattle.cq_sides_weights.specs.Held.{sizes}
 use Rattle.cq_views_state.proofs.SameBags.{standing-by_sources}
 use Rattle.cq_views_state.specs.Shown as inner
 use Rattle.cq_views_state.specs.State.{AreBags, StandsFor, crossed}
+use Rattle.cq_model_bags.proofs.Lists.{all-weaker}
 
 -- smaller rows of each source are fewer in all joins
 crossed-less : (tables others : Tables) → ((s : Source) → sizes (tables s) ≤ sizes (others s)) → (sources : List Source) → crossed tables sources ≤ crossed others sources

@@ -3,17 +3,17 @@ use Rattle.std.proofs.Common.{◌≡◌, ℕ, Bool, true, ◌||◌, List, [], �
 use Rattle.std.specs.List.{AllByRecursion, list_any}
 use Rattle.cq_model_bags.proofs.Totals.{by_test}
 use Rattle.cq_model_bags.specs.Bag.{Weighted, projected}
-use Rattle.cq_views.proofs.Bags.{all-weaker}
 use Rattle.cq_views.specs.Cut.{cut_to, entry_of}
 use Rattle.cq_model.specs.Sources.{same_source}
 use Rattle.cq_model.specs.Group.{key_of}
 use Rattle.cq_model.specs.Meaning.{Tables}
 use Rattle.cq_model.specs.declared.query.Query.{Query}
 use Rattle.cq_model.specs.declared.query.Source.{Source}
-use Rattle.cq_views_columns.proofs.Covered.{itself}
 use Rattle.cq_views_columns.proofs.Rows.{one-first, one-second}
 use Rattle.cq_views_columns.specs.Narrow.{columns_at, sources_read}
 use Rattle.cq_views_columns.specs.declared.columns.SourceColumns.{SourceColumns}
+use Rattle.cq_model_bags.proofs.Lists.{all-weaker}
+use Rattle.cq_model.proofs.SameSources.{itself}
 
 -- ---- entries of a query's sources
 -- whether a source has an entry

@@ -10,7 +10,7 @@ use Rattle.cq_deltas_joins.specs.Chains.{spans}
 use Rattle.cq_deltas_joins.specs.Work as chains
 use Rattle.cq_deltas_joins.specs.Steps.{AreStored, span}
 use Rattle.cq_views_model.specs.Delta.{changed}
-use Rattle.cq_views.proofs.Bags.{all-weaker, bag-same, cut-bags, cut-changed, cut-same, cut-sizes, cut-stored}
+use Rattle.cq_views.proofs.Bags.{cut-bags, cut-changed, cut-same, cut-sizes, cut-stored}
 use Rattle.cq_views.specs.Cut.{AreCut, cut_bags, cut_widths, entry_of}
 use Rattle.cq_views.specs.Laws.{CountsWithinWork, StandingDependsOnSources}
 use Rattle.cq_views.specs.State.{CanPrepare, CountsPairs, IsWaiting, SameView, TakesIn, narrow_query}
@@ -21,7 +21,7 @@ use Rattle.cq_model.specs.declared.query.Query.{Query}
 use Rattle.cq_model.specs.declared.query.Source.{Source}
 use Rattle.cq_views_columns.specs.Narrow.{IsNarrowOf}
 use Rattle.cq_deltas_joins.proofs.Sizes.{sizes-least}
-use Rattle.cq_views.proofs.Taking.{all-hold, spans-less}
+use Rattle.cq_views.proofs.Taking.{spans-less}
 use Rattle.cq_views.proofs.Told.{all-wide, changes-wide}
 use Rattle.cq_views_state.proofs.SameBags.{standing-by_sources}
 use Rattle.cq_views_state.proofs.Working.{counts-within_work}
@@ -30,6 +30,8 @@ use Rattle.cq_views_state.specs.State.{AreBags}
 use Rattle.cq_views_state.specs.State as inner
 use Rattle.cq_views_state.specs.declared.state.Pending.{Pending}
 use Rattle.cq_views_state.specs.declared.state.ViewState.{ViewState}
+use Rattle.cq_model_bags.proofs.Lists.{all-of, all-weaker}
+use Rattle.cq_model_bags.proofs.Positives.{bag-same}
 
 -- ---- states of the same query
 module _ (v : KeptView) (w : ViewState) (same : w.query ≡ v.state.query) (told : w.widths ≡ v.state.widths) where
@@ -54,7 +56,7 @@ module _ (v : KeptView) (w : ViewState) (same : w.query ≡ v.state.query) (told
       record {
         narrow = narrow-still stands.narrow;
         widths = widths-still stands.widths;
-        rows = standing-by_sources w (changed old waits.cut) now (all-hold (λ s. SameBag (changed old waits.cut s) (now s)) alike (sources_of w.query)) (takes old waits.cut stands.rows waits.waits all);
+        rows = standing-by_sources w (changed old waits.cut) now (all-of (λ s. SameBag (changed old waits.cut s) (now s)) alike (sources_of w.query)) (takes old waits.cut stands.rows waits.waits all);
       }
 
 -- what follows of a value and of what holds beside it

@@ -3,7 +3,6 @@ use Rattle.std.proofs.Common.{◌≡◌, ◌∙◌, ◌≤◌, ◌^◌, pos, Lis
 use Rattle.std.proofs.lemmas.Int.{ints}
 use Rattle.std.proofs.lemmas.List.{append-nil, map-append}
 use Rattle.std.proofs.lemmas.Nat.{mul-le}
-use Rattle.std.specs.List.{AllByRecursion}
 use Rattle.cq_values.specs.Value.{Row}
 use Rattle.cq_model_bags.proofs.Bags.{same-append, same-refl}
 use Rattle.cq_model_bags.proofs.Totals.{by_test, weight_of-append}
@@ -33,6 +32,7 @@ use Rattle.cq_views_state.specs.Query.{CanBeKept}
 use Rattle.cq_views_state.specs.State.{AreBags, AreAsTold, CanPrepare, HoldStored, IsWaiting, SameView, StandsFor, TakesIn}
 use Rattle.cq_views_state.specs.declared.state.Pending.{Pending}
 use Rattle.cq_views_state.specs.declared.state.ViewState.{ViewState}
+use Rattle.cq_model_bags.proofs.Lists.{all-both, all-of}
 
 -- ---- Rows, each of them once
 -- rows that are there once each have their number as their sizes
@@ -41,16 +41,6 @@ sizes-once_each [] = refl
 sizes-once_each (r ∷ rows) = omega (arith, ints, sizes-cons (r, pos 1) (once_each rows), sizes-once_each rows)
 
 -- ---- Several sources
--- what holds of each source holds of several
-pub all-hold : (P : Source → Type 0) → ((s : Source) → P s) → (sources : List Source) → AllByRecursion P sources
-all-hold P each [] = tt
-all-hold P each (s ∷ sources) = (each s, all-hold P each sources)
-
--- and what follows of two facts of each of them
-pub all-both : (P Q R : Source → Type 0) → ((s : Source) → P s → Q s → R s) → (sources : List Source) → AllByRecursion P sources → AllByRecursion Q sources → AllByRecursion R sources
-all-both P Q R follows [] first second = tt
-all-both P Q R follows (s ∷ sources) first second = (follows s first.0 second.0, all-both P Q R follows sources first.1 second.1)
-
 -- smaller rows and changes of each source have no larger spans
 pub spans-less : (tables changes others more : Tables) → ((s : Source) → span (tables s) (changes s) ≤ span (others s) (more s)) → (sources : List Source)
     → spans tables changes sources ≤ spans others more sources
@@ -81,7 +71,7 @@ fills-same old new more others same as_wide fills = record {
   built = fills.built;
   stands = λ tables stands bags wide.
       standing-by_sources new (changed tables more) (changed tables others)
-      (all-hold (λ s. SameBag (tables s ++ more s) (tables s ++ others s)) (λ s. same-append (tables s) (tables s) (more s) (others s) (same-refl (tables s)) (same.at s)) (sources_of new.query))
+      (all-of (λ s. SameBag (tables s ++ more s) (tables s ++ others s)) (λ s. same-append (tables s) (tables s) (more s) (others s) (same-refl (tables s)) (same.at s)) (sources_of new.query))
       (fills.stands tables stands bags (as_wide tables wide));
 }
 

@@ -1,7 +1,7 @@
 -- The columns that a query reads of its sources are all that its joins, WHERE, groups and items read.
 use Rattle.std.proofs.Common.{◌≡◌, ℕ, ◌+◌, ◌<◌, ◌==◌, Bool, true, false, ◌&&◌, ◌||◌, nat_lt, List, [], ◌∷◌, map, refl, sym, ◌∙◌, ap, subst, arith}
 use Rattle.std.proofs.lemmas.Bool.Decides.{nat_tests}
-use Rattle.std.proofs.lemmas.Bool.{eq-eqb, eqb-true}
+use Rattle.std.proofs.lemmas.Bool.{eq-eqb}
 use Rattle.std.specs.List.{AllByRecursion, list_any}
 use Rattle.cq_model_bags.proofs.Totals.{by_test}
 use Rattle.cq_model.specs.Sources.{same_source}
@@ -10,24 +10,12 @@ use Rattle.cq_model.specs.declared.query.Equality.{Equality}
 use Rattle.cq_model.specs.declared.query.Join.{Join}
 use Rattle.cq_model.specs.declared.query.Query.{Query}
 use Rattle.cq_model.specs.declared.query.Source.{Source}
-use Rattle.cq_model.specs.declared.query.Source.TheVariants.{Table, View}
 use Rattle.cq_views_columns.specs.Narrow.{columns_at, columns_read, sources_read}
 use Rattle.cq_views_columns.specs.Places.{is_one_of}
 use Rattle.cq_views_columns.specs.Reads.{is_read, reads_filter, reads_from, reads_joined, reads_left, reads_right, reads_shape}
 use Rattle.cq_views_columns.proofs.Joined.{AreCovered, Covers, IsCovered}
 use Rattle.cq_views_columns.proofs.Rows.{one-first, one-second, range-below, range-has}
-
--- a source is itself
-pub itself : (s : Source) → same_source s s ≡ true
-itself (Table n) = eq-eqb n n refl
-itself (View n) = eq-eqb n n refl
-
--- and no other one is
-pub only_itself : (s t : Source) → same_source s t ≡ true → s ≡ t
-only_itself (Table m) (Table n) e = ap Table (eqb-true m n e)
-only_itself (Table m) (View n) e = absurd (cc e)
-only_itself (View m) (Table n) e = absurd (cc e)
-only_itself (View m) (View n) e = ap View (eqb-true m n e)
+use Rattle.cq_model.proofs.SameSources.{itself, only_itself}
 
 -- what holds of each of two holds of both
 both-hold : (a b : Bool) → a ≡ true → b ≡ true → a && b ≡ true

@@ -15,7 +15,6 @@ use Rattle.cq_model_bags.proofs.Positives.{filtered-bag, projected-bag}
 use Rattle.cq_model_bags.proofs.Totals.{by_test}
 use Rattle.cq_model_bags.proofs.Widths.{filtered-width}
 use Rattle.cq_model_laws.proofs.Counted.{extreme-counted}
-use Rattle.cq_model_laws.proofs.Extremes.{IsDownTo, IsUpTo, higher-choice, lower-choice}
 use Rattle.cq_model.specs.Condition.{is_null}
 use Rattle.cq_model.specs.Eval.{eval}
 use Rattle.cq_model.specs.Expr.{Cond, Expr}
@@ -30,6 +29,7 @@ use Rattle.cq_views_columns.specs.Reads.{reads, reads_argument, reads_filter, re
 use Rattle.cq_views_columns.specs.Renamed.{renamed, renamed_aggregate, renamed_cond, renamed_items, renamed_shape}
 use Rattle.cq_views_columns.proofs.Rows.{one-first, one-second}
 use Rattle.cq_views_columns.proofs.Values.{AreSameOn, eval-renamed, holds-renamed}
+use Rattle.cq_model.proofs.Extremes.{IsDownTo, IsUpTo, higher-choice, lower-choice}
 
 -- ---- images of rows
 -- what holds of rows of this width holds of each row

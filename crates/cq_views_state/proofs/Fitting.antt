@@ -22,10 +22,11 @@ use Rattle.cq_model.specs.Width.{width}
 use Rattle.cq_model_laws.proofs.Fits.{FitBeside, Fits, null-fits, sum-fits}
 use Rattle.cq_model_laws.proofs.Ranges.{all-at, all-from}
 use Rattle.cq_model_laws.specs.Sizes.{IsStored}
-use Rattle.cq_sides_weights.proofs.RowByRow.{abs-plus, sizes-cons}
+use Rattle.cq_sides_weights.proofs.RowByRow.{sizes-cons}
 use Rattle.cq_sides_weights.specs.Held.{sizes}
 use Rattle.cq_deltas_joins.specs.Steps.{AreStored}
-use Rattle.cq_views_state.proofs.Listing.{listed-all}
+use Rattle.cq_model_bags.proofs.Sizes.{listed-all}
+use Rattle.cq_model_bags.proofs.Integers.{abs-plus}
 
 -- ---- counts
 -- a sum over rows of what is at most one is no larger than they are many

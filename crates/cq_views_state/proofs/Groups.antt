@@ -16,7 +16,7 @@ use Rattle.cq_model.specs.Group.{InRange, SumInRange, SumsInRange, count_all, gr
 use Rattle.cq_views_model.specs.Kept.{Group, GroupStands, Groups, shown_row}
 use Rattle.cq_views_model.specs.Shown.{ListsKeys}
 use Rattle.cq_model_laws.proofs.Counted.{group-shows}
-use Rattle.cq_model_laws.proofs.Groups.{IsRowOf, group_row-respects, row-from-test, row-to-test, sum-respects}
+use Rattle.cq_model_laws.proofs.Groups.{group_row-respects, sum-respects}
 use Rattle.cq_model_laws.proofs.Ranges.{all-at, all-from, key-counted}
 use Rattle.cq_deltas.proofs.NoRows.{nothing-counted}
 use Rattle.cq_deltas.proofs.Small.{ranges-show}
@@ -24,11 +24,8 @@ use Rattle.cq_deltas.specs.Keyed.{KeyedGroups, group_at}
 use Rattle.cq_deltas.specs.Shown.{AllCanBeShown, GroupsCanBeShown, counted_keys, group_rows}
 use Rattle.cq_views_state.proofs.Listing.{weight-among}
 use Rattle.cq_views_state.specs.Shown.{or_nothing}
-
--- the rows of rows that stand once each
-rows-once : (rows : List Row) → map (λ x. x.0) (once_each rows) ≡ rows
-rows-once [] = refl
-rows-once (r ∷ rows) = ap (λ rs. r ∷ rs) (rows-once rows)
+use Rattle.cq_model_bags.proofs.Once.{rows-once}
+use Rattle.cq_model.proofs.Occurring.{IsRowOf, row-from-test, row-to-test}
 
 -- ---- with GROUP BY
 module _ (columns : List ℕ) (aggregates : List Aggregate) (groups : KeyedGroups) (xs : Weighted) (lists : ListsKeys (counted_keys groups) (Groups (group_at aggregates groups)))

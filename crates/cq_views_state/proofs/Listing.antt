@@ -4,7 +4,7 @@ use Rattle.std.proofs.lemmas.Int.{ints}
 use Rattle.std.proofs.lemmas.List.{map-append}
 use Rattle.std.specs.List.{AllByRecursion, IsDistinct}
 use Rattle.std.specs.Map.{keys_of}
-use Rattle.cq_values.specs.Keys.{same_row-equiv, same_row-refl, same_row-same}
+use Rattle.cq_values.specs.Keys.{same_row-refl, same_row-same}
 use Rattle.cq_values.specs.Order.{same_row}
 use Rattle.cq_values.specs.Value.{Row}
 use Rattle.cq_model_bags.proofs.Distincts.{is_among}
@@ -12,9 +12,10 @@ use Rattle.cq_model_bags.proofs.Listings.{weight_of-once_each}
 use Rattle.cq_model_bags.proofs.Totals.{by_test, weight_of-append}
 use Rattle.cq_model_bags.specs.Bag.{Weighted, SameBag, IsBag, once_each, weight_of}
 use Rattle.cq_model_bags.specs.Size.{IsClean}
-use Rattle.cq_model_laws.proofs.Groups.{row-to-test}
 use Rattle.cq_model_laws.proofs.Ranges.{all-from}
 use Rattle.cq_deltas_joins.proofs.Pairing.{taken}
+use Rattle.cq_model_bags.proofs.Sizes.{listed-all, weightless}
+use Rattle.cq_model.proofs.Occurring.{row-to-test}
 
 -- ---- one row, so many times
 -- at first none is there
@@ -51,11 +52,6 @@ times-more old cur row copy n is so_far = record {
 }
 
 -- ---- all rows
--- a row that is not listed weighs nothing
-weightless : (xs : Weighted) (r : Row) → AllByRecursion (λ y. same_row r y ≡ false) (keys_of xs) → weight_of xs r ≡ pos 0
-weightless [] r h = refl
-weightless (x ∷ xs) r h = rw (same_row-equiv.symm x.0 r ∙ h.0, weightless xs r h.1) refl
-
 distinct-positive : (xs : Weighted) → IsDistinct same_row (keys_of xs) → ((r : Row) → pos 0 ≤ℤ weight_of xs r) → AllByRecursion (λ x. pos 0 ≤ℤ x.1) xs
 unfolding IsDistinct
 distinct-positive [] d bag = tt
@@ -98,13 +94,6 @@ weight-among [] r h = absurd (cc)
 weight-among (s ∷ rows) r h = by_test (same_row s r)
     (λ b. rw b (omega (arith, ints, weight_of-once_each rows r)))
     (λ b. rw b (omega (arith, ints, weight-among rows r (rw b at h))))
-
--- what holds of all rows holds of one with a weight
-pub listed-all : (P : Row → Type 0) (ys : Weighted) (r : Row) → AllByRecursion (λ y. P y.0) ys → (weight_of ys r ≡ pos 0 → ⊥) → P r
-listed-all P [] r all weighs = absurd (weighs refl)
-listed-all P (y ∷ ys) r all weighs = by_test (same_row y.0 r)
-    (λ s. subst P (same_row-same y.0 r s) all.0)
-    (λ s. listed-all P ys r all.1 (λ e. weighs (let whole : weight_of (y ∷ ys) r ≡ pos 0 +ℤ weight_of ys r = rw s refl in omega (arith, ints, whole, e))))
 
 -- so it holds of rows that stand as often as these weigh
 pub listed-once : (P : Row → Type 0) (rows : List Row) (ys : Weighted) → SameBag (once_each rows) ys

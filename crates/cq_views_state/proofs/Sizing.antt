@@ -10,8 +10,7 @@ use Rattle.cq_model_bags.proofs.Positives.{filtered-bag}
 use Rattle.cq_views_model.specs.Kept.{GroupStands, Groups, LastStands, shown_row}
 use Rattle.cq_views_model.specs.Shown.{ListsKeys}
 use Rattle.cq_model_laws.proofs.Counted.{group-shows}
-use Rattle.cq_model_laws.proofs.Fits.{FitBeside, all-map, beside-append, beside-at}
-use Rattle.cq_model_laws.proofs.Groups.{IsRowOf, row-to-test}
+use Rattle.cq_model_laws.proofs.Fits.{FitBeside, beside-append, beside-at}
 use Rattle.cq_model_laws.proofs.Ranges.{all-at, all-from}
 use Rattle.cq_model_laws.specs.Sizes.{HasSizes, IsSized, IsStored}
 use Rattle.cq_model.specs.Group.{SumInRange, aggregate, group_row, key_of, keys_of, rows_of_key}
@@ -31,11 +30,14 @@ use Rattle.cq_deltas.specs.Shown.{GroupsCanBeShown, counted_keys}
 use Rattle.cq_views_state.proofs.Changing.{images-for, plain-for}
 use Rattle.cq_views_state.proofs.Fitting.{all-shown-fit}
 use Rattle.cq_views_state.proofs.Groups.{in-range, occurs, one-in-range, one-row}
-use Rattle.cq_views_state.proofs.Listing.{listed-all, listed-once}
+use Rattle.cq_views_state.proofs.Listing.{listed-once}
 use Rattle.cq_views_state.proofs.Widths.{items-narrow, items-sized}
 use Rattle.cq_views_state.specs.Query.{CanBeKept, aggregates_in, aggregates_of}
 use Rattle.cq_views_state.specs.Shown.{StandsOnStored, all_rows}
 use Rattle.cq_views_state.specs.declared.last.Last.TheVariants as stored
+use Rattle.cq_model_bags.proofs.Lists.{all-map, all-weaker}
+use Rattle.cq_model_bags.proofs.Sizes.{listed-all}
+use Rattle.cq_model.proofs.Occurring.{IsRowOf, row-to-test}
 
 -- ---- keys
 -- a key of so many columns is of stored numbers
@@ -85,11 +87,6 @@ module _ (aggregates : List Aggregate) (groups : KeyedGroups) (xs : Weighted) (b
         subst (λ (row : Row). FitBeside row (map (λ c. stored_size) columns ++ map shown_size aggregates)) (sym is)
         (beside-append k (map (λ c. stored_size) columns) (map (λ a. aggregate a own) aggregates) (map shown_size aggregates)
         (occurs-fits columns xs stored k there) shown)
-
--- what holds of all rows, and what follows from it
-all-weaker : (P Q : Row → Type 0) → ((r : Row) → P r → Q r) → (rows : List Row) → AllByRecursion P rows → AllByRecursion Q rows
-all-weaker P Q f [] all = tt
-all-weaker P Q f (r ∷ rows) all = (f r all.0, all-weaker P Q f rows all.1)
 
 module _ (query : Query) (groups : KeyedGroups) where
   -- the rows of a shape's groups are within its sizes

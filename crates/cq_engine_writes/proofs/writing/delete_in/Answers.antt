@@ -5,15 +5,16 @@ use Rattle.cq_values.specs.Value.{Row}
 use Rattle.cq_model.specs.Write.{chosen, left_by}
 use Rattle.cq_model.specs.Width.{IsNarrowIn}
 use Rattle.cq_model_state.specs.State.{TableOf}
-use Rattle.cq_engine_tables.proofs.Rows.{all_there, rows_numbered}
+use Rattle.cq_engine_tables.proofs.Rows.{rows_numbered}
 use Rattle.cq_engine_writes.proofs.Written.{standing, written-moved, written-number}
 use Rattle.cq_engine_writes.proofs.writing.delete_in.Goals as goal
+use Rattle.cq_model_bags.proofs.Lists.{all-at}
 
 pub delete_from-requires-clause-few : goal.delete_from-requires-clause-few
 delete_from-requires-clause-few c =
     let t = c.index_mut.result.now in
     let at = rw c.deref.ensures.value at c.place_numbered-place.ensures in
-    subst (λ (x : TableOf). length x.rows ≤ 2 ^ 24) (sym c.index_mut.ensures.value) (all_there (λ x. length x.rows ≤ 2 ^ 24) c.args.tables.now.items c.place_numbered-place.result t c.requires.limited at.within)
+    subst (λ (x : TableOf). length x.rows ≤ 2 ^ 24) (sym c.index_mut.ensures.value) (all-at (λ x. length x.rows ≤ 2 ^ 24) c.args.tables.now.items c.place_numbered-place.result t at.within c.requires.limited)
 
 pub delete_from-requires-clause-stand : goal.delete_from-requires-clause-stand
 delete_from-requires-clause-stand c = standing c.args.tables.now.items c.requires.right.0 c.args.views.now.items c.requires.fitting c.requires.limited c.requires.right.1

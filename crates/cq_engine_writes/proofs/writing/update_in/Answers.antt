@@ -1,16 +1,16 @@
 use Rattle.std.proofs.Common.{◌^◌, length, subst, ◌≤◌, sym}
 use Rattle.cq_model.specs.Write.{updated}
 use Rattle.cq_model_state.specs.State.{TableOf}
-use Rattle.cq_engine_tables.proofs.Rows.{all_there}
 use Rattle.cq_engine_writes.proofs.Updates.{can_here, updates_here, updates_rows}
 use Rattle.cq_engine_writes.proofs.Written.{standing, written-moved}
 use Rattle.cq_engine_writes.proofs.writing.update_in.Goals as goal
+use Rattle.cq_model_bags.proofs.Lists.{all-at}
 
 pub update_rows-requires-clause-few : goal.update_rows-requires-clause-few
 update_rows-requires-clause-few c =
     let t = c.index_mut.result.now in
     let at = rw c.deref.ensures.value at c.place_numbered-place.ensures in
-    subst (λ (x : TableOf). length x.rows ≤ 2 ^ 24) (sym c.index_mut.ensures.value) (all_there (λ x. length x.rows ≤ 2 ^ 24) c.args.tables.now.items c.place_numbered-place.result t c.requires.limited at.within)
+    subst (λ (x : TableOf). length x.rows ≤ 2 ^ 24) (sym c.index_mut.ensures.value) (all-at (λ x. length x.rows ≤ 2 ^ 24) c.args.tables.now.items c.place_numbered-place.result t at.within c.requires.limited)
 
 pub update_rows-requires-clause-stand : goal.update_rows-requires-clause-stand
 update_rows-requires-clause-stand c = standing c.args.tables.now.items c.requires.right.0 c.args.views.now.items c.requires.fitting c.requires.limited c.requires.right.1

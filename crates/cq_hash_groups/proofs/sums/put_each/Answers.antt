@@ -3,8 +3,9 @@ use Rattle.std.proofs.lemmas.List.{get_or_default, length-set}
 use Rattle.cq_values.specs.declared.value.Value.TheVariants.{Null}
 use Rattle.cq_hash_groups.specs.declared.sums.Sum.{Sum}
 use Rattle.cq_hash_groups.specs.Puts.{no_sum, put_all, put_sum}
-use Rattle.cq_hash_groups.proofs.Putting.{all-at, put-next, sum-at, sum-more, sums-more, sums-next}
+use Rattle.cq_hash_groups.proofs.Putting.{put-next, sum-at, sum-more, sums-more, sums-next}
 use Rattle.cq_hash_groups.proofs.sums.put_each.Goals as goal
+use Rattle.cq_model_bags.proofs.Lists.{all-at}
 
 pub put-requires : goal.put-requires
 put-requires c =

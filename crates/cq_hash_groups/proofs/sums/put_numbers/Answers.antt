@@ -4,8 +4,9 @@ use Rattle.std.proofs.lemmas.Int.{ints, to_z-of_z}
 use Rattle.cq_values.specs.declared.value.Value.TheVariants.{Null, Number}
 use Rattle.cq_hash_groups.specs.declared.sums.Sum.{Sum}
 use Rattle.cq_hash_groups.specs.Puts.{no_sum, put_all, put_sum}
-use Rattle.cq_hash_groups.proofs.Putting.{all-at, put-next, sum-at, sum-more, sums-more, sums-next}
+use Rattle.cq_hash_groups.proofs.Putting.{put-next, sum-at, sum-more, sums-more, sums-next}
 use Rattle.cq_hash_groups.proofs.sums.put_numbers.Goals as goal
+use Rattle.cq_model_bags.proofs.Lists.{all-at}
 
 pub put-requires : goal.put-requires
 put-requires c =

@@ -5,8 +5,8 @@ use Rattle.std.proofs.lemmas.Result.{IfOk-weaker}
 use Rattle.cq_model.specs.Expr.{Cond}
 use Rattle.cq_model.specs.Meaning.{keeps}
 use Rattle.cq_table_columns.specs.Stored.{all_rows}
-use Rattle.cq_operators_scans.proofs.Fronts.{none-kept}
 use Rattle.cq_operators_scans.proofs.keeping.kept.Goals as goal
+use Rattle.cq_model.proofs.Conditions.{none-kept}
 
 pub returns-in-None : goal.returns-in-None
 returns-in-None c =

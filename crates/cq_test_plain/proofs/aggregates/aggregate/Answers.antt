@@ -5,10 +5,10 @@ use Rattle.cq_values.specs.declared.value.Value.TheVariants.{Number}
 use Rattle.cq_model_bags.specs.Bag.{once_each}
 use Rattle.cq_model.specs.declared.query.Aggregate.{Aggregate}
 use Rattle.cq_model.specs.Group.{aggregate, extreme, higher, lower, InRange, SumInRange}
-use Rattle.cq_test_plain.specs.Totals.{shown_total, total_of}
 use Rattle.cq_test_plain.proofs.Exits.{tells_more}
-use Rattle.cq_test_plain.proofs.ListedGroups.{count_all-of, count-of, sum-of, min-of, max-of, sum-in_range, sum-shows}
 use Rattle.cq_test_plain.proofs.aggregates.aggregate.Goals as goal
+use Rattle.cq_model.proofs.ListedValues.{count-of, count_all-of, max-of, min-of, sum-in_range, sum-of, sum-shows}
+use Rattle.cq_model.specs.Totals.{shown_total, total_of}
 
 pub returns-in-CountAll-clause-ok : goal.returns-in-CountAll-clause-ok
 returns-in-CountAll-clause-ok c = c.count.ensures ∙ count_all-of c.args.rows.now ∙ ap (λ (kind : Aggregate). aggregate kind (once_each c.args.rows.now)) (sym c.in-CountAll.is)

@@ -2,9 +2,9 @@ use Rattle.std.proofs.Common.{List, take, ◌+◌, subst, sym, ◌∙◌}
 use Rattle.std.proofs.lemmas.List.{take_all}
 use Rattle.std.proofs.lemmas.Result.{IfOk-weaker}
 use Rattle.cq_values.specs.declared.value.Value.{Value}
-use Rattle.cq_model_laws.proofs.Extremes.{IsDownTo, higher-choice}
 use Rattle.cq_test_plain.proofs.Bests.{IsBest, best-first, best-next, best-is_extreme}
 use Rattle.cq_test_plain.proofs.aggregates.greatest.Goals as goal
+use Rattle.cq_model.proofs.Extremes.{IsDownTo, higher-choice}
 
 pub loop-value-init : goal.loop-value-init
 loop-value-init c = best-first higher-choice c.args.values.now c.in-Some.first.now c.in-Some.ensures.value

@@ -1,6 +1,6 @@
 use Rattle.std.proofs.Common.{arith, ◌∙◌}
-use Rattle.cq_test_plain.proofs.ListedGroups.{total-next}
 use Rattle.cq_test_plain.proofs.aggregates.sum.Goals as goal
+use Rattle.cq_model.proofs.ListedValues.{total-next}
 
 pub loop-value-preserved : goal.loop-value-preserved
 loop-value-preserved c = (

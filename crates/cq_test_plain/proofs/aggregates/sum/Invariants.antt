@@ -1,7 +1,7 @@
 use Rattle.std.proofs.Common.{◌≡◌, take}
 use Rattle.std.specs.Prelude.{◌*◌, ◌^◌, ◌≤◌, nat_abs}
-use Rattle.cq_test_plain.specs.Totals.{total_of}
 use Rattle.cq_test_plain.proofs.aggregates.sum.Given as goal
+use Rattle.cq_model.specs.Totals.{total_of}
 
 -- the total so far, and how large it can be
 abbrev pub invariant-loop-value : goal.invariant-loop-value

@@ -6,10 +6,11 @@ use Rattle.cq_model.specs.Views.{with_views}
 use Rattle.cq_test_plain.specs.SourceRows.{lent_bags}
 use Rattle.cq_test_plain.specs.Stored.{query_at, rows_at, stored_bags}
 use Rattle.cq_test_plain.specs.Wide.{IsQueryWide}
-use Rattle.cq_test_plain.proofs.Agreeing.{meaning-agrees, range-agrees, range-back, wide-agrees, same-bag}
+use Rattle.cq_test_plain.proofs.Agreeing.{meaning-agrees, range-agrees, range-back, wide-agrees}
 use Rattle.cq_test_plain.proofs.Exits.{tells_more}
 use Rattle.cq_test_plain.proofs.Lents.{bags-held}
 use Rattle.cq_test_plain.proofs.answering.answer.Goals as goal
+use Rattle.cq_model_bags.proofs.Bags.{same-equal}
 
 pub returns-clause-same_bag : goal.returns-clause-same_bag
 returns-clause-same_bag c =
@@ -18,7 +19,7 @@ returns-clause-same_bag c =
     let held = rw (c.as_slice.ensures, c.deref.ensures.value) at c.in_ok-sources.ensures in
     let stored = ap lent_bags c.deref-2.ensures.value ∙ bags-held tables c.in_ok-views.views.items c.in_ok-sources.sources.items held in
     IfOk-weaker c.answer_on.result _ _
-    (λ rows e. same-bag (once_each rows.items) (meaning c.args.query.now whole)
+    (λ rows e. same-equal (once_each rows.items) (meaning c.args.query.now whole)
     (e ∙ ap (meaning c.args.query.now) stored ∙ meaning-agrees c.args.query.now (stored_bags tables c.in_ok-views.views.items) whole c.in_ok-views.ensures.ok))
     c.answer_on.ensures.ok
 

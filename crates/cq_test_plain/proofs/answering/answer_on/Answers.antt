@@ -3,8 +3,8 @@ use Rattle.cq_model_bags.specs.Bag.{distinct, firsts, once_each}
 use Rattle.cq_model.specs.Meaning.{shown}
 use Rattle.cq_test_plain.specs.SourceRows.{lent_bags}
 use Rattle.cq_test_plain.proofs.Agreeing.{distinct_meaning}
-use Rattle.cq_test_plain.proofs.Once.{distinct-once}
 use Rattle.cq_test_plain.proofs.answering.answer_on.Goals as goal
+use Rattle.cq_model_bags.proofs.Once.{distinct-once}
 
 pub returns-in_ok-firsts-clause-ok : goal.returns-in_ok-firsts-clause-ok
 returns-in_ok-firsts-clause-ok c =

@@ -2,12 +2,13 @@ use Rattle.std.proofs.Common.{[], ◌∷◌, ◌++◌, ap, ◌∙◌}
 use Rattle.std.specs.List.{AllByRecursion}
 use Rattle.cq_values.specs.Value.{Row}
 use Rattle.cq_model.specs.Group.{SumInRange, group_row, rows_of_key}
-use Rattle.cq_test_plain.proofs.Once.{map-next, all-next}
+use Rattle.cq_test_plain.proofs.Once.{map-next}
 use Rattle.std.proofs.lemmas.Result.{err_from_is_err_and}
 use Rattle.cq_model_bags.specs.Bag.{once_each}
 use Rattle.cq_test_plain.proofs.Exits.{tells_more}
 use Rattle.cq_test_plain.proofs.GroupFaults.{group_outside}
 use Rattle.cq_test_plain.proofs.groups.grouped_by.Goals as goal
+use Rattle.cq_model_bags.proofs.Lists.{all-next}
 
 pub returns-in_err-group_of_key-clause-fault : goal.returns-in_err-group_of_key-clause-fault
 returns-in_err-group_of_key-clause-fault c =

@@ -4,8 +4,8 @@ use Rattle.std.proofs.lemmas.Result.{IfOk-weaker}
 use Rattle.cq_model_bags.specs.Bag.{distinct_rows, firsts}
 use Rattle.cq_model_bags.proofs.Distincts.{once_each-map}
 use Rattle.cq_model.specs.Group.{key_of}
-use Rattle.cq_test_plain.proofs.Once.{distinct-once}
 use Rattle.cq_test_plain.proofs.groups.keys_of.Goals as goal
+use Rattle.cq_model_bags.proofs.Once.{distinct-once}
 
 pub returns : goal.returns
 returns c =

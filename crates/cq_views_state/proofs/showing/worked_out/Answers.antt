@@ -1,7 +1,8 @@
 use Rattle.cq_model.specs.Meaning.{items_of}
 use Rattle.cq_model.specs.Width.{AreNarrowAt}
-use Rattle.cq_views_state.proofs.InTurn.{all-there, made-more}
+use Rattle.cq_views_state.proofs.InTurn.{made-more}
 use Rattle.cq_views_state.proofs.showing.worked_out.Goals as goal
+use Rattle.cq_model_bags.proofs.Lists.{all-there}
 
 pub items_of-requires : goal.items_of-requires
 items_of-requires c = all-there (AreNarrowAt c.args.items.now) c.args.rows.now c.loop-place.place c.row.result.now c.row.ensures c.requires

@@ -4,9 +4,10 @@ use Rattle.std.specs.Int.{w128}
 use Rattle.cq_model.specs.Condition.{is_null}
 use Rattle.cq_model_bags.specs.Bag.{weight_of}
 use Rattle.cq_deltas.specs.Extremes.{HasRoom, Held, alone}
-use Rattle.cq_deltas.proofs.Lookups.{null-value, null-weight, value-weight, room-found, same-keys}
+use Rattle.cq_deltas.proofs.Lookups.{null-weight, value-weight, room-found, same-keys}
 use Rattle.cq_deltas.proofs.Writes.{fits-sum, fits-rounded, rounded, null-listed, set-listed, more-added}
 use Rattle.cq_deltas.proofs.extremes.Extremes.put.Goals as goal
+use Rattle.cq_model.proofs.Conditions.{null-value}
 
 pub overflow_add-self : goal.overflow_add-self
 overflow_add-self c =

@@ -3,7 +3,6 @@ use Rattle.std.proofs.Common.{◌≡◌, ℕ, ◌+◌, ◌<◌, ℤ, pos, ◌+�
 use Rattle.std.specs.Cmp.{signed_Decides}
 use Rattle.std.specs.Ordering.{int_eq}
 use Rattle.std.proofs.lemmas.Int.{ints}
-use Rattle.std.proofs.lemmas.List.{take_more}
 use Rattle.cq_values.specs.declared.value.Value.{Value}
 use Rattle.cq_values.specs.declared.value.Value.TheVariants.{Null, Number, Text, Day}
 use Rattle.cq_values.specs.Value.{Row}
@@ -15,10 +14,11 @@ use Rattle.cq_model.specs.declared.query.Aggregate.TheVariants.{CountAll, Count,
 use Rattle.cq_model.specs.Condition.{is_null}
 use Rattle.cq_model.specs.Eval.{eval}
 use Rattle.cq_model.specs.Group.{InRange, SumInRange, addend, aggregate, count_all, count_values, sum_values, values_of, extreme, lower, higher}
-use Rattle.cq_model_laws.proofs.Extremes.{IsOne, IsChoice, IsUpTo, IsDownTo, extreme-same, lower-choice, higher-choice}
-use Rattle.cq_model_laws.proofs.Groups.{kept_values, row-from-test, row-to-test, value-from-rows, value-to-rows}
-use Rattle.cq_test_plain.specs.Totals.{total_of, shown_total}
-use Rattle.cq_test_plain.proofs.Once.{distinct-once}
+use Rattle.cq_model.proofs.Extremes.{IsOne, IsChoice, IsUpTo, IsDownTo, extreme-same, lower-choice, higher-choice}
+use Rattle.cq_model.proofs.Occurring.{kept_values, row-from-test, row-to-test, value-from-rows, value-to-rows}
+use Rattle.cq_model_bags.proofs.Once.{distinct-once}
+use Rattle.cq_model.specs.Totals.{shown_total, total_of}
+use Rattle.std.proofs.lemmas.List.{take_more}
 
 -- a value other than NULL
 abbrev pub is_value : Value → Bool
@@ -101,12 +101,13 @@ module _ (e : Expr) (rows : List Row) where
 pub count_all-of : (rows : List Row) → Number (pos (length rows)) ≡ aggregate CountAll (once_each rows)
 count_all-of rows = ap Number (sym (count_all-listed rows))
 
+-- ---- one value more
+pub total-push : (values : List Value) (v : Value) → total_of (values ++ v ∷ []) ≡ total_of values +ℤ addend v
+total-push [] v = omega (arith, ints)
+total-push (w ∷ values) v = omega (arith, ints, total-push values v)
+
 -- the total so far and the next value
 pub total-next : (values : List Value) (i : ℕ) (v : Value) (total : ℤ) → i < length values → v ≡ get_or values i v → total ≡ total_of (take i values)
     → total +ℤ addend v ≡ total_of (take (i + 1) values)
 total-next values i v total h is so_far =
-    rw so_far (sym (pushed (take i values) v) ∙ ap total_of (sym (take_more values i v h ∙ ap (λ w. take i values ++ w ∷ []) (sym is))))
-  where
-    pushed : (vs : List Value) (w : Value) → total_of (vs ++ w ∷ []) ≡ total_of vs +ℤ addend w
-    pushed [] w = omega (arith, ints)
-    pushed (u ∷ vs) w = omega (arith, ints, pushed vs w)
+    rw so_far (sym (total-push (take i values) v) ∙ ap total_of (sym (take_more values i v h ∙ ap (λ w. take i values ++ w ∷ []) (sym is))))

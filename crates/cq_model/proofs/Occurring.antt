@@ -6,7 +6,7 @@ use Rattle.cq_values.specs.Order.{same_row}
 use Rattle.cq_values.specs.Keys.{same_row-refl, same_row-same}
 use Rattle.cq_model_bags.proofs.Totals.{by_test}
 use Rattle.cq_model_bags.proofs.Distincts.{is_among}
-use Rattle.cq_hash_groups.proofs.Extremes.{IsOne}
+use Rattle.cq_model.proofs.Extremes.{IsOne}
 
 -- a row is one of these
 abbrev pub IsRowOf : Row → List Row → Type 0
