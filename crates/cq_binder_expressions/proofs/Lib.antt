@@ -1,5 +1,6 @@
 pub mod Chains
 pub mod Nodes
+pub mod Told
 pub mod Narrow
 pub mod Typed
 pub mod Places

@@ -1,7 +1,7 @@
 -- What passes the walk has nothing too wide in it.
 use Rattle.std.proofs.Common.{arith, ◌≡◌, ℕ, ◌+◌, ◌*◌, ◌<◌, ◌≤◌, ◌^◌, max, Bool, true, false, ℤ, sym, subst, List, [], ◌∷◌, ◌++◌, map, length, Option, Some, None, Result, Ok, Err, refl, ap, ◌∙◌, append_assoc}
 use Rattle.std.specs.Prelude.{nat_lt, ◌&&◌, if◌then◌else◌, drop, not, position, slice_get, unwrap_or, IsSome, is_some}
-use Rattle.std.specs.List.{AllByRecursion, fold, list_any}
+use Rattle.std.specs.List.{fold, list_any}
 use Rattle.std.proofs.lemmas.Bool.{ltb-true}
 use Rattle.std.proofs.lemmas.List.{append-nil}
 use Rattle.std.proofs.lemmas.List.Quantifiers.{position-Some}
@@ -14,7 +14,7 @@ use Rattle.cq_sql_language.specs.declared.written.ColumnName.{ColumnName}
 use Rattle.cq_model.specs.Expr.{Cond, Expr}
 use Rattle.cq_model.specs.declared.query.Aggregate.{Aggregate as Shown}
 use Rattle.cq_model.specs.declared.query.Aggregate.TheVariants as shown
-use Rattle.cq_model.specs.Sizes.{aggregate_size, count_size}
+use Rattle.cq_model.specs.Sizes.{IsArgumentNarrow, aggregate_size, count_size}
 use Rattle.cq_sql_language.specs.declared.written.AggregateFunction.{AggregateFunction}
 use Rattle.cq_sql_language.specs.declared.written.AggregateFunction.TheVariants as functions
 use Rattle.cq_binder_rules.specs.Placed.{aggregate_of, named_day, placed_expr, placed_exprs, turned, with_aggregates, with_choices, written_number}
@@ -27,13 +27,8 @@ use Rattle.cq_binder_rules.specs.Kinds.{◌and_then◌, aggregated, agree, arith
 use Rattle.cq_binder_rules.specs.Typing.{Scope, ScopeColumn, column_typing, is_meant, knows, listed, may_read, of_group, one_meant, resolved, rows_in, size_at, type_at, typed}
 use Rattle.cq_binder_rules.specs.Scopes.{of_rows}
 use Rattle.cq_binder_rules.specs.Places.{next_place, place_of, read_place, row_place}
-use Rattle.cq_binder_expressions.specs.Expressions.{ArgumentsAreNarrow, IsArgumentNarrow, IsNarrow, KeepShown, KeepSizes, TypedIsNarrow}
-use Rattle.cq_model_bags.proofs.Lists.{all-push}
-
--- what stands behind a first step, stands behind what that step gives
-pub stood : {A B : Type 0} (r : Result A Fault) (g : A → Result B Fault) (y : B) → (r and_then g) ≡ Ok y → (x : A) × (r ≡ Ok x) × (g x ≡ Ok y)
-stood (Ok x) g y e = (x, refl, e)
-stood (Err f) g y e = absurd (cc e)
+use Rattle.cq_binder_expressions.specs.Expressions.{ArgumentsAreNarrow, IsNarrow, KeepShown, KeepSizes, TypedIsNarrow}
+use Rattle.cq_binder_expressions.proofs.Told.{all_told, stood}
 
 -- a test that was passed
 pub if_ok : {A : Type 0} (b : Bool) (r : Result A Fault) (f : Fault) (x : A) → (if b then r else Err f) ≡ Ok x → r ≡ Ok x
@@ -372,80 +367,8 @@ argument_narrow functions.Sum sizes e narrow = narrow
 argument_narrow functions.Min sizes e narrow = narrow
 argument_narrow functions.Max sizes e narrow = narrow
 
-module _ (s : Scope) (sizes : ℕ → ℕ) (kept : KeepSizes (rows_in s) sizes) where
-  abbrev AreAll : List Shown → Type 0
-  AreAll shown = AllByRecursion (IsArgumentNarrow sizes) shown
-
-  mutual
-    arguments : (before : List Shown) (w : Written) (t : Typing) → typed s w ≡ Ok t → AreAll before → AreAll (with_aggregates s before w)
-    arguments before (Number n) t e all = all
-    arguments before (Text b) t e all = all
-    arguments before (Date b) t e all = all
-    arguments before Null t e all = all
-    arguments before (Column c) t e all = all
-    arguments before (Extract part a) t e all =
-        let p = stood (typed s a) (part_of part) t e in
-        arguments before a p.0 p.1 all
-    arguments before CountAll t e all = all-push (IsArgumentNarrow sizes) before shown.CountAll all tt
-    arguments before (Aggregate function a) t e all =
-        let p = stood (typed (rows_in s) a and_then aggregated function) (of_group s) t e in
-        let q = stood (typed (rows_in s) a) (aggregated function) p.0 p.1 in
-        let placed = placed_expr (rows_in s) [] a in
-        all-push (IsArgumentNarrow sizes) before (aggregate_of function placed) all
-        (argument_narrow function sizes placed (narrow_over_rows s.columns [] a q.0 sizes q.1 kept).value)
-    arguments before (Parens a) t e all = arguments before a t e all
-    arguments before (Negative a) t e all =
-        let p = stood (typed s a) negative t e in
-        arguments before a p.0 p.1 all
-    arguments before (Times a b) t e all =
-        let p = stood (typed s a) (λ x. typed s b and_then product_of x) t e in
-        let q = stood (typed s b) (product_of p.0) t p.2 in
-        arguments (with_aggregates s before a) b q.0 q.1 (arguments before a p.0 p.1 all)
-    arguments before (Plus a b) t e all =
-        let p = stood (typed s a) (λ x. typed s b and_then sum_of x) t e in
-        let q = stood (typed s b) (sum_of p.0) t p.2 in
-        arguments (with_aggregates s before a) b q.0 q.1 (arguments before a p.0 p.1 all)
-    arguments before (Minus a b) t e all =
-        let p = stood (typed s a) (λ x. typed s b and_then sum_of x) t e in
-        let q = stood (typed s b) (sum_of p.0) t p.2 in
-        arguments (with_aggregates s before a) b q.0 q.1 (arguments before a p.0 p.1 all)
-    arguments before (Compare c a b) t e all =
-        let p = stood (typed s a) (λ x. typed s b and_then compared_with x) t e in
-        let q = stood (typed s b) (compared_with p.0) t p.2 in
-        arguments (with_aggregates s before a) b q.0 q.1 (arguments before a p.0 p.1 all)
-    arguments before (IsNull negated a) t e all =
-        let p = stood (typed s a) tested t e in
-        arguments before a p.0 p.1 all
-    arguments before (Between negated a least greatest) t e all =
-        let p = stood (typed s a) (λ x. typed s least and_then λ l. typed s greatest and_then between_them x l) t e in
-        let q = stood (typed s least) (λ l. typed s greatest and_then between_them p.0 l) t p.2 in
-        let r = stood (typed s greatest) (between_them p.0 q.0) t q.2 in
-        let low = with_aggregates s before a in
-        arguments (with_aggregates s low least) greatest r.0 r.1 (arguments low least q.0 q.1 (arguments before a p.0 p.1 all))
-    arguments before (In negated a bs) t e all =
-        let p = stood (typed s a) (λ x. listed s x true bs) t e in
-        choice_arguments (with_aggregates s before a) bs p.0 true t p.2 (arguments before a p.0 p.1 all)
-    arguments before (Like negated a pattern) t e all =
-        let p = stood (typed s a) (λ x. text_of pattern and_then like_of x) t e in
-        arguments before a p.0 p.1 all
-    arguments before (Not a) t e all =
-        let p = stood (typed s a) negation_of t e in
-        arguments before a p.0 p.1 all
-    arguments before (And a b) t e all =
-        let p = stood (typed s a) (λ x. typed s b and_then connected x) t e in
-        let q = stood (typed s b) (connected p.0) t p.2 in
-        arguments (with_aggregates s before a) b q.0 q.1 (arguments before a p.0 p.1 all)
-    arguments before (Or a b) t e all =
-        let p = stood (typed s a) (λ x. typed s b and_then connected x) t e in
-        let q = stood (typed s b) (connected p.0) t p.2 in
-        arguments (with_aggregates s before a) b q.0 q.1 (arguments before a p.0 p.1 all)
-
-    choice_arguments : (before : List Shown) (bs : Choices) (x : Typing) (all_agree : Bool) (t : Typing) → listed s x all_agree bs ≡ Ok t → AreAll before → AreAll (with_choices s before bs)
-    choice_arguments before NoChoice x all_agree t e all = all
-    choice_arguments before (Choice b bs) x all_agree t e all =
-        let p = stood (typed s b) (λ y. listed s x (all_agree && agree x.kind y.kind) bs) t e in
-        choice_arguments (with_aggregates s before b) bs x (all_agree && agree x.kind p.0.kind) t p.2 (arguments before b p.0 p.1 all)
-
 -- nothing in an argument of its aggregates is too wide
 pub arguments_are_narrow : ArgumentsAreNarrow
-arguments_are_narrow s before w t sizes e kept all = arguments s sizes kept before w t e all
+arguments_are_narrow s before w t sizes e kept all =
+    all_told s (IsArgumentNarrow sizes) tt
+    (λ function a x stands. argument_narrow function sizes (placed_expr (rows_in s) [] a) (narrow_over_rows s.columns [] a x sizes stands kept).value) before w t e all

@@ -13,7 +13,6 @@ use Rattle.cq_sql_language.specs.Written.{Written, Choices, Number, Text, Date, 
 use Rattle.cq_model.specs.Eval.{eval, extracted, negated, plus, times}
 use Rattle.cq_model.specs.Width.{part_limit}
 use Rattle.cq_binder_rules.specs.declared.fault.Fault.TheVariants.{AggregateMisplaced, BadDate, TextTooLong, TooWide, TypeMismatch}
-use Rattle.cq_binder_rules.specs.declared.typing.Kind.{Kind}
 use Rattle.cq_binder_rules.specs.declared.typing.Kind.TheVariants as kinds
 use Rattle.cq_binder_rules.specs.declared.typing.Typing.{Typing}
 use Rattle.cq_binder_rules.specs.Kinds.{◌and_then◌, aggregated, a_condition, agree, arithmetic, between_them, compared_with, connected, is_condition, is_of, is_value, like_of, negation_of, negative, number_of, part_of, product_of, sum_of, tested, text_of, unless, value_of}
@@ -23,18 +22,13 @@ use Rattle.cq_binder_rules.specs.Places.{place_of, row_place}
 use Rattle.cq_binder_rules.specs.Scopes.{of_rows}
 use Rattle.cq_binder_rules.specs.Typing.{Scope, ScopeColumn, column_typing, listed, of_group, resolved, size_at, type_at, typed}
 use Rattle.cq_binder_expressions.specs.Types.{IsOf, IsOfKind, KeepTypes, TypedIsOfItsKind}
-use Rattle.cq_binder_expressions.proofs.Narrow.{if_ok, resolved_at, resolved_within, stood, unless_ok}
+use Rattle.cq_binder_expressions.proofs.Narrow.{if_ok, resolved_at, resolved_within, unless_ok}
+use Rattle.cq_binder_expressions.proofs.Told.{stood}
 
 -- ---- Values of a type
 -- a typing that is this one has its kind
 as_typed : (x t : Typing) (v : Value) → t ≡ x → IsOfKind x.kind v → IsOfKind t.kind v
 as_typed x t v same is = subst (λ (y : Typing). IsOfKind y.kind v) (sym same) is
-
--- NULL is of every kind
-null_is : (k : Kind) → IsOfKind k values.Null
-null_is kinds.Condition = refl
-null_is (kinds.Value ty) = tt
-null_is kinds.Null = refl
 
 number_is : (b : Bool) (n : ℤ) → IsOf types.Integer (if b then values.Number n else values.Null)
 number_is true n = refl

@@ -1,14 +1,13 @@
 -- Expressions whose names become places.
 use Rattle.std.specs.Prelude.{◌≡◌, ◌<◌, ◌≤◌, ◌+◌, ◌++◌, ℕ, true, length, List, Option, Some, None, IsSome, option_map, slice_get, Result, Ok, MatchResult}
 use Rattle.std.specs.List.{AllByRecursion}
-use Rattle.cq_model.specs.Width.{number_limit, widest, widest_in, width}
+use Rattle.cq_model.specs.Width.{number_limit, widest_in, width}
 use Rattle.cq_sql_language.specs.Written.{Written}
 use Rattle.cq_binder_rules.specs.declared.fault.Fault.{Fault}
 use Rattle.cq_binder_rules.specs.declared.typing.Typing.{Typing}
 use Rattle.cq_binder_rules.specs.Checks.{MayRefuse}
 use Rattle.cq_model.specs.declared.query.Aggregate.{Aggregate}
-use Rattle.cq_model.specs.declared.query.Aggregate.TheVariants.{CountAll, Count, Sum, Min, Max}
-use Rattle.cq_model.specs.Sizes.{aggregate_size}
+use Rattle.cq_model.specs.Sizes.{IsArgumentNarrow, aggregate_size}
 use Rattle.cq_binder_rules.specs.Placed.{placed_cond, placed_expr, with_aggregates}
 use Rattle.cq_binder_rules.specs.Places.{key_length, read_place}
 use Rattle.cq_model.specs.Expr.{Cond, Expr}
@@ -69,14 +68,6 @@ abbrev pub TypedIsNarrow : Type 0
 TypedIsNarrow =
     (s : Scope) (before more : List Aggregate) (w : Written) (t : Typing) (sizes : ℕ → ℕ)
     → typed s w ≡ Ok t → KeepSizes s sizes → KeepShown s (with_aggregates s before w ++ more) sizes → IsNarrow s before w t sizes
-
--- nothing in an aggregate's argument is too wide over columns of these sizes
-abbrev pub IsArgumentNarrow : (ℕ → ℕ) → Aggregate → Type 0
-IsArgumentNarrow sizes CountAll = Unit {0}
-IsArgumentNarrow sizes (Count e) = widest sizes e < number_limit
-IsArgumentNarrow sizes (Sum e) = widest sizes e < number_limit
-IsArgumentNarrow sizes (Min e) = widest sizes e < number_limit
-IsArgumentNarrow sizes (Max e) = widest sizes e < number_limit
 
 -- so are the arguments of its aggregates, over rows whose columns keep their sizes
 abbrev pub ArgumentsAreNarrow : Type 0

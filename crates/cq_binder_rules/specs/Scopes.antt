@@ -83,10 +83,6 @@ of_rows columns = record { columns = columns; grouped = None }
 abbrev pub scope_of : Named → Scope
 scope_of source = of_rows (source_columns source.known source)
 
--- what expressions over a source see of it as FROM names it
-abbrev pub scope_as : FromSource → Named → Scope
-scope_as f source = of_rows (source_columns (known_as f source) source)
-
 -- what the items of groups see of rows with these columns
 abbrev pub in_groups : List ColumnName → List ScopeColumn → Scope
 in_groups group columns = record { columns = columns; grouped = Some (group_places columns group) }

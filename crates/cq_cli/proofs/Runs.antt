@@ -2,7 +2,7 @@
 use Rattle.std.proofs.Common.{◌≡◌, ℕ, ◌+◌, ◌-◌, ◌^◌, ◌≤◌, ◌<◌, Bool, true, false, cond, if◌then◌else◌, not, List, [], ◌∷◌, ◌++◌, count_by, length, filter, Option, Result, Ok, Err, IfOk, refl, sym, ap, subst, ◌∙◌, append_assoc, arith}
 use Rattle.cq_binder_rules.specs.declared.fault.Fault.TheVariants.{NotUtf8}
 use Rattle.std.specs.Str.{IsUtf8}
-use Rattle.std.specs.Io.KnownBytes.{Appends, Keeps}
+use Rattle.std.specs.Io.KnownBytes.{Appends}
 use Rattle.std.proofs.lemmas.Grind.{flat_map-append}
 use Rattle.std.proofs.lemmas.List.{append-nil}
 use Rattle.std.proofs.lemmas.List.Sums.{sum_by-append}
@@ -19,7 +19,7 @@ use Rattle.cq_cli.specs.Running.{Counted, RunsScript, both, status_of}
 use Rattle.cq_cli.specs.Writing.{Wrote, WrotePrefix}
 use Rattle.cq_cli.proofs.Counting.{serves_draws, serves_failures}
 use Rattle.cq_cli.proofs.Serving.{ServesPiece, refused_somehow}
-use Rattle.cq_cli.proofs.Writes.{all_then_failed, appends_kept, appends_more, appends_nothing, prefix_of_more, wrote_then}
+use Rattle.cq_cli.proofs.Writes.{appends_more, appends_nothing, prefix_of_more, wrote_then}
 
 -- a run goes on by one piece
 runs_more : (source : Option Files) (ps : List PieceOf) (os : List (Result Answer Fault)) (a b c : State) (p : PieceOf) (o : Result Answer Fault) → Runs source a ps os b → Serves source b p o c → Runs source a (ps ++ p ∷ []) (os ++ o ∷ []) c
@@ -204,24 +204,3 @@ refuses_bytes source max_rows script a b f g u r bad written told = record {
   counted = no_source u r;
   told = told;
 }
-
-module _ (source : Option Files) (max_rows : ℕ) (script : List ℕ) (a b c : Option (List ℕ)) (f g h u v : ℕ) (status : Status) (ran : RunsScript source max_rows script a b f g u v (Ok status)) (kept : Keeps b c) where
-  -- the flush succeeds
-  pub flushes : h ≡ g → RunsScript source max_rows script a c f h u v (Ok status)
-  flushes same = record {
-    outcomes = ran.outcomes;
-    answered = ran.answered;
-    written = (appends_kept a b c (output_of ran.outcomes) ran.written.0 kept, same ∙ ran.written.1);
-    counted = ran.counted;
-    told = ran.told;
-  }
-
-  -- the flush fails, after all of the output was put
-  pub flush_fails : (e : RunFault) → h ≡ g + 1 → RunsScript source max_rows script a c f h u v (Err e)
-  flush_fails e more = record {
-    outcomes = ran.outcomes;
-    answered = ran.answered;
-    written = all_then_failed (output_of ran.outcomes) a b c f g h ran.written kept more;
-    counted = (ran.outcomes, [], sym (append-nil ran.outcomes), ran.counted);
-    told = tt;
-  }

@@ -20,10 +20,6 @@ behind xs rest = rest and_then (λ more. Ok (xs ++ more))
 abbrev pub before : {A : Type 0} → Result A Fault → Result (List A) Fault → Result (List A) Fault
 before first rest = first and_then (λ x. rest and_then (λ more. Ok (x ∷ more)))
 
-pub behind_none : {A : Type 0} (rest : Result (List A) Fault) → behind [] rest ≡ rest
-behind_none (Ok more) = refl
-behind_none (Err f) = refl
-
 -- an entry that is given stands behind the others
 pub given : {A : Type 0} (whole : Result (List A) Fault) (xs : List A) (x : A) (first : Result A Fault) (rest : Result (List A) Fault)
     → whole ≡ behind xs (before first rest) → first ≡ Ok x → whole ≡ behind (xs ++ x ∷ []) rest
@@ -97,7 +93,3 @@ module _ (columns : List ColumnDef) (at : ℕ) (fields : List (List ℕ)) (left 
   record_given row items read is =
       let size : length items + 1 ≡ at + 1 = rw is (let n = length-append rows (row ∷ []) in omega (arith, n, next)) in
       rw (size, is) (given whole rows row (record_row columns at fields) (record_rows columns (at + 1) more) here read)
-
-  -- a record that is refused
-  pub record_refused : (f : Fault) → Gives (record_row columns at fields) (Err f) → Gives whole (Err f)
-  record_refused f refusal = refused whole rows (record_row columns at fields) (record_rows columns (at + 1) more) f here refusal

@@ -1,6 +1,6 @@
 -- Counts of values, looked up, are the weights of rows of one column.
-use Rattle.std.proofs.Common.{◌≡◌, ℤ, pos, ◌+ℤ◌, Bool, true, false, cond, List, [], ◌∷◌, ◌++◌, Option, None, Some, is_some, int_eq, refl, sym, ◌∙◌, ap, subst, arith, true≢false, Ordering, Less, Equal, Greater}
-use Rattle.std.specs.Ordering.{ordering_then, is_eq}
+use Rattle.std.proofs.Common.{◌≡◌, ℤ, pos, ◌+ℤ◌, Bool, true, false, cond, List, [], ◌∷◌, ◌++◌, Option, None, Some, is_some, int_eq, refl, sym, ◌∙◌, ap, subst, arith, true≢false, Less, Greater}
+use Rattle.std.specs.Ordering.{is_eq}
 use Rattle.std.specs.List.{AllByRecursion, list_any}
 use Rattle.std.specs.List.Sorted.{IsStrictlySortedBy}
 use Rattle.std.specs.Map.{keys_of, lookup}
@@ -19,6 +19,7 @@ use Rattle.cq_model_bags.specs.Bag.{Weighted, weight_of, SameBag}
 use Rattle.cq_model_bags.proofs.Totals.{by_test, weight_of-append}
 use Rattle.cq_deltas.specs.Extremes.{AreCounts, HasRoom, IsGone, alone, as_rows, held_of, nonzero}
 use Rattle.cq_model.proofs.Conditions.{null-value}
+use Rattle.cq_model_bags.proofs.Widths.{then-equal}
 
 -- values with their counts
 abbrev pub Entries : Type 0
@@ -33,11 +34,6 @@ abbrev pub is_value : Value → Value → Bool
 is_value v = is_at (value_cmp v)
 
 -- ---- rows of one column
-then-equal : (o : Ordering) → ordering_then o Equal ≡ o
-then-equal Less = refl
-then-equal Equal = refl
-then-equal Greater = refl
-
 -- they are ordered as their values
 pub alone_cmp : (v w : Value) → row_cmp (alone v) (alone w) ≡ value_cmp v w
 alone_cmp v w = then-equal (value_cmp v w)

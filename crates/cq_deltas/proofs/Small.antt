@@ -86,37 +86,26 @@ small-hold columns aggregates xs table change stands small = record {
       }));
 }
 
--- what is kept can be shown where the totals can
-shown-range : (aggregates : List Aggregate) (xs : Weighted) (kept : List Kept) → AreKept aggregates xs kept → AllCanBeShown aggregates kept → AllByRecursion (λ a. SumInRange a xs) aggregates
-shown-range [] xs kept h all = tt
-shown-range (a ∷ aggregates) xs [] h all = absurd h
-shown-range (a ∷ aggregates) xs (k ∷ kept) h all = (one a k h.0 all.0, shown-range aggregates xs kept h.1 all.1)
-  where
-    one : (a : Aggregate) (k : Kept) → IsKept a xs k → CanBeShown a k → SumInRange a xs
-    one (Sum e) (Totalled n total) h can = subst InRange h.1 can
-    one (Sum e) (Counted n) h can = absurd h
-    one (Sum e) (Listed values) h can = absurd h
-    one CountAll k h can = tt
-    one (Count e) k h can = tt
-    one (Min e) k h can = tt
-    one (Max e) k h can = tt
+-- what is kept can be shown exactly where the totals can
+range-shown : (a : Aggregate) (xs : Weighted) (k : Kept) → IsKept a xs k → CanBeShown a k ↔ SumInRange a xs
+range-shown (Sum e) xs (Totalled n total) h = (λ can. subst InRange h.1 can, λ can. subst InRange (sym h.1) can)
+range-shown (Sum e) xs (Counted n) h = absurd h
+range-shown (Sum e) xs (Listed values) h = absurd h
+range-shown CountAll xs k h = (λ can. tt, λ can. tt)
+range-shown (Count e) xs k h = (λ can. tt, λ can. tt)
+range-shown (Min e) xs k h = (λ can. tt, λ can. tt)
+range-shown (Max e) xs k h = (λ can. tt, λ can. tt)
 
-range-shown : (aggregates : List Aggregate) (xs : Weighted) (kept : List Kept) → AreKept aggregates xs kept → AllByRecursion (λ a. SumInRange a xs) aggregates → AllCanBeShown aggregates kept
-range-shown [] xs kept h all = tt
-range-shown (a ∷ aggregates) xs [] h all = absurd h
-range-shown (a ∷ aggregates) xs (k ∷ kept) h all = (one a k h.0 all.0, range-shown aggregates xs kept h.1 all.1)
-  where
-    one : (a : Aggregate) (k : Kept) → IsKept a xs k → SumInRange a xs → CanBeShown a k
-    one (Sum e) (Totalled n total) h can = subst InRange (sym h.1) can
-    one (Sum e) (Counted n) h can = absurd h
-    one (Sum e) (Listed values) h can = absurd h
-    one CountAll k h can = tt
-    one (Count e) k h can = tt
-    one (Min e) k h can = tt
-    one (Max e) k h can = tt
+ranges-shown : (aggregates : List Aggregate) (xs : Weighted) (kept : List Kept) → AreKept aggregates xs kept → AllCanBeShown aggregates kept ↔ AllByRecursion (λ a. SumInRange a xs) aggregates
+ranges-shown [] xs kept h = (λ all. tt, λ all. tt)
+ranges-shown (a ∷ aggregates) xs [] h = absurd h
+ranges-shown (a ∷ aggregates) xs (k ∷ kept) h =
+    let here = range-shown a xs k h.0 in
+    let rest = ranges-shown aggregates xs kept h.1 in
+    (λ all. (here.0 all.0, rest.0 all.1), λ all. (here.1 all.0, rest.1 all.1))
 
 pub ranges-show : (aggregates : List Aggregate) (xs : Weighted) (g : Group) → GroupStands aggregates xs g → AllCanBeShown aggregates g.kept ↔ AllByRecursion (λ a. SumInRange a xs) aggregates
-ranges-show aggregates xs g h = (shown-range aggregates xs g.kept h.kept, range-shown aggregates xs g.kept h.kept)
+ranges-show aggregates xs g h = ranges-shown aggregates xs g.kept h.kept
 
 -- groups of no rows hold for a small change
 pub first-hold : (aggregates : List Aggregate) (table : KeyedGroups) (change : List Addition) → ((k : Row) → group_at aggregates table k ≡ group_of aggregates []) → AreSmall [] change → HoldsFor change table

@@ -1,6 +1,5 @@
 -- What changed rows add to the groups of a view.
 use Rattle.std.specs.Prelude.{◌≤◌, ℕ, ℤ, if◌then◌else◌, List, map, Option, None, Some, IfSome, nat_abs, pos}
-use Rattle.std.specs.List.{AllByRecursion}
 use Rattle.cq_values.specs.declared.value.Value.{Value}
 use Rattle.cq_values.specs.Value.{Row}
 use Rattle.cq_model_bags.specs.Bag.{Weighted}
@@ -59,13 +58,3 @@ IsSmallAddend (Listed v) = Unit {0}
 -- what a row adds to an aggregate is no larger
 abbrev pub IsSmall : Row → Aggregate → Type 0
 IsSmall r a = IfSome (addend_of r a) IsSmallAddend
-
--- COUNT and SUM, which are shown by counts and totals
-abbrev pub IsTotal : Aggregate → Type 0
-IsTotal (Min e) = ⊥
-IsTotal (Max e) = ⊥
-IsTotal a = Unit {0}
-
--- an aggregate list of these alone
-abbrev pub AreTotals : List Aggregate → Type 0
-AreTotals aggregates = AllByRecursion IsTotal aggregates

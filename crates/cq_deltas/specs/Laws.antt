@@ -1,17 +1,14 @@
 -- What holds of groups that stand for rows, and of counted values. Each statement is the contract of a function in laws.rt.
-use Rattle.std.specs.Prelude.{◌<◌, ◌≤◌, ◌^◌, ◌↔◌, ℕ, ◌+◌, ℤ, List, [], Option, unwrap_or}
+use Rattle.std.specs.Prelude.{◌<◌, ◌≤◌, ◌^◌, ◌↔◌, ◌+◌, ℤ, List}
 use Rattle.std.specs.List.{AllByRecursion}
 use Rattle.cq_values.specs.Value.{Row}
 use Rattle.cq_model_bags.specs.Bag.{Weighted}
 use Rattle.cq_deltas.specs.Extremes.{IsAdded, with_more}
-use Rattle.cq_model.specs.Expr.{Cond}
 use Rattle.cq_model.specs.declared.query.Aggregate.{Aggregate}
-use Rattle.cq_model.specs.declared.query.Query.{Query}
-use Rattle.cq_model.specs.declared.query.Shape.TheVariants.{Grouped}
 use Rattle.cq_model.specs.Group.{SumInRange}
-use Rattle.cq_views_model.specs.Kept.{Group, GroupStands, Groups, LastStands}
-use Rattle.cq_deltas.specs.Additions.{Addition, additions}
-use Rattle.cq_deltas.specs.Keyed.{KeyedGroups, group_at, count_moves, all_total_moves, HoldsFor}
+use Rattle.cq_views_model.specs.Kept.{Group, GroupStands}
+use Rattle.cq_deltas.specs.Additions.{Addition}
+use Rattle.cq_deltas.specs.Keyed.{count_moves, all_total_moves}
 use Rattle.cq_deltas.specs.Shown.{AllCanBeShown}
 use Rattle.cq_model.specs.Width.{number_limit}
 
@@ -19,13 +16,6 @@ use Rattle.cq_model.specs.Width.{number_limit}
 pub record AreSmall (rows change : List Addition) : Type 0 where
   pub counts : count_moves rows + count_moves change < number_limit
   pub totals : all_total_moves rows + all_total_moves change ≤ 2 ^ 250
-
--- groups that stand for such rows hold while the change is put in
-abbrev pub SmallRowsHold : Type 0
-SmallRowsHold =
-    (q : Query) (keys : Option (List ℕ)) (aggregates : List Aggregate) (having : Option Cond) (xs : Weighted) (groups : KeyedGroups) (change : List Addition)
-    → LastStands q (Grouped keys aggregates having) xs (Groups (group_at aggregates groups))
-    → AreSmall (additions (unwrap_or keys []) aggregates xs) change → HoldsFor change groups
 
 -- a group that stands for rows can be shown exactly where their totals can be shown
 abbrev pub RangesShow : Type 0

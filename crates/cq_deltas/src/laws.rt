@@ -1,10 +1,5 @@
 //! What holds of groups that stand for rows, and of counted values.
-ghost use Rattle.cq_deltas.specs.Laws.{MoreIsAdded, RangesShow, SmallRowsHold};
-
-/// A change can be put in groups while the rows that they stand for and the change are not too many and too large.
-pub fn small_rows_hold()
-    ensures { SmallRowsHold }
-{}
+ghost use Rattle.cq_deltas.specs.Laws.{MoreIsAdded, RangesShow};
 
 /// The groups can be shown exactly where the totals of their rows are in range.
 pub fn ranges_show()

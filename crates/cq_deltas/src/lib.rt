@@ -20,4 +20,4 @@ pub use fault::ShowFault;
 pub use group::Group;
 pub use groups::Groups;
 pub use kept::{CountedTotal, Kept};
-pub use laws::{more_is_added, ranges_show, small_rows_hold};
+pub use laws::{more_is_added, ranges_show};

@@ -5,12 +5,11 @@ use Rattle.std.specs.List.{AllByRecursion, flat_map}
 use Rattle.std.proofs.lemmas.List.{append-nil, length-map}
 use Rattle.cq_values.specs.declared.column.ColumnDef.{ColumnDef}
 use Rattle.cq_model.specs.declared.query.Aggregate.{Aggregate}
-use Rattle.cq_model.specs.declared.query.Aggregate.TheVariants.{CountAll, Count, Sum, Min, Max}
 use Rattle.cq_model.specs.declared.query.Shape.{Shape}
 use Rattle.cq_model.specs.declared.query.Shape.TheVariants.{Grouped, Plain}
 use Rattle.cq_model.specs.declared.query.Source.{Source}
 use Rattle.cq_model.specs.declared.query.Source.TheVariants.{Table, View}
-use Rattle.cq_model.specs.Sizes.{aggregate_size, row_size, shown_size, stored_size, stored_sizes}
+use Rattle.cq_model.specs.Sizes.{IsArgumentNarrow, aggregate_size, row_size, shown_size, stored_size, stored_sizes}
 use Rattle.cq_model.specs.Views.{sources_of}
 use Rattle.cq_model.specs.Width.{limits_of, number_limit, widest}
 use Rattle.cq_sql_language.specs.declared.statement.Select.{Select}
@@ -33,11 +32,10 @@ use Rattle.cq_binder_rules.specs.SourceChecks.{group_checks, kept_check, where_c
 use Rattle.cq_binder_rules.specs.Typing.{Scope, ScopeColumn, size_at}
 use Rattle.cq_binder_rules.specs.Orders.{order_checks}
 use Rattle.cq_binder_rules.specs.ViewChecks.{absent_checks, list_checks, no_clause, query_checks, repeats}
-use Rattle.cq_binder_expressions.specs.Expressions as exprs
 use Rattle.cq_binder_expressions.specs.Expressions.{KeepSizes}
 use Rattle.cq_model_state.specs.State.{TableOf, ViewOf, columns_in}
 use Rattle.cq_deltas_joins.specs.Steps.{IsNarrowOnStored}
-use Rattle.cq_views_state.specs.Query.{HasNoHaving, IsArgumentNarrow, IsTable, aggregates_in}
+use Rattle.cq_views_state.specs.Query.{HasNoHaving, IsTable, aggregates_in}
 use Rattle.cq_engine_tables.specs.Views.{Fits}
 use Rattle.cq_engine_answers.specs.Narrow.{source_sizes}
 use Rattle.cq_engine_writes.proofs.Checks.{back_free, first_free, front_free}
@@ -94,16 +92,6 @@ module _ (tables : List TableOf) (views : List ViewOf) where
       of_sizes from.columns (subst AllStored (sym joined.sizes) (sources_stored sources are))
 
 -- ---- A view's query
--- arguments that are narrow for SELECT are narrow for a view
-narrow_for_view : (sizes : ℕ → ℕ) (aggregates : List Aggregate)
-    → AllByRecursion (exprs.IsArgumentNarrow sizes) aggregates → AllByRecursion (IsArgumentNarrow sizes) aggregates
-narrow_for_view sizes [] all = tt
-narrow_for_view sizes (CountAll ∷ aggregates) all = (tt, narrow_for_view sizes aggregates all.1)
-narrow_for_view sizes (Count e ∷ aggregates) all = (all.0, narrow_for_view sizes aggregates all.1)
-narrow_for_view sizes (Sum e ∷ aggregates) all = (all.0, narrow_for_view sizes aggregates all.1)
-narrow_for_view sizes (Min e ∷ aggregates) all = (all.0, narrow_for_view sizes aggregates all.1)
-narrow_for_view sizes (Max e ∷ aggregates) all = (all.0, narrow_for_view sizes aggregates all.1)
-
 module _ (v : Select) (columns : List ScopeColumn) (sized : AreStoredSized columns) where
   abbrev shown : List Written
   shown = shown_by v.items
@@ -149,8 +137,7 @@ module _ (v : Select) (columns : List ScopeColumn) (sized : AreStoredSized colum
 
   module _ (free : first_fault (items_walk kept_value groups shown) ≡ None) where
     arguments_narrow : AllByRecursion (IsArgumentNarrow stored) aggregates
-    arguments_narrow =
-        narrow_for_view stored aggregates (narrow_arguments kept_value groups stored rows_keep [] shown free tt)
+    arguments_narrow = narrow_arguments kept_value groups stored rows_keep [] shown free tt
 
     -- what is told of stored rows is as large as what is told of the columns
     told_stored : AllByRecursion (λ a. shown_size a ≡ aggregate_size (size_at columns) a) aggregates

@@ -21,13 +21,13 @@ use Rattle.cq_binder_rules.specs.From.{From, columns_with, equality_check, first
 use Rattle.cq_binder_rules.specs.Scopes.{Named, known_as, scope_column, source_columns, source_named}
 use Rattle.cq_binder_rules.specs.Typing.{ScopeColumn, is_known}
 use Rattle.cq_model_state.specs.State.{State, TableOf, ViewOf}
-use Rattle.cq_binder_expressions.proofs.Narrow.{stood}
 use Rattle.cq_engine_answers.specs.Reading.{IsSourceThere}
 use Rattle.cq_engine_answers.specs.Narrow.{source_sizes}
 use Rattle.cq_views_state.specs.Query.{IsTable}
 use Rattle.cq_engine_writes.proofs.Checks.{back_free, first_free}
 use Rattle.cq_engine.proofs.Fitting.{second_free}
 use Rattle.cq_model_bags.proofs.Lists.{all-push}
+use Rattle.cq_binder_expressions.proofs.Told.{stood}
 
 -- what stood was given
 pub standing_ok : (r : Result From Fault) (from : From) → standing r ≡ Some from → r ≡ Ok from

@@ -11,7 +11,6 @@ use Rattle.cq_binder_rules.specs.declared.fault.Fault.TheVariants as faults
 use Rattle.cq_table_columns.specs.Stored.{all_rows}
 use Rattle.cq_table_columns.specs.declared.stored.Stored.{Stored}
 use Rattle.cq_model_eval.specs.Laws.{NarrowIsExact, NarrowIsExactIn}
-use Rattle.cq_binder_expressions.specs.Expressions.{IsArgumentNarrow}
 use Rattle.cq_hash_groups.specs.Exact.{AreExactOver, IsExactFor}
 use Rattle.cq_hash_groups.specs.declared.fault.GroupFault.TheVariants.{SumOutOfRange}
 use Rattle.cq_operators.specs.Linked.{HaveOneWidth, IsExactBy}
@@ -43,6 +42,7 @@ use Rattle.cq_engine_answers.specs.Selects.{SelectsLent}
 use Rattle.cq_model_bags.proofs.Lists.{all-filter, all-listed, all-weaker}
 use Rattle.cq_model_bags.proofs.Once.{is_there}
 use Rattle.cq_model.proofs.ListedValues.{count_all-listed}
+use Rattle.cq_model.specs.Sizes.{IsArgumentNarrow}
 
 -- ---- rows that are there
 all-there : (P : Row → Type 0) (rows : List Row) → ((row : Row) → pos 0 <ℤ weight_of (once_each rows) row → P row) → AllByRecursion P rows

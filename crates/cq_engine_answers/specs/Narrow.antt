@@ -10,10 +10,9 @@ use Rattle.cq_model.specs.declared.query.Shape.{Shape}
 use Rattle.cq_model.specs.declared.query.Shape.TheVariants.{Plain, Grouped}
 use Rattle.cq_model.specs.declared.query.Source.{Source}
 use Rattle.cq_model.specs.declared.query.Source.TheVariants.{Table, View}
-use Rattle.cq_model.specs.Sizes.{column_sizes, stored_sizes}
+use Rattle.cq_model.specs.Sizes.{IsArgumentNarrow, column_sizes, stored_sizes}
 use Rattle.cq_model.specs.Views.{sources_of}
 use Rattle.cq_model.specs.Width.{AreNarrowAt, IsNarrowIn, limits_of, sizes_of}
-use Rattle.cq_binder_expressions.specs.Expressions.{IsArgumentNarrow}
 use Rattle.cq_model_state.specs.State.{TableOf, ViewOf, columns_in}
 
 -- a row on which a query can be worked out

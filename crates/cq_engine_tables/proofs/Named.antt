@@ -19,9 +19,10 @@ use Rattle.cq_views_state.specs.declared.state.Pending.{Pending}
 use Rattle.cq_engine_tables.specs.Taking.{IsSame, AreSame, AllStandFor, CanAllPrepare, IsReady, AreReady, CanTake, CanAllTake, HasTaken, HaveTaken}
 use Rattle.cq_engine_tables.specs.Views.{NamedView, view_of, views_of, IsRight, AreRight}
 use Rattle.cq_engine_tables.proofs.Places.{found_there}
-use Rattle.cq_engine_tables.proofs.Pairs.{pointwise_all, pointwise_at, pointwise_length, pointwise_more}
+use Rattle.cq_engine_tables.proofs.Pairs.{pointwise_all, pointwise_at, pointwise_more}
 use Rattle.cq_engine_tables.proofs.Turns.{same_set, taken_more, rest_same, rest_left}
 use Rattle.cq_model_bags.proofs.Lists.{all-at, all-remove}
+use Rattle.cq_model_state.proofs.Pairwise.{pointwise_length}
 
 -- ---- Tests of images
 module _ {X Y : Type 0} (f : X → Y) where

@@ -1,5 +1,5 @@
 -- Tables by their numbers: a table's number is that of no other.
-use Rattle.std.proofs.Common.{◌≡◌, ℕ, zero, suc, ◌+◌, ◌≤◌, ◌<◌, false, not, List, [], ◌∷◌, ◌++◌, length, get_or, set, refl, sym, ap, ◌∙◌, arith, subst}
+use Rattle.std.proofs.Common.{◌≡◌, ℕ, zero, suc, ◌+◌, ◌<◌, false, not, List, [], ◌∷◌, ◌++◌, length, get_or, set, refl, sym, ap, ◌∙◌, arith, subst}
 use Rattle.std.specs.Prelude.{◌==◌, filter}
 use Rattle.std.specs.List.{AllByRecursion, remove}
 use Rattle.std.proofs.lemmas.Bool.{eq-eqb, ne_eqb}
@@ -16,11 +16,6 @@ pub above_at : (n : ℕ) (ts : List TableOf) (i : ℕ) (d : TableOf) → Above n
 above_at n [] i d above h = absurd (omega (arith, h))
 above_at n (x ∷ xs) zero d above h = above.0
 above_at n (x ∷ xs) (suc i) d above h = above_at n xs i d above.1 (omega (arith, h))
-
--- numbers below a bound are below a greater one
-pub numbered-later : (ts : List TableOf) (next later : ℕ) → next ≤ later → AreNumbered ts next → AreNumbered ts later
-numbered-later [] next later bound numbered = tt
-numbered-later (x ∷ ts) next later bound numbered = (omega (arith, bound, numbered.0), numbered.1, numbered-later ts next later bound numbered.2)
 
 -- ---- Other rows
 module _ (n : ℕ) (all : List Row) where
@@ -42,20 +37,6 @@ module _ (n : ℕ) (all : List Row) where
       let inside : i < length xs = omega (arith, h) in
       let other : (x.number == n) ≡ false = ne_eqb x.number n (λ e. absurd (omega (arith, e, is, ap (λ (u : TableOf). u.number) at, above_at x.number xs i t numbered.1 inside))) in
       rw other (ap (λ (ys : List TableOf). x ∷ ys) (set-number xs i next t numbered.2 inside at is))
-
-  -- numbers above another stay so
-  above-with_rows : (m : ℕ) (ts : List TableOf) → Above m ts → Above m (with_rows n all ts)
-  above-with_rows m [] above = tt
-  above-with_rows m (x ∷ ts) above = by_test (x.number == n)
-      (λ k. rw k (above.0, above-with_rows m ts above.1))
-      (λ k. rw k (above.0, above-with_rows m ts above.1))
-
-  -- with new rows the tables have their numbers
-  pub numbered-with_rows : (ts : List TableOf) (next : ℕ) → AreNumbered ts next → AreNumbered (with_rows n all ts) next
-  numbered-with_rows [] next numbered = tt
-  numbered-with_rows (x ∷ ts) next numbered = by_test (x.number == n)
-      (λ k. rw k (numbered.0, above-with_rows x.number ts numbered.1, numbered-with_rows ts next numbered.2))
-      (λ k. rw k (numbered.0, above-with_rows x.number ts numbered.1, numbered-with_rows ts next numbered.2))
 
 -- ---- One table fewer
 module _ (n : ℕ) where

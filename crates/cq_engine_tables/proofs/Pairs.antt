@@ -10,13 +10,6 @@ pointwise_itself R each [] = tt
 pointwise_itself R each (x ∷ xs) = (each x, pointwise_itself R each xs)
 
 module _ {A B : Type 0} (R : A → B → Type 0) where
-  -- the lists are of one length
-  pub pointwise_length : (xs : List A) (ys : List B) → Pointwise R xs ys → length ys ≡ length xs
-  pointwise_length [] [] h = refl
-  pointwise_length [] (y ∷ ys) h = absurd h
-  pointwise_length (x ∷ xs) [] h = absurd h
-  pointwise_length (x ∷ xs) (y ∷ ys) h = ap suc (pointwise_length xs ys h.1)
-
   -- the entries at a place are related
   pub pointwise_at : (xs : List A) (ys : List B) (i : ℕ) (x : A) (y : B) → i < length ys → Pointwise R xs ys → R (get_or xs i x) (get_or ys i y)
   pointwise_at [] [] i x y lt h = absurd (omega (arith, lt))

@@ -17,9 +17,9 @@ use Rattle.cq_model_state.specs.State.{TableOf, columns_in, rows_in}
 use Rattle.cq_engine_tables.specs.Views.{IsRight, IsWide, NamedView, bags_in, width_at}
 use Rattle.cq_engine_tables.proofs.Bags.{bags_are}
 use Rattle.cq_engine_tables.proofs.Numbers.{others}
-use Rattle.cq_engine_tables.proofs.Pairs.{pointwise_length}
 use Rattle.cq_engine_tables.proofs.Rows.{fitting_in}
 use Rattle.std.proofs.lemmas.Option.{same_Some}
+use Rattle.cq_model_state.proofs.Pairwise.{pointwise_length}
 
 -- ---- Tables that are as wide
 -- each table that was there is there, and has as many columns

@@ -39,26 +39,22 @@ module _ (law : StandingDependsOnSources) (epoch n : ℕ) (tables changes : Tabl
   unchanged_all [] other = tt
   unchanged_all (s ∷ sources) other = (rw (others s other.0, append-nil (tables s)) (same-refl (tables s)), unchanged_all sources other.1)
 
+  -- a view that is ready stands for the changed tables once it has taken in what waited
+  stands_on : (v w x : NamedView) (p : Option Pending) → StandsFor v.kept tables → IsSame v w → IsReady n tables changes w p → HasTaken epoch w p x → StandsFor x.kept (changed tables changes)
+  stands_on v w x None stands s ready taken =
+      let free : reads n x.kept.query ≡ false = ap (λ (q : Query). reads n q) taken.query ∙ ready in
+      law x.kept tables (changed tables changes) (unchanged_all (sources_of x.kept.query) (unread n (sources_of x.kept.query) free)) (taken.goes tables (s.kept.stands tables stands))
+  stands_on v w x (Some p) stands s ready taken = taken.goes tables changes (s.kept.stands tables stands) ready.1 bags
+
   follows : (v w x : NamedView) (p : Option Pending) → StandsFor v.kept tables → IsSame v w → IsReady n tables changes w p → HasTaken epoch w p x → Follows epoch tables changes v x
-  follows v w x None stands s ready taken = record {
+  follows v w x p stands s ready taken = record {
     name = taken.name ∙ s.name;
     columns = taken.columns ∙ s.columns;
     query = taken.query ∙ s.kept.query;
     widths = taken.widths ∙ s.kept.widths;
     built = taken.built ∙ s.kept.state.built;
     epoch = taken.epoch;
-    stands =
-        let free : reads n x.kept.query ≡ false = ap (λ (q : Query). reads n q) taken.query ∙ ready in
-        law x.kept tables (changed tables changes) (unchanged_all (sources_of x.kept.query) (unread n (sources_of x.kept.query) free)) (taken.goes tables (s.kept.stands tables stands));
-  }
-  follows v w x (Some p) stands s ready taken = record {
-    name = taken.name ∙ s.name;
-    columns = taken.columns ∙ s.columns;
-    query = taken.query ∙ s.kept.query;
-    widths = taken.widths ∙ s.kept.widths;
-    built = taken.built ∙ s.kept.state.built;
-    epoch = taken.epoch;
-    stands = taken.goes tables changes (s.kept.stands tables stands) ready.1 bags;
+    stands = stands_on v w x p stands s ready taken;
   }
 
   pub all_follow : (vs ws xs : List NamedView) (ps : List (Option Pending)) → AllStandFor tables vs → AreSame vs ws → AreReady n tables changes ws ps → HaveTaken epoch ws ps xs → Pointwise (Follows epoch tables changes) vs xs

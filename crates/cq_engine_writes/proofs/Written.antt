@@ -35,7 +35,7 @@ use Rattle.cq_engine_tables.proofs.Wide.{keep-set}
 use Rattle.cq_table.specs.Checks.{too_many}
 use Rattle.cq_table.proofs.RowLists.{all_of_bag, all_of_rows}
 use Rattle.cq_model_laws.specs.Sizes.{IsStored}
-use Rattle.cq_model_bags.proofs.Lists.{all-append, all-filter}
+use Rattle.cq_model_bags.proofs.Lists.{all-append, all-filter, fewer}
 
 -- ---- Rows that come, and rows that go
 module _ (law : StandingDependsOnSources) (epoch : ℕ) (t u : TableOf) (vs ws xs : List NamedView) (ps : List (Option Pending)) (same : AreSame vs ws) (taken : HaveTaken epoch ws ps xs) where
@@ -62,12 +62,6 @@ module _ (law : StandingDependsOnSources) (epoch : ℕ) (t u : TableOf) (vs ws x
 
 -- ---- The rows that a DELETE takes
 module _ (keep : Row → Bool) where
-  kept_few : (rows : List Row) → length (filter keep rows) ≤ length rows
-  kept_few [] = omega arith
-  kept_few (r ∷ rows) = by_test (keep r)
-      (λ k. rw k (omega (arith, kept_few rows)))
-      (λ k. rw k (omega (arith, kept_few rows)))
-
   module _ (rows gone : List Row) (chosen : bag_of gone ≡ bag_of (filter keep rows)) where
     -- are stored
     pub gone_stored : AllByRecursion IsStored rows → AllByRecursion IsStored gone
@@ -77,7 +71,7 @@ module _ (keep : Row → Bool) where
     pub gone_few : (bound : ℕ) → length rows < bound → length gone < bound
     gone_few bound few =
         let same : length gone ≡ length (filter keep rows) = sym (length-bag_of gone) ∙ ap length chosen ∙ length-bag_of (filter keep rows) in
-        omega (arith, few, same, kept_few rows)
+        omega (arith, few, same, fewer rows)
 
 -- ---- Views of all tables, where the one at a place was written
 -- views that are right stand for the tables
@@ -158,7 +152,7 @@ module _ (n : ℕ) where
     pub left_bounded : (most : ℕ) → AreLimited most tables → AreLimited most (deleted_from n condition tables)
     left_bounded most bounded =
         bounded-with_rows n (left_by condition (rows_in tables n)) most tables
-        (omega (arith, kept_few stay (rows_in tables n), rows_have (λ rs. length rs ≤ most) (omega arith) tables n bounded)) bounded
+        (omega (arith, fewer stay (rows_in tables n), rows_have (λ rs. length rs ≤ most) (omega arith) tables n bounded)) bounded
 
 -- ---- A write that is refused
 
@@ -166,9 +160,3 @@ module _ (n : ℕ) where
 pub where_refused : {X E : Type 0} {P : Type 0} (result : Result X E) → P → OnErr result P
 where_refused (Ok x) p = tt
 where_refused (Err f) p = p
-
--- rows that there is room for are few
-pub few_there : (max_rows : ℕ) (stored rows : List Row) → too_many max_rows (length stored + length rows) ≡ None → length stored ≤ max_rows
-few_there max_rows stored rows room = by_test (nat_lt max_rows (length stored + length rows))
-    (λ k. absurd (cc (rw k at room)))
-    (λ k. omega (arith, ltb-false max_rows (length stored + length rows) k))

@@ -12,11 +12,10 @@ use Rattle.cq_model.specs.declared.query.Aggregate.{Aggregate}
 use Rattle.cq_model.specs.declared.query.Aggregate.TheVariants.{CountAll, Count, Sum, Min, Max}
 use Rattle.cq_model.specs.Group.{key_of}
 use Rattle.cq_hash_groups.specs.declared.bests.Extreme.TheVariants.{Least, Greatest}
-use Rattle.cq_hash_groups.specs.declared.slots.Slots.{Slots}
 use Rattle.cq_hash_groups.specs.declared.slots.Slots.TheVariants.{Counts, Sums, Bests}
 use Rattle.cq_hash_groups.specs.Groups.{rows_at, argument, kept_count, kept_sum, kept_best, slots_at, added_slots}
 use Rattle.cq_hash_groups.specs.Puts.{put_all, put_count, put_sum, put_best, no_sum, AreNumbers}
-use Rattle.cq_hash_groups.specs.Slots.{grown, grown_slots, empty_slots}
+use Rattle.cq_hash_groups.specs.Slots.{grown}
 use Rattle.cq_hash_groups.proofs.ValuesPut.{count-push, sum-push, best-push}
 use Rattle.cq_hash_groups.proofs.KeysMet.{AreApart, apart-sym, rows-append}
 use Rattle.cq_model_bags.proofs.Lists.{all-at}
@@ -84,14 +83,6 @@ module _ {S : Type 0} (kept : List Value → S) (put : S → Value → S) (nothi
       ap (λ (n : ℕ). map (of rows) keys ++ replicate n nothing) {x = length (keys ++ new) - length (map (of rows) keys)} {y = length new} (omega (arith, length-append keys new, length-map keys (of rows)))
       ∙ ap (λ (ss : List S). map (of rows) keys ++ ss) (of-none rows new none) ∙ sym (map-append (of rows) keys new)
 
-  -- before there are rows
-  none-yet : (keys : List Row) → replicate (length keys) nothing ≡ map (of []) keys
-  none-yet [] = refl
-  none-yet (k ∷ keys) = ap₂ (λ (s : S) (ss : List S). s ∷ ss) (sym start) (none-yet keys)
-
-  pub first-kept : (keys : List Row) → grown nothing (length keys) [] ≡ map (of []) keys
-  first-kept keys = ap (λ (n : ℕ). replicate n nothing) {x = length keys - 0} {y = length keys} (omega arith) ∙ none-yet keys
-
   -- both: new keys, and then the rows
   pub added : (rows keys new more : List Row) (numbers : List ℕ) → AllByRecursion (λ k. rows_at columns rows k ≡ []) new → AreApart (keys ++ new) → map (key_at (keys ++ new)) numbers ≡ map (key_of columns) more → AreNumbers (length (keys ++ new)) numbers
       → put_all put nothing numbers (map value more) (grown nothing (length (keys ++ new)) (map (of rows) keys)) ≡ map (of (rows ++ more)) (keys ++ new)
@@ -109,16 +100,3 @@ module _ (columns : List ℕ) (rows keys new : List Row) (none : AllByRecursion 
       ap (Bests Least) (added (kept_best Least) (put_best Least) Null refl (best-push Least) (argument (Min e)) columns rows keys new more numbers none apart are there)
   slots-added more numbers apart are there (Max e) =
       ap (Bests Greatest) (added (kept_best Greatest) (put_best Greatest) Null refl (best-push Greatest) (argument (Max e)) columns rows keys new more numbers none apart are there)
-
-module _ (columns : List ℕ) (keys : List Row) where
-  -- groups of no rows have nothing
-  slots-first : (a : Aggregate) → grown_slots (length keys) (empty_slots a) ≡ slots_at columns [] keys a
-  slots-first CountAll = ap Counts (first-kept kept_count put_count 0 refl count-push (argument CountAll) columns keys)
-  slots-first (Count e) = ap Counts (first-kept kept_count put_count 0 refl count-push (argument (Count e)) columns keys)
-  slots-first (Sum e) = ap Sums (first-kept kept_sum put_sum no_sum refl sum-push (argument (Sum e)) columns keys)
-  slots-first (Min e) = ap (Bests Least) (first-kept (kept_best Least) (put_best Least) Null refl (best-push Least) (argument (Min e)) columns keys)
-  slots-first (Max e) = ap (Bests Greatest) (first-kept (kept_best Greatest) (put_best Greatest) Null refl (best-push Greatest) (argument (Max e)) columns keys)
-
-  pub first-slots : (aggregates : List Aggregate) → map (λ a. grown_slots (length keys) (empty_slots a)) aggregates ≡ map (slots_at columns [] keys) aggregates
-  first-slots [] = refl
-  first-slots (a ∷ aggregates) = ap₂ (λ (s : Slots) (ss : List Slots). s ∷ ss) (slots-first a) (first-slots aggregates)

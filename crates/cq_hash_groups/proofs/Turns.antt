@@ -1,24 +1,16 @@
 -- What is kept for each aggregate, one after the other.
 use Rattle.std.proofs.Common.{◌≡◌, ℕ, zero, suc, ◌+◌, ◌-◌, ◌<◌, ◌≤◌, List, [], ◌∷◌, map, take, replicate, length, get_or, set, refl, sym, ◌∙◌, ap, ap₂, min, add-one, arith, subst}
-use Rattle.std.specs.List.{AllByRecursion}
 use Rattle.std.proofs.lemmas.List.{get_or_default, length-append}
 use Rattle.cq_values.specs.declared.value.Value.TheVariants.{Null}
 use Rattle.cq_values.specs.Value.{Row}
 use Rattle.cq_model.specs.declared.query.Aggregate.{Aggregate}
 use Rattle.cq_model.specs.declared.query.Aggregate.TheVariants.{CountAll, Count, Sum, Min, Max}
 use Rattle.cq_hash_groups.specs.declared.slots.Slots.{Slots}
-use Rattle.cq_hash_groups.specs.Exact.{AreExactOver, IsExactFor}
 use Rattle.cq_hash_groups.specs.Groups.{AreAllWithin, added_slots, all_added}
 use Rattle.cq_hash_groups.specs.declared.slots.Slots.TheVariants.{Counts, Sums, Bests}
 use Rattle.cq_hash_groups.specs.Puts.{IsSumWithin, no_sum}
 use Rattle.cq_hash_groups.specs.Slots.{AreWithin, empty_slots, groups_in, grown_slots, no_slots}
 use Rattle.cq_hash_groups.proofs.Putting.{at-grown, sums-more}
-use Rattle.cq_model_bags.proofs.Lists.{all-at}
-
--- what is exact over each row for all aggregates is so for one
-pub exact-for : (aggregates : List Aggregate) (place : ℕ) (d : Aggregate) → place < length aggregates → (rows : List Row) → AllByRecursion (AreExactOver aggregates) rows → AllByRecursion (IsExactFor (get_or aggregates place d)) rows
-exact-for aggregates place d h [] a = tt
-exact-for aggregates place d h (r ∷ rows) a = (all-at (λ x. IsExactFor x r) aggregates place d h a.0, exact-for aggregates place d h rows a.1)
 
 module _ (groups : ℕ) (numbers : List ℕ) (rows : List Row) where
   -- a turn leaves what comes after it

@@ -30,11 +30,6 @@ told keys key n is =
     let found = position-Some (same_row key) keys n [] is in
     (found.0, sym (same_row-same key (get_or keys n []) found.1))
 
--- a key behind the others has their count as its number
-pub told-last : (keys : List Row) (key : Row) → IsNumberOf (keys ++ key ∷ []) key (length keys)
-told-last [] key = (omega arith, refl)
-told-last (k ∷ keys) key = let rest = told-last keys key in (omega (arith, rest.0), rest.1)
-
 -- a number stays where keys are put behind
 pub stays : (keys more : List Row) (n : ℕ) → n < length keys → (n < length (keys ++ more)) × (key_at (keys ++ more) n ≡ key_at keys n)
 stays [] more n lt = absurd (omega arith)

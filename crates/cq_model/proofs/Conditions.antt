@@ -1,10 +1,10 @@
 -- Where a condition is True, and what no condition keeps.
-use Rattle.std.proofs.Common.{◌≡◌, true, List, [], ◌∷◌, filter, refl, ap, Option, None}
+use Rattle.std.proofs.Common.{◌≡◌, Bool, true, false, List, [], ◌∷◌, filter, refl, ap, Option, None}
 use Rattle.cq_values.specs.declared.truth.Truth.{Truth}
 use Rattle.cq_values.specs.declared.truth.Truth.TheVariants.{True, False, Unknown}
 use Rattle.cq_values.specs.declared.value.Value.{Value}
 use Rattle.cq_values.specs.declared.value.Value.TheVariants.{Null, Number, Text, Day}
-use Rattle.cq_values.specs.Truth.{is_true, and_truth}
+use Rattle.cq_values.specs.Truth.{is_true, truth_of, and_truth}
 use Rattle.cq_values.specs.Value.{Row}
 use Rattle.cq_model_bags.specs.Bag.{Weighted, filtered}
 use Rattle.cq_model.specs.Expr.{Cond}
@@ -18,6 +18,11 @@ null-value Null h = refl
 null-value (Number n) h = absurd (cc)
 null-value (Day d) h = absurd (cc)
 null-value (Text t) h = absurd (cc)
+
+-- the truth of a test is the test
+pub truth-told : (b : Bool) → is_true (truth_of b) ≡ b
+truth-told true = refl
+truth-told false = refl
 
 -- AND is True where both parts are
 pub both-true : (a b : Truth) → is_true (and_truth a b) ≡ true → (is_true a ≡ true) × (is_true b ≡ true)

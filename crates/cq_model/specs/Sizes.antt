@@ -1,12 +1,12 @@
 -- How large texts can be, and the numbers in the columns of tables and of queries (docs/LANGUAGE.md, Width).
-use Rattle.std.specs.Prelude.{ℕ, ◌^◌, List, ◌++◌, map, slice_index_or, unwrap_or, []}
+use Rattle.std.specs.Prelude.{ℕ, ◌<◌, ◌^◌, List, ◌++◌, map, slice_index_or, unwrap_or, []}
 use Rattle.cq_model.specs.declared.query.Aggregate.{Aggregate}
 use Rattle.cq_model.specs.declared.query.Aggregate.TheVariants.{CountAll, Count, Sum, Min, Max}
 use Rattle.cq_model.specs.declared.query.Query.{Query}
 use Rattle.cq_model.specs.declared.query.Shape.{Shape}
 use Rattle.cq_model.specs.declared.query.Shape.TheVariants.{Plain, Grouped}
 use Rattle.cq_values.specs.declared.column.ColumnDef.{ColumnDef}
-use Rattle.cq_model.specs.Width.{number_limit, width}
+use Rattle.cq_model.specs.Width.{number_limit, widest, width}
 
 -- a stored number has 64 bits with a sign
 abbrev pub stored_size : ℕ
@@ -31,6 +31,14 @@ aggregate_size sizes (Count e) = count_size
 aggregate_size sizes (Sum e) = number_limit
 aggregate_size sizes (Min e) = (width e sizes).size
 aggregate_size sizes (Max e) = (width e sizes).size
+
+-- the argument of an aggregate, where it has one, works out nothing too wide over columns of these sizes
+abbrev pub IsArgumentNarrow : (ℕ → ℕ) → Aggregate → Type 0
+IsArgumentNarrow sizes CountAll = Unit {0}
+IsArgumentNarrow sizes (Count e) = widest sizes e < number_limit
+IsArgumentNarrow sizes (Sum e) = widest sizes e < number_limit
+IsArgumentNarrow sizes (Min e) = widest sizes e < number_limit
+IsArgumentNarrow sizes (Max e) = widest sizes e < number_limit
 
 -- what a group shows of stored rows
 abbrev pub shown_size : Aggregate → ℕ

@@ -62,9 +62,6 @@ times_in-bag_of rows r = times_in-sorted_by row_cmp rows r
 pub bag_of-again : (xs ys : List Row) → bag_of (bag_of xs ++ ys) ≡ bag_of (xs ++ ys)
 bag_of-again xs ys = bag_of-same (bag_of xs ++ ys) (xs ++ ys) (λ r. omega (arith, times_in-append (bag_of xs) ys r, times_in-append xs ys r, times_in-bag_of xs r))
 
-pub bag_of-swap : (xs ys : List Row) → bag_of (xs ++ ys) ≡ bag_of (ys ++ xs)
-bag_of-swap xs ys = bag_of-same (xs ++ ys) (ys ++ xs) (λ r. omega (arith, times_in-append xs ys r, times_in-append ys xs r))
-
 -- weights and the list say the same
 pub bag_of-weights : (xs ys : List Row) → SameBag (once_each xs) (once_each ys) → bag_of xs ≡ bag_of ys
 bag_of-weights xs ys s = bag_of-same xs ys (same_times xs ys s)

@@ -10,7 +10,6 @@ pub mod Entries
 pub mod Sizes
 pub mod Fewer
 pub mod Positives
-pub mod Merges
 pub mod Listings
 pub mod Once
 pub mod Canonicals

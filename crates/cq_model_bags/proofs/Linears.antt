@@ -1,10 +1,9 @@
 -- Filters and projections are linear, and a difference leads from the old bag to the new one.
-use Rattle.std.proofs.Common.{◌≡◌, neg_ℤ, Bool, [], ◌∷◌, ◌++◌, refl, ◌∙◌, ap, arith}
-use Rattle.std.proofs.lemmas.Int.{ints}
+use Rattle.std.proofs.Common.{◌≡◌, neg_ℤ, Bool, [], ◌∷◌, ◌++◌, refl, ◌∙◌, ap}
 use Rattle.cq_values.specs.Value.{Row}
-use Rattle.cq_model_bags.specs.Bag.{Weighted, weight_of, SameBag, negative, difference, filtered, projected, total}
+use Rattle.cq_model_bags.specs.Bag.{Weighted, weight_of, negative, filtered, projected, total}
 use Rattle.cq_model_bags.specs.Laws.{IsLinear}
-use Rattle.cq_model_bags.proofs.Totals.{by_test, is_row, weight_of-total, total-projected, weight_of-append, weight_of-negative}
+use Rattle.cq_model_bags.proofs.Totals.{by_test, is_row, weight_of-total, total-projected}
 use Rattle.cq_model_bags.proofs.Bags.{filtered-respects, projected-respects}
 
 -- a filter of two changes together is what it keeps of each
@@ -34,10 +33,6 @@ filtered-linear keep = record { same_bag = filtered-respects keep; sums = filter
 -- a projection is linear
 pub projected-linear : (f : Row → Row) → IsLinear (projected f)
 projected-linear f = record { same_bag = projected-respects f; sums = projected-append f; negatives = projected-negative f }
-
--- new is old with the difference put in
-pub same-difference : (old new : Weighted) → SameBag (old ++ difference new old) new
-same-difference old new = record { at = λ r. rw (weight_of-append old (difference new old) r, weight_of-append new (negative old) r, weight_of-negative old r) (omega (arith, ints)) }
 
 -- an image weighs what the rows that give it weigh together
 pub weight_of-projected : (f : Row → Row) (xs : Weighted) (q : Row) → weight_of (projected f xs) q ≡ total (λ r. is_row q (f r)) xs

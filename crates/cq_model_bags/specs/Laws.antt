@@ -3,9 +3,9 @@ use Rattle.std.specs.Prelude.{◌≡◌, ℕ, ℤ, pos, ◌*ℤ◌, int_lt, Bool
 use Rattle.std.specs.List.{sum_by}
 use Rattle.cq_values.specs.Value.{Row}
 use Rattle.cq_values.specs.Order.{same_row}
-use Rattle.cq_model_bags.specs.Bag.{Weighted, weight_of, SameBag, IsBag, negative, difference, filtered, projected, joined, distinct, total}
+use Rattle.cq_model_bags.specs.Bag.{Weighted, weight_of, SameBag, negative, filtered, projected, joined, distinct, total}
 use Rattle.cq_model_bags.specs.Join.{join_change, HasWidth}
-use Rattle.cq_model_bags.specs.Size.{size, pairs_met, IsClean, LooksUp}
+use Rattle.cq_model_bags.specs.Size.{size, pairs_met, IsClean}
 use Rattle.cq_model_bags.specs.Listing.{IsListing}
 use Rattle.cq_model_bags.specs.declared.sort_key.SortKey.{SortKey}
 
@@ -29,10 +29,6 @@ pub record IsLinear (f : Weighted → Weighted) : Type 0 where
 abbrev pub LinearOperators : Type 0
 LinearOperators = ((keep : Row → Bool) → IsLinear (filtered keep)) × ((f : Row → Row) → IsLinear (projected f))
 
--- the old bag with the difference put in is the new one
-abbrev pub DifferenceLeads : Type 0
-DifferenceLeads = (old new : Weighted) → SameBag (old ++ difference new old) new
-
 -- the join of two changed sides is the old join with its change
 abbrev pub JoinLaw : Type 0
 JoinLaw = (on : Row → Row → Bool) (a da b db : Weighted) → SameBag (joined on (a ++ da) (b ++ db)) (joined on a b ++ join_change on a da b db)
@@ -55,12 +51,6 @@ DistinctWeight = (xs : Weighted) (r : Row) → weight_of (distinct xs) r ≡ (if
 abbrev pub DistinctRespects : Type 0
 DistinctRespects = (xs ys : Weighted) → SameBag xs ys → SameBag (distinct xs) (distinct ys)
 
--- no operator makes a negative row out of bags
-pub record OperatorsKeepBags : Type 0 where
-  pub filter : (keep : Row → Bool) (xs : Weighted) → IsBag xs → IsBag (filtered keep xs)
-  pub projection : (f : Row → Row) (xs : Weighted) → IsBag xs → IsBag (projected f xs)
-  pub join : (on : Row → Row → Bool) (xs ys : Weighted) → IsBag xs → IsBag ys → IsBag (joined on xs ys)
-
 -- equal bags have as many entries and pairs, and loops over merged lists count them
 pub record SizesDependOnBag : Type 0 where
   pub same_size : (xs ys : Weighted) → SameBag xs ys → size xs ≡ size ys
@@ -68,9 +58,3 @@ pub record SizesDependOnBag : Type 0 where
   pub merged_size : (xs : Weighted) → IsClean xs → size xs ≡ length xs
   pub merged_pairs : (on : Row → Row → Bool) (xs ys : Weighted) → IsClean xs → IsClean ys
       → pairs_met on xs ys ≡ sum_by (λ x. length (filter (λ y. on x.0 y.0) ys)) xs
-
--- looking up a merged change's entries finds as many rows as there are pairs
-abbrev pub LookUpsCost : Type 0
-LookUpsCost =
-    (on : Row → Row → Bool) (xs ys : Weighted) (found : Row → Weighted) → IsClean xs → LooksUp on ys found
-    → sum_by (λ x. length (found x.0)) xs ≡ pairs_met on xs ys

@@ -2,7 +2,7 @@
 ghost use Rattle.std.specs.Prelude.{◌≡◌, List, Option, ℕ};
 ghost use Rattle.cq_values.specs.Value.{Row};
 ghost use Rattle.cq_model_bags.specs.Bag.{Weighted};
-ghost use Rattle.cq_model_bags.specs.Laws.{DifferenceLeads, DistinctRespects, DistinctWeight, JoinLaw, JoinedWeight, LinearOperators, LookUpsCost, OneListing, OperatorsKeepBags, ProjectedWeight, SizesDependOnBag, SumsDependOnBag};
+ghost use Rattle.cq_model_bags.specs.Laws.{DistinctRespects, DistinctWeight, JoinLaw, JoinedWeight, LinearOperators, OneListing, ProjectedWeight, SizesDependOnBag, SumsDependOnBag};
 
 /// A bag has one listing in each order, also cut by LIMIT.
 pub fn one_listing()
@@ -17,11 +17,6 @@ pub fn sums_depend_on_bag()
 /// Filter and projection are linear.
 pub fn linear_operators()
     ensures { LinearOperators }
-{}
-
-/// Old with the difference put in is new.
-pub fn difference_leads()
-    ensures { DifferenceLeads }
 {}
 
 /// A join of two changed sides is the old join and what the changes add.
@@ -49,17 +44,7 @@ pub fn distinct_respects()
     ensures { DistinctRespects }
 {}
 
-/// Filter, projection and join of bags are bags.
-pub fn operators_keep_bags()
-    ensures { OperatorsKeepBags }
-{}
-
 /// The numbers of entries and of pairs are those of the bags, and those of merged lists.
 pub fn sizes_depend_on_bag()
     ensures { SizesDependOnBag }
-{}
-
-/// Look-ups of a change find as many rows as there are pairs that meet.
-pub fn look_ups_cost()
-    ensures { LookUpsCost }
 {}

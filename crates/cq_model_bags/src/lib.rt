@@ -8,8 +8,7 @@ mod laws;
 mod sort_key;
 
 pub use laws::{
-    difference_leads, distinct_respects, distinct_weight, join_law, joined_weight,
-    linear_operators, look_ups_cost, one_listing, operators_keep_bags, projected_weight,
-    sizes_depend_on_bag, sums_depend_on_bag,
+    distinct_respects, distinct_weight, join_law, joined_weight, linear_operators, one_listing,
+    projected_weight, sizes_depend_on_bag, sums_depend_on_bag,
 };
 pub use sort_key::SortKey;

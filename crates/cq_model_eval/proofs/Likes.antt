@@ -3,11 +3,7 @@ use Rattle.std.proofs.Common.{◌≡◌, ℕ, Bool, true, false, ◌&&◌, ◌||
 use Rattle.std.specs.List.{list_any}
 use Rattle.cq_model.specs.Like.{percent, underscore, StandsFor, Fits, ends_of, is_nil, after_one, like}
 use Rattle.cq_model_eval.specs.Laws.{LikeDecides}
-
--- by cases on the answer of a test
-pub by_test : {P : Type 0} (b : Bool) → (b ≡ true → P) → (b ≡ false → P) → P
-by_test true on off = on refl
-by_test false on off = off refl
+use Rattle.cq_model_bags.proofs.Totals.{by_test}
 
 -- some end of the text passes
 pub any_end : (t : List ℕ → Bool) (text : List ℕ) → list_any t (ends_of text) ≡ true → (front : List ℕ) × (rest : List ℕ) × (text ≡ front ++ rest) × (t rest ≡ true)

@@ -13,7 +13,7 @@ times_grows : (a b c d : Extent) → IsWithin a b → IsWithin c d → IsWithin 
 times_grows a b c d h k = let product = mul-le a.size c.size b.size d.size h.size k.size in record { size = product; widest = omega (arith, product, h.widest, k.widest) }
 
 module _ (small large : ℕ → ℕ) (kept : (i : ℕ) → small i ≤ large i) where
-  width_grows : (e : Expr) → IsWithin (width e small) (width e large)
+  pub width_grows : (e : Expr) → IsWithin (width e small) (width e large)
   width_grows (Column i) = let column = kept i in record { size = column; widest = omega arith }
   width_grows (Literal v) = record { size = omega arith; widest = omega arith }
   width_grows (Negate e) = let part = width_grows e in record { size = part.size; widest = omega (arith, part.size, part.widest) }

@@ -5,7 +5,8 @@ use Rattle.std.specs.List.{list_any}
 use Rattle.std.specs.Str.{chars}
 use Rattle.cq_model.specs.Like.{percent, underscore, ends_of, after_one, like, fits_some_end}
 use Rattle.cq_model_eval.specs.PatternPrefix.{Found, misfit, whole, open_end, prefix_match}
-use Rattle.cq_model_eval.proofs.Likes.{by_test, any_end, one_of}
+use Rattle.cq_model_eval.proofs.Likes.{any_end, one_of}
+use Rattle.cq_model_bags.proofs.Totals.{by_test}
 
 -- what fits the whole text fits an end of it
 any_whole : (test : List ℕ → Bool) (text : List ℕ) → test text ≡ true → list_any test (ends_of text) ≡ true

@@ -58,20 +58,20 @@ fewer-kept keep m xs b few =
 
 -- ---- extremes
 module _ (n : ℕ) where
-  lower-fits : (v w : Value) → Fits v n → Fits w n → Fits (lower v w) n
+  pub lower-fits : (v w : Value) → Fits v n → Fits w n → Fits (lower v w) n
   lower-fits v w p q = by_test (is_gt (value_cmp v w)) (λ k. rw k q) (λ k. rw k p)
 
-  higher-fits : (v w : Value) → Fits v n → Fits w n → Fits (higher v w) n
+  pub higher-fits : (v w : Value) → Fits v n → Fits w n → Fits (higher v w) n
   higher-fits v w p q = by_test (is_gt (value_cmp v w)) (λ k. rw k p) (λ k. rw k q)
 
   -- the extreme of values that fit
-  extreme-fits : (best : Value → Value → Value) → ((v w : Value) → Fits v n → Fits w n → Fits (best v w) n) → (vs : List Value) → AllByRecursion (λ v. Fits v n) vs → Fits (extreme best vs) n
+  pub extreme-fits : (best : Value → Value → Value) → ((v w : Value) → Fits v n → Fits w n → Fits (best v w) n) → (vs : List Value) → AllByRecursion (λ v. Fits v n) vs → Fits (extreme best vs) n
   extreme-fits best fit [] all = null-fits n
   extreme-fits best fit (v ∷ []) all = all.0
   extreme-fits best fit (v ∷ w ∷ vs) all = fit v (extreme best (w ∷ vs)) all.0 (extreme-fits best fit (w ∷ vs) all.1)
 
   -- the values of an argument that are not NULL
-  values-fit : (e : Expr) (rows : List Row) → AllByRecursion (λ r. Fits (eval e r) n) rows → AllByRecursion (λ v. Fits v n) (filter (λ v. not (is_null v)) (map (eval e) rows))
+  pub values-fit : (e : Expr) (rows : List Row) → AllByRecursion (λ r. Fits (eval e r) n) rows → AllByRecursion (λ v. Fits v n) (filter (λ v. not (is_null v)) (map (eval e) rows))
   values-fit e [] all = tt
   values-fit e (r ∷ rows) all = by_test (not (is_null (eval e r))) (λ k. rw k (all.0, values-fit e rows all.1)) (λ k. rw k (values-fit e rows all.1))
 

@@ -15,4 +15,3 @@ pub mod Shown
 pub mod Fits
 pub mod Columns
 pub mod GroupSizes
-pub mod Sizes

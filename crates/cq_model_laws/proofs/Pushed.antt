@@ -32,7 +32,7 @@ abbrev pub both : ℕ → (Row → Bool) → (Row → Bool) → (Row → Bool) �
 both n keep also then r = on_parts n keep also r && then r
 
 -- what is implied of the parts is implied of the row
-both-implied : (whole keep also then : Row → Bool) (n m : ℕ) → IsImplied whole keep 0 n → IsImplied whole also n m → IsImplied whole then 0 (n + m) → IsImplied whole (both n keep also then) 0 (n + m)
+pub both-implied : (whole keep also then : Row → Bool) (n m : ℕ) → IsImplied whole keep 0 n → IsImplied whole also n m → IsImplied whole then 0 (n + m) → IsImplied whole (both n keep also then) 0 (n + m)
 both-implied whole keep also then n m i j k = record {
   at = λ r s t e w h.
       let short : n ≤ length s = omega (arith, w) in

@@ -21,7 +21,7 @@ use Rattle.cq_model_laws.proofs.Groups.{projected-same}
 use Rattle.cq_model_laws.proofs.Ranges.{key-weight}
 
 -- without key columns all rows have one key
-rows_of_no_key : (xs : Weighted) → rows_of_key [] [] xs ≡ xs
+pub rows_of_no_key : (xs : Weighted) → rows_of_key [] [] xs ≡ xs
 rows_of_no_key [] = refl
 rows_of_no_key (x ∷ xs) = rw (same_row-refl [], rows_of_no_key xs) refl
 

@@ -1,8 +1,7 @@
 -- What holds of queries and of the states that views keep. Each statement is the contract of a function in laws.rt.
-use Rattle.std.specs.Prelude.{◌≡◌, ◌↔◌, ◌≤◌, ℕ, pos, int_lt, List, ◌++◌, Option, Some}
-use Rattle.std.specs.List.{AllByRecursion, list_any}
+use Rattle.std.specs.Prelude.{◌≡◌, ◌↔◌, ◌≤◌, ℕ, List, ◌++◌, Option, Some}
+use Rattle.std.specs.List.{AllByRecursion}
 use Rattle.cq_values.specs.Value.{Row}
-use Rattle.cq_values.specs.Order.{same_row}
 use Rattle.cq_model_bags.specs.Bag.{Weighted, SameBag, IsBag}
 use Rattle.cq_model.specs.Expr.{Expr, Cond}
 use Rattle.cq_model.specs.declared.query.Aggregate.{Aggregate}
@@ -10,7 +9,7 @@ use Rattle.cq_model.specs.declared.query.Aggregate.TheVariants.{Min, Max}
 use Rattle.cq_model.specs.declared.query.Join.{Join}
 use Rattle.cq_model.specs.declared.query.Query.{Query}
 use Rattle.cq_model.specs.declared.query.Source.{Source}
-use Rattle.cq_model.specs.Group.{count_all, count_values, sum_values, aggregate, value_bag, extreme_of, lower, higher, group_row, rows_of_key, keys_of, grouped}
+use Rattle.cq_model.specs.Group.{count_all, count_values, sum_values, aggregate, value_bag, extreme_of, lower, higher, group_row, grouped}
 use Rattle.cq_model.specs.Meaning.{Tables, chain, keeps, joined_rows, shown, meaning, MeaningInRange}
 use Rattle.cq_model.specs.Views.{with_views, AnswerInRange, sources_of}
 use Rattle.cq_views_model.specs.Delta.{SameTables, changed, chain_change, joined_change, view_work}
@@ -42,12 +41,6 @@ pub record SameGroups (xs ys : Weighted) : Type 0 where
 -- counts, totals, extremes and groups of rows depend on their bag alone
 abbrev pub GroupsDependOnBag : Type 0
 GroupsDependOnBag = (xs ys : Weighted) → SameBag xs ys → SameGroups xs ys
-
--- a key occurs exactly where rows of it are counted
-abbrev pub KeysAreCounted : Type 0
-KeysAreCounted =
-    (columns : List ℕ) (k : Row) (xs : Weighted)
-    → list_any (λ s. same_row s k) (keys_of columns xs) ≡ int_lt (pos 0) (count_all (rows_of_key columns k xs))
 
 -- MIN and MAX over rows are the extremes of the bag of their values
 pub record AreExtremes (e : Expr) (xs : Weighted) : Type 0 where

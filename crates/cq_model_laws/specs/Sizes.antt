@@ -1,16 +1,14 @@
 -- How large the numbers are in the rows of joined sources, and of a grouped query that counts and adds.
-use Rattle.std.specs.Prelude.{◌≡◌, ◌≤◌, ℕ, pos, ◌<ℤ◌, ◌≤ℤ◌, false, List, [], ◌++◌, length, map, Option, Some, None, unwrap_or}
+use Rattle.std.specs.Prelude.{◌≡◌, ◌≤◌, ℕ, pos, ◌<ℤ◌, ◌≤ℤ◌, List, [], ◌++◌, length, map, Option, unwrap_or}
 use Rattle.std.specs.List.{AllByRecursion, flat_map}
 use Rattle.cq_values.specs.Value.{Row, column}
-use Rattle.cq_model_bags.specs.Bag.{IsBag, SameBag, Weighted, once_each, weight_of}
+use Rattle.cq_model_bags.specs.Bag.{IsBag, Weighted, weight_of}
 use Rattle.cq_model.specs.declared.query.Aggregate.{Aggregate}
-use Rattle.cq_model.specs.declared.query.Aggregate.TheVariants.{Min, Max}
 use Rattle.cq_model.specs.declared.query.Query.{Query}
-use Rattle.cq_model.specs.declared.query.Shape.TheVariants.{Grouped}
 use Rattle.cq_model.specs.declared.query.Source.{Source}
 use Rattle.cq_model.specs.Group.{SumsInRange, count_all, grouped}
-use Rattle.cq_model.specs.Meaning.{Tables, chain, joined_rows, meaning, MeaningInRange}
-use Rattle.cq_model.specs.Sizes.{aggregate_size, column_sizes, count_size, stored_size}
+use Rattle.cq_model.specs.Meaning.{Tables, chain, joined_rows}
+use Rattle.cq_model.specs.Sizes.{aggregate_size, count_size, stored_size}
 use Rattle.cq_model.specs.Views.{sources_of}
 use Rattle.cq_model.specs.Width.{limits_of, value_size}
 
@@ -53,17 +51,3 @@ GroupsKeepSizes =
     (sizes : List ℕ) (keys : Option (List ℕ)) (aggregates : List Aggregate) (xs : Weighted)
     → IsBag xs → KeepsColumns sizes xs → count_all xs ≤ℤ pos count_size → SumsInRange keys aggregates xs
     → KeepsColumns (grouped_sizes sizes keys aggregates) (grouped keys aggregates xs)
-
--- an aggregate that counts or adds
-abbrev pub CountsOrAdds : Aggregate → Type 0
-CountsOrAdds (Min e) = ⊥
-CountsOrAdds (Max e) = ⊥
-CountsOrAdds a = Unit {0}
-
--- counts and totals over the groups of stored rows of one table, where the totals can be shown, keep the sizes of the query's columns
-abbrev pub RowsKeepSizes : Type 0
-RowsKeepSizes =
-    (q : Query) (keys : List ℕ) (aggregates : List Aggregate) (tables : Tables) (rows listed : List Row)
-    → q.shape ≡ Grouped (Some keys) aggregates None → q.joins ≡ [] → q.distinct ≡ false → tables q.first ≡ once_each rows
-    → AllByRecursion CountsOrAdds aggregates → AllByRecursion IsStored rows → length rows ≤ count_size → MeaningInRange q tables
-    → SameBag (once_each listed) (meaning q tables) → AllByRecursion (HasSizes (column_sizes q)) listed

@@ -1,6 +1,6 @@
 //! What holds of queries and of the states that views keep.
-ghost use Rattle.cq_model_laws.specs.Laws.{BuiltStands, ChainLaw, ConditionBelowJoins, ExtremesAreCounted, GroupShows, GroupsDependOnBag, JoinedRowsGoOn, KeptShows, KeysAreCounted, LastShows, MeaningDependsOnBags, MeaningDependsOnSources, MeaningIsBag, OwnConditionsAreImplied, StandingGoesOn, ViewsDependOnBags, WorkDependsOnBags};
-ghost use Rattle.cq_model_laws.specs.Sizes.{GroupsKeepSizes, JoinedRowsKeepSizes, RowsKeepSizes};
+ghost use Rattle.cq_model_laws.specs.Laws.{BuiltStands, ChainLaw, ConditionBelowJoins, ExtremesAreCounted, GroupShows, GroupsDependOnBag, JoinedRowsGoOn, KeptShows, LastShows, MeaningDependsOnBags, MeaningDependsOnSources, MeaningIsBag, OwnConditionsAreImplied, StandingGoesOn, ViewsDependOnBags, WorkDependsOnBags};
+ghost use Rattle.cq_model_laws.specs.Sizes.{GroupsKeepSizes, JoinedRowsKeepSizes};
 
 /// A chain of joins over changed sources is the old chain and what the changes add.
 pub fn chain_law()
@@ -15,11 +15,6 @@ pub fn joined_rows_go_on()
 /// Counts, totals, MIN, MAX and groups are those of the bag, however it is listed.
 pub fn groups_depend_on_bag()
     ensures { GroupsDependOnBag }
-{}
-
-/// A group is there exactly where its rows are counted.
-pub fn keys_are_counted()
-    ensures { KeysAreCounted }
 {}
 
 /// MIN and MAX are the extremes of the values, each with its count.
@@ -85,11 +80,6 @@ pub fn built_stands()
 /// A stored state goes on by a change of its sources, also where its sides lack rows that WHERE drops.
 pub fn standing_goes_on()
     ensures { StandingGoesOn }
-{}
-
-/// The rows of a query that counts and adds keep the sizes of its columns, where those of its table do and its totals can be shown.
-pub fn rows_keep_sizes()
-    ensures { RowsKeepSizes }
 {}
 
 /// Joined rows have the columns of each source, one behind the other, with their sizes.

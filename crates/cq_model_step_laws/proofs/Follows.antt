@@ -18,12 +18,13 @@ use Rattle.cq_model_step.specs.Next.{with_tables, with_all_views, created, new_v
 use Rattle.cq_model_step.specs.Step.{Leads, Accepts}
 use Rattle.cq_model_step_laws.specs.Sound.{IsThere, Fits, IsInTime, IsSound}
 use Rattle.cq_model_step_laws.specs.Laws.{IsNewTable}
-use Rattle.cq_model_step_laws.proofs.Numbers.{rows_in-absent, there-with_rows, rows_in-created, there-created, there-old_or_new, rows_in-dropped, there-dropped, numbered-below, numbered-weaker, numbered-created, numbered-dropped, numbered-with_rows}
+use Rattle.cq_model_step_laws.proofs.Numbers.{rows_in-absent, there-with_rows, rows_in-created, there-created, there-old_or_new, rows_in-dropped, there-dropped, numbered-below, numbered-created, numbered-dropped}
 use Rattle.cq_model_step_laws.proofs.Pasts.{change_of-below, at-present, at-same, at-without_front, at-written}
 use Rattle.cq_model_step_laws.proofs.Times.{reach-in_time, taken_on-in_time}
 use Rattle.cq_model_bags.proofs.Lists.{all-append, all-both, all-drop, all-remove, all-weaker}
 use Rattle.cq_model_bags.proofs.Positives.{bag-same}
 use Rattle.cq_model_bags.proofs.Bags.{same-equal}
+use Rattle.cq_model_state.proofs.Numbered.{numbered-weaker, numbered-with_rows}
 
 -- a later state: the tables at epochs that both can tell are the same, and it is sound
 pub record Follows (old new : State) : Type 0 where

@@ -1,7 +1,6 @@
 -- Tables by their numbers: which are there, what rows they have, and how the numbers rise.
-use Rattle.std.proofs.Common.{◌≡◌, ◌≢◌, ℕ, ◌+◌, ◌≤◌, ◌<◌, Bool, not, eqb, List, [], ◌∷◌, ◌++◌, refl, sym, ◌∙◌, arith, subst, ◌⊎◌, inl, inr, eqb-true, eq-eqb}
+use Rattle.std.proofs.Common.{◌≡◌, ◌≢◌, ℕ, ◌+◌, ◌<◌, Bool, not, eqb, List, [], ◌∷◌, ◌++◌, refl, sym, ◌∙◌, arith, subst, ◌⊎◌, inl, inr, eqb-true, eq-eqb}
 use Rattle.std.specs.Prelude.{filter}
-use Rattle.std.specs.List.{AllByRecursion}
 use Rattle.cq_values.specs.Value.{Row}
 use Rattle.cq_model_bags.specs.Canonical.{bag_of}
 use Rattle.cq_model_bags.proofs.Totals.{by_test}
@@ -94,11 +93,6 @@ numbered-below (t ∷ ts) next a n h = by_test (eqb t.number n)
     (λ k. subst (λ m. m < next) (eqb-true t.number n k) a.0)
     (λ k. numbered-below ts next a.2 n (rw k at h))
 
--- the next may be greater
-pub numbered-weaker : (tables : List TableOf) (next more : ℕ) → next ≤ more → AreNumbered tables next → AreNumbered tables more
-numbered-weaker [] next more up a = tt
-numbered-weaker (t ∷ ts) next more up a = let here = a.0 in (omega arith, a.1, numbered-weaker ts next more up a.2)
-
 -- a new table takes the next
 pub numbered-created : (tables : List TableOf) (next : ℕ) (name : List ℕ) (columns : List ColumnDef) (sort : List ℕ) → AreNumbered tables next → AreNumbered (tables ++ empty_table next name columns sort ∷ []) (next + 1)
 numbered-created [] next name columns sort a = (omega arith, tt, tt)
@@ -112,18 +106,3 @@ numbered-dropped keep [] next a = tt
 numbered-dropped keep (t ∷ ts) next a = by_test (keep t)
     (λ k. rw k (a.0, all-filter (λ u. t.number < u.number) keep ts a.1, numbered-dropped keep ts next a.2))
     (λ k. rw k (numbered-dropped keep ts next a.2))
-
--- a write changes no number
-above-with_rows : (number n : ℕ) (rows : List Row) (ts : List TableOf) → AllByRecursion (λ u. number < u.number) ts → AllByRecursion (λ u. number < u.number) (with_rows n rows ts)
-above-with_rows number n rows [] a = tt
-above-with_rows number n rows (t ∷ ts) a = by_test (eqb t.number n)
-    (λ k. rw k (a.0, above-with_rows number n rows ts a.1))
-    (λ k. rw k (a.0, above-with_rows number n rows ts a.1))
-
--- so they rise after a write
-pub numbered-with_rows : (n : ℕ) (rows : List Row) (tables : List TableOf) (next : ℕ) → AreNumbered tables next → AreNumbered (with_rows n rows tables) next
-numbered-with_rows n rows [] next a = tt
-numbered-with_rows n rows (t ∷ ts) next a =
-    let later = numbered-with_rows n rows ts next a.2 in
-    let behind = above-with_rows t.number n rows ts a.1 in
-    by_test (eqb t.number n) (λ k. rw k (a.0, behind, later)) (λ k. rw k (a.0, behind, later))

@@ -1,5 +1,5 @@
 -- The first rows in order, and what they depend on.
-use Rattle.std.proofs.Common.{◌≡◌, ℕ, zero, suc, ◌+◌, pos, false, List, [], ◌∷◌, ◌++◌, take, refl, sym, ◌∙◌, ap, arith, subst, get_or, Ordering, Less, Equal, Greater, Option, Some, None}
+use Rattle.std.proofs.Common.{◌≡◌, ℕ, zero, suc, ◌+◌, pos, false, List, [], ◌∷◌, ◌++◌, take, refl, sym, ◌∙◌, ap, arith, get_or, Ordering, Less, Equal, Greater, Option, Some, None}
 use Rattle.std.specs.Ordering.{is_gt, is_lt, ordering_reverse}
 use Rattle.cq_values.specs.Value.{Row}
 use Rattle.cq_model_bags.specs.declared.sort_key.SortKey.{SortKey}
@@ -100,14 +100,3 @@ can_list listing all e shown = (one_way all listing.rows e, one_way listing.rows
 pub listed_alike : (listing : StoredListing) (all : List Row) → CanList listing all → listed listing.keys listing.limit all ≡ listed listing.keys listing.limit listing.rows
 listed_alike listing all can =
     one_listing listing.keys listing.limit (once_each listing.rows) _ _ ((can (listed listing.keys listing.limit all)).0 (is_listing listing.keys listing.limit all)) (is_listing listing.keys listing.limit listing.rows)
-
--- with more rows on both sides
-pub can_list-append : (listing : StoredListing) (all more : List Row) → CanList listing all → CanList (record listing { rows = listing.rows ++ more }) (all ++ more)
-can_list-append listing all more can =
-    can_list (record listing { rows = listing.rows ++ more }) (all ++ more) (listed-append listing.keys listing.limit all listing.rows more (listed_alike listing all can))
-
--- where one comes from the other
-pub can_list-pushed : (old new : StoredListing) (all more : List Row) → new.keys ≡ old.keys → new.limit ≡ old.limit → new.rows ≡ old.rows ++ more → CanList old all → CanList new (all ++ more)
-can_list-pushed old new all more k l r can =
-    let e : record old { rows = old.rows ++ more } ≡ new = λ i. record { keys = sym k i; limit = sym l i; rows = sym r i } in
-    subst (λ (s : StoredListing). CanList s (all ++ more)) e (can_list-append old all more can)

@@ -13,6 +13,7 @@ use Rattle.cq_values.specs.Order.{value_cmp}
 use Rattle.cq_model_bags.specs.Listing.{directed}
 use Rattle.cq_model_bags.proofs.Totals.{by_test}
 use Rattle.cq_operators_listing.specs.Ranks.{is_own, number_rank, texts_of, text_rank, value_rank, directed_rank, joined}
+use Rattle.cq_model_bags.proofs.Widths.{then-equal}
 
 -- what two ranks tell of how their values compare
 pub record Tells (p q : ℕ) (o : Ordering) : Type 0 where
@@ -141,11 +142,6 @@ text-tells (suc n) (a ∷ s) [] = above (text_rank (suc n) (a ∷ s)) 0 (text-so
 text-tells (suc n) (a ∷ s) (b ∷ t) = first_byte n a b s t (text-tells n s t)
 
 -- ---- values
-then-equal : (o : Ordering) → ordering_then o Equal ≡ o
-then-equal Less = refl
-then-equal Equal = refl
-then-equal Greater = refl
-
 -- what tells of an order tells of the same order written otherwise
 told_as : (p q : ℕ) (o r : Ordering) → o ≡ r → Tells p q o → Tells p q r
 told_as p q o r e t = subst (Tells p q) e t

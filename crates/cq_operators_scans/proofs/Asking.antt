@@ -1,5 +1,5 @@
 -- Rows that pass conditions, one after the other.
-use Rattle.std.proofs.Common.{◌≡◌, ℕ, suc, ◌+◌, ◌<◌, ◌≤◌, Bool, true, false, ◌&&◌, cond, List, [], ◌∷◌, map, drop, length, get_or, refl, sym, ◌∙◌, ap, subst, arith, add-one, drop-cons}
+use Rattle.std.proofs.Common.{◌≡◌, ℕ, ◌+◌, ◌<◌, ◌≤◌, Bool, true, false, ◌&&◌, cond, List, [], ◌∷◌, map, drop, length, get_or, refl, sym, ◌∙◌, ap, subst, arith, add-one, drop-cons}
 use Rattle.std.specs.Prelude.{◌==◌}
 use Rattle.std.specs.Borrow.{Bor}
 use Rattle.std.specs.List.{AllByRecursion, filter}
@@ -15,7 +15,7 @@ use Rattle.cq_model.specs.Expr.{Cond}
 use Rattle.cq_model.specs.Trees.{cond_of}
 use Rattle.cq_model.specs.declared.expr.CondTree.{CondTree}
 use Rattle.cq_operators_scans.specs.Passing.{CanPass, IsExactBehind, conditions_in, passes_one, passing_rows}
-use Rattle.cq_model_bags.proofs.Lists.{all-filter, all-map, all-weaker}
+use Rattle.cq_model_bags.proofs.Lists.{all-filter, all-map, all-weaker, fewer}
 
 -- where there is no condition all pass
 none-asked : (before : ℕ) (rows : List Row) → passing_rows before [] rows ≡ rows
@@ -26,15 +26,6 @@ none-asked before (row ∷ rows) = ap (λ rs. row ∷ rs) (none-asked before row
 pub empty-asked : (before : ℕ) (conditions : List (Bor CondTree)) (rows : List Row) → (length conditions == 0) ≡ true → passing_rows before conditions rows ≡ rows
 empty-asked before [] rows e = none-asked before rows
 empty-asked before (c ∷ cs) rows e = absurd (omega (arith, eqb-true (length (c ∷ cs)) 0 e))
-
--- no more are kept than there are
-one-more : (b : Bool) (x : Row) (kept : List Row) (n : ℕ) → length kept ≤ n → length (cond b (x ∷ kept) kept) ≤ suc n
-one-more true x kept n le = omega (arith, le)
-one-more false x kept n le = omega (arith, le)
-
-pub fewer : (p : Row → Bool) (rows : List Row) → length (filter p rows) ≤ length rows
-fewer p [] = omega arith
-fewer p (row ∷ rows) = one-more (p row) row (filter p rows) (length rows) (fewer p rows)
 
 -- a row that passes both tests is kept by one after the other
 both-kept : (p q : Row → Bool) (b : Bool) (row : Row) (rows : List Row) → filter q (cond b (row ∷ rows) rows) ≡ cond (b && q row) (row ∷ filter q rows) (filter q rows)
@@ -50,15 +41,6 @@ pub record LeftToPass (before : ℕ) (left conditions : List (Bor CondTree)) (pa
   pub few : length passed ≤ 1024
   pub exact : AllByRecursion (CanPass before (conditions_in left)) passed
   pub completes : passing_rows before left passed ≡ passing_rows before conditions rows
-
--- none was asked yet
-pub none-asked-yet : (before : ℕ) (conditions : List (Bor CondTree)) (passed rows : List Row) → passed ≡ rows → length rows ≤ 1024
-    → AllByRecursion (CanPass before (conditions_in conditions)) rows → LeftToPass before conditions conditions passed rows
-none-asked-yet before conditions passed rows are few exact = record {
-  few = omega (arith, ap length are, few);
-  exact = subst (AllByRecursion (CanPass before (conditions_in conditions))) (sym are) exact;
-  completes = ap (passing_rows before conditions) are;
-}
 
 module _ (before : ℕ) (first : Bor CondTree) (left conditions : List (Bor CondTree)) (passed rows : List Row) (asked : LeftToPass before (first ∷ left) conditions passed rows) where
   exact-first : AllByRecursion (IsExactBehind before (cond_of first.now)) passed

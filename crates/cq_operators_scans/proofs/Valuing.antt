@@ -84,10 +84,6 @@ module _ (rows : List Row) (tree : ExprTree) (first : Box ExprTree Global) (rest
   factor-exact is exact = all-weaker _ _ (λ row e. first-factor row tree first rest head one is e) rows exact
 
 module _ (rows : List Row) (tree : ExprTree) (part : Box ExprTree Global) (x : ExprTree) (is : tree ≡ view.Negate part) (same : x ≡ part.value) (exact : AllByRecursion (IsExactAt (expr_of tree)) rows) where
-  -- where a minus is exact, so is its part
-  pub negated-exact : AllByRecursion (IsExactAt (expr_of x)) rows
-  negated-exact = all-weaker _ _ (λ row e. (negated-part row tree part x is same e).0) rows exact
-
   -- and the negated numbers fit
   pub negated-fits : (values : List Value) → values ≡ map (eval (expr_of x)) rows → AllByRecursion ValueInRange (map negated values)
   negated-fits values are =

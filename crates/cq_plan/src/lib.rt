@@ -11,8 +11,7 @@ mod plan;
 
 pub use columns::columns_of_condition;
 pub use laws::{
-    chain_of_lists, chains_have_widths, chains_in_parts, own_conditions_are_exact,
-    own_conditions_below_joins,
+    chain_of_lists, chains_in_parts, own_conditions_are_exact, own_conditions_below_joins,
 };
 pub use own::own_conditions;
 pub use plan::Plan;

@@ -236,12 +236,6 @@ module _ (xs ys : List Value) (nulls : List Bool) (same : length xs ≡ length y
   pub by_lent : (c : Comparison) → zip2 known (map (λ i. is_true (compared c (get_or xs i Null) (get_or ys i Null))) (range_with_len 0 (length nulls))) nulls ≡ zip2 (compared c) xs ys
   by_lent c = known_where c (λ i. is_true (compared c (get_or xs i Null) (get_or ys i Null))) xs ys nulls same is (λ i. known_true c (get_or xs i Null) (get_or ys i Null))
 
-pub length-shown : (k : ℕ) (ns : List ℤ) (vs : List Value) → ShowsNumbers k ns vs → length ns ≡ length vs
-length-shown k ns vs p = ap length p.0 ∙ length-map vs number
-
-pub length-shown_texts : (ts : List (List ℕ)) (vs : List Value) → ShowsTexts ts vs → length ts ≡ length vs
-length-shown_texts ts vs p = ap length p.0 ∙ length-map vs bytes
-
 -- a constant compared with a constant, and NULL with anything
 pub zip2-replicate : {X Y : Type 0} (f : X → X → Y) (n : ℕ) (x y : X) → zip2 f (replicate n x) (replicate n y) ≡ replicate n (f x y)
 zip2-replicate f zero x y = refl

@@ -1,9 +1,9 @@
 -- Columns without NULLs, in 128 bits.
-use Rattle.std.proofs.Common.{◌≡◌, ℕ, zero, suc, ℤ, Bool, true, false, List, [], ◌∷◌, map, length, replicate, get_or, refl, sym, ap, ◌∙◌, arith}
+use Rattle.std.proofs.Common.{◌≡◌, ℕ, zero, suc, ℤ, Bool, true, false, List, [], ◌∷◌, map, length, replicate, get_or, refl, ap, arith}
 use Rattle.std.specs.Int.{w128}
 use lib.Lanes.{zip2}
 use Rattle.cq_values.specs.declared.value.Value.TheVariants.{Number}
-use Rattle.cq_vectors.specs.Columns.{AllFit, ZeroWhere, number_unless}
+use Rattle.cq_vectors.specs.Columns.{AllFit, number_unless}
 use Rattle.cq_prims_arithmetic.specs.Operation.{AllInRange, lifted}
 use Rattle.cq_prims_arithmetic.proofs.PlaceLemmas.{number_fits}
 
@@ -30,9 +30,6 @@ pub all_clear : (n k : ℕ) → get_or (replicate n false) k false ≡ false
 all_clear zero k = refl
 all_clear (suc n) zero = refl
 all_clear (suc n) (suc k) = all_clear n k
-
-pub none_to_clear : (n : ℕ) (numbers : List ℤ) → ZeroWhere (replicate n false) numbers
-none_to_clear n numbers k is = absurd (cc (sym (all_clear n k) ∙ is))
 
 -- one number everywhere
 pub number_everywhere : (len : ℕ) (n : ℤ) → replicate len (Number n) ≡ map Number (replicate len n)

@@ -10,12 +10,13 @@ use lib.Utf8.{encodes, encode}
 use Rattle.memchr.specs.Find.{FindsNeedle, OccursAt, Nowhere}
 use Rattle.memchr.proofs.lemmas.MatchLemmas.{OccursAt-split, OccursAt-from_part}
 use Rattle.cq_model.specs.Like.{percent, underscore, Fits, like}
-use Rattle.cq_model_eval.proofs.Likes.{by_test, like_decides}
+use Rattle.cq_model_eval.proofs.Likes.{like_decides}
 use Rattle.cq_prims_like.specs.declared.around.Around.{Around as RunAndSigns}
 use Rattle.cq_prims_like.specs.Patterns.{signs_of, IsAround, IsAroundOf, FitsAt, fits_around, stands_for, are_single}
 use Rattle.cq_prims_like.proofs.Fitting.{and_left, and_right, front_taken, front_given, seam_begins, any_fits, chars-percent}
 use Rattle.cq_prims_like.proofs.PieceLemmas.{rest_valid}
 use Rattle.std.proofs.lemmas.Bool.{not-true}
+use Rattle.cq_model_bags.proofs.Totals.{by_test}
 
 -- a text that fits signs and more signs is a text that fits the first ones, and one that fits the others
 fits_split : (signs more text : List ℕ) → Fits (signs ++ more) text → (front : List ℕ) × (rest : List ℕ) × (text ≡ front ++ rest) × Fits signs front × Fits more rest
@@ -217,10 +218,6 @@ module _ (around : RunAndSigns) (known : IsAround around) (text : List ℕ) (val
       let same : p ≡ place = omega (arith, before, below) in
       let does : fits_around around text place ≡ true = ap (fits_around around text) (sym same) ∙ at.1 in
       absurd (cc)
-
-  pub fewer_left : (place : ℕ) (next : Option ℕ) → place ≤ length text → FindsNeedle text around.run (place + 1) next → places_left next (length text) < length text + 1 - place
-  fewer_left place None within found = omega (arith, within)
-  fewer_left place (Some k) within found = omega (arith, within, found.0.low, found.0.high)
 
 -- ---- how the parts are found
 pub is_around_of : (pattern tail : List ℕ) (around : RunAndSigns) → IsUtf8 pattern → IsAround around → pattern ≡ percent ∷ tail

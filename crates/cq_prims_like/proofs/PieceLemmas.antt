@@ -1,6 +1,6 @@
 -- What patterns fit whose pieces stand between '%'s.
 use Rattle.std.proofs.Common.{◌≡◌, ℕ, suc, ◌<◌, ◌≤◌, ◌+◌, ◌-◌, Bool, get_or, add-one, drop-cons, length-drop, List, [], ◌∷◌, ◌++◌, length, take, drop, refl, sym, ap, subst, ◌∙◌, arith, length-append, append_assoc, All}
-use Rattle.std.specs.Prelude.{Option, Some, None}
+use Rattle.std.specs.Prelude.{Some, None}
 use Rattle.std.specs.Bool.{Decides}
 use Rattle.std.specs.Str.{chars, IsUtf8, IsCharBoundary}
 use Rattle.std.proofs.lemmas.Bool.Decides.{same_from_decides}
@@ -134,12 +134,6 @@ module _ (pieces : List (List ℕ)) (i : ℕ) (piece text : List ℕ) (below : i
 
 pub whole_rest : (text : List ℕ) (n : ℕ) → take (length text - n) (drop n text) ≡ drop n text
 whole_rest text n = ap (λ (m : ℕ). take m (drop n text)) (sym (length-drop n text)) ∙ take-length (drop n text)
-
--- what a search of the rest of some bytes finds, said of the text that they are
-pub found_in_rest : (needle bytes text : List ℕ) (from : ℕ) (r : Option ℕ) → bytes ≡ text → FindsNeedle (take (length bytes - from) (drop from bytes)) needle 0 r
-    → FindsNeedle (drop from text) needle 0 r
-found_in_rest needle bytes text from r same found =
-    subst (λ b. FindsNeedle (drop from b) needle 0 r) same (subst (λ hay. FindsNeedle hay needle 0 r) (whole_rest bytes from) found)
 
 -- a piece is taken off the front of what is left of the pattern
 pub one_piece_more : (pieces : List (List ℕ)) (piece more rest pattern : List ℕ) → pattern ≡ percent ∷ (closed pieces ++ rest) → rest ≡ piece ++ percent ∷ more

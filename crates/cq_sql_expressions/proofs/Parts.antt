@@ -9,8 +9,8 @@ use Rattle.cq_sql_expressions.specs.declared.links.Operator.TheVariants as opera
 use Rattle.cq_sql_expressions.specs.Gives.{Fails}
 use Rattle.cq_sql_expressions.specs.Read.{◌>>=◌, Reader}
 use Rattle.cq_sql_expressions.specs.Lists.{chain_from}
-use Rattle.cq_sql_expressions.specs.Chains.{after_link, sign_at, linked_part, signed_term, joined_at, more_terms}
-use Rattle.cq_sql_expressions.specs.Expressions.{Inside, operand_of, product_of, sum_of}
+use Rattle.cq_sql_expressions.specs.Chains.{after_link, sign_at, linked_part, signed_term, joined_at}
+use Rattle.cq_sql_expressions.specs.Expressions.{Inside, operand_of, product_of}
 use Rattle.cq_sql_expressions.proofs.Chains.{turn_goes_on, turn_fails, turn_stops}
 use Rattle.cq_sql_expressions.proofs.Sums.{terms_push}
 
@@ -60,12 +60,6 @@ module _ (term : Reader Written) (first : Written) (signs : List Sign) (ws : Lis
   term_stops none =
       let step : signed_term term (terms first signs ws) ts ≡ None = rw none refl in
       turn_stops (signed_term term) count i (terms first signs ws) ts total lt so_far step
-
--- a product and what the later terms make of it are a sum
-pub sum_is : (inside : Inside) (first : Written) (ts us : List Token) → joined_at operators.Times (operand_of inside operators.Times) ts ≡ Some (first, us)
-    → sum_of inside ts ≡ more_terms (product_of inside) first us
-unfolding sum_of product_of operand_of
-sum_is inside first ts us read = rw read refl
 
 -- the reader of the terms is the reader of chains of factors
 pub product_is : (inside : Inside) (ts : List Token) → joined_at operators.Times (operand_of inside operators.Times) ts ≡ product_of inside ts

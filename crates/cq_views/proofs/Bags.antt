@@ -1,10 +1,9 @@
 -- What becomes of bags of rows that are cut to columns.
-use Rattle.std.proofs.Common.{◌≡◌, ◌≤◌, List, [], ◌∷◌, ◌++◌, Option, Some, None, refl, arith}
-use Rattle.cq_values.specs.Value.{Row}
+use Rattle.std.proofs.Common.{◌≡◌, ◌≤◌, List, [], ◌++◌, Option, Some, None, refl, arith}
 use Rattle.cq_model_bags.proofs.Bags.{projected-respects, same-refl}
 use Rattle.cq_model_bags.proofs.Linears.{projected-append}
 use Rattle.cq_model_bags.proofs.Positives.{projected-bag}
-use Rattle.cq_model_bags.specs.Bag.{IsBag, SameBag, Weighted, projected}
+use Rattle.cq_model_bags.specs.Bag.{IsBag, SameBag, Weighted}
 use Rattle.cq_model_bags.specs.Join.{HasWidth}
 use Rattle.cq_deltas_joins.specs.Steps.{AreStored}
 use Rattle.cq_views_model.specs.Delta.{changed}
@@ -15,16 +14,11 @@ use Rattle.cq_model.specs.Group.{key_of}
 use Rattle.cq_model.specs.Meaning.{Tables}
 use Rattle.cq_views_columns.proofs.Bags.{rows-stored, rows-wide}
 use Rattle.cq_views_columns.specs.declared.columns.SourceColumns.{SourceColumns}
-use Rattle.cq_sides_weights.proofs.RowByRow.{sizes-cons}
+use Rattle.cq_sides_weights.proofs.RowByRow.{sizes-projected}
 use Rattle.cq_sides_weights.specs.Held.{sizes}
 use Rattle.cq_views_state.specs.State.{AreBags}
 
 -- ---- rows of one source
--- a row that is cut keeps its weight
-sizes-projected : (f : Row → Row) (xs : Weighted) → sizes (projected f xs) ≡ sizes xs
-sizes-projected f [] = refl
-sizes-projected f (x ∷ xs) = omega (arith, sizes-cons (f x.0, x.1) (projected f xs), sizes-cons x xs, sizes-projected f xs)
-
 pub cut-sizes : (x : Option SourceColumns) (xs : Weighted) → sizes (cut_to x xs) ≤ sizes xs
 cut-sizes None xs = omega arith
 cut-sizes (Some x) xs = omega (arith, sizes-projected (key_of x.columns) xs)

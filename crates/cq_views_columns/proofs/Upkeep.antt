@@ -9,7 +9,7 @@ use Rattle.cq_values.specs.Value.{Row, column}
 use Rattle.cq_deltas_joins.specs.Steps.{IsNarrowOnStored}
 use Rattle.cq_model_laws.specs.Sizes.{IsStored}
 use Rattle.cq_model.specs.Expr.{Expr, Column, Literal, Negate, Plus, Times, Extract, Cond, Compare, IsNull, Between, In, Like, Not, And, Or}
-use Rattle.cq_model.specs.Sizes.{column_sizes, row_size, shown_size, stored_size}
+use Rattle.cq_model.specs.Sizes.{IsArgumentNarrow, column_sizes, row_size, shown_size, stored_size}
 use Rattle.cq_model.specs.Views.{sources_of}
 use Rattle.cq_model.specs.Width.{Extent, number_limit, sizes_of, value_size, widest, widest_in, width}
 use Rattle.cq_model.specs.declared.query.Aggregate.{Aggregate}
@@ -19,7 +19,7 @@ use Rattle.cq_model.specs.declared.query.Query.{Query}
 use Rattle.cq_model.specs.declared.query.Shape.{Shape}
 use Rattle.cq_model.specs.declared.query.Shape.TheVariants.{Plain, Grouped}
 use Rattle.cq_model.specs.declared.query.Source.{Source}
-use Rattle.cq_views_state.specs.Query.{CanBeKept, HasNoHaving, IsArgumentNarrow, IsTable, aggregates_in}
+use Rattle.cq_views_state.specs.Query.{CanBeKept, HasNoHaving, IsTable, aggregates_in}
 use Rattle.cq_views_columns.specs.Narrow.{renamed_join, renamed_query}
 use Rattle.cq_views_columns.specs.Places.{place_in}
 use Rattle.cq_views_columns.specs.Reads.{reads, reads_in}

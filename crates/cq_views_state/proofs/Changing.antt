@@ -16,7 +16,7 @@ use Rattle.cq_model.specs.declared.query.Query.{Query}
 use Rattle.cq_model.specs.declared.query.Shape.{Shape}
 use Rattle.cq_model.specs.declared.query.Shape.TheVariants.{Plain, Grouped}
 use Rattle.cq_deltas_joins.proofs.Sizes.{sizes-least}
-use Rattle.cq_sides_weights.proofs.RowByRow.{sizes-cons, weight-size}
+use Rattle.cq_sides_weights.proofs.RowByRow.{sizes-projected, weight-size}
 use Rattle.cq_sides_weights.specs.Held.{Held, StaysSmall, sizes}
 use Rattle.cq_deltas_joins.proofs.Spans.{sizes-filtered}
 use Rattle.cq_deltas_joins.proofs.Storing.{stored-filtered}
@@ -52,10 +52,6 @@ change-holds query old new rows can take same =
     (omega (arith, take.few, sizes-filtered keep rows)) (seen-stands query (stored.Groups old) (stored.Groups new) same take.xs take.stands)
 
 -- ---- images
-sizes-projected : (f : Row → Row) (xs : Weighted) → sizes (projected f xs) ≡ sizes xs
-sizes-projected f [] = refl
-sizes-projected f (x ∷ xs) = omega (arith, sizes-cons (f x.0, x.1) (projected f xs), sizes-cons x xs, sizes-projected f xs)
-
 -- images stand for rows that are not grouped
 pub plain-for : (query : Query) (shape : Shape) (xs images : Weighted) → LastStands query shape xs (Images images) → shape ≡ Plain
 plain-for query Plain xs images stands = refl

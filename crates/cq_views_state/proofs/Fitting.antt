@@ -1,11 +1,9 @@
 -- What a group shows of few stored rows is no larger than its size.
-use Rattle.std.proofs.Common.{◌≡◌, ℕ, ◌≤◌, ◌^◌, ℤ, pos, ◌*ℤ◌, nat_abs, int_lt, Bool, true, false, not, cond, List, [], ◌∷◌, map, filter, sym, ◌∙◌, ap, arith}
+use Rattle.std.proofs.Common.{◌≡◌, ◌≤◌, ◌^◌, ℤ, pos, ◌*ℤ◌, nat_abs, int_lt, Bool, true, false, cond, List, [], ◌∷◌, map, sym, ◌∙◌, ap, arith}
 use Rattle.std.proofs.lemmas.Int.{unsigned_abs-mul}
 use Rattle.std.proofs.lemmas.Nat.{mul-le}
 use Rattle.std.specs.List.{AllByRecursion}
-use Rattle.std.specs.Ordering.{int_eq, is_gt}
-use Rattle.cq_values.specs.declared.value.Value.{Value}
-use Rattle.cq_values.specs.Order.{value_cmp}
+use Rattle.std.specs.Ordering.{int_eq}
 use Rattle.cq_values.specs.Value.{Row}
 use Rattle.cq_model_bags.specs.Bag.{Weighted, distinct_rows, total, weight_of}
 use Rattle.cq_model_bags.proofs.Entries.{distinct_rows-positive}
@@ -16,7 +14,7 @@ use Rattle.cq_model.specs.declared.query.Aggregate.{Aggregate}
 use Rattle.cq_model.specs.declared.query.Aggregate.TheVariants.{CountAll, Count, Sum, Min, Max}
 use Rattle.cq_model.specs.Condition.{is_null}
 use Rattle.cq_model.specs.Eval.{eval}
-use Rattle.cq_model.specs.Group.{SumInRange, aggregate, count_values, extreme, higher, lower, sum_values, values_of}
+use Rattle.cq_model.specs.Group.{SumInRange, aggregate, count_values, higher, lower, sum_values, values_of}
 use Rattle.cq_model.specs.Sizes.{shown_size, stored_size}
 use Rattle.cq_model.specs.Width.{width}
 use Rattle.cq_model_laws.proofs.Fits.{FitBeside, Fits, null-fits, sum-fits}
@@ -27,6 +25,7 @@ use Rattle.cq_sides_weights.specs.Held.{sizes}
 use Rattle.cq_deltas_joins.specs.Steps.{AreStored}
 use Rattle.cq_model_bags.proofs.Sizes.{listed-all}
 use Rattle.cq_model_bags.proofs.Integers.{abs-plus}
+use Rattle.cq_model_laws.proofs.GroupSizes.{extreme-fits, higher-fits, lower-fits, values-fit}
 
 -- ---- counts
 -- a sum over rows of what is at most one is no larger than they are many
@@ -40,29 +39,6 @@ total-few f least (x ∷ xs) =
 test-least : (b : Bool) → nat_abs (cond b (pos 0) (pos 1)) ≤ 1
 test-least true = omega arith
 test-least false = omega arith
-
--- ---- extremes
-module _ (n : ℕ) where
-  lower-fits : (v w : Value) → Fits v n → Fits w n → Fits (lower v w) n
-  lower-fits v w p q = by_test (is_gt (value_cmp v w)) (λ k. rw k q) (λ k. rw k p)
-
-  higher-fits : (v w : Value) → Fits v n → Fits w n → Fits (higher v w) n
-  higher-fits v w p q = by_test (is_gt (value_cmp v w)) (λ k. rw k p) (λ k. rw k q)
-
-  -- the extreme of values that fit
-  extreme-fits : (best : Value → Value → Value) → ((v w : Value) → Fits v n → Fits w n → Fits (best v w) n) → (vs : List Value)
-      → AllByRecursion (λ v. Fits v n) vs → Fits (extreme best vs) n
-  extreme-fits best fit [] all = null-fits n
-  extreme-fits best fit (v ∷ []) all = all.0
-  extreme-fits best fit (v ∷ w ∷ vs) all = fit v (extreme best (w ∷ vs)) all.0 (extreme-fits best fit (w ∷ vs) all.1)
-
-  -- the values of an argument that are not NULL
-  values-fit : (e : Expr) (rows : List Row) → AllByRecursion (λ r. Fits (eval e r) n) rows
-      → AllByRecursion (λ v. Fits v n) (filter (λ v. not (is_null v)) (map (eval e) rows))
-  values-fit e [] all = tt
-  values-fit e (r ∷ rows) all = by_test (not (is_null (eval e r)))
-      (λ k. rw k (all.0, values-fit e rows all.1))
-      (λ k. rw k (values-fit e rows all.1))
 
 -- ---- what is shown
 module _ (xs : Weighted) (stored : AreStored xs) (few : sizes xs ≤ 2 ^ 96) where

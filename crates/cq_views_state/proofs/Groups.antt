@@ -26,6 +26,7 @@ use Rattle.cq_views_state.proofs.Listing.{weight-among}
 use Rattle.cq_views_state.specs.Shown.{or_nothing}
 use Rattle.cq_model_bags.proofs.Once.{rows-once}
 use Rattle.cq_model.proofs.Occurring.{IsRowOf, row-from-test, row-to-test}
+use Rattle.cq_model_laws.proofs.Shown.{rows_of_no_key}
 
 -- ---- with GROUP BY
 module _ (columns : List ℕ) (aggregates : List Aggregate) (groups : KeyedGroups) (xs : Weighted) (lists : ListsKeys (counted_keys groups) (Groups (group_at aggregates groups)))
@@ -61,11 +62,6 @@ module _ (columns : List ℕ) (aggregates : List Aggregate) (groups : KeyedGroup
       (all-at (λ q. AllByRecursion (λ a. SumInRange a (rows_of_key columns q xs)) aggregates) (keys_of columns xs) all k (occurs k among)))
 
 -- ---- without GROUP BY
--- without key columns all rows have one key
-rows_of_no_key : (xs : Weighted) → rows_of_key [] [] xs ≡ xs
-rows_of_no_key [] = refl
-rows_of_no_key (x ∷ xs) = rw (same_row-refl [], rows_of_no_key xs) refl
-
 -- and no row has another
 rows_of_other : (k : Row) → same_row [] k ≡ false → (xs : Weighted) → rows_of_key [] k xs ≡ []
 rows_of_other k other [] = refl

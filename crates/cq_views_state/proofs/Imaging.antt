@@ -5,11 +5,12 @@ use Rattle.cq_model_bags.proofs.Linears.{filtered-append, projected-append}
 use Rattle.cq_model_bags.specs.Bag.{Weighted, SameBag, projected}
 use Rattle.cq_model.specs.Meaning.{items_of, keeps}
 use Rattle.cq_model.specs.declared.query.Query.{Query}
-use Rattle.cq_deltas_joins.proofs.Pairing.{add-step, left, small-step, taken}
+use Rattle.cq_deltas_joins.proofs.Pairing.{add-step, left, small-step}
 use Rattle.cq_sides_weights.proofs.RowByRow.{sizes-cons}
 use Rattle.cq_sides_weights.specs.Held.{StaysSmall, sizes}
 use Rattle.std.proofs.lemmas.List.{append-nil}
 use Rattle.cq_views_state.specs.Last.{kept_rows}
+use Rattle.cq_model_bags.proofs.Lists.{take-next}
 
 -- of the rows so far the images of those that WHERE keeps are gathered, and the others fit
 pub record Gathers (query : Query) (ys : Weighted) (i : ℕ) (images : Weighted) : Type 0 where
@@ -18,7 +19,7 @@ pub record Gathers (query : Query) (ys : Weighted) (i : ℕ) (images : Weighted)
 
 module _ (query : Query) (ys : Weighted) (i : ℕ) (y : Row × ℤ) (at : slice_get ys i ≡ Some y) where
   passed : kept_rows query (take (i + 1) ys) ≡ kept_rows query (take i ys) ++ kept_rows query (y ∷ [])
-  passed = ap (kept_rows query) (taken ys i y at) ∙ filtered-append (keeps query.filter) (take i ys) (y ∷ [])
+  passed = ap (kept_rows query) (take-next ys i y at) ∙ filtered-append (keeps query.filter) (take i ys) (y ∷ [])
 
   -- a row that WHERE keeps stands behind those so far
   pub kept-more : keeps query.filter y.0 ≡ true → kept_rows query (take (i + 1) ys) ≡ kept_rows query (take i ys) ++ y ∷ []

@@ -13,9 +13,9 @@ use Rattle.cq_model_bags.proofs.Totals.{by_test, weight_of-append}
 use Rattle.cq_model_bags.specs.Bag.{Weighted, SameBag, IsBag, once_each, weight_of}
 use Rattle.cq_model_bags.specs.Size.{IsClean}
 use Rattle.cq_model_laws.proofs.Ranges.{all-from}
-use Rattle.cq_deltas_joins.proofs.Pairing.{taken}
 use Rattle.cq_model_bags.proofs.Sizes.{listed-all, weightless}
 use Rattle.cq_model.proofs.Occurring.{row-to-test}
+use Rattle.cq_model_bags.proofs.Lists.{take-next}
 
 -- ---- one row, so many times
 -- at first none is there
@@ -83,7 +83,7 @@ pub listed-more : (xs : Weighted) (i : ℕ) (x : Row × ℤ) → slice_get xs i 
 listed-more xs i x at old new so_far add = record {
   at = λ q.
       let a = add.at q ∙ weight_of-append (once_each old) (x ∷ []) q in
-      let b = ap (λ (ys : Weighted). weight_of ys q) (taken xs i x at) ∙ weight_of-append (take i xs) (x ∷ []) q in
+      let b = ap (λ (ys : Weighted). weight_of ys q) (take-next xs i x at) ∙ weight_of-append (take i xs) (x ∷ []) q in
       omega (arith, ints, a, b, so_far.at q);
 }
 

@@ -1,11 +1,10 @@
 -- What a view reads of its query, and which queries are kept.
 use Rattle.std.specs.Prelude.{◌≡◌, ◌<◌, ℕ, Bool, false, List, [], ◌++◌, map, None, unwrap_or}
 use Rattle.std.specs.List.{AllByRecursion, list_any}
-use Rattle.cq_model.specs.Sizes.{row_size, shown_size, stored_size}
+use Rattle.cq_model.specs.Sizes.{IsArgumentNarrow, row_size, shown_size, stored_size}
 use Rattle.cq_model.specs.Views.{is_table, sources_of}
 use Rattle.cq_model.specs.Width.{number_limit, widest}
 use Rattle.cq_model.specs.declared.query.Aggregate.{Aggregate}
-use Rattle.cq_model.specs.declared.query.Aggregate.TheVariants.{CountAll, Count, Sum, Min, Max}
 use Rattle.cq_model.specs.declared.query.Query.{Query}
 use Rattle.cq_model.specs.declared.query.Shape.{Shape}
 use Rattle.cq_model.specs.declared.query.Shape.TheVariants.{Plain, Grouped}
@@ -42,14 +41,6 @@ IsTable (View n) = ⊥
 abbrev pub HasNoHaving : Shape → Type 0
 HasNoHaving Plain = Unit {0}
 HasNoHaving (Grouped keys aggregates having) = having ≡ None
-
--- the argument of an aggregate, where it has one, works out nothing too wide over columns of these sizes
-abbrev pub IsArgumentNarrow : (ℕ → ℕ) → Aggregate → Type 0
-IsArgumentNarrow sizes CountAll = Unit {0}
-IsArgumentNarrow sizes (Count e) = widest sizes e < number_limit
-IsArgumentNarrow sizes (Sum e) = widest sizes e < number_limit
-IsArgumentNarrow sizes (Min e) = widest sizes e < number_limit
-IsArgumentNarrow sizes (Max e) = widest sizes e < number_limit
 
 -- how large the numbers are in a group's row: in its key, and in what it shows of stored rows
 abbrev pub group_sizes : Query → List ℕ

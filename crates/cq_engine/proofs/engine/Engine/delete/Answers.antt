@@ -4,11 +4,11 @@ use Rattle.cq_model.specs.Write.{left_by}
 use Rattle.cq_model_state.specs.State.{rows_in}
 use Rattle.cq_engine_tables.specs.Views.{views_of}
 use Rattle.cq_engine.proofs.Kept.{all_at, all_right_same, unchanged}
-use Rattle.cq_engine_tables.proofs.Numbers.{numbered-later, numbered-with_rows}
 use Rattle.cq_engine_tables.proofs.Rows.{bounded_more}
 use Rattle.cq_engine.proofs.Steps.{delete_done}
 use Rattle.cq_engine_writes.proofs.Written.{left_bounded, left_fit}
 use Rattle.cq_engine.proofs.engine.Engine.delete.Goals as goal
+use Rattle.cq_model_state.proofs.Numbered.{numbered-weaker, numbered-with_rows}
 
 pub delete_in-deleted-requires-clause-limited : goal.delete_in-deleted-requires-clause-limited
 delete_in-deleted-requires-clause-limited c =
@@ -41,7 +41,7 @@ invariant_of-self-2 c =
     let drawn = c.self.inside.drawn in
     let tables = c.self.inside.tables.items in (
       omega (arith, c.self.invariant.0),
-      rw c.in_ok-rows.ensures.left (numbered-later _ drawn (drawn + 1) (omega arith) (numbered-with_rows c.args.table (left_by c.args.condition (rows_in tables c.args.table)) tables drawn c.self.invariant.1)),
+      rw c.in_ok-rows.ensures.left (numbered-weaker _ drawn (drawn + 1) (omega arith) (numbered-with_rows c.args.table (left_by c.args.condition (rows_in tables c.args.table)) tables drawn c.self.invariant.1)),
       rw c.in_ok-rows.ensures.left (left_fit c.args.table c.args.condition tables drawn c.self.invariant.1 c.self.invariant.2),
       c.in_ok-rows.ensures.moved.right,
       rw c.in_ok-rows.ensures.left (left_bounded c.args.table c.args.condition tables c.self.inside.limits.max_rows c.self.invariant.4),

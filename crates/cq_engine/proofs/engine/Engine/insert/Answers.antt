@@ -3,11 +3,11 @@ use Rattle.std.proofs.lemmas.Result.{err_from_is_err_and}
 use Rattle.cq_model_state.specs.State.{rows_in}
 use Rattle.cq_engine_tables.specs.Views.{views_of}
 use Rattle.cq_engine.proofs.Kept.{all_at, all_right_same, unchanged}
-use Rattle.cq_engine_tables.proofs.Numbers.{numbered-later, numbered-with_rows}
 use Rattle.cq_engine_tables.proofs.Rows.{bounded_more}
 use Rattle.cq_engine.proofs.Steps.{insert_done}
 use Rattle.cq_engine_writes.proofs.Written.{inserted_bounded, inserted_fit}
 use Rattle.cq_engine.proofs.engine.Engine.insert.Goals as goal
+use Rattle.cq_model_state.proofs.Numbered.{numbered-weaker, numbered-with_rows}
 
 pub insert_in-requires-clause-limited : goal.insert_in-requires-clause-limited
 insert_in-requires-clause-limited c =
@@ -42,7 +42,7 @@ invariant_of-self-2 c =
     let tables = c.self.inside.tables.items in
     let drawn = c.self.inside.drawn in (
       omega (arith, c.self.invariant.0),
-      rw walk.1 (numbered-later _ drawn (drawn + 1) (omega arith) (numbered-with_rows c.args.table (rows_in tables c.args.table ++ c.args.rows) tables drawn c.self.invariant.1)),
+      rw walk.1 (numbered-weaker _ drawn (drawn + 1) (omega arith) (numbered-with_rows c.args.table (rows_in tables c.args.table ++ c.args.rows) tables drawn c.self.invariant.1)),
       rw walk.1 (inserted_fit c.args.table c.args.rows tables drawn c.self.invariant.1 c.self.invariant.2 (rw (← c.self.view_is) at c.requires.bound).1),
       c.in_ok-insert_in.ensures.moved.right,
       rw walk.1 (inserted_bounded c.args.table c.args.rows tables c.self.inside.limits.max_rows walk.0 c.self.invariant.4),

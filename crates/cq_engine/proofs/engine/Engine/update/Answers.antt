@@ -4,11 +4,11 @@ use Rattle.cq_model.specs.Write.{updated}
 use Rattle.cq_model_state.specs.State.{rows_in}
 use Rattle.cq_engine_tables.specs.Views.{views_of}
 use Rattle.cq_engine.proofs.Kept.{all_at, all_right_same, unchanged}
-use Rattle.cq_engine_tables.proofs.Numbers.{numbered-later, numbered-with_rows}
 use Rattle.cq_engine_tables.proofs.Rows.{bounded_more}
 use Rattle.cq_engine.proofs.Steps.{update_done}
 use Rattle.cq_engine_writes.proofs.Updates.{updated_bounded, updated_fit}
 use Rattle.cq_engine.proofs.engine.Engine.update.Goals as goal
+use Rattle.cq_model_state.proofs.Numbered.{numbered-weaker, numbered-with_rows}
 
 pub update_in-updated-requires-clause-limited : goal.update_in-updated-requires-clause-limited
 update_in-updated-requires-clause-limited c =
@@ -43,7 +43,7 @@ invariant_of-self-2 c =
     let tables = c.self.inside.tables.items in
     let drawn = c.self.inside.drawn in (
       omega (arith, c.self.invariant.0),
-      rw walk.2 (numbered-later _ drawn (drawn + 1) (omega arith) (numbered-with_rows c.args.table (updated c.args.assignments c.args.filter (rows_in tables c.args.table)) tables drawn c.self.invariant.1)),
+      rw walk.2 (numbered-weaker _ drawn (drawn + 1) (omega arith) (numbered-with_rows c.args.table (updated c.args.assignments c.args.filter (rows_in tables c.args.table)) tables drawn c.self.invariant.1)),
       rw walk.2 (updated_fit c.args.table c.args.assignments c.args.filter tables drawn c.self.invariant.1 c.self.invariant.2 (rw (← c.self.view_is) at c.requires.bound).1 walk.0),
       c.in_ok-count.ensures.moved.right,
       rw walk.2 (updated_bounded c.args.table c.args.assignments c.args.filter tables c.self.inside.limits.max_rows c.self.invariant.4),

@@ -1,0 +1,2 @@
+pub mod Pairwise
+pub mod Numbered
