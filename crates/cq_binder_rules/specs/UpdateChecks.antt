@@ -1,13 +1,14 @@
 -- What is asked of an UPDATE: of its assignments, and of the values that they give to the rows of the table
 -- (docs/LANGUAGE.md, Statements).
-use Rattle.std.specs.Prelude.{ℕ, int_lt, neg_ℤ, pos, Bool, true, false, ◌&&◌, ◌||◌, not, List, [], ◌∷◌, ◌++◌, map, Option, Some, is_none, unwrap_or, Result, Ok, Err, slice_index_or}
+use Rattle.std.specs.Prelude.{ℕ, int_lt, neg_ℤ, pos, Bool, false, ◌&&◌, ◌||◌, not, List, [], ◌∷◌, ◌++◌, map, Option, Some, is_none, unwrap_or, Result, Ok, Err, slice_index_or}
 use Rattle.std.specs.List.{flat_map, list_any}
 use Rattle.cq_values.specs.Texts.{is_text}
 use Rattle.cq_values.specs.declared.column.ColumnDef.{ColumnDef}
 use Rattle.cq_values.specs.declared.ty.Ty.{Ty}
 use Rattle.cq_values.specs.declared.value.Value.{Value}
-use Rattle.cq_values.specs.declared.value.Value.TheVariants.{Null, Number}
+use Rattle.cq_values.specs.declared.value.Value.TheVariants.{Number}
 use Rattle.cq_values.specs.Value.{Row}
+pub use Rattle.cq_values.specs.Value.{is_null}
 use Rattle.cq_sql_language.specs.declared.statement.SetClause.{SetClause}
 use Rattle.cq_sql_language.specs.Written.{Written}
 use Rattle.cq_model.specs.declared.assignment.Assignment.{Assignment}
@@ -61,10 +62,6 @@ update_walk condition sets s = where_check s condition ∷ set_checks s [] sets
 abbrev pub is_outside : Value → Bool
 is_outside (Number n) = int_lt n (neg_ℤ (pos stored_size)) || not (int_lt n (pos stored_size))
 is_outside v = false
-
-abbrev pub is_null : Value → Bool
-is_null Null = true
-is_null v = false
 
 -- whether the column at a place is NOT NULL
 abbrev pub never_null : List ColumnDef → ℕ → Bool

@@ -3,7 +3,6 @@ ghost use Rattle.std.specs.List.{sum_by};
 ghost use Rattle.std.specs.Option.{option_copied};
 ghost use Rattle.std.specs.Prelude.{nat_abs, pos, ◌+◌, ◌<◌, ◌≡◌, ◌↔◌, ◌^◌, IfOk, IsTrue, OnErr, OnOk, []};
 ghost use Rattle.cq_model_bags.specs.Bag.{SameBag, weight_of};
-ghost use Rattle.cq_model.specs.Condition.{is_null};
 ghost use Rattle.cq_model.specs.Group.{higher, lower};
 ghost use Rattle.cq_deltas.specs.Extremes.{HasRoom, IsAdded, IsExtreme, IsGone, KeepsOtherRoom, KeepsRoom, alone, as_rows};
 
@@ -73,7 +72,7 @@ impl Extremes {
         ensures room { OnOk result (HasRoom value.now self.new.room) }
         ensures kept { KeepsRoom self.old.room self.new.room }
     {
-        if is_null(value) || self.counts.contains_key(value) {
+        if value.is_null() || self.counts.contains_key(value) {
             return Ok(());
         }
         let copy = value.copy(alloc)?;
@@ -100,7 +99,7 @@ impl Extremes {
         ensures values { IsAdded (alone value.now) weight self.old.values self.new.values }
         ensures room { self.new.room ≡ self.old.room }
     {
-        if is_null(value) {
+        if value.is_null() {
             self.nulls += weight;
             return;
         }
@@ -141,12 +140,6 @@ impl Extremes {
             None => false,
         }
     }
-}
-
-fn is_null(value: &Value) -> bool
-    ensures { result ≡ is_null value.now }
-{
-    matches!(value, Value::Null)
 }
 
 fn is_zero(count: i128) -> bool

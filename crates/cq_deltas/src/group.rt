@@ -3,14 +3,13 @@ ghost use Rattle.std.specs.List.{AllByRecursion};
 ghost use Rattle.std.specs.Ordering.{int_eq};
 ghost use Rattle.std.specs.Prelude.{nat_abs, pos, ◌≡◌, [], IfErr, IfOk, OnOk, map};
 ghost use Rattle.cq_views_model.specs.Kept.{group_of};
-ghost use Rattle.cq_deltas.specs.declared.fault.ShowFault.TheVariants.{SumOutOfRange};
+ghost use Rattle.cq_model.specs.declared.fault.ShowFault.TheVariants.{SumOutOfRange};
 ghost use Rattle.cq_deltas.specs.Shown.{AllCanBeShown, GroupCanBeShown, ShowsRow};
 ghost use Rattle.cq_deltas.specs.Kept.{GroupHolds, HaveRoom, KeepRoom, KeptHolds, all_kept_with, group_with, seen, seen_group, total_moves};
 
 use crate::change::Addend;
-use crate::fault::ShowFault;
 use crate::kept::Kept;
-use cq_model::Aggregate;
+use cq_model::{Aggregate, ShowFault};
 use cq_values::Row;
 use cq_values_rows::FlatRows;
 use std::alloc::{AllocError, Global};

@@ -10,16 +10,15 @@ ghost use Rattle.cq_views_model.specs.Shown.{ListsKeys};
 ghost use Rattle.cq_model.specs.Group.{key_of};
 ghost use Rattle.cq_values.specs.Order.{same_row};
 ghost use Rattle.cq_values.specs.Value.{Row as Values};
-ghost use Rattle.cq_deltas.specs.declared.fault.ShowFault.TheVariants.{SumOutOfRange};
+ghost use Rattle.cq_model.specs.declared.fault.ShowFault.TheVariants.{SumOutOfRange};
 ghost use Rattle.cq_deltas.specs.Additions.{IsNarrow, IsSmall, addition};
 ghost use Rattle.cq_deltas.specs.Shown.{EntryCanBeShown, GroupsCanBeShown, counted_keys, entry_row, group_rows};
 ghost use Rattle.cq_deltas.specs.Keyed.{Adds, ArePut, AreSettled, GroupsGoOn, HasKeys, HoldsFor, HoldsOne, IsPut, IsReadyAt, KeepPlaces, StandsAt, Takes, addition_at, additions_at, group_at, is_met, key_at, stored_at};
 ghost use Rattle.cq_deltas.specs.Placed.{row_read};
 
 use crate::change::{Addend, GroupChange, PlacedRow};
-use crate::fault::ShowFault;
 use crate::group::Group;
-use cq_model::Aggregate;
+use cq_model::{Aggregate, ShowFault};
 use cq_model_eval::key_of;
 use cq_values::{Row, Value};
 use cq_values_rows::FlatRows;

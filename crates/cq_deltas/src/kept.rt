@@ -5,15 +5,14 @@ ghost use Rattle.std.specs.Prelude.{nat_abs, pos, ◌*ℤ◌, ◌+ℤ◌, ◌+�
 ghost use Rattle.cq_values.specs.declared.value.Value.TheVariants.{Null, Number};
 ghost use Rattle.cq_model.specs.Group.{InRange};
 ghost use Rattle.cq_views_model.specs.Kept.{kept_of, kept_value};
-ghost use Rattle.cq_deltas.specs.declared.fault.ShowFault.TheVariants.{SumOutOfRange};
+ghost use Rattle.cq_model.specs.declared.fault.ShowFault.TheVariants.{SumOutOfRange};
 ghost use Rattle.cq_deltas.specs.Kept.{HasRoomFor, KeepsRoomFor, KeptHolds, kept_with, seen, total_move};
 ghost use Rattle.cq_deltas.specs.Shown.{CanBeShown};
 ghost use Rattle.cq_model.specs.Width.{number_limit};
 
 use crate::change::Addend;
 use crate::extremes::Extremes;
-use crate::fault::ShowFault;
-use cq_model::Aggregate;
+use cq_model::{Aggregate, ShowFault};
 use cq_values::{Total, Value};
 use std::alloc::{AllocError, Global};
 

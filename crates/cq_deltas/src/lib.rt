@@ -8,7 +8,6 @@
 
 mod change;
 mod extremes;
-mod fault;
 mod group;
 mod groups;
 mod kept;
@@ -16,7 +15,6 @@ mod laws;
 
 pub use change::{Addend, GroupChange};
 pub use extremes::Extremes;
-pub use fault::ShowFault;
 pub use group::Group;
 pub use groups::Groups;
 pub use kept::{CountedTotal, Kept};

@@ -12,7 +12,7 @@ use Rattle.cq_table_columns.specs.Stored.{all_rows}
 use Rattle.cq_table_columns.specs.declared.stored.Stored.{Stored}
 use Rattle.cq_model_eval.specs.Laws.{NarrowIsExact, NarrowIsExactIn}
 use Rattle.cq_hash_groups.specs.Exact.{AreExactOver, IsExactFor}
-use Rattle.cq_hash_groups.specs.declared.fault.GroupFault.TheVariants.{SumOutOfRange}
+use Rattle.cq_model.specs.declared.fault.ShowFault.TheVariants.{SumOutOfRange}
 use Rattle.cq_operators.specs.Linked.{HaveOneWidth, IsExactBy}
 use Rattle.cq_model_laws.specs.Sizes.{GroupsKeepSizes, HasSizes, JoinedHaveSizes, JoinedRowsKeepSizes, KeepsColumns, grouped_sizes}
 use Rattle.cq_model_laws.proofs.Columns.{listed-columns}

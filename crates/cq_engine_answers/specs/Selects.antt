@@ -3,8 +3,8 @@ use Rattle.std.specs.Prelude.{◌≡◌, ◌⊎◌, List, map, filter, Result, O
 use Rattle.cq_values.specs.Value.{Row}
 use Rattle.cq_model_bags.specs.Bag.{Weighted, once_each}
 use Rattle.cq_model_bags.specs.Listing.{IsListing}
-use Rattle.cq_deltas.specs.declared.fault.ShowFault.{ShowFault}
-use Rattle.cq_deltas.specs.declared.fault.ShowFault.TheVariants as shown_fault
+use Rattle.cq_model.specs.declared.fault.ShowFault.{ShowFault}
+use Rattle.cq_model.specs.declared.fault.ShowFault.TheVariants as shown_fault
 use Rattle.cq_model.specs.declared.query.Order.{Order}
 use Rattle.cq_model.specs.declared.query.Query.{Query}
 use Rattle.cq_model.specs.Meaning.{Tables, MeaningInRange, items_of, keeps, meaning}

@@ -11,9 +11,8 @@ ghost use Rattle.cq_engine_answers.specs.Selects.{shown_as};
 ghost use Rattle.cq_engine_tables.specs.Views.{views_of};
 
 use cq_binder_rules::Fault;
-use cq_deltas::ShowFault;
 use cq_engine_tables::{Table, View, place_numbered};
-use cq_model::{Query, Source};
+use cq_model::{Query, ShowFault, Source};
 use cq_table_columns::{Stored, StoredSource};
 use cq_values::{Row, Seq};
 use cq_values_rows::RowList;

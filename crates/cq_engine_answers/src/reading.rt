@@ -17,8 +17,7 @@ use crate::gathered::{gather, lend_all, rows_shown, sources_of};
 use crate::selection::{list, list_made};
 use cq_binder_rules::Fault;
 use cq_engine_tables::{Table, View, place_numbered};
-use cq_hash_groups::GroupFault;
-use cq_model::{Order, Query, Shape, Source};
+use cq_model::{Order, Query, Shape, ShowFault, Source};
 use cq_model_eval::narrow_is_exact;
 use cq_model_laws::{groups_keep_sizes, joined_rows_keep_sizes, meaning_depends_on_sources};
 use cq_operators::select;
@@ -170,7 +169,7 @@ fn list_joined(
     own_conditions_are_exact();
     match select(alloc, query, order, &first, others) {
         Ok(rows) => Ok(RowList::listed(rows)),
-        Err(GroupFault::Memory) => Err(Fault::Memory),
-        Err(GroupFault::SumOutOfRange) => Err(Fault::SumOutOfRange),
+        Err(ShowFault::Memory) => Err(Fault::Memory),
+        Err(ShowFault::SumOutOfRange) => Err(Fault::SumOutOfRange),
     }
 }

@@ -8,13 +8,13 @@ ghost use Rattle.cq_engine_answers.specs.Narrow.{IsWithin};
 ghost use Rattle.cq_engine_answers.specs.Selects.{AreListed, ListsShown, shown_rows};
 
 use cq_model::{Order, Query};
-use cq_operators::{ExecFault, listed_rows, rows_in_order};
+use cq_operators::{listed_rows, rows_in_order};
 use cq_operators_listing::is_listed;
 use cq_plan::Plan;
 use cq_table_columns::Stored;
 use cq_values_rows::RowList;
 use cq_views_state::show_whole_rows;
-use std::alloc::Global;
+use std::alloc::{AllocError, Global};
 
 /// The listing of what the items show of the rows that WHERE keeps. Where LIMIT allows few rows, few are made.
 pub fn list(
@@ -22,7 +22,7 @@ pub fn list(
     query: &Query,
     order: &Order,
     rows: Stored<'_>,
-) -> Result<RowList, ExecFault>
+) -> Result<RowList, AllocError>
     requires { AllByRecursion (IsWithin query.now) (all_rows rows) }
     ensures { IfOk result (ListsShown query.now order.now (all_rows rows.entry)) }
 {
@@ -37,7 +37,7 @@ pub fn list_made(
     query: &Query,
     order: &Order,
     rows: RowList,
-) -> Result<RowList, ExecFault>
+) -> Result<RowList, AllocError>
     requires { AllByRecursion (IsWithin query.now) rows }
     ensures { IfOk result (ListsShown query.now order.now rows) }
 {
@@ -50,7 +50,7 @@ pub fn list_made(
 }
 
 /// The listing of rows that are all shown as they are. Where they are in order and no LIMIT cuts them, they stay.
-fn list_whole(alloc: Global, order: &Order, rows: RowList) -> Result<RowList, ExecFault>
+fn list_whole(alloc: Global, order: &Order, rows: RowList) -> Result<RowList, AllocError>
     ensures { IfOk result (AreListed order.now (once_each rows)) }
 {
     if order.limit.is_none() && is_listed(order.keys.as_slice(), &rows) {

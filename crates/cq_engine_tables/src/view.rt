@@ -1,7 +1,7 @@
 //! A view under its name.
 ghost use Rattle.std.specs.List.{AllByRecursion};
 ghost use Rattle.std.specs.Prelude.{◌≡◌, IfErr, IfOk, OnOk};
-ghost use Rattle.cq_deltas.specs.declared.fault.ShowFault.TheVariants.{SumOutOfRange};
+ghost use Rattle.cq_model.specs.declared.fault.ShowFault.TheVariants.{SumOutOfRange};
 ghost use Rattle.cq_model_laws.specs.Sizes.{HasSizes};
 ghost use Rattle.cq_model.specs.Sizes.{column_sizes};
 ghost use Rattle.cq_values.specs.Texts.{is_text};
@@ -13,8 +13,7 @@ ghost use Rattle.cq_views.specs.Shown.{AreRowsOf, CanShow, IsNotShown, IsShown};
 ghost use Rattle.cq_views.specs.State.{CanPrepare};
 ghost use Rattle.cq_engine_tables.specs.Taking.{CanTake, HasTaken, IsReadyFor, IsSame};
 
-use cq_deltas::ShowFault;
-use cq_model::Query;
+use cq_model::{Query, ShowFault};
 use cq_values::{ColumnDef, Seq, Text};
 use cq_values_rows::RowList;
 use cq_views::{KeptView, TableChange};

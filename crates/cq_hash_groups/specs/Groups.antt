@@ -13,8 +13,8 @@ use Rattle.cq_model.specs.Sizes.{count_size}
 use Rattle.cq_model.specs.declared.query.Aggregate.{Aggregate}
 use Rattle.cq_model.specs.declared.query.Aggregate.TheVariants.{CountAll, Count, Sum, Min, Max}
 use Rattle.cq_vectors.specs.Gathered.{column_of}
-use Rattle.cq_hash_groups.specs.declared.fault.GroupFault.{GroupFault}
-use Rattle.cq_hash_groups.specs.declared.fault.GroupFault.TheVariants.{SumOutOfRange}
+use Rattle.cq_model.specs.declared.fault.ShowFault.{ShowFault}
+use Rattle.cq_model.specs.declared.fault.ShowFault.TheVariants.{SumOutOfRange}
 use Rattle.cq_hash_groups.specs.declared.bests.Extreme.{Extreme}
 use Rattle.cq_hash_groups.specs.declared.bests.Extreme.TheVariants.{Least, Greatest}
 use Rattle.cq_hash_groups.specs.declared.slots.Slots.{Slots}
@@ -112,7 +112,7 @@ abbrev pub CanBeShown : StoredGroups → List Row → Type 0
 CanBeShown t rows = SumsInRange t.keys t.aggregates (once_each rows)
 
 -- a fault for a total is told only where one cannot be shown
-abbrev pub IsGroupsFault : StoredGroups → List Row → GroupFault → Type 0
+abbrev pub IsGroupsFault : StoredGroups → List Row → ShowFault → Type 0
 IsGroupsFault t rows e = e ≡ SumOutOfRange → CanBeShown t rows → ⊥
 
 -- for no aggregate has a group more values than this

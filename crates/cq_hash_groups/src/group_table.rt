@@ -1,4 +1,8 @@
 //! Groups of rows, as they are added.
+//!
+//! `new` names the columns of GROUP BY and the aggregates; `add` takes the rows of a scan, any number of times; `rows`
+//! gives the row of each group at the end. An add costs a look-up a row, and a step for each aggregate of it; memory
+//! grows with the groups alone. A total is exact, and told out of range only when the rows are asked for.
 ghost use Rattle.std.specs.List.{AllByRecursion};
 ghost use Rattle.std.specs.Prelude.{◌+◌, ◌++◌, ◌≡◌, ◌≤◌, IfErr, IfOk, List, OnOk, [], length};
 ghost use Rattle.cq_model.specs.Sizes.{count_size};
@@ -7,19 +11,15 @@ ghost use Rattle.cq_hash_groups.specs.Exact.{AreExactOver};
 ghost use Rattle.cq_hash_groups.specs.Groups.{AreGroups, CanBeShown, Holds, IsGroupsFault};
 
 use crate::adding::{add_all, first_slots};
-use crate::fault::GroupFault;
 use crate::keys::{first_groups, number_rows};
 use crate::shown::shown_row;
 use crate::slots::Slots;
 use cq_hash_keys::KeyTable;
-use cq_model::Aggregate;
+use cq_model::{Aggregate, COUNT_SIZE, ShowFault};
 use cq_operators_scans::{Scan, refused_room};
 use cq_values::{Row, Seq};
 use std::alloc::{AllocError, Global};
 use std::marker::Model;
-
-/// How many rows can be counted.
-const COUNT_SIZE: u128 = 1 << 96;
 
 /// Groups of rows, as they were first met, with what each aggregate needs of them.
 #[derive(Drop)]
@@ -97,7 +97,7 @@ impl<'q> GroupTable<'q> {
     }
 
     /// The row of each group: its key, and then its aggregates.
-    pub fn rows(&self, alloc: Global) -> Result<Vec<Row>, GroupFault>
+    pub fn rows(&self, alloc: Global) -> Result<Vec<Row>, ShowFault>
         ensures ok { (rows : List Values) → Holds self.now rows → IfOk result (AreGroups self.now rows) }
         ensures range { (rows : List Values) → Holds self.now rows → OnOk result (CanBeShown self.now rows) }
         ensures few { (rows : List Values) → Holds self.now rows → OnOk result (length rows ≤ count_size) }

@@ -8,12 +8,10 @@ mod adding;
 mod arguments;
 mod bests;
 mod counts;
-mod fault;
 mod group_table;
 mod keys;
 mod shown;
 mod slots;
 mod sums;
 
-pub use fault::GroupFault;
 pub use group_table::GroupTable;

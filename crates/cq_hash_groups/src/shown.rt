@@ -1,12 +1,12 @@
 //! The rows of groups.
 ghost use Rattle.std.specs.List.{AllByRecursion};
 ghost use Rattle.std.specs.Prelude.{◌++◌, ◌^◌, ◌≡◌, IfErr, IfOk, OnOk, map};
-ghost use Rattle.cq_hash_groups.specs.declared.fault.GroupFault.TheVariants.{SumOutOfRange};
+ghost use Rattle.cq_model.specs.declared.fault.ShowFault.TheVariants.{SumOutOfRange};
 ghost use Rattle.cq_hash_groups.specs.Groups.{AreAllWithin};
 ghost use Rattle.cq_hash_groups.specs.Slots.{CanShow, shown_at};
 
-use crate::fault::GroupFault;
 use crate::slots::Slots;
+use cq_model::ShowFault;
 use cq_values::{Row, copy_row};
 use std::alloc::Global;
 
@@ -16,7 +16,7 @@ pub(crate) fn shown_row(
     key: &Row,
     slots: &[Slots],
     group: usize,
-) -> Result<Row, GroupFault>
+) -> Result<Row, ShowFault>
     requires { AreAllWithin (2 ^ 96) slots.now }
     ensures row { IfOk result (λ row. row ≡ key.now ++ map (shown_at group) slots.now) }
     ensures range { OnOk result (AllByRecursion (CanShow group) slots.now) }

@@ -1,14 +1,13 @@
 //! What is kept of groups for one aggregate.
 ghost use Rattle.std.specs.Prelude.{◌+◌, ◌^◌, ◌≡◌, IfErr, IfOk, OnOk, length, ℕ};
-ghost use Rattle.cq_hash_groups.specs.declared.fault.GroupFault.TheVariants.{SumOutOfRange};
+ghost use Rattle.cq_model.specs.declared.fault.ShowFault.TheVariants.{SumOutOfRange};
 ghost use Rattle.cq_hash_groups.specs.Puts.{AreNumbers};
 ghost use Rattle.cq_hash_groups.specs.Slots.{AreWithin, CanShow, empty_slots, groups_in, grown_slots, put_slots, shown_at};
 
 use crate::bests::{Bests, Extreme};
 use crate::counts::Counts;
-use crate::fault::GroupFault;
 use crate::sums::Sums;
-use cq_model::Aggregate;
+use cq_model::{Aggregate, ShowFault};
 use cq_values::Value;
 use cq_vectors::Vector;
 use std::alloc::{AllocError, Global};
@@ -73,7 +72,7 @@ impl Slots {
     }
 
     /// What a group shows.
-    pub(crate) fn value(&self, alloc: Global, group: usize) -> Result<Value, GroupFault>
+    pub(crate) fn value(&self, alloc: Global, group: usize) -> Result<Value, ShowFault>
         requires { AreWithin (2 ^ 96) self.now }
         ensures value { IfOk result (λ v. v ≡ shown_at group self.now) }
         ensures range { OnOk result (CanShow group self.now) }

@@ -3,12 +3,11 @@ ghost use Rattle.std.specs.Prelude.{◌++◌, replicate, ℕ, ◌+◌, ◌^◌, 
 ghost use Rattle.cq_values.specs.Lent.{owned};
 ghost use Rattle.cq_values.specs.declared.value.Value.TheVariants.{Number};
 ghost use Rattle.cq_model.specs.Group.{InRange};
-ghost use Rattle.cq_hash_groups.specs.declared.fault.GroupFault.TheVariants.{SumOutOfRange};
+ghost use Rattle.cq_model.specs.declared.fault.ShowFault.TheVariants.{SumOutOfRange};
 ghost use Rattle.cq_hash_groups.specs.Puts.{AreNumbers, AreSumsWithin, IsSumWithin, no_sum, put_all, put_sum, shown_sum};
 ghost use Rattle.cq_hash_groups.specs.Slots.{grown};
 
-use crate::fault::GroupFault;
-use cq_hash_keys::whole_numbers;
+use cq_model::ShowFault;
 use cq_values::{Lent, Total, Value};
 use cq_vectors::Vector;
 use std::alloc::{AllocError, Global};
@@ -49,13 +48,13 @@ impl Sum {
     }
 
     /// The total, which is NULL of no values.
-    fn value(&self) -> Result<Value, GroupFault>
+    fn value(&self) -> Result<Value, ShowFault>
         ensures value { IfOk result (λ v. v ≡ shown_sum self.now) }
         ensures range { OnOk result (InRange self.now.total) }
         ensures fault { IfErr result (λ e. e ≡ SumOutOfRange → InRange self.now.total → ⊥) }
     {
         let Some(total) = self.total.to_i128() else {
-            return Err(GroupFault::SumOutOfRange);
+            return Err(ShowFault::SumOutOfRange);
         };
         if self.count == 0 {
             Ok(Value::Null)
@@ -111,7 +110,7 @@ impl Sums {
     }
 
     /// The total of a group, which is NULL of no values.
-    pub(crate) fn value(&self, group: usize) -> Result<Value, GroupFault>
+    pub(crate) fn value(&self, group: usize) -> Result<Value, ShowFault>
         ensures value { IfOk result (λ v. v ≡ shown_sum (slice_index_or self.now group no_sum)) }
         ensures range { OnOk result (InRange (slice_index_or self.now group no_sum).total) }
         ensures fault { IfErr result (λ e. e ≡ SumOutOfRange → InRange (slice_index_or self.now group no_sum).total → ⊥) }
@@ -130,7 +129,7 @@ fn put_sums(sums: &mut [Sum], numbers: &[usize], values: &Vector<'_>)
     ensures sums { sums.new ≡ put_all put_sum no_sum numbers.now values.now sums.old }
     ensures within { (n : ℕ) → AreSumsWithin n sums.old → AreSumsWithin (n + length numbers.now) sums.new }
 {
-    match whole_numbers(values) {
+    match values.whole_numbers() {
         Some(whole) => put_numbers(sums, numbers, whole),
         None => put_each(sums, numbers, values),
     }

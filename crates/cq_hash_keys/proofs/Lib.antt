@@ -1,7 +1,7 @@
 pub mod Firsts
-pub mod Links
 pub mod NumberKeys
 pub mod Numbering
 pub mod Places
+pub mod Stages
 pub mod Tables
 pub mod TextKeys

@@ -1,21 +1,12 @@
 -- Keys of numbers of which none is NULL, and keys of no values.
-use Rattle.std.proofs.Common.{◌≡◌, ℕ, suc, ◌<◌, ℤ, pos, Bool, false, List, [], ◌∷◌, map, length, get_or, refl, sym, ◌∙◌, ap, ap₂, subst, arith}
+use Rattle.std.proofs.Common.{◌≡◌, ℕ, ◌<◌, ℤ, pos, List, [], ◌∷◌, map, length, get_or, refl, sym, ◌∙◌, ap, ap₂, subst, arith}
 use Rattle.std.specs.List.{AllByRecursion}
-use Rattle.std.specs.Simd.Lanes.{zip2}
 use Rattle.std.proofs.lemmas.List.{get_or-map, length-map, nil_from_length}
 use Rattle.cq_values.specs.declared.value.Value.{Value}
 use Rattle.cq_values.specs.declared.value.Value.TheVariants.{Null, Number}
 use Rattle.cq_values.specs.Value.{Row}
 use Rattle.cq_vectors.specs.Batch.{row_at}
-use Rattle.cq_vectors.specs.Columns.{number_unless}
 use Rattle.cq_hash_keys.specs.Keys.{HasLength, HasValues, IsNumberOf, key_rows, rows_of_numbers}
-
--- where no flag is set each value is its number
-pub clear-numbers : (numbers : List ℤ) (flags : List Bool) → length flags ≡ length numbers → ((k : ℕ) → get_or flags k false ≡ false) → zip2 number_unless numbers flags ≡ map Number numbers
-clear-numbers [] flags same clear = refl
-clear-numbers (n ∷ numbers) [] same clear = absurd (omega (arith, same))
-clear-numbers (n ∷ numbers) (b ∷ flags) same clear =
-    ap₂ (λ (v : Value) (vs : List Value). v ∷ vs) (ap (number_unless n) (clear 0)) (clear-numbers numbers flags (omega (arith, same)) (λ k. clear (suc k)))
 
 -- the key at a place of a column of numbers
 pub number-key : (numbers : List ℤ) (place : ℕ) → place < length numbers → Number (get_or numbers place (pos 0)) ∷ [] ≡ row_at (map Number numbers ∷ []) place

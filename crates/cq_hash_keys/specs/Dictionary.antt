@@ -9,8 +9,8 @@ use Rattle.cq_values.specs.declared.value.Value.TheVariants.{Null, Number, Text,
 use Rattle.cq_hash_keys.specs.declared.dictionary.Dictionary.{Dictionary}
 
 -- whether 64 bits hold the number
-abbrev pub is_narrow : ℤ → Bool
-is_narrow n = not (int_lt n (neg_ℤ (pos (2 ^ 63)))) && int_lt n (pos (2 ^ 63))
+abbrev pub fits_64_bits : ℤ → Bool
+fits_64_bits n = not (int_lt n (neg_ℤ (pos (2 ^ 63)))) && int_lt n (pos (2 ^ 63))
 
 -- the place of a small number in a list of numbers
 abbrev pub small_place : ℤ → Option ℕ
@@ -30,12 +30,12 @@ code_in codes (Some place) = slice_index_or codes place 0
 code_in codes None = 2 ^ 32 - 1
 
 -- the number of a number of 64 bits
-abbrev pub narrow_in : Dictionary → ℤ → Option ℕ
-narrow_in d n = code_or (code_in d.small.items (small_place n)) (get int_eq d.numbers n)
+abbrev pub number_in_64_bits : Dictionary → ℤ → Option ℕ
+number_in_64_bits d n = code_or (code_in d.small.items (small_place n)) (get int_eq d.numbers n)
 
 -- the number of a value
 abbrev pub number_in : Dictionary → Value → Option ℕ
-number_in d (Number n) = if is_narrow n then narrow_in d n else get int_eq d.wide n
+number_in d (Number n) = if fits_64_bits n then number_in_64_bits d n else get int_eq d.wide n
 number_in d (Day n) = get int_eq d.days n
 number_in d (Text t) = get_by_text d.texts t
 number_in d Null = d.null

@@ -1,4 +1,4 @@
-pub mod Chain
 pub mod Dictionary
 pub mod Keys
-pub mod Links
+pub mod Stages
+pub mod Trail

@@ -5,7 +5,7 @@ ghost use Rattle.indexmap.specs.IndexMap.{get};
 ghost use Rattle.cq_values.specs.Lent.{owned};
 ghost use Rattle.cq_values.specs.declared.value.Value.{Value as Datum};
 ghost use Rattle.cq_values.specs.declared.value.Value.TheVariants.{Day as DayOf, Null, Number, Text as TextOf};
-ghost use Rattle.cq_hash_keys.specs.Dictionary.{Agree, PutsAt, ReadsAlike, code_in, is_narrow, number_in, small_code, small_place};
+ghost use Rattle.cq_hash_keys.specs.Dictionary.{Agree, PutsAt, ReadsAlike, code_in, fits_64_bits, number_in, small_code, small_place};
 
 use cq_values::Lent;
 use indexmap::IndexMap;
@@ -55,15 +55,15 @@ impl Dictionary {
     fn number(&self, number: i128) -> Option<usize>
         ensures { result ≡ number_in self.now (Number number) }
     {
-        match narrow(number) {
-            Some(narrow) => self.narrow_number(narrow),
+        match in_64_bits(number) {
+            Some(number) => self.number_of_64_bits(number),
             None => self.wide.get(&number).copied(),
         }
     }
 
     /// The number of a number of 64 bits.
     #[inline(always)]
-    pub(crate) fn narrow_number(&self, number: i64) -> Option<usize>
+    pub(crate) fn number_of_64_bits(&self, number: i64) -> Option<usize>
         ensures { result ≡ number_in self.now (Number number) }
     {
         match code_at(self.small.as_slice(), number) {
@@ -106,8 +106,8 @@ impl Dictionary {
         ensures ok { OnOk result (PutsAt self.old (Number key) number self.new) }
         ensures err { OnErr result (Agree self.old self.new) }
     {
-        match narrow(key) {
-            Some(narrow) => self.put_narrow(narrow, number),
+        match in_64_bits(key) {
+            Some(key) => self.put_64_bits(key, number),
             None => {
                 self.wide.insert(key, number)?;
                 Ok(())
@@ -115,7 +115,7 @@ impl Dictionary {
         }
     }
 
-    fn put_narrow(&mut self, key: i64, number: usize) -> Result<(), AllocError>
+    fn put_64_bits(&mut self, key: i64, number: usize) -> Result<(), AllocError>
         ensures ok { OnOk result (PutsAt self.old (Number key) number self.new) }
         ensures err { OnErr result (Agree self.old self.new) }
     {
@@ -161,9 +161,9 @@ impl Dictionary {
 }
 
 /// The number as one of 64 bits, if they hold it.
-fn narrow(number: i128) -> Option<i64>
+fn in_64_bits(number: i128) -> Option<i64>
     ensures is { IfSome result (λ n. n ≡ number) }
-    ensures fits { IsSome result ↔ (is_narrow number ≡ true) }
+    ensures fits { IsSome result ↔ (fits_64_bits number ≡ true) }
 {
     i64::try_from(number).ok()
 }

@@ -1,4 +1,10 @@
 //! Tables of keys.
+//!
+//! A table begins empty, for keys of a width. `add` puts in what is new of up to 1,024 keys, given column by column,
+//! and tells the number of each; `find` tells numbers and puts nothing in. `keys` lends the keys by their numbers. A
+//! key that is known costs one look-up a value, and no row is made for it; one that is new costs its row, and its
+//! values once more for the ways to it. Small numbers are looked up in a list. After an `Err` of `add` some keys may be
+//! in, each with its number.
 ghost use Rattle.std.specs.List.{AllByRecursion, IsDistinct};
 ghost use Rattle.std.specs.Prelude.{IfOk, IfSome, OnOk, length, map, ◌++◌, ◌∷◌, ◌<◌, ◌≡◌, ◌≤◌, Some, []};
 ghost use Rattle.indexmap.specs.IndexSet.{insert_key};
@@ -8,9 +14,9 @@ ghost use Rattle.cq_values.specs.Order.{same_row};
 ghost use Rattle.cq_model_bags.specs.Bag.{firsts};
 ghost use Rattle.cq_hash_keys.specs.Keys.{AreKeys, AreNumbers, AreWithin, HasLength, IsNumberOf, key_at, key_rows, place_of, places_of, row_in, rows_of_numbers, values_of};
 
-use crate::chain::Chain;
 use crate::dictionary::Dictionary;
-use crate::whole::whole_numbers;
+use crate::keys::{key_of, lone_numbers, single};
+use crate::trail::Trail;
 use cq_values::{Lent, Row, copy_row};
 use cq_vectors::Vector;
 use indexmap::IndexSet;
@@ -23,19 +29,19 @@ pub struct KeyTable {
     width: usize,
     keys: Vec<Row>,
     values: Dictionary,
-    chain: Chain,
+    trail: Trail,
     places: IndexSet<Row>,
 }
 
 impl Model for KeyTable {
-    ghost use Rattle.cq_hash_keys.specs.Chain.{IsLinked};
+    ghost use Rattle.cq_hash_keys.specs.Trail.{IsKeyTable};
     ghost use Rattle.cq_hash_keys.specs.Keys.{StoredKeys};
 
     ghost Value = { StoredKeys };
 
     ghost view = { λ t. record { width = t.width; keys = t.keys.items } };
 
-    ghost invariant = { λ t. IsLinked t.width t.keys.items t.places.keys t.values t.chain.links.items };
+    ghost invariant = { λ t. IsKeyTable t.width t.keys.items t.places.keys t.values t.trail.stages.items };
 }
 
 impl KeyTable {
@@ -47,7 +53,7 @@ impl KeyTable {
             width,
             keys: Vec::new(alloc),
             values: Dictionary::new(alloc),
-            chain: Chain::new(alloc),
+            trail: Trail::new(alloc),
             places: IndexSet::new(alloc),
         }
     }
@@ -108,12 +114,6 @@ impl KeyTable {
         ensures { result ≡ length self.now.keys }
     {
         self.keys.len()
-    }
-
-    pub fn width(&self) -> usize
-        ensures { result ≡ self.now.width }
-    {
-        self.width
     }
 
     /// The keys by their numbers.
@@ -197,7 +197,7 @@ impl KeyTable {
         requires { self.now.width ≡ 1 }
         ensures { result ≡ place_of self.now.keys (Number value ∷ []) }
     {
-        self.values.narrow_number(value)
+        self.values.number_of_64_bits(value)
     }
 
     /// The number of the key of one number, which is put in where it is new.
@@ -208,7 +208,7 @@ impl KeyTable {
         ensures number { IfOk result (IsNumberOf self.new.keys (Number value ∷ [])) }
         ensures width { self.new.width ≡ self.old.width }
     {
-        if let Some(number) = self.values.narrow_number(value) {
+        if let Some(number) = self.values.number_of_64_bits(value) {
             return Ok(number);
         }
         self.value_number(alloc, &Lent::Number(i128::from(value)))
@@ -252,7 +252,7 @@ impl KeyTable {
         }
         let key = key_of(alloc, columns, place)?;
         let number = self.row_number(alloc, key)?;
-        self.chain.note(alloc, columns, place, number)?;
+        self.trail.note(alloc, columns, place, number)?;
         Ok(number)
     }
 
@@ -264,7 +264,7 @@ impl KeyTable {
         if columns.is_empty() {
             return self.empty_number();
         }
-        self.chain.find(columns, place)
+        self.trail.find(columns, place)
     }
 
     /// The number of the key of no values, if it was met.
@@ -312,34 +312,4 @@ impl KeyTable {
         self.keys.push_reserved(key);
         Ok(number)
     }
-}
-
-/// The numbers of the only column, where each is one of 64 bits.
-fn lone_numbers<'c>(columns: &'c [&Vector<'_>]) -> Option<&'c [i64]>
-    ensures { IfSome result (λ numbers. values_of columns.now ≡ map Number numbers.now ∷ []) }
-{
-    if columns.len() != 1 {
-        return None;
-    }
-    whole_numbers(columns.first()?)
-}
-
-/// The key of one value.
-fn single(alloc: Global, value: &Lent<'_>) -> Result<Row, AllocError>
-    ensures { IfOk result (λ key. key ≡ owned value.now ∷ []) }
-{
-    let mut key = Row::with_capacity(alloc, 1)?;
-    key.push(value.to_value(alloc)?)?;
-    Ok(key)
-}
-
-/// The key at a place of the columns.
-fn key_of(alloc: Global, columns: &[&Vector<'_>], place: usize) -> Result<Row, AllocError>
-    ensures { IfOk result (λ key. key ≡ row_in columns.now place) }
-{
-    let mut key = Row::with_capacity(alloc, columns.len())?;
-    for column in columns {
-        key.push(column.lend(place).to_value(alloc)?)?;
-    }
-    Ok(key)
 }

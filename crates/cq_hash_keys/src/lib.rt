@@ -4,10 +4,11 @@
 //! of a key is its place in the list.
 #![tactic(auto)]
 
-mod chain;
+mod columns;
 mod dictionary;
 mod key_table;
-mod whole;
+mod keys;
+mod trail;
 
+pub use columns::key_columns;
 pub use key_table::KeyTable;
-pub use whole::whole_numbers;

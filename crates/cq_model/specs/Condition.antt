@@ -1,22 +1,18 @@
 -- Whether a condition holds in a row (ISO 9075-2, 6.39).
-use Rattle.std.specs.Prelude.{ℕ, Bool, true, false, List, map, fold}
+use Rattle.std.specs.Prelude.{ℕ, List, map, fold}
 use Rattle.std.specs.Str.{chars}
 use Rattle.cq_values.specs.declared.value.Value.{Value}
-use Rattle.cq_values.specs.declared.value.Value.TheVariants.{Null, Text}
+use Rattle.cq_values.specs.declared.value.Value.TheVariants.{Text}
 use Rattle.cq_values.specs.declared.truth.Truth.{Truth}
 use Rattle.cq_values.specs.declared.truth.Truth.TheVariants.{False, Unknown}
 use Rattle.cq_values.specs.Truth.{not_truth, and_truth, or_truth, truth_of}
 use Rattle.cq_values.specs.Value.{Row}
+pub use Rattle.cq_values.specs.Value.{is_null}
 use Rattle.cq_values.specs.declared.comparison.Comparison.TheVariants.{Equal, LessOrEqual, GreaterOrEqual}
 use Rattle.cq_model.specs.Expr.{Cond, Compare, IsNull, Between, In, Like, Not, And, Or}
 use Rattle.cq_values.specs.Comparison.{compared}
 use Rattle.cq_model.specs.Eval.{eval}
 use Rattle.cq_model.specs.Like.{like}
-
--- whether a value is NULL, as IS NULL asks
-abbrev pub is_null : Value → Bool
-is_null Null = true
-is_null v = false
 
 -- LIKE compares character by character, and of NULL it is Unknown
 abbrev pub liked : Value → List ℕ → Truth

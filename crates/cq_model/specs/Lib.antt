@@ -9,6 +9,7 @@ pub mod Width
 pub mod Group
 pub mod Totals
 pub mod Exact
+pub mod On
 pub mod Meaning
 pub mod Write
 pub mod Sizes

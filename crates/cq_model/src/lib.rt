@@ -5,10 +5,14 @@
 
 mod assignment;
 mod expr;
+mod fault;
 mod limits;
 mod query;
 
 pub use assignment::Assignment;
 pub use expr::{Cond, CondTree, Expr, ExprTree};
+pub use fault::ShowFault;
 pub use limits::{COUNT_SIZE, MAX_TEXT, STORED_SIZE, TOO_WIDE};
-pub use query::{Aggregate, Equality, Join, Order, Query, Shape, Source};
+pub use query::{
+    Aggregate, Equality, Join, Order, Query, Shape, Source, left_columns, right_columns,
+};

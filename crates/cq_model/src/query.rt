@@ -1,7 +1,11 @@
 //! Queries with their names resolved.
+ghost use Rattle.std.specs.Prelude.{◌≡◌, IfOk};
+ghost use Rattle.cq_model.specs.On.{left_columns, right_columns};
+
 use crate::expr::{Cond, Expr};
 use cq_model_bags::SortKey;
 use cq_values::Seq;
+use std::alloc::{AllocError, Global};
 
 /// What a name in FROM stands for. A view stands for the bag of its query.
 #[derive(Clone, Copy, Debug, PartialEq, Eq)]
@@ -63,4 +67,18 @@ pub struct Query {
 pub struct Order {
     pub keys: Seq<SortKey>,
     pub limit: Option<u128>,
+}
+
+/// The columns of the rows joined so far that ON compares.
+pub fn left_columns(alloc: Global, on: &[Equality]) -> Result<Vec<usize>, AllocError>
+    ensures { IfOk result (λ columns. columns.items ≡ left_columns on.now) }
+{
+    on.iter().map(|equality| equality.left).collect(alloc)
+}
+
+/// The columns of the next source that ON compares.
+pub fn right_columns(alloc: Global, on: &[Equality]) -> Result<Vec<usize>, AllocError>
+    ensures { IfOk result (λ columns. columns.items ≡ right_columns on.now) }
+{
+    on.iter().map(|equality| equality.right).collect(alloc)
 }

@@ -1,24 +1,13 @@
 //! The value of an expression in a row, without a copy of a text.
 ghost use Rattle.std.specs.Prelude.{◌≡◌};
 ghost use Rattle.cq_values.specs.Lent.{owned};
-ghost use Rattle.cq_values.specs.Value.{column};
 ghost use Rattle.cq_model.specs.Eval.{eval, extracted, negated, plus, times};
 ghost use Rattle.cq_model.specs.Exact.{IsExactAt, ValueInRange};
 ghost use Rattle.cq_model.specs.Trees.{expr_of};
 ghost use Rattle.cq_model_eval.specs.Laws.{LimitHolds, LimitHoldsIn, NarrowIsExact, NarrowIsExactIn};
 
 use cq_model::{Expr, ExprTree};
-use cq_values::{DayPart, Lent, Value};
-
-/// The value in a column of a row, and NULL past the end.
-pub fn lend_column(row: &[Value], place: usize) -> Lent<'_>
-    ensures { owned result ≡ column row.now place }
-{
-    match row.get(place) {
-        Some(value) => value.lend(),
-        None => Lent::Null,
-    }
-}
+use cq_values::{DayPart, Lent, Value, lend_column};
 
 /// The value of the expression in the row. It takes no memory.
 pub fn eval_row<'a>(expr: &'a Expr, row: &'a [Value]) -> Lent<'a>

@@ -8,9 +8,9 @@ mod rows;
 mod truth;
 mod width;
 
-pub use eval::{eval_row, lend_column, limit_holds, narrow_is_exact};
+pub use eval::{eval_row, limit_holds, narrow_is_exact};
 pub use keeping::keeps;
 pub use pattern::{like, like_decides};
 pub use rows::{items_of, key_of};
 pub use truth::{compare, holds_row};
-pub use width::{fits, width_of};
+pub use width::{fits, value_size, width_of};

@@ -4,9 +4,9 @@ ghost use Rattle.cq_model.specs.Group.{key_of};
 ghost use Rattle.cq_model.specs.Meaning.{items_of};
 ghost use Rattle.cq_model.specs.Width.{AreNarrowAt};
 
-use crate::eval::{eval_row, lend_column, narrow_is_exact};
+use crate::eval::{eval_row, narrow_is_exact};
 use cq_model::Expr;
-use cq_values::{Row, Value};
+use cq_values::{Row, Value, lend_column};
 use std::alloc::{AllocError, Global};
 
 /// The values of the items in a row. No number on the way may be too wide.

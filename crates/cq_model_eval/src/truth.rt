@@ -3,7 +3,7 @@ ghost use Rattle.std.specs.Prelude.{◌≡◌, map};
 ghost use Rattle.cq_values.specs.Lent.{owned};
 ghost use Rattle.cq_values.specs.Truth.{truth_of};
 ghost use Rattle.cq_values.specs.Comparison.{compared, passes};
-ghost use Rattle.cq_model.specs.Condition.{between, holds, is_null, liked};
+ghost use Rattle.cq_model.specs.Condition.{between, holds, liked};
 ghost use Rattle.cq_model.specs.Exact.{AreExactAt, AreExactIn};
 ghost use Rattle.cq_model.specs.Trees.{cond_of, expr_of};
 ghost use Rattle.cq_model_eval.specs.Choices.{equals_one};
@@ -30,7 +30,7 @@ fn holds_tree(tree: &CondTree, row: &[Value]) -> Truth
         CondTree::Compare(comparison, a, b) => {
             compare(*comparison, &eval_tree(a, row), &eval_tree(b, row))
         }
-        CondTree::IsNull(expr) => truth_of(is_null(&eval_tree(expr, row))),
+        CondTree::IsNull(expr) => truth_of(eval_tree(expr, row).is_null()),
         CondTree::Between(expr, least, greatest) => between(
             &eval_tree(expr, row),
             &eval_tree(least, row),
@@ -66,7 +66,7 @@ fn holds_tree(tree: &CondTree, row: &[Value]) -> Truth
 pub fn compare(comparison: Comparison, a: &Lent<'_>, b: &Lent<'_>) -> Truth
     ensures { result ≡ compared comparison (owned a.now) (owned b.now) }
 {
-    if is_null(a) || is_null(b) {
+    if a.is_null() || b.is_null() {
         return Truth::Unknown;
     }
     truth_of(passes(comparison, cmp_lent(a, b)))
@@ -100,12 +100,6 @@ pub(crate) fn is_like(value: &Lent<'_>, pattern: &str) -> Truth
         Lent::Text(text) => truth_of(like(pattern, text)),
         _ => Truth::Unknown,
     }
-}
-
-fn is_null(value: &Lent<'_>) -> bool
-    ensures { result ≡ is_null (owned value.now) }
-{
-    matches!(value, Lent::Null)
 }
 
 fn passes(comparison: Comparison, order: Ordering) -> bool

@@ -95,7 +95,8 @@ fn fit(size: u128) -> Option<u128>
     if size < TOO_WIDE { Some(size) } else { None }
 }
 
-fn value_size(value: &Value) -> u128
+/// How far from 0 a number is; 0 of another value.
+pub fn value_size(value: &Value) -> u128
     ensures { result ≡ value_size value.now }
 {
     match value {

@@ -1,17 +1,17 @@
 -- Plans that are worked out step by step.
 use Rattle.std.specs.Prelude.{◌≡◌, ◌++◌, ◌<◌, Bool, true, false, List, [], length, Option, Some, None, IfSome, Result, Ok, Err}
+use Rattle.std.specs.declared.alloc.AllocError.{AllocError}
 use Rattle.cq_values.specs.Value.{Row}
 use Rattle.cq_plan.specs.Plan.{shown_by}
 use Rattle.cq_plan.specs.declared.plan.Plan.{Plan}
 use Rattle.cq_vectors.specs.Batch.{rows_of}
 use Rattle.cq_vectors.specs.declared.batch.Batch.{Batch}
-use Rattle.cq_operators.specs.declared.fault.ExecFault.{ExecFault}
 
 -- a plan, the rows that remain for it, and the fault that ended it, if any
 pub record Remaining : Type 0 where
   pub plan : Plan
   pub rows : List Row
-  pub fault : Option ExecFault
+  pub fault : Option AllocError
 
 -- rows were taken from the front, and the batch is what the plan shows of them
 pub record Gives (old new : Remaining) (batch : Batch) : Type 0 where
@@ -31,13 +31,13 @@ pub record IsAtEnd (old new : Remaining) (before after : Batch) : Type 0 where
   pub batch : after ≡ before
 
 -- a fault is kept, it is the one before where there was one, and nothing else changed
-pub record Breaks (old new : Remaining) (before after : Batch) (f : ExecFault) : Type 0 where
+pub record Breaks (old new : Remaining) (before after : Batch) (f : AllocError) : Type 0 where
   pub kept : new ≡ record old { fault = Some f }
   pub first : IfSome old.fault (λ g. f ≡ g)
   pub batch : after ≡ before
 
 -- what a step does: it gives rows, or is at the end, or tells the fault that ends it for ever
-abbrev pub GivesNext : Remaining → Remaining → Batch → Batch → Result Bool ExecFault → Type 0
+abbrev pub GivesNext : Remaining → Remaining → Batch → Batch → Result Bool AllocError → Type 0
 GivesNext old new before after (Ok true) = Gives old new after
 GivesNext old new before after (Ok false) = IsAtEnd old new before after
 GivesNext old new before after (Err f) = Breaks old new before after f

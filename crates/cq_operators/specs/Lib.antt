@@ -7,5 +7,5 @@ pub mod Pairs
 pub mod Selected
 pub mod Showing
 pub mod Shown
-pub mod Sources
+pub mod Inputs
 pub mod Taking

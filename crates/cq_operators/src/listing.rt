@@ -6,7 +6,6 @@ ghost use Rattle.cq_plan.specs.Plan.{IsWithin, shown_by};
 ghost use Rattle.cq_operators.specs.Listed.{IsListingOf};
 
 use crate::exec::Exec;
-use crate::fault::ExecFault;
 use cq_model::Order;
 use cq_operators_listing::Listing;
 use cq_plan::Plan;
@@ -22,7 +21,7 @@ pub fn listed_rows<'a>(
     plan: &'a Plan<'a>,
     order: &Order,
     rows: Stored<'a>,
-) -> Result<Vec<Row>, ExecFault>
+) -> Result<Vec<Row>, AllocError>
     requires { AllByRecursion (IsWithin plan.now) (all_rows rows) }
     ensures { IfOk result (λ list. IsListingOf order.now (shown_by plan.now (all_rows rows.entry)) list.items) }
 {
@@ -35,7 +34,7 @@ pub fn listed_rows<'a>(
     while exec.next(alloc, &mut batch)? {
         list.add(alloc, &batch)?;
     }
-    Ok(list.rows(alloc)?)
+    list.rows(alloc)
 }
 
 /// The listing of rows that are made. None of them is copied.

@@ -5,7 +5,7 @@ ghost use Rattle.cq_values.specs.Value.{column};
 ghost use Rattle.cq_model_bags.specs.Listing.{directed, listing_cmp};
 
 use cq_model_bags::SortKey;
-use cq_values::{Lent, Value, cmp_lent};
+use cq_values::{Lent, Value, cmp_lent, lend_column};
 use std::cmp::Ordering;
 
 /// Which row stands first: by the keys in turn, and then by all columns.
@@ -36,14 +36,5 @@ pub(crate) fn cmp_directed(descending: bool, a: &Lent<'_>, b: &Lent<'_>) -> Orde
         cmp_lent(b, a)
     } else {
         cmp_lent(a, b)
-    }
-}
-
-pub(crate) fn lend_column(row: &[Value], at: usize) -> Lent<'_>
-    ensures { owned result ≡ column row.now at }
-{
-    match row.get(at) {
-        Some(value) => value.lend(),
-        None => Lent::Null,
     }
 }

@@ -1,4 +1,9 @@
-//! A list of rows that come in batches.
+//! Listings: what ORDER BY and LIMIT show of rows that come in any order.
+//!
+//! `new` names the order; `add` takes the rows of a batch and `add_rows` rows that are made, any number of times;
+//! `rows` gives the one list at the end. Without LIMIT all rows are kept and sorted once. With one of up to 1,000,000
+//! the list is cut when it has twice as many rows and 1,024 more, and a place whose first key stands behind the last
+//! row that is kept becomes no row. So memory grows with the limit, and a row costs a comparison or its part of a sort.
 ghost use Rattle.std.specs.Prelude.{[], ◌++◌, ◌≡◌, ◌≤◌, IfOk, IfSome, List, OnOk, Some, map, take};
 ghost use Rattle.cq_values.specs.Value.{Row as Values};
 ghost use Rattle.cq_model_bags.specs.Bag.{once_each};
@@ -9,7 +14,6 @@ ghost use Rattle.cq_operators_listing.specs.Places.{ArePlaces, first_key as firs
 ghost use Rattle.cq_operators_listing.specs.Stored.{CanList, ListsAll, TakesIn};
 
 use crate::arranging::sort;
-use crate::comparing::lend_column;
 use crate::places::{copied, places_before, push_rows};
 use cq_model::Order;
 use cq_model_bags::SortKey;
@@ -103,7 +107,7 @@ impl<'q> Listing<'q> {
         if let Some(worst) = self.worst() {
             let key = first_key(self.order.keys.as_slice());
             if let Some(column) = batch.columns.as_slice().get(key.column) {
-                let limit = lend_column(worst.as_slice(), key.column);
+                let limit = worst.lend(key.column);
                 return places_before(alloc, key.descending, column, &limit, places);
             }
         }

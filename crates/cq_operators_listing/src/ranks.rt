@@ -5,9 +5,8 @@ ghost use Rattle.cq_values.specs.Value.{column};
 ghost use Rattle.cq_operators_listing.specs.Ranks.{column_rank as rank_at, directed_rank as directed, joined as as_one, key_rank as rank_by};
 ghost use Rattle.cq_operators_listing.specs.Ranks.{number_rank as rank_of, digit_of, row_ranks as ranks_of, text_rank as read, value_rank as ranked};
 
-use crate::comparing::lend_column;
 use cq_model_bags::SortKey;
-use cq_values::{Lent, Value};
+use cq_values::{Lent, Value, lend_column};
 
 /// A number as far from 0 as this shares its rank with those that are farther.
 const FAR: i128 = 1_152_921_504_606_846_976;

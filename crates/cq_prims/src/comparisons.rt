@@ -15,7 +15,7 @@ use crate::less_days::LessDays;
 use crate::less_numbers::LessNumbers;
 use crate::less_texts::LessTexts;
 use crate::less_wide::LessWide;
-use crate::nulls::{is_null_lent, nulls_of_both};
+use crate::nulls::nulls_of_both;
 use crate::sides::{Sides, sides_of};
 use cq_values::{Comparison, Lent, Truth};
 use cq_vectors::{Form, Vector};
@@ -56,8 +56,8 @@ fn constant_truth(comparison: Comparison, a: &Vector<'_>, b: &Vector<'_>) -> Opt
 {
     match (constant_of(a), constant_of(b)) {
         (Some(v), Some(w)) => Some(cq_model_eval::compare(comparison, v, w)),
-        (Some(v), None) if is_null_lent(v) => Some(Truth::Unknown),
-        (None, Some(w)) if is_null_lent(w) => Some(Truth::Unknown),
+        (Some(v), None) if v.is_null() => Some(Truth::Unknown),
+        (None, Some(w)) if w.is_null() => Some(Truth::Unknown),
         _ => None,
     }
 }

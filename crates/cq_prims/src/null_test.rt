@@ -4,7 +4,6 @@ ghost use Rattle.cq_values.specs.Lent.{owned};
 ghost use Rattle.cq_values.specs.declared.value.Value.TheVariants.{Null};
 ghost use Rattle.std.specs.Prelude.{length, map, slice_index_or};
 
-use crate::nulls::is_null_lent;
 use cq_values::Lent;
 use cq_vectors_masks::{PlaceTest, WordTest, answers};
 
@@ -21,7 +20,7 @@ impl<'a> PlaceTest for NullTest<'a> {
 
     fn at(&self, i: usize) -> bool {
         let values = self.values;
-        is_null_lent(&values[i])
+        values[i].is_null()
     }
 }
 

@@ -16,7 +16,7 @@ pub(crate) struct WideSide<'a> {
 #[derive(Drop)]
 enum WideForm<'a> {
     Column(&'a [i128]),
-    Narrow(&'a [i64]),
+    Numbers(&'a [i64]),
     /// One number for so many places.
     Constant(i128, usize),
 }
@@ -37,7 +37,7 @@ impl<'a> WideSide<'a> {
     {
         match vector.form() {
             Form::Wide(numbers) => Some(WideSide::column(numbers.values())),
-            Form::Numbers(numbers) => Some(WideSide::narrow(numbers.values())),
+            Form::Numbers(numbers) => Some(WideSide::numbers(numbers.values())),
             Form::Constant(value, len) => WideSide::of_constant(value, *len),
             _ => None,
         }
@@ -60,11 +60,11 @@ impl<'a> WideSide<'a> {
         }
     }
 
-    pub(crate) fn narrow(values: &'a [i64]) -> WideSide<'a>
+    pub(crate) fn numbers(values: &'a [i64]) -> WideSide<'a>
         ensures { result ≡ values.now }
     {
         WideSide {
-            form: WideForm::Narrow(values),
+            form: WideForm::Numbers(values),
         }
     }
 
@@ -85,7 +85,7 @@ impl<'a> WideSide<'a> {
                 let values = *values;
                 values[place]
             }
-            WideForm::Narrow(values) => {
+            WideForm::Numbers(values) => {
                 let values = *values;
                 i128::from(values[place])
             }

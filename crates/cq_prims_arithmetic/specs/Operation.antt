@@ -4,7 +4,6 @@ use Rattle.std.specs.Simd.Lanes.{zip2}
 use Rattle.cq_values.specs.declared.value.Value.{Value}
 use Rattle.cq_values.specs.declared.value.Value.TheVariants.{Null, Number}
 use Rattle.cq_model.specs.Exact.{ValueInRange}
-use Rattle.cq_model.specs.Eval.{negated, plus}
 use Rattle.cq_vectors.specs.Columns.{number_unless}
 
 -- the operation on two numbers, and NULL where one side is no number
@@ -24,10 +23,6 @@ no_number v = true
 -- each of the values fits 128 bits
 abbrev pub AllInRange : List Value → Type 0
 AllInRange values = (k : ℕ) → ValueInRange (slice_index_or values k Null)
-
--- the first value less the second
-abbrev pub less : Value → Value → Value
-less v w = plus v (negated w)
 
 -- the number, or 0 where the flag is set
 abbrev pub zero_if : ℤ → Bool → ℤ

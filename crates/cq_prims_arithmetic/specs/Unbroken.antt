@@ -7,7 +7,7 @@ use Rattle.cq_prims_arithmetic.specs.declared.unbroken.Unbroken.TheVariants as u
 
 -- the values are these numbers, if any are given
 abbrev pub AreHeld : Unbroken → List Value → Type 0
-AreHeld (unbroken.Narrow numbers) values = values ≡ map Number numbers.now
+AreHeld (unbroken.Numbers numbers) values = values ≡ map Number numbers.now
 AreHeld (unbroken.Wide numbers) values = values ≡ map Number numbers.now
 AreHeld (unbroken.One number len) values = values ≡ map Number (replicate len number)
 AreHeld unbroken.Broken values = Unit {0}

@@ -2,7 +2,7 @@
 ghost use Rattle.std.specs.Prelude.{IfOk, length, map, ◌≡◌};
 ghost use Rattle.std.specs.Simd.Lanes.{zip2};
 ghost use Rattle.cq_model.specs.Eval.{negated, plus, times};
-ghost use Rattle.cq_prims_arithmetic.specs.Operation.{AllInRange, less};
+ghost use Rattle.cq_prims_arithmetic.specs.Operation.{AllInRange};
 
 use crate::combined::combined;
 use crate::operation::{Minus, Plus, Times};
@@ -17,15 +17,6 @@ pub fn add<'a>(alloc: Global, a: &Vector<'_>, b: &Vector<'_>) -> Result<Vector<'
     ensures { IfOk result (λ made. made ≡ zip2 plus a.now b.now) }
 {
     combined::<Plus>(alloc, a, b)
-}
-
-/// The first column less the second.
-pub fn sub<'a>(alloc: Global, a: &Vector<'_>, b: &Vector<'_>) -> Result<Vector<'a>, AllocError>
-    requires same { length a.now ≡ length b.now }
-    requires fits { AllInRange (zip2 less a.now b.now) }
-    ensures { IfOk result (λ made. made ≡ zip2 less a.now b.now) }
-{
-    combined::<Minus>(alloc, a, b)
 }
 
 /// The products of two columns, place by place.

@@ -1,17 +1,18 @@
 //! The choice of the loop for an operation on two vectors.
-ghost use Rattle.std.specs.Prelude.{IfOk, length, ◌≡◌};
+ghost use Rattle.std.specs.Prelude.{IfOk, length, map, ◌≡◌};
 ghost use Rattle.std.specs.Option.{IfSome};
 ghost use Rattle.std.specs.Simd.Lanes.{zip2};
+ghost use Rattle.cq_values.specs.declared.value.Value.TheVariants.{Number};
 ghost use Rattle.cq_prims_arithmetic.specs.Operation.{AllInRange, lifted, repeated};
 
-use crate::narrow::narrow;
+use crate::in_64_bits::in_64_bits;
 use crate::operation::Operation;
 use crate::places::by_places;
 use crate::side::{Column, Repeated};
 use crate::sizes::largest_size;
 use crate::unbroken::{Unbroken, numbers_in};
 use crate::wide::wide;
-use crate::wide_side::{WideColumn, WideRepeated};
+use crate::wide_side::{WideColumn, WideRepeated, WideSide};
 use cq_values::Lent;
 use cq_vectors::{Form, Numbers, Vector};
 use cq_vectors_masks::Plane;
@@ -52,10 +53,10 @@ fn columns<'a, O: Operation>(
     ensures { IfOk result (λ made. IfSome made (λ v. v ≡ zip2 (lifted O.apply) a.now b.now)) }
 {
     let (left, right) = (a.values(), b.values());
-    if O::is_narrow(largest_size(left), largest_size(right)) {
+    if O::fits_64_bits(largest_size(left), largest_size(right)) {
         let mut nulls = Plane::new();
         nulls.set_or(a.nulls(), b.nulls());
-        Ok(Some(narrow::<O, Column<'_>, Column<'_>>(
+        Ok(Some(in_64_bits::<O, Column<'_>, Column<'_>>(
             alloc,
             &Column { values: left },
             &Column { values: right },
@@ -75,14 +76,14 @@ fn column_and_number<'a, O: Operation>(
 {
     let values = a.values();
     match i64::try_from(n) {
-        Ok(number) if O::is_narrow(largest_size(values), number.unsigned_abs()) => {
+        Ok(number) if O::fits_64_bits(largest_size(values), number.unsigned_abs()) => {
             let mut nulls = Plane::new();
             nulls.set_copy(a.nulls());
             let one = Repeated {
                 number,
                 len: values.len(),
             };
-            Ok(Some(narrow::<O, Column<'_>, Repeated>(alloc, &Column { values }, &one, nulls)?))
+            Ok(Some(in_64_bits::<O, Column<'_>, Repeated>(alloc, &Column { values }, &one, nulls)?))
         }
         _ => Ok(None),
     }
@@ -97,19 +98,20 @@ fn number_and_column<'a, O: Operation>(
 {
     let values = b.values();
     match i64::try_from(m) {
-        Ok(number) if O::is_narrow(number.unsigned_abs(), largest_size(values)) => {
+        Ok(number) if O::fits_64_bits(number.unsigned_abs(), largest_size(values)) => {
             let mut nulls = Plane::new();
             nulls.set_copy(b.nulls());
             let one = Repeated {
                 number,
                 len: values.len(),
             };
-            Ok(Some(narrow::<O, Repeated, Column<'_>>(alloc, &one, &Column { values }, nulls)?))
+            Ok(Some(in_64_bits::<O, Repeated, Column<'_>>(alloc, &one, &Column { values }, nulls)?))
         }
         _ => Ok(None),
     }
 }
 
+/// In 128 bits: by a loop for these forms where no place has NULL, and else place by place.
 fn in_128_bits<'a, O: Operation>(
     alloc: Global,
     a: &Vector<'_>,
@@ -119,63 +121,58 @@ fn in_128_bits<'a, O: Operation>(
     requires fits { AllInRange (zip2 (lifted O.apply) a.now b.now) }
     ensures { IfOk result (λ made. made ≡ zip2 (lifted O.apply) a.now b.now) }
 {
-    match (numbers_in(a), numbers_in(b)) {
-        (Unbroken::Narrow(m), Unbroken::Narrow(n)) => wide::<O, Column<'_>, Column<'_>>(
+    match numbers_in(a) {
+        Unbroken::Numbers(values) => with_left::<O, Column<'_>>(alloc, a, b, &Column { values }),
+        Unbroken::Wide(values) => with_left::<O, WideColumn<'_>>(
             alloc,
             a,
             b,
-            &Column { values: m },
-            &Column { values: n },
+            &WideColumn { values },
         ),
-        (Unbroken::Narrow(m), Unbroken::Wide(n)) => wide::<O, Column<'_>, WideColumn<'_>>(
-            alloc,
-            a,
-            b,
-            &Column { values: m },
-            &WideColumn { values: n },
-        ),
-        (Unbroken::Wide(m), Unbroken::Narrow(n)) => wide::<O, WideColumn<'_>, Column<'_>>(
-            alloc,
-            a,
-            b,
-            &WideColumn { values: m },
-            &Column { values: n },
-        ),
-        (Unbroken::Wide(m), Unbroken::Wide(n)) => wide::<O, WideColumn<'_>, WideColumn<'_>>(
-            alloc,
-            a,
-            b,
-            &WideColumn { values: m },
-            &WideColumn { values: n },
-        ),
-        (Unbroken::Narrow(m), Unbroken::One(number, len)) => wide::<O, Column<'_>, WideRepeated>(
-            alloc,
-            a,
-            b,
-            &Column { values: m },
-            &WideRepeated { number, len },
-        ),
-        (Unbroken::Wide(m), Unbroken::One(number, len)) => wide::<O, WideColumn<'_>, WideRepeated>(
-            alloc,
-            a,
-            b,
-            &WideColumn { values: m },
-            &WideRepeated { number, len },
-        ),
-        (Unbroken::One(number, len), Unbroken::Narrow(n)) => wide::<O, WideRepeated, Column<'_>>(
+        Unbroken::One(number, len) => with_left::<O, WideRepeated>(
             alloc,
             a,
             b,
             &WideRepeated { number, len },
-            &Column { values: n },
         ),
-        (Unbroken::One(number, len), Unbroken::Wide(n)) => wide::<O, WideRepeated, WideColumn<'_>>(
+        Unbroken::Broken => by_places::<O>(alloc, a, b),
+    }
+}
+
+/// The same where the numbers of the first vector are these.
+fn with_left<'a, O: Operation, A: WideSide>(
+    alloc: Global,
+    a: &Vector<'_>,
+    b: &Vector<'_>,
+    left: &A,
+) -> Result<Vector<'a>, AllocError>
+    requires same { length a.now ≡ length b.now }
+    requires left { a.now ≡ map Number (A.numbers left.now) }
+    requires fits { AllInRange (zip2 (lifted O.apply) a.now b.now) }
+    ensures { IfOk result (λ made. made ≡ zip2 (lifted O.apply) a.now b.now) }
+{
+    match numbers_in(b) {
+        Unbroken::Numbers(values) => wide::<O, A, Column<'_>>(
             alloc,
             a,
             b,
-            &WideRepeated { number, len },
-            &WideColumn { values: n },
+            left,
+            &Column { values },
         ),
-        _ => by_places::<O>(alloc, a, b),
+        Unbroken::Wide(values) => wide::<O, A, WideColumn<'_>>(
+            alloc,
+            a,
+            b,
+            left,
+            &WideColumn { values },
+        ),
+        Unbroken::One(number, len) => wide::<O, A, WideRepeated>(
+            alloc,
+            a,
+            b,
+            left,
+            &WideRepeated { number, len },
+        ),
+        Unbroken::Broken => by_places::<O>(alloc, a, b),
     }
 }

@@ -6,7 +6,7 @@
 mod arithmetic;
 mod clear;
 mod combined;
-mod narrow;
+mod in_64_bits;
 mod operation;
 mod parts;
 mod places;
@@ -17,7 +17,7 @@ mod unbroken;
 mod wide;
 mod wide_side;
 
-pub use arithmetic::{add, mul, neg, sub};
+pub use arithmetic::{add, mul, neg};
 pub use parts::extract;
 pub use sizes::largest_size;
 pub use sums::sum_into;

@@ -8,17 +8,17 @@ pub(crate) trait Operation {
     ghost apply: { ℤ → ℤ → ℤ };
 
     /// In 128 bits.
-    fn wide(m: i128, n: i128) -> i128
+    fn in_128_bits(m: i128, n: i128) -> i128
         requires { FitsSigned w128 (apply m n) }
         ensures { result ≡ apply m n };
 
     /// In 64 bits.
-    fn narrow(m: i64, n: i64) -> i64
+    fn in_64_bits(m: i64, n: i64) -> i64
         requires { FitsSigned w64 (apply m n) }
         ensures { result ≡ apply m n };
 
     /// Whether 64 bits are enough for numbers of these sizes.
-    fn is_narrow(a: u64, b: u64) -> bool
+    fn fits_64_bits(a: u64, b: u64) -> bool
         ensures { IsTrue result → (m n : ℤ) → nat_abs m ≤ a → nat_abs n ≤ b → FitsSigned w64 (apply m n) };
 }
 
@@ -27,15 +27,15 @@ pub(crate) struct Plus;
 impl Operation for Plus {
     ghost apply = { λ m n. m +ℤ n };
 
-    fn wide(m: i128, n: i128) -> i128 {
+    fn in_128_bits(m: i128, n: i128) -> i128 {
         m + n
     }
 
-    fn narrow(m: i64, n: i64) -> i64 {
+    fn in_64_bits(m: i64, n: i64) -> i64 {
         m + n
     }
 
-    fn is_narrow(a: u64, b: u64) -> bool {
+    fn fits_64_bits(a: u64, b: u64) -> bool {
         a < 1 << 62 && b < 1 << 62
     }
 }
@@ -45,15 +45,15 @@ pub(crate) struct Minus;
 impl Operation for Minus {
     ghost apply = { minus };
 
-    fn wide(m: i128, n: i128) -> i128 {
+    fn in_128_bits(m: i128, n: i128) -> i128 {
         m - n
     }
 
-    fn narrow(m: i64, n: i64) -> i64 {
+    fn in_64_bits(m: i64, n: i64) -> i64 {
         m - n
     }
 
-    fn is_narrow(a: u64, b: u64) -> bool {
+    fn fits_64_bits(a: u64, b: u64) -> bool {
         a < 1 << 62 && b < 1 << 62
     }
 }
@@ -63,15 +63,15 @@ pub(crate) struct Times;
 impl Operation for Times {
     ghost apply = { λ m n. m *ℤ n };
 
-    fn wide(m: i128, n: i128) -> i128 {
+    fn in_128_bits(m: i128, n: i128) -> i128 {
         m * n
     }
 
-    fn narrow(m: i64, n: i64) -> i64 {
+    fn in_64_bits(m: i64, n: i64) -> i64 {
         m * n
     }
 
-    fn is_narrow(a: u64, b: u64) -> bool {
+    fn fits_64_bits(a: u64, b: u64) -> bool {
         match a.checked_mul(b) {
             Some(size) => size < 1 << 63,
             None => false,

@@ -41,7 +41,7 @@ fn number_at<O: Operation>(a: &Lent<'_>, b: &Lent<'_>) -> (i128, bool)
     ensures null { result.1 ≡ no_number (lifted O.apply (owned a.now) (owned b.now)) }
 {
     match (a, b) {
-        (Lent::Number(m), Lent::Number(n)) => (O::wide(*m, *n), false),
+        (Lent::Number(m), Lent::Number(n)) => (O::in_128_bits(*m, *n), false),
         _ => (0, true),
     }
 }

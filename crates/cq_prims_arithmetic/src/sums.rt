@@ -28,7 +28,7 @@ fn sum_places(values: &[i64], places: &[u16]) -> i128
     requires few { length places.now ≤ 1024 }
     requires there { (k : ℕ) → k < length places.now → slice_index places.now k < length values.now }
     ensures sum { result ≡ sum_at values.now places.now }
-    ensures narrow { nat_abs result ≤ 2 ^ 74 }
+    ensures small { nat_abs result ≤ 2 ^ 74 }
 {
     let mut sum = 0;
     for i in 0..places.len() {

@@ -1,17 +1,15 @@
 //! Vectors without NULLs, as their numbers.
-ghost use Rattle.std.specs.Prelude.{map, replicate, ◌≡◌};
-ghost use Rattle.std.specs.Option.{IfSome};
+ghost use Rattle.std.specs.Prelude.{replicate};
 ghost use Rattle.cq_values.specs.Lent.{owned};
-ghost use Rattle.cq_values.specs.declared.value.Value.TheVariants.{Number};
 ghost use Rattle.cq_prims_arithmetic.specs.Unbroken.{AreHeld};
 
 use cq_values::Lent;
-use cq_vectors::{Form, Numbers, Vector, WideNumbers};
+use cq_vectors::{Form, Vector};
 
 /// The numbers of a vector in which each value is a number.
 #[derive(Drop)]
 pub(crate) enum Unbroken<'b> {
-    Narrow(&'b [i64]),
+    Numbers(&'b [i64]),
     Wide(&'b [i128]),
     One(i128, usize),
     /// There may be NULLs, or values that are no numbers.
@@ -22,11 +20,11 @@ pub(crate) fn numbers_in<'b>(vector: &'b Vector<'_>) -> Unbroken<'b>
     ensures { AreHeld result vector.now }
 {
     match vector.form() {
-        Form::Numbers(numbers) => match unbroken_numbers(numbers) {
-            Some(values) => Unbroken::Narrow(values),
+        Form::Numbers(numbers) => match numbers.whole() {
+            Some(values) => Unbroken::Numbers(values),
             None => Unbroken::Broken,
         },
-        Form::Wide(numbers) => match unbroken_wide(numbers) {
+        Form::Wide(numbers) => match numbers.whole() {
             Some(values) => Unbroken::Wide(values),
             None => Unbroken::Broken,
         },
@@ -41,25 +39,5 @@ fn one_number<'b>(value: &Lent<'_>, len: usize) -> Unbroken<'b>
     match value {
         Lent::Number(n) => Unbroken::One(*n, len),
         _ => Unbroken::Broken,
-    }
-}
-
-fn unbroken_numbers(numbers: &Numbers) -> Option<&[i64]>
-    ensures { IfSome result (λ values. numbers.now ≡ map Number values.now) }
-{
-    if numbers.nulls().is_clear() {
-        Some(numbers.values())
-    } else {
-        None
-    }
-}
-
-fn unbroken_wide(numbers: &WideNumbers) -> Option<&[i128]>
-    ensures { IfSome result (λ values. numbers.now ≡ map Number values.now) }
-{
-    if numbers.nulls().is_clear() {
-        Some(numbers.values())
-    } else {
-        None
     }
 }

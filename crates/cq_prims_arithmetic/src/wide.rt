@@ -47,7 +47,7 @@ fn wide_results<O: Operation, A: WideSide, B: WideSide>(
     let mut values = Vec::new(alloc);
     values.reserve(len)?;
     for i in 0..len {
-        values.push_reserved(O::wide(a.at(i), b.at(i)));
+        values.push_reserved(O::in_128_bits(a.at(i), b.at(i)));
     }
     Ok(values)
 }

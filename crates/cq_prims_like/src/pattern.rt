@@ -1,4 +1,8 @@
 //! Patterns of LIKE, read once for many texts.
+//!
+//! `new` reads the pattern and keeps the form that is quickest to ask. Then `fits` is asked of one text, or a kernel
+//! takes `sought` or `front` to ask many at once. To read it costs a few passes over the pattern; a text costs one
+//! search for a run of bytes, or one comparison, and only where neither decides a walk by characters.
 ghost use Rattle.cq_model.specs.Like.{like, percent};
 ghost use Rattle.cq_prims_like.specs.Patterns.{IsFormOf, IsFrontOf, is_ordinary, run_of};
 ghost use Rattle.memchr.specs.Find.{FindsNeedle};

@@ -1,4 +1,7 @@
 //! Why a table refuses a write.
+//!
+//! The faults of the statements, as far as a table can tell them. Whoever carries a statement out turns them by `?`
+//! into [`Fault`].
 ghost use Rattle.std.specs.Prelude.{◌≡◌};
 ghost use Rattle.cq_table.specs.Checks.{fault_of};
 ghost use Rattle.cq_table.specs.declared.fault.TableFault.TheVariants.{Memory};

@@ -12,9 +12,9 @@ ghost use Rattle.cq_table.specs.Checks.{AreNarrowSets, IsChecked, one_fault, val
 
 use crate::fault::TableFault;
 use cq_model::{Assignment, Expr};
-use cq_model_eval::{eval_row, lend_column, narrow_is_exact};
+use cq_model_eval::{eval_row, narrow_is_exact};
 use cq_table_columns::StoredRow;
-use cq_values::{ColumnDef, Lent, Row, Value};
+use cq_values::{ColumnDef, Lent, Row, Value, lend_column};
 use std::alloc::{AllocError, Global};
 
 /// Refuses the first assignment with a value in one of the rows that its column cannot have.
@@ -79,7 +79,7 @@ fn gives_null(value: &Expr, rows: &[Row]) -> bool
 {
     narrow_is_exact();
     for row in rows {
-        if is_null(&eval_row(value, row.as_slice())) {
+        if eval_row(value, row.as_slice()).is_null() {
             return true;
         }
     }
@@ -93,15 +93,6 @@ fn is_outside(value: &Lent<'_>) -> bool
     match value {
         Lent::Number(n) => *n < -STORED_LIMIT || STORED_LIMIT <= *n,
         Lent::Day(_) | Lent::Text(_) | Lent::Null => false,
-    }
-}
-
-fn is_null(value: &Lent<'_>) -> bool
-    ensures { result ≡ is_null (owned value.now) }
-{
-    match value {
-        Lent::Null => true,
-        Lent::Number(_) | Lent::Day(_) | Lent::Text(_) => false,
     }
 }
 

@@ -10,5 +10,4 @@ mod images;
 mod table;
 
 pub use fault::TableFault;
-pub use images::copies;
 pub use table::{Exchange, Table, check_room};

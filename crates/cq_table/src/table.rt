@@ -1,4 +1,9 @@
 //! A table in memory.
+//!
+//! `new` makes one without rows. `insert`, `delete_where`, and `images_where` with `replace` change its bag: the two
+//! calls of an UPDATE first work the images out and then put them in. `chosen` and `rows` lend rows where they are
+//! stored, and `move_front` moves rows to columns. A call that refuses leaves the table as it was. WHERE costs a pass
+//! over all rows, 1,024 at a time.
 ghost use Rattle.std.specs.List.{AllByRecursion};
 ghost use Rattle.std.specs.Prelude.{◌++◌, ◌+◌, ◌≡◌, ◌<◌, ◌^◌, IfOk, OnErr, OnOk, length};
 ghost use Rattle.cq_model_bags.specs.Canonical.{bag_of};

@@ -1,4 +1,7 @@
 //! Rows at some places of a front.
+//!
+//! What a condition keeps of a front is `of` its places; `at` keeps some of these, and `gather` gives a column of them.
+//! It costs two bytes a row; no row is copied.
 ghost use Rattle.std.specs.Prelude.{◌≡◌, ◌≤◌, IfOk, length};
 ghost use Rattle.cq_table_columns.specs.Places.{AreBelow, rows_at};
 ghost use Rattle.cq_table_columns.specs.Stored.{front_rows, stored_rows};

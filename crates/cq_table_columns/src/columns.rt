@@ -1,4 +1,8 @@
-//! Rows that are kept column by column.
+//! Rows that are stored column by column.
+//!
+//! Columns are made once, of at most 1,024 rows of one width, and do not change: a row that leaves is the cause of new
+//! ones. `gather` and `gather_at` give a column as a vector, `row` and `lend` one row and one value where they stand.
+//! To make them costs a copy of each value, and to gather a column a copy of its numbers; texts are lent.
 ghost use Rattle.std.specs.List.{All};
 ghost use Rattle.std.specs.Option.{IfNone};
 ghost use Rattle.std.specs.Prelude.{IfOk, IfSome, Some, [], length, map, slice_get, slice_index_or, ◌<◌, ◌≡◌, ◌≤◌};

@@ -1,4 +1,7 @@
 //! The rows at the front of a source.
+//!
+//! A front is split off by [`crate::Stored::split_front`], and lends its rows: whole columns by `gather`, or row by
+//! row. It is two words, and copied freely. `rows` makes a list with an entry for each row; no value is copied.
 ghost use Rattle.std.specs.Prelude.{◌<◌, ◌≡◌, ◌≤◌, [], IfOk, length, slice_index_or};
 ghost use Rattle.cq_table_columns.specs.Stored.{front_rows, row_of, stored_rows};
 ghost use Rattle.cq_vectors.specs.Gathered.{column_of};

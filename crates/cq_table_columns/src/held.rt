@@ -1,4 +1,4 @@
-//! A column that is kept.
+//! A column that is stored.
 ghost use Rattle.std.specs.Prelude.{IfOk, length, map, slice_index_or, ◌≡◌, ◌≤◌};
 ghost use Rattle.cq_table_columns.specs.Held.{values_held};
 ghost use Rattle.cq_table_columns.specs.Places.{AreBelow, values_at};

@@ -1,4 +1,4 @@
-//! Texts that are kept.
+//! Texts that are stored.
 ghost use Rattle.std.specs.Prelude.{IfOk, length, slice_index_or, ◌≡◌, ◌≤◌};
 ghost use Rattle.cq_table_columns.specs.Places.{AreBelow, texts_at, values_at};
 ghost use Rattle.cq_values.specs.Lent.{owned};

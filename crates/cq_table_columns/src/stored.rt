@@ -1,4 +1,8 @@
 //! All rows of a source where they are stored.
+//!
+//! `new` and `of` lend the rows of a table or of a list. A reader takes `split_front` until nothing is left: at most
+//! 1,024 rows at a time, in the order of the one list that they are. It takes no memory and is copied freely; `len`
+//! goes over the pieces of columns.
 ghost use Rattle.std.specs.Prelude.{length, ◌^◌, ◌≤◌};
 
 use crate::columns::Columns;

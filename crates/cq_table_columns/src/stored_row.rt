@@ -1,4 +1,7 @@
 //! A row where it is stored.
+//!
+//! `lend` reads one of its values, and `to_row` and `cut` copy all or some. It stands in a list, or is a place of
+//! columns, of which contracts see nothing. It is two words, and copied freely; only the copies take memory.
 ghost use Rattle.std.specs.Prelude.{◌≡◌, IfOk, [], length, slice_index_or};
 ghost use Rattle.cq_table_columns.specs.Stored.{row_of};
 ghost use Rattle.cq_model.specs.Group.{key_of};
@@ -34,7 +37,7 @@ impl<'a> StoredRow<'a> {
         ensures { owned result ≡ column_at (row_of self.now) column }
     {
         match self {
-            StoredRow::Alone(row) => lend_column(*row, column),
+            StoredRow::Alone(row) => row.lend(column),
             StoredRow::InColumns(columns, place) => columns.lend(usize::from(*place), column),
         }
     }
@@ -79,14 +82,5 @@ fn len_at(columns: &Columns, place: usize) -> usize
         columns.width()
     } else {
         0
-    }
-}
-
-fn lend_column<'a>(row: &'a Row, column: usize) -> Lent<'a>
-    ensures { owned result ≡ column_at row.now column }
-{
-    match row.as_slice().get(column) {
-        Some(value) => value.lend(),
-        None => Lent::Null,
     }
 }

@@ -1,4 +1,8 @@
 //! Rows where they are stored.
+//!
+//! What a scan goes on with: rows of a list, a whole front, or some places of one. `gather` gives a column as a vector,
+//! `at` keeps the rows at some places, `into_rows` lists them. Of a front a column is read as it stands, and no call
+//! copies a value that it does not give.
 ghost use Rattle.std.specs.Prelude.{◌≡◌, ◌≤◌, IfOk, length};
 ghost use Rattle.cq_table_columns.specs.Places.{AreBelow, rows_at};
 ghost use Rattle.cq_table_columns.specs.Rows.{rows_in};

@@ -1,4 +1,7 @@
 //! The stored rows of sources.
+//!
+//! A query is handed a list of these, one for each table or view that it reads; [`rows_of`] looks one up from the
+//! front.
 ghost use Rattle.std.specs.Prelude.{◌≡◌, []};
 ghost use Rattle.cq_table_columns.specs.Stored.{all_rows};
 ghost use Rattle.cq_table_columns.specs.Sources.{rows_or};

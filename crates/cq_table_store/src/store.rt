@@ -1,4 +1,9 @@
 //! The rows of a table.
+//!
+//! A store begins empty. `append` puts rows behind the others, `move_front` moves the first ones of the list to
+//! columns, `exchange` and `remove` take rows away by a flag each; `lend` gives all of them to readers. Each of these
+//! makes what takes memory first, and then changes the store by steps that cannot fail. An append costs its rows, a
+//! move a copy of the rows that are moved, and an exchange a copy of each piece of columns that loses some of its rows.
 ghost use Rattle.std.specs.Prelude.{IfOk, OnErr, OnOk, [], length, vec_capacity, vec_len, ◌++◌, ◌+◌, ◌<◌, ◌≡◌, ◌≤◌};
 ghost use Rattle.cq_table_columns.specs.Columns.{AreWide};
 ghost use Rattle.cq_table_columns.specs.Stored.{all_rows, joined};

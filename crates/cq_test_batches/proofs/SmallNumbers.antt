@@ -9,7 +9,7 @@ use Rattle.cq_model.specs.Eval.{negated, plus, times}
 use Rattle.cq_model.specs.Exact.{ValueInRange}
 use Rattle.cq_model.specs.Width.{value_size}
 use Rattle.cq_model.proofs.Sizes.{size-negated, size-plus, size-times}
-use Rattle.cq_prims_arithmetic.specs.Operation.{AllInRange, less}
+use Rattle.cq_prims_arithmetic.specs.Operation.{AllInRange}
 
 -- 64 bits hold the size of each number
 abbrev pub AreSmall : List Value → Type 0
@@ -28,12 +28,9 @@ module _ (f : Value → Value → Value) (size : (v w : Value) → value_size v 
   results_fit (v ∷ vs) (w ∷ ws) s t zero = value_fits (f v w) (size v w (s 0) (t 0))
   results_fit (v ∷ vs) (w ∷ ws) s t (suc k) = results_fit vs ws (λ j. s (suc j)) (λ j. t (suc j)) k
 
--- sums, differences and products of small numbers fit 128 bits
+-- sums and products of small numbers fit 128 bits
 pub sums_fit : (vs ws : List Value) → AreSmall vs → AreSmall ws → AllInRange (zip2 plus vs ws)
 sums_fit = results_fit plus (λ v w p q. omega (arith, size-plus v w, p, q))
-
-pub differences_fit : (vs ws : List Value) → AreSmall vs → AreSmall ws → AllInRange (zip2 less vs ws)
-differences_fit = results_fit less (λ v w p q. omega (arith, size-plus v (negated w), size-negated w, p, q))
 
 pub products_fit : (vs ws : List Value) → AreSmall vs → AreSmall ws → AllInRange (zip2 times vs ws)
 products_fit = results_fit times (λ v w p q. omega (arith, size-times v w, mul-le (value_size v) (value_size w) (2 ^ 63) (2 ^ 63) p q))

@@ -8,7 +8,7 @@ ghost use Rattle.cq_test_plain.specs.Wide.{IsWideAt, IsWideIn};
 
 use crate::fault::PlainFault;
 use cq_model::{Cond, Expr};
-use cq_model_eval::{eval_row, fits, keeps, narrow_is_exact, width_of};
+use cq_model_eval::{eval_row, fits, keeps, narrow_is_exact, value_size, width_of};
 use cq_values::Value;
 use std::alloc::{AllocError, Global};
 
@@ -60,13 +60,4 @@ fn sizes_of(alloc: Global, row: &[Value]) -> Result<Vec<u128>, AllocError>
     ensures { IfOk result (λ sizes. sizes.items ≡ map value_size row.now) }
 {
     row.iter().map(|value| value_size(value)).collect(alloc)
-}
-
-fn value_size(value: &Value) -> u128
-    ensures { result ≡ value_size value.now }
-{
-    match value {
-        Value::Number(n) => n.unsigned_abs(),
-        _ => 0,
-    }
 }

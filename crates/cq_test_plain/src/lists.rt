@@ -7,8 +7,7 @@ ghost use Rattle.cq_test_plain.specs.Rows.{AreListed};
 
 use cq_model::Order;
 use cq_model_bags::SortKey;
-use cq_model_eval::lend_column;
-use cq_values::{Row, Value, cmp_lent};
+use cq_values::{Row, Value, cmp_lent, lend_column};
 use std::alloc::AllocError;
 use std::cmp::Ordering;
 

@@ -2,6 +2,7 @@
 ghost use Rattle.std.specs.Prelude.{◌≡◌, IfOk};
 ghost use Rattle.cq_values.specs.Lent.{owned};
 ghost use Rattle.cq_values.specs.Order.{value_cmp};
+ghost use Rattle.cq_values.specs.Value.{column, is_null};
 
 use crate::day::Day;
 use crate::text::Text;
@@ -42,6 +43,22 @@ impl Lent<'_> {
             Lent::Text(text) => Ok(Value::Text(Text::new(alloc, text)?)),
             Lent::Null => Ok(Value::Null),
         }
+    }
+
+    pub fn is_null(&self) -> bool
+        ensures { result ≡ is_null (owned self.now) }
+    {
+        matches!(self, Lent::Null)
+    }
+}
+
+/// The value in a column of a row, and NULL past the end.
+pub fn lend_column(row: &[Value], place: usize) -> Lent<'_>
+    ensures { owned result ≡ column row.now place }
+{
+    match row.get(place) {
+        Some(value) => value.lend(),
+        None => Lent::Null,
     }
 }
 

@@ -25,7 +25,7 @@ pub use comparison::Comparison;
 pub use dates::{DateFault, calendar_ends, date_of};
 pub use day::{CivilDay, Day};
 pub use day_part::DayPart;
-pub use lent::{Lent, cmp_lent};
+pub use lent::{Lent, cmp_lent, lend_column};
 pub use order::cmp_total;
 pub use row::{Row, copy_row};
 pub use seq::Seq;

@@ -3,9 +3,12 @@ ghost use Rattle.std.proofs.Common.{ap};
 ghost use Rattle.std.specs.Cmp.{partial_equiv_from_equiv};
 ghost use Rattle.std.specs.Hash as fed;
 ghost use Rattle.std.specs.Prelude.{◌++◌, ◌∷◌, ◌≡◌, IfOk, OnErr, OnOk, [], length};
+ghost use Rattle.cq_values.specs.Lent.{owned};
 ghost use Rattle.cq_values.specs.Order.{row_cmp, same_row};
 ghost use Rattle.cq_values.specs.Keys.{same_row-equiv, same_row-same};
+ghost use Rattle.cq_values.specs.Value.{column};
 
+use crate::lent::{Lent, lend_column};
 use crate::value::Value;
 use std::alloc::{AllocError, Global};
 use std::hash::{Hash, Hasher};
@@ -69,6 +72,13 @@ impl Row {
         ensures { result ≡ length self.now }
     {
         self.as_slice().len()
+    }
+
+    /// The value in a column, and NULL past the end.
+    pub fn lend(&self, place: usize) -> Lent<'_>
+        ensures { owned result ≡ column self.now place }
+    {
+        lend_column(self.as_slice(), place)
     }
 }
 

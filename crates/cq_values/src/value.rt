@@ -6,6 +6,7 @@ ghost use Rattle.std.specs.Ordering.{as_partial_cmp};
 ghost use Rattle.std.specs.Prelude.{◌≡◌, IfOk};
 ghost use Rattle.cq_values.specs.Keys.{ties_where_same, value_cmp_total};
 ghost use Rattle.cq_values.specs.Order.{value_cmp};
+ghost use Rattle.cq_values.specs.Value.{is_null};
 
 use crate::day::Day;
 use crate::text::Text;
@@ -32,6 +33,12 @@ impl Value {
             Value::Text(t) => Ok(Value::Text(t.copy(alloc)?)),
             Value::Null => Ok(Value::Null),
         }
+    }
+
+    pub fn is_null(&self) -> bool
+        ensures { result ≡ is_null self.now }
+    {
+        matches!(self, Value::Null)
     }
 }
 

@@ -1,9 +1,9 @@
 -- What a column of one kind keeps of its values.
-use Rattle.std.proofs.Common.{◌≡◌, ℕ, zero, suc, ◌<◌, ◌≤◌, ℤ, pos, Bool, true, false, Bor, List, [], ◌∷◌, map, length, get_or, refl, sym, ap₂, ◌∙◌, arith}
+use Rattle.std.proofs.Common.{◌≡◌, ℕ, zero, suc, ◌<◌, ◌≤◌, ℤ, pos, Bool, true, false, Bor, List, [], ◌∷◌, map, length, get_or, refl, sym, ap, ap₂, ◌∙◌, arith}
 use lib.Lanes.{zip2}
 use Rattle.std.proofs.lemmas.Simd.{length-zip2}
 use Rattle.cq_values.specs.declared.value.Value.{Value}
-use Rattle.cq_values.specs.declared.value.Value.TheVariants.{Null, Text}
+use Rattle.cq_values.specs.declared.value.Value.TheVariants.{Null, Number, Text}
 use Rattle.cq_values.specs.Order.{number, bytes}
 use Rattle.cq_model.specs.Condition.{is_null}
 use Rattle.cq_vectors.specs.Columns.{EmptyWhere, KeepsNumbers, KeepsTexts, ZeroWhere, day_unless, number_unless, text_unless, texts_of}
@@ -55,6 +55,13 @@ keeps_texts ts ns same few empty = record {
   nulls = flags_kept text_unless bytes [] (λ x. refl) (λ x. refl) of_text ts ns same;
   few = omega (arith, length-zip2 text_unless ts ns (sym same));
 }
+
+-- where no flag is set each value is a number
+pub without_nulls : (ns : List ℤ) (fs : List Bool) → length fs ≡ length ns → ((k : ℕ) → get_or fs k false ≡ false) → zip2 number_unless ns fs ≡ map Number ns
+without_nulls [] fs same clear = refl
+without_nulls (n ∷ ns) [] same clear = absurd (omega arith)
+without_nulls (n ∷ ns) (true ∷ fs) same clear = absurd (cc (clear 0))
+without_nulls (n ∷ ns) (false ∷ fs) same clear = ap (λ l. Number n ∷ l) (without_nulls ns fs (omega arith) (λ k. clear (suc k)))
 
 -- the text of a place that is not NULL
 pub text_at : (ts : List (Bor (List ℕ))) (ns : List Bool) (i : ℕ) (d : Bor (List ℕ)) → i < length ts → length ns ≡ length ts → get_or ns i false ≡ false → Text (get_or ts i d).now ≡ get_or (zip2 text_unless (texts_of ts) ns) i Null

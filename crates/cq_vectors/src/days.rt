@@ -1,4 +1,7 @@
 //! Days as their numbers.
+//!
+//! A column of days is made whole, by `new` or by `gather`, and does not change. Kernels read `values` and `nulls` as
+//! they stand; `lend` gives the value of one place. Readers take no memory.
 ghost use Rattle.std.specs.Int.{w32};
 ghost use Rattle.std.specs.Prelude.{FitsSigned, IfOk, IfSome, length, map, slice_index_or, ◌≡◌, ◌≤◌};
 ghost use Rattle.std.specs.Simd.Lanes.{zip2};

@@ -1,10 +1,14 @@
 //! Numbers of 64 bits.
+//!
+//! A column of numbers is made whole, by `new` or by `gather`, and does not change. Kernels read `values` and `nulls`
+//! as they stand, or `whole` where no place may be NULL; `lend` gives the value of one place. Readers take no memory,
+//! and `whole` looks at 16 words.
 ghost use Rattle.std.specs.Int.{w64};
 ghost use Rattle.std.specs.Prelude.{IfOk, IfSome, length, map, slice_index_or, ◌≡◌, ◌≤◌};
 ghost use Rattle.std.specs.Simd.Lanes.{zip2};
 ghost use Rattle.cq_values.specs.Lent.{owned};
 ghost use Rattle.cq_values.specs.Order.{number};
-ghost use Rattle.cq_values.specs.declared.value.Value.TheVariants.{Null};
+ghost use Rattle.cq_values.specs.declared.value.Value.TheVariants.{Null, Number};
 ghost use Rattle.cq_model.specs.Condition.{is_null};
 ghost use Rattle.cq_values.specs.Value.{column as column_at};
 ghost use Rattle.cq_vectors.specs.Columns.{AllFit, ZeroWhere, number_unless};
@@ -93,6 +97,17 @@ impl Numbers {
         ensures { result.now ≡ map is_null self.now }
     {
         &self.nulls
+    }
+
+    /// The numbers, if no place is NULL.
+    pub fn whole(&self) -> Option<&[i64]>
+        ensures { IfSome result (λ values. self.now ≡ map Number values.now) }
+    {
+        if self.nulls().is_clear() {
+            Some(self.values())
+        } else {
+            None
+        }
     }
 
     /// The value of a place, and NULL past the end.

@@ -1,4 +1,8 @@
 //! Texts that are lent.
+//!
+//! A column of texts is made whole, by `new` or by `gather`, and does not change. The texts stay where they stand, in
+//! rows or in a table; what is kept of each is its address and its length. Kernels read `values` and `nulls` as they
+//! stand.
 ghost use Rattle.std.specs.Prelude.{IfOk, IfSome, length, map, slice_index_or, ◌≡◌, ◌≤◌};
 ghost use Rattle.std.specs.Simd.Lanes.{zip2};
 ghost use Rattle.cq_values.specs.Lent.{owned};

@@ -1,9 +1,14 @@
 //! Vectors in any form.
+//!
+//! A vector is made of a form, or gathered from a column of rows in the narrowest form that holds its values, and does
+//! not change. A kernel looks at `form` once and goes over a slice; `whole_numbers` and `nulls` tell what most loops
+//! ask for. `lend` reads one place whatever the form. To gather costs one pass over the rows for each form that is
+//! tried, and the room of the form; readers take no memory.
 ghost use Rattle.std.specs.Bool.{OnFalse, OnTrue};
-ghost use Rattle.std.specs.Prelude.{IfOk, length, map, replicate, slice_index_or, ◌≡◌, ◌≤◌};
+ghost use Rattle.std.specs.Prelude.{IfOk, IfSome, length, map, replicate, slice_index_or, ◌≡◌, ◌≤◌};
 ghost use Rattle.cq_values.specs.Lent.{owned};
-ghost use Rattle.cq_values.specs.declared.value.Value.TheVariants.{Null};
-ghost use Rattle.cq_values.specs.Value.{column as column_at};
+ghost use Rattle.cq_values.specs.declared.value.Value.TheVariants.{Null, Number};
+ghost use Rattle.cq_values.specs.Value.{column as column_at, is_null};
 ghost use Rattle.cq_vectors.specs.Form.{values_in};
 ghost use Rattle.cq_vectors.specs.Gathered.{column_of, lent_rows};
 
@@ -12,6 +17,7 @@ use crate::numbers::Numbers;
 use crate::texts::Texts;
 use crate::wide_numbers::WideNumbers;
 use cq_values::{Lent, Row, Value};
+use cq_vectors_masks::Plane;
 use std::alloc::{AllocError, Global};
 use std::marker::Model;
 
@@ -115,6 +121,29 @@ impl<'a> Vector<'a> {
             },
         }
     }
+
+    /// The values, if each is a number of 64 bits: for loops that need think of nothing else.
+    pub fn whole_numbers(&self) -> Option<&[i64]>
+        ensures { IfSome result (λ numbers. self.now ≡ map Number numbers.now) }
+    {
+        match &self.form {
+            Form::Numbers(numbers) => numbers.whole(),
+            _ => None,
+        }
+    }
+
+    /// Where the values are NULL, if that is told apart from them.
+    pub fn nulls(&self) -> Option<&Plane>
+        ensures { IfSome result (λ nulls. nulls.now ≡ map is_null self.now) }
+    {
+        match &self.form {
+            Form::Numbers(numbers) => Some(numbers.nulls()),
+            Form::Wide(numbers) => Some(numbers.nulls()),
+            Form::Days(days) => Some(days.nulls()),
+            Form::Texts(texts) => Some(texts.nulls()),
+            Form::Values(_) | Form::Constant(_, _) => None,
+        }
+    }
 }
 
 fn lent_at<'b>(values: &[Lent<'b>], place: usize) -> Lent<'b>
@@ -192,18 +221,9 @@ fn lent_values<'b>(
     let mut values: Vec<Lent<'b>> = Vec::new(alloc);
     values.reserve(rows.len())?;
     for row in rows {
-        values.push_reserved(lend_column(*row, column));
+        values.push_reserved((*row).lend(column));
     }
     Ok(values)
-}
-
-fn lend_column<'b>(row: &'b Row, column: usize) -> Lent<'b>
-    ensures { owned result ≡ column_at row.now column }
-{
-    match row.as_slice().get(column) {
-        Some(value) => value.lend(),
-        None => Lent::Null,
-    }
 }
 
 fn lend_rows<'b>(alloc: Global, rows: &'b [Row]) -> Result<Vec<&'b Row>, AllocError>

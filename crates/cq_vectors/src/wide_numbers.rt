@@ -1,10 +1,12 @@
 //! Numbers of 128 bits, for results that 64 bits do not hold.
+//!
+//! They are made and read as numbers of 64 bits are ([`crate::Numbers`]), at twice the room.
 ghost use Rattle.std.specs.Int.{w128};
 ghost use Rattle.std.specs.Prelude.{IfOk, IfSome, length, map, slice_index_or, ◌≡◌, ◌≤◌};
 ghost use Rattle.std.specs.Simd.Lanes.{zip2};
 ghost use Rattle.cq_values.specs.Lent.{owned};
 ghost use Rattle.cq_values.specs.Order.{number};
-ghost use Rattle.cq_values.specs.declared.value.Value.TheVariants.{Null};
+ghost use Rattle.cq_values.specs.declared.value.Value.TheVariants.{Null, Number};
 ghost use Rattle.cq_model.specs.Condition.{is_null};
 ghost use Rattle.cq_values.specs.Value.{column as column_at};
 ghost use Rattle.cq_vectors.specs.Columns.{AllFit, ZeroWhere, number_unless};
@@ -93,6 +95,17 @@ impl WideNumbers {
         ensures { result.now ≡ map is_null self.now }
     {
         &self.nulls
+    }
+
+    /// The numbers, if no place is NULL.
+    pub fn whole(&self) -> Option<&[i128]>
+        ensures { IfSome result (λ values. self.now ≡ map Number values.now) }
+    {
+        if self.nulls().is_clear() {
+            Some(self.values())
+        } else {
+            None
+        }
     }
 
     /// The value of a place, and NULL past the end.

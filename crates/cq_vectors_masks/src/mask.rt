@@ -1,4 +1,8 @@
 //! The truth of a condition in each of at most 1,024 places.
+//!
+//! A mask is made once for a condition and set by the `set_` calls, each from planes or from other masks: AND, OR and
+//! NOT work on 64 places at a time. `get` reads one place; a [`crate::Selection`] is set from the places that are True.
+//! No call takes memory, and each costs the words of 1,024 bits.
 ghost use Rattle.std.specs.Prelude.{[], length, map, replicate, slice_index, slice_index_or, take, ℕ, ◌<◌, ◌≡◌, ◌≤◌};
 ghost use Rattle.std.specs.Simd.Lanes.{zip2};
 ghost use Rattle.cq_values.specs.Truth.{and_truth, not_truth, or_truth, truth_of};

@@ -1,4 +1,8 @@
 //! A yes or no for each place.
+//!
+//! A kernel writes its test as a [`PlaceTest`], which answers for one place, and as a [`WordTest`], which answers for
+//! 64 at once and may go by lanes. A plane that is set where the test holds asks for whole words, and for the places
+//! behind the last whole word one at a time.
 ghost use Rattle.std.specs.List.{range_with_len};
 ghost use Rattle.std.specs.Prelude.{Bool, map, ℕ, ◌+◌, ◌<◌, ◌^◌, ◌≡◌, ◌≤◌};
 ghost use Rattle.std.specs.Simd.Lanes.{mask_l};

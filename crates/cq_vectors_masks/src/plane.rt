@@ -1,4 +1,8 @@
 //! Flags of at most 1,024 places, 64 to a word, as a plane that is set by operations on whole words.
+//!
+//! A plane grows by `push`, a flag at a time, or is set at once: from other planes of its length, or from a test of
+//! each place ([`WordTest`]). `get` reads a flag and `is_clear` tells that none is set. No call takes memory: a push is
+//! a write of one bit, and the others go over 16 words.
 ghost use Rattle.std.specs.Bool.{OnTrue};
 ghost use Rattle.std.specs.List.{filter, range_with_len};
 ghost use Rattle.std.specs.Prelude.{[], ◌++◌, ◌∷◌, length, map, min, nat_lt, replicate, slice_index_or, take, false, ℕ, ◌&&◌, ◌+◌, ◌*◌, ◌-◌, ◌<◌, ◌^◌, ◌≡◌, ◌≤◌};

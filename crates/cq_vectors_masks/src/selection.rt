@@ -1,4 +1,7 @@
 //! The places that a scan goes on with.
+//!
+//! A selection is set to all places below a length, or to those where a mask is True; [`keep_true`] goes on with those
+//! of another selection. `places` lends them, rising. No call takes memory; each costs one step a place.
 ghost use Rattle.std.specs.List.{range_with_len};
 ghost use Rattle.std.specs.Prelude.{[], length, take, ◌≡◌, ◌≤◌};
 ghost use Rattle.cq_vectors_masks.specs.Selection.{AreRising, where_true};

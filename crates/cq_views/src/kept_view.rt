@@ -1,7 +1,7 @@
 //! A view as it is kept, over the columns that its query reads.
 ghost use Rattle.std.specs.List.{AllByRecursion};
 ghost use Rattle.std.specs.Prelude.{◌<◌, ◌≡◌, ◌≤◌, ◌^◌, IfErr, IfOk, OnOk, sum};
-ghost use Rattle.cq_deltas.specs.declared.fault.ShowFault.TheVariants.{SumOutOfRange};
+ghost use Rattle.cq_model.specs.declared.fault.ShowFault.TheVariants.{SumOutOfRange};
 ghost use Rattle.cq_views.specs.Changes.{changes_of};
 ghost use Rattle.cq_views.specs.Shown.{AreRowsOf, CanShow, IsNotShown, IsShown};
 ghost use Rattle.cq_views.specs.State.{CanCommit, CanPrepare, CountsPairs, IsOver, IsWaiting, SameView, StandsFor, StaysStanding, TakesIn};
@@ -15,8 +15,7 @@ ghost use Rattle.cq_views_state.specs.Work.{CountsPut, work_of};
 
 use crate::changes::{TableChange, cut_change};
 use crate::filling::filled;
-use cq_deltas::ShowFault;
-use cq_model::Query;
+use cq_model::{Query, ShowFault};
 use cq_table_columns::StoredSource;
 use cq_values::Seq;
 use cq_values_rows::RowList;

@@ -13,8 +13,8 @@ use Rattle.cq_model.specs.declared.query.Shape.TheVariants.{Plain, Grouped}
 use Rattle.cq_sides_weights.specs.Held.{sizes}
 use Rattle.cq_deltas_joins.specs.Steps.{AreStored}
 use Rattle.cq_deltas.specs.Keyed.{KeyedGroups, group_at}
-use Rattle.cq_deltas.specs.declared.fault.ShowFault.{ShowFault}
-use Rattle.cq_deltas.specs.declared.fault.ShowFault.TheVariants.{SumOutOfRange}
+use Rattle.cq_model.specs.declared.fault.ShowFault.{ShowFault}
+use Rattle.cq_model.specs.declared.fault.ShowFault.TheVariants.{SumOutOfRange}
 use Rattle.cq_deltas.specs.Shown.{GroupsCanBeShown, group_rows}
 use Rattle.cq_views_model.specs.Kept.{Groups}
 use Rattle.cq_views_model.specs.Shown.{ListsKeys}

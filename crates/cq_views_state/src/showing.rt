@@ -2,7 +2,7 @@
 ghost use Rattle.std.specs.List.{AllByRecursion};
 ghost use Rattle.std.specs.Prelude.{pos, ◌++◌, ◌∷◌, ◌≡◌, ◌≤ℤ◌, IfErr, IfOk, OnOk, [], map};
 ghost use Rattle.cq_model_bags.specs.Bag.{IsBag, SameBag, once_each};
-ghost use Rattle.cq_deltas.specs.declared.fault.ShowFault.TheVariants.{SumOutOfRange};
+ghost use Rattle.cq_model.specs.declared.fault.ShowFault.TheVariants.{SumOutOfRange};
 ghost use Rattle.cq_deltas.specs.Shown.{counted_keys};
 ghost use Rattle.cq_model_laws.specs.Sizes.{HasSizes};
 ghost use Rattle.cq_model.specs.Group.{aggregate as shown_of, group_row};
@@ -16,8 +16,8 @@ ghost use Rattle.cq_views_state.specs.Shown.{AddsTimes, AreKeysOf, AreShowable, 
 use crate::last::Last;
 use crate::query::aggregates_of;
 use crate::whole_rows::show_whole_rows;
-use cq_deltas::{Groups, ShowFault};
-use cq_model::{Aggregate, Expr, Query, Shape};
+use cq_deltas::Groups;
+use cq_model::{Aggregate, Expr, Query, Shape, ShowFault};
 use cq_model_eval::items_of;
 use cq_sides_weights::Weights;
 use cq_values::{Row, Value};

@@ -5,7 +5,7 @@ ghost use Rattle.cq_values.specs.Lent.{owned};
 ghost use Rattle.cq_values.specs.declared.value.Value.TheVariants.{Null};
 ghost use Rattle.cq_model.specs.Width.{value_size};
 
-use cq_prims_arithmetic::{add, extract, largest_size, mul, neg, sub, sum_into};
+use cq_prims_arithmetic::{add, extract, largest_size, mul, neg, sum_into};
 use cq_values::{Day, DayPart, Lent, Row, Total, Value};
 use cq_vectors::Vector;
 use cq_vectors_masks::Selection;
@@ -36,10 +36,6 @@ fn is_number(value: &Lent<'_>, number: i128) -> bool {
     }
 }
 
-fn is_null(value: &Lent<'_>) -> bool {
-    matches!(value, Lent::Null)
-}
-
 #[test]
 fn the_largest_size_is_that_of_either_sign(rt: HostRuntime) -> Result<(), Fail> {
     assert_eq!(rt; largest_size(&[]), 0);
@@ -68,7 +64,7 @@ fn check_months(
 ) -> Result<(), Fail> {
     let months = extract(alloc, DayPart::Month, days)?;
     assert!(rt;
-        is_null(&months.lend(0)) && is_null(&months.lend(last)),
+        months.lend(0).is_null() && months.lend(last).is_null(),
         "to {last}"
     );
     for place in 1..last {
@@ -154,28 +150,26 @@ fn result_of<'a>(
 {
     match sign {
         '+' => add(alloc, a, b),
-        '-' => sub(alloc, a, b),
         '*' => mul(alloc, a, b),
         _ => neg(alloc, a),
     }
 }
 
-/// A base, a length, the last place with a number, and there the sum, difference, product and other sign.
-type Case = (i64, usize, usize, [i128; 4]);
+/// A base, a length, the last place with a number, and there the sum, product and other sign.
+type Case = (i64, usize, usize, [i128; 3]);
 
 const CASES: &[Case] = &[
-    (0, 63, 61, [0, 122, -3721, -61]),
-    (0, 64, 62, [0, 124, -3844, -62]),
-    (0, 65, 63, [0, 126, -3969, -63]),
-    (0, 1023, 1021, [0, 2042, -1042441, -1021]),
-    (0, 1024, 1022, [0, 2044, -1044484, -1022]),
+    (0, 63, 61, [0, -3721, -61]),
+    (0, 64, 62, [0, -3844, -62]),
+    (0, 65, 63, [0, -3969, -63]),
+    (0, 1023, 1021, [0, -1042441, -1021]),
+    (0, 1024, 1022, [0, -1044484, -1022]),
     (
         1 << 62,
         63,
         61,
         [
             9223372036854775808,
-            122,
             21267647932558653966460912964485509495,
             -4611686018427387965,
         ],
@@ -186,7 +180,6 @@ const CASES: &[Case] = &[
         62,
         [
             9223372036854775808,
-            124,
             21267647932558653966460912964485509372,
             -4611686018427387966,
         ],
@@ -197,7 +190,6 @@ const CASES: &[Case] = &[
         63,
         [
             9223372036854775808,
-            126,
             21267647932558653966460912964485509247,
             -4611686018427387967,
         ],
@@ -208,7 +200,6 @@ const CASES: &[Case] = &[
         1021,
         [
             9223372036854775808,
-            2042,
             21267647932558653966460912964484470775,
             -4611686018427388925,
         ],
@@ -219,7 +210,6 @@ const CASES: &[Case] = &[
         1022,
         [
             9223372036854775808,
-            2044,
             21267647932558653966460912964484468732,
             -4611686018427388926,
         ],
@@ -235,10 +225,10 @@ fn check_results(
     (_, len, place, results): &Case,
 ) -> Result<(), Fail> {
     assert!(rt; a.len() == b.len() && are_small(a) && are_small(b) && *place < 1024);
-    for (sign, result) in "+-*~".chars().zip(results) {
+    for (sign, result) in "+*~".chars().zip(results) {
         let made = result_of(alloc, sign, a, b)?;
         assert!(rt;
-            made.len() == *len && is_null(&made.lend(0)) && is_null(&made.lend(*place + 1)),
+            made.len() == *len && made.lend(0).is_null() && made.lend(*place + 1).is_null(),
             "{sign} of {len}"
         );
         assert!(rt; is_number(&made.lend(*place), *result), "{sign} of {len}");
@@ -307,10 +297,10 @@ fn without_a_number_there_is_no_result(rt: HostRuntime) -> Result<(), Fail> {
         assert!(rt; rows.len() <= 1024);
         let a = Vector::gather(rt.alloc(), rows.as_slice(), 0)?;
         assert!(rt; are_small(&a));
-        for sign in ['+', '-', '*', '~'] {
+        for sign in ['+', '*', '~'] {
             let made = result_of(rt.alloc(), sign, &a, &a)?;
             assert!(rt;
-                made.len() == len && is_null(&made.lend(0)),
+                made.len() == len && made.lend(0).is_null(),
                 "{sign} of {len}"
             );
         }

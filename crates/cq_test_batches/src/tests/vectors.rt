@@ -1,9 +1,8 @@
-//! Vectors and batches of the lengths at which words of flags begin and end, with NULLs at both ends.
-ghost use Rattle.std.specs.Prelude.{length, ◌≤◌};
+//! Vectors of the lengths at which words of flags begin and end, with NULLs at both ends.
+ghost use Rattle.std.specs.Prelude.{length};
 
 use cq_values::{Day, Lent, Row, Text, Value};
-use cq_vectors::{Batch, Form, Vector};
-use cq_vectors_masks::Selection;
+use cq_vectors::{Form, Vector};
 use std::alloc::{AllocError, Global};
 use std::test::Fail;
 
@@ -42,10 +41,6 @@ fn is_number(value: &Lent<'_>, number: i128) -> bool {
     }
 }
 
-fn is_null(value: &Lent<'_>) -> bool {
-    matches!(value, Lent::Null)
-}
-
 #[test]
 fn a_gathered_column_keeps_the_nulls_at_its_ends(rt: HostRuntime) -> Result<(), Fail> {
     // the length, the last place with a number, and the last place of all
@@ -62,14 +57,14 @@ fn a_gathered_column_keeps_the_nulls_at_its_ends(rt: HostRuntime) -> Result<(), 
         assert!(rt; rows.len() <= 1024);
         let column = Vector::gather(rt.alloc(), rows.as_slice(), 0)?;
         assert!(rt;
-            column.len() == len && is_null(&column.lend(0)) && is_null(&column.lend(last)),
+            column.len() == len && column.lend(0).is_null() && column.lend(last).is_null(),
             "length {len}"
         );
         assert!(rt;
             is_number(&column.lend(1), 1) && is_number(&column.lend(number), number as i128),
             "length {len}"
         );
-        assert!(rt; is_null(&column.lend(len)), "past the length {len}");
+        assert!(rt; column.lend(len).is_null(), "past the length {len}");
         drop(column);
     }
     Ok(())
@@ -124,37 +119,6 @@ fn days_and_texts_have_forms_of_their_own(rt: HostRuntime) -> Result<(), Fail> {
 #[test]
 fn no_rows_are_an_empty_column(rt: HostRuntime) -> Result<(), Fail> {
     let column = Vector::gather(rt.alloc(), &[], 0)?;
-    assert!(rt; column.len() == 0 && is_null(&column.lend(0)));
-    Ok(())
-}
-
-/// How many rows a batch of one column gives, of which the first places are selected.
-fn count_given(alloc: Global, rows: &[Row], selected: usize) -> Result<usize, AllocError>
-    requires { (length rows.now ≤ 1024) × (selected ≤ 1024) }
-{
-    let mut columns = Vec::new(alloc);
-    columns.reserve(1)?;
-    columns.push_reserved(Vector::gather(alloc, rows, 0)?);
-    let mut selection = Selection::new();
-    selection.set_all(selected);
-    let batch = Batch { columns, selection };
-    let mut given = Vec::new(alloc);
-    let pushed = batch.push_rows(alloc, &mut given);
-    drop(batch);
-    pushed?;
-    Ok(given.len())
-}
-
-#[test]
-fn a_batch_gives_the_rows_that_count(rt: HostRuntime) -> Result<(), Fail> {
-    let rows = numbered(rt.alloc(), 65)?;
-    assert!(rt; rows.len() <= 1024);
-    for selected in [0, 1, 63, 64, 65] {
-        assert!(rt; selected <= 1024);
-        assert_eq!(rt;
-            count_given(rt.alloc(), rows.as_slice(), selected)?,
-            selected
-        );
-    }
+    assert!(rt; column.len() == 0 && column.lend(0).is_null());
     Ok(())
 }

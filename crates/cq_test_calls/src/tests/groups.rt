@@ -4,8 +4,8 @@ ghost use Rattle.cq_deltas.specs.Keyed.{HasKeys, additions_at, group_at};
 ghost use Rattle.cq_deltas.specs.Laws.{AreSmall};
 ghost use Rattle.cq_values.specs.Value.{Row as Values};
 
-use cq_deltas::{GroupChange, Groups, ShowFault};
-use cq_model::{Aggregate, Expr};
+use cq_deltas::{GroupChange, Groups};
+use cq_model::{Aggregate, Expr, ShowFault};
 use cq_values::Value;
 use cq_values_rows::FlatRows;
 use std::alloc::Global;

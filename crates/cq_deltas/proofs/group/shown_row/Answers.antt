@@ -1,5 +1,5 @@
 use Rattle.std.proofs.Common.{◌≡◌, map, rules, arith, ◌∙◌}
-use Rattle.cq_deltas.specs.declared.fault.ShowFault.TheVariants.{SumOutOfRange}
+use Rattle.cq_model.specs.declared.fault.ShowFault.TheVariants.{SumOutOfRange}
 use Rattle.cq_deltas.specs.Kept.{seen}
 use Rattle.cq_deltas.specs.Shown.{AllCanBeShown}
 use Rattle.cq_deltas.proofs.Showing.{row-more, range-more, range-at, row-done, range-done}

@@ -9,4 +9,4 @@ use Rattle.cq_prims.proofs.nulls.is_known_constant.Goals as goal
 pub returns-in-Constant : goal.returns-in-Constant
 returns-in-Constant c =
     let is = sym (ap values_in c.in-Constant.is) ∙ c.form.ensures.values in
-    subst (λ vs. OnTrue (not c.is_null_lent.result) (map is_null vs ≡ replicate (length vs) false)) is (known_constant c.is_null_lent.result (owned c.in-Constant.value) c.in-Constant.field-1 c.is_null_lent.ensures)
+    subst (λ vs. OnTrue (not c.is_null.result) (map is_null vs ≡ replicate (length vs) false)) is (known_constant c.is_null.result (owned c.in-Constant.value) c.in-Constant.field-1 c.is_null.ensures)

@@ -20,6 +20,6 @@ pub returns-in-Constant : goal.returns-in-Constant
 returns-in-Constant c =
     let is = sym (ap values_in c.in-Constant.is) ∙ c.form.ensures.values in
     c.set_all.ensures
-    ∙ ap (λ (b : Bool). replicate c.in-Constant.len b) c.is_null_lent.ensures
+    ∙ ap (λ (b : Bool). replicate c.in-Constant.len b) c.is_null.ensures
     ∙ sym (map-replicate is_null c.in-Constant.len (owned c.in-Constant.value))
     ∙ ap (map is_null) is

@@ -5,7 +5,8 @@ use Rattle.std.proofs.lemmas.List.{length-map, length-replicate}
 use Rattle.cq_values.specs.declared.value.Value.TheVariants.{Number}
 use Rattle.cq_vectors.specs.Columns.{number_unless}
 use Rattle.cq_prims_arithmetic.specs.Operation.{AllInRange, lifted}
-use Rattle.cq_prims_arithmetic.proofs.WideLemmas.{all_clear, numbers_fit, of_numbers, without_nulls}
+use Rattle.cq_vectors.proofs.ColumnLemmas.{without_nulls}
+use Rattle.cq_prims_arithmetic.proofs.WideLemmas.{all_clear, numbers_fit, of_numbers}
 use Rattle.cq_prims_arithmetic.proofs.wide.wide.Goals as goal
 
 pub wide_results-requires-clause-left : goal.wide_results-requires-clause-left

@@ -7,8 +7,8 @@ use Rattle.std.proofs.lemmas.Int.{ints, to_z-of_z}
 use Rattle.cq_prims_arithmetic.proofs.ColumnLemmas.{number_at, results_more}
 use Rattle.cq_prims_arithmetic.proofs.wide.wide_results.Goals as goal
 
-pub wide-requires : goal.wide-requires
-wide-requires g c =
+pub in_128_bits-requires : goal.in_128_bits-requires
+in_128_bits-requires g c =
     let ms = g.A.WideSide.numbers c.args.a.now in
     let ns = g.B.WideSide.numbers c.args.b.now in
     let left : to_z w128 (of_z w128 c.at.result) ≡ get_or ms c.loop-i.i (pos 0) = search (arith, ints, to_z-of_z, c.at.ensures) in
@@ -23,8 +23,8 @@ loop-i-preserved g c =
     let ns = g.B.WideSide.numbers c.args.b.now in
     let left : to_z w128 (of_z w128 c.at.result) ≡ get_or ms c.loop-i.i (pos 0) = search (arith, ints, to_z-of_z, c.at.ensures) in
     let right : to_z w128 (of_z w128 c.at-in-loop-i.result) ≡ get_or ns c.loop-i.i (pos 0) = search (arith, ints, to_z-of_z, c.at-in-loop-i.ensures) in
-    let kept : to_z w128 (of_z w128 c.wide.result) ≡ c.wide.result = search (arith, ints, to_z-of_z) in
-    let made = kept ∙ c.wide.ensures ∙ ap₂ g.O.Operation.apply left right in (
+    let kept : to_z w128 (of_z w128 c.in_128_bits.result) ≡ c.in_128_bits.result = search (arith, ints, to_z-of_z) in
+    let made = kept ∙ c.in_128_bits.ensures ∙ ap₂ g.O.Operation.apply left right in (
       c.push_reserved.ensures.items ∙ ap₂ (λ l x. l ++ x ∷ []) c.loop-i.invariant.0 made ∙ sym (results_more g.O.Operation.apply ms ns c.loop-i.i c.args.len c.requires.left c.requires.right c.loop-i-test.true),
       omega (arith, c.push_reserved.ensures.len, c.push_reserved.ensures.capacity, c.loop-i.invariant.1, c.loop-i-test.true),
     )

@@ -1,5 +1,5 @@
 use Rattle.std.proofs.Common.{◌∙◌, ◌≡◌, List, map, ap₂, rules}
-use Rattle.cq_deltas.specs.declared.fault.ShowFault.TheVariants.{SumOutOfRange}
+use Rattle.cq_model.specs.declared.fault.ShowFault.TheVariants.{SumOutOfRange}
 use Rattle.cq_model.specs.Expr.{Expr}
 use Rattle.cq_model.specs.Meaning.{items_of}
 use Rattle.cq_values.specs.Value.{Row}

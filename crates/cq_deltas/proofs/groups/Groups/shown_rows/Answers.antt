@@ -4,7 +4,7 @@ use Rattle.cq_values.specs.Value.{Row}
 use Rattle.cq_deltas.specs.declared.group.Group.{Group as StoredGroup}
 use Rattle.std.specs.List.{IsDistinct}
 use Rattle.std.specs.Map.{keys_of}
-use Rattle.cq_deltas.specs.declared.fault.ShowFault.TheVariants.{SumOutOfRange}
+use Rattle.cq_model.specs.declared.fault.ShowFault.TheVariants.{SumOutOfRange}
 use Rattle.cq_deltas.specs.Shown.{GroupsCanBeShown}
 use Rattle.cq_deltas.proofs.Listing.{lists-keys, entries-range, rows-more, range-more, range-of, rows-done, range-done}
 use Rattle.cq_deltas.proofs.groups.Groups.shown_rows.Goals as goal

@@ -3,7 +3,7 @@ use Rattle.std.proofs.lemmas.List.{take_all}
 use Rattle.cq_values.specs.Value.{Row}
 use Rattle.cq_model_bags.specs.Bag.{once_each}
 use Rattle.cq_model.specs.Group.{SumsInRange}
-use Rattle.cq_hash_groups.specs.declared.fault.GroupFault.TheVariants.{SumOutOfRange}
+use Rattle.cq_model.specs.declared.fault.ShowFault.TheVariants.{SumOutOfRange}
 use Rattle.cq_hash_groups.specs.Groups.{StoredGroups, group_columns, slots_at}
 use Rattle.cq_hash_groups.proofs.Holding.{range-fails, range-next, rows-next}
 use Rattle.cq_hash_groups.proofs.Showing.{AreShown, ranges-are_grouped, rows-are_grouped, shown_rows}

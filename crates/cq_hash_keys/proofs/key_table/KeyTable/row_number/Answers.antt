@@ -2,9 +2,9 @@ use Rattle.std.proofs.Common.{◌≡◌, ◌∙◌, ◌∷◌, ◌++◌, List, [
 use Rattle.indexmap.specs.IndexSet.{insert_key}
 use Rattle.cq_values.specs.Order.{same_row}
 use Rattle.cq_values.specs.Value.{Row}
-use Rattle.cq_hash_keys.specs.Chain.{AreLinks}
+use Rattle.cq_hash_keys.specs.Trail.{AreStages}
 use Rattle.cq_hash_keys.specs.Keys.{IsTable, StoredKeys, place_of}
-use Rattle.cq_hash_keys.proofs.Links.{links-stay}
+use Rattle.cq_hash_keys.proofs.Stages.{stages-stay}
 use Rattle.cq_hash_keys.proofs.Numbering.{told}
 use Rattle.cq_hash_keys.proofs.Tables.{goes-behind, rows-more}
 use Rattle.cq_hash_keys.proofs.key_table.KeyTable.row_number.Goals as goal
@@ -23,7 +23,7 @@ invariant_of-self-2 c =
     let copied : c.in_ok-copy.copy ≡ c.args.key = search rules in
     let pushed : c.push_reserved.new.self.items ≡ keys ++ c.args.key ∷ [] = search rules in
     let inserted : c.insert.new.self.keys ≡ keys ++ c.args.key ∷ [] = c.in_ok-insert.ensures.keys ∙ ap₂ (insert_key same_row) same copied ∙ sym (goes-behind keys c.args.key none) in
-    subst (λ (ks : List Row). IsTable c.self.inside.width ks c.insert.new.self.keys c.self.inside.values × AreLinks ks c.self.inside.chain.links.items) (sym pushed) (
+    subst (λ (ks : List Row). IsTable c.self.inside.width ks c.insert.new.self.keys c.self.inside.values × AreStages ks c.self.inside.trail.stages.items) (sym pushed) (
       rows-more c.self.inside.width keys c.self.inside.places.keys c.insert.new.self.keys c.self.inside.values c.args.key c.self.invariant.0 apart (c.requires.width ∙ sym width) none inserted,
-      links-stay keys c.args.key c.self.inside.chain.links.items c.self.invariant.1,
+      stages-stay keys c.args.key c.self.inside.trail.stages.items c.self.invariant.1,
     )

@@ -3,10 +3,10 @@ use Rattle.indexmap.specs.IndexSet.{insert_key}
 use Rattle.cq_values.specs.Lent.{owned}
 use Rattle.cq_values.specs.Order.{same_row}
 use Rattle.cq_values.specs.Value.{Row}
-use Rattle.cq_hash_keys.specs.Chain.{AreLinks}
+use Rattle.cq_hash_keys.specs.Trail.{AreStages}
 use Rattle.cq_hash_keys.specs.Dictionary.{PutsAt, number_in}
 use Rattle.cq_hash_keys.specs.Keys.{IsNumberOf, IsTable, StoredKeys}
-use Rattle.cq_hash_keys.proofs.Links.{links-stay}
+use Rattle.cq_hash_keys.proofs.Stages.{stages-stay}
 use Rattle.cq_hash_keys.proofs.Numbering.{told}
 use Rattle.cq_hash_keys.proofs.Tables.{goes-behind, table-more, there-stays}
 use Rattle.cq_hash_keys.proofs.key_table.KeyTable.value_number.Goals as goal
@@ -34,10 +34,10 @@ invariant_of-self-2 c =
     let none : number_in c.self.inside.values v ≡ None = search rules in
     let len : c.len-number.result ≡ length c.self.inside.keys.items = search rules in
     let pushed : c.push_reserved.new.self.items ≡ c.self.inside.keys.items ++ (v ∷ []) ∷ [] = search rules in
-    subst (λ (keys : List Row). IsTable c.self.inside.width keys c.self.inside.places.keys c.put.new.self × AreLinks keys c.self.inside.chain.links.items) (sym pushed) (
+    subst (λ (keys : List Row). IsTable c.self.inside.width keys c.self.inside.places.keys c.put.new.self × AreStages keys c.self.inside.trail.stages.items) (sym pushed) (
       table-more c.self.inside.width c.self.inside.keys.items c.self.inside.places.keys c.self.inside.values c.put.new.self v c.self.invariant.0 one none
           (subst (λ n. PutsAt c.self.inside.values v n c.put.new.self) len c.in_ok-put.ensures.ok),
-      links-stay c.self.inside.keys.items (v ∷ []) c.self.inside.chain.links.items c.self.invariant.1,
+      stages-stay c.self.inside.keys.items (v ∷ []) c.self.inside.trail.stages.items c.self.invariant.1,
     )
 
 pub returns-clause-keys : goal.returns-clause-keys

@@ -12,4 +12,4 @@ returns-in-Wide c =
 pub returns-in-Numbers : goal.returns-in-Numbers
 returns-in-Numbers c =
     let is = sym (ap values_in c.in-Numbers.is) ∙ c.form.ensures.values in
-    subst (ShowsNumbers 0 c.narrow.result) is (column_shows_numbers c.narrow.result c.in-Numbers.numbers (c.narrow.ensures ∙ c.values-in-Numbers.ensures.values) c.values-in-Numbers.result.now c.values-in-Numbers.ensures.whole)
+    subst (ShowsNumbers 0 c.numbers.result) is (column_shows_numbers c.numbers.result c.in-Numbers.numbers (c.numbers.ensures ∙ c.values-in-Numbers.ensures.values) c.values-in-Numbers.result.now c.values-in-Numbers.ensures.whole)
