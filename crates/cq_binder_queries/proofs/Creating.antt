@@ -11,7 +11,7 @@ use Rattle.cq_binder_rules.specs.Checks.{first_fault, MayRefuse}
 use Rattle.cq_binder_rules.specs.From.{From}
 use Rattle.cq_binder_rules.specs.Grouping.{is_empty, item_scope}
 use Rattle.cq_binder_rules.specs.Headers.{header}
-use Rattle.cq_binder_rules.specs.Orders.{order_checks}
+use Rattle.cq_binder_rules.specs.Orders.{key_checks}
 use Rattle.cq_binder_rules.specs.Typing.{ScopeColumn, fault_in}
 use Rattle.cq_binder_rules.specs.ViewChecks.{absent_checks, no_clause, query_checks, view_select_checks}
 use Rattle.cq_binder_queries.specs.declared.items.Purpose.TheVariants.{Kept}
@@ -68,7 +68,7 @@ module _ (v : Select) where
   having_walk = no_clause (is_some v.having) ∷ []
 
   abbrev key_walk : List (Option Fault)
-  key_walk = order_checks (header 1 v.items) v.order
+  key_walk = key_checks (header 1 v.items) v.order
 
   abbrev order_walk : List (Option Fault)
   order_walk = no_clause (not (is_empty v.order)) ∷ []
@@ -81,7 +81,7 @@ module _ (v : Select) where
   having_refused f m = refused_front having_walk (key_walk ++ (order_walk ++ limit_walk)) f m
 
   module _ (held : first_fault having_walk ≡ None) where
-    -- a key refuses, or their number
+    -- a key refuses
     pub keys_refused : (f : Fault) → MayRefuse (first_fault key_walk) f → MayRefuse (first_fault (absent_checks v)) f
     keys_refused f m = second_refused having_walk key_walk (order_walk ++ limit_walk) held f m
 

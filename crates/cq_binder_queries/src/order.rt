@@ -11,7 +11,7 @@ use cq_sql_language::{OrderKey, OutputColumn};
 use cq_values::{Seq, Text};
 use std::alloc::Global;
 
-/// What a result is sorted by whose columns have these names, once each key has been walked through.
+/// What a result is sorted by whose columns have these names, once each key and their number have been walked through.
 pub(crate) fn sort_keys(
     alloc: Global,
     names: &[Text],
@@ -24,7 +24,12 @@ pub(crate) fn sort_keys(
     Ok(keys)
 }
 
-fn bound_keys(alloc: Global, names: &[Text], order: &[OrderKey]) -> Result<Seq<SortKey>, Fault>
+/// What a result is sorted by whose columns have these names, once each key has been walked through, however many they are.
+pub(crate) fn bound_keys(
+    alloc: Global,
+    names: &[Text],
+    order: &[OrderKey],
+) -> Result<Seq<SortKey>, Fault>
     ensures { WalksTo (key_checks names.now order.now) (sort_keys names.now order.now) result }
 {
     let mut keys = Seq::new(alloc);

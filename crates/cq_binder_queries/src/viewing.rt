@@ -14,7 +14,7 @@ use crate::grouping::item_scope;
 use crate::items::Purpose;
 use crate::lists::refuse_clause;
 use crate::names::view_columns;
-use crate::order::sort_keys;
+use crate::order::bound_keys;
 use crate::parts::{BoundParts, bound_clauses, ended_parts, query_of};
 use crate::select::header;
 use cq_binder_expressions::ScopeColumn;
@@ -118,13 +118,14 @@ fn shown_columns<'a>(
     view_columns(alloc, &scope, view)
 }
 
-/// Refuses HAVING, and ORDER BY once its keys have been walked through, and LIMIT: no view has them.
+/// Refuses HAVING, and ORDER BY once its keys have been walked through, however many they are, and LIMIT: no view has
+/// them.
 fn refuse_absent(alloc: Global, view: &Select) -> Result<(), Fault>
     ensures { Passes (absent_checks view.now) result }
 {
     refuse_clause(view.having.is_some())?;
     let names = header(alloc, view.items.as_slice())?;
-    sort_keys(alloc, names.as_slice(), view.order.as_slice())?;
+    bound_keys(alloc, names.as_slice(), view.order.as_slice())?;
     refuse_clause(!view.order.is_empty())?;
     refuse_clause(view.limit.is_some())
 }

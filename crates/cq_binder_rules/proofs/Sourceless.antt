@@ -300,9 +300,11 @@ output_clean : (names : List (List ℕ)) (column : OutputColumn) → tells_sourc
 output_clean names (outputs.Named name) = named_clean name names
 output_clean names (outputs.At place) = if_clean (is_no_place (length names) place) faults.UnknownColumn refl
 
+keys_clean : (names : List (List ℕ)) (keys : List OrderKey) → Clean (key_checks names keys)
+keys_clean names keys = map_clean (λ key. output_check names key.column) (λ key. output_clean names key.column) keys
+
 order_clean : (names : List (List ℕ)) (keys : List OrderKey) → Clean (order_checks names keys)
-order_clean names keys =
-    both_clean (key_checks names keys) (too_long (length keys) ∷ []) (map_clean (λ key. output_check names key.column) (λ key. output_clean names key.column) keys) (long_clean (length keys), tt)
+order_clean names keys = both_clean (key_checks names keys) (too_long (length keys) ∷ []) (keys_clean names keys) (long_clean (length keys), tt)
 
 source_clean : (q : Select) (columns : List ScopeColumn) → Clean (source_checks q columns)
 source_clean q columns = both_clean (bag_checks q columns) (order_checks (header 1 q.items) q.order) (bag_clean q columns) (order_clean (header 1 q.items) q.order)
@@ -358,7 +360,7 @@ absent_clean v =
     let last : List (Option Fault) = no_clause (not (is_empty v.order)) ∷ no_clause (is_some v.limit) ∷ [] in
     let ended : Clean last = (if_clean (not (is_empty v.order)) faults.ClauseInView refl, (if_clean (is_some v.limit) faults.ClauseInView refl, tt)) in
     let names = header 1 v.items in
-    (if_clean (is_some v.having) faults.ClauseInView refl, both_clean (order_checks names v.order) last (order_clean names v.order) ended)
+    (if_clean (is_some v.having) faults.ClauseInView refl, both_clean (key_checks names v.order) last (keys_clean names v.order) ended)
 
 query_clean : (v : Select) (columns : List ScopeColumn) → Clean (query_checks v columns)
 query_clean v columns =

@@ -10,7 +10,7 @@ use Rattle.cq_binder_rules.specs.From.{From, view_walk}
 use Rattle.cq_binder_rules.specs.Grouping.{is_empty, item_scope}
 use Rattle.cq_binder_rules.specs.Scopes.{of_rows}
 use Rattle.cq_binder_rules.specs.Headers.{header, shown_by}
-use Rattle.cq_binder_rules.specs.Orders.{order_checks}
+use Rattle.cq_binder_rules.specs.Orders.{key_checks}
 use Rattle.cq_binder_rules.specs.Typing.{ScopeColumn}
 use Rattle.cq_binder_rules.specs.Checks.{fault_if, too_long}
 use Rattle.cq_binder_rules.specs.SourceChecks.{group_checks, kept_check, where_check}
@@ -28,11 +28,11 @@ no_clause there = fault_if there ClauseInView
 abbrev pub list_checks : Select → List (Option Fault)
 list_checks v = fault_if (repeats [] (header 1 v.items)) NameTaken ∷ no_clause v.is_distinct ∷ too_long (length v.items) ∷ []
 
--- no view has HAVING, nor ORDER BY, whose keys are walked through before, nor LIMIT
+-- no view has HAVING, nor ORDER BY, whose keys are walked through before and however many they are, nor LIMIT
 abbrev pub absent_checks : Select → List (Option Fault)
 absent_checks v =
     no_clause (is_some v.having)
-    ∷ order_checks (header 1 v.items) v.order
+    ∷ key_checks (header 1 v.items) v.order
     ++ no_clause (not (is_empty v.order))
     ∷ no_clause (is_some v.limit)
     ∷ []

@@ -30,7 +30,7 @@ use Rattle.cq_binder_rules.specs.Scopes.{in_groups, of_rows}
 use Rattle.cq_binder_rules.specs.Sets.{bound_where}
 use Rattle.cq_binder_rules.specs.SourceChecks.{group_checks, kept_check, where_check}
 use Rattle.cq_binder_rules.specs.Typing.{Scope, ScopeColumn, size_at}
-use Rattle.cq_binder_rules.specs.Orders.{order_checks}
+use Rattle.cq_binder_rules.specs.Orders.{key_checks}
 use Rattle.cq_binder_rules.specs.ViewChecks.{absent_checks, list_checks, no_clause, query_checks, repeats}
 use Rattle.cq_binder_expressions.specs.Expressions.{KeepSizes}
 use Rattle.cq_model_state.specs.State.{TableOf, ViewOf, columns_in}
@@ -267,7 +267,7 @@ module _ (v : Select) (from : From) (are : AreTables from) (free : first_fault (
     few = omega (arith, are.counted, are.few);
     each = not_there v.is_distinct (second_free (fault_if (repeats [] (header 1 v.items)) NameTaken) (no_clause v.is_distinct) (too_long (length v.items) ∷ having_check ∷ absent_checks v) last);
     unfiltered =
-        nothing_there v.having (not_there (is_some v.having) (first_free (no_clause (is_some v.having)) (order_checks (header 1 v.items) v.order ++ no_clause (not (is_empty v.order)) ∷ no_clause (is_some v.limit) ∷ []) absent));
+        nothing_there v.having (not_there (is_some v.having) (first_free (no_clause (is_some v.having)) (key_checks (header 1 v.items) v.order ++ no_clause (not (is_empty v.order)) ∷ no_clause (is_some v.limit) ∷ []) absent));
     filter = first_free (where_check (of_rows from.columns) v.condition) (group_checks from.columns v.group ++ (item_checks ++ last_checks)) free;
     items = front_free item_checks last_checks behind;
   }
