@@ -1,5 +1,5 @@
 -- COPY to the table that was found, and from the file that its source gave.
-use Rattle.std.proofs.Common.{◌≡◌, ℕ, true, List, [], ◌∷◌, ◌++◌, Option, Some, None, Result, Ok, Err, refl, sym, ap, ap₂, subst, ◌∙◌, if◌then◌else◌, Vec}
+use Rattle.std.proofs.Common.{◌≡◌, ℕ, true, false, List, [], ◌∷◌, ◌++◌, Option, Some, None, Result, Ok, Err, refl, sym, ap, ap₂, subst, ◌∙◌, if◌then◌else◌, Vec}
 use Rattle.std.specs.Global.{Global}
 use Rattle.std.specs.Prelude.{length, nat_lt, is_none, option_map}
 use Rattle.cq_values.specs.Value.{Row}
@@ -28,6 +28,11 @@ use Rattle.cq_binder.specs.Sourced.{IsBound, over, failed}
 some_files : (told : Option Files) → (files : Files) × AreTold told files
 some_files None = (λ (name : List ℕ). [], tt)
 some_files (Some files) = (files, refl)
+
+-- a COPY to a table that is there, from a file whose name is too long, reads nothing
+pub long_name_unread : (name file : List ℕ) (tables : List TableOf) (views : List ViewOf) (t : TableOf) → table_named name tables ≡ Some t
+    → nat_lt text_limit (length file) ≡ true → reads_source (alone tables views) (Copy name file) ≡ false
+long_name_unread name file tables views t found long = rw (found, long) refl
 
 module _ (told : Option Files) (name file : List ℕ) (tables : List TableOf) (views : List ViewOf) (before : ℕ) where
   abbrev here : State

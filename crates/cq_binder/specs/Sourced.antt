@@ -8,7 +8,7 @@ use Rattle.cq_binder_rules.specs.declared.fault.Fault.{Fault}
 use Rattle.cq_binder_rules.specs.declared.fault.Fault.TheVariants.{SourceFailed}
 use Rattle.cq_binder_rules.specs.declared.sources.Sources.{Ghosts as Sources}
 use Rattle.cq_binder_rules.specs.Records.{Files}
-use Rattle.cq_binder_rules.specs.Sources.{AreTold}
+use Rattle.cq_binder_rules.specs.Sources.{AreTold, reads_behind}
 use Rattle.cq_binder_rules.specs.Refusal.{reads_source}
 use Rattle.cq_binder_queries.specs.declared.catalog.Catalog.{Ghosts as Catalog}
 use Rattle.cq_binder_queries.specs.Catalog.{state_of}
@@ -29,3 +29,8 @@ pub data IsBound (told : Option Files) (s : State) (statement : Statement) (befo
 abbrev pub BindsFrom : {S C : Type 0} → Sources S → S → S → Catalog C → C → Statement → Result Bound Fault → Type 0
 BindsFrom sources old new catalog c statement result =
     IsBound (sources.files old) (state_of catalog.tables catalog.views c) statement (sources.failures old) (sources.failures new) result
+
+-- a COPY whose names have no fault reads its source once, and no other statement reads it
+abbrev pub ReadsOnce : {S C : Type 0} → Sources S → S → S → Catalog C → C → Statement → Type 0
+ReadsOnce sources old new catalog c statement =
+    sources.reads new ≡ reads_behind (reads_source (state_of catalog.tables catalog.views c) statement) (sources.reads old)

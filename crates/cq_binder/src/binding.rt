@@ -6,7 +6,7 @@ ghost use Rattle.cq_model_state.specs.State.{is_taken};
 ghost use Rattle.cq_binder_queries.specs.Catalog.{names_view, state_of};
 ghost use Rattle.cq_binder.specs.Binding.{Binds};
 ghost use Rattle.cq_binder.specs.Columns.{WalksCreate};
-ghost use Rattle.cq_binder.specs.Sourced.{BindsFrom};
+ghost use Rattle.cq_binder.specs.Sourced.{BindsFrom, ReadsOnce};
 
 use crate::columns::{copy_columns, sort_columns};
 use crate::copying::bind_copy;
@@ -22,7 +22,7 @@ use std::alloc::Global;
 /// Why a statement is not bound: the first fault of its walk, or want of memory.
 pub type BindFault = Fault;
 
-/// The command that a statement is, with the names of the catalog resolved and the file of a COPY read. Whether the rows of
+/// The command that a statement is, with the names of the catalog resolved and the file of a COPY read, once. Whether the rows of
 /// an INSERT or a COPY fit their table is not asked, nor which values an UPDATE gives.
 pub fn bind<C: Catalog, S: Sources>(
     alloc: Global,
@@ -33,6 +33,7 @@ pub fn bind<C: Catalog, S: Sources>(
     requires { S.failures sources.old < 2 ^ 64 - 1 }
     ensures bound { BindsFrom S.Sources sources.old sources.new C.Catalog catalog.now statement.now result }
     ensures files { S.files sources.new ≡ S.files sources.old }
+    ensures reads { ReadsOnce S.Sources sources.old sources.new C.Catalog catalog.now statement.now }
 {
     match statement {
         Statement::CreateTable {

@@ -1,10 +1,10 @@
 //! COPY.
-ghost use Rattle.std.specs.Prelude.{◌≡◌, ◌<◌, ◌-◌, ◌^◌, ◌∷◌, [], length, nat_lt};
+ghost use Rattle.std.specs.Prelude.{◌≡◌, ◌<◌, ◌-◌, ◌^◌, ◌∷◌, [], OnErr, length, nat_lt, true};
 ghost use Rattle.cq_binder_rules.specs.Checks.{fault_if};
 ghost use Rattle.cq_binder_rules.specs.declared.fault.Fault.TheVariants.{TextTooLong};
 ghost use Rattle.cq_sql_language.specs.declared.statement.Statement.TheVariants.{Copy};
 ghost use Rattle.cq_model.specs.Sizes.{text_limit};
-ghost use Rattle.cq_binder.specs.Sourced.{BindsFrom};
+ghost use Rattle.cq_binder.specs.Sourced.{BindsFrom, ReadsOnce};
 ghost use Rattle.cq_binder_queries.specs.Walk.{Passes};
 
 use crate::binding::{BindFault, unwritten};
@@ -26,6 +26,7 @@ pub(crate) fn bind_copy<C: Catalog, S: Sources>(
     requires { S.failures sources.old < 2 ^ 64 - 1 }
     ensures bound { BindsFrom S.Sources sources.old sources.new C.Catalog catalog.now (Copy name.now file.now) result }
     ensures files { S.files sources.new ≡ S.files sources.old }
+    ensures reads { ReadsOnce S.Sources sources.old sources.new C.Catalog catalog.now (Copy name.now file.now) }
 {
     let Some(table) = catalog.table(name.as_str()) else {
         return Err(unwritten(catalog, name.as_str()));
@@ -41,7 +42,8 @@ pub(crate) fn bind_copy<C: Catalog, S: Sources>(
 
 /// A file's name is a text like another: it is not too long.
 fn check_file_name(file: &Text) -> Result<(), BindFault>
-    ensures { Passes (fault_if (nat_lt text_limit (length file.now)) TextTooLong ∷ []) result }
+    ensures passed { Passes (fault_if (nat_lt text_limit (length file.now)) TextTooLong ∷ []) result }
+    ensures long { OnErr result (nat_lt text_limit (length file.now) ≡ true) }
 {
     if file.as_str().len() > MAX_TEXT {
         return Err(Fault::TextTooLong);

@@ -1,5 +1,5 @@
 -- What a source answers.
-use Rattle.std.specs.Prelude.{◌≡◌, ℕ, ◌+◌, List, Option, Some, None, Result, Ok, Err, Vec}
+use Rattle.std.specs.Prelude.{◌≡◌, ℕ, ◌+◌, ◌%◌, ◌^◌, Bool, if◌then◌else◌, List, Option, Some, None, Result, Ok, Err, Vec}
 use Rattle.std.specs.Global.{Global}
 use Rattle.cq_binder_rules.specs.declared.fault.Fault.{Fault}
 use Rattle.cq_binder_rules.specs.declared.fault.Fault.TheVariants as faults
@@ -21,6 +21,14 @@ ReadsFile file before after (Err Failed) = after ≡ before + 1
 -- the file of a name is read
 abbrev pub Reads : Option Files → List ℕ → ℕ → ℕ → Result (Vec ℕ Global) SourceFault → Type 0
 Reads told name before after result = (files : Files) × AreTold told files × ReadsFile (files name) before after result
+
+-- a source was read once more; its count has 64 bits, and begins anew behind the last of them
+abbrev pub one_read_more : ℕ → ℕ
+one_read_more reads = (reads + 1) % 2 ^ 64
+
+-- how often a source was read behind what reads it once, or not at all
+abbrev pub reads_behind : Bool → ℕ → ℕ
+reads_behind read_once reads = if read_once then one_read_more reads else reads
 
 -- the refusal of a COPY whose source gave nothing
 abbrev pub fault_of : SourceFault → Fault

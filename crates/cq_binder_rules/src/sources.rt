@@ -1,6 +1,10 @@
 //! Where COPY finds its files.
+//!
+//! A [`Sources`] is asked for one file by its name, as often as is wanted, and counts how often it was read and how often
+//! a read failed. One that tells what its files hold gives just that; any other gives some bytes, at each read anew. A read
+//! costs what the file costs, and the bytes are the caller's.
 ghost use Rattle.std.specs.Prelude.{◌≡◌, ◌<◌, ◌-◌, ◌^◌, List, Option, ℕ};
-ghost use Rattle.cq_binder_rules.specs.Sources.{Reads, fault_of};
+ghost use Rattle.cq_binder_rules.specs.Sources.{Reads, fault_of, one_read_more};
 ghost use Rattle.cq_binder_rules.specs.declared.sources.SourceFault.TheVariants.{Memory};
 
 use crate::fault::Fault;
@@ -43,9 +47,13 @@ pub trait Sources {
     /// How often a read failed.
     ghost failures: { Self → ℕ };
 
+    /// How often it was read. Behind 2^64 - 1 the count begins at 0 again.
+    ghost reads: { Self → ℕ };
+
     /// The bytes that the name stands for.
     fn read(&mut self, alloc: Global, name: &str) -> Result<Vec<u8>, SourceFault>
         requires { failures self.old < 2 ^ 64 - 1 }
         ensures files { files self.new ≡ files self.old }
-        ensures read { Reads (files self.old) name.now (failures self.old) (failures self.new) result };
+        ensures read { Reads (files self.old) name.now (failures self.old) (failures self.new) result }
+        ensures counted { reads self.new ≡ one_read_more (reads self.old) };
 }

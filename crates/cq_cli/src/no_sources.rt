@@ -4,17 +4,21 @@ ghost use Rattle.std.specs.Prelude.{◌≡◌, [], Some};
 use cq_engine::{SourceFault, Sources};
 use std::alloc::Global;
 
-/// Every read fails. The failures are counted.
+/// Every read fails. The reads and their failures are counted.
 #[derive(Debug, Drop)]
 pub struct NoSources {
     failures: u64,
+    reads: u64,
 }
 
 impl NoSources {
     pub fn new() -> NoSources
         ensures { result.failures ≡ 0 }
     {
-        NoSources { failures: 0 }
+        NoSources {
+            failures: 0,
+            reads: 0,
+        }
     }
 }
 
@@ -23,8 +27,11 @@ impl Sources for NoSources {
 
     ghost failures = { λ s. s.failures };
 
+    ghost reads = { λ s. s.reads };
+
     fn read(&mut self, _alloc: Global, _name: &str) -> Result<Vec<u8>, SourceFault> {
         self.failures += 1;
+        self.reads = self.reads.wrapping_add(1);
         Err(SourceFault::Failed)
     }
 }

@@ -13,24 +13,26 @@ pub struct Folder<'a> {
     rt: &'a HostRuntime,
     path: &'a str,
     failures: u64,
+    reads: u64,
 }
 
 impl<'a> Model for Folder<'a> {
     ghost use Rattle.std.specs.Prelude.{ℕ};
 
-    ghost Value = { ℕ };
+    ghost Value = { ℕ × ℕ };
 
-    ghost view = { λ folder. folder.failures };
+    ghost view = { λ folder. (folder.failures, folder.reads) };
 }
 
 impl Folder<'_> {
     pub fn new<'a>(rt: &'a HostRuntime, path: &'a str) -> Folder<'a>
-        ensures { result ≡ 0 }
+        ensures { result ≡ (0, 0) }
     {
         Folder {
             rt,
             path,
             failures: 0,
+            reads: 0,
         }
     }
 
@@ -53,9 +55,12 @@ impl Folder<'_> {
 impl Sources for Folder<'_> {
     ghost files = { λ _. None };
 
-    ghost failures = { λ folder. folder };
+    ghost failures = { λ folder. folder.0 };
+
+    ghost reads = { λ folder. folder.1 };
 
     fn read(&mut self, alloc: Global, name: &str) -> Result<Vec<u8>, SourceFault> {
+        self.reads = self.reads.wrapping_add(1);
         match self.bytes(alloc, name) {
             Ok(bytes) => Ok(bytes),
             Err(SourceFault::Memory) => Err(SourceFault::Memory),

@@ -18,14 +18,14 @@ pub struct TestSource<'a> {
 impl<'a> Model for TestSource<'a> {
     ghost use Rattle.std.specs.Prelude.{ℕ, List};
 
-    ghost Value = { List ℕ × ℕ };
+    ghost Value = { List ℕ × ℕ × ℕ };
 
-    ghost view = { λ s. (s.text.now, s.failures) };
+    ghost view = { λ s. (s.text.now, s.failures, s.reads) };
 }
 
 impl TestSource<'_> {
     pub fn new<'a>(text: &'a str, fails_at: u64) -> TestSource<'a>
-        ensures { result ≡ (text.now, 0) }
+        ensures { result ≡ (text.now, 0, 0) }
     {
         TestSource {
             text,
@@ -36,7 +36,9 @@ impl TestSource<'_> {
     }
 
     /// How often it was read.
-    pub fn reads(&self) -> u64 {
+    pub fn reads(&self) -> u64
+        ensures { result ≡ self.now.2 }
+    {
         self.reads
     }
 
@@ -53,9 +55,11 @@ impl Sources for TestSource<'_> {
 
     ghost failures = { λ s. s.1 };
 
+    ghost reads = { λ s. s.2 };
+
     fn read(&mut self, alloc: Global, _name: &str) -> Result<Vec<u8>, SourceFault> {
         let number = self.reads;
-        self.reads = number.saturating_add(1);
+        self.reads = number.wrapping_add(1);
         if number == self.fails_at {
             self.failures += 1;
             return Err(SourceFault::Failed);
