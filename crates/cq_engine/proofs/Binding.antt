@@ -47,7 +47,7 @@ use Rattle.cq_model_step.specs.Step.{AreBetween, IsTooLarge, Refuses, by_walk, f
 use Rattle.cq_binder_queries.specs.Catalog.{alone as bare}
 use Rattle.cq_binder_rules.proofs.Sourceless.{is_source, tells_source, sourceless}
 use Rattle.cq_binder.specs.Sourced.{IsBound, names_file, alone, over, failed}
-use Rattle.cq_binder_rules.specs.Sources.{AreTold}
+use Rattle.cq_binder_rules.specs.Sources.{AreTold, reads_behind}
 use Rattle.cq_binder.specs.Binding.{Binds, BindsOver, binding_checks, records_walk, rows_walk, sets_walk}
 use Rattle.cq_binder_queries.proofs.Faults.{first_fault_append, or_next, single}
 use Rattle.cq_binder.proofs.Fitting.{rows_fit}
@@ -326,6 +326,12 @@ same_bound files s (statements.Refresh view changes) = refl
 same_reads : (s : State) (statement : Statement) → reads_source (bare s.tables s.views) statement ≡ reads_source s statement
 same_reads s (statements.Copy name file) = refl
 same_reads s statement = refl
+
+-- so its source is read as often as the statement has it read in the whole state
+pub bind_reads : (tables : List TableOf) (views : List ViewOf) (now drawn max_rows : ℕ) (statement : Statement) (before after : ℕ)
+    → after ≡ reads_behind (reads_source (bare tables views) statement) before → after ≡ reads_behind (reads_source (present tables views now drawn max_rows) statement) before
+bind_reads tables views now drawn max_rows statement before after e =
+    e ∙ ap (λ (b : Bool). reads_behind b before) (same_reads (present tables views now drawn max_rows) statement)
 
 -- a statement is bound over these files, or its source has failed
 abbrev pub IsOver : Files → State → Statement → ℕ → ℕ → Result Bound Fault → Type 0

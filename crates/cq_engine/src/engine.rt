@@ -1,5 +1,7 @@
 //! The engine, and one step of it.
 ghost use Rattle.std.specs.Prelude.{◌≡◌, ◌<◌, ◌+◌, ◌-◌, ◌^◌, ◌∷◌, [], Ok, option_map};
+ghost use Rattle.cq_binder_rules.specs.Refusal.{reads_source};
+ghost use Rattle.cq_binder_rules.specs.Sources.{reads_behind};
 ghost use Rattle.cq_binder_rules.specs.declared.bound.Bound.TheVariants as commands;
 ghost use Rattle.cq_model_state.specs.Fitting.{AreLimited, AreFitting};
 ghost use Rattle.cq_model_state.specs.State.{first_state, view_named};
@@ -139,6 +141,7 @@ impl Engine {
         ensures rows { OnlyShows self.old.state result self.new.state }
         ensures files { S.files sources.new ≡ S.files sources.old }
         ensures failures { S.failures sources.new ≡ S.failures sources.old + source_failures (result ∷ []) }
+        ensures reads { S.reads sources.new ≡ reads_behind (reads_source self.old.state command.now) (S.reads sources.old) }
     {
         let bound = bind(self.alloc, command, &self.catalog(), sources)?;
         self.carry_out(bound)

@@ -1,7 +1,7 @@
 use Rattle.std.proofs.lemmas.Result.{err_from_is_err_and}
 use Rattle.cq_binder_queries.specs.Catalog.{alone}
 use Rattle.cq_engine_tables.specs.Views.{views_of}
-use Rattle.cq_engine.proofs.Binding.{bind_counted, bind_refused, bound_can, bound_over, carried, carried_counts, passed_over}
+use Rattle.cq_engine.proofs.Binding.{bind_counted, bind_reads, bind_refused, bound_can, bound_over, carried, carried_counts, passed_over}
 use Rattle.cq_engine.proofs.Counting.{grown_by_none}
 use Rattle.cq_engine.proofs.Kept.{all_at, all_shown}
 use Rattle.cq_engine.proofs.engine.Engine.step.Goals as goal
@@ -23,6 +23,11 @@ returns-in_err-bound-clause-failures g c =
     let over = bound_over _ (alone tables (views_of views)) c.args.command.now _ _ _ (rw (c.catalog.ensures.told, ← c.self.view_is) at c.in_err-bound.ensures.bound) in
     rw (p.1, p.2)
     (bind_counted over.0 tables (views_of views) c.self.inside.writes c.self.inside.drawn c.self.inside.limits.max_rows (all_at tables c.self.inside.writes views c.self.invariant.3) c.self.invariant.1 c.args.command.now c.in_err-bound.field-0.0 _ _ over.2)
+
+pub returns-in_err-bound-clause-reads : goal.returns-in_err-bound-clause-reads
+returns-in_err-bound-clause-reads g c =
+    rw (← c.self.view_is)
+    (bind_reads c.self.inside.tables.items (views_of c.self.inside.views.items) c.self.inside.writes c.self.inside.drawn c.self.inside.limits.max_rows c.args.command.now _ _ (rw (c.catalog.ensures.told, ← c.self.view_is) at c.in_err-bound.ensures.reads))
 
 pub carry_out-requires-clause-bound : goal.carry_out-requires-clause-bound
 carry_out-requires-clause-bound g c =
@@ -52,3 +57,8 @@ returns-clause-failures g c =
     let done = rw (← c.self.view_is) at c.carry_out.ensures.done in
     grown_by_none _ _ _ bound.0
     (carried_counts over.0 tables (views_of views) c.self.inside.writes c.self.inside.drawn c.self.inside.limits.max_rows (all_at tables c.self.inside.writes views c.self.invariant.3) c.self.invariant.1 c.args.command.now c.in_ok-bound.bound bound.1 bound.2 c.carry_out.result c.carry_out.new.self.state done)
+
+pub returns-clause-reads : goal.returns-clause-reads
+returns-clause-reads g c =
+    rw (← c.self.view_is)
+    (bind_reads c.self.inside.tables.items (views_of c.self.inside.views.items) c.self.inside.writes c.self.inside.drawn c.self.inside.limits.max_rows c.args.command.now _ _ (rw (c.catalog.ensures.told, ← c.self.view_is) at c.in_ok-bound.ensures.reads))
