@@ -1,5 +1,4 @@
 pub mod AtKeys
-pub mod Built
 pub mod Ends
 pub mod GoesOn
 pub mod Leaving
@@ -13,5 +12,5 @@ pub mod Rowwise
 pub mod Showing
 pub mod Small
 pub mod Turns
-pub mod Waiting
+pub mod SpannedRows
 pub mod Writes

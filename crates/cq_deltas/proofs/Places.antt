@@ -18,7 +18,7 @@ use Rattle.cq_deltas.specs.Placed.{Placed}
 use Rattle.cq_deltas.specs.declared.group.Group.{Group as StoredGroup}
 use Rattle.cq_deltas.specs.Additions.{Addition}
 use Rattle.cq_deltas.specs.Kept.{HaveRoom, KeepRoom}
-use Rattle.cq_deltas.specs.Keyed.{Adds, HasKeys, IsReadyAt, IsReadyFor, KeepPlaces, KeyedGroups, addition_at, additions_at, held_at, key_at, stored_at}
+use Rattle.cq_deltas.specs.Keyed.{AddsBehind, HasKeys, IsReadyAt, IsReadyFor, KeepPlaces, KeyedGroups, addition_at, additions_at, held_at, key_at, stored_at}
 use Rattle.cq_deltas.proofs.AtKeys.{SetsAt}
 use Rattle.cq_model_bags.proofs.Lists.{all-at}
 
@@ -139,7 +139,7 @@ module _ (old new : KeyedGroups) (keep : KeepPlaces old new) where
   kept-keys rows keys = record { at = keys-kept rows keys.at }
 
   -- what one more row adds waits behind the rest
-  pub adds-more : (change : List Placed) (x : Placed) (a : Addition) → HasKeys change old → addition_at new x ≡ a → IsReadyAt x.addends new x.place → Adds old change a new (change ++ x ∷ [])
+  pub adds-more : (change : List Placed) (x : Placed) (a : Addition) → HasKeys change old → addition_at new x ≡ a → IsReadyAt x.addends new x.place → AddsBehind old change a new (change ++ x ∷ [])
   adds-more change x a keys is ready = record {
     adds = map-append (addition_at new) change (x ∷ []) ∙ ap₂ (λ (xs : List Addition) (y : Addition). xs ++ y ∷ []) (kept-additions change keys) is;
     keys = record { at = behind change (keys-kept change keys.at) };

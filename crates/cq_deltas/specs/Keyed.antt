@@ -1,5 +1,5 @@
 -- Groups by key, and what a change makes of them.
-use Rattle.std.specs.Prelude.{◌≡◌, ◌<◌, ℕ, pos, Bool, if◌then◌else◌, List, [], ◌∷◌, ◌++◌, length, map, nat_abs, Option, None, Some, unwrap_or, fold, slice_get}
+use Rattle.std.specs.Prelude.{◌≡◌, ◌<◌, ℕ, ℤ, pos, Bool, if◌then◌else◌, List, [], ◌∷◌, ◌++◌, length, map, nat_abs, Option, None, Some, unwrap_or, fold, slice_get}
 use Rattle.std.specs.Ordering.{int_eq}
 use Rattle.std.specs.List.{AllByRecursion, list_any, sum_by}
 use Rattle.std.specs.Map.{keys_of, lookup, values_of}
@@ -14,7 +14,7 @@ use Rattle.cq_model.specs.declared.query.Shape.TheVariants.{Grouped}
 use Rattle.cq_views_model.specs.Kept.{Group, Groups, LastStands, group_of}
 use Rattle.cq_deltas.specs.declared.change.Addend.{Addend}
 use Rattle.cq_deltas.specs.declared.group.Group.{Group as StoredGroup}
-use Rattle.cq_deltas.specs.Additions.{Addition, additions}
+use Rattle.cq_deltas.specs.Additions.{Addition, addition, additions}
 use Rattle.cq_deltas.specs.Kept.{GroupHolds, HaveRoom, group_with, seen_group, total_moves}
 use Rattle.cq_deltas.specs.Placed.{Placed}
 
@@ -94,9 +94,13 @@ pub record HasKeys (change : List Placed) (groups : KeyedGroups) : Type 0 where
   pub at : AllByRecursion (λ x. IsReadyAt x.addends groups x.place) change
 
 -- what a row adds waits behind the rest of a change, and the groups are ready for them all
-pub record Adds (old : KeyedGroups) (change : List Placed) (x : Addition) (new : KeyedGroups) (more : List Placed) : Type 0 where
+pub record AddsBehind (old : KeyedGroups) (change : List Placed) (x : Addition) (new : KeyedGroups) (more : List Placed) : Type 0 where
   pub adds : additions_at new more ≡ additions_at old change ++ x ∷ []
   pub keys : HasKeys more new
+
+-- so it is with what a row adds that has this weight
+abbrev pub Adds : List ℕ → List Aggregate → Row → ℤ → KeyedGroups → List Placed → KeyedGroups → List Placed → Type 0
+Adds columns aggregates r weight old change new more = AddsBehind old change (addition columns aggregates (r, weight)) new more
 
 -- each stored group has the changed rows put in, and none is dropped
 abbrev pub ArePut : KeyedGroups → List Addition → KeyedGroups → Type 0

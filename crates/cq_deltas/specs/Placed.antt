@@ -4,7 +4,7 @@ use Rattle.cq_values.specs.Value.{Row}
 use Rattle.cq_model.specs.declared.query.Aggregate.{Aggregate}
 use Rattle.cq_deltas.specs.declared.change.Addend.{Addend}
 use Rattle.cq_deltas.specs.declared.change.PlacedRow.{PlacedRow}
-use Rattle.cq_deltas.specs.declared.change.Waiting.{Waiting}
+use Rattle.cq_deltas.specs.declared.change.SpannedRow.{SpannedRow}
 use Rattle.cq_deltas.specs.Additions.{addends_of}
 
 -- what a changed row adds, to the group at a place
@@ -22,18 +22,18 @@ abbrev pub row_read : PlacedRow → Placed
 row_read r = record { place = r.place; weight = r.weight; addends = r.addends.now }
 
 -- a row whose addends stand among those of its change
-abbrev pub row_in : List (Option Addend) → Waiting → Placed
+abbrev pub row_in : List (Option Addend) → SpannedRow → Placed
 row_in addends w = record { place = w.place; weight = w.weight; addends = slice_range addends w.start w.end }
 
 -- the rows of a change
-abbrev pub rows_in : List (Option Addend) → List Waiting → List Placed
+abbrev pub rows_in : List (Option Addend) → List SpannedRow → List Placed
 rows_in addends rows = map (row_in addends) rows
 
 -- a row's addends stand among those of its change
-pub record IsWithin (addends : List (Option Addend)) (w : Waiting) : Type 0 where
+pub record IsWithin (addends : List (Option Addend)) (w : SpannedRow) : Type 0 where
   pub in_order : w.start ≤ w.end
   pub within : w.end ≤ length addends
 
 -- so it is with each row
-abbrev pub AreWithin : List (Option Addend) → List Waiting → Type 0
+abbrev pub AreWithin : List (Option Addend) → List SpannedRow → Type 0
 AreWithin addends rows = All (IsWithin addends) rows

@@ -1,4 +1,7 @@
-//! What changed rows add to groups.
+//! What changed rows add to groups, worked out before any group changes.
+//!
+//! [`GroupChange::push`] works out a row's arguments, [`GroupChange::row`] lends them again. The addends of all
+//! rows stand in one list, so that a row takes no block of its own.
 ghost use Rattle.std.specs.List.{AllByRecursion};
 ghost use Rattle.std.specs.List.Sorted.{IsPermutation, IsSortedBy};
 ghost use Rattle.std.specs.Prelude.{◌++◌, ◌<◌, ◌∷◌, ◌≡◌, ◌≤◌, IfOk, OnOk, Some, [], length, nat_lt, slice_get};
@@ -14,7 +17,7 @@ use std::marker::Model;
 
 /// What an argument adds to what is kept of its aggregate.
 #[derive(Debug, Drop)]
-pub enum Addend {
+pub(crate) enum Addend {
     /// A number, to a total. A count only asks whether there is one.
     Number(i128),
     /// A value, to those of which MIN and MAX are the ends.
@@ -24,7 +27,7 @@ pub enum Addend {
 /// A changed row that waits for the group at a place: how often it is there, and where its addends stand among those of
 /// its change.
 #[derive(Clone, Copy, Debug)]
-pub(crate) struct Waiting {
+pub(crate) struct SpannedRow {
     place: usize,
     weight: i128,
     start: usize,
@@ -42,7 +45,7 @@ pub(crate) struct PlacedRow<'a> {
 /// What a change of the rows adds, row by row. It is for the groups that were made ready for it.
 #[derive(Debug, Drop)]
 pub struct GroupChange {
-    rows: Vec<Waiting>,
+    rows: Vec<SpannedRow>,
     /// What all rows add, row behind row.
     addends: Vec<Option<Addend>>,
 }
@@ -85,7 +88,7 @@ impl GroupChange {
         let start = self.addends.len();
         push_addends(alloc, aggregates, row, &mut self.addends)?;
         let end = self.addends.len();
-        self.rows.push(Waiting {
+        self.rows.push(SpannedRow {
             place,
             weight,
             start,

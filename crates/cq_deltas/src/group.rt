@@ -1,4 +1,7 @@
-//! A group: how many rows it has, and what is kept of its aggregates.
+//! A group: how many rows it has, and what is kept of each of its aggregates.
+//!
+//! [`Group::ready`] makes room for a row's arguments, [`Group::add`] puts them in and cannot fail, and
+//! [`Group::settle`] lets values go that are counted no longer. Each costs one step for each aggregate.
 ghost use Rattle.std.specs.List.{AllByRecursion};
 ghost use Rattle.std.specs.Ordering.{int_eq};
 ghost use Rattle.std.specs.Prelude.{nat_abs, pos, ◌≡◌, [], IfErr, IfOk, OnOk, map};
@@ -16,7 +19,7 @@ use std::alloc::{AllocError, Global};
 
 /// A group of rows that have one key.
 #[derive(Debug, Drop)]
-pub struct Group {
+pub(crate) struct Group {
     count: i128,
     kept: Vec<Kept>,
 }
@@ -34,7 +37,7 @@ impl Group {
     }
 
     /// How many rows there are, each as often as it occurs.
-    pub fn count(&self) -> i128
+    pub(crate) fn count(&self) -> i128
         ensures { result ≡ self.now.count }
     {
         self.count
@@ -78,7 +81,7 @@ impl Group {
     }
 
     /// Puts what the group shows at the end of the row that is begun: its key, and then its aggregates.
-    pub fn show(
+    pub(crate) fn show(
         &self,
         alloc: Global,
         aggregates: &[Aggregate],

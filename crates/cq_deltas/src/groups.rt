@@ -1,17 +1,22 @@
-//! Groups by key.
+//! The groups of a view by their keys.
+//!
+//! A change comes in row by row: [`Groups::ready`] finds or makes the group of a row's key, makes room in it, and
+//! puts what the row adds behind the rest of a [`GroupChange`]; until then nothing that is shown changes.
+//! [`Groups::take`] puts the whole change in, cannot fail, and drops groups that are left without rows.
+//!
+//! A row costs one hash of its key and one step for each aggregate, MIN and MAX the logarithm of their values.
+//! [`Groups::shown_rows`] costs one row for each group.
 ghost use Rattle.std.specs.List.{AllByRecursion};
 ghost use Rattle.std.specs.List.Sorted.{IsSortedBy};
-ghost use Rattle.std.specs.Map.Iter.{ShowsInOrder, deref_pair};
 ghost use Rattle.std.specs.Map.{keys_of};
 ghost use Rattle.std.specs.Prelude.{All, ◌++◌, ◌<◌, ◌≡◌, IfErr, IfOk, OnOk, [], false, length, nat_lt, take};
 ghost use Rattle.cq_views_model.specs.Kept.{Groups as ByKey};
-ghost use Rattle.cq_deltas.specs.declared.group.Group.{Group as Stored};
 ghost use Rattle.cq_views_model.specs.Shown.{ListsKeys};
 ghost use Rattle.cq_model.specs.Group.{key_of};
 ghost use Rattle.cq_values.specs.Order.{same_row};
 ghost use Rattle.cq_values.specs.Value.{Row as Values};
 ghost use Rattle.cq_model.specs.declared.fault.ShowFault.TheVariants.{SumOutOfRange};
-ghost use Rattle.cq_deltas.specs.Additions.{IsNarrow, IsSmall, addition};
+ghost use Rattle.cq_deltas.specs.Additions.{IsNarrow, IsSmall};
 ghost use Rattle.cq_deltas.specs.Shown.{EntryCanBeShown, GroupsCanBeShown, counted_keys, entry_row, group_rows};
 ghost use Rattle.cq_deltas.specs.Keyed.{Adds, ArePut, AreSettled, GroupsGoOn, HasKeys, HoldsFor, HoldsOne, IsPut, IsReadyAt, KeepPlaces, StandsAt, Takes, addition_at, additions_at, group_at, is_met, key_at, stored_at};
 ghost use Rattle.cq_deltas.specs.Placed.{row_read};
@@ -23,7 +28,6 @@ use cq_model_eval::key_of;
 use cq_values::{Row, Value};
 use cq_values_rows::FlatRows;
 use indexmap::IndexMap;
-use indexmap::map::Iter;
 use std::alloc::{AllocError, Global};
 use std::marker::Model;
 
@@ -65,7 +69,7 @@ impl Groups {
         requires keys { HasKeys change.old self.old }
         ensures groups { (k : Values) → group_at aggregates.now self.new k ≡ group_at aggregates.now self.old k }
         ensures small { OnOk result (AllByRecursion (IsSmall row.now) aggregates.now) }
-        ensures adds { OnOk result (Adds self.old change.old (addition columns.now aggregates.now (row.now, weight)) self.new change.new) }
+        ensures adds { OnOk result (Adds columns.now aggregates.now row.now weight self.old change.old self.new change.new) }
     {
         let key = key_of(alloc, columns, row)?;
         let place = self.place_of(alloc, aggregates, key)?;
@@ -134,14 +138,6 @@ impl Groups {
     {
         self.groups
             .sort_unstable_by(|a, _, b, _| a.as_slice().cmp(b.as_slice()))
-    }
-
-    /// The groups with their keys, also those without rows that were made for a change that never came.
-    pub fn iter(&self) -> Iter<'_, Row, Group>
-        ensures entries { result ≡ self.now }
-        ensures runs { ShowsInOrder (deref_pair {K = Values} {X = Stored}) }
-    {
-        self.groups.iter()
     }
 
     /// The row of each group that has rows.

@@ -1,4 +1,8 @@
-//! What is kept of an aggregate.
+//! What is kept of an aggregate: a count, for a SUM also the exact total, and for MIN and MAX all values with
+//! counts.
+//!
+//! The order of calls is that of a group. A count and a total take no memory, so [`Kept::ready`] grows only where
+//! values are listed. Whether a total can be shown, [`Kept::value`] tells.
 ghost use Rattle.std.specs.Option.{option_copied};
 ghost use Rattle.std.specs.Ordering.{int_eq};
 ghost use Rattle.std.specs.Prelude.{nat_abs, pos, ◌*ℤ◌, ◌+ℤ◌, ◌+◌, ◌<◌, ◌^◌, ◌≡◌, ◌↔◌, ◌≤◌, IfErr, IfOk, IfSome, IsSome, OnOk, if◌then◌else◌, unwrap_or, []};
@@ -19,7 +23,7 @@ use std::alloc::{AllocError, Global};
 /// What is kept of an aggregate: how many rows or values there are, for a SUM their exact total beside, and for MIN
 /// and MAX the values with their counts, in order.
 #[derive(Debug, Drop)]
-pub enum Kept {
+pub(crate) enum Kept {
     Counted(i128),
     Totalled(CountedTotal),
     Listed(Extremes),
@@ -27,7 +31,7 @@ pub enum Kept {
 
 /// The exact total of a SUM, and how many values it has.
 #[derive(Debug, Drop)]
-pub struct CountedTotal {
+pub(crate) struct CountedTotal {
     values: i128,
     total: Total,
 }

@@ -13,9 +13,6 @@ mod groups;
 mod kept;
 mod laws;
 
-pub use change::{Addend, GroupChange};
-pub use extremes::Extremes;
-pub use group::Group;
+pub use change::GroupChange;
 pub use groups::Groups;
-pub use kept::{CountedTotal, Kept};
 pub use laws::{more_is_added, ranges_show};

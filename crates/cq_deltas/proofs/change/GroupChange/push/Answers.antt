@@ -4,7 +4,7 @@ use Rattle.std.proofs.lemmas.Int.{to_z-of_z}
 use Rattle.cq_deltas.specs.declared.change.Addend.{Addend}
 use Rattle.cq_deltas.specs.Additions.{addends_of}
 use Rattle.cq_deltas.specs.Placed.{Placed, placed_at, rows_in}
-use Rattle.cq_deltas.proofs.Waiting.{rows-pushed}
+use Rattle.cq_deltas.proofs.SpannedRows.{rows-pushed}
 use Rattle.cq_deltas.proofs.change.GroupChange.push.Goals as goal
 
 pub returns-clause-row : goal.returns-clause-row

@@ -1,10 +1,10 @@
 use Rattle.std.proofs.Common.{nat_lt, rules}
 use Rattle.std.proofs.lemmas.Fn.{always_returns_same}
 use Rattle.std.proofs.lemmas.List.Sorted.{All-permutation, IsPermutation-map}
-use Rattle.cq_deltas.specs.declared.change.Waiting.{Waiting}
+use Rattle.cq_deltas.specs.declared.change.SpannedRow.{SpannedRow}
 use Rattle.cq_deltas.specs.Placed.{IsWithin, row_in}
 use Rattle.cq_deltas.proofs.Leaving.{falls}
-use Rattle.cq_deltas.proofs.Waiting.{rows-sorted}
+use Rattle.cq_deltas.proofs.SpannedRows.{rows-sorted}
 use Rattle.cq_deltas.proofs.change.GroupChange.sort_from_last.Goals as goal
 
 pub invariant_of-self : goal.invariant_of-self
@@ -19,4 +19,4 @@ returns-clause-moved c =
 pub returns-clause-sorted : goal.returns-clause-sorted
 returns-clause-sorted c =
     rows-sorted c.self.inside.addends.items c.sort_unstable_by.new.self.items
-    (c.sort_unstable_by.ensures.sorted (λ (x y : Waiting). nat_lt y.place x.place) (falls (λ (w : Waiting). w.place)) (always_returns_same _ _ _ (λ a r g called. search rules)))
+    (c.sort_unstable_by.ensures.sorted (λ (x y : SpannedRow). nat_lt y.place x.place) (falls (λ (w : SpannedRow). w.place)) (always_returns_same _ _ _ (λ a r g called. search rules)))

@@ -6,7 +6,7 @@ use Rattle.std.proofs.lemmas.Result.{on_ok_weaker}
 use Rattle.cq_values.specs.Value.{Row}
 use Rattle.cq_model.specs.Group.{key_of}
 use Rattle.cq_deltas.specs.Additions.{addition}
-use Rattle.cq_deltas.specs.Keyed.{Adds, IsReadyAt, addition_at, key_at}
+use Rattle.cq_deltas.specs.Keyed.{AddsBehind, IsReadyAt, addition_at, key_at}
 use Rattle.cq_deltas.specs.Placed.{Placed, placed_at, row_read}
 use Rattle.cq_deltas.proofs.Places.{adds-more, keep-trans, key-there, last-row}
 use Rattle.cq_deltas.proofs.groups.Groups.ready.Goals as goal
@@ -30,6 +30,6 @@ returns-clause-adds c =
     on_ok_weaker c.make_room.result
     (λ room.
     let ready : IsReadyAt row.addends new place = subst (λ (r : Placed). IsReadyAt r.addends new place) is_last room in
-    subst (λ (rows : List Placed). Adds old c.args.change.now one new rows) (sym pushed)
+    subst (λ (rows : List Placed). AddsBehind old c.args.change.now one new rows) (sym pushed)
     (adds-more old new (keep-trans old middle new c.place_of.ensures.keep c.make_room.ensures.keep) c.args.change.now row one c.requires.keys is ready))
     c.make_room.ensures.room
