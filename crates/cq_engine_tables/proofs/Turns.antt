@@ -36,7 +36,6 @@ joins_then (u ∷ us) (v ∷ vs) (w ∷ ws) s t = (
     source = t.0.source ∙ s.0.source;
     on = t.0.on ∙ s.0.on;
     below = t.0.below ∙ s.0.below;
-    behind = t.0.behind ∙ s.0.behind;
   },
   joins_then us vs ws s.1 t.1,
 )

@@ -11,12 +11,11 @@ use Rattle.cq_model_bags.specs.Bag.{Weighted, SameBag, filtered, joined, weight_
 use Rattle.cq_model_bags.specs.Join.{HasWidth, join_change}
 use Rattle.cq_views_model.specs.Delta.{chain_change, chain_work, changed, join_work}
 use Rattle.cq_model.specs.Pushed.{HaveWidths}
-use Rattle.cq_views_model.specs.Standing.{built_sides, sides_work}
 use Rattle.cq_model_laws.proofs.Chains.{chain-law}
-use Rattle.cq_model_laws.proofs.Pushed.{both, filtered-filtered, next-filtered}
 use Rattle.cq_model.specs.Meaning.{Tables, chain, keeps, meets}
 use Rattle.cq_model.specs.declared.query.Source.{Source}
-use Rattle.cq_deltas_joins.specs.Chains.{IsChange, Stands, belows_of, joined_from, joins_of, rows_of}
+use Rattle.cq_deltas_joins.specs.Chains.{IsChange, Stands, joined_from, joins_of, rows_of}
+use Rattle.cq_deltas_joins.specs.Work.{work_along}
 use Rattle.cq_deltas_joins.specs.declared.chain.Chain.{Chain}
 use Rattle.cq_deltas_joins.specs.declared.step.Step.{Step}
 
@@ -24,19 +23,18 @@ module _ (width : Source → ℕ) where
   -- what the conditions of steps make of one on the rows before them, which have so many columns
   abbrev all_of : ℕ → (Row → Bool) → List Step → Row → Bool
   all_of n keep [] = keep
-  all_of n keep (s ∷ steps) = all_of (n + width s.source) (both n keep (keeps s.below) (keeps s.behind)) steps
+  all_of n keep (s ∷ steps) = all_of (n + width s.source) (on_parts n keep (keeps s.below)) steps
 
   -- behind the steps are the joined rows that pass it
   rows-filtered : (tables : Tables) → HaveWidths width tables → (n : ℕ) (keep : Row → Bool) (xs : Weighted) → HasWidth n xs → (steps : List Step)
       → joined_from tables (filtered keep xs) steps ≡ filtered (all_of n keep steps) (chain tables xs (joins_of steps))
   rows-filtered tables wide n keep xs w [] = refl
   rows-filtered tables wide n keep xs w (s ∷ steps) =
+      let on = meets s.node.on in
       let ys = tables s.source in
       let m = width s.source in
-      ap (λ (zs : Weighted). joined_from tables zs steps)
-      (next-filtered tables keep n xs w (record { source = s.source; on = s.node.on }) (record { source = keeps s.below; joined = keeps s.behind }))
-      ∙ rows-filtered tables wide (n + m) (both n keep (keeps s.below) (keeps s.behind)) (joined (meets s.node.on) xs ys)
-      (joined-width (meets s.node.on) n m xs ys w (wide s.source)) steps
+      ap (λ (zs : Weighted). joined_from tables zs steps) (joined-filtered on n keep (keeps s.below) xs ys w)
+      ∙ rows-filtered tables wide (n + m) (on_parts n keep (keeps s.below)) (joined on xs ys) (joined-width on n m xs ys w (wide s.source)) steps
 
   -- ---- one join
   module _ (on : Row → Row → Bool) (n : ℕ) (keep also : Row → Bool) (xs dxs ys dys : Weighted) (v : HasWidth n xs) (w : HasWidth n dxs) where
@@ -61,26 +59,22 @@ module _ (width : Source → ℕ) where
   module _ (tables changes : Tables) (wide : HaveWidths width tables) (as_wide : HaveWidths width changes) where
     -- the steps do no more work than the joins
     pub work-less : (n : ℕ) (keep : Row → Bool) (xs dxs : Weighted) → HasWidth n xs → HasWidth n dxs → (steps : List Step)
-        → sides_work changes (filtered keep dxs) (joins_of steps) (belows_of steps) (built_sides tables (filtered keep xs) (joins_of steps) (belows_of steps))
+        → work_along tables changes (filtered keep xs) (filtered keep dxs) steps
         ≤ chain_work tables changes xs dxs (joins_of steps)
     work-less n keep xs dxs v w [] = size-fewer keep dxs
     work-less n keep xs dxs v w (s ∷ steps) =
         let on = meets s.node.on in
         let also = keeps s.below in
-        let last = keeps s.behind in
         let ys = tables s.source in
         let dys = changes s.source in
         let m = width s.source in
-        let passing = both n keep also last in
-        let js = joins_of steps in
-        let bs = belows_of steps in
-        let rows : filtered last (joined on (filtered keep xs) (filtered also ys)) ≡ filtered passing (joined on xs ys) =
-        ap (filtered last) (joined-filtered on n keep also xs ys v) ∙ filtered-filtered (on_parts n keep also) last (joined on xs ys) in
-        let more : filtered last (join_change on (filtered keep xs) (filtered keep dxs) (filtered also ys) (filtered also dys)) ≡ filtered passing (join_change on xs dxs ys dys) =
-        ap (filtered last) (change-filtered on n keep also xs dxs ys dys v w) ∙ filtered-filtered (on_parts n keep also) last (join_change on xs dxs ys dys) in
-        let same : sides_work changes (filtered last (join_change on (filtered keep xs) (filtered keep dxs) (filtered also ys) (filtered also dys))) js bs (built_sides tables (filtered last (joined on (filtered keep xs) (filtered also ys))) js bs)
-        ≡ sides_work changes (filtered passing (join_change on xs dxs ys dys)) js bs (built_sides tables (filtered passing (joined on xs ys)) js bs) =
-        λ i. sides_work changes (more i) js bs (built_sides tables (rows i) js bs) in
+        let passing = on_parts n keep also in
+        let rows : joined on (filtered keep xs) (filtered also ys) ≡ filtered passing (joined on xs ys) = joined-filtered on n keep also xs ys v in
+        let more : join_change on (filtered keep xs) (filtered keep dxs) (filtered also ys) (filtered also dys) ≡ filtered passing (join_change on xs dxs ys dys) =
+        change-filtered on n keep also xs dxs ys dys v w in
+        let same : work_along tables changes (joined on (filtered keep xs) (filtered also ys)) (join_change on (filtered keep xs) (filtered keep dxs) (filtered also ys) (filtered also dys)) steps
+        ≡ work_along tables changes (filtered passing (joined on xs ys)) (filtered passing (join_change on xs dxs ys dys)) steps =
+        λ i. work_along tables changes (rows i) (more i) steps in
         let rest = work-less (n + m) passing (joined on xs ys) (join_change on xs dxs ys dys) (joined-width on n m xs ys v (wide s.source))
         (change-width on n keep also xs dxs ys dys v w m (wide s.source) (as_wide s.source)) steps in
         omega (arith, join-less on n keep also xs dxs ys dys v w, same, rest)

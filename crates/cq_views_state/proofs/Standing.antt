@@ -10,7 +10,8 @@ use Rattle.cq_views_model.specs.Delta.{chain_change, changed}
 use Rattle.cq_model_laws.proofs.Positives.{joined_rows-bag}
 use Rattle.cq_model.specs.Meaning.{Tables, joined_rows, keeps}
 use Rattle.cq_model.specs.declared.query.Source.{Source}
-use Rattle.cq_deltas_joins.specs.Chains.{AreWaiting, CanChange, IsChange, IsStill, Takes, rows_of, spans}
+use Rattle.cq_deltas_joins.specs.Chains.{CanChange, IsChange, IsStill, rows_of, spans}
+use Rattle.cq_deltas_joins.specs.WaitingChanges.{AreWaiting, Takes}
 use Rattle.cq_deltas_joins.specs.Steps.{AreFew, AreStored, span}
 use Rattle.cq_deltas_joins.specs.declared.chain.Chain.{Chain}
 use Rattle.cq_deltas_joins.specs.declared.chain.Waiting.{Waiting}

@@ -9,7 +9,8 @@ use Rattle.cq_model.specs.Views.{sources_of}
 use Rattle.cq_model.specs.declared.query.Query.{Query}
 use Rattle.cq_model.specs.declared.query.Source.{Source}
 use Rattle.cq_sides_weights.specs.Held.{sizes}
-use Rattle.cq_deltas_joins.specs.Chains.{IsStill, Stands, WaitFor, nothing, spans}
+use Rattle.cq_deltas_joins.specs.Chains.{IsStill, Stands, nothing, spans}
+use Rattle.cq_deltas_joins.specs.WaitingChanges.{WaitFor}
 use Rattle.cq_deltas_joins.specs.Steps.{AreStored, CanTake}
 use Rattle.cq_views_state.specs.Joins.{IsChainOf}
 use Rattle.cq_views_state.specs.Last.{CanPut, IsChangeOf, StandsBehind, seen}

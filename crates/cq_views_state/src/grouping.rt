@@ -1,7 +1,8 @@
 //! What changes of the joined rows add to groups.
 ghost use Rattle.std.specs.List.{AllZip};
 ghost use Rattle.std.specs.Prelude.{◌≤◌, IfOk, OnOk};
-ghost use Rattle.cq_deltas_joins.specs.Chains.{AreWaiting, CanChange, IsStill};
+ghost use Rattle.cq_deltas_joins.specs.Chains.{CanChange, IsStill};
+ghost use Rattle.cq_deltas_joins.specs.WaitingChanges.{AreWaiting};
 ghost use Rattle.cq_deltas_joins.specs.Sources.{rows_at};
 ghost use Rattle.cq_deltas_joins.specs.Steps.{CanTake};
 ghost use Rattle.cq_deltas_joins.specs.Work.{CountsPairs};

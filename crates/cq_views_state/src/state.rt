@@ -196,7 +196,7 @@ impl ViewState {
         ensures counts { CountsPut self.old pending self.new }
     {
         let Pending { waiting, change } = pending;
-        self.chain.commit(waiting);
+        self.chain.take(waiting);
         self.last.commit(change);
         self.epoch = epoch;
     }

@@ -2,4 +2,4 @@ use Rattle.cq_views_state.proofs.Standing.{all-taken}
 use Rattle.cq_views_state.proofs.state.ViewState.commit.Goals as goal
 
 pub returns-clause-takes : goal.returns-clause-takes
-returns-clause-takes c = all-taken c.args.self.now c.commit.new.self c.commit-2.new.self c.args.pending c.args.epoch c.commit.ensures.takes c.commit-2.ensures
+returns-clause-takes c = all-taken c.args.self.now c.take.new.self c.commit.new.self c.args.pending c.args.epoch c.take.ensures.takes c.commit.ensures
