@@ -1,0 +1,5 @@
+pub mod Places
+pub mod Renamed
+pub mod Reads
+pub mod Naming
+pub mod Laws
