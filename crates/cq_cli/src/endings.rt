@@ -1,4 +1,7 @@
 //! How a run ends.
+//!
+//! A [`Status`] is put together statement by statement; a [`RunFault`] stops the run. [`exit_of`] makes the program's exit
+//! status of the two.
 ghost use Rattle.std.specs.Prelude.{◌≡◌};
 ghost use Rattle.cq_cli.specs.Running.{both, exit_number};
 

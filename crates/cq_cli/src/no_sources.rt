@@ -1,4 +1,6 @@
 //! Sources without a file.
+//!
+//! [`NoSources`] is for scripts that are run without a folder: each COPY is refused for its source, and counted.
 ghost use Rattle.std.specs.Prelude.{◌≡◌, [], Some};
 
 use cq_engine::{SourceFault, Sources};

@@ -1,4 +1,8 @@
 //! Where the output goes.
+//!
+//! A [`Sink`] is put bytes of which it may take a prefix, until all are taken, and flushed once they are. Whoever puts
+//! asks again for what was not taken, and stops at the first failure: each failure is counted. A [`Writer`] makes a sink of
+//! whatever writes; a put costs what its writer's write costs.
 ghost use Rattle.std.specs.Prelude.{◌≡◌, ◌≤◌, ◌<◌, ◌+◌, ◌-◌, ◌^◌, ℕ, Bool, true, false, List, Option, IfOk, OnOk, length};
 ghost use Rattle.std.specs.Io.KnownBytes.{Keeps, WriteAppends};
 ghost use Rattle.cq_cli.specs.Writing.{failures_after, failures_of};

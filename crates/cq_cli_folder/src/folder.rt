@@ -1,4 +1,7 @@
 //! The folder that a script's files lie in.
+//!
+//! A [`Folder`] reads the files that COPY names, each as often as it is asked for, and counts the reads that failed. It
+//! opens nothing under a name that is not a file's ([`is_file_name`]). A read costs the bytes of its file.
 ghost use Rattle.std.specs.Prelude.{◌≡◌, None};
 
 use crate::file_name::is_file_name;

@@ -1,4 +1,7 @@
 //! Why a command line asks for no run.
+//!
+//! A [`LineFault`] is made once, of what clap's error tells or of want of memory, and carries the text that is shown with
+//! it. [`LineFault::exit`] is the program's exit status then.
 ghost use Rattle.std.specs.Prelude.{◌≡◌, IfOk};
 ghost use Rattle.clap.specs.Words.{kind_of};
 ghost use Rattle.cq_cli_options.specs.Fault.{IsFaultOf, fault_exit};

@@ -1,4 +1,7 @@
 //! What the command line asks for.
+//!
+//! [`options_of`] is called once, with all words, and gives [`Options`] or the fault that is shown. It costs one parse by
+//! clap; nothing of the files that are named is looked at.
 ghost use Rattle.std.specs.Prelude.{◌≡◌, IfErr, IfOk, true};
 ghost use Rattle.clap.specs.Words.{FailsBy, fault_of, subcommand_rows_of, takes};
 ghost use Rattle.cq_cli_options.specs.Fault.{AnswersBy, IsLimitFault, IsMemory};

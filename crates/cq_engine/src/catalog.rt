@@ -1,4 +1,7 @@
 //! The names of the engine's tables and views.
+//!
+//! An [`EngineCatalog`] lends the tables and views of an engine to the binder, which looks names up in it while it walks
+//! through a statement. A name costs a look at each table or view; the sizes of a view's columns are worked out anew.
 ghost use Rattle.std.specs.Prelude.{◌≡◌, length, option_map};
 ghost use Rattle.cq_model.specs.Views.{sources_of};
 ghost use Rattle.cq_engine.specs.Views.{query_named};

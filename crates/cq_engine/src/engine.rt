@@ -1,4 +1,8 @@
 //! The engine, and one step of it.
+//!
+//! An [`Engine`] is made empty and moved by `step`, one statement at a time: the statement is bound to the tables and views
+//! that are there, or refused, and then carried out whole or not at all. Between steps its views stand for its tables. A
+//! step costs what its statement's rows do; a write, also what it changes in each view on its table.
 ghost use Rattle.std.specs.Prelude.{◌≡◌, ◌<◌, ◌+◌, ◌-◌, ◌^◌, ◌∷◌, [], Ok, option_map};
 ghost use Rattle.cq_binder_rules.specs.Refusal.{reads_source};
 ghost use Rattle.cq_binder_rules.specs.Sources.{reads_behind};

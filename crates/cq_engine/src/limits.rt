@@ -1,4 +1,6 @@
 //! The limits that a caller sets.
+//!
+//! [`Limits`] is given to an engine once, when it is made: whoever holds one knows that it is in range.
 ghost use Rattle.std.specs.Prelude.{◌≡◌, ◌≤◌, ◌↔◌, IfSome, IsSome};
 ghost use Rattle.cq_model_state.specs.Fitting.{rows_limit};
 

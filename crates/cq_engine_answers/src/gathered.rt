@@ -1,4 +1,7 @@
 //! The rows of all sources that FROM names: those of a table where they are, and those that a view shows.
+//!
+//! `gather` makes the rows of the views first, once for each time that FROM names one; `lend_all` then lends them beside
+//! those of the tables, which stay where they are. Only rows of views cost memory.
 ghost use Rattle.std.specs.Prelude.{◌≡◌, ℕ, IfErr, IfOk, List, OnOk};
 ghost use Rattle.std.specs.List.{AllByRecursion};
 ghost use Rattle.cq_model.specs.Views.{sources_of};

@@ -1,4 +1,7 @@
 //! Tables as lists of rows, and views that are worked out anew, by the plain evaluator.
+//!
+//! A [`PlainEngine`] is given each command that the engine has carried out, in the same order, and each query after it. A
+//! query of a view costs what the view's query costs over whole tables.
 use cq_binder_rules::Bound;
 use cq_model::{Assignment, Cond, Order, Query, Source};
 use cq_test_plain::{Lent, PlainFault, answer_on, left_by, listing, updated};

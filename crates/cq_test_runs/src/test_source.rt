@@ -1,4 +1,7 @@
 //! A source in memory that counts how often it is read, and fails at one of its reads.
+//!
+//! A [`TestSource`] gives one text under every name, so that a script's COPY statements read it in turn. When the run is
+//! over it tells how often it was read, and how often it failed.
 ghost use Rattle.std.specs.Prelude.{◌≡◌, Some};
 
 use cq_cli::{SourceFault, Sources};

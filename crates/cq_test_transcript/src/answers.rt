@@ -1,4 +1,7 @@
 //! A sink in memory that keeps answer from answer.
+//!
+//! An [`Answers`] takes all that a run puts, and marks where each answer ends, so that the transcript can show it behind its
+//! statement.
 ghost use Rattle.std.specs.Prelude.{◌≡◌, ◌++◌, [], Some, IfOk, IfErr, false};
 
 use cq_cli::Sink;

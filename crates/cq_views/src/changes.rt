@@ -1,4 +1,7 @@
 //! What a write changes in a table, cut to the columns that a query reads.
+//!
+//! A [`TableChange`] lends the rows that leave a table and those that come to it. It is made once for a write and shown to
+//! each view; a view that reads the table copies the columns of them that it reads, and no other view pays for it.
 ghost use Rattle.std.specs.Prelude.{IfOk, OnOk, length};
 ghost use Rattle.cq_deltas_joins.specs.Sources.{rows_at};
 ghost use Rattle.cq_table_columns.specs.Stored.{stored_rows};

@@ -1,4 +1,9 @@
 //! A view as it is kept, over the columns that its query reads.
+//!
+//! A [`KeptView`] is built at once from the rows of its tables. A write of a table that it reads goes in by `prepare`,
+//! which copies the columns it reads of the changed rows, makes all growth and may fail, and then `commit`, which cannot;
+//! a write of another table by `advance` alone. A write costs its own rows and the pairs that they meet in the joins, and
+//! `rows` what the view holds behind them.
 ghost use Rattle.std.specs.List.{AllByRecursion};
 ghost use Rattle.std.specs.Prelude.{◌<◌, ◌≡◌, ◌≤◌, ◌^◌, IfErr, IfOk, OnOk, sum};
 ghost use Rattle.cq_model.specs.declared.fault.ShowFault.TheVariants.{SumOutOfRange};

@@ -1,4 +1,9 @@
-//! A view as it is kept.
+//! The state that is kept of a view's query: the sides of its joins, and what stands behind them.
+//!
+//! Made by `empty`, it stands for no rows. Changes of its tables go in by `prepare`, which makes all growth and may fail,
+//! and `commit` with what that gave, which cannot; between the two nothing is shown of them. `advance` counts a write of
+//! other tables alone, and `restart` ends a build. A change costs its own rows and the pairs that they meet, `rows` what is
+//! held behind the joins, and all else the same whatever is held.
 ghost use Rattle.std.specs.List.{AllByRecursion};
 ghost use Rattle.std.specs.Prelude.{◌≡◌, ◌≤◌, IfErr, IfOk, OnOk, length};
 ghost use Rattle.cq_deltas_joins.specs.Chains.{nothing};
