@@ -34,7 +34,7 @@ pub fn listed_rows<'a>(
     while exec.next(alloc, &mut batch)? {
         list.add(alloc, &batch)?;
     }
-    list.rows(alloc)
+    Ok(list.rows(alloc)?)
 }
 
 /// The listing of rows that are made. None of them is copied.
