@@ -5,9 +5,10 @@ ghost use Rattle.cq_model_state.specs.State.{AreNumbered, ViewOf};
 ghost use Rattle.cq_engine_answers.specs.Reading.{AreTablesThere, IsSourceThere};
 ghost use Rattle.cq_engine.specs.Gathering.{AreGathered, GathersAlso, is_gathered};
 
-use cq_engine_answers::{rows_there, sources_of};
+use cq_engine_answers::rows_there;
 use cq_engine_tables::Table;
 use cq_model::{Query, Source};
+use cq_model_terms::sources_of;
 use cq_table_columns::StoredSource;
 use std::alloc::{AllocError, Global};
 

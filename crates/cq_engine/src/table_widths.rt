@@ -1,15 +1,15 @@
 //! How many columns the tables have that a query names.
 ghost use Rattle.std.specs.List.{AllByRecursion, AllZip};
-ghost use Rattle.std.specs.Prelude.{◌+◌, ◌<◌, ◌≡◌, ◌^◌, ℕ, IfOk, sum};
+ghost use Rattle.std.specs.Prelude.{◌<◌, ◌^◌, ℕ, IfOk, sum};
 ghost use Rattle.cq_model.specs.Views.{sources_of};
 ghost use Rattle.cq_model_state.specs.State.{AreNumbered};
 ghost use Rattle.cq_engine.specs.TableWidths.{IsTableThere};
 ghost use Rattle.cq_engine_tables.specs.Views.{AreWide, IsWide};
 
-use cq_engine_answers::sources_of;
 use cq_engine_tables::{Table, place_numbered};
 use cq_model::{Query, Source};
-use cq_operators_scans::refused_room;
+use cq_model_terms::sources_of;
+use cq_operators_scans::widened;
 use cq_values::Seq;
 use std::alloc::{AllocError, Global};
 
@@ -57,19 +57,5 @@ fn width_of(tables: &[Table], source: Source) -> usize
             tables[place].columns().len()
         }
         Source::View(_) => 0,
-    }
-}
-
-/// How many columns there are with so many more. What is too wide to be counted is refused its room.
-fn widened(alloc: Global, width: usize, more: usize) -> Result<usize, AllocError>
-    ensures wider { IfOk result (λ wider. wider ≡ width + more) }
-    ensures counted { IfOk result (λ wider. wider < 2 ^ 64) }
-{
-    match width.checked_add(more) {
-        Some(wider) => Ok(wider),
-        None => {
-            refused_room(alloc)?;
-            unreachable!()
-        }
     }
 }

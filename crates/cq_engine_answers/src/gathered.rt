@@ -4,7 +4,6 @@
 //! those of the tables, which stay where they are. Only rows of views cost memory.
 ghost use Rattle.std.specs.Prelude.{◌≡◌, ℕ, IfErr, IfOk, List, OnOk};
 ghost use Rattle.std.specs.List.{AllByRecursion};
-ghost use Rattle.cq_model.specs.Views.{sources_of};
 ghost use Rattle.cq_table_columns.specs.Stored.{all_rows};
 ghost use Rattle.cq_model_state.specs.State.{AreNumbered, TableOf, ViewOf};
 ghost use Rattle.cq_views.specs.Shown.{AreRowsOf, IsShown};
@@ -15,7 +14,7 @@ ghost use Rattle.cq_engine_tables.specs.Views.{views_of};
 
 use cq_binder_rules::Fault;
 use cq_engine_tables::{Table, View, place_numbered};
-use cq_model::{Query, ShowFault, Source};
+use cq_model::{ShowFault, Source};
 use cq_table_columns::{Stored, StoredSource};
 use cq_values::{Row, Seq};
 use cq_values_rows::RowList;
@@ -26,18 +25,6 @@ use std::alloc::{AllocError, Global};
 pub struct Gathered {
     pub source: Source,
     pub shown: Seq<Row>,
-}
-
-/// The sources that FROM names, in their order.
-pub fn sources_of(alloc: Global, query: &Query) -> Result<Vec<Source>, AllocError>
-    ensures { IfOk result (λ sources. sources.items ≡ sources_of query.now) }
-{
-    let mut sources = Vec::new(alloc);
-    sources.push(query.first)?;
-    for join in query.joins.as_slice() {
-        sources.push(join.source)?;
-    }
-    Ok(sources)
 }
 
 /// What the views among the sources show.

@@ -2,12 +2,12 @@
 //!
 //! Rows of one source are read where they are; those of several are lent, joined by their keys, grouped and listed.
 //! [`select_from`] answers the one list that stands for what the query means, or that a total cannot be shown.
-//! [`sources_of`] and [`rows_there`] tell whoever builds a view what FROM names, and where a table's rows are.
+//! [`rows_there`] tells whoever builds a view where a table's rows are.
 #![tactic(auto)]
 
 mod gathered;
 mod reading;
 mod selection;
 
-pub use gathered::{rows_there, sources_of};
+pub use gathered::rows_there;
 pub use reading::select_from;

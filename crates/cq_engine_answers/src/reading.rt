@@ -13,13 +13,14 @@ ghost use Rattle.cq_engine_answers.specs.Selects.{Selects, SelectsKept, SelectsL
 ghost use Rattle.cq_engine_tables.specs.Views.{AreRight, views_of};
 ghost use Rattle.cq_engine_answers.specs.Gathered.{IsBacked};
 
-use crate::gathered::{gather, lend_all, rows_shown, sources_of};
+use crate::gathered::{gather, lend_all, rows_shown};
 use crate::selection::{list, list_made};
 use cq_binder_rules::Fault;
 use cq_engine_tables::{Table, View, place_numbered};
 use cq_model::{Order, Query, Shape, ShowFault, Source};
 use cq_model_eval::narrow_is_exact;
 use cq_model_laws::{groups_keep_sizes, joined_rows_keep_sizes, meaning_depends_on_sources};
+use cq_model_terms::sources_of;
 use cq_operators::select;
 use cq_plan::{chain_of_lists, own_conditions_are_exact};
 use cq_table_columns::{Stored, StoredSource, rows_of};

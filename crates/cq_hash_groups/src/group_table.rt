@@ -15,8 +15,8 @@ use crate::keys::{first_groups, number_rows};
 use crate::shown::shown_row;
 use crate::slots::Slots;
 use cq_hash_keys::KeyTable;
-use cq_model::{Aggregate, COUNT_SIZE, ShowFault};
-use cq_operators_scans::{Scan, refused_room};
+use cq_model::{Aggregate, ShowFault};
+use cq_operators_scans::{Scan, counted};
 use cq_values::{Row, Seq};
 use std::alloc::{AllocError, Global};
 use std::marker::Model;
@@ -111,17 +111,4 @@ impl<'q> GroupTable<'q> {
         }
         Ok(rows)
     }
-}
-
-/// How many rows there are with so many more.
-fn counted(alloc: Global, count: u128, more: usize) -> Result<u128, AllocError>
-    requires { count ≤ count_size }
-    ensures all { IfOk result (λ all. all ≡ count + more) }
-    ensures few { IfOk result (λ all. all ≤ count_size) }
-{
-    let all = count + more as u128;
-    if all > COUNT_SIZE {
-        refused_room(alloc)?;
-    }
-    Ok(all)
 }

@@ -1,5 +1,5 @@
 -- An expression with its columns renamed has the value in the narrower row that it has in the whole row.
-use Rattle.std.proofs.Common.{◌≡◌, ℕ, max, Bool, true, ◌||◌, List, [], ◌∷◌, map, refl, ap}
+use Rattle.std.proofs.Common.{◌≡◌, ℕ, max, Bool, ◌||◌, List, [], ◌∷◌, map, refl, ap}
 use Rattle.std.proofs.lemmas.Bool.{eq-eqb, or_left, or_right}
 use Rattle.std.specs.List.{fold, list_any}
 use Rattle.cq_values.specs.declared.comparison.Comparison.TheVariants.{Equal}

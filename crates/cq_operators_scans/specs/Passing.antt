@@ -1,5 +1,5 @@
 -- Rows of one source that pass conditions of their own, with NULL in the columns of the sources before it.
-use Rattle.std.specs.Prelude.{ℕ, Bool, List, map}
+use Rattle.std.specs.Prelude.{◌≡◌, ℕ, Bool, List, map}
 use Rattle.std.specs.Borrow.{Bor}
 use Rattle.std.specs.List.{AllByRecursion, filter}
 use Rattle.cq_values.specs.Truth.{is_true}
@@ -10,6 +10,8 @@ use Rattle.cq_model.specs.Exact.{AreExactIn}
 use Rattle.cq_model.specs.Expr.{Cond}
 use Rattle.cq_model.specs.Trees.{cond_of}
 use Rattle.cq_model.specs.declared.expr.CondTree.{CondTree}
+use Rattle.cq_table_columns.specs.Stored.{stored_rows}
+use Rattle.cq_table_columns.specs.declared.stored_row.StoredRow.{StoredRow}
 
 -- the conditions of trees that are lent
 abbrev pub conditions_in : List (Bor CondTree) → List Cond
@@ -34,3 +36,11 @@ passing_one before tree rows = filter (passes_one before tree) rows
 -- the rows that pass them all
 abbrev pub passing_rows : ℕ → List (Bor CondTree) → List Row → List Row
 passing_rows before conditions rows = filter (passes_own before (conditions_in conditions)) rows
+
+-- no number on the way is too wide in any of these rows
+abbrev pub CanAllPass : ℕ → List (Bor CondTree) → List Row → Type 0
+CanAllPass before conditions rows = AllByRecursion (CanPass before (conditions_in conditions)) rows
+
+-- these are the rows that pass them all
+abbrev pub ArePassed : ℕ → List (Bor CondTree) → List Row → List StoredRow → Type 0
+ArePassed before conditions rows passed = stored_rows passed ≡ passing_rows before conditions rows

@@ -1,12 +1,13 @@
 -- Truths of the rows of a scan.
-use Rattle.std.specs.Prelude.{◌≡◌, List, map}
+use Rattle.std.specs.Prelude.{◌≡◌, ℕ, List, map}
 use Rattle.std.specs.Simd.Lanes.{zip2}
 use Rattle.cq_values.specs.declared.truth.Truth.{Truth}
 use Rattle.cq_values.specs.Comparison.{compared}
+use Rattle.cq_values.specs.Truth.{truth_of}
 use Rattle.cq_values.specs.Value.{Row}
 use Rattle.cq_values.specs.declared.value.Value.{Value}
 use Rattle.cq_values.specs.declared.comparison.Comparison.{Comparison}
-use Rattle.cq_model.specs.Condition.{between}
+use Rattle.cq_model.specs.Condition.{between, is_null, liked}
 use Rattle.cq_model.specs.Eval.{eval}
 use Rattle.cq_model.specs.declared.expr.ExprTree.{ExprTree}
 use Rattle.cq_model.specs.Trees.{expr_of}
@@ -27,6 +28,14 @@ compared_at comparison a b r = compared comparison (eval (expr_of a) r) (eval (e
 -- whether the value of an expression lies between those of two others in a row
 abbrev pub between_at : ExprTree → ExprTree → ExprTree → Row → Truth
 between_at e least greatest r = between (eval (expr_of e) r) (eval (expr_of least) r) (eval (expr_of greatest) r)
+
+-- whether it is NULL in a row
+abbrev pub is_null_at : ExprTree → Row → Truth
+is_null_at e r = truth_of (is_null (eval (expr_of e) r))
+
+-- whether it is like a pattern in a row
+abbrev pub is_liked_at : ExprTree → List ℕ → Row → Truth
+is_liked_at e pattern r = liked (eval (expr_of e) r) pattern
 
 -- whether it equals that of one of the choices in a row
 abbrev pub is_one_at : ExprTree → List ExprTree → Row → Truth

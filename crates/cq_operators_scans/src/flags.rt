@@ -7,11 +7,11 @@ ghost use Rattle.cq_model.specs.Meaning.{keeps};
 ghost use Rattle.cq_model.specs.Width.{IsNarrowIn};
 ghost use Rattle.cq_operators_scans.specs.Flagged.{flags_of};
 
-use crate::columns::columns_of;
 use crate::scan::Scan;
 use crate::truths::truths_of;
 use cq_model::Cond;
 use cq_model_eval::narrow_is_exact;
+use cq_model_terms::columns_of;
 use cq_table_columns::{Front, Stored};
 use std::alloc::{AllocError, Global};
 

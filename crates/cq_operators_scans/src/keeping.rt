@@ -7,12 +7,12 @@ ghost use Rattle.cq_model.specs.Width.{IsNarrowIn};
 ghost use Rattle.cq_operators_scans.specs.Kept.{KeepsMore, kept_of};
 ghost use Rattle.cq_table_columns.specs.Stored.{all_rows, front_rows, stored_rows};
 
-use crate::columns::columns_of;
 use crate::lent::lend_all;
 use crate::scan::Scan;
 use crate::truths::truths_of;
 use cq_model::Cond;
 use cq_model_eval::narrow_is_exact;
+use cq_model_terms::columns_of;
 use cq_table_columns::{Front, Stored, StoredRow};
 use std::alloc::{AllocError, Global};
 
@@ -53,7 +53,7 @@ fn kept_by<'a>(
 }
 
 /// Adds those of at most 1,024 rows that the condition keeps. These columns are gathered once.
-pub fn keep_front<'a>(
+fn keep_front<'a>(
     alloc: Global,
     condition: &Cond,
     columns: &[usize],

@@ -1,4 +1,7 @@
 //! Vectors that are lent by a scan, or were worked out.
+//!
+//! An [`Operand`] is what a kernel reads: [`Operand::vector`] lends its values, whichever it is, and costs nothing. It is let
+//! go before its scan. [`lend_vectors`] lends those of several, for one list of them.
 ghost use Rattle.std.specs.Prelude.{◌≡◌, IfOk, map};
 ghost use Rattle.cq_operators_scans.specs.Operand.{values_in};
 

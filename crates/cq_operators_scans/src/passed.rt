@@ -2,15 +2,15 @@
 ghost use Rattle.std.specs.List.{AllByRecursion};
 ghost use Rattle.std.specs.Prelude.{◌≡◌, ◌≤◌, IfOk, length};
 ghost use Rattle.cq_model.specs.Trees.{cond_of};
-ghost use Rattle.cq_operators_scans.specs.Passing.{CanPass, IsExactBehind, conditions_in, passing_one, passing_rows};
+ghost use Rattle.cq_operators_scans.specs.Passing.{ArePassed, CanAllPass, IsExactBehind, passing_one, passing_rows};
 ghost use Rattle.cq_table_columns.specs.Rows.{rows_in};
-ghost use Rattle.cq_table_columns.specs.Stored.{all_rows, front_rows, stored_rows};
+ghost use Rattle.cq_table_columns.specs.Stored.{all_rows, front_rows};
 
-use crate::columns::columns_of;
 use crate::lent::lend_all;
 use crate::scan::Scan;
 use crate::truths::truths_of_tree;
 use cq_model::CondTree;
+use cq_model_terms::columns_of;
 use cq_table_columns::{Front, Stored, StoredRow, StoredRows};
 use cq_vectors_masks::Selection;
 use std::alloc::{AllocError, Global};
@@ -23,8 +23,8 @@ pub fn passing<'a>(
     conditions: &[&'a CondTree],
     rows: &Stored<'a>,
 ) -> Result<Vec<StoredRow<'a>>, AllocError>
-    requires { AllByRecursion (CanPass before (conditions_in conditions.now)) (all_rows rows.now) }
-    ensures { IfOk result (λ p. stored_rows p.items ≡ passing_rows before conditions.now (all_rows rows.now)) }
+    requires { CanAllPass before conditions.now (all_rows rows.now) }
+    ensures { IfOk result (λ p. ArePassed before conditions.now (all_rows rows.now) p.items) }
 {
     if conditions.is_empty() {
         return lend_all(alloc, rows);
@@ -41,15 +41,15 @@ pub fn passing<'a>(
 }
 
 /// Those of at most 1,024 rows that pass: each condition is asked of the rows that the ones before it left.
-pub fn passing_front<'a>(
+fn passing_front<'a>(
     alloc: Global,
     before: usize,
     conditions: &[&'a CondTree],
     front: &Front<'a>,
 ) -> Result<Vec<StoredRow<'a>>, AllocError>
     requires few { length (front_rows front.now) ≤ 1024 }
-    requires exact { AllByRecursion (CanPass before (conditions_in conditions.now)) (front_rows front.now) }
-    ensures { IfOk result (λ p. stored_rows p.items ≡ passing_rows before conditions.now (front_rows front.now)) }
+    requires exact { CanAllPass before conditions.now (front_rows front.now) }
+    ensures { IfOk result (λ p. ArePassed before conditions.now (front_rows front.now) p.items) }
 {
     let passed = pass_all(alloc, before, conditions, front)?;
     passed.into_rows(alloc)
@@ -63,7 +63,7 @@ pub fn scan_passing<'a>(
     columns: &[usize],
 ) -> Result<Scan<'a>, AllocError>
     requires few { length (front_rows front.now) ≤ 1024 }
-    requires exact { AllByRecursion (CanPass 0 (conditions_in conditions.now)) (front_rows front.now) }
+    requires exact { CanAllPass 0 conditions.now (front_rows front.now) }
     ensures { IfOk result (λ scan. scan ≡ passing_rows 0 conditions.now (front_rows front.now)) }
 {
     let passed = pass_all(alloc, 0, conditions, front)?;
@@ -77,7 +77,7 @@ fn pass_all<'a>(
     front: &Front<'a>,
 ) -> Result<StoredRows<'a>, AllocError>
     requires few { length (front_rows front.now) ≤ 1024 }
-    requires exact { AllByRecursion (CanPass before (conditions_in conditions.now)) (front_rows front.now) }
+    requires exact { CanAllPass before conditions.now (front_rows front.now) }
     ensures { IfOk result (λ p. rows_in p ≡ passing_rows before conditions.now (front_rows front.now)) }
 {
     let mut passed = StoredRows::Front(*front);

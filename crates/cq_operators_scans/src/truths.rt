@@ -3,12 +3,11 @@ ghost use Rattle.std.specs.Prelude.{◌≡◌, IfOk, length, map};
 ghost use Rattle.std.specs.List.{AllByRecursion};
 ghost use Rattle.std.specs.Simd.Lanes.{zip2};
 ghost use Rattle.cq_values.specs.Comparison.{compared};
-ghost use Rattle.cq_values.specs.Truth.{and_truth, or_truth, truth_of};
-ghost use Rattle.cq_model.specs.Condition.{holds, is_null, liked};
-ghost use Rattle.cq_model.specs.Eval.{eval};
+ghost use Rattle.cq_values.specs.Truth.{and_truth, or_truth};
+ghost use Rattle.cq_model.specs.Condition.{holds, liked};
 ghost use Rattle.cq_model.specs.Exact.{AreExactAt, AreExactIn, IsExactAt};
 ghost use Rattle.cq_model.specs.Trees.{cond_of, expr_of};
-ghost use Rattle.cq_operators_scans.specs.Truths.{AreCompared, AreTruths, between_at, compared_at, is_one_at};
+ghost use Rattle.cq_operators_scans.specs.Truths.{AreCompared, AreTruths, between_at, compared_at, is_liked_at, is_null_at, is_one_at};
 
 use crate::scan::Scan;
 use crate::vectors::vector_of_tree;
@@ -21,7 +20,7 @@ use cq_vectors_masks::TruthMask;
 use std::alloc::{AllocError, Global};
 
 /// The truth of the condition in each row.
-pub fn truths_of<'a>(
+pub(crate) fn truths_of<'a>(
     alloc: Global,
     cond: &'a Cond,
     scan: &Scan<'a>,
@@ -87,7 +86,7 @@ fn compared_in<'a>(
 
 fn nulls_in<'a>(alloc: Global, expr: &'a ExprTree, scan: &Scan<'a>) -> Result<TruthMask, AllocError>
     requires { AllByRecursion (IsExactAt (expr_of expr.now)) scan.now }
-    ensures { IfOk result (λ truths. truths ≡ map (λ r. truth_of (is_null (eval (expr_of expr.now) r))) scan.now) }
+    ensures { IfOk result (AreTruths (is_null_at expr.now) scan.now) }
 {
     let values = vector_of_tree(alloc, expr, scan)?;
     let mut truths = TruthMask::new();
@@ -103,7 +102,7 @@ fn likes_in<'a>(
     scan: &Scan<'a>,
 ) -> Result<TruthMask, AllocError>
     requires { AllByRecursion (IsExactAt (expr_of expr.now)) scan.now }
-    ensures { IfOk result (λ truths. truths ≡ map (λ r. liked (eval (expr_of expr.now) r) pattern.now) scan.now) }
+    ensures { IfOk result (AreTruths (is_liked_at expr.now pattern.now) scan.now) }
 {
     let values = vector_of_tree(alloc, expr, scan)?;
     let truths = liked(alloc, values.vector(), pattern);

@@ -69,10 +69,7 @@ fn worked_out<'a>(
             let values = Vector::new(Form::Constant(value.lend(), scan.len()));
             Ok(Worked::Values(values))
         }
-        ExprTree::Negate(part) => {
-            let part = worked_out(alloc, part, scan)?;
-            part.negated(alloc, scan)
-        }
+        ExprTree::Negate(part) => worked_out(alloc, part, scan)?.negated(alloc, scan),
         ExprTree::Sum(first, rest) => {
             let mut sum = worked_out(alloc, first, scan)?;
             for term in rest {
@@ -102,8 +99,7 @@ fn worked_out<'a>(
             Ok(product)
         }
         ExprTree::Extract(day_part, part) => {
-            let part = worked_out(alloc, part, scan)?;
-            part.extracted(alloc, *day_part, scan)
+            worked_out(alloc, part, scan)?.extracted(alloc, *day_part, scan)
         }
     }
 }

@@ -102,19 +102,11 @@ fn sum<'a>(
     requires fits { AllInRange (sums_worked scan.now a.now b.now) }
     ensures { IfOk result (λ made. made ≡ sums_worked scan.now a.now b.now) }
 {
-    let a = a.lend(alloc, scan)?;
-    match b.lend(alloc, scan) {
-        Ok(b) => {
-            let made = add(alloc, a.vector(), b.vector());
-            drop(b);
-            drop(a);
-            made
-        }
-        Err(fault) => {
-            drop(a);
-            Err(fault)
-        }
-    }
+    let (a, b) = lend_two(alloc, a, b, scan)?;
+    let made = add(alloc, a.vector(), b.vector());
+    drop(b);
+    drop(a);
+    made
 }
 
 fn product<'a>(
@@ -127,14 +119,26 @@ fn product<'a>(
     requires fits { AllInRange (products_worked scan.now a.now b.now) }
     ensures { IfOk result (λ made. made ≡ products_worked scan.now a.now b.now) }
 {
+    let (a, b) = lend_two(alloc, a, b, scan)?;
+    let made = mul(alloc, a.vector(), b.vector());
+    drop(b);
+    drop(a);
+    made
+}
+
+/// The values of both, lent where they are there.
+fn lend_two<'s, 'a>(
+    alloc: Global,
+    a: &'s Worked<'a>,
+    b: &'s Worked<'a>,
+    scan: &'s Scan<'a>,
+) -> Result<(Operand<'s, 'a>, Operand<'s, 'a>), AllocError>
+    ensures a { IfOk result (λ two. values_in two.0 ≡ values_worked scan.now a.now) }
+    ensures b { IfOk result (λ two. values_in two.1 ≡ values_worked scan.now b.now) }
+{
     let a = a.lend(alloc, scan)?;
     match b.lend(alloc, scan) {
-        Ok(b) => {
-            let made = mul(alloc, a.vector(), b.vector());
-            drop(b);
-            drop(a);
-            made
-        }
+        Ok(b) => Ok((a, b)),
         Err(fault) => {
             drop(a);
             Err(fault)

@@ -3,3 +3,4 @@ pub mod Below
 pub mod Chains
 pub mod Exactly
 pub mod Owned
+pub mod OwnTests

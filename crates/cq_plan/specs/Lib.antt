@@ -1,5 +1,6 @@
 pub mod Plan
 pub mod Chain
 pub mod Own
+pub mod OwnTest
 pub mod Below
 pub mod Laws

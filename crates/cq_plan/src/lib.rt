@@ -7,6 +7,7 @@
 mod columns;
 mod laws;
 mod own;
+mod own_test;
 mod plan;
 
 pub use columns::columns_of_condition;
@@ -14,4 +15,5 @@ pub use laws::{
     chain_of_lists, chains_in_parts, own_conditions_are_exact, own_conditions_below_joins,
 };
 pub use own::own_conditions;
+pub use own_test::own_condition;
 pub use plan::Plan;

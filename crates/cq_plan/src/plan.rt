@@ -1,4 +1,7 @@
 //! What is worked out of a query once, before any row is read.
+//!
+//! A [`Plan`] lends the parts of its query. [`Plan::of`] makes it by one walk over the condition and the items; then its
+//! fields are read for each batch of rows, and never change.
 ghost use Rattle.std.specs.Prelude.{IfOk};
 ghost use Rattle.cq_plan.specs.Plan.{IsPlanOf};
 

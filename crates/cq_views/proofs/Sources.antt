@@ -9,7 +9,7 @@ use Rattle.cq_model.specs.Group.{key_of}
 use Rattle.cq_model.specs.Meaning.{Tables}
 use Rattle.cq_model.specs.declared.query.Query.{Query}
 use Rattle.cq_model.specs.declared.query.Source.{Source}
-use Rattle.cq_views_columns.proofs.Rows.{one-first, one-second}
+use Rattle.std.proofs.lemmas.Bool.{or_left, or_right}
 use Rattle.cq_views_columns.specs.Narrow.{columns_at, sources_read}
 use Rattle.cq_views_columns.specs.declared.columns.SourceColumns.{SourceColumns}
 use Rattle.cq_model_bags.proofs.Lists.{all-weaker}
@@ -26,8 +26,8 @@ module _ (q : Query) (all : List ℕ) where
   all-entered width [] = tt
   all-entered width (s ∷ sources) =
       let later = sources_read q all sources (map width sources) in (
-        one-first (same_source s s) (has_entry later s) (itself s),
-        all-weaker (λ t. has_entry later t ≡ true) (λ t. same_source s t || has_entry later t ≡ true) (λ t h. one-second (same_source s t) (has_entry later t) h) sources (all-entered width sources),
+        or_left (same_source s s) (has_entry later s) (itself s),
+        all-weaker (λ t. has_entry later t ≡ true) (λ t. same_source s t || has_entry later t ≡ true) (λ t h. or_right (same_source s t) (has_entry later t) h) sources (all-entered width sources),
       )
 
 -- a source that has an entry is cut to its columns

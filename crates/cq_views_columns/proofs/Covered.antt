@@ -1,7 +1,7 @@
 -- The columns that a query reads of its sources are all that its joins, WHERE, groups and items read.
 use Rattle.std.proofs.Common.{◌≡◌, ℕ, ◌+◌, ◌<◌, ◌==◌, Bool, true, false, ◌&&◌, ◌||◌, nat_lt, List, [], ◌∷◌, map, refl, sym, ◌∙◌, ap, subst, arith}
 use Rattle.std.proofs.lemmas.Bool.Decides.{nat_tests}
-use Rattle.std.proofs.lemmas.Bool.{eq-eqb}
+use Rattle.std.proofs.lemmas.Bool.{eq-eqb, or_left, or_right}
 use Rattle.std.specs.List.{AllByRecursion, list_any}
 use Rattle.cq_model_bags.proofs.Totals.{by_test}
 use Rattle.cq_model.specs.Sources.{same_source}
@@ -11,10 +11,10 @@ use Rattle.cq_model.specs.declared.query.Join.{Join}
 use Rattle.cq_model.specs.declared.query.Query.{Query}
 use Rattle.cq_model.specs.declared.query.Source.{Source}
 use Rattle.cq_views_columns.specs.Narrow.{columns_at, columns_read, sources_read}
-use Rattle.cq_views_columns.specs.Places.{is_one_of}
+use Rattle.cq_model_terms.specs.Places.{is_one_of}
 use Rattle.cq_views_columns.specs.Reads.{is_read, reads_filter, reads_from, reads_joined, reads_left, reads_right, reads_shape}
 use Rattle.cq_views_columns.proofs.Joined.{AreCovered, Covers, IsCovered}
-use Rattle.cq_views_columns.proofs.Rows.{one-first, one-second, range-below, range-has}
+use Rattle.cq_views_columns.proofs.Rows.{range-below, range-has}
 use Rattle.cq_model.proofs.SameSources.{itself, only_itself}
 
 -- what holds of each of two holds of both
@@ -50,7 +50,7 @@ module _ (q : Query) (width : Source → ℕ) where
         each = λ c low h.
             ap (λ (cs : List ℕ). is_one_of cs c) are
             ∙ range-has (is_read q widths s) 0 (width s) c (omega arith) (omega (arith, low))
-            (one-second (list_any (reads_right s c) q.joins) (reads_from q s c 0 (sources_of q) widths) (up c low h));
+            (or_right (list_any (reads_right s c) q.joins) (reads_from q s c 0 (sources_of q) widths) (up c low h));
       }
 
   -- what a source's ON reads
@@ -59,14 +59,14 @@ module _ (q : Query) (width : Source → ℕ) where
   on-covered s there [] left right = tt
   on-covered s there (e ∷ on) left right = (
     (
-      left e.left (one-first (e.left == e.left) (list_any (λ d. d.left == e.left) on) (eq-eqb e.left e.left refl)),
+      left e.left (or_left (e.left == e.left) (list_any (λ d. d.left == e.left) on) (eq-eqb e.left e.left refl)),
       λ low.
           ap (λ (cs : List ℕ). is_one_of cs e.right) (found (sources_of q) s there)
           ∙ range-has (is_read q widths s) 0 (width s) e.right (omega arith) (omega (arith, low))
-          (one-first (list_any (reads_right s e.right) q.joins) (reads_from q s e.right 0 (sources_of q) widths)
-          (right e.right (one-first (e.right == e.right) (list_any (λ d. d.right == e.right) on) (eq-eqb e.right e.right refl)))),
+          (or_left (list_any (reads_right s e.right) q.joins) (reads_from q s e.right 0 (sources_of q) widths)
+          (right e.right (or_left (e.right == e.right) (list_any (λ d. d.right == e.right) on) (eq-eqb e.right e.right refl)))),
     ),
-    on-covered s there on (λ i h. left i (one-second (e.left == i) (list_any (λ d. d.left == i) on) h)) (λ c h. right c (one-second (e.right == c) (list_any (λ d. d.right == c) on) h)),
+    on-covered s there on (λ i h. left i (or_right (e.left == i) (list_any (λ d. d.left == i) on) h)) (λ c h. right c (or_right (e.right == c) (list_any (λ d. d.right == c) on) h)),
   )
 
   -- all joins from here on
@@ -78,17 +78,17 @@ module _ (q : Query) (width : Source → ℕ) where
   joins-covered n (j ∷ js) among from left right =
       let s = j.source in
       let later = map (λ k. k.source) js in
-      let there = among s (one-first (same_source s s) (is_among later s) (itself s)) in (
+      let there = among s (or_left (same_source s s) (is_among later s) (itself s)) in (
         source-covers n s there (λ c low h.
             let here : same_source s s && (nat_lt c (width s) && reads_joined q (n + c)) ≡ true =
             both-hold (same_source s s) (nat_lt c (width s) && reads_joined q (n + c)) (itself s) (both-hold (nat_lt c (width s)) (reads_joined q (n + c)) (grind (arith, nat_tests, low)) h) in
-            from s c (one-first (same_source s s && (nat_lt c (width s) && reads_joined q (n + c))) (reads_from q s c (n + width s) later (map width later)) here)),
-        on-covered s there j.on (λ i h. left i (one-first (reads_left i j) (list_any (reads_left i) js) h))
-            (λ c h. right s c (one-first (reads_right s c j) (list_any (reads_right s c) js) (both-hold (same_source s s) (list_any (λ e. e.right == c) j.on) (itself s) h))),
-        joins-covered (n + width s) js (λ t h. among t (one-second (same_source s t) (is_among later t) h))
-            (λ t c h. from t c (one-second (same_source s t && (nat_lt c (width s) && reads_joined q (n + c))) (reads_from q t c (n + width s) later (map width later)) h))
-            (λ i h. left i (one-second (reads_left i j) (list_any (reads_left i) js) h))
-            (λ t c h. right t c (one-second (reads_right t c j) (list_any (reads_right t c) js) h)),
+            from s c (or_left (same_source s s && (nat_lt c (width s) && reads_joined q (n + c))) (reads_from q s c (n + width s) later (map width later)) here)),
+        on-covered s there j.on (λ i h. left i (or_left (reads_left i j) (list_any (reads_left i) js) h))
+            (λ c h. right s c (or_left (reads_right s c j) (list_any (reads_right s c) js) (both-hold (same_source s s) (list_any (λ e. e.right == c) j.on) (itself s) h))),
+        joins-covered (n + width s) js (λ t h. among t (or_right (same_source s t) (is_among later t) h))
+            (λ t c h. from t c (or_right (same_source s t && (nat_lt c (width s) && reads_joined q (n + c))) (reads_from q t c (n + width s) later (map width later)) h))
+            (λ i h. left i (or_right (reads_left i j) (list_any (reads_left i) js) h))
+            (λ t c h. right t c (or_right (reads_right t c j) (list_any (reads_right t c) js) h)),
       )
 
   -- the first source, and all joins behind it
@@ -96,15 +96,15 @@ module _ (q : Query) (width : Source → ℕ) where
   first-covers =
       let s = q.first in
       let later = map (λ k. k.source) q.joins in
-      source-covers 0 s (one-first (same_source s s) (is_among later s) (itself s)) (λ c low h.
+      source-covers 0 s (or_left (same_source s s) (is_among later s) (itself s)) (λ c low h.
       let here : same_source s s && (nat_lt c (width s) && reads_joined q (0 + c)) ≡ true =
       both-hold (same_source s s) (nat_lt c (width s) && reads_joined q (0 + c)) (itself s) (both-hold (nat_lt c (width s)) (reads_joined q (0 + c)) (grind (arith, nat_tests, low)) h) in
-      one-first (same_source s s && (nat_lt c (width s) && reads_joined q (0 + c))) (reads_from q s c (0 + width s) later (map width later)) here)
+      or_left (same_source s s && (nat_lt c (width s) && reads_joined q (0 + c))) (reads_from q s c (0 + width s) later (map width later)) here)
 
   pub all-covered : AreCovered (reads_joined q) columns width (0 + width q.first) q.joins
   all-covered =
       let s = q.first in
       let later = map (λ k. k.source) q.joins in
-      joins-covered (0 + width s) q.joins (λ t h. one-second (same_source s t) (is_among later t) h)
-      (λ t c h. one-second (same_source s t && (nat_lt c (width s) && reads_joined q (0 + c))) (reads_from q t c (0 + width s) later (map width later)) h)
-      (λ i h. one-first (list_any (reads_left i) q.joins) (reads_filter i q.filter || reads_shape i q.shape q.items) h) (λ t c h. h)
+      joins-covered (0 + width s) q.joins (λ t h. or_right (same_source s t) (is_among later t) h)
+      (λ t c h. or_right (same_source s t && (nat_lt c (width s) && reads_joined q (0 + c))) (reads_from q t c (0 + width s) later (map width later)) h)
+      (λ i h. or_left (list_any (reads_left i) q.joins) (reads_filter i q.filter || reads_shape i q.shape q.items) h) (λ t c h. h)

@@ -1,6 +1,6 @@
 -- Conditions, items and groups of narrower rows are those of the rows.
 use Rattle.std.proofs.Common.{◌≡◌, ◌↔◌, ℕ, ℤ, pos, Bool, true, ◌||◌, ◌==◌, if◌then◌else◌, List, [], ◌∷◌, ◌++◌, map, length, Option, Some, None, unwrap_or, refl, sym, ◌∙◌, ap, subst}
-use Rattle.std.proofs.lemmas.Bool.{eq-eqb}
+use Rattle.std.proofs.lemmas.Bool.{eq-eqb, or_left, or_right}
 use Rattle.std.specs.List.{AllByRecursion, list_any}
 use Rattle.std.specs.Option.{option_map}
 use Rattle.std.specs.Ordering.{int_eq}
@@ -24,11 +24,13 @@ use Rattle.cq_model.specs.declared.query.Aggregate.{Aggregate}
 use Rattle.cq_model.specs.declared.query.Aggregate.TheVariants.{CountAll, Count, Sum, Min, Max}
 use Rattle.cq_model.specs.declared.query.Shape.{Shape}
 use Rattle.cq_model.specs.declared.query.Shape.TheVariants.{Plain, Grouped}
-use Rattle.cq_views_columns.specs.Places.{is_one_of}
-use Rattle.cq_views_columns.specs.Reads.{reads, reads_argument, reads_filter, reads_shape}
-use Rattle.cq_views_columns.specs.Renamed.{renamed, renamed_aggregate, renamed_cond, renamed_items, renamed_shape}
-use Rattle.cq_views_columns.proofs.Rows.{one-first, one-second}
-use Rattle.cq_views_columns.proofs.Values.{AreSameOn, eval-renamed, holds-renamed}
+use Rattle.cq_model_terms.specs.Places.{is_one_of}
+use Rattle.cq_model_terms.specs.Reads.{reads}
+use Rattle.cq_views_columns.specs.Reads.{reads_argument, reads_filter, reads_shape}
+use Rattle.cq_model_terms.specs.Renamed.{renamed, renamed_cond}
+use Rattle.cq_views_columns.specs.Renamed.{renamed_aggregate, renamed_items, renamed_shape}
+use Rattle.cq_model_terms.specs.Laws.{AreSameOn}
+use Rattle.cq_model_terms.proofs.Values.{eval-renamed, holds-renamed}
 use Rattle.cq_model.proofs.Extremes.{IsDownTo, IsUpTo, higher-choice, lower-choice}
 
 -- ---- images of rows
@@ -61,10 +63,10 @@ module _ (f : Row → Row) (to : ℕ → ℕ) (n : ℕ) (read : ℕ → Bool) (g
   AreRead some = (i : ℕ) → some i ≡ true → read i ≡ true
 
   read-first : (a b : ℕ → Bool) → AreRead (λ i. a i || b i) → AreRead a
-  read-first a b w i h = w i (one-first (a i) (b i) h)
+  read-first a b w i h = w i (or_left (a i) (b i) h)
 
   read-second : (a b : ℕ → Bool) → AreRead (λ i. a i || b i) → AreRead b
-  read-second a b w i h = w i (one-second (a i) (b i) h)
+  read-second a b w i h = w i (or_right (a i) (b i) h)
 
   -- ---- one row
   eval-there : (e : Expr) → AreRead (λ i. reads i e) → (row : Row) → length row ≡ n → eval (renamed to e) (f row) ≡ eval e row
@@ -84,7 +86,7 @@ module _ (f : Row → Row) (to : ℕ → ℕ) (n : ℕ) (read : ℕ → Bool) (g
   key-there : (keys : List ℕ) → AreRead (is_one_of keys) → (row : Row) → length row ≡ n → key_of (map to keys) (f row) ≡ key_of keys row
   key-there [] w row l = refl
   key-there (c ∷ keys) w row l =
-      let first : column (f row) (to c) ≡ column row c = good row l c (w c (one-first (c == c) (is_one_of keys c) (eq-eqb c c refl))) in
+      let first : column (f row) (to c) ≡ column row c = good row l c (w c (or_left (c == c) (is_one_of keys c) (eq-eqb c c refl))) in
       let rest = key-there keys (read-second (λ i. c == i) (is_one_of keys) w) row l in
       λ i. first i ∷ rest i
 

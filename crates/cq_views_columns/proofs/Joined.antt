@@ -18,7 +18,8 @@ use Rattle.cq_model.specs.declared.query.Equality.{Equality}
 use Rattle.cq_model.specs.declared.query.Join.{Join}
 use Rattle.cq_model.specs.declared.query.Source.{Source}
 use Rattle.cq_views_columns.specs.Narrow.{renamed_join, renamed_on}
-use Rattle.cq_views_columns.specs.Places.{behind, is_one_of, place_in, places_from}
+use Rattle.cq_model_terms.specs.Places.{is_one_of, place_in}
+use Rattle.cq_views_columns.specs.Places.{behind, places_from}
 use Rattle.cq_views_columns.proofs.Rows.{all-below, below-joined, column-kept, column-of-kept, is_one-front, is_one-joined, key-joined}
 
 -- ---- joins of images

@@ -1,7 +1,5 @@
-pub mod Trees
 pub mod Sources
 pub mod Rows
-pub mod Values
 pub mod Joined
 pub mod Grouped
 pub mod Covered

@@ -18,17 +18,19 @@ use Rattle.cq_model.specs.declared.query.Source.{Source}
 use Rattle.cq_views_state.specs.Query.{CanBeKept}
 use Rattle.cq_views_columns.specs.Laws.{IsRenamedOf}
 use Rattle.cq_views_columns.specs.Narrow.{HaveColumns, IsNarrowOf, columns_at, narrowed_bags, renamed_query, sources_read}
-use Rattle.cq_views_columns.specs.Places.{behind, is_one_of, place_in, places_from}
+use Rattle.cq_model_terms.specs.Places.{is_one_of, place_in}
+use Rattle.cq_views_columns.specs.Places.{behind, places_from}
 use Rattle.cq_views_columns.specs.Reads.{reads_filter, reads_joined, reads_left, reads_shape}
-use Rattle.cq_views_columns.specs.Renamed.{renamed_cond}
+use Rattle.cq_model_terms.specs.Renamed.{renamed_cond}
 use Rattle.cq_views_columns.specs.declared.columns.SourceColumns.{SourceColumns}
 use Rattle.cq_views_columns.specs.declared.narrow_query.NarrowQuery.{NarrowQuery}
 use Rattle.cq_views_columns.proofs.Covered.{all-covered, first-covers}
 use Rattle.cq_views_columns.proofs.Grouped.{filtered-narrow, shape-range, shown-narrow}
 use Rattle.cq_views_columns.proofs.Joined.{AreCovered, Covers, all_places, chain-narrow, chain-wide, columns_behind, has_read-all, has_read-more}
-use Rattle.cq_views_columns.proofs.Rows.{all-below, below-joined, column-of-kept, one-first, one-second}
+use Rattle.std.proofs.lemmas.Bool.{or_left, or_right}
+use Rattle.cq_views_columns.proofs.Rows.{all-below, below-joined, column-of-kept}
 use Rattle.cq_views_columns.proofs.Upkeep.{renamed-kept, renamed-sizes, renamed-sources}
-use Rattle.cq_views_columns.proofs.Values.{AreSameOn}
+use Rattle.cq_model_terms.specs.Laws.{AreSameOn}
 
 -- columns for each source, among which are those that the query reads
 module _ (q : Query) (columns : Source → List ℕ) (width : Source → ℕ) (tables : Tables) (wide : HaveWidths width tables) (bags : (source : Source) → IsBag (tables source))
@@ -88,14 +90,14 @@ module _ (q : Query) (columns : Source → List ℕ) (width : Source → ℕ) (t
   joined-same =
       ap (filtered (keeps (option_map (renamed_cond (place_in places)) q.filter))) chain-same
       ∙ filtered-narrow (key_of places) (place_in places) count (reads_joined q) good q.filter
-      (λ i h. one-second (list_any (reads_left i) q.joins) (reads_filter i q.filter || reads_shape i q.shape q.items)
-      (one-first (reads_filter i q.filter) (reads_shape i q.shape q.items) h)) (chain tables (tables q.first) q.joins) chain-count
+      (λ i h. or_right (list_any (reads_left i) q.joins) (reads_filter i q.filter || reads_shape i q.shape q.items)
+      (or_left (reads_filter i q.filter) (reads_shape i q.shape q.items) h)) (chain tables (tables q.first) q.joins) chain-count
 
   rows-count : HasWidth count (joined_rows q tables)
   rows-count = filtered-width count (keeps q.filter) (chain tables (tables q.first) q.joins) chain-count
 
   shape-read : (i : ℕ) → reads_shape i q.shape q.items ≡ true → reads_joined q i ≡ true
-  shape-read i h = one-second (list_any (reads_left i) q.joins) (reads_filter i q.filter || reads_shape i q.shape q.items) (one-second (reads_filter i q.filter) (reads_shape i q.shape q.items) h)
+  shape-read i h = or_right (list_any (reads_left i) q.joins) (reads_filter i q.filter || reads_shape i q.shape q.items) (or_right (reads_filter i q.filter) (reads_shape i q.shape q.items) h)
 
   shown-same : shown new (joined_rows new narrower) ≡ shown q (joined_rows q tables)
   shown-same =

@@ -1,43 +1,35 @@
 -- Where the columns that are kept of a row stand in the narrower row.
 use Rattle.std.proofs.Common.{◌≡◌, ℕ, zero, suc, ◌+◌, ◌<◌, ◌≤◌, ◌==◌, Bool, true, false, ◌||◌, nat_lt, List, [], ◌∷◌, ◌++◌, length, get_or, filter, refl, sym, ◌∙◌, ap, arith}
 use Rattle.std.proofs.lemmas.Bool.Decides.{nat_tests}
-use Rattle.std.proofs.lemmas.Bool.{eq-eqb, eqb-true}
+use Rattle.std.proofs.lemmas.Bool.{eq-eqb, eqb-true, or_left, or_right}
 use Rattle.std.proofs.lemmas.List.{append-nil, get_or-append-add, get_or_append_left, get_or_past}
 use Rattle.std.specs.List.{AllByRecursion, range_with_len}
 use Rattle.cq_values.specs.declared.value.Value.TheVariants.{Null}
 use Rattle.cq_values.specs.Value.{Row, column}
 use Rattle.cq_model_bags.proofs.Totals.{by_test}
 use Rattle.cq_model.specs.Group.{key_of}
-use Rattle.cq_views_columns.specs.Places.{behind, below, is_one_of, place_in}
-
--- what holds of one of two holds of them
-pub one-first : (a b : Bool) → a ≡ true → a || b ≡ true
-one-first true b h = refl
-one-first false b h = absurd (cc)
-
-pub one-second : (a b : Bool) → b ≡ true → a || b ≡ true
-one-second true b h = refl
-one-second false b h = h
+use Rattle.cq_model_terms.specs.Places.{is_one_of, place_in}
+use Rattle.cq_views_columns.specs.Places.{behind, below}
 
 -- ---- places
 -- a place that is one of the first is one of all
 pub is_one-front : (front back : List ℕ) (i : ℕ) → is_one_of front i ≡ true → is_one_of (front ++ back) i ≡ true
 is_one-front [] back i h = absurd (cc)
 is_one-front (k ∷ front) back i h = by_test (k == i)
-    (λ e. one-first (k == i) (is_one_of (front ++ back) i) e)
-    (λ e. one-second (k == i) (is_one_of (front ++ back) i) (is_one-front front back i (sym (ap (λ b. b || is_one_of front i) e) ∙ h)))
+    (λ e. or_left (k == i) (is_one_of (front ++ back) i) e)
+    (λ e. or_right (k == i) (is_one_of (front ++ back) i) (is_one-front front back i (sym (ap (λ b. b || is_one_of front i) e) ∙ h)))
 
 -- and so is one of the last
 is_one-back : (front back : List ℕ) (i : ℕ) → is_one_of back i ≡ true → is_one_of (front ++ back) i ≡ true
 is_one-back [] back i h = h
-is_one-back (k ∷ front) back i h = one-second (k == i) (is_one_of (front ++ back) i) (is_one-back front back i h)
+is_one-back (k ∷ front) back i h = or_right (k == i) (is_one_of (front ++ back) i) (is_one-back front back i h)
 
 -- a column of a source is one of the places behind others
 is_one-behind : (before : ℕ) (columns : List ℕ) (c : ℕ) → is_one_of columns c ≡ true → is_one_of (behind before columns) (before + c) ≡ true
 is_one-behind before [] c h = absurd (cc)
 is_one-behind before (k ∷ columns) c h = by_test (k == c)
-    (λ e. one-first (before + k == before + c) (is_one_of (behind before columns) (before + c)) (eq-eqb (before + k) (before + c) (ap (λ (n : ℕ). before + n) (eqb-true k c e))))
-    (λ e. one-second (before + k == before + c) (is_one_of (behind before columns) (before + c)) (is_one-behind before columns c (sym (ap (λ b. b || is_one_of columns c) e) ∙ h)))
+    (λ e. or_left (before + k == before + c) (is_one_of (behind before columns) (before + c)) (eq-eqb (before + k) (before + c) (ap (λ (n : ℕ). before + n) (eqb-true k c e))))
+    (λ e. or_right (before + k == before + c) (is_one_of (behind before columns) (before + c)) (is_one-behind before columns c (sym (ap (λ b. b || is_one_of columns c) e) ∙ h)))
 
 pub is_one-joined : (front : List ℕ) (before : ℕ) (columns : List ℕ) (c : ℕ) → is_one_of columns c ≡ true → is_one_of (front ++ behind before columns) (before + c) ≡ true
 is_one-joined front before columns c h = is_one-back front (behind before columns) (before + c) (is_one-behind before columns c h)
@@ -92,7 +84,7 @@ range-below p a (suc n) m h = by_test (p a)
 pub range-has : (p : ℕ → Bool) (a n c : ℕ) → a ≤ c → c < a + n → p c ≡ true → is_one_of (filter p (range_with_len a n)) c ≡ true
 range-has p a zero c low high k = absurd (omega (arith, low, high))
 range-has p a (suc n) c low high k = by_test (a == c)
-    (λ e. let here : p a ≡ true = ap p (eqb-true a c e) ∙ k in rw here (one-first (a == c) (is_one_of (filter p (range_with_len (a + 1) n)) c) e))
+    (λ e. let here : p a ≡ true = ap p (eqb-true a c e) ∙ k in rw here (or_left (a == c) (is_one_of (filter p (range_with_len (a + 1) n)) c) e))
     (λ e. let above : a + 1 ≤ c = grind (arith, nat_tests, e, low) in
     let rest = range-has p (a + 1) n c above (omega (arith, high)) k in
-    by_test (p a) (λ t. rw t (one-second (a == c) (is_one_of (filter p (range_with_len (a + 1) n)) c) rest)) (λ t. rw t rest))
+    by_test (p a) (λ t. rw t (or_right (a == c) (is_one_of (filter p (range_with_len (a + 1) n)) c) rest)) (λ t. rw t rest))

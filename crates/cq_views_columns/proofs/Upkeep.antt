@@ -21,10 +21,11 @@ use Rattle.cq_model.specs.declared.query.Shape.TheVariants.{Plain, Grouped}
 use Rattle.cq_model.specs.declared.query.Source.{Source}
 use Rattle.cq_views_state.specs.Query.{CanBeKept, HasNoHaving, IsTable, aggregates_in}
 use Rattle.cq_views_columns.specs.Narrow.{renamed_join, renamed_query}
-use Rattle.cq_views_columns.specs.Places.{place_in}
-use Rattle.cq_views_columns.specs.Reads.{reads, reads_in}
-use Rattle.cq_views_columns.specs.Renamed.{renamed, renamed_aggregate, renamed_cond, renamed_items, renamed_shape}
-use Rattle.cq_views_columns.proofs.Values.{widest-renamed, width-renamed}
+use Rattle.cq_model_terms.specs.Places.{place_in}
+use Rattle.cq_model_terms.specs.Reads.{reads, reads_in}
+use Rattle.cq_model_terms.specs.Renamed.{renamed, renamed_cond}
+use Rattle.cq_views_columns.specs.Renamed.{renamed_aggregate, renamed_items, renamed_shape}
+use Rattle.cq_model_terms.proofs.Values.{widest-renamed, width-renamed}
 
 -- ---- columns that are named
 -- a number that no column of an expression reaches

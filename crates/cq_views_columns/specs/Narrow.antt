@@ -14,9 +14,11 @@ use Rattle.cq_model.specs.declared.query.Join.{Join}
 use Rattle.cq_model.specs.declared.query.Query.{Query}
 use Rattle.cq_model.specs.declared.query.Source.{Source}
 use Rattle.cq_views_state.specs.Query.{CanBeKept}
-use Rattle.cq_views_columns.specs.Places.{place_in, places_from}
+use Rattle.cq_model_terms.specs.Places.{place_in}
+use Rattle.cq_views_columns.specs.Places.{places_from}
 use Rattle.cq_views_columns.specs.Reads.{is_read}
-use Rattle.cq_views_columns.specs.Renamed.{renamed_cond, renamed_items, renamed_shape}
+use Rattle.cq_model_terms.specs.Renamed.{renamed_cond}
+use Rattle.cq_views_columns.specs.Renamed.{renamed_items, renamed_shape}
 use Rattle.cq_views_columns.specs.declared.columns.SourceColumns.{SourceColumns}
 use Rattle.cq_views_columns.specs.declared.narrow_query.NarrowQuery.{NarrowQuery}
 
@@ -46,11 +48,15 @@ renamed_on to own on = map (λ e. record { left = to e.left; right = place_in ow
 abbrev pub renamed_join : (ℕ → ℕ) → (Source → List ℕ) → Join → Join
 renamed_join to columns join = record { source = join.source; on = renamed_on to (columns join.source) join.on }
 
--- a query over rows with these columns alone; these are their places in the joined rows
+-- several joins; these are the places of the columns in the joined rows
+abbrev pub renamed_joins : List ℕ → (Source → List ℕ) → List Join → List Join
+renamed_joins places columns joins = map (renamed_join (place_in places) columns) joins
+
+-- a query over rows with these columns alone
 abbrev pub renamed_query : List ℕ → (Source → List ℕ) → Query → Query
 renamed_query places columns q = record {
   first = q.first;
-  joins = map (renamed_join (place_in places) columns) q.joins;
+  joins = renamed_joins places columns q.joins;
   filter = option_map (renamed_cond (place_in places)) q.filter;
   shape = renamed_shape (place_in places) q.shape;
   items = renamed_items (place_in places) q.shape q.items;

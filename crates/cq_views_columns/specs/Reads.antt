@@ -2,7 +2,7 @@
 use Rattle.std.specs.Prelude.{ℕ, ◌+◌, ◌==◌, Bool, false, ◌&&◌, ◌||◌, List, [], ◌∷◌, Option, Some, None, nat_lt, unwrap_or}
 use Rattle.std.specs.List.{list_any}
 use Rattle.cq_model.specs.Sources.{same_source}
-use Rattle.cq_model.specs.Expr.{Expr, Column, Literal, Negate, Plus, Times, Extract, Cond, Compare, IsNull, Between, In, Like, Not, And, Or}
+use Rattle.cq_model.specs.Expr.{Cond, Expr}
 use Rattle.cq_model.specs.Views.{sources_of}
 use Rattle.cq_model.specs.declared.query.Aggregate.{Aggregate}
 use Rattle.cq_model.specs.declared.query.Aggregate.TheVariants.{CountAll, Count, Sum, Min, Max}
@@ -11,29 +11,10 @@ use Rattle.cq_model.specs.declared.query.Query.{Query}
 use Rattle.cq_model.specs.declared.query.Shape.{Shape}
 use Rattle.cq_model.specs.declared.query.Shape.TheVariants.{Plain, Grouped}
 use Rattle.cq_model.specs.declared.query.Source.{Source}
-use Rattle.cq_views_columns.specs.Places.{is_one_of}
+use Rattle.cq_model_terms.specs.Places.{is_one_of}
+use Rattle.cq_model_terms.specs.Reads.{reads, reads_in}
 
--- whether an expression reads a column
-abbrev pub reads : ℕ → Expr → Bool
-reads place (Column i) = i == place
-reads place (Literal v) = false
-reads place (Negate e) = reads place e
-reads place (Plus a b) = reads place a || reads place b
-reads place (Times a b) = reads place a || reads place b
-reads place (Extract part e) = reads place e
-
--- whether a condition does
-abbrev pub reads_in : ℕ → Cond → Bool
-reads_in place (Compare c a b) = reads place a || reads place b
-reads_in place (IsNull e) = reads place e
-reads_in place (Between e a b) = reads place e || (reads place a || reads place b)
-reads_in place (In e es) = reads place e || list_any (reads place) es
-reads_in place (Like e pattern) = reads place e
-reads_in place (Not c) = reads_in place c
-reads_in place (And a b) = reads_in place a || reads_in place b
-reads_in place (Or a b) = reads_in place a || reads_in place b
-
--- whether WHERE does, where there is one
+-- whether WHERE reads a column, where there is one
 abbrev pub reads_filter : ℕ → Option Cond → Bool
 reads_filter place None = false
 reads_filter place (Some c) = reads_in place c

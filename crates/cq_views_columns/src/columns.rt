@@ -1,4 +1,7 @@
 //! The columns that a query reads of its sources.
+//!
+//! [`SourceColumns`] stand in a list, one for each place of FROM; a source that FROM names twice has the same columns at
+//! both. The list is made once for a query, by a look through it for each column of each source, and then read only.
 ghost use Rattle.std.specs.Prelude.{◌<◌, ◌^◌, ◌≡◌, IfOk, sum};
 ghost use Rattle.cq_model.specs.Views.{sources_of};
 ghost use Rattle.cq_views_columns.specs.Narrow.{columns_at, columns_read, sources_read};
@@ -25,18 +28,6 @@ pub(crate) fn columns_at(sources: &[SourceColumns], source: Source) -> &[usize]
         }
     }
     &[]
-}
-
-/// What FROM names, in its order.
-pub(crate) fn sources_of(alloc: Global, query: &Query) -> Result<Vec<Source>, AllocError>
-    ensures { IfOk result (λ v. v.items ≡ sources_of query.now) }
-{
-    let mut sources = Vec::new(alloc);
-    sources.push(query.first)?;
-    for join in query.joins.as_slice() {
-        sources.push(join.source)?;
-    }
-    Ok(sources)
 }
 
 /// The columns that the query reads of each source.

@@ -11,7 +11,6 @@ mod narrow_query;
 mod places;
 mod reads;
 mod renamed;
-mod terms;
 
 pub use columns::SourceColumns;
 pub use laws::{narrow_rows_go_along, renamed_means_same};

@@ -1,12 +1,16 @@
 //! A query, and the columns of its sources that it is over.
+//!
+//! [`NarrowQuery::of`] is called once, when a view is made. From then on each row of a source is cut to the source's
+//! `columns` before `query` sees it, so that a row costs what is read of it, however wide the table is.
 ghost use Rattle.std.specs.Prelude.{◌<◌, ◌^◌, ◌≡◌, IfOk, sum};
 ghost use Rattle.cq_views_columns.specs.Narrow.{IsNarrowOf, renamed_over};
 
-use crate::columns::{SourceColumns, sources_of, sources_read};
+use crate::columns::{SourceColumns, sources_read};
 use crate::laws::renamed_means_same;
 use crate::places::places_of;
 use crate::renamed::renamed_query;
 use cq_model::{Query, Source};
+use cq_model_terms::sources_of;
 use cq_values::Seq;
 use std::alloc::{AllocError, Global};
 

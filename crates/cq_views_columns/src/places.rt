@@ -1,43 +1,11 @@
 //! Where the columns that are kept stand in the narrower rows.
 ghost use Rattle.std.specs.Prelude.{◌+◌, ◌++◌, ◌<◌, ◌^◌, ◌≡◌, IfOk, OnOk, sum};
 ghost use Rattle.cq_views_columns.specs.Narrow.{columns_at};
-ghost use Rattle.cq_views_columns.specs.Naming.{place_by};
-ghost use Rattle.cq_views_columns.specs.Places.{behind, below, place_in, places_from};
+ghost use Rattle.cq_views_columns.specs.Places.{behind, below, places_from};
 
 use crate::columns::{SourceColumns, columns_at};
 use cq_model::Source;
 use std::alloc::{AllocError, Global};
-
-/// Where columns go: nowhere, or to their places among those that are kept.
-#[derive(Clone, Copy)]
-pub(crate) enum Naming<'a> {
-    Same,
-    Among(&'a [usize]),
-}
-
-/// The new place of a column.
-pub(crate) fn place_by(naming: Naming<'_>, place: usize) -> usize
-    ensures { result ≡ place_by naming.entry place }
-{
-    match naming {
-        Naming::Same => place,
-        Naming::Among(kept) => place_in(kept, place),
-    }
-}
-
-/// Where a column stands among those that are kept.
-pub(crate) fn place_in(kept: &[usize], place: usize) -> usize
-    ensures { result ≡ place_in kept.now place }
-{
-    let mut at = 0;
-    for column in kept {
-        if *column == place {
-            return at;
-        }
-        at += 1;
-    }
-    at
-}
 
 /// The places in the joined rows of the columns that are kept of each source.
 pub(crate) fn places_of(

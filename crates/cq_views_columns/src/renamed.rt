@@ -1,15 +1,15 @@
 //! Queries with their columns at other places.
 ghost use Rattle.std.specs.Option.{option_map};
 ghost use Rattle.std.specs.Prelude.{◌≡◌, IfOk, map};
-ghost use Rattle.cq_views_columns.specs.Naming.{place_by};
-ghost use Rattle.cq_views_columns.specs.Narrow.{columns_at, renamed_join, renamed_on, renamed_query};
-ghost use Rattle.cq_views_columns.specs.Places.{place_in};
-ghost use Rattle.cq_views_columns.specs.Renamed.{renamed, renamed_aggregate, renamed_cond, renamed_groups, renamed_items, renamed_shape};
+ghost use Rattle.cq_model_terms.specs.Naming.{place_by};
+ghost use Rattle.cq_model_terms.specs.Places.{place_in};
+ghost use Rattle.cq_model_terms.specs.Renamed.{renamed, renamed_cond};
+ghost use Rattle.cq_views_columns.specs.Narrow.{columns_at, renamed_joins, renamed_on, renamed_query};
+ghost use Rattle.cq_views_columns.specs.Renamed.{renamed_aggregate, renamed_groups, renamed_items, renamed_shape};
 
 use crate::columns::{SourceColumns, columns_at};
-use crate::places::{Naming, place_in};
-use crate::terms::{renamed_cond, renamed_expr};
 use cq_model::{Aggregate, Cond, Equality, Expr, Join, Query, Shape};
+use cq_model_terms::{Naming, place_in, renamed_cond, renamed_expr};
 use cq_values::Seq;
 use std::alloc::{AllocError, Global};
 
@@ -45,7 +45,7 @@ fn renamed_joins(
     places: &[usize],
     columns: &[SourceColumns],
 ) -> Result<Seq<Join>, AllocError>
-    ensures { IfOk result (λ js. js ≡ map (renamed_join (place_in places.now) (columns_at columns.now)) joins.now) }
+    ensures { IfOk result (λ js. js ≡ renamed_joins places.now (columns_at columns.now) joins.now) }
 {
     let mut all = Seq::new(alloc);
     for join in joins {

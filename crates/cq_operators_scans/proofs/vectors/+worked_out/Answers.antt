@@ -13,7 +13,7 @@ use Rattle.cq_operators_scans.proofs.vectors.+worked_out.Goals as goal
 
 pub negated-requires : goal.negated-requires
 negated-requires t c =
-    fits-at _ (negated-fits c.args.scan.now c.args.tree.now c.in-Negate.part c.deref.result.now c.in-Negate.is c.deref.ensures c.requires (values_worked c.args.scan.now c.in_ok-part-in-Negate.part) c.in_ok-part-in-Negate.ensures)
+    fits-at _ (negated-fits c.args.scan.now c.args.tree.now c.in-Negate.part c.deref.result.now c.in-Negate.is c.deref.ensures c.requires (values_worked c.args.scan.now c.in_ok-worked_out-in-Negate.field-0) c.in_ok-worked_out-in-Negate.ensures)
 
 pub worked_out-requires-in-Sum : goal.worked_out-requires-in-Sum
 worked_out-requires-in-Sum t c =
@@ -67,12 +67,12 @@ pub returns-in-Literal : goal.returns-in-Literal
 returns-in-Literal t c =
     literal-values c.args.scan.now c.args.tree.now c.in-Literal.value (owned c.lend.result) c.len.result c.new-values.result c.in-Literal.is c.lend.ensures c.len.ensures.len c.new-values.ensures
 
-pub returns-in_ok-part-in-Negate : goal.returns-in_ok-part-in-Negate
-returns-in_ok-part-in-Negate t c =
-    IfOk-weaker c.negated.result _ _ (λ made h. negated-values c.args.scan.now c.args.tree.now (values_worked c.args.scan.now made) (values_worked c.args.scan.now c.in_ok-part-in-Negate.part) c.deref.result.now c.in_ok-part-in-Negate.ensures
+pub returns-in_ok-worked_out-in-Negate : goal.returns-in_ok-worked_out-in-Negate
+returns-in_ok-worked_out-in-Negate t c =
+    IfOk-weaker c.negated.result _ _ (λ made h. negated-values c.args.scan.now c.args.tree.now (values_worked c.args.scan.now made) (values_worked c.args.scan.now c.in_ok-worked_out-in-Negate.field-0) c.deref.result.now c.in_ok-worked_out-in-Negate.ensures
     c.in-Negate.part c.in-Negate.is c.deref.ensures h) c.negated.ensures
 
-pub returns-in_ok-part-in-Extract : goal.returns-in_ok-part-in-Extract
-returns-in_ok-part-in-Extract t c =
-    IfOk-weaker c.extracted.result _ _ (λ made h. extracted-values c.args.scan.now c.args.tree.now (values_worked c.args.scan.now made) (values_worked c.args.scan.now c.in_ok-part-in-Extract.part) c.deref-in-Extract.result.now c.in_ok-part-in-Extract.ensures
+pub returns-in_ok-worked_out-in-Extract : goal.returns-in_ok-worked_out-in-Extract
+returns-in_ok-worked_out-in-Extract t c =
+    IfOk-weaker c.extracted.result _ _ (λ made h. extracted-values c.args.scan.now c.args.tree.now (values_worked c.args.scan.now made) (values_worked c.args.scan.now c.in_ok-worked_out-in-Extract.field-0) c.deref-in-Extract.result.now c.in_ok-worked_out-in-Extract.ensures
     c.in-Extract.day_part c.in-Extract.part c.in-Extract.is c.deref-in-Extract.ensures h) c.extracted.ensures

@@ -1,5 +1,5 @@
 use Rattle.std.proofs.Common.{◌≡◌, map, take}
-use Rattle.cq_views_columns.specs.Places.{place_in}
+use Rattle.cq_model_terms.specs.Places.{place_in}
 use Rattle.cq_views_columns.proofs.renamed.all_places_in.Given as goal
 
 -- the columns so far have their places

@@ -1,5 +1,5 @@
 use Rattle.std.proofs.Common.{◌≡◌, map, take}
-use Rattle.cq_views_columns.specs.Places.{place_in}
+use Rattle.cq_model_terms.specs.Places.{place_in}
 use Rattle.cq_views_columns.specs.Renamed.{renamed_aggregate}
 use Rattle.cq_views_columns.proofs.renamed.renamed_aggregates.Given as goal
 

@@ -1,6 +1,6 @@
 use Rattle.std.proofs.Common.{◌≡◌, map, take}
-use Rattle.cq_views_columns.specs.Naming.{place_by}
-use Rattle.cq_views_columns.specs.Renamed.{renamed}
+use Rattle.cq_model_terms.specs.Naming.{place_by}
+use Rattle.cq_model_terms.specs.Renamed.{renamed}
 use Rattle.cq_views_columns.proofs.renamed.renamed_all.Given as goal
 
 -- the items so far are renamed

@@ -1,9 +1,9 @@
 use Rattle.std.proofs.Common.{◌≡◌, ◌∙◌, map}
 use Rattle.std.specs.Option.{option_map}
 use Rattle.cq_model.specs.declared.query.Shape.TheVariants.{Grouped}
-use Rattle.cq_views_columns.specs.Places.{place_in}
+use Rattle.cq_model_terms.specs.Places.{place_in}
 use Rattle.cq_views_columns.specs.Renamed.{renamed_aggregate}
-use Rattle.cq_views_columns.proofs.Trees.{same-condition}
+use Rattle.cq_model_terms.proofs.Trees.{same-condition}
 use Rattle.cq_views_columns.proofs.renamed.renamed_groups.Goals as goal
 
 pub returns-in-Ok : goal.returns-in-Ok

@@ -1,9 +1,9 @@
 use Rattle.std.proofs.Common.{◌∙◌, sym, ap}
 use Rattle.std.proofs.lemmas.Result.{IfOk-weaker}
 use Rattle.cq_model.specs.declared.query.Shape.{Shape}
-use Rattle.cq_views_columns.specs.Places.{place_in}
+use Rattle.cq_model_terms.specs.Places.{place_in}
 use Rattle.cq_views_columns.specs.Renamed.{renamed_items}
-use Rattle.cq_views_columns.proofs.Trees.{same-exprs}
+use Rattle.cq_model_terms.proofs.Trees.{same-exprs}
 use Rattle.cq_views_columns.proofs.renamed.renamed_items.Goals as goal
 
 pub returns-in-Grouped : goal.returns-in-Grouped

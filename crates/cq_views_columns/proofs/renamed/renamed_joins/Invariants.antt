@@ -1,6 +1,6 @@
 use Rattle.std.proofs.Common.{◌≡◌, map, take}
 use Rattle.cq_views_columns.specs.Narrow.{columns_at, renamed_join}
-use Rattle.cq_views_columns.specs.Places.{place_in}
+use Rattle.cq_model_terms.specs.Places.{place_in}
 use Rattle.cq_views_columns.proofs.renamed.renamed_joins.Given as goal
 
 -- the joins so far are renamed

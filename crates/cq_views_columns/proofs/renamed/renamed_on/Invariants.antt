@@ -1,6 +1,6 @@
 use Rattle.std.proofs.Common.{◌≡◌, take}
 use Rattle.cq_views_columns.specs.Narrow.{renamed_on}
-use Rattle.cq_views_columns.specs.Places.{place_in}
+use Rattle.cq_model_terms.specs.Places.{place_in}
 use Rattle.cq_views_columns.proofs.renamed.renamed_on.Given as goal
 
 -- the equalities so far are renamed

@@ -1,9 +1,9 @@
 use Rattle.std.proofs.Common.{Some, rules, subst, sym}
 use Rattle.std.proofs.lemmas.List.{nil_from_length}
 use Rattle.cq_model.specs.Expr.{Cond}
-use Rattle.cq_views_conditions.specs.Own.{IsOwnTest}
-use Rattle.cq_views_conditions.proofs.Owned.{none-own, some-own}
-use Rattle.cq_views_conditions.proofs.own.own_condition.Goals as goal
+use Rattle.cq_plan.specs.OwnTest.{IsOwnTest}
+use Rattle.cq_plan.proofs.OwnTests.{none-own, some-own}
+use Rattle.cq_plan.proofs.own_test.own_condition.Goals as goal
 
 pub returns-in-Ok : goal.returns-in-Ok
 returns-in-Ok c =

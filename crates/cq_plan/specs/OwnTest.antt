@@ -1,11 +1,16 @@
 -- One condition on the rows of a source, in place of the parts of WHERE that are its own.
-use Rattle.std.specs.Prelude.{◌≡◌, ◌<◌, ◌^◌, ℕ, List, Option}
+use Rattle.std.specs.Prelude.{◌≡◌, ◌<◌, ◌-◌, ◌^◌, ℕ, List, Option}
 use Rattle.cq_values.specs.Value.{Row}
 use Rattle.cq_model.specs.Own.{in_place, passes_own}
 use Rattle.cq_model.specs.Expr.{Cond}
 use Rattle.cq_model.specs.Meaning.{keeps}
 use Rattle.cq_model.specs.Width.{IsNarrowIn}
+use Rattle.cq_model_terms.specs.Renamed.{renamed_cond}
 use Rattle.cq_plan.specs.Own.{AreOwnOf, AskAllOwnOf}
+
+-- a condition on joined rows, on the rows of a source that stands behind so many columns
+abbrev pub cond_behind : ℕ → Cond → Cond
+cond_behind before = renamed_cond (λ i. i - before)
 
 -- it keeps the rows that pass own conditions of WHERE in their place of a joined row, all of them where that place can be
 -- told, and works out nothing too wide where WHERE does not

@@ -1,12 +1,11 @@
 //! One condition on a source's rows.
 ghost use Rattle.std.specs.Prelude.{◌≡◌, IfOk, map};
 ghost use Rattle.cq_model.specs.Trees.{cond_of};
-ghost use Rattle.cq_views_conditions.specs.Moved.{moved_cond};
-ghost use Rattle.cq_views_conditions.specs.Own.{IsOwnTest};
+ghost use Rattle.cq_plan.specs.OwnTest.{IsOwnTest, cond_behind};
 
-use crate::moved::moved_cond;
+use crate::own::own_conditions;
 use cq_model::{Cond, CondTree};
-use cq_plan::own_conditions;
+use cq_model_terms::{Naming, renamed_cond};
 use std::alloc::{AllocError, Global};
 
 /// The parts of WHERE that name the columns of one source alone, so many from a place on, as a condition on its rows;
@@ -23,9 +22,9 @@ pub fn own_condition(
     let Some((first, rest)) = own.as_slice().split_first() else {
         return Ok(None);
     };
-    let first = moved_cond(alloc, first, before)?;
+    let first = renamed_cond(alloc, first, Naming::Behind(before))?;
     let first = Box::new(alloc, first)?;
-    match moved_parts(alloc, rest, before) {
+    match parts_behind(alloc, rest, before) {
         Ok(rest) => Ok(Some(Cond::new(CondTree::And(first, rest)))),
         Err(fault) => {
             drop(first);
@@ -34,17 +33,17 @@ pub fn own_condition(
     }
 }
 
-/// Several parts, each moved.
-fn moved_parts(
+/// Several parts, on the rows of a source behind so many columns.
+fn parts_behind(
     alloc: Global,
     parts: &[&CondTree],
     before: usize,
 ) -> Result<Vec<CondTree>, AllocError>
-    ensures { IfOk result (λ v. map cond_of v.items ≡ map (λ t. moved_cond before (cond_of t.now)) parts.now) }
+    ensures { IfOk result (λ v. map cond_of v.items ≡ map (λ t. cond_behind before (cond_of t.now)) parts.now) }
 {
-    let mut moved = Vec::new(alloc);
+    let mut all = Vec::new(alloc);
     for part in parts {
-        moved.push(moved_cond(alloc, part, before)?)?;
+        all.push(renamed_cond(alloc, part, Naming::Behind(before))?)?;
     }
-    Ok(moved)
+    Ok(all)
 }

@@ -1,4 +1,0 @@
-pub mod Chains
-pub mod Narrow
-pub mod Owned
-pub mod Rows
