@@ -5,7 +5,7 @@
 //! side holds a row that fails it. Changes of the tables go in by two steps: [`ViewState::prepare`] works out what
 //! they change, from the stored sides and the changes alone, and makes all growth; [`ViewState::commit`] puts it in,
 //! takes no memory and cannot fail. Then the view stands for the changed tables, and [`ViewState::rows`] shows its
-//! query's bag, in rows whose numbers are within [`ViewState::column_sizes`]. A view starts without rows, as
+//! query's bag, in rows whose numbers are within [`column_sizes`]. A view starts without rows, as
 //! [`ViewState::empty`] makes it; those of its tables go in by the same two steps, and then [`ViewState::restart`] counts
 //! no work of them.
 #![tactic(auto)]

@@ -14,17 +14,14 @@ ghost use Rattle.cq_model_laws.specs.Sizes.{HasSizes};
 ghost use Rattle.cq_model.specs.Sizes.{column_sizes};
 ghost use Rattle.cq_model.specs.Views.{sources_of};
 ghost use Rattle.cq_sides.specs.Ticks.{counted};
-ghost use Rattle.cq_views_state.specs.Query.{CanBeKept, reads};
 ghost use Rattle.cq_views_state.specs.Shown.{AreRowsOf, CanShow, IsNotShown, IsShown};
 ghost use Rattle.cq_views_state.specs.Work.{CountsPut, CountsRows, work_of};
 ghost use Rattle.cq_views_state.specs.State.{CanCommit, CanPrepare, IsWaiting, SameView, StandsFor, StaysStanding, TakesIn};
 
 use crate::changes::ready_images;
-use crate::columns::column_sizes;
 use crate::grouping::stream_groups;
 use crate::joins::joined;
 use crate::last::{Last, LastChange};
-use crate::query::reads;
 use crate::showing::shown_rows;
 use cq_deltas_joins::{Chain, SourceRows, Waiting};
 use cq_model::{Query, ShowFault};
@@ -90,13 +87,6 @@ impl ViewState {
         }
     }
 
-    /// The view's query.
-    pub fn query(&self) -> &Query
-        ensures { result.now ≡ self.now.query }
-    {
-        &self.query
-    }
-
     /// How many writes there were when the view last took one in.
     pub fn epoch(&self) -> u64
         ensures { result ≡ self.now.epoch }
@@ -119,15 +109,8 @@ impl ViewState {
         self.chain.ticks().saturating_add(self.ticks)
     }
 
-    /// Whether FROM names the table, so that its changes are for the view.
-    pub fn is_on(&self, table: u64) -> bool
-        ensures { result ≡ reads table self.now.query }
-    {
-        reads(&self.query, table)
-    }
-
-    /// Ends a build. What the view took in so far counts as no work, since it is none of its
-    /// changes, and groups are put in order, in which most of them stay.
+    /// Ends a build. What the view took in so far counts as no work, since it is none of its changes, and groups are put
+    /// in order, in which most of them stay.
     pub fn restart(&mut self)
         ensures same { SameView self.old self.new }
         ensures uncounted { work_of self.new ≡ 0 }
@@ -136,14 +119,6 @@ impl ViewState {
         self.ticks = 0;
         // The order is no promise: where memory is short, the groups stay as they are.
         let _ = self.last.sort();
-    }
-
-    /// How large the numbers in each column of [`ViewState::rows`] can be.
-    pub fn column_sizes(&self, alloc: Global) -> Result<Vec<u128>, AllocError>
-        requires { CanBeKept self.now.query }
-        ensures { IfOk result (λ v. v.items ≡ column_sizes self.now.query) }
-    {
-        column_sizes(alloc, &self.query)
     }
 
     /// Works out what changes of the tables change, from the stored sides and the changes alone, and makes all growth
@@ -166,10 +141,8 @@ impl ViewState {
             Last::Groups(groups) => {
                 let ticks = &mut self.ticks;
                 let (waiting, change) = stream_groups(alloc, query, chain, changes, groups, ticks)?;
-                Ok(Pending {
-                    waiting,
-                    change: LastChange::Groups(change),
-                })
+                let change = LastChange::Groups(change);
+                Ok(Pending { waiting, change })
             }
             Last::Images(images) => {
                 let (rows, waiting) = chain.change(alloc, changes)?;
