@@ -295,33 +295,19 @@ module _ (tables : List TableOf) (views : List ViewOf) (next : ℕ) (numbered : 
 
 -- ---- From commands to statements
 -- nothing but the tables and views is asked
-same_places : (files : Files) (s : State) (statement : Statement) → binding_checks files (bare s.tables s.views) statement ≡ binding_checks files s statement
-same_places files s (statements.CreateTable name columns sort) = refl
-same_places files s (statements.DropTable name) = refl
-same_places files s (statements.CreateView name view) = refl
-same_places files s (statements.DropView name) = refl
-same_places files s (statements.Insert name rows) = refl
-same_places files s (statements.Copy name file) = refl
-same_places files s (statements.Delete name condition) = refl
-same_places files s (statements.Update name sets condition) = refl
-same_places files s (statements.Select q) = refl
-same_places files s (statements.Move name rows) = refl
-same_places files s (statements.Merge name) = refl
-same_places files s (statements.Refresh view changes) = refl
-
-same_bound : (files : Files) (s : State) (statement : Statement) → bound files (bare s.tables s.views) statement ≡ bound files s statement
-same_bound files s (statements.CreateTable name columns sort) = refl
-same_bound files s (statements.DropTable name) = refl
-same_bound files s (statements.CreateView name view) = refl
-same_bound files s (statements.DropView name) = refl
-same_bound files s (statements.Insert name rows) = refl
-same_bound files s (statements.Copy name file) = refl
-same_bound files s (statements.Delete name condition) = refl
-same_bound files s (statements.Update name sets condition) = refl
-same_bound files s (statements.Select q) = refl
-same_bound files s (statements.Move name rows) = refl
-same_bound files s (statements.Merge name) = refl
-same_bound files s (statements.Refresh view changes) = refl
+same_binding : (files : Files) (s : State) (statement : Statement) → (binding_checks files (bare s.tables s.views) statement ≡ binding_checks files s statement) × (bound files (bare s.tables s.views) statement ≡ bound files s statement)
+same_binding files s (statements.CreateTable name columns sort) = (refl, refl)
+same_binding files s (statements.DropTable name) = (refl, refl)
+same_binding files s (statements.CreateView name view) = (refl, refl)
+same_binding files s (statements.DropView name) = (refl, refl)
+same_binding files s (statements.Insert name rows) = (refl, refl)
+same_binding files s (statements.Copy name file) = (refl, refl)
+same_binding files s (statements.Delete name condition) = (refl, refl)
+same_binding files s (statements.Update name sets condition) = (refl, refl)
+same_binding files s (statements.Select q) = (refl, refl)
+same_binding files s (statements.Move name rows) = (refl, refl)
+same_binding files s (statements.Merge name) = (refl, refl)
+same_binding files s (statements.Refresh view changes) = (refl, refl)
 
 same_reads : (s : State) (statement : Statement) → reads_source (bare s.tables s.views) statement ≡ reads_source s statement
 same_reads s (statements.Copy name file) = refl
@@ -415,21 +401,21 @@ module _ (files : Files) (tables : List TableOf) (views : List ViewOf) (now draw
 
   -- a statement that is not bound is refused
   pub bind_refused : (statement : Statement) (f : Fault) (before after : ℕ) → IsOver files (bare tables views) statement before after (Err f) → Refuses files old statement f old
-  bind_refused statement f before after (inl h) = refused_along_walk statement f (subst (λ (cs : List (Option Fault)). MayRefuse (first_fault cs) f) (same_places files old statement) h.0)
+  bind_refused statement f before after (inl h) = refused_along_walk statement f (subst (λ (cs : List (Option Fault)). MayRefuse (first_fault cs) f) (same_binding files old statement).0 h.0)
   bind_refused statement f before after (inr h) = source_failed (sym (same_reads old statement) ∙ h.0) (cc h.1) refl
 
   -- and the count of failures has grown where its source failed
   pub bind_counted : (statement : Statement) (f : Fault) (before after : ℕ) → IsOver files (bare tables views) statement before after (Err f) → after ≡ before + source_failures (Err f ∷ [])
   bind_counted statement f before after (inl h) =
-      grown_by_none before after _ h.1 (none_counted f (walk_unsourced statement f (subst (λ (cs : List (Option Fault)). MayRefuse (first_fault cs) f) (same_places files old statement) h.0)))
+      grown_by_none before after _ h.1 (none_counted f (walk_unsourced statement f (subst (λ (cs : List (Option Fault)). MayRefuse (first_fault cs) f) (same_binding files old statement).0 h.0)))
   bind_counted statement f before after (inr h) = grown_by_one before after _ h.2 (one_counted f (cc h.1))
 
   module _ (statement : Statement) (command : Bound) (free_alone : first_fault (binding_checks files (bare tables views) statement) ≡ None) (is_alone : bound files (bare tables views) statement ≡ Some command) where
     free : first_fault (binding_checks files old statement) ≡ None
-    free = sym (ap first_fault (same_places files old statement)) ∙ free_alone
+    free = sym (ap first_fault (same_binding files old statement).0) ∙ free_alone
 
     is : bound files old statement ≡ Some command
-    is = sym (same_bound files old statement) ∙ is_alone
+    is = sym (same_binding files old statement).1 ∙ is_alone
 
   -- where it is bound, the room for its rows is all that can still refuse it
   insert_room : (name : List ℕ) (rows : List (List Constant)) (t : TableOf) → table_named name tables ≡ Some t → first_fault (rows_walk rows (written_table name old)) ≡ None

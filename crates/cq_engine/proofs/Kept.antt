@@ -21,7 +21,7 @@ use Rattle.cq_engine_tables.proofs.Numbers.{others}
 use Rattle.cq_engine_tables.proofs.Pairs.{pointwise_all, pointwise_map}
 use Rattle.cq_engine_tables.proofs.Rows.{rows_left, unread, unused}
 use Rattle.cq_engine_tables.proofs.Wide.{KeepWidths, all-still-wide, wide-left}
-use Rattle.cq_engine.specs.Commands.{present}
+use Rattle.cq_engine.specs.Commands.{AreInOrder, present}
 use Rattle.cq_engine.proofs.Steps.{AreAt}
 
 -- ---- The same views
@@ -48,6 +48,16 @@ right_same tables now v w s r = record {
 
 pub all_right_same : (tables : List TableOf) (now : ℕ) (vs ws : List NamedView) → AreSame vs ws → AreRight tables now vs → AreRight tables now ws
 all_right_same tables now vs ws s r = pointwise_all IsSame (IsRight tables now) (IsRight tables now) (right_same tables now) vs ws s r
+
+-- so an engine stays in order where a write is refused
+pub order_kept : (now drawn max_rows : ℕ) (tables left : List TableOf) (vs ws : List NamedView) → left ≡ tables → AreSame vs ws → AreInOrder now drawn max_rows tables vs → AreInOrder now drawn max_rows left ws
+order_kept now drawn max_rows tables left vs ws same views order = (
+  order.0,
+  rw same order.1,
+  rw same order.2,
+  rw same (all_right_same tables now vs ws views order.3),
+  rw same order.4,
+)
 
 -- ---- Views of other tables, and other views
 -- views that are right are at the present

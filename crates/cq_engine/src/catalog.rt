@@ -8,7 +8,7 @@ ghost use Rattle.cq_engine.specs.Views.{query_named};
 ghost use Rattle.cq_engine_tables.specs.Views.{views_of};
 
 use cq_binder::{Catalog, TableEntry, ViewEntry};
-use cq_engine_tables::{Table, View, place_of};
+use cq_engine_tables::{NamedTable, View, place_of};
 use cq_model::Query;
 use std::alloc::{AllocError, Global};
 use std::marker::Model;
@@ -16,7 +16,7 @@ use std::marker::Model;
 /// The tables and views of an engine, as statements find them.
 #[derive(Drop)]
 pub struct EngineCatalog<'a> {
-    tables: &'a [Table],
+    tables: &'a [NamedTable],
     views: &'a [View],
 }
 
@@ -36,7 +36,7 @@ impl<'a> Model for EngineCatalog<'a> {
 }
 
 impl<'a> EngineCatalog<'a> {
-    pub(crate) fn new(tables: &'a [Table], views: &'a [View]) -> EngineCatalog<'a>
+    pub(crate) fn new(tables: &'a [NamedTable], views: &'a [View]) -> EngineCatalog<'a>
         ensures { result ≡ (tables.now, views_of views.now) }
     {
         EngineCatalog { tables, views }

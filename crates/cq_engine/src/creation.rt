@@ -11,16 +11,16 @@ ghost use Rattle.cq_engine.specs.Views.{IsAdded, IsBuilt};
 
 use crate::gathering::gathered_rows;
 use crate::table_widths::widths_of;
-use cq_engine_tables::{Table, View};
+use cq_engine_tables::{NamedTable, View};
 use cq_model::Query;
 use cq_values::{ColumnDef, Seq, Text};
 use cq_views::{KeptView, standing_depends_on_sources};
 use std::alloc::{AllocError, Global};
 
 /// Puts a view of this query behind the others, built from its tables as they are at this epoch.
-pub fn create_view_in(
+pub(crate) fn create_view_in(
     alloc: Global,
-    tables: &[Table],
+    tables: &[NamedTable],
     views: &mut Vec<View>,
     name: Text,
     columns: Seq<ColumnDef>,
@@ -44,7 +44,7 @@ pub fn create_view_in(
 /// What is kept of a view, built from the rows of its tables.
 fn built_state(
     alloc: Global,
-    tables: &[Table],
+    tables: &[NamedTable],
     query: Query,
     now: u64,
 ) -> Result<KeptView, AllocError>

@@ -24,7 +24,7 @@ use crate::limits::Limits;
 use cq_binder::bind;
 use cq_binder_rules::{Bound, Fault, Sources};
 use cq_engine_answers::select_from;
-use cq_engine_tables::{Table, View, drop_in, drop_view_at, move_in, view_place};
+use cq_engine_tables::{NamedTable, View, drop_in, drop_view_at, move_in, view_place};
 use cq_engine_writes::{delete_in, insert_in, update_in};
 use cq_model::{Assignment, Cond, Order, Query};
 use cq_model_step::Answer;
@@ -41,7 +41,7 @@ pub type Command = Statement;
 #[derive(Drop)]
 pub struct Engine {
     alloc: Global,
-    tables: Vec<Table>,
+    tables: Vec<NamedTable>,
     views: Vec<View>,
     writes: u64,
     drawn: u64,
@@ -200,7 +200,7 @@ impl Engine {
         ensures rows { OnlyShows self.old.state result self.new.state }
     {
         let max_rows = self.limits.max_rows;
-        let table = Table::new(self.alloc, self.drawn, name, columns, sort, max_rows);
+        let table = NamedTable::new(self.alloc, self.drawn, name, columns, sort, max_rows);
         self.tables.push(table)?;
         self.drawn += 1;
         Ok(Answer::Done)

@@ -6,7 +6,7 @@ ghost use Rattle.cq_engine_answers.specs.Reading.{AreTablesThere, IsSourceThere}
 ghost use Rattle.cq_engine.specs.Gathering.{AreGathered, GathersAlso, is_gathered};
 
 use cq_engine_answers::rows_there;
-use cq_engine_tables::Table;
+use cq_engine_tables::NamedTable;
 use cq_model::{Query, Source};
 use cq_model_terms::sources_of;
 use cq_table_columns::StoredSource;
@@ -15,7 +15,7 @@ use std::alloc::{AllocError, Global};
 /// The rows of each table that FROM names, where they are.
 pub(crate) fn gathered_rows<'a>(
     alloc: Global,
-    tables: &'a [Table],
+    tables: &'a [NamedTable],
     query: &Query,
 ) -> Result<Vec<StoredSource<'a>>, AllocError>
     requires numbered { (next : ℕ) × AreNumbered tables.now next }
@@ -29,7 +29,7 @@ pub(crate) fn gathered_rows<'a>(
 /// The rows of these sources. A table that stands among them twice has one entry.
 fn gather_all<'a>(
     alloc: Global,
-    tables: &'a [Table],
+    tables: &'a [NamedTable],
     sources: &[Source],
 ) -> Result<Vec<StoredSource<'a>>, AllocError>
     requires numbered { (next : ℕ) × AreNumbered tables.now next }
@@ -45,7 +45,7 @@ fn gather_all<'a>(
 
 /// Puts the rows of a source behind the others, if they were not gathered yet.
 fn gather<'a>(
-    tables: &'a [Table],
+    tables: &'a [NamedTable],
     source: Source,
     gathered: &mut Vec<StoredSource<'a>>,
 ) -> Result<(), AllocError>

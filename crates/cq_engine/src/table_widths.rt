@@ -6,7 +6,7 @@ ghost use Rattle.cq_model_state.specs.State.{AreNumbered};
 ghost use Rattle.cq_engine.specs.TableWidths.{IsTableThere};
 ghost use Rattle.cq_engine_tables.specs.Views.{AreWide, IsWide};
 
-use cq_engine_tables::{Table, place_numbered};
+use cq_engine_tables::{NamedTable, place_numbered};
 use cq_model::{Query, Source};
 use cq_model_terms::sources_of;
 use cq_operators_scans::widened;
@@ -16,7 +16,7 @@ use std::alloc::{AllocError, Global};
 /// How many columns each table has that FROM names, in its order.
 pub(crate) fn widths_of(
     alloc: Global,
-    tables: &[Table],
+    tables: &[NamedTable],
     query: &Query,
 ) -> Result<Seq<usize>, AllocError>
     requires numbered { (next : ℕ) × AreNumbered tables.now next }
@@ -29,7 +29,11 @@ pub(crate) fn widths_of(
 }
 
 /// How many columns the table of each of these sources has.
-fn all_widths(alloc: Global, tables: &[Table], sources: &[Source]) -> Result<Seq<usize>, AllocError>
+fn all_widths(
+    alloc: Global,
+    tables: &[NamedTable],
+    sources: &[Source],
+) -> Result<Seq<usize>, AllocError>
     requires numbered { (next : ℕ) × AreNumbered tables.now next }
     requires there { AllByRecursion (IsTableThere tables.now) sources.now }
     ensures wide { IfOk result (λ widths. AllZip (IsWide tables.now) sources.now widths) }
@@ -46,7 +50,7 @@ fn all_widths(alloc: Global, tables: &[Table], sources: &[Source]) -> Result<Seq
 }
 
 /// How many columns the table of a source has.
-fn width_of(tables: &[Table], source: Source) -> usize
+fn width_of(tables: &[NamedTable], source: Source) -> usize
     requires numbered { (next : ℕ) × AreNumbered tables.now next }
     requires there { IsTableThere tables.now source }
     ensures { IsWide tables.now source result }

@@ -13,7 +13,7 @@ ghost use Rattle.cq_engine_answers.specs.Selects.{shown_as};
 ghost use Rattle.cq_engine_tables.specs.Views.{views_of};
 
 use cq_binder_rules::Fault;
-use cq_engine_tables::{Table, View, place_numbered};
+use cq_engine_tables::{NamedTable, View, place_numbered};
 use cq_model::{ShowFault, Source};
 use cq_table_columns::{Stored, StoredSource};
 use cq_values::{Row, Seq};
@@ -22,13 +22,17 @@ use std::alloc::{AllocError, Global};
 
 /// A source that FROM names, with the rows that it shows where it is a view. Those of a table stay where they are.
 #[derive(Debug, Drop)]
-pub struct Gathered {
+pub(crate) struct Gathered {
     pub source: Source,
     pub shown: Seq<Row>,
 }
 
 /// What the views among the sources show.
-pub fn gather(alloc: Global, views: &[View], sources: &[Source]) -> Result<Vec<Gathered>, Fault>
+pub(crate) fn gather(
+    alloc: Global,
+    views: &[View],
+    sources: &[Source],
+) -> Result<Vec<Gathered>, Fault>
     requires backed { AllByRecursion IsBacked views.now }
     requires there { AreViewsThere (views_of views.now) sources.now }
     ensures ok { IfOk result (λ gathered. AreGathered views.now sources.now gathered.items) }
@@ -58,7 +62,7 @@ fn gather_one(alloc: Global, views: &[View], source: Source) -> Result<Gathered,
 }
 
 /// The rows that a view shows.
-pub fn rows_shown(alloc: Global, view: &View) -> Result<RowList, Fault>
+pub(crate) fn rows_shown(alloc: Global, view: &View) -> Result<RowList, Fault>
     requires { IsBacked view.now }
     ensures ok { IfOk result (λ rows. AreRowsOf view.now.kept rows) }
     ensures sized { IfOk result (λ rows. HaveColumnsOf view.now.kept rows) }
@@ -79,9 +83,9 @@ fn show_fault(fault: ShowFault) -> Fault
 }
 
 /// The rows of each source that was gathered, lent where they are.
-pub fn lend_all<'a>(
+pub(crate) fn lend_all<'a>(
     alloc: Global,
-    tables: &'a [Table],
+    tables: &'a [NamedTable],
     gathered: &'a [Gathered],
 ) -> Result<Vec<StoredSource<'a>>, AllocError>
     requires numbered { (next : ℕ) × AreNumbered tables.now next }
@@ -98,7 +102,7 @@ pub fn lend_all<'a>(
 }
 
 /// The rows of a table where they are, or those that a view showed.
-pub fn rows_there<'a>(tables: &'a [Table], source: Source, shown: &'a [Row]) -> Stored<'a>
+pub fn rows_there<'a>(tables: &'a [NamedTable], source: Source, shown: &'a [Row]) -> Stored<'a>
     requires numbered { (next : ℕ) × AreNumbered tables.now next }
     requires there { (vs : List ViewOf) × IsSourceThere tables.now vs source }
     ensures { AreRowsThere tables.now source shown.now (all_rows result) }

@@ -16,7 +16,7 @@ ghost use Rattle.cq_engine_answers.specs.Gathered.{IsBacked};
 use crate::gathered::{gather, lend_all, rows_shown};
 use crate::selection::{list, list_made};
 use cq_binder_rules::Fault;
-use cq_engine_tables::{Table, View, place_numbered};
+use cq_engine_tables::{NamedTable, View, place_numbered};
 use cq_model::{Order, Query, Shape, ShowFault, Source};
 use cq_model_eval::narrow_is_exact;
 use cq_model_laws::{groups_keep_sizes, joined_rows_keep_sizes, meaning_depends_on_sources};
@@ -31,7 +31,7 @@ use std::alloc::{AllocError, Global};
 /// are grouped.
 pub fn select_from(
     alloc: Global,
-    tables: &[Table],
+    tables: &[NamedTable],
     views: &[View],
     query: &Query,
     order: &Order,
@@ -60,7 +60,7 @@ fn is_plain(shape: &Shape) -> bool
 /// The listing of a query on the table or the view that it names alone.
 fn select_alone(
     alloc: Global,
-    tables: &[Table],
+    tables: &[NamedTable],
     views: &[View],
     query: &Query,
     order: &Order,
@@ -100,7 +100,7 @@ fn select_from_view(
 /// The listing of a query on the rows of all its sources, which are joined.
 fn select_joined(
     alloc: Global,
-    tables: &[Table],
+    tables: &[NamedTable],
     views: &[View],
     query: &Query,
     order: &Order,

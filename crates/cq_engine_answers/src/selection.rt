@@ -17,7 +17,7 @@ use cq_views_state::show_whole_rows;
 use std::alloc::{AllocError, Global};
 
 /// The listing of what the items show of the rows that WHERE keeps. Where LIMIT allows few rows, few are made.
-pub fn list(
+pub(crate) fn list(
     alloc: Global,
     query: &Query,
     order: &Order,
@@ -32,7 +32,7 @@ pub fn list(
 }
 
 /// The same of rows that are made. Where all are shown as they are, they are listed themselves, and none is copied.
-pub fn list_made(
+pub(crate) fn list_made(
     alloc: Global,
     query: &Query,
     order: &Order,

@@ -1,9 +1,12 @@
 -- What the writes of tables do to views.
 use Rattle.std.specs.Prelude.{◌≡◌, ℕ, true, false, List, Option, Some, None, IfSome}
+use Rattle.std.specs.Global.{Vec}
 use Rattle.std.specs.List.{AllByRecursion, zip}
 use Rattle.cq_model.specs.Meaning.{Tables}
 use Rattle.cq_model_state.specs.Pointwise.{Pointwise}
 use Rattle.cq_views_state.specs.Query.{reads}
+use Rattle.cq_views.specs.Changes.{changes_of}
+use Rattle.cq_views.specs.declared.changes.TableChange.{TableChange}
 use Rattle.cq_views.specs.State.{CanCommit, CanPrepare, SameView, StandsFor, StaysStanding, TakesIn, WaitsFor}
 use Rattle.cq_views_state.specs.declared.state.Pending.{Pending}
 use Rattle.cq_views.specs.declared.kept_view.KeptView.{KeptView}
@@ -44,6 +47,10 @@ AreReady table tables changes views pendings = Pointwise (IsReady table tables c
 abbrev pub AreReadyFor : ℕ → Tables → List NamedView → List NamedView → List (Option Pending) → Type 0
 AreReadyFor table changes old new pendings = (tables : Tables) → AllStandFor tables old → AreReady table tables changes new pendings
 
+-- and so it is for the change of a table
+abbrev pub AreReadyForChange : TableChange → Vec NamedView → Vec NamedView → Vec (Option Pending) → Type 0
+AreReadyForChange change old new pendings = AreReadyFor change.table (changes_of change) old.items new.items pendings.items
+
 -- a view has room for what waits, and stays in range
 abbrev pub CanTake : NamedView → Option Pending → Type 0
 CanTake v pending = IfSome pending (λ p. CanCommit v.kept p)
@@ -57,14 +64,18 @@ abbrev pub GoesOn : Option Pending → KeptView → KeptView → Type 0
 GoesOn None old new = StaysStanding old new
 GoesOn (Some pending) old new = TakesIn old pending new
 
--- a view has taken in what waited, and is at the epoch
-pub record HasTaken (now : ℕ) (old : NamedView) (pending : Option Pending) (new : NamedView) : Type 0 where
+-- a view was led to the epoch: it is the view that it was, whatever it stands for
+pub record IsLed (now : ℕ) (old new : NamedView) : Type 0 where
   pub name : new.name ≡ old.name
   pub columns : new.columns ≡ old.columns
   pub query : new.kept.query ≡ old.kept.query
   pub widths : new.kept.widths ≡ old.kept.widths
   pub built : new.kept.state.built ≡ old.kept.state.built
   pub epoch : new.kept.state.epoch ≡ now
+
+-- a view has taken in what waited, and is at the epoch
+pub record HasTaken (now : ℕ) (old : NamedView) (pending : Option Pending) (new : NamedView) : Type 0 where
+  pub led : IsLed now old new
   pub goes : GoesOn pending old.kept new.kept
 
 -- each view has

@@ -4,11 +4,11 @@ ghost use Rattle.cq_values.specs.Texts.{is_text};
 ghost use Rattle.cq_model_state.specs.State.{AreNumbered, TableOf, table_named};
 ghost use Rattle.cq_engine_tables.specs.Tables.{IsThere};
 
-use crate::table::Table;
+use crate::named_table::NamedTable;
 use std::alloc::{AllocError, Global};
 
 /// Takes the table of a number away.
-pub fn drop_in(tables: &mut Vec<Table>, number: u64)
+pub fn drop_in(tables: &mut Vec<NamedTable>, number: u64)
     requires numbered { (next : ℕ) × AreNumbered tables.old.items next }
     requires there { IsThere number tables.old.items }
     ensures { tables.new.items ≡ filter (λ t. not (t.number == number)) tables.old.items }
@@ -20,7 +20,7 @@ pub fn drop_in(tables: &mut Vec<Table>, number: u64)
 /// Moves the first rows of the table of a number to columns, so many of those that stand one by one. No row changes.
 pub fn move_in(
     alloc: Global,
-    tables: &mut Vec<Table>,
+    tables: &mut Vec<NamedTable>,
     number: u64,
     count: u128,
 ) -> Result<(), AllocError>
@@ -32,7 +32,7 @@ pub fn move_in(
 }
 
 /// Where the table of a name stands.
-pub fn place_of(tables: &[Table], name: &str) -> Option<usize>
+pub fn place_of(tables: &[NamedTable], name: &str) -> Option<usize>
     ensures found { IfSome result (λ i. slice_get tables.now i ≡ table_named name.now tables.now) }
     ensures named { is_some result ≡ is_some (table_named name.now tables.now) }
     ensures within { IfSome result (λ i. i < length tables.now) }
@@ -41,7 +41,7 @@ pub fn place_of(tables: &[Table], name: &str) -> Option<usize>
 }
 
 /// Where the table of a number stands that is there.
-pub fn place_numbered(tables: &[Table], number: u64) -> usize
+pub fn place_numbered(tables: &[NamedTable], number: u64) -> usize
     requires { IsThere number tables.now }
     ensures within { result < length tables.now }
     ensures numbered { (t : TableOf) → (get_or tables.now result t).number ≡ number }
@@ -52,13 +52,13 @@ pub fn place_numbered(tables: &[Table], number: u64) -> usize
     }
 }
 
-fn position_of(tables: &[Table], name: &str) -> Option<usize>
+fn position_of(tables: &[NamedTable], name: &str) -> Option<usize>
     ensures { result ≡ position (λ t. is_text t.name name.now) tables.now }
 {
     tables.iter().position(|t| t.is_named(name))
 }
 
-fn position_numbered(tables: &[Table], number: u64) -> Option<usize>
+fn position_numbered(tables: &[NamedTable], number: u64) -> Option<usize>
     ensures { result ≡ position (λ t. t.number == number) tables.now }
 {
     tables.iter().position(|t| t.number() == number)

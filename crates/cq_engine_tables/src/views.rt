@@ -6,7 +6,7 @@ ghost use Rattle.cq_binder_rules.specs.Refusal.{is_used};
 ghost use Rattle.cq_model_state.specs.State.{view_place};
 ghost use Rattle.cq_views_state.specs.Query.{reads};
 ghost use Rattle.cq_views.specs.Changes.{changes_of};
-ghost use Rattle.cq_engine_tables.specs.Taking.{AreReadyFor, AreSame, CanAllPrepare, CanAllTake, HaveTaken};
+ghost use Rattle.cq_engine_tables.specs.Taking.{AreReadyForChange, AreSame, CanAllPrepare, CanAllTake, HaveTaken};
 ghost use Rattle.cq_engine_tables.specs.Views.{views_of};
 
 use crate::view::View;
@@ -47,7 +47,7 @@ pub fn prepare_all(
 ) -> Result<Vec<Option<Pending>>, AllocError>
     requires { CanAllPrepare (changes_of change.now) views.old.items }
     ensures same { AreSame views.old.items views.new.items }
-    ensures ready { IfOk result (λ ps. AreReadyFor change.now.table (changes_of change.now) views.old.items views.new.items ps.items) }
+    ensures ready { IfOk result (AreReadyForChange change.now views.old views.new) }
 {
     let mut pendings = Vec::with_capacity(alloc, views.len())?;
     for place in 0..views.len() {

@@ -26,11 +26,22 @@ use Rattle.cq_engine_tables.proofs.Bags.{bags_are}
 use Rattle.cq_engine_tables.proofs.Pairs.{pointwise_all, pointwise_map}
 use Rattle.cq_engine_tables.proofs.Rows.{unread}
 use Rattle.cq_engine_tables.proofs.Wide.{KeepWidths, all-still-wide}
-use Rattle.cq_engine_tables.specs.Taking.{AllStandFor, AreReady, AreSame, HasTaken, HaveTaken, IsReady, IsSame}
+use Rattle.cq_engine_tables.specs.Taking.{AllStandFor, AreReady, AreSame, HasTaken, HaveTaken, IsLed, IsReady, IsSame}
 use Rattle.cq_engine_tables.specs.Views.{AreRight, AreWide, Fits, IsRight, NamedView, bags_in, view_of}
 use Rattle.cq_engine_writes.specs.Changing.{AreReadyAt}
 use Rattle.cq_engine_writes.specs.Following.{Follow, Follows, Moved}
 use Rattle.cq_model_bags.proofs.Positives.{bag-same}
+
+-- a view is led from where nothing of it had changed
+led_from : (epoch : ℕ) (v w x : NamedView) → IsSame v w → IsLed epoch w x → IsLed epoch v x
+led_from epoch v w x s led = record {
+  name = led.name ∙ s.name;
+  columns = led.columns ∙ s.columns;
+  query = led.query ∙ s.kept.query;
+  widths = led.widths ∙ s.kept.widths;
+  built = led.built ∙ s.kept.state.built;
+  epoch = led.epoch;
+}
 
 -- ---- Views that took in what waited
 module _ (law : StandingDependsOnSources) (epoch n : ℕ) (tables changes : Tables) (others : (source : Source) → is_table n source ≡ false → changes source ≡ []) (bags : AreBags (changed tables changes)) where
@@ -40,21 +51,16 @@ module _ (law : StandingDependsOnSources) (epoch n : ℕ) (tables changes : Tabl
   unchanged_all (s ∷ sources) other = (rw (others s other.0, append-nil (tables s)) (same-refl (tables s)), unchanged_all sources other.1)
 
   -- a view that is ready stands for the changed tables once it has taken in what waited
-  stands_on : (v w x : NamedView) (p : Option Pending) → StandsFor v.kept tables → IsSame v w → IsReady n tables changes w p → HasTaken epoch w p x → StandsFor x.kept (changed tables changes)
-  stands_on v w x None stands s ready taken =
-      let free : reads n x.kept.query ≡ false = ap (λ (q : Query). reads n q) taken.query ∙ ready in
-      law x.kept tables (changed tables changes) (unchanged_all (sources_of x.kept.query) (unread n (sources_of x.kept.query) free)) (taken.goes tables (s.kept.stands tables stands))
-  stands_on v w x (Some p) stands s ready taken = taken.goes tables changes (s.kept.stands tables stands) ready.1 bags
-
   follows : (v w x : NamedView) (p : Option Pending) → StandsFor v.kept tables → IsSame v w → IsReady n tables changes w p → HasTaken epoch w p x → Follows epoch tables changes v x
-  follows v w x p stands s ready taken = record {
-    name = taken.name ∙ s.name;
-    columns = taken.columns ∙ s.columns;
-    query = taken.query ∙ s.kept.query;
-    widths = taken.widths ∙ s.kept.widths;
-    built = taken.built ∙ s.kept.state.built;
-    epoch = taken.epoch;
-    stands = stands_on v w x p stands s ready taken;
+  follows v w x None stands s ready taken = record {
+    led = led_from epoch v w x s taken.led;
+    stands =
+        let free : reads n x.kept.query ≡ false = ap (λ (q : Query). reads n q) taken.led.query ∙ ready in
+        law x.kept tables (changed tables changes) (unchanged_all (sources_of x.kept.query) (unread n (sources_of x.kept.query) free)) (taken.goes tables (s.kept.stands tables stands));
+  }
+  follows v w x (Some p) stands s ready taken = record {
+    led = led_from epoch v w x s taken.led;
+    stands = taken.goes tables changes (s.kept.stands tables stands) ready.1 bags;
   }
 
   pub all_follow : (vs ws xs : List NamedView) (ps : List (Option Pending)) → AllStandFor tables vs → AreSame vs ws → AreReady n tables changes ws ps → HaveTaken epoch ws ps xs → Pointwise (Follows epoch tables changes) vs xs
@@ -114,16 +120,16 @@ module _ (law : StandingDependsOnSources) (epoch now : ℕ) (old new : List Tabl
   same_for (s ∷ sources) = (after_same s, same_for sources)
 
   moved_view : (v w : NamedView) → Follows epoch (bags_in old) f.changes v w → view_of w ≡ at_epoch epoch (view_of v)
-  moved_view v w g = λ i. record { name = g.name i; columns = g.columns i; query = g.query i; epoch = g.epoch i; built = g.built i }
+  moved_view v w g = λ i. record { name = g.led.name i; columns = g.led.columns i; query = g.led.query i; epoch = g.led.epoch i; built = g.led.built i }
 
   moved_right : (v w : NamedView) → Follows epoch (bags_in old) f.changes v w → IsRight old now v → IsRight new epoch w
   moved_right v w g r = record {
-    shown = ap length g.columns ∙ r.shown ∙ sym (ap (λ (q : Query). length q.items) g.query);
-    fits = subst Fits (sym g.query) r.fits;
-    epoch = g.epoch;
+    shown = ap length g.led.columns ∙ r.shown ∙ sym (ap (λ (q : Query). length q.items) g.led.query);
+    fits = subst Fits (sym g.led.query) r.fits;
+    epoch = g.led.epoch;
     wide =
-        subst (λ (q : Query). AreWide new q w.kept.widths) (sym g.query)
-        (subst (λ (ns : List ℕ). AreWide new v.kept.query ns) (sym g.widths) (all-still-wide old new wide (sources_of v.kept.query) v.kept.widths r.wide));
+        subst (λ (q : Query). AreWide new q w.kept.widths) (sym g.led.query)
+        (subst (λ (ns : List ℕ). AreWide new v.kept.query ns) (sym g.led.widths) (all-still-wide old new wide (sources_of v.kept.query) v.kept.widths r.wide));
     stands = law w.kept after (bags_in new) (same_for (sources_of w.kept.query)) g.stands;
   }
 

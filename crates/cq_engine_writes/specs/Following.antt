@@ -11,17 +11,12 @@ use Rattle.cq_model_state.specs.State.{TableOf}
 use Rattle.cq_model_step.specs.Next.{at_epoch}
 use Rattle.cq_views.specs.State.{StandsFor}
 use Rattle.cq_views_state.specs.State.{AreBags}
-use Rattle.cq_engine_tables.specs.Taking.{AllStandFor}
+use Rattle.cq_engine_tables.specs.Taking.{AllStandFor, IsLed}
 use Rattle.cq_engine_tables.specs.Views.{AreRight, NamedView, views_of}
 
 -- a view follows changes of tables: it is at the epoch, and stands for the changed tables
 pub record Follows (now : ℕ) (tables changes : Tables) (old new : NamedView) : Type 0 where
-  pub name : new.name ≡ old.name
-  pub columns : new.columns ≡ old.columns
-  pub query : new.kept.query ≡ old.kept.query
-  pub widths : new.kept.widths ≡ old.kept.widths
-  pub built : new.kept.state.built ≡ old.kept.state.built
-  pub epoch : new.kept.state.epoch ≡ now
+  pub led : IsLed now old new
   pub stands : StandsFor new.kept (changed tables changes)
 
 -- a write changed a table t to u, and whatever tables views stood for, they follow

@@ -78,5 +78,5 @@ pub record IsPrepared (t : TableOf) (assignments : List Assignment) (condition :
   pub can : CanAllTake new pendings
 
 -- the images and what waits, as they are kept until then
-abbrev pub ArePrepared : TableOf → List Assignment → Option Cond → List NamedView → List NamedView → (Vec Row Global × Vec (Option Pending) Global) → Type 0
-ArePrepared t assignments condition old new prepared = IsPrepared t assignments condition old new prepared.0.items prepared.1.items
+abbrev pub ArePrepared : TableOf → List Assignment → Option Cond → Vec NamedView Global → Vec NamedView Global → (Vec Row Global × Vec (Option Pending) Global) → Type 0
+ArePrepared t assignments condition old new prepared = IsPrepared t assignments condition old.items new.items prepared.0.items prepared.1.items

@@ -2,10 +2,9 @@
 ghost use Rattle.std.specs.List.{AllByRecursion};
 ghost use Rattle.std.specs.Prelude.{◌+◌, ◌≤◌, ◌^◌, IfOk, length};
 ghost use Rattle.cq_table_columns.specs.Stored.{stored_rows};
-ghost use Rattle.cq_views.specs.Changes.{exchanged};
 ghost use Rattle.cq_model_laws.specs.Sizes.{IsStored};
 ghost use Rattle.cq_engine_tables.specs.Taking.{AreSame, CanAllTake};
-ghost use Rattle.cq_engine_writes.specs.Changing.{AreReadyAt, AreStanding};
+ghost use Rattle.cq_engine_writes.specs.Changing.{AreReadyForRows, AreStanding};
 
 use cq_engine_tables::{View, prepare_all};
 use cq_table_columns::{Front, StoredRow};
@@ -28,7 +27,7 @@ pub(crate) fn prepare_views(
     requires come { AllByRecursion IsStored come.now }
     requires few { length gone.now + length come.now ≤ 2 ^ 25 }
     ensures same { AreSame views.old.items views.new.items }
-    ensures ready { IfOk result (λ ps. AreReadyAt table (exchanged (stored_rows gone.now) come.now) views.old.items views.new.items ps.items) }
+    ensures ready { IfOk result (AreReadyForRows table (stored_rows gone.now) come.now views.old views.new) }
     ensures can { IfOk result (λ ps. CanAllTake views.new.items ps.items) }
 {
     let change = TableChange { table, gone, come };
@@ -48,7 +47,7 @@ pub(crate) fn prepare_copied(
     requires come { AllByRecursion IsStored come.now }
     requires few { length gone.now + length come.now ≤ 2 ^ 25 }
     ensures same { AreSame views.old.items views.new.items }
-    ensures ready { IfOk result (λ ps. AreReadyAt table (exchanged gone.now come.now) views.old.items views.new.items ps.items) }
+    ensures ready { IfOk result (AreReadyForRows table gone.now come.now views.old views.new) }
     ensures can { IfOk result (λ ps. CanAllTake views.new.items ps.items) }
 {
     let lent = Front::Rows(gone).rows(alloc)?;

@@ -10,15 +10,15 @@ ghost use Rattle.cq_engine_writes.specs.Changing.{AreStanding};
 ghost use Rattle.cq_engine_writes.specs.Following.{Follow};
 
 use crate::changing::prepare_views;
-use cq_engine_tables::{Table, View, commit_all};
+use cq_engine_tables::{NamedTable, View, commit_all};
 use cq_model::Cond;
 use cq_views::standing_depends_on_sources;
 use std::alloc::{AllocError, Global};
 
 /// Takes the rows that WHERE keeps from this table, and tells how many they were. The views on the table follow.
-pub fn delete_from(
+pub(crate) fn delete_from(
     alloc: Global,
-    table: &mut Table,
+    table: &mut NamedTable,
     views: &mut Vec<View>,
     condition: &Option<Cond>,
     epoch: u64,

@@ -9,17 +9,17 @@ ghost use Rattle.cq_engine_writes.specs.Writing.{InsertsRows};
 
 use crate::changing::prepare_views;
 use cq_binder_rules::Fault;
-use cq_engine_tables::{Table, View, commit_all};
+use cq_engine_tables::{NamedTable, View, commit_all};
 use cq_table::check_room;
 use cq_values::Row;
 use cq_views::standing_depends_on_sources;
 use std::alloc::Global;
 
 /// Adds the rows to this table, or none of them. The views on the table take them in.
-pub fn insert_into(
+pub(crate) fn insert_into(
     alloc: Global,
     max_rows: u64,
-    table: &mut Table,
+    table: &mut NamedTable,
     views: &mut Vec<View>,
     rows: Vec<Row>,
     epoch: u64,

@@ -10,7 +10,7 @@ ghost use Rattle.cq_engine_writes.specs.Updates.{ArePrepared, CanUpdate, Updates
 
 use crate::changing::prepare_copied;
 use cq_binder_rules::Fault;
-use cq_engine_tables::{Table, View, commit_all};
+use cq_engine_tables::{NamedTable, View, commit_all};
 use cq_model::{Assignment, Cond};
 use cq_values::Row;
 use cq_views::standing_depends_on_sources;
@@ -22,9 +22,9 @@ type Prepared = (Vec<Row>, Vec<Option<Pending>>);
 
 /// Replaces each row of this table that WHERE keeps by its image, and tells how many they were. The views on the table
 /// follow.
-pub fn update_rows(
+pub(crate) fn update_rows(
     alloc: Global,
-    table: &mut Table,
+    table: &mut NamedTable,
     views: &mut Vec<View>,
     assignments: &[Assignment],
     condition: &Option<Cond>,
@@ -49,7 +49,7 @@ pub fn update_rows(
 /// The images of the rows that WHERE keeps, where they may be stored. All growth is made, and nothing changes.
 fn prepared(
     alloc: Global,
-    table: &Table,
+    table: &NamedTable,
     views: &mut Vec<View>,
     assignments: &[Assignment],
     condition: &Option<Cond>,
@@ -59,7 +59,7 @@ fn prepared(
     requires stand { AreStanding views.old.items }
     requires can { CanUpdate table.now.columns assignments.now condition.now table.now.rows }
     ensures kept { AreSame views.old.items views.new.items }
-    ensures ready { IfOk result (ArePrepared table.now assignments.now condition.now views.old.items views.new.items) }
+    ensures ready { IfOk result (ArePrepared table.now assignments.now condition.now views.old views.new) }
     ensures fault { IfErr result (MayRefuse (value_fault_of table.now assignments.now condition.now)) }
 {
     let (gone, images) = table.images_where(alloc, assignments, condition)?;

@@ -2,21 +2,19 @@
 ghost use Rattle.std.specs.Prelude.{◌≡◌, ◌≤◌, ℕ, IfOk, OnErr, OnOk, length};
 ghost use Rattle.std.specs.List.{AllByRecursion};
 ghost use Rattle.cq_model.specs.Width.{IsNarrowIn};
-ghost use Rattle.cq_model.specs.Write.{chosen};
 ghost use Rattle.cq_model_state.specs.Fitting.{AreFitting, AreLimited, FitsColumns, rows_limit};
 ghost use Rattle.cq_model_state.specs.State.{AreNumbered, columns_in, rows_in};
 ghost use Rattle.cq_engine_tables.specs.Tables.{IsThere};
-ghost use Rattle.cq_engine_tables.specs.Taking.{AreSame};
 ghost use Rattle.cq_engine_tables.specs.Views.{AreRight};
 ghost use Rattle.cq_engine_writes.specs.Following.{Moved};
 ghost use Rattle.cq_engine_writes.specs.Updates.{CanUpdateIn, Updates};
-ghost use Rattle.cq_engine_writes.specs.Writing.{Inserts, deleted_from};
+ghost use Rattle.cq_engine_writes.specs.Writing.{AreUnwritten, Inserts, chosen_in, deleted_from};
 
 use crate::deletion::delete_from;
 use crate::insertion::insert_into;
 use crate::updating::update_rows;
 use cq_binder_rules::Fault;
-use cq_engine_tables::{Table, View, place_numbered};
+use cq_engine_tables::{NamedTable, View, place_numbered};
 use cq_model::{Assignment, Cond};
 use cq_values::Row;
 use cq_views::standing_depends_on_sources;
@@ -26,7 +24,7 @@ use std::alloc::{AllocError, Global};
 pub fn insert_in(
     alloc: Global,
     max_rows: u64,
-    tables: &mut Vec<Table>,
+    tables: &mut Vec<NamedTable>,
     views: &mut Vec<View>,
     number: u64,
     rows: Vec<Row>,
@@ -41,7 +39,7 @@ pub fn insert_in(
     requires rows { AllByRecursion (FitsColumns (columns_in tables.old.items number)) rows.items }
     ensures inserts { Inserts max_rows number rows.items tables.old.items result tables.new.items }
     ensures moved { OnOk result (Moved epoch tables.new.items views.old.items views.new.items) }
-    ensures err { OnErr result ((tables.new.items ≡ tables.old.items) × AreSame views.old.items views.new.items) }
+    ensures err { OnErr result (AreUnwritten tables.old tables.new views.old views.new) }
 {
     let place = place_numbered(tables, number);
     standing_depends_on_sources();
@@ -52,7 +50,7 @@ pub fn insert_in(
 /// each view is at the epoch.
 pub fn delete_in(
     alloc: Global,
-    tables: &mut Vec<Table>,
+    tables: &mut Vec<NamedTable>,
     views: &mut Vec<View>,
     number: u64,
     condition: &Option<Cond>,
@@ -64,10 +62,10 @@ pub fn delete_in(
     requires limited { AreLimited rows_limit tables.old.items }
     requires there { IsThere number tables.old.items }
     requires narrow { AllByRecursion (IsNarrowIn condition.now) (rows_in tables.old.items number) }
-    ensures count { IfOk result (λ count. count ≡ length (chosen condition.now (rows_in tables.old.items number))) }
+    ensures count { IfOk result (λ count. count ≡ length (chosen_in number condition.now tables.old.items)) }
     ensures left { OnOk result (tables.new.items ≡ deleted_from number condition.now tables.old.items) }
     ensures moved { OnOk result (Moved epoch tables.new.items views.old.items views.new.items) }
-    ensures err { OnErr result ((tables.new.items ≡ tables.old.items) × AreSame views.old.items views.new.items) }
+    ensures err { OnErr result (AreUnwritten tables.old tables.new views.old views.new) }
 {
     let place = place_numbered(tables, number);
     standing_depends_on_sources();
@@ -78,7 +76,7 @@ pub fn delete_in(
 /// may be stored. The views on it follow, and each view is at the epoch.
 pub fn update_in(
     alloc: Global,
-    tables: &mut Vec<Table>,
+    tables: &mut Vec<NamedTable>,
     views: &mut Vec<View>,
     number: u64,
     assignments: &[Assignment],
@@ -93,7 +91,7 @@ pub fn update_in(
     requires can { CanUpdateIn tables.old.items number assignments.now condition.now }
     ensures updates { Updates number assignments.now condition.now tables.old.items result tables.new.items }
     ensures moved { OnOk result (Moved epoch tables.new.items views.old.items views.new.items) }
-    ensures err { OnErr result ((tables.new.items ≡ tables.old.items) × AreSame views.old.items views.new.items) }
+    ensures err { OnErr result (AreUnwritten tables.old tables.new views.old views.new) }
 {
     let place = place_numbered(tables, number);
     standing_depends_on_sources();

@@ -3,7 +3,7 @@ use Rattle.std.proofs.lemmas.Result.{err_from_is_err_and}
 use Rattle.cq_model.specs.Write.{left_by}
 use Rattle.cq_model_state.specs.State.{rows_in}
 use Rattle.cq_engine_tables.specs.Views.{views_of}
-use Rattle.cq_engine.proofs.Kept.{all_at, all_right_same, unchanged}
+use Rattle.cq_engine.proofs.Kept.{all_at, order_kept, unchanged}
 use Rattle.cq_engine_tables.proofs.Rows.{bounded_more}
 use Rattle.cq_engine.proofs.Steps.{delete_done}
 use Rattle.cq_engine_writes.proofs.Written.{left_bounded, left_fit}
@@ -18,14 +18,8 @@ delete_in-deleted-requires-clause-limited c =
 pub invariant_of-self : goal.invariant_of-self
 invariant_of-self c =
     let same = c.in_err-rows.ensures.err in
-    let tables = c.self.inside.tables.items in
-    let views = c.self.inside.views.items in (
-      c.self.invariant.0,
-      rw same.0 c.self.invariant.1,
-      rw same.0 c.self.invariant.2,
-      rw same.0 (all_right_same tables c.self.inside.writes views c.delete_in-deleted.new.views.items same.1 c.self.invariant.3),
-      rw same.0 c.self.invariant.4,
-    )
+    let e = c.self.inside in
+    order_kept e.writes e.drawn e.limits.max_rows e.tables.items c.delete_in-deleted.new.tables.items e.views.items c.delete_in-deleted.new.views.items same.0 same.1 c.self.invariant
 
 pub returns-in_err-rows-clause-done : goal.returns-in_err-rows-clause-done
 returns-in_err-rows-clause-done c =

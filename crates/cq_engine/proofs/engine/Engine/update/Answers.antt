@@ -3,7 +3,7 @@ use Rattle.std.proofs.lemmas.Result.{err_from_is_err_and}
 use Rattle.cq_model.specs.Write.{updated}
 use Rattle.cq_model_state.specs.State.{rows_in}
 use Rattle.cq_engine_tables.specs.Views.{views_of}
-use Rattle.cq_engine.proofs.Kept.{all_at, all_right_same, unchanged}
+use Rattle.cq_engine.proofs.Kept.{all_at, order_kept, unchanged}
 use Rattle.cq_engine_tables.proofs.Rows.{bounded_more}
 use Rattle.cq_engine.proofs.Steps.{update_done}
 use Rattle.cq_engine_writes.proofs.Updates.{updated_bounded, updated_fit}
@@ -18,14 +18,8 @@ update_in-updated-requires-clause-limited c =
 pub invariant_of-self : goal.invariant_of-self
 invariant_of-self c =
     let same = c.in_err-count.ensures.err in
-    let tables = c.self.inside.tables.items in
-    let views = c.self.inside.views.items in (
-      c.self.invariant.0,
-      rw same.0 c.self.invariant.1,
-      rw same.0 c.self.invariant.2,
-      rw same.0 (all_right_same tables c.self.inside.writes views c.update_in-updated.new.views.items same.1 c.self.invariant.3),
-      rw same.0 c.self.invariant.4,
-    )
+    let e = c.self.inside in
+    order_kept e.writes e.drawn e.limits.max_rows e.tables.items c.update_in-updated.new.tables.items e.views.items c.update_in-updated.new.views.items same.0 same.1 c.self.invariant
 
 pub returns-in_err-count-clause-done : goal.returns-in_err-count-clause-done
 returns-in_err-count-clause-done c =

@@ -1,4 +1,8 @@
 //! A table under its number and its name.
+//!
+//! A [`NamedTable`] is a table of `cq_table` that statements find: its number is drawn once and never changes, and its
+//! rows fit its columns. A write asks for its rows first (`chosen`, `images_where`), readies the views, and then changes
+//! the rows by one call that may fail and leaves them as they were. Each call costs what the same call of `cq_table` does.
 ghost use Rattle.std.specs.List.{AllByRecursion};
 ghost use Rattle.std.specs.Prelude.{◌++◌, ◌≡◌, ◌<◌, ◌^◌, IfOk, OnErr, OnOk, length};
 ghost use Rattle.cq_values.specs.Texts.{is_text};
@@ -21,13 +25,13 @@ use std::marker::Model;
 
 /// Rows that fit their columns, under a name. Contracts see the one list that stands for their bag.
 #[derive(Drop)]
-pub struct Table {
+pub struct NamedTable {
     number: u64,
     name: Text,
     stored: cq_table::Table,
 }
 
-impl Model for Table {
+impl Model for NamedTable {
     ghost use Rattle.cq_model_state.specs.State.{TableOf};
     ghost use Rattle.cq_engine_tables.specs.Tables.{named};
 
@@ -36,7 +40,7 @@ impl Model for Table {
     ghost view = { λ t. named t.number t.name t.stored };
 }
 
-impl Table {
+impl NamedTable {
     /// A table of this name without rows, that may have so many of them, under the number that it drew.
     pub fn new(
         alloc: Global,
@@ -45,10 +49,10 @@ impl Table {
         columns: Seq<ColumnDef>,
         sort: Seq<usize>,
         max_rows: u64,
-    ) -> Table
+    ) -> NamedTable
         ensures { result ≡ empty_table number name columns sort }
     {
-        Table {
+        NamedTable {
             number,
             name,
             stored: cq_table::Table::new(alloc, columns, sort, max_rows),
