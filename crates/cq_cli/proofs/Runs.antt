@@ -15,7 +15,7 @@ use Rattle.cq_model_step.specs.Output.{answered, is_source_failure, not_utf8, Ru
 use Rattle.cq_cli.specs.declared.endings.Status.{Status}
 use Rattle.cq_cli.specs.declared.endings.Status.TheVariants.{AllAccepted, SomeRefused}
 use Rattle.cq_cli.specs.declared.endings.RunFault.{RunFault}
-use Rattle.cq_cli.specs.Running.{Counted, RunsScript, both, status_of}
+use Rattle.cq_cli.specs.Running.{Counted, RunsScript, StopsIfFailed, both, status_of}
 use Rattle.cq_cli.specs.Writing.{Wrote, WrotePrefix}
 use Rattle.cq_cli.proofs.Counting.{serves_draws, serves_failures}
 use Rattle.cq_cli.proofs.Serving.{ServesPiece, refused_somehow}
@@ -176,6 +176,15 @@ module _ (source : Option Files) (max_rows : ℕ) (script : List ℕ) (a b : Opt
         answered = answered utf8 ((so_far.served ++ p ∷ []) ++ ps) regrouped next run;
         written = subst (λ (t : List ℕ). WrotePrefix t a c f h) (sym text) (prefix_of_more (output_of so_far.outcomes ++ outcome_text o) (output_of rest.0) a c f h prefix);
         counted = (so_far.outcomes ++ o ∷ [], rest.0, refl, failures_more so_far.outcomes o u v w so_far.sources served.counted);
+        stopped = record {
+          before = so_far.outcomes;
+          last = o ∷ [];
+          later = rest.0;
+          all = append_assoc so_far.outcomes (o ∷ []) rest.0;
+          one = omega arith;
+          put = (served.written.0, served.written.1, append-nil (outcome_text o) ∙ served.written.2, appends_more a b c (output_of so_far.outcomes) served.written.0 so_far.written served.written.3);
+          counted = failures_more so_far.outcomes o u v w so_far.sources served.counted;
+        };
         told = tt;
       }
 
@@ -187,6 +196,7 @@ ends source max_rows script left a b f g u v state status utf8 empty h =
       answered = answered utf8 h.served (subst (HasPieces script) all h.cut) state h.run;
       written = (h.written, h.count);
       counted = h.sources;
+      stopped = tt;
       told = h.told;
     }
 
@@ -195,6 +205,19 @@ no_source : (u : ℕ) (r : Result Status RunFault) → Counted (Err NotUtf8 ∷ 
 no_source u (Ok status) = omega arith
 no_source u (Err e) = (Err NotUtf8 ∷ [], [], refl, omega arith)
 
+-- where the sink fails, it fails at that line
+stops_at_once : (a b : Option (List ℕ)) (f g u : ℕ) (r : Result Status RunFault) → Wrote (outcome_text (Err NotUtf8)) a b f g r → StopsIfFailed (Err NotUtf8 ∷ []) a b u u r
+stops_at_once a b f g u (Ok status) wrote = tt
+stops_at_once a b f g u (Err e) wrote = record {
+  before = [];
+  last = Err NotUtf8 ∷ [];
+  later = [];
+  all = refl;
+  one = omega arith;
+  put = (wrote.0, wrote.1, append-nil (outcome_text (Err NotUtf8)) ∙ wrote.2, wrote.3);
+  counted = omega arith;
+}
+
 -- a script that is not UTF-8 is answered by one line
 pub refuses_bytes : (source : Option Files) (max_rows : ℕ) (script : List ℕ) (a b : Option (List ℕ)) (f g u : ℕ) (r : Result Status RunFault) → (IsUtf8 script → ⊥) → Wrote (outcome_text (Err NotUtf8)) a b f g r → IfOk r (λ status. status ≡ SomeRefused) → RunsScript source max_rows script a b f g u u r
 refuses_bytes source max_rows script a b f g u r bad written told = record {
@@ -202,5 +225,37 @@ refuses_bytes source max_rows script a b f g u r bad written told = record {
   answered = not_utf8 bad refl;
   written = subst (λ (t : List ℕ). Wrote t a b f g r) (sym (append-nil (outcome_text (Err NotUtf8)))) written;
   counted = no_source u r;
+  stopped = stops_at_once a b f g u r written;
   told = told;
 }
+
+module _ (source : Option Files) (max_rows : ℕ) (script : List ℕ) (a b c : Option (List ℕ)) (f g h u v : ℕ) (status : Status) (ran : RunsScript source max_rows script a b f g u v (Ok status)) (kept : Keeps b c) where
+  -- the flush succeeds
+  pub flushes : h ≡ g → RunsScript source max_rows script a c f h u v (Ok status)
+  flushes same = record {
+    outcomes = ran.outcomes;
+    answered = ran.answered;
+    written = (appends_kept a b c (output_of ran.outcomes) ran.written.0 kept, same ∙ ran.written.1);
+    counted = ran.counted;
+    stopped = tt;
+    told = ran.told;
+  }
+
+  -- the flush fails, after all of the output was put
+  pub flush_fails : (e : RunFault) → h ≡ g + 1 → RunsScript source max_rows script a c f h u v (Err e)
+  flush_fails e more = record {
+    outcomes = ran.outcomes;
+    answered = ran.answered;
+    written = all_then_failed (output_of ran.outcomes) a b c f g h ran.written kept more;
+    counted = (ran.outcomes, [], sym (append-nil ran.outcomes), ran.counted);
+    stopped = record {
+      before = ran.outcomes;
+      last = [];
+      later = [];
+      all = sym (append-nil ran.outcomes);
+      one = omega arith;
+      put = ([], [], refl, subst (λ (t : List ℕ). Appends a c t) (sym (append-nil (output_of ran.outcomes))) (appends_kept a b c (output_of ran.outcomes) ran.written.0 kept));
+      counted = subst (λ (os : List (Result Answer Fault)). v ≡ u + source_failures os) (sym (append-nil ran.outcomes)) ran.counted;
+    };
+    told = tt;
+  }

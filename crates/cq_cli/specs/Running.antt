@@ -1,5 +1,6 @@
 -- What a run of a script does.
-use Rattle.std.specs.Prelude.{◌≡◌, ℕ, ◌+◌, Bool, true, false, if◌then◌else◌, List, ◌++◌, Option, Result, Ok, Err, IfOk}
+use Rattle.std.specs.Prelude.{◌≡◌, ◌≤◌, ℕ, ◌+◌, Bool, true, false, if◌then◌else◌, List, ◌++◌, length, Option, Result, Ok, Err, IfOk}
+use Rattle.std.specs.Io.KnownBytes.{Appends}
 use Rattle.std.specs.List.{list_all}
 use Rattle.cq_model_step.specs.declared.answer.Answer.{Answer}
 use Rattle.cq_binder_rules.specs.Records.{Files}
@@ -11,7 +12,8 @@ use Rattle.cq_cli.specs.declared.endings.RunFault.{RunFault}
 use Rattle.cq_cli.specs.declared.endings.RunFault.TheVariants.{Output}
 use Rattle.cq_cli.specs.declared.sink.Sink.{Ghosts as Sink}
 use Rattle.cq_binder_rules.specs.declared.sources.Sources.{Ghosts as Sources}
-use Rattle.cq_cli.specs.Writing.{Wrote}
+use Rattle.cq_cli.specs.Writing.{Wrote, flushes_after}
+use Rattle.cq_engine.specs.declared.limits.Limits.{Limits}
 
 -- whether the outcome of a statement is an answer
 abbrev pub is_accepted : Result Answer Fault → Bool
@@ -34,6 +36,26 @@ Counted outcomes asked failed (Ok status) = failed ≡ asked + source_failures o
 Counted outcomes asked failed (Err e) =
     (answered later : List (Result Answer Fault)) × (outcomes ≡ answered ++ later) × (failed ≡ asked + source_failures answered)
 
+-- the texts of outcomes were put, and a front of the text of the last
+abbrev pub PutsUpTo : List (Result Answer Fault) → List (Result Answer Fault) → Option (List ℕ) → Option (List ℕ) → Type 0
+PutsUpTo before last old new =
+    (front back : List ℕ) × (output_of last ≡ front ++ back) × Appends old new (output_of before ++ front)
+
+-- the sink failed at the text of one outcome, or at the flush behind all, and no source was asked for a later one
+pub record Stops (outcomes : List (Result Answer Fault)) (old new : Option (List ℕ)) (asked failed : ℕ) : Type 0 where
+  pub before : List (Result Answer Fault)
+  pub last : List (Result Answer Fault)
+  pub later : List (Result Answer Fault)
+  pub all : outcomes ≡ before ++ (last ++ later)
+  pub one : length last ≤ 1
+  pub put : PutsUpTo before last old new
+  pub counted : failed ≡ asked + source_failures (before ++ last)
+
+-- a run that ends well stops nowhere before its end
+abbrev pub StopsIfFailed : List (Result Answer Fault) → Option (List ℕ) → Option (List ℕ) → ℕ → ℕ → Result Status RunFault → Type 0
+StopsIfFailed outcomes old new asked failed (Ok status) = Unit {0}
+StopsIfFailed outcomes old new asked failed (Err e) = Stops outcomes old new asked failed
+
 -- the output of the script's outcomes over the files of its source was written, or a prefix where the sink failed, and the
 -- sources' failures are told
 pub record RunsScript (source : Option Files) (max_rows : ℕ) (script : List ℕ) (old new : Option (List ℕ)) (before after asked failed : ℕ) (result : Result Status RunFault) : Type 0 where
@@ -41,12 +63,13 @@ pub record RunsScript (source : Option Files) (max_rows : ℕ) (script : List �
   pub answered : HasOutcomes source max_rows script outcomes
   pub written : Wrote (output_of outcomes) old new before after result
   pub counted : Counted outcomes asked failed result
+  pub stopped : StopsIfFailed outcomes old new asked failed result
   pub told : IfOk result (λ status. status ≡ status_of outcomes)
 
 -- the same of a sink and of sources
-abbrev pub Answers : {K S : Type 0} → ℕ → List ℕ → Sink K → K → K → Sources S → S → S → Result Status RunFault → Type 0
-Answers max_rows script sink old new sources asked failed result =
-    RunsScript (sources.files asked) max_rows script (sink.contents old) (sink.contents new) (sink.failures old) (sink.failures new) (sources.failures asked) (sources.failures failed) result
+abbrev pub Answers : {K S : Type 0} → Limits → List ℕ → Sink K → K → K → Sources S → S → S → Result Status RunFault → Type 0
+Answers limits script sink old new sources asked failed result =
+    RunsScript (sources.files asked) limits.max_rows script (sink.contents old) (sink.contents new) (sink.failures old) (sink.failures new) (sources.failures asked) (sources.failures failed) result
 
 -- the exit status of the program after a run
 abbrev pub exit_number : Result Status RunFault → ℕ
@@ -54,9 +77,10 @@ exit_number (Ok AllAccepted) = 0
 exit_number (Ok SomeRefused) = 1
 exit_number (Err Output) = 3
 
--- the program ran a script, and ends with this status; at 0 and 1 the output is flushed
-pub record EndsRun {K S : Type 0} (max_rows : ℕ) (script : List ℕ) (sink : Sink K) (old new : K) (sources : Sources S) (asked failed : S) (exit : ℕ) : Type 0 where
+-- the program ran a script, and ends with this status; at 0 and 1 the output is flushed, once
+pub record EndsRun {K S : Type 0} (limits : Limits) (script : List ℕ) (sink : Sink K) (old new : K) (sources : Sources S) (asked failed : S) (exit : ℕ) : Type 0 where
   pub ended : Result Status RunFault
-  pub ran : Answers max_rows script sink old new sources asked failed ended
+  pub ran : Answers limits script sink old new sources asked failed ended
   pub flushed : IfOk ended (λ status. sink.is_flushed new ≡ true)
+  pub once : sink.flushes new ≡ flushes_after ended (sink.flushes old)
   pub told : exit ≡ exit_number ended

@@ -1,5 +1,5 @@
 -- What a sink was given.
-use Rattle.std.specs.Prelude.{◌≡◌, ℕ, ◌+◌, ◌==◌, not, ◌&&◌, if◌then◌else◌, List, ◌++◌, Option, Result, Ok, Err}
+use Rattle.std.specs.Prelude.{◌≡◌, ℕ, ◌+◌, ◌%◌, ◌^◌, ◌==◌, not, ◌&&◌, if◌then◌else◌, List, ◌++◌, Option, Result, Ok, Err}
 use Rattle.std.specs.Io.KnownBytes.{Appends}
 
 -- to take nothing of some bytes is one failure
@@ -15,6 +15,11 @@ failures_after (Err e) offered = 1
 abbrev pub failures_of : {A E : Type 0} → Result A E → ℕ
 failures_of (Ok a) = 0
 failures_of (Err e) = 1
+
+-- a flush that succeeds is counted, in 64 bits
+abbrev pub flushes_after : {A E : Type 0} → Result A E → ℕ → ℕ
+flushes_after (Ok a) flushes = (flushes + 1) % 2 ^ 64
+flushes_after (Err e) flushes = flushes
 
 -- a prefix of a text was written, and the sink failed once
 abbrev pub WrotePrefix : List ℕ → Option (List ℕ) → Option (List ℕ) → ℕ → ℕ → Type 0

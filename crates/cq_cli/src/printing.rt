@@ -17,7 +17,7 @@ use std::alloc::Global;
 
 /// What is printed for a statement.
 #[derive(Drop)]
-pub enum Printed {
+pub(crate) enum Printed {
     Done,
     Count(u64),
     Rows(Seq<u8>),
@@ -26,7 +26,7 @@ pub enum Printed {
 
 impl Printed {
     /// What this one statement makes of a script's status.
-    pub fn status(&self) -> Status
+    pub(crate) fn status(&self) -> Status
         ensures { result ≡ printed_status self.now }
     {
         match self {
@@ -37,7 +37,7 @@ impl Printed {
 }
 
 /// Makes the text of a result before any of it is written.
-pub fn shown(alloc: Global, outcome: Result<Answer, Fault>) -> Printed
+pub(crate) fn shown(alloc: Global, outcome: Result<Answer, Fault>) -> Printed
     ensures { Shows outcome result }
 {
     match outcome {
@@ -54,10 +54,11 @@ pub fn shown(alloc: Global, outcome: Result<Answer, Fault>) -> Printed
 }
 
 /// Writes what is printed. Takes no memory.
-pub fn print<K: Sink>(out: &mut K, printed: &Printed) -> Result<Status, RunFault>
+pub(crate) fn print<K: Sink>(out: &mut K, printed: &Printed) -> Result<Status, RunFault>
     requires { K.failures out.old < 2 ^ 64 - 1 }
     ensures written { Writes (printed_text printed.now) K.Sink out.old out.new result }
     ensures status { IfOk result (λ status. status ≡ printed_status printed.now) }
+    ensures flushes { K.flushes out.new ≡ K.flushes out.old }
 {
     put_printed(out, printed)?;
     Ok(printed.status())
@@ -65,7 +66,8 @@ pub fn print<K: Sink>(out: &mut K, printed: &Printed) -> Result<Status, RunFault
 
 fn put_printed<K: Sink>(out: &mut K, printed: &Printed) -> Result<(), RunFault>
     requires { K.failures out.old < 2 ^ 64 - 1 }
-    ensures { Writes (printed_text printed.now) K.Sink out.old out.new result }
+    ensures written { Writes (printed_text printed.now) K.Sink out.old out.new result }
+    ensures flushes { K.flushes out.new ≡ K.flushes out.old }
 {
     match printed {
         Printed::Done => put_all(out, b"ok\n"),
@@ -77,7 +79,8 @@ fn put_printed<K: Sink>(out: &mut K, printed: &Printed) -> Result<(), RunFault>
 
 fn put_fault<K: Sink>(out: &mut K, fault: Fault) -> Result<(), RunFault>
     requires { K.failures out.old < 2 ^ 64 - 1 }
-    ensures { Writes (codes "error " ++ (fault_text fault ++ 10 ∷ [])) K.Sink out.old out.new result }
+    ensures written { Writes (codes "error " ++ (fault_text fault ++ 10 ∷ [])) K.Sink out.old out.new result }
+    ensures flushes { K.flushes out.new ≡ K.flushes out.old }
 {
     let mut buffer = Buffer::new();
     let number = number_text(&mut buffer, fault.record());
@@ -97,7 +100,8 @@ fn number_text(buffer: &mut Buffer, number: Option<u64>) -> &str
 
 fn put_line<K: Sink>(out: &mut K, first: &[u8], second: &[u8]) -> Result<(), RunFault>
     requires { K.failures out.old < 2 ^ 64 - 1 }
-    ensures { Writes ((first.now ++ second.now) ++ 10 ∷ []) K.Sink out.old out.new result }
+    ensures written { Writes ((first.now ++ second.now) ++ 10 ∷ []) K.Sink out.old out.new result }
+    ensures flushes { K.flushes out.new ≡ K.flushes out.old }
 {
     put_two(out, first, second)?;
     put_all(out, b"\n")
@@ -105,7 +109,8 @@ fn put_line<K: Sink>(out: &mut K, first: &[u8], second: &[u8]) -> Result<(), Run
 
 fn put_count<K: Sink>(out: &mut K, n: u64) -> Result<(), RunFault>
     requires { K.failures out.old < 2 ^ 64 - 1 }
-    ensures { Writes (codes "ok " ++ (decimal n ++ 10 ∷ [])) K.Sink out.old out.new result }
+    ensures written { Writes (codes "ok " ++ (decimal n ++ 10 ∷ [])) K.Sink out.old out.new result }
+    ensures flushes { K.flushes out.new ≡ K.flushes out.old }
 {
     let mut buffer = Buffer::new();
     let digits = buffer.format(n);
@@ -119,7 +124,8 @@ fn put_three<K: Sink>(
     third: &[u8],
 ) -> Result<(), RunFault>
     requires { K.failures out.old < 2 ^ 64 - 1 }
-    ensures { Writes (first.now ++ (second.now ++ third.now)) K.Sink out.old out.new result }
+    ensures written { Writes (first.now ++ (second.now ++ third.now)) K.Sink out.old out.new result }
+    ensures flushes { K.flushes out.new ≡ K.flushes out.old }
 {
     put_all(out, first)?;
     put_two(out, second, third)
@@ -127,7 +133,8 @@ fn put_three<K: Sink>(
 
 fn put_two<K: Sink>(out: &mut K, first: &[u8], second: &[u8]) -> Result<(), RunFault>
     requires { K.failures out.old < 2 ^ 64 - 1 }
-    ensures { Writes (first.now ++ second.now) K.Sink out.old out.new result }
+    ensures written { Writes (first.now ++ second.now) K.Sink out.old out.new result }
+    ensures flushes { K.flushes out.new ≡ K.flushes out.old }
 {
     put_all(out, first)?;
     put_all(out, second)

@@ -8,8 +8,8 @@ use crate::sink::Sink;
 use cq_engine::{Limits, Sources};
 use std::alloc::Global;
 
-/// Runs the whole script, and tells the exit status of the program: 0 where every statement was accepted, 1 where some were
-/// refused, 3 where the sink failed.
+/// Runs the whole script, and tells the exit status of the program: 0 where every statement was accepted, 1 where some
+/// were refused, 3 where the sink failed.
 pub fn run_program<S: Sources, K: Sink>(
     alloc: Global,
     script: &[u8],
@@ -19,7 +19,7 @@ pub fn run_program<S: Sources, K: Sink>(
 ) -> u8
     requires out { K.failures out.old < 2 ^ 64 - 1 }
     requires sources { S.failures sources.old + length script.now < 2 ^ 64 }
-    ensures ended { EndsRun limits.max_rows script.now K.Sink out.old out.new S.Sources sources.old sources.new result }
+    ensures ended { EndsRun limits script.now K.Sink out.old out.new S.Sources sources.old sources.new result }
     ensures files { S.files sources.new ≡ S.files sources.old }
 {
     exit_of(&run(alloc, script, limits, sources, out))

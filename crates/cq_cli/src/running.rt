@@ -5,6 +5,7 @@ ghost use Rattle.cq_sql_tokens.specs.Piece.{piece_of};
 ghost use Rattle.cq_engine.specs.Commands.{OnlyShows};
 ghost use Rattle.cq_cli.specs.Printing.{Tells};
 ghost use Rattle.cq_cli.specs.Running.{Answers};
+ghost use Rattle.cq_cli.specs.Writing.{flushes_after};
 
 use crate::endings::{RunFault, Status};
 use crate::printing::{Printed, print, shown};
@@ -52,7 +53,8 @@ fn tell<K: Sink>(
     out: &mut K,
 ) -> Result<Status, RunFault>
     requires { K.failures out.old < 2 ^ 64 - 1 }
-    ensures { Tells outcome K.Sink out.old out.new result }
+    ensures told { Tells outcome K.Sink out.old out.new result }
+    ensures flushes { K.flushes out.new ≡ K.flushes out.old }
 {
     let printed = shown(alloc, outcome);
     let told = print(out, &printed);
@@ -70,7 +72,8 @@ fn run_text<S: Sources, K: Sink>(
 ) -> Result<Status, RunFault>
     requires out { K.failures out.old < 2 ^ 64 - 1 }
     requires sources { S.failures sources.old + length script.now < 2 ^ 64 }
-    ensures ran { Answers limits.max_rows script.now K.Sink out.old out.new S.Sources sources.old sources.new result }
+    ensures ran { Answers limits script.now K.Sink out.old out.new S.Sources sources.old sources.new result }
+    ensures flushes { K.flushes out.new ≡ K.flushes out.old }
     ensures files { S.files sources.new ≡ S.files sources.old }
 {
     closed_pieces_fit();
@@ -103,7 +106,8 @@ fn run_bytes<S: Sources, K: Sink>(
 ) -> Result<Status, RunFault>
     requires out { K.failures out.old < 2 ^ 64 - 1 }
     requires sources { S.failures sources.old + length script.now < 2 ^ 64 }
-    ensures ran { Answers limits.max_rows script.now K.Sink out.old out.new S.Sources sources.old sources.new result }
+    ensures ran { Answers limits script.now K.Sink out.old out.new S.Sources sources.old sources.new result }
+    ensures flushes { K.flushes out.new ≡ K.flushes out.old }
     ensures files { S.files sources.new ≡ S.files sources.old }
 {
     match str::from_utf8(script) {
@@ -123,8 +127,9 @@ pub fn run<S: Sources, K: Sink>(
 ) -> Result<Status, RunFault>
     requires out { K.failures out.old < 2 ^ 64 - 1 }
     requires sources { S.failures sources.old + length script.now < 2 ^ 64 }
-    ensures ran { Answers limits.max_rows script.now K.Sink out.old out.new S.Sources sources.old sources.new result }
+    ensures ran { Answers limits script.now K.Sink out.old out.new S.Sources sources.old sources.new result }
     ensures flushed { OnOk result (K.is_flushed out.new ≡ true) }
+    ensures once { K.flushes out.new ≡ flushes_after result (K.flushes out.old) }
     ensures files { S.files sources.new ≡ S.files sources.old }
 {
     let status = run_bytes(alloc, script, limits, sources, out)?;

@@ -5,7 +5,7 @@
 //! whatever writes; a put costs what its writer's write costs.
 ghost use Rattle.std.specs.Prelude.{◌≡◌, ◌≤◌, ◌<◌, ◌+◌, ◌-◌, ◌^◌, ℕ, Bool, true, false, List, Option, IfOk, OnOk, length};
 ghost use Rattle.std.specs.Io.KnownBytes.{Keeps, WriteAppends};
-ghost use Rattle.cq_cli.specs.Writing.{failures_after, failures_of};
+ghost use Rattle.cq_cli.specs.Writing.{failures_after, failures_of, flushes_after};
 
 use std::io;
 use std::io::Write;
@@ -22,19 +22,24 @@ pub trait Sink {
     /// Nothing was put since it was flushed.
     ghost is_flushed: { Self → Bool };
 
+    /// How often it was flushed, counted in 64 bits.
+    ghost flushes: { Self → ℕ };
+
     /// Takes a prefix of the bytes. To take nothing of some bytes is a failure.
     fn put(&mut self, bytes: &[u8]) -> io::Result<usize>
         requires { failures self.old < 2 ^ 64 - 1 }
         ensures count { IfOk result (λ n. n ≤ length bytes.now) }
         ensures taken { WriteAppends (contents self.old) (contents self.new) result bytes.now }
         ensures failed { failures self.new
-            ≡ failures self.old + failures_after result (length bytes.now) };
+            ≡ failures self.old + failures_after result (length bytes.now) }
+        ensures flushes { flushes self.new ≡ flushes self.old };
 
     fn flush(&mut self) -> io::Result<()>
         requires { failures self.old < 2 ^ 64 - 1 }
         ensures kept { Keeps (contents self.old) (contents self.new) }
         ensures flushed { OnOk result (is_flushed self.new ≡ true) }
-        ensures failed { failures self.new ≡ failures self.old + failures_of result };
+        ensures failed { failures self.new ≡ failures self.old + failures_of result }
+        ensures flushes { flushes self.new ≡ flushes_after result (flushes self.old) };
 }
 
 /// Any writer as a sink.
@@ -43,24 +48,26 @@ pub struct Writer<W: Write> {
     writer: W,
     failures: u64,
     is_flushed: bool,
+    flushes: u64,
 }
 
 impl<W: Write> Model for Writer<W> {
     ghost use Rattle.std.specs.Prelude.{ℕ, Bool, List, Option};
 
-    ghost Value = { Option (List ℕ) × ℕ × Bool };
+    ghost Value = { Option (List ℕ) × ℕ × Bool × ℕ };
 
-    ghost view = { λ s. (W.contents s.writer, s.failures, s.is_flushed) };
+    ghost view = { λ s. (W.contents s.writer, s.failures, s.is_flushed, s.flushes) };
 }
 
 impl<W: Write> Writer<W> {
     pub fn new(writer: W) -> Writer<W>
-        ensures { result ≡ (W.contents writer, 0, false) }
+        ensures { result ≡ (W.contents writer, 0, false, 0) }
     {
         Writer {
             writer,
             failures: 0,
             is_flushed: false,
+            flushes: 0,
         }
     }
 
@@ -80,6 +87,8 @@ impl<W: Write> Sink for Writer<W> {
 
     ghost is_flushed = { λ s. s.2 };
 
+    ghost flushes = { λ s. s.3 };
+
     fn put(&mut self, bytes: &[u8]) -> io::Result<usize> {
         self.is_flushed = false;
         let taken = self.writer.write(bytes);
@@ -96,7 +105,10 @@ impl<W: Write> Sink for Writer<W> {
     fn flush(&mut self) -> io::Result<()> {
         let flushed = self.writer.flush();
         match &flushed {
-            Ok(()) => self.is_flushed = true,
+            Ok(()) => {
+                self.is_flushed = true;
+                self.flushes = self.flushes.wrapping_add(1);
+            }
             Err(_) => self.failures += 1,
         }
         flushed

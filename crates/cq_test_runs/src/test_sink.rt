@@ -1,4 +1,7 @@
 //! A sink in memory that fails on purpose.
+//!
+//! A [`TestSink`] keeps what a run puts, and does with its puts and its flush what its [`Plan`] says. When the run is over
+//! it tells what it took, how often it failed and how often it was flushed.
 ghost use Rattle.std.specs.Prelude.{◌≡◌, [], Some, false};
 
 use cq_cli::Sink;
@@ -26,26 +29,28 @@ pub struct TestSink {
     puts: u64,
     failures: u64,
     is_flushed: bool,
+    flushes: u64,
     plan: Plan,
 }
 
 impl Model for TestSink {
     ghost use Rattle.std.specs.Prelude.{ℕ, Bool, List};
 
-    ghost Value = { List ℕ × ℕ × Bool };
+    ghost Value = { List ℕ × ℕ × Bool × ℕ };
 
-    ghost view = { λ s. (s.taken.items, s.failures, s.is_flushed) };
+    ghost view = { λ s. (s.taken.items, s.failures, s.is_flushed, s.flushes) };
 }
 
 impl TestSink {
     pub fn new(alloc: Global, plan: Plan) -> TestSink
-        ensures { result ≡ ([], 0, false) }
+        ensures { result ≡ ([], 0, false, 0) }
     {
         TestSink {
             taken: Vec::new(alloc),
             puts: 0,
             failures: 0,
             is_flushed: false,
+            flushes: 0,
             plan,
         }
     }
@@ -70,6 +75,13 @@ impl TestSink {
     {
         self.is_flushed
     }
+
+    /// How often it was flushed.
+    pub fn flushes(&self) -> u64
+        ensures { result ≡ self.now.3 }
+    {
+        self.flushes
+    }
 }
 
 fn broken() -> Error {
@@ -82,6 +94,8 @@ impl Sink for TestSink {
     ghost failures = { λ s. s.1 };
 
     ghost is_flushed = { λ s. s.2 };
+
+    ghost flushes = { λ s. s.3 };
 
     fn put(&mut self, bytes: &[u8]) -> io::Result<usize> {
         self.is_flushed = false;
@@ -112,6 +126,7 @@ impl Sink for TestSink {
             return Err(broken());
         }
         self.is_flushed = true;
+        self.flushes = self.flushes.wrapping_add(1);
         Ok(())
     }
 }

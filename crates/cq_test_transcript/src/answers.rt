@@ -17,25 +17,27 @@ pub struct Answers {
     ends: Vec<usize>,
     failures: u64,
     is_flushed: bool,
+    flushes: u64,
 }
 
 impl Model for Answers {
     ghost use Rattle.std.specs.Prelude.{ℕ, Bool, List};
 
-    ghost Value = { List ℕ × ℕ × Bool };
+    ghost Value = { List ℕ × ℕ × Bool × ℕ };
 
-    ghost view = { λ s. (s.taken.items, s.failures, s.is_flushed) };
+    ghost view = { λ s. (s.taken.items, s.failures, s.is_flushed, s.flushes) };
 }
 
 impl Answers {
     pub fn new(alloc: Global) -> Answers
-        ensures { result ≡ ([], 0, false) }
+        ensures { result ≡ ([], 0, false, 0) }
     {
         Answers {
             taken: Vec::new(alloc),
             ends: Vec::new(alloc),
             failures: 0,
             is_flushed: false,
+            flushes: 0,
         }
     }
 
@@ -56,6 +58,7 @@ impl Answers {
         ensures taken { IfOk result (λ done. self.new.0 ≡ self.old.0 ++ bytes.now) }
         ensures kept { IfErr result (λ why. self.new.0 ≡ self.old.0) }
         ensures counted { self.new.1 ≡ self.old.1 }
+        ensures unflushed { self.new.3 ≡ self.old.3 }
     {
         self.taken.reserve(bytes.len())?;
         if bytes.last() == Some(&b'\n') {
@@ -73,6 +76,8 @@ impl Sink for Answers {
 
     ghost is_flushed = { λ s. s.2 };
 
+    ghost flushes = { λ s. s.3 };
+
     fn put(&mut self, bytes: &[u8]) -> io::Result<usize> {
         self.is_flushed = false;
         if self.take(bytes).is_err() {
@@ -84,6 +89,7 @@ impl Sink for Answers {
 
     fn flush(&mut self) -> io::Result<()> {
         self.is_flushed = true;
+        self.flushes = self.flushes.wrapping_add(1);
         Ok(())
     }
 }

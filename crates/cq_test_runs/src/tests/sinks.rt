@@ -15,6 +15,7 @@ fn one_byte_a_put_ends_as_usual(rt: HostRuntime) -> Result<(), Fail> {
     assert_eq!(rt; exit, 1);
     assert_eq!(rt; sink.failures(), 0);
     assert!(rt; sink.is_flushed());
+    assert_eq!(rt; sink.flushes(), 1);
     Ok(())
 }
 
@@ -45,6 +46,7 @@ fn a_flush_that_fails_is_told_after_the_whole_output(rt: HostRuntime) -> Result<
         assert_eq!(rt; sink.taken(), output.as_bytes(), "{script}");
         assert_eq!(rt; sink.failures(), 1, "{script}");
         assert!(rt; !sink.is_flushed(), "{script}");
+        assert_eq!(rt; sink.flushes(), 0, "{script}");
     }
     Ok(())
 }

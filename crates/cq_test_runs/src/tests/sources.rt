@@ -1,4 +1,5 @@
-//! Sources of a test's own: COPY reads its source once, where the names before it have no fault.
+//! Sources of a test's own: COPY reads its source once, where the names before it have no fault, and not before all
+//! answers ahead of it were written.
 use crate::test_sink::{Plan, TestSink};
 use crate::test_source::TestSource;
 use cq_cli::run;
@@ -26,5 +27,26 @@ fn copy_reads_its_source_once_and_counts_its_failure(rt: HostRuntime) -> Result<
     assert_eq!(rt; sink.taken(), output.as_bytes());
     assert_eq!(rt; source.reads(), 3);
     assert_eq!(rt; source.failures(), 1);
+    Ok(())
+}
+
+const COPIES: &str = "CREATE TABLE t(a INTEGER); COPY t FROM 'f'; COPY t FROM 'f';";
+
+#[test]
+fn no_source_is_read_behind_an_answer_that_was_not_written(rt: HostRuntime) -> Result<(), Fail> {
+    // at which put the sink fails, and how often the source was read by then: the first answer is one put
+    for (put, reads) in [(0, 0), (1, 1)] {
+        let mut source = TestSource::new("1\n2\n", 9);
+        let mut sink = TestSink::new(rt.alloc(), Plan::FailsAt(put));
+        let limits = Limits { max_rows: 4 };
+        let _ended = run(
+            rt.alloc(),
+            COPIES.as_bytes(),
+            limits,
+            &mut source,
+            &mut sink,
+        );
+        assert_eq!(rt; source.reads(), reads, "{put}");
+    }
     Ok(())
 }

@@ -3,10 +3,10 @@ use Rattle.std.proofs.lemmas.Result.{err_from_is_err_and}
 use Rattle.cq_cli.proofs.Writes.{wrote_then, prefix_of_more}
 use Rattle.cq_cli.proofs.printing.put_line.Goals as goal
 
-pub returns-in_err-put_two : goal.returns-in_err-put_two
-returns-in_err-put_two g c =
+pub returns-in_err-put_two-clause-written : goal.returns-in_err-put_two-clause-written
+returns-in_err-put_two-clause-written g c =
     let p = err_from_is_err_and c.from_residual.result c.from_residual.ensures.1 in
-    rw p.1 (prefix_of_more (c.args.first.now ++ c.args.second.now) (10 ∷ []) _ _ _ _ c.in_err-put_two.ensures)
+    rw p.1 (prefix_of_more (c.args.first.now ++ c.args.second.now) (10 ∷ []) _ _ _ _ c.in_err-put_two.ensures.written)
 
-pub returns : goal.returns
-returns g c = wrote_then (c.args.first.now ++ c.args.second.now) (10 ∷ []) _ _ _ _ _ _ c.put_all.result c.in_ok-put_two.ensures c.put_all.ensures
+pub returns-clause-written : goal.returns-clause-written
+returns-clause-written g c = wrote_then (c.args.first.now ++ c.args.second.now) (10 ∷ []) _ _ _ _ _ _ c.put_all.result c.in_ok-put_two.ensures.written c.put_all.ensures.written
