@@ -228,34 +228,3 @@ refuses_bytes source max_rows script a b f g u r bad written told = record {
   stopped = stops_at_once a b f g u r written;
   told = told;
 }
-
-module _ (source : Option Files) (max_rows : ℕ) (script : List ℕ) (a b c : Option (List ℕ)) (f g h u v : ℕ) (status : Status) (ran : RunsScript source max_rows script a b f g u v (Ok status)) (kept : Keeps b c) where
-  -- the flush succeeds
-  pub flushes : h ≡ g → RunsScript source max_rows script a c f h u v (Ok status)
-  flushes same = record {
-    outcomes = ran.outcomes;
-    answered = ran.answered;
-    written = (appends_kept a b c (output_of ran.outcomes) ran.written.0 kept, same ∙ ran.written.1);
-    counted = ran.counted;
-    stopped = tt;
-    told = ran.told;
-  }
-
-  -- the flush fails, after all of the output was put
-  pub flush_fails : (e : RunFault) → h ≡ g + 1 → RunsScript source max_rows script a c f h u v (Err e)
-  flush_fails e more = record {
-    outcomes = ran.outcomes;
-    answered = ran.answered;
-    written = all_then_failed (output_of ran.outcomes) a b c f g h ran.written kept more;
-    counted = (ran.outcomes, [], sym (append-nil ran.outcomes), ran.counted);
-    stopped = record {
-      before = ran.outcomes;
-      last = [];
-      later = [];
-      all = sym (append-nil ran.outcomes);
-      one = omega arith;
-      put = ([], [], refl, subst (λ (t : List ℕ). Appends a c t) (sym (append-nil (output_of ran.outcomes))) (appends_kept a b c (output_of ran.outcomes) ran.written.0 kept));
-      counted = subst (λ (os : List (Result Answer Fault)). v ≡ u + source_failures os) (sym (append-nil ran.outcomes)) ran.counted;
-    };
-    told = tt;
-  }

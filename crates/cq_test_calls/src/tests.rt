@@ -4,6 +4,7 @@ mod conditions;
 mod dates;
 mod expressions;
 mod faults;
+mod folders;
 mod groups;
 mod narrow_queries;
 mod orders;
