@@ -25,7 +25,7 @@ use Rattle.cq_binder.specs.Binding.{records_walk}
 use Rattle.cq_binder.specs.Sourced.{IsBound, over, failed}
 
 -- some files that a source may hold
-some_files : (told : Option Files) → (files : Files) × AreTold told files
+pub some_files : (told : Option Files) → (files : Files) × AreTold told files
 some_files None = (λ (name : List ℕ). [], tt)
 some_files (Some files) = (files, refl)
 

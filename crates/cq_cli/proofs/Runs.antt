@@ -1,5 +1,5 @@
 -- Runs that go on, end, and are cut off.
-use Rattle.std.proofs.Common.{◌≡◌, ℕ, ◌+◌, ◌-◌, ◌^◌, ◌≤◌, ◌<◌, Bool, true, false, cond, if◌then◌else◌, not, List, [], ◌∷◌, ◌++◌, count_by, length, filter, Option, Result, Ok, Err, IfOk, refl, sym, ap, subst, ◌∙◌, append_assoc, arith}
+use Rattle.std.proofs.Common.{◌≡◌, ℕ, ◌+◌, ◌-◌, ◌^◌, ◌≤◌, ◌<◌, Bool, true, false, cond, if◌then◌else◌, not, List, [], ◌∷◌, ◌++◌, count_by, length, Option, Result, Ok, Err, IfOk, refl, sym, ap, subst, ◌∙◌, append_assoc, arith}
 use Rattle.cq_binder_rules.specs.declared.fault.Fault.TheVariants.{NotUtf8}
 use Rattle.std.specs.Str.{IsUtf8}
 use Rattle.std.specs.Io.KnownBytes.{Appends}
@@ -20,6 +20,7 @@ use Rattle.cq_cli.specs.Writing.{Wrote, WrotePrefix}
 use Rattle.cq_cli.proofs.Counting.{serves_draws, serves_failures}
 use Rattle.cq_cli.proofs.Serving.{ServesPiece, refused_somehow}
 use Rattle.cq_cli.proofs.Writes.{appends_more, appends_nothing, prefix_of_more, wrote_then}
+use Rattle.std.proofs.lemmas.List.Elements.{filter-append}
 
 -- a run goes on by one piece
 runs_more : (source : Option Files) (ps : List PieceOf) (os : List (Result Answer Fault)) (a b c : State) (p : PieceOf) (o : Result Answer Fault) → Runs source a ps os b → Serves source b p o c → Runs source a (ps ++ p ∷ []) (os ++ o ∷ []) c
@@ -41,14 +42,6 @@ rest_refused source s [] = ([], refl)
 rest_refused source s (p ∷ ps) =
     let first = refused_somehow source s p p.closed refl in
     let rest = rest_refused source s ps in (first.0 ∷ rest.0, (s, first.1, rest.1))
-
-filter_by : {X : Type 0} (p : X → Bool) (x : X) (xs ys : List X) (b : Bool) → filter p (xs ++ ys) ≡ filter p xs ++ filter p ys → cond b (x ∷ filter p (xs ++ ys)) (filter p (xs ++ ys)) ≡ cond b (x ∷ filter p xs) (filter p xs) ++ filter p ys
-filter_by {X} p x xs ys true e = ap (λ (zs : List X). x ∷ zs) e
-filter_by p x xs ys false e = e
-
-filter-append : {X : Type 0} (p : X → Bool) (xs ys : List X) → filter p (xs ++ ys) ≡ filter p xs ++ filter p ys
-filter-append p [] ys = refl
-filter-append p (x ∷ xs) ys = filter_by p x xs ys (p x) (filter-append p xs ys)
 
 -- a blank piece is no statement, and any other is one
 statements_more : (ps : List PieceOf) (p : PieceOf) (blank : Bool) → p.blank ≡ blank → statements_among (ps ++ p ∷ []) ≡ cond blank (statements_among ps) (statements_among ps ++ p ∷ [])

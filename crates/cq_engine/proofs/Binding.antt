@@ -71,6 +71,7 @@ use Rattle.cq_engine_tables.proofs.Places.{found_there}
 use Rattle.cq_engine_tables.proofs.Stored.{rows_stored}
 use Rattle.cq_engine.proofs.Steps.{AreAt, all_between}
 use Rattle.cq_model_bags.proofs.Lists.{all-there}
+use Rattle.cq_binder.proofs.CopiedFiles.{some_files}
 
 -- what an optional value is mapped to
 mapped : {X Y : Type 0} (f : X → Y) (o : Option X) (y : Y) → option_map f o ≡ Some y → (x : X) × (o ≡ Some x) × (f x ≡ y)
@@ -323,11 +324,6 @@ bind_reads tables views now drawn max_rows statement before after e =
 abbrev pub IsOver : Files → State → Statement → ℕ → ℕ → Result Bound Fault → Type 0
 IsOver files s statement before after result =
     (BindsOver files s statement result × (after ≡ before)) ⊎ ((reads_source s statement ≡ true) × (result ≡ Err faults.SourceFailed) × (after ≡ before + 1))
-
--- files that a source may hold
-some_files : (told : Option Files) → (files : Files) × AreTold told files
-some_files None = (λ (name : List ℕ). [], tt)
-some_files (Some files) = (files, refl)
 
 -- a statement that names no file is bound over any
 over_any : (files : Files) (s : State) (statement : Statement) (result : Result Bound Fault) → names_file statement ≡ false → Binds s statement result → BindsOver files s statement result

@@ -1,7 +1,7 @@
 -- The keys of rows are those of their columns.
-use Rattle.std.proofs.Common.{◌≡◌, ℕ, zero, suc, ◌<◌, List, [], ◌∷◌, map, length, get_or, replicate, refl, sym, ◌∙◌, ap, ap₂, arith}
+use Rattle.std.proofs.Common.{◌≡◌, ℕ, ◌<◌, List, [], ◌∷◌, map, length, get_or, replicate, refl, sym, ◌∙◌, ap, ap₂, arith}
 use Rattle.std.specs.List.{AllByRecursion, range_with_len}
-use Rattle.std.proofs.lemmas.List.{length-map}
+use Rattle.std.proofs.lemmas.List.{ext_get_or, length-map}
 use Rattle.std.proofs.lemmas.List as lists
 use Rattle.std.proofs.lemmas.List.FromFn.{get_or-map-range_with_len, length-map-range_with_len}
 use Rattle.std.proofs.Math.ListN.{get_or-map}
@@ -11,13 +11,6 @@ use Rattle.cq_vectors.specs.Batch.{row_at}
 use Rattle.cq_vectors.specs.Gathered.{column_of}
 use Rattle.cq_hash_keys.specs.Keys.{HasLength, key_rows}
 use Rattle.cq_model.specs.Group.{key_of}
-
--- lists that are the same at each place
-same-lists : {X : Type 0} (d : X) (xs ys : List X) → length xs ≡ length ys → ((i : ℕ) → i < length xs → get_or xs i d ≡ get_or ys i d) → xs ≡ ys
-same-lists d [] [] h at = refl
-same-lists d [] (y ∷ ys) h at = absurd (omega (arith, h))
-same-lists d (x ∷ xs) [] h at = absurd (omega (arith, h))
-same-lists {X} d (x ∷ xs) (y ∷ ys) h at = ap₂ (λ (z : X) (zs : List X). z ∷ zs) (at zero (omega arith)) (same-lists d xs ys (omega (arith, h)) (λ i lt. at (suc i) (omega (arith, lt))))
 
 module _ (rows : List Row) where
   -- a row of the columns is the key of the row
@@ -31,7 +24,7 @@ module _ (rows : List Row) where
       let n = length rows in
       let f : ℕ → Row = row_at (map (column_of rows) columns) in
       let long : length (map f (range_with_len 0 n)) ≡ n = length-map-range_with_len f 0 n in
-      same-lists [] (map f (range_with_len 0 n)) (map (key_of columns) rows) (long ∙ sym (length-map rows (key_of columns)))
+      ext_get_or [] (map f (range_with_len 0 n)) (map (key_of columns) rows) (long ∙ sym (length-map rows (key_of columns)))
       (λ i lt. let h : i < n = omega (arith, lt, long) in
       get_or-map-range_with_len f 0 n i i [] h (omega arith) ∙ row-at columns i ∙ sym (lists.get_or-map (key_of columns) rows i [] [] h))
 

@@ -1,7 +1,6 @@
 -- Values put into groups, one after the other.
-use Rattle.std.proofs.Common.{◌≡◌, ℕ, zero, suc, ◌+◌, ◌<◌, ◌≤◌, Bool, cond, List, [], ◌∷◌, ◌++◌, drop, take, length, get_or, set, replicate, sym, ◌∙◌, ap, ap₂, arith, subst, Ordering, Less, Equal, Greater}
+use Rattle.std.proofs.Common.{◌≡◌, ℕ, zero, suc, ◌+◌, ◌<◌, ◌≤◌, Bool, cond, List, [], ◌∷◌, ◌++◌, drop, length, get_or, set, replicate, sym, ◌∙◌, ap, ap₂, arith, subst, Ordering, Less, Equal, Greater}
 use Rattle.std.proofs.lemmas.List.{drop_more, drop_all, get_or_default}
-use Rattle.std.proofs.Math.Seq.{take-append_seam}
 use Rattle.std.specs.Ordering.{is_gt, is_lt}
 use Rattle.cq_values.specs.declared.value.Value.{Value}
 use Rattle.cq_values.specs.Keys.{value_cmp_same}
@@ -78,10 +77,6 @@ sums-more most more sums le all g = sum-more most more (get_or sums g no_sum) le
 -- a sum that is there, whatever is read past the end
 pub sum-at : (most : ℕ) (sums : List Sum) (n : ℕ) (d : Sum) → n < length sums → AreSumsWithin most sums → IsSumWithin most (get_or sums n d)
 sum-at most sums n d h all = subst (IsSumWithin most) (get_or_default sums n no_sum d h) (all n)
-
--- what is written over a list of its length
-pub take-written : {X : Type 0} (new rest : List X) (n : ℕ) → length new ≡ n → take n (new ++ rest) ≡ new
-take-written new rest n h = subst (λ (k : ℕ). take k (new ++ rest) ≡ new) h (take-append_seam new rest)
 
 -- the greater value is the other one exactly where this one is less
 pub higher-by_less : (v w : Value) (o : Ordering) (less : Bool) → o ≡ value_cmp v w → less ≡ is_lt o → higher v w ≡ cond less w v

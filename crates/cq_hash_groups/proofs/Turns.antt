@@ -1,6 +1,6 @@
 -- What is kept for each aggregate, one after the other.
 use Rattle.std.proofs.Common.{◌≡◌, ℕ, zero, suc, ◌+◌, ◌-◌, ◌<◌, ◌≤◌, List, [], ◌∷◌, map, take, replicate, length, get_or, set, refl, sym, ◌∙◌, ap, ap₂, min, add-one, arith, subst}
-use Rattle.std.proofs.lemmas.List.{get_or_default, length-append}
+use Rattle.std.proofs.lemmas.List.{get_or_default, length-append, length-replicate}
 use Rattle.cq_values.specs.declared.value.Value.TheVariants.{Null}
 use Rattle.cq_values.specs.Value.{Row}
 use Rattle.cq_model.specs.declared.query.Aggregate.{Aggregate}
@@ -92,12 +92,8 @@ within-more few many (Counts counts) le all = λ g. omega (arith, le, all g)
 within-more few many (Sums sums) le all = sums-more few many sums le all
 within-more few many (Bests which values) le all = tt
 
-long-replicate : {S : Type 0} (m : ℕ) (d : S) → length (replicate m d) ≡ m
-long-replicate zero d = refl
-long-replicate (suc m) d = ap suc (long-replicate m d)
-
 -- there are as many groups as there are to be
 pub groups-grown : (groups : ℕ) (s : Slots) → groups ≤ groups_in (grown_slots groups s)
-groups-grown groups (Counts counts) = omega (arith, length-append counts (replicate (groups - length counts) 0), long-replicate {S = ℕ} (groups - length counts) 0)
-groups-grown groups (Sums sums) = omega (arith, length-append sums (replicate (groups - length sums) no_sum), long-replicate (groups - length sums) no_sum)
-groups-grown groups (Bests which values) = omega (arith, length-append values (replicate (groups - length values) Null), long-replicate (groups - length values) Null)
+groups-grown groups (Counts counts) = omega (arith, length-append counts (replicate (groups - length counts) 0), length-replicate {S = ℕ} (groups - length counts) 0)
+groups-grown groups (Sums sums) = omega (arith, length-append sums (replicate (groups - length sums) no_sum), length-replicate (groups - length sums) no_sum)
+groups-grown groups (Bests which values) = omega (arith, length-append values (replicate (groups - length values) Null), length-replicate (groups - length values) Null)

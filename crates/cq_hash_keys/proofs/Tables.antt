@@ -1,5 +1,5 @@
 -- Tables of keys of one value, as one more is put in.
-use Rattle.std.proofs.Common.{◌≡◌, ℕ, zero, suc, ◌+◌, ◌<◌, Bool, true, false, ◌||◌, cond, List, [], ◌∷◌, ◌++◌, length, get_or, Some, None, refl, sym, ◌∙◌, ap, arith, true≢false}
+use Rattle.std.proofs.Common.{◌≡◌, ℕ, zero, suc, ◌+◌, Bool, true, false, ◌||◌, cond, List, [], ◌∷◌, ◌++◌, length, get_or, Some, None, refl, sym, ◌∙◌, ap, arith, true≢false}
 use Rattle.std.proofs.lemmas.Grind.{common_steps}
 use Rattle.std.specs.List.{IsDistinct, list_any, position, position_or_len}
 use Rattle.std.proofs.lemmas.List.Quantifiers.{position-Some}
@@ -14,14 +14,9 @@ use Rattle.cq_hash_keys.specs.Dictionary.{PutsAt, number_in}
 use Rattle.cq_hash_keys.specs.Keys.{AreKeys, HasValues, IsNumberOf, IsTable, place_of}
 use Rattle.cq_hash_keys.proofs.Places.{finds-more, no-further}
 use Rattle.cq_model_bags.proofs.Lists.{all-push}
+use Rattle.std.proofs.lemmas.List.Folds.{list_any_at}
 
 module _ {X : Type 0} (test : X → Bool) where
-  -- one of the list passes
-  any-at : (xs : List X) (n : ℕ) (d : X) → n < length xs → test (get_or xs n d) ≡ true → list_any test xs ≡ true
-  any-at [] n d lt passes = absurd (omega arith)
-  any-at (x ∷ xs) zero d lt passes = ap (λ b. b || list_any test xs) passes
-  any-at (x ∷ xs) (suc n) d lt passes = by_test (test x) (λ s. rw s refl) (λ s. rw s (any-at xs n d (omega arith) passes))
-
   -- none does
   any-none : (xs : List X) → position_or_len test xs ≡ length xs → list_any test xs ≡ false
   any-none [] e = refl
@@ -36,7 +31,7 @@ module _ {X : Type 0} (test : X → Bool) where
 pub there-stays : (keys : List Row) (key : Row) (n : ℕ) → place_of keys key ≡ Some n → keys ≡ insert_key same_row keys key
 there-stays keys key n is =
     let found = position-Some (same_row key) keys n [] is in
-    sym (ap (λ b. cond b keys (keys ++ key ∷ [])) (any-at (same_row key) keys n [] found.0 found.1))
+    sym (ap (λ b. cond b keys (keys ++ key ∷ [])) (list_any_at (same_row key) keys n [] found.0 found.1))
 
 none-there : (keys : List Row) (key : Row) → place_of keys key ≡ None → list_any (same_row key) keys ≡ false
 none-there keys key none = any-none (same_row key) keys (past-the-end (same_row key) keys key none)
@@ -86,4 +81,4 @@ rows-more width keys places more values key table apart wide none is = record {
 pub numbered-stays : (keys : List Row) (key : Row) (n : ℕ) → IsNumberOf keys key n → keys ≡ insert_key same_row keys key
 numbered-stays keys key n is =
     let passes : same_row key (get_or keys n []) ≡ true = ap (same_row key) is.1 ∙ same_row-equiv.refl key in
-    sym (ap (λ b. cond b keys (keys ++ key ∷ [])) (any-at (same_row key) keys n [] is.0 passes))
+    sym (ap (λ b. cond b keys (keys ++ key ∷ [])) (list_any_at (same_row key) keys n [] is.0 passes))

@@ -1,12 +1,13 @@
 -- The extreme of several values depends only on which values there are.
-use Rattle.std.proofs.Common.{◌≡◌, true, false, List, [], ◌∷◌, refl, sym, ◌∙◌, ap, ◌⊎◌, inl, inr, subst, Ordering, Less, Equal, Greater}
-use Rattle.std.specs.Ordering.{is_gt, ordering_reverse}
+use Rattle.std.proofs.Common.{◌≡◌, true, false, List, [], ◌∷◌, refl, sym, ap, ◌⊎◌, inl, inr, subst}
+use Rattle.std.specs.Ordering.{is_gt}
 use Rattle.std.proofs.lemmas.Cmp.{tied_itself, upto}
 use Rattle.cq_values.specs.declared.value.Value.{Value}
 use Rattle.cq_values.specs.Order.{value_cmp}
 use Rattle.cq_values.specs.Keys.{value_cmp_total, value_cmp_same}
 use Rattle.cq_model.specs.Group.{lower, higher, extreme}
 use Rattle.cq_model_bags.proofs.Totals.{by_test}
+use Rattle.cq_model_bags.proofs.Listings.{after_other, not_after}
 
 -- a value is one of these
 abbrev pub IsOne : Value → List Value → Type 0
@@ -17,29 +18,17 @@ IsOne v (w ∷ ws) = (v ≡ w) ⊎ IsOne v ws
 abbrev pub IsUpTo : Value → Value → Type 0
 IsUpTo v w = is_gt (value_cmp v w) ≡ false
 
--- what is after is not before
-after_both : (o : Ordering) → is_gt o ≡ true → is_gt (ordering_reverse o) ≡ false
-after_both Less p = absurd (cc)
-after_both Equal p = refl
-after_both Greater p = refl
-
--- what is neither after nor before ties
-up_to_both : (o : Ordering) → is_gt o ≡ false → is_gt (ordering_reverse o) ≡ false → o ≡ Equal
-up_to_both Less p q = absurd (cc)
-up_to_both Equal p q = refl
-up_to_both Greater p q = absurd (cc)
-
 -- no value is after itself
 pub up_to-itself : (v : Value) → IsUpTo v v
 up_to-itself v = ap is_gt (tied_itself value_cmp_total v)
 
 -- of two values one is not after the other
 pub up_to-other : (v w : Value) → is_gt (value_cmp v w) ≡ true → IsUpTo w v
-up_to-other v w e = ap is_gt (value_cmp_total.antisymm w v) ∙ after_both (value_cmp v w) e
+up_to-other v w e = after_other value_cmp_total v w e
 
 -- values that are not after each other are one
 pub up_to-same : (v w : Value) → IsUpTo v w → IsUpTo w v → v ≡ w
-up_to-same v w p q = value_cmp_same v w (up_to_both (value_cmp v w) p (sym (ap is_gt (value_cmp_total.antisymm w v)) ∙ q))
+up_to-same v w p q = value_cmp_same v w (not_after value_cmp_total v w p q)
 
 -- a choice of the better of two values, in an order
 pub record IsChoice (best : Value → Value → Value) (R : Value → Value → Type 0) : Type 0 where

@@ -50,16 +50,18 @@ among P (s ∷ rows) all r h = by_test (same_row s r)
 first_there : (r : Row) (rows : List Row) → 0 < times_in r (r ∷ rows)
 first_there r rows = rw (same_row-refl r) (omega arith)
 
-pub after_other : {cmp : Row → Row → Ordering} (o : IsTotalOrder cmp) (r s : Row) → is_gt (cmp r s) ≡ true → is_gt (cmp s r) ≡ false
-after_other {cmp} o r s h = ap is_gt (o.antisymm s r) ∙ not_both (cmp r s) h
+-- what is after another is not before it
+pub after_other : {X : Type 0} {cmp : X → X → Ordering} (o : IsTotalOrder cmp) (r s : X) → is_gt (cmp r s) ≡ true → is_gt (cmp s r) ≡ false
+after_other {X} {cmp} o r s h = ap is_gt (o.antisymm s r) ∙ not_both (cmp r s) h
   where
     not_both : (p : Ordering) → is_gt p ≡ true → is_gt (ordering_reverse p) ≡ false
     not_both Less k = absurd (cc)
     not_both Equal k = refl
     not_both Greater k = refl
 
-not_after : {cmp : Row → Row → Ordering} (o : IsTotalOrder cmp) (r s : Row) → is_gt (cmp r s) ≡ false → is_gt (cmp s r) ≡ false → cmp r s ≡ Equal
-not_after {cmp} o r s p q = both_not (cmp r s) p (sym (ap is_gt (o.antisymm s r)) ∙ q)
+-- and what is neither after nor before it ties
+pub not_after : {X : Type 0} {cmp : X → X → Ordering} (o : IsTotalOrder cmp) (r s : X) → is_gt (cmp r s) ≡ false → is_gt (cmp s r) ≡ false → cmp r s ≡ Equal
+not_after {X} {cmp} o r s p q = both_not (cmp r s) p (sym (ap is_gt (o.antisymm s r)) ∙ q)
   where
     both_not : (p : Ordering) → is_gt p ≡ false → is_gt (ordering_reverse p) ≡ false → p ≡ Equal
     both_not Less h k = absurd (cc)

@@ -2,7 +2,7 @@
 use Rattle.std.proofs.Common.{◌≡◌, ℕ, ◌<◌, zero, suc, true, false, ◌&&◌, List, [], ◌∷◌, ◌++◌, map, length, get_or, refl, sym, ◌∙◌, ap, subst, arith, Vec, Box, Global, ◌⊎◌, inl, inr, ◌≤◌}
 use Rattle.std.specs.Borrow.{Bor}
 use Rattle.std.specs.List.{fold}
-use Rattle.std.specs.Prelude.{◌==◌, ◌+◌, Ok, Err, OnOk, Result}
+use Rattle.std.specs.Prelude.{◌==◌, ◌+◌}
 use Rattle.std.specs.Vec.{vec_len}
 use Rattle.std.proofs.lemmas.Bool.Decides.{nat_tests}
 use Rattle.cq_model_eval.proofs.Trees.{tree-And, tree-Or}
@@ -24,10 +24,6 @@ true-both : (a b : Truth) → is_true a ≡ true → is_true b ≡ true → is_t
 true-both True b h k = k
 true-both False b h k = absurd (cc)
 true-both Unknown b h k = absurd (cc)
-
-pub on-ok : {T E P Q : Type 0} (r : Result T E) → (P → Q) → OnOk r P → OnOk r Q
-on-ok (Ok v) f p = f p
-on-ok (Err e) f p = tt
 
 module _ (before wide : ℕ) where
   -- conditions of which some stand in front

@@ -8,10 +8,11 @@ use Rattle.cq_sql_language.specs.declared.token.Symbol.TheVariants as symbols
 use Rattle.cq_sql_language.specs.declared.token.Token.{Token}
 use Rattle.cq_sql_language.specs.declared.token.Token.TheVariants as tokens
 use Rattle.cq_sql_language.specs.Parts.{IsLiteral, IsConstant, IsRow, sign_tokens}
-use Rattle.cq_sql_expressions.proofs.Exact.{Reads, Makes, Anything, parts_of, sign_leads}
+use Rattle.cq_sql_expressions.proofs.Exact.{Reads, Makes, Anything, sign_leads}
 use Rattle.cq_sql_expressions.proofs.Steps.{last_makes, lead_last, lead_makes, made_reads, part_makes}
 use Rattle.cq_sql_expressions.proofs.Lists.{comma_reads}
 use Rattle.cq_sql.specs.Parts.{literal_at, number_constant_at, constant_at, row_at}
+use Rattle.std.proofs.lemmas.Option.{some_pair_parts}
 
 -- whole numbers are read exactly, with their signs
 literal_reads : Reads Anything IsLiteral literal_at
@@ -22,10 +23,10 @@ literal_reads = record { found = λ l front rest h end. by_sign l.is_negative l.
 
   only : (l : Literal) (ts rest : List Token) → literal_at ts ≡ Some (l, rest) → (front : List Token) × (ts ≡ front ++ rest) × IsLiteral l front
   only l (tokens.Number n ∷ ts) rest e =
-      let p = parts_of (record { is_negative = false; magnitude = n }) l ts rest e in
+      let p = some_pair_parts (record { is_negative = false; magnitude = n }) l ts rest e in
       (tokens.Number n ∷ [], ap (λ (us : List Token). tokens.Number n ∷ us) p.1, ap (λ (x : Literal). sign_tokens x.is_negative ++ tokens.Number x.magnitude ∷ []) p.0)
   only l (tokens.Symbol symbols.Minus ∷ tokens.Number n ∷ ts) rest e =
-      let p = parts_of (record { is_negative = true; magnitude = n }) l ts rest e in (
+      let p = some_pair_parts (record { is_negative = true; magnitude = n }) l ts rest e in (
         tokens.Symbol symbols.Minus ∷ tokens.Number n ∷ [],
         ap (λ (us : List Token). tokens.Symbol symbols.Minus ∷ tokens.Number n ∷ us) p.1,
         ap (λ (x : Literal). sign_tokens x.is_negative ++ tokens.Number x.magnitude ∷ []) p.0,
@@ -53,13 +54,13 @@ constant_reads = record { found = found; only = only } where
 
   only : (c : Constant) (ts rest : List Token) → constant_at ts ≡ Some (c, rest) → (front : List Token) × (ts ≡ front ++ rest) × IsConstant c front
   only c (tokens.Keyword keywords.Null ∷ ts) rest e =
-      let p = parts_of constants.Null c ts rest e in
+      let p = some_pair_parts constants.Null c ts rest e in
       (tokens.Keyword keywords.Null ∷ [], ap (λ (us : List Token). tokens.Keyword keywords.Null ∷ us) p.1, subst (λ (x : Constant). IsConstant x (tokens.Keyword keywords.Null ∷ [])) p.0 refl)
   only c (tokens.Text text ∷ ts) rest e =
-      let p = parts_of (constants.Text text) c ts rest e in
+      let p = some_pair_parts (constants.Text text) c ts rest e in
       (tokens.Text text ∷ [], ap (λ (us : List Token). tokens.Text text ∷ us) p.1, subst (λ (x : Constant). IsConstant x (tokens.Text text ∷ [])) p.0 refl)
   only c (tokens.Keyword keywords.Date ∷ tokens.Text text ∷ ts) rest e =
-      let p = parts_of (constants.Date text) c ts rest e in (
+      let p = some_pair_parts (constants.Date text) c ts rest e in (
         tokens.Keyword keywords.Date ∷ tokens.Text text ∷ [],
         ap (λ (us : List Token). tokens.Keyword keywords.Date ∷ tokens.Text text ∷ us) p.1,
         subst (λ (x : Constant). IsConstant x (tokens.Keyword keywords.Date ∷ tokens.Text text ∷ [])) p.0 refl,

@@ -8,8 +8,9 @@ use Rattle.cq_sql_language.specs.Parts.{IsName, IsNumber, IsText}
 use Rattle.cq_sql_language.specs.Query.{IsColumnName}
 use Rattle.cq_sql_language.specs.Spelling.{column_tokens}
 use Rattle.cq_sql_expressions.specs.Read.{after_symbol}
-use Rattle.cq_sql_expressions.proofs.Exact.{Reads, Anything, parts_of}
+use Rattle.cq_sql_expressions.proofs.Exact.{Reads, Anything}
 use Rattle.cq_sql.specs.Parts.{name_at, number_at, text_at, column_name_at}
+use Rattle.std.proofs.lemmas.Option.{some_pair_parts}
 
 -- names are read exactly
 pub name_reads : Reads Anything IsName name_at
@@ -19,7 +20,7 @@ name_reads = record { found = found; only = only } where
 
   only : (n : List ℕ) (ts rest : List Token) → name_at ts ≡ Some (n, rest) → (front : List Token) × (ts ≡ front ++ rest) × IsName n front
   only n (tokens.Name m ∷ ts) rest e =
-      let p = parts_of m n ts rest e in
+      let p = some_pair_parts m n ts rest e in
       (tokens.Name m ∷ [], ap (λ (us : List Token). tokens.Name m ∷ us) p.1, ap (λ (x : List ℕ). tokens.Name x ∷ []) p.0)
   only n ts rest e = absurd cc
 
@@ -31,7 +32,7 @@ number_reads = record { found = found; only = only } where
 
   only : (n : ℕ) (ts rest : List Token) → number_at ts ≡ Some (n, rest) → (front : List Token) × (ts ≡ front ++ rest) × IsNumber n front
   only n (tokens.Number m ∷ ts) rest e =
-      let p = parts_of m n ts rest e in
+      let p = some_pair_parts m n ts rest e in
       (tokens.Number m ∷ [], ap (λ (us : List Token). tokens.Number m ∷ us) p.1, ap (λ (x : ℕ). tokens.Number x ∷ []) p.0)
   only n ts rest e = absurd cc
 
@@ -43,7 +44,7 @@ text_reads = record { found = found; only = only } where
 
   only : (t : List ℕ) (ts rest : List Token) → text_at ts ≡ Some (t, rest) → (front : List Token) × (ts ≡ front ++ rest) × IsText t front
   only t (tokens.Text text ∷ ts) rest e =
-      let p = parts_of text t ts rest e in
+      let p = some_pair_parts text t ts rest e in
       (tokens.Text text ∷ [], ap (λ (us : List Token). tokens.Text text ∷ us) p.1, ap (λ (x : List ℕ). tokens.Text x ∷ []) p.0)
   only t ts rest e = absurd cc
 
@@ -66,12 +67,12 @@ column_name_reads = record { found = found; only = only } where
 
   only : (c : ColumnName) (ts rest : List Token) → column_name_at ts ≡ Some (c, rest) → (front : List Token) × (ts ≡ front ++ rest) × IsColumnName c front
   only c (tokens.Name source ∷ tokens.Symbol symbols.Dot ∷ tokens.Name name ∷ ts) rest e =
-      let p = parts_of (record { source = Some source; name = name }) c ts rest e in (
+      let p = some_pair_parts (record { source = Some source; name = name }) c ts rest e in (
         tokens.Name source ∷ tokens.Symbol symbols.Dot ∷ tokens.Name name ∷ [],
         ap (λ (us : List Token). tokens.Name source ∷ tokens.Symbol symbols.Dot ∷ tokens.Name name ∷ us) p.1,
         ap (λ (x : ColumnName). column_tokens x.source x.name) p.0,
       )
   only c (tokens.Name name ∷ ts) rest e =
-      let p = parts_of (record { source = None; name = name }) c ts rest e in
+      let p = some_pair_parts (record { source = None; name = name }) c ts rest e in
       (tokens.Name name ∷ [], ap (λ (us : List Token). tokens.Name name ∷ us) p.1, ap (λ (x : ColumnName). column_tokens x.source x.name) p.0)
   only c ts rest e = absurd cc

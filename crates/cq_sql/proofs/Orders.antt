@@ -9,9 +9,10 @@ use Rattle.cq_sql_language.specs.declared.token.Token.TheVariants as tokens
 use Rattle.cq_sql_language.specs.Parts.{◌before◌}
 use Rattle.cq_sql_language.specs.Query.{output_token, IsDirection, IsOrderKey}
 use Rattle.cq_sql_expressions.specs.Read.{after_keyword}
-use Rattle.cq_sql_expressions.proofs.Exact.{Reads, Anything, parts_of}
+use Rattle.cq_sql_expressions.proofs.Exact.{Reads, Anything}
 use Rattle.cq_sql_expressions.proofs.Steps.{by_same, last_makes, made_reads, next_makes}
 use Rattle.cq_sql.specs.Queries.{output_at, direction_at, order_key_at}
+use Rattle.std.proofs.lemmas.Option.{some_pair_parts}
 
 -- name or int
 abbrev IsOutput : OutputColumn → List Token → Type 0
@@ -26,10 +27,10 @@ output_reads = record { found = found; only = only } where
 
   only : (column : OutputColumn) (ts rest : List Token) → output_at ts ≡ Some (column, rest) → (front : List Token) × (ts ≡ front ++ rest) × IsOutput column front
   only column (tokens.Name name ∷ ts) rest e =
-      let p = parts_of (outputs.Named name) column ts rest e in
+      let p = some_pair_parts (outputs.Named name) column ts rest e in
       (tokens.Name name ∷ [], ap (λ (us : List Token). tokens.Name name ∷ us) p.1, ap (λ (x : OutputColumn). output_token x ∷ []) p.0)
   only column (tokens.Number n ∷ ts) rest e =
-      let p = parts_of (outputs.At n) column ts rest e in
+      let p = some_pair_parts (outputs.At n) column ts rest e in
       (tokens.Number n ∷ [], ap (λ (us : List Token). tokens.Number n ∷ us) p.1, ap (λ (x : OutputColumn). output_token x ∷ []) p.0)
   only column ts rest e = absurd cc
 
@@ -53,13 +54,13 @@ direction_reads = record { found = found; only = only } where
 
   only : (is_descending : Bool) (ts rest : List Token) → direction_at ts ≡ Some (is_descending, rest) → (front : List Token) × (ts ≡ front ++ rest) × IsDirection is_descending front
   only b (tokens.Keyword keywords.Desc ∷ ts) rest e =
-      let p = parts_of true b ts rest e in
+      let p = some_pair_parts true b ts rest e in
       (tokens.Keyword keywords.Desc ∷ [], ap (λ (us : List Token). tokens.Keyword keywords.Desc ∷ us) p.1, subst (λ (x : Bool). IsDirection x (tokens.Keyword keywords.Desc ∷ [])) p.0 refl)
   only b (tokens.Keyword keywords.Asc ∷ ts) rest e =
-      let p = parts_of false b ts rest e in
+      let p = some_pair_parts false b ts rest e in
       (tokens.Keyword keywords.Asc ∷ [], ap (λ (us : List Token). tokens.Keyword keywords.Asc ∷ us) p.1, subst (λ (x : Bool). IsDirection x (tokens.Keyword keywords.Asc ∷ [])) p.0 (inr refl))
   only b ts rest e =
-      let p = parts_of false b ts rest e in
+      let p = some_pair_parts false b ts rest e in
       ([], p.1, subst (λ (x : Bool). IsDirection x []) p.0 (inl refl))
 
 -- (name | int) [ASC | DESC]

@@ -21,7 +21,7 @@ use Rattle.cq_sql_expressions.proofs.Conditions.{EndsExpression, expression_read
 use Rattle.cq_sql_expressions.specs.declared.leads.Lead.TheVariants as leads
 use Rattle.cq_sql_expressions.specs.Lists.{list_at}
 use Rattle.cq_sql_expressions.specs.Read.{after_keyword}
-use Rattle.cq_sql_expressions.proofs.Exact.{Reads, Anything, Nothing, parts_of, keyword_takes, word_leads}
+use Rattle.cq_sql_expressions.proofs.Exact.{Reads, Anything, Nothing, keyword_takes, word_leads}
 use Rattle.cq_sql_expressions.proofs.Lists.{EndsList, comma_reads}
 use Rattle.cq_sql_expressions.proofs.Steps.{by_same, last_makes, lead_makes, made_reads, part_makes, with_ends}
 use Rattle.cq_sql_expressions.proofs.Tails.{EndsTail, IsTail, tail_reads, list_behind_reads}
@@ -32,6 +32,7 @@ use Rattle.cq_sql.proofs.NameReads.{number_reads, column_name_reads}
 use Rattle.cq_sql.proofs.Orders.{order_key_reads}
 use Rattle.cq_sql.proofs.Places.{place, not_word, not_symbol, not_name, not_join, ends_expression, condition_starts, list_starts, limit_starts, start_place, before_place}
 use Rattle.cq_sql.proofs.Sources.{alias_reads, source_reads, joins_read}
+use Rattle.std.proofs.lemmas.Option.{some_pair_parts}
 
 -- ---- Items
 -- AS does not go on with an expression
@@ -68,10 +69,10 @@ distinct_reads = record { found = found; only = only } where
 
   only : (b : Bool) (ts rest : List Token) → distinct_at ts ≡ Some (b, rest) → (front : List Token) × (ts ≡ front ++ rest) × IsDistinct b front
   only b (tokens.Keyword keywords.Distinct ∷ ts) rest e =
-      let p = parts_of true b ts rest e in
+      let p = some_pair_parts true b ts rest e in
       (tokens.Keyword keywords.Distinct ∷ [], ap (λ (us : List Token). tokens.Keyword keywords.Distinct ∷ us) p.1, subst (λ (x : Bool). IsDistinct x (tokens.Keyword keywords.Distinct ∷ [])) p.0 refl)
   only b ts rest e =
-      let p = parts_of false b ts rest e in
+      let p = some_pair_parts false b ts rest e in
       ([], p.1, subst (λ (x : Bool). IsDistinct x []) p.0 refl)
 
 -- ---- Later clauses

@@ -11,13 +11,14 @@ use Rattle.cq_sql_language.specs.Parts.{◌before◌, IsName, IsWord, Each, Sepa
 use Rattle.cq_sql_language.specs.Query.{IsAlias, IsKnownAs, IsSource, IsEquality, AreJoinWords, IsJoin}
 use Rattle.cq_sql_expressions.specs.declared.leads.Lead.TheVariants as leads
 use Rattle.cq_sql_expressions.specs.Read.{after_keyword}
-use Rattle.cq_sql_expressions.proofs.Exact.{Reads, Anything, parts_of, sign_leads, word_leads}
+use Rattle.cq_sql_expressions.proofs.Exact.{Reads, Anything, sign_leads, word_leads}
 use Rattle.cq_sql_expressions.proofs.Lists.{EndsList, and_reads, more_reads}
 use Rattle.cq_sql_expressions.proofs.Steps.{by_same, last_makes, lead_makes, made_reads, next_makes, part_makes}
 use Rattle.cq_sql_expressions.proofs.Tails.{EndsTail, IsTail, tail_reads}
 use Rattle.cq_sql.specs.Parts.{name_at}
 use Rattle.cq_sql.specs.Queries.{alias_at, known_as_at, source_at, equality_at, joined_source_at, joins_at}
 use Rattle.cq_sql.proofs.NameReads.{EndsColumn, name_reads, column_name_reads}
+use Rattle.std.proofs.lemmas.Option.{some_pair_parts}
 
 -- an optional name is read exactly, where no other AS follows
 pub alias_reads : Reads (EndsTail keywords.As Anything) IsAlias alias_at
@@ -58,7 +59,7 @@ known_as_reads = record { found = found; only = only } where
 
   only : (alias : Option (List ℕ)) (ts rest : List Token) → known_as_at ts ≡ Some (alias, rest) → (front : List Token) × (ts ≡ front ++ rest) × IsKnownAs alias front
   only alias (tokens.Name name ∷ ts) rest e =
-      let p = parts_of (Some name) alias ts rest e in
+      let p = some_pair_parts (Some name) alias ts rest e in
       (tokens.Name name ∷ [], ap (λ (us : List Token). tokens.Name name ∷ us) p.1, subst (λ (x : Option (List ℕ)). IsKnownAs x (tokens.Name name ∷ [])) p.0 (inl refl))
   only alias ts rest e =
       let o = alias_reads.only alias ts rest e in

@@ -9,11 +9,12 @@ use Rattle.cq_sql_language.specs.declared.token.Token.{Token}
 use Rattle.cq_sql_language.specs.declared.token.Token.TheVariants as tokens
 use Rattle.cq_sql_language.specs.Parts.{◌before◌, IsName, IsWord, IsColumn, type_word, not_null_tokens}
 use Rattle.cq_sql_expressions.specs.Read.{done, behind, after_keyword}
-use Rattle.cq_sql_expressions.proofs.Exact.{Reads, Makes, Anything, bind_some, parts_of, word_leads}
+use Rattle.cq_sql_expressions.proofs.Exact.{Reads, Makes, Anything, bind_some, word_leads}
 use Rattle.cq_sql_expressions.proofs.Steps.{by_same, last_makes, lead_last, made_reads, next_makes}
 use Rattle.cq_sql_expressions.proofs.Tails.{EndsTail, IsTailOr, tail_or_reads}
 use Rattle.cq_sql.specs.Parts.{type_of, type_at, not_null_at, column_at}
 use Rattle.cq_sql.proofs.NameReads.{name_reads}
+use Rattle.std.proofs.lemmas.Option.{some_pair_parts}
 
 -- INTEGER, TEXT or DATE
 abbrev IsType : Ty → List Token → Type 0
@@ -41,7 +42,7 @@ type_reads = record { found = found; only = only } where
   only : (ty : Ty) (ts rest : List Token) → type_at ts ≡ Some (ty, rest) → (front : List Token) × (ts ≡ front ++ rest) × IsType ty front
   only ty (tokens.Keyword word ∷ ts) rest e =
       let b = bind_some (type_of word) (λ t. Some (t, ts)) (ty, rest) e in
-      let p = parts_of b.0 ty ts rest b.2 in
+      let p = some_pair_parts b.0 ty ts rest b.2 in
       (tokens.Keyword word ∷ [], ap (λ (us : List Token). tokens.Keyword word ∷ us) p.1, ap (λ (k : Keyword). tokens.Keyword k ∷ []) (type_only word ty (b.1 ∙ ap (λ (t : Ty). Some t) p.0)))
   only ty ts rest e = absurd cc
 

@@ -5,9 +5,10 @@ use Rattle.cq_sql_language.specs.Written.{Written}
 use Rattle.cq_sql_language.specs.Spelling.{spelled}
 use Rattle.cq_sql_expressions.specs.Read.{◌>>=◌, Reader}
 use Rattle.cq_sql_expressions.specs.Lists.{chain_from}
-use Rattle.cq_sql_expressions.proofs.Exact.{bind_some, parts_of}
+use Rattle.cq_sql_expressions.proofs.Exact.{bind_some}
 use Rattle.cq_sql_expressions.proofs.Chains.{goes_on, breaks, stops, runs_out}
 use Rattle.cq_sql_expressions.proofs.Tight.{joint, joint_in, Fits, ReadsTight}
+use Rattle.std.proofs.lemmas.Option.{some_pair_parts}
 
 -- one step of a chain, in its own words: what was read before, the link, and the part behind it
 abbrev pub Step : Type 0
@@ -39,7 +40,7 @@ module _ (size level : ℕ) {L : Type 0} (token_of : L → Token) (make : L → 
       let s = chain.back w ts (Some (v, us)) h in
       let p = bind_some (part s.1) (λ r. Some (make s.0 w r.0, r.1)) (v, us) (sym s.3) in
       let o = reads.only p.0.0 s.1 p.0.1 p.1 in
-      let q = parts_of (make s.0 w p.0.0) v p.0.1 us p.2 in
+      let q = some_pair_parts (make s.0 w p.0.0) v p.0.1 us p.2 in
       (s.0, p.0.0, s.2 ∙ ap (λ (ts : List Token). token_of s.0 ∷ ts) (o.1 ∙ ap (λ (vs : List Token). spelled p.0.0 ++ vs) q.1), sym q.0, o.0)
 
   -- behind a step stands less
@@ -95,7 +96,7 @@ module _ (size level : ℕ) {L : Type 0} (token_of : L → Token) (make : L → 
   only_at : (n : ℕ) (w v : Written) (ts rest : List Token) (step : Option (Option (Written × List Token))) → next w ts ≡ step → Fits level w → chain_from next (suc n) w ts ≡ Some (v, rest)
       → ((x : Written) (us : List Token) → Fits level x → chain_from next n x us ≡ Some (v, rest) → Fits level v × (spelled x ++ us ≡ spelled v ++ rest)) → Fits level v × (spelled w ++ ts ≡ spelled v ++ rest)
   only_at n w v ts rest None is fit e again =
-      let p = parts_of w v ts rest (sym (stops next (suc n) w ts is) ∙ e) in
+      let p = some_pair_parts w v ts rest (sym (stops next (suc n) w ts is) ∙ e) in
       (subst (λ (x : Written). Fits level x) p.0 fit, ap₂ (λ (x : Written) (us : List Token). spelled x ++ us) p.0 p.1)
   only_at n w v ts rest (Some None) is fit e again =
       let bad : ◌≡◌ {A = Option (Written × List Token)} None (Some (v, rest)) = sym (breaks next n w ts is) ∙ e in
@@ -111,7 +112,7 @@ module _ (size level : ℕ) {L : Type 0} (token_of : L → Token) (make : L → 
   -- what a chain goes on to is a chain
   only_from : (n : ℕ) (w v : Written) (ts rest : List Token) → Fits level w → chain_from next n w ts ≡ Some (v, rest) → Fits level v × (spelled w ++ ts ≡ spelled v ++ rest)
   only_from zero w v ts rest fit e =
-      let p = parts_of w v ts rest (sym (runs_out next zero w ts refl) ∙ e) in
+      let p = some_pair_parts w v ts rest (sym (runs_out next zero w ts refl) ∙ e) in
       (subst (λ (x : Written). Fits level x) p.0 fit, ap₂ (λ (x : Written) (us : List Token). spelled x ++ us) p.0 p.1)
   only_from (suc n) w v ts rest fit e = only_at n w v ts rest (next w ts) refl fit e (λ x us made h. only_from n x v us rest made h)
 

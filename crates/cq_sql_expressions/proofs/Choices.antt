@@ -13,10 +13,11 @@ use Rattle.cq_sql_expressions.specs.Read.{Reader, done, behind, followed_by, aft
 use Rattle.cq_sql_expressions.specs.Lists.{chain_from}
 use Rattle.cq_sql_expressions.specs.Chains.{linked_part, more_parts}
 use Rattle.cq_sql_expressions.specs.Expressions.{Inside, choices_of, enclosed_choices}
-use Rattle.cq_sql_expressions.proofs.Exact.{bind_some, parts_of, symbol_takes}
+use Rattle.cq_sql_expressions.proofs.Exact.{bind_some, symbol_takes}
 use Rattle.cq_sql_expressions.proofs.Chains.{goes_on, breaks, stops, runs_out}
 use Rattle.cq_sql_expressions.proofs.Tight.{joint_in, Fits, to_fits, ReadsTight}
 use Rattle.cq_sql_expressions.proofs.ValueTests.{entries, comma, more_ends, more_found}
+use Rattle.std.proofs.lemmas.Option.{some_pair_parts}
 
 -- what was read behind other entries are entries, in order, and their tokens
 abbrev pub MoreEntries : List Written → List Token → List Written → List Token → Type 0
@@ -48,7 +49,7 @@ module _ (size : ℕ) (sum : Reader Written) (reads : ReadsTight size 4 sum) whe
   unfolding linked_part
   more_at n ws vs ts rest None there e again =
       let step : linked_part links.Comma sum ws ts ≡ None = rw there refl in
-      let p = parts_of ws vs ts rest (sym (stops (linked_part links.Comma sum) (suc n) ws ts step) ∙ e) in
+      let p = some_pair_parts ws vs ts rest (sym (stops (linked_part links.Comma sum) (suc n) ws ts step) ∙ e) in
       (NoChoice, sym p.0 ∙ sym (append-nil ws), refl, p.1)
   more_at n ws vs ts rest (Some us) there e again =
       let takes = symbol_takes symbols.Comma in
@@ -57,7 +58,7 @@ module _ (size : ℕ) (sum : Reader Written) (reads : ReadsTight size 4 sum) whe
   -- what is read behind other entries are entries
   pub more_only : (n : ℕ) (ws vs : List Written) (ts rest : List Token) → chain_from (linked_part links.Comma sum) n ws ts ≡ Some (vs, rest) → MoreEntries ws ts vs rest
   more_only zero ws vs ts rest e =
-      let p = parts_of ws vs ts rest (sym (runs_out (linked_part links.Comma sum) zero ws ts refl) ∙ e) in
+      let p = some_pair_parts ws vs ts rest (sym (runs_out (linked_part links.Comma sum) zero ws ts refl) ∙ e) in
       (NoChoice, sym p.0 ∙ sym (append-nil ws), refl, p.1)
   more_only (suc n) ws vs ts rest e = more_at n ws vs ts rest (after_symbol symbols.Comma ts) refl e (λ us rs h. more_only n us vs rs rest h)
 
@@ -106,7 +107,7 @@ module _ (size : ℕ) (inside : Inside) (reads : ReadsTight size 4 inside.sum) w
       let f = bind_some (after_symbol symbols.Open ts) (followed_by (choices_of inside) (λ vs. behind (after_symbol symbols.Close) (done vs))) (ws, rest) e in
       let c = bind_some (choices_of inside f.0) (λ r. behind (after_symbol symbols.Close) (done r.0) r.1) (ws, rest) f.2 in
       let l = bind_some (after_symbol symbols.Close c.0.1) (done c.0.0) (ws, rest) c.2 in
-      let p = parts_of c.0.0 ws l.0 rest l.2 in
+      let p = some_pair_parts c.0.0 ws l.0 rest l.2 in
       let m = choices_only c.0.0 f.0 c.0.1 c.1 in
       let end : c.0.1 ≡ close_sign ∷ rest = closes.only c.0.1 l.0 l.1 ∙ ap (λ (vs : List Token). close_sign ∷ vs) p.1 in
       let whole : ts ≡ open_sign ∷ (spelled_choices m.0 ++ close_sign ∷ rest) = opens.only ts f.0 f.1 ∙ ap (λ (vs : List Token). open_sign ∷ vs) (m.4 ∙ ap (λ (vs : List Token). spelled_choices m.0 ++ vs) end) in

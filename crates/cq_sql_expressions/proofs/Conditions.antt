@@ -16,12 +16,13 @@ use Rattle.cq_sql_expressions.specs.Gives.{Gives}
 use Rattle.cq_sql_expressions.specs.Read.{Reader, after_keyword}
 use Rattle.cq_sql_expressions.specs.Chains.{joined_at}
 use Rattle.cq_sql_expressions.specs.Expressions.{Inside, primary_of, factor_of, product_of, sum_of, predicate_of, negation_of, operand_of, expression_of, prefixed, readers, expression_at, if_no_more, whole_expression}
-use Rattle.cq_sql_expressions.proofs.Exact.{Reads, bind_some, parts_of, keyword_takes}
+use Rattle.cq_sql_expressions.proofs.Exact.{Reads, bind_some, keyword_takes}
 use Rattle.cq_sql_expressions.proofs.Tight.{joint_in, Fits, from_fits, to_fits, ReadsTight}
 use Rattle.cq_sql_expressions.proofs.Primaries.{ReadsInside, primary_reads}
 use Rattle.cq_sql_expressions.proofs.Levels.{factor_reads}
 use Rattle.cq_sql_expressions.proofs.Operators.{joined_reads, sum_reads}
 use Rattle.cq_sql_expressions.proofs.PredicateReads.{predicate_reads}
+use Rattle.std.proofs.lemmas.Option.{some_pair_parts}
 
 -- no predicate begins with NOT
 no_predicate : (inside : Inside) (us : List Token) → predicate_of inside (tokens.Keyword keywords.Not ∷ us) ≡ None
@@ -54,7 +55,7 @@ module _ (size : ℕ) (inside : Inside) (reads : ReadsTight size 3 (predicate_of
       let takes = keyword_takes keywords.Not in
       let b = bind_some (predicate_of inside us) (λ r. Some (Not r.0, r.1)) (w, rest) e in
       let o = reads.only b.0.0 us b.0.1 b.1 in
-      let p = parts_of (Not b.0.0) w b.0.1 rest b.2 in
+      let p = some_pair_parts (Not b.0.0) w b.0.1 rest b.2 in
       let whole : ts ≡ spelled (Not b.0.0) ++ rest = takes.only ts us there ∙ ap (λ (vs : List Token). tokens.Keyword keywords.Not ∷ vs) (o.1 ∙ ap (λ (vs : List Token). spelled b.0.0 ++ vs) p.1) in
       subst (λ (x : Written). Fits 2 x × (ts ≡ spelled x ++ rest)) p.0 ((omega arith, to_fits 3 b.0.0 o.0), whole)
 

@@ -50,20 +50,6 @@ pub bind_some : {A B : Type 0} (o : Option A) (f : A → Option B) (y : B) → (
 bind_some (Some x) f y e = (x, refl, e)
 bind_some None f y e = absurd cc
 
--- what was read, or else this
-abbrev thing_or : {A B : Type 0} → A → Option (A × B) → A
-thing_or x None = x
-thing_or x (Some p) = p.0
-
--- what was left, or else this
-abbrev rest_or : {A B : Type 0} → B → Option (A × B) → B
-rest_or r None = r
-rest_or r (Some p) = p.1
-
--- what is read is one thing, and leaves one rest
-pub parts_of : {A B : Type 0} (x y : A) (r s : B) → ◌≡◌ {A = Option (A × B)} (Some (x, r)) (Some (y, s)) → (x ≡ y) × (r ≡ s)
-parts_of x y r s e = (ap (thing_or x) e, ap (rest_or r) e)
-
 -- the test was passed, and these are the tokens behind
 if_some : (b : Bool) (ts rest : List Token) → (if b then Some ts else None) ≡ Some rest → (b ≡ true) × (ts ≡ rest)
 if_some true ts rest e = (refl, cc)

@@ -7,8 +7,9 @@ use Rattle.cq_sql_language.specs.Written.{Written, Number, Text, Date, Null, Col
 use Rattle.cq_sql_language.specs.Spelling.{spelled, column_tokens}
 use Rattle.cq_sql_expressions.specs.Read.{Reader, after_symbol}
 use Rattle.cq_sql_expressions.specs.Expressions.{Inside, prefixed, factor_of, primary_of}
-use Rattle.cq_sql_expressions.proofs.Exact.{bind_some, parts_of, symbol_takes}
+use Rattle.cq_sql_expressions.proofs.Exact.{bind_some, symbol_takes}
 use Rattle.cq_sql_expressions.proofs.Tight.{joint_in, Fits, from_fits, to_fits, ReadsTight}
+use Rattle.std.proofs.lemmas.Option.{some_pair_parts}
 
 -- the same reader, written in another way
 pub by_same_reader : {size level : ℕ} {item other : Reader Written} → ReadsTight size level item → ((ts : List Token) → other ts ≡ item ts) → ReadsTight size level other
@@ -58,7 +59,7 @@ module _ (size : ℕ) (inside : Inside) (reads : ReadsTight size 7 (primary_of i
       let takes = symbol_takes symbols.Minus in
       let b = bind_some (primary_of inside us) (λ r. Some (Negative r.0, r.1)) (w, rest) e in
       let o = reads.only b.0.0 us b.0.1 b.1 in
-      let p = parts_of (Negative b.0.0) w b.0.1 rest b.2 in
+      let p = some_pair_parts (Negative b.0.0) w b.0.1 rest b.2 in
       let whole : ts ≡ spelled (Negative b.0.0) ++ rest = takes.only ts us there ∙ ap (λ (vs : List Token). tokens.Symbol symbols.Minus ∷ vs) (o.1 ∙ ap (λ (vs : List Token). spelled b.0.0 ++ vs) p.1) in
       subst (λ (x : Written). Fits 6 x × (ts ≡ spelled x ++ rest)) p.0 ((omega arith, to_fits 7 b.0.0 o.0), whole)
 

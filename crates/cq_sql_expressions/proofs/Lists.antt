@@ -12,8 +12,9 @@ use Rattle.cq_sql_expressions.specs.declared.leads.Lead.TheVariants as leads
 use Rattle.cq_sql_expressions.specs.Read.{Reader, followed_by}
 use Rattle.cq_sql_expressions.specs.Lists.{chain_from, after_lead, led, more_at, list_at}
 use Rattle.cq_sql_expressions.proofs.Chains.{goes_on, breaks, stops, runs_out}
-use Rattle.cq_sql_expressions.proofs.Exact.{Reads, Leads, bind_some, parts_of, word_leads, sign_leads, join_leads}
+use Rattle.cq_sql_expressions.proofs.Exact.{Reads, Leads, bind_some, word_leads, sign_leads, join_leads}
 use Rattle.cq_sql_expressions.proofs.Steps.{by_same}
+use Rattle.std.proofs.lemmas.Option.{some_pair_parts}
 
 -- the tokens of a lead
 abbrev pub IsLead : Lead → List Token → Type 0
@@ -80,7 +81,7 @@ module _ {A : Type 0} (lead : Lead) (Ends : List Token → Type 0) (Is : A → L
   -- no further entry was read
   no_more : (earlier all : List A) (ts rest : List Token) → ◌≡◌ {A = Option (List A × List Token)} (Some (earlier, ts)) (Some (all, rest)) → AreLed earlier ts all rest
   no_more earlier all ts rest e =
-      let p = parts_of earlier all ts rest e in
+      let p = some_pair_parts earlier all ts rest e in
       ([], [], append-nil earlier ∙ p.0, p.1, refl)
 
   -- an entry was read, and others behind it

@@ -20,11 +20,12 @@ use Rattle.cq_sql_expressions.specs.Read.{◌>>=◌, Reader}
 use Rattle.cq_sql_expressions.specs.Lists.{chain_from}
 use Rattle.cq_sql_expressions.specs.Chains.{after_link, sign_at, join, linked_part, more_parts, joined_at, signed_term, more_terms}
 use Rattle.cq_sql_expressions.specs.Expressions.{Inside, product_of, sum_of}
-use Rattle.cq_sql_expressions.proofs.Exact.{Takes, parts_of, keyword_takes, symbol_takes}
+use Rattle.cq_sql_expressions.proofs.Exact.{Takes, keyword_takes, symbol_takes}
 use Rattle.cq_sql_expressions.proofs.Chains.{goes_on, breaks, stops}
 use Rattle.cq_sql_expressions.proofs.Tight.{joint, joint_in, Fits, from_fits, to_fits, ReadsTight}
 use Rattle.cq_sql_expressions.proofs.ChainReads.{Step, IsChain, read_chain, chain_reads}
 use Rattle.cq_sql_expressions.proofs.Levels.{by_same_reader}
+use Rattle.std.proofs.lemmas.Option.{some_pair_parts}
 
 -- the token of an operator
 abbrev operator_token : Operator → Token
@@ -172,10 +173,10 @@ sign_found signs.Minus us = refl
 -- what is read as a sign is its token
 sign_only : (ts : List Token) (sign : Sign) (us : List Token) → sign_at ts ≡ Some (sign, us) → ts ≡ sign_token sign ∷ us
 sign_only (tokens.Symbol symbols.Plus ∷ ts) sign us e =
-    let p = parts_of signs.Plus sign ts us e in
+    let p = some_pair_parts signs.Plus sign ts us e in
     ap₂ (λ (s : Sign) (vs : List Token). sign_token s ∷ vs) p.0 p.1
 sign_only (tokens.Symbol symbols.Minus ∷ ts) sign us e =
-    let p = parts_of signs.Minus sign ts us e in
+    let p = some_pair_parts signs.Minus sign ts us e in
     ap₂ (λ (s : Sign) (vs : List Token). sign_token s ∷ vs) p.0 p.1
 sign_only ts sign us e = absurd cc
 

@@ -17,10 +17,11 @@ use Rattle.cq_sql_expressions.specs.Read.{done, behind, followed_by, after_keywo
 use Rattle.cq_sql_expressions.specs.Atoms.{text_at}
 use Rattle.cq_sql_expressions.specs.Predicates.{test_at}
 use Rattle.cq_sql_expressions.specs.Expressions.{Inside, sum_of, enclosed_choices, between_of, tested, value_or_test, predicate_of}
-use Rattle.cq_sql_expressions.proofs.Exact.{bind_some, parts_of, keyword_takes}
+use Rattle.cq_sql_expressions.proofs.Exact.{bind_some, keyword_takes}
 use Rattle.cq_sql_expressions.proofs.Tight.{joint_in, Fits, from_fits, to_fits, ReadsTight}
 use Rattle.cq_sql_expressions.proofs.ValueTests.{choices_entries, test_tokens, test_found, test_ends, no_test, test_only}
 use Rattle.cq_sql_expressions.proofs.Choices.{open_sign, close_sign, enclosed_choices_found, enclosed_choices_only}
+use Rattle.std.proofs.lemmas.Option.{some_pair_parts}
 
 -- a word behind NOT or alone, and what follows it
 behind_word : (negated : Bool) (word : Keyword) (value us : List Token) → value ++ not_tokens negated ++ (tokens.Keyword word ∷ us) ≡ value ++ ((not_tokens negated ++ tokens.Keyword word ∷ []) ++ us)
@@ -78,7 +79,7 @@ IsRead a test us w rest = Fits 3 w × (spelled a ++ (test_tokens test ++ us) ≡
 -- what is read as a text are its token and the rest
 text_only : (pattern : List ℕ) (us rest : List Token) → text_at us ≡ Some (pattern, rest) → us ≡ tokens.Text pattern ∷ rest
 text_only pattern (tokens.Text text ∷ us) rest e =
-    let p = parts_of text pattern us rest e in
+    let p = some_pair_parts text pattern us rest e in
     ap₂ (λ (x : List ℕ) (vs : List Token). tokens.Text x ∷ vs) p.0 p.1
 text_only pattern us rest e = absurd cc
 
@@ -169,7 +170,7 @@ module _ (size : ℕ) (inside : Inside) (within : ReadsTight size 4 inside.sum) 
   compare_only c a w us rest fit e =
       let b = bind_some (sum_of inside us) (λ r. Some (Compare c a r.0, r.1)) (w, rest) e in
       let o = sums.only b.0.0 us b.0.1 b.1 in
-      let p = parts_of (Compare c a b.0.0) w b.0.1 rest b.2 in
+      let p = some_pair_parts (Compare c a b.0.0) w b.0.1 rest b.2 in
       let sign : Token = tokens.Symbol (comparison_sign c) in
       let whole : spelled a ++ sign ∷ us ≡ spelled (Compare c a b.0.0) ++ rest
       = ap (λ (vs : List Token). spelled a ++ sign ∷ vs) (o.1 ∙ ap (λ (vs : List Token). spelled b.0.0 ++ vs) p.1) ∙ sym (append_assoc (spelled a) (sign ∷ spelled b.0.0) rest) in
@@ -180,7 +181,7 @@ module _ (size : ℕ) (inside : Inside) (within : ReadsTight size 4 inside.sum) 
   null_only : (negated : Bool) (a w : Written) (us rest : List Token) → Fits 4 a → tested inside a (tests.IsNull negated) us ≡ Some (w, rest) → IsRead a (tests.IsNull negated) us w rest
   unfolding tested
   null_only negated a w us rest fit e =
-      let p = parts_of (IsNull negated a) w us rest e in
+      let p = some_pair_parts (IsNull negated a) w us rest e in
       let whole = shape_whole (IsNull negated a) a (tests.IsNull negated) [] us rest (null_shape negated a) p.1 in
       let in_order : Fits 3 (IsNull negated a) = (omega arith, to_fits 4 a fit) in
       subst (λ (x : Written). IsRead a (tests.IsNull negated) us x rest) p.0 (in_order, whole)
@@ -196,7 +197,7 @@ module _ (size : ℕ) (inside : Inside) (within : ReadsTight size 4 inside.sum) 
       let g = bind_some (sum_of inside k.0) (λ r. Some (Between negated a l.0.0 r.0, r.1)) (w, rest) k.2 in
       let low = sums.only l.0.0 us l.0.1 l.1 in
       let high = sums.only g.0.0 k.0 g.0.1 g.1 in
-      let p = parts_of (Between negated a l.0.0 g.0.0) w g.0.1 rest g.2 in
+      let p = some_pair_parts (Between negated a l.0.0 g.0.0) w g.0.1 rest g.2 in
       let behind_and : l.0.1 ≡ and_token ∷ (spelled g.0.0 ++ rest) = takes.only l.0.1 k.0 k.1 ∙ ap (λ (vs : List Token). and_token ∷ vs) (high.1 ∙ ap (λ (vs : List Token). spelled g.0.0 ++ vs) p.1) in
       let split : us ≡ bound_tokens l.0.0 g.0.0 ++ rest = low.1 ∙ ap (λ (vs : List Token). spelled l.0.0 ++ vs) behind_and ∙ sym (append_assoc (spelled l.0.0) (tokens.Keyword keywords.And ∷ spelled g.0.0) rest) in
       let whole = shape_whole (Between negated a l.0.0 g.0.0) a (tests.Between negated) (bound_tokens l.0.0 g.0.0) us rest (between_shape negated a l.0.0 g.0.0) split in
@@ -211,7 +212,7 @@ module _ (size : ℕ) (inside : Inside) (within : ReadsTight size 4 inside.sum) 
   in_only negated a w us rest fit e =
       let b = bind_some (enclosed_choices inside us) (λ r. Some (In negated a (choices r.0), r.1)) (w, rest) e in
       let o = enclosed_choices_only size inside within b.0.0 us b.0.1 b.1 in
-      let p = parts_of (In negated a (choices b.0.0)) w b.0.1 rest b.2 in
+      let p = some_pair_parts (In negated a (choices b.0.0)) w b.0.1 rest b.2 in
       let made : In negated a o.0 ≡ w = ap (λ (cs : Choices). In negated a cs) (sym (choices_entries o.0) ∙ ap choices (sym o.1)) ∙ p.0 in
       let split : us ≡ choice_tokens o.0 ++ rest = o.4 ∙ ap (λ (vs : List Token). open_sign ∷ (spelled_choices o.0 ++ close_sign ∷ vs)) p.1 ∙ ap (λ (vs : List Token). open_sign ∷ vs) (sym (append_assoc (spelled_choices o.0) (close_sign ∷ []) rest)) in
       let whole = shape_whole (In negated a o.0) a (tests.In negated) (choice_tokens o.0) us rest (in_shape negated a o.0) split in
@@ -225,7 +226,7 @@ module _ (size : ℕ) (inside : Inside) (within : ReadsTight size 4 inside.sum) 
   unfolding tested
   like_only negated a w us rest fit e =
       let b = bind_some (text_at us) (λ r. Some (Like negated a r.0, r.1)) (w, rest) e in
-      let p = parts_of (Like negated a b.0.0) w b.0.1 rest b.2 in
+      let p = some_pair_parts (Like negated a b.0.0) w b.0.1 rest b.2 in
       let split : us ≡ tokens.Text b.0.0 ∷ rest = text_only b.0.0 us b.0.1 b.1 ∙ ap (λ (vs : List Token). tokens.Text b.0.0 ∷ vs) p.1 in
       let whole = shape_whole (Like negated a b.0.0) a (tests.Like negated) (tokens.Text b.0.0 ∷ []) us rest (like_shape negated a b.0.0) split in
       let in_order : Fits 3 (Like negated a b.0.0) = (omega arith, to_fits 4 a fit) in
@@ -242,7 +243,7 @@ module _ (size : ℕ) (inside : Inside) (within : ReadsTight size 4 inside.sum) 
   -- with or without a test behind a value, what is read is a predicate
   by_test : (a w : Written) (ts us rest : List Token) (read : Option (Test × List Token)) → test_at us ≡ read → Fits 4 a → ts ≡ spelled a ++ us → value_or_test inside a us read ≡ Some (w, rest) → Fits 3 w × (ts ≡ spelled w ++ rest)
   by_test a w ts us rest None there fit split e =
-      let p = parts_of a w us rest e in
+      let p = some_pair_parts a w us rest e in
       subst (λ (x : Written). Fits 3 x × (ts ≡ spelled x ++ rest)) p.0 ((omega (arith, fit.0), fit.1), split ∙ ap (λ (vs : List Token). spelled a ++ vs) p.1)
   by_test a w ts us rest (Some (test, vs)) there fit split e =
       let o = tested_only a w test vs rest fit e in

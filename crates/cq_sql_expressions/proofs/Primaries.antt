@@ -17,8 +17,9 @@ use Rattle.cq_sql_expressions.specs.Read.{done, behind, after_symbol}
 use Rattle.cq_sql_expressions.specs.Atoms.{atom_at, day_part_of, aggregate_at, extract_at, called_at, opening_at}
 use Rattle.cq_sql_expressions.specs.Chains.{enclosed}
 use Rattle.cq_sql_expressions.specs.Expressions.{Inside, content_of, atom_or_content, primary_of}
-use Rattle.cq_sql_expressions.proofs.Exact.{bind_some, parts_of, symbol_takes}
+use Rattle.cq_sql_expressions.proofs.Exact.{bind_some, symbol_takes}
 use Rattle.cq_sql_expressions.proofs.Tight.{joint_in, Fits, from_fits, to_fits, ReadsTight}
+use Rattle.std.proofs.lemmas.Option.{some_pair_parts}
 
 -- what stands in parentheses is read exactly
 pub record ReadsInside (size : ℕ) (inside : Inside) : Type 0 where
@@ -105,7 +106,7 @@ opening_found (openings.Aggregate function) us none = called_found function (tok
 extract_only : (ts : List Token) (opening : Opening) (us : List Token) → extract_at ts ≡ Some (opening, us) → tokens.Keyword keywords.Extract ∷ ts ≡ opening_tokens opening ++ us
 extract_only (tokens.Symbol symbols.Open ∷ tokens.Keyword word ∷ tokens.Keyword keywords.From ∷ ts) opening us e =
     let b = bind_some (day_part_of word) (λ part. Some (openings.Extract part, ts)) (opening, us) e in
-    let p = parts_of (openings.Extract b.0) opening ts us b.2 in
+    let p = some_pair_parts (openings.Extract b.0) opening ts us b.2 in
     subst (λ (o : Opening). tokens.Keyword keywords.Extract ∷ tokens.Symbol symbols.Open ∷ tokens.Keyword word ∷ tokens.Keyword keywords.From ∷ ts ≡ opening_tokens o ++ us) p.0 (ap₂ (λ (k : Keyword) (vs : List Token). tokens.Keyword keywords.Extract ∷ tokens.Symbol symbols.Open ∷ tokens.Keyword k ∷ tokens.Keyword keywords.From ∷ vs) (part_only word b.0 b.1) p.1)
 extract_only ts opening us e = absurd cc
 
@@ -113,7 +114,7 @@ extract_only ts opening us e = absurd cc
 aggregate_only : (function : AggregateFunction) (ts : List Token) (opening : Opening) (us : List Token) → aggregate_at function ts ≡ Some (opening, us) → tokens.Keyword (function_word function) ∷ ts ≡ opening_tokens opening ++ us
 aggregate_only function (tokens.Symbol symbols.Open ∷ tokens.Symbol symbols.Star ∷ ts) opening us e = absurd cc
 aggregate_only function (tokens.Symbol symbols.Open ∷ ts) opening us e =
-    let p = parts_of (openings.Aggregate function) opening ts us e in
+    let p = some_pair_parts (openings.Aggregate function) opening ts us e in
     subst (λ (o : Opening). tokens.Keyword (function_word function) ∷ tokens.Symbol symbols.Open ∷ ts ≡ opening_tokens o ++ us) p.0 (ap (λ (vs : List Token). tokens.Keyword (function_word function) ∷ tokens.Symbol symbols.Open ∷ vs) p.1)
 aggregate_only function ts opening us e = absurd cc
 
@@ -129,7 +130,7 @@ called_only word ts opening us e = absurd cc
 -- what is read as an opening are its tokens
 opening_only : (ts : List Token) (opening : Opening) (us : List Token) → opening_at ts ≡ Some (opening, us) → ts ≡ opening_tokens opening ++ us
 opening_only (tokens.Symbol symbols.Open ∷ ts) opening us e =
-    let p = parts_of openings.Parens opening ts us e in
+    let p = some_pair_parts openings.Parens opening ts us e in
     subst (λ (o : Opening). tokens.Symbol symbols.Open ∷ ts ≡ opening_tokens o ++ us) p.0 (ap (λ (vs : List Token). tokens.Symbol symbols.Open ∷ vs) p.1)
 opening_only (tokens.Keyword word ∷ ts) opening us e = called_only word ts opening us e
 opening_only ts opening us e = absurd cc
@@ -167,25 +168,25 @@ column_opens None name rest = refl
 -- what is read as an atom stands for itself
 atom_only : (w : Written) (ts rest : List Token) → atom_at ts ≡ Some (w, rest) → Fits 7 w × (ts ≡ spelled w ++ rest)
 atom_only w (tokens.Number n ∷ ts) rest e =
-    let p = parts_of (Number n) w ts rest e in
+    let p = some_pair_parts (Number n) w ts rest e in
     subst (λ (x : Written). Fits 7 x × (tokens.Number n ∷ ts ≡ spelled x ++ rest)) p.0 ((omega arith, refl), ap (λ (us : List Token). tokens.Number n ∷ us) p.1)
 atom_only w (tokens.Text text ∷ ts) rest e =
-    let p = parts_of (Text text) w ts rest e in
+    let p = some_pair_parts (Text text) w ts rest e in
     subst (λ (x : Written). Fits 7 x × (tokens.Text text ∷ ts ≡ spelled x ++ rest)) p.0 ((omega arith, refl), ap (λ (us : List Token). tokens.Text text ∷ us) p.1)
 atom_only w (tokens.Keyword keywords.Date ∷ tokens.Text text ∷ ts) rest e =
-    let p = parts_of (Date text) w ts rest e in
+    let p = some_pair_parts (Date text) w ts rest e in
     subst (λ (x : Written). Fits 7 x × (tokens.Keyword keywords.Date ∷ tokens.Text text ∷ ts ≡ spelled x ++ rest)) p.0 ((omega arith, refl), ap (λ (us : List Token). tokens.Keyword keywords.Date ∷ tokens.Text text ∷ us) p.1)
 atom_only w (tokens.Keyword keywords.Null ∷ ts) rest e =
-    let p = parts_of Null w ts rest e in
+    let p = some_pair_parts Null w ts rest e in
     subst (λ (x : Written). Fits 7 x × (tokens.Keyword keywords.Null ∷ ts ≡ spelled x ++ rest)) p.0 ((omega arith, refl), ap (λ (us : List Token). tokens.Keyword keywords.Null ∷ us) p.1)
 atom_only w (tokens.Name source ∷ tokens.Symbol symbols.Dot ∷ tokens.Name name ∷ ts) rest e =
-    let p = parts_of (Column (record { source = Some source; name = name })) w ts rest e in
+    let p = some_pair_parts (Column (record { source = Some source; name = name })) w ts rest e in
     subst (λ (x : Written). Fits 7 x × (tokens.Name source ∷ tokens.Symbol symbols.Dot ∷ tokens.Name name ∷ ts ≡ spelled x ++ rest)) p.0 ((omega arith, refl), ap (λ (us : List Token). tokens.Name source ∷ tokens.Symbol symbols.Dot ∷ tokens.Name name ∷ us) p.1)
 atom_only w (tokens.Name name ∷ ts) rest e =
-    let p = parts_of (Column (record { source = None; name = name })) w ts rest e in
+    let p = some_pair_parts (Column (record { source = None; name = name })) w ts rest e in
     subst (λ (x : Written). Fits 7 x × (tokens.Name name ∷ ts ≡ spelled x ++ rest)) p.0 ((omega arith, refl), ap (λ (us : List Token). tokens.Name name ∷ us) p.1)
 atom_only w (tokens.Keyword keywords.Count ∷ tokens.Symbol symbols.Open ∷ tokens.Symbol symbols.Star ∷ tokens.Symbol symbols.Close ∷ ts) rest e =
-    let p = parts_of CountAll w ts rest e in
+    let p = some_pair_parts CountAll w ts rest e in
     subst (λ (x : Written). Fits 7 x × (tokens.Keyword keywords.Count ∷ tokens.Symbol symbols.Open ∷ tokens.Symbol symbols.Star ∷ tokens.Symbol symbols.Close ∷ ts ≡ spelled x ++ rest)) p.0 ((omega arith, refl), ap (λ (us : List Token). tokens.Keyword keywords.Count ∷ tokens.Symbol symbols.Open ∷ tokens.Symbol symbols.Star ∷ tokens.Symbol symbols.Close ∷ us) p.1)
 atom_only w ts rest e = absurd cc
 
@@ -214,7 +215,7 @@ module _ (size : ℕ) (inside : Inside) (reads : ReadsInside size inside) where
       let b = bind_some (content_of inside opening us) (λ r. behind (after_symbol symbols.Close) (done (enclosed opening r.0)) r.1) (w, rest) e in
       let o = content.only b.0.0 us b.0.1 b.1 in
       let closed = bind_some (after_symbol symbols.Close b.0.1) (done (enclosed opening b.0.0)) (w, rest) b.2 in
-      let p = parts_of (enclosed opening b.0.0) w closed.0 rest closed.2 in
+      let p = some_pair_parts (enclosed opening b.0.0) w closed.0 rest closed.2 in
       let behind_it : b.0.1 ≡ close ∷ rest = takes.only b.0.1 closed.0 closed.1 ∙ ap (λ (vs : List Token). close ∷ vs) p.1 in
       let whole : ts ≡ spelled (enclosed opening b.0.0) ++ rest
       = opening_only ts opening us there ∙ ap (λ (vs : List Token). opening_tokens opening ++ vs) (o.1 ∙ ap (λ (vs : List Token). spelled b.0.0 ++ vs) behind_it ∙ sym (append_assoc (spelled b.0.0) (close ∷ []) rest))

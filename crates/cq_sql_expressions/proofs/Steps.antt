@@ -3,7 +3,8 @@ use Rattle.std.proofs.Common.{◌≡◌, List, ◌++◌, Option, Some, refl, sym
 use Rattle.cq_sql_language.specs.declared.token.Token.{Token}
 use Rattle.cq_sql_language.specs.Parts.{◌before◌}
 use Rattle.cq_sql_expressions.specs.Read.{Reader, done, followed_by, behind}
-use Rattle.cq_sql_expressions.proofs.Exact.{Reads, Makes, Leads, Anything, bind_some, parts_of}
+use Rattle.cq_sql_expressions.proofs.Exact.{Reads, Makes, Leads, Anything, bind_some}
+use Rattle.std.proofs.lemmas.Option.{some_pair_parts}
 
 -- another relation that says the same
 pub by_same : {A : Type 0} {Ends : List Token → Type 0} {Is Others : A → List Token → Type 0} {item : Reader A} → Reads Ends Is item
@@ -30,7 +31,7 @@ last_makes {X} {Y} {Ends} {Is} {item} make reads = record { found = found; only 
   only : (y : Y) (ts rest : List Token) → followed_by item (λ z. done (make z)) ts ≡ Some (y, rest) → (x : X) × (front : List Token) × (make x ≡ y) × (ts ≡ front ++ rest) × Is x front
   only y ts rest e =
       let b = bind_some (item ts) (λ r. done (make r.0) r.1) (y, rest) e in
-      let p = parts_of (make b.0.0) y b.0.1 rest b.2 in
+      let p = some_pair_parts (make b.0.0) y b.0.1 rest b.2 in
       let o = reads.only b.0.0 ts b.0.1 b.1 in
       (b.0.0, o.0, p.0, o.1 ∙ ap (λ (us : List Token). o.0 ++ us) p.1, o.2)
 
@@ -102,5 +103,5 @@ lead_last {Y} {Ends} {Is} {after} y leads = record { found = found; only = only 
   only z ts rest e =
       let b = bind_some (after ts) (done y) (z, rest) e in
       let l = leads.only ts b.0 b.1 in
-      let p = parts_of y z b.0 rest b.2 in
+      let p = some_pair_parts y z b.0 rest b.2 in
       (tt, l.0, p.0, l.1 ∙ ap (λ (us : List Token). l.0 ++ us) p.1, l.2)

@@ -9,9 +9,10 @@ use Rattle.cq_sql_language.specs.Parts.{◌before◌, IsWord, IsLeftOut, Separat
 use Rattle.cq_sql_expressions.specs.declared.leads.Lead.TheVariants as leads
 use Rattle.cq_sql_expressions.specs.Read.{Reader, after_keyword}
 use Rattle.cq_sql_expressions.specs.Lists.{some_or_none, tail_at, read_or, tail_or, list_behind}
-use Rattle.cq_sql_expressions.proofs.Exact.{Reads, bind_some, parts_of, word_leads}
+use Rattle.cq_sql_expressions.proofs.Exact.{Reads, bind_some, word_leads}
 use Rattle.cq_sql_expressions.proofs.Steps.{by_same, lead_reads}
 use Rattle.cq_sql_expressions.proofs.Lists.{EndsList, comma_reads}
+use Rattle.std.proofs.lemmas.Option.{some_pair_parts}
 
 -- what follows ends an item and does not begin with the keyword
 abbrev pub EndsTail : Keyword → (List Token → Type 0) → List Token → Type 0
@@ -39,13 +40,13 @@ tail_reads {A} {Ends} {Is} {item} first reads = record { found = found; only = o
 
   by_keyword : (o : Option A) (ts rest : List Token) (after : Option (List Token)) → after_keyword first ts ≡ after → some_or_none item ts after ≡ Some (o, rest) → (front : List Token) × (ts ≡ front ++ rest) × IsTail first Is o front
   by_keyword o ts rest None there e =
-      let p = parts_of None o ts rest e in
+      let p = some_pair_parts None o ts rest e in
       ([], p.1, subst (λ (x : Option A). IsTail first Is x []) p.0 refl)
   by_keyword o ts rest (Some after) there e =
       let takes = word_leads first in
       let l = takes.only ts after there in
       let b = bind_some (item after) (λ r. Some (Some r.0, r.1)) (o, rest) e in
-      let p = parts_of (Some b.0.0) o b.0.1 rest b.2 in
+      let p = some_pair_parts (Some b.0.0) o b.0.1 rest b.2 in
       let a = reads.only b.0.0 after b.0.1 b.1 in
       (l.0 ++ a.0, l.1 ∙ ap (λ (us : List Token). l.0 ++ us) (a.1 ∙ ap (λ (us : List Token). a.0 ++ us) p.1) ∙ sym (append_assoc l.0 a.0 rest), subst (λ (x : Option A). IsTail first Is x (l.0 ++ a.0)) p.0 (l.0, a.0, refl, l.2, a.2))
 
@@ -65,7 +66,7 @@ tail_or_reads {A} {Ends} {Is} {item} first x reads = record { found = found; onl
 
   by_keyword : (y : A) (ts rest : List Token) (after : Option (List Token)) → after_keyword first ts ≡ after → read_or x item ts after ≡ Some (y, rest) → (front : List Token) × (ts ≡ front ++ rest) × IsTailOr first x Is y front
   by_keyword y ts rest None there e =
-      let p = parts_of x y ts rest e in
+      let p = some_pair_parts x y ts rest e in
       ([], p.1, inl (p.0, refl))
   by_keyword y ts rest (Some after) there e =
       let takes = word_leads first in

@@ -20,9 +20,10 @@ use Rattle.cq_sql_expressions.specs.Read.{◌>>=◌, Reader, after_symbol}
 use Rattle.cq_sql_expressions.specs.Lists.{chain_from}
 use Rattle.cq_sql_expressions.specs.Chains.{linked_part}
 use Rattle.cq_sql_expressions.specs.Predicates.{comparison_of, worded, test_at}
-use Rattle.cq_sql_expressions.proofs.Exact.{bind_some, parts_of}
+use Rattle.cq_sql_expressions.proofs.Exact.{bind_some}
 use Rattle.cq_sql_expressions.proofs.Chains.{goes_on, stops}
 use Rattle.cq_sql_expressions.proofs.Tight.{joint_in, from_fits, ReadsTight}
+use Rattle.std.proofs.lemmas.Option.{some_pair_parts}
 
 -- the sign of a comparison stands for it
 comparison_found : (op : Comparison) → comparison_of (comparison_sign op) ≡ Some op
@@ -106,7 +107,7 @@ worded_only negated word test e = absurd cc
 worded_whole : (negated : Bool) (word : Keyword) (test : Test) (ts us : List Token) → ◌>>=◌ {A = Test} {B = Test × List Token} (worded negated word) (λ t. Some (t, ts)) ≡ Some (test, us) → not_tokens negated ++ tokens.Keyword word ∷ ts ≡ test_tokens test ++ us
 worded_whole negated word test ts us e =
     let b = bind_some (worded negated word) (λ t. Some (t, ts)) (test, us) e in
-    let p = parts_of b.0 test ts us b.2 in
+    let p = some_pair_parts b.0 test ts us b.2 in
     let first : not_tokens negated ++ tokens.Keyword word ∷ [] ≡ test_tokens test = worded_only negated word b.0 b.1 ∙ ap test_tokens p.0 in
     sym (append_assoc (not_tokens negated) (tokens.Keyword word ∷ []) ts) ∙ ap₂ (λ (vs ws : List Token). vs ++ ws) first p.1
 
@@ -114,14 +115,14 @@ worded_whole negated word test ts us e =
 pub test_only : (ts : List Token) (test : Test) (us : List Token) → test_at ts ≡ Some (test, us) → ts ≡ test_tokens test ++ us
 test_only (tokens.Symbol s ∷ ts) test us e =
     let b = bind_some (comparison_of s) (λ op. Some (tests.Compare op, ts)) (test, us) e in
-    let p = parts_of (tests.Compare b.0) test ts us b.2 in
+    let p = some_pair_parts (tests.Compare b.0) test ts us b.2 in
     let sign : tokens.Symbol s ∷ [] ≡ test_tokens test = ap (λ (x : Symbol). tokens.Symbol x ∷ []) (comparison_only s b.0 b.1) ∙ ap test_tokens p.0 in
     ap₂ (λ (vs ws : List Token). vs ++ ws) sign p.1
 test_only (tokens.Keyword keywords.Is ∷ tokens.Keyword keywords.Null ∷ ts) test us e =
-    let p = parts_of (tests.IsNull false) test ts us e in
+    let p = some_pair_parts (tests.IsNull false) test ts us e in
     ap₂ (λ (t : Test) (vs : List Token). test_tokens t ++ vs) p.0 p.1
 test_only (tokens.Keyword keywords.Is ∷ tokens.Keyword keywords.Not ∷ tokens.Keyword keywords.Null ∷ ts) test us e =
-    let p = parts_of (tests.IsNull true) test ts us e in
+    let p = some_pair_parts (tests.IsNull true) test ts us e in
     ap₂ (λ (t : Test) (vs : List Token). test_tokens t ++ vs) p.0 p.1
 test_only (tokens.Keyword keywords.Not ∷ tokens.Keyword word ∷ ts) test us e = worded_whole true word test ts us e
 test_only (tokens.Keyword word ∷ ts) test us e = worded_whole false word test ts us e

@@ -3,9 +3,8 @@ use Rattle.std.proofs.Common.{◌≡◌, ◌≢◌, ℕ, suc, ◌<◌, Bool, tru
 use Rattle.std.proofs.lemmas.List.{append-nil}
 use Rattle.cq_sql_language.specs.Characters.{is_quote, begins, doubled}
 use Rattle.cq_sql_language.specs.declared.token.Token.TheVariants as tokens
-use Rattle.cq_sql_tokens.proofs.Decisions.{byte_is_not}
 use Rattle.cq_sql_tokens.specs.Lexing.{onto, content_at, quoted_at}
-use Rattle.std.proofs.lemmas.Bool.{eqb-true}
+use Rattle.std.proofs.lemmas.Bool.{eqb-true, ne_eqb}
 
 -- what was read before stands before what is still read
 abbrev pub with_front : List ℕ → Option (List ℕ × List ℕ) → Option (List ℕ × List ℕ)
@@ -42,19 +41,19 @@ onto_is front b None = refl
 past_part : (part after : List ℕ) → HasNoQuote part → content_at false (part ++ 39 ∷ after) ≡ with_front part (content_at true after)
 past_part [] after h = sym (no_front (content_at true after))
 past_part (b ∷ bs) after h =
-    let first : is_quote b ≡ false = byte_is_not b 39 (h 0 (omega arith)) in
+    let first : is_quote b ≡ false = ne_eqb b 39 (h 0 (omega arith)) in
     rw first (ap (onto b) (past_part bs after (λ i lt. h (suc i) (omega arith))) ∙ onto_front b bs (content_at true after))
 
 never_ends : (bs : List ℕ) → HasNoQuote bs → content_at false bs ≡ None
 never_ends [] h = refl
 never_ends (b ∷ bs) h =
-    let first : is_quote b ≡ false = byte_is_not b 39 (h 0 (omega arith)) in
+    let first : is_quote b ≡ false = ne_eqb b 39 (h 0 (omega arith)) in
     rw first (ap (onto b) (never_ends bs (λ i lt. h (suc i) (omega arith))))
 
 stands_after : (after : List ℕ) → ((more : List ℕ) → after ≢ 39 ∷ more) → content_at true after ≡ Some ([], after)
 stands_after [] h = refl
 stands_after (b ∷ bs) h =
-    let first : is_quote b ≡ false = byte_is_not b 39 (λ e. h bs (ap (λ (x : ℕ). x ∷ bs) e)) in
+    let first : is_quote b ≡ false = ne_eqb b 39 (λ e. h bs (ap (λ (x : ℕ). x ∷ bs) e)) in
     rw first refl
 
 -- the quote behind a part ends the content, where no quote follows

@@ -10,12 +10,12 @@ use Rattle.cq_sql_language.specs.Characters.{is_blank, is_letter, is_digit, is_w
 use Rattle.cq_sql_language.specs.Lexemes.{Lexeme, blank, comment, word, digits, quoted, symbol, symbol_spelling, spelling, lengthens, Stands}
 use Rattle.cq_sql_language.specs.Tokens.{word_token, number_token}
 use Rattle.cq_sql_tokens.specs.Lexing.{◌>>=◌, content_at, quoted_at, word_at, number_at, symbol_at, sign_at, gap_at, token_at}
-use Rattle.cq_sql_tokens.proofs.Decisions.{either, is_true, both_true}
+use Rattle.cq_sql_tokens.proofs.Decisions.{either}
 use Rattle.cq_sql_tokens.proofs.Prefixes.{prefix_passes, prefix_stops, prefix_cons}
 use Rattle.cq_sql_tokens.proofs.Contents.{content_only}
 use Rattle.cq_sql_tokens.proofs.Spelled.{told, Found, found, letter_goes_on}
 use Rattle.cq_sql_tokens.proofs.Signs.{sign_only, spelling_is_ascii, IsSign}
-use Rattle.std.proofs.lemmas.Bool.{eqb-true}
+use Rattle.std.proofs.lemmas.Bool.{and_parts, eqb-true, not-false}
 use Rattle.std.proofs.lemmas.Option.{same_Some}
 
 -- a lexeme that stands in front and makes this token, or none
@@ -39,15 +39,15 @@ same_found t u r s e = (ap (token_of t) e, ap rest_of e)
 
 line_ends : (rest : List ℕ) → begins (λ c. not (c == 10)) rest ≡ false → is_end_of_line rest ≡ true
 line_ends [] e = refl
-line_ends (b ∷ bs) e = is_true (b == 10) e
+line_ends (b ∷ bs) e = not-false (b == 10) e
 
 dash_goes_on : (b : ℕ) → is_dash b ≡ true → not (b == 10) ≡ true
 dash_goes_on b e = grind (arith, nat_tests)
 
 comment_only : (b : ℕ) (bs rest : List ℕ) → (is_dash b && begins is_dash bs) ≡ true → drop (prefix_len (λ c. not (c == 10)) (b ∷ bs)) (b ∷ bs) ≡ rest → Fronts (b ∷ bs) None rest
-comment_only b [] rest here is = let dashes = both_true (is_dash b) false here in absurd (cc dashes.1)
+comment_only b [] rest here is = let dashes = and_parts (is_dash b) false here in absurd (cc dashes.1)
 comment_only b (c ∷ cs) rest here is =
-    let dashes = both_true (is_dash b) (is_dash c) here in
+    let dashes = and_parts (is_dash b) (is_dash c) here in
     let goes : ℕ → Bool = λ x. not (x == 10) in
     let len = prefix_cons goes b (c ∷ cs) (dash_goes_on b dashes.0) ∙ ap suc (prefix_cons goes c cs (dash_goes_on c dashes.1)) in
     let after : drop (prefix_len goes cs) cs ≡ rest = ap (λ (n : ℕ). drop n (b ∷ c ∷ cs)) (sym len) ∙ is in

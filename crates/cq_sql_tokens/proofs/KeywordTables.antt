@@ -4,7 +4,7 @@ use Rattle.std.specs.Prelude.{IsTrue}
 use Rattle.std.specs.List.{filter, find, list_all}
 use Rattle.std.specs.Char.{to_ascii_lowercase}
 use Rattle.std.specs.Cmp.Lexicographic.{bytes_decides}
-use Rattle.std.proofs.lemmas.Bool.{false≢true}
+use Rattle.std.proofs.lemmas.Bool.{and_parts, cond-false, false_from_ne_true, false≢true}
 use Rattle.std.proofs.lemmas.Bool.Decides.{same_from_decides, nat_tests}
 use Rattle.std.proofs.lemmas.List.{at_drop_more, length-map}
 use denote.Ref.{Bor}
@@ -12,7 +12,6 @@ use Rattle.cq_values.specs.Texts.{is_text}
 use Rattle.cq_sql_language.specs.declared.token.Keyword.{Keyword}
 use Rattle.cq_sql_language.specs.Keywords.{all_keywords, keyword_of, keyword_spelling}
 use Rattle.cq_sql_tokens.specs.Lexing.{found_in}
-use Rattle.cq_sql_tokens.proofs.Decisions.{both_true, passed}
 
 abbrev Entry : Type 0
 Entry = Keyword × Bor (List ℕ)
@@ -50,15 +49,11 @@ spelled_len word n k len e =
     let same : length (keyword_spelling k) ≡ length word = ap (λ (xs : List ℕ). length xs) ((bytes_decides (keyword_spelling k) word).0 e) in
     grind (arith, nat_tests)
 
-never : (v : Bool) → (v ≡ true → ⊥) → v ≡ false
-never true h = absurd (h refl)
-never false h = refl
-
 -- one keyword more, which has the length of the word or is not the word
 one_more : (test : Keyword → Bool) (k : Keyword) (some all : List Keyword) (l : Bool) → (test k ≡ true → l ≡ true) → find test some ≡ find test all
     → find test (cond l (k ∷ some) some) ≡ find test (k ∷ all)
 one_more test k some all true only e = ap (λ (r : Option Keyword). cond (test k) (Some k) r) e
-one_more test k some all false only e = e ∙ sym (passed (test k) (Some k) (find test all) (never (test k) (λ h. false≢true (only h))))
+one_more test k some all false only e = e ∙ sym (cond-false (test k) (Some k) (find test all) (false_from_ne_true (test k) (λ h. false≢true (only h))))
 
 -- a word is looked for among the keywords of its length
 found_by_len : (word : List ℕ) (n : ℕ) → length word ≡ n → (ks : List Keyword) → find (spells word) (filter (has_len n) ks) ≡ find (spells word) ks
@@ -77,14 +72,14 @@ has_letters k = nat_le 2 (length (keyword_spelling k)) && nat_le (length (keywor
 not_spelled : (word : List ℕ) (k : Keyword) → has_letters k ≡ true → (2 ≤ length word → length word ≤ 8 → ⊥) → spells word k ≡ true → ⊥
 not_spelled word k letters other e =
     let same : length (keyword_spelling k) ≡ length word = ap (λ (xs : List ℕ). length xs) ((bytes_decides (keyword_spelling k) word).0 e) in
-    let parts = both_true (nat_le 2 (length (keyword_spelling k))) (nat_le (length (keyword_spelling k)) 8) letters in
+    let parts = and_parts (nat_le 2 (length (keyword_spelling k))) (nat_le (length (keyword_spelling k)) 8) letters in
     other (grind (arith, nat_tests)) (grind (arith, nat_tests))
 
 none_spelled : (word : List ℕ) (ks : List Keyword) → list_all has_letters ks ≡ true → (2 ≤ length word → length word ≤ 8 → ⊥) → find (spells word) ks ≡ None
 none_spelled word [] letters other = refl
 none_spelled word (k ∷ ks) letters other =
-    let parts = both_true (has_letters k) (list_all has_letters ks) letters in
-    passed (spells word k) (Some k) (find (spells word) ks) (never (spells word k) (not_spelled word k parts.0 other)) ∙ none_spelled word ks parts.1 other
+    let parts = and_parts (has_letters k) (list_all has_letters ks) letters in
+    cond-false (spells word k) (Some k) (find (spells word) ks) (false_from_ne_true (spells word k) (not_spelled word k parts.0 other)) ∙ none_spelled word ks parts.1 other
 
 -- so a word of another length is no keyword
 pub no_keyword : (word : List ℕ) → (2 ≤ length word → length word ≤ 8 → ⊥) → None ≡ keyword_of (map to_ascii_lowercase word)

@@ -8,10 +8,10 @@ use Rattle.cq_sql_language.specs.declared.token.Token.TheVariants as tokens
 use Rattle.cq_sql_language.specs.Characters.{is_blank, is_letter, is_digit, is_word_byte, is_dash, begins}
 use Rattle.cq_sql_language.specs.Tokens.{decimal}
 use Rattle.cq_sql_tokens.specs.Lexing.{gap_at, token_at, word_at, number_at}
-use Rattle.cq_sql_tokens.proofs.Decisions.{taken, passed, first_false}
 use Rattle.cq_sql_tokens.specs.Runs.{IsNumberAt}
 use Rattle.cq_sql_tokens.proofs.Prefixes.{prefix_of_first}
 use Rattle.cq_sql_tokens.proofs.Spelled.{found}
+use Rattle.std.proofs.lemmas.Bool.{and_left, cond-false, cond-true}
 
 -- a digit is no blank, no dash and no letter
 digit_not_blank : (b : ℕ) → is_digit b ≡ true → is_blank b ≡ false
@@ -28,7 +28,7 @@ pub number_no_gap : (text : List ℕ) → begins is_digit text ≡ true → gap_
 unfolding gap_at
 number_no_gap [] e = absurd cc
 number_no_gap (b ∷ bs) e =
-    passed (is_blank b) _ _ (digit_not_blank b e) ∙ passed (is_dash b && begins is_dash bs) _ _ (first_false (is_dash b) (begins is_dash bs) (digit_not_dash b e))
+    cond-false (is_blank b) _ _ (digit_not_blank b e) ∙ cond-false (is_dash b && begins is_dash bs) _ _ (and_left (is_dash b) (begins is_dash bs) (digit_not_dash b e))
 
 -- a digit stands for a number up to 9
 pub digit_is_small : (b n : ℕ) → is_digit b ≡ true → n ≡ b - 48 → n ≤ 9
@@ -59,7 +59,7 @@ small_number_token (b ∷ bs) rest n len e len_is n_is small rest_is stops =
     let ends : begins is_word_byte (drop (prefix_len is_digit text) text) ≡ false = rw (← len_is, ← rest_is) stops in
     let value : min (decimal (take (prefix_len is_digit text) text)) (2 ^ 128 - 1) ≡ n = rw (← len_is, ← n_is) (min_small n small) in
     let after : drop (prefix_len is_digit text) text ≡ rest = rw (← len_is) (sym rest_is) in
-    passed (is_letter b) (word_at text) _ (digit_not_letter b e)
-    ∙ taken (is_digit b) (number_at text) _ e
-    ∙ passed (begins is_word_byte (drop (prefix_len is_digit text) text)) None _ ends
+    cond-false (is_letter b) (word_at text) _ (digit_not_letter b e)
+    ∙ cond-true (is_digit b) (number_at text) _ e
+    ∙ cond-false (begins is_word_byte (drop (prefix_len is_digit text) text)) None _ ends
     ∙ ap₂ (λ (m : ℕ) (r : List ℕ). found (tokens.Number m) r) value after

@@ -4,7 +4,7 @@ use Rattle.std.proofs.Math.Numerals.{one-add}
 use Rattle.std.proofs.lemmas.List.{take_at, drop_at}
 use Rattle.std.specs.List.{prefix_len, list_all}
 use Rattle.cq_sql_language.specs.Characters.{begins}
-use Rattle.cq_sql_tokens.proofs.Decisions.{both_true}
+use Rattle.std.proofs.lemmas.Bool.{and_parts}
 
 all_here : (p : ℕ → Bool) (b : ℕ) (bs : List ℕ) (v : Bool) → p b ≡ v → list_all p (take (prefix_len p bs) bs) ≡ true → list_all p (take (cond v (1 + prefix_len p bs) 0) (b ∷ bs)) ≡ true
 all_here p b bs true e h = rw (one-add, e) h
@@ -36,7 +36,7 @@ none_in_front p (b ∷ bs) h = rw h refl
 pub prefix_found : (p : ℕ → Bool) (front rest : List ℕ) → list_all p front ≡ true → begins p rest ≡ false → prefix_len p (front ++ rest) ≡ length front
 prefix_found p [] rest all stops = none_in_front p rest stops
 prefix_found p (b ∷ bs) rest all stops =
-    let parts = both_true (p b) (list_all p bs) all in
+    let parts = and_parts (p b) (list_all p bs) all in
     prefix_cons p b (bs ++ rest) parts.0 ∙ ap suc (prefix_found p bs rest parts.1 stops)
 
 -- the cut behind such a part

@@ -7,9 +7,9 @@ use Rattle.cq_sql_language.specs.declared.token.Symbol.TheVariants as symbols
 use Rattle.cq_sql_language.specs.Characters.{begins, is_blank, is_dash}
 use Rattle.cq_sql_language.specs.Lexemes.{symbol_spelling, lengthens}
 use Rattle.cq_sql_tokens.specs.Lexing.{symbol_at, less_at, greater_at, gap_at}
-use Rattle.cq_sql_tokens.proofs.Decisions.{either, both_false, second_false, neither}
+use Rattle.cq_sql_tokens.proofs.Decisions.{either, second_false}
 use Rattle.cq_sql_tokens.proofs.Boundaries.{after_ascii_part}
-use Rattle.std.proofs.lemmas.Bool.{eqb-true}
+use Rattle.std.proofs.lemmas.Bool.{eqb-true, or_from, or_parts}
 
 abbrev Sign : Type 0
 Sign = Symbol × ℕ
@@ -97,7 +97,7 @@ less_is (b ∷ bs) t n e =
     (λ here is. moved (60 ∷ b ∷ bs) symbols.NotEqual t 2 n (ap (λ (r : Sign). Some r) is ∙ e) (subst (λ (x : ℕ). IsSign (60 ∷ x ∷ bs) symbols.NotEqual 2) (sym (eqb-true b 62 here)) (double 60 62 bs symbols.NotEqual refl (none_longer bs))))
     (λ other more. either (b == 61) (symbols.LessOrEqual, 2) (symbols.Less, 1) (less_at (b ∷ bs)) more
     (λ here is. moved (60 ∷ b ∷ bs) symbols.LessOrEqual t 2 n (ap (λ (r : Sign). Some r) is ∙ e) (subst (λ (x : ℕ). IsSign (60 ∷ x ∷ bs) symbols.LessOrEqual 2) (sym (eqb-true b 61 here)) (double 60 61 bs symbols.LessOrEqual refl (none_longer bs))))
-    (λ another is. moved (60 ∷ b ∷ bs) symbols.Less t 1 n (ap (λ (r : Sign). Some r) is ∙ e) (single 60 60 (b ∷ bs) symbols.Less refl refl (λ _. neither (b == 62) (b == 61) other another))))
+    (λ another is. moved (60 ∷ b ∷ bs) symbols.Less t 1 n (ap (λ (r : Sign). Some r) is ∙ e) (single 60 60 (b ∷ bs) symbols.Less refl refl (λ _. or_from (b == 62) (b == 61) other another))))
 
 greater_is : (bs : List ℕ) (t : Symbol) (n : ℕ) → Some (greater_at bs) ≡ sign t n → IsSign (62 ∷ bs) t n
 greater_is [] t n e = moved (62 ∷ []) symbols.Greater t 1 n e (single 62 62 [] symbols.Greater refl refl (λ _. refl))
@@ -129,7 +129,7 @@ after_sign text s n utf8 e =
     subst (IsCharBoundary text) (sym read.len) (after_ascii_part text (symbol_spelling s) (drop n text) read.spelling (spelling_is_ascii s).0 utf8)
 
 less_alone : (b : ℕ) (bs : List ℕ) → ((b == 62) || (b == 61)) ≡ false → less_at (b ∷ bs) ≡ (symbols.Less, 1)
-less_alone b bs h = let parts = both_false (b == 62) (b == 61) h in rw (parts.0, parts.1) refl
+less_alone b bs h = let parts = or_parts (b == 62) (b == 61) h in rw (parts.0, parts.1) refl
 
 -- a symbol that is spelled is read
 pub sign_found : (s : Symbol) (rest : List ℕ) → begins (lengthens s) rest ≡ false → symbol_at (symbol_spelling s ++ rest) ≡ Some (s, length (symbol_spelling s))

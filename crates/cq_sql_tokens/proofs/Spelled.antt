@@ -11,11 +11,10 @@ use Rattle.cq_sql_language.specs.Characters.{is_blank, is_letter, is_digit, is_w
 use Rattle.cq_sql_language.specs.Lexemes.{Lexeme, blank, comment, word, digits, quoted, symbol, symbol_spelling, spelling, lengthens, Stands}
 use Rattle.cq_sql_language.specs.Tokens.{word_token, number_token}
 use Rattle.cq_sql_tokens.specs.Lexing.{◌>>=◌, content_at, word_at, number_at, sign_at, gap_at, token_at}
-use Rattle.cq_sql_tokens.proofs.Decisions.{taken, passed, first_false}
 use Rattle.cq_sql_tokens.proofs.Prefixes.{prefix_cut}
 use Rattle.cq_sql_tokens.proofs.Contents.{content_found, is_quoted}
 use Rattle.cq_sql_tokens.proofs.Signs.{sign_found}
-use Rattle.std.proofs.lemmas.Bool.{not-true}
+use Rattle.std.proofs.lemmas.Bool.{and_left, cond-false, cond-true, not-true}
 
 -- the token that a lexeme makes, if it makes one
 abbrev pub told : Lexeme → Option Token
@@ -50,20 +49,20 @@ at_none text e f = rw (e, f) refl
 
 no_gap : (b : ℕ) (bs : List ℕ) → is_blank b ≡ false → is_dash b ≡ false → gap_at (b ∷ bs) ≡ None
 unfolding gap_at
-no_gap b bs e f = passed (is_blank b) _ _ e ∙ passed (is_dash b && begins is_dash bs) _ _ (first_false (is_dash b) (begins is_dash bs) f)
+no_gap b bs e f = cond-false (is_blank b) _ _ e ∙ cond-false (is_dash b && begins is_dash bs) _ _ (and_left (is_dash b) (begins is_dash bs) f)
 
 token_word : (b : ℕ) (bs : List ℕ) → is_letter b ≡ true → token_at (b ∷ bs) ≡ word_at (b ∷ bs)
 unfolding token_at
-token_word b bs e = taken (is_letter b) _ _ e
+token_word b bs e = cond-true (is_letter b) _ _ e
 
 token_number : (b : ℕ) (bs : List ℕ) → is_letter b ≡ false → is_digit b ≡ true → token_at (b ∷ bs) ≡ number_at (b ∷ bs)
 unfolding token_at
-token_number b bs e f = passed (is_letter b) _ _ e ∙ taken (is_digit b) _ _ f
+token_number b bs e f = cond-false (is_letter b) _ _ e ∙ cond-true (is_digit b) _ _ f
 
 number_here : (text : List ℕ) → begins is_word_byte (drop (prefix_len is_digit text) text) ≡ false
     → number_at text ≡ Some (number_token (take (prefix_len is_digit text) text), drop (prefix_len is_digit text) text)
 unfolding number_at
-number_here text e = passed (begins is_word_byte (drop (prefix_len is_digit text) text)) None _ e
+number_here text e = cond-false (begins is_word_byte (drop (prefix_len is_digit text) text)) None _ e
 
 -- a lexeme that stands in front is what the reader finds
 
@@ -84,7 +83,7 @@ letter_goes_on b e = rw e refl
 
 blank_found : (b : ℕ) (rest : List ℕ) → is_blank b ≡ true → front_at (b ∷ rest) ≡ Some (None, rest)
 unfolding gap_at
-blank_found b rest e = at_gap (b ∷ rest) rest (taken (is_blank b) _ _ e)
+blank_found b rest e = at_gap (b ∷ rest) rest (cond-true (is_blank b) _ _ e)
 
 no_line_end : (rest : List ℕ) → is_end_of_line rest ≡ true → begins (λ c. not (c == 10)) rest ≡ false
 no_line_end [] e = refl
@@ -136,7 +135,7 @@ sign_first symbols.LessOrEqual rest e = (refl, refl)
 sign_first symbols.Greater rest e = (refl, refl)
 sign_first symbols.GreaterOrEqual rest e = (refl, refl)
 sign_first symbols.Plus rest e = (refl, refl)
-sign_first symbols.Minus rest e = (passed (begins is_dash rest) _ None e, refl)
+sign_first symbols.Minus rest e = (cond-false (begins is_dash rest) _ None e, refl)
 sign_first symbols.Star rest e = (refl, refl)
 
 symbol_found : (s : Symbol) (rest : List ℕ) → begins (lengthens s) rest ≡ false → front_at (symbol_spelling s ++ rest) ≡ Some (Some (tokens.Symbol s), rest)

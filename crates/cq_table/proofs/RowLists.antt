@@ -7,7 +7,7 @@ use Rattle.cq_values.specs.Order.{row_cmp}
 use Rattle.cq_values.specs.Value.{Row}
 use Rattle.cq_model_bags.specs.Canonical.{bag_of, with_row, sorted_by}
 use Rattle.cq_model_bags.proofs.Totals.{by_test}
-use Rattle.cq_model_bags.proofs.Lists.{all-both, all-filter, all-of}
+use Rattle.cq_model_bags.proofs.Lists.{all-both, all-of}
 use Rattle.cq_model_bags.proofs.Canonicals.{all-with_row}
 
 module _ (P : Row → Type 0) where

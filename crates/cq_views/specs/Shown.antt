@@ -1,24 +1,16 @@
 -- What a view shows: the bag of its query, or that a total is too large to show.
-use Rattle.std.specs.Prelude.{◌≤◌, List}
+use Rattle.std.specs.Prelude.{List}
 use Rattle.cq_values.specs.Value.{Row}
 use Rattle.cq_model_bags.specs.Bag.{SameBag, once_each}
 use Rattle.cq_views.specs.State.{StandsFor}
 use Rattle.cq_views.specs.declared.kept_view.KeptView.{KeptView}
 use Rattle.cq_model.specs.Meaning.{MeaningInRange, Tables, meaning}
-use Rattle.cq_model.specs.Sizes.{count_size}
-use Rattle.cq_model.specs.Views.{sources_of}
 use Rattle.cq_views_columns.specs.Narrow.{HaveColumns}
-use Rattle.cq_views_state.specs.Query.{CanBeKept}
-use Rattle.cq_views_state.specs.State.{AreBags, HoldStored, crossed}
+use Rattle.cq_views_state.specs.Shown.{CanShowBags}
 
 -- the view stands for bags of stored rows, and a join of them has not more rows than can be counted
-pub record CanShow (v : KeptView) : Type 0 where
-  pub can : CanBeKept v.query
-  pub tables : Tables
-  pub stands : StandsFor v tables
-  pub few : crossed tables (sources_of v.query) ≤ count_size
-  pub stored : HoldStored v.query tables
-  pub bags : AreBags tables
+abbrev pub CanShow : KeptView → Type 0
+CanShow v = CanShowBags v.query (StandsFor v)
 
 -- bags that the view stands for, whose rows have as many columns as it was told
 pub record Suits (v : KeptView) (tables : Tables) : Type 0 where

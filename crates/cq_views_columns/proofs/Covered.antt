@@ -1,7 +1,7 @@
 -- The columns that a query reads of its sources are all that its joins, WHERE, groups and items read.
-use Rattle.std.proofs.Common.{◌≡◌, ℕ, ◌+◌, ◌<◌, ◌==◌, Bool, true, false, ◌&&◌, ◌||◌, nat_lt, List, [], ◌∷◌, map, refl, sym, ◌∙◌, ap, subst, arith}
+use Rattle.std.proofs.Common.{◌≡◌, ℕ, ◌+◌, ◌<◌, ◌==◌, Bool, true, ◌&&◌, ◌||◌, nat_lt, List, [], ◌∷◌, map, refl, sym, ◌∙◌, ap, subst, arith}
 use Rattle.std.proofs.lemmas.Bool.Decides.{nat_tests}
-use Rattle.std.proofs.lemmas.Bool.{eq-eqb, or_left, or_right}
+use Rattle.std.proofs.lemmas.Bool.{and_from, eq-eqb, or_left, or_right}
 use Rattle.std.specs.List.{AllByRecursion, list_any}
 use Rattle.cq_model_bags.proofs.Totals.{by_test}
 use Rattle.cq_model.specs.Sources.{same_source}
@@ -16,11 +16,6 @@ use Rattle.cq_views_columns.specs.Reads.{is_read, reads_filter, reads_from, read
 use Rattle.cq_views_columns.proofs.Joined.{AreCovered, Covers, IsCovered}
 use Rattle.cq_views_columns.proofs.Rows.{range-below, range-has}
 use Rattle.cq_model.proofs.SameSources.{itself, only_itself}
-
--- what holds of each of two holds of both
-both-hold : (a b : Bool) → a ≡ true → b ≡ true → a && b ≡ true
-both-hold true b h k = k
-both-hold false b h k = absurd (cc)
 
 -- whether the source is one of these
 abbrev is_among : List Source → Source → Bool
@@ -81,10 +76,10 @@ module _ (q : Query) (width : Source → ℕ) where
       let there = among s (or_left (same_source s s) (is_among later s) (itself s)) in (
         source-covers n s there (λ c low h.
             let here : same_source s s && (nat_lt c (width s) && reads_joined q (n + c)) ≡ true =
-            both-hold (same_source s s) (nat_lt c (width s) && reads_joined q (n + c)) (itself s) (both-hold (nat_lt c (width s)) (reads_joined q (n + c)) (grind (arith, nat_tests, low)) h) in
+            and_from (same_source s s) (nat_lt c (width s) && reads_joined q (n + c)) (itself s) (and_from (nat_lt c (width s)) (reads_joined q (n + c)) (grind (arith, nat_tests, low)) h) in
             from s c (or_left (same_source s s && (nat_lt c (width s) && reads_joined q (n + c))) (reads_from q s c (n + width s) later (map width later)) here)),
         on-covered s there j.on (λ i h. left i (or_left (reads_left i j) (list_any (reads_left i) js) h))
-            (λ c h. right s c (or_left (reads_right s c j) (list_any (reads_right s c) js) (both-hold (same_source s s) (list_any (λ e. e.right == c) j.on) (itself s) h))),
+            (λ c h. right s c (or_left (reads_right s c j) (list_any (reads_right s c) js) (and_from (same_source s s) (list_any (λ e. e.right == c) j.on) (itself s) h))),
         joins-covered (n + width s) js (λ t h. among t (or_right (same_source s t) (is_among later t) h))
             (λ t c h. from t c (or_right (same_source s t && (nat_lt c (width s) && reads_joined q (n + c))) (reads_from q t c (n + width s) later (map width later)) h))
             (λ i h. left i (or_right (reads_left i j) (list_any (reads_left i) js) h))
@@ -98,7 +93,7 @@ module _ (q : Query) (width : Source → ℕ) where
       let later = map (λ k. k.source) q.joins in
       source-covers 0 s (or_left (same_source s s) (is_among later s) (itself s)) (λ c low h.
       let here : same_source s s && (nat_lt c (width s) && reads_joined q (0 + c)) ≡ true =
-      both-hold (same_source s s) (nat_lt c (width s) && reads_joined q (0 + c)) (itself s) (both-hold (nat_lt c (width s)) (reads_joined q (0 + c)) (grind (arith, nat_tests, low)) h) in
+      and_from (same_source s s) (nat_lt c (width s) && reads_joined q (0 + c)) (itself s) (and_from (nat_lt c (width s)) (reads_joined q (0 + c)) (grind (arith, nat_tests, low)) h) in
       or_left (same_source s s && (nat_lt c (width s) && reads_joined q (0 + c))) (reads_from q s c (0 + width s) later (map width later)) here)
 
   pub all-covered : AreCovered (reads_joined q) columns width (0 + width q.first) q.joins

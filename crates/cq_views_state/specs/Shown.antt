@@ -82,14 +82,18 @@ abbrev pub TellsOutOfRange : Query → Stored → ShowFault → Type 0
 TellsOutOfRange query last fault = fault ≡ SumOutOfRange → ShowsOutOfRange query last
 
 -- ---- views
--- the view stands for bags of stored rows, and a join of them has not more rows than can be counted
-pub record CanShow (v : ViewState) : Type 0 where
-  pub can : CanBeKept v.query
+-- a view of the query stands for bags of stored rows, and a join of them has not more rows than can be counted
+pub record CanShowBags (query : Query) (standing : Tables → Type 0) : Type 0 where
+  pub can : CanBeKept query
   pub tables : Tables
-  pub stands : StandsFor v tables
-  pub few : crossed tables (sources_of v.query) ≤ count_size
-  pub stored : HoldStored v.query tables
+  pub stands : standing tables
+  pub few : crossed tables (sources_of query) ≤ count_size
+  pub stored : HoldStored query tables
   pub bags : AreBags tables
+
+-- the view stands for such bags
+abbrev pub CanShow : ViewState → Type 0
+CanShow v = CanShowBags v.query (StandsFor v)
 
 -- rows are the bag of a view's query on each tables that it stands for
 abbrev pub AreRowsOf : ViewState → List Row → Type 0

@@ -1,9 +1,10 @@
 use Rattle.std.proofs.Common.{sym}
 use Rattle.cq_model.specs.Own.{whole}
 use Rattle.cq_model.specs.Trees.{cond_of}
-use Rattle.cq_plan.proofs.Asked.{ask-and, ask-next, ask-or, ask-pushed, ask-same, on-ok, or-of-one, own-same}
+use Rattle.cq_plan.proofs.Asked.{ask-and, ask-next, ask-or, ask-pushed, ask-same, or-of-one, own-same}
 use Rattle.cq_plan.proofs.Owned.{first-is-part, later-is-part, own-through}
 use Rattle.cq_plan.proofs.own.+add_own.Goals as goal
+use Rattle.std.proofs.lemmas.Result.{on_ok_weaker}
 
 pub returns-then-tests_only-clause-all : goal.returns-then-tests_only-clause-all
 returns-then-tests_only-clause-all t c = ask-pushed c.args.before c.args.wide c.args.tree c.args.own.now.items c.push.new.self.items c.in_ok-push.ensures.items
@@ -30,13 +31,13 @@ returns-after-loop-part-clause-all t c = ask-and c.args.before c.args.wide c.arg
     c.args.own.now.items c.add_own.new.own.items c.loop-part.own.items c.in-And.is c.deref.ensures c.deref-part-items.ensures.value c.loop-part-test.false c.in_ok-add_own-in-And.ensures.all c.loop-part.invariant
 
 pub returns-then-is_empty-clause-own : goal.returns-then-is_empty-clause-own
-returns-then-is_empty-clause-own t c = on-ok c.add_own-then-is_empty.result
+returns-then-is_empty-clause-own t c = on_ok_weaker c.add_own-then-is_empty.result
     (own-same c.args.before c.args.wide c.deref-then-is_empty.result.now c.args.tree.now c.args.own.now.items c.add_own-then-is_empty.new.own.items
     (or-of-one c.args.before c.args.wide c.args.tree.now c.in-Or.first c.in-Or.rest c.deref-then-is_empty.result.now c.in-Or.is c.deref-then-is_empty.ensures c.if-is_empty.ensures))
     c.add_own-then-is_empty.ensures.own
 
 pub returns-then-is_empty-clause-all : goal.returns-then-is_empty-clause-all
-returns-then-is_empty-clause-all t c = on-ok c.add_own-then-is_empty.result
+returns-then-is_empty-clause-all t c = on_ok_weaker c.add_own-then-is_empty.result
     (ask-same c.args.before c.args.wide c.deref-then-is_empty.result.now c.args.tree.now c.args.own.now.items c.add_own-then-is_empty.new.own.items
     (or-of-one c.args.before c.args.wide c.args.tree.now c.in-Or.first c.in-Or.rest c.deref-then-is_empty.result.now c.in-Or.is c.deref-then-is_empty.ensures c.if-is_empty.ensures))
     c.add_own-then-is_empty.ensures.all

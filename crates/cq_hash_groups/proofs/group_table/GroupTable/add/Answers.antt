@@ -1,5 +1,5 @@
 use Rattle.std.proofs.Common.{◌≡◌, ℕ, ◌+◌, ◌++◌, List, drop, map, length, rules, arith, sym, ◌∙◌, ap, ap₂, subst}
-use Rattle.std.proofs.lemmas.List.{length-append, length-map}
+use Rattle.std.proofs.lemmas.List.{length-append, length-map, take_at}
 use Rattle.std.proofs.lemmas.Result.{IfOk-weaker}
 use Rattle.cq_values.specs.Value.{Row}
 use Rattle.cq_model_bags.specs.Bag.{firsts}
@@ -10,7 +10,6 @@ use Rattle.cq_hash_groups.specs.Groups.{AreAllWithin, Holds, StoredGroups, all_a
 use Rattle.cq_hash_groups.specs.Puts.{AreNumbers}
 use Rattle.cq_hash_groups.proofs.Holding.{slots-hold}
 use Rattle.cq_hash_groups.proofs.KeysMet.{keys-append}
-use Rattle.cq_hash_groups.proofs.Putting.{take-written}
 use Rattle.cq_hash_groups.proofs.group_table.GroupTable.add.Goals as goal
 
 -- lists with one list of images are of one length
@@ -23,7 +22,7 @@ invariant_of-self-2 c =
     let count = c.self.inside.count in
     let columns = group_columns c.self.inside.keys.now in
     let long : length new ≡ c.self.inside.slots.len = first_of (search rules, omega arith, grind arith) in
-    let written = take-written new (drop (length new) c.self.inside.slots.items) c.self.inside.slots.len long in
+    let written = take_at new (drop (length new) c.self.inside.slots.items) c.self.inside.slots.len long in
     let before : c.self.inside.slots.items ≡ c.deref_mut.result.now = first_of (search rules, grind arith) in
     let numbers : length c.deref.result.now ≡ c.len.result =
     ap length c.deref.ensures.value ∙ same-long (key_at c.number_rows.new.found.keys) (key_of columns) c.number_rows.new.numbers.items c.args.scan.now c.in_ok-number_rows.ensures.numbers ∙ sym c.len.ensures.len in
@@ -44,7 +43,7 @@ returns-clause-holds c =
     let next = c.number_rows.new.found.keys in
     let numbers = c.deref.result.now in
     let long : length new ≡ c.self.inside.slots.len = first_of (search rules, omega arith, grind arith) in
-    let written = take-written new (drop (length new) c.self.inside.slots.items) c.self.inside.slots.len long in
+    let written = take_at new (drop (length new) c.self.inside.slots.items) c.self.inside.slots.len long in
     let before : c.self.inside.slots.items ≡ c.deref_mut.result.now = first_of (search rules, grind arith) in
     let are : map (key_at next) numbers ≡ map (key_of columns) scan =
     subst (λ (ns : List ℕ). map (key_at next) ns ≡ map (key_of columns) scan) (sym c.deref.ensures.value) c.in_ok-number_rows.ensures.numbers in
