@@ -4,7 +4,7 @@ ghost use Rattle.cq_sql_expressions.specs.Gives.{Gives};
 ghost use Rattle.cq_sql.specs.Queries.{equality_at, joined_source_at, joins_at};
 
 use crate::names::ColumnNames;
-use crate::source::Sources;
+use crate::source::FromSources;
 use cq_sql_expressions::{
     Lead, Readable, SqlFault, expect_keyword, expect_symbol, list_of, more_of,
 };
@@ -12,7 +12,7 @@ use cq_sql_language::{JoinedSource, Keyword, OnEquality, Symbol, Token};
 use cq_values::Seq;
 use std::alloc::Global;
 
-pub struct Equalities;
+struct Equalities;
 
 impl Readable for Equalities {
     type Item = OnEquality;
@@ -29,7 +29,7 @@ impl Readable for Equalities {
 }
 
 /// What follows JOIN.
-pub struct JoinedSources;
+struct JoinedSources;
 
 impl Readable for JoinedSources {
     type Item = JoinedSource;
@@ -38,7 +38,7 @@ impl Readable for JoinedSources {
 
     #[tactic(auto, unfolding(crate::specs::Queries::joined_source_at))]
     fn read(alloc: Global, tokens: &[Token]) -> Result<(JoinedSource, &[Token]), SqlFault> {
-        let (source, rest) = Sources::read(alloc, tokens)?;
+        let (source, rest) = FromSources::read(alloc, tokens)?;
         let rest = expect_keyword(Keyword::On, rest)?;
         let (on, rest) = list_of::<Equalities>(alloc, Lead::And, rest)?;
         Ok((JoinedSource { source, on }, rest))

@@ -7,7 +7,7 @@ ghost use Rattle.cq_sql.specs.Queries.{distinct_at, query_at, query_of};
 use crate::joins::joins_at;
 use crate::later::{LaterClauses, later_at};
 use crate::select_item::SelectItems;
-use crate::source::Sources;
+use crate::source::FromSources;
 use cq_sql_expressions::{Lead, Readable, SqlFault, expect_keyword, list_of};
 use cq_sql_language::{FromSource, JoinedSource, Keyword, Select, SelectItem, Statement, Token};
 use cq_values::Seq;
@@ -65,7 +65,7 @@ impl Readable for Queries {
         let (is_distinct, rest) = distinct_at(rest);
         let (items, rest) = list_of::<SelectItems>(alloc, Lead::Comma, rest)?;
         let rest = expect_keyword(Keyword::From, rest)?;
-        let (first, rest) = Sources::read(alloc, rest)?;
+        let (first, rest) = FromSources::read(alloc, rest)?;
         let (joins, rest) = joins_at(alloc, rest)?;
         let (later, rest) = later_at(alloc, rest)?;
         let query = query_of(is_distinct, items, first, joins, later);

@@ -20,9 +20,9 @@ fn known_as_at(alloc: Global, tokens: &[Token]) -> Result<(Option<Text>, &[Token
     }
 }
 
-pub struct Sources;
+pub struct FromSources;
 
-impl Readable for Sources {
+impl Readable for FromSources {
     type Item = FromSource;
 
     ghost reads = { source_at };

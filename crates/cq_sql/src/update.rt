@@ -45,7 +45,7 @@ pub fn delete_at(alloc: Global, tokens: &[Token]) -> Result<(Statement, &[Token]
     Ok((Statement::Delete { table, condition }, rest))
 }
 
-pub struct SetClauses;
+struct SetClauses;
 
 impl Readable for SetClauses {
     type Item = SetClause;

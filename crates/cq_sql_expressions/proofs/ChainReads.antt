@@ -10,11 +10,11 @@ use Rattle.cq_sql_expressions.proofs.Chains.{goes_on, breaks, stops, runs_out}
 use Rattle.cq_sql_expressions.proofs.Tight.{joint, joint_in, Fits, ReadsTight}
 use Rattle.std.proofs.lemmas.Option.{some_pair_parts}
 
--- one step of a chain, in its own words: what was read before, the link, and the part behind it
+-- one step of a chain, in its own words: what was read before, the separator, and the part behind it
 abbrev pub Step : Type 0
 Step = Written → List Token → Option (Option (Written × List Token))
 
--- what a link and the part behind it make of what was read before
+-- what a separator and the part behind it make of what was read before
 abbrev pub linked : {L : Type 0} → (L → Written → Written → Written) → Reader Written → L → Written → List Token → Option (Written × List Token)
 linked make part l w us = part us >>= λ r. Some (make l w r.0, r.1)
 
@@ -33,7 +33,7 @@ abbrev pub read_chain : Reader Written → Step → Reader Written
 read_chain part next ts = part ts >>= λ r. chain_from next (length r.1) r.0 r.1
 
 module _ (size level : ℕ) {L : Type 0} (token_of : L → Token) (make : L → Written → Written → Written) (part : Reader Written) (next : Step) (reads : ReadsTight size (suc level) part) (chain : IsChain level token_of make part next) where
-  -- a step as its link, and the part behind it
+  -- a step as its separator, and the part behind it
   taken : (w v : Written) (ts us : List Token) → next w ts ≡ Some (Some (v, us))
       → (l : L) × (b : Written) × (ts ≡ token_of l ∷ (spelled b ++ us)) × (v ≡ make l w b) × Fits (suc level) b
   taken w v ts us h =
@@ -69,7 +69,7 @@ module _ (size level : ℕ) {L : Type 0} (token_of : L → Token) (make : L → 
   same_turns (suc n) zero w (t ∷ ts) le more = absurd (omega arith)
   same_turns (suc n) (suc m) w ts le more = turns_at n m w ts (next w ts) refl le more (λ v us less fewer. same_turns n m v us less fewer)
 
-  -- what begins with a chain is read on from there, by its last link
+  -- what begins with a chain is read on from there, by its last separator
   reads_on_at : (m : ℕ) (w : Written) (us : List Token) → length (spelled w) ≤ m → length (spelled w) < size → joint_in us ≤ suc level
       → Fits (suc level) w ⊎ ((l : L) × (a b : Written) × (w ≡ make l a b) × Fits level a × Fits (suc level) b)
       → ((a : Written) (vs : List Token) → length (spelled a) < m → Fits level a → length (spelled a) < size → joint_in vs ≤ suc level → read_chain part next (spelled a ++ vs) ≡ chain_from next (length vs) a vs)

@@ -9,17 +9,17 @@ use Rattle.cq_sql_expressions.specs.Lists.{chain_from}
 
 -- a chain of any parts
 module _ {W : Type 0} (next : W → List Token → Option (Option (W × List Token))) where
-  -- a link and a part behind it: the chain goes on there
+  -- a separator and a part behind it: the chain goes on there
   pub goes_on : (n : ℕ) (w v : W) (ts us : List Token) → next w ts ≡ Some (Some (v, us)) → chain_from next (suc n) w ts ≡ chain_from next n v us
   unfolding chain_from
   goes_on n w v ts us h = rw h refl
 
-  -- a link and no part behind it: there is no chain
+  -- a separator and no part behind it: there is no chain
   pub breaks : (n : ℕ) (w : W) (ts : List Token) → next w ts ≡ Some None → chain_from next (suc n) w ts ≡ None
   unfolding chain_from
   breaks n w ts h = rw h refl
 
-  -- no link: the chain ends
+  -- no separator: the chain ends
   pub stops : (n : ℕ) (w : W) (ts : List Token) → next w ts ≡ None → chain_from next n w ts ≡ Some (w, ts)
   unfolding chain_from
   stops zero w ts h = refl
@@ -51,6 +51,6 @@ module _ {W : Type 0} (next : W → List Token → Option (Option (W × List Tok
     turn_fails errors.Syntax read f step h = turn_breaks (step ∙ rw h refl)
     turn_fails errors.LimitExceeded read f step h = absurd h
 
-    -- a turn that finds no link ends the chain
+    -- a turn that finds no separator ends the chain
     pub turn_stops : next w ts ≡ None → total ≡ Some (w, ts)
     turn_stops h = sym so_far ∙ stops (count - i) w ts h

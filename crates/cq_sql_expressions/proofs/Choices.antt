@@ -8,10 +8,10 @@ use Rattle.cq_sql_language.specs.declared.token.Token.TheVariants as tokens
 use Rattle.cq_sql_language.specs.Written.{Written, Choices, NoChoice, Choice}
 use Rattle.cq_sql_language.specs.Expression.{fits, is_in_order, are_in_order, has_entries}
 use Rattle.cq_sql_language.specs.Spelling.{spelled, spelled_choices, spelled_more}
-use Rattle.cq_sql_expressions.specs.declared.links.Link.TheVariants as links
+use Rattle.cq_sql_expressions.specs.declared.separators.Separator.TheVariants as separators
 use Rattle.cq_sql_expressions.specs.Read.{Reader, done, behind, followed_by, after_symbol}
 use Rattle.cq_sql_expressions.specs.Lists.{chain_from}
-use Rattle.cq_sql_expressions.specs.Chains.{linked_part, more_parts}
+use Rattle.cq_sql_expressions.specs.Chains.{separated_part, more_parts}
 use Rattle.cq_sql_expressions.specs.Expressions.{Inside, choices_of, enclosed_choices}
 use Rattle.cq_sql_expressions.proofs.Exact.{bind_some, symbol_takes}
 use Rattle.cq_sql_expressions.proofs.Chains.{goes_on, breaks, stops, runs_out}
@@ -30,35 +30,35 @@ SomeEntries ws ts rest = (bs : Choices) × (ws ≡ entries bs) × (has_entries b
 module _ (size : ℕ) (sum : Reader Written) (reads : ReadsTight size 4 sum) where
   -- behind a comma a sum was read, and more entries
   more_read : (n : ℕ) (ws vs : List Written) (ts us rest : List Token) (read : Option (Written × List Token)) → sum us ≡ read → ts ≡ comma ∷ us → after_symbol symbols.Comma ts ≡ Some us
-      → chain_from (linked_part links.Comma sum) (suc n) ws ts ≡ Some (vs, rest) → ((os : List Written) (rs : List Token) → chain_from (linked_part links.Comma sum) n os rs ≡ Some (vs, rest) → MoreEntries os rs vs rest) → MoreEntries ws ts vs rest
-  unfolding linked_part
+      → chain_from (separated_part separators.Comma sum) (suc n) ws ts ≡ Some (vs, rest) → ((os : List Written) (rs : List Token) → chain_from (separated_part separators.Comma sum) n os rs ≡ Some (vs, rest) → MoreEntries os rs vs rest) → MoreEntries ws ts vs rest
+  unfolding separated_part
   more_read n ws vs ts us rest None is split there e again =
-      let step : linked_part links.Comma sum ws ts ≡ Some None = rw (there, is) refl in
-      let bad : ◌≡◌ {A = Option (List Written × List Token)} None (Some (vs, rest)) = sym (breaks (linked_part links.Comma sum) n ws ts step) ∙ e in
+      let step : separated_part separators.Comma sum ws ts ≡ Some None = rw (there, is) refl in
+      let bad : ◌≡◌ {A = Option (List Written × List Token)} None (Some (vs, rest)) = sym (breaks (separated_part separators.Comma sum) n ws ts step) ∙ e in
       absurd (cc bad)
   more_read n ws vs ts us rest (Some (x, rs)) is split there e again =
-      let step : linked_part links.Comma sum ws ts ≡ Some (Some (ws ++ x ∷ [], rs)) = rw (there, is) refl in
+      let step : separated_part separators.Comma sum ws ts ≡ Some (Some (ws ++ x ∷ [], rs)) = rw (there, is) refl in
       let o = reads.only x us rs is in
-      let m = again (ws ++ x ∷ []) rs (sym (goes_on (linked_part links.Comma sum) n ws (ws ++ x ∷ []) ts rs step) ∙ e) in
+      let m = again (ws ++ x ∷ []) rs (sym (goes_on (separated_part separators.Comma sum) n ws (ws ++ x ∷ []) ts rs step) ∙ e) in
       let whole : ts ≡ spelled_more (Choice x m.0) ++ rest = split ∙ ap (λ (qs : List Token). comma ∷ qs) (o.1 ∙ ap (λ (qs : List Token). spelled x ++ qs) m.3 ∙ sym (append_assoc (spelled x) (spelled_more m.0) rest)) in
       (Choice x m.0, m.1 ∙ append_assoc ws (x ∷ []) (entries m.0), and_from (fits 4 x (is_in_order x)) (are_in_order m.0) (to_fits 4 x o.0) m.2, whole)
 
   -- with or without a comma, what is read behind other entries are entries
-  more_at : (n : ℕ) (ws vs : List Written) (ts rest : List Token) (after : Option (List Token)) → after_symbol symbols.Comma ts ≡ after → chain_from (linked_part links.Comma sum) (suc n) ws ts ≡ Some (vs, rest)
-      → ((os : List Written) (rs : List Token) → chain_from (linked_part links.Comma sum) n os rs ≡ Some (vs, rest) → MoreEntries os rs vs rest) → MoreEntries ws ts vs rest
-  unfolding linked_part
+  more_at : (n : ℕ) (ws vs : List Written) (ts rest : List Token) (after : Option (List Token)) → after_symbol symbols.Comma ts ≡ after → chain_from (separated_part separators.Comma sum) (suc n) ws ts ≡ Some (vs, rest)
+      → ((os : List Written) (rs : List Token) → chain_from (separated_part separators.Comma sum) n os rs ≡ Some (vs, rest) → MoreEntries os rs vs rest) → MoreEntries ws ts vs rest
+  unfolding separated_part
   more_at n ws vs ts rest None there e again =
-      let step : linked_part links.Comma sum ws ts ≡ None = rw there refl in
-      let p = some_pair_parts ws vs ts rest (sym (stops (linked_part links.Comma sum) (suc n) ws ts step) ∙ e) in
+      let step : separated_part separators.Comma sum ws ts ≡ None = rw there refl in
+      let p = some_pair_parts ws vs ts rest (sym (stops (separated_part separators.Comma sum) (suc n) ws ts step) ∙ e) in
       (NoChoice, sym p.0 ∙ sym (append-nil ws), refl, p.1)
   more_at n ws vs ts rest (Some us) there e again =
       let takes = symbol_takes symbols.Comma in
       more_read n ws vs ts us rest (sum us) refl (takes.only ts us there) there e again
 
   -- what is read behind other entries are entries
-  pub more_only : (n : ℕ) (ws vs : List Written) (ts rest : List Token) → chain_from (linked_part links.Comma sum) n ws ts ≡ Some (vs, rest) → MoreEntries ws ts vs rest
+  pub more_only : (n : ℕ) (ws vs : List Written) (ts rest : List Token) → chain_from (separated_part separators.Comma sum) n ws ts ≡ Some (vs, rest) → MoreEntries ws ts vs rest
   more_only zero ws vs ts rest e =
-      let p = some_pair_parts ws vs ts rest (sym (runs_out (linked_part links.Comma sum) zero ws ts refl) ∙ e) in
+      let p = some_pair_parts ws vs ts rest (sym (runs_out (separated_part separators.Comma sum) zero ws ts refl) ∙ e) in
       (NoChoice, sym p.0 ∙ sym (append-nil ws), refl, p.1)
   more_only (suc n) ws vs ts rest e = more_at n ws vs ts rest (after_symbol symbols.Comma ts) refl e (λ us rs h. more_only n us vs rs rest h)
 
@@ -91,7 +91,7 @@ module _ (size : ℕ) (inside : Inside) (reads : ReadsTight size 4 inside.sum) w
   choices_only : (ws : List Written) (ts rest : List Token) → choices_of inside ts ≡ Some (ws, rest) → SomeEntries ws ts rest
   unfolding choices_of more_parts
   choices_only ws ts rest e =
-      let f = bind_some (inside.sum ts) (λ r. chain_from (linked_part links.Comma inside.sum) (length r.1) (r.0 ∷ []) r.1) (ws, rest) e in
+      let f = bind_some (inside.sum ts) (λ r. chain_from (separated_part separators.Comma inside.sum) (length r.1) (r.0 ∷ []) r.1) (ws, rest) e in
       let o = reads.only f.0.0 ts f.0.1 f.1 in
       let m = more_only size inside.sum reads (length f.0.1) (f.0.0 ∷ []) ws f.0.1 rest f.2 in
       let whole : ts ≡ spelled_choices (Choice f.0.0 m.0) ++ rest = o.1 ∙ ap (λ (vs : List Token). spelled f.0.0 ++ vs) m.3 ∙ sym (append_assoc (spelled f.0.0) (spelled_more m.0) rest) in

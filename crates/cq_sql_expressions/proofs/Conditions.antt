@@ -9,7 +9,7 @@ use Rattle.cq_sql_language.specs.declared.written.ExprNode.{ExprNode}
 use Rattle.cq_sql_language.specs.Written.{Written, Not, written}
 use Rattle.cq_sql_language.specs.Expression.{IsTight, IsExpression}
 use Rattle.cq_sql_language.specs.Spelling.{spelled}
-use Rattle.cq_sql_expressions.specs.declared.links.Operator.TheVariants as operators
+use Rattle.cq_sql_expressions.specs.declared.separators.Operator.TheVariants as operators
 use Rattle.cq_sql_expressions.specs.declared.fault.SqlFault.{SqlFault}
 use Rattle.cq_sql_expressions.specs.declared.fault.SqlFault.TheVariants as errors
 use Rattle.cq_sql_expressions.specs.Gives.{Gives}

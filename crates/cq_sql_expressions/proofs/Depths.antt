@@ -4,8 +4,8 @@ use Rattle.cq_sql_language.specs.declared.token.Token.{Token}
 use Rattle.cq_sql_language.specs.Written.{Written}
 use Rattle.cq_sql_expressions.specs.declared.atoms.Opening.{Opening}
 use Rattle.cq_sql_expressions.specs.declared.atoms.Opening.TheVariants as openings
-use Rattle.cq_sql_expressions.specs.declared.links.Operator.TheVariants as operators
-use Rattle.cq_sql_expressions.specs.declared.links.Link.TheVariants as links
+use Rattle.cq_sql_expressions.specs.declared.separators.Operator.TheVariants as operators
+use Rattle.cq_sql_expressions.specs.declared.separators.Separator.TheVariants as separators
 use Rattle.cq_sql_expressions.specs.Read.{Reader, followed_by}
 use Rattle.cq_sql_expressions.specs.Chains.{joined_at, more_parts}
 use Rattle.cq_sql_expressions.specs.Expressions.{content_of, operand_of, expression_of, sum_of, choices_of, readers}
@@ -42,6 +42,6 @@ sum_inside (suc depth) lt =
 
 -- choices in parentheses are read with one pair less to open
 pub choices_inside : (depth : ℕ) (ts : List Token) → 0 < depth
-    → choices_of (readers depth) ts ≡ followed_by (sum_of (readers (depth - 1))) (λ first. more_parts links.Comma (sum_of (readers (depth - 1))) (first ∷ [])) ts
+    → choices_of (readers depth) ts ≡ followed_by (sum_of (readers (depth - 1))) (λ first. more_parts separators.Comma (sum_of (readers (depth - 1))) (first ∷ [])) ts
 unfolding choices_of
-choices_inside depth ts lt = ap (λ (sum : Reader Written). followed_by sum (λ first. more_parts links.Comma sum (first ∷ [])) ts) (sum_inside depth lt)
+choices_inside depth ts lt = ap (λ (sum : Reader Written). followed_by sum (λ first. more_parts separators.Comma sum (first ∷ [])) ts) (sum_inside depth lt)

@@ -13,12 +13,12 @@ use Rattle.cq_sql_language.specs.declared.written.Sign.TheVariants as signs
 use Rattle.cq_sql_language.specs.Written.{Written, Times, Plus, Minus, And, Or, signed}
 use Rattle.cq_sql_language.specs.Expression.{fits, is_in_order}
 use Rattle.cq_sql_language.specs.Spelling.{spelled}
-use Rattle.cq_sql_expressions.specs.declared.links.Operator.{Operator}
-use Rattle.cq_sql_expressions.specs.declared.links.Operator.TheVariants as operators
-use Rattle.cq_sql_expressions.specs.declared.links.Link.TheVariants as links
+use Rattle.cq_sql_expressions.specs.declared.separators.Operator.{Operator}
+use Rattle.cq_sql_expressions.specs.declared.separators.Operator.TheVariants as operators
+use Rattle.cq_sql_expressions.specs.declared.separators.Separator.TheVariants as separators
 use Rattle.cq_sql_expressions.specs.Read.{◌>>=◌, Reader}
 use Rattle.cq_sql_expressions.specs.Lists.{chain_from}
-use Rattle.cq_sql_expressions.specs.Chains.{after_link, sign_at, join, linked_part, more_parts, joined_at, signed_term, more_terms}
+use Rattle.cq_sql_expressions.specs.Chains.{after_separator, sign_at, join, separated_part, more_parts, joined_at, signed_term, more_terms}
 use Rattle.cq_sql_expressions.specs.Expressions.{Inside, product_of, sum_of}
 use Rattle.cq_sql_expressions.proofs.Exact.{Takes, keyword_takes, symbol_takes}
 use Rattle.cq_sql_expressions.proofs.Chains.{goes_on, breaks, stops}
@@ -41,64 +41,64 @@ operator_level operators.Or = 0
 
 -- one more part, joined to what was read before
 abbrev joined_part : Operator → Reader Written → Step
-joined_part operator part w ts = option_map (λ us. part us >>= λ r. Some (join operator w r.0, r.1)) (after_link (links.Operator operator) ts)
+joined_part operator part w ts = option_map (λ us. part us >>= λ r. Some (join operator w r.0, r.1)) (after_separator (separators.Operator operator) ts)
 
--- `after_link` takes the token of its operator and nothing else
-link_takes : (operator : Operator) → Takes (operator_token operator) (after_link (links.Operator operator))
-link_takes operators.Times = symbol_takes symbols.Star
-link_takes operators.And = keyword_takes keywords.And
-link_takes operators.Or = keyword_takes keywords.Or
+-- `after_separator` takes the token of its operator and nothing else
+separator_takes : (operator : Operator) → Takes (operator_token operator) (after_separator (separators.Operator operator))
+separator_takes operators.Times = symbol_takes symbols.Star
+separator_takes operators.And = keyword_takes keywords.And
+separator_takes operators.Or = keyword_takes keywords.Or
 
 -- parts that were collected and then joined, at a turn
-joined_turn : (operator : Operator) (part : Reader Written) (n : ℕ) (first : Written) (ws : List Written) (ts : List Token) (after : Option (List Token)) → after_link (links.Operator operator) ts ≡ after
-    → ((vs : List Written) (us : List Token) → (chain_from (linked_part (links.Operator operator) part) n vs us >>= λ r. Some (fold (join operator) first r.0, r.1)) ≡ chain_from (joined_part operator part) n (fold (join operator) first vs) us)
-    → (chain_from (linked_part (links.Operator operator) part) (suc n) ws ts >>= λ r. Some (fold (join operator) first r.0, r.1)) ≡ chain_from (joined_part operator part) (suc n) (fold (join operator) first ws) ts
-unfolding linked_part
+joined_turn : (operator : Operator) (part : Reader Written) (n : ℕ) (first : Written) (ws : List Written) (ts : List Token) (after : Option (List Token)) → after_separator (separators.Operator operator) ts ≡ after
+    → ((vs : List Written) (us : List Token) → (chain_from (separated_part (separators.Operator operator) part) n vs us >>= λ r. Some (fold (join operator) first r.0, r.1)) ≡ chain_from (joined_part operator part) n (fold (join operator) first vs) us)
+    → (chain_from (separated_part (separators.Operator operator) part) (suc n) ws ts >>= λ r. Some (fold (join operator) first r.0, r.1)) ≡ chain_from (joined_part operator part) (suc n) (fold (join operator) first ws) ts
+unfolding separated_part
 joined_turn operator part n first ws ts None there again =
-    let collected : linked_part (links.Operator operator) part ws ts ≡ None = rw there refl in
+    let collected : separated_part (separators.Operator operator) part ws ts ≡ None = rw there refl in
     let joined : joined_part operator part (fold (join operator) first ws) ts ≡ None = rw there refl in
-    rw (stops (linked_part (links.Operator operator) part) (suc n) ws ts collected, stops (joined_part operator part) (suc n) (fold (join operator) first ws) ts joined) refl
+    rw (stops (separated_part (separators.Operator operator) part) (suc n) ws ts collected, stops (joined_part operator part) (suc n) (fold (join operator) first ws) ts joined) refl
 joined_turn operator part n first ws ts (Some us) there again = by_part (part us) refl where
   by_part : (read : Option (Written × List Token)) → part us ≡ read
-      → (chain_from (linked_part (links.Operator operator) part) (suc n) ws ts >>= λ r. Some (fold (join operator) first r.0, r.1)) ≡ chain_from (joined_part operator part) (suc n) (fold (join operator) first ws) ts
+      → (chain_from (separated_part (separators.Operator operator) part) (suc n) ws ts >>= λ r. Some (fold (join operator) first r.0, r.1)) ≡ chain_from (joined_part operator part) (suc n) (fold (join operator) first ws) ts
   by_part None is =
-      let collected : linked_part (links.Operator operator) part ws ts ≡ Some None = rw (there, is) refl in
+      let collected : separated_part (separators.Operator operator) part ws ts ≡ Some None = rw (there, is) refl in
       let joined : joined_part operator part (fold (join operator) first ws) ts ≡ Some None = rw (there, is) refl in
-      rw (breaks (linked_part (links.Operator operator) part) n ws ts collected, breaks (joined_part operator part) n (fold (join operator) first ws) ts joined) refl
+      rw (breaks (separated_part (separators.Operator operator) part) n ws ts collected, breaks (joined_part operator part) n (fold (join operator) first ws) ts joined) refl
   by_part (Some (x, vs)) is =
-      let collected : linked_part (links.Operator operator) part ws ts ≡ Some (Some (ws ++ x ∷ [], vs)) = rw (there, is) refl in
+      let collected : separated_part (separators.Operator operator) part ws ts ≡ Some (Some (ws ++ x ∷ [], vs)) = rw (there, is) refl in
       let joined : joined_part operator part (fold (join operator) first ws) ts ≡ Some (Some (join operator (fold (join operator) first ws) x, vs)) = rw (there, is) refl in
       let pushed : fold (join operator) first (ws ++ x ∷ []) ≡ join operator (fold (join operator) first ws) x = fold-append (join operator) first ws (x ∷ []) in
-      rw (goes_on (linked_part (links.Operator operator) part) n ws (ws ++ x ∷ []) ts vs collected, goes_on (joined_part operator part) n (fold (join operator) first ws) (join operator (fold (join operator) first ws) x) ts vs joined)
+      rw (goes_on (separated_part (separators.Operator operator) part) n ws (ws ++ x ∷ []) ts vs collected, goes_on (joined_part operator part) n (fold (join operator) first ws) (join operator (fold (join operator) first ws) x) ts vs joined)
       (again (ws ++ x ∷ []) vs ∙ ap (λ (w : Written). chain_from (joined_part operator part) n w vs) pushed)
 
 -- parts that were collected and then joined are a chain of joined parts
 joined_from : (operator : Operator) (part : Reader Written) (n : ℕ) (first : Written) (ws : List Written) (ts : List Token)
-    → (chain_from (linked_part (links.Operator operator) part) n ws ts >>= λ r. Some (fold (join operator) first r.0, r.1)) ≡ chain_from (joined_part operator part) n (fold (join operator) first ws) ts
+    → (chain_from (separated_part (separators.Operator operator) part) n ws ts >>= λ r. Some (fold (join operator) first r.0, r.1)) ≡ chain_from (joined_part operator part) n (fold (join operator) first ws) ts
 unfolding chain_from
 joined_from operator part zero first ws ts = refl
-joined_from operator part (suc n) first ws ts = joined_turn operator part n first ws ts (after_link (links.Operator operator) ts) refl (λ vs us. joined_from operator part n first vs us)
+joined_from operator part (suc n) first ws ts = joined_turn operator part n first ws ts (after_separator (separators.Operator operator) ts) refl (λ vs us. joined_from operator part n first vs us)
 
 -- a chain of an operator, as a chain of joined parts
 joined_same : (operator : Operator) (part : Reader Written) (ts : List Token) → joined_at operator part ts ≡ read_chain part (joined_part operator part) ts
 unfolding joined_at more_parts
 joined_same operator part ts = by_part (part ts) where
   by_part : (read : Option (Written × List Token))
-      → (read >>= λ r. (chain_from (linked_part (links.Operator operator) part) (length r.1) [] r.1 >>= λ q. Some (fold (join operator) r.0 q.0, q.1))) ≡ (read >>= λ r. chain_from (joined_part operator part) (length r.1) r.0 r.1)
+      → (read >>= λ r. (chain_from (separated_part (separators.Operator operator) part) (length r.1) [] r.1 >>= λ q. Some (fold (join operator) r.0 q.0, q.1))) ≡ (read >>= λ r. chain_from (joined_part operator part) (length r.1) r.0 r.1)
   by_part None = refl
   by_part (Some (x, us)) = joined_from operator part (length us) x [] us
 
 -- where a chain of an operator may end, its token doesn't follow
-no_link : (operator : Operator) (ts : List Token) → joint_in ts ≤ operator_level operator → after_link (links.Operator operator) ts ≡ None
-no_link operators.Times [] end = refl
-no_link operators.Times (tokens.Symbol symbols.Star ∷ ts) end = absurd (omega (arith, end))
-no_link operators.Times (t ∷ ts) end = refl
-no_link operators.And [] end = refl
-no_link operators.And (tokens.Keyword keywords.And ∷ ts) end = absurd (omega (arith, end))
-no_link operators.And (t ∷ ts) end = refl
-no_link operators.Or [] end = refl
-no_link operators.Or (tokens.Keyword keywords.Or ∷ ts) end = absurd (omega (arith, end))
-no_link operators.Or (t ∷ ts) end = refl
+no_separator : (operator : Operator) (ts : List Token) → joint_in ts ≤ operator_level operator → after_separator (separators.Operator operator) ts ≡ None
+no_separator operators.Times [] end = refl
+no_separator operators.Times (tokens.Symbol symbols.Star ∷ ts) end = absurd (omega (arith, end))
+no_separator operators.Times (t ∷ ts) end = refl
+no_separator operators.And [] end = refl
+no_separator operators.And (tokens.Keyword keywords.And ∷ ts) end = absurd (omega (arith, end))
+no_separator operators.And (t ∷ ts) end = refl
+no_separator operators.Or [] end = refl
+no_separator operators.Or (tokens.Keyword keywords.Or ∷ ts) end = absurd (omega (arith, end))
+no_separator operators.Or (t ∷ ts) end = refl
 
 -- a chain of an operator is in order where its parts are
 join_fits : (operator : Operator) (a b : Written) → Fits (operator_level operator) a → Fits (suc (operator_level operator)) b → Fits (operator_level operator) (join operator a b)
@@ -135,21 +135,21 @@ join_tight operators.And = omega arith
 join_tight operators.Or = omega arith
 
 -- one more part, joined to what was read before, as its token and what follows
-joined_back : (operator : Operator) (part : Reader Written) (w : Written) (ts : List Token) (read : Option (Written × List Token)) (after : Option (List Token)) → after_link (links.Operator operator) ts ≡ after
+joined_back : (operator : Operator) (part : Reader Written) (w : Written) (ts : List Token) (read : Option (Written × List Token)) (after : Option (List Token)) → after_separator (separators.Operator operator) ts ≡ after
     → option_map (λ us. part us >>= λ r. Some (join operator w r.0, r.1)) after ≡ Some read
     → Unit {0} × (us : List Token) × (ts ≡ operator_token operator ∷ us) × (read ≡ (part us >>= λ r. Some (join operator w r.0, r.1)))
 joined_back operator part w ts read None there e = absurd (cc e)
 joined_back operator part w ts read (Some us) there e =
-    let takes = link_takes operator in
+    let takes = separator_takes operator in
     (tt, us, takes.only ts us there, sym (cc e))
 
 -- the parts with an operator between them make a chain
 operator_chain : (operator : Operator) (part : Reader Written) → IsChain (operator_level operator) (λ (l : Unit {0}). operator_token operator) (λ l. join operator) part (joined_part operator part)
 operator_chain operator part = record {
   spells = λ l a b. join_spelled operator a b;
-  goes = λ l w us. let takes = link_takes operator in rw (takes.found us) refl;
-  ends = λ w ts end. rw (no_link operator ts end) refl;
-  back = λ w ts read e. joined_back operator part w ts read (after_link (links.Operator operator) ts) refl e;
+  goes = λ l w us. let takes = separator_takes operator in rw (takes.found us) refl;
+  ends = λ w ts end. rw (no_separator operator ts end) refl;
+  back = λ w ts read e. joined_back operator part w ts read (after_separator (separators.Operator operator) ts) refl e;
   makes = λ l a b left right. join_fits operator a b left right;
   splits = λ w fit. join_splits operator w fit;
   tight = λ l. join_tight operator;

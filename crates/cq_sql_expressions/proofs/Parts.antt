@@ -1,41 +1,41 @@
--- Reading parts behind their links, and terms behind their signs, as a loop does.
+-- Reading parts behind their separators, and terms behind their signs, as a loop does.
 use Rattle.std.proofs.Common.{◌≡◌, ℕ, ◌-◌, ◌+◌, ◌<◌, List, [], ◌∷◌, ◌++◌, Option, Some, None, refl, ap, ◌∙◌, length}
 use Rattle.cq_sql_language.specs.declared.token.Token.{Token}
 use Rattle.cq_sql_language.specs.declared.written.Sign.{Sign}
 use Rattle.cq_sql_language.specs.Written.{Written, signed, terms}
 use Rattle.cq_sql_expressions.specs.declared.fault.SqlFault.{SqlFault}
-use Rattle.cq_sql_expressions.specs.declared.links.Link.{Link}
-use Rattle.cq_sql_expressions.specs.declared.links.Operator.TheVariants as operators
+use Rattle.cq_sql_expressions.specs.declared.separators.Separator.{Separator}
+use Rattle.cq_sql_expressions.specs.declared.separators.Operator.TheVariants as operators
 use Rattle.cq_sql_expressions.specs.Gives.{Fails}
 use Rattle.cq_sql_expressions.specs.Read.{◌>>=◌, Reader}
 use Rattle.cq_sql_expressions.specs.Lists.{chain_from}
-use Rattle.cq_sql_expressions.specs.Chains.{after_link, sign_at, linked_part, signed_term, joined_at}
+use Rattle.cq_sql_expressions.specs.Chains.{after_separator, sign_at, separated_part, signed_term, joined_at}
 use Rattle.cq_sql_expressions.specs.Expressions.{Inside, operand_of, product_of}
 use Rattle.cq_sql_expressions.proofs.Chains.{turn_goes_on, turn_fails, turn_stops}
 use Rattle.cq_sql_expressions.proofs.Sums.{terms_push}
 
 -- a turn of a loop over parts, where what was read and what is still read make the whole
-module _ (link : Link) (part : Reader Written) (ws : List Written) (count i : ℕ) (ts : List Token) (total : Option (List Written × List Token)) (lt : i < count) (so_far : chain_from (linked_part link part) (count - i) ws ts ≡ total) where
-  -- a link and a part: the rest is still read
-  pub part_goes_on : (us vs : List Token) (x : Written) → after_link link ts ≡ Some us → part us ≡ Some (x, vs) → chain_from (linked_part link part) (count - (i + 1)) (ws ++ x ∷ []) vs ≡ total
-  unfolding linked_part
+module _ (separator : Separator) (part : Reader Written) (ws : List Written) (count i : ℕ) (ts : List Token) (total : Option (List Written × List Token)) (lt : i < count) (so_far : chain_from (separated_part separator part) (count - i) ws ts ≡ total) where
+  -- a separator and a part: the rest is still read
+  pub part_goes_on : (us vs : List Token) (x : Written) → after_separator separator ts ≡ Some us → part us ≡ Some (x, vs) → chain_from (separated_part separator part) (count - (i + 1)) (ws ++ x ∷ []) vs ≡ total
+  unfolding separated_part
   part_goes_on us vs x there read =
-      let step : linked_part link part ws ts ≡ Some (Some (ws ++ x ∷ [], vs)) = rw (there, read) refl in
-      turn_goes_on (linked_part link part) count i ws ts total lt so_far (ws ++ x ∷ []) vs step
+      let step : separated_part separator part ws ts ≡ Some (Some (ws ++ x ∷ [], vs)) = rw (there, read) refl in
+      turn_goes_on (separated_part separator part) count i ws ts total lt so_far (ws ++ x ∷ []) vs step
 
-  -- a link and no part: the whole fails in the same way
-  pub part_fails : (e : SqlFault) (us : List Token) → after_link link ts ≡ Some us → Fails e (part us) → Fails e total
-  unfolding linked_part
+  -- a separator and no part: the whole fails in the same way
+  pub part_fails : (e : SqlFault) (us : List Token) → after_separator separator ts ≡ Some us → Fails e (part us) → Fails e total
+  unfolding separated_part
   part_fails e us there failed =
-      let step : linked_part link part ws ts ≡ Some (part us >>= λ r. Some (ws ++ r.0 ∷ [], r.1)) = rw there refl in
-      turn_fails (linked_part link part) count i ws ts total lt so_far e (part us) (λ r. Some (ws ++ r.0 ∷ [], r.1)) step failed
+      let step : separated_part separator part ws ts ≡ Some (part us >>= λ r. Some (ws ++ r.0 ∷ [], r.1)) = rw there refl in
+      turn_fails (separated_part separator part) count i ws ts total lt so_far e (part us) (λ r. Some (ws ++ r.0 ∷ [], r.1)) step failed
 
-  -- no link: this is the whole
-  pub part_stops : after_link link ts ≡ None → total ≡ Some (ws, ts)
-  unfolding linked_part
+  -- no separator: this is the whole
+  pub part_stops : after_separator separator ts ≡ None → total ≡ Some (ws, ts)
+  unfolding separated_part
   part_stops none =
-      let step : linked_part link part ws ts ≡ None = rw none refl in
-      turn_stops (linked_part link part) count i ws ts total lt so_far step
+      let step : separated_part separator part ws ts ≡ None = rw none refl in
+      turn_stops (separated_part separator part) count i ws ts total lt so_far step
 
 -- a turn of a loop over terms, where the sum so far and what is still read make the whole
 module _ (term : Reader Written) (first : Written) (signs : List Sign) (ws : List Written) (count i : ℕ) (ts : List Token) (total : Option (Written × List Token)) (lt : i < count) (so_far : chain_from (signed_term term) (count - i) (terms first signs ws) ts ≡ total) where

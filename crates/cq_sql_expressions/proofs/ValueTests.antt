@@ -13,12 +13,12 @@ use Rattle.cq_sql_language.specs.declared.token.Token.TheVariants as tokens
 use Rattle.cq_sql_language.specs.Written.{Written, Choices, NoChoice, Choice, choices}
 use Rattle.cq_sql_language.specs.Expression.{fits, is_in_order, are_in_order}
 use Rattle.cq_sql_language.specs.Spelling.{spelled, spelled_more, comparison_sign, not_tokens}
-use Rattle.cq_sql_expressions.specs.declared.links.Link.TheVariants as links
+use Rattle.cq_sql_expressions.specs.declared.separators.Separator.TheVariants as separators
 use Rattle.cq_sql_expressions.specs.declared.predicates.Test.{Test}
 use Rattle.cq_sql_expressions.specs.declared.predicates.Test.TheVariants as tests
 use Rattle.cq_sql_expressions.specs.Read.{◌>>=◌, Reader, after_symbol}
 use Rattle.cq_sql_expressions.specs.Lists.{chain_from}
-use Rattle.cq_sql_expressions.specs.Chains.{linked_part}
+use Rattle.cq_sql_expressions.specs.Chains.{separated_part}
 use Rattle.cq_sql_expressions.specs.Predicates.{comparison_of, worded, test_at}
 use Rattle.cq_sql_expressions.proofs.Exact.{bind_some}
 use Rattle.cq_sql_expressions.proofs.Chains.{goes_on, stops}
@@ -149,18 +149,18 @@ more_ends (Choice a bs) rest end = omega arith
 module _ (size : ℕ) (sum : Reader Written) (reads : ReadsTight size 4 sum) where
   -- the entries behind another one are read, behind those that were read before
   pub more_found : (bs : Choices) (n : ℕ) (ws : List Written) (rest : List Token) → length (spelled_more bs) ≤ n → length (spelled_more bs) < size → are_in_order bs ≡ true → joint_in rest ≤ 4
-      → after_symbol symbols.Comma rest ≡ None → chain_from (linked_part links.Comma sum) n ws (spelled_more bs ++ rest) ≡ Some (ws ++ entries bs, rest)
-  unfolding linked_part
+      → after_symbol symbols.Comma rest ≡ None → chain_from (separated_part separators.Comma sum) n ws (spelled_more bs ++ rest) ≡ Some (ws ++ entries bs, rest)
+  unfolding separated_part
   more_found NoChoice n ws rest le small order end none =
-      let step : linked_part links.Comma sum ws rest ≡ None = rw none refl in
-      stops (linked_part links.Comma sum) n ws rest step ∙ ap (λ (vs : List Written). Some (vs, rest)) (sym (append-nil ws))
+      let step : separated_part separators.Comma sum ws rest ≡ None = rw none refl in
+      stops (separated_part separators.Comma sum) n ws rest step ∙ ap (λ (vs : List Written). Some (vs, rest)) (sym (append-nil ws))
   more_found (Choice a bs) zero ws rest le small order end none = absurd (omega (arith, le))
   more_found (Choice a bs) (suc n) ws rest le small order end none =
       let p = and_parts (fits 4 a (is_in_order a)) (are_in_order bs) order in
       let count = length-append (spelled a) (spelled_more bs) in
       let whole : (spelled a ++ spelled_more bs) ++ rest ≡ spelled a ++ (spelled_more bs ++ rest) = append_assoc (spelled a) (spelled_more bs) rest in
       let read : sum ((spelled a ++ spelled_more bs) ++ rest) ≡ Some (a, spelled_more bs ++ rest) = ap sum whole ∙ reads.found a (spelled_more bs ++ rest) (from_fits 4 a p.0) (omega (arith, count, small)) (more_ends bs rest end) in
-      let step : linked_part links.Comma sum ws (comma ∷ ((spelled a ++ spelled_more bs) ++ rest)) ≡ Some (Some (ws ++ a ∷ [], spelled_more bs ++ rest)) = rw read refl in
-      goes_on (linked_part links.Comma sum) n ws (ws ++ a ∷ []) (comma ∷ ((spelled a ++ spelled_more bs) ++ rest)) (spelled_more bs ++ rest) step
+      let step : separated_part separators.Comma sum ws (comma ∷ ((spelled a ++ spelled_more bs) ++ rest)) ≡ Some (Some (ws ++ a ∷ [], spelled_more bs ++ rest)) = rw read refl in
+      goes_on (separated_part separators.Comma sum) n ws (ws ++ a ∷ []) (comma ∷ ((spelled a ++ spelled_more bs) ++ rest)) (spelled_more bs ++ rest) step
       ∙ more_found bs n (ws ++ a ∷ []) rest (omega (arith, count, le)) (omega (arith, count, small)) p.1 end none
       ∙ ap (λ (vs : List Written). Some (vs, rest)) (append_assoc ws (a ∷ []) (entries bs))

@@ -10,19 +10,19 @@ use Rattle.cq_sql_language.specs.declared.written.Sign.TheVariants as signs
 use Rattle.cq_sql_language.specs.Written.{Written, Parens, Extract, Aggregate, Times, And, Or, signed}
 use Rattle.cq_sql_expressions.specs.declared.atoms.Opening.{Opening}
 use Rattle.cq_sql_expressions.specs.declared.atoms.Opening.TheVariants as openings
-use Rattle.cq_sql_expressions.specs.declared.links.Operator.{Operator}
-use Rattle.cq_sql_expressions.specs.declared.links.Operator.TheVariants as operators
-use Rattle.cq_sql_expressions.specs.declared.links.Link.{Link}
-use Rattle.cq_sql_expressions.specs.declared.links.Link.TheVariants as links
+use Rattle.cq_sql_expressions.specs.declared.separators.Operator.{Operator}
+use Rattle.cq_sql_expressions.specs.declared.separators.Operator.TheVariants as operators
+use Rattle.cq_sql_expressions.specs.declared.separators.Separator.{Separator}
+use Rattle.cq_sql_expressions.specs.declared.separators.Separator.TheVariants as separators
 use Rattle.cq_sql_expressions.specs.Lists.{chain_from}
 use Rattle.cq_sql_expressions.specs.Read.{◌>>=◌, Reader, done, followed_by, after_keyword, after_symbol}
 
--- the tokens behind this link, if it stands in front
-abbrev pub after_link : Link → List Token → Option (List Token)
-after_link (links.Operator operators.Or) = after_keyword keywords.Or
-after_link (links.Operator operators.And) = after_keyword keywords.And
-after_link (links.Operator operators.Times) = after_symbol symbols.Star
-after_link links.Comma = after_symbol symbols.Comma
+-- the tokens behind this separator, if it stands in front
+abbrev pub after_separator : Separator → List Token → Option (List Token)
+after_separator (separators.Operator operators.Or) = after_keyword keywords.Or
+after_separator (separators.Operator operators.And) = after_keyword keywords.And
+after_separator (separators.Operator operators.Times) = after_symbol symbols.Star
+after_separator separators.Comma = after_symbol symbols.Comma
 
 -- takes the sign of a later term from the front
 abbrev pub sign_at : Reader Sign
@@ -42,18 +42,18 @@ enclosed openings.Parens w = Parens w
 enclosed (openings.Extract part) w = Extract part w
 enclosed (openings.Aggregate function) w = Aggregate function w
 
--- one more part, where the link stands in front of it
-unfoldable pub linked_part : Link → Reader Written → List Written → List Token → Option (Option (List Written × List Token))
-linked_part link part ws ts = option_map (λ us. part us >>= λ r. Some (ws ++ r.0 ∷ [], r.1)) (after_link link ts)
+-- one more part, where the separator stands in front of it
+unfoldable pub separated_part : Separator → Reader Written → List Written → List Token → Option (Option (List Written × List Token))
+separated_part separator part ws ts = option_map (λ us. part us >>= λ r. Some (ws ++ r.0 ∷ [], r.1)) (after_separator separator ts)
 
 -- takes the later parts of a chain, behind those that were read before
-unfoldable pub more_parts : Link → Reader Written → List Written → Reader (List Written)
-more_parts link part ws ts = chain_from (linked_part link part) (length ts) ws ts
+unfoldable pub more_parts : Separator → Reader Written → List Written → Reader (List Written)
+more_parts separator part ws ts = chain_from (separated_part separator part) (length ts) ws ts
 
 -- takes a chain of parts with this operator between them
 unfoldable pub joined_at : Operator → Reader Written → Reader Written
 joined_at operator part =
-    followed_by part (λ first. followed_by (more_parts (links.Operator operator) part []) (λ others. done (fold (join operator) first others)))
+    followed_by part (λ first. followed_by (more_parts (separators.Operator operator) part []) (λ others. done (fold (join operator) first others)))
 
 -- one more term, where a sign stands in front of it
 unfoldable pub signed_term : Reader Written → Written → List Token → Option (Option (Written × List Token))

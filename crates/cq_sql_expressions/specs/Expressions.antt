@@ -6,10 +6,10 @@ use Rattle.cq_sql_language.specs.declared.token.Token.{Token}
 use Rattle.cq_sql_language.specs.Written.{Written, Negative, Compare, IsNull, Between, In, Like, Not, choices}
 use Rattle.cq_sql_expressions.specs.declared.atoms.Opening.{Opening}
 use Rattle.cq_sql_expressions.specs.declared.atoms.Opening.TheVariants as openings
-use Rattle.cq_sql_expressions.specs.declared.links.Operator.{Operator}
-use Rattle.cq_sql_expressions.specs.declared.links.Operator.TheVariants as operators
-use Rattle.cq_sql_expressions.specs.declared.links.Link.{Link}
-use Rattle.cq_sql_expressions.specs.declared.links.Link.TheVariants as links
+use Rattle.cq_sql_expressions.specs.declared.separators.Operator.{Operator}
+use Rattle.cq_sql_expressions.specs.declared.separators.Operator.TheVariants as operators
+use Rattle.cq_sql_expressions.specs.declared.separators.Separator.{Separator}
+use Rattle.cq_sql_expressions.specs.declared.separators.Separator.TheVariants as separators
 use Rattle.cq_sql_expressions.specs.declared.predicates.Test.{Test}
 use Rattle.cq_sql_expressions.specs.declared.predicates.Test.TheVariants as tests
 use Rattle.cq_sql_expressions.specs.Read.{◌>>=◌, Reader, done, followed_by, behind, after_keyword, after_symbol}
@@ -56,7 +56,7 @@ sum_of inside = followed_by (product_of inside) (more_terms (product_of inside))
 
 -- takes at least one sum, with commas between them
 unfoldable pub choices_of : Inside → Reader (List Written)
-choices_of inside = followed_by inside.sum (λ first. more_parts links.Comma inside.sum (first ∷ []))
+choices_of inside = followed_by inside.sum (λ first. more_parts separators.Comma inside.sum (first ∷ []))
 
 -- takes the least and the greatest of a test between bounds
 unfoldable pub between_of : Inside → Bool → Written → Reader Written
@@ -98,10 +98,10 @@ operand_of inside operators.Or = joined_at operators.And (negation_of inside)
 unfoldable pub expression_of : Inside → Reader Written
 expression_of inside = joined_at operators.Or (operand_of inside operators.Or)
 
--- the reader of the parts between which this link stands
-abbrev pub part_of : Inside → Link → Reader Written
-part_of inside (links.Operator operator) = operand_of inside operator
-part_of inside links.Comma = sum_of inside
+-- the reader of the parts between which this separator stands
+abbrev pub part_of : Inside → Separator → Reader Written
+part_of inside (separators.Operator operator) = operand_of inside operator
+part_of inside separators.Comma = sum_of inside
 
 -- takes nothing
 abbrev pub nothing : Reader Written
@@ -112,9 +112,9 @@ unfoldable pub readers : ℕ → Inside
 readers zero = record { expression = nothing; sum = nothing }
 readers (suc depth) = record { expression = expression_of (readers depth); sum = sum_of (readers depth) }
 
--- the reader of the parts between which this link stands, where at most this many pairs may open
-abbrev pub parts_in : ℕ → Link → Reader Written
-parts_in depth link = part_of (readers depth) link
+-- the reader of the parts between which this separator stands, where at most this many pairs may open
+abbrev pub parts_in : ℕ → Separator → Reader Written
+parts_in depth separator = part_of (readers depth) separator
 
 -- takes an expression from the front, as much as makes one
 unfoldable pub expression_at : Reader Written

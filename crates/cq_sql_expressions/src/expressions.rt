@@ -1,7 +1,6 @@
 //! The levels of the grammar of expressions, each read by one function.
 //!
 //! A chain is read by a loop, so that a long one takes no deep recursion; `depth` is how many pairs of parentheses may still open.
-ghost use Rattle.std.specs.Prelude.{◌≡◌, ◌∷◌, ◌++◌, [], OnOk};
 ghost use Rattle.cq_sql_language.specs.Written.{written};
 ghost use Rattle.cq_sql_expressions.specs.Chains.{joined_at, more_parts, more_terms};
 ghost use Rattle.cq_sql_expressions.specs.Trees.{GivesTree, GivesTrees, trees};
@@ -9,14 +8,16 @@ ghost use Rattle.cq_sql_expressions.specs.Expressions.{between_of, choices_of, c
 
 use crate::atoms::{Opening, atom_at, opening_at, text_at};
 use crate::fault::SqlFault;
-use crate::links::{Link, Operator, after_link, sign_at};
 use crate::nodes::{
-    among, between, compared, enclosed, joined, like, negation, negative, null_test, only, summed,
+    add_term, among, between, compared, enclosed, joined, like, negation, negative, null_test,
+    only, summed,
 };
 use crate::predicates::{Test, test_at};
 use crate::read::{after_keyword, after_symbol, expect_keyword, expect_symbol};
+use crate::separators::{Operator, Separator, after_separator, sign_at};
 use cq_sql_language::{ExprNode, Keyword, Sign, Symbol, Token};
-use std::alloc::{AllocError, Global};
+use cq_values::both;
+use std::alloc::Global;
 
 #[cycle(expressions)]
 #[tactic(auto, unfolding(crate::specs::Chains::joined_at))]
@@ -28,33 +29,29 @@ pub fn chain_at(
 ) -> Result<(ExprNode, &[Token]), SqlFault>
     ensures { GivesTree result (joined_at operator (operand_of (readers depth) operator) tokens.now) }
 {
-    let link = Link::Operator(operator);
-    let (first, rest) = part_at(alloc, link, depth, tokens)?;
-    match more_parts(alloc, link, depth, Vec::new(alloc), rest) {
-        Ok((others, rest)) => Ok((joined(alloc, operator, first, others)?, rest)),
-        Err(fault) => {
-            drop(first);
-            Err(fault)
-        }
-    }
+    let separator = Separator::Operator(operator);
+    let (first, rest) = part_at(alloc, separator, depth, tokens)?;
+    let others = more_parts(alloc, separator, depth, Vec::new(alloc), rest);
+    let (first, (others, rest)) = both(first, others)?;
+    Ok((joined(alloc, operator, first, others)?, rest))
 }
 
 #[cycle(expressions)]
 #[tactic(auto, unfolding(crate::specs::Chains::more_parts))]
 fn more_parts(
     alloc: Global,
-    link: Link,
+    separator: Separator,
     depth: usize,
     before: Vec<ExprNode>,
     tokens: &[Token],
 ) -> Result<(Vec<ExprNode>, &[Token]), SqlFault>
-    ensures { GivesTrees result (more_parts link (parts_in depth link) (trees before) tokens.now) }
+    ensures { GivesTrees result (more_parts separator (parts_in depth separator) (trees before) tokens.now) }
 {
     let (mut parts, mut rest) = (before, tokens);
     for _ in 0..tokens.len() {
-        match after_link(link, rest) {
+        match after_separator(separator, rest) {
             Some(after) => {
-                let (part, next) = part_at(alloc, link, depth, after)?;
+                let (part, next) = part_at(alloc, separator, depth, after)?;
                 parts.push(part)?;
                 rest = next;
             }
@@ -68,17 +65,17 @@ fn more_parts(
 #[tactic(auto, unfolding(crate::specs::Expressions::operand_of))]
 fn part_at(
     alloc: Global,
-    link: Link,
+    separator: Separator,
     depth: usize,
     tokens: &[Token],
 ) -> Result<(ExprNode, &[Token]), SqlFault>
-    ensures { GivesTree result (part_of (readers depth) link tokens.now) }
+    ensures { GivesTree result (part_of (readers depth) separator tokens.now) }
 {
-    match link {
-        Link::Operator(Operator::Or) => chain_at(alloc, Operator::And, depth, tokens),
-        Link::Operator(Operator::And) => negation_at(alloc, depth, tokens),
-        Link::Operator(Operator::Times) => factor_at(alloc, depth, tokens),
-        Link::Comma => sum_at(alloc, depth, tokens),
+    match separator {
+        Separator::Operator(Operator::Or) => chain_at(alloc, Operator::And, depth, tokens),
+        Separator::Operator(Operator::And) => negation_at(alloc, depth, tokens),
+        Separator::Operator(Operator::Times) => factor_at(alloc, depth, tokens),
+        Separator::Comma => sum_at(alloc, depth, tokens),
     }
 }
 
@@ -129,35 +126,17 @@ fn tested(
 {
     match test {
         Test::Compare(comparison) => {
-            let (other, rest) = match sum_at(alloc, depth, tokens) {
-                Ok(read) => read,
-                Err(fault) => {
-                    drop(value);
-                    return Err(fault);
-                }
-            };
+            let (value, (other, rest)) = both(value, sum_at(alloc, depth, tokens))?;
             Ok((compared(alloc, comparison, value, other)?, rest))
         }
         Test::Between(negated) => between_at(alloc, depth, negated, value, tokens),
         Test::In(negated) => {
-            let (values, rest) = match choices_at(alloc, depth, tokens) {
-                Ok(read) => read,
-                Err(fault) => {
-                    drop(value);
-                    return Err(fault);
-                }
-            };
+            let (value, (values, rest)) = both(value, choices_at(alloc, depth, tokens))?;
             Ok((among(alloc, negated, value, values)?, rest))
         }
         Test::IsNull(negated) => Ok((null_test(alloc, negated, value)?, tokens)),
         Test::Like(negated) => {
-            let (pattern, rest) = match text_at(alloc, tokens) {
-                Ok(read) => read,
-                Err(fault) => {
-                    drop(value);
-                    return Err(fault);
-                }
-            };
+            let (value, (pattern, rest)) = both(value, text_at(alloc, tokens))?;
             Ok((like(alloc, negated, value, pattern)?, rest))
         }
     }
@@ -174,29 +153,9 @@ fn between_at(
 ) -> Result<(ExprNode, &[Token]), SqlFault>
     ensures { GivesTree result (between_of (readers depth) negated (written value) tokens.now) }
 {
-    let (least, rest) = match sum_at(alloc, depth, tokens) {
-        Ok(read) => read,
-        Err(fault) => {
-            drop(value);
-            return Err(fault);
-        }
-    };
-    let rest = match expect_keyword(Keyword::And, rest) {
-        Ok(rest) => rest,
-        Err(fault) => {
-            drop(least);
-            drop(value);
-            return Err(fault);
-        }
-    };
-    let (greatest, rest) = match sum_at(alloc, depth, rest) {
-        Ok(read) => read,
-        Err(fault) => {
-            drop(least);
-            drop(value);
-            return Err(fault);
-        }
-    };
+    let (value, (least, rest)) = both(value, sum_at(alloc, depth, tokens))?;
+    let ((value, least), rest) = both((value, least), expect_keyword(Keyword::And, rest))?;
+    let ((value, least), (greatest, rest)) = both((value, least), sum_at(alloc, depth, rest))?;
     Ok((between(alloc, negated, value, (least, greatest))?, rest))
 }
 
@@ -211,13 +170,7 @@ fn choices_at(
 {
     let rest = expect_symbol(Symbol::Open, tokens)?;
     let (choices, rest) = entries_at(alloc, depth, rest)?;
-    match expect_symbol(Symbol::Close, rest) {
-        Ok(rest) => Ok((choices, rest)),
-        Err(fault) => {
-            drop(choices);
-            Err(fault)
-        }
-    }
+    both(choices, expect_symbol(Symbol::Close, rest))
 }
 
 #[cycle(expressions)]
@@ -232,7 +185,13 @@ fn entries_at(
         return Err(SqlFault::Syntax);
     }
     let (first, rest) = sum_at(alloc, depth - 1, tokens)?;
-    more_parts(alloc, Link::Comma, depth - 1, only(alloc, first)?, rest)
+    more_parts(
+        alloc,
+        Separator::Comma,
+        depth - 1,
+        only(alloc, first)?,
+        rest,
+    )
 }
 
 #[cycle(expressions)]
@@ -282,21 +241,6 @@ fn more_terms(
     Ok((summed(alloc, first, signs, terms)?, rest))
 }
 
-/// Puts a later term of a sum behind these, and its sign behind theirs.
-fn add_term(
-    signs: &mut Vec<Sign>,
-    terms: &mut Vec<ExprNode>,
-    sign: Sign,
-    term: ExprNode,
-) -> Result<(), AllocError>
-    ensures sign { OnOk result (signs.new.items ≡ signs.old.items ++ sign ∷ []) }
-    ensures term { OnOk result (terms.new.items ≡ terms.old.items ++ term ∷ []) }
-{
-    terms.push(term)?;
-    signs.push(sign)?;
-    Ok(())
-}
-
 #[cycle(expressions)]
 #[tactic(auto, unfolding(crate::specs::Expressions::factor_of))]
 fn factor_at(
@@ -327,13 +271,8 @@ fn primary_at(
     match opening_at(tokens) {
         Some((opening, rest)) => {
             let (content, rest) = content_at(alloc, opening, depth, rest)?;
-            match expect_symbol(Symbol::Close, rest) {
-                Ok(rest) => Ok((enclosed(alloc, opening, content)?, rest)),
-                Err(fault) => {
-                    drop(content);
-                    Err(fault)
-                }
-            }
+            let (content, rest) = both(content, expect_symbol(Symbol::Close, rest))?;
+            Ok((enclosed(alloc, opening, content)?, rest))
         }
         None => atom_at(alloc, tokens),
     }

@@ -1,4 +1,7 @@
 //! Why a piece is no statement.
+//!
+//! Every reader answers it. It is one byte and tells no place: the first fault of a piece decides. The limits are asked
+//! before any reader begins, so a reader itself answers the first two alone.
 ghost use Rattle.std.specs.Prelude.{◌≡◌};
 ghost use Rattle.cq_sql_expressions.specs.declared.fault.SqlFault.TheVariants.{Memory};
 

@@ -1,4 +1,7 @@
 //! What stands in front of each later entry of a list.
+//!
+//! Whoever reads a list names its [`Lead`]; [`after_lead`] looks for it at the front of the tokens, once before each
+//! entry. It looks at two tokens at most.
 ghost use Rattle.std.specs.Prelude.{◌≡◌};
 ghost use Rattle.std.specs.Option.{option_map};
 ghost use Rattle.cq_sql_expressions.specs.Lists.{after_join, after_lead};

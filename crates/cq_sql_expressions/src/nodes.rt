@@ -1,15 +1,15 @@
 //! Expressions put together from their parts.
-ghost use Rattle.std.specs.Prelude.{◌≡◌, ◌∷◌, [], IfOk, fold};
+ghost use Rattle.std.specs.Prelude.{◌≡◌, ◌∷◌, ◌++◌, [], IfOk, OnOk, fold};
 ghost use Rattle.cq_sql_language.specs.Written.{choices, terms, written};
 ghost use Rattle.cq_sql_language.specs.Written as tree;
 ghost use Rattle.cq_sql_expressions.specs.Trees.{IsMade, trees};
 ghost use Rattle.cq_sql_expressions.specs.Chains.{enclosed, join};
 
 use crate::atoms::Opening;
-use crate::links::Operator;
+use crate::separators::Operator;
 use cq_sql_language::{ExprNode, Sign};
-use cq_values::{Comparison, Text};
-use std::alloc::{AllocFailed, Global};
+use cq_values::{Comparison, Text, both};
+use std::alloc::{AllocError, AllocFailed, Global};
 
 /// A chain of parts. One part alone is that part itself.
 pub fn joined(
@@ -99,20 +99,8 @@ fn boxed(
     ensures left { IfOk result (λ boxes. boxes.0.value ≡ left) }
     ensures right { IfOk result (λ boxes. boxes.1.value ≡ right) }
 {
-    let left = match Box::new(alloc, left) {
-        Ok(left) => left,
-        Err(fault) => {
-            drop(right);
-            return Err(fault);
-        }
-    };
-    match Box::new(alloc, right) {
-        Ok(right) => Ok((left, right)),
-        Err(fault) => {
-            drop(left);
-            Err(fault)
-        }
-    }
+    let (right, left) = both(right, Box::new(alloc, left))?;
+    both(left, Box::new(alloc, right))
 }
 
 /// The value with a test of whether it is NULL.
@@ -168,19 +156,22 @@ pub fn between(
 ) -> Result<ExprNode, AllocFailed<ExprNode>>
     ensures { IsMade result (tree.Between negated (written value) (written ends.0) (written ends.1)) }
 {
-    let (least, greatest) = match boxed(alloc, ends.0, ends.1) {
-        Ok(boxes) => boxes,
-        Err(fault) => {
-            drop(value);
-            return Err(fault);
-        }
-    };
-    match Box::new(alloc, value) {
-        Ok(value) => Ok(ExprNode::Between(negated, value, least, greatest)),
-        Err(fault) => {
-            drop(least);
-            drop(greatest);
-            Err(fault)
-        }
-    }
+    let (value, ends) = both(value, boxed(alloc, ends.0, ends.1))?;
+    let ((least, greatest), value) = both(ends, Box::new(alloc, value))?;
+    Ok(ExprNode::Between(negated, value, least, greatest))
+}
+
+/// Puts a later term of a sum behind these, and its sign behind theirs.
+pub fn add_term(
+    signs: &mut Vec<Sign>,
+    terms: &mut Vec<ExprNode>,
+    sign: Sign,
+    term: ExprNode,
+) -> Result<(), AllocError>
+    ensures sign { OnOk result (signs.new.items ≡ signs.old.items ++ sign ∷ []) }
+    ensures term { OnOk result (terms.new.items ≡ terms.old.items ++ term ∷ []) }
+{
+    terms.push(term)?;
+    signs.push(sign)?;
+    Ok(())
 }

@@ -9,8 +9,8 @@ ghost use Rattle.cq_sql_expressions.specs.declared.fault.SqlFault.TheVariants.{L
 
 use crate::expressions::chain_at;
 use crate::fault::SqlFault;
-use crate::links::Operator;
 use crate::read::Readable;
+use crate::separators::Operator;
 use cq_sql_language::{ExprNode, SqlExpr, Token};
 use std::alloc::Global;
 

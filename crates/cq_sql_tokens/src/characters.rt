@@ -29,7 +29,7 @@ pub fn digit_value(b: u8) -> Option<u64>
     (value <= 9).then_some(value)
 }
 
-pub fn is_word_byte(b: u8) -> bool
+fn is_word_byte(b: u8) -> bool
     ensures { result ≡ is_word_byte b }
 {
     b'0' <= b && (is_letter(b) || is_digit(b))

@@ -4,6 +4,7 @@ pub mod Days
 pub mod Keys
 pub mod Lent
 pub mod Order
+pub mod Pairs
 pub mod Printed
 pub mod Texts
 pub mod Truth

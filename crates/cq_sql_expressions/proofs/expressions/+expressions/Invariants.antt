@@ -1,7 +1,7 @@
 use Rattle.std.proofs.Common.{◌≡◌, ◌+◌, ◌-◌, ◌*◌, map, length}
 use Rattle.cq_sql_language.specs.Written.{written, terms}
 use Rattle.cq_sql_expressions.specs.Lists.{chain_from}
-use Rattle.cq_sql_expressions.specs.Chains.{linked_part, more_parts, signed_term, more_terms}
+use Rattle.cq_sql_expressions.specs.Chains.{separated_part, more_parts, signed_term, more_terms}
 use Rattle.cq_sql_expressions.specs.Expressions.{part_of, product_of, readers}
 use Rattle.cq_sql_expressions.proofs.Ranks.{operand_rank, part_rank}
 use Rattle.cq_sql_expressions.proofs.expressions.+expressions.Given as goal
@@ -22,10 +22,10 @@ abbrev pub decreases-factor_at : goal.decreases-factor_at
 decreases-factor_at l = 18 * l.depth + 2
 
 abbrev pub decreases-part_at : goal.decreases-part_at
-decreases-part_at l = 18 * l.depth + part_rank l.link
+decreases-part_at l = 18 * l.depth + part_rank l.separator
 
 abbrev pub decreases-more_parts : goal.decreases-more_parts
-decreases-more_parts l = 18 * l.depth + part_rank l.link + 1
+decreases-more_parts l = 18 * l.depth + part_rank l.separator + 1
 
 abbrev pub decreases-chain_at : goal.decreases-chain_at
 decreases-chain_at l = 18 * l.depth + operand_rank l.operator + 2
@@ -51,8 +51,8 @@ decreases-negation_at l = 18 * l.depth + 11
 -- the parts so far and what is still read make the whole
 abbrev pub invariant-more_parts-loop : goal.invariant-more_parts-loop
 invariant-more_parts-loop l =
-    chain_from (linked_part l.link (part_of (readers l.depth) l.link)) (l.end - l.counter) (map written l.parts.items) l.rest
-    ≡ more_parts l.link (part_of (readers l.depth) l.link) (map written l.fn.before.items) l.tokens
+    chain_from (separated_part l.separator (part_of (readers l.depth) l.separator)) (l.end - l.counter) (map written l.parts.items) l.rest
+    ≡ more_parts l.separator (part_of (readers l.depth) l.separator) (map written l.fn.before.items) l.tokens
 
 -- the terms so far and what is still read make the whole, and each later term has its sign
 abbrev pub invariant-more_terms-loop : goal.invariant-more_terms-loop

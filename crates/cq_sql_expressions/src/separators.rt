@@ -1,7 +1,7 @@
 //! What stands between the parts of a chain.
 ghost use Rattle.std.specs.Prelude.{◌≡◌};
 ghost use Rattle.std.specs.Option.{option_map};
-ghost use Rattle.cq_sql_expressions.specs.Chains.{after_link, sign_at};
+ghost use Rattle.cq_sql_expressions.specs.Chains.{after_separator, sign_at};
 
 use crate::read::{after_keyword, after_symbol};
 use cq_sql_language::{Keyword, Sign, Symbol, Token};
@@ -16,20 +16,20 @@ pub enum Operator {
 
 /// What stands between the parts of a chain, or between the entries of a list.
 #[derive(Clone, Copy, Debug, PartialEq, Eq)]
-pub enum Link {
+pub enum Separator {
     Operator(Operator),
     Comma,
 }
 
-/// The tokens behind the link, where it stands in front.
-pub fn after_link(link: Link, tokens: &[Token]) -> Option<&[Token]>
-    ensures { option_map (λ x. x.now) result ≡ after_link link tokens.now }
+/// The tokens behind the separator, where it stands in front.
+pub fn after_separator(separator: Separator, tokens: &[Token]) -> Option<&[Token]>
+    ensures { option_map (λ x. x.now) result ≡ after_separator separator tokens.now }
 {
-    match link {
-        Link::Operator(Operator::Or) => after_keyword(Keyword::Or, tokens),
-        Link::Operator(Operator::And) => after_keyword(Keyword::And, tokens),
-        Link::Operator(Operator::Times) => after_symbol(Symbol::Star, tokens),
-        Link::Comma => after_symbol(Symbol::Comma, tokens),
+    match separator {
+        Separator::Operator(Operator::Or) => after_keyword(Keyword::Or, tokens),
+        Separator::Operator(Operator::And) => after_keyword(Keyword::And, tokens),
+        Separator::Operator(Operator::Times) => after_symbol(Symbol::Star, tokens),
+        Separator::Comma => after_symbol(Symbol::Comma, tokens),
     }
 }
 
