@@ -1,6 +1,6 @@
 -- What a chain of nodes comes to with places for names, behind the aggregates before it.
-use Rattle.std.proofs.Common.{arith, Bool, ◌≡◌, ◌⊎◌, inl, inr, ◌<◌, ◌++◌, List, [], ◌∷◌, map, length, refl, sym, ◌∙◌, ap, ap₂, subst, Box, Vec, Global}
-use Rattle.std.proofs.lemmas.List.{append-nil, nil_from_length}
+use Rattle.std.proofs.Common.{arith, Bool, ℕ, suc, ◌≡◌, ◌⊎◌, inl, inr, ◌<◌, ◌++◌, List, [], ◌∷◌, map, length, refl, sym, ◌∙◌, ap, ap₂, subst, Box, Vec, Global}
+use Rattle.std.proofs.lemmas.List.{append-nil, length-map, nil_from_length}
 use Rattle.std.specs.List.{fold}
 use Rattle.cq_values.specs.declared.value.Value.TheVariants as values
 use Rattle.cq_sql_language.specs.declared.written.ExprNode.{ExprNode}
@@ -25,9 +25,9 @@ use Rattle.cq_model.specs.Trees.{cond_of, cond_step, expr_of}
 use Rattle.cq_binder_rules.specs.Placed.{placed_cond, placed_expr, placed_exprs, turned, with_aggregates, with_choices}
 use Rattle.cq_binder_rules.specs.Typing.{Scope}
 use Rattle.cq_model_eval.proofs.Trees.{tree-And, tree-Or, tree-Product, tree-Sum}
-use Rattle.cq_binder_expressions.specs.declared.placing.Tree.{Tree}
-use Rattle.cq_binder_expressions.specs.declared.placing.Tree.TheVariants.{Condition, Value}
-use Rattle.cq_binder_expressions.specs.Nodes.{AreConditions, AreTerms, AreValues, IsPlaced, condition_in, value_in, with_nodes}
+use Rattle.cq_binder_expressions.specs.declared.trees.Tree.{Tree}
+use Rattle.cq_binder_expressions.specs.declared.trees.Tree.TheVariants.{Condition, Value}
+use Rattle.cq_binder_expressions.specs.Nodes.{AreConditions, AreTerms, AreValues, IsPlaced, MakesAnd, MakesOr, MakesProduct, MakesSum, condition_in, value_in, with_nodes}
 use Rattle.cq_binder_expressions.specs.Terms.{each_placed, later_terms, with_terms}
 
 module _ (first : Box ExprNode Global) (rest : Vec ExprNode Global) where
@@ -224,6 +224,88 @@ module _ (s : Scope) (before middle after : List Aggregate) (n : ExprNode) (firs
             are.aggregates ∙ ap (λ (b : List Aggregate). with_nodes s b rest.items) is_first.aggregates
             ∙ sym (chosen s (with_aggregates s before (written first.value)) (map written rest.items));
       })
+
+-- each part comes to one tree
+each_length : {X : Type 0} (put : Scope → List Aggregate → Written → X) (s : Scope) (before : List Aggregate) (ws : List Written) → length (each_placed put s before ws) ≡ length ws
+each_length put s before [] = refl
+each_length put s before (w ∷ ws) = ap suc (each_length put s (with_aggregates s before w) ws)
+
+as_many : {T X : Type 0} (of : T → X) (put : Scope → List Aggregate → Written → X) (s : Scope) (before : List Aggregate) (ts : List T) (ns : List ExprNode)
+    → map of ts ≡ each_placed put s before (map written ns) → length ts ≡ length ns
+as_many of put s before ts ns e = sym (length-map ts of) ∙ ap length e ∙ each_length put s before (map written ns) ∙ length-map ns written
+
+-- terms that come to no tree have no sign, or are none
+no_terms : (s : Scope) (before : List Aggregate) (ss : List Sign) (ns : List ExprNode) (ts : List ExprTree) → map expr_of ts ≡ later_terms s before ss (map written ns)
+    → length ts ≡ 0 → (length ss ≡ 0) ⊎ (length ns ≡ 0)
+no_terms s before [] ns ts e none = inl refl
+no_terms s before (x ∷ ss) [] ts e none = inr refl
+no_terms s before (x ∷ ss) (n ∷ ns) ts e none = absurd (let count = sym (length-map ts expr_of) ∙ ap length e in omega (arith, none, count))
+
+-- and others have both
+some_terms : (s : Scope) (before : List Aggregate) (ss : List Sign) (ns : List ExprNode) (ts : List ExprTree) → map expr_of ts ≡ later_terms s before ss (map written ns)
+    → 0 < length ts → (0 < length ss) × (0 < length ns)
+some_terms s before [] ns ts e some = absurd (let count = sym (length-map ts expr_of) ∙ ap length e in omega (arith, some, count))
+some_terms s before (x ∷ ss) [] ts e some = absurd (let count = sym (length-map ts expr_of) ∙ ap length e in omega (arith, some, count))
+some_terms s before (x ∷ ss) (n ∷ ns) ts e some = (omega arith, omega arith)
+
+-- terms without a sign, or none, have no aggregates
+no_aggregates : (s : Scope) (before : List Aggregate) (ss : List Sign) (ns : List ExprNode) → (length ss ≡ 0) ⊎ (length ns ≡ 0) → with_terms s before ss (map written ns) ≡ before
+no_aggregates s before [] ns none = refl
+no_aggregates s before (x ∷ ss) [] none = refl
+no_aggregates s before (x ∷ ss) (n ∷ ns) (inl e) = absurd (omega (arith, e))
+no_aggregates s before (x ∷ ss) (n ∷ ns) (inr e) = absurd (omega (arith, e))
+
+module _ (s : Scope) (before middle after : List Aggregate) (n : ExprNode) (first : Box ExprNode Global) (rest : Vec ExprNode Global) (tree : Tree) (is_first : IsPlaced s before (written first.value) tree middle) where
+  -- the first part alone
+  first_alone : (t : Tree) → written n ≡ written first.value → after ≡ middle → t ≡ tree → IsPlaced s before (written n) t after
+  first_alone t same still is =
+      placed_as s before (written first.value) (written n) t after same
+      (subst (λ (u : Tree). IsPlaced s before (written first.value) u after) (sym is) (subst (λ (b : List Aggregate). IsPlaced s before (written first.value) tree b) (sym still) is_first))
+
+  -- no later part
+  none_behind : length rest.items ≡ 0 → after ≡ with_nodes s middle rest.items → after ≡ middle
+  none_behind none are = are ∙ ap (λ (ns : List ExprNode). with_nodes s middle ns) (nil_from_length rest.items none)
+
+  -- a product is made of what its factors come to
+  pub product_made : (trees : Vec ExprTree Global) (t : Tree) → n ≡ nodes.Product first rest → AreValues s middle rest.items trees.items after → MakesProduct tree trees t
+      → IsPlaced s before (written n) t after
+  product_made trees t is are (inl h) =
+      let none : length rest.items ≡ 0 = sym (as_many expr_of placed_expr s middle trees.items rest.items are.each) ∙ h.0 in
+      let same = ap written is ∙ written-Product first rest ∙ ap (λ (ns : List ExprNode). fold Times (written first.value) (map written ns)) (nil_from_length rest.items none) in
+      first_alone t same (none_behind none are.aggregates) h.1
+  product_made trees t is are (inr h) =
+      let some = subst (λ (k : ℕ). 0 < k) (as_many expr_of placed_expr s middle trees.items rest.items are.each) h.0 in
+      subst (λ (u : Tree). IsPlaced s before (written n) u after) (sym h.3) (product_placed s before middle after n first rest tree is_first h.1 trees is some h.2 are)
+
+  -- a sum of what its terms come to
+  pub sum_made : (ss : Vec Sign Global) (trees : Vec ExprTree Global) (t : Tree) → n ≡ nodes.Sum first ss rest → AreTerms s middle ss.items rest.items trees.items after → MakesSum tree trees t
+      → IsPlaced s before (written n) t after
+  sum_made ss trees t is are (inl h) =
+      let none = no_terms s middle ss.items rest.items trees.items are.values h.0 in
+      first_alone t (one_term n first ss rest none is) (are.aggregates ∙ no_aggregates s middle ss.items rest.items none) h.1
+  sum_made ss trees t is are (inr h) =
+      let some = some_terms s middle ss.items rest.items trees.items are.values h.0 in
+      subst (λ (u : Tree). IsPlaced s before (written n) u after) (sym h.3) (sum_placed s before middle after n first rest tree is_first ss h.1 trees is some.0 some.1 h.2 are)
+
+  -- AND of what its parts come to
+  pub and_made : (trees : Vec CondTree Global) (t : Tree) → n ≡ nodes.And first rest → AreConditions s middle rest.items trees.items after → MakesAnd tree trees t
+      → IsPlaced s before (written n) t after
+  and_made trees t is are (inl h) =
+      let none : length rest.items ≡ 0 = sym (as_many cond_of placed_cond s middle trees.items rest.items are.each) ∙ h.0 in
+      first_alone t (alone n first rest none (inl is)) (none_behind none are.aggregates) h.1
+  and_made trees t is are (inr h) =
+      let some = subst (λ (k : ℕ). 0 < k) (as_many cond_of placed_cond s middle trees.items rest.items are.each) h.0 in
+      subst (λ (u : Tree). IsPlaced s before (written n) u after) (sym h.3) (and_placed s before middle after n first rest tree is_first h.1 trees is some h.2 are)
+
+  -- and OR
+  pub or_made : (trees : Vec CondTree Global) (t : Tree) → n ≡ nodes.Or first rest → AreConditions s middle rest.items trees.items after → MakesOr tree trees t
+      → IsPlaced s before (written n) t after
+  or_made trees t is are (inl h) =
+      let none : length rest.items ≡ 0 = sym (as_many cond_of placed_cond s middle trees.items rest.items are.each) ∙ h.0 in
+      first_alone t (alone n first rest none (inr is)) (none_behind none are.aggregates) h.1
+  or_made trees t is are (inr h) =
+      let some = subst (λ (k : ℕ). 0 < k) (as_many cond_of placed_cond s middle trees.items rest.items are.each) h.0 in
+      subst (λ (u : Tree). IsPlaced s before (written n) u after) (sym h.3) (or_placed s before middle after n first rest tree is_first h.1 trees is some h.2 are)
 
 -- the trees that are made and the nodes that are left make the whole
 pub record Makes {T X : Type 0} (of : T → X) (put : Scope → List Aggregate → Written → X) (s : Scope) (start : List Aggregate) (ns : List ExprNode) (made : List T) (before : List Aggregate) (left : List ExprNode) : Type 0 where

@@ -11,11 +11,12 @@ mod bind;
 mod laws;
 mod placing;
 mod scope;
+mod trees;
 mod typings;
 mod walk;
 
 pub use aggregates::has_aggregate;
 pub use bind::{bind_condition, bind_having, bind_item, bind_kept, bind_of, type_of};
 pub use laws::{arguments_are_narrow, typed_is_narrow, typed_is_of_its_kind};
-pub use scope::{Scope, ScopeColumn, column_place, is_known, named_place, resolved, row_place};
+pub use scope::{Scope, ScopeColumn, column_place, is_known, named_place, resolved};
 pub use walk::typing_of;

@@ -5,43 +5,15 @@ ghost use Rattle.cq_sql_language.specs.Written.{written};
 ghost use Rattle.cq_binder_rules.specs.Placed.{aggregate_of, named_day, turned, written_number};
 ghost use Rattle.cq_binder_rules.specs.Places.{next_place};
 ghost use Rattle.cq_binder_expressions.specs.Expressions.{scope_of};
-ghost use Rattle.cq_binder_expressions.specs.Nodes.{AreValues, MakesConditions, MakesTerms, PlacesTree, condition_in, value_in};
+ghost use Rattle.cq_binder_expressions.specs.Nodes.{AreValues, MakesConditions, MakesTerms, PlacesTree};
 ghost use Rattle.cq_binder_expressions.specs.Terms.{signed_term};
 
 use crate::scope::Scope;
+use crate::trees::{Tree, and_tree, or_tree, product_tree, sum_tree};
 use cq_model::{Aggregate, CondTree, Expr, ExprTree};
 use cq_sql_language::{AggregateFunction, ExprNode, Sign};
-use cq_values::{Seq, Value, date_of};
+use cq_values::{Seq, Value, both, date_of};
 use std::alloc::{AllocError, Global};
-
-/// What is written: a value or a condition.
-#[derive(Drop)]
-pub(crate) enum Tree {
-    Value(ExprTree),
-    Condition(CondTree),
-}
-
-impl Tree {
-    /// The value that it is. A condition is none, and NULL stands for it.
-    pub(crate) fn into_value(self) -> ExprTree
-        ensures { expr_of result ≡ value_in self }
-    {
-        match self {
-            Tree::Value(value) => value,
-            Tree::Condition(_) => ExprTree::Literal(Value::Null),
-        }
-    }
-
-    /// The condition that it is. A value is none, and whether it is NULL stands for it.
-    pub(crate) fn into_condition(self) -> CondTree
-        ensures { cond_of result ≡ condition_in self }
-    {
-        match self {
-            Tree::Value(value) => CondTree::IsNull(value),
-            Tree::Condition(condition) => condition,
-        }
-    }
-}
 
 /// What a node says. Its aggregates are put behind these. A chain of one part is that part.
 #[cycle(trees)]
@@ -82,41 +54,18 @@ pub(crate) fn tree_of(
         }
         ExprNode::Product(first, rest) => {
             let first = tree_of(alloc, scope, aggregates, first)?;
-            if rest.is_empty() {
-                return Ok(first);
-            }
-            let first = Box::new(alloc, first.into_value())?;
-            match value_trees(alloc, scope, aggregates, rest) {
-                Ok(rest) => Ok(Tree::Value(ExprTree::Product(first, rest))),
-                Err(fault) => {
-                    drop(first);
-                    Err(fault)
-                }
-            }
+            let (first, rest) = both(first, value_trees(alloc, scope, aggregates, rest))?;
+            Ok(product_tree(alloc, first, rest)?)
         }
         ExprNode::Sum(first, signs, rest) => {
             let first = tree_of(alloc, scope, aggregates, first)?;
-            if signs.is_empty() || rest.is_empty() {
-                return Ok(first);
-            }
-            let first = Box::new(alloc, first.into_value())?;
-            match term_trees(alloc, scope, aggregates, signs, rest) {
-                Ok(rest) => Ok(Tree::Value(ExprTree::Sum(first, rest))),
-                Err(fault) => {
-                    drop(first);
-                    Err(fault)
-                }
-            }
+            let (first, rest) = both(first, term_trees(alloc, scope, aggregates, signs, rest))?;
+            Ok(sum_tree(alloc, first, rest)?)
         }
         ExprNode::Compare(comparison, a, b) => {
             let a = tree_of(alloc, scope, aggregates, a)?.into_value();
-            match tree_of(alloc, scope, aggregates, b) {
-                Ok(b) => Ok(Tree::Condition(CondTree::Compare(*comparison, a, b.into_value()))),
-                Err(fault) => {
-                    drop(a);
-                    Err(fault)
-                }
-            }
+            let (a, b) = both(a, tree_of(alloc, scope, aggregates, b))?;
+            Ok(Tree::Condition(CondTree::Compare(*comparison, a, b.into_value())))
         }
         ExprNode::IsNull(negated, value) => {
             let value = tree_of(alloc, scope, aggregates, value)?.into_value();
@@ -125,33 +74,18 @@ pub(crate) fn tree_of(
         }
         ExprNode::Between(negated, value, least, greatest) => {
             let value = tree_of(alloc, scope, aggregates, value)?.into_value();
-            let least = match tree_of(alloc, scope, aggregates, least) {
-                Ok(least) => least.into_value(),
-                Err(fault) => {
-                    drop(value);
-                    return Err(fault);
-                }
-            };
-            let greatest = match tree_of(alloc, scope, aggregates, greatest) {
-                Ok(greatest) => greatest.into_value(),
-                Err(fault) => {
-                    drop(least);
-                    drop(value);
-                    return Err(fault);
-                }
-            };
+            let (value, least) = both(value, tree_of(alloc, scope, aggregates, least))?;
+            let ((value, least), greatest) = both(
+                (value, least),
+                tree_of(alloc, scope, aggregates, greatest),
+            )?;
+            let (least, greatest) = (least.into_value(), greatest.into_value());
             let test = turned(alloc, *negated, CondTree::Between(value, least, greatest))?;
             Ok(Tree::Condition(test))
         }
         ExprNode::In(negated, value, choices) => {
             let value = tree_of(alloc, scope, aggregates, value)?.into_value();
-            let choices = match value_trees(alloc, scope, aggregates, choices) {
-                Ok(choices) => choices,
-                Err(fault) => {
-                    drop(value);
-                    return Err(fault);
-                }
-            };
+            let (value, choices) = both(value, value_trees(alloc, scope, aggregates, choices))?;
             let test = turned(alloc, *negated, CondTree::In(value, choices))?;
             Ok(Tree::Condition(test))
         }
@@ -167,31 +101,13 @@ pub(crate) fn tree_of(
         }
         ExprNode::And(first, rest) => {
             let first = tree_of(alloc, scope, aggregates, first)?;
-            if rest.is_empty() {
-                return Ok(first);
-            }
-            let first = Box::new(alloc, first.into_condition())?;
-            match condition_trees(alloc, scope, aggregates, rest) {
-                Ok(rest) => Ok(Tree::Condition(CondTree::And(first, rest))),
-                Err(fault) => {
-                    drop(first);
-                    Err(fault)
-                }
-            }
+            let (first, rest) = both(first, condition_trees(alloc, scope, aggregates, rest))?;
+            Ok(and_tree(alloc, first, rest)?)
         }
         ExprNode::Or(first, rest) => {
             let first = tree_of(alloc, scope, aggregates, first)?;
-            if rest.is_empty() {
-                return Ok(first);
-            }
-            let first = Box::new(alloc, first.into_condition())?;
-            match condition_trees(alloc, scope, aggregates, rest) {
-                Ok(rest) => Ok(Tree::Condition(CondTree::Or(first, rest))),
-                Err(fault) => {
-                    drop(first);
-                    Err(fault)
-                }
-            }
+            let (first, rest) = both(first, condition_trees(alloc, scope, aggregates, rest))?;
+            Ok(or_tree(alloc, first, rest)?)
         }
     }
 }

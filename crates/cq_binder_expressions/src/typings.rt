@@ -1,11 +1,11 @@
 //! What operators and tests ask of their operands, and what they give.
 ghost use Rattle.std.specs.Prelude.{◌≡◌, ◌&&◌};
-ghost use Rattle.cq_model.specs.Width.{part_limit};
 ghost use Rattle.cq_binder_rules.specs.Kinds.{a_condition, aggregated, agree, between_them, compared_with, connected, counted, is_condition, is_of, is_value, kept_value, like_of, negation_of, negative, number_of, of_type, part_of, product_of, sum_of, tested, text_of, unless, value_of};
 ghost use Rattle.cq_binder_rules.specs.declared.fault.Fault.TheVariants.{TypeMismatch};
 
 use cq_binder_rules::{Fault, Kind, Typing};
 use cq_model::{COUNT_SIZE, MAX_TEXT, TOO_WIDE};
+use cq_model_eval::part_limit;
 use cq_sql_language::AggregateFunction;
 use cq_values::{DayPart, Text, Ty};
 
@@ -234,15 +234,4 @@ fn is_condition(kind: Kind) -> bool
     ensures { result ≡ is_condition kind }
 {
     matches!(kind, Kind::Condition)
-}
-
-/// The greatest year, month or day of a month.
-fn part_limit(part: DayPart) -> u128
-    ensures { result ≡ part_limit part }
-{
-    match part {
-        DayPart::Year => 9999,
-        DayPart::Month => 12,
-        DayPart::Day => 31,
-    }
 }

@@ -75,9 +75,7 @@ pub(crate) fn node_typing(scope: &Scope<'_>, node: &ExprNode) -> Result<Typing, 
             node_typing(scope, least)?,
             node_typing(scope, greatest)?,
         ),
-        ExprNode::In(_, value, entries) => {
-            list_typing(scope, node_typing(scope, value)?, entries)
-        }
+        ExprNode::In(_, value, entries) => in_typing(scope, node_typing(scope, value)?, entries),
         ExprNode::Like(_, value, pattern) => {
             typings::like_of(node_typing(scope, value)?, typings::text_of(pattern)?)
         }
@@ -118,7 +116,7 @@ fn chain_typing(
 
 /// The list behind IN: each entry, and then all have to agree with the value.
 #[cycle(walk)]
-fn list_typing(scope: &Scope<'_>, value: Typing, entries: &[ExprNode]) -> Result<Typing, Fault>
+fn in_typing(scope: &Scope<'_>, value: Typing, entries: &[ExprNode]) -> Result<Typing, Fault>
     ensures { result ≡ listed (scope_of scope.now) value true (choices (map written entries.now)) }
 {
     let mut all_agree = true;

@@ -13,4 +13,4 @@ pub use keeping::keeps;
 pub use pattern::{like, like_decides};
 pub use rows::{items_of, key_of};
 pub use truth::{compare, holds_row};
-pub use width::{fits, value_size, width_of};
+pub use width::{fits, part_limit, value_size, width_of};

@@ -106,7 +106,7 @@ pub fn value_size(value: &Value) -> u128
 }
 
 /// The greatest year, month or day of a month.
-fn part_limit(part: DayPart) -> u128
+pub fn part_limit(part: DayPart) -> u128
     ensures { result ≡ part_limit part }
 {
     match part {

@@ -46,8 +46,8 @@ node_typing-returns-in_ok-node_typing-in-Sum t c =
     let chain = sum_chain s c.args.node.now c.in-Sum.first c.in-Sum.others c.in-Sum.signs c.min.result others c.in-Sum.is count same in
     c.chain_typing-in-Sum.ensures ∙ goes_on _ _ _ _ _ chain c.in_ok-node_typing-in-Sum.field-0 (search rules)
 
-pub node_typing-list_typing-requires : goal.node_typing-list_typing-requires
-node_typing-list_typing-requires t c = (search (rules, the_lemmas), tt)
+pub node_typing-in_typing-requires : goal.node_typing-in_typing-requires
+node_typing-in_typing-requires t c = (search (rules, the_lemmas), tt)
 
 pub node_typing-returns-in_err-node_typing-in-And : goal.node_typing-returns-in_err-node_typing-in-And
 node_typing-returns-in_err-node_typing-in-And t c =

@@ -12,7 +12,7 @@ invariant-chain_typing-loop-part l =
     ≡ chained (scope_of l.scope) l.operator l.fn.first (map written l.others)
 
 -- what is left completes the list
-abbrev pub invariant-list_typing-loop-entry : goal.invariant-list_typing-loop-entry
-invariant-list_typing-loop-entry l =
+abbrev pub invariant-in_typing-loop-entry : goal.invariant-in_typing-loop-entry
+invariant-in_typing-loop-entry l =
     listed (scope_of l.scope) l.value l.all_agree (choices (map written (drop l.entry-index l.entries)))
     ≡ listed (scope_of l.scope) l.value true (choices (map written l.entries))
