@@ -3,17 +3,17 @@ ghost use Rattle.std.specs.Prelude.{◌≡◌, ◌<◌, ◌^◌};
 ghost use Rattle.cq_binder_rules.specs.Bound.{literal_value};
 ghost use Rattle.cq_binder_rules.specs.RowChecks.{fits_column};
 
+use cq_model::STORED_SIZE;
 use cq_sql_language::Literal;
 
 /// Whether a column can hold it: stored numbers have 64 bits with a sign.
 pub(crate) fn fits_column(literal: &Literal) -> bool
     ensures { result ≡ fits_column literal.now }
 {
-    let limit = 1u128 << 63;
     if literal.is_negative {
-        literal.magnitude <= limit
+        literal.magnitude <= STORED_SIZE
     } else {
-        literal.magnitude < limit
+        literal.magnitude < STORED_SIZE
     }
 }
 

@@ -20,7 +20,6 @@ mod viewing;
 
 pub use catalog::{Catalog, TableEntry, ViewEntry};
 pub use conditions::bound_where;
-pub use from::{Allowed, FromClause, bound_from};
 pub use lists::{check_length, check_names, is_named};
 pub use reading::bind_select;
 pub use scopes::table_columns;
