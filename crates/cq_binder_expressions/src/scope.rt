@@ -1,4 +1,7 @@
 //! What expressions read: the columns of the sources that FROM has joined.
+//!
+//! A [`Scope`] is made once for a clause, of columns that it lends, and every expression of the clause is then typed
+//! and bound in it. A name is looked for among all columns, one after the other, each time that it is written.
 ghost use Rattle.std.specs.List.{list_any};
 ghost use Rattle.std.specs.Prelude.{◌==◌, ◌≡◌, ◌<◌, [], IfOk, IfSome, Some, length, position, unwrap_or};
 ghost use Rattle.cq_values.specs.Texts.{is_text};

@@ -1,4 +1,8 @@
 //! The tables and views that statements find under their names.
+//!
+//! The engine shows its tables and views as a [`Catalog`], and the binder asks it by name, as often as a name is
+//! written. An entry is lent and takes no memory. What a look-up costs is the engine's affair; nothing is changed by
+//! one.
 ghost use Rattle.std.specs.Prelude.{◌≡◌, List, IfOk, option_map};
 ghost use Rattle.cq_binder_rules.specs.Refusal.{is_used};
 ghost use Rattle.cq_model_state.specs.State.{TableOf, ViewOf, table_named, view_place};

@@ -1,7 +1,10 @@
-//! The binding of queries: what stands behind FROM in a SELECT or in the query of a view.
+//! The binding of queries: the tables and views that FROM finds, and what stands behind FROM in a SELECT or a view.
 //!
-//! [`bind_select`] makes the command that a SELECT is, and [`bind_view`] the one of a view. The functions below them bind one
-//! clause each, in the order of the walk: WHERE, GROUP BY, the items, HAVING, ORDER BY.
+//! A [`Catalog`] knows tables and views by name, and FROM joins those that it names. [`bind_select`] makes the command
+//! that a SELECT is, and [`bind_view`] the one of a view. The functions below them bind one clause each, in the order
+//! of the walk: FROM, WHERE, GROUP BY, the items, HAVING, ORDER BY, LIMIT. Each gives what its clause means, or the
+//! first fault in it; a writing statement finds its table's columns ([`table_columns`]) and binds WHERE
+//! ([`bound_where`]) here too.
 #![tactic(auto)]
 
 mod catalog;

@@ -1,4 +1,8 @@
 //! Statements with their names resolved.
+//!
+//! `bind` makes a [`Bound`] of a statement, and the engine carries it out, at once: its numbers of tables and places of
+//! views are those of the state that it was bound in. It owns its rows and its query, and knows no name but those that
+//! it makes.
 use cq_model::{Assignment, Cond, Order, Query};
 use cq_values::{ColumnDef, Row, Seq, Text};
 

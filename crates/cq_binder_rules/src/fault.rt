@@ -1,4 +1,7 @@
 //! Why a statement is refused.
+//!
+//! The binder answers the first [`Fault`] of the walk; those behind it, of rows and totals, come from the engine. A
+//! fault is a number and a text that a script prints, and holds no memory, so that want of it can be told too.
 ghost use Rattle.std.specs.Prelude.{◌≡◌};
 ghost use Rattle.cq_binder_rules.specs.FaultText.{fault_words, record_of};
 ghost use Rattle.cq_binder_rules.specs.declared.fault.Fault.TheVariants.{Memory};

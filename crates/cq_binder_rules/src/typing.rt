@@ -1,4 +1,7 @@
 //! What kind of thing an expression is, and how large it can be.
+//!
+//! The walk through an expression makes a [`Typing`] of each node, of those of its operands, and asks it whether the
+//! operator above may take it. It is copied, and its size is a bound that no row's value exceeds.
 use cq_values::Ty;
 
 /// What an expression gives.

@@ -1,4 +1,7 @@
 //! Lines of fields, by `csv`'s writer.
+//!
+//! [`Lines`] is begun behind a text; then come the fields of a line and its end, line after line, and at last the text
+//! is taken out. After an Err it is only let go. A field costs its bytes.
 ghost use Rattle.std.specs.Prelude.{◌∷◌, [], IfOk, OnOk};
 ghost use Rattle.cq_csvio.specs.Lines.{Adds, Ends, HasText, Holds};
 

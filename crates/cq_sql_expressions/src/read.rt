@@ -1,8 +1,8 @@
 //! What stands at the front of tokens, and the tokens behind it.
 //!
 //! A reader takes the tokens, and answers what it read and the tokens behind it, which go to the next one. What reads
-//! one kind of thing is a [`Readable`]; lists and clauses of any kind are read by the functions here. A token is read
-//! once, and what was read is let go where a later reader fails.
+//! one kind of thing is a [`Readable`]; lists and clauses of any kind are read by the functions here. No reader goes
+//! back over what it took, and what was read is let go where a later reader fails.
 ghost use Rattle.std.specs.Prelude.{◌≡◌, List, Option};
 ghost use Rattle.std.specs.Option.{option_map};
 ghost use Rattle.cq_sql_language.specs.declared.token.Token.{Token};

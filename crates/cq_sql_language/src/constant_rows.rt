@@ -1,4 +1,7 @@
 //! The rows of an INSERT, whose constants stand in one list.
+//!
+//! A row is begun and its constants are pushed, row after row; then the rows are read by their places from 0. Room is
+//! asked for at the start, a row is lent at once, whichever it is, and none has a list of its own.
 ghost use Rattle.std.specs.Prelude.{◌++◌, ◌<◌, ◌∷◌, ◌≡◌, IfOk, OnOk, Some, [], length, slice_get};
 ghost use Rattle.cq_sql_language.specs.ConstantRows.{AreRising, IsPlaced, onto_last};
 

@@ -1,4 +1,7 @@
 //! Statements as trees.
+//!
+//! The reader of `cq_sql` makes a [`Statement`] of a piece, and the binder reads it; neither changes one. It owns its
+//! names, texts and lists, so it outlives the script. The rows of an INSERT stand in one list of constants.
 use crate::constant_rows::ConstantRows;
 use crate::written::{ColumnName, SqlExpr};
 use cq_values::{ColumnDef, Seq, Text};

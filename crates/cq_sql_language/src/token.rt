@@ -1,4 +1,7 @@
 //! Tokens of a statement.
+//!
+//! `cq_sql_tokens` makes them of a text, and the readers take them from the front of a list, which they only lend. A
+//! keyword and a symbol are one byte each; a name, folded to lower case, and a text own their bytes.
 use cq_values::Text;
 
 /// The words that are no names.

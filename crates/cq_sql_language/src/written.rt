@@ -1,4 +1,8 @@
 //! Expressions as they are written, with the names of columns.
+//!
+//! The reader makes an [`ExprNode`], and the binder walks through it and puts places for its names. A chain of one
+//! operator is a list in its node, so what goes down a tree needs a stack as deep as the parentheses are, however long
+//! it is.
 ghost use Rattle.std.specs.Prelude.{◌≡◌};
 ghost use Rattle.cq_sql_language.specs.Written.{written};
 

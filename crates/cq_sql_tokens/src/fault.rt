@@ -1,4 +1,7 @@
 //! Why a text has no tokens.
+//!
+//! [`tokens`](crate::tokens) answers it; which character is at fault it does not tell. Want of memory may come at any
+//! text.
 ghost use Rattle.cq_sql_tokens.specs.declared.fault.TokenFault.TheVariants.{Memory};
 ghost use Rattle.std.specs.Prelude.{◌≡◌};
 

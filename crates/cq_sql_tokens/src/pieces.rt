@@ -1,4 +1,8 @@
 //! A script as pieces.
+//!
+//! [`split`] begins, and each `next` of [`Pieces`] cuts the piece at the front off; behind the last one it answers
+//! none. A piece is lent from the script: no byte is copied, and each is read once, as the piece is cut that it stands
+//! in.
 ghost use Rattle.std.specs.Prelude.{◌≡◌, ◌∷◌};
 ghost use Rattle.std.specs.Option.{option_map};
 ghost use Rattle.std.specs.Iterator.{YieldsFirstBy, item_count};

@@ -1,7 +1,8 @@
-//! Values and rows: what a column can hold, and the total order by which it is sorted.
+//! Values and rows: what a column can hold, the total order by which it is sorted, and how both are printed.
 //!
-//! To its callers a [`Text`] is its bytes, a [`Seq`] and a [`Row`] are lists, and a [`Day`] is a number; no clause
-//! sees a buffer. Two values tie in the total order only where they are one value.
+//! To its callers a [`Text`] is its bytes, a [`Seq`] and a [`Row`] are lists, and a [`Day`] is a number; no clause sees
+//! a buffer. Two values tie in the total order only where they are one value. The bytes of a printed value, row and
+//! result are defined here (`Printed`); what prints them is `cq_csvio`.
 #![tactic(auto)]
 
 mod column;
