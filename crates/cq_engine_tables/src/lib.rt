@@ -1,8 +1,8 @@
 //! Tables and views in memory: what each holds, how it is found, and how it changes.
 //!
-//! A [`NamedTable`] holds rows under a number and a name, a [`View`] what is kept of its query under a name. A view is made ready
-//! for what changes in a table, which may fail; it then takes it in, which cannot. To its callers a
-//! [`NamedTable`] is the bag of its rows, and a [`View`] what is kept for its query.
+//! A [`NamedTable`] holds rows under a number and a name, a [`View`] what is kept of its query under a name. A view is made
+//! ready for what changes in a table, which may fail; it then takes it in, which cannot. To its callers a [`NamedTable`] is
+//! the bag of its rows, and a [`View`] what is kept for its query.
 #![tactic(auto)]
 
 mod named_table;
