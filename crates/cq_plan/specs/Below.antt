@@ -3,7 +3,7 @@ use Rattle.std.specs.Prelude.{◌≡◌, ℕ, ◌+◌, List, [], ◌∷◌, Opti
 use Rattle.cq_model.specs.Own.{passes_own}
 use Rattle.cq_model.specs.Expr.{Cond}
 use Rattle.cq_values.specs.Value.{Row}
-use Rattle.cq_plan.specs.Chain.{JoinedSource}
+use Rattle.cq_plan.specs.Chain.{ChainedSource}
 use Rattle.cq_plan.specs.Own.{AreOwnOf}
 
 -- what passes own conditions of WHERE of a source's rows
@@ -13,7 +13,7 @@ pub record ArePassing (where_is : Option Cond) (before wide : ℕ) (rows passing
   pub are : passing ≡ filter (passes_own before conditions) rows
 
 -- sources that are joined, each with the rows that pass own conditions, and with the same ON
-abbrev pub LinksPass : Option Cond → ℕ → List ℕ → List JoinedSource → List JoinedSource → Type 0
+abbrev pub LinksPass : Option Cond → ℕ → List ℕ → List ChainedSource → List ChainedSource → Type 0
 LinksPass where_is before [] [] [] = Unit {0}
 LinksPass where_is before (wide ∷ widths) (link ∷ links) (passed ∷ others) =
     (passed.0 ≡ link.0) × ArePassing where_is before wide link.1 passed.1 × LinksPass where_is (before + wide) widths links others
