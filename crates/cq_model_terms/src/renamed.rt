@@ -1,10 +1,11 @@
 //! The same trees with their columns at other places.
-ghost use Rattle.std.specs.Prelude.{◌≡◌, IfOk, Ok, map};
+ghost use Rattle.std.specs.Prelude.{◌≡◌, IfOk, map};
 ghost use Rattle.cq_model.specs.Trees.{cond_of, expr_of};
 ghost use Rattle.cq_model_terms.specs.Naming.{cond_by, expr_by};
 
 use crate::naming::{Naming, place_by};
 use cq_model::{CondTree, ExprTree};
+use cq_values::both;
 use std::alloc::{AllocError, Global};
 
 /// The expression with each column at its new place.
@@ -131,18 +132,4 @@ fn renamed_two(
 {
     let a = renamed_expr(alloc, a, naming)?;
     both(a, renamed_expr(alloc, b, naming))
-}
-
-/// A part that is made, and one that is made or refused. Where it is refused, the first is let go.
-fn both<A: Drop, B>(first: A, second: Result<B, AllocError>) -> Result<(A, B), AllocError>
-    ensures first { IfOk result (λ r. r.0 ≡ first) }
-    ensures second { IfOk result (λ r. second ≡ Ok r.1) }
-{
-    match second {
-        Ok(second) => Ok((first, second)),
-        Err(fault) => {
-            drop(first);
-            Err(fault)
-        }
-    }
 }
