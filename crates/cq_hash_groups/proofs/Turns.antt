@@ -94,6 +94,6 @@ within-more few many (Bests which values) le all = tt
 
 -- there are as many groups as there are to be
 pub groups-grown : (groups : ℕ) (s : Slots) → groups ≤ groups_in (grown_slots groups s)
-groups-grown groups (Counts counts) = omega (arith, length-append counts (replicate (groups - length counts) 0), length-replicate {S = ℕ} (groups - length counts) 0)
+groups-grown groups (Counts counts) = omega (arith, length-append counts (replicate (groups - length counts) 0), length-replicate {A = ℕ} (groups - length counts) 0)
 groups-grown groups (Sums sums) = omega (arith, length-append sums (replicate (groups - length sums) no_sum), length-replicate (groups - length sums) no_sum)
 groups-grown groups (Bests which values) = omega (arith, length-append values (replicate (groups - length values) Null), length-replicate (groups - length values) Null)
