@@ -71,7 +71,7 @@ module _ (keep : Row → Bool) where
     pub gone_few : (bound : ℕ) → length rows < bound → length gone < bound
     gone_few bound few =
         let same : length gone ≡ length (filter keep rows) = sym (length-bag_of gone) ∙ ap length chosen ∙ length-bag_of (filter keep rows) in
-        omega (arith, few, same, fewer rows)
+        omega (arith, few, same, fewer keep rows)
 
 -- ---- Views of all tables, where the one at a place was written
 -- views that are right stand for the tables
