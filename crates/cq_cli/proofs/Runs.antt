@@ -2,7 +2,7 @@
 use Rattle.std.proofs.Common.{◌≡◌, ℕ, ◌+◌, ◌-◌, ◌^◌, ◌≤◌, ◌<◌, Bool, true, false, cond, if◌then◌else◌, not, List, [], ◌∷◌, ◌++◌, count_by, length, Option, Result, Ok, Err, IfOk, refl, sym, ap, subst, ◌∙◌, append_assoc, arith}
 use Rattle.cq_binder_rules.specs.declared.fault.Fault.TheVariants.{NotUtf8}
 use Rattle.std.specs.Str.{IsUtf8}
-use Rattle.std.specs.Io.KnownBytes.{Appends}
+use Rattle.std.specs.Io.KnownBytes.{Appends, Keeps}
 use Rattle.std.proofs.lemmas.Grind.{flat_map-append}
 use Rattle.std.proofs.lemmas.List.{append-nil}
 use Rattle.std.proofs.lemmas.List.Sums.{sum_by-append}
@@ -19,7 +19,7 @@ use Rattle.cq_cli.specs.Running.{Counted, RunsScript, StopsIfFailed, both, statu
 use Rattle.cq_cli.specs.Writing.{Wrote, WrotePrefix}
 use Rattle.cq_cli.proofs.Counting.{serves_draws, serves_failures}
 use Rattle.cq_cli.proofs.Serving.{ServesPiece, refused_somehow}
-use Rattle.cq_cli.proofs.Writes.{appends_more, appends_nothing, prefix_of_more, wrote_then}
+use Rattle.cq_cli.proofs.Writes.{all_then_failed, appends_kept, appends_more, appends_nothing, prefix_of_more, wrote_then}
 use Rattle.std.proofs.lemmas.List.Elements.{filter-append}
 
 -- a run goes on by one piece
@@ -220,4 +220,24 @@ refuses_bytes source max_rows script a b f g u r bad written told = record {
   counted = no_source u r;
   stopped = stops_at_once a b f g u r written;
   told = told;
+}
+
+-- a run that went well, at whose end the flush fails
+pub flush_fails : (source : Option Files) (max_rows : ℕ) (script : List ℕ) (a b c : Option (List ℕ)) (f g h u v : ℕ) (status : Status) → RunsScript source max_rows script a b f g u v (Ok status) → Keeps b c
+    → (e : RunFault) → h ≡ g + 1 → RunsScript source max_rows script a c f h u v (Err e)
+flush_fails source max_rows script a b c f g h u v status ran kept e more = record {
+  outcomes = ran.outcomes;
+  answered = ran.answered;
+  written = all_then_failed (output_of ran.outcomes) a b c f g h ran.written kept more;
+  counted = (ran.outcomes, [], sym (append-nil ran.outcomes), ran.counted);
+  stopped = record {
+    before = ran.outcomes;
+    last = [];
+    later = [];
+    all = sym (append-nil ran.outcomes);
+    one = omega arith;
+    put = ([], [], refl, subst (λ (t : List ℕ). Appends a c t) (sym (append-nil (output_of ran.outcomes))) (appends_kept a b c (output_of ran.outcomes) ran.written.0 kept));
+    counted = subst (λ (os : List (Result Answer Fault)). v ≡ u + source_failures os) (sym (append-nil ran.outcomes)) ran.counted;
+  };
+  told = tt;
 }

@@ -1,7 +1,7 @@
 -- Writing a text bit by bit.
 use Rattle.std.proofs.Common.{◌≡◌, ℕ, ◌+◌, List, [], ◌++◌, take, drop, Option, Some, None, Result, Ok, Err, sym, ap, ◌∙◌, append_assoc, ◌<◌, arith}
 use Rattle.std.proofs.lemmas.List.{append-nil, take-append-drop}
-use Rattle.std.specs.Io.KnownBytes.{Appends}
+use Rattle.std.specs.Io.KnownBytes.{Appends, Keeps}
 use Rattle.cq_cli.specs.Writing.{Wrote, WrotePrefix, failures_at}
 use Rattle.std.proofs.lemmas.Bool.Decides.{nat_tests}
 
@@ -16,6 +16,13 @@ appends_more None b c x y p q = tt
 appends_more (Some xs) None c x y p q = absurd p
 appends_more (Some xs) (Some ys) None x y p q = absurd q
 appends_more (Some xs) (Some ys) (Some zs) x y p q = q ∙ ap (λ (t : List ℕ). t ++ y) p ∙ append_assoc xs x y
+
+-- one text, and then nothing
+pub appends_kept : (a b c : Option (List ℕ)) (x : List ℕ) → Appends a b x → Keeps b c → Appends a c x
+appends_kept None b c x p q = tt
+appends_kept (Some xs) None c x p q = absurd p
+appends_kept (Some xs) (Some ys) None x p q = absurd q
+appends_kept (Some xs) (Some ys) (Some zs) x p q = q ∙ p
 
 -- some bytes of the rest are taken
 pub more : (bytes rest after : List ℕ) (n : ℕ) (a b c : Option (List ℕ)) (f0 f1 f2 : ℕ) → (prefix : List ℕ) × (bytes ≡ prefix ++ rest) × Appends a b prefix × (f1 ≡ f0) → Appends b c (take n rest) → f2 ≡ f1 → after ≡ drop n rest
@@ -40,3 +47,7 @@ wrote_then x y a b c f0 f1 f2 (Err e) first second =
 -- a prefix of a text is a prefix of a longer one
 pub prefix_of_more : (x y : List ℕ) (a b : Option (List ℕ)) (f0 f1 : ℕ) → WrotePrefix x a b f0 f1 → WrotePrefix (x ++ y) a b f0 f1
 prefix_of_more x y a b f0 f1 w = (w.0, w.1 ++ y, ap (λ (t : List ℕ). t ++ y) w.2 ∙ append_assoc w.0 w.1 y, w.3, w.4)
+
+-- all of a text was written, and then the sink failed
+pub all_then_failed : (x : List ℕ) (a b c : Option (List ℕ)) (f0 f1 f2 : ℕ) → Appends a b x × (f1 ≡ f0) → Keeps b c → f2 ≡ f1 + 1 → WrotePrefix x a c f0 f2
+all_then_failed x a b c f0 f1 f2 written kept failed = (x, [], sym (append-nil x), appends_kept a b c x written.0 kept, failed ∙ ap (λ n. n + 1) written.1)
