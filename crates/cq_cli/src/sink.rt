@@ -32,6 +32,7 @@ pub trait Sink {
         ensures taken { WriteAppends (contents self.old) (contents self.new) result bytes.now }
         ensures failed { failures self.new
             ≡ failures self.old + failures_after result (length bytes.now) }
+        ensures unflushed { is_flushed self.new ≡ false }
         ensures flushes { flushes self.new ≡ flushes self.old };
 
     fn flush(&mut self) -> io::Result<()>

@@ -13,6 +13,6 @@ is_barred b = (b == 47) || (b == 0)
 abbrev pub is_file_name : List ℕ → Bool
 is_file_name name = not (length name == 0) && not (is_text name (codes ".")) && not (is_text name (codes "..")) && not (list_any is_barred name)
 
--- nothing is opened under a name that is not a file's: it is a failed source
+-- a name that is not a file's is that of a failed source
 abbrev pub OpensFilesAlone : {A : Type 0} → List ℕ → Result A SourceFault → Type 0
 OpensFilesAlone name result = is_file_name name ≡ false → result ≡ Err Failed

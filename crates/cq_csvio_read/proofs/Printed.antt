@@ -19,7 +19,7 @@ use Rattle.cq_values.specs.Printed.{date_text, is_escaped, row_text, value_text}
 use Rattle.cq_model_state.specs.Fitting.{FitsColumn, FitsColumns}
 use Rattle.cq_binder_rules.specs.Fields.{field_value, is_null_field, stored_text, text_in}
 use Rattle.cq_binder_rules.specs.Records.{field_values, file_rows, record_row, record_rows}
-use Rattle.cq_csvio_read.specs.Laws.{IsKept}
+use Rattle.cq_csvio_read.specs.Laws.{IsSound}
 use Rattle.cq_csvio_read.specs.Records.{records_in}
 use Rattle.cq_csvio_read.proofs.Dates.{IsDateOf, date_read}
 use Rattle.cq_csvio_read.proofs.Fields.{field_typed, null_field}
@@ -74,17 +74,17 @@ module _ (at : ℕ) (d : ColumnDef) (is : d.ty ≡ types.Text) where
   ]
 
 -- a value that is printed is read back
-value_back : (at : ℕ) (d : ColumnDef) (v : Value) → FitsColumn d v → IsKept v → field_value at d (value_text v) ≡ Ok v
-value_back at d values.Null fits kept = null_read at d fits
-value_back at d (values.Number n) fits kept = number_back at d n fits
-value_back at d (values.Day n) fits kept = day_back at d n fits kept
-value_back at d (values.Text t) fits kept = text_back at d fits.0 t fits.1 kept
+value_back : (at : ℕ) (d : ColumnDef) (v : Value) → FitsColumn d v → IsSound v → field_value at d (value_text v) ≡ Ok v
+value_back at d values.Null fits sound = null_read at d fits
+value_back at d (values.Number n) fits sound = number_back at d n fits
+value_back at d (values.Day n) fits sound = day_back at d n fits sound
+value_back at d (values.Text t) fits sound = text_back at d fits.0 t fits.1 sound
 
-values_back : (at : ℕ) (columns : List ColumnDef) (row : Row) → FitsColumns columns row → AllByRecursion IsKept row → field_values at columns (map value_text row) ≡ Ok row
-values_back at [] [] fits kept = refl
-values_back at [] (v ∷ row) fits kept = absurd fits
-values_back at (d ∷ columns) [] fits kept = absurd fits
-values_back at (d ∷ columns) (v ∷ row) fits kept = rw (value_back at d v fits.0 kept.0, values_back at columns row fits.1 kept.1) refl
+values_back : (at : ℕ) (columns : List ColumnDef) (row : Row) → FitsColumns columns row → AllByRecursion IsSound row → field_values at columns (map value_text row) ≡ Ok row
+values_back at [] [] fits sound = refl
+values_back at [] (v ∷ row) fits sound = absurd fits
+values_back at (d ∷ columns) [] fits sound = absurd fits
+values_back at (d ∷ columns) (v ∷ row) fits sound = rw (value_back at d v fits.0 sound.0, values_back at columns row fits.1 sound.1) refl
 
 same_width : (columns : List ColumnDef) (row : Row) → FitsColumns columns row → length (map value_text row) ≡ length columns
 same_width [] [] fits = refl
@@ -92,12 +92,12 @@ same_width [] (v ∷ row) fits = absurd fits
 same_width (d ∷ columns) [] fits = absurd fits
 same_width (d ∷ columns) (v ∷ row) fits = let rest = same_width columns row fits.1 in omega (arith, rest)
 
-rows_back : (columns : List ColumnDef) (at : ℕ) (rows : List Row) → AllByRecursion (FitsColumns columns) rows → AllByRecursion (AllByRecursion IsKept) rows
+rows_back : (columns : List ColumnDef) (at : ℕ) (rows : List Row) → AllByRecursion (FitsColumns columns) rows → AllByRecursion (AllByRecursion IsSound) rows
     → record_rows columns at (map (map value_text) rows) ≡ Ok rows
-rows_back columns at [] fit kept = refl
-rows_back columns at (row ∷ rows) fit kept =
-    let first : record_row columns at (map value_text row) ≡ Ok row = of_width at columns (map value_text row) (same_width columns row fit.0) ∙ values_back at columns row fit.0 kept.0 in
-    rw (first, rows_back columns (at + 1) rows fit.1 kept.1) refl
+rows_back columns at [] fit sound = refl
+rows_back columns at (row ∷ rows) fit sound =
+    let first : record_row columns at (map value_text row) ≡ Ok row = of_width at columns (map value_text row) (same_width columns row fit.0) ∙ values_back at columns row fit.0 sound.0 in
+    rw (first, rows_back columns (at + 1) rows fit.1 sound.1) refl
 
 -- no line of a table with columns is blank
 fields_back : (columns : List ColumnDef) (rows : List Row) → 0 < length columns → AllByRecursion (FitsColumns columns) rows
@@ -109,9 +109,9 @@ fields_back (d ∷ columns) ((v ∷ row) ∷ rows) wide fit =
     ap (λ (rest : List (List (List ℕ))). map value_text (v ∷ row) ∷ rest) (fields_back (d ∷ columns) rows wide fit.1)
 
 -- rows that are printed are read back
-pub printed_back : (columns : List ColumnDef) (rows : List Row) → 0 < length columns → AllByRecursion (FitsColumns columns) rows → AllByRecursion (AllByRecursion IsKept) rows
+pub printed_back : (columns : List ColumnDef) (rows : List Row) → 0 < length columns → AllByRecursion (FitsColumns columns) rows → AllByRecursion (AllByRecursion IsSound) rows
     → strip_bom (flat_map row_text rows) ≡ flat_map row_text rows → file_rows columns (flat_map row_text rows) ≡ Ok rows
-printed_back columns rows wide fit kept plain =
+printed_back columns rows wide fit sound plain =
     ap (λ (text : List ℕ). record_rows columns 1 (records_in st.StartRecord text)) (plain ∙ lines_written rows)
     ∙ ap (record_rows columns 1) (lines_read (map (map value_text) rows) ∙ fields_back columns rows wide fit)
-    ∙ rows_back columns 1 rows fit kept
+    ∙ rows_back columns 1 rows fit sound

@@ -16,16 +16,16 @@ abbrev pub ReadRowsFit : Type 0
 ReadRowsFit = (columns : List ColumnDef) (bytes : List ℕ) (rows : List Row) → file_rows columns bytes ≡ Ok rows → AllByRecursion (FitsColumns columns) rows
 
 -- a text in UTF-8, a day of the calendar, and any number and NULL: what values of the program are
-abbrev pub IsKept : Value → Type 0
-IsKept (Text t) = IsUtf8 t
-IsKept (Day n) = IsDay n
-IsKept v = Unit {0}
+abbrev pub IsSound : Value → Type 0
+IsSound (Text t) = IsUtf8 t
+IsSound (Day n) = IsDay n
+IsSound v = Unit {0}
 
 -- the rows of a table are read back from the lines that show them, if these do not begin with U+FEFF
 abbrev pub PrintedRowsReadBack : Type 0
 PrintedRowsReadBack = (columns : List ColumnDef) (rows : List Row)
     → 0 < length columns
     → AllByRecursion (FitsColumns columns) rows
-    → AllByRecursion (AllByRecursion IsKept) rows
+    → AllByRecursion (AllByRecursion IsSound) rows
     → strip_bom (flat_map row_text rows) ≡ flat_map row_text rows
     → file_rows columns (flat_map row_text rows) ≡ Ok rows

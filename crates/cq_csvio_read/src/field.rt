@@ -55,11 +55,11 @@ fn null_in(column: &ColumnDef) -> Result<Value, Fault>
 fn read_text(alloc: Global, text: &str) -> Result<Value, Fault>
     ensures { Gives (stored_text (text_in text.now)) result }
 {
-    let kept = unescaped(text);
-    if MAX_TEXT < kept.len() {
+    let stored = unescaped(text);
+    if MAX_TEXT < stored.len() {
         return Err(Fault::TextTooLong);
     }
-    Ok(Value::Text(Text::new(alloc, kept)?))
+    Ok(Value::Text(Text::new(alloc, stored)?))
 }
 
 /// The text without the first of two backslashes in front of it.

@@ -10,7 +10,7 @@ use Rattle.cq_values.specs.declared.ty.Ty.TheVariants as types
 use Rattle.cq_values.specs.declared.value.Value.{Value}
 use Rattle.cq_values.specs.declared.value.Value.TheVariants.{Null, Number, Day, Text}
 use Rattle.cq_values.specs.Value.{Row, column}
-use Rattle.cq_model_laws.specs.Sizes.{IsStored}
+use Rattle.cq_model.specs.Sizes.{IsStored}
 use Rattle.cq_sql_language.specs.declared.statement.SetClause.{SetClause}
 use Rattle.cq_sql_language.specs.Written.{Written}
 use Rattle.cq_model.specs.Eval.{eval}

@@ -11,7 +11,7 @@ use Rattle.cq_values.specs.declared.column.ColumnDef.{ColumnDef}
 use Rattle.cq_values.specs.Texts.{is_text}
 use Rattle.cq_values.specs.Value.{Row}
 use Rattle.cq_model_bags.proofs.Totals.{by_test}
-use Rattle.cq_model_laws.specs.Sizes.{IsStored}
+use Rattle.cq_model.specs.Sizes.{IsStored, stored_size, stored_sizes}
 use Rattle.cq_binder_rules.specs.declared.bound.Bound.{Bound}
 use Rattle.cq_binder_rules.specs.declared.bound.Bound.TheVariants as commands
 use Rattle.cq_sql_language.specs.declared.statement.Constant.{Constant}
@@ -19,7 +19,6 @@ use Rattle.cq_sql_language.specs.declared.statement.Select.{Select}
 use Rattle.cq_sql_language.specs.declared.statement.SetClause.{SetClause}
 use Rattle.cq_sql_language.specs.declared.statement.Statement.{Statement}
 use Rattle.cq_sql_language.specs.declared.statement.Statement.TheVariants as statements
-use Rattle.cq_model.specs.Sizes.{stored_size, stored_sizes}
 use Rattle.cq_model.specs.Width.{IsNarrowIn}
 use Rattle.cq_sql_language.specs.Written.{Written}
 use Rattle.cq_model_step.specs.declared.answer.Answer.{Answer}
@@ -59,7 +58,7 @@ use Rattle.cq_engine_tables.specs.Tables.{IsThere}
 use Rattle.cq_engine.proofs.Creating.{view_can}
 use Rattle.cq_engine.proofs.Shapes.{filter_sized, shape_sized}
 use Rattle.cq_engine.proofs.Sourced.{IsFound, IsOneTable, are_joined, are_tables, standing_ok}
-use Rattle.cq_views_state.specs.Query.{IsTable}
+use Rattle.cq_views_model.specs.Query.{IsTable}
 use Rattle.cq_engine_writes.proofs.Checks.{back_free, first_free, front_free}
 use Rattle.cq_engine.proofs.Fitting.{narrow_rows, stored_keep}
 use Rattle.cq_table.specs.Checks.{value_fault}

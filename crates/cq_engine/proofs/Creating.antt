@@ -9,7 +9,7 @@ use Rattle.cq_model.specs.declared.query.Shape.{Shape}
 use Rattle.cq_model.specs.declared.query.Shape.TheVariants.{Grouped, Plain}
 use Rattle.cq_model.specs.declared.query.Source.{Source}
 use Rattle.cq_model.specs.declared.query.Source.TheVariants.{Table, View}
-use Rattle.cq_model.specs.Sizes.{IsArgumentNarrow, aggregate_size, row_size, shown_size, stored_size, stored_sizes}
+use Rattle.cq_model.specs.Sizes.{IsArgumentNarrow, IsNarrowOnStored, aggregate_size, row_size, shown_size, stored_size, stored_sizes}
 use Rattle.cq_model.specs.Views.{sources_of}
 use Rattle.cq_model.specs.Width.{limits_of, number_limit, widest}
 use Rattle.cq_sql_language.specs.declared.statement.Select.{Select}
@@ -34,8 +34,7 @@ use Rattle.cq_binder_rules.specs.Orders.{key_checks}
 use Rattle.cq_binder_rules.specs.ViewChecks.{absent_checks, list_checks, no_clause, query_checks, repeats}
 use Rattle.cq_binder_expressions.specs.Expressions.{KeepSizes}
 use Rattle.cq_model_state.specs.State.{TableOf, ViewOf, columns_in}
-use Rattle.cq_deltas_joins.specs.Steps.{IsNarrowOnStored}
-use Rattle.cq_views_state.specs.Query.{HasNoHaving, IsTable, aggregates_in}
+use Rattle.cq_views_model.specs.Query.{HasNoHaving, IsTable, aggregates_in}
 use Rattle.cq_engine_tables.specs.Views.{Fits}
 use Rattle.cq_engine_answers.specs.Narrow.{source_sizes}
 use Rattle.cq_engine_writes.proofs.Checks.{back_free, first_free, front_free}

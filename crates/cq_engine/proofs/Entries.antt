@@ -11,7 +11,7 @@ use Rattle.cq_model_bags.proofs.Bags.{same-refl}
 use Rattle.cq_model_bags.proofs.Canonicals.{bag_of-weights, length-bag_of}
 use Rattle.cq_model_bags.proofs.Totals.{by_test}
 use Rattle.cq_model_laws.proofs.Fits.{all-listed}
-use Rattle.cq_model_laws.specs.Sizes.{IsStored}
+use Rattle.cq_model.specs.Sizes.{IsStored}
 use Rattle.cq_table_columns.specs.Stored.{all_rows}
 use Rattle.cq_model.specs.Sources.{same_source}
 use Rattle.cq_table_columns.specs.declared.stored_source.StoredSource.{StoredSource}

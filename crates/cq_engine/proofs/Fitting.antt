@@ -6,7 +6,7 @@ use Rattle.std.proofs.lemmas.List.{append-nil}
 use Rattle.cq_values.specs.Value.{Row}
 use Rattle.cq_values.specs.declared.column.ColumnDef.{ColumnDef}
 use Rattle.cq_model.specs.declared.query.Aggregate.{Aggregate}
-use Rattle.cq_model.specs.Sizes.{IsArgumentNarrow, stored_size, stored_sizes}
+use Rattle.cq_model.specs.Sizes.{IsArgumentNarrow, IsStored, stored_size, stored_sizes}
 use Rattle.cq_model.specs.Width.{IsNarrowIn, number_limit, sizes_of, widest}
 use Rattle.cq_sql_language.specs.Written.{Written}
 use Rattle.cq_binder_rules.specs.declared.fault.Fault.{Fault}
@@ -21,7 +21,6 @@ use Rattle.cq_binder_rules.specs.SourceChecks.{where_check}
 use Rattle.cq_binder_rules.specs.Typing.{Scope, ScopeColumn, fault_in, rows_in, size_at, typed}
 use Rattle.cq_binder_expressions.specs.Expressions.{IsNarrow, KeepShown, KeepSizes}
 use Rattle.cq_binder_expressions.proofs.Narrow.{Grows, arguments_are_narrow, grows, typed_is_narrow}
-use Rattle.cq_model_laws.specs.Sizes.{IsStored}
 use Rattle.cq_engine_writes.proofs.Checks.{back_free, first_free}
 use Rattle.cq_model_state.specs.State.{TableOf}
 

@@ -8,9 +8,9 @@ use Rattle.std.proofs.lemmas.List.Quantifiers.{position-Some}
 use Rattle.std.proofs.lemmas.Option.{get_or_from_slice_get, slice_get_within}
 use Rattle.cq_values.specs.Value.{Row}
 use Rattle.cq_sql_language.specs.declared.written.ColumnName.{ColumnName}
-use Rattle.cq_model_laws.specs.Sizes.{IsSized, grouped_sizes}
+use Rattle.cq_model_laws.specs.Sizes.{grouped_sizes}
+use Rattle.cq_model.specs.Sizes.{IsSized, aggregate_size}
 use Rattle.cq_model.specs.declared.query.Aggregate.{Aggregate}
-use Rattle.cq_model.specs.Sizes.{aggregate_size}
 use Rattle.cq_model.specs.Width.{limits_of, sizes_of}
 use Rattle.cq_binder_rules.specs.Grouping.{is_empty}
 use Rattle.cq_binder_rules.specs.Places.{group_places}

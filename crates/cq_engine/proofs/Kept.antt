@@ -14,7 +14,7 @@ use Rattle.cq_model.specs.Views.{is_table, sources_of}
 use Rattle.cq_model_state.specs.State.{TableOf, ViewOf, view_named, view_place, rows_in}
 use Rattle.cq_views.specs.Laws.{StandingDependsOnSources}
 use Rattle.cq_views.specs.State.{StandsFor}
-use Rattle.cq_views_state.specs.Query.{reads}
+use Rattle.cq_views_model.specs.Query.{reads}
 use Rattle.cq_engine_tables.specs.Taking.{IsSame, AreSame}
 use Rattle.cq_engine_tables.specs.Views.{NamedView, view_of, views_of, AreWide, IsRight, AreRight, Fits, bags_in}
 use Rattle.cq_engine_tables.proofs.Numbers.{others}

@@ -1,7 +1,8 @@
 -- A query whose checks have no fault can be worked out on the rows that join its sources, and on their groups.
 use Rattle.std.proofs.Common.{◌≡◌, ℕ, Bool, true, false, List, [], ◌∷◌, ◌++◌, map, length, Option, None, refl, sym}
 use Rattle.std.specs.Prelude.{if◌then◌else◌, option_map}
-use Rattle.cq_model_laws.specs.Sizes.{IsSized, grouped_sizes}
+use Rattle.cq_model_laws.specs.Sizes.{grouped_sizes}
+use Rattle.cq_model.specs.Sizes.{IsSized}
 use Rattle.cq_model.specs.declared.query.Aggregate.{Aggregate}
 use Rattle.cq_model.specs.declared.query.Shape.TheVariants.{Plain}
 use Rattle.cq_model.specs.Width.{limits_of, sizes_of}

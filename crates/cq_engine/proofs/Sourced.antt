@@ -23,7 +23,7 @@ use Rattle.cq_binder_rules.specs.Typing.{ScopeColumn, is_known}
 use Rattle.cq_model_state.specs.State.{State, TableOf, ViewOf}
 use Rattle.cq_engine_answers.specs.Reading.{IsSourceThere}
 use Rattle.cq_engine_answers.specs.Narrow.{source_sizes}
-use Rattle.cq_views_state.specs.Query.{IsTable}
+use Rattle.cq_views_model.specs.Query.{IsTable}
 use Rattle.cq_engine_writes.proofs.Checks.{back_free, first_free}
 use Rattle.cq_engine.proofs.Fitting.{second_free}
 use Rattle.cq_model_bags.proofs.Lists.{all-push}

@@ -10,7 +10,7 @@ use Rattle.cq_model.specs.declared.query.Source.TheVariants.{Table, View}
 use Rattle.cq_model_state.specs.State.{AreNumbered, TableOf, ViewOf}
 use Rattle.cq_engine_tables.proofs.Numbers.{above_at}
 use Rattle.cq_engine_tables.specs.Views.{width_at}
-use Rattle.cq_views_state.specs.Query.{IsTable}
+use Rattle.cq_views_model.specs.Query.{IsTable}
 use Rattle.cq_engine.specs.TableWidths.{IsTableThere}
 
 -- a source that is a table and is there is a table that is there

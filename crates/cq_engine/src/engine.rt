@@ -3,12 +3,12 @@
 //! An [`Engine`] is made empty and moved by `step`, one statement at a time: the statement is bound to the tables and views
 //! that are there, or refused, and then carried out whole or not at all. Between steps its views stand for its tables. A
 //! step costs what its statement's rows do; a write, also what it changes in each view on its table.
-ghost use Rattle.std.specs.Prelude.{◌≡◌, ◌<◌, ◌+◌, ◌-◌, ◌^◌, ◌∷◌, [], Ok, option_map};
+ghost use Rattle.std.specs.Prelude.{◌≡◌, ◌<◌, ◌+◌, ◌-◌, ◌^◌, ◌∷◌, [], Ok, is_some, option_map};
 ghost use Rattle.cq_binder_rules.specs.Refusal.{reads_source};
 ghost use Rattle.cq_binder_rules.specs.Sources.{reads_behind};
 ghost use Rattle.cq_binder_rules.specs.declared.bound.Bound.TheVariants as commands;
 ghost use Rattle.cq_model_state.specs.Fitting.{AreLimited, AreFitting};
-ghost use Rattle.cq_model_state.specs.State.{first_state, view_named};
+ghost use Rattle.cq_model_state.specs.State.{first_state, table_named, view_named};
 ghost use Rattle.cq_model_step.specs.Output.{source_failures};
 ghost use Rattle.cq_model_step.specs.Step.{StepFrom};
 ghost use Rattle.cq_engine_tables.specs.Views.{AreRight, views_of};
@@ -24,7 +24,9 @@ use crate::limits::Limits;
 use cq_binder::bind;
 use cq_binder_rules::{Bound, Fault, Sources};
 use cq_engine_answers::select_from;
-use cq_engine_tables::{NamedTable, View, drop_in, drop_view_at, move_in, view_place};
+use cq_engine_tables::{
+    NamedTable, View, drop_in, drop_view_at, merge_in, move_in, place_of, view_place,
+};
 use cq_engine_writes::{delete_in, insert_in, update_in};
 use cq_model::{Assignment, Cond, Order, Query};
 use cq_model_step::Answer;
@@ -120,6 +122,16 @@ impl Engine {
         Some(view.work())
     }
 
+    /// How many rows the write store of the table of a name has, and how many rows of its segments have a mark, if there
+    /// is one. It takes no memory.
+    pub fn stored(&self, table: &str) -> Option<(u64, u64)>
+        ensures { is_some result ≡ is_some (table_named table.now self.now.state.tables) }
+    {
+        let place = place_of(&self.tables, table)?;
+        let (write_len, marked_len) = self.tables[place].lengths();
+        Some((write_len as u64, marked_len as u64))
+    }
+
     /// The tables and views under their names. It takes no memory.
     pub fn catalog(&self) -> EngineCatalog<'_>
         ensures told { result ≡ (self.now.state.tables, self.now.state.views) }
@@ -184,7 +196,7 @@ impl Engine {
                 order,
             } => self.select(header, query, order),
             Bound::Move { table, rows } => self.move_rows(table, rows),
-            Bound::Merge(table) => Ok(self.merge(table)),
+            Bound::Merge(table) => self.merge(table),
             Bound::Refresh { view, changes } => Ok(self.refresh(view, changes)),
         }
     }
@@ -322,7 +334,7 @@ impl Engine {
         Ok(Answer::Count(count as u64))
     }
 
-    /// The rows go on to columns where they are read faster; none of them changes.
+    /// Rows go on from the write store to segments, where they are read faster; none of them changes.
     fn move_rows(&mut self, table: u64, rows: u128) -> Result<Answer, Fault>
         requires { CanDo self.old (commands.Move table rows) }
         ensures done { Does self.old (commands.Move table rows) result self.new }
@@ -332,12 +344,14 @@ impl Engine {
         Ok(Answer::Done)
     }
 
-    /// Rows in columns are taken away at once, so that nothing has to be merged.
-    fn merge(&self, _table: u64) -> Answer
-        ensures { Does self.now (commands.Merge _table) (Ok result) self.now }
+    /// Segments are made anew without their marked rows; no live one changes.
+    fn merge(&mut self, table: u64) -> Result<Answer, Fault>
+        requires { CanDo self.old (commands.Merge table) }
+        ensures done { Does self.old (commands.Merge table) result self.new }
+        ensures rows { OnlyShows self.old.state result self.new.state }
     {
-        let _views = &self.views;
-        Answer::Done
+        merge_in(self.alloc, &mut self.tables, table)?;
+        Ok(Answer::Done)
     }
 
     /// Each view has taken in each write, so that none has to be taken on.

@@ -2,7 +2,8 @@
 use Rattle.std.specs.Prelude.{ℕ, List, [], Option, Some, None, slice_get, slice_index_or}
 use Rattle.std.specs.List.{AllByRecursion, flat_map}
 use Rattle.cq_values.specs.Value.{Row}
-use Rattle.cq_model_laws.specs.Sizes.{IsSized, grouped_sizes}
+use Rattle.cq_model_laws.specs.Sizes.{grouped_sizes}
+use Rattle.cq_model.specs.Sizes.{IsArgumentNarrow, IsSized, column_sizes, stored_sizes}
 use Rattle.cq_model.specs.Expr.{Cond, Expr}
 use Rattle.cq_model.specs.declared.query.Aggregate.{Aggregate}
 use Rattle.cq_model.specs.declared.query.Query.{Query}
@@ -10,7 +11,6 @@ use Rattle.cq_model.specs.declared.query.Shape.{Shape}
 use Rattle.cq_model.specs.declared.query.Shape.TheVariants.{Plain, Grouped}
 use Rattle.cq_model.specs.declared.query.Source.{Source}
 use Rattle.cq_model.specs.declared.query.Source.TheVariants.{Table, View}
-use Rattle.cq_model.specs.Sizes.{IsArgumentNarrow, column_sizes, stored_sizes}
 use Rattle.cq_model.specs.Views.{sources_of}
 use Rattle.cq_model.specs.Width.{AreNarrowAt, IsNarrowIn, limits_of, sizes_of}
 use Rattle.cq_model_state.specs.State.{TableOf, ViewOf, columns_in}

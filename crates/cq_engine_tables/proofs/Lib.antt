@@ -7,3 +7,4 @@ pub mod Bags
 pub mod Turns
 pub mod Wide
 pub mod Named
+pub mod Held

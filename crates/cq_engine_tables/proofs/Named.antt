@@ -12,7 +12,7 @@ use Rattle.cq_model.specs.Meaning.{Tables}
 use Rattle.cq_model.specs.declared.query.Query.{Query}
 use Rattle.cq_model.specs.Views.{sources_of}
 use Rattle.cq_deltas_joins.specs.Chains.{spans}
-use Rattle.cq_views_state.specs.Query.{CanBeKept, reads}
+use Rattle.cq_views_model.specs.Query.{CanBeKept, reads}
 use Rattle.cq_views.specs.State.{CanPrepare, StandsFor}
 use Rattle.cq_views_state.specs.State.{HoldStored}
 use Rattle.cq_views_state.specs.declared.state.Pending.{Pending}

@@ -11,7 +11,7 @@ use Rattle.cq_model.specs.declared.query.Source.{Source}
 use Rattle.cq_binder_rules.specs.Refusal.{is_used}
 use Rattle.cq_model_state.specs.Fitting.{FitsColumns, AreLimited, AreFitting}
 use Rattle.cq_model_state.specs.State.{TableOf, columns_in, rows_in, with_rows, AreNumbered}
-use Rattle.cq_views_state.specs.Query.{reads}
+use Rattle.cq_views_model.specs.Query.{reads}
 use Rattle.cq_engine_tables.specs.Views.{NamedView, views_of}
 use Rattle.cq_engine_tables.proofs.Numbers.{Above, above_at, above_stay, others}
 use Rattle.cq_table.proofs.RowLists.{all_of_bag}

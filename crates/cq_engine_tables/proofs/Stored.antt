@@ -9,8 +9,8 @@ use Rattle.cq_values.specs.Value.{Row}
 use Rattle.cq_model.specs.Width.{value_size}
 use Rattle.cq_model_state.specs.Fitting.{FitsColumn, FitsColumns, AreFitting}
 use Rattle.cq_model_state.specs.State.{TableOf}
-use Rattle.cq_model.specs.Sizes.{stored_sizes}
-use Rattle.cq_model_laws.specs.Sizes.{HasSizes, IsStored}
+use Rattle.cq_model.specs.Sizes.{IsStored, stored_sizes}
+use Rattle.cq_model_laws.specs.Sizes.{HasSizes}
 use Rattle.cq_model_laws.proofs.Columns.{sizes-beside}
 use Rattle.cq_model_laws.proofs.Fits.{FitBeside}
 

@@ -3,7 +3,7 @@ use Rattle.std.proofs.Common.{◌≡◌, ℕ, zero, suc, ◌<◌, List, [], ◌�
 use Rattle.std.specs.List.{AllZip}
 use Rattle.cq_model.specs.declared.query.Query.{Query}
 use Rattle.cq_views_state.specs.Last.{seen}
-use Rattle.cq_views_state.specs.Query.{aggregates_of}
+use Rattle.cq_views_model.specs.Query.{aggregates_of}
 use Rattle.cq_views.proofs.Standing.{same-itself}
 use Rattle.cq_views.specs.State.{SameView}
 use Rattle.cq_views.specs.declared.kept_view.KeptView.{KeptView}

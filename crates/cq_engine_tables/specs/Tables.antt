@@ -1,13 +1,15 @@
 -- Tables by their numbers, and the rows that they hold.
-use Rattle.std.specs.Prelude.{◌≡◌, ◌+◌, ℕ, List, ◌==◌, true, length, Option}
+use Rattle.std.specs.Prelude.{◌≡◌, ◌+◌, ℕ, List, ◌==◌, true, length, map, Option, Vec}
+use Rattle.std.specs.Global.{Global}
 use Rattle.std.specs.List.{list_any}
 use Rattle.cq_values.specs.Value.{Row}
 use Rattle.cq_model.specs.declared.assignment.Assignment.{Assignment}
 use Rattle.cq_model.specs.Expr.{Cond}
+use Rattle.cq_model.specs.Write.{chosen, image_of}
 use Rattle.cq_binder_rules.specs.declared.fault.Fault.{Fault}
 use Rattle.cq_model_state.specs.State.{TableOf}
 use Rattle.cq_table.specs.Checks.{too_many, value_fault}
-use Rattle.cq_table.specs.Table.{StoredTable}
+use Rattle.cq_table.specs.Table.{SameRows, StoredTable, table_rows}
 
 -- a table has the number
 abbrev pub IsThere : ℕ → List TableOf → Type 0
@@ -15,7 +17,7 @@ IsThere n tables = list_any (λ t. t.number == n) tables ≡ true
 
 -- a stored table under its number and its name
 abbrev pub named : ℕ → List ℕ → StoredTable → TableOf
-named number name t = record { number = number; name = name; columns = t.columns; sort = t.sort; rows = t.rows }
+named number name t = record { number = number; name = name; columns = t.columns; sort = t.sort; rows = table_rows t }
 
 -- whether the rows are too many for a table that may have so many
 abbrev pub no_room_for : ℕ → TableOf → List Row → Option Fault
@@ -24,3 +26,12 @@ no_room_for max_rows t rows = too_many max_rows (length t.rows + length rows)
 -- why the values that the chosen rows of a table get may not be stored
 abbrev pub value_fault_of : TableOf → List Assignment → Option Cond → Option Fault
 value_fault_of t assignments condition = value_fault t.columns assignments condition t.rows
+
+-- the rows that go are those that WHERE chooses, and those that come are their images
+pub record AreImages (assignments : List Assignment) (condition : Option Cond) (rows gone come : List Row) : Type 0 where
+  pub chosen : SameRows gone (chosen condition rows)
+  pub images : come ≡ map (image_of assignments) gone
+
+-- so it is with the copies and the rows that were made
+abbrev pub AreExchanged : List Assignment → Option Cond → List Row → (Vec Row Global × Vec Row Global) → Type 0
+AreExchanged assignments condition rows exchange = AreImages assignments condition rows exchange.0.items exchange.1.items

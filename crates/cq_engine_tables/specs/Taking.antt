@@ -4,7 +4,7 @@ use Rattle.std.specs.Global.{Vec}
 use Rattle.std.specs.List.{AllByRecursion, zip}
 use Rattle.cq_model.specs.Meaning.{Tables}
 use Rattle.cq_model_state.specs.Pointwise.{Pointwise}
-use Rattle.cq_views_state.specs.Query.{reads}
+use Rattle.cq_views_model.specs.Query.{reads}
 use Rattle.cq_views.specs.Changes.{changes_of}
 use Rattle.cq_views.specs.declared.changes.TableChange.{TableChange}
 use Rattle.cq_views.specs.State.{CanCommit, CanPrepare, SameView, StandsFor, StaysStanding, TakesIn, WaitsFor}

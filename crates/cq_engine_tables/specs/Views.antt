@@ -11,7 +11,7 @@ use Rattle.cq_model.specs.declared.query.Source.TheVariants.{Table, View}
 use Rattle.cq_model.specs.Meaning.{Tables}
 use Rattle.cq_model.specs.Views.{sources_of, tables_alone}
 use Rattle.cq_model_state.specs.State.{TableOf, ViewOf, rows_in}
-use Rattle.cq_views_state.specs.Query.{CanBeKept}
+use Rattle.cq_views_model.specs.Query.{CanBeKept}
 
 -- a view under its name, with its columns
 pub record NamedView : Type 0 where

@@ -11,6 +11,6 @@ mod view;
 mod views;
 
 pub use named_table::NamedTable;
-pub use tables::{drop_in, move_in, place_numbered, place_of};
+pub use tables::{drop_in, merge_in, move_in, place_numbered, place_of};
 pub use view::View;
 pub use views::{commit_all, drop_view_at, is_used, prepare_all, view_place};

@@ -2,7 +2,7 @@
 //!
 //! A [`NamedTable`] is a table of `cq_table` that statements find: its number is drawn once and never changes, and its
 //! rows fit its columns. A write asks for its rows first (`chosen`, `images_where`), readies the views, and then changes
-//! the rows by one call that may fail and leaves them as they were. Each call costs what the same call of `cq_table` does.
+//! the rows by one call that may fail and leaves them as they were. Each call costs what the same calls of `cq_table` do.
 ghost use Rattle.std.specs.List.{AllByRecursion};
 ghost use Rattle.std.specs.Prelude.{◌++◌, ◌≡◌, ◌<◌, ◌^◌, IfOk, OnErr, OnOk, length};
 ghost use Rattle.cq_values.specs.Texts.{is_text};
@@ -12,9 +12,9 @@ ghost use Rattle.cq_model_state.specs.Fitting.{FitsColumns, IsFitting};
 ghost use Rattle.cq_model_state.specs.State.{empty_table, holding};
 ghost use Rattle.cq_model.specs.Write.{chosen, left_by};
 ghost use Rattle.cq_model.specs.Width.{IsNarrowIn};
-ghost use Rattle.cq_table.specs.Checks.{AreExchanged, CanWorkOut, IsChecked};
+ghost use Rattle.cq_table.specs.Checks.{CanWorkOut, IsChecked};
 ghost use Rattle.cq_table.specs.Table.{SameRows};
-ghost use Rattle.cq_engine_tables.specs.Tables.{no_room_for, value_fault_of};
+ghost use Rattle.cq_engine_tables.specs.Tables.{AreExchanged, no_room_for, value_fault_of};
 
 use cq_model::{Assignment, Cond};
 use cq_table::{Exchange, TableFault};
@@ -107,7 +107,9 @@ impl NamedTable {
         ensures bag { IfOk result (λ rows. SameRows (stored_rows rows.items) (chosen condition.now self.now.rows)) }
         ensures few { OnOk result (length self.now.rows < 2 ^ 64) }
     {
-        self.stored.chosen(alloc, condition)
+        let _count = self.stored.len();
+        let found = self.stored.find(alloc, condition)?;
+        self.stored.chosen(alloc, &found)
     }
 
     /// Adds all of these rows, or none. The table may have so many rows.
@@ -146,14 +148,27 @@ impl NamedTable {
         ensures checked { IsChecked (value_fault_of self.now assignments.now condition.now) result }
         ensures images { IfOk result (AreExchanged assignments.now condition.now self.now.rows) }
     {
-        self.stored.images_where(alloc, assignments, condition)
+        let found = self.stored.find(alloc, condition)?;
+        self.stored.images(alloc, assignments, &found)
     }
 
-    /// Moves the first rows that stand one by one to columns, so many of them. No row changes.
+    /// Takes so many rows from the front of the write store to segments. No row of the bag changes.
     pub fn move_front(&mut self, alloc: Global, count: u128) -> Result<(), AllocError>
         ensures { self.new ≡ self.old }
     {
-        self.stored.move_front(alloc, count)
+        self.stored.move_step(alloc, count)
+    }
+
+    /// Makes the segments anew of their live rows. No row of the bag changes.
+    pub fn merge(&mut self, alloc: Global) -> Result<(), AllocError>
+        ensures { self.new ≡ self.old }
+    {
+        self.stored.merge_step(alloc)
+    }
+
+    /// How many rows the write store has, and how many rows of segments have a mark. It takes no memory.
+    pub fn lengths(&self) -> (usize, usize) {
+        (self.stored.write_len(), self.stored.marked_len())
     }
 
     /// Puts these rows in place of those that WHERE keeps, which are as many.
@@ -169,6 +184,7 @@ impl NamedTable {
         ensures ok { OnOk result (self.new ≡ holding (left_by condition.now self.old.rows ++ images.items) self.old) }
         ensures err { OnErr result (self.new ≡ self.old) }
     {
-        self.stored.replace(alloc, condition, images)
+        let found = self.stored.find(alloc, condition)?;
+        self.stored.replace(&found, images)
     }
 }

@@ -17,7 +17,7 @@ pub fn drop_in(tables: &mut Vec<NamedTable>, number: u64)
     tables.remove(place);
 }
 
-/// Moves the first rows of the table of a number to columns, so many of those that stand one by one. No row changes.
+/// Takes so many rows from the front of the write store of the table of a number to segments. No row changes.
 pub fn move_in(
     alloc: Global,
     tables: &mut Vec<NamedTable>,
@@ -29,6 +29,15 @@ pub fn move_in(
 {
     let place = place_numbered(tables, number);
     tables[place].move_front(alloc, count)
+}
+
+/// Makes the segments of the table of a number anew of their live rows. No row changes.
+pub fn merge_in(alloc: Global, tables: &mut Vec<NamedTable>, number: u64) -> Result<(), AllocError>
+    requires { IsThere number tables.old.items }
+    ensures { tables.new.items ≡ tables.old.items }
+{
+    let place = place_numbered(tables, number);
+    tables[place].merge(alloc)
 }
 
 /// Where the table of a name stands.

@@ -9,7 +9,7 @@ ghost use Rattle.cq_model.specs.declared.fault.ShowFault.TheVariants.{SumOutOfRa
 ghost use Rattle.cq_model_laws.specs.Sizes.{HasSizes};
 ghost use Rattle.cq_model.specs.Sizes.{column_sizes};
 ghost use Rattle.cq_values.specs.Texts.{is_text};
-ghost use Rattle.cq_views_state.specs.Query.{CanBeKept, reads};
+ghost use Rattle.cq_views_model.specs.Query.{CanBeKept, reads};
 ghost use Rattle.cq_views_state.specs.Work.{work_of};
 ghost use Rattle.cq_sides.specs.Ticks.{counted};
 ghost use Rattle.cq_views.specs.Changes.{changes_of};
@@ -37,7 +37,7 @@ impl Model for View {
     ghost use Rattle.std.specs.Coded.{codes};
     ghost use Rattle.cq_model.specs.contracts.expr.Cond as cond;
     ghost use Rattle.cq_model.specs.contracts.expr.Expr as expr;
-    ghost use Rattle.cq_views_state.specs.Query.{CanBeKept};
+    ghost use Rattle.cq_views_model.specs.Query.{CanBeKept};
     ghost use Rattle.cq_views.specs.contracts.kept_view.KeptView as kept_view;
     ghost use Rattle.cq_engine_tables.specs.Views.{NamedView};
 

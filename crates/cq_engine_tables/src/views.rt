@@ -4,7 +4,7 @@ ghost use Rattle.std.specs.List.{list_any, remove};
 ghost use Rattle.cq_values.specs.Texts.{is_text};
 ghost use Rattle.cq_binder_rules.specs.Refusal.{is_used};
 ghost use Rattle.cq_model_state.specs.State.{view_place};
-ghost use Rattle.cq_views_state.specs.Query.{reads};
+ghost use Rattle.cq_views_model.specs.Query.{reads};
 ghost use Rattle.cq_views.specs.Changes.{changes_of};
 ghost use Rattle.cq_engine_tables.specs.Taking.{AreReadyForChange, AreSame, CanAllPrepare, CanAllTake, HaveTaken};
 ghost use Rattle.cq_engine_tables.specs.Views.{views_of};

@@ -19,7 +19,7 @@ use Rattle.cq_model_state.specs.State.{TableOf, rows_in}
 use Rattle.cq_model_step.specs.Next.{at_epoch}
 use Rattle.cq_views.specs.Laws.{StandingDependsOnSources}
 use Rattle.cq_views.specs.State.{StandsFor}
-use Rattle.cq_views_state.specs.Query.{reads}
+use Rattle.cq_views_model.specs.Query.{reads}
 use Rattle.cq_views_state.specs.State.{AreBags}
 use Rattle.cq_views_state.specs.declared.state.Pending.{Pending}
 use Rattle.cq_engine_tables.proofs.Bags.{bags_are}

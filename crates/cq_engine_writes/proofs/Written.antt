@@ -34,7 +34,7 @@ use Rattle.cq_engine_tables.proofs.Rows.{bounded-with_rows, fitting-with_rows, f
 use Rattle.cq_engine_tables.proofs.Wide.{keep-set}
 use Rattle.cq_table.specs.Checks.{too_many}
 use Rattle.cq_table.proofs.RowLists.{all_of_bag, all_of_rows}
-use Rattle.cq_model_laws.specs.Sizes.{IsStored}
+use Rattle.cq_model.specs.Sizes.{IsStored}
 use Rattle.cq_model_bags.proofs.Lists.{all-append, all-filter, fewer}
 
 -- ---- Rows that come, and rows that go

@@ -2,7 +2,7 @@
 ghost use Rattle.std.specs.List.{AllByRecursion};
 ghost use Rattle.std.specs.Prelude.{◌+◌, ◌≤◌, ◌^◌, IfOk, length};
 ghost use Rattle.cq_table_columns.specs.Stored.{stored_rows};
-ghost use Rattle.cq_model_laws.specs.Sizes.{IsStored};
+ghost use Rattle.cq_model.specs.Sizes.{IsStored};
 ghost use Rattle.cq_engine_tables.specs.Taking.{AreSame, CanAllTake};
 ghost use Rattle.cq_engine_writes.specs.Changing.{AreReadyForRows, AreStanding};
 

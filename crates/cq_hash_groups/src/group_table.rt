@@ -103,7 +103,8 @@ impl<'q> GroupTable<'q> {
         ensures few { (rows : List Values) → Holds self.now rows → OnOk result (length rows ≤ count_size) }
         ensures fault { (rows : List Values) → Holds self.now rows → IfErr result (IsGroupsFault self.now rows) }
     {
-        let keys = self.found.keys();
+        let found = self.found.keys(alloc)?;
+        let keys = found.as_slice();
         let mut rows = Vec::new(alloc);
         for group in 0..keys.len() {
             let row = shown_row(alloc, &keys[group], &self.slots, group)?;

@@ -7,8 +7,6 @@ use Rattle.cq_values.specs.declared.value.Value.TheVariants.{Number}
 use Rattle.cq_values.specs.Value.{Row}
 use Rattle.cq_values.specs.Order.{same_row}
 use Rattle.cq_vectors.specs.Batch.{row_at}
-use Rattle.cq_hash_keys.specs.declared.dictionary.Dictionary.{Dictionary}
-use Rattle.cq_hash_keys.specs.Dictionary.{number_in}
 
 -- keys of so many values
 pub record StoredKeys : Type 0 where
@@ -67,13 +65,3 @@ AreWithin keys numbers = AllByRecursion (λ number. number < length keys) number
 -- the number is that of the key
 abbrev pub IsNumberOf : List Row → Row → ℕ → Type 0
 IsNumberOf keys key number = (number < length keys) × (key_at keys number ≡ key)
-
--- the dictionary has the numbers of keys of one value
-abbrev pub FindsValues : Dictionary → List Row → Type 0
-FindsValues values keys = (value : Value) → number_in values value ≡ place_of keys (value ∷ [])
-
--- a table of keys of so many values: keys of one value are found by a dictionary, and others as rows
-pub record IsTable (width : ℕ) (keys places : List Row) (values : Dictionary) : Type 0 where
-  pub known : AreKeys width keys
-  pub single : width ≡ 1 → FindsValues values keys
-  pub several : (width ≡ 1 → ⊥) → places ≡ keys

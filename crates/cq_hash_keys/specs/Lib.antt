@@ -1,4 +1,10 @@
+pub mod Codes
 pub mod Dictionary
+pub mod Grid
 pub mod Keys
+pub mod Met
+pub mod Pairs
 pub mod Stages
-pub mod Trail
+pub mod Table
+pub mod Values
+pub mod Window

@@ -1,61 +1,106 @@
--- What short ways to keys promise, whatever keys they are kept for.
-use Rattle.std.specs.Prelude.{◌≡◌, ℕ, ◌+◌, List, Option, Result, IfOk, IfSome}
-use Rattle.std.specs.List.{AllByRecursion}
+-- Keys of several columns: a stage for each column behind the first.
+use Rattle.std.specs.Prelude.{⊤, ◌⊎◌, ◌≡◌, ◌<◌, ℕ, List, [], ◌∷◌, ◌++◌, Option, fold, length, map}
+use Rattle.std.specs.List.{AllByRecursion, IsDistinct, zip}
 use Rattle.cq_values.specs.declared.value.Value.{Value}
+use Rattle.cq_values.specs.declared.value.Value.TheVariants.{Null}
+use Rattle.cq_values.specs.Order.{same_row}
 use Rattle.cq_values.specs.Value.{Row, column}
-use Rattle.cq_hash_keys.specs.declared.trail.Stage.{Stage}
-use Rattle.cq_hash_keys.specs.Trail.{AreStages, Begins, Follows, HasValue, IsStage, MayBegin}
-use Rattle.cq_hash_keys.specs.Keys.{HasValues, IsNumberOf, key_at}
+use Rattle.cq_hash_keys.specs.declared.stage.Stage.{Stage}
+use Rattle.cq_hash_keys.specs.Grid.{same_pair}
+use Rattle.cq_hash_keys.specs.Keys.{key_at, places_of}
+use Rattle.cq_hash_keys.specs.Met.{AreNumbersOf, TakesFront, with_new}
+use Rattle.cq_hash_keys.specs.Pairs.{place_of_both}
+use Rattle.cq_hash_keys.specs.Values.{place_in, same_value}
 
--- nothing is kept that is not so of any keys
-abbrev pub IsAnyStage : Stage → Type 0
-IsAnyStage stage = (keys : List Row) (at : ℕ) → IsStage keys at stage
+-- the key of each value alone
+abbrev pub singles : List Value → List Row
+singles values = map (λ value. value ∷ []) values
 
--- where the key before begins like a row that has the value next, the key that is found begins with one value more
-abbrev pub Steps : Stage → Option ℕ → Value → Option ℕ → Type 0
-Steps stage before value found =
-    (keys : List Row) (at : ℕ) (row : Row) → IsStage keys at stage → value ≡ column row at → MayBegin keys at row before
-    → IfSome found (Begins keys (at + 1) row)
+-- the key of the first number, and behind it the value of the second
+abbrev pub joined : List Row → List Value → ℕ × ℕ → Row
+joined keys values pair = key_at keys pair.0 ++ column values pair.1 ∷ []
 
--- what is kept stays so where the key of a number has a value
-abbrev pub TakesValue : Stage → Value → ℕ → Stage → Type 0
-TakesValue old value number new = (keys : List Row) (at : ℕ) → IsStage keys at old → HasValue keys at value number → IsStage keys at new
+-- the keys with one column more
+abbrev pub longer : List Row → Stage → List Row
+longer keys stage = map (joined keys stage.values) stage.pairs
 
--- the key that was met has the value, where the one that came has it
-abbrev pub Meets : {E : Type 0} → Stage → Value → ℕ → Result ℕ E → Type 0
-Meets old value number met =
-    (keys : List Row) (at : ℕ) → IsStage keys at old → HasValue keys at value number → IfOk met (HasValue keys at value)
+-- the keys with a column more for each stage
+abbrev pub longest : List Row → List Stage → List Row
+longest keys stages = fold longer keys stages
 
--- what is kept stays so where the key of a number follows from two others
-abbrev pub TakesPair : Stage → ℕ × ℕ → ℕ → Stage → Type 0
-TakesPair old pair number new = (keys : List Row) (at : ℕ) → IsStage keys at old → Follows keys at pair number → IsStage keys at new
+-- each row with a value behind it
+abbrev pub behind : List Row → List Value → List Row
+behind rows values = map (λ next. next.0 ++ next.1 ∷ []) (zip rows values)
 
--- the key that was met follows from them, where the one that came does
-abbrev pub GoesOn : {E : Type 0} → Stage → ℕ × ℕ → ℕ → Result ℕ E → Type 0
-GoesOn old pair number met =
-    (keys : List Row) (at : ℕ) → IsStage keys at old → Follows keys at pair number → IfOk met (Follows keys at pair)
+-- each row with a value of each column behind it
+abbrev pub rows_with : List Row → List (List Value) → List Row
+rows_with rows columns = fold behind rows columns
 
--- what is kept stays so where the key of a number has the value, and the key before begins like it
-abbrev pub TakesStep : Stage → Option ℕ → Value → ℕ → Stage → Type 0
-TakesStep old before value number new =
-    (keys : List Row) (at : ℕ) → IsStage keys at old → HasValue keys at value number → MayBegin keys at (key_at keys number) before
-    → IsStage keys at new
+-- both numbers are those of something
+abbrev pub IsWithinBoth : ℕ → ℕ → ℕ × ℕ → Type 0
+IsWithinBoth firsts seconds pair = (pair.0 < firsts) × (pair.1 < seconds)
 
--- then the key that was met begins like it with one value more
-abbrev pub BeginsMore : {E : Type 0} → Stage → Option ℕ → Value → ℕ → Result ℕ E → Type 0
-BeginsMore old before value number met =
-    (keys : List Row) (at : ℕ) → IsStage keys at old → HasValue keys at value number → MayBegin keys at (key_at keys number) before
-    → IfOk met (Begins keys (at + 1) (key_at keys number))
+-- a stage for these keys: its values, and the keys that it makes, are there once each
+pub record IsStage (keys : List Row) (stage : Stage) : Type 0 where
+  pub values : IsDistinct same_value stage.values
+  pub within : AllByRecursion (IsWithinBoth (length keys) (length stage.values)) stage.pairs
+  pub once : IsDistinct same_row (longer keys stage)
 
--- so it is for a stage of each column
-abbrev pub AreAnyStages : List Stage → Type 0
-AreAnyStages stages = (keys : List Row) → AreStages keys stages
+-- each stage goes on from the keys of those before it
+abbrev pub AreStages : List Row → List Stage → Type 0
+AreStages keys [] = ⊤
+AreStages keys (stage ∷ stages) = IsStage keys stage × AreStages (longer keys stage) stages
 
--- of keys of this width the one that is found is this
-abbrev pub Leads : List Stage → ℕ → Row → Option ℕ → Type 0
-Leads stages width key found =
-    (keys : List Row) → AreStages keys stages → AllByRecursion (HasValues width) keys → IfSome found (IsNumberOf keys key)
+-- a stage took in a column, or a front of it, of keys that have these numbers without it
+pub record AddsPart (old : Stage) (values : List Value) (firsts : List ℕ) (new : Stage) : Type 0 where
+  pub seconds : List ℕ
+  pub values_more : TakesFront same_value old.values values new.values
+  pub within : AllByRecursion (λ number. number < length new.values) seconds
+  pub pairs_more : TakesFront same_pair old.pairs (zip firsts seconds) new.pairs
 
--- what is kept stays so where the number is that of the key
-abbrev pub TakesKey : List Stage → Row → ℕ → List Stage → Type 0
-TakesKey old key number new = (keys : List Row) → AreStages keys old → IsNumberOf keys key number → AreStages keys new
+-- it took in all of it, and these are the keys' numbers with it
+pub record AddsColumn (old : Stage) (values : List Value) (firsts : List ℕ) (new : Stage) (numbers : List ℕ) : Type 0 where
+  pub seconds : List ℕ
+  pub values_more : new.values ≡ with_new same_value old.values values
+  pub values_named : AreNumbersOf Null new.values values seconds
+  pub pairs_more : new.pairs ≡ with_new same_pair old.pairs (zip firsts seconds)
+  pub pairs_named : AreNumbersOf (0, 0) new.pairs (zip firsts seconds) numbers
+
+-- new has what is new of the rows, which have these numbers
+pub record Adds (old new rows : List Row) (numbers : List ℕ) : Type 0 where
+  pub made : new ≡ with_new same_row old rows
+  pub told : AreNumbersOf [] new rows numbers
+
+-- stages that go on from keys, to which rows were added
+pub record StartsFrom (keys more rows : List Row) (stages : List Stage) (numbers : List ℕ) : Type 0 where
+  pub once : IsDistinct same_row keys
+  pub are : AreStages keys stages
+  pub adds : Adds keys more rows numbers
+
+-- the stages took in columns: whatever they go on from, its rows are added with the columns behind
+abbrev pub GoesOn : List Stage → List (List Value) → List ℕ → List Stage → List ℕ → Type 0
+GoesOn old columns firsts new numbers =
+    (keys more rows : List Row) → StartsFrom keys more rows old firsts → Adds (longest keys old) (longest more new) (rows_with rows columns) numbers
+
+-- what is left are stages for what they go on from
+abbrev pub StaysStages : List Stage → List ℕ → List Stage → Type 0
+StaysStages old firsts new = (keys more rows : List Row) → StartsFrom keys more rows old firsts → AreStages more new
+
+-- the number of a key that goes on from one with a value
+abbrev pub found_further : Stage → Option ℕ × Value → Option ℕ
+found_further stage next = place_of_both stage.pairs (next.0, place_in stage.values next.1)
+
+-- the rows are looked up with the columns behind, whatever the stages go on from
+abbrev pub FindsOn : List Stage → List (List Value) → List (Option ℕ) → List (Option ℕ) → Type 0
+FindsOn stages columns firsts numbers =
+    (keys rows : List Row) → IsDistinct same_row keys → AreStages keys stages → firsts ≡ places_of keys rows
+    → numbers ≡ places_of (longest keys stages) (rows_with rows columns)
+
+-- nothing is in it
+pub record IsFresh (stage : Stage) : Type 0 where
+  pub values : stage.values ≡ []
+  pub pairs : stage.pairs ≡ []
+
+-- there are so many stages now: those that there were, or new ones
+abbrev pub Readies : ℕ → List Stage → List Stage → Type 0
+Readies count old new = ((length old ≡ count) × (new ≡ old)) ⊎ ((length old ≡ count → ⊥) × (length new ≡ count) × AllByRecursion IsFresh new)

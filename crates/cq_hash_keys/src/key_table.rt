@@ -1,25 +1,25 @@
 //! Tables of keys.
 //!
 //! A table begins empty, for keys of a width. `add` puts in what is new of up to 1,024 keys, given column by column,
-//! and tells the number of each; `find` tells numbers and puts nothing in. `keys` lends the keys by their numbers. A
-//! key that is known costs one look-up a value, and no row is made for it; one that is new costs its row, and its
-//! values once more for the ways to it. Small numbers are looked up in a list. After an `Err` of `add` some keys may be
-//! in, each with its number.
-ghost use Rattle.std.specs.List.{AllByRecursion, IsDistinct};
-ghost use Rattle.std.specs.Prelude.{IfOk, IfSome, OnOk, length, map, ◌++◌, ◌∷◌, ◌<◌, ◌≡◌, ◌≤◌, Some, []};
-ghost use Rattle.indexmap.specs.IndexSet.{insert_key};
+//! and tells the number of each; `find` tells numbers and puts nothing in. Both go through one column after the other:
+//! the values of the first are numbered, then the pairs of those numbers and the values of the next, and so on. A key is
+//! kept as these numbers and never as a row; `keys` makes rows of them, and `column` a vector of one column. A key that
+//! is known costs a look-up a value and one a pair. After an `Err` of `add` some keys may be in, each with its number.
+ghost use Rattle.std.specs.List.{AllByRecursion};
+ghost use Rattle.std.specs.Prelude.{IfOk, None, OnOk, Some, [], drop, if◌then◌else◌, length, take, ◌+◌, ◌++◌, ◌<◌, ◌≡◌, ◌≤◌};
 ghost use Rattle.cq_values.specs.Lent.{owned};
-ghost use Rattle.cq_values.specs.declared.value.Value.TheVariants.{Number};
-ghost use Rattle.cq_values.specs.Order.{same_row};
+ghost use Rattle.cq_values.specs.Value.{column as column_at};
 ghost use Rattle.cq_model_bags.specs.Bag.{firsts};
-ghost use Rattle.cq_hash_keys.specs.Keys.{AreKeys, AreNumbers, AreWithin, HasLength, IsNumberOf, key_at, key_rows, place_of, places_of, row_in, rows_of_numbers, values_of};
+ghost use Rattle.cq_vectors.specs.Gathered.{column_of};
+ghost use Rattle.cq_hash_keys.specs.Keys.{AreKeys, AreNumbers, AreWithin, HasLength, key_at, key_rows, places_of, values_of};
+ghost use Rattle.cq_hash_keys.specs.Met.{AreNumbersOf};
+ghost use Rattle.cq_hash_keys.specs.Stages.{rows_with, singles};
 
-use crate::dictionary::Dictionary;
-use crate::keys::{key_of, lone_numbers, single};
-use crate::trail::Trail;
-use cq_values::{Lent, Row, copy_row};
-use cq_vectors::Vector;
-use indexmap::IndexSet;
+use crate::stage::Stage;
+use crate::stages::{find_on, go_on, lend_value, make_ready};
+use crate::values::Values;
+use cq_values::{Lent, Row};
+use cq_vectors::{Form, Vector};
 use std::alloc::{AllocError, Global};
 use std::marker::Model;
 
@@ -27,21 +27,24 @@ use std::marker::Model;
 #[derive(Drop)]
 pub struct KeyTable {
     width: usize,
-    keys: Vec<Row>,
-    values: Dictionary,
-    trail: Trail,
-    places: IndexSet<Row>,
+    /// Whether the key of no values was met.
+    is_met: bool,
+    first: Values,
+    /// A stage for each column behind the first, or none yet.
+    stages: Vec<Stage>,
+    firsts: Vec<usize>,
+    seconds: Vec<usize>,
 }
 
 impl Model for KeyTable {
-    ghost use Rattle.cq_hash_keys.specs.Trail.{IsKeyTable};
     ghost use Rattle.cq_hash_keys.specs.Keys.{StoredKeys};
+    ghost use Rattle.cq_hash_keys.specs.Table.{IsKeyTable, keys_in};
 
     ghost Value = { StoredKeys };
 
-    ghost view = { λ t. record { width = t.width; keys = t.keys.items } };
+    ghost view = { λ t. record { width = t.width; keys = keys_in t.width t.is_met t.first t.stages.items } };
 
-    ghost invariant = { λ t. IsKeyTable t.width t.keys.items t.places.keys t.values t.trail.stages.items };
+    ghost invariant = { λ t. IsKeyTable t.width t.first t.stages.items };
 }
 
 impl KeyTable {
@@ -51,10 +54,11 @@ impl KeyTable {
     {
         KeyTable {
             width,
-            keys: Vec::new(alloc),
-            values: Dictionary::new(alloc),
-            trail: Trail::new(alloc),
-            places: IndexSet::new(alloc),
+            is_met: false,
+            first: Values::new(alloc),
+            stages: Vec::new(alloc),
+            firsts: Vec::new(alloc),
+            seconds: Vec::new(alloc),
         }
     }
 
@@ -74,16 +78,10 @@ impl KeyTable {
         ensures within { OnOk result (AreWithin self.new.keys numbers.new.items) }
         ensures width { self.new.width ≡ self.old.width }
     {
-        let _width = self.width;
-        if let Some(values) = lone_numbers(columns) {
-            return self.add_numbers(alloc, values, numbers);
+        match columns.split_first() {
+            None => self.add_empty(len, numbers),
+            Some((first, others)) => self.add_columns(alloc, first, others, numbers),
         }
-        numbers.clear();
-        for place in 0..len {
-            let number = self.number(alloc, columns, place)?;
-            numbers.push(number)?;
-        }
-        Ok(())
     }
 
     /// The number of the key at each place, None where it was never met.
@@ -99,217 +97,178 @@ impl KeyTable {
         requires few { len ≤ 1024 }
         ensures { OnOk result (numbers.new.items ≡ places_of self.now.keys (key_rows len (values_of columns.now))) }
     {
-        if let Some(values) = lone_numbers(columns) {
-            return self.find_numbers(values, numbers);
+        match columns.split_first() {
+            None => self.find_empty(len, numbers),
+            Some((first, others)) => self.find_columns(alloc, first, others, numbers),
         }
-        numbers.clear();
-        for place in 0..len {
-            let found = self.place_of(alloc, columns, place)?;
-            numbers.push(found)?;
-        }
-        Ok(())
     }
 
     pub fn len(&self) -> usize
         ensures { result ≡ length self.now.keys }
     {
-        self.keys.len()
+        if self.width == 0 {
+            return if self.is_met { 1 } else { 0 };
+        }
+        match self.stages.split_last() {
+            Some((stage, _)) => stage.pairs.len(),
+            None => self.first.len(),
+        }
     }
 
-    /// The keys by their numbers.
-    pub fn keys(&self) -> &[Row]
-        ensures keys { result.now ≡ self.now.keys }
+    /// The value of a column of the key of a number.
+    pub fn lend(&self, key: usize, column: usize) -> Lent<'_>
+        requires key { key < length self.now.keys }
+        requires column { column < self.now.width }
+        ensures { owned result ≡ column_at (key_at self.now.keys key) column }
+    {
+        lend_value(&self.first, self.stages.as_slice(), key, column)
+    }
+
+    /// The keys by their numbers, as rows.
+    pub fn keys(&self, alloc: Global) -> Result<Vec<Row>, AllocError>
+        ensures keys { IfOk result (λ rows. rows.items ≡ self.now.keys) }
         ensures once { AreKeys self.now.width self.now.keys }
     {
-        self.keys.as_slice()
+        let _width = self.width;
+        let len = self.len();
+        let mut rows = Vec::new(alloc);
+        rows.reserve(len)?;
+        for key in 0..len {
+            rows.push_reserved(self.key(alloc, key)?);
+        }
+        Ok(rows)
     }
 
-    /// The keys by their numbers, for good.
-    pub fn into_keys(self) -> Vec<Row>
-        ensures keys { result.items ≡ self.keys }
+    /// The keys by their numbers, as rows, for good.
+    pub fn into_keys(self, alloc: Global) -> Result<Vec<Row>, AllocError>
+        ensures keys { IfOk result (λ rows. rows.items ≡ self.keys) }
         ensures once { AreKeys self.width self.keys }
     {
-        self.keys
+        self.keys(alloc)
     }
 
-    /// The number of the key at a place, None where it was never met.
-    fn place_of(
+    /// The values of a column of up to 1,024 keys, from a number on.
+    pub fn column(
         &self,
         alloc: Global,
-        columns: &[&Vector<'_>],
-        place: usize,
-    ) -> Result<Option<usize>, AllocError>
-        requires { length columns.now ≡ self.now.width }
-        ensures { IfOk result (λ found. found ≡ place_of self.now.keys (row_in columns.now place)) }
+        column: usize,
+        start: usize,
+        len: usize,
+    ) -> Result<Vector<'_>, AllocError>
+        requires column { column < self.now.width }
+        requires keys { start + len ≤ length self.now.keys }
+        requires few { len ≤ 1024 }
+        ensures { IfOk result (λ vector. vector ≡ column_of (take len (drop start self.now.keys)) column) }
     {
-        if self.width == 1 {
-            if let Some(column) = columns.first() {
-                return Ok(self.values.get(&column.lend(place)));
-            }
+        let _count = self.len();
+        let mut values = Vec::new(alloc);
+        values.reserve(len)?;
+        for place in 0..len {
+            values.push_reserved(self.lend(start + place, column));
         }
-        let key = key_of(alloc, columns, place)?;
-        Ok(self.places.get_index_of(&key))
+        Ok(Vector::new(Form::Values(values)))
     }
 
-    /// Puts in what is new of the keys of these numbers, and tells the number of each.
-    fn add_numbers(
-        &mut self,
-        alloc: Global,
-        values: &[i64],
-        numbers: &mut Vec<usize>,
-    ) -> Result<(), AllocError>
-        requires { self.old.width ≡ 1 }
-        ensures keys { OnOk result (self.new.keys ≡ firsts (self.old.keys ++ rows_of_numbers values.now)) }
-        ensures numbers { OnOk result (map (key_at self.new.keys) numbers.new.items ≡ rows_of_numbers values.now) }
+    /// The key of a number, as a row.
+    fn key(&self, alloc: Global, key: usize) -> Result<Row, AllocError>
+        requires { key < length self.now.keys }
+        ensures { IfOk result (λ row. row ≡ key_at self.now.keys key) }
+    {
+        let mut row = Row::with_capacity(alloc, self.width)?;
+        for column in 0..self.width {
+            row.push(self.lend(key, column).to_value(alloc)?)?;
+        }
+        Ok(row)
+    }
+
+    /// The key of no values is met where there is a place.
+    fn add_empty(&mut self, len: usize, numbers: &mut Vec<usize>) -> Result<(), AllocError>
+        requires { self.old.width ≡ 0 }
+        ensures keys { OnOk result (self.new.keys ≡ firsts (self.old.keys ++ key_rows len [])) }
+        ensures numbers { OnOk result (AreNumbers self.new.keys len [] numbers.new.items) }
         ensures within { OnOk result (AreWithin self.new.keys numbers.new.items) }
         ensures width { self.new.width ≡ self.old.width }
     {
         let _width = self.width;
         numbers.clear();
-        numbers.reserve(values.len())?;
-        for place in 0..values.len() {
-            let number = self.lone_number(alloc, values[place])?;
-            numbers.push_reserved(number);
+        numbers.resize(len, 0)?;
+        if 0 < len {
+            self.is_met = true;
         }
         Ok(())
     }
 
-    /// The number of the key of each number, None where it was never met.
-    fn find_numbers(
+    fn find_empty(&self, len: usize, numbers: &mut Vec<Option<usize>>) -> Result<(), AllocError>
+        requires { self.now.width ≡ 0 }
+        ensures { OnOk result (numbers.new.items ≡ places_of self.now.keys (key_rows len [])) }
+    {
+        let found = empty_place(self.is_met);
+        numbers.clear();
+        numbers.resize(len, found)?;
+        Ok(())
+    }
+
+    /// Puts in what is new of keys of these columns, and tells their numbers.
+    fn add_columns(
+        &mut self,
+        alloc: Global,
+        first: &Vector<'_>,
+        others: &[&Vector<'_>],
+        numbers: &mut Vec<usize>,
+    ) -> Result<(), AllocError>
+        requires width { length others.now + 1 ≡ self.old.width }
+        requires long { AllByRecursion (HasLength (length first.now)) (values_of others.now) }
+        ensures keys { OnOk result (self.new.keys ≡ firsts (self.old.keys ++ rows_with (singles first.now) (values_of others.now))) }
+        ensures numbers { OnOk result (AreNumbersOf [] self.new.keys (rows_with (singles first.now) (values_of others.now)) numbers.new.items) }
+        ensures width { self.new.width ≡ self.old.width }
+    {
+        make_ready(alloc, &mut self.stages, others.len())?;
+        self.first.add(alloc, first, numbers)?;
+        let count = self.first.len();
+        let stages = self.stages.as_mut_slice();
+        go_on(
+            alloc,
+            stages,
+            others,
+            count,
+            &mut self.firsts,
+            &mut self.seconds,
+            numbers,
+        )
+    }
+
+    /// The numbers of keys of these columns, None where one was never met.
+    fn find_columns(
         &self,
-        values: &[i64],
+        alloc: Global,
+        first: &Vector<'_>,
+        others: &[&Vector<'_>],
         numbers: &mut Vec<Option<usize>>,
     ) -> Result<(), AllocError>
-        requires { self.now.width ≡ 1 }
-        ensures { OnOk result (numbers.new.items ≡ places_of self.now.keys (rows_of_numbers values.now)) }
+        requires width { length others.now + 1 ≡ self.now.width }
+        requires long { AllByRecursion (HasLength (length first.now)) (values_of others.now) }
+        ensures { OnOk result (numbers.new.items ≡ places_of self.now.keys (rows_with (singles first.now) (values_of others.now))) }
     {
-        numbers.clear();
-        numbers.reserve(values.len())?;
-        for place in 0..values.len() {
-            numbers.push_reserved(self.lone_place(values[place]));
+        if self.stages.len() != others.len() {
+            numbers.clear();
+            numbers.resize(first.len(), None)?;
+            return Ok(());
         }
-        Ok(())
+        self.first.find(first, numbers)?;
+        let (mut firsts, mut seconds) = (Vec::new(alloc), Vec::new(alloc));
+        find_on(
+            self.stages.as_slice(),
+            others,
+            &mut firsts,
+            &mut seconds,
+            numbers,
+        )
     }
+}
 
-    /// The number of the key of one number, None where it was never met.
-    #[inline(always)]
-    fn lone_place(&self, value: i64) -> Option<usize>
-        requires { self.now.width ≡ 1 }
-        ensures { result ≡ place_of self.now.keys (Number value ∷ []) }
-    {
-        self.values.number_of_64_bits(value)
-    }
-
-    /// The number of the key of one number, which is put in where it is new.
-    #[inline(always)]
-    fn lone_number(&mut self, alloc: Global, value: i64) -> Result<usize, AllocError>
-        requires { self.old.width ≡ 1 }
-        ensures keys { OnOk result (self.new.keys ≡ insert_key same_row self.old.keys (Number value ∷ [])) }
-        ensures number { IfOk result (IsNumberOf self.new.keys (Number value ∷ [])) }
-        ensures width { self.new.width ≡ self.old.width }
-    {
-        if let Some(number) = self.values.number_of_64_bits(value) {
-            return Ok(number);
-        }
-        self.value_number(alloc, &Lent::Number(i128::from(value)))
-    }
-
-    /// The number of the key at a place, which is put in where it is new.
-    fn number(
-        &mut self,
-        alloc: Global,
-        columns: &[&Vector<'_>],
-        place: usize,
-    ) -> Result<usize, AllocError>
-        requires { length columns.now ≡ self.old.width }
-        ensures keys { OnOk result (self.new.keys ≡ insert_key same_row self.old.keys (row_in columns.now place)) }
-        ensures number { IfOk result (IsNumberOf self.new.keys (row_in columns.now place)) }
-        ensures width { self.new.width ≡ self.old.width }
-    {
-        if self.width == 1 {
-            if let Some(column) = columns.first() {
-                return self.value_number(alloc, &column.lend(place));
-            }
-        }
-        self.several_number(alloc, columns, place)
-    }
-
-    /// The number of a key of no or of several values. A row is made for a key that is not known yet.
-    fn several_number(
-        &mut self,
-        alloc: Global,
-        columns: &[&Vector<'_>],
-        place: usize,
-    ) -> Result<usize, AllocError>
-        requires width { length columns.now ≡ self.old.width }
-        requires several { self.old.width ≡ 1 → ⊥ }
-        ensures keys { OnOk result (self.new.keys ≡ insert_key same_row self.old.keys (row_in columns.now place)) }
-        ensures number { IfOk result (IsNumberOf self.new.keys (row_in columns.now place)) }
-        ensures width { self.new.width ≡ self.old.width }
-    {
-        if let Some(number) = self.known_number(columns, place) {
-            return Ok(number);
-        }
-        let key = key_of(alloc, columns, place)?;
-        let number = self.row_number(alloc, key)?;
-        self.trail.note(alloc, columns, place, number)?;
-        Ok(number)
-    }
-
-    /// The number of a key of no or of several values, if a short way to it is known.
-    fn known_number(&self, columns: &[&Vector<'_>], place: usize) -> Option<usize>
-        requires { length columns.now ≡ self.now.width }
-        ensures { IfSome result (IsNumberOf self.now.keys (row_in columns.now place)) }
-    {
-        if columns.is_empty() {
-            return self.empty_number();
-        }
-        self.trail.find(columns, place)
-    }
-
-    /// The number of the key of no values, if it was met.
-    fn empty_number(&self) -> Option<usize>
-        requires { self.now.width ≡ 0 }
-        ensures { IfSome result (IsNumberOf self.now.keys []) }
-    {
-        if self.keys.is_empty() { None } else { Some(0) }
-    }
-
-    /// The number of a key of one value, which is put in where it is new.
-    #[inline(never)]
-    fn value_number(&mut self, alloc: Global, value: &Lent<'_>) -> Result<usize, AllocError>
-        requires { self.old.width ≡ 1 }
-        ensures keys { OnOk result (self.new.keys ≡ insert_key same_row self.old.keys (owned value.now ∷ [])) }
-        ensures number { IfOk result (IsNumberOf self.new.keys (owned value.now ∷ [])) }
-        ensures width { self.new.width ≡ self.old.width }
-    {
-        if let Some(number) = self.values.get(value) {
-            return Ok(number);
-        }
-        let number = self.keys.len();
-        let key = single(alloc, value)?;
-        self.keys.reserve(1)?;
-        self.values.put(alloc, value, number)?;
-        self.keys.push_reserved(key);
-        Ok(number)
-    }
-
-    /// The number of a key of no or of several values, which is put in where it is new.
-    fn row_number(&mut self, alloc: Global, key: Row) -> Result<usize, AllocError>
-        requires width { length key ≡ self.old.width }
-        requires several { self.old.width ≡ 1 → ⊥ }
-        ensures keys { OnOk result (self.new.keys ≡ insert_key same_row self.old.keys key) }
-        ensures number { IfOk result (IsNumberOf self.new.keys key) }
-        ensures width { self.new.width ≡ self.old.width }
-    {
-        if let Some(number) = self.places.get_index_of(&key) {
-            return Ok(number);
-        }
-        let number = self.keys.len();
-        let copy = copy_row(alloc, key.as_slice())?;
-        self.keys.reserve(1)?;
-        self.places.insert(copy)?;
-        self.keys.push_reserved(key);
-        Ok(number)
-    }
+/// The number of the key of no values, None where it was never met.
+fn empty_place(is_met: bool) -> Option<usize>
+    ensures { result ≡ (if is_met then Some 0 else None) }
+{
+    if is_met { Some(0) } else { None }
 }

@@ -6,9 +6,13 @@
 
 mod columns;
 mod dictionary;
+mod grid;
 mod key_table;
-mod keys;
-mod trail;
+mod pairs;
+mod stage;
+mod stages;
+mod values;
+mod window;
 
 pub use columns::key_columns;
 pub use key_table::KeyTable;

@@ -1,16 +1,30 @@
 -- How large texts can be, and the numbers in the columns of tables and of queries (docs/LANGUAGE.md, Width).
-use Rattle.std.specs.Prelude.{ℕ, ◌<◌, ◌^◌, List, ◌++◌, map, slice_index_or, unwrap_or, []}
+use Rattle.std.specs.Prelude.{ℕ, ◌<◌, ◌≤◌, ◌^◌, List, ◌++◌, map, slice_index_or, unwrap_or, [], Option}
+use Rattle.cq_model.specs.Expr.{Cond}
 use Rattle.cq_model.specs.declared.query.Aggregate.{Aggregate}
 use Rattle.cq_model.specs.declared.query.Aggregate.TheVariants.{CountAll, Count, Sum, Min, Max}
 use Rattle.cq_model.specs.declared.query.Query.{Query}
 use Rattle.cq_model.specs.declared.query.Shape.{Shape}
 use Rattle.cq_model.specs.declared.query.Shape.TheVariants.{Plain, Grouped}
 use Rattle.cq_values.specs.declared.column.ColumnDef.{ColumnDef}
-use Rattle.cq_model.specs.Width.{number_limit, widest, width}
+use Rattle.cq_values.specs.Value.{Row, column}
+use Rattle.cq_model.specs.Width.{IsNarrowIn, number_limit, value_size, widest, width}
 
 -- a stored number has 64 bits with a sign
 abbrev pub stored_size : ℕ
 stored_size = 2 ^ 63
+
+-- the number in each column of a row is within a size
+abbrev pub IsSized : (ℕ → ℕ) → Row → Type 0
+IsSized sizes row = (i : ℕ) → value_size (column row i) ≤ sizes i
+
+-- no number of a row is larger than a stored one can be
+abbrev pub IsStored : Row → Type 0
+IsStored row = IsSized (λ i. stored_size) row
+
+-- no number is too wide where the condition is worked out in a stored row
+abbrev pub IsNarrowOnStored : Option Cond → Type 0
+IsNarrowOnStored condition = (row : Row) → IsStored row → IsNarrowIn condition row
 
 -- a text that is stored or written has at most so many bytes
 abbrev pub text_limit : ℕ

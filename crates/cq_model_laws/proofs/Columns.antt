@@ -18,7 +18,8 @@ use Rattle.cq_model.specs.declared.query.Source.{Source}
 use Rattle.cq_model.specs.Meaning.{Tables, chain, keeps, meets}
 use Rattle.cq_model.specs.Views.{sources_of}
 use Rattle.cq_model.specs.Width.{limits_of}
-use Rattle.cq_model_laws.specs.Sizes.{HasSizes, IsSized, JoinedHaveSizes, KeepsColumns}
+use Rattle.cq_model_laws.specs.Sizes.{HasSizes, JoinedHaveSizes, KeepsColumns}
+use Rattle.cq_model.specs.Sizes.{IsSized}
 use Rattle.cq_model_laws.proofs.Fits.{FitBeside, beside-append, beside-at, row-of}
 use Rattle.cq_model_laws.proofs.Ranges.{all-at}
 

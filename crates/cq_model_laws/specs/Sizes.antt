@@ -1,24 +1,16 @@
 -- How large the numbers are in the rows of joined sources, and of a grouped query that counts and adds.
-use Rattle.std.specs.Prelude.{◌≡◌, ◌≤◌, ℕ, pos, ◌<ℤ◌, ◌≤ℤ◌, List, [], ◌++◌, length, map, Option, unwrap_or}
+use Rattle.std.specs.Prelude.{◌≡◌, ℕ, pos, ◌<ℤ◌, ◌≤ℤ◌, List, [], ◌++◌, length, map, Option, unwrap_or}
 use Rattle.std.specs.List.{AllByRecursion, flat_map}
-use Rattle.cq_values.specs.Value.{Row, column}
+use Rattle.cq_values.specs.Value.{Row}
 use Rattle.cq_model_bags.specs.Bag.{IsBag, Weighted, weight_of}
 use Rattle.cq_model.specs.declared.query.Aggregate.{Aggregate}
 use Rattle.cq_model.specs.declared.query.Query.{Query}
 use Rattle.cq_model.specs.declared.query.Source.{Source}
 use Rattle.cq_model.specs.Group.{SumsInRange, count_all, grouped}
 use Rattle.cq_model.specs.Meaning.{Tables, chain, joined_rows}
-use Rattle.cq_model.specs.Sizes.{aggregate_size, count_size, stored_size}
+use Rattle.cq_model.specs.Sizes.{IsSized, aggregate_size, count_size}
 use Rattle.cq_model.specs.Views.{sources_of}
-use Rattle.cq_model.specs.Width.{limits_of, value_size}
-
--- the number in each column of a row is within a size
-abbrev pub IsSized : (ℕ → ℕ) → Row → Type 0
-IsSized sizes row = (i : ℕ) → value_size (column row i) ≤ sizes i
-
--- no number of a row is larger than a stored one can be
-abbrev pub IsStored : Row → Type 0
-IsStored row = IsSized (λ i. stored_size) row
+use Rattle.cq_model.specs.Width.{limits_of}
 
 -- a row of as many values as there are sizes, and the number in each column is within the column's size
 pub record HasSizes (sizes : List ℕ) (row : Row) : Type 0 where

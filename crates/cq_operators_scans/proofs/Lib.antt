@@ -7,4 +7,4 @@ pub mod Joining
 pub mod KeptPlaces
 pub mod Behind
 pub mod Asking
-pub mod Flagging
+pub mod PlacesWhere

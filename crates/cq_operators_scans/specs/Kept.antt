@@ -1,11 +1,8 @@
--- Rows that a condition keeps.
-use Rattle.std.specs.Prelude.{◌≡◌, ◌++◌, Bool, List}
+-- Rows that a condition keeps, and their places.
+use Rattle.std.specs.Prelude.{if◌then◌else◌, ℕ, suc, Bool, List, [], ◌∷◌}
 use Rattle.std.specs.List.{filter}
 use Rattle.cq_values.specs.Truth.{is_true}
 use Rattle.cq_values.specs.Value.{Row}
-use Rattle.cq_table_columns.specs.Stored.{front_rows, stored_rows}
-use Rattle.cq_table_columns.specs.declared.front.Front.{Front}
-use Rattle.cq_table_columns.specs.declared.stored_row.StoredRow.{StoredRow}
 use Rattle.cq_model.specs.Condition.{holds}
 use Rattle.cq_model.specs.Expr.{Cond}
 
@@ -17,6 +14,7 @@ keeps_true c row = is_true (holds c row)
 abbrev pub kept_of : Cond → List Row → List Row
 kept_of c rows = filter (keeps_true c) rows
 
--- those kept before, and of a front those in which it is True
-abbrev pub KeepsMore : Cond → Front → List StoredRow → List StoredRow → Type 0
-KeepsMore c front old new = stored_rows new ≡ stored_rows old ++ kept_of c (front_rows front)
+-- the places, counted from here, of what passes a test
+abbrev pub places_where : {X : Type 0} → ℕ → (X → Bool) → List X → List ℕ
+places_where place test [] = []
+places_where place test (x ∷ xs) = if test x then place ∷ places_where (suc place) test xs else places_where (suc place) test xs

@@ -1,7 +1,6 @@
 pub mod Operand
 pub mod Scan
 pub mod Kept
-pub mod Flagged
 pub mod Truths
 pub mod Paired
 pub mod Parts

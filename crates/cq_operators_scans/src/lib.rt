@@ -1,10 +1,9 @@
 //! Expressions and conditions over the columns of rows, up to 1,024 rows at a time.
 //!
 //! To its callers a [`Scan`] is its list of rows. [`vector_of`] gives the value of an expression in each of them,
-//! [`Scan::kept_by`] those in which a condition is True, and [`kept`] the rows of any number that a condition keeps.
+//! [`Scan::kept_by`] those in which a condition is True, and [`kept_places`] where the rows stand that WHERE keeps.
 #![tactic(auto)]
 
-mod flags;
 mod keeping;
 mod lent;
 mod operand;
@@ -16,8 +15,7 @@ mod truths;
 mod vectors;
 mod worked;
 
-pub use flags::kept_flags;
-pub use keeping::kept;
+pub use keeping::kept_places;
 pub use operand::{Operand, lend_vectors};
 pub use passed::{passing, scan_passing};
 pub use room::{counted, widened};

@@ -6,6 +6,7 @@ ghost use Rattle.cq_plan.specs.OwnTest.{IsOwnTest, cond_behind};
 use crate::own::own_conditions;
 use cq_model::{Cond, CondTree};
 use cq_model_terms::{Naming, renamed_cond};
+use cq_values::both;
 use std::alloc::{AllocError, Global};
 
 /// The parts of WHERE that name the columns of one source alone, so many from a place on, as a condition on its rows;
@@ -24,13 +25,8 @@ pub fn own_condition(
     };
     let first = renamed_cond(alloc, first, Naming::Behind(before))?;
     let first = Box::new(alloc, first)?;
-    match parts_behind(alloc, rest, before) {
-        Ok(rest) => Ok(Some(Cond::new(CondTree::And(first, rest)))),
-        Err(fault) => {
-            drop(first);
-            Err(fault)
-        }
-    }
+    let (first, rest) = both(first, parts_behind(alloc, rest, before))?;
+    Ok(Some(Cond::new(CondTree::And(first, rest))))
 }
 
 /// Several parts, on the rows of a source behind so many columns.

@@ -1,6 +1,12 @@
 pub mod RowLists
 pub mod Bagged
+pub mod Marking
+pub mod Founds
+pub mod Segmenting
+pub mod Writes
+pub mod Moved
+pub mod Built
+pub mod Tables
 pub mod Setting
 pub mod Checked
-pub mod Flagged
 pub mod Widths

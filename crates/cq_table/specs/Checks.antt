@@ -1,5 +1,5 @@
 -- What a table refuses: rows that it has no room for, and values that its columns cannot have.
-use Rattle.std.specs.Prelude.{◌≡◌, ◌+◌, nat_lt, ℕ, List, length, map, Option, None, Result, MatchResult, Vec}
+use Rattle.std.specs.Prelude.{◌≡◌, ◌≤◌, ◌+◌, nat_lt, ℕ, List, length, map, Option, None, Result, MatchResult, Vec}
 use Rattle.std.specs.Global.{Global}
 use Rattle.std.specs.List.{AllByRecursion, flat_map}
 use Rattle.cq_values.specs.declared.column.ColumnDef.{ColumnDef}
@@ -14,7 +14,8 @@ use Rattle.cq_binder_rules.specs.Checks.{MayRefuse, fault_if, first_fault}
 use Rattle.cq_binder_rules.specs.UpdateChecks.{image_checks, value_checks}
 use Rattle.cq_table.specs.declared.fault.TableFault.{TableFault}
 use Rattle.cq_table.specs.declared.fault.TableFault.TheVariants as tables
-use Rattle.cq_table.specs.Table.{SameRows, StoredTable}
+use Rattle.cq_table.specs.Found.{IsFound}
+use Rattle.cq_table.specs.Table.{StoredTable, table_rows}
 
 -- the refusal of a statement that the fault of a table is
 abbrev pub fault_of : TableFault → Fault
@@ -31,9 +32,13 @@ IsChecked check result = MatchResult result (λ x. check ≡ None) (λ e. MayRef
 abbrev pub too_many : ℕ → ℕ → Option Fault
 too_many max_rows count = fault_if (nat_lt max_rows count) faults.TableFull
 
--- whether the rows are too many for the table
-abbrev pub no_room : StoredTable → List Row → Option Fault
-no_room t rows = too_many t.max_rows (length t.rows + length rows)
+-- whether the table has no room for so many rows more
+abbrev pub no_room : StoredTable → ℕ → Option Fault
+no_room t added = too_many t.max_rows (length (table_rows t) + added)
+
+-- so many rows more can be put into it
+abbrev pub HasRoom : StoredTable → ℕ → Type 0
+HasRoom t added = length (table_rows t) + added ≤ t.max_rows
 
 -- nothing is too wide in the assignments at a row
 abbrev pub AreNarrowSets : List Assignment → Row → Type 0
@@ -56,11 +61,12 @@ values_fault columns assignments rows = first_fault (flat_map (value_checks colu
 abbrev pub value_fault : List ColumnDef → List Assignment → Option Cond → List Row → Option Fault
 value_fault columns assignments condition rows = first_fault (image_checks columns assignments condition rows)
 
--- the rows that go are those that WHERE chooses, and those that come are their images
-pub record AreImages (assignments : List Assignment) (condition : Option Cond) (rows gone come : List Row) : Type 0 where
-  pub chosen : SameRows gone (chosen condition rows)
-  pub images : come ≡ map (image_of assignments) gone
+-- if WHERE found the places, the values that the rows get which it keeps are checked
+abbrev pub ChecksFound : {X : Type 0} → List Assignment → List ℕ → StoredTable → Result X TableFault → Type 0
+ChecksFound assignments places t result =
+    (condition : Option Cond) → IsFound condition t places → IsChecked (value_fault t.columns assignments condition (table_rows t)) result
 
--- so it is with the copies and the rows that were made
-abbrev pub AreExchanged : List Assignment → Option Cond → List Row → (Vec Row Global × Vec Row Global) → Type 0
-AreExchanged assignments condition rows exchange = AreImages assignments condition rows exchange.0.items exchange.1.items
+-- copies of the rows at some places, and their images
+pub record AreImages (assignments : List Assignment) (rows : List Row) (exchange : Vec Row Global × Vec Row Global) : Type 0 where
+  pub gone : exchange.0.items ≡ rows
+  pub images : exchange.1.items ≡ map (image_of assignments) rows

@@ -1,51 +1,73 @@
 //! A table in memory.
 //!
-//! `new` makes one without rows. `insert`, `delete_where`, and `images_where` with `replace` change its bag: the two
-//! calls of an UPDATE first work the images out and then put them in. `chosen` and `rows` lend rows where they are
-//! stored, and `move_front` moves rows to columns. A call that refuses leaves the table as it was. WHERE costs a pass
-//! over all rows, 1,024 at a time.
+//! `new` makes one without rows. A write begins with `find`, which works WHERE out once and gives the places of the rows
+//! that it keeps; `chosen` lends these rows, `delete` marks them, and `images` with `replace` exchange them. `insert` puts
+//! rows into the write store, `move_step` and `merge_step` make segments, and `rows` lends all live rows. WHERE costs a
+//! pass over these, 1,024 at a time; a mark some steps.
 ghost use Rattle.std.specs.List.{AllByRecursion};
-ghost use Rattle.std.specs.Prelude.{◌++◌, ◌+◌, ◌≡◌, ◌<◌, ◌^◌, IfOk, OnErr, OnOk, length};
+ghost use Rattle.std.specs.Prelude.{◌++◌, ◌+◌, ◌≡◌, ◌≤◌, [], IfOk, OnErr, OnOk, length};
 ghost use Rattle.cq_model_bags.specs.Canonical.{bag_of};
-ghost use Rattle.cq_table_columns.specs.Stored.{all_rows, stored_rows};
 ghost use Rattle.cq_model.specs.Width.{IsNarrowIn};
 ghost use Rattle.cq_model.specs.Write.{chosen, left_by};
 ghost use Rattle.cq_model_state.specs.Fitting.{FitsColumns};
-ghost use Rattle.cq_table.specs.Checks.{AreExchanged, CanWorkOut, IsChecked, no_room, too_many, value_fault};
-ghost use Rattle.cq_table.specs.Table.{IsSound, SameRows, limited_to, with_bag, without_rows};
+ghost use Rattle.cq_segments.specs.Marked.{unmarked};
+ghost use Rattle.cq_table.specs.Changes.{Exchanges, LeavesFound, MarksOnly, with_written};
+ghost use Rattle.cq_table.specs.Checks.{HasRoom, IsChecked, no_room, too_many};
+ghost use Rattle.cq_table.specs.Found.{AreLiveAt, AreThere, IsFound, PicksChosen, found_rows};
+ghost use Rattle.cq_table.specs.Table.{IsSound, limited_to, live_rows, marked_len, stored_in, table_rows, without_rows, write_len};
+ghost use Rattle.cq_table_columns.specs.Stored.{all_rows, stored_marked, stored_rows};
 
 use crate::fault::TableFault;
-use crate::images::{check_values, copies, images};
-use cq_model::{Assignment, Cond};
-use cq_operators_scans::{kept, kept_flags};
+use crate::finding::found_places;
+use crate::found::Found;
+use crate::moving::count_marks;
+use crate::placing::{mark_all, rows_at};
+use cq_model::Cond;
+use cq_segments::Segment;
 use cq_table_columns::{Stored, StoredRow};
-use cq_table_store::Store;
 use cq_values::{ColumnDef, Row, Seq};
+use cq_writestore::WriteStore;
 use std::alloc::{AllocError, Global};
 use std::marker::Model;
 
-/// Rows that fit the columns, in the order in which they came. Contracts see the one list that stands for their bag.
+/// The columns of a table, and those by which its segments are sorted.
+#[derive(Drop)]
+pub struct Layout {
+    pub columns: Seq<ColumnDef>,
+    pub sort: Seq<usize>,
+}
+
+/// Rows that fit the columns: in segments, and the newest in a write store. How many of them have no mark is counted.
 #[derive(Drop)]
 pub struct Table {
-    columns: Seq<ColumnDef>,
-    sort: Seq<usize>,
-    max_rows: u64,
-    rows: Store,
-    ghost small: { max_rows < 2 ^ 64 },
+    pub layout: Layout,
+    pub max_rows: u64,
+    pub live: usize,
+    pub segments: Vec<Segment>,
+    pub written: WriteStore,
 }
 
 impl Model for Table {
-    ghost use Rattle.cq_table.specs.Table.{AreSound, StoredTable, with_bag, without_rows};
+    ghost use Rattle.cq_table.specs.Table.{IsKept, StoredTable};
 
     ghost Value = { StoredTable };
 
-    ghost view = { λ t. with_bag t.rows (without_rows t.columns t.sort t.max_rows) };
+    ghost view = { λ t. record {
+      columns = t.layout.columns;
+      sort = t.layout.sort;
+      max_rows = t.max_rows;
+      segments = t.segments.items;
+      written = t.written.rows;
+    } };
 
-    ghost invariant = { λ t. AreSound t.columns t.max_rows t.rows };
+    ghost invariant = { λ t. IsKept (record {
+      columns = t.layout.columns;
+      sort = t.layout.sort;
+      max_rows = t.max_rows;
+      segments = t.segments.items;
+      written = t.written.rows;
+    }) t.live };
 }
-
-/// Copies of the rows that an UPDATE takes, and the rows that come in their places.
-pub type Exchange = (Vec<Row>, Vec<Row>);
 
 impl Table {
     /// A table without rows, that may have so many of them.
@@ -53,129 +75,155 @@ impl Table {
         ensures { result ≡ without_rows columns sort max_rows }
     {
         Table {
-            columns,
-            sort,
+            layout: Layout { columns, sort },
             max_rows,
-            rows: Store::new(alloc),
+            live: 0,
+            segments: Vec::new(alloc),
+            written: WriteStore::new(alloc),
         }
     }
 
     pub fn columns(&self) -> &[ColumnDef]
         ensures { result.now ≡ self.now.columns }
     {
-        self.columns.as_slice()
+        self.layout.columns.as_slice()
     }
 
-    pub fn len(&self) -> usize
-        ensures { result ≡ length self.now.rows }
+    /// The columns by which segments are sorted.
+    pub fn sort(&self) -> &[usize]
+        ensures { result.now ≡ self.now.sort }
     {
-        self.rows.len()
+        self.layout.sort.as_slice()
     }
 
-    /// The rows where they are stored.
+    /// How many rows have no mark.
+    pub fn len(&self) -> usize
+        ensures { result ≡ length (table_rows self.now) }
+    {
+        self.live
+    }
+
+    /// How many rows the write store has, those with a mark too. It takes no memory.
+    pub fn write_len(&self) -> usize
+        ensures { result ≡ write_len self.now }
+    {
+        self.written.len()
+    }
+
+    /// How many rows of segments have a mark. It takes no memory.
+    pub fn marked_len(&self) -> usize
+        ensures { result ≡ marked_len self.now }
+    {
+        count_marks(self.segments.as_slice())
+    }
+
+    /// The live rows, where they are stored.
     pub fn rows(&self) -> Stored<'_>
-        ensures bag { bag_of (all_rows result) ≡ self.now.rows }
+        ensures stored { stored_marked result ≡ stored_in self.now }
+        ensures rows { all_rows result ≡ live_rows self.now }
         ensures sound { IsSound self.now }
     {
-        self.rows.lend()
+        Stored::new(self.segments.as_slice(), self.written.rows(), self.live)
     }
 
-    /// The rows that WHERE keeps, where they are stored.
-    pub fn chosen(
-        &self,
-        alloc: Global,
-        condition: &Option<Cond>,
-    ) -> Result<Vec<StoredRow<'_>>, AllocError>
-        requires { AllByRecursion (IsNarrowIn condition.now) self.now.rows }
-        ensures bag { IfOk result (λ r. SameRows (stored_rows r.items) (chosen condition.now self.now.rows)) }
-        ensures few { OnOk result (length self.now.rows < 2 ^ 64) }
+    /// Where the rows stand that WHERE keeps.
+    pub fn find(&self, alloc: Global, condition: &Option<Cond>) -> Result<Found, AllocError>
+        requires { AllByRecursion (IsNarrowIn condition.now) (table_rows self.now) }
+        ensures found { IfOk result (IsFound condition.now self.now) }
+        ensures live { IfOk result (λ found. AreLiveAt found (stored_in self.now)) }
+        ensures there { IfOk result (λ found. AreThere found (stored_in self.now)) }
+        ensures chosen { IfOk result (PicksChosen condition.now self.now) }
+        ensures count { IfOk result (λ found. length found ≡ length (chosen condition.now (table_rows self.now))) }
     {
-        kept(alloc, condition, &self.rows.lend())
+        let _small = self.written.len();
+        let places = found_places(alloc, condition, &self.rows())?;
+        Ok(Found::new(places))
+    }
+
+    /// The rows at these places, where they are stored.
+    pub fn chosen(&self, alloc: Global, found: &Found) -> Result<Vec<StoredRow<'_>>, AllocError>
+        requires { AreThere found.now (stored_in self.now) }
+        ensures { IfOk result (λ rows. stored_rows rows.items ≡ found_rows (stored_in self.now) found.now) }
+    {
+        rows_at(
+            alloc,
+            self.segments.as_slice(),
+            self.written.rows(),
+            found.places(),
+        )
     }
 
     /// Lets the table have so many rows from now on, if it has no more already.
     pub fn limit(&mut self, max_rows: u64) -> Result<(), TableFault>
-        ensures room { IsChecked (too_many max_rows (length self.old.rows)) result }
+        ensures room { IsChecked (too_many max_rows (length (table_rows self.old))) result }
         ensures ok { OnOk result (self.new ≡ limited_to max_rows self.old) }
         ensures err { OnErr result (self.new ≡ self.old) }
     {
-        check_room(max_rows, self.rows.len(), 0)?;
+        check_room(max_rows, self.live, 0)?;
         self.max_rows = max_rows;
         Ok(())
+    }
+
+    /// Refuses more rows than the table may have, where so many are added.
+    pub fn check_room(&self, added: usize) -> Result<(), TableFault>
+        ensures { IsChecked (no_room self.now added) result }
+    {
+        check_room(self.max_rows, self.live, added)
     }
 
     /// Adds all of these rows, or none.
     pub fn insert(&mut self, rows: Vec<Row>) -> Result<(), TableFault>
         requires { AllByRecursion (FitsColumns self.old.columns) rows.items }
-        ensures room { IsChecked (no_room self.old rows.items) result }
-        ensures ok { OnOk result (self.new ≡ with_bag (self.old.rows ++ rows.items) self.old) }
+        ensures room { IsChecked (no_room self.old (length rows.items)) result }
+        ensures ok { OnOk result (self.new ≡ with_written rows.items self.old) }
+        ensures bag { OnOk result (table_rows self.new ≡ bag_of (table_rows self.old ++ rows.items)) }
         ensures err { OnErr result (self.new ≡ self.old) }
     {
-        check_room(self.max_rows, self.rows.len(), rows.len())?;
-        self.rows.append(rows)?;
+        self.check_room(rows.len())?;
+        self.append(rows)?;
         Ok(())
     }
 
-    /// Takes the rows that WHERE keeps away, and tells how many they were.
+    /// Adds all of these rows, or none, where the table may have them.
+    pub fn append(&mut self, rows: Vec<Row>) -> Result<(), AllocError>
+        requires fitting { AllByRecursion (FitsColumns self.old.columns) rows.items }
+        requires room { HasRoom self.old (length rows.items) }
+        ensures ok { OnOk result (self.new ≡ with_written rows.items self.old) }
+        ensures bag { OnOk result (table_rows self.new ≡ bag_of (table_rows self.old ++ rows.items)) }
+        ensures err { OnErr result (self.new ≡ self.old) }
+    {
+        let (count, _most) = (rows.len(), self.max_rows);
+        self.written.reserve(count)?;
+        push_all(&mut self.written, rows);
+        self.live += count;
+        Ok(())
+    }
+
+    /// Marks the rows at these places. It cannot fail, and takes no memory.
+    pub fn delete(&mut self, found: &Found)
+        requires { AreLiveAt found.now (stored_in self.old) }
+        ensures marks { Exchanges found.now [] self.old self.new }
+        ensures left { LeavesFound found.now [] self.old self.new }
+    {
+        mark_all(&mut self.segments, &mut self.written, found.places());
+        self.live -= found.len();
+    }
+
+    /// Marks the rows that WHERE keeps, and tells how many they were.
     pub fn delete_where(
         &mut self,
         alloc: Global,
         condition: &Option<Cond>,
     ) -> Result<usize, AllocError>
-        requires { AllByRecursion (IsNarrowIn condition.now) self.old.rows }
-        ensures count { IfOk result (λ count. count ≡ length (chosen condition.now self.old.rows)) }
-        ensures left { OnOk result (self.new ≡ with_bag (left_by condition.now self.old.rows) self.old) }
+        requires { AllByRecursion (IsNarrowIn condition.now) (table_rows self.old) }
+        ensures count { IfOk result (λ count. count ≡ length (chosen condition.now (table_rows self.old))) }
+        ensures left { OnOk result (table_rows self.new ≡ bag_of (left_by condition.now (table_rows self.old))) }
+        ensures marks { OnOk result (MarksOnly self.old self.new) }
         ensures err { OnErr result (self.new ≡ self.old) }
     {
-        let before = self.rows.len();
-        let gone = kept_flags(alloc, condition, &self.rows.lend())?;
-        self.rows.remove(alloc, &gone)?;
-        Ok(before - self.rows.len())
-    }
-
-    /// Copies of the rows that WHERE keeps, and their images, where these may be stored. Each expression reads the old
-    /// row.
-    pub fn images_where(
-        &self,
-        alloc: Global,
-        assignments: &[Assignment],
-        condition: &Option<Cond>,
-    ) -> Result<Exchange, TableFault>
-        requires { CanWorkOut assignments.now condition.now self.now.rows }
-        ensures checked { IsChecked (value_fault self.now.columns assignments.now condition.now self.now.rows) result }
-        ensures images { IfOk result (AreExchanged assignments.now condition.now self.now.rows) }
-    {
-        let chosen = self.chosen(alloc, condition)?;
-        let gone = copies(alloc, &chosen)?;
-        check_values(self.columns(), assignments, &gone)?;
-        let images = images(alloc, assignments, &gone)?;
-        Ok((gone, images))
-    }
-
-    /// Puts these rows in place of those that WHERE keeps, which are as many.
-    pub fn replace(
-        &mut self,
-        alloc: Global,
-        condition: &Option<Cond>,
-        images: Vec<Row>,
-    ) -> Result<(), AllocError>
-        requires narrow { AllByRecursion (IsNarrowIn condition.now) self.old.rows }
-        requires count { length images.items ≡ length (chosen condition.now self.old.rows) }
-        requires fitting { AllByRecursion (FitsColumns self.old.columns) images.items }
-        ensures ok { OnOk result (self.new ≡ with_bag (left_by condition.now self.old.rows ++ images.items) self.old) }
-        ensures err { OnErr result (self.new ≡ self.old) }
-    {
-        let gone = kept_flags(alloc, condition, &self.rows.lend())?;
-        self.rows.exchange(alloc, &gone, images)
-    }
-
-    /// Moves the first rows that stand one by one into columns: all that are asked for, or none.
-    pub fn move_front(&mut self, alloc: Global, count: u128) -> Result<(), AllocError>
-        ensures { self.new ≡ self.old }
-    {
-        let count = usize::try_from(count).unwrap_or(usize::MAX);
-        let width = self.columns.len();
-        self.rows.move_front(alloc, count, width)
+        let found = self.find(alloc, condition)?;
+        self.delete(&found);
+        Ok(found.len())
     }
 }
 
@@ -187,5 +235,15 @@ pub fn check_room(max_rows: u64, stored: usize, added: usize) -> Result<(), Tabl
         Err(TableFault::Full)
     } else {
         Ok(())
+    }
+}
+
+/// Puts the rows behind the others. There is room for them.
+pub(crate) fn push_all(written: &mut WriteStore, rows: Vec<Row>)
+    requires { length rows.items ≤ written.old.room }
+    ensures { written.new.rows ≡ written.old.rows ++ unmarked rows.items }
+{
+    for row in rows {
+        written.push_reserved(row);
     }
 }

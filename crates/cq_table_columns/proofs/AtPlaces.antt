@@ -1,8 +1,8 @@
 -- Places of places.
-use Rattle.std.proofs.Common.{◌≡◌, ℕ, ◌+◌, ◌<◌, List, [], ◌∷◌, ◌++◌, length, get_or, take, refl, sym, ap, ap₂, ◌∙◌, arith}
-use Rattle.std.proofs.lemmas.List.{get_or-map, get_or_default, length-map, map-append, take_more}
+use Rattle.std.proofs.Common.{◌≡◌, ℕ, ◌<◌, List, [], ◌∷◌, length, get_or, refl, sym, ap₂, arith}
+use Rattle.std.proofs.lemmas.List.{get_or-map, length-map}
 use Rattle.cq_values.specs.Value.{Row}
-use Rattle.cq_table_columns.specs.Places.{AreBelow, items_at, places_at, rows_at}
+use Rattle.cq_segments.specs.Places.{AreBelow, places_at, rows_at}
 use Rattle.cq_model_bags.proofs.Lists.{all-at}
 
 -- they are below the same end
@@ -20,13 +20,3 @@ rows-at rows all (place ∷ places) there =
 pub places-below : (rows : List Row) (all places : List ℕ) → AreBelow (length (rows_at rows all)) places → AreBelow (length all) places
 places-below rows all [] below = tt
 places-below rows all (place ∷ places) below = (omega (arith, below.0, length-map all (λ (p : ℕ). get_or rows p [])), places-below rows all places below.1)
-
--- one item more of those at the places
-pub items-more : {X : Type 0} (all : List X) (places : List ℕ) (i place : ℕ) (past item : X) (found more : List X) → AreBelow (length all) places → i < length places
-    → place ≡ get_or places i 0 → item ≡ get_or all place item → found ≡ items_at all (take i places) past → more ≡ found ++ item ∷ [] → more ≡ items_at all (take (i + 1) places) past
-items-more all places i place past item found more below lt at is so_far pushed =
-    let next = get_or places i 0 in
-    let there : place < length all = omega (arith, at, all-at (λ (p : ℕ). p < length all) places i 0 lt below) in
-    let it = is ∙ get_or_default all place item past there ∙ ap (λ (p : ℕ). get_or all p past) at in
-    pushed ∙ ap₂ (λ xs x. xs ++ x ∷ []) so_far it
-    ∙ sym (ap (λ ps. items_at all ps past) (take_more places i 0 lt) ∙ map-append (λ (p : ℕ). get_or all p past) (take i places) (next ∷ []))

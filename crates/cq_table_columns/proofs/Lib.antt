@@ -1,5 +1,3 @@
 pub mod AtPlaces
-pub mod Joined
-pub mod Narrowing
-pub mod Transposed
-pub mod ValuesAt
+pub mod LiveRows
+pub mod Parts

@@ -1,7 +1,9 @@
 -- Rows where they are stored.
 use Rattle.std.specs.Prelude.{◌++◌, List, [], map, slice_index_or}
-use Rattle.std.specs.List.{flat_map}
 use Rattle.cq_values.specs.Value.{Row}
+use Rattle.cq_segments.specs.Marked.{MarkedRow, live, unmarked}
+use Rattle.cq_segments.specs.Pieces.{joined}
+use Rattle.cq_writestore.specs.Writes.{written_rows}
 use Rattle.cq_table_columns.specs.declared.front.Front.{Front}
 use Rattle.cq_table_columns.specs.declared.front.Front.TheVariants as front
 use Rattle.cq_table_columns.specs.declared.stored.Stored.{Stored}
@@ -17,15 +19,24 @@ row_of (stored.InColumns columns place) = slice_index_or columns.now place []
 abbrev pub stored_rows : List StoredRow → List Row
 stored_rows rows = map row_of rows
 
--- the rows at a front
+-- the rows at a front, deleted or not
+abbrev pub marked_rows : Front → List MarkedRow
+marked_rows (front.Rows rows) = unmarked rows.now
+marked_rows (front.Columns columns) = unmarked columns.now
+marked_rows (front.Marked piece) = piece.now
+marked_rows (front.Written written) = written_rows written.written
+
+-- those that are not
 abbrev pub front_rows : Front → List Row
 front_rows (front.Rows rows) = rows.now
 front_rows (front.Columns columns) = columns.now
+front_rows (front.Marked piece) = live piece.now
+front_rows (front.Written written) = live (written_rows written.written)
 
--- the rows of lists, one list behind the other
-abbrev pub joined : List (List Row) → List Row
-joined lists = flat_map (λ rows. rows) lists
+-- all rows of a source, deleted or not: those of segments, and then those of the write store
+abbrev pub stored_marked : Stored → List MarkedRow
+stored_marked source = joined source.pieces.now ++ joined source.segments.now ++ written_rows source.written
 
--- all rows of a source: those in columns, and then those that stand in a list
+-- those that are not
 abbrev pub all_rows : Stored → List Row
-all_rows source = joined source.columns.now ++ source.rows.now
+all_rows source = live (stored_marked source)

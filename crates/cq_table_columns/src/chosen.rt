@@ -1,16 +1,17 @@
 //! Rows at some places of a front.
 //!
 //! What a condition keeps of a front is `of` its places; `at` keeps some of these, and `gather` gives a column of them.
-//! It costs two bytes a row; no row is copied.
+//! It costs two bytes a row; no row is copied. Places count all rows that stand there, so that marks are read once.
 ghost use Rattle.std.specs.Prelude.{◌≡◌, ◌≤◌, IfOk, length};
-ghost use Rattle.cq_table_columns.specs.Places.{AreBelow, rows_at};
+ghost use Rattle.cq_segments.specs.Places.{AreBelow, rows_at};
 ghost use Rattle.cq_table_columns.specs.Stored.{front_rows, stored_rows};
 ghost use Rattle.cq_vectors.specs.Gathered.{column_of};
 
 use crate::front::Front;
 use crate::gathering::gather;
-use crate::places::{copies_at, front_at};
+use crate::places::front_at;
 use crate::stored_row::StoredRow;
+use cq_segments::copies_at;
 use cq_vectors::Vector;
 use std::alloc::{AllocError, Global};
 use std::marker::Model;
@@ -25,7 +26,7 @@ pub struct Chosen<'a> {
 impl<'a> Model for Chosen<'a> {
     ghost use Rattle.std.specs.Prelude.{List, length};
     ghost use Rattle.cq_values.specs.Value.{Row as Values};
-    ghost use Rattle.cq_table_columns.specs.Places.{AreBelow, rows_at};
+    ghost use Rattle.cq_segments.specs.Places.{AreBelow, rows_at};
     ghost use Rattle.cq_table_columns.specs.Stored.{front_rows};
 
     ghost Value = { List Values };
@@ -41,9 +42,8 @@ impl<'a> Chosen<'a> {
         requires { AreBelow (length (front_rows front.now)) places.now }
         ensures { IfOk result (λ chosen. chosen ≡ rows_at (front_rows front.now) places.now) }
     {
-        let mut copied: Vec<u16> = Vec::new(alloc);
-        copied.extend_from_slice(places)?;
-        Ok(Chosen::new(*front, copied))
+        let places = front.places_at(alloc, places)?;
+        Ok(Chosen::new(front.with_all(), places))
     }
 
     /// The same once more, where no row is copied.
@@ -104,7 +104,7 @@ fn gather_at<'a>(
 {
     match front {
         Front::Columns(columns) => columns.gather_at(alloc, places, column),
-        Front::Rows(_) => {
+        _ => {
             let rows = front_at(alloc, front, places)?;
             gather(alloc, &rows, column)
         }

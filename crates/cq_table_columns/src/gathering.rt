@@ -4,8 +4,8 @@ ghost use Rattle.cq_table_columns.specs.Stored.{stored_rows};
 ghost use Rattle.cq_values.specs.Lent.{owned};
 ghost use Rattle.cq_vectors.specs.Gathered.{column_of, lent_rows};
 
-use crate::narrow::narrowed;
 use crate::stored_row::StoredRow;
+use cq_segments::narrowed;
 use cq_values::{Lent, Row};
 use cq_vectors::Vector;
 use std::alloc::{AllocError, Global};
@@ -43,7 +43,7 @@ fn lend_alone<'a>(alloc: Global, rows: &[StoredRow<'a>]) -> Result<Option<Vec<&'
 }
 
 /// The values of a column where they stand.
-pub(crate) fn lend_values<'a>(
+fn lend_values<'a>(
     alloc: Global,
     rows: &[StoredRow<'a>],
     column: usize,

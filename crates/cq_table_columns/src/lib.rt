@@ -1,20 +1,14 @@
 //! Rows where they are stored, of which queries read columns.
 //!
-//! First come those that were moved to [`Columns`], column by column, and behind them those that stand in a list, each a
-//! row of its own. A [`Stored`] lends them. They are read in a [`Front`] of at most 1,024 rows after the other, or one by
-//! one, each a [`StoredRow`]. Those that are left of a front behind a condition are [`StoredRows`] at its places. In which
-//! form rows are stored is not seen by those who read them: to them they are lists of rows.
+//! First come those of segments, column by column, and behind them those of the write store, each a row of its own. A
+//! [`Stored`] lends those of them that have no mark. They are read in a [`Front`] of at most 1,024 rows after the other,
+//! or one by one, each a [`StoredRow`]. Those that are left of a front behind a condition are [`StoredRows`] at its
+//! places. In which form rows are stored is not seen by those who read them: to them they are lists of live rows.
 #![tactic(auto)]
 
 mod chosen;
-mod columns;
-mod columns_at;
-mod copies;
 mod front;
 mod gathering;
-mod held;
-mod held_texts;
-mod narrow;
 mod places;
 mod stored;
 mod stored_row;
@@ -22,7 +16,6 @@ mod stored_rows;
 mod stored_source;
 
 pub use chosen::Chosen;
-pub use columns::Columns;
 pub use front::Front;
 pub use gathering::gather;
 pub use places::lent_at;

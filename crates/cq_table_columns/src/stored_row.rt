@@ -2,13 +2,13 @@
 //!
 //! `lend` reads one of its values, and `to_row` and `cut` copy all or some. It stands in a list, or is a place of
 //! columns, of which contracts see nothing. It is two words, and copied freely; only the copies take memory.
-ghost use Rattle.std.specs.Prelude.{◌≡◌, IfOk, [], length, slice_index_or};
+ghost use Rattle.std.specs.Prelude.{◌<◌, ◌≡◌, IfOk, [], length, slice_index_or};
 ghost use Rattle.cq_table_columns.specs.Stored.{row_of};
 ghost use Rattle.cq_model.specs.Group.{key_of};
 ghost use Rattle.cq_values.specs.Lent.{owned};
 ghost use Rattle.cq_values.specs.Value.{column as column_at};
 
-use crate::columns::Columns;
+use cq_segments::Columns;
 use cq_values::{Lent, Row, copy_row};
 use std::alloc::{AllocError, Global};
 
@@ -72,6 +72,15 @@ impl<'a> StoredRow<'a> {
         }
         Ok(row)
     }
+}
+
+/// The row at a place.
+pub(crate) fn row_in<'a>(columns: &'a Columns, place: usize) -> StoredRow<'a>
+    requires { place < length columns.now }
+    ensures { row_of result ≡ slice_index_or columns.now place [] }
+{
+    let _count = columns.len();
+    StoredRow::InColumns(columns, place as u16)
 }
 
 /// How many values the row at a place has.

@@ -4,5 +4,6 @@ mod joins;
 mod kernels;
 mod masks;
 mod plans;
+mod segments;
 mod tables;
 mod vectors;

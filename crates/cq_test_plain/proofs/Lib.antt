@@ -7,5 +7,5 @@ pub mod Agreeing
 pub mod Assignments
 pub mod ToldAt
 pub mod Lents
-pub mod Kept
+pub mod Passing
 pub mod Countable

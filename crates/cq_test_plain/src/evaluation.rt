@@ -24,13 +24,13 @@ pub(crate) fn value_at(alloc: Global, expr: &Expr, row: &[Value]) -> Result<Valu
     Ok(eval_row(expr, row).to_value(alloc)?)
 }
 
-/// Whether the condition keeps the row. Where there is none, each row is kept.
-pub(crate) fn is_kept(
+/// Whether the row passes the condition. Where there is none, each row does.
+pub(crate) fn passes(
     alloc: Global,
     filter: &Option<Cond>,
     row: &[Value],
 ) -> Result<bool, PlainFault>
-    ensures ok { IfOk result (λ kept. kept ≡ keeps filter.now row.now) }
+    ensures ok { IfOk result (λ passes. passes ≡ keeps filter.now row.now) }
     ensures fault { IfErr result (Tells (IsWideIn filter.now row.now) ⊥) }
 {
     if let Some(cond) = filter {

@@ -5,7 +5,7 @@ ghost use Rattle.cq_model.specs.Meaning.{keeps};
 ghost use Rattle.cq_test_plain.specs.Faults.{Tells};
 ghost use Rattle.cq_test_plain.specs.Wide.{IsWideAmong};
 
-use crate::evaluation::is_kept;
+use crate::evaluation::passes;
 use crate::fault::PlainFault;
 use cq_model::Cond;
 use cq_values::{Row, copy_row};
@@ -17,15 +17,15 @@ pub(crate) fn filtered(
     condition: &Option<Cond>,
     rows: &[Row],
 ) -> Result<Vec<Row>, PlainFault>
-    ensures ok { IfOk result (λ kept. kept.items ≡ filter (keeps condition.now) rows.now) }
+    ensures ok { IfOk result (λ passing. passing.items ≡ filter (keeps condition.now) rows.now) }
     ensures fault { IfErr result (Tells (IsWideAmong condition.now (once_each rows.now)) ⊥) }
 {
-    let mut kept = Vec::new(alloc);
+    let mut passing = Vec::new(alloc);
     for row in rows {
         let values = row.as_slice();
-        if is_kept(alloc, condition, values)? {
-            kept.push(copy_row(alloc, values)?)?;
+        if passes(alloc, condition, values)? {
+            passing.push(copy_row(alloc, values)?)?;
         }
     }
-    Ok(kept)
+    Ok(passing)
 }

@@ -8,13 +8,13 @@ use std::alloc::{AllocError, Global};
 
 /// The first of each row. NULL is the same as NULL here.
 pub(crate) fn firsts(alloc: Global, rows: &[Row]) -> Result<Vec<Row>, AllocError>
-    ensures { IfOk result (λ kept. kept.items ≡ firsts rows.now) }
+    ensures { IfOk result (λ found. found.items ≡ firsts rows.now) }
 {
-    let mut kept = Vec::new(alloc);
+    let mut found = Vec::new(alloc);
     for row in rows {
-        push_new(alloc, row, &mut kept)?;
+        push_new(alloc, row, &mut found)?;
     }
-    Ok(kept)
+    Ok(found)
 }
 
 /// Adds the row, unless it is among these.

@@ -8,7 +8,7 @@ ghost use Rattle.cq_test_plain.specs.Replacements.{replacement};
 ghost use Rattle.cq_test_plain.specs.Wide.{IsWideIn};
 ghost use Rattle.cq_test_plain.specs.WideWrites.{IsSetWide, IsUpdateWide};
 
-use crate::evaluation::{is_kept, value_at};
+use crate::evaluation::{passes, value_at};
 use crate::fault::PlainFault;
 use cq_model::{Assignment, Cond};
 use cq_values::{Row, Value, copy_row};
@@ -26,7 +26,7 @@ pub fn left_by(
     let mut left = Vec::new(alloc);
     for row in rows {
         let values = row.as_slice();
-        if !is_kept(alloc, condition, values)? {
+        if !passes(alloc, condition, values)? {
             left.push(copy_row(alloc, values)?)?;
         }
     }
@@ -61,7 +61,7 @@ fn replaced(
     ensures ok { IfOk result (λ row. row ≡ replacement assignments.now condition.now old.now) }
     ensures fault { IfErr result (Tells (IsUpdateWide assignments.now condition.now old.now) ⊥) }
 {
-    if is_kept(alloc, condition, old)? {
+    if passes(alloc, condition, old)? {
         image_of(alloc, assignments, old)
     } else {
         Ok(copy_row(alloc, old)?)

@@ -11,12 +11,13 @@ use std::io::{BufWriter, Write};
 use std::process::ExitCode;
 use std::{fs, io};
 
-const SCRIPTS: [&str; 7] = [
+const SCRIPTS: [&str; 8] = [
     "conditions.sql",
     "groups.sql",
     "joins.sql",
     "joined-views.sql",
     "long-tables.sql",
+    "movers.sql",
     "self-joined-views.sql",
     "views.sql",
 ];

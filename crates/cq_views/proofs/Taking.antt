@@ -13,7 +13,7 @@ use Rattle.cq_table_columns.specs.Stored.{all_rows}
 use Rattle.cq_views_model.specs.Delta.{SameTables, changed}
 use Rattle.cq_views.specs.Filling.{CanFill, Fills, bags_at, only}
 use Rattle.cq_model_laws.proofs.Positives.{once_each-bag}
-use Rattle.cq_model_laws.specs.Sizes.{IsStored}
+use Rattle.cq_model.specs.Sizes.{IsStored}
 use Rattle.cq_views.proofs.Told.{all-back, all-front, wide-first, wide-second, wide-swapped}
 use Rattle.cq_model.specs.Sources.{same_source}
 use Rattle.cq_model.specs.Meaning.{Tables}
@@ -28,7 +28,7 @@ use Rattle.cq_deltas_joins.specs.Chains.{spans}
 use Rattle.cq_deltas_joins.specs.Steps.{AreStored, span}
 use Rattle.cq_table_columns.specs.declared.stored_source.StoredSource.{StoredSource}
 use Rattle.cq_views_state.proofs.SameBags.{standing-by_sources}
-use Rattle.cq_views_state.specs.Query.{CanBeKept}
+use Rattle.cq_views_model.specs.Query.{CanBeKept}
 use Rattle.cq_views_state.specs.State.{AreBags, AreAsTold, CanPrepare, HoldStored, IsWaiting, SameView, StandsFor, TakesIn}
 use Rattle.cq_views_state.specs.declared.state.Pending.{Pending}
 use Rattle.cq_views_state.specs.declared.state.ViewState.{ViewState}

@@ -12,7 +12,7 @@ use Rattle.cq_model.specs.declared.query.Query.{Query}
 use Rattle.cq_views_columns.specs.Narrow.{IsNarrowOf}
 use Rattle.cq_views_columns.specs.declared.columns.SourceColumns.{SourceColumns}
 use Rattle.cq_views_columns.specs.declared.narrow_query.NarrowQuery.{NarrowQuery}
-use Rattle.cq_views_state.specs.Query.{CanBeKept}
+use Rattle.cq_views_model.specs.Query.{CanBeKept}
 use Rattle.cq_views_state.specs.State.{AreBags, HoldStored}
 use Rattle.cq_views_state.specs.State as inner
 use Rattle.cq_views_state.specs.Work.{CountsRows, work_of}

@@ -10,6 +10,7 @@ use crate::cutting::{cut_once, cut_widths, entry_of};
 use cq_deltas_joins::SourceRows;
 use cq_model::{Query, Source};
 use cq_table_columns::{Front, Stored, StoredSource};
+use cq_values::both;
 use cq_views_columns::SourceColumns;
 use cq_views_state::ViewState;
 use std::alloc::{AllocError, Global};
@@ -51,13 +52,9 @@ fn empty(
     ensures built { IfOk result (λ v. v.built ≡ epoch) }
     ensures stands { IfOk result (λ v. StandsFor v nothing) }
 {
-    match cut_widths(alloc, columns, &query) {
-        Ok(widths) => ViewState::empty(alloc, query, widths, epoch),
-        Err(fault) => {
-            drop(query);
-            Err(fault)
-        }
-    }
+    let widths = cut_widths(alloc, columns, &query);
+    let (query, widths) = both(query, widths)?;
+    ViewState::empty(alloc, query, widths, epoch)
 }
 
 /// Takes in the rows of tables, those of the last one first. The first one is mostly the largest: its rows come when the

@@ -14,7 +14,7 @@ ghost use Rattle.cq_model_laws.specs.Sizes.{HasSizes};
 ghost use Rattle.cq_model.specs.Sizes.{column_sizes};
 ghost use Rattle.cq_sides.specs.Ticks.{counted};
 ghost use Rattle.cq_views.specs.Filling.{bags_at};
-ghost use Rattle.cq_views_state.specs.Query.{CanBeKept, reads};
+ghost use Rattle.cq_views_model.specs.Query.{CanBeKept, reads};
 ghost use Rattle.cq_views_state.specs.State.{CanStart};
 ghost use Rattle.cq_views_state.specs.Work.{CountsPut, work_of};
 
@@ -22,7 +22,7 @@ use crate::changes::{TableChange, cut_change};
 use crate::filling::filled;
 use cq_model::{Query, ShowFault};
 use cq_table_columns::StoredSource;
-use cq_values::Seq;
+use cq_values::{Seq, both};
 use cq_values_rows::RowList;
 use cq_views_columns::{NarrowQuery, SourceColumns};
 use cq_views_state::{Pending, ViewState, column_sizes, reads};
@@ -57,19 +57,14 @@ impl KeptView {
         ensures stands { IfOk result (λ v. StandsFor v (bags_at tables.now)) }
         ensures uncounted { IfOk result (λ v. work_of v.state ≡ 0) }
     {
-        match built_state(alloc, &query, widths.as_slice(), tables, epoch) {
-            Ok((columns, state)) => Ok(KeptView {
-                query,
-                widths,
-                columns,
-                state,
-            }),
-            Err(fault) => {
-                drop(query);
-                drop(widths);
-                Err(fault)
-            }
-        }
+        let built = built_state(alloc, &query, widths.as_slice(), tables, epoch);
+        let ((query, widths), (columns, state)) = both((query, widths), built)?;
+        Ok(KeptView {
+            query,
+            widths,
+            columns,
+            state,
+        })
     }
 
     /// The view's query.
@@ -180,11 +175,6 @@ fn built_state(
     ensures { IfOk result (IsOver query.now widths.now (bags_at tables.now) epoch) }
 {
     let NarrowQuery { query, columns } = NarrowQuery::of(alloc, query, widths)?;
-    match filled(alloc, query, columns.as_slice(), tables, epoch) {
-        Ok(state) => Ok((columns, state)),
-        Err(fault) => {
-            drop(columns);
-            Err(fault)
-        }
-    }
+    let state = filled(alloc, query, columns.as_slice(), tables, epoch);
+    both(columns, state)
 }

@@ -8,7 +8,7 @@ use Rattle.cq_model_bags.proofs.Bags.{projected-respects}
 use Rattle.cq_model_bags.proofs.Positives.{projected-bag}
 use Rattle.cq_deltas_joins.specs.Steps.{AreStored}
 use Rattle.cq_views_model.specs.Delta.{SameTables}
-use Rattle.cq_model_laws.specs.Sizes.{IsStored}
+use Rattle.cq_model.specs.Sizes.{IsStored}
 use Rattle.cq_model.specs.Group.{key_of}
 use Rattle.cq_model.specs.Meaning.{Tables}
 use Rattle.cq_model.specs.declared.query.Source.{Source}

@@ -3,6 +3,6 @@ pub mod Rows
 pub mod Joined
 pub mod Grouped
 pub mod Covered
-pub mod Upkeep
+pub mod RenamedCanBeKept
 pub mod Meanings
 pub mod Bags

@@ -15,7 +15,7 @@ use Rattle.cq_model.specs.Sizes.{column_sizes}
 use Rattle.cq_model.specs.Views.{sources_of}
 use Rattle.cq_model.specs.declared.query.Query.{Query}
 use Rattle.cq_model.specs.declared.query.Source.{Source}
-use Rattle.cq_views_state.specs.Query.{CanBeKept}
+use Rattle.cq_views_model.specs.Query.{CanBeKept}
 use Rattle.cq_views_columns.specs.Laws.{IsRenamedOf}
 use Rattle.cq_views_columns.specs.Narrow.{HaveColumns, IsNarrowOf, columns_at, narrowed_bags, renamed_query, sources_read}
 use Rattle.cq_model_terms.specs.Places.{is_one_of, place_in}
@@ -29,7 +29,7 @@ use Rattle.cq_views_columns.proofs.Grouped.{filtered-narrow, shape-range, shown-
 use Rattle.cq_views_columns.proofs.Joined.{AreCovered, Covers, all_places, chain-narrow, chain-wide, columns_behind, has_read-all, has_read-more}
 use Rattle.std.proofs.lemmas.Bool.{or_left, or_right}
 use Rattle.cq_views_columns.proofs.Rows.{all-below, below-joined, column-of-kept}
-use Rattle.cq_views_columns.proofs.Upkeep.{renamed-kept, renamed-sizes, renamed-sources}
+use Rattle.cq_views_columns.proofs.RenamedCanBeKept.{renamed-kept, renamed-sizes, renamed-sources}
 use Rattle.cq_model_terms.specs.Laws.{AreSameOn}
 
 -- columns for each source, among which are those that the query reads

@@ -11,7 +11,7 @@ use crate::places::places_of;
 use crate::renamed::renamed_query;
 use cq_model::{Query, Source};
 use cq_model_terms::sources_of;
-use cq_values::Seq;
+use cq_values::{Seq, both};
 use std::alloc::{AllocError, Global};
 
 /// A query over rows that have these columns of the sources' rows alone.
@@ -31,16 +31,12 @@ impl NarrowQuery {
         renamed_means_same();
         let sources = sources_of(alloc, query)?;
         let columns = sources_read(alloc, query, &sources, widths)?;
-        match renamed_over(alloc, query, &sources, widths, &columns) {
-            Ok(query) => Ok(NarrowQuery {
-                query,
-                columns: Seq::from_vec(columns),
-            }),
-            Err(fault) => {
-                drop(columns);
-                Err(fault)
-            }
-        }
+        let query = renamed_over(alloc, query, &sources, widths, &columns);
+        let (columns, query) = both(columns, query)?;
+        Ok(NarrowQuery {
+            query,
+            columns: Seq::from_vec(columns),
+        })
     }
 }
 

@@ -10,7 +10,7 @@ ghost use Rattle.cq_views_columns.specs.Renamed.{renamed_aggregate, renamed_grou
 use crate::columns::{SourceColumns, columns_at};
 use cq_model::{Aggregate, Cond, Equality, Expr, Join, Query, Shape};
 use cq_model_terms::{Naming, place_in, renamed_cond, renamed_expr};
-use cq_values::Seq;
+use cq_values::{Seq, both};
 use std::alloc::{AllocError, Global};
 
 /// The query over rows with these columns of its sources alone. Their places in the joined rows are given too.
@@ -23,20 +23,16 @@ pub(crate) fn renamed_query(
     ensures { IfOk result (λ q. q ≡ renamed_query places.now (columns_at columns.now) query.now) }
 {
     let joins = renamed_joins(alloc, query.joins.as_slice(), places, columns)?;
-    match renamed_parts(alloc, query, places) {
-        Ok((filter, shape, items)) => Ok(Query {
-            first: query.first,
-            joins,
-            filter,
-            shape,
-            items,
-            distinct: query.distinct,
-        }),
-        Err(fault) => {
-            drop(joins);
-            Err(fault)
-        }
-    }
+    let (joins, parts) = both(joins, renamed_parts(alloc, query, places))?;
+    let (filter, shape, items) = parts;
+    Ok(Query {
+        first: query.first,
+        joins,
+        filter,
+        shape,
+        items,
+        distinct: query.distinct,
+    })
 }
 
 fn renamed_joins(
@@ -88,13 +84,8 @@ fn renamed_parts(
     ensures items { IfOk result (λ r. r.2 ≡ renamed_items (place_in places.now) query.now.shape query.now.items) }
 {
     let filter = renamed_filter(alloc, &query.filter, Naming::Among(places))?;
-    match renamed_shown(alloc, query, places) {
-        Ok((shape, items)) => Ok((filter, shape, items)),
-        Err(fault) => {
-            drop(filter);
-            Err(fault)
-        }
-    }
+    let (filter, (shape, items)) = both(filter, renamed_shown(alloc, query, places))?;
+    Ok((filter, shape, items))
 }
 
 /// The groups and the items.
@@ -107,13 +98,8 @@ fn renamed_shown(
     ensures items { IfOk result (λ r. r.1 ≡ renamed_items (place_in places.now) query.now.shape query.now.items) }
 {
     let shape = renamed_shape(alloc, &query.shape, places)?;
-    match renamed_items(alloc, &query.shape, query.items.as_slice(), places) {
-        Ok(items) => Ok((shape, items)),
-        Err(fault) => {
-            drop(shape);
-            Err(fault)
-        }
-    }
+    let items = query.items.as_slice();
+    both(shape, renamed_items(alloc, &query.shape, items, places))
 }
 
 /// Items read groups where there are some, and these stay.
@@ -165,17 +151,12 @@ fn renamed_groups(
 {
     let keys = renamed_keys(alloc, keys, places)?;
     let having = renamed_filter(alloc, having, Naming::Same)?;
-    match renamed_aggregates(alloc, aggregates, places) {
-        Ok(aggregates) => Ok(Shape::Grouped {
-            keys,
-            aggregates,
-            having,
-        }),
-        Err(fault) => {
-            drop(having);
-            Err(fault)
-        }
-    }
+    let (having, aggregates) = both(having, renamed_aggregates(alloc, aggregates, places))?;
+    Ok(Shape::Grouped {
+        keys,
+        aggregates,
+        having,
+    })
 }
 
 fn renamed_keys(

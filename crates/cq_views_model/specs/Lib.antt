@@ -1,4 +1,5 @@
 pub mod Delta
 pub mod Kept
+pub mod Query
 pub mod Shown
 pub mod Standing

@@ -19,7 +19,7 @@ use Rattle.cq_deltas.specs.Additions.{Addition, additions}
 use Rattle.cq_deltas.specs.Keyed.{GroupsGoOn, KeyedGroups, additions_at, group_at, stored_at}
 use Rattle.cq_deltas.specs.Placed.{Placed}
 use Rattle.cq_views_state.specs.Last.{GoesOn, StandsBehind, seen}
-use Rattle.cq_views_state.specs.Query.{aggregates_in, aggregates_of, keys_in}
+use Rattle.cq_views_model.specs.Query.{aggregates_in, aggregates_of, keys_in}
 use Rattle.cq_views_state.specs.declared.last.Last.{Last as Stored}
 use Rattle.cq_views_state.specs.declared.last.Last.TheVariants as stored
 use Rattle.cq_views_state.specs.declared.last.LastChange.{LastChange}

@@ -8,9 +8,8 @@ use Rattle.cq_deltas.proofs.Small.{small-hold}
 use Rattle.cq_deltas.specs.Additions.{IsNarrow, additions}
 use Rattle.cq_deltas.specs.Keyed.{HoldsFor, KeyedGroups, group_at}
 use Rattle.cq_views_model.specs.Kept.{Groups, Images, LastStands}
-use Rattle.cq_model_laws.specs.Sizes.{IsStored}
+use Rattle.cq_model.specs.Sizes.{IsStored, row_size, stored_size}
 use Rattle.cq_model.specs.Meaning.{items_of, keeps}
-use Rattle.cq_model.specs.Sizes.{row_size, stored_size}
 use Rattle.cq_model.specs.Width.{AreNarrowAt, widest}
 use Rattle.cq_model.specs.declared.query.Query.{Query}
 use Rattle.cq_model.specs.declared.query.Shape.{Shape}
@@ -25,7 +24,7 @@ use Rattle.cq_views_state.proofs.Behind.{seen-stands}
 use Rattle.cq_views_state.proofs.Moves.{counts-move, totals-move}
 use Rattle.cq_views_state.proofs.Widths.{arguments-narrow, items-narrow}
 use Rattle.cq_views_state.specs.Last.{AreImages, CanTakeIn, kept_rows, seen}
-use Rattle.cq_views_state.specs.Query.{CanBeKept, aggregates_in, aggregates_of, key_columns, keys_in}
+use Rattle.cq_views_model.specs.Query.{CanBeKept, aggregates_in, aggregates_of, key_columns, keys_in}
 use Rattle.cq_views_state.specs.declared.last.Last.TheVariants as stored
 
 -- ---- groups

@@ -15,11 +15,10 @@ use Rattle.cq_model.specs.declared.query.Aggregate.TheVariants.{CountAll, Count,
 use Rattle.cq_model.specs.Condition.{is_null}
 use Rattle.cq_model.specs.Eval.{eval}
 use Rattle.cq_model.specs.Group.{SumInRange, aggregate, count_values, higher, lower, sum_values, values_of}
-use Rattle.cq_model.specs.Sizes.{shown_size, stored_size}
+use Rattle.cq_model.specs.Sizes.{IsStored, shown_size, stored_size}
 use Rattle.cq_model.specs.Width.{width}
 use Rattle.cq_model_laws.proofs.Fits.{FitBeside, Fits, null-fits, sum-fits}
 use Rattle.cq_model_laws.proofs.Ranges.{all-at, all-from}
-use Rattle.cq_model_laws.specs.Sizes.{IsStored}
 use Rattle.cq_sides_weights.proofs.RowByRow.{sizes-cons}
 use Rattle.cq_sides_weights.specs.Held.{sizes}
 use Rattle.cq_deltas_joins.specs.Steps.{AreStored}

@@ -8,7 +8,7 @@ use Rattle.cq_values.specs.Value.{Row}
 use Rattle.cq_values.specs.declared.value.Value.{Value}
 use Rattle.cq_values.specs.declared.value.Value.TheVariants.{Null, Number, Day, Text}
 use Rattle.cq_model_bags.specs.Bag.{Weighted}
-use Rattle.cq_model_laws.specs.Sizes.{IsStored}
+use Rattle.cq_model.specs.Sizes.{IsStored}
 use Rattle.cq_model.proofs.Extents.{value-within}
 use Rattle.cq_model.specs.Eval.{eval}
 use Rattle.cq_model.specs.Expr.{Expr, Column, Literal, Negate, Plus, Times, Extract}

@@ -15,7 +15,7 @@ use Rattle.cq_deltas_joins.specs.declared.step.Step.{Step}
 use Rattle.cq_views_state.proofs.Joining.{chain-sources}
 use Rattle.cq_views_state.specs.Last.{seen}
 use Rattle.cq_views_state.specs.Laws.{StandingDependsOnSources}
-use Rattle.cq_views_state.specs.Query.{aggregates_of}
+use Rattle.cq_views_model.specs.Query.{aggregates_of}
 
 -- steps that stand for rows and tables stand for the same bags of their sources
 all-by_bags : (tables others : Tables) (xs us : Weighted) → SameBag xs us → (steps : List Step)

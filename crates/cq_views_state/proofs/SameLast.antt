@@ -6,7 +6,7 @@ use Rattle.cq_model.specs.declared.query.Query.{Query}
 use Rattle.cq_sides_weights.specs.Held.{Held}
 use Rattle.cq_views_state.proofs.Behind.{groups-alike}
 use Rattle.cq_views_state.specs.Last.{GroupsStay, seen}
-use Rattle.cq_views_state.specs.Query.{aggregates_of}
+use Rattle.cq_views_model.specs.Query.{aggregates_of}
 use Rattle.cq_views_state.specs.declared.last.Last.{Last as Stored}
 use Rattle.cq_views_state.specs.declared.last.Last.TheVariants as stored
 

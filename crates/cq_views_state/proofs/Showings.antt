@@ -21,7 +21,7 @@ use Rattle.cq_deltas.specs.Shown.{GroupsCanBeShown, counted_keys, group_rows}
 use Rattle.cq_views_state.proofs.Changing.{images-for}
 use Rattle.cq_views_state.proofs.Groups.{can-be-shown, in-range, one-can-be-shown, one-in-range, one-row}
 use Rattle.cq_views_state.proofs.Limits.{rows-crossed, rows-stored}
-use Rattle.cq_views_state.specs.Query.{HasNoHaving, aggregates_in, aggregates_of}
+use Rattle.cq_views_model.specs.Query.{HasNoHaving, aggregates_in, aggregates_of}
 use Rattle.cq_views_state.specs.Shown.{AreRowsOf, CanShow, IsNotShown, IsShown, ShowsInRange, ShowsOutOfRange, ShowsRows, StandsOnStored, all_rows}
 use Rattle.cq_views_state.specs.declared.last.Last.TheVariants as stored
 use Rattle.cq_views_state.specs.declared.state.ViewState.{ViewState}

@@ -12,10 +12,10 @@ use Rattle.cq_views_model.specs.Shown.{ListsKeys}
 use Rattle.cq_model_laws.proofs.Counted.{group-shows}
 use Rattle.cq_model_laws.proofs.Fits.{FitBeside, beside-append, beside-at}
 use Rattle.cq_model_laws.proofs.Ranges.{all-at, all-from}
-use Rattle.cq_model_laws.specs.Sizes.{HasSizes, IsSized, IsStored}
+use Rattle.cq_model_laws.specs.Sizes.{HasSizes}
+use Rattle.cq_model.specs.Sizes.{IsSized, IsStored, column_sizes, row_size, shown_size, stored_size}
 use Rattle.cq_model.specs.Group.{SumInRange, aggregate, group_row, key_of, keys_of, rows_of_key}
 use Rattle.cq_model.specs.Meaning.{items_of}
-use Rattle.cq_model.specs.Sizes.{column_sizes, row_size, shown_size, stored_size}
 use Rattle.cq_model.specs.Width.{AreNarrowAt}
 use Rattle.cq_model.specs.declared.query.Aggregate.{Aggregate}
 use Rattle.cq_model.specs.declared.query.Query.{Query}
@@ -32,7 +32,7 @@ use Rattle.cq_views_state.proofs.Fitting.{all-shown-fit}
 use Rattle.cq_views_state.proofs.Groups.{in-range, occurs, one-in-range, one-row}
 use Rattle.cq_views_state.proofs.Listing.{listed-once}
 use Rattle.cq_views_state.proofs.Widths.{items-narrow, items-sized}
-use Rattle.cq_views_state.specs.Query.{CanBeKept, aggregates_in, aggregates_of}
+use Rattle.cq_views_model.specs.Query.{CanBeKept, aggregates_in, aggregates_of}
 use Rattle.cq_views_state.specs.Shown.{StandsOnStored, all_rows}
 use Rattle.cq_views_state.specs.declared.last.Last.TheVariants as stored
 use Rattle.cq_model_bags.proofs.Lists.{all-map, all-weaker}

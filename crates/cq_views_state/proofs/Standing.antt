@@ -21,7 +21,7 @@ use Rattle.cq_views_state.proofs.Joining.{all-sources, chain-kept, chain-narrow,
 use Rattle.cq_views_state.proofs.Filtering.{given-filtered, passes}
 use Rattle.cq_views_state.proofs.Limits.{rows-few, rows-stored}
 use Rattle.cq_views_state.specs.Last.{CanTakeIn, GoesOn, IsChangeOf, kept_rows, seen}
-use Rattle.cq_views_state.specs.Query.{aggregates_of}
+use Rattle.cq_views_model.specs.Query.{aggregates_of}
 use Rattle.cq_views_state.specs.State.{AreAsTold, CanPrepare, IsWaiting, SameView, StandsFor, TakesIn}
 use Rattle.cq_views_state.specs.declared.last.Last.{Last as Stored}
 use Rattle.cq_views_state.specs.declared.last.LastChange.{LastChange}

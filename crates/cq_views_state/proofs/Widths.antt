@@ -5,7 +5,7 @@ use Rattle.cq_values.specs.Value.{Row}
 use Rattle.cq_model.proofs.Extents.{value-within}
 use Rattle.cq_model.specs.Expr.{Cond, Expr}
 use Rattle.cq_model.specs.Meaning.{items_of}
-use Rattle.cq_model.specs.Sizes.{IsArgumentNarrow, row_size, shown_size, stored_size}
+use Rattle.cq_model.specs.Sizes.{IsArgumentNarrow, IsSized, IsStored, row_size, shown_size, stored_size}
 use Rattle.cq_model.specs.Width.{AreNarrowAt, IsNarrowAt, limits_of, sizes_of, widest, width}
 use Rattle.cq_model.specs.declared.query.Aggregate.{Aggregate}
 use Rattle.cq_model.specs.declared.query.Aggregate.TheVariants.{CountAll, Count, Sum, Min, Max}
@@ -15,8 +15,8 @@ use Rattle.cq_model.specs.declared.query.Shape.TheVariants.{Grouped}
 use Rattle.cq_deltas.specs.Additions.{IsNarrow}
 use Rattle.cq_model_laws.proofs.Columns.{sizes-beside}
 use Rattle.cq_model_laws.proofs.Fits.{FitBeside}
-use Rattle.cq_model_laws.specs.Sizes.{HasSizes, IsSized, IsStored}
-use Rattle.cq_views_state.specs.Query.{aggregates_in, group_sizes, keys_in}
+use Rattle.cq_model_laws.specs.Sizes.{HasSizes}
+use Rattle.cq_views_model.specs.Query.{aggregates_in, group_sizes, keys_in}
 use Rattle.cq_model_eval.proofs.Limits.{width_grows}
 
 module _ (sizes : ℕ → ℕ) (row : Row) (sized : IsSized sizes row) where

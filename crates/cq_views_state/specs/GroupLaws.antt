@@ -10,7 +10,7 @@ use Rattle.cq_model.specs.Meaning.{keeps}
 use Rattle.cq_model.specs.declared.query.Query.{Query}
 use Rattle.cq_views_state.specs.Grouping.{CanTake, Keeps, Takes, kept_additions}
 use Rattle.cq_views_state.specs.Last.{GroupsStay, kept_rows}
-use Rattle.cq_views_state.specs.Query.{CanBeKept, aggregates_of, key_columns}
+use Rattle.cq_views_model.specs.Query.{CanBeKept, aggregates_of, key_columns}
 use Rattle.cq_views_state.specs.declared.grouping.GroupTaker.{GroupTaker}
 
 additions-append : (query : Query) (xs ys : Weighted) → kept_additions query (xs ++ ys) ≡ kept_additions query xs ++ kept_additions query ys

@@ -7,13 +7,13 @@ use Rattle.cq_deltas_joins.specs.declared.chain.Chain.{Chain}
 use Rattle.cq_deltas.specs.Additions.{Addition, additions}
 use Rattle.cq_deltas.specs.Keyed.{HasKeys, KeyedGroups, additions_at}
 use Rattle.cq_deltas.specs.Placed.{Placed}
-use Rattle.cq_model_laws.specs.Sizes.{IsStored}
+use Rattle.cq_model.specs.Sizes.{IsStored}
 use Rattle.cq_model.specs.Meaning.{Tables}
 use Rattle.cq_model.specs.declared.query.Query.{Query}
 use Rattle.cq_deltas_joins.specs.Taking.{TakesMerged}
 use Rattle.cq_sides.specs.Ticks.{counted}
 use Rattle.cq_views_state.specs.Last.{AreAdded, GroupsStay, kept_rows}
-use Rattle.cq_views_state.specs.Query.{CanBeKept, aggregates_of, key_columns}
+use Rattle.cq_views_model.specs.Query.{CanBeKept, aggregates_of, key_columns}
 use Rattle.cq_views_state.specs.declared.grouping.GroupTaker.{GroupTaker}
 
 -- what those of rows that WHERE keeps add to groups

@@ -11,7 +11,7 @@ use Rattle.cq_deltas_joins.specs.Steps.{AreStored}
 use Rattle.cq_deltas.specs.Additions.{additions}
 use Rattle.cq_deltas.specs.Placed.{Placed}
 use Rattle.cq_deltas.specs.Keyed.{HasKeys, HoldsFor, KeyedGroups, additions_at, group_at}
-use Rattle.cq_views_state.specs.Query.{aggregates_of, key_columns}
+use Rattle.cq_views_model.specs.Query.{aggregates_of, key_columns}
 use Rattle.cq_views_state.specs.declared.last.Last.{Last as Stored}
 use Rattle.cq_views_state.specs.declared.last.Last.TheVariants as stored
 use Rattle.cq_views_state.specs.declared.last.LastChange.{LastChange}

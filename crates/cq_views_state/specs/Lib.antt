@@ -3,7 +3,6 @@ pub mod Grouping
 pub mod Joins
 pub mod Last
 pub mod Laws
-pub mod Query
 pub mod Shown
 pub mod State
 pub mod WholeRows

@@ -19,7 +19,7 @@ use Rattle.cq_deltas.specs.Shown.{GroupsCanBeShown, group_rows}
 use Rattle.cq_views_model.specs.Kept.{Groups}
 use Rattle.cq_views_model.specs.Shown.{ListsKeys}
 use Rattle.cq_views_state.specs.Last.{StandsBehind}
-use Rattle.cq_views_state.specs.Query.{CanBeKept, aggregates_in, aggregates_of}
+use Rattle.cq_views_model.specs.Query.{CanBeKept, aggregates_in, aggregates_of}
 use Rattle.cq_views_state.specs.State.{AreBags, HoldStored, StandsFor, crossed}
 use Rattle.cq_views_state.specs.declared.last.Last.{Last as Stored}
 use Rattle.cq_views_state.specs.declared.state.ViewState.{ViewState}

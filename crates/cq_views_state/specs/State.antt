@@ -14,7 +14,7 @@ use Rattle.cq_deltas_joins.specs.WaitingChanges.{WaitFor}
 use Rattle.cq_deltas_joins.specs.Steps.{AreStored, CanTake}
 use Rattle.cq_views_state.specs.Joins.{IsChainOf}
 use Rattle.cq_views_state.specs.Last.{CanPut, IsChangeOf, StandsBehind, seen}
-use Rattle.cq_views_state.specs.Query.{CanBeKept, aggregates_of}
+use Rattle.cq_views_model.specs.Query.{CanBeKept, aggregates_of}
 use Rattle.cq_views_state.specs.declared.last.Last.{Last as Stored}
 use Rattle.cq_views_state.specs.declared.state.Pending.{Pending}
 use Rattle.cq_views_state.specs.declared.state.ViewState.{ViewState}

@@ -5,7 +5,7 @@ ghost use Rattle.cq_deltas_joins.specs.Steps.{AreStored};
 ghost use Rattle.cq_model.specs.declared.query.Shape.TheVariants.{Plain};
 ghost use Rattle.cq_sides_weights.specs.Held.{sizes};
 ghost use Rattle.cq_views_state.specs.Last.{AreImages, CanPut, CanTakeIn, kept_rows};
-ghost use Rattle.cq_views_state.specs.Query.{CanBeKept};
+ghost use Rattle.cq_views_model.specs.Query.{CanBeKept};
 ghost use Rattle.cq_views_state.specs.declared.last.Last.TheVariants as stored;
 ghost use Rattle.cq_views_state.specs.declared.last.LastChange.TheVariants as added;
 

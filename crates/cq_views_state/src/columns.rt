@@ -5,7 +5,7 @@ ghost use Rattle.cq_model.specs.Own.{names_only};
 ghost use Rattle.cq_model.specs.Sizes.{IsArgumentNarrow, column_sizes, shown_size, stored_size};
 ghost use Rattle.cq_model.specs.Trees.{expr_of};
 ghost use Rattle.cq_model.specs.Width.{extent_limit, limits_of as limits, number_limit, widest, width};
-ghost use Rattle.cq_views_state.specs.Query.{CanBeKept, aggregates_of, group_sizes};
+ghost use Rattle.cq_views_model.specs.Query.{CanBeKept, aggregates_of, group_sizes};
 
 use crate::query::{aggregates_of, key_columns};
 use cq_model::{Aggregate, COUNT_SIZE, Expr, ExprTree, Query, STORED_SIZE, Shape, TOO_WIDE};

@@ -8,14 +8,14 @@ ghost use Rattle.cq_deltas_joins.specs.Steps.{CanTake};
 ghost use Rattle.cq_deltas_joins.specs.Work.{CountsPairs};
 ghost use Rattle.cq_views_state.specs.Grouping.{AddsChange, CountsChange};
 ghost use Rattle.cq_views_state.specs.Last.{GroupsStay};
-ghost use Rattle.cq_views_state.specs.Query.{CanBeKept};
+ghost use Rattle.cq_views_model.specs.Query.{CanBeKept};
 
 use crate::query::{aggregates_of, key_columns};
 use cq_deltas::{GroupChange, Groups};
 use cq_deltas_joins::{Chain, SourceRows, Takes, Waiting};
 use cq_model::Query;
 use cq_model_eval::keeps;
-use cq_values::Value;
+use cq_values::{Value, both};
 use std::alloc::{AllocError, Global};
 use std::mem::replace;
 
@@ -97,11 +97,6 @@ pub(crate) fn stream_groups(
     } = taker;
     *groups = back;
     *ticks = counted;
-    match streamed {
-        Ok(waiting) => Ok((waiting, change)),
-        Err(fault) => {
-            drop(change);
-            Err(fault)
-        }
-    }
+    let (change, waiting) = both(change, streamed)?;
+    Ok((waiting, change))
 }

@@ -2,7 +2,7 @@
 ghost use Rattle.std.specs.List.{list_any};
 ghost use Rattle.std.specs.Prelude.{◌≡◌};
 ghost use Rattle.cq_model.specs.Views.{is_table};
-ghost use Rattle.cq_views_state.specs.Query.{aggregates_of, key_columns, reads};
+ghost use Rattle.cq_views_model.specs.Query.{aggregates_of, key_columns, reads};
 
 use cq_model::{Aggregate, Join, Query, Shape, Source};
 

@@ -10,7 +10,7 @@ ghost use Rattle.cq_model.specs.Meaning.{items_of};
 ghost use Rattle.cq_model.specs.Sizes.{column_sizes};
 ghost use Rattle.cq_model.specs.Width.{AreNarrowAt};
 ghost use Rattle.cq_views_state.specs.declared.last.Last.TheVariants.{Groups as AsGroups};
-ghost use Rattle.cq_views_state.specs.Query.{CanBeKept};
+ghost use Rattle.cq_views_model.specs.Query.{CanBeKept};
 ghost use Rattle.cq_views_state.specs.Shown.{AddsTimes, AreKeysOf, AreShowable, ShowsInRange, ShowsRows, StandsOnStored, TellsOutOfRange, all_rows, is_one_group};
 
 use crate::last::Last;

@@ -2,7 +2,7 @@
 ghost use Rattle.std.specs.Prelude.{◌∷◌, ◌≡◌, IfOk, [], pos};
 ghost use Rattle.cq_values.specs.declared.value.Value.TheVariants.{Number};
 
-use cq_table::{Table, TableFault};
+use cq_table::{Layout, Table, TableFault};
 use cq_values::{ColumnDef, Row, Seq, Text, Ty, Value};
 use std::alloc::{AllocError, Global};
 use std::test::Fail;
@@ -14,6 +14,37 @@ fn seven(alloc: Global) -> Result<Row, Fail>
     let mut row = Row::new(alloc);
     row.push(Value::Number(7))?;
     Ok(row)
+}
+
+/// The columns of a table of numbers.
+fn number_column(alloc: Global) -> Result<Seq<ColumnDef>, Fail> {
+    let name = Text::new(alloc, "n")?;
+    let mut columns = Seq::new(alloc);
+    columns.push(ColumnDef {
+        name,
+        ty: Ty::Integer,
+        not_null: true,
+    })?;
+    Ok(columns)
+}
+
+#[test]
+fn a_table_has_these_fields_and_no_other(rt: HostRuntime) -> Result<(), Fail> {
+    let alloc = rt.alloc();
+    let table = Table::new(alloc, number_column(alloc)?, Seq::new(alloc), 2);
+    let Table {
+        layout,
+        max_rows,
+        live,
+        segments,
+        written,
+    } = &table;
+    let Layout { columns, sort } = layout;
+    assert!(rt; columns.len() == 1 && sort.is_empty());
+    assert!(rt; *max_rows == 2 && *live == 0);
+    assert!(rt; segments.is_empty() && written.len() == 0);
+    drop(table);
+    Ok(())
 }
 
 #[test]

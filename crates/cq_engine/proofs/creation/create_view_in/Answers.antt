@@ -1,6 +1,6 @@
 use Rattle.std.proofs.Common.{length, sym, ap, ◌∙◌, subst}
 use Rattle.cq_model.specs.declared.query.Query.{Query}
-use Rattle.cq_views_state.specs.Query.{CanBeKept}
+use Rattle.cq_views_model.specs.Query.{CanBeKept}
 use Rattle.cq_engine_tables.specs.Views.{Fits, IsRight, NamedView}
 use Rattle.cq_engine.proofs.Kept.{right_behind}
 use Rattle.cq_engine.proofs.creation.create_view_in.Goals as goal

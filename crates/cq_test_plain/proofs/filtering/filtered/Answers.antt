@@ -4,8 +4,8 @@ use Rattle.cq_test_plain.proofs.Exits.{tells_more}
 use Rattle.cq_test_plain.proofs.Once.{at_listed}
 use Rattle.cq_test_plain.proofs.filtering.filtered.Goals as goal
 
-pub returns-in_err-is_kept-clause-fault : goal.returns-in_err-is_kept-clause-fault
-returns-in_err-is_kept-clause-fault c =
+pub returns-in_err-passes-clause-fault : goal.returns-in_err-passes-clause-fault
+returns-in_err-passes-clause-fault c =
     let p = err_from_is_err_and c.from_residual.result c.from_residual.ensures.1 in
-    let e = rw c.as_slice-values.ensures at c.in_err-is_kept.ensures.fault in
-    rw (p.1, p.2) (tells_more (at_listed (IsWideIn c.args.condition.now) c.args.rows.now c.loop-row.row-index c.row-item.result c.loop-row-test.true c.row-item.is) (λ x. x) c.in_err-is_kept.field-0.0 e)
+    let e = rw c.as_slice-values.ensures at c.in_err-passes.ensures.fault in
+    rw (p.1, p.2) (tells_more (at_listed (IsWideIn c.args.condition.now) c.args.rows.now c.loop-row.row-index c.row-item.result c.loop-row-test.true c.row-item.is) (λ x. x) c.in_err-passes.field-0.0 e)

@@ -8,5 +8,5 @@ use Rattle.cq_test_plain.proofs.repeats.firsts.Goals as goal
 pub loop-row-preserved : goal.loop-row-preserved
 loop-row-preserved c =
     c.in_ok-push_new.ensures
-    ∙ ap (λ (kept : List Row). cond (list_any (λ other. same_row other c.row-item.result) kept) kept (kept ++ c.row-item.result ∷ [])) c.loop-row.invariant
+    ∙ ap (λ (found : List Row). cond (list_any (λ other. same_row other c.row-item.result) found) found (found ++ c.row-item.result ∷ [])) c.loop-row.invariant
     ∙ sym (firsts_next c.args.rows.now c.loop-row.row-index c.row-item.result c.loop-row-test.true c.row-item.is)

@@ -4,7 +4,7 @@ use Rattle.cq_model.specs.Sizes.{row_size}
 use Rattle.cq_model.specs.Width.{limits_of, widest, width}
 use Rattle.cq_model.specs.declared.query.Shape.{Shape}
 use Rattle.cq_views_state.proofs.Widths.{group-columns}
-use Rattle.cq_views_state.specs.Query.{group_sizes}
+use Rattle.cq_views_model.specs.Query.{group_sizes}
 use Rattle.cq_views_state.proofs.columns.column_sizes.Goals as goal
 
 pub sizes_over_rows-requires : goal.sizes_over_rows-requires

@@ -2,7 +2,7 @@ use Rattle.std.proofs.Common.{◌≡◌, ◌∙◌, List, ℕ, map, length, repl
 use Rattle.std.proofs.lemmas.Simd.{splat_is_map}
 use Rattle.std.proofs.lemmas.List.{append-nil}
 use Rattle.cq_model.specs.Sizes.{stored_size}
-use Rattle.cq_views_state.specs.Query.{key_columns}
+use Rattle.cq_views_model.specs.Query.{key_columns}
 use Rattle.cq_views_state.proofs.columns.group_sizes.Goals as goal
 
 pub loop-aggregate-init : goal.loop-aggregate-init

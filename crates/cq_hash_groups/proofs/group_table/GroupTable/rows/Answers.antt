@@ -1,10 +1,13 @@
-use Rattle.std.proofs.Common.{◌≡◌, List, map, take, rules, arith, sym, ◌∙◌, ap, subst}
+use Rattle.cq_hash_groups.specs.declared.slots.Slots.{Slots}
+use Rattle.cq_hash_groups.specs.declared.slots.Slots.TheVariants.{Bests, Counts, Sums}
+use Rattle.cq_hash_groups.specs.Slots.{AreWithin, no_slots}
+use Rattle.std.proofs.Common.{◌≡◌, ◌≤◌, ◌^◌, ℕ, slice_index_or, List, map, take, rules, arith, sym, ◌∙◌, ap, subst}
 use Rattle.std.proofs.lemmas.List.{take_all}
 use Rattle.cq_values.specs.Value.{Row}
 use Rattle.cq_model_bags.specs.Bag.{once_each}
 use Rattle.cq_model.specs.Group.{SumsInRange}
 use Rattle.cq_model.specs.declared.fault.ShowFault.TheVariants.{SumOutOfRange}
-use Rattle.cq_hash_groups.specs.Groups.{StoredGroups, group_columns, slots_at}
+use Rattle.cq_hash_groups.specs.Groups.{AreAllWithin, StoredGroups, group_columns, slots_at}
 use Rattle.cq_hash_groups.proofs.Holding.{range-fails, range-next, rows-next}
 use Rattle.cq_hash_groups.proofs.Showing.{AreShown, ranges-are_grouped, rows-are_grouped, shown_rows}
 use Rattle.cq_hash_groups.proofs.group_table.GroupTable.rows.Goals as goal
@@ -12,8 +15,8 @@ use Rattle.cq_hash_groups.proofs.group_table.GroupTable.rows.Goals as goal
 pub returns-in_err-row-clause-fault : goal.returns-in_err-row-clause-fault
 returns-in_err-row-clause-fault c = λ of h.
     let t = c.args.self.now in
-    let found = c.keys-keys.result.now in
-    let found_is : found ≡ t.found = c.keys-keys.ensures.keys ∙ ap (λ (u : StoredGroups). u.found) c.self.view_is in
+    let found = c.as_slice-keys.result.now in
+    let found_is : found ≡ t.found = c.as_slice-keys.ensures.value ∙ c.in_ok-found.ensures.keys ∙ ap (λ (u : StoredGroups). u.found) c.self.view_is in
     let slots_are : c.deref.result.now ≡ map (slots_at (group_columns t.keys) of found) t.aggregates =
     c.deref.ensures.value ∙ ap (λ (u : StoredGroups). u.slots) c.self.view_is ∙ h.slots ∙ ap (λ (fs : List Row). map (slots_at (group_columns t.keys) of fs) t.aggregates) (sym found_is) in
     let fault : c.in_err-row.field-0.0 ≡ SumOutOfRange → SumsInRange t.keys t.aggregates (once_each of) → ⊥ =
@@ -24,8 +27,8 @@ returns-in_err-row-clause-fault c = λ of h.
 pub loop-group-preserved : goal.loop-group-preserved
 loop-group-preserved c =
     let t = c.args.self.now in
-    let found = c.keys-keys.result.now in
-    let found_is : found ≡ t.found = c.keys-keys.ensures.keys ∙ ap (λ (u : StoredGroups). u.found) c.self.view_is in
+    let found = c.as_slice-keys.result.now in
+    let found_is : found ≡ t.found = c.as_slice-keys.ensures.value ∙ c.in_ok-found.ensures.keys ∙ ap (λ (u : StoredGroups). u.found) c.self.view_is in
     let slots_is : c.deref.result.now ≡ t.slots = c.deref.ensures.value ∙ ap (λ (u : StoredGroups). u.slots) c.self.view_is in
     record {
       rows = λ of h. c.in_ok-push.ensures.items
@@ -39,19 +42,32 @@ loop-group-preserved c =
 pub returns-clause-ok : goal.returns-clause-ok
 returns-clause-ok c =
     let t = c.args.self.now in
-    let found = c.keys-keys.result.now in
+    let found = c.as_slice-keys.result.now in
     let all : take c.loop-group.group found ≡ t.found =
-    take_all c.loop-group.group found (omega (arith, c.loop-group-test.false)) ∙ c.keys-keys.ensures.keys ∙ ap (λ (u : StoredGroups). u.found) c.self.view_is in
+    take_all c.loop-group.group found (omega (arith, c.loop-group-test.false)) ∙ c.as_slice-keys.ensures.value ∙ c.in_ok-found.ensures.keys ∙ ap (λ (u : StoredGroups). u.found) c.self.view_is in
     λ of h. ap once_each (c.loop-group.invariant.rows of h ∙ ap (shown_rows t.keys t.aggregates of) (all ∙ h.found)) ∙ rows-are_grouped t.keys t.aggregates of
 
 pub returns-clause-range : goal.returns-clause-range
 returns-clause-range c =
     let t = c.args.self.now in
-    let found = c.keys-keys.result.now in
+    let found = c.as_slice-keys.result.now in
     let all : take c.loop-group.group found ≡ t.found =
-    take_all c.loop-group.group found (omega (arith, c.loop-group-test.false)) ∙ c.keys-keys.ensures.keys ∙ ap (λ (u : StoredGroups). u.found) c.self.view_is in
+    take_all c.loop-group.group found (omega (arith, c.loop-group-test.false)) ∙ c.as_slice-keys.ensures.value ∙ c.in_ok-found.ensures.keys ∙ ap (λ (u : StoredGroups). u.found) c.self.view_is in
     λ of h. ranges-are_grouped t.keys t.aggregates of (subst (AreShown t.keys t.aggregates of) (all ∙ h.found) (c.loop-group.invariant.range of h))
 
 -- what the table counts is the number of rows
 pub returns-clause-few : goal.returns-clause-few
 returns-clause-few c = λ of h. omega (arith, h.count, c.self.invariant.few, ap (λ (u : StoredGroups). u.count) c.self.view_is)
+
+-- no more values than this are no more than more
+within-more : (m n : ℕ) → m ≤ n → (s : Slots) → AreWithin m s → AreWithin n s
+within-more m n le (Counts counts) within = λ group. let here = within group in omega (arith, le, here)
+within-more m n le (Sums sums) within = λ group.
+    let here = within group in
+    record { count = let few = here.count in omega (arith, le, few); total = let size = here.total in omega (arith, le, size) }
+within-more m n le (Bests which values) within = within
+
+pub shown_row-requires : goal.shown_row-requires
+shown_row-requires c = λ place.
+    within-more c.self.inside.count (2 ^ 96) c.self.invariant.few (slice_index_or c.deref.result.now place no_slots)
+    (subst (AreAllWithin c.self.inside.count) (sym c.deref.ensures.value) c.self.invariant.within place)

@@ -1,43 +1,53 @@
-use Rattle.std.proofs.Common.{refl, sym, subst, ◌++◌, ◌∙◌}
-use Rattle.std.specs.List.{AllByRecursion}
-use Rattle.std.proofs.lemmas.Result.{on_ok_weaker}
-use Rattle.cq_model_bags.specs.Canonical.{bag_of}
-use Rattle.cq_table_columns.specs.Stored.{all_rows}
-use Rattle.cq_table_store.specs.Without.{without}
-use Rattle.cq_model.specs.Meaning.{keeps}
-use Rattle.cq_model.specs.Width.{IsNarrowIn}
-use Rattle.cq_table.specs.Table.{AreSound, StoredTable}
-use Rattle.cq_table.proofs.Bagged.{put_as_stored, sound_put}
-use Rattle.cq_table.proofs.Flagged.{as_many, either_way, flagged_left}
-use Rattle.cq_table.proofs.RowLists.{all_of_rows}
+use Rattle.std.proofs.Common.{◌≡◌, ◌∙◌, ◌+◌, ◌++◌, List, ℕ, ap, arith, length, sym}
+use Rattle.std.proofs.lemmas.List.{append_assoc}
+use Rattle.cq_segments.specs.Marked.{MarkedRow, unmarked, with_marks}
+use Rattle.cq_segments.specs.Pieces.{joined}
+use Rattle.cq_table.specs.Table.{StoredTable, stored_in}
+use Rattle.cq_table.proofs.Founds.{live_there}
+use Rattle.cq_table.proofs.Tables.{kept-exchanged, leaves}
 use Rattle.cq_table.proofs.table.Table.replace.Goals as goal
 
-pub kept_flags-requires : goal.kept_flags-requires
-kept_flags-requires c =
-    let narrow = IsNarrowIn c.args.condition.now in
-    let stored = all_of_rows narrow c.self.inside.rows (subst (λ (t : StoredTable). AllByRecursion narrow t.rows) (sym c.self.view_is) c.requires.narrow) in
-    rw c.lend.ensures stored
+pub mark_all-requires : goal.mark_all-requires
+mark_all-requires c =
+    let t : StoredTable = record {
+      columns = c.self.inside.layout.columns;
+      sort = c.self.inside.layout.sort;
+      max_rows = c.self.inside.max_rows;
+      segments = c.self.inside.segments.items;
+      written = c.self.inside.written.rows;
+    } in
+    rw (c.places.ensures, c.in_ok-reserve.ensures.rows) (live_there c.args.found.now (stored_in t) (rw (← c.self.view_is) at c.requires.live))
 
-pub exchange-requires : goal.exchange-requires
-exchange-requires c = as_many (keeps c.args.condition.now) c.deref.result.now (all_rows c.lend.result) c.self.inside.rows (c.deref.ensures.value ∙ c.in_ok-gone.ensures) c.lend.ensures
-
-pub returns-clause-ok : goal.returns-clause-ok
-returns-clause-ok c =
-    let keep = keeps c.args.condition.now in
-    let flags = c.deref.result.now in
-    let t = c.self.inside in
-    let left = flagged_left keep flags (all_rows c.lend.result) t.rows (c.deref.ensures.value ∙ c.in_ok-gone.ensures) c.lend.ensures in
-    let old : StoredTable = record { columns = t.columns; sort = t.sort; max_rows = t.max_rows; rows = bag_of t.rows } in
-    rw (← c.self.view_is)
-    (on_ok_weaker c.exchange.result (λ is. put_as_stored keep t.rows (without flags t.rows) left old c.args.images.items c.exchange.new.self refl is) c.exchange.ensures.ok)
-
-pub invariant_of-self : goal.invariant_of-self
-invariant_of-self c =
-    let keep = keeps c.args.condition.now in
-    let flags = c.deref.result.now in
-    let t = c.self.inside in
+pub invariant_of-self-2 : goal.invariant_of-self-2
+invariant_of-self-2 c =
+    let t : StoredTable = record {
+      columns = c.self.inside.layout.columns;
+      sort = c.self.inside.layout.sort;
+      max_rows = c.self.inside.max_rows;
+      segments = c.self.inside.segments.items;
+      written = c.self.inside.written.rows;
+    } in
+    let places = c.args.found.now in
     let images = c.args.images.items in
-    let left = flagged_left keep flags (all_rows c.lend.result) t.rows (c.deref.ensures.value ∙ c.in_ok-gone.ensures) c.lend.ensures in
-    let put = sound_put t.columns t.max_rows t.rows c.self.invariant keep images (rw (← c.self.view_is) at c.requires.fitting) (rw (← c.self.view_is) at c.requires.count) in
-    let sound : AreSound t.columns t.max_rows (without flags t.rows ++ images) = rw left put in
-    either_way (AreSound t.columns t.max_rows) c.exchange.result c.exchange.new.self (without flags t.rows ++ images) t.rows c.exchange.ensures.ok c.exchange.ensures.err sound c.self.invariant
+    let are = rw (← c.self.view_is) at c.requires.live in
+    let marked = c.mark_all.ensures.stored ∙ ap (λ (rs : List MarkedRow). with_marks c.places.result.now (joined t.segments ++ rs)) c.in_ok-reserve.ensures.rows ∙ ap (λ (ps : List ℕ). with_marks ps (stored_in t)) c.places.ensures in
+    let segments = c.mark_all.new.segments.items in
+    let is = ap (λ (rs : List MarkedRow). joined segments ++ rs) c.push_all.ensures ∙ sym (append_assoc (joined segments) c.mark_all.new.written.rows (unmarked images)) ∙ ap (λ (rs : List MarkedRow). rs ++ unmarked images) marked in
+    kept-exchanged t c.self.inside.live c.self.invariant segments c.push_all.new.written.rows places are images (rw (← c.self.view_is) at c.requires.fitting) is c.mark_all.ensures.segments
+    c.self.inside.live (omega (arith, c.requires.count)) (omega (arith, c.requires.count))
+
+pub returns-clause-left : goal.returns-clause-left
+returns-clause-left c =
+    let t : StoredTable = record {
+      columns = c.self.inside.layout.columns;
+      sort = c.self.inside.layout.sort;
+      max_rows = c.self.inside.max_rows;
+      segments = c.self.inside.segments.items;
+      written = c.self.inside.written.rows;
+    } in
+    let places = c.args.found.now in
+    let images = c.args.images.items in
+    let marked = c.mark_all.ensures.stored ∙ ap (λ (rs : List MarkedRow). with_marks c.places.result.now (joined t.segments ++ rs)) c.in_ok-reserve.ensures.rows ∙ ap (λ (ps : List ℕ). with_marks ps (stored_in t)) c.places.ensures in
+    let segments = c.mark_all.new.segments.items in
+    let is = ap (λ (rs : List MarkedRow). joined segments ++ rs) c.push_all.ensures ∙ sym (append_assoc (joined segments) c.mark_all.new.written.rows (unmarked images)) ∙ ap (λ (rs : List MarkedRow). rs ++ unmarked images) marked in
+    rw (← c.self.view_is) (λ condition found. leaves t condition places found (joined segments ++ c.push_all.new.written.rows) images is)

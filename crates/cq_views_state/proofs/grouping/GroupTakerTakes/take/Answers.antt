@@ -1,6 +1,6 @@
 use Rattle.cq_views_state.proofs.Widths.{arguments-narrow}
 use Rattle.cq_views_state.proofs.grouping.GroupTakerTakes.take.Goals as goal
-use Rattle.cq_views_state.specs.Query.{aggregates_of}
+use Rattle.cq_views_model.specs.Query.{aggregates_of}
 
 pub ready-requires-clause-narrow : goal.ready-requires-clause-narrow
 ready-requires-clause-narrow c =

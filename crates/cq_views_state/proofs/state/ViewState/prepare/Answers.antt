@@ -8,7 +8,7 @@ use Rattle.cq_views_state.proofs.Standing.{all-wait, can-change, can-take_in, sa
 use Rattle.cq_views_state.proofs.SameLast.{same-groups, same-images}
 use Rattle.cq_views_state.proofs.state.ViewState.prepare.Goals as goal
 use Rattle.cq_views_state.specs.Last.{CanTakeIn}
-use Rattle.cq_views_state.specs.Query.{aggregates_of}
+use Rattle.cq_views_model.specs.Query.{aggregates_of}
 use Rattle.cq_views_state.specs.declared.last.Last.{Last as Stored}
 use Rattle.cq_views_state.specs.declared.last.Last.TheVariants as stored
 use Rattle.cq_views_state.specs.declared.last.LastChange.TheVariants as added

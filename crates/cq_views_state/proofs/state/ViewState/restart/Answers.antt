@@ -1,5 +1,5 @@
 use Rattle.cq_views_state.proofs.Standing.{same-view}
-use Rattle.cq_views_state.specs.Query.{aggregates_of}
+use Rattle.cq_views_model.specs.Query.{aggregates_of}
 use Rattle.cq_views_state.proofs.state.ViewState.restart.Goals as goal
 
 pub returns-clause-same : goal.returns-clause-same

@@ -1,0 +1,55 @@
+-- The ends of values, with one value more.
+use Rattle.std.proofs.Common.{◌≡◌, ◌⊎◌, ◌∙◌, ℕ, ◌+◌, ◌<◌, Bool, true, false, List, Some, None, IfSome, length, get_or, take, inl, inr, refl, ap}
+use Rattle.cq_model.specs.Group.{higher, lower}
+use Rattle.cq_model.proofs.Extremes.{higher-choice, lower-choice, up_to-itself}
+use Rattle.cq_model_bags.proofs.Lists.{all-next, all-weaker}
+use Rattle.cq_values.specs.Value.{is_null}
+use Rattle.cq_values.specs.declared.value.Value.{Value}
+use Rattle.cq_segments.specs.Bounds.{AreBounds, Ends, IsBounded, wider_ends}
+
+-- wider ends bound what the others did
+wider_bounds : (has_null : Bool) (ends : Ends) (v w : Value) → IsBounded has_null ends w → IsBounded has_null (wider_ends ends v) w
+wider_bounds has_null None v w bound = inl bound
+wider_bounds has_null (Some e) v w (inl bound) = inl bound
+wider_bounds has_null (Some e) v w (inr bound) =
+    inr (lower-choice.trans (lower e.0 v) e.0 w (lower-choice.left e.0 v) bound.0, higher-choice.trans (higher e.1 v) e.1 w (higher-choice.left e.1 v) bound.1)
+
+-- and the value itself
+wider_itself : (has_null : Bool) (ends : Ends) (v : Value) → IsBounded has_null (wider_ends ends v) v
+wider_itself has_null None v = inr (up_to-itself v, up_to-itself v)
+wider_itself has_null (Some e) v = inr (lower-choice.right e.0 v, higher-choice.right e.1 v)
+
+-- where NULL is there too, all that was bounded still is
+null_bounds : (has_null : Bool) (ends : Ends) (w : Value) → IsBounded has_null ends w → IsBounded true ends w
+null_bounds has_null None w bound = (bound.0, refl)
+null_bounds has_null (Some e) w (inl bound) = inl (bound.0, refl)
+null_bounds has_null (Some e) w (inr bound) = inr bound
+
+-- and so is NULL
+pub null_itself : (ends : Ends) (w : Value) → is_null w ≡ true → IsBounded true ends w
+null_itself None w null = (null, refl)
+null_itself (Some e) w null = inl (null, refl)
+
+one_known : (x v w : Value) → (x ≡ v) ⊎ (x ≡ w) → is_null v ≡ false → is_null w ≡ false → is_null x ≡ false
+one_known x v w (inl e) a b = ap is_null e ∙ a
+one_known x v w (inr e) a b = ap is_null e ∙ b
+
+-- no end is NULL
+wider_known : (ends : Ends) (v : Value) → is_null v ≡ false → IfSome ends (λ e. (is_null e.0 ≡ false) × (is_null e.1 ≡ false)) → IfSome (wider_ends ends v) (λ e. (is_null e.0 ≡ false) × (is_null e.1 ≡ false))
+wider_known None v is known = (is, is)
+wider_known (Some e) v is known = (one_known (lower e.0 v) e.0 v (lower-choice.one e.0 v) known.0 is, one_known (higher e.1 v) e.1 v (higher-choice.one e.1 v) known.1 is)
+
+module _ (values : List Value) (i : ℕ) (v : Value) (lt : i < length values) (here : v ≡ get_or values i v) (has_null : Bool) (ends : Ends) (so_far : AreBounds has_null ends (take i values)) where
+  -- the bounds with a value more
+  pub with_value : is_null v ≡ false → AreBounds has_null (wider_ends ends v) (take (i + 1) values)
+  with_value is = record {
+    all = all-next (IsBounded has_null (wider_ends ends v)) values i v lt here (all-weaker (IsBounded has_null ends) (IsBounded has_null (wider_ends ends v)) (wider_bounds has_null ends v) (take i values) so_far.all) (wider_itself has_null ends v);
+    known = wider_known ends v is so_far.known;
+  }
+
+  -- and with a NULL more
+  pub with_null : is_null v ≡ true → AreBounds true ends (take (i + 1) values)
+  with_null is = record {
+    all = all-next (IsBounded true ends) values i v lt here (all-weaker (IsBounded has_null ends) (IsBounded true ends) (null_bounds has_null ends) (take i values) so_far.all) (null_itself ends v is);
+    known = so_far.known;
+  }

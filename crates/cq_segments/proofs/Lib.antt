@@ -1,0 +1,11 @@
+pub mod Ends
+pub mod Flags
+pub mod ItemsAt
+pub mod Marks
+pub mod Narrowing
+pub mod OneMore
+pub mod PieceLists
+pub mod SegmentRows
+pub mod SortedRows
+pub mod Transposed
+pub mod ValuesAt

@@ -1,0 +1,12 @@
+use Rattle.std.proofs.Common.{◌≡◌, ◌≤◌, ◌+◌, ◌-◌, length, take}
+use Rattle.std.specs.Vec.{vec_capacity, vec_len}
+use Rattle.cq_vectors.specs.Columns.{texts_of}
+use Rattle.cq_segments.specs.Places.{texts_at}
+use Rattle.cq_segments.proofs.held_texts.lend_texts_at.Given as goal
+
+-- the texts of the places so far are lent, and there is room for the rest
+abbrev pub invariant-loop-place : goal.invariant-loop-place
+invariant-loop-place l = record {
+  lent : texts_of l.lent.items ≡ texts_at l.texts (take l.place-index l.places);
+  room : vec_len l.lent + (length l.places - l.place-index) ≤ vec_capacity l.lent;
+}

@@ -1,0 +1,12 @@
+use Rattle.std.proofs.Common.{◌∙◌, ◌%◌, [], ap, arith, get_or}
+use Rattle.cq_values.specs.Value.{column}
+use Rattle.cq_segments.proofs.SegmentRows.{piece_there, row_read}
+use Rattle.cq_segments.proofs.segment.Segment.lend.Goals as goal
+
+pub index-requires : goal.index-requires
+index-requires c = omega (arith, c.self.inside.pieces.ok, piece_there c.self.inside.pieces.items c.self.invariant.full c.args.self.now c.self.view_is c.args.place c.requires)
+
+pub returns : goal.returns
+returns c =
+    let row = row_read c.self.inside.pieces.items c.self.invariant.full c.args.self.now c.self.view_is c.args.place c.requires c.index.result.now c.index.ensures in
+    c.lend.ensures ∙ ap (λ r. column r c.args.column) (ap (λ l. get_or l (c.args.place % 1024) []) c.columns.ensures ∙ row)

@@ -1,0 +1,49 @@
+-- The least and the greatest value of a column.
+use Rattle.std.specs.Prelude.{◌<◌, ◌≡◌, ◌⊎◌, ℕ, Bool, true, false, List, Option, Some, None, IfSome, map, slice_index_or}
+use Rattle.std.specs.List.{AllByRecursion}
+use Rattle.std.specs.Option.{option_map}
+use Rattle.std.specs.Ordering.{is_gt}
+use Rattle.cq_model.specs.Group.{higher, lower}
+use Rattle.cq_values.specs.Lent.{owned}
+use Rattle.cq_values.specs.Order.{value_cmp}
+use Rattle.cq_values.specs.Value.{is_null}
+use Rattle.cq_values.specs.declared.lent.Lent.{Lent}
+use Rattle.cq_values.specs.declared.value.Value.{Value}
+use Rattle.cq_values.specs.declared.value.Value.TheVariants.{Null}
+use Rattle.cq_segments.specs.declared.bounds.Bounds.{Bounds}
+
+-- the least and the greatest value that is not NULL, of columns that have one
+abbrev pub Ends : Type 0
+Ends = Option (Value × Value)
+
+-- NULL where NULL is there, or not less than the first end nor greater than the second
+abbrev pub IsBounded : Bool → Ends → Value → Type 0
+IsBounded has_null None value = (is_null value ≡ true) × (has_null ≡ true)
+IsBounded has_null (Some ends) value =
+    ((is_null value ≡ true) × (has_null ≡ true)) ⊎ (is_gt (value_cmp ends.0 value) ≡ false) × (is_gt (value_cmp value ends.1) ≡ false)
+
+-- each value is bounded, and no end is NULL
+pub record AreBounds (has_null : Bool) (ends : Ends) (values : List Value) : Type 0 where
+  pub all : AllByRecursion (IsBounded has_null ends) values
+  pub known : IfSome ends (λ e. (is_null e.0 ≡ false) × (is_null e.1 ≡ false))
+
+-- the ends with a value more
+abbrev pub wider_ends : Ends → Value → Ends
+wider_ends None value = Some (value, value)
+wider_ends (Some ends) value = Some (lower ends.0 value, higher ends.1 value)
+
+-- the value at a place of values that are lent
+abbrev pub value_at : List Lent → ℕ → Value
+value_at lent place = slice_index_or (map owned lent) place Null
+
+-- the values at the places of the ends
+abbrev pub ends_at : Option (ℕ × ℕ) → List Value → Ends
+ends_at places values = option_map (λ p. (slice_index_or values p.0 Null, slice_index_or values p.1 Null)) places
+
+-- both places are below the end
+abbrev pub AreWithin : ℕ → Option (ℕ × ℕ) → Type 0
+AreWithin end places = IfSome places (λ p. (p.0 < end) × (p.1 < end))
+
+-- the ends that are lent
+abbrev pub ends_of : Bounds → Ends
+ends_of bounds = option_map (λ e. (owned e.0, owned e.1)) bounds.ends

@@ -1,0 +1,148 @@
+//! Rows of a table that were built once, column by column.
+//!
+//! `build` sorts rows and copies them into pieces of 1,024; after it only `mark` changes the segment. `pieces` lends
+//! them for readers, and `bounds` says of a column what a scan may skip. To build costs a sort and a copy of each value;
+//! `mark`, `is_marked` and `lend` cost some steps, `marked_len` one step a piece; none of these takes memory.
+ghost use Rattle.std.specs.Prelude.{IfOk, [], false, length, slice_index_or, ◌<◌, ◌≡◌, ◌≤◌};
+ghost use Rattle.std.specs.List.{All};
+ghost use Rattle.cq_segments.specs.Bounds.{AreBounds, ends_of};
+ghost use Rattle.cq_segments.specs.Columns.{AreWide};
+ghost use Rattle.cq_segments.specs.Marked.{marked_count, marks_of, rows_of, with_mark};
+ghost use Rattle.cq_segments.specs.Pieces.{joined};
+ghost use Rattle.cq_segments.specs.Sorted.{IsBuilt};
+ghost use Rattle.cq_values.specs.Lent.{owned};
+ghost use Rattle.cq_values.specs.Value.{column as column_at};
+ghost use Rattle.cq_vectors.specs.Gathered.{column_of, lent_rows};
+
+use crate::bounds::Bounds;
+use crate::building::{make_bounds, make_pieces};
+use crate::columns::Columns;
+use crate::held_bounds::HeldBounds;
+use crate::piece::Piece;
+use crate::sorting::sorted;
+use cq_values::{Lent, Row};
+use std::alloc::{AllocError, Global};
+use std::marker::Model;
+
+/// At least one row and at most 65,536, all of one width, each with its mark.
+#[derive(Drop)]
+pub struct Segment {
+    pieces: Vec<Piece>,
+    bounds: Vec<HeldBounds>,
+}
+
+impl Model for Segment {
+    ghost use Rattle.std.specs.Prelude.{List};
+    ghost use Rattle.cq_segments.specs.Marked.{MarkedRow};
+    ghost use Rattle.cq_segments.specs.Pieces.{joined};
+    ghost use Rattle.cq_segments.specs.Segment.{IsSegment};
+
+    ghost Value = { List MarkedRow };
+
+    ghost view = { λ s. joined s.pieces.items };
+
+    ghost invariant = { λ s. IsSegment s.pieces.items s.bounds.items };
+}
+
+impl Segment {
+    /// Copies of these rows in the order of the sort columns, without a mark. Equal ones stay as given.
+    pub fn build(
+        alloc: Global,
+        rows: &[&Row],
+        width: usize,
+        sort: &[usize],
+    ) -> Result<Segment, AllocError>
+        requires some { 0 < length rows.now }
+        requires few { length rows.now ≤ 65536 }
+        requires wide { AreWide width (lent_rows rows.now) }
+        ensures { IfOk result (IsBuilt (lent_rows rows.now) sort.now) }
+    {
+        let rows = sorted(alloc, rows, sort)?;
+        let pieces = make_pieces(alloc, rows.as_slice(), width)?;
+        let bounds = make_bounds(alloc, rows.as_slice(), width)?;
+        Ok(Segment { pieces, bounds })
+    }
+
+    pub fn len(&self) -> usize
+        ensures len { result ≡ length self.now }
+        ensures some { 0 < result }
+        ensures few { result ≤ 65536 }
+    {
+        let last = self.pieces.len() - 1;
+        1024 * last + self.pieces[last].len()
+    }
+
+    /// How many values each row has.
+    pub fn width(&self) -> usize
+        ensures { All (λ row. length row ≡ result) (rows_of self.now) }
+    {
+        self.bounds.len()
+    }
+
+    /// How many rows have a mark.
+    pub fn marked_len(&self) -> usize
+        ensures len { result ≡ marked_count self.now }
+        ensures few { result ≤ length self.now }
+    {
+        let mut count = 0;
+        for piece in &self.pieces {
+            count += piece.marked_len();
+        }
+        count
+    }
+
+    /// The rows, 1,024 to a piece.
+    pub fn pieces(&self) -> &[Piece]
+        ensures rows { joined result.now ≡ self.now }
+        ensures some { 0 < length result.now }
+    {
+        self.pieces.as_slice()
+    }
+
+    /// The columns in which a row stands, and its place there.
+    pub fn at(&self, place: usize) -> (&Columns, u16)
+        requires { place < length self.now }
+        ensures { slice_index_or result.0.now result.1 [] ≡ slice_index_or (rows_of self.now) place [] }
+    {
+        let piece = &self.pieces[place / 1024];
+        (piece.columns(), (place % 1024) as u16)
+    }
+
+    pub fn is_marked(&self, place: usize) -> bool
+        requires { place < length self.now }
+        ensures { result ≡ slice_index_or (marks_of self.now) place false }
+    {
+        self.pieces[place / 1024].is_marked(place % 1024)
+    }
+
+    /// Marks a row. One that has a mark keeps it.
+    pub fn mark(&mut self, place: usize)
+        requires { place < length self.old }
+        ensures { self.new ≡ with_mark place self.old }
+    {
+        self.pieces[place / 1024].mark(place % 1024);
+    }
+
+    /// The value of a column in the row at a place, and NULL where there is none.
+    pub fn lend(&self, place: usize, column: usize) -> Lent<'_>
+        requires { place < length self.now }
+        ensures { owned result ≡ column_at (slice_index_or (rows_of self.now) place []) column }
+    {
+        self.pieces[place / 1024]
+            .columns()
+            .lend(place % 1024, column)
+    }
+
+    /// The bounds of a column, over marked rows too.
+    pub fn bounds(&self, column: usize) -> Bounds<'_>
+        ensures { AreBounds result.has_null (ends_of result) (column_of (rows_of self.now) column) }
+    {
+        match self.bounds.get(column) {
+            Some(bounds) => bounds.lend(),
+            None => Bounds {
+                has_null: true,
+                ends: None,
+            },
+        }
+    }
+}

@@ -1,0 +1,74 @@
+-- What writes, moves and merges leave of a table.
+use Rattle.std.specs.Prelude.{◌≡◌, ◌≤◌, ◌+◌, ◌-◌, ℕ, List, [], ◌++◌, length, map, take, drop, Option}
+use Rattle.std.specs.List.{AllByRecursion}
+use Rattle.std.specs.List.Sorted.{IsSorted}
+use Rattle.cq_values.specs.Value.{Row}
+use Rattle.cq_model_bags.specs.Canonical.{bag_of}
+use Rattle.cq_model.specs.Expr.{Cond}
+use Rattle.cq_model.specs.Write.{left_by}
+use Rattle.cq_segments.specs.Marked.{MarkedRow, live, unmarked, with_marks}
+use Rattle.cq_segments.specs.Pieces.{joined}
+use Rattle.cq_segments.specs.Sorted.{columns_cmp}
+use Rattle.cq_table.specs.Found.{IsFound}
+use Rattle.cq_table.specs.Table.{SameRows, StoredTable, marked_len, stored_in, table_rows, with_stored, write_len}
+
+-- ---- Writes
+-- rows were put behind those of the write store
+abbrev pub with_written : List Row → StoredTable → StoredTable
+with_written rows t = with_stored t.segments (t.written ++ unmarked rows) t
+
+-- the rows at these places are marked where they stand, and these rows were put into the write store
+pub record Exchanges (places : List ℕ) (rows : List Row) (old new : StoredTable) : Type 0 where
+  pub is : new ≡ with_stored new.segments new.written old
+  pub stored : stored_in new ≡ with_marks places (stored_in old) ++ unmarked rows
+  pub segments : map length new.segments ≡ map length old.segments
+  pub write_len : write_len new ≡ write_len old + length rows
+
+-- rows were marked where they stand, and nothing else is changed
+pub record MarksOnly (old new : StoredTable) : Type 0 where
+  pub is : new ≡ with_stored new.segments new.written old
+  pub segments : map length new.segments ≡ map length old.segments
+  pub write_len : write_len new ≡ write_len old
+
+-- if WHERE found the places, the bag has these rows in place of those that it keeps
+abbrev pub LeavesFound : List ℕ → List Row → StoredTable → StoredTable → Type 0
+LeavesFound places rows old new =
+    (condition : Option Cond) → IsFound condition old places → table_rows new ≡ bag_of (left_by condition (table_rows old) ++ rows)
+
+-- ---- Segments
+-- a new segment: at most 65,536 rows in the order of the sort columns, none of them with a mark
+pub record IsNew (sort : List ℕ) (segment : List MarkedRow) : Type 0 where
+  pub none_marked : segment ≡ unmarked (live segment)
+  pub sorted : IsSorted (columns_cmp sort) (live segment)
+  pub few : length segment ≤ 65536
+
+-- a new segment of these rows
+pub record IsBuiltOf (sort : List ℕ) (rows : List Row) (segment : List MarkedRow) : Type 0 where
+  pub new : IsNew sort segment
+  pub same : SameRows (live segment) rows
+
+-- segments that were built of these rows
+pub record AreBuilt (sort : List ℕ) (rows : List Row) (segments : List (List MarkedRow)) : Type 0 where
+  pub each : AllByRecursion (IsNew sort) segments
+  pub same : SameRows (live (joined segments)) rows
+
+-- the first rows left the write store, and the live ones of them stand in new segments behind the others
+pub record Moves (count : ℕ) (old new : StoredTable) : Type 0 where
+  pub made : List (List MarkedRow)
+  pub is : new ≡ with_stored (old.segments ++ made) (drop count old.written) old
+  pub built : AreBuilt old.sort (live (take count old.written)) made
+
+-- the live rows of the segments stand in new ones
+pub record Merges (old new : StoredTable) : Type 0 where
+  pub is : new ≡ with_stored new.segments old.written old
+  pub built : AreBuilt old.sort (live (joined old.segments)) new.segments
+
+-- a move lowers the rows of the write store by so many, and no row of a segment gets a mark
+pub record MovesCounts (count : ℕ) (old new : StoredTable) : Type 0 where
+  pub write_len : write_len new ≡ write_len old - count
+  pub marked_len : marked_len new ≡ marked_len old
+
+-- a merge leaves no row of a segment with a mark, and the write store as it is
+pub record MergesCounts (old new : StoredTable) : Type 0 where
+  pub write_len : write_len new ≡ write_len old
+  pub marked_len : marked_len new ≡ 0

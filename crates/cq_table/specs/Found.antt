@@ -1,0 +1,41 @@
+-- The places of stored rows that a condition picks.
+use Rattle.std.specs.Prelude.{◌≡◌, ◌&&◌, ℕ, zero, suc, Bool, true, false, not, List, [], ◌∷◌, length, Option}
+use Rattle.cq_values.specs.Value.{Row}
+use Rattle.cq_model.specs.Expr.{Cond}
+use Rattle.cq_model.specs.Meaning.{keeps}
+use Rattle.cq_operators_scans.specs.Kept.{places_where}
+use Rattle.cq_segments.specs.Marked.{MarkedRow, rows_of, with_mark}
+use Rattle.cq_segments.specs.Places.{AreBelow, rows_at}
+use Rattle.cq_model.specs.Write.{chosen}
+use Rattle.cq_table.specs.Table.{SameRows, StoredTable, stored_in, table_rows}
+
+-- whether a row is live and passes a test
+abbrev pub passes : (Row → Bool) → MarkedRow → Bool
+passes test m = not m.marked && test m.row
+
+-- the places of all live rows of which WHERE is True, among all stored rows
+abbrev pub IsFound : Option Cond → StoredTable → List ℕ → Type 0
+IsFound condition t places = places ≡ places_where 0 (passes (keeps condition)) (stored_in t)
+
+-- whether the row at a place is there and live
+abbrev pub is_live_at : ℕ → List MarkedRow → Bool
+is_live_at place [] = false
+is_live_at zero (m ∷ stored) = not m.marked
+is_live_at (suc place) (m ∷ stored) = is_live_at place stored
+
+-- the rows at these places are live, and no place stands twice
+abbrev pub AreLiveAt : List ℕ → List MarkedRow → Type 0
+AreLiveAt [] stored = Unit {0}
+AreLiveAt (place ∷ places) stored = (is_live_at place stored ≡ true) × AreLiveAt places (with_mark place stored)
+
+-- each of these places has a row
+abbrev pub AreThere : List ℕ → List MarkedRow → Type 0
+AreThere places stored = AreBelow (length stored) places
+
+-- the rows at these places, marked or not
+abbrev pub found_rows : List MarkedRow → List ℕ → List Row
+found_rows stored places = rows_at (rows_of stored) places
+
+-- the rows at the places that were found are those that WHERE keeps
+abbrev pub PicksChosen : Option Cond → StoredTable → List ℕ → Type 0
+PicksChosen condition t places = SameRows (found_rows (stored_in t) places) (chosen condition (table_rows t))

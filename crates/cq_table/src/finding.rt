@@ -1,0 +1,56 @@
+//! The places of the rows that a condition keeps.
+ghost use Rattle.std.specs.List.{AllByRecursion};
+ghost use Rattle.std.specs.Prelude.{◌++◌, ◌+◌, ◌≡◌, ◌<◌, ◌≤◌, ◌^◌, IfOk, OnOk, length};
+ghost use Rattle.cq_model.specs.Meaning.{keeps};
+ghost use Rattle.cq_model.specs.Width.{IsNarrowIn};
+ghost use Rattle.cq_operators_scans.specs.Kept.{places_where};
+ghost use Rattle.cq_table.specs.Found.{passes};
+ghost use Rattle.cq_table_columns.specs.Stored.{all_rows, front_rows, marked_rows, stored_marked};
+
+use cq_model::Cond;
+use cq_operators_scans::kept_places;
+use cq_table_columns::{Front, Stored};
+use std::alloc::{AllocError, Global};
+
+/// The places of the live rows that the condition keeps, among all stored rows. It goes through them 1,024 at a time.
+pub(crate) fn found_places(
+    alloc: Global,
+    condition: &Option<Cond>,
+    rows: &Stored<'_>,
+) -> Result<Vec<usize>, AllocError>
+    requires narrow { AllByRecursion (IsNarrowIn condition.now) (all_rows rows.now) }
+    requires few { length (stored_marked rows.now) < 2 ^ 64 }
+    ensures { IfOk result (λ f. f.items ≡ places_where 0 (passes (keeps condition.now)) (stored_marked rows.now)) }
+{
+    let mut found = Vec::new(alloc);
+    let mut before = 0;
+    let mut left = *rows;
+    while !left.is_empty() {
+        let (front, rest) = left.split_piece();
+        find_in(alloc, condition, before, &front, &mut found)?;
+        before += front.span();
+        left = rest;
+    }
+    Ok(found)
+}
+
+/// Adds the places of those that it keeps of at most 1,024 rows, behind so many others.
+fn find_in(
+    alloc: Global,
+    condition: &Option<Cond>,
+    before: usize,
+    front: &Front<'_>,
+    found: &mut Vec<usize>,
+) -> Result<(), AllocError>
+    requires narrow { AllByRecursion (IsNarrowIn condition.now) (front_rows front.now) }
+    requires few { length (marked_rows front.now) ≤ 1024 }
+    requires counted { before + length (marked_rows front.now) < 2 ^ 64 }
+    ensures { OnOk result (found.new.items ≡ found.old.items ++ places_where before (passes (keeps condition.now)) (marked_rows front.now)) }
+{
+    let kept = kept_places(alloc, condition, front)?;
+    let live = front.live_places(alloc)?;
+    for place in kept.places() {
+        found.push(before + usize::from(live[usize::from(*place)]))?;
+    }
+    Ok(())
+}

@@ -1,0 +1,34 @@
+use Rattle.std.proofs.Common.{◌∙◌, ap, ap₂, length, subst, sym}
+use Rattle.std.proofs.lemmas.Result.{IfOk-weaker}
+use Rattle.cq_segments.specs.Marked.{rows_of}
+use Rattle.cq_segments.specs.Places.{AreBelow, rows_at}
+use Rattle.cq_writestore.specs.Writes.{written_rows}
+use Rattle.cq_table_columns.specs.Stored.{front_rows}
+use Rattle.cq_table_columns.proofs.LiveRows.{live_at, live_below}
+use Rattle.cq_table_columns.proofs.front.Front.rows.Goals as goal
+
+pub front_at-requires : goal.front_at-requires
+front_at-requires c =
+    let stored = c.in-Marked.piece.now in
+    let places = c.deref.ensures.value ∙ c.in_ok-places-in-Marked.ensures in
+    subst (λ l. AreBelow (length l) c.deref.result.now) (sym c.columns.ensures) (subst (AreBelow (length (rows_of stored))) (sym places) (live_below stored))
+
+pub front_at-requires-in-Written : goal.front_at-requires-in-Written
+front_at-requires-in-Written c =
+    let stored = written_rows c.in-Written.written.written in
+    let places = c.deref-in-Written.ensures.value ∙ c.in_ok-places-in-Written.ensures in
+    subst (λ l. AreBelow (length l) c.deref-in-Written.result.now) (sym c.rows.ensures.rows) (subst (AreBelow (length (rows_of stored))) (sym places) (live_below stored))
+
+pub returns-in_ok-places-in-Marked : goal.returns-in_ok-places-in-Marked
+returns-in_ok-places-in-Marked c =
+    let stored = c.in-Marked.piece.now in
+    let places = c.deref.ensures.value ∙ c.in_ok-places-in-Marked.ensures in
+    let all = ap₂ rows_at c.columns.ensures places ∙ live_at stored ∙ ap front_rows (sym c.in-Marked.is) in
+    IfOk-weaker c.front_at.result _ _ (λ rows is. is ∙ all) c.front_at.ensures
+
+pub returns-in_ok-places-in-Written : goal.returns-in_ok-places-in-Written
+returns-in_ok-places-in-Written c =
+    let stored = written_rows c.in-Written.written.written in
+    let places = c.deref-in-Written.ensures.value ∙ c.in_ok-places-in-Written.ensures in
+    let all = ap₂ rows_at c.rows.ensures.rows places ∙ live_at stored ∙ ap front_rows (sym c.in-Written.is) in
+    IfOk-weaker c.front_at-in-Written.result _ _ (λ rows is. is ∙ all) c.front_at-in-Written.ensures
