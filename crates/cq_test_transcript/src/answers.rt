@@ -58,7 +58,8 @@ impl Answers {
         ensures taken { IfOk result (λ done. self.new.0 ≡ self.old.0 ++ bytes.now) }
         ensures kept { IfErr result (λ why. self.new.0 ≡ self.old.0) }
         ensures counted { self.new.1 ≡ self.old.1 }
-        ensures unflushed { self.new.3 ≡ self.old.3 }
+        ensures flushed { self.new.2 ≡ self.old.2 }
+        ensures flushes { self.new.3 ≡ self.old.3 }
     {
         self.taken.reserve(bytes.len())?;
         if bytes.last() == Some(&b'\n') {
