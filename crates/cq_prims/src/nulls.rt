@@ -60,6 +60,11 @@ pub(crate) fn nulls_of(a: &Vector<'_>) -> Plane
             nulls.set_where(&NullTest { values }, values.len());
         }
         Form::Constant(value, len) => nulls.set_all(value.is_null(), *len),
+        Form::Narrow(numbers) => nulls.set_copy(numbers.nulls()),
+        Form::NarrowDays(days) => nulls.set_copy(days.nulls()),
+        Form::LentNumbers(numbers) => nulls.set_copy(numbers.nulls()),
+        Form::Codes(texts) => nulls.set_copy(texts.nulls()),
+        Form::Run(texts) => nulls.set_copy(texts.nulls()),
     }
     nulls
 }

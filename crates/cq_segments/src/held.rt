@@ -29,6 +29,7 @@ pub(crate) enum Held {
 impl Held {
     /// Copies of the values of a vector's form.
     pub fn of(alloc: Global, form: Form<'_>) -> Result<Held, AllocError>
+        requires { length (values_in form) ≤ 1024 }
         ensures { IfOk result (λ held. values_held held ≡ values_in form.entry) }
     {
         match form {
@@ -38,6 +39,7 @@ impl Held {
             Form::Texts(texts) => Ok(Held::Texts(HeldTexts::of(alloc, &texts)?)),
             Form::Values(values) => Ok(Held::Values(own_all(alloc, values.as_slice())?)),
             Form::Constant(value, len) => Ok(Held::Constant(value.to_value(alloc)?, len)),
+            lent => Ok(Held::Values(own_vector(alloc, &Vector::new(lent))?)),
         }
     }
 
@@ -126,6 +128,18 @@ fn own_all(alloc: Global, lent: &[Lent<'_>]) -> Result<Vec<Value>, AllocError>
     values.reserve(lent.len())?;
     for value in lent {
         values.push(value.to_value(alloc)?)?;
+    }
+    Ok(values)
+}
+
+/// The values, one by one, for forms that no stored column has.
+fn own_vector(alloc: Global, vector: &Vector<'_>) -> Result<Vec<Value>, AllocError>
+    ensures { IfOk result (λ values. values.items ≡ vector.now) }
+{
+    let mut values = Vec::new(alloc);
+    values.reserve(vector.len())?;
+    for place in 0..vector.len() {
+        values.push(vector.lend(place).to_value(alloc)?)?;
     }
     Ok(values)
 }

@@ -1,3 +1,4 @@
 pub mod ColumnLemmas
 pub mod Gathering
+pub mod LentLemmas
 pub mod TextRunLemmas

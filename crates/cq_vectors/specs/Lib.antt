@@ -2,4 +2,6 @@ pub mod Columns
 pub mod Form
 pub mod Gathered
 pub mod Batch
+pub mod LentColumns
+pub mod Offsets
 pub mod TextRun

@@ -112,7 +112,7 @@ impl Days {
     }
 }
 
-fn lend_day<'a>(number: i32) -> Lent<'a>
+pub(crate) fn lend_day<'a>(number: i32) -> Lent<'a>
     requires { IsDay number }
     ensures { owned result ≡ DayOf number }
 {

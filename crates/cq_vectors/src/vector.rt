@@ -12,8 +12,13 @@ ghost use Rattle.cq_values.specs.Value.{column as column_at, is_null};
 ghost use Rattle.cq_vectors.specs.Form.{values_in};
 ghost use Rattle.cq_vectors.specs.Gathered.{column_of, lent_rows};
 
+use crate::codes::Codes;
 use crate::days::Days;
+use crate::lent_numbers::LentNumbers;
+use crate::narrow::Narrow;
+use crate::narrow_days::NarrowDays;
 use crate::numbers::Numbers;
+use crate::run_texts::RunTexts;
 use crate::texts::Texts;
 use crate::wide_numbers::WideNumbers;
 use cq_values::{Lent, Row, Value};
@@ -21,7 +26,8 @@ use cq_vectors_masks::Plane;
 use std::alloc::{AllocError, Global};
 use std::marker::Model;
 
-/// How a vector holds its values. Kernels read a form as a slice; `Values` is for what no narrower form holds.
+/// How a vector holds its values. Kernels read a form as a slice; `Values` is for what no narrower form holds. Of
+/// `Narrow` and what stands below it the values are those of a stored column, which lends them.
 #[derive(Drop)]
 pub enum Form<'a> {
     Numbers(Numbers),
@@ -31,6 +37,11 @@ pub enum Form<'a> {
     Values(Vec<Lent<'a>>),
     /// One value, and in how many places it stands.
     Constant(Lent<'a>, usize),
+    Narrow(Narrow<'a>),
+    NarrowDays(NarrowDays<'a>),
+    LentNumbers(LentNumbers<'a>),
+    Codes(Codes<'a>),
+    Run(RunTexts<'a>),
 }
 
 /// At most 1,024 values of one column.
@@ -101,6 +112,11 @@ impl<'a> Vector<'a> {
             Form::Texts(texts) => texts.len(),
             Form::Values(values) => values.len(),
             Form::Constant(_, len) => *len,
+            Form::Narrow(numbers) => numbers.len(),
+            Form::NarrowDays(days) => days.len(),
+            Form::LentNumbers(numbers) => numbers.len(),
+            Form::Codes(texts) => texts.len(),
+            Form::Run(texts) => texts.len(),
         }
     }
 
@@ -119,6 +135,11 @@ impl<'a> Vector<'a> {
             } else {
                 Lent::Null
             },
+            Form::Narrow(numbers) => numbers.lend(place),
+            Form::NarrowDays(days) => days.lend(place),
+            Form::LentNumbers(numbers) => numbers.lend(place),
+            Form::Codes(texts) => texts.lend(place),
+            Form::Run(texts) => texts.lend(place),
         }
     }
 
@@ -128,6 +149,7 @@ impl<'a> Vector<'a> {
     {
         match &self.form {
             Form::Numbers(numbers) => numbers.whole(),
+            Form::LentNumbers(numbers) => numbers.whole(),
             _ => None,
         }
     }
@@ -141,6 +163,11 @@ impl<'a> Vector<'a> {
             Form::Wide(numbers) => Some(numbers.nulls()),
             Form::Days(days) => Some(days.nulls()),
             Form::Texts(texts) => Some(texts.nulls()),
+            Form::Narrow(numbers) => Some(numbers.nulls()),
+            Form::NarrowDays(days) => Some(days.nulls()),
+            Form::LentNumbers(numbers) => Some(numbers.nulls()),
+            Form::Codes(texts) => Some(texts.nulls()),
+            Form::Run(texts) => Some(texts.nulls()),
             Form::Values(_) | Form::Constant(_, _) => None,
         }
     }
