@@ -157,6 +157,43 @@ compared-turned v w =
     ∙ ap₂ known (ap is_lt (value_cmp_total.antisymm w v) ∙ is_lt-reverse (value_cmp v w)) (either_turned (is_null w) (is_null v))
     ∙ sym (compared_known by.Greater v w)
 
+-- a comparison that passes the reversed orderings of another says the same of the sides turned
+pub turned_by : (c d : Comparison) → ((o : Ordering) → passes d (ordering_reverse o) ≡ passes c o) → (v w : Value) → compared d w v ≡ compared c v w
+turned_by c d reversed v w =
+    compared_known d w v
+    ∙ ap₂ known (ap (passes d) (value_cmp_total.antisymm w v) ∙ reversed (value_cmp v w)) (either_turned (is_null w) (is_null v))
+    ∙ sym (compared_known c v w)
+
+pub equal_reversed : (o : Ordering) → passes by.Equal (ordering_reverse o) ≡ passes by.Equal o
+equal_reversed Less = refl
+equal_reversed Equal = refl
+equal_reversed Greater = refl
+
+pub not_equal_reversed : (o : Ordering) → passes by.NotEqual (ordering_reverse o) ≡ passes by.NotEqual o
+not_equal_reversed Less = refl
+not_equal_reversed Equal = refl
+not_equal_reversed Greater = refl
+
+pub less_reversed : (o : Ordering) → passes by.Greater (ordering_reverse o) ≡ passes by.Less o
+less_reversed Less = refl
+less_reversed Equal = refl
+less_reversed Greater = refl
+
+pub at_most_reversed : (o : Ordering) → passes by.GreaterOrEqual (ordering_reverse o) ≡ passes by.LessOrEqual o
+at_most_reversed Less = refl
+at_most_reversed Equal = refl
+at_most_reversed Greater = refl
+
+pub greater_reversed : (o : Ordering) → passes by.Less (ordering_reverse o) ≡ passes by.Greater o
+greater_reversed Less = refl
+greater_reversed Equal = refl
+greater_reversed Greater = refl
+
+pub at_least_reversed : (o : Ordering) → passes by.LessOrEqual (ordering_reverse o) ≡ passes by.GreaterOrEqual o
+at_least_reversed Less = refl
+at_least_reversed Equal = refl
+at_least_reversed Greater = refl
+
 -- a comparison of lists with its sides turned
 pub zip2-turned : {X Y : Type 0} (f g : X → X → Y) → ((x y : X) → f y x ≡ g x y) → (xs ys : List X) → zip2 f ys xs ≡ zip2 g xs ys
 zip2-turned f g h [] [] = refl

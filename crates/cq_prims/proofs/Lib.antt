@@ -3,3 +3,5 @@ pub mod Compared
 pub mod Shown
 pub mod Liked
 pub mod NullLemmas
+pub mod Beside
+pub mod OffsetLanes

@@ -5,3 +5,5 @@ pub mod TextSide
 pub mod Kinds
 pub mod Sides
 pub mod NoText
+pub mod Beside
+pub mod UpTo

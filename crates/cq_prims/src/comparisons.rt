@@ -2,6 +2,7 @@
 ghost use Rattle.cq_values.specs.Comparison.{compared};
 ghost use Rattle.cq_values.specs.declared.comparison.Comparison.TheVariants.{Equal, Less};
 ghost use Rattle.cq_values.specs.Lent.{owned};
+ghost use Rattle.cq_values.specs.declared.value.Value.{Value};
 ghost use Rattle.std.specs.Prelude.{◌≡◌, IfSome, length, replicate};
 ghost use Rattle.std.specs.Simd.Lanes.{zip2};
 
@@ -15,6 +16,7 @@ use crate::less_days::LessDays;
 use crate::less_numbers::LessNumbers;
 use crate::less_texts::LessTexts;
 use crate::less_wide::LessWide;
+use crate::narrow_side::NarrowSide;
 use crate::nulls::nulls_of_both;
 use crate::sides::{Sides, sides_of};
 use cq_values::{Comparison, Lent, Truth};
@@ -29,6 +31,33 @@ pub fn compare(comparison: Comparison, a: &Vector<'_>, b: &Vector<'_>, to: &mut 
     if let Some(truth) = constant_truth(comparison, a, b) {
         return to.set_all(truth, a.len());
     }
+    if let Some(side) = NarrowSide::of(a, b) {
+        return side.compare(comparison, to);
+    }
+    if let Some(side) = NarrowSide::of(b, a) {
+        return side.compare(turned(comparison), to);
+    }
+    compare_sides(comparison, a, b, to);
+}
+
+/// The comparison that says the same of the sides turned.
+fn turned(comparison: Comparison) -> Comparison
+    ensures { (v w : Value) → compared result w v ≡ compared comparison v w }
+{
+    match comparison {
+        Comparison::Equal => Comparison::Equal,
+        Comparison::NotEqual => Comparison::NotEqual,
+        Comparison::Less => Comparison::Greater,
+        Comparison::LessOrEqual => Comparison::GreaterOrEqual,
+        Comparison::Greater => Comparison::Less,
+        Comparison::GreaterOrEqual => Comparison::LessOrEqual,
+    }
+}
+
+fn compare_sides(comparison: Comparison, a: &Vector<'_>, b: &Vector<'_>, to: &mut TruthMask)
+    requires { length a.now ≡ length b.now }
+    ensures { to.new ≡ zip2 (compared comparison) a.now b.now }
+{
     let mut opposite = TruthMask::new();
     match comparison {
         Comparison::Equal => set_equal(a, b, to),
@@ -62,7 +91,7 @@ fn constant_truth(comparison: Comparison, a: &Vector<'_>, b: &Vector<'_>) -> Opt
     }
 }
 
-fn constant_of<'b>(vector: &'b Vector<'_>) -> Option<&'b Lent<'b>>
+pub(crate) fn constant_of<'b>(vector: &'b Vector<'_>) -> Option<&'b Lent<'b>>
     ensures { IfSome result (λ value. vector.now ≡ replicate (length vector.now) (owned value.now)) }
 {
     match vector.form() {

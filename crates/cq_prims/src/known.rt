@@ -1,7 +1,7 @@
 //! Truths of a test that is not known where a value is NULL.
 ghost use Rattle.cq_vectors_masks.specs.TruthMask.{known};
 ghost use Rattle.std.specs.List.{range_with_len};
-ghost use Rattle.std.specs.Prelude.{◌≡◌, ◌≤◌, length, map};
+ghost use Rattle.std.specs.Prelude.{◌≡◌, ◌≤◌, false, length, map};
 ghost use Rattle.std.specs.Simd.Lanes.{zip2};
 
 use cq_vectors_masks::{Plane, TruthMask, WordTest};
@@ -14,4 +14,13 @@ pub(crate) fn set_known_by<T: WordTest>(test: &T, nulls: &Plane, to: &mut TruthM
     let mut answers = Plane::new();
     answers.set_where(test, nulls.len());
     to.set_known(&answers, nulls);
+}
+
+/// False in each place, and Unknown where a value is NULL.
+pub(crate) fn set_never(nulls: &Plane, to: &mut TruthMask)
+    ensures { to.new ≡ map (known false) nulls.now }
+{
+    let mut none = Plane::new();
+    none.set_all(false, nulls.len());
+    to.set_known(&none, nulls);
 }

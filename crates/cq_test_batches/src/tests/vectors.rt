@@ -86,6 +86,7 @@ fn form_of(alloc: Global, first: Value, second: Value) -> Result<char, AllocErro
         Form::Texts(_) => 't',
         Form::Values(_) => 'v',
         Form::Constant(_, _) => 'c',
+        _ => 'l',
     };
     drop(column);
     Ok(letter)

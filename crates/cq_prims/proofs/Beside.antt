@@ -1,0 +1,77 @@
+-- Offsets above a base beside one constant.
+use Rattle.std.proofs.Common.{◌≡◌, ℕ, zero, suc, ◌+◌, ◌<◌, ◌≤◌, ℤ, pos, ◌+ℤ◌, ◌-ℤ◌, Bool, true, false, not, List, [], ◌∷◌, map, length, get_or, replicate, refl, sym, ap, ap₂, ◌∙◌, arith, Ordering, Less, Equal, Greater, int_cmp, cond}
+use Rattle.std.specs.List.{range_with_len}
+use Rattle.std.specs.Ordering.{is_gt, is_le, ordering_then}
+use Rattle.std.specs.Prelude.{int_lt}
+use Rattle.std.proofs.lemmas.Int.{ints}
+use lib.Lanes.{zip2}
+use Rattle.cq_model_bags.proofs.Totals.{by_test}
+use Rattle.cq_values.specs.declared.comparison.Comparison.{Comparison}
+use Rattle.cq_values.specs.declared.comparison.Comparison.TheVariants as by
+use Rattle.cq_values.specs.declared.value.Value.{Value}
+use Rattle.cq_values.specs.Comparison.{compared, passes}
+use Rattle.cq_values.specs.Truth.{truth_of}
+use Rattle.cq_vectors.specs.Offsets.{offsets_in}
+use Rattle.cq_vectors_masks.specs.TruthMask.{known}
+use Rattle.cq_prims.specs.declared.narrow_side.NarrowSide.{NarrowSide}
+use Rattle.cq_prims.specs.Beside.{AreBeside, unless}
+use Rattle.cq_prims.specs.UpTo.{known_of}
+use Rattle.cq_prims.proofs.Shown.{map-all_places}
+
+-- tests of the offsets that agree
+pub tests_alike : (t s : ℕ → Bool) (xs : List ℕ) → ((k : ℕ) → t (get_or xs k 0) ≡ s (get_or xs k 0)) → map t xs ≡ map s xs
+tests_alike t s [] same = refl
+tests_alike t s (x ∷ xs) same = ap₂ (λ b l. b ∷ l) (same 0) (tests_alike t s xs (λ k. same (suc k)))
+
+module _ (xs : List ℕ) (flags : List Bool) (long : length flags ≡ length xs) where
+  -- the answers of the places are those of the offsets
+  pub by_places : (t s : ℕ → Bool) → ((k : ℕ) → t (get_or xs k 0) ≡ s (get_or xs k 0)) → zip2 known (map (λ i. t (get_or xs i 0)) (range_with_len 0 (length flags))) flags ≡ known_of s xs flags
+  by_places t s same = ap (λ (l : List Bool). zip2 known l flags) (map-all_places t 0 xs (length flags) (sym long) ∙ tests_alike t s xs same)
+
+-- a test that no offset passes
+pub by_none : (s : ℕ → Bool) (xs : List ℕ) (flags : List Bool) → length flags ≡ length xs → ((k : ℕ) → s (get_or xs k 0) ≡ false) → map (known false) flags ≡ known_of s xs flags
+by_none s [] [] long none = refl
+by_none s [] (f ∷ flags) long none = absurd (omega arith)
+by_none s (x ∷ xs) [] long none = absurd (omega arith)
+by_none s (x ∷ xs) (f ∷ flags) long none = ap₂ (λ t l. t ∷ l) (ap (λ (b : Bool). known b f) (sym (none 0))) (by_none s xs flags (omega arith) (λ k. none (suc k)))
+
+asymmetric : (m n : ℤ) → int_lt m n ≡ true → int_lt n m ≡ false
+asymmetric m n h = by_test (int_lt n m) (λ k. absurd (omega (arith, ints))) (λ k. k)
+
+is_le-cond : (a b : Bool) → (a ≡ true → b ≡ false) → not b ≡ is_le (ordering_then (cond a Less (cond b Greater Equal)) Equal)
+is_le-cond true b h = ap not (h refl)
+is_le-cond false true h = refl
+is_le-cond false false h = refl
+
+pub at_most_agrees : (m n : ℤ) → not (int_lt n m) ≡ passes by.LessOrEqual (ordering_then (int_cmp m n) Equal)
+at_most_agrees m n = is_le-cond (int_lt m n) (int_lt n m) (asymmetric m n)
+
+pub not_at_most : (o : Ordering) → not (passes by.LessOrEqual o) ≡ passes by.Greater o
+not_at_most Less = refl
+not_at_most Equal = refl
+not_at_most Greater = refl
+
+module _ (c : Comparison) (s : ℤ → ℤ → Bool) (agree : (m n : ℤ) → s m n ≡ passes c (ordering_then (int_cmp m n) Equal)) where
+  one : (days : Bool) (m n : ℤ) (flag : Bool) → known (s m n) flag ≡ compared c (unless days m flag) (unless days n false)
+  one true m n true = refl
+  one false m n true = refl
+  one true m n false = ap truth_of (agree m n)
+  one false m n false = ap truth_of (agree m n)
+
+  all : (days : Bool) (base value : ℤ) (xs : List ℕ) (flags : List Bool) → length flags ≡ length xs
+      → known_of (λ o. s (base +ℤ pos o) value) xs flags ≡ zip2 (compared c) (zip2 (λ o f. unless days (base +ℤ pos o) f) xs flags) (replicate (length (zip2 (λ o f. unless days (base +ℤ pos o) f) xs flags)) (unless days value false))
+  all days base value [] [] long = refl
+  all days base value [] (f ∷ flags) long = absurd (omega arith)
+  all days base value (x ∷ xs) [] long = absurd (omega arith)
+  all days base value (x ∷ xs) (f ∷ flags) long = ap₂ (λ t l. t ∷ l) (one days (base +ℤ pos x) value f) (all days base value xs flags (omega arith))
+
+  -- the test of the numbers above the base gives the truths of the comparison
+  pub by_beside : (side : NarrowSide) (vs ws : List Value) → length side.nulls.now ≡ length (offsets_in side.offsets) → AreBeside side vs ws → (t : ℕ → Bool) → ((o : ℕ) → t o ≡ s (side.base +ℤ pos o) side.value)
+      → known_of t (offsets_in side.offsets) side.nulls.now ≡ zip2 (compared c) vs ws
+  by_beside side vs ws long beside t same =
+      let xs = offsets_in side.offsets in
+      let flags = side.nulls.now in
+      let constant = beside.constant ∙ ap (λ (l : List Value). replicate (length l) (unless beside.days side.value false)) beside.column in
+      ap (λ (l : List Bool). zip2 known l flags) (tests_alike t (λ o. s (side.base +ℤ pos o) side.value) xs (λ k. same (get_or xs k 0)))
+      ∙ all beside.days side.base side.value xs flags long
+      ∙ sym (ap₂ (zip2 (compared c)) beside.column constant)

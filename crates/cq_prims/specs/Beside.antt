@@ -1,0 +1,18 @@
+-- Numbers and days above a base, each beside one constant.
+use Rattle.std.specs.Prelude.{ℤ, pos, ◌+ℤ◌, Bool, true, false, List, replicate, length, ◌≡◌}
+use Rattle.std.specs.Simd.Lanes.{zip2}
+use Rattle.cq_values.specs.declared.value.Value.{Value}
+use Rattle.cq_vectors.specs.Columns.{day_unless, number_unless}
+use Rattle.cq_vectors.specs.Offsets.{offsets_in}
+use Rattle.cq_prims.specs.declared.narrow_side.NarrowSide.{NarrowSide}
+
+-- the day or the number, or NULL where the flag says so
+abbrev pub unless : Bool → ℤ → Bool → Value
+unless true n flag = day_unless n flag
+unless false n flag = number_unless n flag
+
+-- the values stand above the base, and each of the others is the constant
+pub record AreBeside (side : NarrowSide) (values others : List Value) : Type 0 where
+  pub days : Bool
+  pub column : values ≡ zip2 (λ offset flag. unless days (side.base +ℤ pos offset) flag) (offsets_in side.offsets) side.nulls.now
+  pub constant : others ≡ replicate (length values) (unless days side.value false)

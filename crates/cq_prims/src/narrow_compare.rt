@@ -1,0 +1,145 @@
+//! Comparisons of numbers and days above a base with a constant.
+//!
+//! The constant is moved by the base once, and then the offsets are compared as they stand, in lanes of their width.
+ghost use Rattle.std.specs.Ordering.{int_eq};
+ghost use Rattle.std.specs.Prelude.{IfSome, int_lt, length, pos, not, replicate, ℕ, List, ◌+ℤ◌, ◌≡◌};
+ghost use Rattle.std.specs.Simd.Lanes.{zip2};
+ghost use Rattle.cq_prims.specs.Beside.{AreBeside};
+ghost use Rattle.cq_prims.specs.UpTo.{is_up_to, known_of};
+ghost use Rattle.cq_values.specs.Comparison.{compared};
+ghost use Rattle.cq_values.specs.declared.value.Value.{Value};
+ghost use Rattle.cq_values.specs.declared.value.Value.TheVariants.{Day, Number};
+ghost use Rattle.cq_vectors.specs.Offsets.{offsets_in};
+
+use crate::comparisons::constant_of;
+use crate::equal_offsets::{set_equal_8, set_equal_16, set_equal_32};
+use crate::known::set_never;
+use crate::narrow_side::NarrowSide;
+use crate::offsets_up_to::{set_up_to_8, set_up_to_16, set_up_to_32};
+use cq_values::{Comparison, Lent};
+use cq_vectors::{Form, Narrow, NarrowDays, Offsets, Vector};
+use cq_vectors_masks::TruthMask;
+
+impl<'a> NarrowSide<'a> {
+    /// The column and the constant, if they are such and of one kind.
+    pub(crate) fn of(column: &'a Vector<'_>, other: &'a Vector<'_>) -> Option<NarrowSide<'a>>
+        requires { length column.now ≡ length other.now }
+        ensures { IfSome result (λ side. AreBeside side column.now other.now) }
+    {
+        let Some(value) = constant_of(other) else {
+            return None;
+        };
+        match (column.form(), value) {
+            (Form::Narrow(numbers), Lent::Number(value)) => {
+                Some(NarrowSide::of_numbers(numbers, *value))
+            }
+            (Form::NarrowDays(days), Lent::Day(day)) => Some(NarrowSide::of_days(
+                days,
+                day.number(),
+            )),
+            _ => None,
+        }
+    }
+
+    fn of_numbers(numbers: &'a Narrow<'_>, value: i128) -> NarrowSide<'a>
+        ensures { (ws : List Value) → ws ≡ replicate (length numbers.now) (Number value) → AreBeside result numbers.now ws }
+    {
+        let (base, offsets) = numbers.parts();
+        NarrowSide {
+            base,
+            offsets,
+            nulls: numbers.nulls(),
+            value,
+        }
+    }
+
+    fn of_days(days: &'a NarrowDays<'_>, value: i32) -> NarrowSide<'a>
+        ensures { (ws : List Value) → ws ≡ replicate (length days.now) (Day value) → AreBeside result days.now ws }
+    {
+        let (base, offsets) = days.parts();
+        NarrowSide {
+            base: i64::from(base),
+            offsets,
+            nulls: days.nulls(),
+            value: i128::from(value),
+        }
+    }
+
+    /// The truth of the comparison in each place.
+    pub(crate) fn compare(&self, comparison: Comparison, to: &mut TruthMask)
+        ensures { (vs ws : List Value) → AreBeside self.now vs ws → to.new ≡ zip2 (compared comparison) vs ws }
+    {
+        match comparison {
+            Comparison::Less => self.set_up_to(self.last_below(), to),
+            Comparison::LessOrEqual => self.set_up_to(self.last_up_to(), to),
+            Comparison::Equal => self.set_equal(to),
+            Comparison::NotEqual => {
+                let mut opposite = TruthMask::new();
+                self.set_equal(&mut opposite);
+                to.set_not(&opposite);
+            }
+            Comparison::Greater => {
+                let mut opposite = TruthMask::new();
+                self.set_up_to(self.last_up_to(), &mut opposite);
+                to.set_not(&opposite);
+            }
+            Comparison::GreaterOrEqual => {
+                let mut opposite = TruthMask::new();
+                self.set_up_to(self.last_below(), &mut opposite);
+                to.set_not(&opposite);
+            }
+        }
+    }
+
+    /// The greatest offset that stands below the constant.
+    fn last_below(&self) -> Option<u128>
+        ensures { (o : ℕ) → is_up_to result o ≡ int_lt (self.now.base +ℤ pos o) self.now.value }
+    {
+        let base = i128::from(self.base);
+        if base < self.value {
+            Some(self.value.abs_diff(base) - 1)
+        } else {
+            None
+        }
+    }
+
+    /// The greatest offset that does not stand above the constant.
+    fn last_up_to(&self) -> Option<u128>
+        ensures { (o : ℕ) → is_up_to result o ≡ not (int_lt self.now.value (self.now.base +ℤ pos o)) }
+    {
+        let base = i128::from(self.base);
+        if base <= self.value {
+            Some(self.value.abs_diff(base))
+        } else {
+            None
+        }
+    }
+
+    fn set_up_to(&self, last: Option<u128>, to: &mut TruthMask)
+        ensures { to.new ≡ known_of (is_up_to last) (offsets_in self.now.offsets) self.now.nulls.now }
+    {
+        match last {
+            None => set_never(self.nulls, to),
+            Some(last) => match self.offsets {
+                Offsets::One(offsets) => set_up_to_8(offsets, last, self.nulls, to),
+                Offsets::Two(offsets) => set_up_to_16(offsets, last, self.nulls, to),
+                Offsets::Four(offsets) => set_up_to_32(offsets, last, self.nulls, to),
+            },
+        }
+    }
+
+    fn set_equal(&self, to: &mut TruthMask)
+        ensures { to.new ≡ known_of (λ o. int_eq (self.now.base +ℤ pos o) self.now.value) (offsets_in self.now.offsets) self.now.nulls.now }
+    {
+        let base = i128::from(self.base);
+        if self.value < base {
+            return set_never(self.nulls, to);
+        }
+        let offset = self.value.abs_diff(base);
+        match self.offsets {
+            Offsets::One(offsets) => set_equal_8(offsets, offset, self.nulls, to),
+            Offsets::Two(offsets) => set_equal_16(offsets, offset, self.nulls, to),
+            Offsets::Four(offsets) => set_equal_32(offsets, offset, self.nulls, to),
+        }
+    }
+}
