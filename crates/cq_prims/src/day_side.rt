@@ -39,8 +39,10 @@ impl<'a> DaySide<'a> {
     pub(crate) fn of(vector: &'a Vector<'_>) -> Option<DaySide<'a>>
         ensures { IfSome result (λ side. ShowsNumbers 1 side vector.now) }
     {
+        if let Some(days) = vector.days() {
+            return Some(DaySide::column(days.values()));
+        }
         match vector.form() {
-            Form::Days(days) => Some(DaySide::column(days.values())),
             Form::Constant(value, len) => DaySide::of_constant(value, *len),
             _ => None,
         }

@@ -63,6 +63,7 @@ pub(crate) fn nulls_of(a: &Vector<'_>) -> Plane
         Form::Narrow(numbers) => nulls.set_copy(numbers.nulls()),
         Form::NarrowDays(days) => nulls.set_copy(days.nulls()),
         Form::LentNumbers(numbers) => nulls.set_copy(numbers.nulls()),
+        Form::LentDays(days) => nulls.set_copy(days.nulls()),
         Form::Codes(texts) => nulls.set_copy(texts.nulls()),
         Form::Run(texts) => nulls.set_copy(texts.nulls()),
     }

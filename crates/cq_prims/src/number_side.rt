@@ -39,8 +39,10 @@ impl<'a> NumberSide<'a> {
     pub(crate) fn of(vector: &'a Vector<'_>) -> Option<NumberSide<'a>>
         ensures { IfSome result (λ side. ShowsNumbers 0 side vector.now) }
     {
+        if let Some(numbers) = vector.numbers() {
+            return Some(NumberSide::column(numbers.values()));
+        }
         match vector.form() {
-            Form::Numbers(numbers) => Some(NumberSide::column(numbers.values())),
             Form::Constant(value, len) => NumberSide::of_constant(value, *len),
             _ => None,
         }

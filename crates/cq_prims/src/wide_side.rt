@@ -35,9 +35,11 @@ impl<'a> WideSide<'a> {
     pub(crate) fn of(vector: &'a Vector<'_>) -> Option<WideSide<'a>>
         ensures { IfSome result (λ side. ShowsNumbers 0 side vector.now) }
     {
+        if let Some(numbers) = vector.numbers() {
+            return Some(WideSide::numbers(numbers.values()));
+        }
         match vector.form() {
             Form::Wide(numbers) => Some(WideSide::column(numbers.values())),
-            Form::Numbers(numbers) => Some(WideSide::numbers(numbers.values())),
             Form::Constant(value, len) => WideSide::of_constant(value, *len),
             _ => None,
         }

@@ -1,5 +1,5 @@
 //! The choice of the loop for an operation on two vectors.
-ghost use Rattle.std.specs.Prelude.{IfOk, length, map, ◌≡◌};
+ghost use Rattle.std.specs.Prelude.{IfOk, length, map, replicate, ◌≡◌};
 ghost use Rattle.std.specs.Option.{IfSome};
 ghost use Rattle.std.specs.Simd.Lanes.{zip2};
 ghost use Rattle.cq_values.specs.declared.value.Value.TheVariants.{Number};
@@ -14,7 +14,7 @@ use crate::unbroken::{Unbroken, numbers_in};
 use crate::wide::wide;
 use crate::wide_side::{WideColumn, WideRepeated, WideSide};
 use cq_values::Lent;
-use cq_vectors::{Form, Numbers, Vector};
+use cq_vectors::{Form, LentNumbers, Vector};
 use cq_vectors_masks::Plane;
 use std::alloc::{AllocError, Global};
 
@@ -27,27 +27,50 @@ pub(crate) fn combined<'a, O: Operation>(
     requires fits { AllInRange (zip2 (lifted O.apply) a.now b.now) }
     ensures { IfOk result (λ made. made ≡ zip2 (lifted O.apply) a.now b.now) }
 {
-    let made = match (a.form(), b.form()) {
-        (Form::Numbers(m), Form::Numbers(n)) => columns::<O>(alloc, m, n)?,
-        (Form::Numbers(m), Form::Constant(Lent::Number(n), _)) => column_and_number::<O>(
-            alloc, m, *n,
-        )?,
-        (Form::Constant(Lent::Number(m), _), Form::Numbers(n)) => number_and_column::<O>(
-            alloc, *m, n,
-        )?,
-        _ => None,
-    };
-    match made {
+    match with_columns::<O>(alloc, a, b)? {
         Some(made) => Ok(made),
         None => in_128_bits::<O>(alloc, a, b),
+    }
+}
+
+/// In 64 bits, where one is a column of them and the other too or one number. None where 64 bits may not be enough.
+fn with_columns<'a, O: Operation>(
+    alloc: Global,
+    a: &Vector<'_>,
+    b: &Vector<'_>,
+) -> Result<Option<Vector<'a>>, AllocError>
+    requires { length a.now ≡ length b.now }
+    ensures { IfOk result (λ made. IfSome made (λ v. v ≡ zip2 (lifted O.apply) a.now b.now)) }
+{
+    match (a.numbers(), b.numbers()) {
+        (Some(m), Some(n)) => columns::<O>(alloc, &m, &n),
+        (Some(m), None) => match one_number(b) {
+            Some(n) => column_and_number::<O>(alloc, &m, n),
+            None => Ok(None),
+        },
+        (None, Some(n)) => match one_number(a) {
+            Some(m) => number_and_column::<O>(alloc, m, &n),
+            None => Ok(None),
+        },
+        (None, None) => Ok(None),
+    }
+}
+
+/// The number that stands in each place.
+fn one_number(vector: &Vector<'_>) -> Option<i128>
+    ensures { IfSome result (λ n. vector.now ≡ replicate (length vector.now) (Number n)) }
+{
+    match vector.form() {
+        Form::Constant(Lent::Number(n), _) => Some(*n),
+        _ => None,
     }
 }
 
 /// None where 64 bits may not be enough.
 fn columns<'a, O: Operation>(
     alloc: Global,
-    a: &Numbers,
-    b: &Numbers,
+    a: &LentNumbers<'_>,
+    b: &LentNumbers<'_>,
 ) -> Result<Option<Vector<'a>>, AllocError>
     requires { length a.now ≡ length b.now }
     ensures { IfOk result (λ made. IfSome made (λ v. v ≡ zip2 (lifted O.apply) a.now b.now)) }
@@ -69,7 +92,7 @@ fn columns<'a, O: Operation>(
 
 fn column_and_number<'a, O: Operation>(
     alloc: Global,
-    a: &Numbers,
+    a: &LentNumbers<'_>,
     n: i128,
 ) -> Result<Option<Vector<'a>>, AllocError>
     ensures { IfOk result (λ made. IfSome made (λ v. v ≡ zip2 (lifted O.apply) a.now (repeated n a.now))) }
@@ -92,7 +115,7 @@ fn column_and_number<'a, O: Operation>(
 fn number_and_column<'a, O: Operation>(
     alloc: Global,
     m: i128,
-    b: &Numbers,
+    b: &LentNumbers<'_>,
 ) -> Result<Option<Vector<'a>>, AllocError>
     ensures { IfOk result (λ made. IfSome made (λ v. v ≡ zip2 (lifted O.apply) (repeated m b.now) b.now)) }
 {

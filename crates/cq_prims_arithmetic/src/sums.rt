@@ -12,8 +12,10 @@ pub fn sum_into(a: &Vector<'_>, places: &Selection, total: &mut Total)
     requires bounded { nat_abs total.old ≤ 2 ^ 249 }
     ensures { total.new ≡ total.old +ℤ sum_of a.now places.now }
 {
+    if let Some(numbers) = a.numbers() {
+        return total.add(sum_places(numbers.values(), places.places()));
+    }
     match a.form() {
-        Form::Numbers(numbers) => total.add(sum_places(numbers.values(), places.places())),
         Form::Wide(numbers) => {
             let (low, high) = sum_halves(numbers.values(), places.places());
             total.add(low);

@@ -19,11 +19,10 @@ pub(crate) enum Unbroken<'b> {
 pub(crate) fn numbers_in<'b>(vector: &'b Vector<'_>) -> Unbroken<'b>
     ensures { AreHeld result vector.now }
 {
+    if let Some(values) = vector.whole_numbers() {
+        return Unbroken::Numbers(values);
+    }
     match vector.form() {
-        Form::Numbers(numbers) => match numbers.whole() {
-            Some(values) => Unbroken::Numbers(values),
-            None => Unbroken::Broken,
-        },
         Form::Wide(numbers) => match numbers.whole() {
             Some(values) => Unbroken::Wide(values),
             None => Unbroken::Broken,

@@ -7,7 +7,7 @@ ghost use Rattle.cq_values.specs.declared.value.Value.TheVariants.{Null};
 ghost use Rattle.cq_vectors.specs.Form.{values_in};
 
 use crate::columns_at::{days_at, numbers_at, wide_at};
-use crate::copies::{copy_days, copy_numbers, copy_wide};
+use crate::copies::copy_wide;
 use crate::held_texts::HeldTexts;
 use crate::narrow::narrowed;
 use cq_values::{Lent, Value};
@@ -75,9 +75,9 @@ impl Held {
         ensures { IfOk result (λ form. values_in form ≡ values_held self.now) }
     {
         match self {
-            Held::Numbers(numbers) => Ok(Form::Numbers(copy_numbers(alloc, numbers)?)),
+            Held::Numbers(numbers) => Ok(Form::LentNumbers(numbers.lend_all())),
             Held::Wide(numbers) => Ok(Form::Wide(copy_wide(alloc, numbers)?)),
-            Held::Days(days) => Ok(Form::Days(copy_days(alloc, days)?)),
+            Held::Days(days) => Ok(Form::LentDays(days.lend_all())),
             Held::Texts(texts) => Ok(Form::Texts(texts.lend_all(alloc)?)),
             Held::Values(values) => narrowed(alloc, lend_all(alloc, values.as_slice())?),
             Held::Constant(value, len) => Ok(Form::Constant(value.lend(), *len)),

@@ -16,5 +16,6 @@ values_in (form.Constant value len) = replicate len (owned value)
 values_in (form.Narrow numbers) = numbers
 values_in (form.NarrowDays days) = days
 values_in (form.LentNumbers numbers) = numbers
+values_in (form.LentDays days) = days
 values_in (form.Codes texts) = texts
 values_in (form.Run texts) = texts

@@ -14,6 +14,7 @@ ghost use Rattle.cq_values.specs.Value.{column as column_at};
 ghost use Rattle.cq_vectors.specs.Columns.{AllFit, AreDays, ZeroWhere, day_unless};
 ghost use Rattle.cq_vectors.specs.Gathered.{IsDate, column_of, lent_rows};
 
+use crate::lent_days::LentDays;
 use cq_values::{Day, Lent, Row, Value};
 use cq_vectors_masks::Plane;
 use std::alloc::{AllocError, Global};
@@ -97,6 +98,13 @@ impl Days {
         ensures { result.now ≡ map is_null self.now }
     {
         &self.nulls
+    }
+
+    /// The same column, lent.
+    pub fn lend_all(&self) -> LentDays<'_>
+        ensures { result ≡ self.now }
+    {
+        LentDays::new(self.values(), self.nulls())
     }
 
     /// The value of a place, and NULL past the end.

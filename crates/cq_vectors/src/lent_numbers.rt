@@ -48,6 +48,16 @@ impl<'a> LentNumbers<'a> {
         LentNumbers { values, nulls }
     }
 
+    /// The same column, lent again.
+    pub fn lend_all(&self) -> LentNumbers<'a>
+        ensures { result ≡ self.now }
+    {
+        LentNumbers {
+            values: self.values,
+            nulls: self.nulls,
+        }
+    }
+
     pub fn len(&self) -> usize
         ensures len { result ≡ length self.now }
         ensures few { result ≤ 1024 }
@@ -65,14 +75,14 @@ impl<'a> LentNumbers<'a> {
         self.values
     }
 
-    pub fn nulls(&self) -> &Plane
+    pub fn nulls(&self) -> &'a Plane
         ensures { result.now ≡ map is_null self.now }
     {
         self.nulls
     }
 
     /// The numbers, if no place is NULL.
-    pub fn whole(&self) -> Option<&[i64]>
+    pub fn whole(&self) -> Option<&'a [i64]>
         ensures { IfSome result (λ values. self.now ≡ map Number values.now) }
     {
         if self.nulls().is_clear() {

@@ -8,6 +8,7 @@
 mod batch;
 mod codes;
 mod days;
+mod lent_days;
 mod lent_numbers;
 mod narrow;
 mod narrow_days;
@@ -22,6 +23,7 @@ mod wide_numbers;
 pub use batch::Batch;
 pub use codes::Codes;
 pub use days::Days;
+pub use lent_days::LentDays;
 pub use lent_numbers::LentNumbers;
 pub use narrow::Narrow;
 pub use narrow_days::NarrowDays;

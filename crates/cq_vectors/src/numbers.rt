@@ -14,6 +14,7 @@ ghost use Rattle.cq_values.specs.Value.{column as column_at};
 ghost use Rattle.cq_vectors.specs.Columns.{AllFit, ZeroWhere, number_unless};
 ghost use Rattle.cq_vectors.specs.Gathered.{IsNumber, column_of, lent_rows};
 
+use crate::lent_numbers::LentNumbers;
 use cq_values::{Lent, Row, Value};
 use cq_vectors_masks::Plane;
 use std::alloc::{AllocError, Global};
@@ -97,6 +98,13 @@ impl Numbers {
         ensures { result.now ≡ map is_null self.now }
     {
         &self.nulls
+    }
+
+    /// The same column, lent.
+    pub fn lend_all(&self) -> LentNumbers<'_>
+        ensures { result ≡ self.now }
+    {
+        LentNumbers::new(self.values(), self.nulls())
     }
 
     /// The numbers, if no place is NULL.

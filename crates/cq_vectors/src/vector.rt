@@ -14,6 +14,7 @@ ghost use Rattle.cq_vectors.specs.Gathered.{column_of, lent_rows};
 
 use crate::codes::Codes;
 use crate::days::Days;
+use crate::lent_days::LentDays;
 use crate::lent_numbers::LentNumbers;
 use crate::narrow::Narrow;
 use crate::narrow_days::NarrowDays;
@@ -40,6 +41,7 @@ pub enum Form<'a> {
     Narrow(Narrow<'a>),
     NarrowDays(NarrowDays<'a>),
     LentNumbers(LentNumbers<'a>),
+    LentDays(LentDays<'a>),
     Codes(Codes<'a>),
     Run(RunTexts<'a>),
 }
@@ -115,6 +117,7 @@ impl<'a> Vector<'a> {
             Form::Narrow(numbers) => numbers.len(),
             Form::NarrowDays(days) => days.len(),
             Form::LentNumbers(numbers) => numbers.len(),
+            Form::LentDays(days) => days.len(),
             Form::Codes(texts) => texts.len(),
             Form::Run(texts) => texts.len(),
         }
@@ -138,6 +141,7 @@ impl<'a> Vector<'a> {
             Form::Narrow(numbers) => numbers.lend(place),
             Form::NarrowDays(days) => days.lend(place),
             Form::LentNumbers(numbers) => numbers.lend(place),
+            Form::LentDays(days) => days.lend(place),
             Form::Codes(texts) => texts.lend(place),
             Form::Run(texts) => texts.lend(place),
         }
@@ -154,6 +158,28 @@ impl<'a> Vector<'a> {
         }
     }
 
+    /// The values, where they stand as numbers of 64 bits.
+    pub fn numbers(&self) -> Option<LentNumbers<'_>>
+        ensures { IfSome result (λ numbers. numbers ≡ self.now) }
+    {
+        match &self.form {
+            Form::Numbers(numbers) => Some(numbers.lend_all()),
+            Form::LentNumbers(numbers) => Some(numbers.lend_all()),
+            _ => None,
+        }
+    }
+
+    /// The values, where they stand as days.
+    pub fn days(&self) -> Option<LentDays<'_>>
+        ensures { IfSome result (λ days. days ≡ self.now) }
+    {
+        match &self.form {
+            Form::Days(days) => Some(days.lend_all()),
+            Form::LentDays(days) => Some(days.lend_all()),
+            _ => None,
+        }
+    }
+
     /// Where the values are NULL, if that is told apart from them.
     pub fn nulls(&self) -> Option<&Plane>
         ensures { IfSome result (λ nulls. nulls.now ≡ map is_null self.now) }
@@ -166,6 +192,7 @@ impl<'a> Vector<'a> {
             Form::Narrow(numbers) => Some(numbers.nulls()),
             Form::NarrowDays(days) => Some(days.nulls()),
             Form::LentNumbers(numbers) => Some(numbers.nulls()),
+            Form::LentDays(days) => Some(days.nulls()),
             Form::Codes(texts) => Some(texts.nulls()),
             Form::Run(texts) => Some(texts.nulls()),
             Form::Values(_) | Form::Constant(_, _) => None,

@@ -6,13 +6,13 @@ use Rattle.cq_prims_arithmetic.proofs.SumLemmas.{sum_of_numbers}
 use Rattle.cq_prims_arithmetic.specs.Sums.{sum_at, sum_of}
 use Rattle.cq_prims_arithmetic.proofs.sums.sum_into.Goals as goal
 
-pub returns-in-Numbers : goal.returns-in-Numbers
-returns-in-Numbers c =
+pub returns-in-Some : goal.returns-in-Some
+returns-in-Some c =
     let kept : to_z w128 (of_z w128 c.sum_places.result) ≡ c.sum_places.result = search (arith, ints, to_z-of_z) in
-    let sum : c.sum_places.result ≡ sum_of c.in-Numbers.numbers c.args.places.now =
+    let sum : c.sum_places.result ≡ sum_of c.in-Some.numbers c.args.places.now =
     c.sum_places.ensures.sum ∙ ap₂ sum_at c.values.ensures.values c.places.ensures.places
-    ∙ sum_of_numbers c.in-Numbers.numbers c.values.result.now (map is_null c.in-Numbers.numbers) c.values.ensures.whole c.args.places.now in
-    rw (← c.form.ensures.values, c.in-Numbers.is) (c.add.ensures ∙ ap (λ n. c.args.total.now +ℤ n) (kept ∙ sum))
+    ∙ sum_of_numbers c.in-Some.numbers c.values.result.now (map is_null c.in-Some.numbers) c.values.ensures.whole c.args.places.now in
+    c.add.ensures ∙ ap (λ n. c.args.total.now +ℤ n) (kept ∙ sum ∙ ap (λ values. sum_of values c.args.places.now) c.in-Some.ensures)
 
 pub returns-in-Wide : goal.returns-in-Wide
 returns-in-Wide c =

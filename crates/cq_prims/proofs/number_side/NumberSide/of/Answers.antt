@@ -1,10 +1,8 @@
-use Rattle.std.proofs.Common.{◌∙◌, sym, ap, subst}
-use Rattle.cq_vectors.specs.Form.{values_in}
+use Rattle.std.proofs.Common.{◌∙◌, subst}
 use Rattle.cq_prims.specs.Kinds.{ShowsNumbers}
 use Rattle.cq_prims.proofs.Shown.{column_shows_numbers}
 use Rattle.cq_prims.proofs.number_side.NumberSide.of.Goals as goal
 
-pub returns-in-Numbers : goal.returns-in-Numbers
-returns-in-Numbers c =
-    let is = sym (ap values_in c.in-Numbers.is) ∙ c.form.ensures.values in
-    subst (ShowsNumbers 0 c.column.result) is (column_shows_numbers c.column.result c.in-Numbers.numbers (c.column.ensures ∙ c.values.ensures.values) c.values.result.now c.values.ensures.whole)
+pub returns-in-Some : goal.returns-in-Some
+returns-in-Some c =
+    subst (ShowsNumbers 0 c.column.result) c.in-Some.ensures (column_shows_numbers c.column.result c.in-Some.numbers (c.column.ensures ∙ c.values.ensures.values) c.values.result.now c.values.ensures.whole)

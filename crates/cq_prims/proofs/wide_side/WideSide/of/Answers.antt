@@ -7,9 +7,8 @@ use Rattle.cq_prims.proofs.wide_side.WideSide.of.Goals as goal
 pub returns-in-Wide : goal.returns-in-Wide
 returns-in-Wide c =
     let is = sym (ap values_in c.in-Wide.is) ∙ c.form.ensures.values in
-    subst (ShowsNumbers 0 c.column.result) is (column_shows_numbers c.column.result c.in-Wide.numbers (c.column.ensures ∙ c.values.ensures.values) c.values.result.now c.values.ensures.whole)
+    subst (ShowsNumbers 0 c.column.result) is (column_shows_numbers c.column.result c.in-Wide.numbers (c.column.ensures ∙ c.values-in-Wide.ensures.values) c.values-in-Wide.result.now c.values-in-Wide.ensures.whole)
 
-pub returns-in-Numbers : goal.returns-in-Numbers
-returns-in-Numbers c =
-    let is = sym (ap values_in c.in-Numbers.is) ∙ c.form.ensures.values in
-    subst (ShowsNumbers 0 c.numbers.result) is (column_shows_numbers c.numbers.result c.in-Numbers.numbers (c.numbers.ensures ∙ c.values-in-Numbers.ensures.values) c.values-in-Numbers.result.now c.values-in-Numbers.ensures.whole)
+pub returns-in-Some : goal.returns-in-Some
+returns-in-Some c =
+    subst (ShowsNumbers 0 c.numbers-in-Some.result) c.in-Some.ensures (column_shows_numbers c.numbers-in-Some.result c.in-Some.numbers (c.numbers-in-Some.ensures ∙ c.values.ensures.values) c.values.result.now c.values.ensures.whole)
