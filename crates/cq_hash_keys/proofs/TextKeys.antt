@@ -9,6 +9,11 @@ use Rattle.cq_values.specs.declared.value.Value.TheVariants.{Null, Number, Text,
 use Rattle.cq_model_bags.proofs.Totals.{by_test}
 use Rattle.cq_hash_keys.specs.declared.dictionary.Dictionary.{Dictionary}
 use Rattle.cq_hash_keys.specs.Dictionary.{PutsAt, number_in}
+use Rattle.cq_hash_keys.specs.Texts.{PutsText}
+
+-- the test of texts tells two that are not one apart
+pub apart-unequal : (t key : List ℕ) → (t ≡ key → ⊥) → bytes_eq t key ≡ false
+apart-unequal t key apart = by_test (bytes_eq t key) (λ s. absurd (apart ((bytes_eq-Decides t key).0 s))) (λ s. s)
 
 module _ {K : Type 0} (bytes : K → List ℕ) (key : K) (n : ℕ) where
   -- another text is found as before
@@ -24,14 +29,11 @@ module _ {K : Type 0} (bytes : K → List ℕ) (key : K) (n : ℕ) where
 
 -- a text that is put in, where nothing else is another
 pub puts-text : (old new : Dictionary) (key : List ℕ) (n : ℕ) → ((m : ℤ) → number_in new (Number m) ≡ number_in old (Number m)) → ((d : ℤ) → number_in new (Day d) ≡ number_in old (Day d))
-    → number_in new Null ≡ number_in old Null → number_in new (Text key) ≡ Some n → ((t : List ℕ) → bytes_eq t key ≡ false → number_in new (Text t) ≡ number_in old (Text t))
-    → PutsAt old (Text key) n new
-puts-text old new key n numbers days null there texts = record { there = there; others = others }
+    → number_in new Null ≡ number_in old Null → PutsText old.texts key n new.texts → PutsAt old (Text key) n new
+puts-text old new key n numbers days null puts = record { there = puts.there; others = others }
   where
     others : (other : Value) → (other ≡ Text key → ⊥) → number_in new other ≡ number_in old other
     others (Number m) apart = numbers m
     others (Day d) apart = days d
     others Null apart = null
-    others (Text t) apart = by_test (bytes_eq t key)
-        (λ s. absurd (apart (ap Text ((bytes_eq-Decides t key).0 s))))
-        (λ s. texts t s)
+    others (Text t) apart = puts.others t (λ e. apart (ap Text e))

@@ -1,11 +1,11 @@
 -- The numbers of values, by the kind of the value.
 use Rattle.std.specs.Prelude.{◌≡◌, ℕ, ◌^◌, ℤ, pos, neg_ℤ, int_lt, Bool, not, ◌&&◌, Option, Some, if◌then◌else◌}
 use Rattle.std.specs.Ordering.{int_eq}
-use Rattle.std.specs.HashMap.{get_by_text}
 use Rattle.indexmap.specs.IndexMap.{get}
 use Rattle.cq_values.specs.declared.value.Value.{Value}
 use Rattle.cq_values.specs.declared.value.Value.TheVariants.{Null, Number, Text, Day}
 use Rattle.cq_hash_keys.specs.declared.dictionary.Dictionary.{Dictionary}
+use Rattle.cq_hash_keys.specs.Texts.{number_of}
 use Rattle.cq_hash_keys.specs.Window.{number_at}
 
 -- whether 64 bits hold the number
@@ -16,7 +16,7 @@ fits_64_bits n = not (int_lt n (neg_ℤ (pos (2 ^ 63)))) && int_lt n (pos (2 ^ 6
 abbrev pub number_in : Dictionary → Value → Option ℕ
 number_in d (Number n) = if fits_64_bits n then number_at d.numbers n else get int_eq d.wide n
 number_in d (Day n) = number_at d.days n
-number_in d (Text t) = get_by_text d.texts t
+number_in d (Text t) = number_of d.texts t
 number_in d Null = d.null
 
 -- new has this number for a value, and that of old for each other one

@@ -6,5 +6,6 @@ pub mod Met
 pub mod Pairs
 pub mod Stages
 pub mod Table
+pub mod Texts
 pub mod Values
 pub mod Window

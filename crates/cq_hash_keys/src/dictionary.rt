@@ -6,6 +6,7 @@ ghost use Rattle.cq_values.specs.declared.value.Value.TheVariants.{Day as DayOf,
 ghost use Rattle.cq_hash_keys.specs.Dictionary.{Agree, PutsAt, fits_64_bits, number_in};
 ghost use Rattle.cq_hash_keys.specs.Met.{IsRun};
 
+use crate::texts::TextNumbers;
 use crate::window::{Window, code_at};
 use cq_values::Lent;
 use indexmap::IndexMap;
@@ -17,7 +18,7 @@ pub(crate) struct Dictionary {
     numbers: Window,
     wide: IndexMap<i128, usize>,
     days: Window,
-    texts: IndexMap<String, usize>,
+    texts: TextNumbers,
     null: Option<usize>,
 }
 
@@ -30,7 +31,7 @@ impl Dictionary {
             numbers: Window::new(alloc),
             wide: IndexMap::new(alloc),
             days: Window::new(alloc),
-            texts: IndexMap::new(alloc),
+            texts: TextNumbers::new(alloc),
             null: None,
         }
     }
@@ -41,7 +42,7 @@ impl Dictionary {
         match value {
             Lent::Number(number) => self.number(*number),
             Lent::Day(day) => self.days.get(i64::from(day.number())),
-            Lent::Text(text) => self.texts.get(*text).copied(),
+            Lent::Text(text) => self.texts.get(*text),
             Lent::Null => self.null,
         }
     }
@@ -129,9 +130,7 @@ impl Dictionary {
         ensures ok { OnOk result (PutsAt self.old (TextOf key.now) number self.new) }
         ensures err { OnErr result (Agree self.old self.new) }
     {
-        let copy = String::from_str(alloc, key)?;
-        self.texts.insert(copy, number)?;
-        Ok(())
+        self.texts.put(alloc, key, number)
     }
 }
 

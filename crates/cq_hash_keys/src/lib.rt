@@ -11,6 +11,7 @@ mod key_table;
 mod pairs;
 mod stage;
 mod stages;
+mod texts;
 mod values;
 mod window;
 

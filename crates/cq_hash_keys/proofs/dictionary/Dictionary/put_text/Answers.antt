@@ -1,15 +1,7 @@
-use Rattle.std.proofs.Common.{◌≡◌, ◌∙◌, ap, subst, refl, List, ℕ, Some, string_bytes}
-use Rattle.std.specs.HashMap.{get_by_text}
-use Rattle.std.specs.Map.{lookup}
-use Rattle.std.specs.Str.{bytes_eq}
-use Rattle.cq_hash_keys.proofs.TextKeys.{lookup-others, puts-text}
+use Rattle.std.proofs.Common.{refl}
+use Rattle.std.proofs.lemmas.Result.{on_ok_weaker}
+use Rattle.cq_hash_keys.proofs.TextKeys.{puts-text}
 use Rattle.cq_hash_keys.proofs.dictionary.Dictionary.put_text.Goals as goal
 
 pub returns-clause-ok : goal.returns-clause-ok
-returns-clause-ok c =
-    let is = c.in_ok-copy.ensures.ok in
-    puts-text c.args.self.now _ c.args.key.now c.args.number (λ m. refl) (λ d. refl) refl
-    (subst (λ (t : List ℕ). get_by_text c.insert.new.self t ≡ Some c.args.number) is c.in_ok-insert.ensures.updates.1)
-    (λ t apart.
-    ap (λ entries. lookup (λ k. bytes_eq t (string_bytes k)) entries) c.in_ok-insert.ensures.entries
-    ∙ lookup-others string_bytes c.in_ok-copy.copy c.args.number t c.args.self.now.texts.entries (ap (bytes_eq t) is ∙ apart))
+returns-clause-ok c = on_ok_weaker c.put.result (puts-text c.args.self.now _ c.args.key.now c.args.number (λ m. refl) (λ d. refl) refl) c.put.ensures.ok
