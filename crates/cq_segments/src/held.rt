@@ -11,7 +11,7 @@ use crate::copies::copy_wide;
 use crate::held_texts::HeldTexts;
 use crate::narrow::narrowed;
 use cq_values::{Lent, Value};
-use cq_vectors::{Days, Form, Numbers, Vector, WideNumbers};
+use cq_vectors::{Days, Form, Numbers, Texts, Vector, WideNumbers};
 use std::alloc::{AllocError, Global};
 
 /// At most 1,024 values of one column, in the narrowest form that holds them.
@@ -36,10 +36,19 @@ impl Held {
             Form::Numbers(numbers) => Ok(Held::Numbers(numbers)),
             Form::Wide(numbers) => Ok(Held::Wide(numbers)),
             Form::Days(days) => Ok(Held::Days(days)),
-            Form::Texts(texts) => Ok(Held::Texts(HeldTexts::of(alloc, &texts)?)),
+            Form::Texts(texts) => Held::of_texts(alloc, texts),
             Form::Values(values) => Ok(Held::Values(own_all(alloc, values.as_slice())?)),
             Form::Constant(value, len) => Ok(Held::Constant(value.to_value(alloc)?, len)),
             lent => Ok(Held::Values(own_vector(alloc, &Vector::new(lent))?)),
+        }
+    }
+
+    fn of_texts(alloc: Global, texts: Texts<'_>) -> Result<Held, AllocError>
+        ensures { IfOk result (λ held. values_held held ≡ texts.entry) }
+    {
+        match HeldTexts::of(alloc, &texts)? {
+            Some(held) => Ok(Held::Texts(held)),
+            None => Ok(Held::Values(own_vector(alloc, &Vector::new(Form::Texts(texts)))?)),
         }
     }
 

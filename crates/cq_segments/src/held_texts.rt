@@ -1,5 +1,5 @@
-//! Texts that are stored.
-ghost use Rattle.std.specs.Prelude.{IfOk, length, slice_index_or, ◌≡◌, ◌≤◌};
+//! Texts that are stored, one behind the other in one run.
+ghost use Rattle.std.specs.Prelude.{IfOk, IfSome, length, slice_index_or, ◌≡◌, ◌≤◌};
 ghost use Rattle.cq_segments.specs.Places.{AreBelow, texts_at, values_at};
 ghost use Rattle.cq_values.specs.Lent.{owned};
 ghost use Rattle.cq_values.specs.declared.value.Value.TheVariants.{Null};
@@ -7,8 +7,8 @@ ghost use Rattle.cq_vectors.specs.Columns.{texts_of};
 
 use crate::columns_at::plane_at;
 use crate::copies::copy_plane;
-use cq_values::{Lent, Text};
-use cq_vectors::Texts;
+use cq_values::Lent;
+use cq_vectors::{TextRun, Texts};
 use cq_vectors_masks::Plane;
 use std::alloc::{AllocError, Global};
 use std::marker::Model;
@@ -16,7 +16,7 @@ use std::marker::Model;
 /// At most 1,024 texts and NULLs. Where NULL stands the text is empty.
 #[derive(Drop)]
 pub(crate) struct HeldTexts {
-    texts: Vec<Text>,
+    texts: TextRun,
     nulls: Plane,
 }
 
@@ -28,28 +28,31 @@ impl Model for HeldTexts {
 
     ghost Value = { List Datum };
 
-    ghost view = { λ c. zip2 text_unless c.texts.items c.nulls };
+    ghost view = { λ c. zip2 text_unless c.texts c.nulls };
 
-    ghost invariant = { λ c. AreTexts c.texts.items c.nulls };
+    ghost invariant = { λ c. AreTexts c.texts c.nulls };
 }
 
 impl HeldTexts {
-    /// Copies of texts that are lent.
-    pub fn of(alloc: Global, lent: &Texts<'_>) -> Result<HeldTexts, AllocError>
-        ensures { IfOk result (λ held. held ≡ lent.now) }
+    /// Copies of texts that are lent, or None where they are too long for one run.
+    pub fn of(alloc: Global, lent: &Texts<'_>) -> Result<Option<HeldTexts>, AllocError>
+        ensures { IfOk result (λ found. IfSome found (λ held. held ≡ lent.now)) }
     {
-        let texts = copy_texts(alloc, lent.values())?;
-        let nulls = copy_plane(lent.nulls());
-        Ok(HeldTexts { texts, nulls })
+        match copy_texts(alloc, lent.values())? {
+            Some(texts) => {
+                let nulls = copy_plane(lent.nulls());
+                Ok(Some(HeldTexts { texts, nulls }))
+            }
+            None => Ok(None),
+        }
     }
 
     /// The value of a place, and NULL past the end.
     pub fn lend(&self, place: usize) -> Lent<'_>
         ensures { owned result ≡ slice_index_or self.now place Null }
     {
-        let texts = self.texts.as_slice();
-        if place < texts.len() && !self.nulls.get(place) {
-            Lent::Text(texts[place].as_str())
+        if place < self.texts.len() && !self.nulls.get(place) {
+            Lent::Text(self.texts.get(place))
         } else {
             Lent::Null
         }
@@ -59,7 +62,7 @@ impl HeldTexts {
     pub fn lend_all(&self, alloc: Global) -> Result<Texts<'_>, AllocError>
         ensures { IfOk result (λ texts. texts ≡ self.now) }
     {
-        let texts = lend_texts(alloc, self.texts.as_slice())?;
+        let texts = lend_texts(alloc, &self.texts)?;
         Ok(Texts::new(texts, copy_plane(&self.nulls)))
     }
 
@@ -69,36 +72,39 @@ impl HeldTexts {
         requires there { AreBelow (length self.now) places.now }
         ensures { IfOk result (λ texts. texts ≡ values_at self.now places.now) }
     {
-        let texts = lend_texts_at(alloc, self.texts.as_slice(), places)?;
+        let texts = lend_texts_at(alloc, &self.texts, places)?;
         Ok(Texts::new(texts, plane_at(&self.nulls, places)))
     }
 }
 
-fn copy_texts(alloc: Global, lent: &[&str]) -> Result<Vec<Text>, AllocError>
-    ensures { IfOk result (λ texts. texts.items ≡ texts_of lent.now) }
+/// None where a run has no room for one of them.
+fn copy_texts(alloc: Global, lent: &[&str]) -> Result<Option<TextRun>, AllocError>
+    ensures { IfOk result (λ found. IfSome found (λ texts. texts ≡ texts_of lent.now)) }
 {
-    let mut texts = Vec::new(alloc);
-    texts.reserve(lent.len())?;
+    let mut texts = TextRun::new(alloc);
     for text in lent {
-        texts.push(Text::new(alloc, text)?)?;
+        if !texts.has_room(text) {
+            return Ok(None);
+        }
+        texts.push(text)?;
     }
-    Ok(texts)
+    Ok(Some(texts))
 }
 
-fn lend_texts<'a>(alloc: Global, texts: &'a [Text]) -> Result<Vec<&'a str>, AllocError>
+fn lend_texts<'a>(alloc: Global, texts: &'a TextRun) -> Result<Vec<&'a str>, AllocError>
     ensures { IfOk result (λ lent. texts_of lent.items ≡ texts.now) }
 {
     let mut lent: Vec<&'a str> = Vec::new(alloc);
     lent.reserve(texts.len())?;
-    for text in texts {
-        lent.push_reserved(text.as_str());
+    for place in 0..texts.len() {
+        lent.push_reserved(texts.get(place));
     }
     Ok(lent)
 }
 
 fn lend_texts_at<'a>(
     alloc: Global,
-    texts: &'a [Text],
+    texts: &'a TextRun,
     places: &[u16],
 ) -> Result<Vec<&'a str>, AllocError>
     requires { AreBelow (length texts.now) places.now }
@@ -107,7 +113,7 @@ fn lend_texts_at<'a>(
     let mut lent: Vec<&'a str> = Vec::new(alloc);
     lent.reserve(places.len())?;
     for place in places {
-        lent.push_reserved(texts[usize::from(*place)].as_str());
+        lent.push_reserved(texts.get(usize::from(*place)));
     }
     Ok(lent)
 }

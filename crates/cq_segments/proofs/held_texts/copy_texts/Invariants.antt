@@ -4,4 +4,4 @@ use Rattle.cq_segments.proofs.held_texts.copy_texts.Given as goal
 
 -- the texts so far are copied
 abbrev pub invariant-loop-text : goal.invariant-loop-text
-invariant-loop-text l = l.texts.items ≡ texts_of (take l.text-index l.lent)
+invariant-loop-text l = l.texts ≡ texts_of (take l.text-index l.lent)
