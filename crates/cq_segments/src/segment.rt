@@ -59,7 +59,7 @@ impl Segment {
     {
         let rows = sorted(alloc, rows, sort)?;
         let pieces = make_pieces(alloc, rows.as_slice(), width)?;
-        let bounds = make_bounds(alloc, rows.as_slice(), width)?;
+        let bounds = make_bounds(alloc, pieces.as_slice(), width)?;
         Ok(Segment { pieces, bounds })
     }
 

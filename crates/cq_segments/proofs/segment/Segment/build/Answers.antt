@@ -3,8 +3,10 @@ use Rattle.std.specs.Borrow.{Bor}
 use Rattle.std.proofs.lemmas.List.{length-map}
 use Rattle.cq_values.specs.Value.{Row}
 use Rattle.cq_vectors.specs.Gathered.{lent_rows}
-use Rattle.cq_segments.specs.Marked.{unmarked}
+use Rattle.cq_segments.specs.Marked.{rows_of, unmarked}
+use Rattle.cq_segments.specs.Pieces.{joined}
 use Rattle.cq_segments.specs.Segment.{HaveBounds}
+use Rattle.cq_segments.proofs.Marks.{rows_of-unmarked}
 use Rattle.cq_segments.proofs.SegmentRows.{is_built, segment-built}
 use Rattle.cq_segments.proofs.segment.Segment.build.Goals as goal
 
@@ -15,7 +17,8 @@ invariant_of-result c =
     let pieces = c.in_ok-pieces.pieces.items in
     let bounds = c.in_ok-bounds.bounds.items in
     let made = c.in_ok-pieces.ensures.rows ∙ ap (λ l. unmarked (lent_rows l)) c.as_slice.ensures.value in
-    let bounded = subst (λ l. HaveBounds bounds (lent_rows l)) c.as_slice-2.ensures.value c.in_ok-bounds.ensures.bounds in
+    let there = ap (λ l. rows_of (joined l)) c.as_slice-2.ensures.value ∙ ap rows_of made ∙ rows_of-unmarked sorted in
+    let bounded = subst (HaveBounds bounds) there c.in_ok-bounds.ensures.bounds in
     let count = length-map c.args.rows.now (λ (b : Bor Row). b.now) in
     segment-built rows sorted pieces made c.in_ok-rows.ensures.same c.args.width bounds c.in_ok-pieces.ensures.full c.in_ok-bounds.ensures.as_many bounded c.requires.wide
     (omega (arith, count, c.requires.some)) (omega (arith, count, c.requires.few))
