@@ -1,6 +1,6 @@
 -- Values put into groups, one after the other.
-use Rattle.std.proofs.Common.{◌≡◌, ℕ, zero, suc, ◌+◌, ◌<◌, ◌≤◌, Bool, cond, List, [], ◌∷◌, ◌++◌, drop, length, get_or, set, replicate, sym, ◌∙◌, ap, ap₂, arith, subst, Ordering, Less, Equal, Greater}
-use Rattle.std.proofs.lemmas.List.{drop_more, drop_all, get_or_default}
+use Rattle.std.proofs.Common.{◌≡◌, ℕ, zero, suc, ◌+◌, ◌<◌, ◌≤◌, Bool, cond, List, [], ◌∷◌, ◌++◌, drop, length, get_or, set, replicate, refl, sym, ◌∙◌, ap, ap₂, arith, subst, Ordering, Less, Equal, Greater}
+use Rattle.std.proofs.lemmas.List.{drop_more, drop_all, get_or_default, length-set}
 use Rattle.std.specs.Ordering.{is_gt, is_lt}
 use Rattle.cq_values.specs.declared.value.Value.{Value}
 use Rattle.cq_values.specs.Keys.{value_cmp_same}
@@ -9,8 +9,8 @@ use Rattle.cq_values.specs.declared.value.Value.TheVariants.{Null}
 use Rattle.cq_model_bags.proofs.Totals.{by_test}
 use Rattle.cq_model.specs.Condition.{is_null}
 use Rattle.cq_model.specs.Group.{higher}
-use Rattle.cq_hash_groups.specs.declared.sums.Sum.{Sum}
-use Rattle.cq_hash_groups.specs.Puts.{put_all, put_count, no_sum, AreCountsWithin, AreSumsWithin, IsSumWithin, AreNumbers}
+use Rattle.cq_hash_groups.specs.declared.wide_sums.Sum.{Sum}
+use Rattle.cq_hash_groups.specs.Puts.{PutFrom, put_all, put_count, put_sum, no_sum, AreCountsWithin, AreSumsWithin, IsSumWithin, AreNumbers}
 
 -- numbers of some groups are those of more
 pub numbers-of_more : (few many : ℕ) (numbers : List ℕ) → few ≤ many → AreNumbers few numbers → AreNumbers many numbers
@@ -77,6 +77,32 @@ sums-more most more sums le all g = sum-more most more (get_or sums g no_sum) le
 -- a sum that is there, whatever is read past the end
 pub sum-at : (most : ℕ) (sums : List Sum) (n : ℕ) (d : Sum) → n < length sums → AreSumsWithin most sums → IsSumWithin most (get_or sums n d)
 sum-at most sums n d h all = subst (IsSumWithin most) (get_or_default sums n no_sum d h) (all n)
+
+-- nothing is put in yet
+pub put_from-none : (start : ℕ) (numbers : List ℕ) (values : List Value) (sums : List Sum) → PutFrom start start numbers values sums sums
+put_from-none start numbers values sums = record { rest = refl; within = λ m all. all; same = refl }
+
+module _ {start place : ℕ} {numbers : List ℕ} {values : List Value} {old now : List Sum} (so_far : PutFrom start place numbers values old now) where
+  -- the next value is put into the group of its number
+  pub put_from-next : (n : ℕ) (v : Value) (sum : Sum) → place < length numbers → length numbers ≡ length values → n ≡ get_or numbers place n → v ≡ get_or values place Null
+      → sum ≡ put_sum (get_or now n no_sum) v → ((m : ℕ) → IsSumWithin m (get_or now n no_sum) → IsSumWithin (m + 1) sum) → PutFrom start (place + 1) numbers values old (set now n sum)
+  put_from-next n v sum lt same is_n is_v is_sum more = record {
+    rest =
+        ap (λ (x : Sum). put_all put_sum no_sum (drop (place + 1) numbers) (drop (place + 1) values) (set now n x)) is_sum
+        ∙ put-next put_sum no_sum numbers values now place n v lt same is_n is_v ∙ so_far.rest;
+    within = λ m all.
+        sums-more (m + place + 1) (m + (place + 1)) (set now n sum) (omega arith)
+        (sums-next (m + place) now n sum (more (m + place) (so_far.within m all n)) (so_far.within m all));
+    same = length-set now n sum ∙ so_far.same;
+  }
+
+  -- at the end all are put in
+  pub put_from-all : length numbers ≤ place → now ≡ put_all put_sum no_sum (drop start numbers) (drop start values) old
+  put_from-all le = sym (put-done put_sum no_sum numbers values now place le) ∙ so_far.rest
+
+-- from the first value on no sum has more values than it had and than were put in
+pub put_from-within : {place : ℕ} {numbers : List ℕ} {values : List Value} {old now : List Sum} → PutFrom 0 place numbers values old now → (m : ℕ) → AreSumsWithin m old → AreSumsWithin (m + place) now
+put_from-within {place} {numbers} {values} {old} {now} so_far m all = so_far.within m (sums-more m (m + 0) old (omega arith) all)
 
 -- the greater value is the other one exactly where this one is less
 pub higher-by_less : (v w : Value) (o : Ordering) (less : Bool) → o ≡ value_cmp v w → less ≡ is_lt o → higher v w ≡ cond less w v

@@ -1,5 +1,5 @@
 -- Groups of the rows that were added to a table, and what is kept of them.
-use Rattle.std.specs.Prelude.{◌≡◌, ℕ, ◌≤◌, pos, not, List, [], ◌∷◌, ◌++◌, length, map, filter, Option, Some, None, slice_index_or, unwrap_or, Vec}
+use Rattle.std.specs.Prelude.{◌≡◌, ℕ, ◌<◌, ◌^◌, pos, not, List, [], ◌∷◌, ◌++◌, length, map, filter, Option, Some, None, slice_index_or, unwrap_or, Vec}
 use Rattle.std.specs.Global.{Global}
 use Rattle.cq_values.specs.declared.value.Value.{Value}
 use Rattle.cq_values.specs.declared.value.Value.TheVariants.{Number}
@@ -9,7 +9,6 @@ use Rattle.cq_model_bags.specs.Bag.{firsts, once_each}
 use Rattle.cq_model.specs.Condition.{is_null}
 use Rattle.cq_model.specs.Eval.{eval}
 use Rattle.cq_model.specs.Group.{SumsInRange, extreme, grouped, key_of}
-use Rattle.cq_model.specs.Sizes.{count_size}
 use Rattle.cq_model.specs.declared.query.Aggregate.{Aggregate}
 use Rattle.cq_model.specs.declared.query.Aggregate.TheVariants.{CountAll, Count, Sum, Min, Max}
 use Rattle.cq_vectors.specs.Gathered.{column_of}
@@ -19,7 +18,7 @@ use Rattle.cq_hash_groups.specs.declared.bests.Extreme.{Extreme}
 use Rattle.cq_hash_groups.specs.declared.bests.Extreme.TheVariants.{Least, Greatest}
 use Rattle.cq_hash_groups.specs.declared.slots.Slots.{Slots}
 use Rattle.cq_hash_groups.specs.declared.slots.Slots.TheVariants.{Counts, Sums, Bests}
-use Rattle.cq_hash_groups.specs.declared.sums.Sum.{Sum as Summed}
+use Rattle.cq_hash_groups.specs.declared.wide_sums.Sum.{Sum as Summed}
 use Rattle.cq_hash_groups.specs.Puts.{best_of, summed}
 use Rattle.cq_hash_groups.specs.Slots.{AreWithin, grown_slots, no_slots, put_slots}
 use Rattle.cq_model.specs.Totals.{total_of}
@@ -122,7 +121,7 @@ AreAllWithin most slots = (place : ℕ) → AreWithin most (slice_index_or slots
 -- keys are as wide as GROUP BY says, and no group has more values than there were rows
 pub record IsTable (keys : Option (List ℕ)) (values count : ℕ) (slots : List Slots) : Type 0 where
   pub width : values ≡ length (group_columns keys)
-  pub few : count ≤ count_size
+  pub few : count < 2 ^ 64
   pub within : AreAllWithin count slots
 
 -- with the rows of a batch added to what is kept for one aggregate

@@ -1,5 +1,5 @@
 -- How values are put into what is kept of groups, each into the group of its number.
-use Rattle.std.specs.Prelude.{ℕ, ℤ, ◌+◌, ◌*◌, ◌^◌, ◌≤◌, ◌<◌, pos, ◌+ℤ◌, ◌==◌, nat_abs, if◌then◌else◌, ◌≡◌, false, List, [], ◌∷◌, length, slice_index_or, slice_set}
+use Rattle.std.specs.Prelude.{ℕ, ℤ, ◌+◌, ◌-◌, ◌*◌, ◌^◌, ◌≤◌, ◌<◌, pos, ◌+ℤ◌, ◌==◌, nat_abs, if◌then◌else◌, ◌≡◌, false, List, [], ◌∷◌, drop, length, slice_index_or, slice_set}
 use Rattle.std.specs.List.{AllByRecursion}
 use Rattle.cq_values.specs.declared.value.Value.{Value}
 use Rattle.cq_values.specs.declared.value.Value.TheVariants.{Null, Number}
@@ -7,7 +7,7 @@ use Rattle.cq_model.specs.Condition.{is_null}
 use Rattle.cq_model.specs.Group.{addend, lower, higher}
 use Rattle.cq_hash_groups.specs.declared.bests.Extreme.{Extreme}
 use Rattle.cq_hash_groups.specs.declared.bests.Extreme.TheVariants.{Least, Greatest}
-use Rattle.cq_hash_groups.specs.declared.sums.Sum.{Sum}
+use Rattle.cq_hash_groups.specs.declared.wide_sums.Sum.{Sum}
 
 -- the values put into the groups of their numbers, one after the other, where a group that is not there has nothing
 abbrev pub put_all : {S : Type 0} → (S → Value → S) → S → List ℕ → List Value → List S → List S
@@ -57,6 +57,16 @@ pub record IsSumWithin (most : ℕ) (sum : Sum) : Type 0 where
 -- no group has a sum of more values than this
 abbrev pub AreSumsWithin : ℕ → List Sum → Type 0
 AreSumsWithin most sums = (group : ℕ) → IsSumWithin most (slice_index_or sums group no_sum)
+
+-- as many values as a group may have for 64 bits to count so many more
+abbrev pub most_before : ℕ → ℕ
+most_before more = 2 ^ 64 - 1 - more
+
+-- the values from one place up to another are put in: those that remain make of the new sums what all make of the old ones
+pub record PutFrom (start place : ℕ) (numbers : List ℕ) (values : List Value) (old new : List Sum) : Type 0 where
+  pub rest : put_all put_sum no_sum (drop place numbers) (drop place values) new ≡ put_all put_sum no_sum (drop start numbers) (drop start values) old
+  pub within : (n : ℕ) → AreSumsWithin (n + start) old → AreSumsWithin (n + place) new
+  pub same : length new ≡ length old
 
 -- each number is that of a group
 abbrev pub AreNumbers : ℕ → List ℕ → Type 0

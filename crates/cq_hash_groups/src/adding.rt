@@ -1,9 +1,9 @@
 //! Rows put into what is kept for each aggregate.
 ghost use Rattle.std.specs.List.{AllByRecursion};
-ghost use Rattle.std.specs.Prelude.{◌+◌, ◌^◌, ◌≡◌, IfOk, OnOk, length, map, ℕ};
+ghost use Rattle.std.specs.Prelude.{◌+◌, ◌≡◌, IfOk, OnOk, length, map, ℕ};
 ghost use Rattle.cq_hash_groups.specs.Exact.{AreExactOver, IsExactFor};
 ghost use Rattle.cq_hash_groups.specs.Groups.{AreAllWithin, added_slots, all_added};
-ghost use Rattle.cq_hash_groups.specs.Puts.{AreNumbers};
+ghost use Rattle.cq_hash_groups.specs.Puts.{AreNumbers, most_before};
 ghost use Rattle.cq_hash_groups.specs.Slots.{AreWithin, empty_slots, grown_slots};
 
 use crate::arguments::argument_of;
@@ -41,7 +41,7 @@ pub(crate) fn add_all<'a>(
     requires exact { AllByRecursion (AreExactOver aggregates.now) scan.now }
     requires there { AreNumbers groups numbers.now }
     requires same { length numbers.now ≡ length scan.now }
-    requires room { AreAllWithin (2 ^ 96) slots.old }
+    requires room { AreAllWithin (most_before (length numbers.now)) slots.old }
     ensures ok { OnOk result (slots.new ≡ all_added groups numbers.now scan.now aggregates.now slots.old) }
     ensures within { (n : ℕ) → AreAllWithin n slots.old → AreAllWithin (n + length numbers.now) slots.new }
 {
@@ -71,7 +71,7 @@ fn add_one<'a>(
     requires exact { AllByRecursion (IsExactFor aggregate.now) scan.now }
     requires there { AreNumbers groups numbers.now }
     requires same { length numbers.now ≡ length scan.now }
-    requires room { AreWithin (2 ^ 96) slots.old }
+    requires room { AreWithin (most_before (length numbers.now)) slots.old }
     ensures ok { OnOk result (slots.new ≡ added_slots groups numbers.now scan.now aggregate.now slots.old) }
     ensures within { (n : ℕ) → AreWithin n slots.old → AreWithin (n + length numbers.now) slots.new }
 {

@@ -16,7 +16,7 @@ use crate::shown::shown_row;
 use crate::slots::Slots;
 use cq_hash_keys::KeyTable;
 use cq_model::{Aggregate, ShowFault};
-use cq_operators_scans::{Scan, counted};
+use cq_operators_scans::{Scan, widened};
 use cq_values::{Row, Seq};
 use std::alloc::{AllocError, Global};
 use std::marker::Model;
@@ -26,9 +26,11 @@ use std::marker::Model;
 pub struct GroupTable<'q> {
     keys: &'q Option<Seq<usize>>,
     aggregates: &'q [Aggregate],
-    count: u128,
+    count: usize,
     found: KeyTable,
     slots: Vec<Slots>,
+    /// The groups of the rows that were added last, for their room.
+    numbers: Vec<usize>,
 }
 
 impl<'q> Model for GroupTable<'q> {
@@ -64,6 +66,7 @@ impl<'q> GroupTable<'q> {
                 count: 0,
                 found,
                 slots,
+                numbers: Vec::new(alloc),
             }),
             Err(fault) => {
                 drop(found);
@@ -72,7 +75,7 @@ impl<'q> GroupTable<'q> {
         }
     }
 
-    /// Adds rows to their groups. After an `Err` the table stands for no rows that one could name. More than 2^96 rows are
+    /// Adds rows to their groups. After an `Err` the table stands for no rows that one could name. More than 2^64 rows are
     /// refused: there is no memory for their count.
     pub fn add(&mut self, alloc: Global, scan: &Scan<'q>) -> Result<(), AllocError>
         requires exact { AllByRecursion (AreExactOver self.old.aggregates) scan.now }
@@ -81,9 +84,8 @@ impl<'q> GroupTable<'q> {
         ensures keys { self.new.keys ≡ self.old.keys }
         ensures aggregates { self.new.aggregates ≡ self.old.aggregates }
     {
-        let count = counted(alloc, self.count, scan.len())?;
-        let mut numbers = Vec::new(alloc);
-        number_rows(alloc, self.keys, scan, &mut self.found, &mut numbers)?;
+        let count = widened(alloc, self.count, scan.len())?;
+        number_rows(alloc, self.keys, scan, &mut self.found, &mut self.numbers)?;
         let groups = self.found.len();
         self.count = count;
         add_all(
@@ -91,7 +93,7 @@ impl<'q> GroupTable<'q> {
             self.aggregates,
             scan,
             groups,
-            &numbers,
+            &self.numbers,
             &mut self.slots,
         )
     }

@@ -12,6 +12,8 @@ mod group_table;
 mod keys;
 mod shown;
 mod slots;
+mod small_sums;
 mod sums;
+mod wide_sums;
 
 pub use group_table::GroupTable;

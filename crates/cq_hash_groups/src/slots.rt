@@ -1,7 +1,7 @@
 //! What is kept of groups for one aggregate.
 ghost use Rattle.std.specs.Prelude.{◌+◌, ◌^◌, ◌≡◌, IfErr, IfOk, OnOk, length, ℕ};
 ghost use Rattle.cq_model.specs.declared.fault.ShowFault.TheVariants.{SumOutOfRange};
-ghost use Rattle.cq_hash_groups.specs.Puts.{AreNumbers};
+ghost use Rattle.cq_hash_groups.specs.Puts.{AreNumbers, most_before};
 ghost use Rattle.cq_hash_groups.specs.Slots.{AreWithin, CanShow, empty_slots, groups_in, grown_slots, put_slots, shown_at};
 
 use crate::bests::{Bests, Extreme};
@@ -54,7 +54,7 @@ impl Slots {
     ) -> Result<(), AllocError>
         requires there { AreNumbers (groups_in self.old) numbers.now }
         requires same { length numbers.now ≡ length values.now }
-        requires room { AreWithin (2 ^ 96) self.old }
+        requires room { AreWithin (most_before (length numbers.now)) self.old }
         ensures ok { OnOk result (self.new ≡ put_slots numbers.now values.now self.old) }
         ensures within { (n : ℕ) → AreWithin n self.old → AreWithin (n + length numbers.now) self.new }
     {
@@ -63,17 +63,13 @@ impl Slots {
                 counts.put(numbers, values);
                 Ok(())
             }
-            Slots::Sums(sums) => {
-                sums.put(numbers, values);
-                Ok(())
-            }
+            Slots::Sums(sums) => sums.put(alloc, numbers, values),
             Slots::Bests(which, bests) => bests.put(alloc, *which, numbers, values),
         }
     }
 
     /// What a group shows.
     pub(crate) fn value(&self, alloc: Global, group: usize) -> Result<Value, ShowFault>
-        requires { AreWithin (2 ^ 96) self.now }
         ensures value { IfOk result (λ v. v ≡ shown_at group self.now) }
         ensures range { OnOk result (CanShow group self.now) }
         ensures fault { IfErr result (λ e. e ≡ SumOutOfRange → CanShow group self.now → ⊥) }

@@ -1,5 +1,6 @@
-use Rattle.std.proofs.Common.{ℕ, ◌+◌, ◌^◌, length, get_or, rules, arith}
+use Rattle.std.proofs.Common.{ℕ, ◌+◌, length, get_or, rules, arith}
 use Rattle.cq_hash_groups.specs.declared.slots.Slots.{Slots}
+use Rattle.cq_hash_groups.specs.Puts.{most_before}
 use Rattle.cq_hash_groups.specs.Slots.{AreWithin, no_slots}
 use Rattle.cq_hash_groups.proofs.Putting.{set-each}
 use Rattle.cq_hash_groups.proofs.Turns.{room-at, same-length, turn, turns-done}
@@ -7,7 +8,7 @@ use Rattle.cq_hash_groups.proofs.adding.add_all.Goals as goal
 
 pub add_one-requires-clause-room : goal.add_one-requires-clause-room
 add_one-requires-clause-room c =
-    room-at c.args.groups c.args.numbers.now c.args.scan.now c.args.aggregates.now c.args.slots.now c.loop-place.slots c.loop-place.place c.loop-place.invariant.added (2 ^ 96) c.index-slots-place.result
+    room-at c.args.groups c.args.numbers.now c.args.scan.now c.args.aggregates.now c.args.slots.now c.loop-place.slots c.loop-place.place c.loop-place.invariant.added (most_before (length c.args.numbers.now)) c.index-slots-place.result
     (omega arith) (c.requires.room c.loop-place.place)
 
 pub returns-in_err-add_one-clause-within : goal.returns-in_err-add_one-clause-within

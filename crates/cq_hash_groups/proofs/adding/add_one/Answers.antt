@@ -1,6 +1,6 @@
-use Rattle.std.proofs.Common.{◌+◌, ◌^◌, length, arith, sym, subst}
+use Rattle.std.proofs.Common.{◌+◌, length, arith, sym, subst}
 use Rattle.cq_hash_groups.specs.declared.slots.Slots.{Slots}
-use Rattle.cq_hash_groups.specs.Puts.{AreNumbers}
+use Rattle.cq_hash_groups.specs.Puts.{AreNumbers, most_before}
 use Rattle.cq_hash_groups.specs.Slots.{grown_slots, groups_in}
 use Rattle.cq_hash_groups.proofs.Putting.{numbers-of_more}
 use Rattle.cq_hash_groups.proofs.Turns.{groups-grown, within-more}
@@ -15,7 +15,7 @@ put-requires-clause-there c =
     (numbers-of_more c.args.groups (groups_in (grown_slots c.args.groups c.args.slots.now)) c.args.numbers.now (groups-grown c.args.groups c.args.slots.now) c.requires.there)
 
 pub put-requires-clause-room : goal.put-requires-clause-room
-put-requires-clause-room c = c.grow.ensures.within (2 ^ 96) c.requires.room
+put-requires-clause-room c = c.grow.ensures.within (most_before (length c.args.numbers.now)) c.requires.room
 
 pub returns-clause-within : goal.returns-clause-within
 returns-clause-within c = λ m all. c.put.ensures.within m (c.grow.ensures.within m all)

@@ -28,9 +28,9 @@ invariant_of-self-2 c =
     ap length c.deref.ensures.value ∙ same-long (key_at c.number_rows.new.found.keys) (key_of columns) c.number_rows.new.numbers.items c.args.scan.now c.in_ok-number_rows.ensures.numbers ∙ sym c.len.ensures.len in
     record {
       width = c.number_rows.ensures.width ∙ c.self.invariant.width;
-      few = c.in_ok-count.ensures.few;
+      few = c.in_ok-count.ensures.counted;
       within = subst (AreAllWithin c.in_ok-count.count) (sym written)
-          (subst (λ (n : ℕ). AreAllWithin n new) (sym c.in_ok-count.ensures.all) (subst (λ (n : ℕ). AreAllWithin (count + n) new) numbers (c.add_all.ensures.within count (subst (AreAllWithin count) before c.self.invariant.within))));
+          (subst (λ (n : ℕ). AreAllWithin n new) (sym c.in_ok-count.ensures.wider) (subst (λ (n : ℕ). AreAllWithin (count + n) new) numbers (c.add_all.ensures.within count (subst (AreAllWithin count) before c.self.invariant.within))));
     }
 
 pub returns-clause-holds : goal.returns-clause-holds
@@ -52,7 +52,7 @@ returns-clause-holds c =
     (λ x e. λ rows held.
     let h = subst (λ (u : StoredGroups). Holds u rows) (sym c.self.view_is) held in
     record {
-      count = omega (arith, c.in_ok-count.ensures.all, h.count, length-append rows scan, c.len.ensures.len);
+      count = omega (arith, c.in_ok-count.ensures.wider, h.count, length-append rows scan, c.len.ensures.len);
       found = c.in_ok-number_rows.ensures.keys ∙ ap (λ (fs : List Row). firsts (fs ++ map (key_of columns) scan)) h.found ∙ keys-append keys rows scan;
       slots = written ∙ e ∙ ap₂ (λ (n : ℕ) (ss : List Slots). all_added n numbers scan asked ss) c.len-groups.ensures (sym before ∙ h.slots)
           ∙ slots-hold keys asked rows scan c.self.inside.found.keys next numbers h.found c.in_ok-number_rows.ensures.keys are there;

@@ -1,13 +1,10 @@
-use Rattle.cq_hash_groups.specs.declared.slots.Slots.{Slots}
-use Rattle.cq_hash_groups.specs.declared.slots.Slots.TheVariants.{Bests, Counts, Sums}
-use Rattle.cq_hash_groups.specs.Slots.{AreWithin, no_slots}
-use Rattle.std.proofs.Common.{◌≡◌, ◌≤◌, ◌^◌, ℕ, slice_index_or, List, map, take, rules, arith, sym, ◌∙◌, ap, subst}
+use Rattle.std.proofs.Common.{◌≡◌, List, map, take, rules, arith, sym, ◌∙◌, ap, subst}
 use Rattle.std.proofs.lemmas.List.{take_all}
 use Rattle.cq_values.specs.Value.{Row}
 use Rattle.cq_model_bags.specs.Bag.{once_each}
 use Rattle.cq_model.specs.Group.{SumsInRange}
 use Rattle.cq_model.specs.declared.fault.ShowFault.TheVariants.{SumOutOfRange}
-use Rattle.cq_hash_groups.specs.Groups.{AreAllWithin, StoredGroups, group_columns, slots_at}
+use Rattle.cq_hash_groups.specs.Groups.{StoredGroups, group_columns, slots_at}
 use Rattle.cq_hash_groups.proofs.Holding.{range-fails, range-next, rows-next}
 use Rattle.cq_hash_groups.proofs.Showing.{AreShown, ranges-are_grouped, rows-are_grouped, shown_rows}
 use Rattle.cq_hash_groups.proofs.group_table.GroupTable.rows.Goals as goal
@@ -58,16 +55,3 @@ returns-clause-range c =
 -- what the table counts is the number of rows
 pub returns-clause-few : goal.returns-clause-few
 returns-clause-few c = λ of h. omega (arith, h.count, c.self.invariant.few, ap (λ (u : StoredGroups). u.count) c.self.view_is)
-
--- no more values than this are no more than more
-within-more : (m n : ℕ) → m ≤ n → (s : Slots) → AreWithin m s → AreWithin n s
-within-more m n le (Counts counts) within = λ group. let here = within group in omega (arith, le, here)
-within-more m n le (Sums sums) within = λ group.
-    let here = within group in
-    record { count = let few = here.count in omega (arith, le, few); total = let size = here.total in omega (arith, le, size) }
-within-more m n le (Bests which values) within = within
-
-pub shown_row-requires : goal.shown_row-requires
-shown_row-requires c = λ place.
-    within-more c.self.inside.count (2 ^ 96) c.self.invariant.few (slice_index_or c.deref.result.now place no_slots)
-    (subst (AreAllWithin c.self.inside.count) (sym c.deref.ensures.value) c.self.invariant.within place)

@@ -1,7 +1,7 @@
 use Rattle.std.proofs.Common.{◌≡◌, ◌++◌, ◌+◌, ◌-◌, ◌≤◌, replicate}
 use Rattle.std.specs.Vec.{vec_capacity, vec_len}
 use Rattle.cq_hash_groups.specs.Puts.{no_sum}
-use Rattle.cq_hash_groups.proofs.sums.push_empty.Given as goal
+use Rattle.cq_hash_groups.proofs.small_sums.push_empty.Given as goal
 
 -- so many new ones stand behind the old ones, and there is room for the others
 abbrev pub invariant-loop : goal.invariant-loop

@@ -1,0 +1,13 @@
+use Rattle.std.proofs.Common.{List, ◌∙◌, sym, ap, length, subst}
+use Rattle.std.proofs.lemmas.List.{length-map}
+use Rattle.cq_values.specs.declared.value.Value.{Value}
+use Rattle.cq_values.specs.declared.value.Value.TheVariants.{Number}
+use Rattle.cq_hash_groups.specs.Puts.{PutFrom}
+use Rattle.cq_hash_groups.proofs.small_sums.put_values.Goals as goal
+
+pub put_numbers-requires-clause-same : goal.put_numbers-requires-clause-same
+put_numbers-requires-clause-same c = c.requires.same ∙ ap length c.in-Some.ensures ∙ length-map c.in-Some.whole.now Number
+
+pub returns-in-Some-clause-put : goal.returns-in-Some-clause-put
+returns-in-Some-clause-put c =
+    subst (λ (vs : List Value). PutFrom 0 c.put_numbers.result c.args.numbers.now vs c.args.sums.now c.put_numbers.new.sums) (sym c.in-Some.ensures) c.put_numbers.ensures.put

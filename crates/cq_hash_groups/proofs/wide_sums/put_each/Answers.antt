@@ -1,0 +1,42 @@
+use Rattle.std.proofs.Common.{◌≡◌, ℕ, ◌+◌, ◌^◌, ◌<◌, ◌≤◌, length, get_or, rules, arith, refl, sym, ◌∙◌, ap₂, subst}
+use Rattle.std.proofs.lemmas.List.{get_or_default}
+use Rattle.cq_values.specs.declared.value.Value.TheVariants.{Null}
+use Rattle.cq_hash_groups.specs.Puts.{IsSumWithin, PutFrom, no_sum, put_sum}
+use Rattle.cq_hash_groups.proofs.Putting.{put_from-next, sum-at, sum-more, sums-more}
+use Rattle.cq_hash_groups.proofs.wide_sums.put_each.Goals as goal
+use Rattle.cq_model_bags.proofs.Lists.{all-at}
+
+pub put-requires : goal.put-requires
+put-requires c =
+    let place = c.loop-place.place in
+    let start = c.args.start in
+    let numbers = c.args.numbers.now in
+    let n = get_or numbers place 0 in
+    let s = c.index-sums-numbers.result in
+    let lt : place < length numbers = first_of (omega arith, search rules) in
+    let small : place ≤ 2 ^ 96 = first_of (omega arith, search rules, grind arith) in
+    let there : n < length c.loop-place.sums =
+    subst (λ (k : ℕ). n < k) (sym c.loop-place.invariant.same) (all-at (λ (m : ℕ). m < length c.args.sums.now) numbers place 0 lt c.requires.there) in
+    sum-more (2 ^ 96 + place) (2 ^ 97) (get_or c.loop-place.sums n s) (omega (arith, small))
+    (sum-at (2 ^ 96 + place) c.loop-place.sums n s there (c.loop-place.invariant.within (2 ^ 96) (sums-more (2 ^ 96) (2 ^ 96 + start) c.args.sums.now (omega arith) c.requires.room)))
+
+pub loop-place-preserved : goal.loop-place-preserved
+loop-place-preserved c =
+    let place = c.loop-place.place in
+    let numbers = c.args.numbers.now in
+    let sums = c.loop-place.sums in
+    let s = c.index-sums-numbers.result in
+    let n = get_or numbers place 0 in
+    let lt : place < length numbers = first_of (omega arith, search rules) in
+    let there : n < length sums =
+    subst (λ (k : ℕ). n < k) (sym c.loop-place.invariant.same) (all-at (λ (m : ℕ). m < length c.args.sums.now) numbers place 0 lt c.requires.there) in
+    let same = get_or_default sums n s no_sum there in
+    put_from-next c.loop-place.invariant n (get_or c.args.values.now place Null) c.put.new.self lt c.requires.same (get_or_default numbers place 0 n lt) refl
+    (c.put.ensures.sum ∙ ap₂ put_sum same c.lend.ensures)
+    (λ m all. c.put.ensures.within m (subst (IsSumWithin m) (sym same) all))
+
+pub returns : goal.returns
+returns c =
+    let numbers = c.args.numbers.now in
+    let done : c.loop-place.place ≡ length numbers = first_of (omega arith, search rules, grind arith) in
+    subst (λ (place : ℕ). PutFrom c.args.start place numbers c.args.values.now c.args.sums.now c.loop-place.sums) done c.loop-place.invariant
