@@ -24,6 +24,11 @@ AreKnown values = (place : ℕ) → place < length values → is_null (slice_ind
 abbrev pub put_count : ℕ → Value → ℕ
 put_count count v = if is_null v then count else count + 1
 
+-- values other than NULL are counted, whichever they are
+abbrev pub CountsEach : List ℕ → List ℕ → List ℕ → Type 0
+CountsEach numbers old new =
+    (values : List Value) → AreKnown values → length numbers ≡ length values → new ≡ put_all put_count 0 numbers values old
+
 -- so many values with a total
 abbrev pub summed : ℕ → ℤ → Sum
 summed count total = record { count = count; total = total }
@@ -58,11 +63,11 @@ pub record IsSumWithin (most : ℕ) (sum : Sum) : Type 0 where
 abbrev pub AreSumsWithin : ℕ → List Sum → Type 0
 AreSumsWithin most sums = (group : ℕ) → IsSumWithin most (slice_index_or sums group no_sum)
 
--- as many values as a group may have for 64 bits to count so many more
+-- the most values that leave 64 bits room to count so many more
 abbrev pub most_before : ℕ → ℕ
 most_before more = 2 ^ 64 - 1 - more
 
--- the values from one place up to another are put in: those that remain make of the new sums what all make of the old ones
+-- old sums become new ones by the values from one place up to another: those that remain make the same of them
 pub record PutFrom (start place : ℕ) (numbers : List ℕ) (values : List Value) (old new : List Sum) : Type 0 where
   pub rest : put_all put_sum no_sum (drop place numbers) (drop place values) new ≡ put_all put_sum no_sum (drop start numbers) (drop start values) old
   pub within : (n : ℕ) → AreSumsWithin (n + start) old → AreSumsWithin (n + place) new
