@@ -41,6 +41,7 @@ impl<'a> NumberSide<'a> {
     {
         match vector.form() {
             Form::Numbers(numbers) => Some(NumberSide::column(numbers.values())),
+            Form::LentNumbers(numbers) => Some(NumberSide::column(numbers.values())),
             Form::Constant(value, len) => NumberSide::of_constant(value, *len),
             _ => None,
         }

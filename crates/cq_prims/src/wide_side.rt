@@ -38,6 +38,7 @@ impl<'a> WideSide<'a> {
         match vector.form() {
             Form::Wide(numbers) => Some(WideSide::column(numbers.values())),
             Form::Numbers(numbers) => Some(WideSide::numbers(numbers.values())),
+            Form::LentNumbers(numbers) => Some(WideSide::numbers(numbers.values())),
             Form::Constant(value, len) => WideSide::of_constant(value, *len),
             _ => None,
         }
