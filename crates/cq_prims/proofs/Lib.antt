@@ -4,4 +4,5 @@ pub mod Shown
 pub mod Liked
 pub mod NullLemmas
 pub mod Beside
+pub mod ByEntries
 pub mod OffsetLanes

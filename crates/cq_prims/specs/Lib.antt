@@ -7,3 +7,4 @@ pub mod Sides
 pub mod NoText
 pub mod Beside
 pub mod UpTo
+pub mod Part

@@ -3,9 +3,11 @@ ghost use Rattle.cq_values.specs.Comparison.{compared};
 ghost use Rattle.cq_values.specs.declared.comparison.Comparison.TheVariants.{Equal, Less};
 ghost use Rattle.cq_values.specs.Lent.{owned};
 ghost use Rattle.cq_values.specs.declared.value.Value.{Value};
+ghost use Rattle.std.specs.Bool.{OnTrue};
 ghost use Rattle.std.specs.Prelude.{◌≡◌, IfSome, length, replicate};
 ghost use Rattle.std.specs.Simd.Lanes.{zip2};
 
+use crate::by_entries::compare_entries;
 use crate::equal_days::EqualDays;
 use crate::equal_numbers::EqualNumbers;
 use crate::equal_texts::EqualTexts;
@@ -37,7 +39,26 @@ pub fn compare(comparison: Comparison, a: &Vector<'_>, b: &Vector<'_>, to: &mut 
     if let Some(side) = NarrowSide::of(b, a) {
         return side.compare(turned(comparison), to);
     }
+    if compare_codes(comparison, a, b, to) {
+        return;
+    }
+    if compare_codes(turned(comparison), b, a, to) {
+        return;
+    }
     compare_sides(comparison, a, b, to);
+}
+
+/// The truth of the comparison, if the left side has texts by their codes, and few entries, and the right one a text.
+fn compare_codes(comparison: Comparison, a: &Vector<'_>, b: &Vector<'_>, to: &mut TruthMask) -> bool
+    requires { length a.now ≡ length b.now }
+    ensures { OnTrue result (to.new ≡ zip2 (compared comparison) a.now b.now) }
+{
+    match (a.form(), constant_of(b)) {
+        (Form::Codes(texts), Some(Lent::Text(text))) => {
+            compare_entries(comparison, texts, text, to)
+        }
+        _ => false,
+    }
 }
 
 /// The comparison that says the same of the sides turned.

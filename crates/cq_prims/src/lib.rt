@@ -3,8 +3,11 @@
 //! To its callers [`compare`], [`is_null`] and [`like`] give the list of the truths that the conditions have of the values.
 #![tactic(auto)]
 
+mod by_entries;
+mod code_test;
 mod comparisons;
 mod day_side;
+mod entry_tests;
 mod equal_days;
 mod equal_numbers;
 mod equal_offsets;
@@ -29,6 +32,7 @@ mod nulls;
 mod number_side;
 mod offsets_up_to;
 mod plain_texts;
+mod run_fits;
 mod sides;
 mod sixteen;
 mod text_side;

@@ -30,7 +30,7 @@ zero_cleared (n ∷ ns) (true ∷ fs) zero is = refl
 zero_cleared (n ∷ ns) (false ∷ fs) zero is = absurd (cc is)
 zero_cleared (n ∷ ns) (f ∷ fs) (suc k) is = zero_cleared ns fs k is
 
-zero_fits : FitsSigned w64 (pos 0)
+pub zero_fits : FitsSigned w64 (pos 0)
 zero_fits = search arith
 
 -- one number more that fits

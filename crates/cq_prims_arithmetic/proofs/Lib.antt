@@ -4,3 +4,4 @@ pub mod SumLemmas
 pub mod CallLemmas
 pub mod PartLemmas
 pub mod WideLemmas
+pub mod WidenedLemmas

@@ -13,12 +13,46 @@ use crate::sizes::largest_size;
 use crate::unbroken::{Unbroken, numbers_in};
 use crate::wide::wide;
 use crate::wide_side::{WideColumn, WideRepeated, WideSide};
+use crate::widened::widened;
 use cq_values::Lent;
 use cq_vectors::{Form, LentNumbers, Vector};
 use cq_vectors_masks::Plane;
 use std::alloc::{AllocError, Global};
 
 pub(crate) fn combined<'a, O: Operation>(
+    alloc: Global,
+    a: &Vector<'_>,
+    b: &Vector<'_>,
+) -> Result<Vector<'a>, AllocError>
+    requires same { length a.now ≡ length b.now }
+    requires fits { AllInRange (zip2 (lifted O.apply) a.now b.now) }
+    ensures { IfOk result (λ made. made ≡ zip2 (lifted O.apply) a.now b.now) }
+{
+    if let Form::Narrow(narrow) = a.form() {
+        let wide = Vector::new(Form::Numbers(widened(alloc, narrow)?));
+        return combined_with::<O>(alloc, &wide, b);
+    }
+    combined_with::<O>(alloc, a, b)
+}
+
+/// The same where numbers above a base may stand on the right alone.
+fn combined_with<'a, O: Operation>(
+    alloc: Global,
+    a: &Vector<'_>,
+    b: &Vector<'_>,
+) -> Result<Vector<'a>, AllocError>
+    requires same { length a.now ≡ length b.now }
+    requires fits { AllInRange (zip2 (lifted O.apply) a.now b.now) }
+    ensures { IfOk result (λ made. made ≡ zip2 (lifted O.apply) a.now b.now) }
+{
+    if let Form::Narrow(narrow) = b.form() {
+        let wide = Vector::new(Form::Numbers(widened(alloc, narrow)?));
+        return by_forms::<O>(alloc, a, &wide);
+    }
+    by_forms::<O>(alloc, a, b)
+}
+
+fn by_forms<'a, O: Operation>(
     alloc: Global,
     a: &Vector<'_>,
     b: &Vector<'_>,

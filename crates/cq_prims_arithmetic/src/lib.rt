@@ -16,6 +16,7 @@ mod sums;
 mod unbroken;
 mod wide;
 mod wide_side;
+mod widened;
 
 pub use arithmetic::{add, mul, neg};
 pub use parts::extract;

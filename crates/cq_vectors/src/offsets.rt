@@ -26,17 +26,17 @@ impl<'a> Offsets<'a> {
         ensures { result ≡ slice_index_or (offsets_in self.now) place 0 }
     {
         match self {
-            Offsets::One(offsets) => {
-                let offsets = *offsets;
-                u32::from(offsets[place])
+            Offsets::One(bytes) => {
+                let bytes = *bytes;
+                u32::from(bytes[place])
             }
-            Offsets::Two(offsets) => {
-                let offsets = *offsets;
-                u32::from(offsets[place])
+            Offsets::Two(pairs) => {
+                let pairs = *pairs;
+                u32::from(pairs[place])
             }
-            Offsets::Four(offsets) => {
-                let offsets = *offsets;
-                offsets[place]
+            Offsets::Four(fours) => {
+                let fours = *fours;
+                fours[place]
             }
         }
     }

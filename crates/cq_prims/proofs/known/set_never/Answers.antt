@@ -1,4 +1,4 @@
-use Rattle.std.proofs.Common.{◌∙◌, ap, arith, false, length, replicate, sym, ℕ, Bool, List}
+use Rattle.std.proofs.Common.{◌∙◌, ap, false, length, sym, Bool, List}
 use Rattle.std.proofs.lemmas.Simd.{length-replicate, zip2_splat_left}
 use lib.Lanes.{zip2}
 use Rattle.cq_vectors_masks.specs.TruthMask.{known}

@@ -1,4 +1,4 @@
-use Rattle.std.proofs.Common.{◌∙◌, ap, int_lt, map, not, pos, refl, sym, ◌+ℤ◌, ℕ, ℤ}
+use Rattle.std.proofs.Common.{◌∙◌, ap, int_lt, map, not, pos, refl, sym, ◌+ℤ◌, ℕ}
 use Rattle.std.specs.Ordering.{int_eq}
 use lib.Lanes.{zip2}
 use Rattle.cq_values.specs.Comparison.{compared}
