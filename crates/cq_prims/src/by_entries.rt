@@ -1,10 +1,9 @@
 //! Conditions over texts by the codes of their entries: each entry is asked once, and then each place by its code.
 ghost use Rattle.cq_model.specs.Condition.{liked};
-ghost use Rattle.cq_values.specs.Comparison.{compared};
+ghost use Rattle.cq_prims.specs.UpTo.{compared_with};
 ghost use Rattle.cq_values.specs.declared.value.Value.TheVariants.{Text};
 ghost use Rattle.std.specs.Bool.{OnTrue};
-ghost use Rattle.std.specs.Prelude.{length, map, replicate, ◌≡◌};
-ghost use Rattle.std.specs.Simd.Lanes.{zip2};
+ghost use Rattle.std.specs.Prelude.{map, ◌≡◌};
 
 use crate::code_test::CodeTest;
 use crate::entry_tests::{EntryCompared, EntryFits};
@@ -21,7 +20,7 @@ pub(crate) fn compare_entries(
     text: &str,
     to: &mut TruthMask,
 ) -> bool
-    ensures { OnTrue result (to.new ≡ zip2 (compared comparison) texts.now (replicate (length texts.now) (Text text.now))) }
+    ensures { OnTrue result (to.new ≡ compared_with comparison texts.now (Text text.now)) }
 {
     let (entries, codes) = texts.parts();
     let count = entries.len();

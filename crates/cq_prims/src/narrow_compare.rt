@@ -1,10 +1,9 @@
 //! Comparisons of numbers and days above a base with a constant.
 //!
 //! The constant is moved by the base once, and then the offsets are compared as they stand, in lanes of their width.
-ghost use Rattle.std.specs.Ordering.{int_eq};
-ghost use Rattle.std.specs.Prelude.{IfSome, int_lt, length, pos, not, replicate, ℕ, List, ◌+ℤ◌, ◌≡◌};
+ghost use Rattle.std.specs.Prelude.{IfSome, int_lt, length, pos, not, ℕ, List, ◌+ℤ◌, ◌≡◌};
 ghost use Rattle.std.specs.Simd.Lanes.{zip2};
-ghost use Rattle.cq_prims.specs.Beside.{AreBeside};
+ghost use Rattle.cq_prims.specs.Beside.{AreBeside, AreBesideOne, is_constant};
 ghost use Rattle.cq_prims.specs.UpTo.{is_up_to, known_of};
 ghost use Rattle.cq_values.specs.Comparison.{compared};
 ghost use Rattle.cq_values.specs.declared.value.Value.{Value};
@@ -42,7 +41,7 @@ impl<'a> NarrowSide<'a> {
     }
 
     fn of_numbers(numbers: &'a Narrow<'_>, value: i128) -> NarrowSide<'a>
-        ensures { (ws : List Value) → ws ≡ replicate (length numbers.now) (Number value) → AreBeside result numbers.now ws }
+        ensures { AreBesideOne result numbers.now (Number value) }
     {
         let (base, offsets) = numbers.parts();
         NarrowSide {
@@ -54,7 +53,7 @@ impl<'a> NarrowSide<'a> {
     }
 
     fn of_days(days: &'a NarrowDays<'_>, value: i32) -> NarrowSide<'a>
-        ensures { (ws : List Value) → ws ≡ replicate (length days.now) (Day value) → AreBeside result days.now ws }
+        ensures { AreBesideOne result days.now (Day value) }
     {
         let (base, offsets) = days.parts();
         NarrowSide {
@@ -129,7 +128,7 @@ impl<'a> NarrowSide<'a> {
     }
 
     fn set_equal(&self, to: &mut TruthMask)
-        ensures { to.new ≡ known_of (λ o. int_eq (self.now.base +ℤ pos o) self.now.value) (offsets_in self.now.offsets) self.now.nulls.now }
+        ensures { to.new ≡ known_of (is_constant self.now) (offsets_in self.now.offsets) self.now.nulls.now }
     {
         let base = i128::from(self.base);
         if self.value < base {

@@ -45,7 +45,7 @@ impl<'a> RunFits<'a> {
     /// The same, if the pattern has a run that is sought in all texts at once.
     fn word_by_run(&self, from: usize) -> Option<u64>
         requires { from + 64 ≤ self.now.len }
-        ensures { IfSome result (λ word. word ≡ answers_from self.now.pattern.now self.now.texts.now self.now.start from) }
+        ensures { IfSome result (λ w. w ≡ answers_from self.now.pattern.now self.now.texts.now self.now.start from) }
     {
         let sought = self.pattern.sought()?;
         let texts = lend_64(self.texts, self.start + from);
