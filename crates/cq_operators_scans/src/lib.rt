@@ -18,6 +18,6 @@ mod worked;
 pub use keeping::kept_places;
 pub use operand::{Operand, lend_vectors};
 pub use passed::{passing, scan_passing};
-pub use room::{counted, widened};
+pub use room::widened;
 pub use scan::Scan;
 pub use vectors::{own_vector_of, vector_of};
