@@ -23,8 +23,10 @@ use Rattle.cq_values.specs.Truth.{truth_of, not_truth, is_true}
 use Rattle.cq_model.specs.Condition.{is_null}
 use Rattle.cq_vectors_masks.specs.TruthMask.{known}
 use Rattle.cq_vectors_masks.specs.Plane.{either}
-use Rattle.cq_prims.specs.Kinds.{is_of_kind, ShowsNumbers, ShowsTexts}
+use Rattle.cq_prims_texts.specs.Kinds.{is_of_kind, ShowsTexts}
+use Rattle.cq_prims.specs.Numbers.{ShowsNumbers}
 use Rattle.cq_model.proofs.Conditions.{null-value}
+use Rattle.cq_prims_texts.proofs.Known.{compared_known, known_true}
 
 -- answers that are right wherever no value is NULL give the truths of a comparison
 pub known_compared : (c : Comparison) (h : ℕ → Bool) (xs ys : List Value) → length xs ≡ length ys
@@ -46,34 +48,6 @@ known_compared c h xs ys same right =
     (get_or-zip2 either (map is_null xs) (map is_null ys) i true true true (omega (arith, long_x)) (omega (arith, long_y)) ∙ ap₂ either (get_or-map is_null xs i Null) (get_or-map is_null ys i Null))
     ∙ right i within
     ∙ sym (get_or-zip2 (compared c) xs ys i Null Null Unknown within (omega (arith, same))))
-
--- a comparison is its test, which is not known at NULL
-compared_known : (c : Comparison) (v w : Value) → compared c v w ≡ known (passes c (value_cmp v w)) (either (is_null v) (is_null w))
-compared_known c Null w = refl
-compared_known c (Number m) Null = refl
-compared_known c (Day m) Null = refl
-compared_known c (Text m) Null = refl
-compared_known c (Number m) (Number n) = refl
-compared_known c (Number m) (Day n) = refl
-compared_known c (Number m) (Text n) = refl
-compared_known c (Day m) (Number n) = refl
-compared_known c (Day m) (Day n) = refl
-compared_known c (Day m) (Text n) = refl
-compared_known c (Text m) (Number n) = refl
-compared_known c (Text m) (Day n) = refl
-compared_known c (Text m) (Text n) = refl
-
-known_again : (b n : Bool) → known (is_true (known b n)) n ≡ known b n
-known_again true true = refl
-known_again true false = refl
-known_again false true = refl
-known_again false false = refl
-
--- whether a comparison is True, together with the NULLs, is its truth
-pub known_true : (c : Comparison) (v w : Value) → known (is_true (compared c v w)) (either (is_null v) (is_null w)) ≡ compared c v w
-known_true c v w =
-    let nulls = either (is_null v) (is_null w) in
-    ap (λ t. known (is_true t) nulls) (compared_known c v w) ∙ known_again (passes c (value_cmp v w)) nulls ∙ sym (compared_known c v w)
 
 as_number : (P : Value → Type 0) → P Null → ((n : ℤ) → P (Number n)) → (v : Value) → is_of_kind 0 v ≡ true → P v
 as_number P none some (Number n) e = some n

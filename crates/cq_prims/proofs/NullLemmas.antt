@@ -7,7 +7,7 @@ use lib.Lanes.{zip2}
 use Rattle.cq_vectors_masks.specs.Plane.{either}
 use Rattle.cq_model.specs.Condition.{is_null}
 use Rattle.cq_values.specs.declared.value.Value.{Value}
-use Rattle.cq_prims.proofs.Shown.{map-replicate}
+use Rattle.cq_prims_lanes.proofs.Places.{map-replicate}
 
 -- there are as many flags as values
 pub length_either : (a b : List Value) → length a ≡ length b → length (zip2 either (map is_null a) (map is_null b)) ≡ length a

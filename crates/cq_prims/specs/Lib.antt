@@ -1,10 +1,6 @@
 pub mod NumberSide
 pub mod DaySide
 pub mod WideSide
-pub mod TextSide
-pub mod Kinds
+pub mod Numbers
 pub mod Sides
-pub mod NoText
 pub mod Beside
-pub mod UpTo
-pub mod Part

@@ -1,7 +1,8 @@
 -- The sides of a comparison of two vectors.
 use Rattle.std.specs.Prelude.{List}
 use Rattle.cq_values.specs.declared.value.Value.{Value}
-use Rattle.cq_prims.specs.Kinds.{ShowsNumbers, ShowsTexts}
+use Rattle.cq_prims.specs.Numbers.{ShowsNumbers}
+use Rattle.cq_prims_texts.specs.Kinds.{ShowsTexts}
 use Rattle.cq_prims.specs.declared.sides.Sides.{Sides}
 use Rattle.cq_prims.specs.declared.sides.Sides.TheVariants as sides
 

@@ -3,7 +3,7 @@ ghost use Rattle.std.specs.Ordering.{int_eq};
 ghost use Rattle.std.specs.Prelude.{◌≡◌, length, pos, slice_index_or};
 
 use crate::day_side::DaySide;
-use crate::sixteen::{SixteenTest, four_sixteens};
+use cq_prims_lanes::{SixteenTest, four_sixteens};
 use cq_vectors_masks::{PlaceTest, WordTest};
 use std::simd::prelude::*;
 

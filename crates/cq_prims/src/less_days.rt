@@ -2,7 +2,7 @@
 ghost use Rattle.std.specs.Prelude.{◌≡◌, int_lt, length, pos, slice_index_or};
 
 use crate::day_side::DaySide;
-use crate::sixteen::{SixteenTest, four_sixteens};
+use cq_prims_lanes::{SixteenTest, four_sixteens};
 use cq_vectors_masks::{PlaceTest, WordTest};
 use std::simd::prelude::*;
 

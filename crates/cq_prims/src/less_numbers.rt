@@ -1,8 +1,8 @@
 //! Whether a number is less than another.
 ghost use Rattle.std.specs.Prelude.{◌≡◌, int_lt, length, pos, slice_index_or};
 
-use crate::fours::{FourTest, sixteen_fours};
 use crate::number_side::NumberSide;
+use cq_prims_lanes::{FourTest, sixteen_fours};
 use cq_vectors_masks::{PlaceTest, WordTest};
 use std::simd::prelude::*;
 

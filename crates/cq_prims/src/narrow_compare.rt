@@ -4,17 +4,17 @@
 ghost use Rattle.std.specs.Prelude.{IfSome, int_lt, length, pos, not, ℕ, List, ◌+ℤ◌, ◌≡◌};
 ghost use Rattle.std.specs.Simd.Lanes.{zip2};
 ghost use Rattle.cq_prims.specs.Beside.{AreBeside, AreBesideOne, is_constant};
-ghost use Rattle.cq_prims.specs.UpTo.{is_up_to, known_of};
+ghost use Rattle.cq_prims_lanes.specs.UpTo.{is_up_to, known_of};
 ghost use Rattle.cq_values.specs.Comparison.{compared};
 ghost use Rattle.cq_values.specs.declared.value.Value.{Value};
 ghost use Rattle.cq_values.specs.declared.value.Value.TheVariants.{Day, Number};
 ghost use Rattle.cq_vectors.specs.Offsets.{offsets_in};
 
 use crate::comparisons::constant_of;
-use crate::equal_offsets::{set_equal_8, set_equal_16, set_equal_32};
-use crate::known::set_never;
 use crate::narrow_side::NarrowSide;
-use crate::offsets_up_to::{set_up_to_8, set_up_to_16, set_up_to_32};
+use cq_prims_lanes::{
+    set_equal_8, set_equal_16, set_equal_32, set_never, set_up_to_8, set_up_to_16, set_up_to_32,
+};
 use cq_values::{Comparison, Lent};
 use cq_vectors::{Form, Narrow, NarrowDays, Offsets, Vector};
 use cq_vectors_masks::TruthMask;

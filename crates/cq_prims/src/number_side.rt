@@ -2,7 +2,7 @@
 ghost use Rattle.std.specs.Int.{w64};
 ghost use Rattle.std.specs.Prelude.{◌+◌, ◌<◌, ◌≡◌, ◌≤◌, FitsSigned, IfSome, drop, length, pos, replicate, slice_index_or, take, ℕ};
 ghost use Rattle.cq_values.specs.Lent.{owned};
-ghost use Rattle.cq_prims.specs.Kinds.{ShowsNumbers};
+ghost use Rattle.cq_prims.specs.Numbers.{ShowsNumbers};
 
 use cq_values::Lent;
 use cq_vectors::{Form, Vector};

@@ -3,8 +3,8 @@ ghost use Rattle.cq_prims.specs.Sides.{AreSidesOf};
 
 use crate::day_side::DaySide;
 use crate::number_side::NumberSide;
-use crate::text_side::TextSide;
 use crate::wide_side::WideSide;
+use cq_prims_texts::TextSide;
 use cq_vectors::Vector;
 
 /// The two sides of a comparison, in a form that both have.

@@ -1,7 +1,7 @@
 //! Sides of comparisons of numbers of which one needs 128 bits.
 ghost use Rattle.std.specs.Prelude.{◌<◌, ◌≡◌, IfSome, length, pos, replicate, slice_index_or};
 ghost use Rattle.cq_values.specs.Lent.{owned};
-ghost use Rattle.cq_prims.specs.Kinds.{ShowsNumbers};
+ghost use Rattle.cq_prims.specs.Numbers.{ShowsNumbers};
 
 use cq_values::Lent;
 use cq_vectors::{Form, Vector};

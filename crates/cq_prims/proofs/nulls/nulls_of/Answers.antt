@@ -4,7 +4,7 @@ use Rattle.cq_values.specs.Lent.{owned}
 use Rattle.cq_values.specs.declared.value.Value.TheVariants.{Null}
 use Rattle.cq_model.specs.Condition.{is_null}
 use Rattle.cq_vectors.specs.Form.{values_in}
-use Rattle.cq_prims.proofs.Shown.{map-all_places, map-replicate}
+use Rattle.cq_prims_lanes.proofs.Places.{map-all_places, map-replicate}
 use Rattle.cq_prims.proofs.nulls.nulls_of.Goals as goal
 
 pub returns-in-Values : goal.returns-in-Values

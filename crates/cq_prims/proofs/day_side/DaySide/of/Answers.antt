@@ -1,5 +1,5 @@
 use Rattle.std.proofs.Common.{◌∙◌, subst}
-use Rattle.cq_prims.specs.Kinds.{ShowsNumbers}
+use Rattle.cq_prims.specs.Numbers.{ShowsNumbers}
 use Rattle.cq_prims.proofs.Shown.{column_shows_days}
 use Rattle.cq_prims.proofs.day_side.DaySide.of.Goals as goal
 

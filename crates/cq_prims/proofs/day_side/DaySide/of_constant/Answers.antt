@@ -1,7 +1,7 @@
 use Rattle.std.proofs.Common.{rules, ◌≡◌, refl, sym, ap, subst, replicate}
 use Rattle.cq_values.specs.Lent.{owned}
 use Rattle.cq_values.specs.declared.value.Value.TheVariants.{Day}
-use Rattle.cq_prims.specs.Kinds.{ShowsNumbers}
+use Rattle.cq_prims.specs.Numbers.{ShowsNumbers}
 use Rattle.cq_prims.proofs.Shown.{constant_shows_numbers}
 use Rattle.cq_prims.proofs.day_side.DaySide.of_constant.Goals as goal
 

@@ -2,7 +2,7 @@ use Rattle.std.proofs.Common.{◌∙◌, sym, ap, w32, map, to_z, get_or, pos, l
 use Rattle.std.proofs.lemmas.Simd.{get_or-replicate, length-replicate}
 use lib.Lanes.{chunk}
 use Rattle.cq_prims.specs.DaySide.{days_in}
-use Rattle.cq_prims.proofs.Lanes.{signed_column, signed_splat}
+use Rattle.cq_prims_lanes.proofs.Lanes.{signed_column, signed_splat}
 use Rattle.cq_prims.proofs.day_side.DaySide.sixteen.Goals as goal
 use Rattle.cq_prims.proofs.day_side.DaySide.sixteen.Goals.{in-Column, in-Constant}
 

@@ -1,6 +1,6 @@
 use Rattle.std.proofs.Common.{arith, subst, sym, ◌<◌, ◌^◌, ℕ, get_or, pos, w32, eqb}
 use Rattle.std.specs.Ordering.{int_eq}
-use Rattle.cq_prims.proofs.Lanes.{lane_answers, same_bits, answers_small}
+use Rattle.cq_prims_lanes.proofs.Lanes.{lane_answers, same_bits, answers_small}
 use Rattle.cq_prims.proofs.equal_days.EqualDaysSixteenTest.sixteen.Goals as goal
 
 pub returns-clause-value : goal.returns-clause-value

@@ -1,6 +1,6 @@
 use Rattle.std.proofs.Common.{arith, ap₂, subst, sym, ◌<◌, ◌^◌, ℕ, get_or, pos, w64, to_z-of_z, to_z}
 use Rattle.std.specs.Prelude.{int_lt}
-use Rattle.cq_prims.proofs.Lanes.{lane_answers, answers_small}
+use Rattle.cq_prims_lanes.proofs.Lanes.{lane_answers, answers_small}
 use Rattle.cq_prims.proofs.less_numbers.LessNumbersFourTest.four.Goals as goal
 
 pub returns-clause-value : goal.returns-clause-value

@@ -4,7 +4,7 @@ use lib.Lanes.{zip2}
 use Rattle.cq_values.specs.Comparison.{compared}
 use Rattle.cq_values.specs.Truth.{not_truth}
 use Rattle.cq_values.specs.declared.comparison.Comparison.TheVariants.{Equal, NotEqual, Less, LessOrEqual, Greater, GreaterOrEqual}
-use Rattle.cq_prims.specs.UpTo.{is_up_to}
+use Rattle.cq_prims_lanes.specs.UpTo.{is_up_to}
 use Rattle.cq_prims.proofs.Beside.{at_most_agrees, by_beside, not_at_most}
 use Rattle.cq_prims.proofs.Compared.{equal_agrees, less_agrees, not_equal, not_less, zip2-opposite}
 use Rattle.cq_prims.proofs.narrow_side.NarrowSide.compare.Goals as goal

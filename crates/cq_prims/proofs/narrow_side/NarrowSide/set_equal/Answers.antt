@@ -4,7 +4,7 @@ use Rattle.std.proofs.lemmas.Bool.Decides.{Decides-int_eq}
 use Rattle.std.specs.Ordering.{int_eq}
 use Rattle.cq_model_bags.proofs.Totals.{by_test}
 use Rattle.cq_vectors.specs.Offsets.{offsets_in}
-use Rattle.cq_prims.proofs.Beside.{by_none}
+use Rattle.cq_prims_lanes.proofs.OffsetTests.{by_none}
 use Rattle.cq_prims.proofs.narrow_side.NarrowSide.set_equal.Goals as goal
 
 pub returns-then-self-base : goal.returns-then-self-base

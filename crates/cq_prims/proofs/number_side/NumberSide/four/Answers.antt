@@ -2,7 +2,7 @@ use Rattle.std.proofs.Common.{◌∙◌, sym, ap, w64, map, to_z, get_or, pos, l
 use Rattle.std.proofs.lemmas.Simd.{get_or-replicate, length-replicate}
 use lib.Lanes.{chunk}
 use Rattle.cq_prims.specs.NumberSide.{numbers_in}
-use Rattle.cq_prims.proofs.Lanes.{signed_column, signed_splat}
+use Rattle.cq_prims_lanes.proofs.Lanes.{signed_column, signed_splat}
 use Rattle.cq_prims.proofs.number_side.NumberSide.four.Goals as goal
 use Rattle.cq_prims.proofs.number_side.NumberSide.four.Goals.{in-Column, in-Constant}
 

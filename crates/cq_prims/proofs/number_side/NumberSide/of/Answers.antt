@@ -1,5 +1,5 @@
 use Rattle.std.proofs.Common.{◌∙◌, subst}
-use Rattle.cq_prims.specs.Kinds.{ShowsNumbers}
+use Rattle.cq_prims.specs.Numbers.{ShowsNumbers}
 use Rattle.cq_prims.proofs.Shown.{column_shows_numbers}
 use Rattle.cq_prims.proofs.number_side.NumberSide.of.Goals as goal
 

@@ -1,6 +1,6 @@
 use Rattle.std.proofs.Common.{◌∙◌, sym, ap, subst}
 use Rattle.cq_vectors.specs.Form.{values_in}
-use Rattle.cq_prims.specs.Kinds.{ShowsNumbers}
+use Rattle.cq_prims.specs.Numbers.{ShowsNumbers}
 use Rattle.cq_prims.proofs.Shown.{column_shows_numbers}
 use Rattle.cq_prims.proofs.wide_side.WideSide.of.Goals as goal
 

@@ -1,0 +1,4 @@
+pub mod Known
+pub mod Shown
+pub mod Liked
+pub mod ByEntries

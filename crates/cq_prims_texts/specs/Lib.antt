@@ -1,0 +1,4 @@
+pub mod TextSide
+pub mod Kinds
+pub mod NoText
+pub mod Part

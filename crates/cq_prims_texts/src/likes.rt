@@ -1,0 +1,61 @@
+//! LIKE over vectors.
+ghost use Rattle.cq_model.specs.Condition.{liked};
+ghost use Rattle.std.specs.Prelude.{◌≡◌, map};
+
+use crate::by_entries::like_entries;
+use crate::fits_test::FitsTest;
+use crate::fits_texts::FitsTexts;
+use crate::no_text_test::NoTextTest;
+use crate::run_fits::RunFits;
+use cq_prims_lanes::set_known_by;
+use cq_prims_like::Pattern;
+use cq_vectors::{Form, RunTexts, Vector};
+use cq_vectors_masks::{Plane, TruthMask};
+
+/// Whether the text of each place fits the pattern, and Unknown where there is no text.
+pub fn like(a: &Vector<'_>, pattern: &Pattern, to: &mut TruthMask)
+    ensures { to.new ≡ map (λ v. liked v pattern.now) a.now }
+{
+    match a.form() {
+        Form::Texts(texts) => {
+            let nulls = texts.nulls();
+            let texts = texts.values();
+            set_known_by(&FitsTexts { texts, pattern }, nulls, to)
+        }
+        Form::Run(texts) => like_run(texts, pattern, to),
+        Form::Codes(texts) => {
+            if !like_entries(texts, pattern, to) {
+                like_lent(a, pattern, to)
+            }
+        }
+        _ => like_lent(a, pattern, to),
+    }
+}
+
+/// The same for the texts of a run.
+fn like_run(part: &RunTexts<'_>, pattern: &Pattern, to: &mut TruthMask)
+    ensures { to.new ≡ map (λ v. liked v pattern.now) part.now }
+{
+    let (texts, start) = part.parts();
+    let _texts = texts.len();
+    let len = part.len();
+    set_known_by(
+        &RunFits {
+            texts,
+            start,
+            len,
+            pattern,
+        },
+        part.nulls(),
+        to,
+    )
+}
+
+/// The same for values of any kind, one by one.
+fn like_lent(a: &Vector<'_>, pattern: &Pattern, to: &mut TruthMask)
+    ensures { to.new ≡ map (λ v. liked v pattern.now) a.now }
+{
+    let mut no_text = Plane::new();
+    no_text.set_where(&NoTextTest { a }, a.len());
+    set_known_by(&FitsTest { a, pattern }, &no_text, to)
+}
