@@ -1,0 +1,4 @@
+pub mod Decoding
+pub mod Offsets
+pub mod Pieces
+pub mod Zipped

@@ -1,0 +1,35 @@
+-- What values are made of, with a flag where NULL stands.
+use Rattle.std.proofs.Common.{◌≡◌, ℕ, ◌+◌, ◌<◌, Bool, false, List, [], ◌∷◌, ◌++◌, length, get_or, map, take, refl, sym, ap, ap₂, ◌∙◌, arith}
+use Rattle.std.specs.Simd.Lanes.{zip2}
+use Rattle.std.proofs.lemmas.List.{length-map, length-take, map-append, take_more}
+use Rattle.std.proofs.lemmas.Simd.{get_or-zip2, length-zip2}
+use Rattle.cq_values.specs.declared.value.Value.{Value}
+use Rattle.cq_values.specs.declared.value.Value.TheVariants.{Null}
+use Rattle.cq_values.specs.Value.{is_null}
+
+module _ {A : Type 0} (unless : A → Bool → Value) where
+  -- as many as there are parts
+  pub length-zipped : (parts : List A) (flags : List Bool) → length flags ≡ length parts → length (zip2 unless parts flags) ≡ length parts
+  length-zipped parts flags same = length-zip2 unless parts flags (sym same)
+
+  -- what stands at a place
+  pub zipped_at : (parts : List A) (flags : List Bool) (place : ℕ) (d part : A) (flag : Bool) → place < length parts → length flags ≡ length parts
+      → get_or parts place d ≡ part → get_or flags place false ≡ flag → get_or (zip2 unless parts flags) place Null ≡ unless part flag
+  zipped_at parts flags place d part flag lt same is_part is_flag =
+      get_or-zip2 unless parts flags place d false Null lt (omega (arith, lt, same)) ∙ ap₂ unless is_part is_flag
+
+  zip2-push : (parts : List A) (flags : List Bool) (part : A) (flag : Bool) → length flags ≡ length parts → zip2 unless (parts ++ part ∷ []) (flags ++ flag ∷ []) ≡ zip2 unless parts flags ++ unless part flag ∷ []
+  zip2-push [] [] part flag same = refl
+  zip2-push [] (g ∷ flags) part flag same = absurd (omega arith)
+  zip2-push (x ∷ parts) [] part flag same = absurd (omega arith)
+  zip2-push (x ∷ parts) (g ∷ flags) part flag same = ap (λ (vs : List Value). unless x g ∷ vs) (zip2-push parts flags part flag (omega (arith, same)))
+
+  -- one value more
+  pub zipped_more : (parts : List A) (part : A) (values : List Value) (i : ℕ) (value : Value) → i < length values → get_or values i Null ≡ value → length parts ≡ i → unless part (is_null value) ≡ value
+      → zip2 unless parts (map is_null (take i values)) ≡ take i values → zip2 unless (parts ++ part ∷ []) (map is_null (take (i + 1) values)) ≡ take (i + 1) values
+  zipped_more parts part values i value lt there long is so_far =
+      let next : take (i + 1) values ≡ take i values ++ value ∷ [] = take_more values i Null lt ∙ ap (λ (v : Value). take i values ++ v ∷ []) there in
+      let flags : map is_null (take (i + 1) values) ≡ map is_null (take i values) ++ is_null value ∷ [] = ap (map is_null) next ∙ map-append is_null (take i values) (value ∷ []) in
+      ap (zip2 unless (parts ++ part ∷ [])) flags
+      ∙ zip2-push parts (map is_null (take i values)) part (is_null value) (omega (arith, lt, long, length-map (take i values) is_null, length-take i values))
+      ∙ ap₂ (λ (vs : List Value) (v : Value). vs ++ v ∷ []) so_far is ∙ sym next
