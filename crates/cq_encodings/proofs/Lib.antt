@@ -1,4 +1,6 @@
 pub mod Decoding
+pub mod Neighbours
 pub mod Offsets
 pub mod Pieces
+pub mod Repeats
 pub mod Zipped

@@ -2,3 +2,4 @@ pub mod Kind
 pub mod Nulls
 pub mod Packed
 pub mod PackedNumbers
+pub mod Runs

@@ -7,6 +7,7 @@ mod kind;
 mod nulls;
 mod packed;
 mod packed_numbers;
+mod runs;
 
 pub use decoded::Decoded;
 pub use encoded::Encoded;
@@ -14,3 +15,4 @@ pub use kind::Kind;
 pub use nulls::Nulls;
 pub use packed::Packed;
 pub use packed_numbers::{PackedNumbers, Widths};
+pub use runs::Runs;
