@@ -7,6 +7,7 @@
 mod batch;
 mod days;
 mod numbers;
+mod text_run;
 mod texts;
 mod vector;
 mod wide_numbers;
@@ -14,6 +15,7 @@ mod wide_numbers;
 pub use batch::Batch;
 pub use days::Days;
 pub use numbers::Numbers;
+pub use text_run::TextRun;
 pub use texts::Texts;
 pub use vector::{Form, Vector};
 pub use wide_numbers::WideNumbers;
