@@ -1,7 +1,7 @@
 -- What values are made of, with a flag where NULL stands.
-use Rattle.std.proofs.Common.{◌≡◌, ℕ, ◌+◌, ◌<◌, Bool, false, List, [], ◌∷◌, ◌++◌, length, get_or, map, take, refl, sym, ap, ap₂, ◌∙◌, arith}
+use Rattle.std.proofs.Common.{◌≤◌, ◌≡◌, ℕ, ◌+◌, ◌<◌, Bool, false, List, [], ◌∷◌, ◌++◌, length, get_or, map, take, refl, sym, ap, ap₂, ◌∙◌, arith}
 use Rattle.std.specs.Simd.Lanes.{zip2}
-use Rattle.std.proofs.lemmas.List.{length-map, length-take, map-append, take_more}
+use Rattle.std.proofs.lemmas.List.{get_or_past, length-map, length-take, map-append, take_more}
 use Rattle.std.proofs.lemmas.Simd.{get_or-zip2, length-zip2}
 use Rattle.cq_values.specs.declared.value.Value.{Value}
 use Rattle.cq_values.specs.declared.value.Value.TheVariants.{Null}
@@ -11,6 +11,10 @@ module _ {A : Type 0} (unless : A → Bool → Value) where
   -- as many as there are parts
   pub length-zipped : (parts : List A) (flags : List Bool) → length flags ≡ length parts → length (zip2 unless parts flags) ≡ length parts
   length-zipped parts flags same = length-zip2 unless parts flags (sym same)
+
+  -- NULL past the end
+  pub zipped_past : (parts : List A) (flags : List Bool) (place : ℕ) → length parts ≤ place → length flags ≡ length parts → get_or (zip2 unless parts flags) place Null ≡ Null
+  zipped_past parts flags place le same = get_or_past (zip2 unless parts flags) place Null (omega (arith, le, length-zipped parts flags same))
 
   -- what stands at a place
   pub zipped_at : (parts : List A) (flags : List Bool) (place : ℕ) (d part : A) (flag : Bool) → place < length parts → length flags ≡ length parts

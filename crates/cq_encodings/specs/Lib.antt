@@ -2,4 +2,5 @@ pub mod Kind
 pub mod Nulls
 pub mod Packed
 pub mod PackedNumbers
+pub mod Plain
 pub mod Runs

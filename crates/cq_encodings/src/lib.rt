@@ -7,6 +7,9 @@ mod kind;
 mod nulls;
 mod packed;
 mod packed_numbers;
+mod plain;
+mod plain_numbers;
+mod plain_texts;
 mod runs;
 
 pub use decoded::Decoded;
@@ -15,4 +18,7 @@ pub use kind::Kind;
 pub use nulls::Nulls;
 pub use packed::Packed;
 pub use packed_numbers::{PackedNumbers, Widths};
+pub use plain::Plain;
+pub use plain_numbers::PlainNumbers;
+pub use plain_texts::PlainTexts;
 pub use runs::Runs;
