@@ -1,3 +1,4 @@
+pub mod Coded
 pub mod Decoding
 pub mod Neighbours
 pub mod Offsets

@@ -1,3 +1,4 @@
+pub mod Dict
 pub mod Kind
 pub mod Nulls
 pub mod Packed

@@ -2,6 +2,7 @@
 #![tactic(auto)]
 
 mod decoded;
+mod dict;
 mod encoded;
 mod kind;
 mod nulls;
@@ -13,6 +14,7 @@ mod plain_texts;
 mod runs;
 
 pub use decoded::Decoded;
+pub use dict::Dict;
 pub use encoded::Encoded;
 pub use kind::Kind;
 pub use nulls::Nulls;
