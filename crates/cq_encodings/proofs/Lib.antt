@@ -4,4 +4,5 @@ pub mod Neighbours
 pub mod Offsets
 pub mod Pieces
 pub mod Repeats
+pub mod Walking
 pub mod Zipped

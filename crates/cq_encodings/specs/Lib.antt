@@ -1,3 +1,5 @@
+pub mod AnyEncoded
+pub mod Deltas
 pub mod Dict
 pub mod Kind
 pub mod Nulls
@@ -5,3 +7,4 @@ pub mod Packed
 pub mod PackedNumbers
 pub mod Plain
 pub mod Runs
+pub mod Steps
