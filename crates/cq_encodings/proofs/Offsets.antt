@@ -3,10 +3,10 @@ use Rattle.std.proofs.Common.{◌≡◌, ℕ, ◌<◌, ◌≤◌, ℤ, pos, ◌+
 use Rattle.std.specs.Simd.Lanes.{zip2}
 use Rattle.std.proofs.lemmas.List.{get_or-map, get_or_past, length-map}
 use Rattle.cq_values.specs.declared.value.Value.TheVariants.{Null}
-use Rattle.cq_encodings.specs.declared.kind.Kind.{Kind}
-use Rattle.cq_encodings.specs.Kind.{datum}
+use Rattle.cq_encodings_plain.specs.declared.kind.Kind.{Kind}
+use Rattle.cq_encodings_plain.specs.Kind.{datum}
 use Rattle.cq_encodings.specs.Packed.{above}
-use Rattle.cq_encodings.proofs.Zipped.{length-zipped, zipped_at}
+use Rattle.cq_encodings_plain.proofs.Zipped.{length-zipped, zipped_at}
 
 module _ (kind : Kind) (least : ℤ) (offsets : List ℕ) (nulls : List Bool) (same : length nulls ≡ length offsets) where
   long : length (above least offsets) ≡ length offsets

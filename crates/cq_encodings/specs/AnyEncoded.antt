@@ -3,7 +3,7 @@ use Rattle.std.specs.Prelude.{List}
 use Rattle.cq_values.specs.declared.value.Value.{Value}
 use Rattle.cq_encodings.specs.declared.any_encoded.AnyEncoded.{AnyEncoded}
 use Rattle.cq_encodings.specs.declared.any_encoded.AnyEncoded.TheVariants as form
-use Rattle.cq_encodings.specs.Plain.{plain_values}
+use Rattle.cq_encodings_plain.specs.Plain.{plain_values}
 
 -- the values that are kept
 abbrev pub encoded_values : AnyEncoded → List Value

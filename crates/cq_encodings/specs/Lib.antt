@@ -1,10 +1,6 @@
 pub mod AnyEncoded
 pub mod Deltas
 pub mod Dict
-pub mod Kind
-pub mod Nulls
 pub mod Packed
-pub mod PackedNumbers
-pub mod Plain
 pub mod Runs
 pub mod Steps

@@ -1,13 +1,11 @@
 //! A column in whichever form it is kept.
 ghost use Rattle.cq_encodings.specs.AnyEncoded.{encoded_values};
 
-use crate::decoded::Decoded;
 use crate::deltas::Deltas;
 use crate::dict::Dict;
-use crate::encoded::Encoded;
 use crate::packed::Packed;
-use crate::plain::Plain;
 use crate::runs::Runs;
+use cq_encodings_plain::{Decoded, Encoded, Plain};
 use cq_values::Lent;
 
 /// Values in one of the forms.

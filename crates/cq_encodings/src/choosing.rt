@@ -7,10 +7,9 @@ ghost use Rattle.cq_encodings.specs.AnyEncoded.{encoded_values};
 use crate::any_encoded::AnyEncoded;
 use crate::deltas::Deltas;
 use crate::dict::Dict;
-use crate::kind::{Kind, kind_of, number_of};
 use crate::packed::Packed;
-use crate::plain::Plain;
 use crate::runs::Runs;
+use cq_encodings_plain::{Kind, Plain, kind_of, number_of};
 use cq_values::Value;
 use std::alloc::{AllocError, Global};
 

@@ -1,16 +1,13 @@
 //! Numbers or days that rise slowly.
 //!
 //! Reading at a place takes the steps from the last number of 1,024 that is kept; reading a vector takes each step once.
-ghost use Rattle.std.specs.Prelude.{IfOk, IfSome, drop, length, map, take, vec_capacity, ◌≡◌, ◌≤◌};
+ghost use Rattle.std.specs.Prelude.{[], IfOk, IfSome, drop, length, map, take, ◌++◌, ◌<◌, ◌∷◌, ◌≡◌};
 ghost use Rattle.std.specs.Simd.Lanes.{zip2};
 ghost use Rattle.cq_encodings.specs.Deltas.{bits_datum};
 ghost use Rattle.cq_values.specs.Lent.{owned};
 ghost use Rattle.cq_values.specs.Value.{is_null};
 
-use crate::decoded::Decoded;
-use crate::encoded::Encoded;
-use crate::kind::{Kind, kind_of, lend_number, number_of};
-use crate::nulls::Nulls;
+use cq_encodings_plain::{Decoded, Encoded, Kind, Nulls, kind_of, lend_unless, number_of};
 use crate::steps::Steps;
 use cq_values::{Lent, Value};
 use std::alloc::{AllocError, Global};
@@ -74,20 +71,18 @@ impl Encoded for Deltas {
         if place >= self.numbers.len() {
             return Lent::Null;
         }
-        lend_unless(self.kind, self.numbers.at(place), self.nulls.at(place))
+        lend_bits(self.kind, self.numbers.at(place), self.nulls.at(place))
     }
 
     fn decode_into<'a>(&'a self, start: usize, to: &mut Decoded<'a>) {
-        lend_from(self.kind, &self.numbers, &self.nulls, start, &mut to.values);
+        decode_from(self.kind, &self.numbers, &self.nulls, start, to);
     }
 }
 
-/// Lends the values from a place on, 1,024 of them or as many as are left, in place of those that were lent before.
-fn lend_from<'a>(kind: Kind, numbers: &Steps, nulls: &Nulls, start: usize, to: &mut Vec<Lent<'a>>)
-    requires same { length nulls.now ≡ length numbers.now }
-    requires capacity { 1024 ≤ vec_capacity to.old }
-    ensures values { map owned to.new.items ≡ take 1024 (drop start (zip2 (bits_datum kind) numbers.now nulls.now)) }
-    ensures room { 1024 ≤ vec_capacity to.new }
+/// Reads the values from a place on, 1,024 of them or as many as are left, in place of those that were read before.
+fn decode_from(kind: Kind, numbers: &Steps, nulls: &Nulls, start: usize, to: &mut Decoded<'_>)
+    requires { length nulls.now ≡ length numbers.now }
+    ensures { to.new ≡ take 1024 (drop start (zip2 (bits_datum kind) numbers.now nulls.now)) }
 {
     to.clear();
     let len = numbers.len();
@@ -97,20 +92,23 @@ fn lend_from<'a>(kind: Kind, numbers: &Steps, nulls: &Nulls, start: usize, to: &
     let end = len.min(start.saturating_add(1024));
     let mut number = numbers.at(start);
     for place in start..end {
-        to.push_reserved(lend_unless(kind, number, nulls.at(place)));
+        push_bits(to, kind, number, nulls.at(place));
         number = numbers.following(place, number);
     }
 }
 
 /// What the bits of a number stand for, or NULL where the flag says so.
-fn lend_unless<'a>(kind: Kind, number: u64, is_null: bool) -> Lent<'a>
+fn lend_bits<'a>(kind: Kind, number: u64, is_null: bool) -> Lent<'a>
     ensures { owned result ≡ bits_datum kind number is_null }
 {
-    if is_null {
-        Lent::Null
-    } else {
-        lend_number(kind, i128::from(number.cast_signed()))
-    }
+    lend_unless(kind, i128::from(number.cast_signed()), is_null)
+}
+
+fn push_bits(to: &mut Decoded<'_>, kind: Kind, number: u64, is_null: bool)
+    requires { length to.old < 1024 }
+    ensures { to.new ≡ to.old ++ bits_datum kind number is_null ∷ [] }
+{
+    to.push_number(kind, i128::from(number.cast_signed()), is_null);
 }
 
 /// The bits of the number that stands for a value, and any for NULL. None where there is no such number.

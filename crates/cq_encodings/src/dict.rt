@@ -5,10 +5,7 @@ ghost use Rattle.cq_encodings.specs.Dict.{Keeps, coded};
 ghost use Rattle.cq_values.specs.Value.{is_null};
 ghost use Rattle.cq_vectors.specs.Columns.{text_unless, texts_of};
 
-use crate::encoded::Encoded;
-use crate::nulls::Nulls;
-use crate::packed::width_of;
-use crate::packed_numbers::PackedNumbers;
+use cq_encodings_plain::{Encoded, Nulls, PackedNumbers, width_of};
 use cq_values::{Lent, Value};
 use cq_vectors::TextRun;
 use indexmap::IndexSet;

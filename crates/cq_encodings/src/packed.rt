@@ -1,14 +1,11 @@
 //! Numbers or days that lie close together.
 ghost use Rattle.std.specs.Prelude.{IfOk, IfSome, length, map, pos, ◌+ℤ◌, ◌≡◌};
 ghost use Rattle.std.specs.Simd.Lanes.{zip2};
-ghost use Rattle.cq_encodings.specs.Kind.{datum};
+ghost use Rattle.cq_encodings_plain.specs.Kind.{datum};
 ghost use Rattle.cq_encodings.specs.Packed.{above};
 ghost use Rattle.cq_values.specs.Value.{is_null};
 
-use crate::encoded::Encoded;
-use crate::kind::{Kind, kind_of, lend_number, number_of};
-use crate::nulls::Nulls;
-use crate::packed_numbers::PackedNumbers;
+use cq_encodings_plain::{Encoded, Kind, Nulls, PackedNumbers, kind_of, lend_number, number_of, width_of};
 use cq_values::{Lent, Value};
 use std::alloc::{AllocError, Global};
 use std::marker::Model;
@@ -25,7 +22,7 @@ pub struct Packed {
 impl Model for Packed {
     ghost use Rattle.std.specs.Prelude.{List, length, ◌≡◌};
     ghost use Rattle.std.specs.Simd.Lanes.{zip2};
-    ghost use Rattle.cq_encodings.specs.Kind.{datum};
+    ghost use Rattle.cq_encodings_plain.specs.Kind.{datum};
     ghost use Rattle.cq_encodings.specs.Packed.{above};
     ghost use Rattle.cq_values.specs.declared.value.Value.{Value as Datum};
 
@@ -136,21 +133,4 @@ fn least_of(kind: Kind, values: &[Value]) -> i64 {
         }
     }
     least
-}
-
-/// The width of whole bytes that the widest of some numbers fits: 8, 16, 32 or 64 bits.
-pub(crate) fn width_of(numbers: &[u64]) -> u32 {
-    let mut greatest = 0;
-    for number in numbers {
-        greatest = greatest.max(*number);
-    }
-    if greatest < 1 << 8 {
-        8
-    } else if greatest < 1 << 16 {
-        16
-    } else if greatest < 1 << 32 {
-        32
-    } else {
-        64
-    }
 }

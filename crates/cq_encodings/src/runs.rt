@@ -1,13 +1,12 @@
 //! Values that stand still for many places.
 //!
 //! Reading at a place walks over the runs before it.
-ghost use Rattle.std.specs.Prelude.{IfOk, IsTrue, drop, length, map, slice_index_or, take, vec_capacity, ◌<◌, ◌≡◌, ◌↔◌, ◌≤◌};
+ghost use Rattle.std.specs.Prelude.{IfOk, IsTrue, drop, length, slice_index_or, take, ◌<◌, ◌≡◌, ◌↔◌};
 ghost use Rattle.cq_values.specs.Lent.{owned};
 ghost use Rattle.cq_values.specs.declared.value.Value.TheVariants.{Null};
 ghost use Rattle.cq_encodings.specs.Runs.{AreRuns, values_of_runs};
 
-use crate::decoded::Decoded;
-use crate::encoded::Encoded;
+use cq_encodings_plain::{Decoded, Encoded};
 use cq_values::{Lent, Value};
 use std::alloc::{AllocError, Global};
 use std::marker::Model;
@@ -67,7 +66,7 @@ impl Encoded for Runs {
     }
 
     fn decode_into<'a>(&'a self, start: usize, to: &mut Decoded<'a>) {
-        lend_from(&self.runs, start, &mut to.values);
+        lend_from(&self.runs, start, to);
     }
 }
 
@@ -125,10 +124,8 @@ fn lend_at(runs: &[Run], place: usize) -> Lent<'_>
 }
 
 /// Lends the values from a place on, 1,024 of them or as many as are left, in place of those that were lent before.
-fn lend_from<'a>(runs: &'a [Run], start: usize, to: &mut Vec<Lent<'a>>)
-    requires { 1024 ≤ vec_capacity to.old }
-    ensures values { map owned to.new.items ≡ take 1024 (drop start (values_of_runs runs.now)) }
-    ensures room { 1024 ≤ vec_capacity to.new }
+fn lend_from<'a>(runs: &'a [Run], start: usize, to: &mut Decoded<'a>)
+    ensures { to.new ≡ take 1024 (drop start (values_of_runs runs.now)) }
 {
     to.clear();
     let mut skip = start;
@@ -137,7 +134,7 @@ fn lend_from<'a>(runs: &'a [Run], start: usize, to: &mut Vec<Lent<'a>>)
         let passed = skip.min(run.count);
         let here = (run.count - passed).min(left);
         for _ in 0..here {
-            to.push_reserved(run.value.lend());
+            to.push_value(&run.value);
         }
         skip -= passed;
         left -= here;

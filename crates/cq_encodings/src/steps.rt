@@ -5,8 +5,7 @@
 ghost use Rattle.std.specs.Prelude.{IfOk, drop, length, slice_index, take, ◌%◌, ◌+◌, ◌<◌, ◌^◌, ◌≡◌};
 ghost use Rattle.cq_encodings.specs.Steps.{AreMarks, AreSteps, number_at};
 
-use crate::packed::width_of;
-use crate::packed_numbers::PackedNumbers;
+use cq_encodings_plain::{PackedNumbers, width_of};
 use std::alloc::{AllocError, Global};
 use std::marker::Model;
 

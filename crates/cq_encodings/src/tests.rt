@@ -1,6 +1,5 @@
-use crate::{
-    AnyEncoded, Decoded, Deltas, Dict, Encoded, Nulls, Packed, PackedNumbers, Plain, Runs, choose,
-};
+use crate::{AnyEncoded, Deltas, Dict, Packed, Runs, choose};
+use cq_encodings_plain::{Decoded, Encoded, Plain};
 use cq_values::{Day, Text, Value, cmp_lent};
 use std::alloc::{AllocError, Global};
 use std::test::Fail;
@@ -97,6 +96,43 @@ fn numbers_are_read_back(rt: HostRuntime) -> Result<(), Fail> {
     }
     let plain = Plain::of(alloc, &values)?;
     assert!(rt; are_read_back(alloc, &plain, &values)?);
+    Ok(())
+}
+
+#[test]
+fn days_are_read_back(rt: HostRuntime) -> Result<(), Fail> {
+    let alloc = rt.alloc();
+    let mut values = Vec::new(alloc);
+    for number in [-719_162, 0, 2_932_896] {
+        values.push(Value::Null)?;
+        if let Some(day) = Day::new(number) {
+            values.push(Value::Day(day))?;
+        }
+    }
+    let chosen = choose(alloc, &values)?;
+    assert!(rt; matches!(&chosen, AnyEncoded::Packed(_)));
+    assert!(rt; are_read_back(alloc, &chosen, &values)?);
+    if let Some(deltas) = Deltas::of(alloc, &values)? {
+        assert!(rt; are_read_back(alloc, &deltas, &values)?);
+    }
+    Ok(())
+}
+
+#[test]
+fn texts_are_read_back(rt: HostRuntime) -> Result<(), Fail> {
+    let alloc = rt.alloc();
+    let mut values = texts(alloc, 7, 1_030)?;
+    values.push(Value::Null)?;
+    if let Some(dict) = Dict::of(alloc, &values, 7)? {
+        assert_eq!(rt; dict.different(), 7);
+        assert!(rt; are_read_back(alloc, &dict, &values)?);
+    }
+    assert!(rt; Dict::of(alloc, &values, 6)?.is_none());
+    let plain = Plain::of(alloc, &values)?;
+    assert!(rt; are_read_back(alloc, &plain, &values)?);
+    let runs = Runs::of(alloc, &values)?;
+    assert_eq!(rt; runs.count(), 1_031);
+    assert!(rt; are_read_back(alloc, &runs, &values)?);
     Ok(())
 }
 

@@ -5,7 +5,7 @@ use Rattle.std.proofs.lemmas.List.{get_or_read}
 use Rattle.cq_values.specs.Value.{is_null}
 use Rattle.cq_values.specs.declared.value.Value.TheVariants.{Null}
 use Rattle.cq_encodings.specs.Deltas.{bits_datum}
-use Rattle.cq_encodings.proofs.Zipped.{zipped_more}
+use Rattle.cq_encodings_plain.proofs.Zipped.{zipped_more}
 use Rattle.cq_encodings.proofs.deltas.bits_of_values.Goals as goal
 
 pub loop-value-preserved : goal.loop-value-preserved

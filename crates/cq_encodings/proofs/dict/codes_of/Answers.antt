@@ -8,7 +8,7 @@ use Rattle.cq_values.specs.declared.value.Value.TheVariants.{Null}
 use Rattle.cq_vectors.specs.Columns.{text_unless, texts_of}
 use Rattle.cq_encodings.specs.Dict.{coded}
 use Rattle.cq_encodings.proofs.Coded.{coded_more, length-coded, within_more}
-use Rattle.cq_encodings.proofs.Zipped.{zipped_more}
+use Rattle.cq_encodings_plain.proofs.Zipped.{zipped_more}
 use Rattle.cq_encodings.proofs.dict.codes_of.Goals as goal
 
 pub loop-value-preserved : goal.loop-value-preserved

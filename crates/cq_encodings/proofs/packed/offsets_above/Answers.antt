@@ -4,9 +4,9 @@ use Rattle.std.specs.Simd.Lanes.{zip2}
 use Rattle.std.proofs.lemmas.Grind.{common_steps}
 use Rattle.std.proofs.lemmas.Int.{to_z-of_z}
 use Rattle.std.proofs.lemmas.List.{get_or_read, length-map, map-append, take_all}
-use Rattle.cq_encodings.specs.Kind.{datum}
+use Rattle.cq_encodings_plain.specs.Kind.{datum}
 use Rattle.cq_encodings.specs.Packed.{above}
-use Rattle.cq_encodings.proofs.Zipped.{zipped_more}
+use Rattle.cq_encodings_plain.proofs.Zipped.{zipped_more}
 use Rattle.cq_values.specs.Value.{is_null}
 use Rattle.cq_values.specs.declared.value.Value.{Value}
 use Rattle.cq_values.specs.declared.value.Value.TheVariants.{Null}

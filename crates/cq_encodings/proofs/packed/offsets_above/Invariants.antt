@@ -1,6 +1,6 @@
 use Rattle.std.proofs.Common.{length, map, take, vec_capacity, vec_len, ◌+◌, ◌-◌, ◌≡◌, ◌≤◌}
 use Rattle.std.specs.Simd.Lanes.{zip2}
-use Rattle.cq_encodings.specs.Kind.{datum}
+use Rattle.cq_encodings_plain.specs.Kind.{datum}
 use Rattle.cq_encodings.specs.Packed.{above}
 use Rattle.cq_values.specs.Value.{is_null}
 use Rattle.cq_encodings.proofs.packed.offsets_above.Given as goal

@@ -1,6 +1,6 @@
 use Rattle.std.proofs.Common.{ap, arith, length}
 use Rattle.cq_encodings.specs.Deltas.{bits_datum}
-use Rattle.cq_encodings.proofs.Zipped.{length-zipped}
+use Rattle.cq_encodings_plain.proofs.Zipped.{length-zipped}
 use Rattle.cq_encodings.proofs.deltas.DeltasEncoded.len.Goals as goal
 
 pub returns : goal.returns

@@ -4,7 +4,7 @@ use Rattle.cq_values.specs.declared.value.Value.TheVariants.{Null}
 use Rattle.cq_vectors.specs.Columns.{text_unless}
 use Rattle.cq_encodings.specs.Dict.{coded}
 use Rattle.cq_encodings.proofs.Coded.{coded_at, length-coded}
-use Rattle.cq_encodings.proofs.Zipped.{zipped_at, zipped_past}
+use Rattle.cq_encodings_plain.proofs.Zipped.{zipped_at, zipped_past}
 use Rattle.cq_encodings.proofs.dict.DictEncoded.value_at.Goals as goal
 use Rattle.cq_encodings.proofs.dict.DictEncoded.value_at.Goals.{then-place-len-via-then-place-len, then-place-len-via-else-place-len+then-at}
 

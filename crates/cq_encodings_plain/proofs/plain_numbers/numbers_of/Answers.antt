@@ -1,0 +1,31 @@
+use Rattle.std.proofs.Common.{List, ap, arith, map, rules, sym, take, w64, ◌+◌, ◌∙◌, ℤ}
+use mir.Val.{SFits, of_z, to_z}
+use Rattle.std.specs.Simd.Lanes.{zip2}
+use Rattle.std.proofs.lemmas.Grind.{common_steps}
+use Rattle.std.proofs.lemmas.Int.{to_z-of_z}
+use Rattle.std.proofs.lemmas.List.{get_or_read, take_all}
+use Rattle.cq_encodings_plain.specs.Kind.{datum}
+use Rattle.cq_encodings_plain.proofs.Zipped.{zipped_more}
+use Rattle.cq_values.specs.Value.{is_null}
+use Rattle.cq_values.specs.declared.value.Value.{Value}
+use Rattle.cq_values.specs.declared.value.Value.TheVariants.{Null}
+use Rattle.cq_encodings_plain.proofs.plain_numbers.numbers_of.Goals as goal
+
+pub loop-value-preserved : goal.loop-value-preserved
+loop-value-preserved c =
+    let i = c.loop-value.value-index in
+    let flags = map is_null (take (i + 1) c.args.values.now) in
+    let fits : SFits w64 c.in-Some.number = search rules in
+    record {
+      same = ap (λ (zs : List ℤ). zip2 (datum c.args.kind) zs flags) c.push_reserved.ensures.items
+          ∙ zipped_more (datum c.args.kind) c.loop-value.numbers.items (to_z w64 (of_z w64 c.in-Some.number)) c.args.values.now i c.value-item.result c.loop-value-test.true
+          (sym (get_or_read c.args.values.now i c.value-item.result c.loop-value-test.true c.value-item.is Null))
+          c.loop-value.invariant.long (ap (λ (z : ℤ). datum c.args.kind z (is_null c.value-item.result)) (to_z-of_z w64 c.in-Some.number fits) ∙ c.in-Some.ensures) c.loop-value.invariant.same;
+      long = grind (arith, common_steps);
+      room = grind (arith, common_steps);
+    }
+
+pub returns-clause-same : goal.returns-clause-same
+returns-clause-same c =
+    let whole = take_all c.loop-value.value-index c.args.values.now (omega (arith, c.loop-value-test.false, c.loop-value.auto.value-index-end)) in
+    ap (λ (vs : List Value). zip2 (datum c.args.kind) c.loop-value.numbers.items (map is_null vs)) (sym whole) ∙ c.loop-value.invariant.same ∙ whole
