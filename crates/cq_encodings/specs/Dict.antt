@@ -1,5 +1,7 @@
 -- Texts as their numbers among the different ones.
-use Rattle.std.specs.Prelude.{ℕ, ◌<◌, ◌≤◌, ◌≡◌, List, [], length, map, slice_index_or}
+use Rattle.std.specs.Prelude.{ℕ, ◌<◌, ◌≤◌, ◌≡◌, Bool, List, [], length, map, slice_index_or}
+use Rattle.std.specs.List.{All}
+use Rattle.cq_encodings_plain.specs.Nulls.{NothingWhere}
 
 -- the texts that the numbers stand for
 abbrev pub coded : List (List ℕ) → List ℕ → List (List ℕ)
@@ -9,3 +11,9 @@ coded entries codes = map (λ code. slice_index_or entries code []) codes
 pub record Keeps (old new : List (List ℕ)) : Type 0 where
   pub long : length old ≤ length new
   pub there : (code : ℕ) → code < length old → slice_index_or new code [] ≡ slice_index_or old code []
+
+-- each number is that of an entry, and there is a flag for each number, which is 0 where NULL stands
+pub record AreCodes (entries : List (List ℕ)) (codes : List ℕ) (nulls : List Bool) : Type 0 where
+  pub long : length nulls ≡ length codes
+  pub clear : NothingWhere 0 nulls codes
+  pub known : All (λ code. code < length entries) codes

@@ -7,8 +7,8 @@ ghost use Rattle.cq_encodings.specs.Deltas.{bits_datum};
 ghost use Rattle.cq_values.specs.Lent.{owned};
 ghost use Rattle.cq_values.specs.Value.{is_null};
 
-use cq_encodings_plain::{Decoded, Encoded, Kind, Nulls, kind_of, lend_unless, number_of};
 use crate::steps::Steps;
+use cq_encodings_plain::{Decoded, Encoded, Kind, Nulls, kind_of, lend_unless, number_of};
 use cq_values::{Lent, Value};
 use std::alloc::{AllocError, Global};
 use std::marker::Model;

@@ -1,7 +1,7 @@
 //! Texts of which few are different.
-ghost use Rattle.std.specs.Prelude.{[], IfOk, IfSome, OnOk, length, map, slice_index_or, ◌<◌, ◌≡◌};
+ghost use Rattle.std.specs.Prelude.{[], IfOk, IfSome, OnOk, length, map, slice_index_or, true, ◌<◌, ◌≡◌};
 ghost use Rattle.std.specs.Simd.Lanes.{zip2};
-ghost use Rattle.cq_encodings.specs.Dict.{Keeps, coded};
+ghost use Rattle.cq_encodings.specs.Dict.{AreCodes, Keeps, coded};
 ghost use Rattle.cq_values.specs.Value.{is_null};
 ghost use Rattle.cq_vectors.specs.Columns.{text_unless, texts_of};
 
@@ -22,9 +22,9 @@ pub struct Dict {
 }
 
 impl Model for Dict {
-    ghost use Rattle.std.specs.Prelude.{List, length, ◌≡◌};
+    ghost use Rattle.std.specs.Prelude.{List};
     ghost use Rattle.std.specs.Simd.Lanes.{zip2};
-    ghost use Rattle.cq_encodings.specs.Dict.{coded};
+    ghost use Rattle.cq_encodings.specs.Dict.{AreCodes, coded};
     ghost use Rattle.cq_values.specs.declared.value.Value.{Value as Datum};
     ghost use Rattle.cq_vectors.specs.Columns.{text_unless};
 
@@ -32,7 +32,7 @@ impl Model for Dict {
 
     ghost view = { λ d. zip2 text_unless (coded d.entries d.codes) d.nulls };
 
-    ghost invariant = { λ d. length d.nulls ≡ length d.codes };
+    ghost invariant = { λ d. AreCodes d.entries d.codes d.nulls };
 }
 
 impl Dict {
@@ -54,6 +54,14 @@ impl Dict {
             codes: PackedNumbers::of(alloc, &codes, width)?,
             nulls,
         }))
+    }
+
+    /// The different texts, the numbers and the flags, for loops: the number is 0 where NULL stands.
+    pub fn parts(&self) -> (&TextRun, &PackedNumbers, &Nulls)
+        ensures whole { self.now ≡ zip2 text_unless (coded result.0.now result.1.now) result.2.now }
+        ensures parts { AreCodes result.0.now result.1.now result.2.now }
+    {
+        (&self.entries, &self.codes, &self.nulls)
     }
 
     /// How many texts are different.
@@ -95,7 +103,7 @@ fn codes_of<'a>(
     values: &'a [Value],
     most: usize,
 ) -> Result<Option<(IndexSet<&'a str>, Vec<u64>)>, AllocError>
-    ensures long { IfOk result (λ found. IfSome found (λ parts. length parts.1.items ≡ length values.now)) }
+    ensures known { IfOk result (λ found. IfSome found (λ parts. AreCodes (texts_of parts.0.keys) parts.1.items (map is_null values.now))) }
     ensures same { IfOk result (λ found. IfSome found (λ parts. zip2 text_unless (coded (texts_of parts.0.keys) parts.1.items) (map is_null values.now) ≡ values.now)) }
 {
     let Some(first) = first_text(values) else {
@@ -135,6 +143,7 @@ fn gives_up(seen: usize, different: usize, most: usize) -> bool {
 fn code_of<'a>(known: &mut IndexSet<&'a str>, value: &'a Value) -> Result<Option<u64>, AllocError>
     requires { 0 < length known.old.keys }
     ensures kept { OnOk result (Keeps (texts_of known.old.keys) (texts_of known.new.keys)) }
+    ensures null { IfOk result (λ found. IfSome found (λ code. is_null value.now ≡ true → code ≡ 0)) }
     ensures within { IfOk result (λ found. IfSome found (λ code. code < length known.new.keys)) }
     ensures same { IfOk result (λ found. IfSome found (λ code. text_unless (slice_index_or (texts_of known.new.keys) code []) (is_null value.now) ≡ value.now)) }
 {

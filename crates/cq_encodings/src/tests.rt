@@ -37,6 +37,18 @@ fn texts(alloc: Global, different: u32, len: u32) -> Result<Vec<Value>, AllocErr
     Ok(values)
 }
 
+/// The first and the last day and the one whose number is 0, each behind NULL.
+fn days(alloc: Global) -> Result<Vec<Value>, AllocError> {
+    let mut values = Vec::new(alloc);
+    for number in [-719_162, 0, 2_932_896] {
+        values.push(Value::Null)?;
+        if let Some(day) = Day::new(number) {
+            values.push(Value::Day(day))?;
+        }
+    }
+    Ok(values)
+}
+
 /// The name of the form that is chosen.
 fn chosen(alloc: Global, values: &[Value]) -> Result<&'static str, AllocError> {
     let encoded = choose(alloc, values)?;
@@ -83,56 +95,59 @@ fn are_decoded(decoded: &Decoded<'_>, values: &[Value], start: usize) -> bool {
 }
 
 #[test]
-fn numbers_are_read_back(rt: HostRuntime) -> Result<(), Fail> {
-    let alloc = rt.alloc();
-    let values = numbers(alloc, -70_000, 9, 2_050)?;
-    if let Some(packed) = Packed::of(alloc, &values)? {
+fn numbers_are_read_back_from_offsets(rt: HostRuntime) -> Result<(), Fail> {
+    let values = numbers(rt.alloc(), -70_000, 9, 2_050)?;
+    if let Some(packed) = Packed::of(rt.alloc(), &values)? {
         assert_eq!(rt; packed.width(), 16);
-        assert!(rt; are_read_back(alloc, &packed, &values)?);
+        assert!(rt; are_read_back(rt.alloc(), &packed, &values)?);
     }
-    if let Some(deltas) = Deltas::of(alloc, &values)? {
+    Ok(())
+}
+
+#[test]
+fn numbers_are_read_back_from_steps(rt: HostRuntime) -> Result<(), Fail> {
+    let values = numbers(rt.alloc(), -70_000, 9, 2_050)?;
+    if let Some(deltas) = Deltas::of(rt.alloc(), &values)? {
         assert_eq!(rt; deltas.width(), 8);
-        assert!(rt; are_read_back(alloc, &deltas, &values)?);
+        assert!(rt; are_read_back(rt.alloc(), &deltas, &values)?);
     }
-    let plain = Plain::of(alloc, &values)?;
-    assert!(rt; are_read_back(alloc, &plain, &values)?);
     Ok(())
 }
 
 #[test]
 fn days_are_read_back(rt: HostRuntime) -> Result<(), Fail> {
-    let alloc = rt.alloc();
-    let mut values = Vec::new(alloc);
-    for number in [-719_162, 0, 2_932_896] {
-        values.push(Value::Null)?;
-        if let Some(day) = Day::new(number) {
-            values.push(Value::Day(day))?;
-        }
-    }
-    let chosen = choose(alloc, &values)?;
+    let values = days(rt.alloc())?;
+    let chosen = choose(rt.alloc(), &values)?;
     assert!(rt; matches!(&chosen, AnyEncoded::Packed(_)));
-    assert!(rt; are_read_back(alloc, &chosen, &values)?);
-    if let Some(deltas) = Deltas::of(alloc, &values)? {
-        assert!(rt; are_read_back(alloc, &deltas, &values)?);
-    }
+    assert!(rt; are_read_back(rt.alloc(), &chosen, &values)?);
     Ok(())
 }
 
 #[test]
-fn texts_are_read_back(rt: HostRuntime) -> Result<(), Fail> {
-    let alloc = rt.alloc();
-    let mut values = texts(alloc, 7, 1_030)?;
-    values.push(Value::Null)?;
-    if let Some(dict) = Dict::of(alloc, &values, 7)? {
+fn texts_are_read_back_as_they_are(rt: HostRuntime) -> Result<(), Fail> {
+    let values = texts(rt.alloc(), 7, 1_030)?;
+    let plain = Plain::of(rt.alloc(), &values)?;
+    assert!(rt; are_read_back(rt.alloc(), &plain, &values)?);
+    Ok(())
+}
+
+#[test]
+fn texts_are_read_back_from_runs(rt: HostRuntime) -> Result<(), Fail> {
+    let values = texts(rt.alloc(), 7, 1_030)?;
+    let runs = Runs::of(rt.alloc(), &values)?;
+    assert_eq!(rt; runs.count(), 1_030);
+    assert!(rt; are_read_back(rt.alloc(), &runs, &values)?);
+    Ok(())
+}
+
+#[test]
+fn texts_are_read_back_from_a_dictionary(rt: HostRuntime) -> Result<(), Fail> {
+    let values = texts(rt.alloc(), 7, 1_030)?;
+    assert!(rt; Dict::of(rt.alloc(), &values, 6)?.is_none());
+    if let Some(dict) = Dict::of(rt.alloc(), &values, 7)? {
         assert_eq!(rt; dict.different(), 7);
-        assert!(rt; are_read_back(alloc, &dict, &values)?);
+        assert!(rt; are_read_back(rt.alloc(), &dict, &values)?);
     }
-    assert!(rt; Dict::of(alloc, &values, 6)?.is_none());
-    let plain = Plain::of(alloc, &values)?;
-    assert!(rt; are_read_back(alloc, &plain, &values)?);
-    let runs = Runs::of(alloc, &values)?;
-    assert_eq!(rt; runs.count(), 1_031);
-    assert!(rt; are_read_back(alloc, &runs, &values)?);
     Ok(())
 }
 

@@ -1,11 +1,12 @@
 -- What values are made of, with a flag where NULL stands.
-use Rattle.std.proofs.Common.{◌≤◌, ◌≡◌, ℕ, ◌+◌, ◌<◌, Bool, false, List, [], ◌∷◌, ◌++◌, length, get_or, map, take, refl, sym, ap, ap₂, ◌∙◌, arith}
+use Rattle.std.proofs.Common.{true, ◌≤◌, ◌≡◌, ℕ, ◌+◌, ◌<◌, Bool, false, List, [], ◌∷◌, ◌++◌, length, get_or, map, take, refl, sym, ap, ap₂, ◌∙◌, arith, zero, suc, subst}
 use Rattle.std.specs.Simd.Lanes.{zip2}
 use Rattle.std.proofs.lemmas.List.{get_or_past, length-map, length-take, map-append, take_more}
 use Rattle.std.proofs.lemmas.Simd.{get_or-zip2, length-zip2}
 use Rattle.cq_values.specs.declared.value.Value.{Value}
 use Rattle.cq_values.specs.declared.value.Value.TheVariants.{Null}
 use Rattle.cq_values.specs.Value.{is_null}
+use Rattle.cq_encodings_plain.specs.Nulls.{NothingWhere}
 
 module _ {A : Type 0} (unless : A → Bool → Value) where
   -- as many as there are parts
@@ -37,3 +38,28 @@ module _ {A : Type 0} (unless : A → Bool → Value) where
       ap (zip2 unless (parts ++ part ∷ [])) flags
       ∙ zip2-push parts (map is_null (take i values)) part (is_null value) (omega (arith, lt, long, length-map (take i values) is_null, length-take i values))
       ∙ ap₂ (λ (vs : List Value) (v : Value). vs ++ v ∷ []) so_far is ∙ sym next
+
+-- nothing stands behind what is there, where the flag is set
+nothing-push : {A : Type 0} (nothing : A) (flags : List Bool) (parts : List A) (flag : Bool) (part : A) → length flags ≡ length parts → NothingWhere nothing flags parts → (flag ≡ true → part ≡ nothing) → NothingWhere nothing (flags ++ flag ∷ []) (parts ++ part ∷ [])
+nothing-push nothing [] [] flag part same clear last zero set = last set
+nothing-push nothing [] [] flag part same clear last (suc k) set = refl
+nothing-push nothing [] (p ∷ parts) flag part same clear last k set = absurd (omega arith)
+nothing-push nothing (f ∷ flags) [] flag part same clear last k set = absurd (omega arith)
+nothing-push nothing (f ∷ flags) (p ∷ parts) flag part same clear last zero set = clear 0 set
+nothing-push nothing (f ∷ flags) (p ∷ parts) flag part same clear last (suc k) set = nothing-push nothing flags parts flag part (omega (arith, same)) (λ j. clear (suc j)) last k set
+
+-- nothing where NULL stands, with one value more
+pub nothing_more : {A : Type 0} (nothing : A) (parts : List A) (part : A) (values : List Value) (i : ℕ) (value : Value) → i < length values → get_or values i Null ≡ value → length parts ≡ i → (is_null value ≡ true → part ≡ nothing)
+    → NothingWhere nothing (map is_null (take i values)) parts → NothingWhere nothing (map is_null (take (i + 1) values)) (parts ++ part ∷ [])
+nothing_more nothing parts part values i value lt there long none clear =
+    let next : take (i + 1) values ≡ take i values ++ value ∷ [] = take_more values i Null lt ∙ ap (λ (v : Value). take i values ++ v ∷ []) there in
+    let flags : map is_null (take (i + 1) values) ≡ map is_null (take i values) ++ is_null value ∷ [] = ap (map is_null) next ∙ map-append is_null (take i values) (value ∷ []) in
+    subst (λ (fs : List Bool). NothingWhere nothing fs (parts ++ part ∷ [])) (sym flags)
+    (nothing-push nothing (map is_null (take i values)) parts (is_null value) part (omega (arith, lt, long, length-map (take i values) is_null, length-take i values)) clear none)
+
+-- what holds of each part and of nothing holds with one part more
+pub facts_more : {A : Type 0} (P : A → Type 0) (nothing : A) (parts : List A) (part : A) → P part → ((k : ℕ) → P (get_or parts k nothing)) → (k : ℕ) → P (get_or (parts ++ part ∷ []) k nothing)
+facts_more P nothing [] part fact all zero = fact
+facts_more P nothing [] part fact all (suc k) = all 0
+facts_more P nothing (p ∷ parts) part fact all zero = all 0
+facts_more P nothing (p ∷ parts) part fact all (suc k) = facts_more P nothing parts part fact (λ j. all (suc j)) k

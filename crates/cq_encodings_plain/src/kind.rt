@@ -1,6 +1,7 @@
 //! Numbers and days, which are both kept as numbers.
-ghost use Rattle.std.specs.Prelude.{IfSome, false, ◌≡◌};
-ghost use Rattle.cq_encodings_plain.specs.Kind.{datum};
+ghost use Rattle.std.specs.Prelude.{IfSome, false, true, ◌≡◌};
+ghost use Rattle.std.specs.Bool.{OnTrue};
+ghost use Rattle.cq_encodings_plain.specs.Kind.{IsOf, datum};
 ghost use Rattle.cq_encodings_plain.specs.declared.kind.Kind.TheVariants.{Days};
 ghost use Rattle.cq_values.specs.Lent.{owned};
 ghost use Rattle.cq_values.specs.Value.{is_null};
@@ -40,6 +41,19 @@ pub fn lend_unless<'a>(kind: Kind, number: i128, is_null: bool) -> Lent<'a>
     }
 }
 
+/// Whether the number stands for something of the kind.
+pub fn is_of(kind: Kind, number: i64) -> bool
+    ensures { OnTrue result (IsOf kind number) }
+{
+    match kind {
+        Kind::Numbers => true,
+        Kind::Days => match i32::try_from(number) {
+            Ok(number) => Day::new(number).is_some(),
+            Err(_) => false,
+        },
+    }
+}
+
 fn lend_day<'a>(number: i32) -> Lent<'a>
     ensures { owned result ≡ datum Days number false }
 {
@@ -51,7 +65,9 @@ fn lend_day<'a>(number: i32) -> Lent<'a>
 
 /// The number of 64 bits that stands for a value, and any for NULL. None where there is no such number.
 pub fn number_of(kind: Kind, value: &Value, any: i64) -> Option<i64>
-    ensures { IfSome result (λ number. datum kind number (is_null value.now) ≡ value.now) }
+    ensures same { IfSome result (λ number. datum kind number (is_null value.now) ≡ value.now) }
+    ensures any { IfSome result (λ number. is_null value.now ≡ true → number ≡ any) }
+    ensures kind { IfSome result (λ number. is_null value.now ≡ false → IsOf kind number) }
 {
     match (kind, value) {
         (_, Value::Null) => Some(any),

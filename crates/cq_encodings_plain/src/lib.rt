@@ -18,7 +18,7 @@ mod tests;
 
 pub use decoded::Decoded;
 pub use encoded::Encoded;
-pub use kind::{Kind, kind_of, lend_number, lend_unless, number_of};
+pub use kind::{Kind, is_of, kind_of, lend_number, lend_unless, number_of};
 pub use nulls::Nulls;
 pub use packed_numbers::{PackedNumbers, Widths, width_of};
 pub use plain::Plain;

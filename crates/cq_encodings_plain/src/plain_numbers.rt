@@ -1,7 +1,8 @@
 //! Numbers or days that are far apart.
-ghost use Rattle.std.specs.Prelude.{IfOk, IfSome, length, map, ◌≡◌};
+ghost use Rattle.std.specs.Prelude.{IfOk, IfSome, length, map, pos, ◌≡◌};
 ghost use Rattle.std.specs.Simd.Lanes.{zip2};
 ghost use Rattle.cq_encodings_plain.specs.Kind.{datum};
+ghost use Rattle.cq_encodings_plain.specs.Nulls.{NothingWhere};
 ghost use Rattle.cq_values.specs.Value.{is_null};
 
 use crate::encoded::Encoded;
@@ -20,16 +21,17 @@ pub struct PlainNumbers {
 }
 
 impl Model for PlainNumbers {
-    ghost use Rattle.std.specs.Prelude.{List, length, ◌≡◌};
+    ghost use Rattle.std.specs.Prelude.{List, length, pos, ◌≡◌};
     ghost use Rattle.std.specs.Simd.Lanes.{zip2};
     ghost use Rattle.cq_encodings_plain.specs.Kind.{datum};
+    ghost use Rattle.cq_encodings_plain.specs.Nulls.{NothingWhere};
     ghost use Rattle.cq_values.specs.declared.value.Value.{Value as Datum};
 
     ghost Value = { List Datum };
 
     ghost view = { λ p. zip2 (datum p.kind) p.numbers.items p.nulls };
 
-    ghost invariant = { λ p. length p.nulls ≡ length p.numbers.items };
+    ghost invariant = { λ p. (length p.nulls ≡ length p.numbers.items) × NothingWhere (pos 0) p.nulls p.numbers.items };
 }
 
 impl PlainNumbers {
@@ -50,6 +52,15 @@ impl PlainNumbers {
             nulls,
         }))
     }
+
+    /// The kind, the numbers and the flags, for loops: 0 where NULL stands.
+    pub fn parts(&self) -> (Kind, &[i64], &Nulls)
+        ensures whole { self.now ≡ zip2 (datum result.0) result.1.now result.2.now }
+        ensures long { length result.2.now ≡ length result.1.now }
+        ensures clear { NothingWhere (pos 0) result.2.now result.1.now }
+    {
+        (self.kind, self.numbers.as_slice(), &self.nulls)
+    }
 }
 
 impl Encoded for PlainNumbers {
@@ -69,6 +80,7 @@ impl Encoded for PlainNumbers {
 
 fn numbers_of(alloc: Global, values: &[Value], kind: Kind) -> Result<Option<Vec<i64>>, AllocError>
     ensures long { IfOk result (λ found. IfSome found (λ numbers. length numbers.items ≡ length values.now)) }
+    ensures clear { IfOk result (λ found. IfSome found (λ numbers. NothingWhere (pos 0) (map is_null values.now) numbers.items)) }
     ensures same { IfOk result (λ found. IfSome found (λ numbers. zip2 (datum kind) numbers.items (map is_null values.now) ≡ values.now)) }
 {
     let mut numbers = Vec::new(alloc);

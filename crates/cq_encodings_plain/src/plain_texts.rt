@@ -1,6 +1,7 @@
 //! Texts that are different.
-ghost use Rattle.std.specs.Prelude.{IfOk, IfSome, length, map, ◌≡◌};
+ghost use Rattle.std.specs.Prelude.{[], IfOk, IfSome, length, map, true, ◌≡◌};
 ghost use Rattle.std.specs.Simd.Lanes.{zip2};
+ghost use Rattle.cq_encodings_plain.specs.Nulls.{NothingWhere};
 ghost use Rattle.cq_values.specs.Value.{is_null};
 ghost use Rattle.cq_vectors.specs.Columns.{text_unless};
 
@@ -19,8 +20,9 @@ pub struct PlainTexts {
 }
 
 impl Model for PlainTexts {
-    ghost use Rattle.std.specs.Prelude.{List, length, ◌≡◌};
+    ghost use Rattle.std.specs.Prelude.{List, [], length, ◌≡◌};
     ghost use Rattle.std.specs.Simd.Lanes.{zip2};
+    ghost use Rattle.cq_encodings_plain.specs.Nulls.{NothingWhere};
     ghost use Rattle.cq_values.specs.declared.value.Value.{Value as Datum};
     ghost use Rattle.cq_vectors.specs.Columns.{text_unless};
 
@@ -28,7 +30,7 @@ impl Model for PlainTexts {
 
     ghost view = { λ p. zip2 text_unless p.texts p.nulls };
 
-    ghost invariant = { λ p. length p.nulls ≡ length p.texts };
+    ghost invariant = { λ p. (length p.nulls ≡ length p.texts) × NothingWhere [] p.nulls p.texts };
 }
 
 impl PlainTexts {
@@ -41,6 +43,15 @@ impl PlainTexts {
         };
         let nulls = Nulls::of(alloc, values)?;
         Ok(Some(PlainTexts { texts, nulls }))
+    }
+
+    /// The texts and the flags, for loops: an empty text where NULL stands.
+    pub fn parts(&self) -> (&TextRun, &Nulls)
+        ensures whole { self.now ≡ zip2 text_unless result.0.now result.1.now }
+        ensures long { length result.1.now ≡ length result.0.now }
+        ensures clear { NothingWhere [] result.1.now result.0.now }
+    {
+        (&self.texts, &self.nulls)
     }
 }
 
@@ -61,6 +72,7 @@ impl Encoded for PlainTexts {
 
 fn texts_of(alloc: Global, values: &[Value]) -> Result<Option<TextRun>, AllocError>
     ensures long { IfOk result (λ found. IfSome found (λ texts. length texts ≡ length values.now)) }
+    ensures clear { IfOk result (λ found. IfSome found (λ texts. NothingWhere [] (map is_null values.now) texts)) }
     ensures same { IfOk result (λ found. IfSome found (λ texts. zip2 text_unless texts (map is_null values.now) ≡ values.now)) }
 {
     let mut texts = TextRun::new(alloc);
@@ -75,7 +87,8 @@ fn texts_of(alloc: Global, values: &[Value]) -> Result<Option<TextRun>, AllocErr
 
 /// The text, or an empty one for NULL. None where the value is a number or a day.
 pub(crate) fn text_of(value: &Value) -> Option<&str>
-    ensures { IfSome result (λ text. text_unless text.now (is_null value.now) ≡ value.now) }
+    ensures same { IfSome result (λ text. text_unless text.now (is_null value.now) ≡ value.now) }
+    ensures empty { IfSome result (λ text. is_null value.now ≡ true → text.now ≡ []) }
 {
     match value {
         Value::Text(text) => Some(text.as_str()),

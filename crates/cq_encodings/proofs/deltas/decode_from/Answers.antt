@@ -15,8 +15,14 @@ returns-then-start-len c =
 pub push_bits-requires : goal.push_bits-requires
 push_bits-requires c =
     let values = zip2 (bits_datum c.args.kind) c.args.numbers.now c.args.nulls.now in
-    omega (arith, ap length c.loop-place.invariant.done, length-take (c.loop-place.place - c.args.start) (drop c.args.start values),
-    c.loop-place-test.true, c.min-end.ensures, c.saturating_add.ensures)
+    omega (
+      arith,
+      ap length c.loop-place.invariant.done,
+      length-take (c.loop-place.place - c.args.start) (drop c.args.start values),
+      c.loop-place-test.true,
+      c.min-end.ensures,
+      c.saturating_add.ensures,
+    )
 
 pub loop-place-preserved : goal.loop-place-preserved
 loop-place-preserved c =

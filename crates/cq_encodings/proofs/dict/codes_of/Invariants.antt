@@ -1,6 +1,7 @@
 use Rattle.std.proofs.Common.{length, map, take, vec_capacity, vec_len, ◌+◌, ◌-◌, ◌<◌, ◌≡◌, ◌≤◌}
 use Rattle.std.specs.List.{All}
 use Rattle.std.specs.Simd.Lanes.{zip2}
+use Rattle.cq_encodings_plain.specs.Nulls.{NothingWhere}
 use Rattle.cq_values.specs.Value.{is_null}
 use Rattle.cq_vectors.specs.Columns.{text_unless, texts_of}
 use Rattle.cq_encodings.specs.Dict.{coded}
@@ -10,6 +11,7 @@ use Rattle.cq_encodings.proofs.dict.codes_of.Given as goal
 abbrev pub invariant-loop-value : goal.invariant-loop-value
 invariant-loop-value l = record {
   same : zip2 text_unless (coded (texts_of l.known.keys) l.codes.items) (map is_null (take l.value-index l.values)) ≡ take l.value-index l.values;
+  clear : NothingWhere 0 (map is_null (take l.value-index l.values)) l.codes.items;
   within : All (λ code. code < length (texts_of l.known.keys)) l.codes.items;
   some : 0 < length l.known.keys;
   long : length l.codes.items ≡ l.value-index;

@@ -6,4 +6,4 @@ use Rattle.cq_encodings_plain.proofs.plain_numbers.PlainNumbersEncoded.len.Goals
 pub returns : goal.returns
 returns c =
     let inside = c.self.inside in
-    omega (arith, c.len.ensures, length-zipped (datum inside.kind) inside.numbers.items inside.nulls c.self.invariant, ap length c.self.view_is)
+    omega (arith, c.len.ensures, length-zipped (datum inside.kind) inside.numbers.items inside.nulls c.self.invariant.0, ap length c.self.view_is)

@@ -14,10 +14,10 @@ returns-then-place-len c =
     let inside = c.self.inside in
     sym (ap (λ (vs : List Value). get_or vs c.args.place Null) (sym c.self.view_is)
     ∙ elim c.then-place-len.branch [
-      | then-place-len-via-then-place-len w ↦ zipped_past (datum inside.kind) inside.numbers.items inside.nulls c.args.place (omega (arith, w.if-place-len.true, c.len.ensures)) c.self.invariant
+      | then-place-len-via-then-place-len w ↦ zipped_past (datum inside.kind) inside.numbers.items inside.nulls c.args.place (omega (arith, w.if-place-len.true, c.len.ensures)) c.self.invariant.0
       | then-place-len-via-else-place-len+then-at w ↦
           zipped_at (datum inside.kind) inside.numbers.items inside.nulls c.args.place (pos 0) (get_or inside.numbers.items c.args.place (pos 0)) true
-          (omega (arith, w.if-place-len.false, c.len.ensures)) c.self.invariant refl (sym w.at.ensures ∙ w.if-at.true)
+          (omega (arith, w.if-place-len.false, c.len.ensures)) c.self.invariant.0 refl (sym w.at.ensures ∙ w.if-at.true)
     ])
 
 pub returns : goal.returns
@@ -29,5 +29,5 @@ returns c =
     c.lend_number.ensures
     ∙ ap (λ (z : ℤ). datum inside.kind z false) (to_z-of_z w128 c.from.result wide ∙ c.from.ensures ∙ to_z-of_z w64 number fits)
     ∙ sym (zipped_at (datum inside.kind) inside.numbers.items inside.nulls c.args.place number number false
-    (omega (arith, c.if-place-len.false, c.len.ensures)) c.self.invariant (sym c.index.ensures) (sym c.at.ensures ∙ c.if-at.false))
+    (omega (arith, c.if-place-len.false, c.len.ensures)) c.self.invariant.0 (sym c.index.ensures) (sym c.at.ensures ∙ c.if-at.false))
     ∙ ap (λ (vs : List Value). get_or vs c.args.place Null) c.self.view_is

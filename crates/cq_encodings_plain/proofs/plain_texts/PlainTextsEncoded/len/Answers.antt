@@ -6,4 +6,4 @@ use Rattle.cq_encodings_plain.proofs.plain_texts.PlainTextsEncoded.len.Goals as 
 pub returns : goal.returns
 returns c =
     let inside = c.self.inside in
-    c.len.ensures.len ∙ sym (length-zipped text_unless inside.texts inside.nulls c.self.invariant) ∙ ap length c.self.view_is
+    c.len.ensures.len ∙ sym (length-zipped text_unless inside.texts inside.nulls c.self.invariant.0) ∙ ap length c.self.view_is
