@@ -1,4 +1,5 @@
 pub mod Coded
+pub mod Different
 pub mod Neighbours
 pub mod Offsets
 pub mod Repeats

@@ -1,6 +1,9 @@
 -- Texts as their numbers among the different ones.
-use Rattle.std.specs.Prelude.{ℕ, ◌<◌, ◌≤◌, ◌≡◌, Bool, List, [], length, map, slice_index_or}
-use Rattle.std.specs.List.{All}
+use Rattle.std.specs.Prelude.{ℕ, ◌<◌, ◌≤◌, ◌≡◌, Bool, if◌then◌else◌, List, [], ◌∷◌, ◌++◌, fold, length, map, slice_index_or}
+use Rattle.std.specs.List.{All, list_any}
+use Rattle.std.specs.Str.{bytes_eq}
+use Rattle.cq_values.specs.declared.value.Value.{Value}
+use Rattle.cq_values.specs.declared.value.Value.TheVariants.{Text}
 use Rattle.cq_encodings_plain.specs.Nulls.{NothingWhere}
 
 -- the texts that the numbers stand for
@@ -17,3 +20,12 @@ pub record AreCodes (entries : List (List ℕ)) (codes : List ℕ) (nulls : List
   pub long : length nulls ≡ length codes
   pub clear : NothingWhere 0 nulls codes
   pub known : All (λ code. code < length entries) codes
+
+-- the texts so far, with that of a value if it is a text that is not among them
+abbrev pub with_text : List (List ℕ) → Value → List (List ℕ)
+with_text known (Text text) = if list_any (bytes_eq text) known then known else known ++ text ∷ []
+with_text known value = known
+
+-- the different texts among values, in the order of their first places
+abbrev pub different_texts : List Value → List (List ℕ)
+different_texts values = fold with_text [] values

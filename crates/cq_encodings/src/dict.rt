@@ -1,8 +1,10 @@
 //! Texts of which few are different.
-ghost use Rattle.std.specs.Prelude.{[], IfOk, IfSome, OnOk, length, map, slice_index_or, true, ◌<◌, ◌≡◌};
+ghost use Rattle.std.specs.Option.{IfNone};
+ghost use Rattle.std.specs.Prelude.{List, ℕ, [], IfOk, IfSome, OnOk, fold, length, map, slice_index_or, true, ◌<◌, ◌∷◌, ◌≡◌};
 ghost use Rattle.std.specs.Simd.Lanes.{zip2};
-ghost use Rattle.cq_encodings.specs.Dict.{AreCodes, Keeps, coded};
+ghost use Rattle.cq_encodings.specs.Dict.{AreCodes, Keeps, coded, different_texts, with_text};
 ghost use Rattle.cq_values.specs.Value.{is_null};
+ghost use Rattle.cq_values.specs.declared.value.Value.TheVariants.{Text};
 ghost use Rattle.cq_vectors.specs.Columns.{text_unless, texts_of};
 
 use cq_encodings_plain::{Encoded, Nulls, PackedNumbers, width_of};
@@ -22,9 +24,9 @@ pub struct Dict {
 }
 
 impl Model for Dict {
-    ghost use Rattle.std.specs.Prelude.{List};
+    ghost use Rattle.std.specs.Prelude.{List, ◌≡◌};
     ghost use Rattle.std.specs.Simd.Lanes.{zip2};
-    ghost use Rattle.cq_encodings.specs.Dict.{AreCodes, coded};
+    ghost use Rattle.cq_encodings.specs.Dict.{AreCodes, coded, different_texts};
     ghost use Rattle.cq_values.specs.declared.value.Value.{Value as Datum};
     ghost use Rattle.cq_vectors.specs.Columns.{text_unless};
 
@@ -32,7 +34,8 @@ impl Model for Dict {
 
     ghost view = { λ d. zip2 text_unless (coded d.entries d.codes) d.nulls };
 
-    ghost invariant = { λ d. AreCodes d.entries d.codes d.nulls };
+    ghost invariant = { λ d. AreCodes d.entries d.codes d.nulls
+        × (d.entries ≡ different_texts (zip2 text_unless (coded d.entries d.codes) d.nulls)) };
 }
 
 impl Dict {
@@ -60,12 +63,15 @@ impl Dict {
     pub fn parts(&self) -> (&TextRun, &PackedNumbers, &Nulls)
         ensures whole { self.now ≡ zip2 text_unless (coded result.0.now result.1.now) result.2.now }
         ensures parts { AreCodes result.0.now result.1.now result.2.now }
+        ensures different { result.0.now ≡ different_texts self.now }
     {
         (&self.entries, &self.codes, &self.nulls)
     }
 
     /// How many texts are different.
-    pub fn different(&self) -> usize {
+    pub fn different(&self) -> usize
+        ensures { result ≡ length (different_texts self.now) }
+    {
         self.entries.len()
     }
 }
@@ -103,6 +109,7 @@ fn codes_of<'a>(
     values: &'a [Value],
     most: usize,
 ) -> Result<Option<(IndexSet<&'a str>, Vec<u64>)>, AllocError>
+    ensures different { IfOk result (λ found. IfSome found (λ parts. texts_of parts.0.keys ≡ different_texts values.now)) }
     ensures known { IfOk result (λ found. IfSome found (λ parts. AreCodes (texts_of parts.0.keys) parts.1.items (map is_null values.now))) }
     ensures same { IfOk result (λ found. IfSome found (λ parts. zip2 text_unless (coded (texts_of parts.0.keys) parts.1.items) (map is_null values.now) ≡ values.now)) }
 {
@@ -125,13 +132,27 @@ fn codes_of<'a>(
     Ok(Some((known, codes)))
 }
 
-fn first_text(values: &[Value]) -> Option<&str> {
+/// The first text: with it alone to begin with, the different texts are the same.
+fn first_text(values: &[Value]) -> Option<&str>
+    ensures { IfSome result (λ text. fold with_text (text.now ∷ []) values.now ≡ different_texts values.now) }
+{
     for value in values {
-        if let Value::Text(text) = value {
-            return Some(text.as_str());
+        match text_in(value) {
+            Some(text) => return Some(text),
+            None => {}
         }
     }
     None
+}
+
+fn text_in(value: &Value) -> Option<&str>
+    ensures some { IfSome result (λ text. value.now ≡ Text text.now) }
+    ensures none { IfNone result ((known : List (List ℕ)) → with_text known value.now ≡ known) }
+{
+    match value {
+        Value::Text(text) => Some(text.as_str()),
+        _ => None,
+    }
 }
 
 /// Whether more texts are different than is worth it.
@@ -143,6 +164,7 @@ fn gives_up(seen: usize, different: usize, most: usize) -> bool {
 fn code_of<'a>(known: &mut IndexSet<&'a str>, value: &'a Value) -> Result<Option<u64>, AllocError>
     requires { 0 < length known.old.keys }
     ensures kept { OnOk result (Keeps (texts_of known.old.keys) (texts_of known.new.keys)) }
+    ensures met { OnOk result (texts_of known.new.keys ≡ with_text (texts_of known.old.keys) value.now) }
     ensures null { IfOk result (λ found. IfSome found (λ code. is_null value.now ≡ true → code ≡ 0)) }
     ensures within { IfOk result (λ found. IfSome found (λ code. code < length known.new.keys)) }
     ensures same { IfOk result (λ found. IfSome found (λ code. text_unless (slice_index_or (texts_of known.new.keys) code []) (is_null value.now) ≡ value.now)) }

@@ -7,8 +7,9 @@ use Rattle.cq_values.specs.Value.{is_null}
 use Rattle.cq_values.specs.declared.value.Value.TheVariants.{Null}
 use Rattle.cq_vectors.specs.Columns.{text_unless, texts_of}
 use Rattle.cq_encodings_plain.specs.Nulls.{NothingWhere}
-use Rattle.cq_encodings.specs.Dict.{coded}
+use Rattle.cq_encodings.specs.Dict.{coded, with_text}
 use Rattle.cq_encodings.proofs.Coded.{coded_more, length-coded, within_more}
+use Rattle.cq_encodings.proofs.Different.{met_more}
 use Rattle.cq_encodings_plain.proofs.Zipped.{nothing_more, zipped_more}
 use Rattle.cq_encodings.proofs.dict.codes_of.Goals as goal
 
@@ -31,6 +32,9 @@ loop-value-preserved c =
           ∙ zipped_more text_unless (coded old codes) (get_or new code []) c.args.values.now i c.value-item.result c.loop-value-test.true
           (sym (get_or_read c.args.values.now i c.value-item.result c.loop-value-test.true c.value-item.is Null))
           (length-coded old codes ∙ c.loop-value.invariant.long) is c.loop-value.invariant.same;
+      met = c.in_ok-code.ensures.met ∙ ap (λ (ts : List (List ℕ)). with_text ts c.value-item.result) c.loop-value.invariant.met
+          ∙ sym (met_more c.args.values.now (texts_of c.insert.new.self.keys) i c.value-item.result c.loop-value-test.true
+          (sym (get_or_read c.args.values.now i c.value-item.result c.loop-value-test.true c.value-item.is Null)));
       clear = subst (λ (ns : List ℕ). NothingWhere 0 flags ns) (sym c.push_reserved.ensures.items)
           (nothing_more 0 codes code c.args.values.now i c.value-item.result c.loop-value-test.true
           (sym (get_or_read c.args.values.now i c.value-item.result c.loop-value-test.true c.value-item.is Null))

@@ -9,5 +9,5 @@ pub returns : goal.returns
 returns c =
     let inside = c.self.inside in
     let long : length (coded inside.entries inside.codes) ≡ length inside.codes = length-coded inside.entries inside.codes in
-    let same : length inside.nulls ≡ length (coded inside.entries inside.codes) = omega (arith, long, c.self.invariant.long) in
+    let same : length inside.nulls ≡ length (coded inside.entries inside.codes) = omega (arith, long, c.self.invariant.0.long) in
     omega (arith, c.len.ensures, long, length-zipped text_unless (coded inside.entries inside.codes) inside.nulls same, ap length c.self.view_is)

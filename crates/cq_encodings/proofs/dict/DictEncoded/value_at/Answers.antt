@@ -13,7 +13,7 @@ returns-then-place-len c =
     let inside = c.self.inside in
     let texts = coded inside.entries inside.codes in
     let long : length texts ≡ length inside.codes = length-coded inside.entries inside.codes in
-    let same : length inside.nulls ≡ length texts = omega (arith, long, c.self.invariant.long) in
+    let same : length inside.nulls ≡ length texts = omega (arith, long, c.self.invariant.0.long) in
     sym (ap (λ (vs : List Value). get_or vs c.args.place Null) (sym c.self.view_is)
     ∙ elim c.then-place-len.branch [
       | then-place-len-via-then-place-len w ↦ zipped_past text_unless texts inside.nulls c.args.place (omega (arith, w.if-place-len.true, c.len.ensures, long)) same
@@ -27,7 +27,7 @@ returns c =
     let inside = c.self.inside in
     let texts = coded inside.entries inside.codes in
     let long : length texts ≡ length inside.codes = length-coded inside.entries inside.codes in
-    let same : length inside.nulls ≡ length texts = omega (arith, long, c.self.invariant.long) in
+    let same : length inside.nulls ≡ length texts = omega (arith, long, c.self.invariant.0.long) in
     sym (zipped_at text_unless texts inside.nulls c.args.place [] c.text_at.result.now false
     (omega (arith, c.if-place-len.false, c.len.ensures, long)) same
     (coded_at inside.entries inside.codes c.args.place c.at-2.result (omega (arith, c.if-place-len.false, c.len.ensures)) (sym c.at-2.ensures) ∙ sym c.text_at.ensures)
