@@ -1,4 +1,4 @@
-use Rattle.std.proofs.Common.{List, [], ◌∷◌, ap, ap₂, arith, drop, get_or, length, sym, take, ◌++◌, ◌+◌, ◌-◌, ◌<◌, ◌≡◌, ◌∙◌}
+use Rattle.std.proofs.Common.{List, [], ◌∷◌, ap, ap₂, arith, drop, length, sym, take, ◌++◌, ◌-◌, ◌<◌, ◌≡◌, ◌∙◌}
 use Rattle.std.specs.Simd.Lanes.{zip2}
 use Rattle.std.proofs.lemmas.List.{drop_all, length-take}
 use Rattle.cq_values.specs.declared.value.Value.{Value}

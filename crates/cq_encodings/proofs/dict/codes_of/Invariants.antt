@@ -1,4 +1,4 @@
-use Rattle.std.proofs.Common.{[], length, map, take, vec_capacity, vec_len, ◌+◌, ◌-◌, ◌<◌, ◌∷◌, ◌≡◌, ◌≤◌}
+use Rattle.std.proofs.Common.{length, map, take, vec_capacity, vec_len, ◌+◌, ◌-◌, ◌<◌, ◌≡◌, ◌≤◌}
 use Rattle.std.specs.List.{All, fold}
 use Rattle.std.specs.Simd.Lanes.{zip2}
 use Rattle.cq_encodings_plain.specs.Nulls.{NothingWhere}
