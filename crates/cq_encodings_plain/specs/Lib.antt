@@ -1,0 +1,4 @@
+pub mod Kind
+pub mod Nulls
+pub mod PackedNumbers
+pub mod Plain

@@ -1,0 +1,74 @@
+//! Which values of a column are NULL.
+//!
+//! The flags stand in planes of 1,024, all full but for the last, so that a vector of 1,024 values is lent its plane.
+ghost use Rattle.std.specs.Option.{IfNone};
+ghost use Rattle.std.specs.Prelude.{[], IfOk, IfSome, drop, false, length, map, slice_index_or, take, ◌*◌, ◌≡◌, ◌≤◌};
+ghost use Rattle.cq_values.specs.Value.{is_null};
+
+use cq_values::Value;
+use cq_vectors_masks::Plane;
+use std::alloc::{AllocError, Global};
+use std::marker::Model;
+
+/// A flag for each value.
+#[derive(Drop)]
+pub struct Nulls {
+    planes: Vec<Plane>,
+}
+
+impl Model for Nulls {
+    ghost use Rattle.std.specs.Prelude.{Bool, List};
+    ghost use Rattle.cq_encodings_plain.specs.Nulls.{ArePieces, joined};
+
+    ghost Value = { List Bool };
+
+    ghost view = { λ n. joined n.planes.items };
+
+    ghost invariant = { λ n. ArePieces n.planes.items (joined n.planes.items) };
+}
+
+impl Nulls {
+    /// The flags of values. An error comes where there is no memory for the planes.
+    pub fn of(alloc: Global, values: &[Value]) -> Result<Nulls, AllocError>
+        ensures { IfOk result (λ nulls. nulls ≡ map is_null values.now) }
+    {
+        let count = values.len().div_ceil(1024);
+        let mut planes = Vec::new(alloc);
+        planes.reserve(count)?;
+        for k in 0..count {
+            planes.push_reserved(plane_of(values, 1024 * k));
+        }
+        Ok(Nulls { planes })
+    }
+
+    /// Whether the value at a place is NULL; past the end there is none that is.
+    pub fn at(&self, place: usize) -> bool
+        ensures { result ≡ slice_index_or self.now place false }
+    {
+        match self.planes.get(place / 1024) {
+            Some(plane) => plane.get(place % 1024),
+            None => false,
+        }
+    }
+
+    /// The flags of the values from 1,024 * k on, at most 1,024, or None past the end.
+    pub fn plane(&self, k: usize) -> Option<&Plane>
+        ensures there { IfSome result (λ plane. plane.now ≡ take 1024 (drop (1024 * k) self.now)) }
+        ensures past { IfNone result (take 1024 (drop (1024 * k) self.now) ≡ []) }
+    {
+        self.planes.get(k)
+    }
+}
+
+/// The flags of 1,024 values from a place on, or of as many as are left.
+fn plane_of(values: &[Value], start: usize) -> Plane
+    requires { start ≤ length values.now }
+    ensures { result ≡ map is_null (take 1024 (drop start values.now)) }
+{
+    let mut plane = Plane::new();
+    let count = (values.len() - start).min(1024);
+    for i in 0..count {
+        plane.push(values[start + i].is_null());
+    }
+    plane
+}
