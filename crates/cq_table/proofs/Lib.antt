@@ -10,3 +10,4 @@ pub mod Tables
 pub mod Setting
 pub mod Checked
 pub mod Widths
+pub mod Replaced

@@ -16,6 +16,7 @@ use Rattle.cq_table.specs.declared.fault.TableFault.{TableFault}
 use Rattle.cq_table.specs.declared.fault.TableFault.TheVariants as tables
 use Rattle.cq_table.specs.Found.{IsFound}
 use Rattle.cq_table.specs.Table.{StoredTable, table_rows}
+use Rattle.cq_model_state.specs.Fitting.{FitsColumns}
 
 -- the refusal of a statement that the fault of a table is
 abbrev pub fault_of : TableFault → Fault
@@ -60,6 +61,11 @@ values_fault columns assignments rows = first_fault (flat_map (value_checks colu
 -- why the values that the chosen rows get may not be stored
 abbrev pub value_fault : List ColumnDef → List Assignment → Option Cond → List Row → Option Fault
 value_fault columns assignments condition rows = first_fault (image_checks columns assignments condition rows)
+
+-- where the images of the chosen rows may be stored, they fit the columns
+abbrev pub DoFit : List ColumnDef → List Assignment → Option Cond → List Row → Type 0
+DoFit columns assignments condition rows =
+    value_fault columns assignments condition rows ≡ None → AllByRecursion (λ row. FitsColumns columns (image_of assignments row)) (chosen condition rows)
 
 -- if WHERE found the places, the values that the rows get which it keeps are checked
 abbrev pub ChecksFound : {X : Type 0} → List Assignment → List ℕ → StoredTable → Result X TableFault → Type 0

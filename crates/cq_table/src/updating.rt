@@ -5,9 +5,11 @@
 //! and of its image.
 ghost use Rattle.std.specs.List.{AllByRecursion};
 ghost use Rattle.std.specs.Prelude.{◌≡◌, IfOk, OnErr, OnOk, length};
+ghost use Rattle.cq_model_bags.specs.Canonical.{bag_of};
+ghost use Rattle.cq_model.specs.Write.{chosen, updated};
 ghost use Rattle.cq_model_state.specs.Fitting.{FitsColumns};
 ghost use Rattle.cq_table.specs.Changes.{Exchanges, LeavesFound};
-ghost use Rattle.cq_table.specs.Checks.{AreImages, AreNarrowSets, ChecksFound, IsChecked, values_fault};
+ghost use Rattle.cq_table.specs.Checks.{AreImages, AreNarrowSets, CanWorkOut, ChecksFound, DoFit, IsChecked, value_fault, values_fault};
 ghost use Rattle.cq_table.specs.Found.{AreLiveAt, found_rows};
 ghost use Rattle.cq_table.specs.Table.{stored_in, table_rows};
 
@@ -16,7 +18,7 @@ use crate::found::Found;
 use crate::images::{check_values, copies, images};
 use crate::placing::mark_all;
 use crate::table::{Table, push_all};
-use cq_model::Assignment;
+use cq_model::{Assignment, Cond};
 use cq_values::Row;
 use std::alloc::{AllocError, Global};
 
@@ -58,5 +60,26 @@ impl Table {
         mark_all(&mut self.segments, &mut self.written, found.places());
         push_all(&mut self.written, images);
         Ok(())
+    }
+
+    /// Puts the image of each row that WHERE keeps in its place, where the images may be stored, and tells how many they
+    /// were: all of it, or nothing. Each expression reads the old row.
+    pub fn update_where(
+        &mut self,
+        alloc: Global,
+        assignments: &[Assignment],
+        condition: &Option<Cond>,
+    ) -> Result<usize, TableFault>
+        requires work { CanWorkOut assignments.now condition.now (table_rows self.old) }
+        requires fit { DoFit self.old.columns assignments.now condition.now (table_rows self.old) }
+        ensures checked { IsChecked (value_fault self.old.columns assignments.now condition.now (table_rows self.old)) result }
+        ensures count { IfOk result (λ count. count ≡ length (chosen condition.now (table_rows self.old))) }
+        ensures updated { OnOk result (table_rows self.new ≡ bag_of (updated assignments.now condition.now (table_rows self.old))) }
+        ensures err { OnErr result (self.new ≡ self.old) }
+    {
+        let found = self.find(alloc, condition)?;
+        let (_gone, images) = self.images(alloc, assignments, &found)?;
+        self.replace(&found, images)?;
+        Ok(found.len())
     }
 }
