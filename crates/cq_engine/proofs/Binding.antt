@@ -409,8 +409,9 @@ module _ (files : Files) (tables : List TableOf) (views : List ViewOf) (now draw
     free : first_fault (binding_checks files old statement) ≡ None
     free = sym (ap first_fault (same_binding files old statement).0) ∙ free_alone
 
-    is : bound files old statement ≡ Some command
-    is = sym (same_binding files old statement).1 ∙ is_alone
+    -- its command is that of the whole state
+    pub bound_here : bound files old statement ≡ Some command
+    bound_here = sym (same_binding files old statement).1 ∙ is_alone
 
   -- where it is bound, the room for its rows is all that can still refuse it
   insert_room : (name : List ℕ) (rows : List (List Constant)) (t : TableOf) → table_named name tables ≡ Some t → first_fault (rows_walk rows (written_table name old)) ≡ None
@@ -503,7 +504,7 @@ module _ (files : Files) (tables : List TableOf) (views : List ViewOf) (now draw
 
   module _ (statement : Statement) (command : Bound) (free_alone : first_fault (binding_checks files (bare tables views) statement) ≡ None) (is_alone : bound files (bare tables views) statement ≡ Some command) where
     decides : refusal files old statement ≡ room old command
-    decides = room_decides statement command (free statement command free_alone is_alone) (is statement command free_alone is_alone)
+    decides = room_decides statement command (free statement command free_alone is_alone) (bound_here statement command free_alone is_alone)
 
     room_refused : (f : Fault) (new : State) → MayRefuse (room old command) f → new ≡ old → Refuses files old statement f new
     room_refused faults.Memory new m same = for_memory refl same
@@ -513,7 +514,7 @@ module _ (files : Files) (tables : List TableOf) (views : List ViewOf) (now draw
     carried_refused f new (inl m) same = room_refused f new m same
     carried_refused f new (inr w) same =
         let select = only_select command w.1 in
-        too_large command (decides ∙ select.0) (is statement command free_alone is_alone) w.1 w.0 (record {
+        too_large command (decides ∙ select.0) (bound_here statement command free_alone is_alone) w.1 w.0 (record {
           views = subst (λ (s : State). AreBetween (reach old command) 0 views s.views) (sym same) select.1;
           state = same ∙ ap (λ (s : State). with_all_views s.views old) (sym same);
         })
@@ -535,7 +536,7 @@ module _ (files : Files) (tables : List TableOf) (views : List ViewOf) (now draw
     pub carried : (result : Result Answer Fault) (new : State) → CarriesOut old command result new → Step files old statement result new
     carried (Ok answer) new c = record {
       on_the_way = c.1.on_the_way;
-      does = record { free = decides ∙ c.0; command = command; is_bound = is statement command free_alone is_alone; accepts = c.1.accepts };
+      does = record { free = decides ∙ c.0; command = command; is_bound = bound_here statement command free_alone is_alone; accepts = c.1.accepts };
       trims = c.1.trims;
     }
     carried (Err f) new c = carried_refused f new c.0 c.1

@@ -5,6 +5,7 @@ pub mod Shapes
 pub mod Widths
 pub mod Kept
 pub mod Stored
+pub mod Lengths
 pub mod Entries
 pub mod TableColumns
 pub mod Creating

@@ -5,6 +5,7 @@
 ghost use Rattle.std.specs.Prelude.{◌≡◌, length, option_map};
 ghost use Rattle.cq_model.specs.Views.{sources_of};
 ghost use Rattle.cq_engine.specs.Views.{query_named};
+ghost use Rattle.cq_engine_tables.specs.HeldTables.{tables_of};
 ghost use Rattle.cq_engine_tables.specs.Views.{views_of};
 
 use cq_binder::{Catalog, TableEntry, ViewEntry};
@@ -26,18 +27,19 @@ impl<'a> Model for EngineCatalog<'a> {
     ghost use Rattle.cq_model.specs.contracts.expr.Cond as cond;
     ghost use Rattle.cq_model.specs.contracts.expr.Expr as expr;
     ghost use Rattle.cq_model_state.specs.State.{TableOf, ViewOf};
+    ghost use Rattle.cq_engine_tables.specs.HeldTables.{tables_of};
     ghost use Rattle.cq_engine_tables.specs.Views.{views_of};
 
     ghost Value = { List TableOf × List ViewOf };
 
     ghost coded = { Prim.hlevel (codes, expr.the_row.coded, cond.the_row.coded) };
 
-    ghost view = { λ c. (c.tables.now, views_of c.views.now) };
+    ghost view = { λ c. (tables_of c.tables.now, views_of c.views.now) };
 }
 
 impl<'a> EngineCatalog<'a> {
     pub(crate) fn new(tables: &'a [NamedTable], views: &'a [View]) -> EngineCatalog<'a>
-        ensures { result ≡ (tables.now, views_of views.now) }
+        ensures { result ≡ (tables_of tables.now, views_of views.now) }
     {
         EngineCatalog { tables, views }
     }

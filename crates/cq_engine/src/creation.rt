@@ -6,6 +6,7 @@ ghost use Rattle.cq_model_state.specs.State.{AreNumbered};
 ghost use Rattle.cq_model_step.specs.Next.{new_view};
 ghost use Rattle.cq_engine_answers.specs.Reading.{AreTablesThere};
 ghost use Rattle.cq_engine.specs.Commands.{CanBuild};
+ghost use Rattle.cq_engine_tables.specs.HeldTables.{tables_of};
 ghost use Rattle.cq_engine_tables.specs.Views.{AreRight, Fits, views_of};
 ghost use Rattle.cq_engine.specs.Views.{IsAdded, IsBuilt};
 
@@ -27,13 +28,13 @@ pub(crate) fn create_view_in(
     query: Query,
     now: u64,
 ) -> Result<(), AllocError>
-    requires numbered { (next : ℕ) × AreNumbered tables.now next }
-    requires fitting { AreFitting tables.now }
-    requires limited { AreLimited rows_limit tables.now }
-    requires right { AreRight tables.now now views.old.items }
-    requires can_build { CanBuild tables.now (views_of views.old.items) columns query }
+    requires numbered { (next : ℕ) × AreNumbered (tables_of tables.now) next }
+    requires fitting { AreFitting (tables_of tables.now) }
+    requires limited { AreLimited rows_limit (tables_of tables.now) }
+    requires right { AreRight (tables_of tables.now) now views.old.items }
+    requires can_build { CanBuild (tables_of tables.now) (views_of views.old.items) columns query }
     ensures created { OnOk result (IsAdded (new_view name columns query now) views.old views.new) }
-    ensures right { AreRight tables.now now views.new.items }
+    ensures right { AreRight (tables_of tables.now) now views.new.items }
     ensures err { OnErr result (views.new.items ≡ views.old.items) }
 {
     let state = built_state(alloc, tables, query, now)?;
@@ -48,12 +49,12 @@ fn built_state(
     query: Query,
     now: u64,
 ) -> Result<KeptView, AllocError>
-    requires numbered { (next : ℕ) × AreNumbered tables.now next }
-    requires fitting { AreFitting tables.now }
-    requires limited { AreLimited rows_limit tables.now }
+    requires numbered { (next : ℕ) × AreNumbered (tables_of tables.now) next }
+    requires fitting { AreFitting (tables_of tables.now) }
+    requires limited { AreLimited rows_limit (tables_of tables.now) }
     requires fits { Fits query }
-    requires there { AreTablesThere tables.now (sources_of query) }
-    ensures { IfOk result (IsBuilt tables.now query now) }
+    requires there { AreTablesThere (tables_of tables.now) (sources_of query) }
+    ensures { IfOk result (IsBuilt (tables_of tables.now) query now) }
 {
     let sources = gathered_rows(alloc, tables, &query)?;
     let widths = widths_of(alloc, tables, &query)?;

@@ -3,6 +3,7 @@ ghost use Rattle.std.specs.Prelude.{◌≡◌, ℕ, IfOk, List, OnOk};
 ghost use Rattle.cq_model.specs.Views.{sources_of};
 ghost use Rattle.cq_model_state.specs.State.{AreNumbered, ViewOf};
 ghost use Rattle.cq_engine_answers.specs.Reading.{AreTablesThere, IsSourceThere};
+ghost use Rattle.cq_engine_tables.specs.HeldTables.{tables_of};
 ghost use Rattle.cq_engine.specs.Gathering.{AreGathered, GathersAlso, is_gathered};
 
 use cq_engine_answers::rows_there;
@@ -18,9 +19,9 @@ pub(crate) fn gathered_rows<'a>(
     tables: &'a [NamedTable],
     query: &Query,
 ) -> Result<Vec<StoredSource<'a>>, AllocError>
-    requires numbered { (next : ℕ) × AreNumbered tables.now next }
-    requires there { AreTablesThere tables.now (sources_of query.now) }
-    ensures { IfOk result (λ gathered. AreGathered tables.now (sources_of query.now) gathered.items) }
+    requires numbered { (next : ℕ) × AreNumbered (tables_of tables.now) next }
+    requires there { AreTablesThere (tables_of tables.now) (sources_of query.now) }
+    ensures { IfOk result (λ gathered. AreGathered (tables_of tables.now) (sources_of query.now) gathered.items) }
 {
     let sources = sources_of(alloc, query)?;
     gather_all(alloc, tables, &sources)
@@ -32,9 +33,9 @@ fn gather_all<'a>(
     tables: &'a [NamedTable],
     sources: &[Source],
 ) -> Result<Vec<StoredSource<'a>>, AllocError>
-    requires numbered { (next : ℕ) × AreNumbered tables.now next }
-    requires there { AreTablesThere tables.now sources.now }
-    ensures { IfOk result (λ gathered. AreGathered tables.now sources.now gathered.items) }
+    requires numbered { (next : ℕ) × AreNumbered (tables_of tables.now) next }
+    requires there { AreTablesThere (tables_of tables.now) sources.now }
+    ensures { IfOk result (λ gathered. AreGathered (tables_of tables.now) sources.now gathered.items) }
 {
     let mut gathered = Vec::new(alloc);
     for source in sources {
@@ -49,9 +50,9 @@ fn gather<'a>(
     source: Source,
     gathered: &mut Vec<StoredSource<'a>>,
 ) -> Result<(), AllocError>
-    requires numbered { (next : ℕ) × AreNumbered tables.now next }
-    requires there { (views : List ViewOf) × IsSourceThere tables.now views source }
-    ensures { OnOk result (GathersAlso tables.now source gathered.old.items gathered.new.items) }
+    requires numbered { (next : ℕ) × AreNumbered (tables_of tables.now) next }
+    requires there { (views : List ViewOf) × IsSourceThere (tables_of tables.now) views source }
+    ensures { OnOk result (GathersAlso (tables_of tables.now) source gathered.old.items gathered.new.items) }
 {
     if is_gathered(gathered, source) {
         return Ok(());

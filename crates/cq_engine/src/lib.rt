@@ -7,6 +7,7 @@
 
 mod answer_source;
 mod catalog;
+mod commands;
 mod creation;
 mod engine;
 mod gathering;

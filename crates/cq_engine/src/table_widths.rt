@@ -4,6 +4,7 @@ ghost use Rattle.std.specs.Prelude.{◌<◌, ◌^◌, ℕ, IfOk, sum};
 ghost use Rattle.cq_model.specs.Views.{sources_of};
 ghost use Rattle.cq_model_state.specs.State.{AreNumbered};
 ghost use Rattle.cq_engine.specs.TableWidths.{IsTableThere};
+ghost use Rattle.cq_engine_tables.specs.HeldTables.{tables_of};
 ghost use Rattle.cq_engine_tables.specs.Views.{AreWide, IsWide};
 
 use cq_engine_tables::{NamedTable, place_numbered};
@@ -19,9 +20,9 @@ pub(crate) fn widths_of(
     tables: &[NamedTable],
     query: &Query,
 ) -> Result<Seq<usize>, AllocError>
-    requires numbered { (next : ℕ) × AreNumbered tables.now next }
-    requires there { AllByRecursion (IsTableThere tables.now) (sources_of query.now) }
-    ensures wide { IfOk result (λ widths. AreWide tables.now query.now widths) }
+    requires numbered { (next : ℕ) × AreNumbered (tables_of tables.now) next }
+    requires there { AllByRecursion (IsTableThere (tables_of tables.now)) (sources_of query.now) }
+    ensures wide { IfOk result (λ widths. AreWide (tables_of tables.now) query.now widths) }
     ensures sum { IfOk result (λ widths. sum widths < 2 ^ 64) }
 {
     let sources = sources_of(alloc, query)?;
@@ -34,9 +35,9 @@ fn all_widths(
     tables: &[NamedTable],
     sources: &[Source],
 ) -> Result<Seq<usize>, AllocError>
-    requires numbered { (next : ℕ) × AreNumbered tables.now next }
-    requires there { AllByRecursion (IsTableThere tables.now) sources.now }
-    ensures wide { IfOk result (λ widths. AllZip (IsWide tables.now) sources.now widths) }
+    requires numbered { (next : ℕ) × AreNumbered (tables_of tables.now) next }
+    requires there { AllByRecursion (IsTableThere (tables_of tables.now)) sources.now }
+    ensures wide { IfOk result (λ widths. AllZip (IsWide (tables_of tables.now)) sources.now widths) }
     ensures sum { IfOk result (λ widths. sum widths < 2 ^ 64) }
 {
     let mut widths = Seq::new(alloc);
@@ -51,9 +52,9 @@ fn all_widths(
 
 /// How many columns the table of a source has.
 fn width_of(tables: &[NamedTable], source: Source) -> usize
-    requires numbered { (next : ℕ) × AreNumbered tables.now next }
-    requires there { IsTableThere tables.now source }
-    ensures { IsWide tables.now source result }
+    requires numbered { (next : ℕ) × AreNumbered (tables_of tables.now) next }
+    requires there { IsTableThere (tables_of tables.now) source }
+    ensures { IsWide (tables_of tables.now) source result }
 {
     match source {
         Source::Table(number) => {

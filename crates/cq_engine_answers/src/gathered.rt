@@ -10,6 +10,7 @@ ghost use Rattle.cq_views.specs.Shown.{AreRowsOf, IsShown};
 ghost use Rattle.cq_engine_answers.specs.Reading.{AreViewsThere, IsSourceThere};
 ghost use Rattle.cq_engine_answers.specs.Gathered.{AreGathered, AreLent, AreRowsThere, CanLend, HaveColumnsOf, IsBacked, IsGatherFault, IsGathered, IsReadFault, IsShowFault};
 ghost use Rattle.cq_engine_answers.specs.Selects.{shown_as};
+ghost use Rattle.cq_engine_tables.specs.HeldTables.{tables_of};
 ghost use Rattle.cq_engine_tables.specs.Views.{views_of};
 
 use cq_binder_rules::Fault;
@@ -88,9 +89,9 @@ pub(crate) fn lend_all<'a>(
     tables: &'a [NamedTable],
     gathered: &'a [Gathered],
 ) -> Result<Vec<StoredSource<'a>>, AllocError>
-    requires numbered { (next : ℕ) × AreNumbered tables.now next }
-    requires there { CanLend tables.now gathered.now }
-    ensures { IfOk result (λ lent. AreLent tables.now gathered.now lent.items) }
+    requires numbered { (next : ℕ) × AreNumbered (tables_of tables.now) next }
+    requires there { CanLend (tables_of tables.now) gathered.now }
+    ensures { IfOk result (λ lent. AreLent (tables_of tables.now) gathered.now lent.items) }
 {
     let mut lent = Vec::new(alloc);
     for one in gathered {
@@ -103,9 +104,9 @@ pub(crate) fn lend_all<'a>(
 
 /// The rows of a table where they are, or those that a view showed.
 pub fn rows_there<'a>(tables: &'a [NamedTable], source: Source, shown: &'a [Row]) -> Stored<'a>
-    requires numbered { (next : ℕ) × AreNumbered tables.now next }
-    requires there { (vs : List ViewOf) × IsSourceThere tables.now vs source }
-    ensures { AreRowsThere tables.now source shown.now (all_rows result) }
+    requires numbered { (next : ℕ) × AreNumbered (tables_of tables.now) next }
+    requires there { (vs : List ViewOf) × IsSourceThere (tables_of tables.now) vs source }
+    ensures { AreRowsThere (tables_of tables.now) source shown.now (all_rows result) }
 {
     match source {
         Source::Table(number) => tables[place_numbered(tables, number)].rows(),

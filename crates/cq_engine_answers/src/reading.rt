@@ -10,6 +10,7 @@ ghost use Rattle.cq_engine_answers.specs.Lent.{AreOthers, CanAnswer};
 ghost use Rattle.cq_engine_answers.specs.Narrow.{IsWithinSized};
 ghost use Rattle.cq_engine_answers.specs.Reading.{CanRead, plain};
 ghost use Rattle.cq_engine_answers.specs.Selects.{Selects, SelectsKept, SelectsLent};
+ghost use Rattle.cq_engine_tables.specs.HeldTables.{tables_of};
 ghost use Rattle.cq_engine_tables.specs.Views.{AreRight, views_of};
 ghost use Rattle.cq_engine_answers.specs.Gathered.{IsBacked};
 
@@ -36,12 +37,12 @@ pub fn select_from(
     query: &Query,
     order: &Order,
 ) -> Result<RowList, Fault>
-    requires numbered { (next : ℕ) × AreNumbered tables.now next }
-    requires fitting { AreFitting tables.now }
-    requires few { AreLimited rows_limit tables.now }
-    requires right { (now : ℕ) × AreRight tables.now now views.now }
-    requires can_read { CanRead tables.now (views_of views.now) query.now }
-    ensures { Selects tables.now (views_of views.now) query.now order.now result }
+    requires numbered { (next : ℕ) × AreNumbered (tables_of tables.now) next }
+    requires fitting { AreFitting (tables_of tables.now) }
+    requires few { AreLimited rows_limit (tables_of tables.now) }
+    requires right { (now : ℕ) × AreRight (tables_of tables.now) now views.now }
+    requires can_read { CanRead (tables_of tables.now) (views_of views.now) query.now }
+    ensures { Selects (tables_of tables.now) (views_of views.now) query.now order.now result }
 {
     if query.joins.is_empty() && !query.distinct && is_plain(&query.shape) {
         select_alone(alloc, tables, views, query, order)
@@ -65,13 +66,13 @@ fn select_alone(
     query: &Query,
     order: &Order,
 ) -> Result<RowList, Fault>
-    requires numbered { (next : ℕ) × AreNumbered tables.now next }
-    requires fitting { AreFitting tables.now }
-    requires few { AreLimited rows_limit tables.now }
-    requires right { (now : ℕ) × AreRight tables.now now views.now }
-    requires can_read { CanRead tables.now (views_of views.now) query.now }
+    requires numbered { (next : ℕ) × AreNumbered (tables_of tables.now) next }
+    requires fitting { AreFitting (tables_of tables.now) }
+    requires few { AreLimited rows_limit (tables_of tables.now) }
+    requires right { (now : ℕ) × AreRight (tables_of tables.now) now views.now }
+    requires can_read { CanRead (tables_of tables.now) (views_of views.now) query.now }
     requires plain { query.now ≡ plain query.now.first query.now.filter query.now.items }
-    ensures { Selects tables.now (views_of views.now) query.now order.now result }
+    ensures { Selects (tables_of tables.now) (views_of views.now) query.now order.now result }
 {
     match query.first {
         Source::Table(number) => {
@@ -105,12 +106,12 @@ fn select_joined(
     query: &Query,
     order: &Order,
 ) -> Result<RowList, Fault>
-    requires numbered { (next : ℕ) × AreNumbered tables.now next }
-    requires fitting { AreFitting tables.now }
-    requires few { AreLimited rows_limit tables.now }
-    requires right { (now : ℕ) × AreRight tables.now now views.now }
-    requires can_read { CanRead tables.now (views_of views.now) query.now }
-    ensures { Selects tables.now (views_of views.now) query.now order.now result }
+    requires numbered { (next : ℕ) × AreNumbered (tables_of tables.now) next }
+    requires fitting { AreFitting (tables_of tables.now) }
+    requires few { AreLimited rows_limit (tables_of tables.now) }
+    requires right { (now : ℕ) × AreRight (tables_of tables.now) now views.now }
+    requires can_read { CanRead (tables_of tables.now) (views_of views.now) query.now }
+    ensures { Selects (tables_of tables.now) (views_of views.now) query.now order.now result }
 {
     let sources = sources_of(alloc, query)?;
     let gathered = gather(alloc, views, &sources)?;

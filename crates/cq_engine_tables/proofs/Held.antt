@@ -1,21 +1,30 @@
 -- Named tables whose stored rows were changed.
-use Rattle.std.proofs.Common.{◌≡◌, ℕ, List, [], ◌++◌, refl, sym, ap, ◌∙◌}
-use Rattle.std.specs.Prelude.{OnErr, OnOk, Option, Result, Ok, Err}
+use Rattle.std.proofs.Common.{◌≡◌, ℕ, ◌+◌, false, List, [], ◌++◌, length, refl, ap, ◌∙◌, arith}
+use Rattle.std.specs.Prelude.{IfOk, OnErr, OnOk, Option, Result, Ok, Err}
+use Rattle.std.proofs.lemmas.List.{length-append, length-map}
 use Rattle.cq_model_bags.specs.Canonical.{bag_of}
 use Rattle.cq_model_state.specs.State.{TableOf, holding}
-use Rattle.cq_segments.specs.Marked.{MarkedRow}
+use Rattle.cq_segments.specs.Marked.{MarkedRow, unmarked}
 use Rattle.cq_values.specs.Value.{Row}
 use Rattle.cq_model.specs.Expr.{Cond}
-use Rattle.cq_model.specs.Write.{left_by}
-use Rattle.cq_table.specs.Changes.{Exchanges, LeavesFound, MarksOnly, Merges, Moves, with_written}
-use Rattle.cq_table.specs.Found.{IsFound}
-use Rattle.cq_table.specs.Table.{StoredTable, limited_to, table_rows, with_stored}
+use Rattle.cq_model.specs.Write.{chosen, left_by}
+use Rattle.cq_table.specs.Changes.{Exchanges, LeavesFound, Merges, MergesCounts, Moves, MovesCounts, with_written}
+use Rattle.cq_table.specs.Found.{AreLiveAt, AreThere, IsFound, PicksChosen}
+use Rattle.cq_table.specs.Table.{stored_in, StoredTable, limited_to, marked_len, table_rows, with_stored, write_len}
+use Rattle.cq_engine_tables.specs.Chosen.{IsChosen, LeavesChosen}
+use Rattle.cq_engine_tables.specs.HeldTables.{ExchangeBy, GrowBy, MarkIn, MergeTo, MoveBy, held, lengths_of}
 use Rattle.cq_engine_tables.specs.Tables.{named}
 
 -- no rows are the empty bag
 pub none-held : bag_of [] ≡ []
 unfolding bag_of
 none-held = refl
+
+-- what was found among the stored rows are the rows that WHERE keeps
+pub chosen-found : {E : Type 0} (number : ℕ) (name : List ℕ) (t : StoredTable) (condition : Option Cond) (result : Result (List ℕ) E) → IfOk result (IsFound condition t) → IfOk result (λ places. AreLiveAt places (stored_in t))
+    → IfOk result (λ places. AreThere places (stored_in t)) → IfOk result (PicksChosen condition t) → IfOk result (λ places. length places ≡ length (chosen condition (table_rows t))) → IfOk result (IsChosen condition (held number name t))
+chosen-found number name t condition (Ok places) found live there picks count = record { found = found; live = live; there = there; picks = picks; count = count }
+chosen-found number name t condition (Err e) found live there picks count = tt
 
 module _ (number : ℕ) (name : List ℕ) (old new : StoredTable) where
   -- with other rows and the same columns
@@ -61,16 +70,14 @@ module _ (number : ℕ) (name : List ℕ) (old new : StoredTable) where
   named-merged (Ok x) ok err bag = named-same (columns-stay new.segments old.written ok.is) bag
   named-merged (Err e) ok err bag = ap (named number name) err
 
-  -- after a DELETE
-  pub named-deleted : {X E : Type 0} (rows : List Row) (result : Result X E) → OnOk result (MarksOnly old new) → OnOk result (table_rows new ≡ bag_of rows) → OnOk result (named number name new ≡ holding rows (named number name old))
-  named-deleted rows (Ok x) marks left = named-holding rows marks.is left
-  named-deleted rows (Err e) marks left = tt
+  -- where rows went from their places and others came
+  pub named-exchanged : (places : List ℕ) (rows : List Row) → Exchanges places rows old new → LeavesFound places rows old new → LeavesChosen places rows (held number name old) (held number name new)
+  named-exchanged places rows exchanges leaves condition chosen = named-holding (left_by condition (table_rows old) ++ rows) exchanges.is (leaves condition chosen.found)
 
-  -- after an UPDATE
-  pub named-replaced : {E : Type 0} (places : List ℕ) (images left : List Row) (condition : Option Cond) → IsFound condition old places → (result : Result (Unit {0}) E) → OnOk result (Exchanges places images old new)
-      → OnOk result (LeavesFound places images old new) → left ≡ left_by condition (table_rows old) → OnOk result (named number name new ≡ holding (left ++ images) (named number name old))
-  named-replaced places images left condition found (Ok x) exchanges leaves is = named-holding (left ++ images) exchanges.is (leaves condition found ∙ ap (λ (rs : List Row). bag_of (rs ++ images)) (sym is))
-  named-replaced places images left condition found (Err e) exchanges leaves is = tt
+  pub named-replaced : {E : Type 0} (places : List ℕ) (images : List Row) (result : Result (Unit {0}) E) → OnOk result (Exchanges places images old new) → OnOk result (LeavesFound places images old new)
+      → OnOk result (LeavesChosen places images (held number name old) (held number name new))
+  named-replaced places images (Ok x) exchanges leaves = named-exchanged places images exchanges leaves
+  named-replaced places images (Err e) exchanges leaves = tt
 
   -- after an INSERT
   pub named-inserted : {E : Type 0} (max_rows : ℕ) (rows : List Row) (result : Result (Unit {0}) E) → OnOk result (new ≡ with_written rows (limited_to max_rows old)) → OnOk result (table_rows new ≡ bag_of (table_rows old ++ rows))
@@ -83,3 +90,32 @@ module _ (number : ℕ) (name : List ℕ) (old new : StoredTable) where
     rows = bag i;
   }
   named-inserted max_rows rows (Err e) is bag = tt
+
+-- ---- Lengths of what is stored
+module _ (number : ℕ) (name : List ℕ) (old new : StoredTable) where
+  -- after a move step
+  pub lengths-moved : {E : Type 0} (count : ℕ) (result : Result (Unit {0}) E) → OnOk result (MovesCounts count old new) → OnOk result (MoveBy count (lengths_of (held number name old)) (lengths_of (held number name new)))
+  lengths-moved count (Ok x) moves = record { write_len = moves.write_len; marked_len = moves.marked_len }
+  lengths-moved count (Err e) moves = tt
+
+  -- after a merge step
+  pub lengths-merged : {E : Type 0} (result : Result (Unit {0}) E) → OnOk result (MergesCounts old new) → OnOk result (MergeTo (lengths_of (held number name old)) (lengths_of (held number name new)))
+  lengths-merged (Ok x) merges = record { write_len = merges.write_len; marked_len = merges.marked_len }
+  lengths-merged (Err e) merges = tt
+
+  -- after a DELETE
+  pub lengths-deleted : (places : List ℕ) → Exchanges places [] old new → MarkIn (lengths_of (held number name old)) (lengths_of (held number name new))
+  lengths-deleted places exchanges = omega (arith, exchanges.write_len)
+
+  -- after an UPDATE
+  pub lengths-replaced : {E : Type 0} (places : List ℕ) (images : List Row) (result : Result (Unit {0}) E) → OnOk result (Exchanges places images old new) → OnOk result (ExchangeBy (length images) (lengths_of (held number name old)) (lengths_of (held number name new)))
+  lengths-replaced places images (Ok x) exchanges = exchanges.write_len
+  lengths-replaced places images (Err e) exchanges = tt
+
+  -- after an INSERT
+  pub lengths-inserted : {E : Type 0} (max_rows : ℕ) (rows : List Row) (result : Result (Unit {0}) E) → OnOk result (new ≡ with_written rows (limited_to max_rows old)) → OnOk result (GrowBy (length rows) (lengths_of (held number name old)) (lengths_of (held number name new)))
+  lengths-inserted max_rows rows (Ok x) is = record {
+    write_len = ap write_len is ∙ length-append old.written (unmarked rows) ∙ ap (λ (n : ℕ). length old.written + n) (length-map rows (λ (row : Row). record { row = row; marked = false }));
+    marked_len = ap marked_len is;
+  }
+  lengths-inserted max_rows rows (Err e) is = tt

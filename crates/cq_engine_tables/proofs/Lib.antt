@@ -1,4 +1,5 @@
 pub mod Pairs
+pub mod Images
 pub mod Places
 pub mod Numbers
 pub mod Stored
@@ -6,5 +7,6 @@ pub mod Rows
 pub mod Bags
 pub mod Turns
 pub mod Wide
+pub mod HeldTables
 pub mod Named
 pub mod Held

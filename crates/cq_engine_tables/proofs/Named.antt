@@ -18,28 +18,12 @@ use Rattle.cq_views_state.specs.State.{HoldStored}
 use Rattle.cq_views_state.specs.declared.state.Pending.{Pending}
 use Rattle.cq_engine_tables.specs.Taking.{IsSame, AreSame, AllStandFor, CanAllPrepare, IsReady, AreReady, CanTake, CanAllTake, HasTaken, HaveTaken}
 use Rattle.cq_engine_tables.specs.Views.{NamedView, view_of, views_of, IsRight, AreRight}
+use Rattle.cq_engine_tables.proofs.Images.{position-map}
 use Rattle.cq_engine_tables.proofs.Places.{found_there}
 use Rattle.cq_engine_tables.proofs.Pairs.{pointwise_all, pointwise_at, pointwise_more}
 use Rattle.cq_engine_tables.proofs.Turns.{same_set, taken_more, rest_same, rest_left}
 use Rattle.cq_model_bags.proofs.Lists.{all-at, all-remove}
 use Rattle.cq_model_state.proofs.Pairwise.{pointwise_length}
-
--- ---- Tests of images
-module _ {X Y : Type 0} (f : X → Y) where
-  -- the first image that passes stands where the first element does whose image passes
-  first_of_map : (p : Y → Bool) (xs : List X) → position_or_len p (map f xs) ≡ position_or_len (λ x. p (f x)) xs
-  first_of_map p [] = refl
-  first_of_map p (x ∷ xs) = ap (λ (n : ℕ). cond (not (p (f x))) (1 + n) 0) (first_of_map p xs)
-
-  pub position-map : (p : Y → Bool) (xs : List X) → position p (map f xs) ≡ position (λ x. p (f x)) xs
-  position-map p xs = ap₂ (λ (n m : ℕ). cond (nat_lt n m) (Some n) None) (first_of_map p xs) (length-map xs f)
-
-  -- images without one of them are the images of what is left
-  pub remove-map : (xs : List X) (i : ℕ) → remove (map f xs) i ≡ map f (remove xs i)
-  remove-map [] zero = refl
-  remove-map [] (suc i) = refl
-  remove-map (x ∷ xs) zero = refl
-  remove-map (x ∷ xs) (suc i) = ap (λ (ys : List Y). f x ∷ ys) (remove-map xs i)
 
 -- ---- Views under their names
 -- the view of a name stands where it stands among those that are kept

@@ -1,3 +1,5 @@
 pub mod Tables
+pub mod HeldTables
+pub mod Chosen
 pub mod Views
 pub mod Taking

@@ -1,15 +1,13 @@
 -- Tables by their numbers, and the rows that they hold.
-use Rattle.std.specs.Prelude.{◌≡◌, ◌+◌, ℕ, List, ◌==◌, true, length, map, Option, Vec}
-use Rattle.std.specs.Global.{Global}
+use Rattle.std.specs.Prelude.{◌≡◌, ◌+◌, ℕ, List, ◌==◌, true, length, Option}
 use Rattle.std.specs.List.{list_any}
 use Rattle.cq_values.specs.Value.{Row}
 use Rattle.cq_model.specs.declared.assignment.Assignment.{Assignment}
 use Rattle.cq_model.specs.Expr.{Cond}
-use Rattle.cq_model.specs.Write.{chosen, image_of}
 use Rattle.cq_binder_rules.specs.declared.fault.Fault.{Fault}
 use Rattle.cq_model_state.specs.State.{TableOf}
 use Rattle.cq_table.specs.Checks.{too_many, value_fault}
-use Rattle.cq_table.specs.Table.{SameRows, StoredTable, table_rows}
+use Rattle.cq_table.specs.Table.{StoredTable, table_rows}
 
 -- a table has the number
 abbrev pub IsThere : ℕ → List TableOf → Type 0
@@ -26,12 +24,3 @@ no_room_for max_rows t rows = too_many max_rows (length t.rows + length rows)
 -- why the values that the chosen rows of a table get may not be stored
 abbrev pub value_fault_of : TableOf → List Assignment → Option Cond → Option Fault
 value_fault_of t assignments condition = value_fault t.columns assignments condition t.rows
-
--- the rows that go are those that WHERE chooses, and those that come are their images
-pub record AreImages (assignments : List Assignment) (condition : Option Cond) (rows gone come : List Row) : Type 0 where
-  pub chosen : SameRows gone (chosen condition rows)
-  pub images : come ≡ map (image_of assignments) gone
-
--- so it is with the copies and the rows that were made
-abbrev pub AreExchanged : List Assignment → Option Cond → List Row → (Vec Row Global × Vec Row Global) → Type 0
-AreExchanged assignments condition rows exchange = AreImages assignments condition rows exchange.0.items exchange.1.items

@@ -1,29 +1,32 @@
 //! A table under its number and its name.
 //!
 //! A [`NamedTable`] is a table of `cq_table` that statements find: its number is drawn once and never changes, and its
-//! rows fit its columns. A write asks for its rows first (`chosen`, `images_where`), readies the views, and then changes
-//! the rows by one call that may fail and leaves them as they were. Each call costs what the same calls of `cq_table` do.
+//! rows fit its columns. A write finds its rows first, once (`find`), lends or copies them for the views (`chosen`,
+//! `images`), and then changes them by one call, which leaves them as they were where it fails. Each call costs what the
+//! same call of `cq_table` does.
 ghost use Rattle.std.specs.List.{AllByRecursion};
-ghost use Rattle.std.specs.Prelude.{◌++◌, ◌≡◌, ◌<◌, ◌^◌, IfOk, OnErr, OnOk, length};
+ghost use Rattle.std.specs.Prelude.{◌++◌, ◌≡◌, [], IfOk, OnErr, OnOk, length};
 ghost use Rattle.cq_values.specs.Texts.{is_text};
 ghost use Rattle.cq_model_bags.specs.Canonical.{bag_of};
 ghost use Rattle.cq_table_columns.specs.Stored.{all_rows, stored_rows};
 ghost use Rattle.cq_model_state.specs.Fitting.{FitsColumns, IsFitting};
 ghost use Rattle.cq_model_state.specs.State.{empty_table, holding};
-ghost use Rattle.cq_model.specs.Write.{chosen, left_by};
 ghost use Rattle.cq_model.specs.Width.{IsNarrowIn};
-ghost use Rattle.cq_table.specs.Checks.{CanWorkOut, IsChecked};
-ghost use Rattle.cq_table.specs.Table.{SameRows};
-ghost use Rattle.cq_engine_tables.specs.Tables.{AreExchanged, no_room_for, value_fault_of};
+ghost use Rattle.cq_table.specs.Checks.{AreImages, AreNarrowSets, IsChecked};
+ghost use Rattle.cq_table.specs.Found.{AreLiveAt, AreThere, found_rows};
+ghost use Rattle.cq_engine_tables.specs.HeldTables.{ExchangeBy, GrowBy, MarkIn, MergeTo, MoveBy, lengths_of, nothing};
+ghost use Rattle.cq_engine_tables.specs.Chosen.{ChecksChosen, IsChosen, LeavesChosen, stored_of};
+ghost use Rattle.cq_engine_tables.specs.Tables.{no_room_for};
 
 use cq_model::{Assignment, Cond};
-use cq_table::{Exchange, TableFault};
+use cq_table::{Exchange, Found, TableFault};
 use cq_table_columns::{Stored, StoredRow};
 use cq_values::{ColumnDef, Row, Seq, Text};
 use std::alloc::{AllocError, Global};
 use std::marker::Model;
 
-/// Rows that fit their columns, under a name. Contracts see the one list that stands for their bag.
+/// Rows that fit their columns, under a name. Contracts see the one list that stands for their bag, and how it
+/// is stored.
 #[derive(Drop)]
 pub struct NamedTable {
     number: u64,
@@ -32,12 +35,11 @@ pub struct NamedTable {
 }
 
 impl Model for NamedTable {
-    ghost use Rattle.cq_model_state.specs.State.{TableOf};
-    ghost use Rattle.cq_engine_tables.specs.Tables.{named};
+    ghost use Rattle.cq_engine_tables.specs.HeldTables.{HeldTable, held};
 
-    ghost Value = { TableOf };
+    ghost Value = { HeldTable };
 
-    ghost view = { λ t. named t.number t.name t.stored };
+    ghost view = { λ t. held t.number t.name t.stored };
 }
 
 impl NamedTable {
@@ -50,7 +52,8 @@ impl NamedTable {
         sort: Seq<usize>,
         max_rows: u64,
     ) -> NamedTable
-        ensures { result ≡ empty_table number name columns sort }
+        ensures table { result.is ≡ empty_table number name columns sort }
+        ensures lengths { lengths_of result ≡ nothing }
     {
         NamedTable {
             number,
@@ -60,131 +63,129 @@ impl NamedTable {
     }
 
     pub fn is_named(&self, name: &str) -> bool
-        ensures { result ≡ is_text self.now.name name.now }
+        ensures { result ≡ is_text self.now.is.name name.now }
     {
         self.name.as_str() == name
     }
 
     pub fn name(&self) -> &str
-        ensures { result.now ≡ self.now.name }
+        ensures { result.now ≡ self.now.is.name }
     {
         self.name.as_str()
     }
 
     pub fn number(&self) -> u64
-        ensures { result ≡ self.now.number }
+        ensures { result ≡ self.now.is.number }
     {
         self.number
     }
 
     pub fn columns(&self) -> &[ColumnDef]
-        ensures { result.now ≡ self.now.columns }
+        ensures { result.now ≡ self.now.is.columns }
     {
         self.stored.columns()
     }
 
     /// The rows as they are stored.
     pub fn rows(&self) -> Stored<'_>
-        ensures bag { bag_of (all_rows result) ≡ self.now.rows }
-        ensures fitting { IsFitting self.now }
+        ensures bag { bag_of (all_rows result) ≡ self.now.is.rows }
+        ensures fitting { IsFitting self.now.is }
     {
         self.stored.rows()
     }
 
     pub fn len(&self) -> usize
-        ensures { result ≡ length self.now.rows }
+        ensures { result ≡ length self.now.is.rows }
     {
         self.stored.len()
     }
 
-    /// The rows that WHERE keeps, where they are stored.
-    pub fn chosen(
-        &self,
-        alloc: Global,
-        condition: &Option<Cond>,
-    ) -> Result<Vec<StoredRow<'_>>, AllocError>
-        requires { AllByRecursion (IsNarrowIn condition.now) self.now.rows }
-        ensures bag { IfOk result (λ rows. SameRows (stored_rows rows.items) (chosen condition.now self.now.rows)) }
-        ensures few { OnOk result (length self.now.rows < 2 ^ 64) }
+    /// Where the rows stand that WHERE keeps. It is good until the table is written, moved or merged.
+    pub fn find(&self, alloc: Global, condition: &Option<Cond>) -> Result<Found, AllocError>
+        requires { AllByRecursion (IsNarrowIn condition.now) self.now.is.rows }
+        ensures { IfOk result (IsChosen condition.now self.now) }
     {
-        let _count = self.stored.len();
-        let found = self.stored.find(alloc, condition)?;
-        self.stored.chosen(alloc, &found)
+        self.stored.find(alloc, condition)
+    }
+
+    /// The rows that were found, where they are stored.
+    pub fn chosen(&self, alloc: Global, found: &Found) -> Result<Vec<StoredRow<'_>>, AllocError>
+        requires { AreThere found.now (stored_of self.now) }
+        ensures { IfOk result (λ rows. stored_rows rows.items ≡ found_rows (stored_of self.now) found.now) }
+    {
+        self.stored.chosen(alloc, found)
     }
 
     /// Adds all of these rows, or none. The table may have so many rows.
     pub fn insert(&mut self, max_rows: u64, rows: Vec<Row>) -> Result<(), TableFault>
-        requires { AllByRecursion (FitsColumns self.old.columns) rows.items }
-        ensures room { IsChecked (no_room_for max_rows self.old rows.items) result }
-        ensures ok { OnOk result (self.new ≡ holding (self.old.rows ++ rows.items) self.old) }
+        requires { AllByRecursion (FitsColumns self.old.is.columns) rows.items }
+        ensures room { IsChecked (no_room_for max_rows self.old.is rows.items) result }
+        ensures ok { OnOk result (self.new.is ≡ holding (self.old.is.rows ++ rows.items) self.old.is) }
+        ensures lengths { OnOk result (GrowBy (length rows.items) (lengths_of self.old) (lengths_of self.new)) }
         ensures err { OnErr result (self.new ≡ self.old) }
     {
         self.stored.limit(max_rows)?;
         self.stored.insert(rows)
     }
 
-    /// Takes the rows that WHERE keeps away, and tells how many they were.
-    pub fn delete_where(
-        &mut self,
-        alloc: Global,
-        condition: &Option<Cond>,
-    ) -> Result<usize, AllocError>
-        requires { AllByRecursion (IsNarrowIn condition.now) self.old.rows }
-        ensures count { IfOk result (λ count. count ≡ length (chosen condition.now self.old.rows)) }
-        ensures left { OnOk result (self.new ≡ holding (left_by condition.now self.old.rows) self.old) }
-        ensures err { OnErr result (self.new ≡ self.old) }
+    /// Takes the rows that were found away. It cannot fail, and takes no memory.
+    pub fn delete(&mut self, found: &Found)
+        requires { AreLiveAt found.now (stored_of self.old) }
+        ensures left { LeavesChosen found.now [] self.old self.new }
+        ensures lengths { MarkIn (lengths_of self.old) (lengths_of self.new) }
     {
-        self.stored.delete_where(alloc, condition)
+        self.stored.delete(found);
     }
 
-    /// Copies of the rows that WHERE keeps, and their images, where these may be stored. Each expression reads the old row.
-    pub fn images_where(
+    /// Copies of the rows that were found, and their images, where these may be stored. Each expression reads the old row.
+    pub fn images(
         &self,
         alloc: Global,
         assignments: &[Assignment],
-        condition: &Option<Cond>,
+        found: &Found,
     ) -> Result<Exchange, TableFault>
-        requires { CanWorkOut assignments.now condition.now self.now.rows }
-        ensures checked { IsChecked (value_fault_of self.now assignments.now condition.now) result }
-        ensures images { IfOk result (AreExchanged assignments.now condition.now self.now.rows) }
+        requires live { AreLiveAt found.now (stored_of self.now) }
+        requires narrow { AllByRecursion (AreNarrowSets assignments.now) self.now.is.rows }
+        ensures checked { ChecksChosen assignments.now found.now self.now result }
+        ensures images { IfOk result (AreImages assignments.now (found_rows (stored_of self.now) found.now)) }
     {
-        let found = self.stored.find(alloc, condition)?;
-        self.stored.images(alloc, assignments, &found)
+        self.stored.images(alloc, assignments, found)
     }
 
     /// Takes so many rows from the front of the write store to segments. No row of the bag changes.
     pub fn move_front(&mut self, alloc: Global, count: u128) -> Result<(), AllocError>
-        ensures { self.new ≡ self.old }
+        ensures same { self.new.is ≡ self.old.is }
+        ensures lengths { OnOk result (MoveBy count (lengths_of self.old) (lengths_of self.new)) }
+        ensures err { OnErr result (self.new ≡ self.old) }
     {
         self.stored.move_step(alloc, count)
     }
 
     /// Makes the segments anew of their live rows. No row of the bag changes.
     pub fn merge(&mut self, alloc: Global) -> Result<(), AllocError>
-        ensures { self.new ≡ self.old }
+        ensures same { self.new.is ≡ self.old.is }
+        ensures lengths { OnOk result (MergeTo (lengths_of self.old) (lengths_of self.new)) }
+        ensures err { OnErr result (self.new ≡ self.old) }
     {
         self.stored.merge_step(alloc)
     }
 
     /// How many rows the write store has, and how many rows of segments have a mark. It takes no memory.
-    pub fn lengths(&self) -> (usize, usize) {
+    pub fn lengths(&self) -> (usize, usize)
+        ensures { result ≡ ((lengths_of self.now).write_len, (lengths_of self.now).marked_len) }
+    {
         (self.stored.write_len(), self.stored.marked_len())
     }
 
-    /// Puts these rows in place of those that WHERE keeps, which are as many.
-    pub fn replace(
-        &mut self,
-        alloc: Global,
-        condition: &Option<Cond>,
-        images: Vec<Row>,
-    ) -> Result<(), AllocError>
-        requires narrow { AllByRecursion (IsNarrowIn condition.now) self.old.rows }
-        requires count { length images.items ≡ length (chosen condition.now self.old.rows) }
-        requires fitting { AllByRecursion (FitsColumns self.old.columns) images.items }
-        ensures ok { OnOk result (self.new ≡ holding (left_by condition.now self.old.rows ++ images.items) self.old) }
+    /// Puts these rows in place of those that were found, which are as many.
+    pub fn replace(&mut self, found: &Found, images: Vec<Row>) -> Result<(), AllocError>
+        requires live { AreLiveAt found.now (stored_of self.old) }
+        requires count { length images.items ≡ length found.now }
+        requires fitting { AllByRecursion (FitsColumns self.old.is.columns) images.items }
+        ensures ok { OnOk result (LeavesChosen found.now images.items self.old self.new) }
+        ensures lengths { OnOk result (ExchangeBy (length images.items) (lengths_of self.old) (lengths_of self.new)) }
         ensures err { OnErr result (self.new ≡ self.old) }
     {
-        let found = self.stored.find(alloc, condition)?;
-        self.stored.replace(&found, images)
+        self.stored.replace(found, images)
     }
 }

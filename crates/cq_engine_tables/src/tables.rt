@@ -1,7 +1,8 @@
 //! Tables under their names and numbers.
-ghost use Rattle.std.specs.Prelude.{◌≡◌, ◌<◌, ◌==◌, ℕ, IfSome, filter, get_or, is_some, length, not, position, slice_get};
+ghost use Rattle.std.specs.Prelude.{◌≡◌, ◌<◌, ◌==◌, ℕ, IfSome, OnErr, OnOk, filter, get_or, is_some, length, not, position, slice_get};
 ghost use Rattle.cq_values.specs.Texts.{is_text};
-ghost use Rattle.cq_model_state.specs.State.{AreNumbered, TableOf, table_named};
+ghost use Rattle.cq_model_state.specs.State.{AreNumbered, table_named};
+ghost use Rattle.cq_engine_tables.specs.HeldTables.{ChangeAt, HeldTable, MergeTo, MoveBy, StoreNothing, tables_of};
 ghost use Rattle.cq_engine_tables.specs.Tables.{IsThere};
 
 use crate::named_table::NamedTable;
@@ -9,9 +10,10 @@ use std::alloc::{AllocError, Global};
 
 /// Takes the table of a number away.
 pub fn drop_in(tables: &mut Vec<NamedTable>, number: u64)
-    requires numbered { (next : ℕ) × AreNumbered tables.old.items next }
-    requires there { IsThere number tables.old.items }
-    ensures { tables.new.items ≡ filter (λ t. not (t.number == number)) tables.old.items }
+    requires numbered { (next : ℕ) × AreNumbered (tables_of tables.old.items) next }
+    requires there { IsThere number (tables_of tables.old.items) }
+    ensures left { tables_of tables.new.items ≡ filter (λ t. not (t.number == number)) (tables_of tables.old.items) }
+    ensures lengths { ChangeAt number StoreNothing tables.old.items tables.new.items }
 {
     let place = place_numbered(tables, number);
     tables.remove(place);
@@ -24,8 +26,11 @@ pub fn move_in(
     number: u64,
     count: u128,
 ) -> Result<(), AllocError>
-    requires { IsThere number tables.old.items }
-    ensures { tables.new.items ≡ tables.old.items }
+    requires numbered { (next : ℕ) × AreNumbered (tables_of tables.old.items) next }
+    requires there { IsThere number (tables_of tables.old.items) }
+    ensures same { tables_of tables.new.items ≡ tables_of tables.old.items }
+    ensures lengths { OnOk result (ChangeAt number (MoveBy count) tables.old.items tables.new.items) }
+    ensures err { OnErr result (tables.new.items ≡ tables.old.items) }
 {
     let place = place_numbered(tables, number);
     tables[place].move_front(alloc, count)
@@ -33,8 +38,11 @@ pub fn move_in(
 
 /// Makes the segments of the table of a number anew of their live rows. No row changes.
 pub fn merge_in(alloc: Global, tables: &mut Vec<NamedTable>, number: u64) -> Result<(), AllocError>
-    requires { IsThere number tables.old.items }
-    ensures { tables.new.items ≡ tables.old.items }
+    requires numbered { (next : ℕ) × AreNumbered (tables_of tables.old.items) next }
+    requires there { IsThere number (tables_of tables.old.items) }
+    ensures same { tables_of tables.new.items ≡ tables_of tables.old.items }
+    ensures lengths { OnOk result (ChangeAt number MergeTo tables.old.items tables.new.items) }
+    ensures err { OnErr result (tables.new.items ≡ tables.old.items) }
 {
     let place = place_numbered(tables, number);
     tables[place].merge(alloc)
@@ -42,8 +50,8 @@ pub fn merge_in(alloc: Global, tables: &mut Vec<NamedTable>, number: u64) -> Res
 
 /// Where the table of a name stands.
 pub fn place_of(tables: &[NamedTable], name: &str) -> Option<usize>
-    ensures found { IfSome result (λ i. slice_get tables.now i ≡ table_named name.now tables.now) }
-    ensures named { is_some result ≡ is_some (table_named name.now tables.now) }
+    ensures found { IfSome result (λ i. slice_get (tables_of tables.now) i ≡ table_named name.now (tables_of tables.now)) }
+    ensures named { is_some result ≡ is_some (table_named name.now (tables_of tables.now)) }
     ensures within { IfSome result (λ i. i < length tables.now) }
 {
     position_of(tables, name)
@@ -51,9 +59,9 @@ pub fn place_of(tables: &[NamedTable], name: &str) -> Option<usize>
 
 /// Where the table of a number stands that is there.
 pub fn place_numbered(tables: &[NamedTable], number: u64) -> usize
-    requires { IsThere number tables.now }
+    requires { IsThere number (tables_of tables.now) }
     ensures within { result < length tables.now }
-    ensures numbered { (t : TableOf) → (get_or tables.now result t).number ≡ number }
+    ensures numbered { (t : HeldTable) → (get_or tables.now result t).is.number ≡ number }
 {
     match position_numbered(tables, number) {
         Some(place) => place,
@@ -62,13 +70,13 @@ pub fn place_numbered(tables: &[NamedTable], number: u64) -> usize
 }
 
 fn position_of(tables: &[NamedTable], name: &str) -> Option<usize>
-    ensures { result ≡ position (λ t. is_text t.name name.now) tables.now }
+    ensures { result ≡ position (λ t. is_text t.is.name name.now) tables.now }
 {
     tables.iter().position(|t| t.is_named(name))
 }
 
 fn position_numbered(tables: &[NamedTable], number: u64) -> Option<usize>
-    ensures { result ≡ position (λ t. t.number == number) tables.now }
+    ensures { result ≡ position (λ t. t.is.number == number) tables.now }
 {
     tables.iter().position(|t| t.number() == number)
 }

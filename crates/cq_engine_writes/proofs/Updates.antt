@@ -11,7 +11,6 @@ use Rattle.cq_model.specs.Sizes.{IsStored}
 use Rattle.cq_model.specs.declared.assignment.Assignment.{Assignment}
 use Rattle.cq_model.specs.Expr.{Cond}
 use Rattle.cq_model.specs.Meaning.{keeps}
-use Rattle.cq_model.specs.Width.{IsNarrowAt}
 use Rattle.cq_model.specs.Write.{chosen, image_of, left_by, updated}
 use Rattle.cq_binder_rules.specs.Checks.{MayRefuse}
 use Rattle.cq_binder_rules.specs.declared.fault.Fault.{Fault}
@@ -19,11 +18,14 @@ use Rattle.cq_model_state.specs.Fitting.{AreFitting, AreLimited, FitsColumns, Is
 use Rattle.cq_model_state.specs.State.{AreNumbered, TableOf, columns_in, holding, rows_in}
 use Rattle.cq_views_state.specs.declared.state.Pending.{Pending}
 use Rattle.cq_engine_writes.specs.Updates.{CanSetAll, CanUpdate, IsPrepared, Updates, UpdatesRows, updated_in, value_fault_in}
+use Rattle.cq_engine_tables.specs.Chosen.{stored_of}
+use Rattle.cq_engine_tables.specs.HeldTables.{HeldTable}
 use Rattle.cq_engine_tables.specs.Views.{NamedView}
-use Rattle.cq_table.specs.Checks.{CanWorkOut, value_fault, values_fault}
+use Rattle.cq_table.specs.Found.{found_rows}
+use Rattle.cq_table.specs.Checks.{AreNarrowSets, value_fault, values_fault}
 use Rattle.cq_table.specs.Table.{SameRows}
 use Rattle.cq_table.proofs.Checked.{fault_same}
-use Rattle.cq_engine_writes.proofs.Exchanged.{same_replaced}
+use Rattle.cq_table.proofs.Replaced.{same_replaced}
 use Rattle.cq_model_bags.proofs.Totals.{by_test}
 use Rattle.cq_engine_tables.proofs.Rows.{bounded-with_rows, columns_numbered, fitting-with_rows, fitting_in, rows_have, rows_numbered}
 use Rattle.cq_engine_writes.proofs.Setting.{checked_fit}
@@ -33,17 +35,14 @@ use Rattle.cq_engine_writes.proofs.Written.{written_here}
 use Rattle.cq_model_bags.proofs.Lists.{all-filter, all-map}
 
 -- nothing is too wide in assignments that can be carried out on a row
-narrow_sets : (columns : List ColumnDef) (assignments : List Assignment) (row : Row) → CanSetAll columns assignments row → AllByRecursion (λ (a : Assignment). IsNarrowAt a.value row) assignments
+narrow_sets : (columns : List ColumnDef) (assignments : List Assignment) (row : Row) → CanSetAll columns assignments row → AreNarrowSets assignments row
 narrow_sets columns [] row can = tt
 narrow_sets columns (a ∷ later) row can = (can.0.narrow, narrow_sets columns later row can.1)
 
-all_narrow_sets : (columns : List ColumnDef) (assignments : List Assignment) (rows : List Row) → AllByRecursion (CanSetAll columns assignments) rows → AllByRecursion (λ r. AllByRecursion (λ (a : Assignment). IsNarrowAt a.value r) assignments) rows
+-- so SET can be worked out on each row
+pub all_narrow_sets : (columns : List ColumnDef) (assignments : List Assignment) (rows : List Row) → AllByRecursion (CanSetAll columns assignments) rows → AllByRecursion (AreNarrowSets assignments) rows
 all_narrow_sets columns assignments [] can = tt
 all_narrow_sets columns assignments (r ∷ rows) can = (narrow_sets columns assignments r can.0, all_narrow_sets columns assignments rows can.1)
-
--- so WHERE and SET can be worked out on each row
-pub can_work_out : (columns : List ColumnDef) (assignments : List Assignment) (c : Option Cond) (rows : List Row) → CanUpdate columns assignments c rows → CanWorkOut assignments c rows
-can_work_out columns assignments c rows can = record { narrow = can.narrow; sets = all_narrow_sets columns assignments rows can.sets }
 
 module _ (t : TableOf) (assignments : List Assignment) (c : Option Cond) (can : CanUpdate t.columns assignments c t.rows) (gone : List Row) (is_chosen : SameRows gone (chosen c t.rows)) where
   sets_gone : AllByRecursion (CanSetAll t.columns assignments) gone
@@ -67,23 +66,30 @@ module _ (t : TableOf) (assignments : List Assignment) (c : Option Cond) (can : 
     pub stored_come : values_fault t.columns assignments gone ≡ None → AllByRecursion IsStored (map (image_of assignments) gone)
     stored_come free = rows_stored t.columns (map (image_of assignments) gone) (come_fit free)
 
-module _ (t : TableOf) (assignments : List Assignment) (c : Option Cond) (can : CanUpdate t.columns assignments c t.rows) (vs ws : List NamedView) (come : List Row) (ps : List (Option Pending)) (p : IsPrepared t assignments c vs ws come ps) where
-  -- as many come as are chosen
-  pub length_come : length come ≡ length (chosen c t.rows)
-  length_come = ap length p.images ∙ length-map p.gone (image_of assignments) ∙ length_gone t assignments c can p.gone p.chosen
+module _ (held : HeldTable) (assignments : List Assignment) (c : Option Cond) (can : CanUpdate held.is.columns assignments c held.is.rows) (vs ws : List NamedView) (places : List ℕ) (come : List Row) (ps : List (Option Pending))
+    (p : IsPrepared held assignments c vs ws places come ps) where
+  abbrev t : TableOf
+  t = held.is
+
+  abbrev gone_rows : List Row
+  gone_rows = found_rows (stored_of held) places
+
+  -- as many come as were found
+  pub length_come : length come ≡ length places
+  length_come = ap length p.images ∙ length-map gone_rows (image_of assignments) ∙ length_gone t assignments c can gone_rows p.found.picks ∙ sym p.found.count
 
   -- the table has each chosen row's image in its place
   pub replaced_table : (u : TableOf) → u ≡ holding (left_by c t.rows ++ come) t → u ≡ holding (updated assignments c t.rows) t
   replaced_table u is =
       is
       ∙ ap (λ (rs : List Row). holding (left_by c t.rows ++ rs) t) p.images
-      ∙ ap (λ (rs : List Row). record { number = t.number; name = t.name; columns = t.columns; sort = t.sort; rows = rs }) (same_replaced (keeps c) t.rows p.gone p.chosen (image_of assignments))
+      ∙ ap (λ (rs : List Row). record { number = t.number; name = t.name; columns = t.columns; sort = t.sort; rows = rs }) (same_replaced (keeps c) t.rows gone_rows p.found.picks (image_of assignments))
 
   -- the images fit the columns
   pub images_fitting : IsFitting t → AllByRecursion (FitsColumns t.columns) come
   images_fitting fitting =
-      let free : values_fault t.columns assignments p.gone ≡ None = fault_same assignments c t.rows p.gone p.chosen t.columns ∙ p.free in
-      subst (λ (rs : List Row). AllByRecursion (FitsColumns t.columns) rs) (sym p.images) (come_fit t assignments c can p.gone p.chosen fitting free)
+      let free : values_fault t.columns assignments gone_rows ≡ None = fault_same assignments c t.rows gone_rows p.found.picks t.columns ∙ p.free in
+      subst (λ (rs : List Row). AllByRecursion (FitsColumns t.columns) rs) (sym p.images) (come_fit t assignments c can gone_rows p.found.picks fitting free)
 
 -- ---- The table of a number
 pub updates_rows : (assignments : List Assignment) (c : Option Cond) (t u : TableOf) (result : Result ℕ Fault) → UpdatesRows assignments c t result u → OnOk result (u ≡ holding (updated assignments c t.rows) t)

@@ -60,6 +60,10 @@ module _ (law : StandingDependsOnSources) (epoch : ℕ) (t u : TableOf) (vs ws x
       let rows = filter (λ row. not (keep row)) t.rows ++ come in
       subst (λ (w : TableOf). Follow epoch t w vs xs) (sym is) (follow law epoch t (holding rows t) (exchanged gone come) vs ws xs ps (with_exchanged keep t.rows gone chosen come) same ready taken)
 
+-- where none come in place of those that go, the others are left alone
+pub left_alone : (t u : TableOf) (condition : Option Cond) → u ≡ holding (left_by condition t.rows ++ []) t → u ≡ holding (left_by condition t.rows) t
+left_alone t u condition is = is ∙ ap (λ (rs : List Row). holding rs t) (append-nil (left_by condition t.rows))
+
 -- ---- The rows that a DELETE takes
 module _ (keep : Row → Bool) where
   module _ (rows gone : List Row) (chosen : bag_of gone ≡ bag_of (filter keep rows)) where
@@ -105,6 +109,11 @@ module _ (law : StandingDependsOnSources) (now next : ℕ) (tables : List TableO
       → OnOk result (Moved epoch (set tables i u) vs ws)
   inserted_moved epoch u ws max_rows rows (Ok x) w f = moved_at epoch u ws (ap (λ (y : TableOf). y.number) w.1) (ap (λ (y : TableOf). y.columns) w.1) f
   inserted_moved epoch u ws max_rows rows (Err e) w f = tt
+
+-- an accepted INSERT put its rows behind those of the table
+pub inserted_rows : (max_rows : ℕ) (rows : List Row) (t u : TableOf) (result : Result (Unit {0}) Fault) → InsertsRows max_rows rows t result u → OnOk result (u ≡ holding (t.rows ++ rows) t)
+inserted_rows max_rows rows t u (Ok x) w = w.1
+inserted_rows max_rows rows t u (Err f) w = tt
 
 module _ (next : ℕ) (tables : List TableOf) (i : ℕ) (t : TableOf) (numbered : AreNumbered tables next) (within : i < length tables) (is : t ≡ get_or tables i t) (n : ℕ) (number : (get_or tables i t).number ≡ n) where
   own_rows : rows_in tables n ≡ t.rows

@@ -21,7 +21,9 @@ use Rattle.cq_engine_tables.specs.Taking.{CanAllTake}
 use Rattle.cq_engine_tables.specs.Views.{NamedView}
 use Rattle.cq_engine_writes.specs.Changing.{AreReadyAt}
 use Rattle.cq_table.specs.Checks.{value_fault}
-use Rattle.cq_table.specs.Table.{SameRows}
+use Rattle.cq_table.specs.Found.{found_rows}
+use Rattle.cq_engine_tables.specs.Chosen.{IsChosen, stored_of}
+use Rattle.cq_engine_tables.specs.HeldTables.{HeldTable}
 use Rattle.cq_engine_tables.specs.Tables.{value_fault_of}
 
 -- the type of the column at a place, which is there
@@ -68,15 +70,14 @@ Updates n assignments condition old (Ok count) new =
     × (new ≡ updated_in n assignments condition old)
 Updates n assignments condition old (Err f) new = MayRefuse (value_fault_in old n assignments condition) f
 
--- the images of the chosen rows are worked out and may be stored, and the views are ready for the exchange
-pub record IsPrepared (t : TableOf) (assignments : List Assignment) (condition : Option Cond) (old new : List NamedView) (come : List Row) (pendings : List (Option Pending)) : Type 0 where
-  pub free : value_fault_of t assignments condition ≡ None
-  pub gone : List Row
-  pub chosen : SameRows gone (chosen condition t.rows)
-  pub images : come ≡ map (image_of assignments) gone
-  pub ready : AreReadyAt t.number (exchanged gone come) old new pendings
+-- the chosen rows are found, their images are worked out and may be stored, and the views are ready for the exchange
+pub record IsPrepared (t : HeldTable) (assignments : List Assignment) (condition : Option Cond) (old new : List NamedView) (places : List ℕ) (come : List Row) (pendings : List (Option Pending)) : Type 0 where
+  pub free : value_fault_of t.is assignments condition ≡ None
+  pub found : IsChosen condition t places
+  pub images : come ≡ map (image_of assignments) (found_rows (stored_of t) places)
+  pub ready : AreReadyAt t.is.number (exchanged (found_rows (stored_of t) places) come) old new pendings
   pub can : CanAllTake new pendings
 
--- the images and what waits, as they are kept until then
-abbrev pub ArePrepared : TableOf → List Assignment → Option Cond → Vec NamedView Global → Vec NamedView Global → (Vec Row Global × Vec (Option Pending) Global) → Type 0
-ArePrepared t assignments condition old new prepared = IsPrepared t assignments condition old.items new.items prepared.0.items prepared.1.items
+-- the places, the images and what waits, as they are kept until then
+abbrev pub ArePrepared : HeldTable → List Assignment → Option Cond → Vec NamedView Global → Vec NamedView Global → (List ℕ × Vec Row Global × Vec (Option Pending) Global) → Type 0
+ArePrepared t assignments condition old new prepared = IsPrepared t assignments condition old.items new.items prepared.0 prepared.1.items prepared.2.items

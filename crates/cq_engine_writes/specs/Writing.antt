@@ -8,6 +8,7 @@ use Rattle.cq_binder_rules.specs.declared.fault.Fault.{Fault}
 use Rattle.cq_binder_rules.specs.Checks.{MayRefuse}
 use Rattle.cq_model_state.specs.State.{TableOf, holding, rows_in, with_rows}
 use Rattle.cq_table.specs.Checks.{too_many}
+use Rattle.cq_engine_tables.specs.HeldTables.{HeldTable}
 use Rattle.cq_engine_tables.specs.Tables.{no_room_for}
 use Rattle.cq_engine_tables.specs.Taking.{AreSame}
 use Rattle.cq_engine_tables.specs.Views.{NamedView}
@@ -39,5 +40,5 @@ Inserts max_rows n rows old (Ok x) new = (room_for max_rows old n rows ≡ None)
 Inserts max_rows n rows old (Err f) new = MayRefuse (room_for max_rows old n rows) f
 
 -- the tables are as they were, and of the views nothing has changed that is seen
-abbrev pub AreUnwritten : Vec TableOf → Vec TableOf → Vec NamedView → Vec NamedView → Type 0
+abbrev pub AreUnwritten : Vec HeldTable → Vec HeldTable → Vec NamedView → Vec NamedView → Type 0
 AreUnwritten tables same old new = (same.items ≡ tables.items) × AreSame old.items new.items

@@ -5,6 +5,7 @@ ghost use Rattle.cq_model.specs.Write.{chosen, left_by};
 ghost use Rattle.cq_model_state.specs.Fitting.{IsFitting, rows_limit};
 ghost use Rattle.cq_model_state.specs.State.{holding};
 ghost use Rattle.cq_model.specs.Width.{IsNarrowIn};
+ghost use Rattle.cq_engine_tables.specs.HeldTables.{MarkIn, lengths_of};
 ghost use Rattle.cq_engine_tables.specs.Taking.{AreSame};
 ghost use Rattle.cq_engine_writes.specs.Changing.{AreStanding};
 ghost use Rattle.cq_engine_writes.specs.Following.{Follow};
@@ -23,21 +24,23 @@ pub(crate) fn delete_from(
     condition: &Option<Cond>,
     epoch: u64,
 ) -> Result<usize, AllocError>
-    requires fitting { IsFitting table.old }
-    requires few { length table.old.rows ≤ rows_limit }
+    requires fitting { IsFitting table.old.is }
+    requires few { length table.old.is.rows ≤ rows_limit }
     requires stand { AreStanding views.old.items }
-    requires narrow { AllByRecursion (IsNarrowIn condition.now) table.old.rows }
-    ensures count { IfOk result (λ count. count ≡ length (chosen condition.now table.old.rows)) }
-    ensures left { OnOk result (table.new ≡ holding (left_by condition.now table.old.rows) table.old) }
-    ensures follow { OnOk result (Follow epoch table.old table.new views.old.items views.new.items) }
+    requires narrow { AllByRecursion (IsNarrowIn condition.now) table.old.is.rows }
+    ensures count { IfOk result (λ count. count ≡ length (chosen condition.now table.old.is.rows)) }
+    ensures left { OnOk result (table.new.is ≡ holding (left_by condition.now table.old.is.rows) table.old.is) }
+    ensures lengths { OnOk result (MarkIn (lengths_of table.old) (lengths_of table.new)) }
+    ensures follow { OnOk result (Follow epoch table.old.is table.new.is views.old.items views.new.items) }
     ensures err { OnErr result ((table.new ≡ table.old) × AreSame views.old.items views.new.items) }
 {
+    let found = table.find(alloc, condition)?;
     let pendings = {
-        let chosen = table.chosen(alloc, condition)?;
-        prepare_views(alloc, views, table.number(), &chosen, &[])?
+        let gone = table.chosen(alloc, &found)?;
+        prepare_views(alloc, views, table.number(), &gone, &[])?
     };
-    let count = table.delete_where(alloc, condition)?;
+    table.delete(&found);
     commit_all(views, pendings, epoch);
     standing_depends_on_sources();
-    Ok(count)
+    Ok(found.len())
 }

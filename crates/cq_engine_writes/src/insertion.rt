@@ -1,7 +1,8 @@
 //! The rows that an INSERT brings.
-ghost use Rattle.std.specs.Prelude.{◌≡◌, ◌≤◌, OnErr, OnOk};
+ghost use Rattle.std.specs.Prelude.{◌≡◌, ◌≤◌, OnErr, OnOk, length};
 ghost use Rattle.std.specs.List.{AllByRecursion};
 ghost use Rattle.cq_model_state.specs.Fitting.{FitsColumns, IsFitting, rows_limit};
+ghost use Rattle.cq_engine_tables.specs.HeldTables.{GrowBy, lengths_of};
 ghost use Rattle.cq_engine_tables.specs.Taking.{AreSame};
 ghost use Rattle.cq_engine_writes.specs.Changing.{AreStanding};
 ghost use Rattle.cq_engine_writes.specs.Following.{Follow};
@@ -24,12 +25,13 @@ pub(crate) fn insert_into(
     rows: Vec<Row>,
     epoch: u64,
 ) -> Result<(), Fault>
-    requires fitting { IsFitting table.old }
+    requires fitting { IsFitting table.old.is }
     requires limited { max_rows ≤ rows_limit }
     requires stand { AreStanding views.old.items }
-    requires rows { AllByRecursion (FitsColumns table.old.columns) rows.items }
-    ensures inserts { InsertsRows max_rows rows.items table.old result table.new }
-    ensures follow { OnOk result (Follow epoch table.old table.new views.old.items views.new.items) }
+    requires rows { AllByRecursion (FitsColumns table.old.is.columns) rows.items }
+    ensures inserts { InsertsRows max_rows rows.items table.old.is result table.new.is }
+    ensures lengths { OnOk result (GrowBy (length rows.items) (lengths_of table.old) (lengths_of table.new)) }
+    ensures follow { OnOk result (Follow epoch table.old.is table.new.is views.old.items views.new.items) }
     ensures err { OnErr result ((table.new ≡ table.old) × AreSame views.old.items views.new.items) }
 {
     check_room(max_rows, table.len(), rows.len())?;

@@ -2,6 +2,7 @@
 ghost use Rattle.std.specs.Prelude.{◌≡◌, ◌≤◌, IfErr, IfOk, OnErr, OnOk, length};
 ghost use Rattle.cq_binder_rules.specs.Checks.{MayRefuse};
 ghost use Rattle.cq_model_state.specs.Fitting.{IsFitting, rows_limit};
+ghost use Rattle.cq_engine_tables.specs.HeldTables.{ExchangeBy, lengths_of};
 ghost use Rattle.cq_engine_tables.specs.Taking.{AreSame};
 ghost use Rattle.cq_engine_writes.specs.Changing.{AreStanding};
 ghost use Rattle.cq_engine_writes.specs.Following.{Follow};
@@ -12,13 +13,14 @@ use crate::changing::prepare_copied;
 use cq_binder_rules::Fault;
 use cq_engine_tables::{NamedTable, View, commit_all};
 use cq_model::{Assignment, Cond};
+use cq_table::Found;
 use cq_values::Row;
 use cq_views::standing_depends_on_sources;
 use cq_views_state::Pending;
 use std::alloc::Global;
 
-/// What takes the place of the rows that WHERE keeps, and what that changes in each view.
-type Prepared = (Vec<Row>, Vec<Option<Pending>>);
+/// Where the rows stand that WHERE keeps, what takes their places, and what that changes in each view.
+type Prepared = (Found, Vec<Row>, Vec<Option<Pending>>);
 
 /// Replaces each row of this table that WHERE keeps by its image, and tells how many they were. The views on the table
 /// follow.
@@ -30,23 +32,24 @@ pub(crate) fn update_rows(
     condition: &Option<Cond>,
     epoch: u64,
 ) -> Result<usize, Fault>
-    requires fitting { IsFitting table.old }
-    requires few { length table.old.rows ≤ rows_limit }
+    requires fitting { IsFitting table.old.is }
+    requires few { length table.old.is.rows ≤ rows_limit }
     requires stand { AreStanding views.old.items }
-    requires can { CanUpdate table.old.columns assignments.now condition.now table.old.rows }
-    ensures updates { UpdatesRows assignments.now condition.now table.old result table.new }
-    ensures follow { OnOk result (Follow epoch table.old table.new views.old.items views.new.items) }
+    requires can { CanUpdate table.old.is.columns assignments.now condition.now table.old.is.rows }
+    ensures updates { UpdatesRows assignments.now condition.now table.old.is result table.new.is }
+    ensures lengths { IfOk result (λ count. ExchangeBy count (lengths_of table.old) (lengths_of table.new)) }
+    ensures follow { OnOk result (Follow epoch table.old.is table.new.is views.old.items views.new.items) }
     ensures err { OnErr result ((table.new ≡ table.old) × AreSame views.old.items views.new.items) }
 {
-    let (images, pendings) = prepared(alloc, table, views, assignments, condition)?;
-    let count = images.len();
-    table.replace(alloc, condition, images)?;
+    let (found, images, pendings) = prepared(alloc, table, views, assignments, condition)?;
+    table.replace(&found, images)?;
     commit_all(views, pendings, epoch);
     standing_depends_on_sources();
-    Ok(count)
+    Ok(found.len())
 }
 
-/// The images of the rows that WHERE keeps, where they may be stored. All growth is made, and nothing changes.
+/// Finds the rows that WHERE keeps, and works out their images, where they may be stored. All growth is made, and nothing
+/// changes.
 fn prepared(
     alloc: Global,
     table: &NamedTable,
@@ -54,15 +57,16 @@ fn prepared(
     assignments: &[Assignment],
     condition: &Option<Cond>,
 ) -> Result<Prepared, Fault>
-    requires fitting { IsFitting table.now }
-    requires few { length table.now.rows ≤ rows_limit }
+    requires fitting { IsFitting table.now.is }
+    requires few { length table.now.is.rows ≤ rows_limit }
     requires stand { AreStanding views.old.items }
-    requires can { CanUpdate table.now.columns assignments.now condition.now table.now.rows }
+    requires can { CanUpdate table.now.is.columns assignments.now condition.now table.now.is.rows }
     ensures kept { AreSame views.old.items views.new.items }
     ensures ready { IfOk result (ArePrepared table.now assignments.now condition.now views.old views.new) }
-    ensures fault { IfErr result (MayRefuse (value_fault_of table.now assignments.now condition.now)) }
+    ensures fault { IfErr result (MayRefuse (value_fault_of table.now.is assignments.now condition.now)) }
 {
-    let (gone, images) = table.images_where(alloc, assignments, condition)?;
+    let found = table.find(alloc, condition)?;
+    let (gone, images) = table.images(alloc, assignments, &found)?;
     let pendings = prepare_copied(alloc, views, table.number(), &gone, &images)?;
-    Ok((images, pendings))
+    Ok((found, images, pendings))
 }

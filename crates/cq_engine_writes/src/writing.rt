@@ -4,6 +4,7 @@ ghost use Rattle.std.specs.List.{AllByRecursion};
 ghost use Rattle.cq_model.specs.Width.{IsNarrowIn};
 ghost use Rattle.cq_model_state.specs.Fitting.{AreFitting, AreLimited, FitsColumns, rows_limit};
 ghost use Rattle.cq_model_state.specs.State.{AreNumbered, columns_in, rows_in};
+ghost use Rattle.cq_engine_tables.specs.HeldTables.{ChangeAt, ExchangeBy, GrowBy, MarkIn, tables_of};
 ghost use Rattle.cq_engine_tables.specs.Tables.{IsThere};
 ghost use Rattle.cq_engine_tables.specs.Views.{AreRight};
 ghost use Rattle.cq_engine_writes.specs.Following.{Moved};
@@ -31,14 +32,15 @@ pub fn insert_in(
     epoch: u64,
 ) -> Result<(), Fault>
     requires max { max_rows ≤ rows_limit }
-    requires numbered { (next : ℕ) × AreNumbered tables.old.items next }
-    requires fitting { AreFitting tables.old.items }
-    requires right { (now : ℕ) × AreRight tables.old.items now views.old.items }
-    requires limited { AreLimited rows_limit tables.old.items }
-    requires there { IsThere number tables.old.items }
-    requires rows { AllByRecursion (FitsColumns (columns_in tables.old.items number)) rows.items }
-    ensures inserts { Inserts max_rows number rows.items tables.old.items result tables.new.items }
-    ensures moved { OnOk result (Moved epoch tables.new.items views.old.items views.new.items) }
+    requires numbered { (next : ℕ) × AreNumbered (tables_of tables.old.items) next }
+    requires fitting { AreFitting (tables_of tables.old.items) }
+    requires right { (now : ℕ) × AreRight (tables_of tables.old.items) now views.old.items }
+    requires limited { AreLimited rows_limit (tables_of tables.old.items) }
+    requires there { IsThere number (tables_of tables.old.items) }
+    requires rows { AllByRecursion (FitsColumns (columns_in (tables_of tables.old.items) number)) rows.items }
+    ensures inserts { Inserts max_rows number rows.items (tables_of tables.old.items) result (tables_of tables.new.items) }
+    ensures lengths { OnOk result (ChangeAt number (GrowBy (length rows.items)) tables.old.items tables.new.items) }
+    ensures moved { OnOk result (Moved epoch (tables_of tables.new.items) views.old.items views.new.items) }
     ensures err { OnErr result (AreUnwritten tables.old tables.new views.old views.new) }
 {
     let place = place_numbered(tables, number);
@@ -56,15 +58,16 @@ pub fn delete_in(
     condition: &Option<Cond>,
     epoch: u64,
 ) -> Result<usize, AllocError>
-    requires numbered { (next : ℕ) × AreNumbered tables.old.items next }
-    requires fitting { AreFitting tables.old.items }
-    requires right { (now : ℕ) × AreRight tables.old.items now views.old.items }
-    requires limited { AreLimited rows_limit tables.old.items }
-    requires there { IsThere number tables.old.items }
-    requires narrow { AllByRecursion (IsNarrowIn condition.now) (rows_in tables.old.items number) }
-    ensures count { IfOk result (λ count. count ≡ length (chosen_in number condition.now tables.old.items)) }
-    ensures left { OnOk result (tables.new.items ≡ deleted_from number condition.now tables.old.items) }
-    ensures moved { OnOk result (Moved epoch tables.new.items views.old.items views.new.items) }
+    requires numbered { (next : ℕ) × AreNumbered (tables_of tables.old.items) next }
+    requires fitting { AreFitting (tables_of tables.old.items) }
+    requires right { (now : ℕ) × AreRight (tables_of tables.old.items) now views.old.items }
+    requires limited { AreLimited rows_limit (tables_of tables.old.items) }
+    requires there { IsThere number (tables_of tables.old.items) }
+    requires narrow { AllByRecursion (IsNarrowIn condition.now) (rows_in (tables_of tables.old.items) number) }
+    ensures count { IfOk result (λ count. count ≡ length (chosen_in number condition.now (tables_of tables.old.items))) }
+    ensures left { OnOk result (tables_of tables.new.items ≡ deleted_from number condition.now (tables_of tables.old.items)) }
+    ensures lengths { OnOk result (ChangeAt number MarkIn tables.old.items tables.new.items) }
+    ensures moved { OnOk result (Moved epoch (tables_of tables.new.items) views.old.items views.new.items) }
     ensures err { OnErr result (AreUnwritten tables.old tables.new views.old views.new) }
 {
     let place = place_numbered(tables, number);
@@ -83,14 +86,15 @@ pub fn update_in(
     condition: &Option<Cond>,
     epoch: u64,
 ) -> Result<usize, Fault>
-    requires numbered { (next : ℕ) × AreNumbered tables.old.items next }
-    requires fitting { AreFitting tables.old.items }
-    requires right { (now : ℕ) × AreRight tables.old.items now views.old.items }
-    requires limited { AreLimited rows_limit tables.old.items }
-    requires there { IsThere number tables.old.items }
-    requires can { CanUpdateIn tables.old.items number assignments.now condition.now }
-    ensures updates { Updates number assignments.now condition.now tables.old.items result tables.new.items }
-    ensures moved { OnOk result (Moved epoch tables.new.items views.old.items views.new.items) }
+    requires numbered { (next : ℕ) × AreNumbered (tables_of tables.old.items) next }
+    requires fitting { AreFitting (tables_of tables.old.items) }
+    requires right { (now : ℕ) × AreRight (tables_of tables.old.items) now views.old.items }
+    requires limited { AreLimited rows_limit (tables_of tables.old.items) }
+    requires there { IsThere number (tables_of tables.old.items) }
+    requires can { CanUpdateIn (tables_of tables.old.items) number assignments.now condition.now }
+    ensures updates { Updates number assignments.now condition.now (tables_of tables.old.items) result (tables_of tables.new.items) }
+    ensures lengths { IfOk result (λ count. ChangeAt number (ExchangeBy count) tables.old.items tables.new.items) }
+    ensures moved { OnOk result (Moved epoch (tables_of tables.new.items) views.old.items views.new.items) }
     ensures err { OnErr result (AreUnwritten tables.old tables.new views.old views.new) }
 {
     let place = place_numbered(tables, number);

@@ -6,12 +6,13 @@ use Rattle.cq_model.specs.declared.query.Source.{Source}
 use Rattle.cq_model.specs.declared.query.Source.TheVariants.{Table}
 use Rattle.cq_engine_tables.specs.Views.{IsWide}
 use Rattle.cq_engine.proofs.TableColumns.{sum-more}
+use Rattle.cq_engine_tables.specs.HeldTables.{tables_of}
 use Rattle.cq_engine.proofs.table_widths.all_widths.Goals as goal
 
 -- one source more has its width
 pub loop-source-preserved : goal.loop-source-preserved
 loop-source-preserved c =
-    let R = IsWide c.args.tables.now in
+    let R = IsWide (tables_of c.args.tables.now) in
     let sources = c.args.sources.now in
     let i = c.loop-source.source-index in
     let s = get_or sources i (Table 0) in
@@ -26,7 +27,7 @@ loop-source-preserved c =
 pub returns-clause-wide : goal.returns-clause-wide
 returns-clause-wide c =
     let sources = c.args.sources.now in
-    subst (λ (ss : List Source). AllZip (IsWide c.args.tables.now) ss c.loop-source.widths) (take_all c.loop-source.source-index sources c.loop-source-test.false) c.loop-source.invariant.0
+    subst (λ (ss : List Source). AllZip (IsWide (tables_of c.args.tables.now)) ss c.loop-source.widths) (take_all c.loop-source.source-index sources c.loop-source-test.false) c.loop-source.invariant.0
 
 pub returns-clause-sum : goal.returns-clause-sum
 returns-clause-sum c = omega (arith, c.loop-source.invariant.1, c.loop-source.invariant.2)

@@ -9,18 +9,21 @@ use Rattle.cq_engine_tables.specs.Views.{views_of}
 use Rattle.cq_engine_answers.proofs.Backed.{all_backed}
 use Rattle.cq_engine_answers.proofs.Readings.{alone_sizes, alone_within, backed_there, from_kept, from_rows, place_there, sizes_there, stored_sized, within_shown}
 use Rattle.cq_engine_tables.proofs.Rows.{rows_numbered}
+use Rattle.cq_engine_tables.specs.HeldTables.{tables_of}
+use Rattle.cq_engine_tables.proofs.HeldTables.{at_number}
 use Rattle.cq_engine_answers.proofs.reading.select_alone.Goals as goal
 
 -- the query can be worked out on each row that is stored
 pub list-requires : goal.list-requires
 list-requires c =
-    let tables = c.args.tables.now in
+    let tables = tables_of c.args.tables.now in
     let views = c.args.views.now in
     let q = c.args.query.now in
     let n = c.in-Table.number in
-    let t = c.index-tables-place.result in
+    let t = c.index-tables-place.result.is in
     let at = c.place_numbered-place.ensures in
-    let rows = rows_numbered tables c.place_numbered-place.result t c.requires.numbered.0 n c.requires.numbered.1 at.within c.index-tables-place.is (at.numbered t) in
+    let here = at_number c.args.tables.now c.place_numbered-place.result c.index-tables-place.result c.in-Table.number at.within c.index-tables-place.is (at.numbered c.index-tables-place.result) in
+    let rows = rows_numbered tables c.place_numbered-place.result t c.requires.numbered.0 n c.requires.numbered.1 here.0 here.1 here.2 in
     let sizes = alone_sizes tables (views_of views) q c.requires.plain ∙ ap (source_sizes tables (views_of views)) c.in-Table.is in
     let sized = stored_sized tables views n (all_rows c.rows.result) c.requires.fitting (c.rows.ensures.bag ∙ sym rows) in
     let can = c.requires.can_read in
@@ -30,26 +33,27 @@ list-requires c =
 -- the listing of the stored rows is that of the table's
 pub returns-in_ok-list-in-Table : goal.returns-in_ok-list-in-Table
 returns-in_ok-list-in-Table c =
-    let t = c.index-tables-place.result in
+    let t = c.index-tables-place.result.is in
     let at = c.place_numbered-place.ensures in
-    let rows = rows_numbered c.args.tables.now c.place_numbered-place.result t c.requires.numbered.0 c.in-Table.number c.requires.numbered.1 at.within c.index-tables-place.is (at.numbered t) in
-    from_rows c.args.tables.now c.args.views.now c.args.query.now c.args.order.now c.in-Table.number (all_rows c.rows.result) c.in_ok-list-in-Table.field-0 c.requires.plain c.in-Table.is (c.rows.ensures.bag ∙ sym rows) c.in_ok-list-in-Table.ensures
+    let here = at_number c.args.tables.now c.place_numbered-place.result c.index-tables-place.result c.in-Table.number at.within c.index-tables-place.is (at.numbered c.index-tables-place.result) in
+    let rows = rows_numbered (tables_of c.args.tables.now) c.place_numbered-place.result t c.requires.numbered.0 c.in-Table.number c.requires.numbered.1 here.0 here.1 here.2 in
+    from_rows (tables_of c.args.tables.now) c.args.views.now c.args.query.now c.args.order.now c.in-Table.number (all_rows c.rows.result) c.in_ok-list-in-Table.field-0 c.requires.plain c.in-Table.is (c.rows.ensures.bag ∙ sym rows) c.in_ok-list-in-Table.ensures
 
 -- the place of a view is there
 pub bounds-views-place : goal.bounds-views-place
 bounds-views-place c =
-    place_there c.args.views.now c.in-View.place (subst (IsSourceThere c.args.tables.now (views_of c.args.views.now)) c.in-View.is c.requires.can_read.there.0)
+    place_there c.args.views.now c.in-View.place (subst (IsSourceThere (tables_of c.args.tables.now) (views_of c.args.views.now)) c.in-View.is c.requires.can_read.there.0)
 
 pub offset_bounds-views-place : goal.offset_bounds-views-place
 offset_bounds-views-place c =
     let there : c.in-View.place < length c.args.views.now =
-    place_there c.args.views.now c.in-View.place (subst (IsSourceThere c.args.tables.now (views_of c.args.views.now)) c.in-View.is c.requires.can_read.there.0) in
+    place_there c.args.views.now c.in-View.place (subst (IsSourceThere (tables_of c.args.tables.now) (views_of c.args.views.now)) c.in-View.is c.requires.can_read.there.0) in
     search (rules, there, arith)
 
 -- its tables back it
 pub select_from_view-requires-clause-backed : goal.select_from_view-requires-clause-backed
 select_from_view-requires-clause-backed c =
-    let tables = c.args.tables.now in
+    let tables = tables_of c.args.tables.now in
     let views = c.args.views.now in
     let v = c.index-views-place.result in
     let inside = place_there views c.in-View.place (subst (IsSourceThere tables (views_of views)) c.in-View.is c.requires.can_read.there.0) in
@@ -59,7 +63,7 @@ select_from_view-requires-clause-backed c =
 -- the query can be worked out on rows of its sizes
 pub select_from_view-requires-clause-within : goal.select_from_view-requires-clause-within
 select_from_view-requires-clause-within c =
-    let tables = c.args.tables.now in
+    let tables = tables_of c.args.tables.now in
     let views = c.args.views.now in
     let q = c.args.query.now in
     let v = c.index-views-place.result in
@@ -72,7 +76,7 @@ select_from_view-requires-clause-within c =
 
 pub returns-in-View : goal.returns-in-View
 returns-in-View c =
-    let tables = c.args.tables.now in
+    let tables = tables_of c.args.tables.now in
     let views = c.args.views.now in
     let v = c.index-views-place.result in
     let inside = place_there views c.in-View.place (subst (IsSourceThere tables (views_of views)) c.in-View.is c.requires.can_read.there.0) in

@@ -4,46 +4,68 @@ use Rattle.std.specs.List.{AllByRecursion}
 use Rattle.cq_values.specs.Value.{Row}
 use Rattle.cq_model.specs.Write.{chosen, left_by}
 use Rattle.cq_model.specs.Width.{IsNarrowIn}
+use Rattle.cq_model_state.specs.Fitting.{IsFitting}
 use Rattle.cq_model_state.specs.State.{TableOf}
 use Rattle.cq_engine_tables.proofs.Rows.{rows_numbered}
 use Rattle.cq_engine_writes.proofs.Written.{standing, written-moved, written-number}
+use Rattle.cq_engine_tables.specs.HeldTables.{MarkIn, tables_of}
+use Rattle.cq_engine_tables.proofs.HeldTables.{at_number, change-written, tables_set}
 use Rattle.cq_engine_writes.proofs.writing.delete_in.Goals as goal
 use Rattle.cq_model_bags.proofs.Lists.{all-at}
 
 pub delete_from-requires-clause-few : goal.delete_from-requires-clause-few
 delete_from-requires-clause-few c =
-    let t = c.index_mut.result.now in
+    let t = c.index_mut.result.now.is in
     let at = rw c.deref.ensures.value at c.place_numbered-place.ensures in
-    subst (λ (x : TableOf). length x.rows ≤ 2 ^ 24) (sym c.index_mut.ensures.value) (all-at (λ x. length x.rows ≤ 2 ^ 24) c.args.tables.now.items c.place_numbered-place.result t at.within c.requires.limited)
+    let here = at_number c.args.tables.now.items c.place_numbered-place.result c.index_mut.result.now c.args.number at.within c.index_mut.ensures.value (at.numbered c.index_mut.result.now) in
+    subst (λ (x : TableOf). length x.rows ≤ 2 ^ 24) (sym here.1) (all-at (λ x. length x.rows ≤ 2 ^ 24) (tables_of c.args.tables.now.items) c.place_numbered-place.result t here.0 c.requires.limited)
 
 pub delete_from-requires-clause-stand : goal.delete_from-requires-clause-stand
-delete_from-requires-clause-stand c = standing c.args.tables.now.items c.requires.right.0 c.args.views.now.items c.requires.fitting c.requires.limited c.requires.right.1
+delete_from-requires-clause-stand c = standing (tables_of c.args.tables.now.items) c.requires.right.0 c.args.views.now.items c.requires.fitting c.requires.limited c.requires.right.1
 
 pub delete_from-requires-clause-narrow : goal.delete_from-requires-clause-narrow
 delete_from-requires-clause-narrow c =
-    let t = c.index_mut.result.now in
+    let t = c.index_mut.result.now.is in
     let at = rw c.deref.ensures.value at c.place_numbered-place.ensures in
-    let rows = rows_numbered c.args.tables.now.items c.place_numbered-place.result t c.requires.numbered.0 c.args.number c.requires.numbered.1 at.within c.index_mut.ensures.value (at.numbered t) in
+    let here = at_number c.args.tables.now.items c.place_numbered-place.result c.index_mut.result.now c.args.number at.within c.index_mut.ensures.value (at.numbered c.index_mut.result.now) in
+    let rows = rows_numbered (tables_of c.args.tables.now.items) c.place_numbered-place.result t c.requires.numbered.0 c.args.number c.requires.numbered.1 here.0 here.1 here.2 in
     subst (λ (rs : List Row). AllByRecursion (IsNarrowIn c.args.condition.now) rs) rows c.requires.narrow
 
 pub returns-clause-count : goal.returns-clause-count
 returns-clause-count c =
-    let t = c.index_mut.result.now in
+    let t = c.index_mut.result.now.is in
     let at = rw c.deref.ensures.value at c.place_numbered-place.ensures in
-    let rows = rows_numbered c.args.tables.now.items c.place_numbered-place.result t c.requires.numbered.0 c.args.number c.requires.numbered.1 at.within c.index_mut.ensures.value (at.numbered t) in
+    let here = at_number c.args.tables.now.items c.place_numbered-place.result c.index_mut.result.now c.args.number at.within c.index_mut.ensures.value (at.numbered c.index_mut.result.now) in
+    let rows = rows_numbered (tables_of c.args.tables.now.items) c.place_numbered-place.result t c.requires.numbered.0 c.args.number c.requires.numbered.1 here.0 here.1 here.2 in
     subst (λ (rs : List Row). IfOk c.delete_from.result (λ count. count ≡ length (chosen c.args.condition.now rs))) (sym rows) c.delete_from.ensures.count
 
 pub returns-clause-left : goal.returns-clause-left
 returns-clause-left c =
-    let t = c.index_mut.result.now in
+    let t = c.index_mut.result.now.is in
     let at = rw c.deref.ensures.value at c.place_numbered-place.ensures in
-    written-number c.requires.numbered.0 c.args.tables.now.items c.place_numbered-place.result t c.requires.numbered.1 at.within c.index_mut.ensures.value c.args.number (at.numbered t)
-    c.delete_from.new.table (left_by c.args.condition.now) c.delete_from.result c.delete_from.ensures.left
+    let here = at_number c.args.tables.now.items c.place_numbered-place.result c.index_mut.result.now c.args.number at.within c.index_mut.ensures.value (at.numbered c.index_mut.result.now) in
+    rw (tables_set c.args.tables.now.items c.place_numbered-place.result c.delete_from.new.table)
+    (written-number c.requires.numbered.0 (tables_of c.args.tables.now.items) c.place_numbered-place.result t c.requires.numbered.1 here.0 here.1 c.args.number here.2
+    c.delete_from.new.table.is (left_by c.args.condition.now) c.delete_from.result c.delete_from.ensures.left)
 
 pub returns-clause-moved : goal.returns-clause-moved
 returns-clause-moved c =
-    let t = c.index_mut.result.now in
+    let t = c.index_mut.result.now.is in
     let at = rw c.deref.ensures.value at c.place_numbered-place.ensures in
-    written-moved c.standing_depends_on_sources.ensures c.requires.right.0 c.requires.numbered.0 c.args.tables.now.items c.place_numbered-place.result t c.args.views.now.items
-    c.requires.numbered.1 at.within c.index_mut.ensures.value c.requires.right.1 c.args.epoch c.delete_from.new.table c.delete_from.new.views.items (left_by c.args.condition.now t.rows) c.delete_from.result
-    c.delete_from.ensures.left c.delete_from.ensures.follow
+    let here = at_number c.args.tables.now.items c.place_numbered-place.result c.index_mut.result.now c.args.number at.within c.index_mut.ensures.value (at.numbered c.index_mut.result.now) in
+    rw (tables_set c.args.tables.now.items c.place_numbered-place.result c.delete_from.new.table)
+    (written-moved c.standing_depends_on_sources.ensures c.requires.right.0 c.requires.numbered.0 (tables_of c.args.tables.now.items) c.place_numbered-place.result t c.args.views.now.items
+    c.requires.numbered.1 here.0 here.1 c.requires.right.1 c.args.epoch c.delete_from.new.table.is c.delete_from.new.views.items (left_by c.args.condition.now t.rows) c.delete_from.result
+    c.delete_from.ensures.left c.delete_from.ensures.follow)
+
+pub delete_from-requires-clause-fitting : goal.delete_from-requires-clause-fitting
+delete_from-requires-clause-fitting c =
+    let at = rw c.deref.ensures.value at c.place_numbered-place.ensures in
+    let here = at_number c.args.tables.now.items c.place_numbered-place.result c.index_mut.result.now c.args.number at.within c.index_mut.ensures.value (at.numbered c.index_mut.result.now) in
+    subst (λ (x : TableOf). IsFitting x) (sym here.1) (all-at IsFitting (tables_of c.args.tables.now.items) c.place_numbered-place.result c.index_mut.result.now.is here.0 c.requires.fitting)
+
+pub returns-clause-lengths : goal.returns-clause-lengths
+returns-clause-lengths c =
+    let at = rw c.deref.ensures.value at c.place_numbered-place.ensures in
+    change-written (λ _. MarkIn) c.args.number c.args.tables.now.items c.place_numbered-place.result c.requires.numbered.0 c.index_mut.result.now c.delete_from.new.table c.requires.numbered.1 at.within c.index_mut.ensures.value
+    (at.numbered c.index_mut.result.now) (left_by c.args.condition.now c.index_mut.result.now.is.rows) c.delete_from.result c.delete_from.ensures.left c.delete_from.ensures.lengths

@@ -3,16 +3,17 @@ use Rattle.cq_engine_tables.specs.Views.{views_of}
 use Rattle.cq_engine_tables.proofs.Rows.{bounded_more}
 use Rattle.cq_engine.proofs.Kept.{all_at}
 use Rattle.cq_engine.proofs.Steps.{create_view_done}
+use Rattle.cq_engine_tables.specs.HeldTables.{tables_of}
 use Rattle.cq_engine.proofs.engine.Engine.create_view.Goals as goal
 
 pub create_view_in-requires-clause-limited : goal.create_view_in-requires-clause-limited
 create_view_in-requires-clause-limited c =
-    rw c.deref.ensures.value (bounded_more c.self.inside.limits.max_rows (2 ^ 24) c.self.inside.tables.items
+    rw c.deref.ensures.value (bounded_more c.self.inside.limits.max_rows (2 ^ 24) (tables_of c.self.inside.tables.items)
     c.self.inside.limits.in_range.1 c.self.invariant.4)
 
 pub returns-clause-done : goal.returns-clause-done
 returns-clause-done c =
-    let tables = c.self.inside.tables.items in
+    let tables = tables_of c.self.inside.tables.items in
     let views = c.self.inside.views.items in
     rw (← c.self.view_is) (
       refl,

@@ -2,11 +2,12 @@ use Rattle.std.proofs.Common.{refl}
 use Rattle.cq_engine_tables.specs.Views.{views_of}
 use Rattle.cq_engine.proofs.Kept.{all_at}
 use Rattle.cq_engine.proofs.Steps.{refresh_done}
+use Rattle.cq_engine_tables.specs.HeldTables.{tables_of}
 use Rattle.cq_engine.proofs.engine.Engine.refresh.Goals as goal
 
-pub returns : goal.returns
-returns c =
-    let tables = c.self.inside.tables.items in
+pub returns-clause-done : goal.returns-clause-done
+returns-clause-done c =
+    let tables = tables_of c.self.inside.tables.items in
     let views = c.self.inside.views.items in
     let now = c.self.inside.writes in
     rw (← c.self.view_is) (

@@ -1,15 +1,17 @@
 use Rattle.std.proofs.lemmas.Result.{err_from_is_err_and}
 use Rattle.cq_binder_queries.specs.Catalog.{alone}
 use Rattle.cq_engine_tables.specs.Views.{views_of}
-use Rattle.cq_engine.proofs.Binding.{bind_counted, bind_reads, bind_refused, bound_can, bound_over, carried, carried_counts, passed_over}
+use Rattle.cq_engine.proofs.Binding.{bind_counted, bind_reads, bind_refused, bound_can, bound_over, carried, carried_counts, bound_here, passed_over}
 use Rattle.cq_engine.proofs.Counting.{grown_by_none}
 use Rattle.cq_engine.proofs.Kept.{all_at, all_shown}
+use Rattle.cq_engine.proofs.Lengths.{stores-bound}
+use Rattle.cq_engine_tables.specs.HeldTables.{tables_of}
 use Rattle.cq_engine.proofs.engine.Engine.step.Goals as goal
 
 pub returns-in_err-bound-clause-step : goal.returns-in_err-bound-clause-step
 returns-in_err-bound-clause-step g c =
     let p = err_from_is_err_and c.from_residual.result c.from_residual.ensures.1 in
-    let tables = c.self.inside.tables.items in
+    let tables = tables_of c.self.inside.tables.items in
     let views = c.self.inside.views.items in
     let over = bound_over _ (alone tables (views_of views)) c.args.command.now _ _ _ (rw (c.catalog.ensures.told, ← c.self.view_is) at c.in_err-bound.ensures.bound) in
     rw (p.1, p.2, ← c.self.view_is)
@@ -18,7 +20,7 @@ returns-in_err-bound-clause-step g c =
 pub returns-in_err-bound-clause-failures : goal.returns-in_err-bound-clause-failures
 returns-in_err-bound-clause-failures g c =
     let p = err_from_is_err_and c.from_residual.result c.from_residual.ensures.1 in
-    let tables = c.self.inside.tables.items in
+    let tables = tables_of c.self.inside.tables.items in
     let views = c.self.inside.views.items in
     let over = bound_over _ (alone tables (views_of views)) c.args.command.now _ _ _ (rw (c.catalog.ensures.told, ← c.self.view_is) at c.in_err-bound.ensures.bound) in
     rw (p.1, p.2)
@@ -27,11 +29,11 @@ returns-in_err-bound-clause-failures g c =
 pub returns-in_err-bound-clause-reads : goal.returns-in_err-bound-clause-reads
 returns-in_err-bound-clause-reads g c =
     rw (← c.self.view_is)
-    (bind_reads c.self.inside.tables.items (views_of c.self.inside.views.items) c.self.inside.writes c.self.inside.drawn c.self.inside.limits.max_rows c.args.command.now _ _ (rw (c.catalog.ensures.told, ← c.self.view_is) at c.in_err-bound.ensures.reads))
+    (bind_reads (tables_of c.self.inside.tables.items) (views_of c.self.inside.views.items) c.self.inside.writes c.self.inside.drawn c.self.inside.limits.max_rows c.args.command.now _ _ (rw (c.catalog.ensures.told, ← c.self.view_is) at c.in_err-bound.ensures.reads))
 
 pub carry_out-requires-clause-bound : goal.carry_out-requires-clause-bound
 carry_out-requires-clause-bound g c =
-    let tables = c.self.inside.tables.items in
+    let tables = tables_of c.self.inside.tables.items in
     let views = c.self.inside.views.items in
     let over = bound_over _ (alone tables (views_of views)) c.args.command.now _ _ _ (rw (c.catalog.ensures.told, ← c.self.view_is) at c.in_ok-bound.ensures.bound) in
     let bound = passed_over over.0 (alone tables (views_of views)) c.args.command.now _ _ c.in_ok-bound.bound over.2 in
@@ -40,7 +42,7 @@ carry_out-requires-clause-bound g c =
 
 pub returns-clause-step : goal.returns-clause-step
 returns-clause-step g c =
-    let tables = c.self.inside.tables.items in
+    let tables = tables_of c.self.inside.tables.items in
     let views = c.self.inside.views.items in
     let over = bound_over _ (alone tables (views_of views)) c.args.command.now _ _ _ (rw (c.catalog.ensures.told, ← c.self.view_is) at c.in_ok-bound.ensures.bound) in
     let bound = passed_over over.0 (alone tables (views_of views)) c.args.command.now _ _ c.in_ok-bound.bound over.2 in
@@ -50,7 +52,7 @@ returns-clause-step g c =
 
 pub returns-clause-failures : goal.returns-clause-failures
 returns-clause-failures g c =
-    let tables = c.self.inside.tables.items in
+    let tables = tables_of c.self.inside.tables.items in
     let views = c.self.inside.views.items in
     let over = bound_over _ (alone tables (views_of views)) c.args.command.now _ _ _ (rw (c.catalog.ensures.told, ← c.self.view_is) at c.in_ok-bound.ensures.bound) in
     let bound = passed_over over.0 (alone tables (views_of views)) c.args.command.now _ _ c.in_ok-bound.bound over.2 in
@@ -61,4 +63,13 @@ returns-clause-failures g c =
 pub returns-clause-reads : goal.returns-clause-reads
 returns-clause-reads g c =
     rw (← c.self.view_is)
-    (bind_reads c.self.inside.tables.items (views_of c.self.inside.views.items) c.self.inside.writes c.self.inside.drawn c.self.inside.limits.max_rows c.args.command.now _ _ (rw (c.catalog.ensures.told, ← c.self.view_is) at c.in_ok-bound.ensures.reads))
+    (bind_reads (tables_of c.self.inside.tables.items) (views_of c.self.inside.views.items) c.self.inside.writes c.self.inside.drawn c.self.inside.limits.max_rows c.args.command.now _ _ (rw (c.catalog.ensures.told, ← c.self.view_is) at c.in_ok-bound.ensures.reads))
+
+pub returns-clause-stores : goal.returns-clause-stores
+returns-clause-stores g c =
+    let tables = tables_of c.self.inside.tables.items in
+    let views = c.self.inside.views.items in
+    let over = bound_over _ (alone tables (views_of views)) c.args.command.now _ _ _ (rw (c.catalog.ensures.told, ← c.self.view_is) at c.in_ok-bound.ensures.bound) in
+    let bound = passed_over over.0 (alone tables (views_of views)) c.args.command.now _ _ c.in_ok-bound.bound over.2 in
+    let here = bound_here over.0 tables (views_of views) c.self.inside.writes c.self.inside.drawn c.self.inside.limits.max_rows (all_at tables c.self.inside.writes views c.self.invariant.3) c.self.invariant.1 c.args.command.now c.in_ok-bound.bound bound.1 bound.2 in
+    stores-bound _ over.0 c.args.self.now c.carry_out.new.self c.args.command.now c.in_ok-bound.bound c.carry_out.result over.1 (rw (← c.self.view_is) here) c.carry_out.ensures.stores

@@ -1,4 +1,4 @@
-use Rattle.std.proofs.Common.{◌+◌, ◌^◌, arith, inl}
+use Rattle.std.proofs.Common.{ap, ◌+◌, ◌^◌, arith, inl}
 use Rattle.std.proofs.lemmas.Result.{err_from_is_err_and}
 use Rattle.cq_model.specs.Write.{updated}
 use Rattle.cq_model_state.specs.State.{rows_in}
@@ -7,34 +7,36 @@ use Rattle.cq_engine.proofs.Kept.{all_at, order_kept, unchanged}
 use Rattle.cq_engine_tables.proofs.Rows.{bounded_more}
 use Rattle.cq_engine.proofs.Steps.{update_done}
 use Rattle.cq_engine_writes.proofs.Updates.{updated_bounded, updated_fit}
+use Rattle.cq_engine_tables.specs.HeldTables.{tables_of}
+use Rattle.cq_engine.proofs.Lengths.{same-lengths}
 use Rattle.cq_engine.proofs.engine.Engine.update.Goals as goal
 use Rattle.cq_model_state.proofs.Numbered.{numbered-weaker, numbered-with_rows}
 
 pub update_in-updated-requires-clause-limited : goal.update_in-updated-requires-clause-limited
 update_in-updated-requires-clause-limited c =
-    bounded_more c.self.inside.limits.max_rows (2 ^ 24) c.self.inside.tables.items c.self.inside.limits.in_range.1
+    bounded_more c.self.inside.limits.max_rows (2 ^ 24) (tables_of c.self.inside.tables.items) c.self.inside.limits.in_range.1
     c.self.invariant.4
 
 pub invariant_of-self : goal.invariant_of-self
 invariant_of-self c =
     let same = c.in_err-count.ensures.err in
     let e = c.self.inside in
-    order_kept e.writes e.drawn e.limits.max_rows e.tables.items c.update_in-updated.new.tables.items e.views.items c.update_in-updated.new.views.items same.0 same.1 c.self.invariant
+    order_kept e.writes e.drawn e.limits.max_rows (tables_of e.tables.items) (tables_of c.update_in-updated.new.tables.items) e.views.items c.update_in-updated.new.views.items (ap tables_of same.0) same.1 c.self.invariant
 
 pub returns-in_err-count-clause-done : goal.returns-in_err-count-clause-done
 returns-in_err-count-clause-done c =
     let p = err_from_is_err_and c.from_residual.result c.from_residual.ensures.1 in
     let walk = rw c.as_slice.ensures at c.in_err-count.ensures.updates in
     let same = c.in_err-count.ensures.err in
-    let tables = c.self.inside.tables.items in
+    let tables = tables_of c.self.inside.tables.items in
     let views = c.self.inside.views.items in
     rw (← c.self.view_is, p.1, p.2)
-    (inl walk, unchanged tables c.update_in-updated.new.tables.items views c.update_in-updated.new.views.items c.self.inside.writes c.self.inside.drawn c.self.inside.limits.max_rows same.0 same.1)
+    (inl walk, unchanged tables (tables_of c.update_in-updated.new.tables.items) views c.update_in-updated.new.views.items c.self.inside.writes c.self.inside.drawn c.self.inside.limits.max_rows (ap tables_of same.0) same.1)
 
 pub invariant_of-self-2 : goal.invariant_of-self-2
 invariant_of-self-2 c =
     let walk = rw c.as_slice.ensures at c.in_ok-count.ensures.updates in
-    let tables = c.self.inside.tables.items in
+    let tables = tables_of c.self.inside.tables.items in
     let drawn = c.self.inside.drawn in (
       omega (arith, c.self.invariant.0),
       rw walk.2 (numbered-weaker _ drawn (drawn + 1) (omega arith) (numbered-with_rows c.args.table (updated c.args.assignments c.args.filter (rows_in tables c.args.table)) tables drawn c.self.invariant.1)),
@@ -46,10 +48,18 @@ invariant_of-self-2 c =
 pub returns-clause-done : goal.returns-clause-done
 returns-clause-done c =
     let walk = rw c.as_slice.ensures at c.in_ok-count.ensures.updates in
-    let tables = c.self.inside.tables.items in
+    let tables = tables_of c.self.inside.tables.items in
     let views = c.self.inside.views.items in
     rw (← c.self.view_is) (
       walk.0,
       update_done tables (views_of views) c.self.inside.writes c.self.inside.drawn c.self.inside.limits.max_rows (all_at tables c.self.inside.writes views c.self.invariant.3)
-          c.args.table c.args.assignments c.args.filter c.update_in-updated.new.tables.items (views_of c.update_in-updated.new.views.items) c.in_ok-count.count walk.1 walk.2 c.in_ok-count.ensures.moved.views,
+          c.args.table c.args.assignments c.args.filter (tables_of c.update_in-updated.new.tables.items) (views_of c.update_in-updated.new.views.items) c.in_ok-count.count walk.1 walk.2 c.in_ok-count.ensures.moved.views,
     )
+
+pub returns-in_err-count-clause-stores : goal.returns-in_err-count-clause-stores
+returns-in_err-count-clause-stores c =
+    let p = err_from_is_err_and c.from_residual.result c.from_residual.ensures.1 in
+    rw (← c.self.view_is, p.1) (same-lengths c.self.inside.tables.items c.update_in-updated.new.tables.items c.in_err-count.ensures.err.0)
+
+pub returns-clause-stores : goal.returns-clause-stores
+returns-clause-stores c = rw (← c.self.view_is) c.in_ok-count.ensures.lengths

@@ -1,0 +1,76 @@
+-- Tables as they are held, and how writes, moves and merges change the lengths of what they store.
+use Rattle.std.specs.Prelude.{◌≡◌, ◌+◌, ◌-◌, ◌==◌, ℕ, false, if◌then◌else◌, List, [], ◌∷◌, length, map}
+use Rattle.cq_model_state.specs.State.{TableOf}
+use Rattle.cq_segments.specs.Marked.{MarkedRow, marked_count}
+use Rattle.cq_segments.specs.Pieces.{joined}
+use Rattle.cq_table.specs.Table.{StoredTable}
+use Rattle.cq_engine_tables.specs.Tables.{named}
+
+-- how many rows a write store has, those with a mark too, and how many rows of segments have a mark
+pub record Lengths : Type 0 where
+  pub write_len : ℕ
+  pub marked_len : ℕ
+
+-- a table as statements find it, its segments, and its write store
+pub record HeldTable : Type 0 where
+  pub is : TableOf
+  pub segments : List (List MarkedRow)
+  pub written : List MarkedRow
+
+-- a stored table under its number and its name
+abbrev pub held : ℕ → List ℕ → StoredTable → HeldTable
+held number name t = record { is = named number name t; segments = t.segments; written = t.written }
+
+-- the lengths of what a table stores
+abbrev pub lengths_of : HeldTable → Lengths
+lengths_of t = record { write_len = length t.written; marked_len = marked_count (joined t.segments) }
+
+-- the tables that they are
+abbrev pub tables_of : List HeldTable → List TableOf
+tables_of tables = map (λ t. t.is) tables
+
+-- nothing is stored
+abbrev pub nothing : Lengths
+nothing = record { write_len = 0; marked_len = 0 }
+
+-- the lengths of the table of a number; where there is no such table, nothing is stored
+abbrev pub lengths_in : List HeldTable → ℕ → Lengths
+lengths_in [] n = nothing
+lengths_in (t ∷ tables) n = if t.is.number == n then lengths_of t else lengths_in tables n
+
+-- ---- What becomes of lengths
+-- so many rows were put into the write store, and no row of a segment has got a mark
+pub record GrowBy (count : ℕ) (old new : Lengths) : Type 0 where
+  pub write_len : new.write_len ≡ old.write_len + count
+  pub marked_len : new.marked_len ≡ old.marked_len
+
+-- so many rows left the write store, or all where there were fewer, and no row of a segment has got a mark
+pub record MoveBy (count : ℕ) (old new : Lengths) : Type 0 where
+  pub write_len : new.write_len ≡ old.write_len - count
+  pub marked_len : new.marked_len ≡ old.marked_len
+
+-- no row of a segment has a mark any more, and the write store is as long as it was
+pub record MergeTo (old new : Lengths) : Type 0 where
+  pub write_len : new.write_len ≡ old.write_len
+  pub marked_len : new.marked_len ≡ 0
+
+-- rows were marked where they stand
+abbrev pub MarkIn : Lengths → Lengths → Type 0
+MarkIn old new = new.write_len ≡ old.write_len
+
+-- rows were marked where they stand, and so many others put into the write store
+abbrev pub ExchangeBy : ℕ → Lengths → Lengths → Type 0
+ExchangeBy count old new = new.write_len ≡ old.write_len + count
+
+-- the table is gone, or is not there yet
+abbrev pub StoreNothing : Lengths → Lengths → Type 0
+StoreNothing old new = new ≡ nothing
+
+-- this becomes of the lengths of the table of a number, and those of the others stay
+pub record ChangeAt (number : ℕ) (R : Lengths → Lengths → Type 0) (old new : List HeldTable) : Type 0 where
+  pub here : R (lengths_in old number) (lengths_in new number)
+  pub others : (n : ℕ) → (n == number) ≡ false → lengths_in new n ≡ lengths_in old n
+
+-- the lengths of all tables stay
+abbrev pub LengthsStay : List HeldTable → List HeldTable → Type 0
+LengthsStay old new = (n : ℕ) → lengths_in new n ≡ lengths_in old n
