@@ -4,6 +4,7 @@
 ghost use Rattle.std.specs.Prelude.{[], IfOk, IfSome, drop, length, map, take, ◌++◌, ◌<◌, ◌∷◌, ◌≡◌};
 ghost use Rattle.std.specs.Simd.Lanes.{zip2};
 ghost use Rattle.cq_encodings.specs.Deltas.{bits_datum};
+ghost use Rattle.cq_encodings_plain.specs.Parts.{Make};
 ghost use Rattle.cq_values.specs.Lent.{owned};
 ghost use Rattle.cq_values.specs.Value.{is_null};
 
@@ -128,7 +129,7 @@ fn bits_of_values(
     kind: Kind,
 ) -> Result<Option<Vec<u64>>, AllocError>
     ensures long { IfOk result (λ found. IfSome found (λ numbers. length numbers.items ≡ length values.now)) }
-    ensures same { IfOk result (λ found. IfSome found (λ numbers. zip2 (bits_datum kind) numbers.items (map is_null values.now) ≡ values.now)) }
+    ensures same { IfOk result (λ found. IfSome found (λ numbers. Make (bits_datum kind) numbers.items values.now)) }
 {
     let mut numbers = Vec::new(alloc);
     numbers.reserve(values.len())?;

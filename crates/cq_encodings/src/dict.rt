@@ -2,7 +2,16 @@
 ghost use Rattle.std.specs.Option.{IfNone};
 ghost use Rattle.std.specs.Prelude.{List, ℕ, [], IfOk, IfSome, OnOk, fold, length, map, slice_index_or, true, ◌<◌, ◌∷◌, ◌≡◌};
 ghost use Rattle.std.specs.Simd.Lanes.{zip2};
-ghost use Rattle.cq_encodings.specs.Dict.{AreCodes, Keeps, coded, different_texts, with_text};
+ghost use Rattle.cq_encodings.specs.Dict.{
+  AreCodes,
+  AreCodesOf,
+  Keeps,
+  StandForAll,
+  StandsFor,
+  coded,
+  different_texts,
+  with_text,
+};
 ghost use Rattle.cq_values.specs.Value.{is_null};
 ghost use Rattle.cq_values.specs.declared.value.Value.TheVariants.{Text};
 ghost use Rattle.cq_vectors.specs.Columns.{text_unless, texts_of};
@@ -24,9 +33,9 @@ pub struct Dict {
 }
 
 impl Model for Dict {
-    ghost use Rattle.std.specs.Prelude.{List, ◌≡◌};
+    ghost use Rattle.std.specs.Prelude.{List};
     ghost use Rattle.std.specs.Simd.Lanes.{zip2};
-    ghost use Rattle.cq_encodings.specs.Dict.{AreCodes, coded, different_texts};
+    ghost use Rattle.cq_encodings.specs.Dict.{IsDict, coded};
     ghost use Rattle.cq_values.specs.declared.value.Value.{Value as Datum};
     ghost use Rattle.cq_vectors.specs.Columns.{text_unless};
 
@@ -34,8 +43,7 @@ impl Model for Dict {
 
     ghost view = { λ d. zip2 text_unless (coded d.entries d.codes) d.nulls };
 
-    ghost invariant = { λ d. AreCodes d.entries d.codes d.nulls
-        × (d.entries ≡ different_texts (zip2 text_unless (coded d.entries d.codes) d.nulls)) };
+    ghost invariant = { λ d. IsDict d.entries d.codes d.nulls };
 }
 
 impl Dict {
@@ -110,8 +118,8 @@ fn codes_of<'a>(
     most: usize,
 ) -> Result<Option<(IndexSet<&'a str>, Vec<u64>)>, AllocError>
     ensures different { IfOk result (λ found. IfSome found (λ parts. texts_of parts.0.keys ≡ different_texts values.now)) }
-    ensures known { IfOk result (λ found. IfSome found (λ parts. AreCodes (texts_of parts.0.keys) parts.1.items (map is_null values.now))) }
-    ensures same { IfOk result (λ found. IfSome found (λ parts. zip2 text_unless (coded (texts_of parts.0.keys) parts.1.items) (map is_null values.now) ≡ values.now)) }
+    ensures known { IfOk result (λ found. IfSome found (λ parts. AreCodesOf parts.0.keys parts.1.items values.now)) }
+    ensures same { IfOk result (λ found. IfSome found (λ parts. StandForAll parts.0.keys parts.1.items values.now)) }
 {
     let Some(first) = first_text(values) else {
         return Ok(None);
@@ -167,7 +175,7 @@ fn code_of<'a>(known: &mut IndexSet<&'a str>, value: &'a Value) -> Result<Option
     ensures met { OnOk result (texts_of known.new.keys ≡ with_text (texts_of known.old.keys) value.now) }
     ensures null { IfOk result (λ found. IfSome found (λ code. is_null value.now ≡ true → code ≡ 0)) }
     ensures within { IfOk result (λ found. IfSome found (λ code. code < length known.new.keys)) }
-    ensures same { IfOk result (λ found. IfSome found (λ code. text_unless (slice_index_or (texts_of known.new.keys) code []) (is_null value.now) ≡ value.now)) }
+    ensures same { IfOk result (λ found. IfSome found (λ code. StandsFor known.new.keys code value.now)) }
 {
     match value {
         Value::Text(text) => {

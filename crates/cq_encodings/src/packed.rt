@@ -2,7 +2,7 @@
 ghost use Rattle.std.specs.Prelude.{IfOk, IfSome, length, map, pos, true, ◌+ℤ◌, ◌≡◌};
 ghost use Rattle.std.specs.Simd.Lanes.{zip2};
 ghost use Rattle.cq_encodings_plain.specs.Kind.{IsOf, datum};
-ghost use Rattle.cq_encodings_plain.specs.Nulls.{NothingWhere};
+ghost use Rattle.cq_encodings_plain.specs.Parts.{Make, NothingAtNulls};
 ghost use Rattle.cq_encodings.specs.Packed.{AreOffsets, FitAbove, above};
 ghost use Rattle.cq_values.specs.Value.{is_null};
 
@@ -115,10 +115,10 @@ fn offsets_above(
     least: i64,
 ) -> Result<Option<Vec<u64>>, AllocError>
     requires { IsOf kind least }
-    ensures clear { IfOk result (λ found. IfSome found (λ offsets. NothingWhere 0 (map is_null values.now) offsets.items)) }
+    ensures clear { IfOk result (λ found. IfSome found (λ offsets. NothingAtNulls 0 values.now offsets.items)) }
     ensures fit { IfOk result (λ found. IfSome found (λ offsets. FitAbove kind least offsets.items)) }
     ensures long { IfOk result (λ found. IfSome found (λ offsets. length offsets.items ≡ length values.now)) }
-    ensures same { IfOk result (λ found. IfSome found (λ offsets. zip2 (datum kind) (above least offsets.items) (map is_null values.now) ≡ values.now)) }
+    ensures same { IfOk result (λ found. IfSome found (λ offsets. Make (datum kind) (above least offsets.items) values.now)) }
 {
     let mut offsets = Vec::new(alloc);
     offsets.reserve(values.len())?;

@@ -3,6 +3,7 @@ ghost use Rattle.std.specs.Prelude.{IfOk, IfSome, length, map, pos, ◌≡◌};
 ghost use Rattle.std.specs.Simd.Lanes.{zip2};
 ghost use Rattle.cq_encodings_plain.specs.Kind.{datum};
 ghost use Rattle.cq_encodings_plain.specs.Nulls.{NothingWhere};
+ghost use Rattle.cq_encodings_plain.specs.Parts.{Make, NothingAtNulls};
 ghost use Rattle.cq_values.specs.Value.{is_null};
 
 use crate::encoded::Encoded;
@@ -80,8 +81,8 @@ impl Encoded for PlainNumbers {
 
 fn numbers_of(alloc: Global, values: &[Value], kind: Kind) -> Result<Option<Vec<i64>>, AllocError>
     ensures long { IfOk result (λ found. IfSome found (λ numbers. length numbers.items ≡ length values.now)) }
-    ensures clear { IfOk result (λ found. IfSome found (λ numbers. NothingWhere (pos 0) (map is_null values.now) numbers.items)) }
-    ensures same { IfOk result (λ found. IfSome found (λ numbers. zip2 (datum kind) numbers.items (map is_null values.now) ≡ values.now)) }
+    ensures clear { IfOk result (λ found. IfSome found (λ numbers. NothingAtNulls (pos 0) values.now numbers.items)) }
+    ensures same { IfOk result (λ found. IfSome found (λ numbers. Make (datum kind) numbers.items values.now)) }
 {
     let mut numbers = Vec::new(alloc);
     numbers.reserve(values.len())?;

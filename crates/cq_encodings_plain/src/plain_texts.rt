@@ -2,6 +2,7 @@
 ghost use Rattle.std.specs.Prelude.{[], IfOk, IfSome, length, map, true, ◌≡◌};
 ghost use Rattle.std.specs.Simd.Lanes.{zip2};
 ghost use Rattle.cq_encodings_plain.specs.Nulls.{NothingWhere};
+ghost use Rattle.cq_encodings_plain.specs.Parts.{Make, NothingAtNulls};
 ghost use Rattle.cq_values.specs.Value.{is_null};
 ghost use Rattle.cq_vectors.specs.Columns.{text_unless};
 
@@ -72,8 +73,8 @@ impl Encoded for PlainTexts {
 
 fn texts_of(alloc: Global, values: &[Value]) -> Result<Option<TextRun>, AllocError>
     ensures long { IfOk result (λ found. IfSome found (λ texts. length texts ≡ length values.now)) }
-    ensures clear { IfOk result (λ found. IfSome found (λ texts. NothingWhere [] (map is_null values.now) texts)) }
-    ensures same { IfOk result (λ found. IfSome found (λ texts. zip2 text_unless texts (map is_null values.now) ≡ values.now)) }
+    ensures clear { IfOk result (λ found. IfSome found (λ texts. NothingAtNulls [] values.now texts)) }
+    ensures same { IfOk result (λ found. IfSome found (λ texts. Make text_unless texts values.now)) }
 {
     let mut texts = TextRun::new(alloc);
     for value in values {
