@@ -14,7 +14,7 @@ use Rattle.cq_binder_rules.specs.ViewChecks.{create_view_checks, view_select_che
 use Rattle.cq_binder_rules.specs.Refusal.{column_checks, create_checks, sort_checks}
 use Rattle.cq_model_state.specs.State.{TableOf, ViewOf, is_taken}
 use Rattle.cq_binder_queries.specs.Catalog.{alone}
-use Rattle.cq_binder.specs.Binding.{Binds}
+use Rattle.cq_binder.specs.Binding.{BindsAlone}
 use Rattle.cq_binder_queries.specs.View.{BindsView}
 use Rattle.cq_binder_queries.proofs.Faults.{first_fault_append, or_next, refused_front, refused_same, walked_same}
 
@@ -61,6 +61,6 @@ module _ (name : List ℕ) (v : Select) (tables : List TableOf) (views : List Vi
   query_decides = ap (λ (b : Bool). first_fault (fault_if b NameTaken ∷ query_walk)) free
 
   -- what is bound of the query is the command
-  pub view_created : (result : Result Bound Fault) → BindsView (alone tables views) name v result → Binds (alone tables views) (statements.CreateView name v) result
+  pub view_created : (result : Result Bound Fault) → BindsView (alone tables views) name v result → BindsAlone (alone tables views) (statements.CreateView name v) result
   view_created result walked =
       walked_same query_walk (create_view_checks name v (alone tables views)) (λ (command : Bound). option_map (bound_view name v) (standing (view_walk (alone tables views) v)) ≡ Some command) result query_decides walked

@@ -1,5 +1,5 @@
 -- What binding a statement gives.
-use Rattle.std.specs.Prelude.{◌≡◌, ℕ, List, [], ◌∷◌, ◌++◌, Option, Some, Result, Ok, Err}
+use Rattle.std.specs.Prelude.{◌≡◌, if◌then◌else◌, ℕ, List, [], ◌∷◌, ◌++◌, Option, Some, Result, Ok, Err}
 use Rattle.std.specs.List.{flat_map}
 use Rattle.cq_binder_rules.specs.declared.bound.Bound.{Bound}
 use Rattle.cq_sql_language.specs.declared.statement.Constant.{Constant}
@@ -8,6 +8,7 @@ use Rattle.cq_sql_language.specs.declared.statement.Statement.{Statement}
 use Rattle.cq_sql_language.specs.declared.statement.Statement.TheVariants as statements
 use Rattle.cq_sql_language.specs.Written.{Written}
 use Rattle.cq_binder_rules.specs.declared.fault.Fault.{Fault}
+use Rattle.cq_binder_rules.specs.declared.fault.Fault.TheVariants.{UnknownTable, ViewNotWritten}
 use Rattle.cq_binder_rules.specs.Scopes.{from_table, scope_of}
 use Rattle.cq_binder_rules.specs.UpdateChecks.{update_walk}
 use Rattle.cq_binder_rules.specs.Bound.{bound}
@@ -15,8 +16,13 @@ use Rattle.cq_binder_rules.specs.RowChecks.{row_checks}
 use Rattle.cq_binder_rules.specs.Records.{Files, file_rows}
 use Rattle.cq_binder_rules.specs.Refusal.{checks, name_checks, written_table}
 use Rattle.cq_binder_rules.specs.Typing.{fault_in}
-use Rattle.cq_model_state.specs.State.{TableOf, State}
+use Rattle.cq_model_state.specs.State.{TableOf, ViewOf, State}
+use Rattle.cq_binder_queries.specs.Catalog.{names_view}
 use Rattle.cq_binder_queries.specs.Walk.{Walked}
+
+-- why a statement cannot write to a name that no table has: a view has it, or nothing
+abbrev pub unwritten_fault : List ℕ → List ViewOf → Fault
+unwritten_fault name views = if names_view name views then ViewNotWritten else UnknownTable
 
 -- INSERT: the name, then each row
 abbrev pub rows_walk : List (List Constant) → Result TableOf Fault → List (Option Fault)
@@ -46,5 +52,5 @@ abbrev pub BindsOver : Files → State → Statement → Result Bound Fault → 
 BindsOver files s statement result = Walked (binding_checks files s statement) (λ command. bound files s statement ≡ Some command) result
 
 -- the same of a statement that reads no file
-abbrev pub Binds : State → Statement → Result Bound Fault → Type 0
-Binds s statement result = BindsOver (λ name. []) s statement result
+abbrev pub BindsAlone : State → Statement → Result Bound Fault → Type 0
+BindsAlone s statement result = BindsOver (λ name. []) s statement result

@@ -12,6 +12,7 @@ use Rattle.cq_binder_rules.specs.Scopes.{from_table, scope_of}
 use Rattle.cq_model_state.specs.State.{TableOf}
 use Rattle.cq_binder_queries.specs.declared.catalog.TableEntry.{TableEntry}
 use Rattle.cq_binder_queries.specs.Catalog.{Describes}
+use Rattle.cq_binder_queries.specs.Conditions.{BindsWhere}
 use Rattle.cq_binder_queries.specs.Walk.{Walked, WalksTo}
 
 -- an assignment behind those before it is bound where it has no fault
@@ -33,3 +34,7 @@ BindsUpdate s sets condition result = Walked (update_walk condition sets s) (Are
 -- and so it is over the table that an entry describes
 abbrev pub BindsUpdateOf : TableEntry → List SetClause → Option Written → Result (List Assignment × Option Cond) Fault → Type 0
 BindsUpdateOf e sets condition result = (t : TableOf) → Describes e t → BindsUpdate (scope_of (from_table t)) sets condition result
+
+-- so is WHERE
+abbrev pub BindsWhereOf : TableEntry → Option Written → Result (Option Cond) Fault → Type 0
+BindsWhereOf e condition result = (t : TableOf) → Describes e t → BindsWhere (scope_of (from_table t)) condition result

@@ -1,12 +1,11 @@
 //! Statements become commands.
-ghost use Rattle.std.specs.Prelude.{◌≡◌, ◌<◌, ◌-◌, ◌^◌, if◌then◌else◌};
+ghost use Rattle.std.specs.Prelude.{◌≡◌, ◌<◌, ◌-◌, ◌^◌};
 ghost use Rattle.cq_sql_language.specs.declared.statement.Statement.TheVariants.{CreateTable, CreateView, DropTable, DropView};
-ghost use Rattle.cq_binder_rules.specs.declared.fault.Fault.TheVariants.{UnknownTable, ViewNotWritten};
 ghost use Rattle.cq_model_state.specs.State.{is_taken};
 ghost use Rattle.cq_binder_queries.specs.Catalog.{names_view, state_of};
-ghost use Rattle.cq_binder.specs.Binding.{Binds};
+ghost use Rattle.cq_binder.specs.Binding.{unwritten_fault};
 ghost use Rattle.cq_binder.specs.Columns.{WalksCreate};
-ghost use Rattle.cq_binder.specs.Sourced.{BindsFrom, ReadsOnce};
+ghost use Rattle.cq_binder.specs.Sourced.{Binds, BindsIn, ReadsOnce};
 
 use crate::columns::{copy_columns, sort_columns};
 use crate::copying::bind_copy;
@@ -31,7 +30,7 @@ pub fn bind<C: Catalog, S: Sources>(
     sources: &mut S,
 ) -> Result<Bound, BindFault>
     requires { S.failures sources.old < 2 ^ 64 - 1 }
-    ensures bound { BindsFrom S.Sources sources.old sources.new C.Catalog catalog.now statement.now result }
+    ensures bound { Binds S.Sources sources.old sources.new C.Catalog catalog.now statement.now result }
     ensures files { S.files sources.new ≡ S.files sources.old }
     ensures reads { ReadsOnce S.Sources sources.old sources.new C.Catalog catalog.now statement.now }
 {
@@ -66,7 +65,7 @@ fn bind_create<C: Catalog>(
     columns: &Seq<ColumnDef>,
     sort: &Seq<Text>,
 ) -> Result<Bound, BindFault>
-    ensures { Binds (state_of C.tables C.views catalog.now) (CreateTable name.now columns.now sort.now) result }
+    ensures { BindsIn C.Catalog catalog.now (CreateTable name.now columns.now sort.now) result }
 {
     let columns = columns.as_slice();
     let sort = check_create(alloc, catalog, name.as_str(), columns, sort.as_slice())?;
@@ -101,7 +100,7 @@ fn bind_create_view<C: Catalog>(
     name: &Text,
     view: &Select,
 ) -> Result<Bound, BindFault>
-    ensures { Binds (state_of C.tables C.views catalog.now) (CreateView name.now view.now) result }
+    ensures { BindsIn C.Catalog catalog.now (CreateView name.now view.now) result }
 {
     if is_taken(catalog, name.as_str()) {
         return Err(Fault::NameTaken);
@@ -110,7 +109,7 @@ fn bind_create_view<C: Catalog>(
 }
 
 fn bind_drop<C: Catalog>(catalog: &C, name: &Text) -> Result<Bound, BindFault>
-    ensures { Binds (state_of C.tables C.views catalog.now) (DropTable name.now) result }
+    ensures { BindsIn C.Catalog catalog.now (DropTable name.now) result }
 {
     let Some(table) = catalog.table(name.as_str()) else {
         return Err(Fault::UnknownTable);
@@ -122,7 +121,7 @@ fn bind_drop<C: Catalog>(catalog: &C, name: &Text) -> Result<Bound, BindFault>
 }
 
 fn bind_drop_view<C: Catalog>(catalog: &C, name: &Text) -> Result<Bound, BindFault>
-    ensures { Binds (state_of C.tables C.views catalog.now) (DropView name.now) result }
+    ensures { BindsIn C.Catalog catalog.now (DropView name.now) result }
 {
     match catalog.view_place(name.as_str()) {
         Some(place) => Ok(Bound::DropView(place)),
@@ -139,7 +138,7 @@ fn is_taken<C: Catalog>(catalog: &C, name: &str) -> bool
 
 /// Why a name that no table has cannot be written.
 pub(crate) fn unwritten<C: Catalog>(catalog: &C, name: &str) -> BindFault
-    ensures { result ≡ (if names_view name.now (C.views catalog.now) then ViewNotWritten else UnknownTable) }
+    ensures { result ≡ unwritten_fault name.now (C.views catalog.now) }
 {
     if is_view(catalog, name) {
         Fault::ViewNotWritten

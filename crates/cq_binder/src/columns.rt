@@ -1,8 +1,6 @@
 //! The columns of a table that is created, and where those behind SORT BY stand.
-ghost use Rattle.std.specs.Prelude.{◌≡◌, IfOk, []};
-ghost use Rattle.cq_binder_rules.specs.Refusal.{sort_checks};
-ghost use Rattle.cq_binder.specs.Columns.{sort_places};
-ghost use Rattle.cq_binder_queries.specs.Walk.{WalksTo};
+ghost use Rattle.std.specs.Prelude.{◌≡◌, IfOk};
+ghost use Rattle.cq_binder.specs.Columns.{FindsSort};
 
 use cq_binder_expressions::column_place;
 use cq_binder_queries::is_named;
@@ -16,7 +14,7 @@ pub(crate) fn sort_columns(
     columns: &[ColumnDef],
     names: &[Text],
 ) -> Result<Seq<usize>, Fault>
-    ensures { WalksTo (sort_checks columns.now [] names.now) (sort_places columns.now names.now) result }
+    ensures { FindsSort columns.now names.now result }
 {
     let mut places = Seq::new(alloc);
     for (i, name) in names.iter().enumerate() {

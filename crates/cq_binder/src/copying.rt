@@ -2,9 +2,8 @@
 ghost use Rattle.std.specs.Prelude.{◌≡◌, ◌<◌, ◌-◌, ◌^◌, ◌∷◌, [], OnErr, length, nat_lt, true};
 ghost use Rattle.cq_binder_rules.specs.Checks.{fault_if};
 ghost use Rattle.cq_binder_rules.specs.declared.fault.Fault.TheVariants.{TextTooLong};
-ghost use Rattle.cq_sql_language.specs.declared.statement.Statement.TheVariants.{Copy};
 ghost use Rattle.cq_model.specs.Sizes.{text_limit};
-ghost use Rattle.cq_binder.specs.Sourced.{BindsFrom, ReadsOnce};
+ghost use Rattle.cq_binder.specs.Sourced.{Loads, LoadsOnce};
 ghost use Rattle.cq_binder_queries.specs.Walk.{Passes};
 
 use crate::binding::{BindFault, unwritten};
@@ -21,18 +20,18 @@ pub(crate) fn bind_copy<C: Catalog, S: Sources>(
     catalog: &C,
     name: &Text,
     file: &Text,
-    sources: &mut S,
+    files: &mut S,
 ) -> Result<Bound, BindFault>
-    requires { S.failures sources.old < 2 ^ 64 - 1 }
-    ensures bound { BindsFrom S.Sources sources.old sources.new C.Catalog catalog.now (Copy name.now file.now) result }
-    ensures files { S.files sources.new ≡ S.files sources.old }
-    ensures reads { ReadsOnce S.Sources sources.old sources.new C.Catalog catalog.now (Copy name.now file.now) }
+    requires { S.failures files.old < 2 ^ 64 - 1 }
+    ensures bound { Loads S.Sources files.old files.new C.Catalog catalog.now name.now file.now result }
+    ensures files { S.files files.new ≡ S.files files.old }
+    ensures reads { LoadsOnce S.Sources files.old files.new C.Catalog catalog.now name.now file.now }
 {
     let Some(table) = catalog.table(name.as_str()) else {
         return Err(unwritten(catalog, name.as_str()));
     };
     check_file_name(file)?;
-    let bytes = sources.read(alloc, file.as_str())?;
+    let bytes = files.read(alloc, file.as_str())?;
     let rows = read_rows(alloc, bytes.as_slice(), table.columns)?;
     Ok(Bound::Insert {
         table: table.number,

@@ -1,7 +1,6 @@
 //! MOVE, MERGE and REFRESH.
 ghost use Rattle.cq_sql_language.specs.declared.statement.Statement.TheVariants.{Merge, Move, Refresh};
-ghost use Rattle.cq_binder_queries.specs.Catalog.{state_of};
-ghost use Rattle.cq_binder.specs.Binding.{Binds};
+ghost use Rattle.cq_binder.specs.Sourced.{BindsIn};
 
 use crate::binding::{BindFault, unwritten};
 use cq_binder_queries::Catalog;
@@ -14,7 +13,7 @@ pub(crate) fn bind_move<C: Catalog>(
     name: &Text,
     rows: u128,
 ) -> Result<Bound, BindFault>
-    ensures { Binds (state_of C.tables C.views catalog.now) (Move name.now rows) result }
+    ensures { BindsIn C.Catalog catalog.now (Move name.now rows) result }
 {
     let Some(table) = catalog.table(name.as_str()) else {
         return Err(unwritten(catalog, name.as_str()));
@@ -27,7 +26,7 @@ pub(crate) fn bind_move<C: Catalog>(
 
 /// MERGE.
 pub(crate) fn bind_merge<C: Catalog>(catalog: &C, name: &Text) -> Result<Bound, BindFault>
-    ensures { Binds (state_of C.tables C.views catalog.now) (Merge name.now) result }
+    ensures { BindsIn C.Catalog catalog.now (Merge name.now) result }
 {
     let Some(table) = catalog.table(name.as_str()) else {
         return Err(unwritten(catalog, name.as_str()));
@@ -41,7 +40,7 @@ pub(crate) fn bind_refresh<C: Catalog>(
     name: &Text,
     changes: u128,
 ) -> Result<Bound, BindFault>
-    ensures { Binds (state_of C.tables C.views catalog.now) (Refresh name.now changes) result }
+    ensures { BindsIn C.Catalog catalog.now (Refresh name.now changes) result }
 {
     let Some(view) = catalog.view_place(name.as_str()) else {
         return Err(Fault::UnknownTable);

@@ -3,8 +3,7 @@ ghost use Rattle.std.specs.Prelude.{◌≡◌};
 ghost use Rattle.cq_sql_language.specs.declared.statement.Statement.TheVariants.{Update};
 ghost use Rattle.cq_binder_rules.specs.UpdateChecks.{is_set};
 ghost use Rattle.cq_binder_expressions.specs.Expressions.{scope_of};
-ghost use Rattle.cq_binder_queries.specs.Catalog.{state_of};
-ghost use Rattle.cq_binder.specs.Binding.{Binds};
+ghost use Rattle.cq_binder.specs.Sourced.{BindsIn};
 ghost use Rattle.cq_binder.specs.Update.{BindsSet, BindsSets, BindsUpdate, BindsUpdateOf};
 
 use crate::binding::{BindFault, unwritten};
@@ -24,7 +23,7 @@ pub(crate) fn bind_update<C: Catalog>(
     sets: &Seq<SetClause>,
     condition: &Option<SqlExpr>,
 ) -> Result<Bound, BindFault>
-    ensures { Binds (state_of C.tables C.views catalog.now) (Update name.now sets.now condition.now) result }
+    ensures { BindsIn C.Catalog catalog.now (Update name.now sets.now condition.now) result }
 {
     let sets = sets.as_slice();
     let Some(table) = catalog.table(name.as_str()) else {

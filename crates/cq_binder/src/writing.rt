@@ -4,11 +4,8 @@ ghost use Rattle.std.specs.List.{flat_map};
 ghost use Rattle.cq_sql_language.specs.declared.statement.Statement.TheVariants as statements;
 ghost use Rattle.cq_binder_rules.specs.Bound.{row_of};
 ghost use Rattle.cq_binder_rules.specs.RowChecks.{row_checks};
-ghost use Rattle.cq_binder_rules.specs.Scopes.{from_table, scope_of};
-ghost use Rattle.cq_model_state.specs.State.{TableOf};
-ghost use Rattle.cq_binder_queries.specs.Catalog.{Describes, state_of};
-ghost use Rattle.cq_binder.specs.Binding.{Binds};
-ghost use Rattle.cq_binder_queries.specs.Conditions.{BindsWhere};
+ghost use Rattle.cq_binder.specs.Sourced.{BindsIn};
+ghost use Rattle.cq_binder.specs.Update.{BindsWhereOf};
 ghost use Rattle.cq_binder_queries.specs.Walk.{WalksTo};
 
 use crate::binding::{BindFault, unwritten};
@@ -28,7 +25,7 @@ pub(crate) fn bind_insert<C: Catalog>(
     name: &Text,
     rows: &ConstantRows,
 ) -> Result<Bound, BindFault>
-    ensures { Binds (state_of C.tables C.views catalog.now) (statements.Insert name.now rows.now) result }
+    ensures { BindsIn C.Catalog catalog.now (statements.Insert name.now rows.now) result }
 {
     let Some(table) = catalog.table(name.as_str()) else {
         return Err(unwritten(catalog, name.as_str()));
@@ -61,7 +58,7 @@ pub(crate) fn bind_delete<C: Catalog>(
     name: &Text,
     condition: &Option<SqlExpr>,
 ) -> Result<Bound, BindFault>
-    ensures { Binds (state_of C.tables C.views catalog.now) (statements.Delete name.now condition.now) result }
+    ensures { BindsIn C.Catalog catalog.now (statements.Delete name.now condition.now) result }
 {
     let Some(table) = catalog.table(name.as_str()) else {
         return Err(unwritten(catalog, name.as_str()));
@@ -78,7 +75,7 @@ fn where_on(
     table: &TableEntry<'_>,
     condition: &Option<SqlExpr>,
 ) -> Result<Option<Cond>, BindFault>
-    ensures { (t : TableOf) → Describes table.now t → BindsWhere (scope_of (from_table t)) condition.now result }
+    ensures { BindsWhereOf table.now condition.now result }
 {
     let columns = table_columns(alloc, table.name, table)?;
     bound_where(alloc, &Scope::of_rows(&columns), condition)

@@ -1,7 +1,10 @@
 pub mod Chains
 pub mod Nodes
 pub mod Told
+pub mod Growing
 pub mod Narrow
+pub mod Passed
 pub mod Typed
 pub mod Places
+pub mod Several
 pub mod Standing

@@ -1,154 +1,31 @@
 -- What passes the walk has nothing too wide in it.
-use Rattle.std.proofs.Common.{arith, ◌≡◌, ℕ, ◌+◌, ◌*◌, ◌<◌, ◌≤◌, ◌^◌, max, Bool, true, false, ℤ, sym, subst, List, [], ◌∷◌, ◌++◌, map, length, Option, Some, None, Result, Ok, Err, refl, ap, ◌∙◌, append_assoc}
-use Rattle.std.specs.Prelude.{nat_lt, ◌&&◌, if◌then◌else◌, drop, not, position, slice_get, unwrap_or, IsSome, is_some}
-use Rattle.std.specs.List.{fold, list_any}
-use Rattle.std.proofs.lemmas.Bool.{ltb-true}
+use Rattle.std.proofs.Common.{arith, ◌≡◌, ℕ, ◌+◌, ◌*◌, ◌<◌, ◌≤◌, ◌^◌, max, Bool, true, sym, subst, List, [], ◌∷◌, ◌++◌, map, length, Some, Result, Ok, refl, ap, ◌∙◌, append_assoc}
+use Rattle.std.specs.Prelude.{◌&&◌, slice_get, IsSome, is_some}
+use Rattle.std.specs.List.{fold}
 use Rattle.std.proofs.lemmas.List.{append-nil}
-use Rattle.std.proofs.lemmas.List.Quantifiers.{position-Some}
 use Rattle.std.proofs.lemmas.Nat.{mul-le}
-use Rattle.cq_values.specs.Dates.{day_named}
 use Rattle.cq_values.specs.declared.ty.Ty.TheVariants as types
-use Rattle.cq_values.specs.declared.value.Value.TheVariants as values
-use Rattle.cq_values.specs.declared.day_part.DayPart.{DayPart}
 use Rattle.cq_sql_language.specs.declared.written.ColumnName.{ColumnName}
-use Rattle.cq_model.specs.Expr.{Cond, Expr}
+use Rattle.cq_model.specs.Expr.{Expr}
 use Rattle.cq_model.specs.declared.query.Aggregate.{Aggregate as Shown}
 use Rattle.cq_model.specs.declared.query.Aggregate.TheVariants as shown
 use Rattle.cq_model.specs.Sizes.{IsArgumentNarrow, aggregate_size, count_size}
 use Rattle.cq_sql_language.specs.declared.written.AggregateFunction.{AggregateFunction}
 use Rattle.cq_sql_language.specs.declared.written.AggregateFunction.TheVariants as functions
-use Rattle.cq_binder_rules.specs.Placed.{aggregate_of, named_day, placed_expr, placed_exprs, turned, with_aggregates, with_choices, written_number}
-use Rattle.cq_model.specs.Width.{part_limit, value_size, widest, widest_in, width}
+use Rattle.cq_binder_rules.specs.Placed.{aggregate_of, placed_expr, placed_exprs, with_aggregates, with_choices}
+use Rattle.cq_model.specs.Width.{widest, width}
 use Rattle.cq_sql_language.specs.Written.{Written, Choices, Number, Text, Date, Null, Column, Extract, CountAll, Aggregate, Parens, Negative, Times, Plus, Minus, Compare, IsNull, Between, In, Like, Not, And, Or, NoChoice, Choice}
 use Rattle.cq_binder_rules.specs.declared.fault.Fault.{Fault}
-use Rattle.cq_binder_rules.specs.declared.fault.Fault.TheVariants.{AggregateMisplaced, AmbiguousColumn, TooWide, TypeMismatch, UnknownTable}
+use Rattle.cq_binder_rules.specs.declared.fault.Fault.TheVariants.{AggregateMisplaced, TypeMismatch}
 use Rattle.cq_binder_rules.specs.declared.typing.Typing.{Typing}
-use Rattle.cq_binder_rules.specs.Kinds.{◌and_then◌, aggregated, agree, arithmetic, between_them, compared_with, connected, counted, is_of, is_value, like_of, negation_of, negative, number_of, part_of, product_of, sum_of, tested, text_of, unless, value_of}
-use Rattle.cq_binder_rules.specs.Typing.{Scope, ScopeColumn, column_typing, is_meant, knows, listed, may_read, of_group, one_meant, resolved, rows_in, size_at, type_at, typed}
+use Rattle.cq_binder_rules.specs.Kinds.{◌and_then◌, aggregated, agree, between_them, compared_with, connected, counted, is_of, is_value, like_of, negation_of, negative, part_of, product_of, sum_of, tested, text_of, value_of}
+use Rattle.cq_binder_rules.specs.Typing.{Scope, ScopeColumn, column_typing, listed, may_read, of_group, resolved, rows_in, size_at, type_at, typed}
 use Rattle.cq_binder_rules.specs.Scopes.{of_rows}
 use Rattle.cq_binder_rules.specs.Places.{next_place, place_of, read_place, row_place}
 use Rattle.cq_binder_expressions.specs.Expressions.{ArgumentsAreNarrow, IsNarrow, KeepShown, KeepSizes, TypedIsNarrow}
 use Rattle.cq_binder_expressions.proofs.Told.{all_told, stood}
-
--- a test that was passed
-pub if_ok : {A : Type 0} (b : Bool) (r : Result A Fault) (f : Fault) (x : A) → (if b then r else Err f) ≡ Ok x → r ≡ Ok x
-if_ok true r f x e = e
-if_ok false r f x e = absurd (cc e)
-
--- what stands is what was to stand
-pub unless_ok : {A : Type 0} (b : Bool) (f : Fault) (x y : A) → unless b f x ≡ Ok y → (b ≡ true) × (y ≡ x)
-unless_ok true f x y e = (refl, cc e)
-unless_ok false f x y e = absurd (cc e)
-
--- a number that stands is below 2^127
-is_number : (n : ℕ) (t : Typing) → number_of n ≡ Ok t → (n < 2 ^ 127) × (t.size ≡ n)
-is_number n t e =
-    let p = unless_ok (nat_lt n (2 ^ 127)) TooWide (value_of types.Integer n) t e in
-    (ltb-true n (2 ^ 127) p.0, ap (λ (x : Typing). x.size) p.1)
-
--- so is minus of a number
-is_negative : (x t : Typing) → negative x ≡ Ok t → (x.size < 2 ^ 127) × (t.size ≡ x.size)
-is_negative x t e = is_number x.size t (if_ok (is_of types.Integer x.kind) (number_of x.size) TypeMismatch t e)
-
--- and what was worked out of two numbers
-is_arithmetic : (x y : Typing) (n : ℕ) (t : Typing) → arithmetic x y n ≡ Ok t → (n < 2 ^ 127) × (t.size ≡ n)
-is_arithmetic x y n t e = is_number n t (if_ok (is_of types.Integer x.kind && is_of types.Integer y.kind) (number_of n) TypeMismatch t e)
-
--- a part of a day is no larger than the greatest
-is_part : (part : DayPart) (x t : Typing) → part_of part x ≡ Ok t → t.size ≡ part_limit part
-is_part part x t e = ap (λ (y : Typing). y.size) (unless_ok (is_of types.Date x.kind) TypeMismatch (value_of types.Integer (part_limit part)) t e).1
-
--- a whole number is as large as it is written, where it is not too wide
-number_size : (n : ℕ) → value_size (written_number n) ≤ n
-number_size n = grind arith
-
--- a day has no size
-no_size : (d : Option ℤ) → value_size (elim d [ None ↦ values.Null | Some n ↦ values.Day n ]) ≡ 0
-no_size None = refl
-no_size (Some n) = refl
-
-day_size : (t : List ℕ) → value_size (named_day t) ≡ 0
-day_size t = no_size (day_named t)
-
--- NOT makes nothing wider
-widest-turned : (negated : Bool) (c : Cond) (sizes : ℕ → ℕ) → widest_in (turned negated c) sizes ≡ widest_in c sizes
-widest-turned true c sizes = refl
-widest-turned false c sizes = refl
-
-module _ (s : Scope) where
-  -- the place of a name that means one column is where it stands
-  meant_at : (c : ColumnName) (o : Option ℕ) (place : ℕ) → one_meant s.columns c o ≡ Ok place → unwrap_or o 0 ≡ place
-  meant_at c None place e = absurd (cc e)
-  meant_at c (Some i) place e =
-      sym (unless_ok {A = ℕ} (not (list_any (is_meant c) (drop (i + 1) s.columns))) AmbiguousColumn i place e).1
-
-  -- it is one of the columns
-  found_within : (columns : List ScopeColumn) (c : ColumnName) (i : ℕ) → position (is_meant c) columns ≡ Some i → i < length columns
-  found_within [] c i at = absurd (cc at)
-  found_within (d ∷ columns) c i at = (position-Some (is_meant c) (d ∷ columns) i d at).0
-
-  meant_within : (c : ColumnName) (o : Option ℕ) (place : ℕ) → position (is_meant c) s.columns ≡ o → one_meant s.columns c o ≡ Ok place → place < length s.columns
-  meant_within c None place at e = absurd (cc e)
-  meant_within c (Some i) place at e =
-      let same : place ≡ i = (unless_ok {A = ℕ} (not (list_any (is_meant c) (drop (i + 1) s.columns))) AmbiguousColumn i place e).1 in
-      subst (λ (n : ℕ). n < length s.columns) (sym same) (found_within s.columns c i at)
-
-  pub resolved_within : (c : ColumnName) (place : ℕ) → resolved s.columns c ≡ Ok place → place < length s.columns
-  resolved_within c place e =
-      meant_within c (position (is_meant c) s.columns) place refl
-      (if_ok (knows s.columns c.source) (one_meant s.columns c (position (is_meant c) s.columns)) UnknownTable place e)
-
-  pub resolved_at : (c : ColumnName) (place : ℕ) → resolved s.columns c ≡ Ok place → row_place s.columns c ≡ place
-  resolved_at c place e =
-      meant_at c (position (is_meant c) s.columns) place
-      (if_ok (knows s.columns c.source) (one_meant s.columns c (position (is_meant c) s.columns)) UnknownTable place e)
-
--- ---- The aggregates in what is written are put behind the others
--- a list goes on from another
-abbrev pub Grows : List Shown → List Shown → Type 0
-Grows before after = (rest : List Shown) × (after ≡ before ++ rest)
-
-same_list : (xs : List Shown) → Grows xs xs
-same_list xs = ([], sym (append-nil xs))
-
-both_grow : (xs ys zs : List Shown) → Grows xs ys → Grows ys zs → Grows xs zs
-both_grow xs ys zs g h = (g.0 ++ h.0, h.1 ∙ ap (λ us. us ++ h.0) g.1 ∙ append_assoc xs g.0 h.0)
-
-module _ (s : Scope) where
-  mutual
-    pub grows : (before : List Shown) (w : Written) → Grows before (with_aggregates s before w)
-    grows before (Number n) = same_list before
-    grows before (Text b) = same_list before
-    grows before (Date b) = same_list before
-    grows before Null = same_list before
-    grows before (Column c) = same_list before
-    grows before (Extract part a) = grows before a
-    grows before CountAll = (shown.CountAll ∷ [], refl)
-    grows before (Aggregate function a) = (aggregate_of function (placed_expr (rows_in s) [] a) ∷ [], refl)
-    grows before (Parens a) = grows before a
-    grows before (Negative a) = grows before a
-    grows before (Times a b) = both_grow before (with_aggregates s before a) _ (grows before a) (grows (with_aggregates s before a) b)
-    grows before (Plus a b) = both_grow before (with_aggregates s before a) _ (grows before a) (grows (with_aggregates s before a) b)
-    grows before (Minus a b) = both_grow before (with_aggregates s before a) _ (grows before a) (grows (with_aggregates s before a) b)
-    grows before (Compare c a b) = both_grow before (with_aggregates s before a) _ (grows before a) (grows (with_aggregates s before a) b)
-    grows before (IsNull negated a) = grows before a
-    grows before (Between negated a least greatest) =
-        let low = with_aggregates s before a in
-        let high = with_aggregates s low least in
-        both_grow before low _ (grows before a) (both_grow low high _ (grows low least) (grows high greatest))
-    grows before (In negated a bs) =
-        let low = with_aggregates s before a in
-        both_grow before low _ (grows before a) (choices-grow low bs)
-    grows before (Like negated a pattern) = grows before a
-    grows before (Not a) = grows before a
-    grows before (And a b) = both_grow before (with_aggregates s before a) _ (grows before a) (grows (with_aggregates s before a) b)
-    grows before (Or a b) = both_grow before (with_aggregates s before a) _ (grows before a) (grows (with_aggregates s before a) b)
-
-    pub choices-grow : (before : List Shown) (bs : Choices) → Grows before (with_choices s before bs)
-    choices-grow before NoChoice = same_list before
-    choices-grow before (Choice b bs) =
-        let low = with_aggregates s before b in
-        both_grow before low _ (grows before b) (choices-grow low bs)
+use Rattle.cq_binder_expressions.proofs.Growing.{Grows, choices-grow, grows}
+use Rattle.cq_binder_expressions.proofs.Passed.{day_size, is_arithmetic, is_negative, is_number, is_part, number_size, resolved_at, resolved_within, unless_ok, widest-turned}
 
 -- what a group tells is no larger than it can be, where all aggregates that are told are these
 abbrev CountsKeep : Scope → (ℕ → ℕ) → List Shown → Type 0
@@ -172,6 +49,24 @@ module _ (s : Scope) (sizes : ℕ → ℕ) (kept : KeepSizes s sizes) (full : Li
   -- what is behind the first of two parts, are the aggregates of the second and those behind both
   earlier : {after : List Shown} (low : List Shown) (r : Grows low after) (more : List Shown) → after ++ more ≡ full → low ++ (r.0 ++ more) ≡ full
   earlier low r more is = sym (append_assoc low r.0 more) ∙ ap (λ xs. xs ++ more) (sym r.1) ∙ is
+
+  -- two parts that passed the walk, the second behind the aggregates of the first, and what was asked of both
+  record BothNarrow (before : List Shown) (a b : Written) (asked : Typing → Typing → Result Typing Fault) (t : Typing) : Type 0 where
+    x : Typing
+    y : Typing
+    gives : asked x y ≡ Ok t
+    left : IsNarrow s before a x sizes
+    right : IsNarrow s (with_aggregates s before a) b y sizes
+
+  both_narrow : (before more : List Shown) (a b : Written) (asked : Typing → Typing → Result Typing Fault) (t : Typing) → (typed s a and_then λ x. typed s b and_then asked x) ≡ Ok t → with_aggregates s (with_aggregates s before a) b ++ more ≡ full
+      → ((rest : List Shown) (x : Typing) → typed s a ≡ Ok x → with_aggregates s before a ++ rest ≡ full → IsNarrow s before a x sizes)
+      → ((y : Typing) → typed s b ≡ Ok y → IsNarrow s (with_aggregates s before a) b y sizes) → BothNarrow before a b asked t
+  both_narrow before more a b asked t e is left right =
+      let p = stood (typed s a) (λ x. typed s b and_then asked x) t e in
+      let q = stood (typed s b) (asked p.0) t p.2 in
+      let low = with_aggregates s before a in
+      let r = grows s low b in
+      record { x = p.0; y = q.0; gives = q.2; left = left (r.0 ++ more) p.0 p.1 (earlier low r more is); right = right q.0 q.1 }
 
   mutual
     narrow : (before more : List Shown) (w : Written) (t : Typing) → typed s w ≡ Ok t → with_aggregates s before w ++ more ≡ full → IsNarrow s before w t sizes
@@ -200,41 +95,21 @@ module _ (s : Scope) (sizes : ℕ → ℕ) (kept : KeepSizes s sizes) (full : Li
         let n = is_negative p.0 t p.2 in
         record { value = omega (arith, x.value, x.size, n.0); size = omega (arith, x.size, n.1); condition = omega (arith, x.value, x.size, n.0) }
     narrow before more (Times a b) t e is =
-        let p = stood (typed s a) (λ x. typed s b and_then product_of x) t e in
-        let q = stood (typed s b) (product_of p.0) t p.2 in
-        let low = with_aggregates s before a in
-        let r = grows s low b in
-        let x = narrow before (r.0 ++ more) a p.0 p.1 (earlier low r more is) in
-        let y = narrow low more b q.0 q.1 is in
-        let n = is_arithmetic p.0 q.0 (p.0.size * q.0.size) t q.2 in
-        let product = mul-le (width (placed_expr s before a) sizes).size (width (placed_expr s low b) sizes).size p.0.size q.0.size x.size y.size in
-        record { value = omega (arith, x.value, y.value, n.0, product); size = omega (arith, n.1, product); condition = omega (arith, x.value, y.value, n.0, product) }
+        let h = both_narrow before more a b product_of t e is (λ behind. narrow before behind a) (λ y k. narrow (with_aggregates s before a) more b y k is) in
+        let n = is_arithmetic h.x h.y (h.x.size * h.y.size) t h.gives in
+        let product = mul-le (width (placed_expr s before a) sizes).size (width (placed_expr s (with_aggregates s before a) b) sizes).size h.x.size h.y.size h.left.size h.right.size in
+        record { value = omega (arith, h.left.value, h.right.value, n.0, product); size = omega (arith, n.1, product); condition = omega (arith, h.left.value, h.right.value, n.0, product) }
     narrow before more (Plus a b) t e is =
-        let p = stood (typed s a) (λ x. typed s b and_then sum_of x) t e in
-        let q = stood (typed s b) (sum_of p.0) t p.2 in
-        let low = with_aggregates s before a in
-        let r = grows s low b in
-        let x = narrow before (r.0 ++ more) a p.0 p.1 (earlier low r more is) in
-        let y = narrow low more b q.0 q.1 is in
-        let n = is_arithmetic p.0 q.0 (p.0.size + q.0.size) t q.2 in
-        record { value = omega (arith, x.value, x.size, y.value, y.size, n.0); size = omega (arith, x.size, y.size, n.1); condition = omega (arith, x.value, x.size, y.value, y.size, n.0) }
+        let h = both_narrow before more a b sum_of t e is (λ behind. narrow before behind a) (λ y k. narrow (with_aggregates s before a) more b y k is) in
+        let n = is_arithmetic h.x h.y (h.x.size + h.y.size) t h.gives in
+        record { value = omega (arith, h.left.value, h.left.size, h.right.value, h.right.size, n.0); size = omega (arith, h.left.size, h.right.size, n.1); condition = omega (arith, h.left.value, h.left.size, h.right.value, h.right.size, n.0) }
     narrow before more (Minus a b) t e is =
-        let p = stood (typed s a) (λ x. typed s b and_then sum_of x) t e in
-        let q = stood (typed s b) (sum_of p.0) t p.2 in
-        let low = with_aggregates s before a in
-        let r = grows s low b in
-        let x = narrow before (r.0 ++ more) a p.0 p.1 (earlier low r more is) in
-        let y = narrow low more b q.0 q.1 is in
-        let n = is_arithmetic p.0 q.0 (p.0.size + q.0.size) t q.2 in
-        record { value = omega (arith, x.value, x.size, y.value, y.size, n.0); size = omega (arith, x.size, y.size, n.1); condition = omega (arith, x.value, x.size, y.value, y.size, n.0) }
+        let h = both_narrow before more a b sum_of t e is (λ behind. narrow before behind a) (λ y k. narrow (with_aggregates s before a) more b y k is) in
+        let n = is_arithmetic h.x h.y (h.x.size + h.y.size) t h.gives in
+        record { value = omega (arith, h.left.value, h.left.size, h.right.value, h.right.size, n.0); size = omega (arith, h.left.size, h.right.size, n.1); condition = omega (arith, h.left.value, h.left.size, h.right.value, h.right.size, n.0) }
     narrow before more (Compare c a b) t e is =
-        let p = stood (typed s a) (λ x. typed s b and_then compared_with x) t e in
-        let q = stood (typed s b) (compared_with p.0) t p.2 in
-        let low = with_aggregates s before a in
-        let r = grows s low b in
-        let x = narrow before (r.0 ++ more) a p.0 p.1 (earlier low r more is) in
-        let y = narrow low more b q.0 q.1 is in
-        record { value = omega arith; size = omega arith; condition = omega (arith, x.value, y.value) }
+        let h = both_narrow before more a b compared_with t e is (λ behind. narrow before behind a) (λ y k. narrow (with_aggregates s before a) more b y k is) in
+        record { value = omega arith; size = omega arith; condition = omega (arith, h.left.value, h.right.value) }
     narrow before more (IsNull negated a) t e is =
         let p = stood (typed s a) tested t e in
         let x = narrow before more a p.0 p.1 is in
@@ -268,21 +143,11 @@ module _ (s : Scope) (sizes : ℕ → ℕ) (kept : KeepSizes s sizes) (full : Li
         let x = narrow before more a p.0 p.1 is in
         record { value = omega arith; size = omega arith; condition = x.condition }
     narrow before more (And a b) t e is =
-        let p = stood (typed s a) (λ x. typed s b and_then connected x) t e in
-        let q = stood (typed s b) (connected p.0) t p.2 in
-        let low = with_aggregates s before a in
-        let r = grows s low b in
-        let x = narrow before (r.0 ++ more) a p.0 p.1 (earlier low r more is) in
-        let y = narrow low more b q.0 q.1 is in
-        record { value = omega arith; size = omega arith; condition = omega (arith, x.condition, y.condition) }
+        let h = both_narrow before more a b connected t e is (λ behind. narrow before behind a) (λ y k. narrow (with_aggregates s before a) more b y k is) in
+        record { value = omega arith; size = omega arith; condition = omega (arith, h.left.condition, h.right.condition) }
     narrow before more (Or a b) t e is =
-        let p = stood (typed s a) (λ x. typed s b and_then connected x) t e in
-        let q = stood (typed s b) (connected p.0) t p.2 in
-        let low = with_aggregates s before a in
-        let r = grows s low b in
-        let x = narrow before (r.0 ++ more) a p.0 p.1 (earlier low r more is) in
-        let y = narrow low more b q.0 q.1 is in
-        record { value = omega arith; size = omega arith; condition = omega (arith, x.condition, y.condition) }
+        let h = both_narrow before more a b connected t e is (λ behind. narrow before behind a) (λ y k. narrow (with_aggregates s before a) more b y k is) in
+        record { value = omega arith; size = omega arith; condition = omega (arith, h.left.condition, h.right.condition) }
 
     -- none of the entries behind IN is too wide
     choices_narrow : (before more : List Shown) (bs : Choices) (x : Typing) (all_agree : Bool) (t : Typing) (n : ℕ) → n < 2 ^ 127 → listed s x all_agree bs ≡ Ok t → with_choices s before bs ++ more ≡ full

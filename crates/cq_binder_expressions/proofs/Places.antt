@@ -4,13 +4,10 @@ use Rattle.std.proofs.lemmas.List.{append-nil, length-map, nil_from_length}
 use Rattle.std.specs.List.{fold}
 use Rattle.cq_values.specs.declared.value.Value.TheVariants as values
 use Rattle.cq_sql_language.specs.declared.written.ExprNode.{ExprNode}
-use Rattle.cq_sql_language.specs.declared.written.ExprNode.TheOpen as node
 use Rattle.cq_sql_language.specs.declared.written.ExprNode.TheViews as nodes
-use Rattle.cq_sql_language.specs.declared.written.ExprNode.TheFolds.{fold-roll-ExprNode}
-use Rattle.cq_sql_language.specs.declared.written.ExprNode.TheVariants.{rolls-And, rolls-In, rolls-Or, rolls-Product, rolls-Sum}
 use Rattle.cq_sql_language.specs.declared.written.Sign.{Sign}
 use Rattle.cq_sql_language.specs.declared.written.Sign.TheVariants as signs
-use Rattle.cq_sql_language.specs.Written.{Written, choices, signed, terms, written, written_step, Times, And, In, Or}
+use Rattle.cq_sql_language.specs.Written.{Written, choices, signed, terms, written, Times, And, In, Or}
 use Rattle.cq_model.specs.declared.expr.CondTree.{CondTree}
 use Rattle.cq_model.specs.declared.expr.CondTree.TheFolds.{fold-roll-CondTree}
 use Rattle.cq_model.specs.declared.expr.CondTree.TheOpen as cond_node
@@ -27,39 +24,13 @@ use Rattle.cq_binder_rules.specs.Typing.{Scope}
 use Rattle.cq_model_eval.proofs.Trees.{tree-And, tree-Or, tree-Product, tree-Sum}
 use Rattle.cq_binder_expressions.specs.declared.trees.Tree.{Tree}
 use Rattle.cq_binder_expressions.specs.declared.trees.Tree.TheVariants.{Condition, Value}
-use Rattle.cq_binder_expressions.specs.Nodes.{AreConditions, AreTerms, AreValues, IsPlaced, MakesAnd, MakesOr, MakesProduct, MakesSum, condition_in, value_in, with_nodes}
+use Rattle.cq_binder_expressions.specs.Nodes.{AreConditions, AreTerms, AreValues, HasCondition, IsPlaced, MakesAnd, MakesChain, MakesOr, MakesProduct, MakesSum, condition_in, value_in, with_nodes}
 use Rattle.cq_binder_expressions.specs.Terms.{each_placed, later_terms, with_terms}
-
-module _ (first : Box ExprNode Global) (rest : Vec ExprNode Global) where
-  pub written-Product : written (nodes.Product first rest) ≡ fold Times (written first.value) (map written rest.items)
-  written-Product = ap written (sym (rolls-Product first rest)) ∙ fold-roll-ExprNode Written written_step (node.Product first rest)
-
-  pub written-Sum : (ss : Vec Sign Global) → written (nodes.Sum first ss rest) ≡ terms (written first.value) ss.items (map written rest.items)
-  written-Sum ss = ap written (sym (rolls-Sum first ss rest)) ∙ fold-roll-ExprNode Written written_step (node.Sum first ss rest)
-
-  pub written-And : written (nodes.And first rest) ≡ fold And (written first.value) (map written rest.items)
-  written-And = ap written (sym (rolls-And first rest)) ∙ fold-roll-ExprNode Written written_step (node.And first rest)
-
-  pub written-Or : written (nodes.Or first rest) ≡ fold Or (written first.value) (map written rest.items)
-  written-Or = ap written (sym (rolls-Or first rest)) ∙ fold-roll-ExprNode Written written_step (node.Or first rest)
-
-pub written-In : (negated : Bool) (value : Box ExprNode Global) (among : Vec ExprNode Global) → written (nodes.In negated value among) ≡ In negated (written value.value) (choices (map written among.items))
-written-In negated value among = ap written (sym (rolls-In negated value among)) ∙ fold-roll-ExprNode Written written_step (node.In negated value among)
+use Rattle.cq_binder_expressions.proofs.Several.{chain_alone, several, several_terms, sum_alone, written-And, written-In, written-Or, written-Product, written-Sum}
 
 -- a condition tree of IN
 tree-In : (e : ExprTree) (es : Vec ExprTree Global) → cond_of (conds.In e es) ≡ placed.In (expr_of e) (map expr_of es.items)
 tree-In e es = ap cond_of (sym (conds.rolls-In e es)) ∙ fold-roll-CondTree Cond cond_step (cond_node.In e es)
-
-module _ (join : Written → Written → Written) where
-  -- what holds of every join of two parts holds of a chain of two or more
-  joined : (P : Written → Type 0) → ((a b : Written) → P (join a b)) → (a b : Written) (ws : List Written) → P (fold join (join a b) ws)
-  joined P each a b [] = each a b
-  joined P each a b (w ∷ ws) = joined P each (join a b) w ws
-
-  -- and so of a chain with a later part
-  several : (P : Written → Type 0) → ((a b : Written) → P (join a b)) → (a : Written) (ns : List ExprNode) → 0 < length ns → P (fold join a (map written ns))
-  several P each a [] some = absurd (omega (arith, some))
-  several P each a (n ∷ ns) some = joined P each a (written n) (map written ns)
 
 module _ (s : Scope) where
   -- the list behind IN, entry by entry
@@ -113,36 +84,9 @@ module _ (s : Scope) (before : List Aggregate) where
   sign_tested signs.Plus a b = refl
   sign_tested signs.Minus a b = refl
 
-  sum_tested : (a : Written) (ss : List Sign) (ws : List Written) → IsTested a → IsTested (terms a ss ws)
-  sum_tested a [] ws is = is
-  sum_tested a (x ∷ ss) [] is = is
-  sum_tested a (x ∷ ss) (w ∷ ws) is = sum_tested (signed x a w) ss ws (sign_tested x a w)
-
-  -- a sum of several terms is a value
-  several_terms : (a : Written) (ss : List Sign) (ns : List ExprNode) → 0 < length ss → 0 < length ns → IsTested (terms a ss (map written ns))
-  several_terms a [] ns some more = absurd (omega (arith, some))
-  several_terms a (x ∷ ss) [] some more = absurd (omega (arith, more))
-  several_terms a (x ∷ ss) (n ∷ ns) some more = sum_tested (signed x a (written n)) ss (map written ns) (sign_tested x a (written n))
-
   -- what is written in another way is placed as it is
   pub placed_as : (v w : Written) (tree : Tree) (after : List Aggregate) → w ≡ v → IsPlaced s before v tree after → IsPlaced s before w tree after
   placed_as v w tree after same is = subst (λ (u : Written). IsPlaced s before u tree after) (sym same) is
-
--- a chain of one part is that part
-pub alone : (n : ExprNode) (first : Box ExprNode Global) (rest : Vec ExprNode Global) → length rest.items ≡ 0 → (n ≡ nodes.And first rest) ⊎ (n ≡ nodes.Or first rest) → written n ≡ written first.value
-alone n first rest none (inl is) = ap written is ∙ written-And first rest ∙ ap (λ (ns : List ExprNode). fold And (written first.value) (map written ns)) (nil_from_length rest.items none)
-alone n first rest none (inr is) = ap written is ∙ written-Or first rest ∙ ap (λ (ns : List ExprNode). fold Or (written first.value) (map written ns)) (nil_from_length rest.items none)
-
--- a sum of one term is that term
-pub one_term : (n : ExprNode) (first : Box ExprNode Global) (ss : Vec Sign Global) (rest : Vec ExprNode Global) → (length ss.items ≡ 0) ⊎ (length rest.items ≡ 0) → n ≡ nodes.Sum first ss rest → written n ≡ written first.value
-one_term n first ss rest ends is = ap written is ∙ written-Sum first rest ss ∙ none ends where
-  unsigned : (us : List Sign) → terms (written first.value) us [] ≡ written first.value
-  unsigned [] = refl
-  unsigned (u ∷ us) = refl
-
-  none : (length ss.items ≡ 0) ⊎ (length rest.items ≡ 0) → terms (written first.value) ss.items (map written rest.items) ≡ written first.value
-  none (inl e) = ap (λ (us : List Sign). terms (written first.value) us (map written rest.items)) (nil_from_length ss.items e)
-  none (inr e) = ap (λ (ns : List ExprNode). terms (written first.value) ss.items (map written ns)) (nil_from_length rest.items e) ∙ unsigned ss.items
 
 module _ (s : Scope) (before middle after : List Aggregate) (n : ExprNode) (first : Box ExprNode Global) (rest : Vec ExprNode Global) (tree : Tree) (is_first : IsPlaced s before (written first.value) tree middle) where
   -- the aggregates of a chain, once those of its parts are known
@@ -173,38 +117,10 @@ module _ (s : Scope) (before middle after : List Aggregate) (n : ExprNode) (firs
       ∙ sym (placed-terms s before (written first.value) ss.items (map written rest.items)) in
       placed_as s before _ (written n) _ after (ap written is ∙ written-Sum first rest ss) (record {
         value = value;
-        condition = ap placed.IsNull value ∙ sym (several_terms s before (written first.value) ss.items rest.items some more);
+        condition = ap placed.IsNull value ∙ sym (several_terms (IsTested s before) (sign_tested s before) (written first.value) ss.items rest.items some more);
         aggregates =
             are.aggregates ∙ ap (λ (b : List Aggregate). with_terms s b ss.items (map written rest.items)) is_first.aggregates
             ∙ sym (with_sum s before (written first.value) ss.items (map written rest.items));
-      })
-
-  -- the conditions of the later parts of a chain
-  later_conditions : (trees : List CondTree) → AreConditions s middle rest.items trees after → map cond_of trees ≡ each_placed placed_cond s (with_aggregates s before (written first.value)) (map written rest.items)
-  later_conditions trees are = are.each ∙ ap (λ (b : List Aggregate). each_placed placed_cond s b (map written rest.items)) is_first.aggregates
-
-  -- AND of what the parts come to
-  pub and_placed : (head : Box CondTree Global) (trees : Vec CondTree Global) → n ≡ nodes.And first rest → 0 < length rest.items → cond_of head.value ≡ condition_in tree
-      → AreConditions s middle rest.items trees.items after → IsPlaced s before (written n) (Condition (cond_view.And head trees)) after
-  and_placed head trees is some same are =
-      placed_as s before _ (written n) _ after (ap written is ∙ written-And first rest) (record {
-        value = sym (several And (IsUnvalued s before) (λ a b. refl) (written first.value) rest.items some);
-        condition =
-            tree-And head trees ∙ ap₂ (fold placed.And) (same ∙ is_first.condition) (later_conditions trees.items are)
-            ∙ sym (chain s before placed_cond And placed.And (λ a b. refl) (λ a b. refl) (written first.value) (map written rest.items));
-        aggregates = chain_aggregates And (λ a b. refl) are.aggregates;
-      })
-
-  -- and OR
-  pub or_placed : (head : Box CondTree Global) (trees : Vec CondTree Global) → n ≡ nodes.Or first rest → 0 < length rest.items → cond_of head.value ≡ condition_in tree
-      → AreConditions s middle rest.items trees.items after → IsPlaced s before (written n) (Condition (cond_view.Or head trees)) after
-  or_placed head trees is some same are =
-      placed_as s before _ (written n) _ after (ap written is ∙ written-Or first rest) (record {
-        value = sym (several Or (IsUnvalued s before) (λ a b. refl) (written first.value) rest.items some);
-        condition =
-            tree-Or head trees ∙ ap₂ (fold placed.Or) (same ∙ is_first.condition) (later_conditions trees.items are)
-            ∙ sym (chain s before placed_cond Or placed.Or (λ a b. refl) (λ a b. refl) (written first.value) (map written rest.items));
-        aggregates = chain_aggregates Or (λ a b. refl) are.aggregates;
       })
 
   -- IN of what the value and the choices come to, or NOT of it
@@ -271,7 +187,7 @@ module _ (s : Scope) (before middle after : List Aggregate) (n : ExprNode) (firs
       → IsPlaced s before (written n) t after
   product_made trees t is are (inl h) =
       let none : length rest.items ≡ 0 = sym (as_many expr_of placed_expr s middle trees.items rest.items are.each) ∙ h.0 in
-      let same = ap written is ∙ written-Product first rest ∙ ap (λ (ns : List ExprNode). fold Times (written first.value) (map written ns)) (nil_from_length rest.items none) in
+      let same = ap written is ∙ written-Product first rest ∙ chain_alone Times (written first.value) rest.items none in
       first_alone t same (none_behind none are.aggregates) h.1
   product_made trees t is are (inr h) =
       let some = subst (λ (k : ℕ). 0 < k) (as_many expr_of placed_expr s middle trees.items rest.items are.each) h.0 in
@@ -282,30 +198,46 @@ module _ (s : Scope) (before middle after : List Aggregate) (n : ExprNode) (firs
       → IsPlaced s before (written n) t after
   sum_made ss trees t is are (inl h) =
       let none = no_terms s middle ss.items rest.items trees.items are.values h.0 in
-      first_alone t (one_term n first ss rest none is) (are.aggregates ∙ no_aggregates s middle ss.items rest.items none) h.1
+      first_alone t (sum_alone n first ss rest none is) (are.aggregates ∙ no_aggregates s middle ss.items rest.items none) h.1
   sum_made ss trees t is are (inr h) =
       let some = some_terms s middle ss.items rest.items trees.items are.values h.0 in
       subst (λ (u : Tree). IsPlaced s before (written n) u after) (sym h.3) (sum_placed s before middle after n first rest tree is_first ss h.1 trees is some.0 some.1 h.2 are)
 
+  -- a connective of what its parts come to, where it joins conditions and is no value
+  module _ (join : Written → Written → Written) (on : Cond → Cond → Cond) (whole : Box CondTree Global → Vec CondTree Global → CondTree) (reads : written n ≡ fold join (written first.value) (map written rest.items))
+      (comes_to : (head : Box CondTree Global) (trees : Vec CondTree Global) → cond_of (whole head trees) ≡ fold on (cond_of head.value) (map cond_of trees.items)) (unvalued : (a b : Written) → IsUnvalued s before (join a b))
+      (puts : (a b : Written) → placed_cond s before (join a b) ≡ on (placed_cond s before a) (placed_cond s (with_aggregates s before a) b)) (joins : (a b : Written) → with_aggregates s before (join a b) ≡ with_aggregates s (with_aggregates s before a) b) where
+    connective_placed : (head : Box CondTree Global) (trees : Vec CondTree Global) → 0 < length rest.items → cond_of head.value ≡ condition_in tree → AreConditions s middle rest.items trees.items after
+        → IsPlaced s before (written n) (Condition (whole head trees)) after
+    connective_placed head trees some same are =
+        let later : map cond_of trees.items ≡ each_placed placed_cond s (with_aggregates s before (written first.value)) (map written rest.items) =
+        are.each ∙ ap (λ (b : List Aggregate). each_placed placed_cond s b (map written rest.items)) is_first.aggregates in
+        placed_as s before _ (written n) _ after reads (record {
+          value = sym (several join (IsUnvalued s before) unvalued (written first.value) rest.items some);
+          condition =
+              comes_to head trees ∙ ap₂ (fold on) (same ∙ is_first.condition) later
+              ∙ sym (chain s before placed_cond join on puts joins (written first.value) (map written rest.items));
+          aggregates = chain_aggregates s before middle after n first rest tree is_first join joins are.aggregates;
+        })
+
+    connective_made : (trees : Vec CondTree Global) (t : Tree) → AreConditions s middle rest.items trees.items after → MakesChain (HasCondition tree) (λ head others. Condition (whole head others)) tree trees t
+        → IsPlaced s before (written n) t after
+    connective_made trees t are (inl h) =
+        let none : length rest.items ≡ 0 = sym (as_many cond_of placed_cond s middle trees.items rest.items are.each) ∙ h.0 in
+        first_alone t (reads ∙ chain_alone join (written first.value) rest.items none) (none_behind none are.aggregates) h.1
+    connective_made trees t are (inr h) =
+        let some = subst (λ (k : ℕ). 0 < k) (as_many cond_of placed_cond s middle trees.items rest.items are.each) h.0 in
+        subst (λ (u : Tree). IsPlaced s before (written n) u after) (sym h.3) (connective_placed h.1 trees some h.2 are)
+
   -- AND of what its parts come to
   pub and_made : (trees : Vec CondTree Global) (t : Tree) → n ≡ nodes.And first rest → AreConditions s middle rest.items trees.items after → MakesAnd tree trees t
       → IsPlaced s before (written n) t after
-  and_made trees t is are (inl h) =
-      let none : length rest.items ≡ 0 = sym (as_many cond_of placed_cond s middle trees.items rest.items are.each) ∙ h.0 in
-      first_alone t (alone n first rest none (inl is)) (none_behind none are.aggregates) h.1
-  and_made trees t is are (inr h) =
-      let some = subst (λ (k : ℕ). 0 < k) (as_many cond_of placed_cond s middle trees.items rest.items are.each) h.0 in
-      subst (λ (u : Tree). IsPlaced s before (written n) u after) (sym h.3) (and_placed s before middle after n first rest tree is_first h.1 trees is some h.2 are)
+  and_made trees t is = connective_made And placed.And (λ head others. cond_view.And head others) (ap written is ∙ written-And first rest) tree-And (λ a b. refl) (λ a b. refl) (λ a b. refl) trees t
 
   -- and OR
   pub or_made : (trees : Vec CondTree Global) (t : Tree) → n ≡ nodes.Or first rest → AreConditions s middle rest.items trees.items after → MakesOr tree trees t
       → IsPlaced s before (written n) t after
-  or_made trees t is are (inl h) =
-      let none : length rest.items ≡ 0 = sym (as_many cond_of placed_cond s middle trees.items rest.items are.each) ∙ h.0 in
-      first_alone t (alone n first rest none (inr is)) (none_behind none are.aggregates) h.1
-  or_made trees t is are (inr h) =
-      let some = subst (λ (k : ℕ). 0 < k) (as_many cond_of placed_cond s middle trees.items rest.items are.each) h.0 in
-      subst (λ (u : Tree). IsPlaced s before (written n) u after) (sym h.3) (or_placed s before middle after n first rest tree is_first h.1 trees is some h.2 are)
+  or_made trees t is = connective_made Or placed.Or (λ head others. cond_view.Or head others) (ap written is ∙ written-Or first rest) tree-Or (λ a b. refl) (λ a b. refl) (λ a b. refl) trees t
 
 -- the trees that are made and the nodes that are left make the whole
 pub record Makes {T X : Type 0} (of : T → X) (put : Scope → List Aggregate → Written → X) (s : Scope) (start : List Aggregate) (ns : List ExprNode) (made : List T) (before : List Aggregate) (left : List ExprNode) : Type 0 where

@@ -9,7 +9,7 @@ use Rattle.cq_sql_language.specs.declared.written.Sign.{Sign}
 use Rattle.cq_sql_language.specs.declared.written.Sign.TheVariants as signs
 use Rattle.cq_sql_language.specs.Written.{Written, choices, signed, terms, written, Times, And, Or}
 use Rattle.cq_binder_rules.specs.Grouping.{chooses_aggregate, has_aggregate}
-use Rattle.cq_binder_expressions.proofs.Places.{written-And, written-In, written-Or, written-Product, written-Sum}
+use Rattle.cq_binder_expressions.proofs.Several.{written-And, written-In, written-Or, written-Product, written-Sum}
 
 or_assoc : (a b c : Bool) → ((a || b) || c) ≡ (a || (b || c))
 or_assoc true b c = refl

@@ -22,7 +22,7 @@ use Rattle.cq_binder_rules.specs.Places.{place_of, row_place}
 use Rattle.cq_binder_rules.specs.Scopes.{of_rows}
 use Rattle.cq_binder_rules.specs.Typing.{Scope, ScopeColumn, column_typing, listed, of_group, resolved, size_at, type_at, typed}
 use Rattle.cq_binder_expressions.specs.Types.{IsOf, IsOfKind, KeepTypes, TypedIsOfItsKind}
-use Rattle.cq_binder_expressions.proofs.Narrow.{if_ok, resolved_at, resolved_within, unless_ok}
+use Rattle.cq_binder_expressions.proofs.Passed.{if_ok, resolved_at, resolved_within, unless_ok}
 use Rattle.cq_binder_expressions.proofs.Told.{stood}
 
 -- ---- Values of a type

@@ -3,7 +3,8 @@ ghost use Rattle.std.specs.Prelude.{◌≡◌, IfOk, Ok};
 ghost use Rattle.cq_binder_rules.specs.Kinds.{kind_type};
 ghost use Rattle.cq_binder_rules.specs.Scopes.{bound_condition, bound_value};
 ghost use Rattle.cq_binder_rules.specs.Typing.{condition_fault, set_fault, type_of, typed};
-ghost use Rattle.cq_binder_expressions.specs.Expressions.{IsValueBehind, Places, PlacesCondition, PlacesItem, PlacesKept, scope_of};
+ghost use Rattle.cq_binder_expressions.specs.Nodes.{PlacesValue};
+ghost use Rattle.cq_binder_expressions.specs.Expressions.{Places, PlacesCondition, PlacesItem, PlacesKept, scope_of};
 ghost use Rattle.cq_sql_language.specs.Written.{written};
 
 use crate::placing::tree_of;
@@ -112,7 +113,7 @@ fn placed(
     aggregates: &mut Seq<Aggregate>,
     value: &ExprNode,
 ) -> Result<Expr, AllocError>
-    ensures { IfOk result (IsValueBehind (scope_of scope.now) aggregates.old aggregates.new (written value.now)) }
+    ensures { IfOk result (PlacesValue scope.now aggregates.old aggregates.new value.now) }
 {
     let tree = tree_of(alloc, scope, aggregates, value)?;
     Ok(Expr::new(tree.into_value()))

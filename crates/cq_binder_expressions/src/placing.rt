@@ -1,11 +1,10 @@
 //! What is written with places for names, and aggregates as columns of a group's row.
-ghost use Rattle.std.specs.Prelude.{◌≡◌, ◌+◌, ◌++◌, ◌∷◌, [], IfOk, OnOk, length};
+ghost use Rattle.std.specs.Prelude.{◌≡◌, ◌+◌, ◌++◌, ◌∷◌, [], IfOk, OnOk, length, true};
 ghost use Rattle.cq_model.specs.Trees.{cond_of, expr_of};
-ghost use Rattle.cq_sql_language.specs.Written.{written};
 ghost use Rattle.cq_binder_rules.specs.Placed.{aggregate_of, named_day, turned, written_number};
 ghost use Rattle.cq_binder_rules.specs.Places.{next_place};
 ghost use Rattle.cq_binder_expressions.specs.Expressions.{scope_of};
-ghost use Rattle.cq_binder_expressions.specs.Nodes.{AreValues, MakesConditions, MakesTerms, PlacesTree};
+ghost use Rattle.cq_binder_expressions.specs.Nodes.{MakesConditions, MakesTerms, MakesValues, PlacesNode, is_connective, is_operation, is_test};
 ghost use Rattle.cq_binder_expressions.specs.Terms.{signed_term};
 
 use crate::scope::Scope;
@@ -23,7 +22,7 @@ pub(crate) fn tree_of(
     aggregates: &mut Seq<Aggregate>,
     node: &ExprNode,
 ) -> Result<Tree, AllocError>
-    ensures { IfOk result (PlacesTree (scope_of scope.now) aggregates.old (written node.now) aggregates.new) }
+    ensures { IfOk result (PlacesNode scope.now aggregates.old node.now aggregates.new) }
 {
     match node {
         ExprNode::Number(n) => Ok(Tree::Value(ExprTree::Literal(whole(*n)))),
@@ -31,10 +30,10 @@ pub(crate) fn tree_of(
         ExprNode::Date(text) => Ok(Tree::Value(ExprTree::Literal(day(text.as_str())))),
         ExprNode::Null => Ok(Tree::Value(ExprTree::Literal(Value::Null))),
         ExprNode::Column(column) => Ok(Tree::Value(ExprTree::Column(scope.place_of(column)))),
-        ExprNode::Extract(part, value) => {
-            let value = tree_of(alloc, scope, aggregates, value)?.into_value();
-            Ok(Tree::Value(ExprTree::Extract(*part, Box::new(alloc, value)?)))
-        }
+        ExprNode::Extract(..)
+        | ExprNode::Negative(..)
+        | ExprNode::Product(..)
+        | ExprNode::Sum(..) => operation_tree(alloc, scope, aggregates, node),
         ExprNode::CountAll => {
             let place = push_aggregate(scope, aggregates, Aggregate::CountAll)?;
             Ok(Tree::Value(ExprTree::Column(place)))
@@ -48,6 +47,33 @@ pub(crate) fn tree_of(
             Ok(Tree::Value(ExprTree::Column(place)))
         }
         ExprNode::Parens(inner) => tree_of(alloc, scope, aggregates, inner),
+        ExprNode::Compare(..)
+        | ExprNode::IsNull(..)
+        | ExprNode::Between(..)
+        | ExprNode::In(..)
+        | ExprNode::Like(..) => test_tree(alloc, scope, aggregates, node),
+        ExprNode::Not(..) | ExprNode::And(..) | ExprNode::Or(..) => {
+            connective_tree(alloc, scope, aggregates, node)
+        }
+    }
+}
+
+/// What an operation on values says.
+#[cycle(trees)]
+fn operation_tree(
+    alloc: Global,
+    scope: &Scope<'_>,
+    aggregates: &mut Seq<Aggregate>,
+    node: &ExprNode,
+) -> Result<Tree, AllocError>
+    requires { is_operation node.now ≡ true }
+    ensures { IfOk result (PlacesNode scope.now aggregates.old node.now aggregates.new) }
+{
+    match node {
+        ExprNode::Extract(part, value) => {
+            let value = tree_of(alloc, scope, aggregates, value)?.into_value();
+            Ok(Tree::Value(ExprTree::Extract(*part, Box::new(alloc, value)?)))
+        }
         ExprNode::Negative(value) => {
             let value = tree_of(alloc, scope, aggregates, value)?.into_value();
             Ok(Tree::Value(ExprTree::Negate(Box::new(alloc, value)?)))
@@ -62,6 +88,22 @@ pub(crate) fn tree_of(
             let (first, rest) = both(first, term_trees(alloc, scope, aggregates, signs, rest))?;
             Ok(sum_tree(alloc, first, rest)?)
         }
+        _ => unreachable!(),
+    }
+}
+
+/// What a test of values says.
+#[cycle(trees)]
+fn test_tree(
+    alloc: Global,
+    scope: &Scope<'_>,
+    aggregates: &mut Seq<Aggregate>,
+    node: &ExprNode,
+) -> Result<Tree, AllocError>
+    requires { is_test node.now ≡ true }
+    ensures { IfOk result (PlacesNode scope.now aggregates.old node.now aggregates.new) }
+{
+    match node {
         ExprNode::Compare(comparison, a, b) => {
             let a = tree_of(alloc, scope, aggregates, a)?.into_value();
             let (a, b) = both(a, tree_of(alloc, scope, aggregates, b))?;
@@ -95,6 +137,22 @@ pub(crate) fn tree_of(
             let test = turned(alloc, *negated, CondTree::Like(value, pattern))?;
             Ok(Tree::Condition(test))
         }
+        _ => unreachable!(),
+    }
+}
+
+/// What NOT, AND or OR says of conditions.
+#[cycle(trees)]
+fn connective_tree(
+    alloc: Global,
+    scope: &Scope<'_>,
+    aggregates: &mut Seq<Aggregate>,
+    node: &ExprNode,
+) -> Result<Tree, AllocError>
+    requires { is_connective node.now ≡ true }
+    ensures { IfOk result (PlacesNode scope.now aggregates.old node.now aggregates.new) }
+{
+    match node {
         ExprNode::Not(part) => {
             let part = tree_of(alloc, scope, aggregates, part)?.into_condition();
             Ok(Tree::Condition(CondTree::Not(Box::new(alloc, part)?)))
@@ -109,6 +167,7 @@ pub(crate) fn tree_of(
             let (first, rest) = both(first, condition_trees(alloc, scope, aggregates, rest))?;
             Ok(or_tree(alloc, first, rest)?)
         }
+        _ => unreachable!(),
     }
 }
 
@@ -120,7 +179,7 @@ fn value_trees(
     aggregates: &mut Seq<Aggregate>,
     nodes: &[ExprNode],
 ) -> Result<Vec<ExprTree>, AllocError>
-    ensures { IfOk result (λ v. AreValues (scope_of scope.now) aggregates.old nodes.now v.items aggregates.new) }
+    ensures { IfOk result (MakesValues scope.now aggregates.old nodes.now aggregates.new) }
 {
     let mut trees = Vec::with_capacity(alloc, nodes.len())?;
     for node in nodes {
@@ -138,7 +197,7 @@ fn term_trees(
     signs: &[Sign],
     nodes: &[ExprNode],
 ) -> Result<Vec<ExprTree>, AllocError>
-    ensures { IfOk result (MakesTerms (scope_of scope.now) aggregates.old signs.now nodes.now aggregates.new) }
+    ensures { IfOk result (MakesTerms scope.now aggregates.old signs.now nodes.now aggregates.new) }
 {
     let mut terms = Vec::with_capacity(alloc, nodes.len())?;
     for (sign, node) in signs.iter().zip(nodes) {
@@ -156,7 +215,7 @@ fn condition_trees(
     aggregates: &mut Seq<Aggregate>,
     nodes: &[ExprNode],
 ) -> Result<Vec<CondTree>, AllocError>
-    ensures { IfOk result (MakesConditions (scope_of scope.now) aggregates.old nodes.now aggregates.new) }
+    ensures { IfOk result (MakesConditions scope.now aggregates.old nodes.now aggregates.new) }
 {
     let mut trees = Vec::with_capacity(alloc, nodes.len())?;
     for node in nodes {

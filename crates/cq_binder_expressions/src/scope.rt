@@ -6,7 +6,7 @@ ghost use Rattle.std.specs.List.{list_any};
 ghost use Rattle.std.specs.Prelude.{◌==◌, ◌≡◌, ◌<◌, [], IfOk, IfSome, Some, length, position, unwrap_or};
 ghost use Rattle.cq_values.specs.Texts.{is_text};
 ghost use Rattle.cq_binder_rules.specs.Places.{named_place, place_of, row_place};
-ghost use Rattle.cq_binder_rules.specs.Scopes.{column_place, of_rows};
+ghost use Rattle.cq_binder_rules.specs.Scopes.{column_place, of_rows, scope_column};
 ghost use Rattle.cq_binder_rules.specs.Typing.{is_known, is_meant, is_of_source, knows, may_read, resolved, rows_in};
 ghost use Rattle.cq_binder_expressions.specs.Expressions.{scope_of};
 
@@ -35,7 +35,7 @@ impl<'a> Model for ScopeColumn<'a> {
 impl<'a> ScopeColumn<'a> {
     /// A column of a source that is known by this name, whose numbers never exceed the size.
     pub fn new(source: &'a str, column: &'a ColumnDef, size: u128) -> ScopeColumn<'a>
-        ensures { result ≡ record { source = source.now; name = column.now.name; ty = column.now.ty; size = size } }
+        ensures { result ≡ scope_column source.now (column.now, size) }
     {
         ScopeColumn {
             source,

@@ -19,7 +19,7 @@ use Rattle.cq_binder_queries.specs.declared.viewing.BoundView.{BoundView}
 use Rattle.cq_binder_queries.specs.Parts.{clauses_walk, end_walk, query_of}
 use Rattle.cq_binder_queries.specs.View.{BindsViewOver, IsBoundView, name_walk}
 use Rattle.cq_binder_queries.specs.Walk.{Walked}
-use Rattle.cq_binder_queries.proofs.Faults.{none_append, refused_along, refused_back, refused_front, refused_same, walked_as}
+use Rattle.cq_binder_queries.proofs.Faults.{none_append, refused_back, refused_front, refused_same, source_refused, walked_as}
 use Rattle.cq_binder_queries.proofs.Clauses.{group_walk, item_walk, query_made, where_walk}
 use Rattle.cq_binder_queries.proofs.Walks.{front_refused, none_refuses, rest_decides, second_refused, third_refused}
 
@@ -104,11 +104,7 @@ view_made name called v from made shown is_name is_query is =
 module _ (name : List ℕ) (v : Select) (r : Result From Fault) where
   -- FROM refuses
   pub from_refused : (f : Fault) → MayRefuse (fault_in r) f → MayRefuse (first_fault (view_select_checks v r)) f
-  from_refused f m = refused_along (fault_in r) (first_fault (view_select_checks v r)) f (refused r) m
-    where
-      refused : (walk : Result From Fault) → fault_in walk ≡ Some f → first_fault (view_select_checks v walk) ≡ Some f
-      refused (Ok from) e = absurd (cc e)
-      refused (Err g) e = e
+  from_refused f m = source_refused (view_select_checks v) r f (λ g. refl) m
 
   -- what is bound over what FROM has joined is the command
   pub viewed : (from : From) (result : Result Bound Fault) → r ≡ Ok from → BindsViewOver from name v result

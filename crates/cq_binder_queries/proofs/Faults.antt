@@ -9,8 +9,10 @@ use Rattle.cq_sql_language.specs.declared.statement.Constant.{Constant}
 use Rattle.cq_binder_rules.specs.declared.fault.Fault.{Fault}
 use Rattle.cq_binder_rules.specs.declared.fault.Fault.TheVariants as faults
 use Rattle.cq_binder_rules.specs.Checks.{first_fault, fault_if, MayRefuse}
+use Rattle.cq_binder_rules.specs.From.{From}
 use Rattle.cq_binder_rules.specs.RowChecks.{row_checks}
 use Rattle.cq_binder_rules.specs.Refusal.{column_checks}
+use Rattle.cq_binder_rules.specs.Typing.{fault_in}
 use Rattle.cq_binder_queries.specs.Walk.{Walked}
 
 -- a stretch of one place
@@ -33,6 +35,14 @@ first_fault_cons None places = refl
 pub refused_along : (part whole : Option Fault) (f : Fault) → (part ≡ Some f → whole ≡ Some f) → MayRefuse part f → MayRefuse whole f
 refused_along part whole faults.Memory goes m = tt
 refused_along part whole f goes m = goes m
+
+-- where FROM refuses, so does a walk that begins with it
+pub source_refused : (checks : Result From Fault → List (Option Fault)) (r : Result From Fault) (f : Fault) → ((g : Fault) → first_fault (checks (Err g)) ≡ Some g) → MayRefuse (fault_in r) f → MayRefuse (first_fault (checks r)) f
+source_refused checks r f told m = refused_along (fault_in r) (first_fault (checks r)) f (refused r) m
+  where
+    refused : (walk : Result From Fault) → fault_in walk ≡ Some f → first_fault (checks walk) ≡ Some f
+    refused (Ok from) e = absurd (cc e)
+    refused (Err g) e = told g ∙ e
 
 -- the fault that there is refuses
 pub refused_with : (o : Option Fault) (f : Fault) → o ≡ Some f → MayRefuse o f

@@ -1,6 +1,6 @@
 -- How FROM is walked through, source by source.
-use Rattle.std.proofs.Common.{◌≡◌, ℕ, ◌+◌, ◌<◌, false, List, [], ◌∷◌, ◌++◌, map, length, get_or, drop, sym, Option, Some, None, Result, Ok, Err, refl, ap, ◌∙◌}
-use Rattle.std.specs.Prelude.{nat_lt}
+use Rattle.std.proofs.Common.{◌≡◌, ℕ, ◌+◌, ◌<◌, Bool, false, List, [], ◌∷◌, ◌++◌, map, length, get_or, drop, sym, Option, Some, None, Result, Ok, Err, refl, ap, ap₂, ◌∙◌}
+use Rattle.std.specs.Prelude.{nat_lt, unwrap_or}
 use Rattle.cq_model.specs.declared.query.Equality.{Equality}
 use Rattle.cq_model.specs.declared.query.Join.{Join}
 use Rattle.cq_model.specs.declared.query.Source.{Source}
@@ -12,7 +12,7 @@ use Rattle.cq_binder_rules.specs.declared.fault.Fault.{Fault}
 use Rattle.cq_binder_rules.specs.Checks.{first_fault, MayRefuse}
 use Rattle.cq_binder_rules.specs.From.{From, base_limit, columns_with, equality_check, equality_of, first_from, first_walk, join_checks, join_walk, joined_with, joins_walk, passing}
 use Rattle.cq_binder_rules.specs.Kinds.{◌and_then◌}
-use Rattle.cq_binder_rules.specs.Scopes.{Named, known_as, source_named}
+use Rattle.cq_binder_rules.specs.Scopes.{Named, known_as, source_columns, source_named}
 use Rattle.cq_binder_rules.specs.Typing.{ScopeColumn, fault_in, is_known}
 use Rattle.cq_binder_queries.proofs.Faults.{first_fault_cons, one_check, or_next, refused_along, refused_front, refused_same}
 
@@ -28,6 +28,24 @@ refused_before {A = A} r k f m = refused_along (fault_in r) (fault_in (r and_the
 passing_fault : {A : Type 0} (o : Option Fault) (x : A) → fault_in (passing o x) ≡ o
 passing_fault None x = refl
 passing_fault (Some f) x = refl
+
+-- nothing in FROM is known by the name of a source that is to be joined, and it leaves no more tables there than may be
+pub record MayJoin (from : From) (j : JoinedSource) (source : Named) (name : List ℕ) : Type 0 where
+  pub known : name ≡ known_as j.source source
+  pub free : is_known from.columns (known_as j.source source) ≡ false
+  pub few : nat_lt base_limit (from.bases + source.bases) ≡ false
+
+module _ (from : From) (j : JoinedSource) (source : Named) (name : List ℕ) where
+  -- both were asked, and neither was so
+  pub may_join : (own : List ℕ) (columns : List ScopeColumn) (bases : ℕ) (taken many : Bool) → name ≡ unwrap_or j.source.alias own → own ≡ source.known → columns ≡ from.columns → taken ≡ is_known columns name → taken ≡ false
+      → bases ≡ source.bases → many ≡ nat_lt base_limit (from.bases + bases) → many ≡ false → MayJoin from j source name
+  may_join own columns bases taken many named is_own seen is_taken free few_is is_many few =
+      let known : name ≡ known_as j.source source = named ∙ ap (unwrap_or j.source.alias) is_own in
+      record { known = known; free = sym (is_taken ∙ ap₂ is_known seen known) ∙ free; few = sym (is_many ∙ ap (λ (n : ℕ). nat_lt base_limit (from.bases + n)) few_is) ∙ few }
+
+  -- its columns stand behind those of FROM
+  pub stand_behind : (columns : List ScopeColumn) → MayJoin from j source name → columns ≡ from.columns ++ source_columns name source → columns ≡ columns_with from.columns j.source source
+  stand_behind columns may pushed = pushed ∙ ap (λ (called : List ℕ). from.columns ++ source_columns called source) may.known
 
 module _ (may : Named → Option Fault) where
   -- ---- The first source, once it was found

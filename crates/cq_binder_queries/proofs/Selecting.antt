@@ -20,7 +20,7 @@ use Rattle.cq_binder_queries.specs.declared.parts.BoundParts.{BoundParts}
 use Rattle.cq_binder_queries.specs.Parts.{AreBoundParts, clauses_walk, end_walk, query_of}
 use Rattle.cq_binder_queries.specs.Select.{BindsQuery}
 use Rattle.cq_binder_queries.specs.Walk.{Walked}
-use Rattle.cq_binder_queries.proofs.Faults.{none_append, refused_along, refused_back, refused_front, walked_as}
+use Rattle.cq_binder_queries.proofs.Faults.{none_append, refused_back, refused_front, source_refused, walked_as}
 use Rattle.cq_binder_queries.proofs.Clauses.{group_walk, item_walk, query_made, where_walk}
 use Rattle.cq_binder_queries.proofs.Walks.{front_refused, rest_decides}
 
@@ -69,11 +69,7 @@ module _ (q : Select) (from : From) where
 module _ (q : Select) (r : Result From Fault) where
   -- FROM refuses
   pub from_refused : (f : Fault) → MayRefuse (fault_in r) f → MayRefuse (first_fault (select_checks q r)) f
-  from_refused f m = refused_along (fault_in r) (first_fault (select_checks q r)) f (refused r) m
-    where
-      refused : (walk : Result From Fault) → fault_in walk ≡ Some f → first_fault (select_checks q walk) ≡ Some f
-      refused (Ok from) e = absurd (cc e)
-      refused (Err g) e = e
+  from_refused f m = source_refused (select_checks q) r f (λ g. refl) m
 
   -- what is bound over what FROM has joined is the command
   pub selected : (from : From) (result : Result Bound Fault) → r ≡ Ok from → BindsQuery from q result

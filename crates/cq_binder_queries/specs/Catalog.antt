@@ -4,7 +4,7 @@ use Rattle.cq_model.specs.declared.query.Source.TheVariants.{Table, View}
 use Rattle.cq_model.specs.Sizes.{stored_sizes}
 use Rattle.cq_values.specs.declared.column.ColumnDef.{ColumnDef}
 use Rattle.cq_binder_rules.specs.Scopes.{Named, from_view}
-use Rattle.cq_model_state.specs.State.{TableOf, ViewOf, State, view_named, view_place}
+use Rattle.cq_model_state.specs.State.{TableOf, ViewOf, State, table_named, view_named, view_place}
 use Rattle.cq_binder_queries.specs.declared.catalog.TableEntry.{TableEntry}
 use Rattle.cq_binder_queries.specs.declared.catalog.ViewEntry.{ViewEntry}
 
@@ -31,6 +31,10 @@ shown_heading e = record { number = e.number; name = e.name.now; columns = e.col
 -- an entry tells of this table
 abbrev pub Describes : TableEntry → TableOf → Type 0
 Describes e t = shown_heading e ≡ heading t
+
+-- the table of a name was found, or there is none
+abbrev pub IsTableNamed : List ℕ → List TableOf → Option TableEntry → Type 0
+IsTableNamed name tables found = option_map shown_heading found ≡ option_map heading (table_named name tables)
 
 -- a view as FROM names it
 abbrev pub shown_view : ViewEntry → Named
@@ -59,3 +63,7 @@ names_view name views = is_some (view_named name views)
 -- the view of a name as FROM names it, if there is one
 abbrev pub view_source_named : List ℕ → List ViewOf → Option Named
 view_source_named name views = option_map (λ v. from_view v (unwrap_or (view_place name views) 0)) (view_named name views)
+
+-- the view of a name was found, or there is none
+abbrev pub IsViewNamed : List ℕ → List ViewOf → Option ViewEntry → Type 0
+IsViewNamed name views found = option_map shown_view found ≡ view_source_named name views

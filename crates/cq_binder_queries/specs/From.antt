@@ -1,5 +1,6 @@
 -- FROM, as it is bound.
 use Rattle.std.specs.Prelude.{◌≡◌, ℕ, List, [], ◌∷◌, ◌++◌, map, Option, Some, is_none, Result, Ok, MatchResult}
+use Rattle.std.specs.Global.{Vec}
 use Rattle.cq_sql_language.specs.declared.statement.FromSource.{FromSource}
 use Rattle.cq_sql_language.specs.declared.statement.JoinedSource.{JoinedSource}
 use Rattle.cq_sql_language.specs.declared.statement.OnEquality.{OnEquality}
@@ -51,6 +52,10 @@ Begins allowed s f result = Gives (first_walk (may_stand allowed) f (source_name
 abbrev pub Joins : Allowed → State → From → JoinedSource → Result FromClause Fault → Type 0
 Joins allowed s from j result = Gives (join_walk (may_stand allowed) from j (source_named j.source.name s)) shown_from result
 
+-- so it is behind what FROM has joined
+abbrev pub JoinsBehind : Allowed → State → FromClause → JoinedSource → Result FromClause Fault → Type 0
+JoinsBehind allowed s from j result = Joins allowed s (shown_from from) j result
+
 -- or with this source that is there
 abbrev pub JoinsFound : Allowed → From → JoinedSource → FoundSource → Result FromClause Fault → Type 0
 JoinsFound allowed from j found result = Gives (join_walk (may_stand allowed) from j (Some (shown_source found))) shown_from result
@@ -70,6 +75,10 @@ BindsOn columns before on result = WalksTo (map (equality_check columns before) 
 -- the columns of a source that is known by a name stand behind those of old
 abbrev pub AreBehind : List ScopeColumn → List ℕ → Named → List ScopeColumn → Type 0
 AreBehind old known source new = new ≡ old ++ source_columns known source
+
+-- so it is with a list of columns that is lent
+abbrev pub PutsColumns : List ℕ → Named → Vec ScopeColumn → Vec ScopeColumn → Type 0
+PutsColumns known source old new = AreBehind old.items known source new.items
 
 -- these are the columns of the table that an entry describes, known by a name
 abbrev pub AreOf : List ℕ → TableEntry → List ScopeColumn → Type 0

@@ -1,5 +1,5 @@
 -- GROUP BY and HAVING with their names resolved.
-use Rattle.std.specs.Prelude.{◌≡◌, ℕ, List, [], ◌∷◌, Option, option_map, Result}
+use Rattle.std.specs.Prelude.{◌≡◌, ℕ, List, [], ◌∷◌, map, Option, option_map, Result}
 use Rattle.cq_sql_language.specs.declared.statement.Select.{Select}
 use Rattle.cq_sql_language.specs.declared.written.ColumnName.{ColumnName}
 use Rattle.cq_sql_language.specs.Written.{Written}
@@ -11,9 +11,13 @@ use Rattle.cq_binder_rules.specs.Grouping.{item_scope}
 use Rattle.cq_binder_rules.specs.Placed.{placed_cond}
 use Rattle.cq_binder_rules.specs.Places.{group_places}
 use Rattle.cq_binder_rules.specs.Queries.{bound_group, bound_shape, having_aggregates, item_aggregates}
-use Rattle.cq_binder_rules.specs.SourceChecks.{where_check}
+use Rattle.cq_binder_rules.specs.SourceChecks.{group_check, where_check}
 use Rattle.cq_binder_rules.specs.Typing.{Scope, ScopeColumn}
-use Rattle.cq_binder_queries.specs.Walk.{Walked}
+use Rattle.cq_binder_queries.specs.Walk.{Walked, WalksTo}
+
+-- the columns behind GROUP BY are looked up, and where they stand
+abbrev pub FindsGroup : List ScopeColumn → List ColumnName → Result (List ℕ) Fault → Type 0
+FindsGroup columns names result = WalksTo (map (group_check columns) names) (group_places columns names) result
 
 -- a condition is HAVING behind these aggregates, and its own are put behind them
 pub record IsHaving (s : Scope) (before after : List Aggregate) (having : Option Written) (condition : Option Cond) : Type 0 where

@@ -1,7 +1,8 @@
 -- The items of a query with their names resolved.
 use Rattle.std.specs.Prelude.{◌≡◌, fold, List, map, Option, Result}
 use Rattle.cq_sql_language.specs.declared.statement.SelectItem.{SelectItem}
-use Rattle.cq_sql_language.specs.Written.{Written}
+use Rattle.cq_sql_language.specs.declared.written.ExprNode.{ExprNode}
+use Rattle.cq_sql_language.specs.Written.{Written, written}
 use Rattle.cq_model.specs.declared.query.Aggregate.{Aggregate}
 use Rattle.cq_model.specs.Expr.{Expr}
 use Rattle.cq_binder_rules.specs.declared.fault.Fault.{Fault}
@@ -11,7 +12,8 @@ use Rattle.cq_binder_rules.specs.Placed.{placed_expr, with_aggregates}
 use Rattle.cq_binder_rules.specs.Queries.{placed_items}
 use Rattle.cq_binder_rules.specs.Typing.{Scope, kept_fault, typed, value_fault}
 use Rattle.cq_binder_queries.specs.Walk.{Walked}
-use Rattle.cq_binder_expressions.specs.Expressions.{PlacesBehind}
+use Rattle.cq_binder_expressions.specs.Expressions.{PlacesBehind, scope_of}
+use Rattle.cq_binder_expressions.specs.declared.scope.Scope.{Scope as Seen}
 use Rattle.cq_binder_queries.specs.declared.items.Purpose.{Purpose}
 use Rattle.cq_binder_queries.specs.declared.items.Purpose.TheVariants.{Kept, Listed}
 
@@ -32,6 +34,10 @@ item_check purpose s w = item_fault purpose (typed s w)
 -- an item is bound behind these aggregates where it has no fault
 abbrev pub BindsItem : Purpose → Scope → List Aggregate → List Aggregate → Written → Result Expr Fault → Type 0
 BindsItem purpose s before after w result = PlacesBehind placed_expr (item_fault purpose) s before after w result
+
+-- so it is with the node of an item in a scope
+abbrev pub BindsNode : Purpose → Seen → List Aggregate → List Aggregate → ExprNode → Result Expr Fault → Type 0
+BindsNode purpose seen before after node result = BindsItem purpose (scope_of seen) before after (written node) result
 
 -- items are bound where none of them has a fault
 abbrev pub BindsItems : Purpose → Scope → List Aggregate → List Aggregate → List SelectItem → Result (List Expr) Fault → Type 0

@@ -3,6 +3,7 @@ pub mod Conditions
 pub mod From
 pub mod Grouping
 pub mod Items
+pub mod Order
 pub mod Parts
 pub mod Select
 pub mod View

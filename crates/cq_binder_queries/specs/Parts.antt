@@ -10,7 +10,7 @@ use Rattle.cq_binder_rules.specs.From.{From}
 use Rattle.cq_binder_rules.specs.Grouping.{item_scope}
 use Rattle.cq_binder_rules.specs.Headers.{shown_by}
 use Rattle.cq_binder_rules.specs.Places.{group_places}
-use Rattle.cq_binder_rules.specs.Queries.{bound_shape, item_aggregates, placed_items}
+use Rattle.cq_binder_rules.specs.Queries.{bound_shape, item_aggregates, placed_items, query_over}
 use Rattle.cq_binder_rules.specs.Scopes.{of_rows}
 use Rattle.cq_binder_rules.specs.Sets.{bound_where}
 use Rattle.cq_binder_rules.specs.SourceChecks.{group_checks, where_check}
@@ -63,11 +63,4 @@ EndsParts columns q result = Walked (end_walk (item_scope q columns) q) (AreBoun
 
 -- the query that parts make over what FROM has joined
 abbrev pub query_of : From → Select → BoundParts → Query
-query_of from q parts = record {
-  first = from.first;
-  joins = from.joins;
-  filter = parts.filter;
-  shape = parts.shape;
-  items = parts.items;
-  distinct = q.is_distinct;
-}
+query_of from q parts = query_over from parts.filter parts.shape parts.items q.is_distinct

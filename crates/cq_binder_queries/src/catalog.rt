@@ -3,10 +3,10 @@
 //! The engine shows its tables and views as a [`Catalog`], and the binder asks it by name, as often as a name is
 //! written. An entry is lent and takes no memory. What a look-up costs is the engine's affair; nothing is changed by
 //! one.
-ghost use Rattle.std.specs.Prelude.{◌≡◌, List, IfOk, option_map};
+ghost use Rattle.std.specs.Prelude.{◌≡◌, List, IfOk};
 ghost use Rattle.cq_binder_rules.specs.Refusal.{is_used};
-ghost use Rattle.cq_model_state.specs.State.{TableOf, ViewOf, table_named, view_place};
-ghost use Rattle.cq_binder_queries.specs.Catalog.{heading, shown_heading, shown_view, view_source_named};
+ghost use Rattle.cq_model_state.specs.State.{TableOf, ViewOf, view_place};
+ghost use Rattle.cq_binder_queries.specs.Catalog.{IsTableNamed, IsViewNamed};
 
 use cq_values::ColumnDef;
 use std::alloc::{AllocError, Global};
@@ -42,11 +42,11 @@ pub trait Catalog {
 
     /// The table of a name, if there is one.
     fn table(&self, name: &str) -> Option<TableEntry<'_>>
-        ensures { option_map shown_heading result ≡ option_map heading (table_named name.now (tables self.now)) };
+        ensures { IsTableNamed name.now (tables self.now) result };
 
     /// The view of a name, if there is one.
     fn view(&self, alloc: Global, name: &str) -> Result<Option<ViewEntry<'_>>, AllocError>
-        ensures { IfOk result (λ found. option_map shown_view found ≡ view_source_named name.now (views self.now)) };
+        ensures { IfOk result (IsViewNamed name.now (views self.now)) };
 
     /// Where the view of a name stands among the views.
     fn view_place(&self, name: &str) -> Option<usize>

@@ -3,7 +3,7 @@ ghost use Rattle.std.specs.Prelude.{◌+◌, ◌∷◌, ◌≡◌, ◌<◌, ◌�
 ghost use Rattle.cq_binder_rules.specs.From.{base_limit, equality_at, first_from, may_equal};
 ghost use Rattle.cq_binder_rules.specs.Scopes.{source_named};
 ghost use Rattle.cq_binder_queries.specs.Catalog.{state_of};
-ghost use Rattle.cq_binder_queries.specs.From.{AreBehind, Begins, BindsEquality, BindsOn, Finds, Joins, JoinsAll, JoinsFound, may_stand, shown_from, shown_source};
+ghost use Rattle.cq_binder_queries.specs.From.{Begins, BindsEquality, BindsOn, Finds, JoinsAll, JoinsBehind, JoinsFound, PutsColumns, may_stand, shown_from, shown_source};
 ghost use Rattle.cq_binder_queries.specs.Walk.{Passes};
 
 use crate::catalog::{Catalog, TableEntry, ViewEntry};
@@ -82,7 +82,7 @@ impl<'a> FoundSource<'a> {
         columns: &mut Vec<ScopeColumn<'a>>,
         known: &'a str,
     ) -> Result<(), AllocError>
-        ensures { OnOk result (AreBehind columns.old.items known.now (shown_source self.now) columns.new.items) }
+        ensures { OnOk result (PutsColumns known.now (shown_source self.now) columns.old columns.new) }
     {
         match self {
             FoundSource::Table(table) => push_stored(columns, known, table),
@@ -155,7 +155,7 @@ fn with_join<'a, C: Catalog>(
     from: FromClause<'a>,
     join: &'a JoinedSource,
 ) -> Result<FromClause<'a>, Fault>
-    ensures { Joins allowed (state_of C.tables C.views catalog.now) (shown_from from.entry) join.now result }
+    ensures { JoinsBehind allowed (state_of C.tables C.views catalog.now) from.entry join.now result }
 {
     let found = found_source(alloc, catalog, join.source.name.as_str())?;
     joined(alloc, allowed, from, join, &found)

@@ -1,11 +1,11 @@
 //! GROUP BY and HAVING, and which queries are of groups.
-ghost use Rattle.std.specs.Prelude.{◌≡◌, map};
+ghost use Rattle.std.specs.Prelude.{◌≡◌};
 ghost use Rattle.std.specs.List.{list_any};
 ghost use Rattle.cq_binder_rules.specs.Grouping.{has_aggregate, is_grouped, item_scope};
 ghost use Rattle.cq_binder_rules.specs.Places.{group_places};
-ghost use Rattle.cq_binder_rules.specs.SourceChecks.{group_check, group_checks};
+ghost use Rattle.cq_binder_rules.specs.SourceChecks.{group_checks};
 ghost use Rattle.cq_binder_expressions.specs.Expressions.{scope_of};
-ghost use Rattle.cq_binder_queries.specs.Grouping.{BindsHaving, IsKeyOf, IsShapeOf};
+ghost use Rattle.cq_binder_queries.specs.Grouping.{BindsHaving, FindsGroup, IsKeyOf, IsShapeOf};
 ghost use Rattle.cq_binder_queries.specs.Walk.{WalksTo};
 
 use crate::lists::check_length;
@@ -34,7 +34,7 @@ fn name_places(
     columns: &[ScopeColumn<'_>],
     names: &[ColumnName],
 ) -> Result<Seq<usize>, Fault>
-    ensures { WalksTo (map (group_check columns.now) names.now) (group_places columns.now names.now) result }
+    ensures { FindsGroup columns.now names.now result }
 {
     let mut places = Seq::new(alloc);
     for name in names {

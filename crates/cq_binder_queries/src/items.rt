@@ -1,7 +1,6 @@
 //! The items of a query, each behind the aggregates of those before it.
 ghost use Rattle.cq_binder_expressions.specs.Expressions.{scope_of};
-ghost use Rattle.cq_sql_language.specs.Written.{written};
-ghost use Rattle.cq_binder_queries.specs.Items.{BindsItem, BindsItems};
+ghost use Rattle.cq_binder_queries.specs.Items.{BindsItems, BindsNode};
 
 use cq_binder_expressions::{Scope, bind_item, bind_kept};
 use cq_binder_rules::Fault;
@@ -43,7 +42,7 @@ fn bound_item(
     aggregates: &mut Seq<Aggregate>,
     value: &ExprNode,
 ) -> Result<Expr, Fault>
-    ensures { BindsItem purpose (scope_of scope.now) aggregates.old aggregates.new (written value.now) result }
+    ensures { BindsNode purpose scope.now aggregates.old aggregates.new value.now result }
 {
     match purpose {
         Purpose::Listed => bind_item(alloc, scope, aggregates, value),

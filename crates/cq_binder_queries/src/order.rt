@@ -1,7 +1,8 @@
 //! ORDER BY: where its keys stand among the columns of the result.
 ghost use Rattle.std.specs.Prelude.{◌≡◌, ◌∷◌, [], position};
 ghost use Rattle.cq_values.specs.Texts.{is_text};
-ghost use Rattle.cq_binder_rules.specs.Orders.{key_checks, named_check, named_place, order_checks, output_check, output_place, sort_keys};
+ghost use Rattle.cq_binder_rules.specs.Orders.{key_checks, named_check, named_place, order_checks, sort_keys};
+ghost use Rattle.cq_binder_queries.specs.Order.{FindsOutput};
 ghost use Rattle.cq_binder_queries.specs.Walk.{WalksTo};
 
 use crate::lists::{check_length, is_named};
@@ -44,7 +45,7 @@ pub(crate) fn bound_keys(
 
 /// Where the output column stands that a key names. Places are written from 1.
 fn output_place(names: &[Text], column: &OutputColumn) -> Result<usize, Fault>
-    ensures { WalksTo (output_check names.now column.now ∷ []) (output_place names.now column.now) result }
+    ensures { FindsOutput names.now column.now result }
 {
     match column {
         OutputColumn::Named(name) => named_place(names, name.as_str()),

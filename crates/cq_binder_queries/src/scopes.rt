@@ -1,7 +1,7 @@
 //! The columns of a table or of a view, as expressions read them.
 ghost use Rattle.std.specs.Prelude.{◌≡◌, IfOk, OnOk, unwrap_or};
 ghost use Rattle.cq_binder_queries.specs.Catalog.{shown_table, shown_view};
-ghost use Rattle.cq_binder_queries.specs.From.{AreBehind, AreOf};
+ghost use Rattle.cq_binder_queries.specs.From.{AreOf, PutsColumns};
 
 use crate::catalog::{TableEntry, ViewEntry};
 use cq_binder_expressions::ScopeColumn;
@@ -28,7 +28,7 @@ pub(crate) fn push_stored<'a>(
     known: &'a str,
     table: &TableEntry<'a>,
 ) -> Result<(), AllocError>
-    ensures { OnOk result (AreBehind columns.old.items known.now (shown_table table.now) columns.new.items) }
+    ensures { OnOk result (PutsColumns known.now (shown_table table.now) columns.old columns.new) }
 {
     for column in table.columns {
         columns.push(ScopeColumn::new(known, column, STORED_SIZE))?;
@@ -42,7 +42,7 @@ pub(crate) fn push_shown<'a>(
     known: &'a str,
     view: &ViewEntry<'a>,
 ) -> Result<(), AllocError>
-    ensures { OnOk result (AreBehind columns.old.items known.now (shown_view view.now) columns.new.items) }
+    ensures { OnOk result (PutsColumns known.now (shown_view view.now) columns.old columns.new) }
 {
     for (column, size) in view.columns.iter().zip(view.sizes.as_slice()) {
         columns.push(ScopeColumn::new(known, column, *size))?;

@@ -20,7 +20,7 @@ use crate::select::header;
 use cq_binder_expressions::ScopeColumn;
 use cq_binder_rules::{Bound, Fault};
 use cq_sql_language::Select;
-use cq_values::{ColumnDef, Seq, Text};
+use cq_values::{ColumnDef, Seq, Text, both};
 use std::alloc::Global;
 
 /// The columns of a view, and the parts of its query.
@@ -90,14 +90,7 @@ fn view_parts<'a>(
             return Err(fault);
         }
     };
-    match refuse_absent(alloc, view) {
-        Ok(()) => {}
-        Err(fault) => {
-            drop(parts);
-            drop(shown);
-            return Err(fault);
-        }
-    }
+    let ((shown, parts), ()) = both((shown, parts), refuse_absent(alloc, view))?;
     Ok(BoundView {
         columns: shown,
         parts,

@@ -58,13 +58,15 @@ equality_of columns before e = equality_at before (row_place columns e.left) (ro
 abbrev pub columns_with : List ScopeColumn → FromSource → Named → List ScopeColumn
 columns_with columns f source = columns ++ source_columns (known_as f source) source
 
+-- a source behind the columns that stand before it, with the equalities by which it is joined
+abbrev pub join_of : List ScopeColumn → JoinedSource → Named → Join
+join_of columns j source = record { source = source.source; on = map (equality_of (columns_with columns j.source source) (length columns)) j.on }
+
 -- FROM with a source behind the others
 abbrev pub joined_with : From → JoinedSource → Named → From
 joined_with from j source = record {
   first = from.first;
-  joins =
-      from.joins
-      ++ record { source = source.source; on = map (equality_of (columns_with from.columns j.source source) (length from.columns)) j.on } ∷ [];
+  joins = from.joins ++ join_of from.columns j source ∷ [];
   columns = columns_with from.columns j.source source;
   bases = from.bases + source.bases;
 }

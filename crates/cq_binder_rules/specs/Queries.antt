@@ -1,5 +1,5 @@
 -- What a query says over what FROM has joined, once its names are resolved (ISO 9075-2, 7.16).
-use Rattle.std.specs.Prelude.{ℕ, if◌then◌else◌, List, [], ◌∷◌, fold, Option, Some, None, option_map}
+use Rattle.std.specs.Prelude.{ℕ, Bool, if◌then◌else◌, List, [], ◌∷◌, fold, Option, Some, None, option_map}
 use Rattle.cq_sql_language.specs.declared.statement.Select.{Select}
 use Rattle.cq_sql_language.specs.declared.statement.SelectItem.{SelectItem}
 use Rattle.cq_sql_language.specs.declared.written.ColumnName.{ColumnName}
@@ -8,7 +8,7 @@ use Rattle.cq_model.specs.declared.query.Aggregate.{Aggregate}
 use Rattle.cq_model.specs.declared.query.Query.{Query}
 use Rattle.cq_model.specs.declared.query.Shape.{Shape}
 use Rattle.cq_model.specs.declared.query.Shape.TheVariants.{Plain, Grouped}
-use Rattle.cq_model.specs.Expr.{Expr}
+use Rattle.cq_model.specs.Expr.{Cond, Expr}
 use Rattle.cq_binder_rules.specs.From.{From}
 use Rattle.cq_binder_rules.specs.Grouping.{is_empty, is_grouped, item_scope}
 use Rattle.cq_binder_rules.specs.Headers.{shown_by}
@@ -47,13 +47,11 @@ grouped_shape q columns =
 abbrev pub bound_shape : Select → List ScopeColumn → Shape
 bound_shape q columns = if is_grouped q then grouped_shape q columns else Plain
 
--- a query over what FROM has joined
+-- a query of these parts over what FROM has joined
+abbrev pub query_over : From → Option Cond → Shape → List Expr → Bool → Query
+query_over from filter shape items distinct = record { first = from.first; joins = from.joins; filter = filter; shape = shape; items = items; distinct = distinct }
+
+-- a SELECT over what FROM has joined
 abbrev pub bound_query : Select → From → Query
-bound_query q from = record {
-  first = from.first;
-  joins = from.joins;
-  filter = bound_where (of_rows from.columns) q.condition;
-  shape = bound_shape q from.columns;
-  items = placed_items (item_scope q from.columns) [] (shown_by q.items);
-  distinct = q.is_distinct;
-}
+bound_query q from =
+    query_over from (bound_where (of_rows from.columns) q.condition) (bound_shape q from.columns) (placed_items (item_scope q from.columns) [] (shown_by q.items)) q.is_distinct

@@ -21,6 +21,10 @@ value_at width words place = number_of 64 words / 2 ^ (width * place) % 2 ^ widt
 abbrev pub values_from : ℕ → List ℕ → ℕ → ℕ → List ℕ
 values_from width words start len = map (λ i. value_at width words (start + i)) (range_with_len 0 len)
 
+-- the values that are read from the words are these
+abbrev pub AreRead : ℕ → List ℕ → List ℕ → Type 0
+AreRead width words values = values_from width words 0 (length values) ≡ values
+
 -- words that have room for so many values
 pub record HoldsValues (width : ℕ) (words : List ℕ) (len : ℕ) : Type 0 where
   pub narrow : width ≤ 64

@@ -1,7 +1,7 @@
 //! From numbers to words.
 ghost use Rattle.std.specs.List.{All};
 ghost use Rattle.std.specs.Prelude.{OnErr, OnOk, [], length, vec_capacity, vec_len, ℕ, ◌+◌, ◌*◌, ◌/◌, ◌<◌, ◌^◌, ◌≡◌, ◌≤◌};
-ghost use Rattle.cq_bits.specs.Packed.{IsPacked, values_from};
+ghost use Rattle.cq_bits.specs.Packed.{AreRead, IsPacked};
 
 use std::alloc::AllocError;
 
@@ -12,7 +12,7 @@ pub fn pack(values: &[u64], width: u32, to: &mut Vec<u64>) -> Result<(), AllocEr
     requires narrow { width ≤ 64 }
     requires fit { All (λ value. value < 2 ^ width) values.now }
     ensures ok { OnOk result (IsPacked width values.now to.new.items) }
-    ensures read_back { OnOk result (values_from width to.new.items 0 (length values.now) ≡ values.now) }
+    ensures read_back { OnOk result (AreRead width to.new.items values.now) }
     ensures err { OnErr result (to.new.items ≡ to.old.items) }
 {
     to.reserve(words_for(width, values.len()))?;

@@ -15,12 +15,16 @@ use Rattle.cq_cli.specs.declared.endings.RunFault.{RunFault}
 use Rattle.cq_cli.specs.declared.sink.Sink.{Ghosts as Sink}
 use Rattle.cq_cli.specs.Sinks.{Writes}
 
+-- the line that is printed for a statement that is refused
+abbrev pub fault_line : Fault → List ℕ
+fault_line f = codes "error " ++ (fault_text f ++ 10 ∷ [])
+
 -- the text that is printed for a statement
 abbrev pub printed_text : Printed → List ℕ
 printed_text prints.Done = codes "ok\n"
 printed_text (prints.Count n) = codes "ok " ++ (decimal n ++ 10 ∷ [])
 printed_text (prints.Rows text) = text
-printed_text (prints.Refused f) = codes "error " ++ (fault_text f ++ 10 ∷ [])
+printed_text (prints.Refused f) = fault_line f
 
 -- it shows the outcome; a result whose text finds no memory is refused
 abbrev pub Shows : Result Answer Fault → Printed → Type 0

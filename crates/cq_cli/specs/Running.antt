@@ -5,7 +5,9 @@ use Rattle.std.specs.List.{list_all}
 use Rattle.cq_model_step.specs.declared.answer.Answer.{Answer}
 use Rattle.cq_binder_rules.specs.Records.{Files}
 use Rattle.cq_binder_rules.specs.declared.fault.Fault.{Fault}
-use Rattle.cq_model_step.specs.Output.{HasOutcomes, output_of, source_failures}
+use Rattle.cq_model_step.specs.Output.{HasOutcomes, Serves, output_of, source_failures}
+use Rattle.cq_sql_tokens.specs.Piece.{piece_of}
+use Rattle.cq_sql_tokens.specs.declared.pieces.Piece.{Piece}
 use Rattle.cq_cli.specs.declared.endings.Status.{Status}
 use Rattle.cq_cli.specs.declared.endings.Status.TheVariants.{AllAccepted, SomeRefused}
 use Rattle.cq_cli.specs.declared.endings.RunFault.{RunFault}
@@ -13,6 +15,7 @@ use Rattle.cq_cli.specs.declared.endings.RunFault.TheVariants.{Output}
 use Rattle.cq_cli.specs.declared.sink.Sink.{Ghosts as Sink}
 use Rattle.cq_binder_rules.specs.declared.sources.Sources.{Ghosts as Sources}
 use Rattle.cq_cli.specs.Writing.{Wrote, flushes_after}
+use Rattle.cq_engine.specs.Held.{Held}
 use Rattle.cq_engine.specs.declared.limits.Limits.{Limits}
 
 -- whether the outcome of a statement is an answer
@@ -28,6 +31,10 @@ status_of outcomes = if list_all is_accepted outcomes then AllAccepted else Some
 abbrev pub both : Status → Status → Status
 both AllAccepted other = other
 both SomeRefused other = SomeRefused
+
+-- an engine answered a piece of a script, over these files
+abbrev pub AnswersPiece : Option Files → Held → Piece → Result Answer Fault → Held → Type 0
+AnswersPiece files old piece outcome new = Serves files old.state (piece_of piece) outcome new.state
 
 -- the sources' count grew by one for each statement that tells so: of the whole script, or of those that were answered
 -- before the sink failed

@@ -1,9 +1,9 @@
 //! Answers on their way out.
 ghost use Rattle.std.specs.Prelude.{◌≡◌, ◌<◌, ◌-◌, ◌^◌, ◌++◌, ◌∷◌, [], IfOk, codes};
 ghost use Rattle.std.specs.Fmt.{decimal};
-ghost use Rattle.cq_binder_rules.specs.FaultText.{fault_text, number_text};
+ghost use Rattle.cq_binder_rules.specs.FaultText.{number_text};
 ghost use Rattle.cq_cli.specs.Sinks.{Writes};
-ghost use Rattle.cq_cli.specs.Printing.{Shows, printed_status, printed_text};
+ghost use Rattle.cq_cli.specs.Printing.{Shows, fault_line, printed_status, printed_text};
 
 use crate::endings::{RunFault, Status};
 use crate::putting::put_all;
@@ -79,7 +79,7 @@ fn put_printed<K: Sink>(out: &mut K, printed: &Printed) -> Result<(), RunFault>
 
 fn put_fault<K: Sink>(out: &mut K, fault: Fault) -> Result<(), RunFault>
     requires { K.failures out.old < 2 ^ 64 - 1 }
-    ensures written { Writes (codes "error " ++ (fault_text fault ++ 10 ∷ [])) K.Sink out.old out.new result }
+    ensures written { Writes (fault_line fault) K.Sink out.old out.new result }
     ensures flushes { K.flushes out.new ≡ K.flushes out.old }
 {
     let mut buffer = Buffer::new();

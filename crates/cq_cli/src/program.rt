@@ -14,13 +14,13 @@ pub fn run_program<S: Sources, K: Sink>(
     alloc: Global,
     script: &[u8],
     limits: Limits,
-    sources: &mut S,
+    from: &mut S,
     out: &mut K,
 ) -> u8
     requires out { K.failures out.old < 2 ^ 64 - 1 }
-    requires sources { S.failures sources.old + length script.now < 2 ^ 64 }
-    ensures ended { EndsRun limits script.now K.Sink out.old out.new S.Sources sources.old sources.new result }
-    ensures files { S.files sources.new ≡ S.files sources.old }
+    requires sources { S.failures from.old + length script.now < 2 ^ 64 }
+    ensures ends { EndsRun limits script.now K.Sink out.old out.new S.Sources from.old from.new result }
+    ensures files { S.files from.new ≡ S.files from.old }
 {
-    exit_of(&run(alloc, script, limits, sources, out))
+    exit_of(&run(alloc, script, limits, from, out))
 }

@@ -1,10 +1,9 @@
 //! Scripts from bytes to bytes.
 ghost use Rattle.std.specs.Prelude.{◌≡◌, ◌<◌, ◌+◌, ◌-◌, ◌^◌, ◌∷◌, [], OnOk, length, true};
-ghost use Rattle.cq_model_step.specs.Output.{Serves, source_failures};
-ghost use Rattle.cq_sql_tokens.specs.Piece.{piece_of};
+ghost use Rattle.cq_model_step.specs.Output.{source_failures};
 ghost use Rattle.cq_engine.specs.Commands.{OnlyShows};
 ghost use Rattle.cq_cli.specs.Printing.{Tells};
-ghost use Rattle.cq_cli.specs.Running.{Answers};
+ghost use Rattle.cq_cli.specs.Running.{Answers, AnswersPiece};
 ghost use Rattle.cq_cli.specs.Writing.{flushes_after};
 
 use crate::endings::{RunFault, Status};
@@ -26,7 +25,7 @@ fn answer<S: Sources>(
 ) -> Result<Answer, Fault>
     requires drawn { piece.now.closed ≡ true → engine.old.state.drawn < 2 ^ 64 - 1 }
     requires failures { piece.now.closed ≡ true → S.failures sources.old < 2 ^ 64 - 1 }
-    ensures served { Serves (S.files sources.old) engine.old.state (piece_of piece.now) result engine.new.state }
+    ensures served { AnswersPiece (S.files sources.old) engine.old piece.now result engine.new }
     ensures rows { OnlyShows engine.old.state result engine.new.state }
     ensures files { S.files sources.new ≡ S.files sources.old }
     ensures failures { S.failures sources.new ≡ S.failures sources.old + source_failures (result ∷ []) }
@@ -67,14 +66,14 @@ fn run_text<S: Sources, K: Sink>(
     alloc: Global,
     script: &str,
     limits: Limits,
-    sources: &mut S,
+    from: &mut S,
     out: &mut K,
 ) -> Result<Status, RunFault>
     requires out { K.failures out.old < 2 ^ 64 - 1 }
-    requires sources { S.failures sources.old + length script.now < 2 ^ 64 }
-    ensures ran { Answers limits script.now K.Sink out.old out.new S.Sources sources.old sources.new result }
+    requires sources { S.failures from.old + length script.now < 2 ^ 64 }
+    ensures ran { Answers limits script.now K.Sink out.old out.new S.Sources from.old from.new result }
     ensures flushes { K.flushes out.new ≡ K.flushes out.old }
-    ensures files { S.files sources.new ≡ S.files sources.old }
+    ensures files { S.files from.new ≡ S.files from.old }
 {
     closed_pieces_fit();
     let mut engine = Engine::new(alloc, limits);
@@ -82,7 +81,7 @@ fn run_text<S: Sources, K: Sink>(
     let mut pieces = split(script);
     while let Some(piece) = pieces.next() {
         if !piece.blank {
-            let outcome = answer(alloc, &mut engine, &piece, sources);
+            let outcome = answer(alloc, &mut engine, &piece, from);
             match tell(alloc, outcome, out) {
                 Ok(served) => status = status.and(served),
                 Err(fault) => {
@@ -101,17 +100,17 @@ fn run_bytes<S: Sources, K: Sink>(
     alloc: Global,
     script: &[u8],
     limits: Limits,
-    sources: &mut S,
+    from: &mut S,
     out: &mut K,
 ) -> Result<Status, RunFault>
     requires out { K.failures out.old < 2 ^ 64 - 1 }
-    requires sources { S.failures sources.old + length script.now < 2 ^ 64 }
-    ensures ran { Answers limits script.now K.Sink out.old out.new S.Sources sources.old sources.new result }
+    requires sources { S.failures from.old + length script.now < 2 ^ 64 }
+    ensures ran { Answers limits script.now K.Sink out.old out.new S.Sources from.old from.new result }
     ensures flushes { K.flushes out.new ≡ K.flushes out.old }
-    ensures files { S.files sources.new ≡ S.files sources.old }
+    ensures files { S.files from.new ≡ S.files from.old }
 {
     match str::from_utf8(script) {
-        Ok(text) => run_text(alloc, text, limits, sources, out),
+        Ok(text) => run_text(alloc, text, limits, from, out),
         Err(_) => print(out, &Printed::Refused(Fault::NotUtf8)),
     }
 }
@@ -122,17 +121,17 @@ pub fn run<S: Sources, K: Sink>(
     alloc: Global,
     script: &[u8],
     limits: Limits,
-    sources: &mut S,
+    from: &mut S,
     out: &mut K,
 ) -> Result<Status, RunFault>
     requires out { K.failures out.old < 2 ^ 64 - 1 }
-    requires sources { S.failures sources.old + length script.now < 2 ^ 64 }
-    ensures ran { Answers limits script.now K.Sink out.old out.new S.Sources sources.old sources.new result }
+    requires sources { S.failures from.old + length script.now < 2 ^ 64 }
+    ensures ran { Answers limits script.now K.Sink out.old out.new S.Sources from.old from.new result }
     ensures flushed { OnOk result (K.is_flushed out.new ≡ true) }
     ensures once { K.flushes out.new ≡ flushes_after result (K.flushes out.old) }
-    ensures files { S.files sources.new ≡ S.files sources.old }
+    ensures files { S.files from.new ≡ S.files from.old }
 {
-    let status = run_bytes(alloc, script, limits, sources, out)?;
+    let status = run_bytes(alloc, script, limits, from, out)?;
     match out.flush() {
         Ok(()) => Ok(status),
         Err(_) => Err(RunFault::Output),

@@ -1,11 +1,12 @@
 -- Why a command line asks for no run, and how the program ends then.
-use Rattle.std.specs.Prelude.{◌≡◌, ◌⊎◌, ℕ, List, [], Result, Ok, Err, string_bytes}
-use Rattle.clap.specs.Words.{IsAmong, Kinds, Text, fault_of, kind_of}
+use Rattle.std.specs.Prelude.{◌≡◌, ◌⊎◌, ℕ, true, List, [], Result, Ok, Err, string_bytes}
+use Rattle.std.specs.Borrow.{Bor}
+use Rattle.clap.specs.Words.{IsAmong, Kinds, Text, fault_of, kind_of, takes}
 use Rattle.clap.specs.declared.error.Error.{Error}
 use Rattle.clap.specs.declared.error.kind.ErrorKind.{ErrorKind}
 use Rattle.clap.specs.declared.error.kind.ErrorKind.TheVariants as kinds
 use Rattle.cq_cli_options.specs.Limit.{IsLimit, limit_refusal}
-use Rattle.cq_cli_options.specs.Line.{colview, limit_in}
+use Rattle.cq_cli_options.specs.Line.{colview, limit_in, texts}
 use Rattle.cq_cli_options.specs.declared.fault.LineFault.{LineFault}
 use Rattle.cq_cli_options.specs.declared.fault.LineFault.TheVariants.{Help, Memory, Refused}
 use Rattle.cq_cli_options.specs.declared.options.Options.{Options}
@@ -13,6 +14,10 @@ use Rattle.cq_cli_options.specs.declared.options.Options.{Options}
 -- clap's error is that memory was wanting
 abbrev pub IsMemory : Error → Type 0
 IsMemory error = kind_of error ≡ kinds.OutOfMemory
+
+-- where the command takes the words, the error is that memory was wanting
+abbrev pub IsMemoryIfTaken : List (Bor Text) → Error → Type 0
+IsMemoryIfTaken words error = takes colview (texts words) ≡ true → IsMemory error
 
 -- the words ask for help or the version
 abbrev pub IsRequest : ErrorKind → Type 0

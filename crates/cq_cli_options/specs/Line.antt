@@ -1,8 +1,9 @@
 -- The command line `colview run SCRIPT [--dir DIR] [--max-rows N]`.
-use Rattle.std.specs.Prelude.{◌≡◌, true, List, [], ◌∷◌, map, Option, Some, codes, unwrap_or, option_and_then}
+use Rattle.std.specs.Prelude.{◌≡◌, ℕ, true, List, [], ◌∷◌, map, Option, Some, codes, unwrap_or, option_and_then}
 use Rattle.std.specs.Borrow.{Bor}
-use Rattle.clap.specs.Words.{App, Row, Rule, Text, first_of, new_app, new_rule, subcommand_of, takes, with_rule, with_subcommand}
+use Rattle.clap.specs.Words.{App, Row, Rule, Text, first_of, new_app, new_rule, subcommand_of, subcommand_rows_of, takes, with_rule, with_subcommand}
 use Rattle.clap.specs.declared.builder.value_parser.ValueParser.TheVariants.{NonEmptyString, Unsigned}
+use Rattle.clap.specs.declared.parser.matches.ArgMatches.{ArgMatches}
 use Rattle.cq_cli_options.specs.declared.options.Options.{Options}
 use Rattle.cq_cli_options.specs.Limit.{IsLimit, IsLimitOf}
 
@@ -46,6 +47,10 @@ texts words = map (λ word. word.now) words
 abbrev pub subcommand_in : List Text → Option (Text × List Row)
 subcommand_in words = subcommand_of colview words
 
+-- the matches are of the subcommand that clap finds in words that are lent
+abbrev pub AreMatchesIn : List (Bor Text) → ArgMatches → Type 0
+AreMatchesIn words matches = subcommand_rows_of matches ≡ subcommand_in (texts words)
+
 -- the value of an id that a subcommand takes, empty where there is none
 abbrev pub value_of_rows : Text → Option (Text × List Row) → Text
 value_of_rows id entered = unwrap_or (option_and_then (λ found. first_of id found.1) entered) []
@@ -65,6 +70,10 @@ dir_in words = value_of_rows (codes "DIR") (subcommand_in words)
 -- N as clap finds it in the words, given or by default
 abbrev pub limit_in : List Text → Text
 limit_in words = limit_of_rows (subcommand_in words)
+
+-- N in words that are lent is a limit, and this is its number
+abbrev pub IsLimitIn : List (Bor Text) → ℕ → Type 0
+IsLimitIn words n = IsLimitOf (limit_in (texts words)) n
 
 -- the command takes the words, and N is a limit
 abbrev pub IsTaken : List Text → Type 0

@@ -2,11 +2,10 @@
 //!
 //! [`options_of`] is called once, with all words, and gives [`Options`] or the fault that is shown. It costs one parse by
 //! clap; nothing of the files that are named is looked at.
-ghost use Rattle.std.specs.Prelude.{◌≡◌, IfErr, IfOk, true};
-ghost use Rattle.clap.specs.Words.{FailsBy, fault_of, subcommand_rows_of, takes};
-ghost use Rattle.cq_cli_options.specs.Fault.{AnswersBy, IsLimitFault, IsMemory};
-ghost use Rattle.cq_cli_options.specs.Limit.{IsLimitOf};
-ghost use Rattle.cq_cli_options.specs.Line.{AreIn, IsTaken, colview, dir_in, limit_in, limit_of_rows, script_in, subcommand_in, texts, value_of_rows};
+ghost use Rattle.std.specs.Prelude.{◌≡◌, IfErr, IfOk};
+ghost use Rattle.clap.specs.Words.{FailsBy, fault_of, subcommand_rows_of};
+ghost use Rattle.cq_cli_options.specs.Fault.{AnswersBy, IsLimitFault, IsMemoryIfTaken};
+ghost use Rattle.cq_cli_options.specs.Line.{AreIn, AreMatchesIn, IsLimitIn, IsTaken, colview, dir_in, limit_of_rows, script_in, texts, value_of_rows};
 ghost use Rattle.cq_cli_options.specs.declared.fault.LineFault.TheVariants.{Memory};
 
 use crate::command::command;
@@ -31,7 +30,7 @@ pub struct Options {
 pub fn options_of<'a>(alloc: Global, words: &'a [&'a str]) -> Result<Options, LineFault>
     ensures script { IfOk result (λ options. options.script ≡ script_in (texts words.entry.now)) }
     ensures dir { IfOk result (λ options. options.dir ≡ dir_in (texts words.entry.now)) }
-    ensures max_rows { IfOk result (λ options. IsLimitOf (limit_in (texts words.entry.now)) options.max_rows) }
+    ensures max_rows { IfOk result (λ options. IsLimitIn words.entry.now options.max_rows) }
     ensures memory { IfErr result (λ fault. IsTaken (texts words.entry.now) → fault ≡ Memory) }
     ensures fault { AnswersBy (texts words.entry.now) result }
 {
@@ -42,8 +41,8 @@ pub fn options_of<'a>(alloc: Global, words: &'a [&'a str]) -> Result<Options, Li
 }
 
 fn matches_from<'a>(alloc: Global, words: &'a [&'a str]) -> Result<ArgMatches<'a>, clap::Error>
-    ensures rows { IfOk result (λ matches. subcommand_rows_of matches ≡ subcommand_in (texts words.entry.now)) }
-    ensures memory { IfErr result (λ error. takes colview (texts words.entry.now) ≡ true → IsMemory error) }
+    ensures rows { IfOk result (AreMatchesIn words.entry.now) }
+    ensures memory { IfErr result (IsMemoryIfTaken words.entry.now) }
     ensures fault { FailsBy (fault_of colview (texts words.entry.now)) result }
 {
     let command = command(alloc)?;

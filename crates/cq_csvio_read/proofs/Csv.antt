@@ -145,13 +145,13 @@ left_of reader xs e = ap (λ (o : Option (List ℕ)). records_in (reader_state r
 pub takes : (old new : FileReader) (found : Bool) (fields : List (List ℕ)) → IsReading old → ReadRecord (λ (bytes : Bor (List ℕ)). Some bytes.now) old new found fields
     → took_first new ≡ true → is_flexible new ≡ is_flexible old → Takes old new found fields
 takes old new true fields reading r first same =
-    let t = took old.state new.state reading.4 fields _ reading.3 (rw (reading.2, reading.5) at r.0) in
+    let t = took old.state new.state reading.4.0 fields _ reading.3 (rw (reading.2, reading.4.1) at r.0) in
     let rest : source new ≡ Some t.0 = rw r.1 t.1 in
-    let here : records_left old ≡ records_in old.state reading.4 = left_of old reading.4 reading.5 in
+    let here : records_left old ≡ records_in old.state reading.4.0 = left_of old reading.4.0 reading.4.1 in
     let more : records_left new ≡ records_in new.state t.0 = left_of new t.0 rest in
-    ((r.3 ∙ reading.0, inl first, r.2 ∙ reading.2, t.2, t.0, rest, same ∙ reading.6), step (records_left old) (records_in old.state reading.4) (records_in new.state t.0) (records_left new) fields here t.3 more)
+    ((r.3 ∙ reading.0, inl first, r.2 ∙ reading.2, t.2, (t.0, rest, same ∙ reading.4.2)), step (records_left old) (records_in old.state reading.4.0) (records_in new.state t.0) (records_left new) fields here t.3 more)
   where
     step : (a b c d : List (List (List ℕ))) (f : List (List ℕ)) → a ≡ b → b ≡ f ∷ c → d ≡ c → a ≡ f ∷ d
     step a b c d f e g h = e ∙ g ∙ rw h refl
 takes old new false fields reading r first same =
-    left_of old reading.4 reading.5 ∙ took_none old.state new.state reading.4 fields _ (rw (reading.2, reading.5) at r.0)
+    left_of old reading.4.0 reading.4.1 ∙ took_none old.state new.state reading.4.0 fields _ (rw (reading.2, reading.4.1) at r.0)

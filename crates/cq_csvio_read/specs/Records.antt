@@ -26,6 +26,10 @@ records_in state bytes = records_from default_config (length bytes + 1) state by
 abbrev pub records_left : FileReader → List (List (List ℕ))
 records_left reader = records_in (reader_state reader) (bytes_left reader)
 
+-- bytes are left for it, and records of any width are read
+abbrev pub HasBytes : FileReader → Type 0
+HasBytes reader = (bytes : List ℕ) × (source reader ≡ Some bytes) × (is_flexible reader ≡ true)
+
 -- it stands between two records, and reads on with commas and double quotes, records of any width
 abbrev pub IsReading : FileReader → Type 0
 IsReading reader =
@@ -33,9 +37,7 @@ IsReading reader =
     × Ready reader
     × (reader_config reader ≡ default_config)
     × (ends_at_end (reader_state reader) ≡ false)
-    × (bytes : List ℕ)
-    × (source reader ≡ Some bytes)
-    × (is_flexible reader ≡ true)
+    × HasBytes reader
 
 -- it took the first of the records that were left, or none was left
 abbrev pub Takes : FileReader → FileReader → Bool → List (List ℕ) → Type 0

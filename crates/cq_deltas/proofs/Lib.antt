@@ -7,6 +7,7 @@ pub mod Lookups
 pub mod MetKeys
 pub mod NoRows
 pub mod Places
+pub mod NextRow
 pub mod Ranges
 pub mod Rowwise
 pub mod Showing

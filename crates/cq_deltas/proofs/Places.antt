@@ -19,7 +19,7 @@ use Rattle.cq_deltas.specs.declared.group.Group.{Group as StoredGroup}
 use Rattle.cq_deltas.specs.Additions.{Addition}
 use Rattle.cq_deltas.specs.Kept.{HaveRoom, KeepRoom}
 use Rattle.cq_deltas.specs.Keyed.{AddsBehind, HasKeys, IsReadyAt, IsReadyFor, KeepPlaces, KeyedGroups, addition_at, additions_at, held_at, key_at, stored_at}
-use Rattle.cq_deltas.proofs.AtKeys.{SetsAt}
+use Rattle.cq_deltas.proofs.AtKeys.{SetsAt, is_without_rows}
 use Rattle.cq_model_bags.proofs.Lists.{all-at}
 
 -- ---- what stands at a place
@@ -210,3 +210,7 @@ pub key-place : (groups : KeyedGroups) (i : ℕ) (k : Row) (g : StoredGroup) →
 key-place [] i k g is = absurd (cc is)
 key-place (e ∷ groups) zero k g is = ap (λ (o : Option (Row × StoredGroup)). (unwrap_or o (k, g)).0) is
 key-place (e ∷ groups) (suc i) k g is = key-place groups i k g is
+
+-- the group there tells whether its key has no rows
+pub without_rows-at : (groups : KeyedGroups) (i : ℕ) (k : Row) (g : StoredGroup) → slice_get groups i ≡ Some (k, g) → held_at groups k ≡ Some g → is_without_rows (held_at groups (key_at groups i)) ≡ is_without_rows (Some g)
+without_rows-at groups i k g at held = ap is_without_rows (ap (held_at groups) (key-place groups i k g at) ∙ held)

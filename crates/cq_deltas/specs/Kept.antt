@@ -60,6 +60,14 @@ pub record GroupHolds (counts totals : ℕ) (group : Group) : Type 0 where
   pub count : nat_abs group.count + counts < number_limit
   pub kept : AllByRecursion (KeptHolds counts totals) group.kept
 
+-- a group stays in range with a row of this weight put in
+abbrev pub GroupHoldsWith : ℤ → List (Option Addend) → Group → Type 0
+GroupHoldsWith weight addends group = GroupHolds (nat_abs weight) (total_moves weight addends) group
+
+-- so does all that is stored of its aggregates
+abbrev pub AllHoldWith : ℤ → List (Option Addend) → List Stored → Type 0
+AllHoldWith weight addends kept = AllByRecursion (KeptHolds (nat_abs weight) (total_moves weight addends)) (map seen kept)
+
 -- there is room for what an argument adds; counts and totals need none
 abbrev pub HasRoomFor : Option Addend → Stored → Type 0
 HasRoomFor (Some (added.Listed v)) (stored.Listed e) = HasRoom v e.room

@@ -14,8 +14,9 @@ use Rattle.cq_model.specs.declared.query.Shape.TheVariants.{Grouped}
 use Rattle.cq_views_model.specs.Kept.{Group, Groups, LastStands, group_of}
 use Rattle.cq_deltas.specs.declared.change.Addend.{Addend}
 use Rattle.cq_deltas.specs.declared.group.Group.{Group as StoredGroup}
+use Rattle.cq_deltas.specs.declared.grouping.Grouping.{Grouping}
 use Rattle.cq_deltas.specs.Additions.{Addition, addition, additions}
-use Rattle.cq_deltas.specs.Kept.{GroupHolds, HaveRoom, group_with, seen_group, total_moves}
+use Rattle.cq_deltas.specs.Kept.{GroupHolds, GroupHoldsWith, HaveRoom, group_with, seen_group, total_moves}
 use Rattle.cq_deltas.specs.Placed.{Placed}
 
 -- keys with their groups as they are stored
@@ -33,6 +34,14 @@ stored_at groups k = option_map seen_group (held_at groups k)
 -- the group of a key: where none is stored, that of no rows
 abbrev pub group_at : List Aggregate → KeyedGroups → Row → Group
 group_at aggregates groups k = unwrap_or (stored_at groups k) (group_of aggregates [])
+
+-- of each key the same is stored as before
+abbrev pub KeepStored : KeyedGroups → KeyedGroups → Type 0
+KeepStored old new = (k : Row) → stored_at new k ≡ stored_at old k
+
+-- each key has the group that it had, if only that of no rows
+abbrev pub KeepGroups : List Aggregate → KeyedGroups → KeyedGroups → Type 0
+KeepGroups aggregates old new = (k : Row) → group_at aggregates new k ≡ group_at aggregates old k
 
 -- whether a change has a row with the key
 abbrev pub is_met : List Addition → Row → Bool
@@ -99,8 +108,8 @@ pub record AddsBehind (old : KeyedGroups) (change : List Placed) (x : Addition) 
   pub keys : HasKeys more new
 
 -- so it is with what a row adds that has this weight
-abbrev pub Adds : List ℕ → List Aggregate → Row → ℤ → KeyedGroups → List Placed → KeyedGroups → List Placed → Type 0
-Adds columns aggregates r weight old change new more = AddsBehind old change (addition columns aggregates (r, weight)) new more
+abbrev pub Adds : Grouping → Row → ℤ → KeyedGroups → List Placed → KeyedGroups → List Placed → Type 0
+Adds by r weight old change new more = AddsBehind old change (addition by.columns.now by.aggregates.now (r, weight)) new more
 
 -- each stored group has the changed rows put in, and none is dropped
 abbrev pub ArePut : KeyedGroups → List Addition → KeyedGroups → Type 0
@@ -114,9 +123,17 @@ IsPut old x new = (k : Row) → stored_at new k ≡ option_map (λ g. group_met 
 abbrev pub AreSettled : (Row → Bool) → KeyedGroups → KeyedGroups → Type 0
 AreSettled keys old new = (k : Row) → stored_at new k ≡ (if keys k then settled (stored_at old k) else stored_at old k)
 
+-- so it is with the keys of a change
+abbrev pub ChangeIsSettled : List Placed → KeyedGroups → KeyedGroups → Type 0
+ChangeIsSettled change old new = AreSettled (is_met (additions_at old change)) old new
+
+-- so it is with the key at a place
+abbrev pub IsSettledAt : ℕ → KeyedGroups → KeyedGroups → Type 0
+IsSettledAt place old new = AreSettled (same_row (key_at old place)) old new
+
 -- a changed row leaves its key's group in range
 abbrev pub HoldsOne : Addition → KeyedGroups → Type 0
-HoldsOne x groups = (g : Group) → stored_at groups x.key ≡ Some g → GroupHolds (nat_abs x.weight) (total_moves x.weight x.addends) g
+HoldsOne x groups = (g : Group) → stored_at groups x.key ≡ Some g → GroupHoldsWith x.weight x.addends g
 
 -- how far a change can move a count
 abbrev pub count_moves : List Addition → ℕ

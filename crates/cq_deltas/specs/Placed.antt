@@ -1,5 +1,6 @@
 -- Changed rows that wait for the groups at their places.
-use Rattle.std.specs.Prelude.{◌≤◌, ℕ, ℤ, List, map, length, slice_range, Option, All}
+use Rattle.std.specs.Prelude.{◌≡◌, ◌≤◌, ℕ, ℤ, List, [], ◌∷◌, ◌++◌, map, length, slice_range, Option, All}
+use Rattle.std.specs.Global.{Vec}
 use Rattle.cq_values.specs.Value.{Row}
 use Rattle.cq_model.specs.declared.query.Aggregate.{Aggregate}
 use Rattle.cq_deltas.specs.declared.change.Addend.{Addend}
@@ -16,6 +17,14 @@ pub record Placed : Type 0 where
 -- what this row adds to the group at a place
 abbrev pub placed_at : ℕ → List Aggregate → Row → ℤ → Placed
 placed_at place aggregates r weight = record { place = place; weight = weight; addends = addends_of r aggregates }
+
+-- behind the changed rows stands this one, for the group at the place
+abbrev pub PutsRow : ℕ → List Aggregate → Row → ℤ → List Placed → List Placed → Type 0
+PutsRow place aggregates r weight old new = new ≡ old ++ placed_at place aggregates r weight ∷ []
+
+-- behind the addends stand those of this row
+abbrev pub PutsAddends : Row → List Aggregate → Vec (Option Addend) → Vec (Option Addend) → Type 0
+PutsAddends r aggregates old new = new.items ≡ old.items ++ addends_of r aggregates
 
 -- a row as it is read from a change
 abbrev pub row_read : PlacedRow → Placed

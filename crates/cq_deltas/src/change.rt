@@ -4,10 +4,10 @@
 //! rows stand in one list, so that a row takes no block of its own.
 ghost use Rattle.std.specs.List.{AllByRecursion};
 ghost use Rattle.std.specs.List.Sorted.{IsPermutation, IsSortedBy};
-ghost use Rattle.std.specs.Prelude.{◌++◌, ◌<◌, ◌∷◌, ◌≡◌, ◌≤◌, IfOk, OnOk, Some, [], length, nat_lt, slice_get};
+ghost use Rattle.std.specs.Prelude.{◌<◌, ◌≡◌, ◌≤◌, IfOk, OnOk, Some, [], length, nat_lt, slice_get};
 ghost use Rattle.cq_values.specs.Lent.{owned};
-ghost use Rattle.cq_deltas.specs.Additions.{IsNarrow, IsSmall, addend_of, addends_of, counted_addend};
-ghost use Rattle.cq_deltas.specs.Placed.{placed_at, row_read};
+ghost use Rattle.cq_deltas.specs.Additions.{IsNarrow, IsSmall, addend_of, counted_addend};
+ghost use Rattle.cq_deltas.specs.Placed.{PutsAddends, PutsRow, row_read};
 
 use cq_model::Aggregate;
 use cq_model_eval::{eval_row, narrow_is_exact};
@@ -82,7 +82,7 @@ impl GroupChange {
         weight: i128,
     ) -> Result<(), AllocError>
         requires { AllByRecursion (IsNarrow row.now) aggregates.now }
-        ensures row { OnOk result (self.new ≡ self.old ++ placed_at place aggregates.now row.now weight ∷ []) }
+        ensures row { OnOk result (PutsRow place aggregates.now row.now weight self.old self.new) }
         ensures small { OnOk result (AllByRecursion (IsSmall row.now) aggregates.now) }
     {
         let start = self.addends.len();
@@ -133,7 +133,7 @@ fn push_addends(
     addends: &mut Vec<Option<Addend>>,
 ) -> Result<(), AllocError>
     requires { AllByRecursion (IsNarrow row.now) aggregates.now }
-    ensures ok { OnOk result (addends.new.items ≡ addends.old.items ++ addends_of row.now aggregates.now) }
+    ensures ok { OnOk result (PutsAddends row.now aggregates.now addends.old addends.new) }
     ensures small { OnOk result (AllByRecursion (IsSmall row.now) aggregates.now) }
     ensures none_less { length addends.old.items ≤ length addends.new.items }
 {

@@ -2,13 +2,11 @@
 //!
 //! [`Group::ready`] makes room for a row's arguments, [`Group::add`] puts them in and cannot fail, and
 //! [`Group::settle`] lets values go that are counted no longer. Each costs one step for each aggregate.
-ghost use Rattle.std.specs.List.{AllByRecursion};
 ghost use Rattle.std.specs.Ordering.{int_eq};
-ghost use Rattle.std.specs.Prelude.{nat_abs, pos, ◌≡◌, [], IfErr, IfOk, OnOk, map};
+ghost use Rattle.std.specs.Prelude.{pos, ◌≡◌, [], IfOk, OnOk, map};
 ghost use Rattle.cq_views_model.specs.Kept.{group_of};
-ghost use Rattle.cq_model.specs.declared.fault.ShowFault.TheVariants.{SumOutOfRange};
-ghost use Rattle.cq_deltas.specs.Shown.{AllCanBeShown, GroupCanBeShown, ShowsRow};
-ghost use Rattle.cq_deltas.specs.Kept.{GroupHolds, HaveRoom, KeepRoom, KeptHolds, all_kept_with, group_with, seen, seen_group, total_moves};
+ghost use Rattle.cq_deltas.specs.Shown.{AllCanBeShown, GroupCanBeShown, RefusesUnless, ShowsGroup, ShowsStored};
+ghost use Rattle.cq_deltas.specs.Kept.{AllHoldWith, GroupHoldsWith, HaveRoom, KeepRoom, all_kept_with, group_with, seen, seen_group};
 
 use crate::change::Addend;
 use crate::kept::Kept;
@@ -65,7 +63,7 @@ impl Group {
     /// Puts a row in, by what its arguments add.
     pub(crate) fn add(&mut self, weight: i128, addends: &[Option<Addend>])
         requires room { HaveRoom addends.now self.old.kept.items }
-        requires holds { GroupHolds (nat_abs weight) (total_moves weight addends.now) (seen_group self.old) }
+        requires holds { GroupHoldsWith weight addends.now (seen_group self.old) }
         ensures seen { seen_group self.new ≡ group_with weight addends.now (seen_group self.old) }
         ensures kept { KeepRoom self.old.kept.items self.new.kept.items }
     {
@@ -89,9 +87,9 @@ impl Group {
         rows: &mut FlatRows,
     ) -> Result<(), ShowFault>
         ensures rows { OnOk result (rows.new.rows ≡ rows.old.rows) }
-        ensures begun { OnOk result (ShowsRow aggregates.now key.now (seen_group self.now).kept rows.old rows.new) }
+        ensures begun { OnOk result (ShowsGroup aggregates.now key.now self.now rows.old rows.new) }
         ensures range { OnOk result (GroupCanBeShown aggregates.now self.now) }
-        ensures fault { IfErr result (λ e. e ≡ SumOutOfRange → GroupCanBeShown aggregates.now self.now → ⊥) }
+        ensures fault { RefusesUnless (GroupCanBeShown aggregates.now self.now) result }
     {
         shown_row(alloc, aggregates, key, &self.kept, rows)
     }
@@ -105,9 +103,9 @@ fn shown_row(
     rows: &mut FlatRows,
 ) -> Result<(), ShowFault>
     ensures rows { OnOk result (rows.new.rows ≡ rows.old.rows) }
-    ensures begun { OnOk result (ShowsRow aggregates.now key.now (map seen kept.now) rows.old rows.new) }
+    ensures begun { OnOk result (ShowsStored aggregates.now key.now kept.now rows.old rows.new) }
     ensures range { OnOk result (AllCanBeShown aggregates.now (map seen kept.now)) }
-    ensures fault { IfErr result (λ e. e ≡ SumOutOfRange → AllCanBeShown aggregates.now (map seen kept.now) → ⊥) }
+    ensures fault { RefusesUnless (AllCanBeShown aggregates.now (map seen kept.now)) result }
 {
     rows.push_copies(alloc, key.as_slice())?;
     let len = aggregates.len().min(kept.len());
@@ -134,7 +132,7 @@ fn ready_all(alloc: Global, kept: &mut [Kept], addends: &[Option<Addend>]) -> Re
 /// Puts each argument of a row in what is kept of its aggregate.
 fn add_all(kept: &mut [Kept], weight: i128, addends: &[Option<Addend>])
     requires room { HaveRoom addends.now kept.old }
-    requires holds { AllByRecursion (KeptHolds (nat_abs weight) (total_moves weight addends.now)) (map seen kept.old) }
+    requires holds { AllHoldWith weight addends.now kept.old }
     ensures seen { map seen kept.new ≡ all_kept_with weight addends.now (map seen kept.old) }
     ensures kept { KeepRoom kept.old kept.new }
 {

@@ -9,20 +9,17 @@
 ghost use Rattle.std.specs.List.{AllByRecursion};
 ghost use Rattle.std.specs.List.Sorted.{IsSortedBy};
 ghost use Rattle.std.specs.Map.{keys_of};
-ghost use Rattle.std.specs.Prelude.{All, ◌++◌, ◌<◌, ◌≡◌, IfErr, IfOk, OnOk, [], false, length, nat_lt, take};
+ghost use Rattle.std.specs.Prelude.{All, ◌<◌, ◌≡◌, IfOk, OnOk, [], false, length, nat_lt, take};
 ghost use Rattle.cq_views_model.specs.Kept.{Groups as ByKey};
 ghost use Rattle.cq_views_model.specs.Shown.{ListsKeys};
-ghost use Rattle.cq_model.specs.Group.{key_of};
-ghost use Rattle.cq_values.specs.Order.{same_row};
-ghost use Rattle.cq_values.specs.Value.{Row as Values};
-ghost use Rattle.cq_model.specs.declared.fault.ShowFault.TheVariants.{SumOutOfRange};
 ghost use Rattle.cq_deltas.specs.Additions.{IsNarrow, IsSmall};
-ghost use Rattle.cq_deltas.specs.Shown.{EntryCanBeShown, GroupsCanBeShown, counted_keys, entry_row, group_rows};
-ghost use Rattle.cq_deltas.specs.Keyed.{Adds, ArePut, AreSettled, GroupsGoOn, HasKeys, HoldsFor, HoldsOne, IsPut, IsReadyAt, KeepPlaces, StandsAt, Takes, addition_at, additions_at, group_at, is_met, key_at, stored_at};
+ghost use Rattle.cq_deltas.specs.Shown.{EntryCanBeShown, GroupsCanBeShown, PutsEntry, RefusesUnless, counted_keys, group_rows};
+ghost use Rattle.cq_deltas.specs.Keyed.{Adds, ArePut, ChangeIsSettled, GroupsGoOn, HasKeys, HoldsFor, HoldsOne, IsPut, IsReadyAt, IsSettledAt, KeepGroups, KeepPlaces, KeepStored, StandsAt, Takes, addition_at, additions_at, group_at};
 ghost use Rattle.cq_deltas.specs.Placed.{row_read};
 
 use crate::change::{Addend, GroupChange, PlacedRow};
 use crate::group::Group;
+use crate::grouping::Grouping;
 use cq_model::{Aggregate, ShowFault};
 use cq_model_eval::key_of;
 use cq_values::{Row, Value};
@@ -59,21 +56,20 @@ impl Groups {
     pub fn ready(
         &mut self,
         alloc: Global,
-        columns: &[usize],
-        aggregates: &[Aggregate],
+        by: Grouping<'_>,
         row: &[Value],
         weight: i128,
         change: &mut GroupChange,
     ) -> Result<(), AllocError>
-        requires narrow { AllByRecursion (IsNarrow row.now) aggregates.now }
+        requires narrow { AllByRecursion (IsNarrow row.now) by.aggregates.now }
         requires keys { HasKeys change.old self.old }
-        ensures groups { (k : Values) → group_at aggregates.now self.new k ≡ group_at aggregates.now self.old k }
-        ensures small { OnOk result (AllByRecursion (IsSmall row.now) aggregates.now) }
-        ensures adds { OnOk result (Adds columns.now aggregates.now row.now weight self.old change.old self.new change.new) }
+        ensures groups { KeepGroups by.entry.aggregates.now self.old self.new }
+        ensures small { OnOk result (AllByRecursion (IsSmall row.now) by.entry.aggregates.now) }
+        ensures adds { OnOk result (Adds by.entry row.now weight self.old change.old self.new change.new) }
     {
-        let key = key_of(alloc, columns, row)?;
-        let place = self.place_of(alloc, aggregates, key)?;
-        change.push(alloc, place, aggregates, row, weight)?;
+        let key = key_of(alloc, by.columns, row)?;
+        let place = self.place_of(alloc, by.aggregates, key)?;
+        change.push(alloc, place, by.aggregates, row, weight)?;
         let last = change.row(change.len() - 1);
         self.make_room(alloc, place, last.addends)
     }
@@ -85,7 +81,7 @@ impl Groups {
         aggregates: &[Aggregate],
         key: Row,
     ) -> Result<usize, AllocError>
-        ensures groups { (k : Values) → group_at aggregates.now self.new k ≡ group_at aggregates.now self.old k }
+        ensures groups { KeepGroups aggregates.now self.old self.new }
         ensures keep { KeepPlaces self.old self.new }
         ensures place { IfOk result (StandsAt self.new key) }
     {
@@ -106,7 +102,7 @@ impl Groups {
         addends: &[Option<Addend>],
     ) -> Result<(), AllocError>
         requires { place < length self.old }
-        ensures same { (k : Values) → stored_at self.new k ≡ stored_at self.old k }
+        ensures same { KeepStored self.old self.new }
         ensures keep { KeepPlaces self.old self.new }
         ensures room { OnOk result (IsReadyAt addends.now self.new place) }
     {
@@ -134,7 +130,7 @@ impl Groups {
     /// Puts the groups in the order of their keys, where there is memory for it. No order is
     /// promised.
     pub fn sort(&mut self) -> Result<(), AllocError>
-        ensures { (k : Values) → stored_at self.new k ≡ stored_at self.old k }
+        ensures { KeepStored self.old self.new }
     {
         self.groups
             .sort_unstable_by(|a, _, b, _| a.as_slice().cmp(b.as_slice()))
@@ -146,7 +142,7 @@ impl Groups {
         ensures begun { IfOk result (λ flat. flat.begun ≡ []) }
         ensures keys { ListsKeys (counted_keys self.now) (ByKey (group_at aggregates.now self.now)) }
         ensures range { OnOk result (GroupsCanBeShown aggregates.now self.now) }
-        ensures fault { IfErr result (λ e. e ≡ SumOutOfRange → GroupsCanBeShown aggregates.now self.now → ⊥) }
+        ensures fault { RefusesUnless (GroupsCanBeShown aggregates.now self.now) result }
     {
         let width = self.row_width(aggregates);
         let mut rows = FlatRows::with_capacity(alloc, self.groups.len(), width)?;
@@ -194,9 +190,9 @@ impl Groups {
     /// Lets values of a change's groups go that are counted no longer, and tells whether one of the groups has no rows.
     fn settle_all(&mut self, change: &GroupChange) -> bool
         requires { HasKeys change.now self.old }
-        ensures same { (k : Values) → stored_at self.new k ≡ stored_at self.old k }
+        ensures same { KeepStored self.old self.new }
         ensures keys { keys_of self.new ≡ keys_of self.old }
-        ensures full { result ≡ false → AreSettled (is_met (additions_at self.old change.now)) self.old self.new }
+        ensures full { result ≡ false → ChangeIsSettled change.now self.old self.new }
     {
         let mut is_empty = false;
         for index in 0..change.len() {
@@ -207,9 +203,9 @@ impl Groups {
 
     fn settle(&mut self, row: PlacedRow<'_>) -> bool
         requires { row.place < length self.old }
-        ensures same { (k : Values) → stored_at self.new k ≡ stored_at self.old k }
+        ensures same { KeepStored self.old self.new }
         ensures keys { keys_of self.new ≡ keys_of self.old }
-        ensures full { result ≡ false → AreSettled (same_row (key_at self.old row.entry.place)) self.old self.new }
+        ensures full { result ≡ false → IsSettledAt row.entry.place self.old self.new }
     {
         match self.groups.get_index_mut(row.place) {
             Some(group) => {
@@ -224,7 +220,7 @@ impl Groups {
     fn drop_empty(&mut self, change: &GroupChange)
         requires there { All (λ x. x.place < length self.old) change.now }
         requires sorted { IsSortedBy (λ x y. nat_lt y.place x.place) change.now }
-        ensures { AreSettled (is_met (additions_at self.old change.now)) self.old self.new }
+        ensures { ChangeIsSettled change.now self.old self.new }
     {
         let mut end = self.groups.len();
         for index in 0..change.len() {
@@ -240,7 +236,7 @@ impl Groups {
     /// Drops the group at a place if it has no rows. The last group takes its place.
     fn drop_if_empty(&mut self, place: usize)
         requires { place < length self.old }
-        ensures settled { AreSettled (same_row (key_at self.old place)) self.old self.new }
+        ensures settled { IsSettledAt place self.old self.new }
         ensures front { take place self.new ≡ take place self.old }
     {
         let is_empty = match self.groups.get_index(place) {
@@ -262,10 +258,10 @@ fn push_shown(
     rows: &mut FlatRows,
 ) -> Result<(), ShowFault>
     requires { rows.old.begun ≡ [] }
-    ensures rows { OnOk result (rows.new.rows ≡ rows.old.rows ++ entry_row aggregates.now key.now group.now) }
+    ensures rows { OnOk result (PutsEntry aggregates.now key.now group.now rows.old rows.new) }
     ensures begun { OnOk result (rows.new.begun ≡ []) }
     ensures range { OnOk result (EntryCanBeShown aggregates.now key.now group.now) }
-    ensures fault { IfErr result (λ e. e ≡ SumOutOfRange → EntryCanBeShown aggregates.now key.now group.now → ⊥) }
+    ensures fault { RefusesUnless (EntryCanBeShown aggregates.now key.now group.now) result }
 {
     if group.count() > 0 {
         group.show(alloc, aggregates, key, rows)?;

@@ -4,14 +4,12 @@
 //! The order of calls is that of a group. A count and a total take no memory, so [`Kept::ready`] grows only where
 //! values are listed. Whether a total can be shown, [`Kept::value`] tells.
 ghost use Rattle.std.specs.Option.{option_copied};
-ghost use Rattle.std.specs.Ordering.{int_eq};
-ghost use Rattle.std.specs.Prelude.{nat_abs, pos, ◌*ℤ◌, ◌+ℤ◌, ◌+◌, ◌<◌, ◌^◌, ◌≡◌, ◌↔◌, ◌≤◌, IfErr, IfOk, IfSome, IsSome, OnOk, if◌then◌else◌, unwrap_or, []};
-ghost use Rattle.cq_values.specs.declared.value.Value.TheVariants.{Null, Number};
+ghost use Rattle.std.specs.Prelude.{nat_abs, ◌*ℤ◌, ◌+ℤ◌, ◌+◌, ◌<◌, ◌^◌, ◌≡◌, ◌↔◌, ◌≤◌, IfOk, IfSome, IsSome, OnOk, unwrap_or, []};
+ghost use Rattle.cq_values.specs.declared.value.Value.TheVariants.{Null};
 ghost use Rattle.cq_model.specs.Group.{InRange};
 ghost use Rattle.cq_views_model.specs.Kept.{kept_of, kept_value};
-ghost use Rattle.cq_model.specs.declared.fault.ShowFault.TheVariants.{SumOutOfRange};
 ghost use Rattle.cq_deltas.specs.Kept.{HasRoomFor, KeepsRoomFor, KeptHolds, kept_with, seen, total_move};
-ghost use Rattle.cq_deltas.specs.Shown.{CanBeShown};
+ghost use Rattle.cq_deltas.specs.Shown.{CanBeShown, RefusesUnless, shown_total};
 ghost use Rattle.cq_model.specs.Width.{number_limit};
 
 use crate::change::Addend;
@@ -92,7 +90,7 @@ impl Kept {
     pub(crate) fn value(&self, alloc: Global, aggregate: &Aggregate) -> Result<Value, ShowFault>
         ensures value { IfOk result (λ v. v ≡ kept_value aggregate.now (seen self.now)) }
         ensures range { OnOk result (CanBeShown aggregate.now (seen self.now)) }
-        ensures fault { IfErr result (λ e. e ≡ SumOutOfRange → CanBeShown aggregate.now (seen self.now) → ⊥) }
+        ensures fault { RefusesUnless (CanBeShown aggregate.now (seen self.now)) result }
     {
         match (aggregate, self) {
             (Aggregate::CountAll | Aggregate::Count(_), Kept::Counted(count)) => {
@@ -132,7 +130,7 @@ impl CountedTotal {
 
     /// The total, which is NULL of no values, and `None` where it is out of range.
     fn value(&self) -> Option<Value>
-        ensures value { IfSome result (λ v. v ≡ (if int_eq self.now.values (pos 0) then Null else Number self.now.total)) }
+        ensures value { IfSome result (λ v. v ≡ shown_total self.now.values self.now.total) }
         ensures range { IsSome result ↔ InRange self.now.total }
     {
         let total = self.total.to_i128()?;

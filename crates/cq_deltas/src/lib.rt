@@ -9,10 +9,12 @@
 mod change;
 mod extremes;
 mod group;
+mod grouping;
 mod groups;
 mod kept;
 mod laws;
 
 pub use change::GroupChange;
+pub use grouping::Grouping;
 pub use groups::Groups;
 pub use laws::{more_is_added, ranges_show};

@@ -1,11 +1,17 @@
 -- Texts as their numbers among the different ones.
-use Rattle.std.proofs.Common.{◌≡◌, ℕ, ◌<◌, Bor, List, [], ◌∷◌, ◌++◌, length, get_or, slice_get, Some, refl, ap, ap₂, ◌∙◌, arith}
-use Rattle.std.specs.List.{All}
-use Rattle.std.proofs.lemmas.List.{get_or-map, length-map, map-append}
+use Rattle.std.proofs.Common.{◌≡◌, ℕ, ◌<◌, ◌≤◌, Bor, List, [], ◌∷◌, ◌++◌, length, get_or, map, slice_get, subst, take, Some, refl, ap, ap₂, ◌∙◌, arith}
+use Rattle.std.specs.List.{All, fold}
+use Rattle.std.specs.Simd.Lanes.{zip2}
+use Rattle.std.proofs.lemmas.List.{get_or-map, length-map, map-append, take_all}
 use Rattle.std.proofs.lemmas.List.Elements.{All-head, All-push, All-tail, All-weaker}
 use Rattle.std.proofs.lemmas.Option.{get_or_from_slice_get, slice_get_within}
-use Rattle.cq_vectors.specs.Columns.{texts_of}
-use Rattle.cq_encodings.specs.Dict.{Keeps, coded}
+use Rattle.cq_vectors_stored.specs.Columns.{text_unless, texts_of}
+use Rattle.cq_values.specs.declared.lent.Lent.{Lent}
+use Rattle.cq_values.specs.Lent.{owned}
+use Rattle.cq_encodings_plain.specs.Nulls.{NothingWhere}
+use Rattle.cq_encodings_plain.specs.Parts.{nulls_of}
+use Rattle.cq_encodings_plain.proofs.Zipped.{length-nulls_of}
+use Rattle.cq_encodings.specs.Dict.{AreCodesOf, IsFirstText, Keeps, coded, with_text}
 
 -- the text of a key that was found
 pub text_found : (keys : List (Bor (List ℕ))) (code : ℕ) (key : Bor (List ℕ)) → slice_get keys code ≡ Some key → get_or (texts_of keys) code [] ≡ key.now
@@ -34,3 +40,19 @@ length-coded entries codes = length-map codes (λ code. get_or entries code [])
 
 pub coded_at : (entries : List (List ℕ)) (codes : List ℕ) (place code : ℕ) → place < length codes → get_or codes place 0 ≡ code → get_or (coded entries codes) place [] ≡ get_or entries code []
 coded_at entries codes place code lt is = get_or-map (λ code. get_or entries code []) codes place 0 [] lt ∙ ap (λ code. get_or entries code []) is
+
+-- what was written of all values are their numbers
+pub codes_are : (entries : List (List ℕ)) (codes : List ℕ) (values : List Lent) (i : ℕ) → length values ≤ i → i ≤ length values → length codes ≡ i
+    → NothingWhere 0 (nulls_of (take i values)) codes → All (λ code. code < length entries) codes → (known : List (List ℕ)) → IsFirstText known values → entries ≡ fold with_text known (map owned (take i values))
+    → zip2 text_unless (coded entries codes) (nulls_of (take i values)) ≡ map owned (take i values) → AreCodesOf entries codes values
+codes_are entries codes values i all few long clear within known first met same =
+    let whole : take i values ≡ values = take_all i values all in
+    record {
+      are = record {
+        long = omega (arith, length-nulls_of values, long, all, few);
+        clear = subst (λ (vs : List Lent). NothingWhere 0 (nulls_of vs) codes) whole clear;
+        known = within;
+      };
+      different = met ∙ ap (λ (vs : List Lent). fold with_text known (map owned vs)) whole ∙ first.same;
+      same = subst (λ (vs : List Lent). zip2 text_unless (coded entries codes) (nulls_of vs) ≡ map owned vs) whole same;
+    }

@@ -1,6 +1,7 @@
+pub mod Above
 pub mod Coded
 pub mod Different
+pub mod Lending
 pub mod Neighbours
-pub mod Offsets
 pub mod Repeats
 pub mod Walking

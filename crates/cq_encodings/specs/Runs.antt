@@ -1,7 +1,10 @@
 -- Values as runs of one value each.
-use Rattle.std.specs.Prelude.{◌<◌, ◌≢◌, List, [], ◌∷◌, replicate, ⊤}
+use Rattle.std.specs.Prelude.{ℕ, ◌<◌, ◌≡◌, ◌≢◌, List, [], ◌∷◌, length, map, replicate, slice_index_or, ⊤}
 use Rattle.std.specs.List.{flat_map}
+use Rattle.cq_values.specs.declared.lent.Lent.{Lent}
 use Rattle.cq_values.specs.declared.value.Value.{Value}
+use Rattle.cq_values.specs.declared.value.Value.TheVariants.{Null}
+use Rattle.cq_values.specs.Lent.{owned}
 use Rattle.cq_encodings.specs.declared.runs.Run.{Run}
 
 -- a run is its value, so many times
@@ -17,3 +20,11 @@ abbrev pub AreRuns : List Run → Type 0
 AreRuns [] = ⊤
 AreRuns (run ∷ []) = 0 < run.count
 AreRuns (run ∷ next ∷ runs) = (0 < run.count) × ((run.value ≢ next.value) × AreRuns (next ∷ runs))
+
+-- the value of a place among lent ones
+abbrev pub value_in : List Lent → ℕ → Value
+value_in values place = slice_index_or (map owned values) place Null
+
+-- each of the values is this one
+abbrev pub IsConstant : Value → List Value → Type 0
+IsConstant value values = values ≡ replicate (length values) value

@@ -1,24 +1,37 @@
 //! Which form a column is kept in.
 //!
 //! Widths of whole bytes alone are chosen: a width between takes longer to read than the memory is worth.
-ghost use Rattle.std.specs.Prelude.{IfOk, ◌≡◌};
+ghost use Rattle.std.specs.Prelude.{IfOk, map, ◌≡◌};
 ghost use Rattle.cq_encodings.specs.AnyEncoded.{encoded_values};
+ghost use Rattle.cq_values.specs.Lent.{owned};
 
 use crate::any_encoded::AnyEncoded;
+use crate::bounds::{bounds_of, rise_slowly};
 use crate::deltas::Deltas;
 use crate::dict::Dict;
-use crate::packed::Packed;
-use crate::runs::Runs;
-use cq_encodings_plain::{Kind, Plain, kind_of, number_of};
-use cq_values::Value;
+use crate::packed::packed_between;
+use crate::runs::{Runs, are_equal};
+use cq_encodings_plain::{Kind, Plain, kind_of};
+use cq_values::{Lent, Value};
 use std::alloc::{AllocError, Global};
 
 /// The values in the form that takes least memory and is read fast. An error comes where there is no memory for it.
 pub fn choose(alloc: Global, values: &[Value]) -> Result<AnyEncoded, AllocError>
     ensures { IfOk result (λ encoded. encoded_values encoded ≡ values.now) }
 {
-    let runs = run_count(values);
-    if runs <= 1 || runs <= values.len() / 32 {
+    let mut lent = Vec::new(alloc);
+    lent.reserve(values.len())?;
+    for value in values {
+        lent.push_reserved(value.lend());
+    }
+    choose_lent(alloc, &lent)
+}
+
+/// The same of values that are lent: no text is copied but into the form that is chosen.
+pub fn choose_lent(alloc: Global, values: &[Lent<'_>]) -> Result<AnyEncoded, AllocError>
+    ensures { IfOk result (λ encoded. encoded_values encoded ≡ map owned values.now) }
+{
+    if stand_still(values) {
         return Ok(AnyEncoded::Runs(Runs::of(alloc, values)?));
     }
     match kind_of(values) {
@@ -27,11 +40,18 @@ pub fn choose(alloc: Global, values: &[Value]) -> Result<AnyEncoded, AllocError>
     }
 }
 
-fn choose_for_numbers(alloc: Global, values: &[Value], kind: Kind) -> Result<AnyEncoded, AllocError>
-    ensures { IfOk result (λ encoded. encoded_values encoded ≡ values.now) }
+fn choose_for_numbers(
+    alloc: Global,
+    values: &[Lent<'_>],
+    kind: Kind,
+) -> Result<AnyEncoded, AllocError>
+    ensures { IfOk result (λ encoded. encoded_values encoded ≡ map owned values.now) }
 {
-    if lie_close(kind, values) {
-        if let Some(packed) = Packed::of(alloc, values)? {
+    let Some((least, greatest)) = bounds_of(kind, values) else {
+        return Ok(AnyEncoded::Plain(Plain::of(alloc, values)?));
+    };
+    if i128::from(greatest) - i128::from(least) < 1 << 32 {
+        if let Some(packed) = packed_between(alloc, values, kind, least, greatest)? {
             return Ok(AnyEncoded::Packed(packed));
         }
     }
@@ -43,8 +63,8 @@ fn choose_for_numbers(alloc: Global, values: &[Value], kind: Kind) -> Result<Any
     Ok(AnyEncoded::Plain(Plain::of(alloc, values)?))
 }
 
-fn choose_for_texts(alloc: Global, values: &[Value]) -> Result<AnyEncoded, AllocError>
-    ensures { IfOk result (λ encoded. encoded_values encoded ≡ values.now) }
+fn choose_for_texts(alloc: Global, values: &[Lent<'_>]) -> Result<AnyEncoded, AllocError>
+    ensures { IfOk result (λ encoded. encoded_values encoded ≡ map owned values.now) }
 {
     match Dict::of(alloc, values, values.len() / 4)? {
         Some(dict) => Ok(AnyEncoded::Dict(dict)),
@@ -52,63 +72,18 @@ fn choose_for_texts(alloc: Global, values: &[Value]) -> Result<AnyEncoded, Alloc
     }
 }
 
-/// How many runs of one value there are.
-fn run_count(values: &[Value]) -> usize {
-    if values.is_empty() {
-        return 0;
-    }
+/// Whether the values are one run at most, or runs of 1,024 and more on average: a place is read by a walk over the runs,
+/// which are no more than 64 then. Counts no further than it must.
+fn stand_still(values: &[Lent<'_>]) -> bool {
+    let most = (values.len() / 1_024).max(1);
     let mut count = 1;
     for i in 1..values.len() {
-        if values[i] != values[i - 1] {
+        if !are_equal(&values[i], &values[i - 1]) {
+            if count == most {
+                return false;
+            }
             count += 1;
         }
     }
-    count
-}
-
-/// Whether the numbers of a kind that are there lie less than 2^32 apart.
-fn lie_close(kind: Kind, values: &[Value]) -> bool {
-    let (mut least, mut greatest) = (i64::MAX, i64::MIN);
-    for value in values {
-        if value.is_null() {
-            continue;
-        }
-        match number_of(kind, value, 0) {
-            Some(number) => {
-                least = least.min(number);
-                greatest = greatest.max(number);
-            }
-            None => return false,
-        }
-    }
-    i128::from(greatest) - i128::from(least) < 1 << 32
-}
-
-/// Whether the numbers of a kind that are there rise, by less than 2^16 from each to the next.
-fn rise_slowly(kind: Kind, values: &[Value]) -> bool {
-    let mut last = None;
-    for value in values {
-        if value.is_null() {
-            continue;
-        }
-        let Some(number) = number_of(kind, value, 0) else {
-            return false;
-        };
-        if !is_next(last, number) {
-            return false;
-        }
-        last = Some(number);
-    }
     true
-}
-
-/// Whether a number is no less than the one before it, if there is one, and less than 2^16 above.
-fn is_next(last: Option<i64>, number: i64) -> bool {
-    match last {
-        Some(last) => {
-            let step = i128::from(number) - i128::from(last);
-            0 <= step && step < 1 << 16
-        }
-        None => true,
-    }
 }

@@ -3,14 +3,13 @@
 //! Reading at a place takes the steps from the last number of 1,024 that is kept; reading a vector takes each step once.
 ghost use Rattle.std.specs.Prelude.{[], IfOk, IfSome, drop, length, map, take, ◌++◌, ◌<◌, ◌∷◌, ◌≡◌};
 ghost use Rattle.std.specs.Simd.Lanes.{zip2};
-ghost use Rattle.cq_encodings.specs.Deltas.{bits_datum};
-ghost use Rattle.cq_encodings_plain.specs.Parts.{Make};
+ghost use Rattle.cq_encodings.specs.Deltas.{AreBitsOf, bits_datum};
+ghost use Rattle.cq_encodings_plain.specs.Parts.{Makes};
 ghost use Rattle.cq_values.specs.Lent.{owned};
-ghost use Rattle.cq_values.specs.Value.{is_null};
 
 use crate::steps::Steps;
 use cq_encodings_plain::{Decoded, Encoded, Kind, Nulls, kind_of, lend_unless, number_of};
-use cq_values::{Lent, Value};
+use cq_values::Lent;
 use std::alloc::{AllocError, Global};
 use std::marker::Model;
 
@@ -38,8 +37,8 @@ impl Model for Deltas {
 
 impl Deltas {
     /// None where one of the values is neither NULL nor of the kind of the others, or is no number of 64 bits.
-    pub fn of(alloc: Global, values: &[Value]) -> Result<Option<Deltas>, AllocError>
-        ensures { IfOk result (λ found. IfSome found (λ deltas. deltas ≡ values.now)) }
+    pub fn of(alloc: Global, values: &[Lent<'_>]) -> Result<Option<Deltas>, AllocError>
+        ensures { IfOk result (λ found. IfSome found (λ deltas. deltas ≡ map owned values.now)) }
     {
         let Some(kind) = kind_of(values) else {
             return Ok(None);
@@ -113,8 +112,8 @@ fn push_bits(to: &mut Decoded<'_>, kind: Kind, number: u64, is_null: bool)
 }
 
 /// The bits of the number that stands for a value, and any for NULL. None where there is no such number.
-fn bits_of(kind: Kind, value: &Value, any: u64) -> Option<u64>
-    ensures { IfSome result (λ number. bits_datum kind number (is_null value.now) ≡ value.now) }
+fn bits_of(kind: Kind, value: &Lent<'_>, any: u64) -> Option<u64>
+    ensures { IfSome result (λ number. Makes (bits_datum kind) number value.now) }
 {
     match number_of(kind, value, any.cast_signed()) {
         Some(number) => Some(number.cast_unsigned()),
@@ -125,11 +124,10 @@ fn bits_of(kind: Kind, value: &Value, any: u64) -> Option<u64>
 /// The bits of the numbers that stand for values; for NULL those of the one before it, or of the first that is there.
 fn bits_of_values(
     alloc: Global,
-    values: &[Value],
+    values: &[Lent<'_>],
     kind: Kind,
 ) -> Result<Option<Vec<u64>>, AllocError>
-    ensures long { IfOk result (λ found. IfSome found (λ numbers. length numbers.items ≡ length values.now)) }
-    ensures same { IfOk result (λ found. IfSome found (λ numbers. Make (bits_datum kind) numbers.items values.now)) }
+    ensures { IfOk result (λ found. IfSome found (λ numbers. AreBitsOf kind numbers.items values.now)) }
 {
     let mut numbers = Vec::new(alloc);
     numbers.reserve(values.len())?;
@@ -147,7 +145,7 @@ fn bits_of_values(
 }
 
 /// The bits of the first number that is there.
-fn first_bits(kind: Kind, values: &[Value]) -> u64 {
+fn first_bits(kind: Kind, values: &[Lent<'_>]) -> u64 {
     for value in values {
         if !value.is_null() {
             return bits_of(kind, value, 0).unwrap_or(0);

@@ -1,25 +1,39 @@
 //! Texts of which few are different.
 ghost use Rattle.std.specs.Option.{IfNone};
-ghost use Rattle.std.specs.Prelude.{List, ℕ, [], IfOk, IfSome, OnOk, fold, length, map, slice_index_or, true, ◌<◌, ◌∷◌, ◌≡◌};
+ghost use Rattle.std.specs.Prelude.{
+  List,
+  ℕ,
+  [],
+  IfOk,
+  IfSome,
+  length,
+  map,
+  slice_index_or,
+  true,
+  ◌<◌,
+  ◌∷◌,
+  ◌≡◌,
+  ◌≤◌,
+};
 ghost use Rattle.std.specs.Simd.Lanes.{zip2};
 ghost use Rattle.cq_encodings.specs.Dict.{
   AreCodes,
   AreCodesOf,
-  Keeps,
-  StandForAll,
-  StandsFor,
+  IsCode,
+  AddsNoText,
+  IsFirstText,
   coded,
   different_texts,
   with_text,
 };
-ghost use Rattle.cq_values.specs.Value.{is_null};
+ghost use Rattle.cq_values.specs.Lent.{owned};
 ghost use Rattle.cq_values.specs.declared.value.Value.TheVariants.{Text};
-ghost use Rattle.cq_vectors.specs.Columns.{text_unless, texts_of};
+ghost use Rattle.cq_vectors_stored.specs.Columns.{text_unless, texts_of};
 
-use cq_encodings_plain::{Encoded, Nulls, PackedNumbers, width_of};
-use cq_values::{Lent, Value};
-use cq_vectors::TextRun;
-use indexmap::IndexSet;
+use crate::known_texts::KnownTexts;
+use cq_encodings_plain::{Encoded, FixedWidth, Nulls, PackedNumbers};
+use cq_values::Lent;
+use cq_vectors_stored::TextRun;
 use std::alloc::{AllocError, Global};
 use std::marker::Model;
 
@@ -37,7 +51,7 @@ impl Model for Dict {
     ghost use Rattle.std.specs.Simd.Lanes.{zip2};
     ghost use Rattle.cq_encodings.specs.Dict.{IsDict, coded};
     ghost use Rattle.cq_values.specs.declared.value.Value.{Value as Datum};
-    ghost use Rattle.cq_vectors.specs.Columns.{text_unless};
+    ghost use Rattle.cq_vectors_stored.specs.Columns.{text_unless};
 
     ghost Value = { List Datum };
 
@@ -49,22 +63,18 @@ impl Model for Dict {
 impl Dict {
     /// None where one of the values is neither a text nor NULL, none is a text, or more texts are different than is
     /// worth it: more than `most`, or more than half of the first 2,000.
-    pub fn of(alloc: Global, values: &[Value], most: usize) -> Result<Option<Dict>, AllocError>
-        ensures { IfOk result (λ found. IfSome found (λ dict. dict ≡ values.now)) }
+    pub fn of(alloc: Global, values: &[Lent<'_>], most: usize) -> Result<Option<Dict>, AllocError>
+        ensures { IfOk result (λ found. IfSome found (λ dict. dict ≡ map owned values.now)) }
     {
-        let Some((known, codes)) = codes_of(alloc, values, most)? else {
-            return Ok(None);
-        };
-        let Some(entries) = run_of(alloc, known.as_slice())? else {
-            return Ok(None);
-        };
-        let nulls = Nulls::of(alloc, values)?;
-        let width = width_of(&codes);
-        Ok(Some(Dict {
-            entries,
-            codes: PackedNumbers::of(alloc, &codes, width)?,
-            nulls,
-        }))
+        match dict_in::<Vec<u8>>(alloc, values, most.min(1 << 8))? {
+            None if most > 1 << 8 => {}
+            found => return Ok(found),
+        }
+        match dict_in::<Vec<u16>>(alloc, values, most.min(1 << 16))? {
+            None if most > 1 << 16 => {}
+            found => return Ok(found),
+        }
+        dict_in::<Vec<u32>>(alloc, values, most)
     }
 
     /// The different texts, the numbers and the flags, for loops: the number is 0 where NULL stands.
@@ -111,38 +121,64 @@ fn text_at(entries: &TextRun, code: u64) -> &str
     }
 }
 
-/// The different texts and the number of each value among them, 0 for NULL.
-fn codes_of<'a>(
+/// The same, with numbers of one width.
+fn dict_in<W: FixedWidth>(
     alloc: Global,
-    values: &'a [Value],
+    values: &[Lent<'_>],
     most: usize,
-) -> Result<Option<(IndexSet<&'a str>, Vec<u64>)>, AllocError>
-    ensures different { IfOk result (λ found. IfSome found (λ parts. texts_of parts.0.keys ≡ different_texts values.now)) }
-    ensures known { IfOk result (λ found. IfSome found (λ parts. AreCodesOf parts.0.keys parts.1.items values.now)) }
-    ensures same { IfOk result (λ found. IfSome found (λ parts. StandForAll parts.0.keys parts.1.items values.now)) }
+) -> Result<Option<Dict>, AllocError>
+    ensures { IfOk result (λ found. IfSome found (λ dict. dict ≡ map owned values.now)) }
 {
     let Some(first) = first_text(values) else {
         return Ok(None);
     };
-    let mut known = IndexSet::new(alloc);
-    known.insert(first)?;
-    let mut codes = Vec::new(alloc);
-    codes.reserve(values.len())?;
+    let mut known = KnownTexts::new(alloc, first)?;
+    let mut codes = W::with_room(alloc, values.len())?;
+    if !write_codes(values, most, &mut known, &mut codes)? {
+        return Ok(None);
+    }
+    let Some(entries) = run_of(alloc, known.texts())? else {
+        return Ok(None);
+    };
+    let nulls = Nulls::of(alloc, values)?;
+    Ok(Some(Dict {
+        entries,
+        codes: PackedNumbers::from_widths(codes.into_widths()),
+        nulls,
+    }))
+}
+
+/// Writes the number of each value among the different texts, 0 for NULL. Tells whether all could be written.
+fn write_codes<'a, W: FixedWidth>(
+    values: &[Lent<'a>],
+    most: usize,
+    known: &mut KnownTexts<'a>,
+    to: &mut W,
+) -> Result<bool, AllocError>
+    requires first { IsFirstText known.old values.now }
+    requires empty { W.numbers to.old ≡ [] }
+    requires room { length values.now ≤ W.room to.old }
+    ensures { IfOk result (λ all. all ≡ true → AreCodesOf known.new (W.numbers to.new) values.now) }
+{
+    let mut seen = 0;
     for value in values {
-        match code_of(&mut known, value)? {
-            Some(code) => codes.push_reserved(code),
-            None => return Ok(None),
+        let Some(code) = code_of(known, value)? else {
+            return Ok(false);
+        };
+        if !to.push_number(code) {
+            return Ok(false);
         }
-        if gives_up(codes.len(), known.len(), most) {
-            return Ok(None);
+        seen += 1;
+        if gives_up(seen, known.len(), most) {
+            return Ok(false);
         }
     }
-    Ok(Some((known, codes)))
+    Ok(true)
 }
 
 /// The first text: with it alone to begin with, the different texts are the same.
-fn first_text(values: &[Value]) -> Option<&str>
-    ensures { IfSome result (λ text. fold with_text (text.now ∷ []) values.now ≡ different_texts values.now) }
+fn first_text<'a>(values: &[Lent<'a>]) -> Option<&'a str>
+    ensures { IfSome result (λ text. IsFirstText (text.now ∷ []) values.now) }
 {
     for value in values {
         match text_in(value) {
@@ -153,12 +189,12 @@ fn first_text(values: &[Value]) -> Option<&str>
     None
 }
 
-fn text_in(value: &Value) -> Option<&str>
-    ensures some { IfSome result (λ text. value.now ≡ Text text.now) }
-    ensures none { IfNone result ((known : List (List ℕ)) → with_text known value.now ≡ known) }
+fn text_in<'a>(value: &Lent<'a>) -> Option<&'a str>
+    ensures some { IfSome result (λ text. owned value.now ≡ Text text.now) }
+    ensures none { IfNone result (AddsNoText (owned value.now)) }
 {
     match value {
-        Value::Text(text) => Some(text.as_str()),
+        Lent::Text(text) => Some(text),
         _ => None,
     }
 }
@@ -169,20 +205,13 @@ fn gives_up(seen: usize, different: usize, most: usize) -> bool {
 }
 
 /// The number of a value among the texts that are known, which it is now one of.
-fn code_of<'a>(known: &mut IndexSet<&'a str>, value: &'a Value) -> Result<Option<u64>, AllocError>
-    requires { 0 < length known.old.keys }
-    ensures kept { OnOk result (Keeps (texts_of known.old.keys) (texts_of known.new.keys)) }
-    ensures met { OnOk result (texts_of known.new.keys ≡ with_text (texts_of known.old.keys) value.now) }
-    ensures null { IfOk result (λ found. IfSome found (λ code. is_null value.now ≡ true → code ≡ 0)) }
-    ensures within { IfOk result (λ found. IfSome found (λ code. code < length known.new.keys)) }
-    ensures same { IfOk result (λ found. IfSome found (λ code. StandsFor known.new.keys code value.now)) }
+fn code_of<'a>(known: &mut KnownTexts<'a>, value: &Lent<'a>) -> Result<Option<u64>, AllocError>
+    requires { 0 < length known.old }
+    ensures { IfOk result (λ found. IfSome found (λ code. IsCode value.now code known.old known.new)) }
 {
     match value {
-        Value::Text(text) => {
-            let (code, _) = known.insert_full(text.as_str())?;
-            Ok(Some(code as u64))
-        }
-        Value::Null => Ok(Some(0)),
+        Lent::Text(text) => Ok(Some(known.number_of(text)? as u64)),
+        Lent::Null => Ok(Some(0)),
         _ => Ok(None),
     }
 }

@@ -4,9 +4,12 @@
 #![tactic(auto)]
 
 mod any_encoded;
+mod bounds;
 mod choosing;
 mod deltas;
 mod dict;
+mod known_texts;
+mod offsets;
 mod packed;
 mod runs;
 mod steps;
@@ -14,7 +17,7 @@ mod steps;
 mod tests;
 
 pub use any_encoded::AnyEncoded;
-pub use choosing::choose;
+pub use choosing::{choose, choose_lent};
 pub use deltas::Deltas;
 pub use dict::Dict;
 pub use packed::Packed;

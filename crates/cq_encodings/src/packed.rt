@@ -1,15 +1,16 @@
 //! Numbers or days that lie close together.
-ghost use Rattle.std.specs.Prelude.{IfOk, IfSome, length, map, pos, true, ◌+ℤ◌, ◌≡◌};
+ghost use Rattle.std.specs.Prelude.{IfOk, IfSome, map, pos, ◌+ℤ◌, ◌≡◌};
 ghost use Rattle.std.specs.Simd.Lanes.{zip2};
-ghost use Rattle.cq_encodings_plain.specs.Kind.{IsOf, datum};
-ghost use Rattle.cq_encodings_plain.specs.Parts.{Make, NothingAtNulls};
-ghost use Rattle.cq_encodings.specs.Packed.{AreOffsets, FitAbove, above};
-ghost use Rattle.cq_values.specs.Value.{is_null};
+ghost use Rattle.cq_encodings_plain.specs.Kind.{datum};
+ghost use Rattle.cq_encodings.specs.Packed.{AreOffsets, above};
+ghost use Rattle.cq_values.specs.Lent.{owned};
 
+use crate::bounds::bounds_of;
+use crate::offsets::offsets_at;
 use cq_encodings_plain::{
-    Encoded, Kind, Nulls, PackedNumbers, is_of, kind_of, lend_number, number_of, width_of,
+    Encoded, Kind, Nulls, PackedNumbers, is_of, kind_of, lend_number, width_up_to,
 };
-use cq_values::{Lent, Value};
+use cq_values::Lent;
 use std::alloc::{AllocError, Global};
 use std::marker::Model;
 
@@ -38,11 +39,14 @@ impl Model for Packed {
 
 impl Packed {
     /// None where one of the values is neither NULL nor of the kind of the others, or is no number of 64 bits.
-    pub fn of(alloc: Global, values: &[Value]) -> Result<Option<Packed>, AllocError>
-        ensures { IfOk result (λ found. IfSome found (λ packed. packed ≡ values.now)) }
+    pub fn of(alloc: Global, values: &[Lent<'_>]) -> Result<Option<Packed>, AllocError>
+        ensures { IfOk result (λ found. IfSome found (λ packed. packed ≡ map owned values.now)) }
     {
-        match kind_of(values) {
-            Some(kind) => packed_above(alloc, values, kind, least_of(kind, values)),
+        let Some(kind) = kind_of(values) else {
+            return Ok(None);
+        };
+        match bounds_of(kind, values) {
+            Some((least, greatest)) => packed_between(alloc, values, kind, least, greatest),
             None => Ok(None),
         }
     }
@@ -84,80 +88,28 @@ fn raised(least: i64, offset: u64) -> i128
     i128::from(least) + i128::from(offset)
 }
 
-fn packed_above(
+/// The numbers from the least to the greatest one, which are those that are there.
+pub(crate) fn packed_between(
     alloc: Global,
-    values: &[Value],
+    values: &[Lent<'_>],
     kind: Kind,
     least: i64,
+    greatest: i64,
 ) -> Result<Option<Packed>, AllocError>
-    ensures { IfOk result (λ found. IfSome found (λ packed. packed ≡ values.now)) }
+    ensures { IfOk result (λ found. IfSome found (λ packed. packed ≡ map owned values.now)) }
 {
     if !is_of(kind, least) {
         return Ok(None);
     }
-    let Some(offsets) = offsets_above(alloc, values, kind, least)? else {
+    let width = width_up_to(greatest.wrapping_sub(least).cast_unsigned());
+    let Some((widths, any_null)) = offsets_at(alloc, kind, least, values, width)? else {
         return Ok(None);
     };
-    let nulls = Nulls::of(alloc, values)?;
-    let width = width_of(&offsets);
+    let nulls = Nulls::where_any(alloc, values, any_null)?;
     Ok(Some(Packed {
         kind,
         least,
-        offsets: PackedNumbers::of(alloc, &offsets, width)?,
+        offsets: PackedNumbers::from_widths(widths),
         nulls,
     }))
-}
-
-fn offsets_above(
-    alloc: Global,
-    values: &[Value],
-    kind: Kind,
-    least: i64,
-) -> Result<Option<Vec<u64>>, AllocError>
-    requires { IsOf kind least }
-    ensures clear { IfOk result (λ found. IfSome found (λ offsets. NothingAtNulls 0 values.now offsets.items)) }
-    ensures fit { IfOk result (λ found. IfSome found (λ offsets. FitAbove kind least offsets.items)) }
-    ensures long { IfOk result (λ found. IfSome found (λ offsets. length offsets.items ≡ length values.now)) }
-    ensures same { IfOk result (λ found. IfSome found (λ offsets. Make (datum kind) (above least offsets.items) values.now)) }
-{
-    let mut offsets = Vec::new(alloc);
-    offsets.reserve(values.len())?;
-    for value in values {
-        match offset_of(kind, value, least) {
-            Some(offset) => offsets.push_reserved(offset),
-            None => return Ok(None),
-        }
-    }
-    Ok(Some(offsets))
-}
-
-/// How far a value lies above the least one, and 0 of NULL.
-fn offset_of(kind: Kind, value: &Value, least: i64) -> Option<u64>
-    requires { IsOf kind least }
-    ensures same { IfSome result (λ offset. datum kind (least +ℤ pos offset) (is_null value.now) ≡ value.now) }
-    ensures null { IfSome result (λ offset. is_null value.now ≡ true → offset ≡ 0) }
-    ensures fit { IfSome result (λ offset. IsOf kind (least +ℤ pos offset)) }
-{
-    match number_of(kind, value, least) {
-        Some(number) => distance(number, least),
-        None => None,
-    }
-}
-
-/// How far a number lies above another, or None where it lies below.
-fn distance(number: i64, least: i64) -> Option<u64>
-    ensures { IfSome result (λ offset. least +ℤ pos offset ≡ number) }
-{
-    u64::try_from(i128::from(number) - i128::from(least)).ok()
-}
-
-/// The least number of a kind that is there, or the greatest of 64 bits where there is none.
-fn least_of(kind: Kind, values: &[Value]) -> i64 {
-    let mut least = i64::MAX;
-    for value in values {
-        if let Some(number) = number_of(kind, value, i64::MAX) {
-            least = least.min(number);
-        }
-    }
-    least
 }

@@ -1,10 +1,10 @@
 //! Values that stand still for many places.
 //!
 //! Reading at a place walks over the runs before it.
-ghost use Rattle.std.specs.Prelude.{IfOk, IsTrue, drop, length, slice_index_or, take, ◌<◌, ◌≡◌, ◌↔◌};
+ghost use Rattle.std.specs.Prelude.{IfOk, IfSome, IsTrue, drop, length, map, slice_index_or, take, ◌<◌, ◌≡◌, ◌↔◌};
 ghost use Rattle.cq_values.specs.Lent.{owned};
 ghost use Rattle.cq_values.specs.declared.value.Value.TheVariants.{Null};
-ghost use Rattle.cq_encodings.specs.Runs.{AreRuns, values_of_runs};
+ghost use Rattle.cq_encodings.specs.Runs.{AreRuns, IsConstant, value_in, values_of_runs};
 
 use cq_encodings_plain::{Decoded, Encoded};
 use cq_values::{Lent, Value};
@@ -39,8 +39,8 @@ impl Model for Runs {
 
 impl Runs {
     /// An error comes where there is no memory for the runs and their values.
-    pub fn of(alloc: Global, values: &[Value]) -> Result<Runs, AllocError>
-        ensures { IfOk result (λ runs. runs ≡ values.now) }
+    pub fn of(alloc: Global, values: &[Lent<'_>]) -> Result<Runs, AllocError>
+        ensures { IfOk result (λ runs. runs ≡ map owned values.now) }
     {
         Ok(Runs {
             runs: runs_of(alloc, values)?,
@@ -51,6 +51,16 @@ impl Runs {
     /// How many runs there are.
     pub fn count(&self) -> usize {
         self.runs.len()
+    }
+
+    /// The value of all places, where there is exactly one run.
+    pub fn one(&self) -> Option<Lent<'_>>
+        ensures { IfSome result (λ value. IsConstant (owned value) self.now) }
+    {
+        match self.runs.as_slice() {
+            [run] => Some(run.value.lend()),
+            _ => None,
+        }
     }
 }
 
@@ -70,8 +80,8 @@ impl Encoded for Runs {
     }
 }
 
-fn runs_of(alloc: Global, values: &[Value]) -> Result<Vec<Run>, AllocError>
-    ensures same { IfOk result (λ runs. values_of_runs runs.items ≡ values.now) }
+fn runs_of(alloc: Global, values: &[Lent<'_>]) -> Result<Vec<Run>, AllocError>
+    ensures same { IfOk result (λ runs. values_of_runs runs.items ≡ map owned values.now) }
     ensures runs { IfOk result (λ runs. AreRuns runs.items) }
 {
     let mut runs = Vec::new(alloc);
@@ -95,19 +105,32 @@ fn runs_of(alloc: Global, values: &[Value]) -> Result<Vec<Run>, AllocError>
     Ok(runs)
 }
 
-fn are_same(values: &[Value], a: usize, b: usize) -> bool
+fn are_same(values: &[Lent<'_>], a: usize, b: usize) -> bool
     requires a { a < length values.now }
     requires b { b < length values.now }
-    ensures { IsTrue result ↔ (slice_index_or values.now a Null ≡ slice_index_or values.now b Null) }
+    ensures { IsTrue result ↔ (value_in values.now a ≡ value_in values.now b) }
 {
-    values[a] == values[b]
+    are_equal(&values[a], &values[b])
 }
 
-fn copy_at(alloc: Global, values: &[Value], place: usize) -> Result<Value, AllocError>
-    requires { place < length values.now }
-    ensures { IfOk result (λ value. value ≡ slice_index_or values.now place Null) }
+/// Whether two lent values are one.
+pub(crate) fn are_equal(a: &Lent<'_>, b: &Lent<'_>) -> bool
+    ensures { IsTrue result ↔ (owned a.now ≡ owned b.now) }
 {
-    values[place].copy(alloc)
+    match (a, b) {
+        (Lent::Number(m), Lent::Number(n)) => m == n,
+        (Lent::Day(d), Lent::Day(e)) => d == e,
+        (Lent::Text(s), Lent::Text(t)) => s == t,
+        (Lent::Null, Lent::Null) => true,
+        _ => false,
+    }
+}
+
+fn copy_at(alloc: Global, values: &[Lent<'_>], place: usize) -> Result<Value, AllocError>
+    requires { place < length values.now }
+    ensures { IfOk result (λ value. value ≡ value_in values.now place) }
+{
+    values[place].to_value(alloc)
 }
 
 fn lend_at(runs: &[Run], place: usize) -> Lent<'_>

@@ -1,6 +1,6 @@
 use crate::{AnyEncoded, Deltas, Dict, Packed, Runs, choose};
 use cq_encodings_plain::{Decoded, Encoded, Plain};
-use cq_values::{Day, Text, Value, cmp_lent};
+use cq_values::{Day, Lent, Text, Value, cmp_lent};
 use std::alloc::{AllocError, Global};
 use std::test::Fail;
 
@@ -47,6 +47,15 @@ fn days(alloc: Global) -> Result<Vec<Value>, AllocError> {
         }
     }
     Ok(values)
+}
+
+fn lent<'a>(alloc: Global, values: &'a [Value]) -> Result<Vec<Lent<'a>>, AllocError> {
+    let mut lent: Vec<Lent<'a>> = Vec::new(alloc);
+    lent.reserve(values.len())?;
+    for value in values {
+        lent.push_reserved(value.lend());
+    }
+    Ok(lent)
 }
 
 /// The name of the form that is chosen.
@@ -97,7 +106,7 @@ fn are_decoded(decoded: &Decoded<'_>, values: &[Value], start: usize) -> bool {
 #[test]
 fn numbers_are_read_back_from_offsets(rt: HostRuntime) -> Result<(), Fail> {
     let values = numbers(rt.alloc(), -70_000, 9, 2_050)?;
-    if let Some(packed) = Packed::of(rt.alloc(), &values)? {
+    if let Some(packed) = Packed::of(rt.alloc(), &lent(rt.alloc(), &values)?)? {
         assert_eq!(rt; packed.width(), 16);
         assert!(rt; are_read_back(rt.alloc(), &packed, &values)?);
     }
@@ -107,10 +116,34 @@ fn numbers_are_read_back_from_offsets(rt: HostRuntime) -> Result<(), Fail> {
 #[test]
 fn numbers_are_read_back_from_steps(rt: HostRuntime) -> Result<(), Fail> {
     let values = numbers(rt.alloc(), -70_000, 9, 2_050)?;
-    if let Some(deltas) = Deltas::of(rt.alloc(), &values)? {
+    if let Some(deltas) = Deltas::of(rt.alloc(), &lent(rt.alloc(), &values)?)? {
         assert_eq!(rt; deltas.width(), 8);
         assert!(rt; are_read_back(rt.alloc(), &deltas, &values)?);
     }
+    Ok(())
+}
+
+#[test]
+fn offsets_take_the_width_of_the_greatest(rt: HostRuntime) -> Result<(), Fail> {
+    // how far the greatest of two numbers lies above the least, and the width that it takes
+    let cases = [(255, 8), (256, 16), (65_535, 16), (65_536, 32)];
+    for (range, width) in cases {
+        let values = [Lent::Number(-7), Lent::Null, Lent::Number(range - 7)];
+        match Packed::of(rt.alloc(), &values)? {
+            Some(packed) => assert_eq!(rt; packed.width(), width, "{range} apart"),
+            None => assert!(rt; false, "{range} apart"),
+        }
+    }
+    Ok(())
+}
+
+#[test]
+fn one_run_alone_has_one_value(rt: HostRuntime) -> Result<(), Fail> {
+    let one = [Lent::Number(7), Lent::Number(7)];
+    assert!(rt; Runs::of(rt.alloc(), &one)?.one().is_some());
+    let two = [Lent::Number(7), Lent::Null];
+    assert!(rt; Runs::of(rt.alloc(), &two)?.one().is_none());
+    assert!(rt; Runs::of(rt.alloc(), &[])?.one().is_none());
     Ok(())
 }
 
@@ -126,7 +159,7 @@ fn days_are_read_back(rt: HostRuntime) -> Result<(), Fail> {
 #[test]
 fn texts_are_read_back_as_they_are(rt: HostRuntime) -> Result<(), Fail> {
     let values = texts(rt.alloc(), 7, 1_030)?;
-    let plain = Plain::of(rt.alloc(), &values)?;
+    let plain = Plain::of(rt.alloc(), &lent(rt.alloc(), &values)?)?;
     assert!(rt; are_read_back(rt.alloc(), &plain, &values)?);
     Ok(())
 }
@@ -134,7 +167,7 @@ fn texts_are_read_back_as_they_are(rt: HostRuntime) -> Result<(), Fail> {
 #[test]
 fn texts_are_read_back_from_runs(rt: HostRuntime) -> Result<(), Fail> {
     let values = texts(rt.alloc(), 7, 1_030)?;
-    let runs = Runs::of(rt.alloc(), &values)?;
+    let runs = Runs::of(rt.alloc(), &lent(rt.alloc(), &values)?)?;
     assert_eq!(rt; runs.count(), 1_030);
     assert!(rt; are_read_back(rt.alloc(), &runs, &values)?);
     Ok(())
@@ -143,8 +176,9 @@ fn texts_are_read_back_from_runs(rt: HostRuntime) -> Result<(), Fail> {
 #[test]
 fn texts_are_read_back_from_a_dictionary(rt: HostRuntime) -> Result<(), Fail> {
     let values = texts(rt.alloc(), 7, 1_030)?;
-    assert!(rt; Dict::of(rt.alloc(), &values, 6)?.is_none());
-    if let Some(dict) = Dict::of(rt.alloc(), &values, 7)? {
+    let lent = lent(rt.alloc(), &values)?;
+    assert!(rt; Dict::of(rt.alloc(), &lent, 6)?.is_none());
+    if let Some(dict) = Dict::of(rt.alloc(), &lent, 7)? {
         assert_eq!(rt; dict.different(), 7);
         assert!(rt; are_read_back(rt.alloc(), &dict, &values)?);
     }

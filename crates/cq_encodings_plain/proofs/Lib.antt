@@ -1,3 +1,4 @@
+pub mod Clear
 pub mod Decoding
 pub mod Pieces
 pub mod Zipped

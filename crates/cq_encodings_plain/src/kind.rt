@@ -2,11 +2,12 @@
 ghost use Rattle.std.specs.Prelude.{IfSome, false, true, ◌≡◌};
 ghost use Rattle.std.specs.Bool.{OnTrue};
 ghost use Rattle.cq_encodings_plain.specs.Kind.{IsOf, datum};
+ghost use Rattle.cq_encodings_plain.specs.Parts.{Makes};
 ghost use Rattle.cq_encodings_plain.specs.declared.kind.Kind.TheVariants.{Days};
 ghost use Rattle.cq_values.specs.Lent.{owned};
 ghost use Rattle.cq_values.specs.Value.{is_null};
 
-use cq_values::{Day, Lent, Value};
+use cq_values::{Day, Lent};
 
 /// What the numbers of a column stand for.
 #[derive(Clone, Copy, Debug, PartialEq, Eq)]
@@ -64,15 +65,15 @@ fn lend_day<'a>(number: i32) -> Lent<'a>
 }
 
 /// The number of 64 bits that stands for a value, and any for NULL. None where there is no such number.
-pub fn number_of(kind: Kind, value: &Value, any: i64) -> Option<i64>
-    ensures same { IfSome result (λ number. datum kind number (is_null value.now) ≡ value.now) }
-    ensures any { IfSome result (λ number. is_null value.now ≡ true → number ≡ any) }
-    ensures kind { IfSome result (λ number. is_null value.now ≡ false → IsOf kind number) }
+pub fn number_of(kind: Kind, value: &Lent<'_>, any: i64) -> Option<i64>
+    ensures same { IfSome result (λ number. Makes (datum kind) number value.now) }
+    ensures any { IfSome result (λ number. is_null (owned value.now) ≡ true → number ≡ any) }
+    ensures kind { IfSome result (λ number. is_null (owned value.now) ≡ false → IsOf kind number) }
 {
     match (kind, value) {
-        (_, Value::Null) => Some(any),
-        (Kind::Numbers, Value::Number(number)) => i64::try_from(*number).ok(),
-        (Kind::Days, Value::Day(day)) => match Day::new(day.number()) {
+        (_, Lent::Null) => Some(any),
+        (Kind::Numbers, Lent::Number(number)) => i64::try_from(*number).ok(),
+        (Kind::Days, Lent::Day(day)) => match Day::new(day.number()) {
             Some(_) => Some(i64::from(day.number())),
             None => None,
         },
@@ -81,13 +82,13 @@ pub fn number_of(kind: Kind, value: &Value, any: i64) -> Option<i64>
 }
 
 /// What kind the values are of that are not NULL: that of the first one. None where there is none, or it is a text.
-pub fn kind_of(values: &[Value]) -> Option<Kind> {
+pub fn kind_of(values: &[Lent<'_>]) -> Option<Kind> {
     for value in values {
         match value {
-            Value::Null => {}
-            Value::Number(_) => return Some(Kind::Numbers),
-            Value::Day(_) => return Some(Kind::Days),
-            Value::Text(_) => return None,
+            Lent::Null => {}
+            Lent::Number(_) => return Some(Kind::Numbers),
+            Lent::Day(_) => return Some(Kind::Days),
+            Lent::Text(_) => return None,
         }
     }
     None

@@ -7,6 +7,7 @@
 
 mod decoded;
 mod encoded;
+mod fixed_width;
 mod kind;
 mod nulls;
 mod packed_numbers;
@@ -18,9 +19,10 @@ mod tests;
 
 pub use decoded::Decoded;
 pub use encoded::Encoded;
+pub use fixed_width::FixedWidth;
 pub use kind::{Kind, is_of, kind_of, lend_number, lend_unless, number_of};
 pub use nulls::Nulls;
-pub use packed_numbers::{PackedNumbers, Widths, width_of};
+pub use packed_numbers::{PackedNumbers, Widths, width_of, width_up_to};
 pub use plain::Plain;
 pub use plain_numbers::PlainNumbers;
 pub use plain_texts::PlainTexts;

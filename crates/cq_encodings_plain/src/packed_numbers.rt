@@ -2,9 +2,11 @@
 //!
 //! Widths of whole bytes are typed lists, which loops read as they stand; numbers of every other width stand side by
 //! side in words. Readers take no memory.
-ghost use Rattle.std.specs.Prelude.{IfOk, IfSome, length, slice_index, ◌<◌, ◌≡◌};
+ghost use Rattle.std.specs.Prelude.{[], IfOk, IfSome, length, slice_index, ◌<◌, ◌≡◌, ◌≤◌};
+ghost use Rattle.std.specs.Bool.{OnTrue};
 ghost use Rattle.cq_encodings_plain.specs.PackedNumbers.{numbers_in};
 
+use crate::fixed_width::FixedWidth;
 use cq_bits::Bits;
 use std::alloc::{AllocError, Global};
 use std::marker::Model;
@@ -39,12 +41,18 @@ impl PackedNumbers {
     pub fn of(alloc: Global, numbers: &[u64], width: u32) -> Result<PackedNumbers, AllocError>
         ensures { IfOk result (λ packed. packed ≡ numbers.now) }
     {
-        match at_width(alloc, numbers, width)? {
-            Some(widths) => Ok(PackedNumbers { widths }),
-            None => Ok(PackedNumbers {
-                widths: Widths::Bits(Bits::of(alloc, numbers)?),
-            }),
-        }
+        let widths = match at_width(alloc, numbers, width)? {
+            Some(widths) => widths,
+            None => Widths::Bits(Bits::of(alloc, numbers)?),
+        };
+        Ok(PackedNumbers { widths })
+    }
+
+    /// The numbers that stand in a list.
+    pub fn from_widths(widths: Widths) -> PackedNumbers
+        ensures { result ≡ numbers_in widths }
+    {
+        PackedNumbers { widths }
     }
 
     pub fn len(&self) -> usize
@@ -98,6 +106,11 @@ pub fn width_of(numbers: &[u64]) -> u32 {
     for number in numbers {
         greatest = greatest.max(*number);
     }
+    width_up_to(greatest)
+}
+
+/// The width of whole bytes that numbers up to the greatest fit.
+pub fn width_up_to(greatest: u64) -> u32 {
     if greatest < 1 << 8 {
         8
     } else if greatest < 1 << 16 {
@@ -114,63 +127,35 @@ fn at_width(alloc: Global, numbers: &[u64], width: u32) -> Result<Option<Widths>
     ensures { IfOk result (λ found. IfSome found (λ widths. numbers_in widths ≡ numbers.now)) }
 {
     match width {
-        8 => in_ones(alloc, numbers),
-        16 => in_twos(alloc, numbers),
-        32 => in_fours(alloc, numbers),
-        64 => in_eights(alloc, numbers),
+        8 => in_list::<Vec<u8>>(alloc, numbers),
+        16 => in_list::<Vec<u16>>(alloc, numbers),
+        32 => in_list::<Vec<u32>>(alloc, numbers),
+        64 => in_list::<Vec<u64>>(alloc, numbers),
         _ => Ok(None),
     }
 }
 
-fn in_ones(alloc: Global, numbers: &[u64]) -> Result<Option<Widths>, AllocError>
+fn in_list<W: FixedWidth>(alloc: Global, numbers: &[u64]) -> Result<Option<Widths>, AllocError>
     ensures { IfOk result (λ found. IfSome found (λ widths. numbers_in widths ≡ numbers.now)) }
 {
-    let mut narrow = Vec::new(alloc);
-    narrow.reserve(numbers.len())?;
-    for number in numbers {
-        match u8::try_from(*number) {
-            Ok(number) => narrow.push_reserved(number),
-            Err(_) => return Ok(None),
-        }
+    let mut list = W::with_room(alloc, numbers.len())?;
+    if copy_into(numbers, &mut list) {
+        Ok(Some(list.into_widths()))
+    } else {
+        Ok(None)
     }
-    Ok(Some(Widths::One(narrow)))
 }
 
-fn in_twos(alloc: Global, numbers: &[u64]) -> Result<Option<Widths>, AllocError>
-    ensures { IfOk result (λ found. IfSome found (λ widths. numbers_in widths ≡ numbers.now)) }
+/// Copies the numbers, if each of them fits the width.
+fn copy_into<W: FixedWidth>(numbers: &[u64], to: &mut W) -> bool
+    requires empty { W.numbers to.old ≡ [] }
+    requires room { length numbers.now ≤ W.room to.old }
+    ensures { OnTrue result (W.numbers to.new ≡ numbers.now) }
 {
-    let mut narrow = Vec::new(alloc);
-    narrow.reserve(numbers.len())?;
     for number in numbers {
-        match u16::try_from(*number) {
-            Ok(number) => narrow.push_reserved(number),
-            Err(_) => return Ok(None),
+        if !to.push_number(*number) {
+            return false;
         }
     }
-    Ok(Some(Widths::Two(narrow)))
-}
-
-fn in_fours(alloc: Global, numbers: &[u64]) -> Result<Option<Widths>, AllocError>
-    ensures { IfOk result (λ found. IfSome found (λ widths. numbers_in widths ≡ numbers.now)) }
-{
-    let mut narrow = Vec::new(alloc);
-    narrow.reserve(numbers.len())?;
-    for number in numbers {
-        match u32::try_from(*number) {
-            Ok(number) => narrow.push_reserved(number),
-            Err(_) => return Ok(None),
-        }
-    }
-    Ok(Some(Widths::Four(narrow)))
-}
-
-fn in_eights(alloc: Global, numbers: &[u64]) -> Result<Option<Widths>, AllocError>
-    ensures { IfOk result (λ found. IfSome found (λ widths. numbers_in widths ≡ numbers.now)) }
-{
-    let mut copies = Vec::new(alloc);
-    copies.reserve(numbers.len())?;
-    for number in numbers {
-        copies.push_reserved(*number);
-    }
-    Ok(Some(Widths::Eight(copies)))
+    true
 }

@@ -1,5 +1,5 @@
 //! Values as they are.
-ghost use Rattle.std.specs.Prelude.{IfOk, slice_index_or, ◌≡◌};
+ghost use Rattle.std.specs.Prelude.{IfOk, map, slice_index_or, ◌≡◌};
 ghost use Rattle.cq_encodings_plain.specs.Plain.{plain_values};
 ghost use Rattle.cq_values.specs.Lent.{owned};
 ghost use Rattle.cq_values.specs.declared.value.Value.TheVariants.{Null};
@@ -21,8 +21,8 @@ pub enum Plain {
 
 impl Plain {
     /// An error comes where there is no memory.
-    pub fn of(alloc: Global, values: &[Value]) -> Result<Plain, AllocError>
-        ensures { IfOk result (λ plain. plain_values plain ≡ values.now) }
+    pub fn of(alloc: Global, values: &[Lent<'_>]) -> Result<Plain, AllocError>
+        ensures { IfOk result (λ plain. plain_values plain ≡ map owned values.now) }
     {
         if let Some(numbers) = PlainNumbers::of(alloc, values)? {
             return Ok(Plain::Numbers(numbers));
@@ -54,13 +54,13 @@ impl Encoded for Plain {
     }
 }
 
-fn copies_of(alloc: Global, values: &[Value]) -> Result<Vec<Value>, AllocError>
-    ensures { IfOk result (λ copies. copies.items ≡ values.now) }
+fn copies_of(alloc: Global, values: &[Lent<'_>]) -> Result<Vec<Value>, AllocError>
+    ensures { IfOk result (λ copies. copies.items ≡ map owned values.now) }
 {
     let mut copies = Vec::new(alloc);
     copies.reserve(values.len())?;
     for value in values {
-        copies.push(value.copy(alloc)?)?;
+        copies.push(value.to_value(alloc)?)?;
     }
     Ok(copies)
 }

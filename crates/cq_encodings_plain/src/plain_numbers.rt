@@ -3,13 +3,13 @@ ghost use Rattle.std.specs.Prelude.{IfOk, IfSome, length, map, pos, ◌≡◌};
 ghost use Rattle.std.specs.Simd.Lanes.{zip2};
 ghost use Rattle.cq_encodings_plain.specs.Kind.{datum};
 ghost use Rattle.cq_encodings_plain.specs.Nulls.{NothingWhere};
-ghost use Rattle.cq_encodings_plain.specs.Parts.{Make, NothingAtNulls};
-ghost use Rattle.cq_values.specs.Value.{is_null};
+ghost use Rattle.cq_encodings_plain.specs.Parts.{AreNumbersOf};
+ghost use Rattle.cq_values.specs.Lent.{owned};
 
 use crate::encoded::Encoded;
 use crate::kind::{Kind, kind_of, lend_number, number_of};
 use crate::nulls::Nulls;
-use cq_values::{Lent, Value};
+use cq_values::Lent;
 use std::alloc::{AllocError, Global};
 use std::marker::Model;
 
@@ -37,8 +37,8 @@ impl Model for PlainNumbers {
 
 impl PlainNumbers {
     /// None where one of the values is neither NULL nor of the kind of the others, or is no number of 64 bits.
-    pub fn of(alloc: Global, values: &[Value]) -> Result<Option<PlainNumbers>, AllocError>
-        ensures { IfOk result (λ found. IfSome found (λ plain. plain ≡ values.now)) }
+    pub fn of(alloc: Global, values: &[Lent<'_>]) -> Result<Option<PlainNumbers>, AllocError>
+        ensures { IfOk result (λ found. IfSome found (λ plain. plain ≡ map owned values.now)) }
     {
         let Some(kind) = kind_of(values) else {
             return Ok(None);
@@ -79,10 +79,12 @@ impl Encoded for PlainNumbers {
     }
 }
 
-fn numbers_of(alloc: Global, values: &[Value], kind: Kind) -> Result<Option<Vec<i64>>, AllocError>
-    ensures long { IfOk result (λ found. IfSome found (λ numbers. length numbers.items ≡ length values.now)) }
-    ensures clear { IfOk result (λ found. IfSome found (λ numbers. NothingAtNulls (pos 0) values.now numbers.items)) }
-    ensures same { IfOk result (λ found. IfSome found (λ numbers. Make (datum kind) numbers.items values.now)) }
+fn numbers_of(
+    alloc: Global,
+    values: &[Lent<'_>],
+    kind: Kind,
+) -> Result<Option<Vec<i64>>, AllocError>
+    ensures { IfOk result (λ found. IfSome found (λ made. AreNumbersOf kind made.items values.now)) }
 {
     let mut numbers = Vec::new(alloc);
     numbers.reserve(values.len())?;

@@ -2,14 +2,15 @@
 ghost use Rattle.std.specs.Prelude.{[], IfOk, IfSome, length, map, true, ◌≡◌};
 ghost use Rattle.std.specs.Simd.Lanes.{zip2};
 ghost use Rattle.cq_encodings_plain.specs.Nulls.{NothingWhere};
-ghost use Rattle.cq_encodings_plain.specs.Parts.{Make, NothingAtNulls};
+ghost use Rattle.cq_encodings_plain.specs.Parts.{AreParts, Makes};
+ghost use Rattle.cq_values.specs.Lent.{owned};
 ghost use Rattle.cq_values.specs.Value.{is_null};
-ghost use Rattle.cq_vectors.specs.Columns.{text_unless};
+ghost use Rattle.cq_vectors_stored.specs.Columns.{text_unless};
 
 use crate::encoded::Encoded;
 use crate::nulls::Nulls;
-use cq_values::{Lent, Value};
-use cq_vectors::TextRun;
+use cq_values::Lent;
+use cq_vectors_stored::TextRun;
 use std::alloc::{AllocError, Global};
 use std::marker::Model;
 
@@ -25,7 +26,7 @@ impl Model for PlainTexts {
     ghost use Rattle.std.specs.Simd.Lanes.{zip2};
     ghost use Rattle.cq_encodings_plain.specs.Nulls.{NothingWhere};
     ghost use Rattle.cq_values.specs.declared.value.Value.{Value as Datum};
-    ghost use Rattle.cq_vectors.specs.Columns.{text_unless};
+    ghost use Rattle.cq_vectors_stored.specs.Columns.{text_unless};
 
     ghost Value = { List Datum };
 
@@ -36,8 +37,8 @@ impl Model for PlainTexts {
 
 impl PlainTexts {
     /// None where one of the values is neither a text nor NULL, or they do not fit one run.
-    pub fn of(alloc: Global, values: &[Value]) -> Result<Option<PlainTexts>, AllocError>
-        ensures { IfOk result (λ found. IfSome found (λ plain. plain ≡ values.now)) }
+    pub fn of(alloc: Global, values: &[Lent<'_>]) -> Result<Option<PlainTexts>, AllocError>
+        ensures { IfOk result (λ found. IfSome found (λ plain. plain ≡ map owned values.now)) }
     {
         let Some(texts) = texts_of(alloc, values)? else {
             return Ok(None);
@@ -71,10 +72,8 @@ impl Encoded for PlainTexts {
     }
 }
 
-fn texts_of(alloc: Global, values: &[Value]) -> Result<Option<TextRun>, AllocError>
-    ensures long { IfOk result (λ found. IfSome found (λ texts. length texts ≡ length values.now)) }
-    ensures clear { IfOk result (λ found. IfSome found (λ texts. NothingAtNulls [] values.now texts)) }
-    ensures same { IfOk result (λ found. IfSome found (λ texts. Make text_unless texts values.now)) }
+fn texts_of(alloc: Global, values: &[Lent<'_>]) -> Result<Option<TextRun>, AllocError>
+    ensures { IfOk result (λ found. IfSome found (λ texts. AreParts text_unless [] texts values.now)) }
 {
     let mut texts = TextRun::new(alloc);
     for value in values {
@@ -87,13 +86,13 @@ fn texts_of(alloc: Global, values: &[Value]) -> Result<Option<TextRun>, AllocErr
 }
 
 /// The text, or an empty one for NULL. None where the value is a number or a day.
-pub(crate) fn text_of(value: &Value) -> Option<&str>
-    ensures same { IfSome result (λ text. text_unless text.now (is_null value.now) ≡ value.now) }
-    ensures empty { IfSome result (λ text. is_null value.now ≡ true → text.now ≡ []) }
+fn text_of<'a>(value: &Lent<'a>) -> Option<&'a str>
+    ensures same { IfSome result (λ text. Makes text_unless text.now value.now) }
+    ensures empty { IfSome result (λ text. is_null (owned value.now) ≡ true → text.now ≡ []) }
 {
     match value {
-        Value::Text(text) => Some(text.as_str()),
-        Value::Null => Some(""),
+        Lent::Text(text) => Some(text),
+        Lent::Null => Some(""),
         _ => None,
     }
 }

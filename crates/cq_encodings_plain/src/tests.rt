@@ -1,17 +1,19 @@
 use crate::{Nulls, PackedNumbers, width_of};
-use cq_values::Value;
+use cq_values::Lent;
 use std::alloc::{AllocError, Global};
 use std::test::Fail;
 
 /// So many values, of which the last is NULL.
-fn null_at_the_end(alloc: Global, len: u32) -> Result<Vec<Value>, AllocError> {
-    let mut values = Vec::new(alloc);
+fn null_at_the_end<'a>(alloc: Global, len: usize) -> Result<Vec<Lent<'a>>, AllocError> {
+    let mut values: Vec<Lent<'a>> = Vec::new(alloc);
+    values.reserve(len)?;
     for i in 0..len {
-        if i + 1 == len {
-            values.push(Value::Null)?;
+        let value = if i + 1 == len {
+            Lent::Null
         } else {
-            values.push(Value::Number(0))?;
-        }
+            Lent::Number(0)
+        };
+        values.push_reserved(value);
     }
     Ok(values)
 }

@@ -2,7 +2,7 @@
 use Rattle.std.proofs.Common.{◌≡◌, ℕ, ◌+◌, false, [], ◌∷◌, Result, Err, refl, arith}
 use Rattle.cq_binder_rules.specs.declared.fault.Fault.{Fault}
 use Rattle.cq_binder_rules.specs.declared.fault.Fault.TheVariants as faults
-use Rattle.cq_binder_rules.proofs.Sourceless.{is_source}
+use Rattle.cq_binder_rules.proofs.Clean.{is_source}
 use Rattle.cq_model_step.specs.declared.answer.Answer.{Answer}
 use Rattle.cq_model_step.specs.Output.{is_source_failure, source_failures}
 

@@ -20,7 +20,8 @@ use Rattle.cq_binder_rules.specs.Sets.{bound_where}
 use Rattle.cq_binder_rules.specs.SourceChecks.{where_check}
 use Rattle.cq_binder_rules.specs.Typing.{Scope, ScopeColumn, fault_in, rows_in, size_at, typed}
 use Rattle.cq_binder_expressions.specs.Expressions.{IsNarrow, KeepShown, KeepSizes}
-use Rattle.cq_binder_expressions.proofs.Narrow.{Grows, arguments_are_narrow, grows, typed_is_narrow}
+use Rattle.cq_binder_expressions.proofs.Growing.{Grows, grows}
+use Rattle.cq_binder_expressions.proofs.Narrow.{arguments_are_narrow, typed_is_narrow}
 use Rattle.cq_engine_writes.proofs.Checks.{back_free, first_free}
 use Rattle.cq_model_state.specs.State.{TableOf}
 

@@ -12,4 +12,6 @@ pub mod Creating
 pub mod Assigned
 pub mod Sourced
 pub mod Counting
+pub mod FoundByName
+pub mod BoundCommands
 pub mod Binding

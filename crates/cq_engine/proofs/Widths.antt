@@ -18,7 +18,7 @@ use Rattle.cq_binder_rules.specs.Placed.{aggregate_of, placed_expr, with_aggrega
 use Rattle.cq_binder_rules.specs.Places.{row_place}
 use Rattle.cq_binder_rules.specs.Scopes.{of_rows}
 use Rattle.cq_binder_rules.specs.Typing.{Scope, ScopeColumn, column_typing, of_group, resolved, rows_in, typed}
-use Rattle.cq_binder_expressions.proofs.Narrow.{resolved_at, resolved_within}
+use Rattle.cq_binder_expressions.proofs.Passed.{resolved_at, resolved_within}
 use Rattle.cq_engine.proofs.Fitting.{item_stands, items_walk, others_free}
 use Rattle.cq_binder_expressions.proofs.Told.{all_told, stood}
 

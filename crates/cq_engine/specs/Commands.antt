@@ -1,5 +1,5 @@
 -- What each command does with tables and views that it was bound to, or else is refused.
-use Rattle.std.specs.Prelude.{◌≡◌, ◌⊎◌, ◌<◌, ◌≤◌, ℕ, false, List, [], length, Option, None, Result, Ok, Err}
+use Rattle.std.specs.Prelude.{◌≡◌, ◌⊎◌, ◌<◌, ◌≤◌, ℕ, false, List, length, Option, None, Result, Ok, Err}
 use Rattle.std.specs.List.{AllByRecursion}
 use Rattle.cq_values.specs.declared.column.ColumnDef.{ColumnDef}
 use Rattle.cq_binder_rules.specs.declared.bound.Bound.{Bound}
@@ -10,35 +10,36 @@ use Rattle.cq_model_step.specs.declared.answer.Answer.TheVariants.{Rows}
 use Rattle.cq_binder_rules.specs.declared.fault.Fault.{Fault}
 use Rattle.cq_binder_rules.specs.declared.fault.Fault.TheVariants.{SumOutOfRange}
 use Rattle.cq_binder_rules.specs.Checks.{MayRefuse}
-use Rattle.cq_binder_rules.specs.Refusal.{is_used}
+use Rattle.cq_binder_rules.specs.Refusal.{is_used, reads_source}
 use Rattle.cq_model_state.specs.Fitting.{AreFitting, AreLimited, FitsColumns}
-use Rattle.cq_model_state.specs.State.{AreNumbered, TableOf, ViewOf, State, columns_in, rows_in}
+use Rattle.cq_model_state.specs.State.{AreNumbered, TableOf, ViewOf, State, columns_in, first_state, rows_in}
 use Rattle.cq_model_step.specs.Next.{Trims, at_present}
 use Rattle.cq_model_step.specs.Step.{Accepts, IsTooLarge}
 use Rattle.cq_model.specs.Views.{sources_of}
 use Rattle.cq_model.specs.Width.{IsNarrowIn}
 use Rattle.cq_engine_writes.specs.Updates.{CanUpdateIn, value_fault_in}
+use Rattle.cq_engine_tables.specs.HeldTables.{HeldTable, tables_of}
 use Rattle.cq_engine_tables.specs.Tables.{IsThere}
 use Rattle.cq_engine_tables.specs.Views.{AreRight, Fits, NamedView}
 use Rattle.cq_engine_answers.specs.Reading.{CanRead, IsSourceThere}
 use Rattle.cq_engine_writes.specs.Writing.{room_for}
+use Rattle.cq_sql_language.specs.declared.statement.Statement.{Statement}
+use Rattle.cq_binder_rules.specs.Sources.{reads_behind}
+use Rattle.cq_engine.specs.declared.limits.Limits.{Limits}
 
 -- a state in which no change waits
 abbrev pub present : List TableOf → List ViewOf → ℕ → ℕ → ℕ → State
-present tables views now drawn max_rows = record {
-  tables = tables;
-  views = views;
-  now = now;
-  drawn = drawn;
-  passed = now;
-  queue = [];
-  max_rows = max_rows;
-}
+present tables views now drawn max_rows =
+    record (first_state max_rows) { tables = tables; views = views; now = now; drawn = drawn; passed = now }
 
 -- numbered tables with rows that fit and are not too many, and views that are right for them
 abbrev pub AreInOrder : ℕ → ℕ → ℕ → List TableOf → List NamedView → Type 0
 AreInOrder now drawn max_rows tables views =
     (now ≤ drawn) × AreNumbered tables drawn × AreFitting tables × AreRight tables now views × AreLimited max_rows tables
+
+-- so it is with the tables as they are held, where as many rows are allowed as these limits say
+abbrev pub StandInOrder : ℕ → ℕ → Limits → List HeldTable → List NamedView → Type 0
+StandInOrder now drawn limits tables views = AreInOrder now drawn limits.max_rows (tables_of tables) views
 
 -- ---- Commands that were bound
 -- a query that a view with these columns can be built and kept for
@@ -88,3 +89,7 @@ CarriesOut old command (Err f) new = IsRefused old command f × (new ≡ old)
 abbrev pub OnlyShows : State → Result Answer Fault → State → Type 0
 OnlyShows old (Ok (Rows header rows)) new = new ≡ old
 OnlyShows old outcome new = Unit {0}
+
+-- how often sources were read once a statement was carried out
+abbrev pub reads_after : State → Statement → ℕ → ℕ
+reads_after s statement reads = reads_behind (reads_source s statement) reads

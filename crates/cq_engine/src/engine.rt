@@ -4,15 +4,13 @@
 //! that are there, or refused, and then carried out whole or not at all. Between steps its views stand for its tables. A
 //! step costs what its statement's rows do; a write, also what it changes in each view on its table.
 ghost use Rattle.std.specs.Prelude.{◌≡◌, ◌<◌, ◌+◌, ◌-◌, ◌^◌, ◌∷◌, [], option_map};
-ghost use Rattle.cq_binder_rules.specs.Refusal.{reads_source};
-ghost use Rattle.cq_binder_rules.specs.Sources.{reads_behind};
-ghost use Rattle.cq_model_state.specs.Fitting.{AreLimited, AreFitting};
+ghost use Rattle.cq_model_state.specs.Fitting.{AreFitting, AreLimited};
 ghost use Rattle.cq_model_state.specs.State.{first_state, view_named};
 ghost use Rattle.cq_model_step.specs.Output.{source_failures};
 ghost use Rattle.cq_model_step.specs.Step.{StepFrom};
 ghost use Rattle.cq_engine_tables.specs.Views.{AreRight, views_of};
 ghost use Rattle.cq_engine.specs.declared.answer_source.AnswerSource.TheVariants.{Tables};
-ghost use Rattle.cq_engine.specs.Commands.{OnlyShows};
+ghost use Rattle.cq_engine.specs.Commands.{OnlyShows, reads_after};
 ghost use Rattle.cq_engine.specs.Held.{StoresFrom, lengths_named};
 ghost use Rattle.cq_engine.specs.Views.{stored_named, work_named};
 
@@ -48,7 +46,7 @@ impl Model for Engine {
     ghost use Rattle.cq_views.specs.contracts.kept_view.KeptView as kept_view;
     ghost use Rattle.cq_engine_tables.specs.HeldTables.{tables_of};
     ghost use Rattle.cq_engine_tables.specs.Views.{views_of};
-    ghost use Rattle.cq_engine.specs.Commands.{AreInOrder, present};
+    ghost use Rattle.cq_engine.specs.Commands.{StandInOrder, present};
     ghost use Rattle.cq_engine.specs.Held.{Held};
 
     ghost Value = { Held };
@@ -61,7 +59,7 @@ impl Model for Engine {
       tables = e.tables.items;
     } };
 
-    ghost invariant = { λ e. AreInOrder e.writes e.drawn e.limits.max_rows (tables_of e.tables.items) e.views.items };
+    ghost invariant = { λ e. StandInOrder e.writes e.drawn e.limits e.tables.items e.views.items };
 }
 
 impl Engine {
@@ -154,7 +152,7 @@ impl Engine {
         ensures stores { StoresFrom (S.files sources.old) self.old command.now result self.new }
         ensures files { S.files sources.new ≡ S.files sources.old }
         ensures failures { S.failures sources.new ≡ S.failures sources.old + source_failures (result ∷ []) }
-        ensures reads { S.reads sources.new ≡ reads_behind (reads_source self.old.state command.now) (S.reads sources.old) }
+        ensures reads { S.reads sources.new ≡ reads_after self.old.state command.now (S.reads sources.old) }
     {
         let bound = bind(self.alloc, command, &self.catalog(), sources)?;
         self.carry_out(bound)

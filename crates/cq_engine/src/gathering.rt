@@ -4,7 +4,7 @@ ghost use Rattle.cq_model.specs.Views.{sources_of};
 ghost use Rattle.cq_model_state.specs.State.{AreNumbered, ViewOf};
 ghost use Rattle.cq_engine_answers.specs.Reading.{AreTablesThere, IsSourceThere};
 ghost use Rattle.cq_engine_tables.specs.HeldTables.{tables_of};
-ghost use Rattle.cq_engine.specs.Gathering.{AreGathered, GathersAlso, is_gathered};
+ghost use Rattle.cq_engine.specs.Gathering.{AreGathered, AreGatheredFor, PutsSource, is_gathered};
 
 use cq_engine_answers::rows_there;
 use cq_engine_tables::NamedTable;
@@ -21,7 +21,7 @@ pub(crate) fn gathered_rows<'a>(
 ) -> Result<Vec<StoredSource<'a>>, AllocError>
     requires numbered { (next : ℕ) × AreNumbered (tables_of tables.now) next }
     requires there { AreTablesThere (tables_of tables.now) (sources_of query.now) }
-    ensures { IfOk result (λ gathered. AreGathered (tables_of tables.now) (sources_of query.now) gathered.items) }
+    ensures { IfOk result (λ gathered. AreGatheredFor tables.now query.now gathered.items) }
 {
     let sources = sources_of(alloc, query)?;
     gather_all(alloc, tables, &sources)
@@ -52,7 +52,7 @@ fn gather<'a>(
 ) -> Result<(), AllocError>
     requires numbered { (next : ℕ) × AreNumbered (tables_of tables.now) next }
     requires there { (views : List ViewOf) × IsSourceThere (tables_of tables.now) views source }
-    ensures { OnOk result (GathersAlso (tables_of tables.now) source gathered.old.items gathered.new.items) }
+    ensures { OnOk result (PutsSource tables.now source gathered.old gathered.new) }
 {
     if is_gathered(gathered, source) {
         return Ok(());

@@ -1,5 +1,5 @@
 -- Named tables whose stored rows were changed.
-use Rattle.std.proofs.Common.{◌≡◌, ℕ, ◌+◌, false, List, [], ◌++◌, length, refl, ap, ◌∙◌, arith}
+use Rattle.std.proofs.Common.{◌≡◌, ℕ, ◌+◌, false, List, [], ◌++◌, length, map, refl, ap, ◌∙◌, arith}
 use Rattle.std.specs.Prelude.{IfOk, OnErr, OnOk, Option, Result, Ok, Err}
 use Rattle.std.proofs.lemmas.List.{length-append, length-map}
 use Rattle.cq_model_bags.specs.Canonical.{bag_of}
@@ -105,17 +105,18 @@ module _ (number : ℕ) (name : List ℕ) (old new : StoredTable) where
 
   -- after a DELETE
   pub lengths-deleted : (places : List ℕ) → Exchanges places [] old new → MarkIn (lengths_of (held number name old)) (lengths_of (held number name new))
-  lengths-deleted places exchanges = omega (arith, exchanges.write_len)
+  lengths-deleted places exchanges = record { write_len = omega (arith, exchanges.write_len); segments = exchanges.segments }
 
   -- after an UPDATE
   pub lengths-replaced : {E : Type 0} (places : List ℕ) (images : List Row) (result : Result (Unit {0}) E) → OnOk result (Exchanges places images old new) → OnOk result (ExchangeBy (length images) (lengths_of (held number name old)) (lengths_of (held number name new)))
-  lengths-replaced places images (Ok x) exchanges = exchanges.write_len
+  lengths-replaced places images (Ok x) exchanges = record { write_len = exchanges.write_len; segments = exchanges.segments }
   lengths-replaced places images (Err e) exchanges = tt
 
   -- after an INSERT
   pub lengths-inserted : {E : Type 0} (max_rows : ℕ) (rows : List Row) (result : Result (Unit {0}) E) → OnOk result (new ≡ with_written rows (limited_to max_rows old)) → OnOk result (GrowBy (length rows) (lengths_of (held number name old)) (lengths_of (held number name new)))
   lengths-inserted max_rows rows (Ok x) is = record {
     write_len = ap write_len is ∙ length-append old.written (unmarked rows) ∙ ap (λ (n : ℕ). length old.written + n) (length-map rows (λ (row : Row). record { row = row; marked = false }));
+    segments = ap (λ (t : StoredTable). map length t.segments) is;
     marked_len = ap marked_len is;
   }
   lengths-inserted max_rows rows (Err e) is = tt

@@ -20,6 +20,10 @@ use Rattle.cq_engine_tables.specs.Tables.{value_fault_of}
 abbrev pub stored_of : HeldTable → List MarkedRow
 stored_of t = joined t.segments ++ t.written
 
+-- the rows at some places of them
+abbrev pub rows_chosen : HeldTable → List ℕ → List Row
+rows_chosen t places = found_rows (stored_of t) places
+
 -- the places of all live rows that WHERE keeps, among all stored rows
 pub record IsChosen (condition : Option Cond) (t : HeldTable) (places : List ℕ) : Type 0 where
   pub found : places ≡ places_where 0 (passes (keeps condition)) (stored_of t)

@@ -1,17 +1,21 @@
 -- Tables by their numbers, and the rows that they hold.
-use Rattle.std.specs.Prelude.{◌≡◌, ◌+◌, ℕ, List, ◌==◌, true, length, Option}
+use Rattle.std.specs.Prelude.{◌≡◌, ◌+◌, ℕ, List, ◌==◌, true, length, Option, slice_get}
 use Rattle.std.specs.List.{list_any}
 use Rattle.cq_values.specs.Value.{Row}
 use Rattle.cq_model.specs.declared.assignment.Assignment.{Assignment}
 use Rattle.cq_model.specs.Expr.{Cond}
 use Rattle.cq_binder_rules.specs.declared.fault.Fault.{Fault}
-use Rattle.cq_model_state.specs.State.{TableOf}
+use Rattle.cq_model_state.specs.State.{TableOf, table_named}
 use Rattle.cq_table.specs.Checks.{too_many, value_fault}
 use Rattle.cq_table.specs.Table.{StoredTable, table_rows}
 
 -- a table has the number
 abbrev pub IsThere : ℕ → List TableOf → Type 0
 IsThere n tables = list_any (λ t. t.number == n) tables ≡ true
+
+-- the table of a name stands at the place
+abbrev pub IsPlaceNamed : List ℕ → List TableOf → ℕ → Type 0
+IsPlaceNamed name tables place = slice_get tables place ≡ table_named name tables
 
 -- a stored table under its number and its name
 abbrev pub named : ℕ → List ℕ → StoredTable → TableOf

@@ -39,6 +39,10 @@ IsReady table tables changes v (Some pending) = (reads table v.kept.query ≡ tr
 abbrev pub IsReadyFor : ℕ → Tables → NamedView → NamedView → Option Pending → Type 0
 IsReadyFor table changes old new pending = (tables : Tables) → StandsFor old.kept tables → IsReady table tables changes new pending
 
+-- so it is for the change of a table
+abbrev pub IsReadyForChange : TableChange → NamedView → NamedView → Option Pending → Type 0
+IsReadyForChange change old new pending = IsReadyFor change.table (changes_of change) old new pending
+
 -- so it is with each view
 abbrev pub AreReady : ℕ → Tables → Tables → List NamedView → List (Option Pending) → Type 0
 AreReady table tables changes views pendings = Pointwise (IsReady table tables changes) views pendings

@@ -3,6 +3,9 @@ use Rattle.std.specs.Prelude.{◌≡◌, ◌≤◌, ◌==◌, ℕ, if◌then◌e
 use Rattle.std.specs.List.{AllByRecursion, AllZip}
 use Rattle.cq_model_bags.specs.Bag.{once_each}
 use Rattle.cq_values.specs.declared.column.ColumnDef.{ColumnDef}
+use Rattle.cq_values.specs.Value.{Row}
+use Rattle.cq_model.specs.Sizes.{column_sizes}
+use Rattle.cq_model_laws.specs.Sizes.{HasSizes}
 use Rattle.cq_views.specs.State.{StandsFor}
 use Rattle.cq_views.specs.declared.kept_view.KeptView.{KeptView}
 use Rattle.cq_model.specs.declared.query.Query.{Query}
@@ -26,6 +29,10 @@ view_of v = record { name = v.name; columns = v.columns; query = v.kept.query; e
 -- the views that they are
 abbrev pub views_of : List NamedView → List ViewOf
 views_of views = map view_of views
+
+-- the numbers of rows are within the sizes of the view's columns
+abbrev pub AreSized : NamedView → List Row → Type 0
+AreSized v rows = AllByRecursion (HasSizes (column_sizes v.kept.query)) rows
 
 -- ---- Views that stand
 -- the bags of tables, by their numbers

@@ -6,21 +6,23 @@
 //! same call of `cq_table` does.
 ghost use Rattle.std.specs.List.{AllByRecursion};
 ghost use Rattle.std.specs.Prelude.{◌++◌, ◌≡◌, [], IfOk, OnErr, OnOk, length};
+ghost use Rattle.cq_segments.specs.Rows.{stored_rows};
 ghost use Rattle.cq_values.specs.Texts.{is_text};
 ghost use Rattle.cq_model_bags.specs.Canonical.{bag_of};
-ghost use Rattle.cq_table_columns.specs.Stored.{all_rows, stored_rows};
+ghost use Rattle.cq_table_columns.specs.Stored.{all_rows};
 ghost use Rattle.cq_model_state.specs.Fitting.{FitsColumns, IsFitting};
 ghost use Rattle.cq_model_state.specs.State.{empty_table, holding};
 ghost use Rattle.cq_model.specs.Width.{IsNarrowIn};
 ghost use Rattle.cq_table.specs.Checks.{AreImages, AreNarrowSets, IsChecked};
-ghost use Rattle.cq_table.specs.Found.{AreLiveAt, AreThere, found_rows};
-ghost use Rattle.cq_engine_tables.specs.HeldTables.{ExchangeBy, GrowBy, MarkIn, MergeTo, MoveBy, lengths_of, nothing};
-ghost use Rattle.cq_engine_tables.specs.Chosen.{ChecksChosen, IsChosen, LeavesChosen, stored_of};
+ghost use Rattle.cq_table.specs.Found.{AreLiveAt, AreThere};
+ghost use Rattle.cq_engine_tables.specs.HeldTables.{Exchanges, Grows, MarkIn, MergeTo, MoveBy, lengths_of, nothing};
+ghost use Rattle.cq_engine_tables.specs.Chosen.{ChecksChosen, IsChosen, LeavesChosen, rows_chosen, stored_of};
 ghost use Rattle.cq_engine_tables.specs.Tables.{no_room_for};
 
 use cq_model::{Assignment, Cond};
+use cq_segments::StoredRow;
 use cq_table::{Exchange, Found, TableFault};
-use cq_table_columns::{Stored, StoredRow};
+use cq_table_columns::Stored;
 use cq_values::{ColumnDef, Row, Seq, Text};
 use std::alloc::{AllocError, Global};
 use std::marker::Model;
@@ -111,21 +113,26 @@ impl NamedTable {
     /// The rows that were found, where they are stored.
     pub fn chosen(&self, alloc: Global, found: &Found) -> Result<Vec<StoredRow<'_>>, AllocError>
         requires { AreThere found.now (stored_of self.now) }
-        ensures { IfOk result (λ rows. stored_rows rows.items ≡ found_rows (stored_of self.now) found.now) }
+        ensures { IfOk result (λ rows. stored_rows rows.items ≡ rows_chosen self.now found.now) }
     {
         self.stored.chosen(alloc, found)
     }
 
     /// Adds all of these rows, or none. The table may have so many rows.
-    pub fn insert(&mut self, max_rows: u64, rows: Vec<Row>) -> Result<(), TableFault>
+    pub fn insert(
+        &mut self,
+        alloc: Global,
+        max_rows: u64,
+        rows: Vec<Row>,
+    ) -> Result<(), TableFault>
         requires { AllByRecursion (FitsColumns self.old.is.columns) rows.items }
         ensures room { IsChecked (no_room_for max_rows self.old.is rows.items) result }
         ensures ok { OnOk result (self.new.is ≡ holding (self.old.is.rows ++ rows.items) self.old.is) }
-        ensures lengths { OnOk result (GrowBy (length rows.items) (lengths_of self.old) (lengths_of self.new)) }
+        ensures lengths { OnOk result (Grows (length rows.items) self.old self.new) }
         ensures err { OnErr result (self.new ≡ self.old) }
     {
         self.stored.limit(max_rows)?;
-        self.stored.insert(rows)
+        self.stored.insert(alloc, rows)
     }
 
     /// Takes the rows that were found away. It cannot fail, and takes no memory.
@@ -147,7 +154,7 @@ impl NamedTable {
         requires live { AreLiveAt found.now (stored_of self.now) }
         requires narrow { AllByRecursion (AreNarrowSets assignments.now) self.now.is.rows }
         ensures checked { ChecksChosen assignments.now found.now self.now result }
-        ensures images { IfOk result (AreImages assignments.now (found_rows (stored_of self.now) found.now)) }
+        ensures images { IfOk result (AreImages assignments.now (rows_chosen self.now found.now)) }
     {
         self.stored.images(alloc, assignments, found)
     }
@@ -178,14 +185,19 @@ impl NamedTable {
     }
 
     /// Puts these rows in place of those that were found, which are as many.
-    pub fn replace(&mut self, found: &Found, images: Vec<Row>) -> Result<(), AllocError>
+    pub fn replace(
+        &mut self,
+        alloc: Global,
+        found: &Found,
+        images: Vec<Row>,
+    ) -> Result<(), AllocError>
         requires live { AreLiveAt found.now (stored_of self.old) }
         requires count { length images.items ≡ length found.now }
         requires fitting { AllByRecursion (FitsColumns self.old.is.columns) images.items }
         ensures ok { OnOk result (LeavesChosen found.now images.items self.old self.new) }
-        ensures lengths { OnOk result (ExchangeBy (length images.items) (lengths_of self.old) (lengths_of self.new)) }
+        ensures lengths { OnOk result (Exchanges (length images.items) self.old self.new) }
         ensures err { OnErr result (self.new ≡ self.old) }
     {
-        self.stored.replace(found, images)
+        self.stored.replace(alloc, found, images)
     }
 }

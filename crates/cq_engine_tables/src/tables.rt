@@ -1,9 +1,9 @@
 //! Tables under their names and numbers.
-ghost use Rattle.std.specs.Prelude.{◌≡◌, ◌<◌, ◌==◌, ℕ, IfSome, OnErr, OnOk, filter, get_or, is_some, length, not, position, slice_get};
+ghost use Rattle.std.specs.Prelude.{◌≡◌, ◌<◌, ◌==◌, ℕ, IfSome, OnErr, OnOk, get_or, is_some, length, position};
 ghost use Rattle.cq_values.specs.Texts.{is_text};
 ghost use Rattle.cq_model_state.specs.State.{AreNumbered, table_named};
-ghost use Rattle.cq_engine_tables.specs.HeldTables.{ChangeAt, HeldTable, MergeTo, MoveBy, StoreNothing, tables_of};
-ghost use Rattle.cq_engine_tables.specs.Tables.{IsThere};
+ghost use Rattle.cq_engine_tables.specs.HeldTables.{ChangeAt, Drops, HeldTable, MergeTo, MoveBy, StoreNothing, tables_of};
+ghost use Rattle.cq_engine_tables.specs.Tables.{IsPlaceNamed, IsThere};
 
 use crate::named_table::NamedTable;
 use std::alloc::{AllocError, Global};
@@ -12,7 +12,7 @@ use std::alloc::{AllocError, Global};
 pub fn drop_in(tables: &mut Vec<NamedTable>, number: u64)
     requires numbered { (next : ℕ) × AreNumbered (tables_of tables.old.items) next }
     requires there { IsThere number (tables_of tables.old.items) }
-    ensures left { tables_of tables.new.items ≡ filter (λ t. not (t.number == number)) (tables_of tables.old.items) }
+    ensures left { Drops number tables.old tables.new }
     ensures lengths { ChangeAt number StoreNothing tables.old.items tables.new.items }
 {
     let place = place_numbered(tables, number);
@@ -50,7 +50,7 @@ pub fn merge_in(alloc: Global, tables: &mut Vec<NamedTable>, number: u64) -> Res
 
 /// Where the table of a name stands.
 pub fn place_of(tables: &[NamedTable], name: &str) -> Option<usize>
-    ensures found { IfSome result (λ i. slice_get (tables_of tables.now) i ≡ table_named name.now (tables_of tables.now)) }
+    ensures found { IfSome result (IsPlaceNamed name.now (tables_of tables.now)) }
     ensures named { is_some result ≡ is_some (table_named name.now (tables_of tables.now)) }
     ensures within { IfSome result (λ i. i < length tables.now) }
 {

@@ -3,10 +3,8 @@
 //! A [`View`] is a kept view that statements find, with the columns that it shows. Each write is made known to each view:
 //! first `prepare`, which may fail and gives what waits, or nothing where the view does not read the table, and then
 //! `commit` with that, which cannot. `rows` costs what the view holds; all else is the kept view's cost.
-ghost use Rattle.std.specs.List.{AllByRecursion};
 ghost use Rattle.std.specs.Prelude.{◌≡◌, IfErr, IfOk, OnOk};
 ghost use Rattle.cq_model.specs.declared.fault.ShowFault.TheVariants.{SumOutOfRange};
-ghost use Rattle.cq_model_laws.specs.Sizes.{HasSizes};
 ghost use Rattle.cq_model.specs.Sizes.{column_sizes};
 ghost use Rattle.cq_values.specs.Texts.{is_text};
 ghost use Rattle.cq_views_model.specs.Query.{CanBeKept, reads};
@@ -15,7 +13,8 @@ ghost use Rattle.cq_sides.specs.Ticks.{counted};
 ghost use Rattle.cq_views.specs.Changes.{changes_of};
 ghost use Rattle.cq_views.specs.Shown.{AreRowsOf, CanShow, IsNotShown, IsShown};
 ghost use Rattle.cq_views.specs.State.{CanPrepare};
-ghost use Rattle.cq_engine_tables.specs.Taking.{CanTake, HasTaken, IsReadyFor, IsSame};
+ghost use Rattle.cq_engine_tables.specs.Views.{AreSized};
+ghost use Rattle.cq_engine_tables.specs.Taking.{CanTake, HasTaken, IsReadyForChange, IsSame};
 
 use cq_model::{Query, ShowFault};
 use cq_values::{ColumnDef, Seq, Text};
@@ -127,7 +126,7 @@ impl View {
     pub fn rows(&self, alloc: Global) -> Result<RowList, ShowFault>
         requires { CanShow self.now.kept }
         ensures bag { IfOk result (λ rows. AreRowsOf self.now.kept rows) }
-        ensures sized { IfOk result (λ rows. AllByRecursion (HasSizes (column_sizes self.now.kept.query)) rows) }
+        ensures sized { IfOk result (AreSized self.now) }
         ensures range { OnOk result (IsShown self.now.kept) }
         ensures fault { IfErr result (λ e. e ≡ SumOutOfRange → IsNotShown self.now.kept) }
     {
@@ -143,7 +142,7 @@ impl View {
     ) -> Result<Option<Pending>, AllocError>
         requires { CanPrepare self.old.kept (changes_of change.now) }
         ensures same { IsSame self.old self.new }
-        ensures ready { IfOk result (IsReadyFor change.now.table (changes_of change.now) self.old self.new) }
+        ensures ready { IfOk result (IsReadyForChange change.now self.old self.new) }
     {
         if !self.state.is_on(change.table) {
             return Ok(None);

@@ -2,6 +2,8 @@
 use Rattle.std.specs.Prelude.{◌≡◌, ◌≤◌, ℕ, false, List, [], Option}
 use Rattle.std.specs.Global.{Vec}
 use Rattle.std.specs.List.{AllByRecursion}
+use Rattle.cq_segments.specs.Rows.{stored_rows}
+use Rattle.cq_segments.specs.declared.stored_row.StoredRow.{StoredRow}
 use Rattle.cq_values.specs.Value.{Row}
 use Rattle.cq_model_bags.specs.Bag.{Weighted, SameBag}
 use Rattle.cq_model.specs.declared.query.Source.{Source}
@@ -30,6 +32,10 @@ pub record AreReadyAt (n : ℕ) (dxs : Weighted) (old new : List NamedView) (pen
 -- rows of the table go and others come, and that waits for the views
 abbrev pub AreReadyForRows : ℕ → List Row → List Row → Vec NamedView → Vec NamedView → Vec (Option Pending) → Type 0
 AreReadyForRows n gone come old new pendings = AreReadyAt n (exchanged gone come) old.items new.items pendings.items
+
+-- so it is where the rows that go are lent as they are stored
+abbrev pub AreReadyForStored : ℕ → List StoredRow → List Row → Vec NamedView → Vec NamedView → Vec (Option Pending) → Type 0
+AreReadyForStored n gone come old new pendings = AreReadyForRows n (stored_rows gone) come old new pendings
 
 -- views that can be kept stand for tables of stored rows, few enough in each
 pub record AreStanding (views : List NamedView) : Type 0 where

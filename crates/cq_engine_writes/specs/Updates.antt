@@ -23,7 +23,7 @@ use Rattle.cq_engine_writes.specs.Changing.{AreReadyAt}
 use Rattle.cq_table.specs.Checks.{value_fault}
 use Rattle.cq_table.specs.Found.{found_rows}
 use Rattle.cq_engine_tables.specs.Chosen.{IsChosen, stored_of}
-use Rattle.cq_engine_tables.specs.HeldTables.{HeldTable}
+use Rattle.cq_engine_tables.specs.HeldTables.{HeldTable, tables_of}
 use Rattle.cq_engine_tables.specs.Tables.{value_fault_of}
 
 -- the type of the column at a place, which is there
@@ -79,5 +79,13 @@ pub record IsPrepared (t : HeldTable) (assignments : List Assignment) (condition
   pub can : CanAllTake new pendings
 
 -- the places, the images and what waits, as they are kept until then
-abbrev pub ArePrepared : HeldTable → List Assignment → Option Cond → Vec NamedView Global → Vec NamedView Global → (List ℕ × Vec Row Global × Vec (Option Pending) Global) → Type 0
-ArePrepared t assignments condition old new prepared = IsPrepared t assignments condition old.items new.items prepared.0 prepared.1.items prepared.2.items
+abbrev pub Prepares : HeldTable → List Assignment → Option Cond → Vec NamedView Global → Vec NamedView Global → (List ℕ × Vec Row Global × Vec (Option Pending) Global) → Type 0
+Prepares t assignments condition old new prepared = IsPrepared t assignments condition old.items new.items prepared.0 prepared.1.items prepared.2.items
+
+-- the update of a table may be refused with this fault
+abbrev pub RefusesUpdate : HeldTable → List Assignment → Option Cond → Fault → Type 0
+RefusesUpdate t assignments condition f = MayRefuse (value_fault_of t.is assignments condition) f
+
+-- the rows of the table of a number are updated where it is held
+abbrev pub UpdatesHeld : ℕ → List Assignment → Option Cond → Vec HeldTable Global → Result ℕ Fault → Vec HeldTable Global → Type 0
+UpdatesHeld n assignments condition old result new = Updates n assignments condition (tables_of old.items) result (tables_of new.items)

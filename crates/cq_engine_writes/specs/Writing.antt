@@ -1,14 +1,17 @@
 -- What INSERT and DELETE leave of the tables, and the room that INSERT asks for.
 use Rattle.std.specs.Prelude.{◌≡◌, ◌+◌, ℕ, List, ◌++◌, length, Option, None, Result, Ok, Err}
 use Rattle.std.specs.Global.{Vec}
+use Rattle.std.specs.List.{AllByRecursion}
 use Rattle.cq_values.specs.Value.{Row}
 use Rattle.cq_model.specs.Expr.{Cond}
+use Rattle.cq_model.specs.Width.{IsNarrowIn}
 use Rattle.cq_model.specs.Write.{chosen, left_by}
+use Rattle.cq_model_state.specs.Fitting.{FitsColumns}
 use Rattle.cq_binder_rules.specs.declared.fault.Fault.{Fault}
 use Rattle.cq_binder_rules.specs.Checks.{MayRefuse}
-use Rattle.cq_model_state.specs.State.{TableOf, holding, rows_in, with_rows}
+use Rattle.cq_model_state.specs.State.{TableOf, columns_in, holding, rows_in, with_rows}
 use Rattle.cq_table.specs.Checks.{too_many}
-use Rattle.cq_engine_tables.specs.HeldTables.{HeldTable}
+use Rattle.cq_engine_tables.specs.HeldTables.{HeldTable, tables_of}
 use Rattle.cq_engine_tables.specs.Tables.{no_room_for}
 use Rattle.cq_engine_tables.specs.Taking.{AreSame}
 use Rattle.cq_engine_tables.specs.Views.{NamedView}
@@ -34,7 +37,11 @@ abbrev pub InsertsRows : ℕ → List Row → TableOf → Result (Unit {0}) Faul
 InsertsRows max_rows rows old (Ok x) new = (no_room_for max_rows old rows ≡ None) × (new ≡ holding (old.rows ++ rows) old)
 InsertsRows max_rows rows old (Err f) new = MayRefuse (no_room_for max_rows old rows) f
 
--- so it is in the table of a number
+-- a table has those of its rows that WHERE does not keep
+abbrev pub DeletesRows : Option Cond → TableOf → TableOf → Type 0
+DeletesRows condition old new = new ≡ holding (left_by condition old.rows) old
+
+-- rows are put into the table of a number, where there is room for them
 abbrev pub Inserts : ℕ → ℕ → List Row → List TableOf → Result (Unit {0}) Fault → List TableOf → Type 0
 Inserts max_rows n rows old (Ok x) new = (room_for max_rows old n rows ≡ None) × (new ≡ inserted_into n rows old)
 Inserts max_rows n rows old (Err f) new = MayRefuse (room_for max_rows old n rows) f
@@ -42,3 +49,24 @@ Inserts max_rows n rows old (Err f) new = MayRefuse (room_for max_rows old n row
 -- the tables are as they were, and of the views nothing has changed that is seen
 abbrev pub AreUnwritten : Vec HeldTable → Vec HeldTable → Vec NamedView → Vec NamedView → Type 0
 AreUnwritten tables same old new = (same.items ≡ tables.items) × AreSame old.items new.items
+
+-- ---- Tables as they are held
+-- rows fit the columns of the table of a number
+abbrev pub FitTable : ℕ → Vec HeldTable → List Row → Type 0
+FitTable n tables rows = AllByRecursion (FitsColumns (columns_in (tables_of tables.items) n)) rows
+
+-- nothing is too wide in WHERE at the rows of the table of a number
+abbrev pub IsNarrowFor : ℕ → Option Cond → Vec HeldTable → Type 0
+IsNarrowFor n condition tables = AllByRecursion (IsNarrowIn condition) (rows_in (tables_of tables.items) n)
+
+-- so it is where the tables are held
+abbrev pub InsertsHeld : ℕ → ℕ → List Row → Vec HeldTable → Result (Unit {0}) Fault → Vec HeldTable → Type 0
+InsertsHeld max_rows n rows old result new = Inserts max_rows n rows (tables_of old.items) result (tables_of new.items)
+
+-- how many rows WHERE keeps in the table of a number
+abbrev pub chosen_count : ℕ → Option Cond → Vec HeldTable → ℕ
+chosen_count n condition tables = length (chosen_in n condition (tables_of tables.items))
+
+-- those rows are deleted
+abbrev pub DeletesFrom : ℕ → Option Cond → Vec HeldTable → Vec HeldTable → Type 0
+DeletesFrom n condition old new = tables_of new.items ≡ deleted_from n condition (tables_of old.items)

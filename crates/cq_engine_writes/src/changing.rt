@@ -1,13 +1,14 @@
 //! What a write changes in the views.
 ghost use Rattle.std.specs.List.{AllByRecursion};
 ghost use Rattle.std.specs.Prelude.{◌+◌, ◌≤◌, ◌^◌, IfOk, length};
-ghost use Rattle.cq_table_columns.specs.Stored.{stored_rows};
 ghost use Rattle.cq_model.specs.Sizes.{IsStored};
 ghost use Rattle.cq_engine_tables.specs.Taking.{AreSame, CanAllTake};
-ghost use Rattle.cq_engine_writes.specs.Changing.{AreReadyForRows, AreStanding};
+ghost use Rattle.cq_engine_writes.specs.Changing.{AreReadyForRows, AreReadyForStored, AreStanding};
+ghost use Rattle.cq_segments.specs.Rows.{stored_rows};
 
 use cq_engine_tables::{View, prepare_all};
-use cq_table_columns::{Front, StoredRow};
+use cq_segments::StoredRow;
+use cq_table_columns::Front;
 use cq_values::Row;
 use cq_views::TableChange;
 use cq_views_state::Pending;
@@ -27,7 +28,7 @@ pub(crate) fn prepare_views(
     requires come { AllByRecursion IsStored come.now }
     requires few { length gone.now + length come.now ≤ 2 ^ 25 }
     ensures same { AreSame views.old.items views.new.items }
-    ensures ready { IfOk result (AreReadyForRows table (stored_rows gone.now) come.now views.old views.new) }
+    ensures ready { IfOk result (AreReadyForStored table gone.now come.now views.old views.new) }
     ensures can { IfOk result (λ ps. CanAllTake views.new.items ps.items) }
 {
     let change = TableChange { table, gone, come };

@@ -1,14 +1,14 @@
 //! The rows that a DELETE takes.
 ghost use Rattle.std.specs.List.{AllByRecursion};
 ghost use Rattle.std.specs.Prelude.{◌≡◌, ◌≤◌, IfOk, OnErr, OnOk, length};
-ghost use Rattle.cq_model.specs.Write.{chosen, left_by};
+ghost use Rattle.cq_model.specs.Write.{chosen};
 ghost use Rattle.cq_model_state.specs.Fitting.{IsFitting, rows_limit};
-ghost use Rattle.cq_model_state.specs.State.{holding};
 ghost use Rattle.cq_model.specs.Width.{IsNarrowIn};
 ghost use Rattle.cq_engine_tables.specs.HeldTables.{MarkIn, lengths_of};
 ghost use Rattle.cq_engine_tables.specs.Taking.{AreSame};
 ghost use Rattle.cq_engine_writes.specs.Changing.{AreStanding};
-ghost use Rattle.cq_engine_writes.specs.Following.{Follow};
+ghost use Rattle.cq_engine_writes.specs.Following.{FollowHeld};
+ghost use Rattle.cq_engine_writes.specs.Writing.{DeletesRows};
 
 use crate::changing::prepare_views;
 use cq_engine_tables::{NamedTable, View, commit_all};
@@ -29,9 +29,9 @@ pub(crate) fn delete_from(
     requires stand { AreStanding views.old.items }
     requires narrow { AllByRecursion (IsNarrowIn condition.now) table.old.is.rows }
     ensures count { IfOk result (λ count. count ≡ length (chosen condition.now table.old.is.rows)) }
-    ensures left { OnOk result (table.new.is ≡ holding (left_by condition.now table.old.is.rows) table.old.is) }
+    ensures left { OnOk result (DeletesRows condition.now table.old.is table.new.is) }
     ensures lengths { OnOk result (MarkIn (lengths_of table.old) (lengths_of table.new)) }
-    ensures follow { OnOk result (Follow epoch table.old.is table.new.is views.old.items views.new.items) }
+    ensures follow { OnOk result (FollowHeld epoch table.old table.new views.old views.new) }
     ensures err { OnErr result ((table.new ≡ table.old) × AreSame views.old.items views.new.items) }
 {
     let found = table.find(alloc, condition)?;

@@ -2,10 +2,10 @@
 ghost use Rattle.std.specs.Prelude.{◌≡◌, ◌≤◌, OnErr, OnOk, length};
 ghost use Rattle.std.specs.List.{AllByRecursion};
 ghost use Rattle.cq_model_state.specs.Fitting.{FitsColumns, IsFitting, rows_limit};
-ghost use Rattle.cq_engine_tables.specs.HeldTables.{GrowBy, lengths_of};
+ghost use Rattle.cq_engine_tables.specs.HeldTables.{Grows};
 ghost use Rattle.cq_engine_tables.specs.Taking.{AreSame};
 ghost use Rattle.cq_engine_writes.specs.Changing.{AreStanding};
-ghost use Rattle.cq_engine_writes.specs.Following.{Follow};
+ghost use Rattle.cq_engine_writes.specs.Following.{FollowHeld};
 ghost use Rattle.cq_engine_writes.specs.Writing.{InsertsRows};
 
 use crate::changing::prepare_views;
@@ -30,13 +30,13 @@ pub(crate) fn insert_into(
     requires stand { AreStanding views.old.items }
     requires rows { AllByRecursion (FitsColumns table.old.is.columns) rows.items }
     ensures inserts { InsertsRows max_rows rows.items table.old.is result table.new.is }
-    ensures lengths { OnOk result (GrowBy (length rows.items) (lengths_of table.old) (lengths_of table.new)) }
-    ensures follow { OnOk result (Follow epoch table.old.is table.new.is views.old.items views.new.items) }
+    ensures lengths { OnOk result (Grows (length rows.items) table.old table.new) }
+    ensures follow { OnOk result (FollowHeld epoch table.old table.new views.old views.new) }
     ensures err { OnErr result ((table.new ≡ table.old) × AreSame views.old.items views.new.items) }
 {
     check_room(max_rows, table.len(), rows.len())?;
     let pendings = prepare_views(alloc, views, table.number(), &[], &rows)?;
-    table.insert(max_rows, rows)?;
+    table.insert(alloc, max_rows, rows)?;
     commit_all(views, pendings, epoch);
     standing_depends_on_sources();
     Ok(())

@@ -1,13 +1,11 @@
 //! The rows that an UPDATE replaces.
 ghost use Rattle.std.specs.Prelude.{◌≡◌, ◌≤◌, IfErr, IfOk, OnErr, OnOk, length};
-ghost use Rattle.cq_binder_rules.specs.Checks.{MayRefuse};
 ghost use Rattle.cq_model_state.specs.Fitting.{IsFitting, rows_limit};
-ghost use Rattle.cq_engine_tables.specs.HeldTables.{ExchangeBy, lengths_of};
+ghost use Rattle.cq_engine_tables.specs.HeldTables.{Exchanges};
 ghost use Rattle.cq_engine_tables.specs.Taking.{AreSame};
 ghost use Rattle.cq_engine_writes.specs.Changing.{AreStanding};
-ghost use Rattle.cq_engine_writes.specs.Following.{Follow};
-ghost use Rattle.cq_engine_tables.specs.Tables.{value_fault_of};
-ghost use Rattle.cq_engine_writes.specs.Updates.{ArePrepared, CanUpdate, UpdatesRows};
+ghost use Rattle.cq_engine_writes.specs.Following.{FollowHeld};
+ghost use Rattle.cq_engine_writes.specs.Updates.{CanUpdate, Prepares, RefusesUpdate, UpdatesRows};
 
 use crate::changing::prepare_copied;
 use cq_binder_rules::Fault;
@@ -37,12 +35,12 @@ pub(crate) fn update_rows(
     requires stand { AreStanding views.old.items }
     requires can { CanUpdate table.old.is.columns assignments.now condition.now table.old.is.rows }
     ensures updates { UpdatesRows assignments.now condition.now table.old.is result table.new.is }
-    ensures lengths { IfOk result (λ count. ExchangeBy count (lengths_of table.old) (lengths_of table.new)) }
-    ensures follow { OnOk result (Follow epoch table.old.is table.new.is views.old.items views.new.items) }
+    ensures lengths { IfOk result (λ count. Exchanges count table.old table.new) }
+    ensures follow { OnOk result (FollowHeld epoch table.old table.new views.old views.new) }
     ensures err { OnErr result ((table.new ≡ table.old) × AreSame views.old.items views.new.items) }
 {
     let (found, images, pendings) = prepared(alloc, table, views, assignments, condition)?;
-    table.replace(&found, images)?;
+    table.replace(alloc, &found, images)?;
     commit_all(views, pendings, epoch);
     standing_depends_on_sources();
     Ok(found.len())
@@ -62,8 +60,8 @@ fn prepared(
     requires stand { AreStanding views.old.items }
     requires can { CanUpdate table.now.is.columns assignments.now condition.now table.now.is.rows }
     ensures kept { AreSame views.old.items views.new.items }
-    ensures ready { IfOk result (ArePrepared table.now assignments.now condition.now views.old views.new) }
-    ensures fault { IfErr result (MayRefuse (value_fault_of table.now.is assignments.now condition.now)) }
+    ensures ready { IfOk result (Prepares table.now assignments.now condition.now views.old views.new) }
+    ensures fault { IfErr result (RefusesUpdate table.now assignments.now condition.now) }
 {
     let found = table.find(alloc, condition)?;
     let (gone, images) = table.images(alloc, assignments, &found)?;

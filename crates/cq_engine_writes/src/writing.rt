@@ -1,15 +1,13 @@
 //! Writes of the table of a number, which is one of several.
 ghost use Rattle.std.specs.Prelude.{◌≡◌, ◌≤◌, ℕ, IfOk, OnErr, OnOk, length};
-ghost use Rattle.std.specs.List.{AllByRecursion};
-ghost use Rattle.cq_model.specs.Width.{IsNarrowIn};
-ghost use Rattle.cq_model_state.specs.Fitting.{AreFitting, AreLimited, FitsColumns, rows_limit};
-ghost use Rattle.cq_model_state.specs.State.{AreNumbered, columns_in, rows_in};
-ghost use Rattle.cq_engine_tables.specs.HeldTables.{ChangeAt, ExchangeBy, GrowBy, MarkIn, tables_of};
+ghost use Rattle.cq_model_state.specs.Fitting.{AreFitting, AreLimited, rows_limit};
+ghost use Rattle.cq_model_state.specs.State.{AreNumbered};
+ghost use Rattle.cq_engine_tables.specs.HeldTables.{ChangeAt, ExchangesAt, GrowsAt, MarkIn, tables_of};
 ghost use Rattle.cq_engine_tables.specs.Tables.{IsThere};
 ghost use Rattle.cq_engine_tables.specs.Views.{AreRight};
-ghost use Rattle.cq_engine_writes.specs.Following.{Moved};
-ghost use Rattle.cq_engine_writes.specs.Updates.{CanUpdateIn, Updates};
-ghost use Rattle.cq_engine_writes.specs.Writing.{AreUnwritten, Inserts, chosen_in, deleted_from};
+ghost use Rattle.cq_engine_writes.specs.Following.{MovedHeld};
+ghost use Rattle.cq_engine_writes.specs.Updates.{CanUpdateIn, UpdatesHeld};
+ghost use Rattle.cq_engine_writes.specs.Writing.{AreUnwritten, DeletesFrom, FitTable, InsertsHeld, IsNarrowFor, chosen_count};
 
 use crate::deletion::delete_from;
 use crate::insertion::insert_into;
@@ -37,10 +35,10 @@ pub fn insert_in(
     requires right { (now : ℕ) × AreRight (tables_of tables.old.items) now views.old.items }
     requires limited { AreLimited rows_limit (tables_of tables.old.items) }
     requires there { IsThere number (tables_of tables.old.items) }
-    requires rows { AllByRecursion (FitsColumns (columns_in (tables_of tables.old.items) number)) rows.items }
-    ensures inserts { Inserts max_rows number rows.items (tables_of tables.old.items) result (tables_of tables.new.items) }
-    ensures lengths { OnOk result (ChangeAt number (GrowBy (length rows.items)) tables.old.items tables.new.items) }
-    ensures moved { OnOk result (Moved epoch (tables_of tables.new.items) views.old.items views.new.items) }
+    requires rows { FitTable number tables.old rows.items }
+    ensures inserts { InsertsHeld max_rows number rows.items tables.old result tables.new }
+    ensures lengths { OnOk result (GrowsAt number (length rows.items) tables.old tables.new) }
+    ensures moved { OnOk result (MovedHeld epoch tables.new views.old views.new) }
     ensures err { OnErr result (AreUnwritten tables.old tables.new views.old views.new) }
 {
     let place = place_numbered(tables, number);
@@ -63,11 +61,11 @@ pub fn delete_in(
     requires right { (now : ℕ) × AreRight (tables_of tables.old.items) now views.old.items }
     requires limited { AreLimited rows_limit (tables_of tables.old.items) }
     requires there { IsThere number (tables_of tables.old.items) }
-    requires narrow { AllByRecursion (IsNarrowIn condition.now) (rows_in (tables_of tables.old.items) number) }
-    ensures count { IfOk result (λ count. count ≡ length (chosen_in number condition.now (tables_of tables.old.items))) }
-    ensures left { OnOk result (tables_of tables.new.items ≡ deleted_from number condition.now (tables_of tables.old.items)) }
+    requires narrow { IsNarrowFor number condition.now tables.old }
+    ensures count { IfOk result (λ count. count ≡ chosen_count number condition.now tables.old) }
+    ensures left { OnOk result (DeletesFrom number condition.now tables.old tables.new) }
     ensures lengths { OnOk result (ChangeAt number MarkIn tables.old.items tables.new.items) }
-    ensures moved { OnOk result (Moved epoch (tables_of tables.new.items) views.old.items views.new.items) }
+    ensures moved { OnOk result (MovedHeld epoch tables.new views.old views.new) }
     ensures err { OnErr result (AreUnwritten tables.old tables.new views.old views.new) }
 {
     let place = place_numbered(tables, number);
@@ -92,9 +90,9 @@ pub fn update_in(
     requires limited { AreLimited rows_limit (tables_of tables.old.items) }
     requires there { IsThere number (tables_of tables.old.items) }
     requires can { CanUpdateIn (tables_of tables.old.items) number assignments.now condition.now }
-    ensures updates { Updates number assignments.now condition.now (tables_of tables.old.items) result (tables_of tables.new.items) }
-    ensures lengths { IfOk result (λ count. ChangeAt number (ExchangeBy count) tables.old.items tables.new.items) }
-    ensures moved { OnOk result (Moved epoch (tables_of tables.new.items) views.old.items views.new.items) }
+    ensures updates { UpdatesHeld number assignments.now condition.now tables.old result tables.new }
+    ensures lengths { IfOk result (λ count. ExchangesAt number count tables.old tables.new) }
+    ensures moved { OnOk result (MovedHeld epoch tables.new views.old views.new) }
     ensures err { OnErr result (AreUnwritten tables.old tables.new views.old views.new) }
 {
     let place = place_numbered(tables, number);

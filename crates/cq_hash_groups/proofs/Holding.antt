@@ -7,10 +7,10 @@ use Rattle.cq_model_bags.specs.Bag.{firsts, once_each}
 use Rattle.cq_hash_keys.specs.Keys.{key_at}
 use Rattle.cq_model.specs.declared.query.Aggregate.{Aggregate}
 use Rattle.cq_model.specs.Group.{SumInRange, SumsInRange, group_row, key_of}
-use Rattle.cq_hash_groups.specs.declared.slots.Slots.{Slots}
+use Rattle.cq_hash_groups_slots.specs.declared.slots.Slots.{Slots}
 use Rattle.cq_hash_groups.specs.Groups.{all_added, first_keys, group_columns, group_keys, rows_at, slots_at}
-use Rattle.cq_hash_groups.specs.Puts.{AreNumbers}
-use Rattle.cq_hash_groups.specs.Slots.{CanShow, shown_at}
+use Rattle.cq_hash_groups_slots.specs.Puts.{AreNumbers}
+use Rattle.cq_hash_groups_slots.specs.Slots.{CanShow, shown_at}
 use Rattle.cq_hash_groups.proofs.Keeping.{slots-added}
 use Rattle.cq_hash_groups.proofs.KeysMet.{AreApart, apart-firsts, keys-more}
 use Rattle.cq_hash_groups.proofs.Showing.{AreShown, all-range, grouped-ranges, range-all, shown-all, shown_rows}

@@ -11,11 +11,11 @@ use Rattle.cq_hash_keys.specs.Keys.{key_at}
 use Rattle.cq_model.specs.declared.query.Aggregate.{Aggregate}
 use Rattle.cq_model.specs.declared.query.Aggregate.TheVariants.{CountAll, Count, Sum, Min, Max}
 use Rattle.cq_model.specs.Group.{key_of}
-use Rattle.cq_hash_groups.specs.declared.bests.Extreme.TheVariants.{Least, Greatest}
-use Rattle.cq_hash_groups.specs.declared.slots.Slots.TheVariants.{Counts, Sums, Bests}
+use Rattle.cq_hash_groups_slots.specs.declared.bests.Extreme.TheVariants.{Least, Greatest}
+use Rattle.cq_hash_groups_slots.specs.declared.slots.Slots.TheVariants.{Counts, Sums, Bests}
 use Rattle.cq_hash_groups.specs.Groups.{rows_at, argument, kept_count, kept_sum, kept_best, slots_at, added_slots}
-use Rattle.cq_hash_groups.specs.Puts.{put_all, put_count, put_sum, put_best, no_sum, AreNumbers}
-use Rattle.cq_hash_groups.specs.Slots.{grown}
+use Rattle.cq_hash_groups_slots.specs.Puts.{put_all, put_count, put_sum, put_best, no_sum, AreNumbers}
+use Rattle.cq_hash_groups_slots.specs.Slots.{grown}
 use Rattle.cq_hash_groups.proofs.ValuesPut.{count-push, sum-push, best-push}
 use Rattle.cq_hash_groups.proofs.KeysMet.{AreApart, apart-sym, rows-append}
 use Rattle.cq_model_bags.proofs.Lists.{all-at}

@@ -2,8 +2,7 @@ pub mod Columns
 pub mod Holding
 pub mod Keeping
 pub mod KeysMet
-pub mod Known
-pub mod Putting
 pub mod Showing
 pub mod Turns
 pub mod ValuesPut
+pub mod Widths

@@ -15,11 +15,11 @@ use Rattle.cq_model.specs.declared.query.Aggregate.{Aggregate}
 use Rattle.cq_model.specs.declared.query.Aggregate.TheVariants.{CountAll, Count, Sum, Min, Max}
 use Rattle.cq_model.specs.Eval.{eval}
 use Rattle.cq_model.specs.Group.{InRange, SumInRange, SumsInRange, aggregate, group_row, grouped, key_of, keys_of, rows_of_key}
-use Rattle.cq_hash_groups.specs.declared.bests.Extreme.TheVariants.{Least, Greatest}
+use Rattle.cq_hash_groups_slots.specs.declared.bests.Extreme.TheVariants.{Least, Greatest}
 use Rattle.cq_hash_groups.specs.Groups.{argument, group_columns, group_keys, kept_best, kept_count, kept_each, kept_sum, known, rows_at, slots_at}
-use Rattle.cq_hash_groups.specs.declared.wide_sums.Sum.{Sum as Summed}
-use Rattle.cq_hash_groups.specs.Puts.{no_sum, shown_sum}
-use Rattle.cq_hash_groups.specs.Slots.{CanShow, shown_at}
+use Rattle.cq_hash_groups_slots.specs.declared.wide_sums.Sum.{Sum as Summed}
+use Rattle.cq_hash_groups_slots.specs.Puts.{no_sum, shown_sum}
+use Rattle.cq_hash_groups_slots.specs.Slots.{CanShow, shown_at}
 use Rattle.cq_model_bags.proofs.Lists.{all-weaker}
 use Rattle.cq_model_bags.proofs.Once.{distinct-once}
 use Rattle.cq_model.specs.Totals.{shown_total, total_of}

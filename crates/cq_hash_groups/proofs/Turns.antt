@@ -5,12 +5,12 @@ use Rattle.cq_values.specs.declared.value.Value.TheVariants.{Null}
 use Rattle.cq_values.specs.Value.{Row}
 use Rattle.cq_model.specs.declared.query.Aggregate.{Aggregate}
 use Rattle.cq_model.specs.declared.query.Aggregate.TheVariants.{CountAll, Count, Sum, Min, Max}
-use Rattle.cq_hash_groups.specs.declared.slots.Slots.{Slots}
+use Rattle.cq_hash_groups_slots.specs.declared.slots.Slots.{Slots}
 use Rattle.cq_hash_groups.specs.Groups.{AreAllWithin, added_slots, all_added}
-use Rattle.cq_hash_groups.specs.declared.slots.Slots.TheVariants.{Counts, Sums, Bests}
-use Rattle.cq_hash_groups.specs.Puts.{IsSumWithin, no_sum}
-use Rattle.cq_hash_groups.specs.Slots.{AreWithin, empty_slots, groups_in, grown_slots, no_slots}
-use Rattle.cq_hash_groups.proofs.Putting.{at-grown, sums-more}
+use Rattle.cq_hash_groups_slots.specs.declared.slots.Slots.TheVariants.{Counts, Sums, Bests}
+use Rattle.cq_hash_groups_slots.specs.Puts.{IsSumWithin, no_sum}
+use Rattle.cq_hash_groups_slots.specs.Slots.{AreWithin, empty_slots, groups_in, grown_slots, no_slots}
+use Rattle.cq_hash_groups_slots.proofs.Putting.{at-grown, sums-more}
 
 module _ (groups : ℕ) (numbers : List ℕ) (rows : List Row) where
   -- a turn leaves what comes after it

@@ -1,6 +1,7 @@
 -- Groups of the rows that were added to a table, and what is kept of them.
-use Rattle.std.specs.Prelude.{◌≡◌, ℕ, ◌<◌, ◌^◌, pos, not, List, [], ◌∷◌, ◌++◌, length, map, filter, Option, Some, None, slice_index_or, unwrap_or, Vec}
+use Rattle.std.specs.Prelude.{◌≡◌, ◌+◌, ℕ, ◌<◌, ◌^◌, pos, not, List, [], ◌∷◌, ◌++◌, length, map, filter, Option, Some, None, slice_index_or, unwrap_or, Vec}
 use Rattle.std.specs.Global.{Global}
+use Rattle.std.specs.List.{AllByRecursion}
 use Rattle.cq_values.specs.declared.value.Value.{Value}
 use Rattle.cq_values.specs.declared.value.Value.TheVariants.{Number}
 use Rattle.cq_values.specs.Order.{same_row}
@@ -14,13 +15,14 @@ use Rattle.cq_model.specs.declared.query.Aggregate.TheVariants.{CountAll, Count,
 use Rattle.cq_vectors.specs.Gathered.{column_of}
 use Rattle.cq_model.specs.declared.fault.ShowFault.{ShowFault}
 use Rattle.cq_model.specs.declared.fault.ShowFault.TheVariants.{SumOutOfRange}
-use Rattle.cq_hash_groups.specs.declared.bests.Extreme.{Extreme}
-use Rattle.cq_hash_groups.specs.declared.bests.Extreme.TheVariants.{Least, Greatest}
-use Rattle.cq_hash_groups.specs.declared.slots.Slots.{Slots}
-use Rattle.cq_hash_groups.specs.declared.slots.Slots.TheVariants.{Counts, Sums, Bests}
-use Rattle.cq_hash_groups.specs.declared.wide_sums.Sum.{Sum as Summed}
-use Rattle.cq_hash_groups.specs.Puts.{best_of, summed}
-use Rattle.cq_hash_groups.specs.Slots.{AreWithin, grown_slots, no_slots, put_slots}
+use Rattle.cq_hash_keys.specs.Keys.{HasValues, key_at}
+use Rattle.cq_hash_groups_slots.specs.declared.bests.Extreme.{Extreme}
+use Rattle.cq_hash_groups_slots.specs.declared.bests.Extreme.TheVariants.{Least, Greatest}
+use Rattle.cq_hash_groups_slots.specs.declared.slots.Slots.{Slots}
+use Rattle.cq_hash_groups_slots.specs.declared.slots.Slots.TheVariants.{Counts, Sums, Bests}
+use Rattle.cq_hash_groups_slots.specs.declared.wide_sums.Sum.{Sum as Summed}
+use Rattle.cq_hash_groups_slots.specs.Puts.{best_of, summed}
+use Rattle.cq_hash_groups_slots.specs.Slots.{AreWithin, CanShow, empty_slots, grown_slots, no_slots, put_slots, shown_at}
 use Rattle.cq_model.specs.Totals.{total_of}
 
 -- a table of groups: what is asked, how many rows there were, the keys that were met, and what is kept for each aggregate
@@ -47,6 +49,10 @@ first_keys (Some columns) = []
 -- the key of each row
 abbrev pub keys_in : Option (List ℕ) → List Row → List Row
 keys_in keys rows = map (key_of (group_columns keys)) rows
+
+-- the number of each row is that of its key among those that were found
+abbrev pub TellKeys : List Row → List ℕ → Option (List ℕ) → List Row → Type 0
+TellKeys found numbers keys rows = map (key_at found) numbers ≡ keys_in keys rows
 
 -- the columns that make up the keys
 abbrev pub columns_in : Option (List ℕ) → List Row → List (List Value)
@@ -102,6 +108,18 @@ pub record Holds (t : StoredGroups) (rows : List Row) : Type 0 where
   pub found : t.found ≡ group_keys t.keys rows
   pub slots : t.slots ≡ map (slots_at (group_columns t.keys) rows t.found) t.aggregates
 
+-- the table of any rows becomes the one of these behind them
+abbrev pub HoldsMore : List Row → StoredGroups → StoredGroups → Type 0
+HoldsMore more old new = (rows : List Row) → Holds old rows → Holds new (rows ++ more)
+
+-- the values are the key, if that has so many
+abbrev pub IsKey : ℕ → Row → Row → Type 0
+IsKey width key row = HasValues width key → row ≡ key
+
+-- the row is a key of so many values, and then the aggregates of its group
+abbrev pub IsShownRow : ℕ → Row → ℕ → List Slots → Row → Type 0
+IsShownRow width key group slots row = HasValues width key → row ≡ key ++ map (shown_at group) slots
+
 -- the rows of the groups are those of these rows
 abbrev pub AreGroups : StoredGroups → List Row → Vec Row Global → Type 0
 AreGroups t rows groups = once_each groups.items ≡ grouped t.keys t.aggregates (once_each rows)
@@ -114,15 +132,27 @@ CanBeShown t rows = SumsInRange t.keys t.aggregates (once_each rows)
 abbrev pub IsGroupsFault : StoredGroups → List Row → ShowFault → Type 0
 IsGroupsFault t rows e = e ≡ SumOutOfRange → CanBeShown t rows → ⊥
 
+-- so it is for one group and what is kept of it
+abbrev pub IsSlotsFault : ℕ → List Slots → ShowFault → Type 0
+IsSlotsFault group slots e = e ≡ SumOutOfRange → AllByRecursion (CanShow group) slots → ⊥
+
 -- for no aggregate has a group more values than this
 abbrev pub AreAllWithin : ℕ → List Slots → Type 0
 AreAllWithin most slots = (place : ℕ) → AreWithin most (slice_index_or slots place no_slots)
+
+-- each group has so many values more at most
+abbrev pub StayWithin : ℕ → List Slots → List Slots → Type 0
+StayWithin more old new = (n : ℕ) → AreAllWithin n old → AreAllWithin (n + more) new
 
 -- keys are as wide as GROUP BY says, and no group has more values than there were rows
 pub record IsTable (keys : Option (List ℕ)) (values count : ℕ) (slots : List Slots) : Type 0 where
   pub width : values ≡ length (group_columns keys)
   pub few : count < 2 ^ 64
   pub within : AreAllWithin count slots
+
+-- what is kept of groups without rows for each aggregate
+abbrev pub new_slots : ℕ → List Aggregate → List Slots
+new_slots groups aggregates = map (λ a. grown_slots groups (empty_slots a)) aggregates
 
 -- with the rows of a batch added to what is kept for one aggregate
 abbrev pub added_slots : ℕ → List ℕ → List Row → Aggregate → Slots → Slots
@@ -133,3 +163,11 @@ abbrev pub all_added : ℕ → List ℕ → List Row → List Aggregate → List
 all_added groups numbers rows [] slots = slots
 all_added groups numbers rows (a ∷ aggregates) [] = []
 all_added groups numbers rows (a ∷ aggregates) (s ∷ slots) = added_slots groups numbers rows a s ∷ all_added groups numbers rows aggregates slots
+
+-- the rows of a batch were added to what is kept for one aggregate
+abbrev pub IsAdded : ℕ → List ℕ → List Row → Aggregate → Slots → Slots → Type 0
+IsAdded groups numbers rows a old new = new ≡ added_slots groups numbers rows a old
+
+-- and to what is kept for each
+abbrev pub AreAdded : ℕ → List ℕ → List Row → List Aggregate → List Slots → List Slots → Type 0
+AreAdded groups numbers rows aggregates old new = new ≡ all_added groups numbers rows aggregates old

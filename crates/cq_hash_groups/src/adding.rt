@@ -1,13 +1,13 @@
 //! Rows put into what is kept for each aggregate.
 ghost use Rattle.std.specs.List.{AllByRecursion};
-ghost use Rattle.std.specs.Prelude.{◌+◌, ◌≡◌, IfOk, OnOk, length, map, ℕ};
+ghost use Rattle.std.specs.Prelude.{◌+◌, ◌≡◌, IfOk, OnOk, length, ℕ};
 ghost use Rattle.cq_hash_groups.specs.Exact.{AreExactOver, IsExactFor};
-ghost use Rattle.cq_hash_groups.specs.Groups.{AreAllWithin, added_slots, all_added};
-ghost use Rattle.cq_hash_groups.specs.Puts.{AreNumbers, most_before};
-ghost use Rattle.cq_hash_groups.specs.Slots.{AreWithin, empty_slots, grown_slots};
+ghost use Rattle.cq_hash_groups.specs.Groups.{AreAdded, AreAllWithin, IsAdded, StayWithin, new_slots};
+ghost use Rattle.cq_hash_groups_slots.specs.Puts.{AreNumbers, most_before};
+ghost use Rattle.cq_hash_groups_slots.specs.Slots.{AreWithin};
 
 use crate::arguments::argument_of;
-use crate::slots::Slots;
+use cq_hash_groups_slots::Slots;
 use cq_model::Aggregate;
 use cq_operators_scans::Scan;
 use std::alloc::{AllocError, Global};
@@ -18,7 +18,7 @@ pub(crate) fn first_slots(
     aggregates: &[Aggregate],
     groups: usize,
 ) -> Result<Vec<Slots>, AllocError>
-    ensures { IfOk result (λ all. all.items ≡ map (λ a. grown_slots groups (empty_slots a)) aggregates.now) }
+    ensures { IfOk result (λ all. all.items ≡ new_slots groups aggregates.now) }
 {
     let mut all = Vec::new(alloc);
     for aggregate in aggregates {
@@ -42,8 +42,8 @@ pub(crate) fn add_all<'a>(
     requires there { AreNumbers groups numbers.now }
     requires same { length numbers.now ≡ length scan.now }
     requires room { AreAllWithin (most_before (length numbers.now)) slots.old }
-    ensures ok { OnOk result (slots.new ≡ all_added groups numbers.now scan.now aggregates.now slots.old) }
-    ensures within { (n : ℕ) → AreAllWithin n slots.old → AreAllWithin (n + length numbers.now) slots.new }
+    ensures ok { OnOk result (AreAdded groups numbers.now scan.now aggregates.now slots.old slots.new) }
+    ensures within { StayWithin (length numbers.now) slots.old slots.new }
 {
     let len = slots.len().min(aggregates.len());
     for place in 0..len {
@@ -72,7 +72,7 @@ fn add_one<'a>(
     requires there { AreNumbers groups numbers.now }
     requires same { length numbers.now ≡ length scan.now }
     requires room { AreWithin (most_before (length numbers.now)) slots.old }
-    ensures ok { OnOk result (slots.new ≡ added_slots groups numbers.now scan.now aggregate.now slots.old) }
+    ensures ok { OnOk result (IsAdded groups numbers.now scan.now aggregate.now slots.old slots.new) }
     ensures within { (n : ℕ) → AreWithin n slots.old → AreWithin (n + length numbers.now) slots.new }
 {
     let values = argument_of(alloc, aggregate, scan)?;

@@ -8,15 +8,16 @@ ghost use Rattle.std.specs.Prelude.{◌+◌, ◌++◌, ◌≡◌, ◌≤◌, IfE
 ghost use Rattle.cq_model.specs.Sizes.{count_size};
 ghost use Rattle.cq_values.specs.Value.{Row as Values};
 ghost use Rattle.cq_hash_groups.specs.Exact.{AreExactOver};
-ghost use Rattle.cq_hash_groups.specs.Groups.{AreGroups, CanBeShown, Holds, IsGroupsFault};
+ghost use Rattle.cq_hash_groups.specs.Groups.{AreGroups, CanBeShown, Holds, HoldsMore, IsGroupsFault};
 
 use crate::adding::{add_all, first_slots};
-use crate::keys::{first_groups, number_rows};
+use crate::keys::{first_groups, key_width, number_rows};
 use crate::shown::shown_row;
-use crate::slots::Slots;
+use cq_hash_groups_slots::Slots;
 use cq_hash_keys::KeyTable;
 use cq_model::{Aggregate, ShowFault};
-use cq_operators_scans::{Scan, widened};
+use cq_operators_scans::Scan;
+use cq_segments::widened;
 use cq_values::{Row, Seq};
 use std::alloc::{AllocError, Global};
 use std::marker::Model;
@@ -79,7 +80,7 @@ impl<'q> GroupTable<'q> {
     /// refused: there is no memory for their count.
     pub fn add(&mut self, alloc: Global, scan: &Scan<'q>) -> Result<(), AllocError>
         requires exact { AllByRecursion (AreExactOver self.old.aggregates) scan.now }
-        ensures holds { OnOk result ((rows : List Values) → Holds self.old rows → Holds self.new (rows ++ scan.now)) }
+        ensures holds { OnOk result (HoldsMore scan.now self.old self.new) }
         ensures count { OnOk result (self.new.count ≡ self.old.count + length scan.now) }
         ensures keys { self.new.keys ≡ self.old.keys }
         ensures aggregates { self.new.aggregates ≡ self.old.aggregates }
@@ -100,16 +101,17 @@ impl<'q> GroupTable<'q> {
 
     /// The row of each group: its key, and then its aggregates.
     pub fn rows(&self, alloc: Global) -> Result<Vec<Row>, ShowFault>
-        ensures ok { (rows : List Values) → Holds self.now rows → IfOk result (AreGroups self.now rows) }
-        ensures range { (rows : List Values) → Holds self.now rows → OnOk result (CanBeShown self.now rows) }
-        ensures few { (rows : List Values) → Holds self.now rows → OnOk result (length rows ≤ count_size) }
-        ensures fault { (rows : List Values) → Holds self.now rows → IfErr result (IsGroupsFault self.now rows) }
+        ensures ok { (r : List Values) → Holds self.now r → IfOk result (AreGroups self.now r) }
+        ensures range { (r : List Values) → Holds self.now r → OnOk result (CanBeShown self.now r) }
+        ensures few { (r : List Values) → Holds self.now r → OnOk result (length r ≤ count_size) }
+        ensures fault { (r : List Values) → Holds self.now r → IfErr result (IsGroupsFault self.now r) }
     {
-        let found = self.found.keys(alloc)?;
-        let keys = found.as_slice();
+        let width = key_width(self.keys);
+        let groups = self.found.len();
         let mut rows = Vec::new(alloc);
-        for group in 0..keys.len() {
-            let row = shown_row(alloc, &keys[group], &self.slots, group)?;
+        rows.reserve(groups)?;
+        for group in 0..groups {
+            let row = shown_row(alloc, &self.found, width, &self.slots, group)?;
             rows.push(row)?;
         }
         Ok(rows)

@@ -1,10 +1,9 @@
 //! The groups of rows, by their keys.
 ghost use Rattle.std.specs.Prelude.{◌++◌, ◌≡◌, IfOk, OnOk, [], length, map};
 ghost use Rattle.cq_model_bags.specs.Bag.{firsts};
-ghost use Rattle.cq_hash_keys.specs.Keys.{key_at};
 ghost use Rattle.cq_operators_scans.specs.Operand.{values_in};
-ghost use Rattle.cq_hash_groups.specs.Groups.{columns_in, group_columns, group_keys, keys_in};
-ghost use Rattle.cq_hash_groups.specs.Puts.{AreNumbers};
+ghost use Rattle.cq_hash_groups.specs.Groups.{TellKeys, columns_in, group_columns, group_keys, keys_in};
+ghost use Rattle.cq_hash_groups_slots.specs.Puts.{AreNumbers};
 
 use cq_hash_keys::KeyTable;
 use cq_operators_scans::{Operand, Scan, lend_vectors};
@@ -32,6 +31,16 @@ pub(crate) fn first_groups(alloc: Global, keys: &Option<Seq<usize>>) -> Result<K
     }
 }
 
+/// How many values a key has.
+pub(crate) fn key_width(keys: &Option<Seq<usize>>) -> usize
+    ensures { result ≡ length (group_columns keys.now) }
+{
+    match keys {
+        Some(columns) => columns.len(),
+        None => 0,
+    }
+}
+
 /// Puts in what is new of the rows' keys, and tells the number of each row's group.
 pub(crate) fn number_rows(
     alloc: Global,
@@ -42,7 +51,7 @@ pub(crate) fn number_rows(
 ) -> Result<(), AllocError>
     requires { found.old.width ≡ length (group_columns keys.now) }
     ensures keys { OnOk result (found.new.keys ≡ firsts (found.old.keys ++ keys_in keys.now scan.now)) }
-    ensures numbers { OnOk result (map (key_at found.new.keys) numbers.new.items ≡ keys_in keys.now scan.now) }
+    ensures numbers { OnOk result (TellKeys found.new.keys numbers.new.items keys.now scan.now) }
     ensures within { OnOk result (AreNumbers (length found.new.keys) numbers.new.items) }
     ensures width { found.new.width ≡ found.old.width }
 {

@@ -6,14 +6,8 @@
 
 mod adding;
 mod arguments;
-mod bests;
-mod counts;
 mod group_table;
 mod keys;
 mod shown;
-mod slots;
-mod small_sums;
-mod sums;
-mod wide_sums;
 
 pub use group_table::GroupTable;

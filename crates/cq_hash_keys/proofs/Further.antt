@@ -1,6 +1,5 @@
 -- Stages one behind the other, as columns are taken in.
-use Rattle.std.proofs.Common.{◌≡◌, ℕ, ◌<◌, List, [], ◌∷◌, ◌++◌, map, take, length, get_or, refl, sym, ◌∙◌, ap, ap₂, subst, arith}
-use Rattle.std.proofs.Math.Seq.{take-length}
+use Rattle.std.proofs.Common.{◌≡◌, ℕ, List, [], ◌∷◌, ◌++◌, map, take, length, get_or, refl, sym, ◌∙◌, ap, ap₂, subst, arith}
 use Rattle.std.specs.List.{AllByRecursion, IsDistinct, zip}
 use Rattle.std.proofs.lemmas.List.{length-map}
 use Rattle.cq_values.specs.declared.value.Value.{Value}
@@ -8,12 +7,9 @@ use Rattle.cq_values.specs.Keys.{same_row-refl, same_row-same}
 use Rattle.cq_values.specs.Order.{same_row}
 use Rattle.cq_values.specs.Value.{Row, column}
 use Rattle.cq_hash_keys.specs.declared.stage.Stage.{Stage}
-use Rattle.cq_hash_keys.specs.Grid.{same_pair}
-use Rattle.cq_hash_keys.specs.Keys.{key_at}
-use Rattle.cq_hash_keys.specs.Met.{AreNumbersOf, with_new}
-use Rattle.cq_hash_keys.specs.Stages.{Adds, AddsColumn, AddsPart, AreStages, GoesOn, IsStage, IsWithinBoth, StartsFrom, StaysStages, behind, joined, longer, longest}
-use Rattle.cq_hash_keys.specs.Values.{same_value}
-use Rattle.cq_hash_keys.proofs.Growing.{met-more, new-once}
+use Rattle.cq_hash_keys_values.specs.Met.{with_new}
+use Rattle.cq_hash_keys.specs.Stages.{AddsColumn, AddsPart, AreStages, GoesOn, IsStage, IsWithinBoth, StartsFrom, StaysStages, behind, joined, longer}
+use Rattle.cq_hash_keys_values.proofs.Growing.{met-more, new-once}
 use Rattle.cq_hash_keys.proofs.Zips.{length-zip}
 use Rattle.cq_hash_keys.proofs.Longer.{all-front, joined-rows, longer-more, named-keys, same-length, stage-more, zip-within}
 

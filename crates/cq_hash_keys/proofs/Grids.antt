@@ -1,12 +1,12 @@
 -- Cells of a grid: two pairs have one only where they are one.
-use Rattle.std.proofs.Common.{◌≡◌, ℕ, zero, suc, ◌+◌, ◌-◌, ◌*◌, ◌/◌, ◌^◌, ◌<◌, Bool, true, false, ◌&&◌, cond, nat_eq, nat_lt, List, [], set, length, get_or, Option, Some, None, refl, sym, subst, ◌∙◌, ap, arith, true≢false}
+use Rattle.std.proofs.Common.{◌≡◌, ℕ, ◌+◌, ◌-◌, ◌*◌, ◌/◌, ◌^◌, ◌<◌, Bool, true, false, ◌&&◌, nat_eq, nat_lt, List, [], set, length, Option, Some, None, refl, sym, subst, ◌∙◌, ap, arith, true≢false}
 use Rattle.std.specs.List.{IsDistinct}
 use Rattle.std.proofs.lemmas.Bool.{eqb-true}
 use Rattle.std.proofs.lemmas.Grind.{common_steps}
 use Rattle.std.proofs.lemmas.List.{get_or-set_same, get_or-set_other}
 use Rattle.std.proofs.lemmas.Nat.{div-mul-add}
 use Rattle.cq_model_bags.proofs.Totals.{by_test}
-use Rattle.cq_hash_keys.specs.Codes.{code_in, code_or}
+use Rattle.cq_hash_keys_values.specs.Codes.{code_in, code_or}
 use Rattle.cq_hash_keys.specs.declared.grid.Grid.{Grid}
 use Rattle.cq_hash_keys.specs.Grid.{cell_of, pair_in, same_pair}
 use Rattle.cq_hash_keys.specs.Pairs.{ArePairs}
@@ -65,12 +65,6 @@ pub coded : (n : ℕ) (found : Option ℕ) → code_or (n + 1) found ≡ Some n
 coded n found = by_test (nat_eq (n + 1) 0)
     (λ s. absurd (let e = eqb-true (n + 1) 0 s in omega (arith, e)))
     (λ s. rw s (ap Some (omega arith)))
-
--- a code that is not 0 is that of the number before it
-pub known-code : (code : ℕ) (found : Option ℕ) → (code ≡ 0 → ⊥) → code_or code found ≡ Some (code - 1)
-known-code code found some = by_test (nat_eq code 0)
-    (λ s. absurd (some (eqb-true code 0 s)))
-    (λ s. rw s refl)
 
 -- pairs that are apart are told apart
 pub told-apart : (p q : ℕ × ℕ) → (q ≡ p → ⊥) → same_pair p q ≡ false

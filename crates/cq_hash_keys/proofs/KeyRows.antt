@@ -1,5 +1,5 @@
 -- The keys at the places of columns, one column behind the other; and the first of each row.
-use Rattle.std.proofs.Common.{◌≡◌, ℕ, not, cond, ◌||◌, List, [], ◌∷◌, ◌++◌, map, filter, length, refl, sym, ◌∙◌, ap, ap₂, subst, arith}
+use Rattle.std.proofs.Common.{◌≡◌, ℕ, not, cond, ◌||◌, List, [], ◌∷◌, ◌++◌, map, filter, length, refl, sym, ◌∙◌, ap, ap₂}
 use Rattle.std.specs.List.{AllByRecursion, IsDistinct, list_any, range_with_len, zip}
 use Rattle.std.proofs.lemmas.List.{append-nil, append_assoc, map-append}
 use Rattle.std.proofs.lemmas.List.FromFn.{fill_by_all}
@@ -14,7 +14,7 @@ use Rattle.cq_model_bags.proofs.Distincts.{is_among, is_among-firsts}
 use Rattle.cq_model_bags.proofs.Once.{firsts-push, kept-apart}
 use Rattle.cq_vectors.specs.Batch.{row_at}
 use Rattle.cq_hash_keys.specs.Keys.{HasLength, key_rows}
-use Rattle.cq_hash_keys.specs.Met.{with_new}
+use Rattle.cq_hash_keys_values.specs.Met.{with_new}
 use Rattle.cq_hash_keys.specs.Stages.{behind, rows_with, singles}
 
 -- ---- the first of each row

@@ -1,15 +1,9 @@
-pub mod Choices
+pub mod EmptyKeys
 pub mod Further
 pub mod Grids
-pub mod Growing
 pub mod KeyRows
 pub mod Lending
 pub mod Longer
 pub mod Looking
-pub mod Meeting
-pub mod Runs
 pub mod Tables
-pub mod TextKeys
-pub mod ValueKeys
-pub mod Windows
 pub mod Zips

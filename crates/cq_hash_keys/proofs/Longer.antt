@@ -1,6 +1,5 @@
 -- Keys with one column more.
-use Rattle.std.proofs.Common.{◌≡◌, ℕ, zero, suc, ◌+◌, ◌<◌, Bool, true, false, List, [], ◌∷◌, ◌++◌, map, take, drop, length, get_or, position, Option, Some, None, refl, sym, ◌∙◌, ap, ap₂, subst, arith, true≢false}
-use Rattle.std.proofs.Math.Seq.{take-length}
+use Rattle.std.proofs.Common.{◌≡◌, ℕ, zero, suc, ◌<◌, List, [], ◌∷◌, ◌++◌, map, take, drop, length, get_or, refl, sym, ◌∙◌, ap, ap₂, subst, arith, true≢false}
 use Rattle.std.specs.List.{AllByRecursion, IsDistinct, zip}
 use Rattle.std.proofs.lemmas.List.{get_or-map, length-append, length-map}
 use Rattle.cq_values.specs.declared.value.Value.{Value}
@@ -12,13 +11,13 @@ use Rattle.cq_model_bags.proofs.Totals.{by_test}
 use Rattle.cq_hash_keys.specs.declared.stage.Stage.{Stage}
 use Rattle.cq_hash_keys.specs.Grid.{same_pair}
 use Rattle.cq_hash_keys.specs.Keys.{key_at}
-use Rattle.cq_hash_keys.specs.Met.{AreNumbersOf, with_new}
-use Rattle.cq_hash_keys.specs.Stages.{Adds, AddsColumn, AddsPart, AreStages, IsStage, IsWithinBoth, StartsFrom, behind, joined, longer}
-use Rattle.cq_hash_keys.specs.Values.{same_value}
+use Rattle.cq_hash_keys_values.specs.Met.{with_new}
+use Rattle.cq_hash_keys.specs.Stages.{IsStage, IsWithinBoth, behind, joined, longer}
+use Rattle.cq_hash_keys_values.specs.Values.{same_value}
 use Rattle.cq_hash_keys.proofs.Grids.{pair-itself, pair-same}
-use Rattle.cq_hash_keys.proofs.Growing.{all-new, met-more, new-named, new-once, one-number}
-use Rattle.cq_hash_keys.proofs.Meeting.{stays, still-within}
-use Rattle.cq_hash_keys.proofs.ValueKeys.{value-itself, value-same}
+use Rattle.cq_hash_keys_values.proofs.Growing.{all-new, met-more, new-named, new-once, one-number}
+use Rattle.cq_hash_keys_values.proofs.Meeting.{stays}
+use Rattle.cq_hash_keys_values.proofs.ValueKeys.{value-itself, value-same}
 
 -- what comes last and what comes before it
 pub snoc-parts : (xs ys : Row) (x y : Value) → xs ++ x ∷ [] ≡ ys ++ y ∷ [] → (xs ≡ ys) × (x ≡ y)

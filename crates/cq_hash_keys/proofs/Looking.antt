@@ -1,5 +1,5 @@
 -- Keys with one column more, looked up.
-use Rattle.std.proofs.Common.{◌≡◌, ℕ, ◌<◌, Bool, true, false, List, [], ◌∷◌, ◌++◌, map, length, get_or, position, Option, Some, None, refl, sym, ◌∙◌, ap, ap₂, subst, arith, true≢false}
+use Rattle.std.proofs.Common.{◌≡◌, ℕ, true, false, List, [], ◌∷◌, ◌++◌, map, length, Option, None, refl, sym, ◌∙◌, ap, ap₂, arith, true≢false}
 use Rattle.std.specs.List.{AllByRecursion, IsDistinct, list_any, zip}
 use Rattle.std.proofs.lemmas.List.Folds.{list_any_at}
 use Rattle.cq_values.specs.declared.value.Value.{Value}
@@ -12,13 +12,13 @@ use Rattle.cq_hash_keys.specs.declared.stage.Stage.{Stage}
 use Rattle.cq_hash_keys.specs.Grid.{same_pair}
 use Rattle.cq_hash_keys.specs.Keys.{key_at, place_of, places_of}
 use Rattle.cq_hash_keys.specs.Pairs.{place_of_both}
-use Rattle.cq_hash_keys.specs.Stages.{AreStages, FindsOn, IsStage, IsWithinBoth, behind, found_further, joined, longer, longest}
-use Rattle.cq_hash_keys.specs.Values.{place_in, same_value}
-use Rattle.cq_hash_keys.proofs.Choices.{by-option}
-use Rattle.cq_hash_keys.proofs.Growing.{place-named}
+use Rattle.cq_hash_keys.specs.Stages.{FindsOn, IsStage, IsWithinBoth, behind, found_further, joined, longer}
+use Rattle.cq_hash_keys_values.specs.Values.{place_in, same_value}
+use Rattle.cq_hash_keys_values.proofs.Choices.{by-option}
+use Rattle.cq_hash_keys_values.proofs.Growing.{place-named}
 use Rattle.cq_hash_keys.proofs.Longer.{joined-agree, snoc-parts}
-use Rattle.cq_hash_keys.proofs.Meeting.{none-any, none-passes, told}
-use Rattle.cq_hash_keys.proofs.ValueKeys.{value-itself, value-same}
+use Rattle.cq_hash_keys_values.proofs.Meeting.{none-any, none-passes, told}
+use Rattle.cq_hash_keys_values.proofs.ValueKeys.{value-itself, value-same}
 
 module _ (keys : List Row) (stage : Stage) (once : IsDistinct same_row keys) (is_stage : IsStage keys stage) (row : Row) (value : Value) where
   -- with a part that was never met no key is found

@@ -1,11 +1,12 @@
 -- Keys, each once, as they were first met; the number of each is its place among them.
-use Rattle.std.specs.Prelude.{ℕ, ℤ, ◌≡◌, ◌<◌, List, [], ◌∷◌, map, length, position, slice_index_or, Option}
+use Rattle.std.specs.Prelude.{ℕ, ℤ, ◌≡◌, ◌<◌, List, [], ◌∷◌, ◌++◌, map, length, position, slice_index_or, Option}
 use Rattle.std.specs.Borrow.{Bor}
 use Rattle.std.specs.List.{AllByRecursion, IsDistinct, range_with_len}
 use Rattle.cq_values.specs.declared.value.Value.{Value}
 use Rattle.cq_values.specs.declared.value.Value.TheVariants.{Number}
 use Rattle.cq_values.specs.Value.{Row}
 use Rattle.cq_values.specs.Order.{same_row}
+use Rattle.cq_model_bags.specs.Bag.{firsts}
 use Rattle.cq_vectors.specs.Batch.{row_at}
 
 -- keys of so many values
@@ -38,6 +39,14 @@ HasLength len values = length values ≡ len
 abbrev pub key_rows : ℕ → List (List Value) → List Row
 key_rows len columns = map (row_at columns) (range_with_len 0 len)
 
+-- the key at each place of columns that are lent
+abbrev pub rows_in : ℕ → List (Bor (List Value)) → List Row
+rows_in len columns = key_rows len (values_of columns)
+
+-- what is new of these keys was added
+abbrev pub AddsKeys : List Row → List Row → List Row → Type 0
+AddsKeys old keys new = new ≡ firsts (old ++ keys)
+
 -- the key of each number
 abbrev pub rows_of_numbers : List ℤ → List Row
 rows_of_numbers numbers = key_rows (length numbers) (map Number numbers ∷ [])
@@ -49,6 +58,10 @@ key_at keys number = slice_index_or keys number []
 -- each place of the columns has the number of its key
 abbrev pub AreNumbers : List Row → ℕ → List (List Value) → List ℕ → Type 0
 AreNumbers keys len columns numbers = map (key_at keys) numbers ≡ key_rows len columns
+
+-- each place of columns that are lent has the number of its key
+abbrev pub AreNumbersIn : List Row → ℕ → List (Bor (List Value)) → List ℕ → Type 0
+AreNumbersIn keys len columns numbers = AreNumbers keys len (values_of columns) numbers
 
 -- the number of a key, and None where it was never met
 abbrev pub place_of : List Row → Row → Option ℕ

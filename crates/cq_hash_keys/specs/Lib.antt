@@ -1,11 +1,5 @@
-pub mod Codes
-pub mod Dictionary
 pub mod Grid
 pub mod Keys
-pub mod Met
 pub mod Pairs
 pub mod Stages
 pub mod Table
-pub mod Texts
-pub mod Values
-pub mod Window

@@ -1,5 +1,7 @@
 -- Keys of several columns: a stage for each column behind the first.
 use Rattle.std.specs.Prelude.{⊤, ◌⊎◌, ◌≡◌, ◌<◌, ℕ, List, [], ◌∷◌, ◌++◌, Option, fold, length, map}
+use Rattle.std.specs.Borrow.{Bor}
+use Rattle.std.specs.Global.{Vec}
 use Rattle.std.specs.List.{AllByRecursion, IsDistinct, zip}
 use Rattle.cq_values.specs.declared.value.Value.{Value}
 use Rattle.cq_values.specs.declared.value.Value.TheVariants.{Null}
@@ -7,10 +9,10 @@ use Rattle.cq_values.specs.Order.{same_row}
 use Rattle.cq_values.specs.Value.{Row, column}
 use Rattle.cq_hash_keys.specs.declared.stage.Stage.{Stage}
 use Rattle.cq_hash_keys.specs.Grid.{same_pair}
-use Rattle.cq_hash_keys.specs.Keys.{key_at, places_of}
-use Rattle.cq_hash_keys.specs.Met.{AreNumbersOf, TakesFront, with_new}
+use Rattle.cq_hash_keys.specs.Keys.{key_at, places_of, values_of}
+use Rattle.cq_hash_keys_values.specs.Met.{AreNumbersOf, TakesFront, with_new}
 use Rattle.cq_hash_keys.specs.Pairs.{place_of_both}
-use Rattle.cq_hash_keys.specs.Values.{place_in, same_value}
+use Rattle.cq_hash_keys_values.specs.Values.{place_in, same_value}
 
 -- the key of each value alone
 abbrev pub singles : List Value → List Row
@@ -45,6 +47,14 @@ pub record IsStage (keys : List Row) (stage : Stage) : Type 0 where
   pub values : IsDistinct same_value stage.values
   pub within : AllByRecursion (IsWithinBoth (length keys) (length stage.values)) stage.pairs
   pub once : IsDistinct same_row (longer keys stage)
+
+-- the key at each place of a first column and of others that are lent
+abbrev pub rows_on : List Value → List (Bor (List Value)) → List Row
+rows_on first others = rows_with (singles first) (values_of others)
+
+-- the numbers are those of the keys at the places of a first column and of others
+abbrev pub AreNumbersOn : List Row → List Value → List (Bor (List Value)) → List ℕ → Type 0
+AreNumbersOn keys first others numbers = AreNumbersOf [] keys (rows_on first others) numbers
 
 -- each stage goes on from the keys of those before it
 abbrev pub AreStages : List Row → List Stage → Type 0
@@ -82,6 +92,10 @@ abbrev pub GoesOn : List Stage → List (List Value) → List ℕ → List Stage
 GoesOn old columns firsts new numbers =
     (keys more rows : List Row) → StartsFrom keys more rows old firsts → Adds (longest keys old) (longest more new) (rows_with rows columns) numbers
 
+-- so it is with columns that are lent
+abbrev pub GoesOnIn : List Stage → List (Bor (List Value)) → Vec ℕ → List Stage → Vec ℕ → Type 0
+GoesOnIn old columns firsts new numbers = GoesOn old (values_of columns) firsts.items new numbers.items
+
 -- what is left are stages for what they go on from
 abbrev pub StaysStages : List Stage → List ℕ → List Stage → Type 0
 StaysStages old firsts new = (keys more rows : List Row) → StartsFrom keys more rows old firsts → AreStages more new
@@ -90,11 +104,19 @@ StaysStages old firsts new = (keys more rows : List Row) → StartsFrom keys mor
 abbrev pub found_further : Stage → Option ℕ × Value → Option ℕ
 found_further stage next = place_of_both stage.pairs (next.0, place_in stage.values next.1)
 
+-- the numbers of keys that go on from these with these values
+abbrev pub found_behind : Stage → List (Option ℕ) → List Value → List (Option ℕ)
+found_behind stage firsts values = map (found_further stage) (zip firsts values)
+
 -- the rows are looked up with the columns behind, whatever the stages go on from
 abbrev pub FindsOn : List Stage → List (List Value) → List (Option ℕ) → List (Option ℕ) → Type 0
 FindsOn stages columns firsts numbers =
     (keys rows : List Row) → IsDistinct same_row keys → AreStages keys stages → firsts ≡ places_of keys rows
     → numbers ≡ places_of (longest keys stages) (rows_with rows columns)
+
+-- so it is with columns that are lent
+abbrev pub FindsOnIn : List Stage → List (Bor (List Value)) → Vec (Option ℕ) → Vec (Option ℕ) → Type 0
+FindsOnIn stages columns firsts numbers = FindsOn stages (values_of columns) firsts.items numbers.items
 
 -- nothing is in it
 pub record IsFresh (stage : Stage) : Type 0 where

@@ -2,11 +2,10 @@
 //!
 //! Where both numbers are small the number of the pair stands in a grid, at the first times the stride and the second.
 //! A map has the others. To look one up takes one read in the grid, and hashing only where the grid has nothing.
-ghost use Rattle.std.specs.Prelude.{IfOk, None, OnErr, OnOk, length, zip, ℕ, ◌<◌, ◌≡◌, ◌≤◌, ◌^◌};
+ghost use Rattle.std.specs.Prelude.{IfOk, None, OnErr, OnOk, length, ℕ, ◌<◌, ◌≡◌, ◌≤◌, ◌^◌};
 ghost use Rattle.indexmap.specs.IndexMap.{get};
-ghost use Rattle.cq_hash_keys.specs.Codes.{code_in};
-ghost use Rattle.cq_hash_keys.specs.Grid.{AgreeOn, PutsPair, cell_of, pair_in, same_pair};
-ghost use Rattle.cq_hash_keys.specs.Met.{IsRun};
+ghost use Rattle.cq_hash_keys_values.specs.Codes.{code_in};
+ghost use Rattle.cq_hash_keys.specs.Grid.{AgreeOn, IsGridRun, PutsPair, cell_of, pair_in, same_pair};
 
 use indexmap::IndexMap;
 use std::alloc::{AllocError, Global};
@@ -79,7 +78,7 @@ impl Grid {
         requires same { length numbers.old ≡ length firsts.now }
         ensures from { from ≤ result }
         ensures within { result ≤ length firsts.now }
-        ensures run { IsRun (0, 0) (pair_in self.now) (zip firsts.now seconds.now) from result numbers.old numbers.new }
+        ensures run { IsGridRun self.now firsts.now seconds.now from result numbers.old numbers.new }
     {
         let (stride, codes) = (self.stride, self.codes.as_slice());
         for place in from..firsts.len() {

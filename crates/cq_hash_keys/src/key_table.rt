@@ -6,18 +6,16 @@
 //! kept as these numbers and never as a row; `keys` makes rows of them, and `column` a vector of one column. A key that
 //! is known costs a look-up a value and one a pair. After an `Err` of `add` some keys may be in, each with its number.
 ghost use Rattle.std.specs.List.{AllByRecursion};
-ghost use Rattle.std.specs.Prelude.{IfOk, None, OnOk, Some, [], drop, if◌then◌else◌, length, take, ◌+◌, ◌++◌, ◌<◌, ◌≡◌, ◌≤◌};
+ghost use Rattle.std.specs.Prelude.{IfOk, None, OnOk, Some, [], drop, if◌then◌else◌, length, take, ◌+◌, ◌<◌, ◌≡◌, ◌≤◌};
 ghost use Rattle.cq_values.specs.Lent.{owned};
 ghost use Rattle.cq_values.specs.Value.{column as column_at};
-ghost use Rattle.cq_model_bags.specs.Bag.{firsts};
 ghost use Rattle.cq_vectors.specs.Gathered.{column_of};
-ghost use Rattle.cq_hash_keys.specs.Keys.{AreKeys, AreNumbers, AreWithin, HasLength, key_at, key_rows, places_of, values_of};
-ghost use Rattle.cq_hash_keys.specs.Met.{AreNumbersOf};
-ghost use Rattle.cq_hash_keys.specs.Stages.{rows_with, singles};
+ghost use Rattle.cq_hash_keys.specs.Keys.{AddsKeys, AreKeys, AreNumbers, AreNumbersIn, AreWithin, HasLength, key_at, key_rows, places_of, rows_in, values_of};
+ghost use Rattle.cq_hash_keys.specs.Stages.{AreNumbersOn, rows_on};
 
 use crate::stage::Stage;
 use crate::stages::{find_on, go_on, lend_value, make_ready};
-use crate::values::Values;
+use cq_hash_keys_values::Values;
 use cq_values::{Lent, Row};
 use cq_vectors::{Form, Vector};
 use std::alloc::{AllocError, Global};
@@ -73,8 +71,8 @@ impl KeyTable {
         requires width { length columns.now ≡ self.old.width }
         requires long { AllByRecursion (HasLength len) (values_of columns.now) }
         requires few { len ≤ 1024 }
-        ensures keys { OnOk result (self.new.keys ≡ firsts (self.old.keys ++ key_rows len (values_of columns.now))) }
-        ensures numbers { OnOk result (AreNumbers self.new.keys len (values_of columns.now) numbers.new.items) }
+        ensures keys { OnOk result (AddsKeys self.old.keys (rows_in len columns.now) self.new.keys) }
+        ensures numbers { OnOk result (AreNumbersIn self.new.keys len columns.now numbers.new.items) }
         ensures within { OnOk result (AreWithin self.new.keys numbers.new.items) }
         ensures width { self.new.width ≡ self.old.width }
     {
@@ -95,7 +93,7 @@ impl KeyTable {
         requires width { length columns.now ≡ self.now.width }
         requires long { AllByRecursion (HasLength len) (values_of columns.now) }
         requires few { len ≤ 1024 }
-        ensures { OnOk result (numbers.new.items ≡ places_of self.now.keys (key_rows len (values_of columns.now))) }
+        ensures { OnOk result (numbers.new.items ≡ places_of self.now.keys (rows_in len columns.now)) }
     {
         match columns.split_first() {
             None => self.find_empty(len, numbers),
@@ -184,7 +182,7 @@ impl KeyTable {
     /// The key of no values is met where there is a place.
     fn add_empty(&mut self, len: usize, numbers: &mut Vec<usize>) -> Result<(), AllocError>
         requires { self.old.width ≡ 0 }
-        ensures keys { OnOk result (self.new.keys ≡ firsts (self.old.keys ++ key_rows len [])) }
+        ensures keys { OnOk result (AddsKeys self.old.keys (key_rows len []) self.new.keys) }
         ensures numbers { OnOk result (AreNumbers self.new.keys len [] numbers.new.items) }
         ensures within { OnOk result (AreWithin self.new.keys numbers.new.items) }
         ensures width { self.new.width ≡ self.old.width }
@@ -218,8 +216,8 @@ impl KeyTable {
     ) -> Result<(), AllocError>
         requires width { length others.now + 1 ≡ self.old.width }
         requires long { AllByRecursion (HasLength (length first.now)) (values_of others.now) }
-        ensures keys { OnOk result (self.new.keys ≡ firsts (self.old.keys ++ rows_with (singles first.now) (values_of others.now))) }
-        ensures numbers { OnOk result (AreNumbersOf [] self.new.keys (rows_with (singles first.now) (values_of others.now)) numbers.new.items) }
+        ensures keys { OnOk result (AddsKeys self.old.keys (rows_on first.now others.now) self.new.keys) }
+        ensures numbers { OnOk result (AreNumbersOn self.new.keys first.now others.now numbers.new.items) }
         ensures width { self.new.width ≡ self.old.width }
     {
         make_ready(alloc, &mut self.stages, others.len())?;
@@ -247,7 +245,7 @@ impl KeyTable {
     ) -> Result<(), AllocError>
         requires width { length others.now + 1 ≡ self.now.width }
         requires long { AllByRecursion (HasLength (length first.now)) (values_of others.now) }
-        ensures { OnOk result (numbers.new.items ≡ places_of self.now.keys (rows_with (singles first.now) (values_of others.now))) }
+        ensures { OnOk result (numbers.new.items ≡ places_of self.now.keys (rows_on first.now others.now)) }
     {
         if self.stages.len() != others.len() {
             numbers.clear();

@@ -5,15 +5,11 @@
 #![tactic(auto)]
 
 mod columns;
-mod dictionary;
 mod grid;
 mod key_table;
 mod pairs;
 mod stage;
 mod stages;
-mod texts;
-mod values;
-mod window;
 
 pub use columns::key_columns;
 pub use key_table::KeyTable;

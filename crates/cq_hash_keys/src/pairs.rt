@@ -3,11 +3,11 @@
 //! `add` puts in what is new of pairs, and tells the number of each; `find` puts nothing in; `pair` reads the pair of a
 //! number. Before each `add` the grid is made anew where it is too small for the numbers that may come and the pairs
 //! are many enough for a larger one.
-ghost use Rattle.std.specs.Prelude.{IfOk, None, OnErr, OnOk, [], length, map, slice_index_or, zip, ◌<◌, ◌≡◌, ◌≤◌, ◌^◌};
+ghost use Rattle.std.specs.Prelude.{IfOk, None, OnErr, OnOk, [], length, slice_index_or, zip, ◌<◌, ◌≡◌, ◌≤◌, ◌^◌};
 ghost use Rattle.indexmap.specs.IndexSet.{insert_key};
 ghost use Rattle.cq_hash_keys.specs.Grid.{same_pair};
-ghost use Rattle.cq_hash_keys.specs.Met.{AreNumbersOf, IsNumberIn, IsRun, TakesFront, with_new};
-ghost use Rattle.cq_hash_keys.specs.Pairs.{place_of_both, place_of_pair};
+ghost use Rattle.cq_hash_keys_values.specs.Met.{IsNumberIn, TakesFront, with_new};
+ghost use Rattle.cq_hash_keys.specs.Pairs.{ArePairNumbers, IsPairRun, place_of_both, place_of_pair, places_of_pairs};
 
 use crate::grid::Grid;
 use std::alloc::{AllocError, Global};
@@ -69,7 +69,7 @@ impl Pairs {
     ) -> Result<(), AllocError>
         requires { length firsts.now ≡ length seconds.now }
         ensures pairs { OnOk result (self.new ≡ with_new same_pair self.old (zip firsts.now seconds.now)) }
-        ensures numbers { OnOk result (AreNumbersOf (0, 0) self.new (zip firsts.now seconds.now) numbers.new.items) }
+        ensures numbers { OnOk result (ArePairNumbers self.new firsts.now seconds.now numbers.new.items) }
         ensures front { TakesFront same_pair self.old (zip firsts.now seconds.now) self.new }
     {
         numbers.clear();
@@ -87,7 +87,7 @@ impl Pairs {
         requires seconds { length seconds.now ≡ length firsts.now }
         requires same { length numbers.old ≡ length firsts.now }
         ensures pairs { OnOk result (self.new ≡ with_new same_pair self.old (zip firsts.now seconds.now)) }
-        ensures numbers { OnOk result (AreNumbersOf (0, 0) self.new (zip firsts.now seconds.now) numbers.new) }
+        ensures numbers { OnOk result (ArePairNumbers self.new firsts.now seconds.now numbers.new) }
         ensures front { TakesFront same_pair self.old (zip firsts.now seconds.now) self.new }
         ensures same { length numbers.new ≡ length numbers.old }
     {
@@ -106,7 +106,7 @@ impl Pairs {
         requires same { length numbers.old ≡ length firsts.now }
         ensures from { from ≤ result }
         ensures within { result ≤ length firsts.now }
-        ensures run { IsRun (0, 0) (place_of_pair self.now) (zip firsts.now seconds.now) from result numbers.old numbers.new }
+        ensures run { IsPairRun self.now firsts.now seconds.now from result numbers.old numbers.new }
     {
         self.ways.run(firsts, seconds, from, numbers)
     }
@@ -119,7 +119,7 @@ impl Pairs {
         numbers: &mut Vec<Option<usize>>,
     ) -> Result<(), AllocError>
         requires { length firsts.now ≡ length seconds.now }
-        ensures { OnOk result (numbers.new.items ≡ map (place_of_both self.now) (zip firsts.now seconds.now)) }
+        ensures { OnOk result (numbers.new.items ≡ places_of_pairs self.now firsts.now seconds.now) }
     {
         numbers.clear();
         numbers.reserve(firsts.len())?;

@@ -1,9 +1,9 @@
 //! What is kept of a further column of keys.
-ghost use Rattle.std.specs.Prelude.{IfOk, OnOk, [], length, map, zip, ◌≡◌};
-ghost use Rattle.cq_hash_keys.specs.Stages.{AddsColumn, AddsPart, found_further};
+ghost use Rattle.std.specs.Prelude.{IfOk, OnOk, [], length, ◌≡◌};
+ghost use Rattle.cq_hash_keys.specs.Stages.{AddsColumn, AddsPart, found_behind};
 
 use crate::pairs::Pairs;
-use crate::values::Values;
+use cq_hash_keys_values::Values;
 use cq_vectors::Vector;
 use std::alloc::{AllocError, Global};
 
@@ -55,7 +55,7 @@ impl Stage {
         numbers: &mut Vec<Option<usize>>,
     ) -> Result<(), AllocError>
         requires { length firsts.now ≡ length column.now }
-        ensures { OnOk result (numbers.new.items ≡ map (found_further self.now) (zip firsts.now column.now)) }
+        ensures { OnOk result (numbers.new.items ≡ found_behind self.now firsts.now column.now) }
     {
         self.values.find(column, seconds)?;
         self.pairs.find(firsts, seconds.as_slice(), numbers)

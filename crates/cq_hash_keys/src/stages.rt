@@ -4,10 +4,10 @@ ghost use Rattle.std.specs.Prelude.{IfOk, OnErr, OnOk, length, ◌<◌, ◌≡�
 ghost use Rattle.cq_values.specs.Lent.{owned};
 ghost use Rattle.cq_values.specs.Value.{column as column_at};
 ghost use Rattle.cq_hash_keys.specs.Keys.{HasLength, key_at, values_of};
-ghost use Rattle.cq_hash_keys.specs.Stages.{AreStages, FindsOn, GoesOn, IsFresh, Readies, StaysStages, longest, singles};
+ghost use Rattle.cq_hash_keys.specs.Stages.{AreStages, FindsOnIn, GoesOnIn, IsFresh, Readies, StaysStages, longest, singles};
 
 use crate::stage::Stage;
-use crate::values::Values;
+use cq_hash_keys_values::Values;
 use cq_values::Lent;
 use cq_vectors::Vector;
 use std::alloc::{AllocError, Global};
@@ -53,7 +53,7 @@ pub(crate) fn go_on(
 ) -> Result<(), AllocError>
     requires columns { length columns.now ≡ length stages.old }
     requires long { AllByRecursion (HasLength (length numbers.old.items)) (values_of columns.now) }
-    ensures ok { OnOk result (GoesOn stages.old (values_of columns.now) numbers.old.items stages.new numbers.new.items) }
+    ensures ok { OnOk result (GoesOnIn stages.old columns.now numbers.old stages.new numbers.new) }
     ensures stays { StaysStages stages.old numbers.old.items stages.new }
     ensures count { length stages.new ≡ length stages.old }
 {
@@ -81,7 +81,7 @@ pub(crate) fn find_on(
 ) -> Result<(), AllocError>
     requires columns { length columns.now ≡ length stages.now }
     requires long { AllByRecursion (HasLength (length numbers.old.items)) (values_of columns.now) }
-    ensures { OnOk result (FindsOn stages.now (values_of columns.now) numbers.old.items numbers.new.items) }
+    ensures { OnOk result (FindsOnIn stages.now columns.now numbers.old numbers.new) }
 {
     match stages.split_first() {
         None => Ok(()),

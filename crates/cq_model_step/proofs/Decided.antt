@@ -16,7 +16,8 @@ use Rattle.cq_binder_rules.specs.Records.{Files}
 use Rattle.cq_binder_rules.specs.Refusal.{refusal}
 use Rattle.cq_model_step.specs.Step.{Step, Does, Accepts, IsTooLarge, Refuses, by_walk, for_memory, source_failed, memory_on_the_way, too_large}
 use Rattle.cq_model_step.specs.Output.{Serves, rest_without_semicolon, sentence, no_sentence, past_limits, out_of_memory, Runs, statements_among, not_utf8, answered, outside, HasOutcomes, RefusalsDecide}
-use Rattle.cq_model_step.proofs.Alike.{Alike, alike_same, alike_turned, alike_then, refusal-alike, bound-alike, gives-up-alike, SameAnswer, accepts-alike, not-too-large, present-alike}
+use Rattle.cq_model_step.proofs.Alike.{Alike, alike_same, alike_turned, alike_then, refusal-alike, bound-alike}
+use Rattle.cq_model_step.proofs.SameAnswers.{gives-up-alike, SameAnswer, accepts-alike, not-too-large, present-alike}
 
 abbrev Outcome : Type 0
 Outcome = Result Answer Fault

@@ -12,23 +12,15 @@ use Rattle.cq_model_state.specs.State.{TableOf, ViewOf, State, empty_table, with
 
 -- the state with these tables in place of its own
 abbrev pub with_tables : List TableOf → State → State
-with_tables tables s = record { tables = tables; views = s.views; now = s.now; drawn = s.drawn; passed = s.passed; queue = s.queue; max_rows = s.max_rows }
+with_tables tables s = record s { tables = tables }
 
 -- the state with these views in place of its own
 abbrev pub with_all_views : List ViewOf → State → State
-with_all_views views s = record { tables = s.tables; views = views; now = s.now; drawn = s.drawn; passed = s.passed; queue = s.queue; max_rows = s.max_rows }
+with_all_views views s = record s { views = views }
 
 -- CREATE TABLE: an empty table under the number that is drawn
 abbrev pub created : List ℕ → List ColumnDef → List ℕ → State → State
-created name columns sort s = record {
-  tables = s.tables ++ empty_table s.drawn name columns sort ∷ [];
-  views = s.views;
-  now = s.now;
-  drawn = s.drawn + 1;
-  passed = s.passed;
-  queue = s.queue;
-  max_rows = s.max_rows;
-}
+created name columns sort s = record s { tables = s.tables ++ empty_table s.drawn name columns sort ∷ []; drawn = s.drawn + 1 }
 
 -- CREATE VIEW: a view that is built at the present
 abbrev pub new_view : List ℕ → List ColumnDef → Query → ℕ → ViewOf
@@ -36,14 +28,11 @@ new_view name columns q now = record { name = name; columns = columns; query = q
 
 -- the state after a write that left these rows in the table of a number, with its change
 abbrev pub written : ℕ → List Row → Weighted → State → State
-written n rows change s = record {
+written n rows change s = record s {
   tables = with_rows n rows s.tables;
-  views = s.views;
   now = s.now + 1;
   drawn = s.drawn + 1;
-  passed = s.passed;
   queue = s.queue ++ record { table = n; rows = change } ∷ [];
-  max_rows = s.max_rows;
 }
 
 -- an accepted write leaves these rows, and puts the new bag minus the old one behind the queue
@@ -58,8 +47,9 @@ reach s (commands.Select header q order) place v = if list_any (is_view place) (
 reach s (commands.Refresh view changes) place v = if view == place then min (v.epoch + changes) s.now else v.epoch
 reach s command place v = v.epoch
 
+-- the view at an epoch
 abbrev pub at_epoch : ℕ → ViewOf → ViewOf
-at_epoch epoch v = record { name = v.name; columns = v.columns; query = v.query; epoch = epoch; built = v.built }
+at_epoch epoch v = record v { epoch = epoch }
 
 -- the views from a place on, each at the epoch that it reaches
 abbrev pub taken_on : (ℕ → ViewOf → ℕ) → ℕ → List ViewOf → List ViewOf
@@ -72,15 +62,7 @@ refreshed command s = with_all_views (taken_on (reach s command) 0 s.views) s
 
 -- the state with so many changes fewer at the queue's front
 abbrev pub without_front : ℕ → State → State
-without_front count s = record {
-  tables = s.tables;
-  views = s.views;
-  now = s.now;
-  drawn = s.drawn;
-  passed = s.passed + count;
-  queue = drop count s.queue;
-  max_rows = s.max_rows;
-}
+without_front count s = record s { passed = s.passed + count; queue = drop count s.queue }
 
 -- changes that each view has passed may be dropped from the queue's front
 pub record Trims (whole new : State) : Type 0 where

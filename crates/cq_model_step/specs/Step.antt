@@ -6,6 +6,7 @@ use Rattle.cq_values.specs.Value.{Row}
 use Rattle.cq_model_bags.specs.Listing.{IsListing}
 use Rattle.cq_binder_rules.specs.declared.bound.Bound.{Bound}
 use Rattle.cq_binder_rules.specs.declared.bound.Bound.TheVariants as commands
+use Rattle.cq_model.specs.Expr.{Cond}
 use Rattle.cq_model.specs.declared.query.Order.{Order}
 use Rattle.cq_model.specs.declared.query.Query.{Query}
 use Rattle.cq_sql_language.specs.declared.statement.Statement.{Statement}
@@ -30,6 +31,10 @@ pub record Shows (s : State) (header : List (List ℕ)) (q : Query) (order : Ord
   pub listed : IsListing order.keys order.limit (meaning q (with_views (tables_now s) (queries_of s))) rows
   pub in_range : AnswerInRange (tables_now s) (queries_of s) q
 
+-- the answer counts the rows of a table that a condition chooses
+abbrev pub CountsChosen : State → ℕ → Option Cond → Answer → Type 0
+CountsChosen s n c answer = answer ≡ Count (length (chosen c (rows_in s.tables n)))
+
 -- what an accepted command answers, and the state that it leads to while nothing is dropped from the queue
 abbrev pub Leads : State → Bound → Answer → State → Type 0
 Leads old (commands.CreateTable name columns sort) answer new = (answer ≡ Done) × (new ≡ created name columns sort old)
@@ -37,9 +42,8 @@ Leads old (commands.DropTable n) answer new = (answer ≡ Done) × (new ≡ with
 Leads old (commands.CreateView name columns q) answer new = (answer ≡ Done) × (new ≡ with_all_views (old.views ++ new_view name columns q old.now ∷ []) old)
 Leads old (commands.DropView place) answer new = (answer ≡ Done) × (new ≡ with_all_views (remove old.views place) old)
 Leads old (commands.Insert n rows) answer new = (answer ≡ Count (length rows)) × Writes old n (rows_in old.tables n ++ rows) new
-Leads old (commands.Delete n c) answer new = (answer ≡ Count (length (chosen c (rows_in old.tables n)))) × Writes old n (left_by c (rows_in old.tables n)) new
-Leads old (commands.Update n assignments c) answer new =
-    (answer ≡ Count (length (chosen c (rows_in old.tables n)))) × Writes old n (updated assignments c (rows_in old.tables n)) new
+Leads old (commands.Delete n c) answer new = CountsChosen old n c answer × Writes old n (left_by c (rows_in old.tables n)) new
+Leads old (commands.Update n assignments c) answer new = CountsChosen old n c answer × Writes old n (updated assignments c (rows_in old.tables n)) new
 Leads old (commands.Select header q order) answer new = Shows old header q order answer × (new ≡ refreshed (commands.Select header q order) old)
 Leads old (commands.Move n rows) answer new = (answer ≡ Done) × (new ≡ old)
 Leads old (commands.Merge n) answer new = (answer ≡ Done) × (new ≡ old)

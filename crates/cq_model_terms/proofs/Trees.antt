@@ -26,36 +26,14 @@ map-renamed : (to : ℕ → ℕ) (es : List ExprTree) → map (λ t. renamed to 
 map-renamed to [] = refl
 map-renamed to (e ∷ es) = ap (λ (xs : List Expr). renamed to (expr_of e) ∷ xs) (map-renamed to es)
 
--- a chain of parts that were changed is the changed chain
-changed-chain : {T A : Type 0} (of : T → A) (f : A → A) (node : A → A → A) → ((a b : A) → f (node a b) ≡ node (f a) (f b))
-    → (first head : T) (rest others : List T) → of head ≡ f (of first) → map of others ≡ map (λ t. f (of t)) rest → fold node (of head) (map of others) ≡ f (fold node (of first) (map of rest))
-changed-chain of f node each first head rest others one all = ap₂ (fold node) one all ∙ sym (through of f node node each (of first) rest)
+-- a tree made of parts that were changed is the changed tree
+pub changed-tree : {T A : Type 0} (of : T → A) (f : A → A) (node : A → A → A) → ((a b : A) → f (node a b) ≡ node (f a) (f b)) → (first head : T) (rest others : List T)
+    → of head ≡ f (of first) → map of others ≡ map (λ t. f (of t)) rest → (tree made : T) → of tree ≡ fold node (of first) (map of rest) → of made ≡ fold node (of head) (map of others)
+    → of made ≡ f (of tree)
+changed-tree of f node each first head rest others one all tree made before after =
+    after ∙ ap₂ (fold node) one all ∙ sym (through of f node node each (of first) rest) ∙ sym (ap f before)
 
 module _ (to : ℕ → ℕ) where
-  module _ (tree : ExprTree) (first : Box ExprTree Global) (rest : Vec ExprTree Global) (head : Box ExprTree Global) (others : Vec ExprTree Global)
-      (one : expr_of head.value ≡ renamed to (expr_of first.value)) (all : map expr_of others.items ≡ map (λ t. renamed to (expr_of t)) rest.items) where
-    pub sum-renamed : tree ≡ view.Sum first rest → expr_of (view.Sum head others) ≡ renamed to (expr_of tree)
-    sum-renamed is =
-        tree-Sum head others ∙ changed-chain expr_of (renamed to) Plus (λ a b. refl) first.value head.value rest.items others.items one all
-        ∙ sym (ap (λ (t : ExprTree). renamed to (expr_of t)) is ∙ ap (renamed to) (tree-Sum first rest))
-
-    pub product-renamed : tree ≡ view.Product first rest → expr_of (view.Product head others) ≡ renamed to (expr_of tree)
-    product-renamed is =
-        tree-Product head others ∙ changed-chain expr_of (renamed to) Times (λ a b. refl) first.value head.value rest.items others.items one all
-        ∙ sym (ap (λ (t : ExprTree). renamed to (expr_of t)) is ∙ ap (renamed to) (tree-Product first rest))
-
-  module _ (tree : CondTree) (first : Box CondTree Global) (rest : Vec CondTree Global) (head : Box CondTree Global) (others : Vec CondTree Global)
-      (one : cond_of head.value ≡ renamed_cond to (cond_of first.value)) (all : map cond_of others.items ≡ map (λ t. renamed_cond to (cond_of t)) rest.items) where
-    pub and-renamed : tree ≡ cond_view.And first rest → cond_of (cond_view.And head others) ≡ renamed_cond to (cond_of tree)
-    and-renamed is =
-        tree-And head others ∙ changed-chain cond_of (renamed_cond to) And (λ a b. refl) first.value head.value rest.items others.items one all
-        ∙ sym (ap (λ (t : CondTree). renamed_cond to (cond_of t)) is ∙ ap (renamed_cond to) (tree-And first rest))
-
-    pub or-renamed : tree ≡ cond_view.Or first rest → cond_of (cond_view.Or head others) ≡ renamed_cond to (cond_of tree)
-    or-renamed is =
-        tree-Or head others ∙ changed-chain cond_of (renamed_cond to) Or (λ a b. refl) first.value head.value rest.items others.items one all
-        ∙ sym (ap (λ (t : CondTree). renamed_cond to (cond_of t)) is ∙ ap (renamed_cond to) (tree-Or first rest))
-
   pub in-renamed : (tree : CondTree) (value : ExprTree) (choices : Vec ExprTree Global) (made : ExprTree) (among : Vec ExprTree Global) → expr_of made ≡ renamed to (expr_of value)
       → map expr_of among.items ≡ map (λ t. renamed to (expr_of t)) choices.items → tree ≡ conds.In value choices → cond_of (conds.In made among) ≡ renamed_cond to (cond_of tree)
   in-renamed tree value choices made among one all is =

@@ -1,5 +1,5 @@
 -- An expression with its columns renamed has the value in the narrower row that it has in the whole row.
-use Rattle.std.proofs.Common.{◌≡◌, ℕ, max, Bool, ◌||◌, List, [], ◌∷◌, map, refl, ap}
+use Rattle.std.proofs.Common.{◌≡◌, ℕ, max, Bool, ◌||◌, List, [], ◌∷◌, map, refl, ap, ap₂}
 use Rattle.std.proofs.lemmas.Bool.{eq-eqb, or_left, or_right}
 use Rattle.std.specs.List.{fold, list_any}
 use Rattle.cq_values.specs.declared.comparison.Comparison.TheVariants.{Equal}
@@ -23,6 +23,22 @@ same-first x y f g a i h = a i (or_left (f i) (g i) h)
 same-second : {A : Type 0} (x y : ℕ → A) (f g : ℕ → Bool) → AreSameOn x y (λ i. f i || g i) → AreSameOn x y g
 same-second x y f g a i h = a i (or_right (f i) (g i) h)
 
+-- what two expressions read together, each reads
+module _ {A : Type 0} (x y : ℕ → A) (a b : Expr) (same : AreSameOn x y (λ i. reads i a || reads i b)) where
+  first-expr : AreSameOn x y (λ i. reads i a)
+  first-expr = same-first x y (λ i. reads i a) (λ i. reads i b) same
+
+  second-expr : AreSameOn x y (λ i. reads i b)
+  second-expr = same-second x y (λ i. reads i a) (λ i. reads i b) same
+
+-- so it is with two conditions
+module _ {A : Type 0} (x y : ℕ → A) (a b : Cond) (same : AreSameOn x y (λ i. reads_in i a || reads_in i b)) where
+  first-cond : AreSameOn x y (λ i. reads_in i a)
+  first-cond = same-first x y (λ i. reads_in i a) (λ i. reads_in i b) same
+
+  second-cond : AreSameOn x y (λ i. reads_in i b)
+  second-cond = same-second x y (λ i. reads_in i a) (λ i. reads_in i b) same
+
 -- ---- values
 module _ (to : ℕ → ℕ) (r s : Row) where
   -- the rows have the same in the columns that are read
@@ -39,14 +55,8 @@ module _ (to : ℕ → ℕ) (r s : Row) where
   eval-renamed (Column i) a = a i (eq-eqb i i refl)
   eval-renamed (Literal v) a = refl
   eval-renamed (Negate e) a = ap negated (eval-renamed e a)
-  eval-renamed (Plus x y) a =
-      let p = eval-renamed x (first-of (λ i. reads i x) (λ i. reads i y) a) in
-      let q = eval-renamed y (second-of (λ i. reads i x) (λ i. reads i y) a) in
-      λ i. plus (p i) (q i)
-  eval-renamed (Times x y) a =
-      let p = eval-renamed x (first-of (λ i. reads i x) (λ i. reads i y) a) in
-      let q = eval-renamed y (second-of (λ i. reads i x) (λ i. reads i y) a) in
-      λ i. times (p i) (q i)
+  eval-renamed (Plus x y) a = ap₂ plus (eval-renamed x (first-expr (λ i. column r (to i)) (column s) x y a)) (eval-renamed y (second-expr (λ i. column r (to i)) (column s) x y a))
+  eval-renamed (Times x y) a = ap₂ times (eval-renamed x (first-expr (λ i. column r (to i)) (column s) x y a)) (eval-renamed y (second-expr (λ i. column r (to i)) (column s) x y a))
   eval-renamed (Extract part e) a = ap (extracted part) (eval-renamed e a)
 
   members-renamed : (v w : Value) → v ≡ w → (es : List Expr) → Agree (λ i. list_any (reads i) es)
@@ -58,30 +68,21 @@ module _ (to : ℕ → ℕ) (r s : Row) where
       λ i. compared Equal (is i) (first i) ∷ rest i
 
   pub holds-renamed : (c : Cond) → Agree (λ i. reads_in i c) → holds (renamed_cond to c) r ≡ holds c s
-  holds-renamed (Compare c x y) a =
-      let p = eval-renamed x (first-of (λ i. reads i x) (λ i. reads i y) a) in
-      let q = eval-renamed y (second-of (λ i. reads i x) (λ i. reads i y) a) in
-      λ i. compared c (p i) (q i)
+  holds-renamed (Compare c x y) a = ap₂ (compared c) (eval-renamed x (first-expr (λ i. column r (to i)) (column s) x y a)) (eval-renamed y (second-expr (λ i. column r (to i)) (column s) x y a))
   holds-renamed (IsNull e) a = ap (λ v. truth_of (is_null v)) (eval-renamed e a)
   holds-renamed (Between e x y) a =
       let ends = second-of (λ i. reads i e) (λ i. reads i x || reads i y) a in
       let p = eval-renamed e (first-of (λ i. reads i e) (λ i. reads i x || reads i y) a) in
-      let q = eval-renamed x (first-of (λ i. reads i x) (λ i. reads i y) ends) in
-      let t = eval-renamed y (second-of (λ i. reads i x) (λ i. reads i y) ends) in
+      let q = eval-renamed x (first-expr (λ i. column r (to i)) (column s) x y ends) in
+      let t = eval-renamed y (second-expr (λ i. column r (to i)) (column s) x y ends) in
       λ i. between (p i) (q i) (t i)
   holds-renamed (In e es) a =
       let p = eval-renamed e (first-of (λ i. reads i e) (λ i. list_any (reads i) es) a) in
       ap any_of (members-renamed (eval (renamed to e) r) (eval e s) p es (second-of (λ i. reads i e) (λ i. list_any (reads i) es) a))
   holds-renamed (Like e pattern) a = ap (λ v. liked v pattern) (eval-renamed e a)
   holds-renamed (Not c) a = ap not_truth (holds-renamed c a)
-  holds-renamed (And x y) a =
-      let p = holds-renamed x (first-of (λ i. reads_in i x) (λ i. reads_in i y) a) in
-      let q = holds-renamed y (second-of (λ i. reads_in i x) (λ i. reads_in i y) a) in
-      λ i. and_truth (p i) (q i)
-  holds-renamed (Or x y) a =
-      let p = holds-renamed x (first-of (λ i. reads_in i x) (λ i. reads_in i y) a) in
-      let q = holds-renamed y (second-of (λ i. reads_in i x) (λ i. reads_in i y) a) in
-      λ i. or_truth (p i) (q i)
+  holds-renamed (And x y) a = ap₂ and_truth (holds-renamed x (first-cond (λ i. column r (to i)) (column s) x y a)) (holds-renamed y (second-cond (λ i. column r (to i)) (column s) x y a))
+  holds-renamed (Or x y) a = ap₂ or_truth (holds-renamed x (first-cond (λ i. column r (to i)) (column s) x y a)) (holds-renamed y (second-cond (λ i. column r (to i)) (column s) x y a))
 
 -- ---- sizes
 module _ (to : ℕ → ℕ) (small large : ℕ → ℕ) where
@@ -95,20 +96,18 @@ module _ (to : ℕ → ℕ) (small large : ℕ → ℕ) where
   second-fits : (f g : ℕ → Bool) → Fit (λ i. f i || g i) → Fit g
   second-fits f g a = same-second (λ i. small (to i)) large f g a
 
+  -- the wider of two extents
+  abbrev wider : Extent → Extent → ℕ
+  wider a b = max a.widest b.widest
+
   pub width-renamed : (e : Expr) → Fit (λ i. reads i e) → width (renamed to e) small ≡ width e large
   width-renamed (Column i) a =
       let same : small (to i) ≡ large i = a i (eq-eqb i i refl) in
       ap (λ (n : ℕ). record { size = n; widest = 0 }) same
   width-renamed (Literal v) a = refl
   width-renamed (Negate e) a = ap (λ (x : Extent). extent_of x.size x.widest) (width-renamed e a)
-  width-renamed (Plus x y) a =
-      let p = width-renamed x (first-fits (λ i. reads i x) (λ i. reads i y) a) in
-      let q = width-renamed y (second-fits (λ i. reads i x) (λ i. reads i y) a) in
-      λ i. extent_plus (p i) (q i)
-  width-renamed (Times x y) a =
-      let p = width-renamed x (first-fits (λ i. reads i x) (λ i. reads i y) a) in
-      let q = width-renamed y (second-fits (λ i. reads i x) (λ i. reads i y) a) in
-      λ i. extent_times (p i) (q i)
+  width-renamed (Plus x y) a = ap₂ extent_plus (width-renamed x (first-expr (λ i. small (to i)) large x y a)) (width-renamed y (second-expr (λ i. small (to i)) large x y a))
+  width-renamed (Times x y) a = ap₂ extent_times (width-renamed x (first-expr (λ i. small (to i)) large x y a)) (width-renamed y (second-expr (λ i. small (to i)) large x y a))
   width-renamed (Extract part e) a = ap (λ (x : Extent). record { size = part_limit part; widest = x.widest }) (width-renamed e a)
 
   widths-renamed : (es : List Expr) → Fit (λ i. list_any (reads i) es) → map (widest small) (map (renamed to) es) ≡ map (widest large) es
@@ -119,16 +118,13 @@ module _ (to : ℕ → ℕ) (small large : ℕ → ℕ) where
       λ i. (first i).widest ∷ rest i
 
   pub widest-renamed : (c : Cond) → Fit (λ i. reads_in i c) → widest_in (renamed_cond to c) small ≡ widest_in c large
-  widest-renamed (Compare c x y) a =
-      let p = width-renamed x (first-fits (λ i. reads i x) (λ i. reads i y) a) in
-      let q = width-renamed y (second-fits (λ i. reads i x) (λ i. reads i y) a) in
-      λ i. max (p i).widest (q i).widest
+  widest-renamed (Compare c x y) a = ap₂ wider (width-renamed x (first-expr (λ i. small (to i)) large x y a)) (width-renamed y (second-expr (λ i. small (to i)) large x y a))
   widest-renamed (IsNull e) a = ap (λ (x : Extent). x.widest) (width-renamed e a)
   widest-renamed (Between e x y) a =
       let ends = second-fits (λ i. reads i e) (λ i. reads i x || reads i y) a in
       let p = width-renamed e (first-fits (λ i. reads i e) (λ i. reads i x || reads i y) a) in
-      let q = width-renamed x (first-fits (λ i. reads i x) (λ i. reads i y) ends) in
-      let t = width-renamed y (second-fits (λ i. reads i x) (λ i. reads i y) ends) in
+      let q = width-renamed x (first-expr (λ i. small (to i)) large x y ends) in
+      let t = width-renamed y (second-expr (λ i. small (to i)) large x y ends) in
       λ i. max (p i).widest (max (q i).widest (t i).widest)
   widest-renamed (In e es) a =
       let p = width-renamed e (first-fits (λ i. reads i e) (λ i. list_any (reads i) es) a) in
@@ -136,11 +132,5 @@ module _ (to : ℕ → ℕ) (small large : ℕ → ℕ) where
       λ i. max (p i).widest (fold max 0 (q i))
   widest-renamed (Like e pattern) a = ap (λ (x : Extent). x.widest) (width-renamed e a)
   widest-renamed (Not c) a = widest-renamed c a
-  widest-renamed (And x y) a =
-      let p = widest-renamed x (first-fits (λ i. reads_in i x) (λ i. reads_in i y) a) in
-      let q = widest-renamed y (second-fits (λ i. reads_in i x) (λ i. reads_in i y) a) in
-      λ i. max (p i) (q i)
-  widest-renamed (Or x y) a =
-      let p = widest-renamed x (first-fits (λ i. reads_in i x) (λ i. reads_in i y) a) in
-      let q = widest-renamed y (second-fits (λ i. reads_in i x) (λ i. reads_in i y) a) in
-      λ i. max (p i) (q i)
+  widest-renamed (And x y) a = ap₂ max (widest-renamed x (first-cond (λ i. small (to i)) large x y a)) (widest-renamed y (second-cond (λ i. small (to i)) large x y a))
+  widest-renamed (Or x y) a = ap₂ max (widest-renamed x (first-cond (λ i. small (to i)) large x y a)) (widest-renamed y (second-cond (λ i. small (to i)) large x y a))

@@ -2,8 +2,8 @@
 ghost use Rattle.std.specs.List.{AllByRecursion};
 ghost use Rattle.std.specs.Prelude.{IfOk};
 ghost use Rattle.cq_table_columns.specs.Stored.{all_rows};
-ghost use Rattle.cq_plan.specs.Plan.{IsWithin, shown_by};
-ghost use Rattle.cq_operators.specs.Listed.{IsListingOf};
+ghost use Rattle.cq_plan.specs.Plan.{IsWithin};
+ghost use Rattle.cq_operators.specs.Listed.{IsListingOf, ListsSource};
 
 use crate::exec::Exec;
 use cq_model::Order;
@@ -23,7 +23,7 @@ pub fn listed_rows<'a>(
     rows: Stored<'a>,
 ) -> Result<Vec<Row>, AllocError>
     requires { AllByRecursion (IsWithin plan.now) (all_rows rows) }
-    ensures { IfOk result (λ list. IsListingOf order.now (shown_by plan.now (all_rows rows.entry)) list.items) }
+    ensures { IfOk result (λ list. ListsSource order.now plan.now rows.entry list.items) }
 {
     let mut exec = Exec::open(plan, rows);
     let mut batch = Batch {

@@ -7,7 +7,7 @@ use Rattle.cq_values.specs.Value.{Row}
 use Rattle.cq_values.specs.declared.truth.Truth.{Truth}
 use Rattle.cq_values.specs.declared.truth.Truth.TheVariants.{Unknown}
 use Rattle.cq_vectors_masks.specs.Selection.{is_true_at, where_true}
-use Rattle.cq_segments.specs.Places.{rows_at}
+use Rattle.cq_encodings_vectors.specs.Places.{rows_at}
 use Rattle.cq_operators_scans.specs.Paired.{ArePlaces}
 use Rattle.cq_model_bags.proofs.Lists.{all-filter}
 

@@ -1,9 +1,10 @@
 -- Values that are lent, or were worked out.
-use Rattle.std.specs.Prelude.{◌≡◌, List}
+use Rattle.std.specs.Prelude.{◌≡◌, List, map}
 use Rattle.std.specs.Simd.Lanes.{zip2}
 use Rattle.cq_values.specs.declared.value.Value.{Value}
 use Rattle.cq_values.specs.Value.{Row}
-use Rattle.cq_model.specs.Eval.{plus, times}
+use Rattle.cq_values.specs.declared.day_part.DayPart.{DayPart}
+use Rattle.cq_model.specs.Eval.{extracted, plus, times}
 use Rattle.cq_vectors.specs.Gathered.{column_of}
 use Rattle.cq_operators_scans.specs.declared.operand.Operand.{Operand}
 use Rattle.cq_operators_scans.specs.declared.operand.Operand.TheVariants as operand
@@ -31,3 +32,7 @@ sums_worked rows a b = zip2 plus (values_worked rows a) (values_worked rows b)
 -- and their products
 abbrev pub products_worked : List Row → Worked → Worked → List Value
 products_worked rows a b = zip2 times (values_worked rows a) (values_worked rows b)
+
+-- and what EXTRACT gives of one
+abbrev pub parts_worked : List Row → DayPart → Worked → List Value
+parts_worked rows part days = map (extracted part) (values_worked rows days)

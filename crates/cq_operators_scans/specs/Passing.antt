@@ -2,6 +2,8 @@
 use Rattle.std.specs.Prelude.{◌≡◌, ℕ, Bool, List, map}
 use Rattle.std.specs.Borrow.{Bor}
 use Rattle.std.specs.List.{AllByRecursion, filter}
+use Rattle.cq_segments.specs.Rows.{stored_rows}
+use Rattle.cq_segments.specs.declared.stored_row.StoredRow.{StoredRow}
 use Rattle.cq_values.specs.Truth.{is_true}
 use Rattle.cq_values.specs.Value.{Row}
 use Rattle.cq_model.specs.Own.{in_place, passes_own}
@@ -10,8 +12,6 @@ use Rattle.cq_model.specs.Exact.{AreExactIn}
 use Rattle.cq_model.specs.Expr.{Cond}
 use Rattle.cq_model.specs.Trees.{cond_of}
 use Rattle.cq_model.specs.declared.expr.CondTree.{CondTree}
-use Rattle.cq_table_columns.specs.Stored.{stored_rows}
-use Rattle.cq_table_columns.specs.declared.stored_row.StoredRow.{StoredRow}
 
 -- the conditions of trees that are lent
 abbrev pub conditions_in : List (Bor CondTree) → List Cond

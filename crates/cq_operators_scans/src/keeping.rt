@@ -2,9 +2,8 @@
 ghost use Rattle.std.specs.List.{AllByRecursion};
 ghost use Rattle.std.specs.Prelude.{◌≡◌, ◌≤◌, IfOk, length};
 ghost use Rattle.cq_model.specs.Exact.{AreExactIn};
-ghost use Rattle.cq_model.specs.Meaning.{keeps};
 ghost use Rattle.cq_model.specs.Width.{IsNarrowIn};
-ghost use Rattle.cq_operators_scans.specs.Kept.{keeps_true, places_where};
+ghost use Rattle.cq_operators_scans.specs.Kept.{kept_at, true_at};
 ghost use Rattle.cq_table_columns.specs.Stored.{front_rows};
 
 use crate::scan::Scan;
@@ -25,7 +24,7 @@ pub fn kept_places(
 ) -> Result<Selection, AllocError>
     requires few { length (front_rows front.now) ≤ 1024 }
     requires narrow { AllByRecursion (IsNarrowIn condition.now) (front_rows front.now) }
-    ensures { IfOk result (λ places. places ≡ places_where 0 (keeps condition.now) (front_rows front.now)) }
+    ensures { IfOk result (λ places. places ≡ kept_at condition.now (front_rows front.now)) }
 {
     narrow_is_exact();
     match condition {
@@ -42,7 +41,7 @@ pub fn kept_places(
 fn true_places(alloc: Global, condition: &Cond, front: &Front<'_>) -> Result<Selection, AllocError>
     requires few { length (front_rows front.now) ≤ 1024 }
     requires exact { AllByRecursion (AreExactIn condition.now) (front_rows front.now) }
-    ensures { IfOk result (λ places. places ≡ places_where 0 (keeps_true condition.now) (front_rows front.now)) }
+    ensures { IfOk result (λ places. places ≡ true_at condition.now (front_rows front.now)) }
 {
     let columns = columns_of(alloc, condition.tree())?;
     let scan = Scan::open_front(alloc, *front, &columns)?;

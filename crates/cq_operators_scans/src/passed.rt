@@ -11,7 +11,8 @@ use crate::scan::Scan;
 use crate::truths::truths_of_tree;
 use cq_model::CondTree;
 use cq_model_terms::columns_of;
-use cq_table_columns::{Front, Stored, StoredRow, StoredRows};
+use cq_segments::StoredRow;
+use cq_table_columns::{Front, Stored, StoredRows};
 use cq_vectors_masks::Selection;
 use std::alloc::{AllocError, Global};
 

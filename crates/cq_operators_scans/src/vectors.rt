@@ -4,7 +4,7 @@ ghost use Rattle.std.specs.List.{AllByRecursion};
 ghost use Rattle.cq_model.specs.Eval.{eval};
 ghost use Rattle.cq_model.specs.Exact.{IsExactAt};
 ghost use Rattle.cq_model.specs.Trees.{expr_of};
-ghost use Rattle.cq_operators_scans.specs.Operand.{values_in, values_worked};
+ghost use Rattle.cq_operators_scans.specs.Operand.{WorksOut, values_in};
 
 use crate::operand::Operand;
 use crate::scan::Scan;
@@ -61,7 +61,7 @@ fn worked_out<'a>(
     scan: &Scan<'a>,
 ) -> Result<Worked<'a>, AllocError>
     requires { AllByRecursion (IsExactAt (expr_of tree.now)) scan.now }
-    ensures { IfOk result (λ found. values_worked scan.now found ≡ map (eval (expr_of tree.now)) scan.now) }
+    ensures { IfOk result (WorksOut scan.now (map (eval (expr_of tree.now)) scan.now)) }
 {
     match tree {
         ExprTree::Column(place) => Ok(Worked::Column(*place)),

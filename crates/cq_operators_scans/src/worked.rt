@@ -1,8 +1,8 @@
 //! What expressions come to: a column, or values that were worked out.
 ghost use Rattle.std.specs.Prelude.{◌≡◌, IfOk, length, map};
 ghost use Rattle.cq_prims_arithmetic.specs.Operation.{AllInRange};
-ghost use Rattle.cq_model.specs.Eval.{extracted, negated};
-ghost use Rattle.cq_operators_scans.specs.Operand.{WorksOut, products_worked, sums_worked, values_in, values_worked};
+ghost use Rattle.cq_model.specs.Eval.{negated};
+ghost use Rattle.cq_operators_scans.specs.Operand.{WorksOut, parts_worked, products_worked, sums_worked, values_in, values_worked};
 
 use crate::operand::Operand;
 use crate::scan::Scan;
@@ -84,7 +84,7 @@ impl<'a> Worked<'a> {
         part: DayPart,
         scan: &Scan<'a>,
     ) -> Result<Worked<'a>, AllocError>
-        ensures { IfOk result (WorksOut scan.now (map (extracted part) (values_worked scan.now self.entry))) }
+        ensures { IfOk result (WorksOut scan.now (parts_worked scan.now part self.entry)) }
     {
         let made = parts(alloc, part, &self, scan);
         drop(self);
@@ -166,7 +166,7 @@ fn parts<'a>(
     days: &Worked<'a>,
     scan: &Scan<'a>,
 ) -> Result<Vector<'a>, AllocError>
-    ensures { IfOk result (λ made. made ≡ map (extracted part) (values_worked scan.now days.now)) }
+    ensures { IfOk result (λ made. made ≡ parts_worked scan.now part days.now) }
 {
     let days = days.lend(alloc, scan)?;
     let made = extract(alloc, part, days.vector());

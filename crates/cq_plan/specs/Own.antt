@@ -24,6 +24,10 @@ AskAllOwn filter before wide cs =
     (part : Cond) (row : Row) → IsPart part filter → tests_only before wide part ≡ true → passes_own before cs row ≡ true
     → is_true (holds part (in_place before row)) ≡ true
 
+-- so it is for a tree's condition, and conditions that are lent
+abbrev pub AskAllOfTree : CondTree → ℕ → ℕ → List (Bor CondTree) → Type 0
+AskAllOfTree tree before wide trees = AskAllOwn (cond_of tree) before wide (conditions_of trees)
+
 -- so it is for WHERE, if there is one
 abbrev pub AskAllOwnOf : Option Cond → ℕ → ℕ → List Cond → Type 0
 AskAllOwnOf None before wide cs = Unit {0}
@@ -32,7 +36,7 @@ AskAllOwnOf (Some filter) before wide cs = AskAllOwn filter before wide cs
 -- the new conditions ask what the old ones ask, and each part of the tree's condition that names the source's columns alone
 pub record AskMore (tree : CondTree) (before wide : ℕ) (old new : List (Bor CondTree)) : Type 0 where
   pub kept : (row : Row) → passes_own before (conditions_of new) row ≡ true → passes_own before (conditions_of old) row ≡ true
-  pub all : AskAllOwn (cond_of tree) before wide (conditions_of new)
+  pub all : AskAllOfTree tree before wide new
 
 -- where the tree's condition is a part of WHERE, and the old ones are own conditions, so are the new ones
 abbrev pub StayOwn : CondTree → ℕ → ℕ → List (Bor CondTree) → List (Bor CondTree) → Type 0

@@ -2,7 +2,7 @@
 ghost use Rattle.std.specs.Prelude.{IfOk, OnOk};
 ghost use Rattle.cq_model.specs.Own.{AreOwn};
 ghost use Rattle.cq_model.specs.Trees.{cond_of};
-ghost use Rattle.cq_plan.specs.Own.{AreOwnOf, AskAllOwn, AskAllOwnOf, AskMore, StayOwn, conditions_of};
+ghost use Rattle.cq_plan.specs.Own.{AreOwnOf, AskAllOfTree, AskAllOwnOf, AskMore, StayOwn, conditions_of};
 
 use cq_model::{Cond, CondTree};
 use cq_model_terms::tests_only;
@@ -32,7 +32,7 @@ fn own_parts<'q>(
     wide: usize,
 ) -> Result<Vec<&'q CondTree>, AllocError>
     ensures own { IfOk result (λ own. AreOwn (cond_of tree.now) before wide (conditions_of own.items)) }
-    ensures all { IfOk result (λ own. AskAllOwn (cond_of tree.now) before wide (conditions_of own.items)) }
+    ensures all { IfOk result (λ own. AskAllOfTree tree.now before wide own.items) }
 {
     let mut own = Vec::new(alloc);
     add_own(tree, before, wide, &mut own)?;

@@ -1,7 +1,6 @@
 //! One condition on a source's rows.
-ghost use Rattle.std.specs.Prelude.{◌≡◌, IfOk, map};
-ghost use Rattle.cq_model.specs.Trees.{cond_of};
-ghost use Rattle.cq_plan.specs.OwnTest.{IsOwnTest, cond_behind};
+ghost use Rattle.std.specs.Prelude.{IfOk};
+ghost use Rattle.cq_plan.specs.OwnTest.{AreBehind, IsOwnTest};
 
 use crate::own::own_conditions;
 use cq_model::{Cond, CondTree};
@@ -35,7 +34,7 @@ fn parts_behind(
     parts: &[&CondTree],
     before: usize,
 ) -> Result<Vec<CondTree>, AllocError>
-    ensures { IfOk result (λ v. map cond_of v.items ≡ map (λ t. cond_behind before (cond_of t.now)) parts.now) }
+    ensures { IfOk result (λ all. AreBehind before parts.now all.items) }
 {
     let mut all = Vec::new(alloc);
     for part in parts {

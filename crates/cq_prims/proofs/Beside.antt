@@ -1,5 +1,5 @@
 -- Offsets above a base beside one constant.
-use Rattle.std.proofs.Common.{◌≡◌, ℕ, ℤ, pos, ◌+ℤ◌, Bool, true, false, not, List, [], ◌∷◌, map, length, get_or, replicate, refl, sym, ap, ap₂, ◌∙◌, arith, Ordering, Less, Equal, Greater, int_cmp, cond}
+use Rattle.std.proofs.Common.{◌≡◌, ℕ, ℤ, pos, ◌+ℤ◌, Bool, true, false, not, List, [], ◌∷◌, length, get_or, replicate, refl, sym, ap, ap₂, ◌∙◌, arith, Ordering, Less, Equal, Greater, int_cmp, cond}
 use Rattle.std.specs.Ordering.{is_le, ordering_then}
 use Rattle.std.specs.Prelude.{int_lt}
 use Rattle.std.proofs.lemmas.Int.{ints}
@@ -10,10 +10,11 @@ use Rattle.cq_values.specs.declared.comparison.Comparison.TheVariants as by
 use Rattle.cq_values.specs.declared.value.Value.{Value}
 use Rattle.cq_values.specs.Comparison.{compared, passes}
 use Rattle.cq_values.specs.Truth.{truth_of}
-use Rattle.cq_vectors.specs.Offsets.{offsets_in}
+use Rattle.cq_vectors_stored.specs.Offsets.{offsets_in}
 use Rattle.cq_vectors_masks.specs.TruthMask.{known}
 use Rattle.cq_prims.specs.declared.narrow_side.NarrowSide.{NarrowSide}
-use Rattle.cq_prims.specs.Beside.{AreBeside, unless}
+use Rattle.cq_prims.specs.Beside.{AreBeside}
+use Rattle.cq_prims.specs.Numbers.{unless}
 use Rattle.cq_prims_lanes.specs.UpTo.{known_of}
 use Rattle.cq_prims_lanes.proofs.OffsetTests.{tests_alike}
 

@@ -5,6 +5,7 @@ use Rattle.std.specs.Ordering.{is_eq, is_lt, is_gt, int_eq, ordering_reverse, or
 use Rattle.std.specs.Prelude.{int_lt}
 use Rattle.std.specs.Cmp.Lexicographic.{slice_cmp, texts_ties}
 use Rattle.std.specs.Str.{bytes_eq}
+use Rattle.cq_prims.specs.Turned.{turned}
 use lib.Lanes.{zip2}
 use lib.Seq.{ext_get_or}
 use lib.ListN.{get_or-map}
@@ -18,13 +19,13 @@ use Rattle.cq_values.specs.declared.comparison.Comparison.{Comparison}
 use Rattle.cq_values.specs.declared.comparison.Comparison.TheVariants as by
 use Rattle.cq_values.specs.Comparison.{compared, passes}
 use Rattle.cq_values.specs.Keys.{value_cmp_total}
-use Rattle.cq_values.specs.Order.{number, bytes, value_cmp}
+use Rattle.cq_values.specs.Order.{bytes, value_cmp}
 use Rattle.cq_values.specs.Truth.{truth_of, not_truth, is_true}
 use Rattle.cq_model.specs.Condition.{is_null}
 use Rattle.cq_vectors_masks.specs.TruthMask.{known}
 use Rattle.cq_vectors_masks.specs.Plane.{either}
 use Rattle.cq_prims_texts.specs.Kinds.{is_of_kind, ShowsTexts}
-use Rattle.cq_prims.specs.Numbers.{ShowsNumbers}
+use Rattle.cq_prims.specs.Numbers.{ShowsNumbers, unless}
 use Rattle.cq_model.proofs.Conditions.{null-value}
 use Rattle.cq_prims_texts.proofs.Known.{compared_known, known_true}
 
@@ -49,18 +50,6 @@ known_compared c h xs ys same right =
     ∙ right i within
     ∙ sym (get_or-zip2 (compared c) xs ys i Null Null Unknown within (omega (arith, same))))
 
-as_number : (P : Value → Type 0) → P Null → ((n : ℤ) → P (Number n)) → (v : Value) → is_of_kind 0 v ≡ true → P v
-as_number P none some (Number n) e = some n
-as_number P none some (Day n) e = absurd (cc)
-as_number P none some (Text t) e = absurd (cc)
-as_number P none some Null e = none
-
-as_day : (P : Value → Type 0) → P Null → ((n : ℤ) → P (Day n)) → (v : Value) → is_of_kind 1 v ≡ true → P v
-as_day P none some (Number n) e = absurd (cc)
-as_day P none some (Day n) e = some n
-as_day P none some (Text t) e = absurd (cc)
-as_day P none some Null e = none
-
 as_text : (P : Value → Type 0) → P Null → ((t : List ℕ) → P (Text t)) → (v : Value) → is_of_kind 2 v ≡ true → P v
 as_text P none some (Number n) e = absurd (cc)
 as_text P none some (Day n) e = absurd (cc)
@@ -68,22 +57,21 @@ as_text P none some (Text t) e = some t
 as_text P none some Null e = none
 
 -- known by a test of numbers, where the test is that of the order
-module _ (c : Comparison) (s : ℤ → ℤ → Bool) where
-  abbrev numbers_known : Value → Value → Type 0
-  numbers_known v w = known (s (number v) (number w)) (either (is_null v) (is_null w)) ≡ compared c v w
+module _ (c : Comparison) (s : ℤ → ℤ → Bool) (agree : (m n : ℤ) → s m n ≡ passes c (ordering_then (int_cmp m n) Equal)) where
+  known_numbers : (days : Bool) (m n : ℤ) (f g : Bool) → known (s m n) (either f g) ≡ compared c (unless days m f) (unless days n g)
+  known_numbers true m n true g = refl
+  known_numbers false m n true g = refl
+  known_numbers true m n false true = refl
+  known_numbers false m n false true = refl
+  known_numbers true m n false false = ap truth_of (agree m n)
+  known_numbers false m n false false = ap truth_of (agree m n)
 
-  null_right : (v : Value) → numbers_known v Null
-  null_right (Number n) = refl
-  null_right (Day n) = refl
-  null_right (Text t) = refl
-  null_right Null = refl
-
-  module _ (agree : (m n : ℤ) → s m n ≡ passes c (ordering_then (int_cmp m n) Equal)) where
-    pub known_numbers : (v w : Value) → is_of_kind 0 v ≡ true → is_of_kind 0 w ≡ true → numbers_known v w
-    known_numbers v w p q = as_number (λ v. numbers_known v w) refl (λ m. as_number (numbers_known (Number m)) (null_right (Number m)) (λ n. ap truth_of (agree m n)) w q) v p
-
-    pub known_days : (v w : Value) → is_of_kind 1 v ≡ true → is_of_kind 1 w ≡ true → numbers_known v w
-    known_days v w p q = as_day (λ v. numbers_known v w) refl (λ m. as_day (numbers_known (Day m)) (null_right (Day m)) (λ n. ap truth_of (agree m n)) w q) v p
+-- the value of a place by the number that is shown there
+number_at : (days : Bool) (ns : List ℤ) (xs : List Value) → ShowsNumbers days ns xs → (i : ℕ) → i < length xs → unless days (get_or ns i (pos 0)) (is_null (get_or xs i Null)) ≡ get_or xs i Null
+number_at days ns xs shows i lt =
+    ap (unless days (get_or ns i (pos 0))) (sym (get_or-map is_null xs i Null))
+    ∙ sym (get_or-zip2 (unless days) ns (map is_null xs) i (pos 0) true Null (omega (arith, lt, shows.long)) (omega (arith, lt, length-map xs is_null)))
+    ∙ ap (λ (l : List Value). get_or l i Null) (sym shows.whole)
 
 is_lt-cond : (a b : Bool) → a ≡ is_lt (ordering_then (cond a Less (cond b Greater Equal)) Equal)
 is_lt-cond true b = refl
@@ -131,42 +119,33 @@ compared-turned v w =
     ∙ ap₂ known (ap is_lt (value_cmp_total.antisymm w v) ∙ is_lt-reverse (value_cmp v w)) (either_turned (is_null w) (is_null v))
     ∙ sym (compared_known by.Greater v w)
 
--- a comparison that passes the reversed orderings of another says the same of the sides turned
-pub turned_by : (c d : Comparison) → ((o : Ordering) → passes d (ordering_reverse o) ≡ passes c o) → (v w : Value) → compared d w v ≡ compared c v w
-turned_by c d reversed v w =
-    compared_known d w v
-    ∙ ap₂ known (ap (passes d) (value_cmp_total.antisymm w v) ∙ reversed (value_cmp v w)) (either_turned (is_null w) (is_null v))
+-- the turned comparison passes the reversed orderings
+reversed : (c : Comparison) (o : Ordering) → passes (turned c) (ordering_reverse o) ≡ passes c o
+reversed by.Equal Less = refl
+reversed by.Equal Equal = refl
+reversed by.Equal Greater = refl
+reversed by.NotEqual Less = refl
+reversed by.NotEqual Equal = refl
+reversed by.NotEqual Greater = refl
+reversed by.Less Less = refl
+reversed by.Less Equal = refl
+reversed by.Less Greater = refl
+reversed by.LessOrEqual Less = refl
+reversed by.LessOrEqual Equal = refl
+reversed by.LessOrEqual Greater = refl
+reversed by.Greater Less = refl
+reversed by.Greater Equal = refl
+reversed by.Greater Greater = refl
+reversed by.GreaterOrEqual Less = refl
+reversed by.GreaterOrEqual Equal = refl
+reversed by.GreaterOrEqual Greater = refl
+
+-- the turned comparison says the same of the sides turned
+pub turned_by : (c d : Comparison) → d ≡ turned c → (v w : Value) → compared d w v ≡ compared c v w
+turned_by c d is v w =
+    ap (λ k. compared k w v) is ∙ compared_known (turned c) w v
+    ∙ ap₂ known (ap (passes (turned c)) (value_cmp_total.antisymm w v) ∙ reversed c (value_cmp v w)) (either_turned (is_null w) (is_null v))
     ∙ sym (compared_known c v w)
-
-pub equal_reversed : (o : Ordering) → passes by.Equal (ordering_reverse o) ≡ passes by.Equal o
-equal_reversed Less = refl
-equal_reversed Equal = refl
-equal_reversed Greater = refl
-
-pub not_equal_reversed : (o : Ordering) → passes by.NotEqual (ordering_reverse o) ≡ passes by.NotEqual o
-not_equal_reversed Less = refl
-not_equal_reversed Equal = refl
-not_equal_reversed Greater = refl
-
-pub less_reversed : (o : Ordering) → passes by.Greater (ordering_reverse o) ≡ passes by.Less o
-less_reversed Less = refl
-less_reversed Equal = refl
-less_reversed Greater = refl
-
-pub at_most_reversed : (o : Ordering) → passes by.GreaterOrEqual (ordering_reverse o) ≡ passes by.LessOrEqual o
-at_most_reversed Less = refl
-at_most_reversed Equal = refl
-at_most_reversed Greater = refl
-
-pub greater_reversed : (o : Ordering) → passes by.Less (ordering_reverse o) ≡ passes by.Greater o
-greater_reversed Less = refl
-greater_reversed Equal = refl
-greater_reversed Greater = refl
-
-pub at_least_reversed : (o : Ordering) → passes by.LessOrEqual (ordering_reverse o) ≡ passes by.GreaterOrEqual o
-at_least_reversed Less = refl
-at_least_reversed Equal = refl
-at_least_reversed Greater = refl
 
 -- a comparison of lists with its sides turned
 pub zip2-turned : {X Y : Type 0} (f g : X → X → Y) → ((x y : X) → f y x ≡ g x y) → (xs ys : List X) → zip2 f ys xs ≡ zip2 g xs ys
@@ -210,42 +189,31 @@ not_greater Greater = refl
 
 -- answers for so many places as there are flags of NULLs
 known_where : (c : Comparison) (h : ℕ → Bool) (xs ys : List Value) (nulls : List Bool) → length xs ≡ length ys → nulls ≡ zip2 either (map is_null xs) (map is_null ys)
-    → ((i : ℕ) → known (h i) (either (is_null (get_or xs i Null)) (is_null (get_or ys i Null))) ≡ compared c (get_or xs i Null) (get_or ys i Null))
+    → ((i : ℕ) → i < length xs → known (h i) (either (is_null (get_or xs i Null)) (is_null (get_or ys i Null))) ≡ compared c (get_or xs i Null) (get_or ys i Null))
     → zip2 known (map h (range_with_len 0 (length nulls))) nulls ≡ zip2 (compared c) xs ys
 known_where c h xs ys nulls same is right =
     let all = zip2 either (map is_null xs) (map is_null ys) in
     let long : length all ≡ length xs = length-zip2 either (map is_null xs) (map is_null ys) (length-map xs is_null ∙ same ∙ sym (length-map ys is_null)) ∙ length-map xs is_null in
     ap (λ l. zip2 known (map h (range_with_len 0 (length l))) l) is
     ∙ ap (λ (n : ℕ). zip2 known (map h (range_with_len 0 n)) all) long
-    ∙ known_compared c h xs ys same (λ i lt. right i)
+    ∙ known_compared c h xs ys same right
 
 module _ (xs ys : List Value) (nulls : List Bool) (same : length xs ≡ length ys) (is : nulls ≡ zip2 either (map is_null xs) (map is_null ys)) where
-  module _ (c : Comparison) (s : ℤ → ℤ → Bool) (agree : (m n : ℤ) → s m n ≡ passes c (ordering_then (int_cmp m n) Equal)) (ms ns : List ℤ) where
-    abbrev numbers_at : ℕ → Bool
-    numbers_at i = s (get_or ms i (pos 0)) (get_or ns i (pos 0))
-
-    module _ (k : ℕ) (p : ShowsNumbers k ms xs) (q : ShowsNumbers k ns ys) where
-      shown_at : (i : ℕ) → numbers_at i ≡ s (number (get_or xs i Null)) (number (get_or ys i Null))
-      shown_at i = ap₂ s (ap (λ l. get_or l i (pos 0)) p.0 ∙ get_or-map number xs i Null) (ap (λ l. get_or l i (pos 0)) q.0 ∙ get_or-map number ys i Null)
-
-      shown_known : (i : ℕ) → known (s (number (get_or xs i Null)) (number (get_or ys i Null))) (either (is_null (get_or xs i Null)) (is_null (get_or ys i Null))) ≡ compared c (get_or xs i Null) (get_or ys i Null)
-          → known (numbers_at i) (either (is_null (get_or xs i Null)) (is_null (get_or ys i Null))) ≡ compared c (get_or xs i Null) (get_or ys i Null)
-      shown_known i e = ap (λ b. known b (either (is_null (get_or xs i Null)) (is_null (get_or ys i Null)))) (shown_at i) ∙ e
-
-    pub by_numbers : ShowsNumbers 0 ms xs → ShowsNumbers 0 ns ys → zip2 known (map numbers_at (range_with_len 0 (length nulls))) nulls ≡ zip2 (compared c) xs ys
-    by_numbers p q = known_where c numbers_at xs ys nulls same is (λ i. shown_known 0 p q i (known_numbers c s agree _ _ (p.1 i) (q.1 i)))
-
-    pub by_days : ShowsNumbers 1 ms xs → ShowsNumbers 1 ns ys → zip2 known (map numbers_at (range_with_len 0 (length nulls))) nulls ≡ zip2 (compared c) xs ys
-    by_days p q = known_where c numbers_at xs ys nulls same is (λ i. shown_known 1 p q i (known_days c s agree _ _ (p.1 i) (q.1 i)))
+  -- answers of a test of the numbers that are shown give the truths of the comparison
+  pub by_numbers : (c : Comparison) (s : ℤ → ℤ → Bool) → ((m n : ℤ) → s m n ≡ passes c (ordering_then (int_cmp m n) Equal)) → (days : Bool) (ms ns : List ℤ) → ShowsNumbers days ms xs → ShowsNumbers days ns ys
+      → zip2 known (map (λ i. s (get_or ms i (pos 0)) (get_or ns i (pos 0))) (range_with_len 0 (length nulls))) nulls ≡ zip2 (compared c) xs ys
+  by_numbers c s agree days ms ns p q = known_where c (λ i. s (get_or ms i (pos 0)) (get_or ns i (pos 0))) xs ys nulls same is (λ i lt.
+      known_numbers c s agree days (get_or ms i (pos 0)) (get_or ns i (pos 0)) (is_null (get_or xs i Null)) (is_null (get_or ys i Null))
+      ∙ ap₂ (compared c) (number_at days ms xs p i lt) (number_at days ns ys q i (omega (arith, lt, same))))
 
   pub by_texts : (c : Comparison) (s : List ℕ → List ℕ → Bool) → ((t u : List ℕ) → s t u ≡ passes c (slice_cmp nat_cmp t u)) → (ts us : List (List ℕ)) → ShowsTexts ts xs → ShowsTexts us ys
       → zip2 known (map (λ i. s (get_or ts i []) (get_or us i [])) (range_with_len 0 (length nulls))) nulls ≡ zip2 (compared c) xs ys
-  by_texts c s agree ts us p q = known_where c (λ i. s (get_or ts i []) (get_or us i [])) xs ys nulls same is (λ i.
+  by_texts c s agree ts us p q = known_where c (λ i. s (get_or ts i []) (get_or us i [])) xs ys nulls same is (λ i lt.
       ap (λ b. known b (either (is_null (get_or xs i Null)) (is_null (get_or ys i Null)))) (ap₂ s (ap (λ l. get_or l i []) p.0 ∙ get_or-map bytes xs i Null) (ap (λ l. get_or l i []) q.0 ∙ get_or-map bytes ys i Null))
       ∙ known_texts c s agree _ _ (p.1 i) (q.1 i))
 
   pub by_lent : (c : Comparison) → zip2 known (map (λ i. is_true (compared c (get_or xs i Null) (get_or ys i Null))) (range_with_len 0 (length nulls))) nulls ≡ zip2 (compared c) xs ys
-  by_lent c = known_where c (λ i. is_true (compared c (get_or xs i Null) (get_or ys i Null))) xs ys nulls same is (λ i. known_true c (get_or xs i Null) (get_or ys i Null))
+  by_lent c = known_where c (λ i. is_true (compared c (get_or xs i Null) (get_or ys i Null))) xs ys nulls same is (λ i lt. known_true c (get_or xs i Null) (get_or ys i Null))
 
 -- a constant compared with a constant, and NULL with anything
 pub zip2-replicate : {X Y : Type 0} (f : X → X → Y) (n : ℕ) (x y : X) → zip2 f (replicate n x) (replicate n y) ≡ replicate n (f x y)

@@ -2,3 +2,4 @@ pub mod Compared
 pub mod Shown
 pub mod NullLemmas
 pub mod Beside
+pub mod SideLanes

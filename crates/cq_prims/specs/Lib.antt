@@ -4,3 +4,5 @@ pub mod WideSide
 pub mod Numbers
 pub mod Sides
 pub mod Beside
+pub mod OneTruth
+pub mod Turned

@@ -1,9 +1,20 @@
--- The numbers of vectors whose values are all of one kind.
-use Rattle.std.specs.Prelude.{◌≡◌, ℕ, ℤ, List, map}
+-- The numbers and the days of vectors whose values are all of one kind.
+use Rattle.std.specs.Prelude.{◌≡◌, ◌+ℤ◌, ℕ, ℤ, pos, Bool, true, false, List, length, map}
+use Rattle.std.specs.Simd.Lanes.{zip2}
 use Rattle.cq_values.specs.declared.value.Value.{Value}
-use Rattle.cq_values.specs.Order.{number}
-use Rattle.cq_prims_texts.specs.Kinds.{AreOfKind}
+use Rattle.cq_model.specs.Condition.{is_null}
+use Rattle.cq_vectors_stored.specs.Columns.{day_unless, number_unless}
 
--- the numbers are those of the values, which are all of one kind or NULL
-abbrev pub ShowsNumbers : ℕ → List ℤ → List Value → Type 0
-ShowsNumbers k numbers values = (numbers ≡ map number values) × AreOfKind k values
+-- the day or the number, or NULL where the flag says so
+abbrev pub unless : Bool → ℤ → Bool → Value
+unless true n flag = day_unless n flag
+unless false n flag = number_unless n flag
+
+-- each value is the number or the day of its place, or NULL
+pub record ShowsNumbers (days : Bool) (numbers : List ℤ) (values : List Value) : Type 0 where
+  pub long : length numbers ≡ length values
+  pub whole : values ≡ zip2 (unless days) numbers (map is_null values)
+
+-- the numbers that stand above the base
+abbrev pub above : ℤ → List ℕ → List ℤ
+above base offsets = map (λ offset. base +ℤ pos offset) offsets

@@ -1,8 +1,9 @@
 //! Comparisons of vectors.
+ghost use Rattle.cq_prims.specs.OneTruth.{HasOneTruth};
+ghost use Rattle.cq_prims.specs.Turned.{turned};
 ghost use Rattle.cq_values.specs.Comparison.{compared};
 ghost use Rattle.cq_values.specs.declared.comparison.Comparison.TheVariants.{Equal, Less};
 ghost use Rattle.cq_values.specs.Lent.{owned};
-ghost use Rattle.cq_values.specs.declared.value.Value.{Value};
 ghost use Rattle.std.specs.Bool.{OnTrue};
 ghost use Rattle.std.specs.Prelude.{◌≡◌, IfSome, length, replicate};
 ghost use Rattle.std.specs.Simd.Lanes.{zip2};
@@ -61,7 +62,7 @@ fn compare_codes(comparison: Comparison, a: &Vector<'_>, b: &Vector<'_>, to: &mu
 
 /// The comparison that says the same of the sides turned.
 fn turned(comparison: Comparison) -> Comparison
-    ensures { (v w : Value) → compared result w v ≡ compared comparison v w }
+    ensures { result ≡ turned comparison }
 {
     match comparison {
         Comparison::Equal => Comparison::Equal,
@@ -100,7 +101,7 @@ fn compare_sides(comparison: Comparison, a: &Vector<'_>, b: &Vector<'_>, to: &mu
 /// The truth that a comparison has in each place, where two constants or a NULL tell it.
 fn constant_truth(comparison: Comparison, a: &Vector<'_>, b: &Vector<'_>) -> Option<Truth>
     requires { length a.now ≡ length b.now }
-    ensures { IfSome result (λ truth. zip2 (compared comparison) a.now b.now ≡ replicate (length a.now) truth) }
+    ensures { IfSome result (HasOneTruth comparison a.now b.now) }
 {
     match (constant_of(a), constant_of(b)) {
         (Some(v), Some(w)) => Some(cq_model_eval::compare(comparison, v, w)),
@@ -129,6 +130,7 @@ fn set_less(a: &Vector<'_>, b: &Vector<'_>, to: &mut TruthMask)
         Sides::Days(d, e) => set_known_by(&LessDays { a: d, b: e }, &nulls, to),
         Sides::Texts(t, u) => set_known_by(&LessTexts { a: t, b: u }, &nulls, to),
         Sides::Wide(m, n) => set_known_by(&LessWide { a: m, b: n }, &nulls, to),
+        Sides::WideDays(d, e) => set_known_by(&LessWide { a: d, b: e }, &nulls, to),
         Sides::Mixed => {
             let comparison = Comparison::Less;
             set_known_by(&LentTest { comparison, a, b }, &nulls, to)
@@ -146,6 +148,7 @@ fn set_equal(a: &Vector<'_>, b: &Vector<'_>, to: &mut TruthMask)
         Sides::Days(d, e) => set_known_by(&EqualDays { a: d, b: e }, &nulls, to),
         Sides::Texts(t, u) => set_known_by(&EqualTexts { a: t, b: u }, &nulls, to),
         Sides::Wide(m, n) => set_known_by(&EqualWide { a: m, b: n }, &nulls, to),
+        Sides::WideDays(d, e) => set_known_by(&EqualWide { a: d, b: e }, &nulls, to),
         Sides::Mixed => {
             let comparison = Comparison::Equal;
             set_known_by(&LentTest { comparison, a, b }, &nulls, to)

@@ -1,8 +1,9 @@
 //! Sides of comparisons of days.
 ghost use Rattle.std.specs.Int.{w32};
-ghost use Rattle.std.specs.Prelude.{◌+◌, ◌<◌, ◌≡◌, ◌≤◌, FitsSigned, IfSome, drop, length, pos, replicate, slice_index_or, take, ℕ};
+ghost use Rattle.std.specs.Prelude.{◌+◌, ◌<◌, ◌≡◌, ◌≤◌, IfSome, drop, length, pos, replicate, slice_index_or, take, true};
 ghost use Rattle.cq_values.specs.Lent.{owned};
 ghost use Rattle.cq_prims.specs.Numbers.{ShowsNumbers};
+ghost use Rattle.cq_vectors_stored.specs.Columns.{AllFit};
 
 use cq_values::Lent;
 use cq_vectors::{Form, Vector};
@@ -24,20 +25,21 @@ enum DayForm<'a> {
 
 impl<'a> Model for DaySide<'a> {
     ghost use Rattle.std.specs.Int.{w32};
-    ghost use Rattle.std.specs.Prelude.{FitsSigned, List, pos, slice_index_or, ℕ, ℤ};
+    ghost use Rattle.std.specs.Prelude.{List, ℤ};
+    ghost use Rattle.cq_vectors_stored.specs.Columns.{AllFit};
     ghost use Rattle.cq_prims.specs.DaySide.{days_in};
 
     ghost Value = { List ℤ };
 
     ghost view = { λ s. days_in s.form };
 
-    ghost invariant = { λ s. (k : ℕ) → FitsSigned w32 (slice_index_or (days_in s.form) k (pos 0)) };
+    ghost invariant = { λ s. AllFit w32 (days_in s.form) };
 }
 
 impl<'a> DaySide<'a> {
     /// The days of the vector, if it is one of days.
     pub(crate) fn of(vector: &'a Vector<'_>) -> Option<DaySide<'a>>
-        ensures { IfSome result (λ side. ShowsNumbers 1 side vector.now) }
+        ensures { IfSome result (λ side. ShowsNumbers true side vector.now) }
     {
         if let Some(days) = vector.days() {
             return Some(DaySide::column(days.values()));
@@ -49,7 +51,7 @@ impl<'a> DaySide<'a> {
     }
 
     fn of_constant(value: &Lent<'_>, len: usize) -> Option<DaySide<'a>>
-        ensures { IfSome result (λ side. ShowsNumbers 1 side (replicate len (owned value.now))) }
+        ensures { IfSome result (λ side. ShowsNumbers true side (replicate len (owned value.now))) }
     {
         match value {
             Lent::Day(day) => Some(DaySide::constant(day.number(), len)),
@@ -58,7 +60,7 @@ impl<'a> DaySide<'a> {
     }
 
     pub(crate) fn column(values: &'a [i32]) -> DaySide<'a>
-        requires { (k : ℕ) → FitsSigned w32 (slice_index_or values.now k (pos 0)) }
+        requires { AllFit w32 values.now }
         ensures { result ≡ values.now }
     {
         DaySide {
@@ -88,10 +90,10 @@ impl<'a> DaySide<'a> {
     }
 
     /// The days of sixteen places.
-    pub(crate) fn sixteen(&self, from: usize) -> i32x16
+    pub(crate) fn lanes(&self, from: usize) -> i32x16
         requires { from + 16 ≤ length self.now }
         ensures value { result ≡ take 16 (drop from self.now) }
-        ensures fit { (k : ℕ) → FitsSigned w32 (slice_index_or self.now k (pos 0)) }
+        ensures fit { AllFit w32 self.now }
     {
         match &self.form {
             DayForm::Column(values) => i32x16::from_slice(&values[from..]),

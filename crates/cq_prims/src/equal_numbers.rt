@@ -3,7 +3,7 @@ ghost use Rattle.std.specs.Ordering.{int_eq};
 ghost use Rattle.std.specs.Prelude.{◌≡◌, length, pos, slice_index_or};
 
 use crate::number_side::NumberSide;
-use cq_prims_lanes::{SixteenTest, four_sixteens};
+use cq_prims_lanes::{LaneTest, word_by_lanes};
 use cq_vectors_masks::{PlaceTest, WordTest};
 use std::simd::prelude::*;
 
@@ -25,17 +25,24 @@ impl<'a> PlaceTest for EqualNumbers<'a> {
     }
 }
 
-impl<'a> SixteenTest for EqualNumbers<'a> {
-    fn sixteen(&self, from: usize) -> u64 {
-        self.a
-            .sixteen(from)
-            .simd_eq(self.b.sixteen(from))
-            .to_bitmask()
+impl<'a> LaneTest for EqualNumbers<'a> {
+    ghost lanes = { 16 };
+
+    fn lanes(&self) -> usize {
+        16
+    }
+
+    fn turns(&self) -> usize {
+        4
+    }
+
+    fn some(&self, from: usize) -> u64 {
+        self.a.lanes(from).simd_eq(self.b.lanes(from)).to_bitmask()
     }
 }
 
 impl<'a> WordTest for EqualNumbers<'a> {
     fn word(&self, from: usize) -> u64 {
-        four_sixteens(self, from)
+        word_by_lanes(self, from)
     }
 }

@@ -1,4 +1,4 @@
-//! Whether a number equals another, in 128 bits.
+//! Whether a number equals another, whatever their widths.
 ghost use Rattle.std.specs.Ordering.{int_eq};
 ghost use Rattle.std.specs.Prelude.{◌≡◌, length, pos, slice_index_or};
 

@@ -2,7 +2,7 @@
 ghost use Rattle.std.specs.Prelude.{◌≡◌, int_lt, length, pos, slice_index_or};
 
 use crate::number_side::NumberSide;
-use cq_prims_lanes::{FourTest, sixteen_fours};
+use cq_prims_lanes::{LaneTest, word_by_lanes};
 use cq_vectors_masks::{PlaceTest, WordTest};
 use std::simd::prelude::*;
 
@@ -24,14 +24,24 @@ impl<'a> PlaceTest for LessNumbers<'a> {
     }
 }
 
-impl<'a> FourTest for LessNumbers<'a> {
-    fn four(&self, from: usize) -> u64 {
+impl<'a> LaneTest for LessNumbers<'a> {
+    ghost lanes = { 4 };
+
+    fn lanes(&self) -> usize {
+        4
+    }
+
+    fn turns(&self) -> usize {
+        16
+    }
+
+    fn some(&self, from: usize) -> u64 {
         self.a.four(from).simd_lt(self.b.four(from)).to_bitmask()
     }
 }
 
 impl<'a> WordTest for LessNumbers<'a> {
     fn word(&self, from: usize) -> u64 {
-        sixteen_fours(self, from)
+        word_by_lanes(self, from)
     }
 }

@@ -1,4 +1,4 @@
-//! Whether a number is less than another, in 128 bits.
+//! Whether a number is less than another, whatever their widths.
 ghost use Rattle.std.specs.Prelude.{int_lt};
 ghost use Rattle.std.specs.Prelude.{◌≡◌, length, pos, slice_index_or};
 

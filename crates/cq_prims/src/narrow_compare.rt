@@ -1,14 +1,10 @@
 //! Comparisons of numbers and days above a base with a constant.
 //!
 //! The constant is moved by the base once, and then the offsets are compared as they stand, in lanes of their width.
-ghost use Rattle.std.specs.Prelude.{IfSome, int_lt, length, pos, not, ℕ, List, ◌+ℤ◌, ◌≡◌};
-ghost use Rattle.std.specs.Simd.Lanes.{zip2};
-ghost use Rattle.cq_prims.specs.Beside.{AreBeside, AreBesideOne, is_constant};
-ghost use Rattle.cq_prims_lanes.specs.UpTo.{is_up_to, known_of};
-ghost use Rattle.cq_values.specs.Comparison.{compared};
-ghost use Rattle.cq_values.specs.declared.value.Value.{Value};
+ghost use Rattle.std.specs.Prelude.{IfSome, length, ℕ, ◌≡◌};
+ghost use Rattle.cq_prims.specs.Beside.{AreBeside, AreBesideOne, AreTruthsBeside, answers_of, is_at_most, is_below, is_constant};
+ghost use Rattle.cq_prims_lanes.specs.UpTo.{is_up_to};
 ghost use Rattle.cq_values.specs.declared.value.Value.TheVariants.{Day, Number};
-ghost use Rattle.cq_vectors.specs.Offsets.{offsets_in};
 
 use crate::comparisons::constant_of;
 use crate::narrow_side::NarrowSide;
@@ -16,8 +12,9 @@ use cq_prims_lanes::{
     set_equal_8, set_equal_16, set_equal_32, set_never, set_up_to_8, set_up_to_16, set_up_to_32,
 };
 use cq_values::{Comparison, Lent};
-use cq_vectors::{Form, Narrow, NarrowDays, Offsets, Vector};
+use cq_vectors::{Form, Vector};
 use cq_vectors_masks::TruthMask;
+use cq_vectors_stored::{Narrow, NarrowDays, Offsets};
 
 impl<'a> NarrowSide<'a> {
     /// The column and the constant, if they are such and of one kind.
@@ -66,7 +63,7 @@ impl<'a> NarrowSide<'a> {
 
     /// The truth of the comparison in each place.
     pub(crate) fn compare(&self, comparison: Comparison, to: &mut TruthMask)
-        ensures { (vs ws : List Value) → AreBeside self.now vs ws → to.new ≡ zip2 (compared comparison) vs ws }
+        ensures { AreTruthsBeside self.now comparison to.new }
     {
         match comparison {
             Comparison::Less => self.set_up_to(self.last_below(), to),
@@ -92,7 +89,7 @@ impl<'a> NarrowSide<'a> {
 
     /// The greatest offset that stands below the constant.
     fn last_below(&self) -> Option<u128>
-        ensures { (o : ℕ) → is_up_to result o ≡ int_lt (self.now.base +ℤ pos o) self.now.value }
+        ensures { (o : ℕ) → is_up_to result o ≡ is_below self.now o }
     {
         let base = i128::from(self.base);
         if base < self.value {
@@ -104,7 +101,7 @@ impl<'a> NarrowSide<'a> {
 
     /// The greatest offset that does not stand above the constant.
     fn last_up_to(&self) -> Option<u128>
-        ensures { (o : ℕ) → is_up_to result o ≡ not (int_lt self.now.value (self.now.base +ℤ pos o)) }
+        ensures { (o : ℕ) → is_up_to result o ≡ is_at_most self.now o }
     {
         let base = i128::from(self.base);
         if base <= self.value {
@@ -115,7 +112,7 @@ impl<'a> NarrowSide<'a> {
     }
 
     fn set_up_to(&self, last: Option<u128>, to: &mut TruthMask)
-        ensures { to.new ≡ known_of (is_up_to last) (offsets_in self.now.offsets) self.now.nulls.now }
+        ensures { to.new ≡ answers_of self.now (is_up_to last) }
     {
         match last {
             None => set_never(self.nulls, to),
@@ -128,7 +125,7 @@ impl<'a> NarrowSide<'a> {
     }
 
     fn set_equal(&self, to: &mut TruthMask)
-        ensures { to.new ≡ known_of (is_constant self.now) (offsets_in self.now.offsets) self.now.nulls.now }
+        ensures { to.new ≡ answers_of self.now (is_constant self.now) }
     {
         let base = i128::from(self.base);
         if self.value < base {

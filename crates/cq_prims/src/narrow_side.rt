@@ -1,9 +1,9 @@
 //! A column above a base, and the constant that it is compared with.
 ghost use Rattle.std.specs.Prelude.{length, ◌≡◌};
-ghost use Rattle.cq_vectors.specs.Offsets.{offsets_in};
+ghost use Rattle.cq_vectors_stored.specs.Offsets.{offsets_in};
 
-use cq_vectors::Offsets;
 use cq_vectors_masks::Plane;
+use cq_vectors_stored::Offsets;
 
 /// A column of numbers or days above a base, and the constant beside each.
 #[derive(Drop)]

@@ -1,8 +1,9 @@
 //! Sides of comparisons of numbers in 64 bits.
 ghost use Rattle.std.specs.Int.{w64};
-ghost use Rattle.std.specs.Prelude.{◌+◌, ◌<◌, ◌≡◌, ◌≤◌, FitsSigned, IfSome, drop, length, pos, replicate, slice_index_or, take, ℕ};
+ghost use Rattle.std.specs.Prelude.{◌+◌, ◌<◌, ◌≡◌, ◌≤◌, IfSome, drop, false, length, pos, replicate, slice_index_or, take};
 ghost use Rattle.cq_values.specs.Lent.{owned};
 ghost use Rattle.cq_prims.specs.Numbers.{ShowsNumbers};
+ghost use Rattle.cq_vectors_stored.specs.Columns.{AllFit};
 
 use cq_values::Lent;
 use cq_vectors::{Form, Vector};
@@ -24,20 +25,21 @@ enum NumberForm<'a> {
 
 impl<'a> Model for NumberSide<'a> {
     ghost use Rattle.std.specs.Int.{w64};
-    ghost use Rattle.std.specs.Prelude.{FitsSigned, List, pos, slice_index_or, ℕ, ℤ};
+    ghost use Rattle.std.specs.Prelude.{List, ℤ};
+    ghost use Rattle.cq_vectors_stored.specs.Columns.{AllFit};
     ghost use Rattle.cq_prims.specs.NumberSide.{numbers_in};
 
     ghost Value = { List ℤ };
 
     ghost view = { λ s. numbers_in s.form };
 
-    ghost invariant = { λ s. (k : ℕ) → FitsSigned w64 (slice_index_or (numbers_in s.form) k (pos 0)) };
+    ghost invariant = { λ s. AllFit w64 (numbers_in s.form) };
 }
 
 impl<'a> NumberSide<'a> {
     /// The numbers of the vector, where 64 bits hold each.
     pub(crate) fn of(vector: &'a Vector<'_>) -> Option<NumberSide<'a>>
-        ensures { IfSome result (λ side. ShowsNumbers 0 side vector.now) }
+        ensures { IfSome result (λ side. ShowsNumbers false side vector.now) }
     {
         if let Some(numbers) = vector.numbers() {
             return Some(NumberSide::column(numbers.values()));
@@ -49,7 +51,7 @@ impl<'a> NumberSide<'a> {
     }
 
     fn of_constant(value: &Lent<'_>, len: usize) -> Option<NumberSide<'a>>
-        ensures { IfSome result (λ side. ShowsNumbers 0 side (replicate len (owned value.now))) }
+        ensures { IfSome result (λ side. ShowsNumbers false side (replicate len (owned value.now))) }
     {
         let Lent::Number(value) = value else {
             return None;
@@ -61,7 +63,7 @@ impl<'a> NumberSide<'a> {
     }
 
     pub(crate) fn column(values: &'a [i64]) -> NumberSide<'a>
-        requires { (k : ℕ) → FitsSigned w64 (slice_index_or values.now k (pos 0)) }
+        requires { AllFit w64 values.now }
         ensures { result ≡ values.now }
     {
         NumberSide {
@@ -91,10 +93,10 @@ impl<'a> NumberSide<'a> {
     }
 
     /// The numbers of sixteen places.
-    pub(crate) fn sixteen(&self, from: usize) -> i64x16
+    pub(crate) fn lanes(&self, from: usize) -> i64x16
         requires { from + 16 ≤ length self.now }
         ensures value { result ≡ take 16 (drop from self.now) }
-        ensures fit { (k : ℕ) → FitsSigned w64 (slice_index_or self.now k (pos 0)) }
+        ensures fit { AllFit w64 self.now }
     {
         match &self.form {
             NumberForm::Column(values) => i64x16::from_slice(&values[from..]),
@@ -106,7 +108,7 @@ impl<'a> NumberSide<'a> {
     pub(crate) fn four(&self, from: usize) -> i64x4
         requires { from + 4 ≤ length self.now }
         ensures value { result ≡ take 4 (drop from self.now) }
-        ensures fit { (k : ℕ) → FitsSigned w64 (slice_index_or self.now k (pos 0)) }
+        ensures fit { AllFit w64 self.now }
     {
         match &self.form {
             NumberForm::Column(values) => i64x4::from_slice(&values[from..]),

@@ -14,6 +14,7 @@ pub(crate) enum Sides<'a> {
     Days(DaySide<'a>, DaySide<'a>),
     Texts(TextSide<'a>, TextSide<'a>),
     Wide(WideSide<'a>, WideSide<'a>),
+    WideDays(WideSide<'a>, WideSide<'a>),
     /// No form that both have: the values go one by one.
     Mixed,
 }
@@ -32,6 +33,9 @@ pub(crate) fn sides_of<'a>(a: &'a Vector<'_>, b: &'a Vector<'_>) -> Sides<'a>
     }
     if let (Some(a), Some(b)) = (WideSide::of(a), WideSide::of(b)) {
         return Sides::Wide(a, b);
+    }
+    if let (Some(a), Some(b)) = (WideSide::of_days(a), WideSide::of_days(b)) {
+        return Sides::WideDays(a, b);
     }
     Sides::Mixed
 }

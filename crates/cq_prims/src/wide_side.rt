@@ -1,10 +1,12 @@
-//! Sides of comparisons of numbers of which one needs 128 bits.
-ghost use Rattle.std.specs.Prelude.{◌<◌, ◌≡◌, IfSome, length, pos, replicate, slice_index_or};
+//! Sides of comparisons of numbers, or of days, that stand in any width.
+ghost use Rattle.std.specs.Prelude.{◌<◌, ◌≡◌, IfSome, false, length, pos, replicate, slice_index_or, true};
 ghost use Rattle.cq_values.specs.Lent.{owned};
-ghost use Rattle.cq_prims.specs.Numbers.{ShowsNumbers};
+ghost use Rattle.cq_prims.specs.Numbers.{ShowsNumbers, above};
+ghost use Rattle.cq_vectors_stored.specs.Offsets.{offsets_in};
 
 use cq_values::Lent;
 use cq_vectors::{Form, Vector};
+use cq_vectors_stored::{Narrow, NarrowDays, Offsets};
 use std::marker::Model;
 
 /// One side of a comparison, which contracts see as the number of each place.
@@ -17,6 +19,9 @@ pub(crate) struct WideSide<'a> {
 enum WideForm<'a> {
     Column(&'a [i128]),
     Numbers(&'a [i64]),
+    Days(&'a [i32]),
+    /// A base, and how far each number stands above it.
+    Above(i64, Offsets<'a>),
     /// One number for so many places.
     Constant(i128, usize),
 }
@@ -33,20 +38,48 @@ impl<'a> Model for WideSide<'a> {
 impl<'a> WideSide<'a> {
     /// The numbers of the vector, if it is one of numbers.
     pub(crate) fn of(vector: &'a Vector<'_>) -> Option<WideSide<'a>>
-        ensures { IfSome result (λ side. ShowsNumbers 0 side vector.now) }
+        ensures { IfSome result (λ side. ShowsNumbers false side vector.now) }
     {
         if let Some(numbers) = vector.numbers() {
             return Some(WideSide::numbers(numbers.values()));
         }
         match vector.form() {
             Form::Wide(numbers) => Some(WideSide::column(numbers.values())),
+            Form::Narrow(numbers) => Some(WideSide::of_narrow(numbers)),
             Form::Constant(value, len) => WideSide::of_constant(value, *len),
             _ => None,
         }
     }
 
+    /// The numbers of the days of the vector, if it is one of days.
+    pub(crate) fn of_days(vector: &'a Vector<'_>) -> Option<WideSide<'a>>
+        ensures { IfSome result (λ side. ShowsNumbers true side vector.now) }
+    {
+        if let Some(days) = vector.days() {
+            return Some(WideSide::days(days.values()));
+        }
+        match vector.form() {
+            Form::NarrowDays(days) => Some(WideSide::of_narrow_days(days)),
+            _ => None,
+        }
+    }
+
+    fn of_narrow(numbers: &'a Narrow<'_>) -> WideSide<'a>
+        ensures { ShowsNumbers false result numbers.now }
+    {
+        let (base, offsets) = numbers.parts();
+        WideSide::above(base, offsets)
+    }
+
+    fn of_narrow_days(days: &'a NarrowDays<'_>) -> WideSide<'a>
+        ensures { ShowsNumbers true result days.now }
+    {
+        let (base, offsets) = days.parts();
+        WideSide::above(i64::from(base), offsets)
+    }
+
     fn of_constant(value: &Lent<'_>, len: usize) -> Option<WideSide<'a>>
-        ensures { IfSome result (λ side. ShowsNumbers 0 side (replicate len (owned value.now))) }
+        ensures { IfSome result (λ side. ShowsNumbers false side (replicate len (owned value.now))) }
     {
         match value {
             Lent::Number(value) => Some(WideSide::constant(*value, len)),
@@ -67,6 +100,22 @@ impl<'a> WideSide<'a> {
     {
         WideSide {
             form: WideForm::Numbers(values),
+        }
+    }
+
+    pub(crate) fn days(values: &'a [i32]) -> WideSide<'a>
+        ensures { result ≡ values.now }
+    {
+        WideSide {
+            form: WideForm::Days(values),
+        }
+    }
+
+    pub(crate) fn above(base: i64, offsets: Offsets<'a>) -> WideSide<'a>
+        ensures { result ≡ above base (offsets_in offsets.entry) }
+    {
+        WideSide {
+            form: WideForm::Above(base, offsets),
         }
     }
 
@@ -91,7 +140,20 @@ impl<'a> WideSide<'a> {
                 let values = *values;
                 i128::from(values[place])
             }
+            WideForm::Days(values) => {
+                let values = *values;
+                i128::from(values[place])
+            }
+            WideForm::Above(base, offsets) => above_at(*base, offsets, place),
             WideForm::Constant(value, _) => *value,
         }
     }
+}
+
+/// The number of a place above the base.
+fn above_at(base: i64, offsets: &Offsets<'_>, place: usize) -> i128
+    requires { place < length (offsets_in offsets.now) }
+    ensures { result ≡ slice_index_or (above base (offsets_in offsets.now)) place (pos 0) }
+{
+    i128::from(base) + i128::from(offsets.at(place))
 }

@@ -6,7 +6,7 @@ use Rattle.std.proofs.lemmas.Simd.{length-zip2, get_or-zip2}
 use Rattle.std.proofs.lemmas.List.{ext_get_or, take_more}
 use Rattle.cq_values.specs.declared.value.Value.TheVariants.{Number}
 use Rattle.cq_vectors_masks.specs.Plane.{either}
-use Rattle.cq_vectors.specs.Columns.{AllFit, ZeroWhere, number_unless}
+use Rattle.cq_vectors_stored.specs.Columns.{AllFit, ZeroWhere, number_unless}
 use Rattle.cq_prims_arithmetic.specs.Operation.{lifted, zero_if}
 
 -- nothing is to be cleared where no flag is set
@@ -90,18 +90,12 @@ of_columns f (m ∷ ms) (n ∷ ns) (true ∷ fs) (y ∷ gs) = ap (λ l. number_u
 of_columns f (m ∷ ms) (n ∷ ns) (false ∷ fs) (true ∷ gs) = ap (λ l. number_unless m true ∷ l) (of_columns f ms ns fs gs)
 of_columns f (m ∷ ms) (n ∷ ns) (false ∷ fs) (false ∷ gs) = ap (λ l. Number (f m n) ∷ l) (of_columns f ms ns fs gs)
 
--- the results of a column and one number
-pub of_column_and_number : (f : ℤ → ℤ → ℤ) (ms : List ℤ) (n : ℤ) (fs : List Bool) → length fs ≡ length ms
-    → zip2 number_unless (zip2 f ms (replicate (length ms) n)) fs ≡ zip2 (lifted f) (zip2 number_unless ms fs) (replicate (length ms) (Number n))
-of_column_and_number f [] n fs same = refl
-of_column_and_number f (m ∷ ms) n [] same = refl
-of_column_and_number f (m ∷ ms) n (true ∷ fs) same = ap (λ l. number_unless m true ∷ l) (of_column_and_number f ms n fs (omega arith))
-of_column_and_number f (m ∷ ms) n (false ∷ fs) same = ap (λ l. Number (f m n) ∷ l) (of_column_and_number f ms n fs (omega arith))
+-- there is a result for each flag of NULLs
+pub results-same : (f : ℤ → ℤ → ℤ) (ms ns : List ℤ) (flags : List Bool) → length ms ≡ length flags → length ns ≡ length flags → length (zip2 f ms ns) ≡ length flags
+results-same f ms ns flags left right = length-zip2 f ms ns (left ∙ sym right) ∙ left
 
--- the results of one number and a column
-pub of_number_and_column : (f : ℤ → ℤ → ℤ) (m : ℤ) (ns : List ℤ) (fs : List Bool) → length fs ≡ length ns
-    → zip2 number_unless (zip2 f (replicate (length ns) m) ns) fs ≡ zip2 (lifted f) (replicate (length ns) (Number m)) (zip2 number_unless ns fs)
-of_number_and_column f m [] fs same = refl
-of_number_and_column f m (n ∷ ns) [] same = absurd (omega arith)
-of_number_and_column f m (n ∷ ns) (true ∷ fs) same = ap (λ l. number_unless n true ∷ l) (of_number_and_column f m ns fs (omega arith))
-of_number_and_column f m (n ∷ ns) (false ∷ fs) same = ap (λ l. Number (f m n) ∷ l) (of_number_and_column f m ns fs (omega arith))
+-- also of those that are cleared
+pub cleared-same : (f : ℤ → ℤ → ℤ) (ms ns : List ℤ) (flags : List Bool) → length ms ≡ length flags → length ns ≡ length flags → length (zip2 zero_if (zip2 f ms ns) flags) ≡ length flags
+cleared-same f ms ns flags left right =
+    let long = results-same f ms ns flags left right in
+    length-zip2 zero_if (zip2 f ms ns) flags long ∙ long

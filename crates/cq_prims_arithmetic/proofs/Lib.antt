@@ -1,5 +1,6 @@
 pub mod PlaceLemmas
 pub mod ColumnLemmas
+pub mod SideLemmas
 pub mod SumLemmas
 pub mod CallLemmas
 pub mod PartLemmas

@@ -5,7 +5,7 @@ use Rattle.cq_values.specs.declared.value.Value.TheVariants.{Null, Number, Day, 
 use Rattle.cq_values.specs.declared.day_part.DayPart.{DayPart}
 use Rattle.cq_model.specs.Eval.{extracted}
 use Rattle.cq_model.specs.Group.{addend}
-use Rattle.cq_vectors.specs.Columns.{number_unless}
+use Rattle.cq_vectors_stored.specs.Columns.{number_unless}
 use Rattle.cq_prims_arithmetic.specs.Operation.{no_number}
 use Rattle.cq_prims_arithmetic.proofs.PlaceLemmas.{AreNumbers}
 

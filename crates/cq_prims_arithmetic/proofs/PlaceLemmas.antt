@@ -6,10 +6,11 @@ use Rattle.std.proofs.lemmas.Simd.{length-zip2, get_or-zip2}
 use Rattle.std.proofs.lemmas.List.{take_more, map-append}
 use Rattle.cq_values.specs.declared.value.Value.{Value}
 use Rattle.cq_values.specs.declared.value.Value.TheVariants.{Null, Number, Day, Text}
+use Rattle.cq_model.specs.Exact.{ValueInRange}
 use Rattle.cq_model.specs.Group.{InRange, addend}
 use Rattle.std.proofs.lemmas.Int.{ints}
-use Rattle.cq_vectors.specs.Columns.{AllFit, ZeroWhere, number_unless}
-use Rattle.cq_prims_arithmetic.specs.Operation.{AllInRange, lifted, no_number}
+use Rattle.cq_vectors_stored.specs.Columns.{AllFit, ZeroWhere, number_unless}
+use Rattle.cq_prims_arithmetic.specs.Operation.{AllAddInRange, AllInRange, lifted, no_number}
 
 -- a function of the values of one place more
 pub map_more : {A : Type 0} (f : Value → A) (values : List Value) (i : ℕ) → i < length values → map f (take (i + 1) values) ≡ map f (take i values) ++ f (get_or values i Null) ∷ []
@@ -77,3 +78,22 @@ length_results f vs ws same = length-zip2 f vs ws same
 -- the numbers and flags of all results make them
 pub all_made : (values : List Value) (i : ℕ) (numbers : List ℤ) (flags : List Bool) → take i values ≡ values → numbers ≡ map addend (take i values) → flags ≡ map no_number (take i values) → AreNumbers values → zip2 number_unless numbers flags ≡ values
 all_made values i numbers flags whole ns fs are = ap₂ (zip2 number_unless) (ns ∙ ap (map addend) whole) (fs ∙ ap (map no_number) whole) ∙ numbers_again values are
+
+-- values are in range exactly where what they add is
+adds_in_range : (v : Value) → ValueInRange v → InRange (addend v)
+adds_in_range (Number n) h = h
+adds_in_range (Day d) h = record { low = search arith; high = search arith }
+adds_in_range (Text t) h = record { low = search arith; high = search arith }
+adds_in_range Null h = record { low = search arith; high = search arith }
+
+value_in_range : (v : Value) → InRange (addend v) → ValueInRange v
+value_in_range (Number n) h = h
+value_in_range (Day d) h = tt
+value_in_range (Text t) h = tt
+value_in_range Null h = tt
+
+pub all_add_in_range : (values : List Value) → AllInRange values → AllAddInRange values
+all_add_in_range values h k = adds_in_range (get_or values k Null) (h k)
+
+pub all_in_range : (values : List Value) → AllAddInRange values → AllInRange values
+all_in_range values h k = value_in_range (get_or values k Null) (h k)

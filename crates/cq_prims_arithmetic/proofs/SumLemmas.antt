@@ -6,7 +6,7 @@ use Rattle.cq_values.specs.declared.value.Value.{Value}
 use Rattle.cq_values.specs.declared.value.Value.TheVariants.{Null}
 use Rattle.cq_values.specs.Order.{number}
 use Rattle.cq_model.specs.Group.{addend}
-use Rattle.cq_vectors.specs.Columns.{number_unless}
+use Rattle.cq_vectors_stored.specs.Columns.{number_unless}
 use Rattle.cq_prims_arithmetic.specs.Sums.{sum_at, sum_of}
 
 -- the number of a place is what its value adds

@@ -1,9 +1,12 @@
 -- Columns without NULLs, in 128 bits.
-use Rattle.std.proofs.Common.{◌≡◌, ℕ, zero, suc, ℤ, false, List, [], ◌∷◌, map, replicate, get_or, refl, ap, arith}
+use Rattle.std.proofs.Common.{◌≡◌, ℕ, zero, suc, ℤ, false, List, [], ◌∷◌, map, length, replicate, get_or, refl, sym, ap, ◌∙◌, arith}
 use Rattle.std.specs.Int.{w128}
 use lib.Lanes.{zip2}
+use Rattle.std.proofs.lemmas.List.{length-map}
+use Rattle.std.proofs.lemmas.Simd.{length-zip2}
+use Rattle.cq_values.specs.declared.value.Value.{Value}
 use Rattle.cq_values.specs.declared.value.Value.TheVariants.{Number}
-use Rattle.cq_vectors.specs.Columns.{AllFit}
+use Rattle.cq_vectors_stored.specs.Columns.{AllFit}
 use Rattle.cq_prims_arithmetic.specs.Operation.{AllInRange, lifted}
 use Rattle.cq_prims_arithmetic.proofs.PlaceLemmas.{number_fits}
 
@@ -12,6 +15,12 @@ pub of_numbers : (f : ℤ → ℤ → ℤ) (ms ns : List ℤ) → zip2 (lifted f
 of_numbers f [] ns = refl
 of_numbers f (m ∷ ms) [] = refl
 of_numbers f (m ∷ ms) (n ∷ ns) = ap (λ l. Number (f m n) ∷ l) (of_numbers f ms ns)
+
+-- there is a result for each value
+pub results-long : (f : ℤ → ℤ → ℤ) (ms ns : List ℤ) {vs ws : List Value} → vs ≡ map Number ms → ws ≡ map Number ns → length vs ≡ length ws → length (zip2 f ms ns) ≡ length vs
+results-long f ms ns {vs} {ws} first second same =
+    let left = sym (length-map ms Number) ∙ sym (ap length first) in
+    length-zip2 f ms ns (left ∙ same ∙ ap length second ∙ length-map ns Number) ∙ left
 
 pub numbers_fit : (ns : List ℤ) → AllInRange (map Number ns) → AllFit w128 ns
 numbers_fit [] fit k = search arith

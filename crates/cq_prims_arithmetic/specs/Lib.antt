@@ -1,3 +1,4 @@
 pub mod Operation
+pub mod Sides
 pub mod Sums
 pub mod Unbroken

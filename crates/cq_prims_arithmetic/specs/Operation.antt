@@ -4,7 +4,8 @@ use Rattle.std.specs.Simd.Lanes.{zip2}
 use Rattle.cq_values.specs.declared.value.Value.{Value}
 use Rattle.cq_values.specs.declared.value.Value.TheVariants.{Null, Number}
 use Rattle.cq_model.specs.Exact.{ValueInRange}
-use Rattle.cq_vectors.specs.Columns.{number_unless}
+use Rattle.cq_model.specs.Group.{InRange, addend}
+use Rattle.cq_vectors_stored.specs.Columns.{number_unless}
 
 -- the operation on two numbers, and NULL where one side is no number
 abbrev pub lifted : (ℤ → ℤ → ℤ) → Value → Value → Value
@@ -23,6 +24,10 @@ no_number v = true
 -- each of the values fits 128 bits
 abbrev pub AllInRange : List Value → Type 0
 AllInRange values = (k : ℕ) → ValueInRange (slice_index_or values k Null)
+
+-- the same by the numbers that the values add to a sum, which is 0 of no number
+abbrev pub AllAddInRange : List Value → Type 0
+AllAddInRange values = (k : ℕ) → InRange (addend (slice_index_or values k Null))
 
 -- the number, or 0 where the flag is set
 abbrev pub zero_if : ℤ → Bool → ℤ

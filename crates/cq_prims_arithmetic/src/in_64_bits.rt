@@ -3,7 +3,7 @@ ghost use Rattle.std.specs.Int.{w64};
 ghost use Rattle.std.specs.Prelude.{IfOk, length, ◌≡◌};
 ghost use Rattle.std.specs.Simd.Lanes.{zip2};
 ghost use Rattle.cq_prims_arithmetic.specs.Operation.{results};
-ghost use Rattle.cq_vectors.specs.Columns.{AllFit};
+ghost use Rattle.cq_vectors_stored.specs.Columns.{AllFit};
 
 use crate::clear::clear_nulls;
 use crate::operation::Operation;

@@ -3,16 +3,20 @@
 //! To its callers each operation is that of the language at each place, whatever form the vectors have.
 #![tactic(auto)]
 
+mod above;
 mod arithmetic;
 mod clear;
+mod columns;
 mod combined;
 mod in_64_bits;
+mod operands;
 mod operation;
 mod parts;
 mod places;
 mod side;
 mod sizes;
 mod sums;
+mod taker;
 mod unbroken;
 mod wide;
 mod wide_side;

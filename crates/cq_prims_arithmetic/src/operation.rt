@@ -4,7 +4,7 @@ ghost use Rattle.std.specs.Prelude.{FitsSigned, IsTrue, nat_abs, ℕ, ℤ, ◌*�
 ghost use Rattle.cq_prims_arithmetic.specs.Operation.{minus};
 
 /// What is done with the two numbers of a place.
-pub(crate) trait Operation {
+pub(crate) trait Operation: Copy {
     ghost apply: { ℤ → ℤ → ℤ };
 
     /// In 128 bits.
@@ -22,6 +22,7 @@ pub(crate) trait Operation {
         ensures { IsTrue result → (m n : ℤ) → nat_abs m ≤ a → nat_abs n ≤ b → FitsSigned w64 (apply m n) };
 }
 
+#[derive(Clone, Copy)]
 pub(crate) struct Plus;
 
 impl Operation for Plus {
@@ -40,6 +41,7 @@ impl Operation for Plus {
     }
 }
 
+#[derive(Clone, Copy)]
 pub(crate) struct Minus;
 
 impl Operation for Minus {
@@ -58,6 +60,7 @@ impl Operation for Minus {
     }
 }
 
+#[derive(Clone, Copy)]
 pub(crate) struct Times;
 
 impl Operation for Times {

@@ -1,12 +1,13 @@
 //! Arithmetic place by place, for forms that have no loop of their own.
-ghost use Rattle.std.specs.Prelude.{IfOk, length, ◌≡◌};
+ghost use Rattle.std.specs.Prelude.{IfOk, ◌≡◌};
 ghost use Rattle.std.specs.Simd.Lanes.{zip2};
 ghost use Rattle.cq_values.specs.Lent.{owned};
 ghost use Rattle.cq_values.specs.declared.value.Value.TheVariants.{Number, Null};
 ghost use Rattle.cq_model.specs.Exact.{ValueInRange};
-ghost use Rattle.cq_prims_arithmetic.specs.Operation.{AllInRange, lifted, no_number};
+ghost use Rattle.cq_prims_arithmetic.specs.Operation.{lifted, no_number};
 ghost use Rattle.cq_model.specs.Group.{addend};
 
+use crate::operands::Operands;
 use crate::operation::Operation;
 use cq_values::Lent;
 use cq_vectors::{Form, Vector, WideNumbers};
@@ -15,13 +16,11 @@ use std::alloc::{AllocError, Global};
 
 pub(crate) fn by_places<'a, O: Operation>(
     alloc: Global,
-    a: &Vector<'_>,
-    b: &Vector<'_>,
+    of: &Operands<'_, '_, '_, O>,
 ) -> Result<Vector<'a>, AllocError>
-    requires same { length a.now ≡ length b.now }
-    requires fits { AllInRange (zip2 (lifted O.apply) a.now b.now) }
-    ensures { IfOk result (λ made. made ≡ zip2 (lifted O.apply) a.now b.now) }
+    ensures { IfOk result (λ made. made ≡ zip2 (lifted O.apply) of.now.a.now of.now.b.now) }
 {
+    let (a, b) = (of.a, of.b);
     let len = a.len();
     let mut values = Vec::new(alloc);
     let mut nulls = Plane::new();

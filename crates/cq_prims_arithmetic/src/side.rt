@@ -1,5 +1,7 @@
 //! The two sides of an operation in 64 bits.
-ghost use Rattle.std.specs.Prelude.{length, pos, replicate, slice_index_or, List, ℤ, ◌<◌, ◌≡◌};
+ghost use Rattle.std.specs.Prelude.{length, nat_abs, pos, replicate, slice_index_or, List, ℕ, ℤ, ◌<◌, ◌≡◌, ◌≤◌};
+
+use crate::sizes::largest_size;
 
 /// Numbers of 64 bits, one for each place.
 pub(crate) trait Side {
@@ -8,6 +10,10 @@ pub(crate) trait Side {
     fn at(&self, i: usize) -> i64
         requires { i < length (numbers self.now) }
         ensures { result ≡ slice_index_or (numbers self.now) i (pos 0) };
+
+    /// No number is farther from zero. Only numbers that stand in no bounds are looked at.
+    fn size(&self) -> u64
+        ensures { (k : ℕ) → nat_abs (slice_index_or (numbers self.now) k (pos 0)) ≤ result };
 }
 
 #[derive(Drop)]
@@ -20,6 +26,10 @@ impl Side for Column<'_> {
 
     fn at(&self, i: usize) -> i64 {
         self.values[i]
+    }
+
+    fn size(&self) -> u64 {
+        largest_size(self.values)
     }
 }
 
@@ -35,5 +45,9 @@ impl Side for Repeated {
 
     fn at(&self, _: usize) -> i64 {
         self.number
+    }
+
+    fn size(&self) -> u64 {
+        self.number.unsigned_abs()
     }
 }

@@ -3,9 +3,10 @@ ghost use Rattle.std.specs.Int.{w128};
 ghost use Rattle.std.specs.Prelude.{IfOk, length, map, ◌≡◌};
 ghost use Rattle.std.specs.Simd.Lanes.{zip2};
 ghost use Rattle.cq_values.specs.declared.value.Value.TheVariants.{Number};
-ghost use Rattle.cq_vectors.specs.Columns.{AllFit};
-ghost use Rattle.cq_prims_arithmetic.specs.Operation.{AllInRange, lifted};
+ghost use Rattle.cq_vectors_stored.specs.Columns.{AllFit};
+ghost use Rattle.cq_prims_arithmetic.specs.Operation.{lifted};
 
+use crate::operands::Operands;
 use crate::operation::Operation;
 use crate::wide_side::WideSide;
 use cq_vectors::{Form, Vector, WideNumbers};
@@ -15,18 +16,15 @@ use std::alloc::{AllocError, Global};
 /// The results of two vectors whose numbers are these.
 pub(crate) fn wide<'a, O: Operation, A: WideSide, B: WideSide>(
     alloc: Global,
-    left: &Vector<'_>,
-    right: &Vector<'_>,
+    of: &Operands<'_, '_, '_, O>,
     a: &A,
     b: &B,
 ) -> Result<Vector<'a>, AllocError>
-    requires same { length left.now ≡ length right.now }
-    requires first { left.now ≡ map Number (A.numbers a.now) }
-    requires second { right.now ≡ map Number (B.numbers b.now) }
-    requires fits { AllInRange (zip2 (lifted O.apply) left.now right.now) }
-    ensures { IfOk result (λ made. made ≡ zip2 (lifted O.apply) left.now right.now) }
+    requires first { of.now.a.now ≡ map Number (A.numbers a.now) }
+    requires second { of.now.b.now ≡ map Number (B.numbers b.now) }
+    ensures { IfOk result (λ made. made ≡ zip2 (lifted O.apply) of.now.a.now of.now.b.now) }
 {
-    let len = left.len();
+    let len = of.a.len();
     let values = wide_results::<O, A, B>(alloc, a, b, len)?;
     let mut nulls = Plane::new();
     nulls.set_all(false, len);

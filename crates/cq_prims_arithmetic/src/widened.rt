@@ -1,11 +1,12 @@
 //! Numbers above a base, read as numbers of 64 bits.
 ghost use Rattle.std.specs.Prelude.{IfOk, map, pos, ◌+ℤ◌, ◌≡◌};
-ghost use Rattle.cq_vectors.specs.LentColumns.{FitAbove};
-ghost use Rattle.cq_vectors.specs.Offsets.{offsets_in};
+ghost use Rattle.cq_vectors_stored.specs.LentColumns.{FitAbove};
+ghost use Rattle.cq_vectors_stored.specs.Offsets.{offsets_in};
 
 use crate::clear::clear_nulls;
-use cq_vectors::{Narrow, Numbers, Offsets};
+use cq_vectors::Numbers;
 use cq_vectors_masks::Plane;
+use cq_vectors_stored::{Narrow, Offsets};
 use std::alloc::{AllocError, Global};
 
 /// The same numbers, each in 64 bits.

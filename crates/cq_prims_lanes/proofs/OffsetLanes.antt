@@ -5,8 +5,7 @@ use mir.Val.{bits, hbits}
 use Rattle.std.specs.List.{range_with_len}
 use lib.Lanes.{chunk, mask_l, top, zip2}
 use lib.Seq.{ext_get_or}
-use Rattle.std.proofs.Math.Seq.{take-length}
-use Rattle.std.proofs.lemmas.List.{get_or-map, length-drop, length-map}
+use Rattle.std.proofs.lemmas.List.{get_or-map, length-map}
 use Rattle.std.proofs.lemmas.List.FromFn.{length-map-range_with_len, get_or-map-range_with_len}
 use Rattle.std.proofs.lemmas.Simd.{bitmask_splat, get_or-chunk, length-chunk}
 
@@ -22,9 +21,5 @@ module _ (w : Width) (t : ℕ → ℕ → Bool) (n : ℕ) (few : n ≤ 64) (xs :
       ∙ sym (get_or-map-range_with_len (λ i. t (get_or xs i 0) y) from n i (from + i) false within (omega arith)))
 
   -- the bits of a comparison of n lanes with one number are the answers of its places
-  pub offset_answers : mask_l (map (top (hbits w)) (zip2 (λ a b. cond (t a b) (2 ^ bits w - 1) 0) (chunk 0 n (take (length xs - from) (drop from xs))) (replicate n y))) % 2 ^ 64 ≡ mask_l (map (λ i. t (get_or xs i 0) y) (range_with_len from n))
-  offset_answers =
-      let whole : take (length xs - from) (drop from xs) ≡ drop from xs = ap (λ (m : ℕ). take m (drop from xs)) (sym (length-drop from xs)) ∙ take-length (drop from xs) in
-      ap (λ (l : List ℕ). mask_l (map (top (hbits w)) (zip2 (λ a b. cond (t a b) (2 ^ bits w - 1) 0) (take n l) (replicate n y))) % 2 ^ 64) whole
-      ∙ bitmask_splat w t (chunk from n xs) n y (length-chunk from n xs room) few
-      ∙ ap mask_l tested
+  pub offset_answers : mask_l (map (top (hbits w)) (zip2 (λ a b. cond (t a b) (2 ^ bits w - 1) 0) (chunk from n xs) (replicate n y))) % 2 ^ 64 ≡ mask_l (map (λ i. t (get_or xs i 0) y) (range_with_len from n))
+  offset_answers = bitmask_splat w t (chunk from n xs) n y (length-chunk from n xs room) few ∙ ap mask_l tested

@@ -84,6 +84,10 @@ EndsBy letter front text = IsUtf8 front × (chars text ≡ chars front ++ letter
 abbrev pub IsFrontOf : List ℕ → List ℕ → Type 0
 IsFrontOf front pattern = (pattern ≡ front ++ percent ∷ []) × (is_ordinary (chars front) ≡ true)
 
+-- whether each pattern that is this front and a '%' fits the text
+abbrev pub TellsOfFront : List ℕ → List ℕ → Bool → Type 0
+TellsOfFront front text fits = (pattern : List ℕ) → IsFrontOf front pattern → fits ≡ like (chars pattern) (chars text)
+
 -- what the form says of the bytes of its pattern
 abbrev pub IsFormOf : PatternForm → List ℕ → Type 0
 IsFormOf (Whole text) pattern = (pattern ≡ text) × (is_ordinary (chars text) ≡ true)
@@ -102,6 +106,10 @@ run_of (Pieces pieces) = slice_get pieces.items 0
 run_of (Around around) = Some around.run
 run_of (Having run) = Some run
 run_of form = None
+
+-- the run that is sought, if there is one, has this first place in the text
+abbrev pub HasFirstPlace : Option (List ℕ) → List ℕ → ℕ → Type 0
+HasFirstPlace sought text first = (run : List ℕ) → sought ≡ Some run → FindsNeedle text run 0 (Some first)
 
 -- a pattern, and the run of bytes that a text has to have to fit it
 pub record PatternByRun : Type 0 where

@@ -1,6 +1,6 @@
 //! Texts laid one behind the other, so that a run of bytes is sought in many of them at once.
 ghost use Rattle.cq_prims_like.specs.Patterns.{FindsInEach, FindsWithin};
-ghost use Rattle.cq_vectors.specs.Columns.{texts_of};
+ghost use Rattle.cq_vectors_stored.specs.Columns.{texts_of};
 ghost use Rattle.memchr.specs.Find.{FindsNeedle};
 ghost use Rattle.std.specs.List.{concat};
 ghost use Rattle.std.specs.Prelude.{◌+◌, ◌++◌, ◌<◌, ◌^◌, ◌≡◌, ◌≤◌, IfSome, length, take, ℕ};

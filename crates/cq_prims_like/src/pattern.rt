@@ -3,10 +3,9 @@
 //! `new` reads the pattern and keeps the form that is quickest to ask. Then `fits` is asked of one text, or a kernel
 //! takes `sought` or `front` to ask many at once. To read it costs a few passes over the pattern; a text costs one
 //! search for a run of bytes, or one comparison, and only where neither decides a walk by characters.
-ghost use Rattle.cq_model.specs.Like.{like, percent};
-ghost use Rattle.cq_prims_like.specs.Patterns.{IsFormOf, IsFrontOf, is_ordinary, run_of};
-ghost use Rattle.memchr.specs.Find.{FindsNeedle};
-ghost use Rattle.std.specs.Prelude.{◌∷◌, ◌≡◌, IfOk, IfSome, List, Some, option_copied, ℕ};
+ghost use Rattle.cq_model.specs.Like.{like};
+ghost use Rattle.cq_prims_like.specs.Patterns.{HasFirstPlace, IsFormOf, IsFrontOf, TellsOfFront, is_ordinary, run_of};
+ghost use Rattle.std.specs.Prelude.{◌≡◌, IfOk, IfSome, List, option_copied, ℕ};
 ghost use Rattle.std.specs.Str.{chars};
 
 use crate::around::Around;
@@ -117,7 +116,7 @@ impl PatternForm {
     /// Whether the pattern of this form fits the text, where the run has this first place.
     pub(crate) fn fits_from(&self, pattern: &str, text: &str, first: usize) -> bool
         requires form { IsFormOf self.now pattern.now }
-        requires found { (run : List ℕ) → run_of self.now ≡ Some run → FindsNeedle text.now run 0 (Some first) }
+        requires found { HasFirstPlace (run_of self.now) text.now first }
         ensures { result ≡ like (chars pattern.now) (chars text.now) }
     {
         match self {
@@ -151,9 +150,16 @@ fn form_of(alloc: Global, pattern: &str) -> Result<PatternForm, AllocError>
             }
         }
     }
-    if let Some(pieces) = pieces_of(alloc, pattern)? {
-        return Ok(PatternForm::Pieces(pieces));
+    match pieces_of(alloc, pattern)? {
+        Some(pieces) => Ok(PatternForm::Pieces(pieces)),
+        None => form_around(alloc, pattern),
     }
+}
+
+/// The form of a pattern by the signs around its longest run, or else by the run alone.
+fn form_around(alloc: Global, pattern: &str) -> Result<PatternForm, AllocError>
+    ensures { IfOk result (λ form. IsFormOf form pattern.now) }
+{
     match Around::of(alloc, pattern)? {
         Some(around) => Ok(PatternForm::Around(around)),
         None => form_by_run(alloc, pattern),
@@ -192,7 +198,7 @@ pub(crate) fn is_ordinary(text: &str) -> bool
 
 /// Whether a text begins with the front, and so fits each pattern that is the front and `%`.
 pub fn begins(text: &str, front: &str) -> bool
-    ensures { (pattern : List ℕ) → IsFrontOf front.now pattern → result ≡ like (chars pattern) (chars text.now) }
+    ensures { TellsOfFront front.now text.now result }
 {
     text.starts_with(front)
 }

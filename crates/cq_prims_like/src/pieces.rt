@@ -1,7 +1,6 @@
 //! Patterns of pieces between `%`s, with a `%` at each end, as `%special%requests%`.
-ghost use Rattle.cq_prims_like.specs.Patterns.{ArePiecesOf, StandIn};
-ghost use Rattle.memchr.specs.Find.{FindsNeedle};
-ghost use Rattle.std.specs.Prelude.{◌↔◌, ◌≡◌, IfOk, IfSome, IsTrue, List, Some, slice_get, ℕ};
+ghost use Rattle.cq_prims_like.specs.Patterns.{ArePiecesOf, HasFirstPlace, StandIn};
+ghost use Rattle.std.specs.Prelude.{◌↔◌, IfOk, IfSome, IsTrue, slice_get};
 
 use crate::pattern::is_ordinary;
 use memchr::memmem::Finder;
@@ -34,7 +33,7 @@ pub(crate) fn pieces_of(
 
 /// Whether the pieces stand in the text one behind the other, where the first of them has this first place.
 pub(crate) fn stand_from(pieces: &[Finder<'static>], text: &[u8], first: usize) -> bool
-    requires { (piece : List ℕ) → slice_get pieces.now 0 ≡ Some piece → FindsNeedle text.now piece 0 (Some first) }
+    requires { HasFirstPlace (slice_get pieces.now 0) text.now first }
     ensures { IsTrue result ↔ StandIn pieces.now text.now }
 {
     match pieces.split_first() {

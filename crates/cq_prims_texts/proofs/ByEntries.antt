@@ -6,7 +6,7 @@ use Rattle.std.proofs.lemmas.List.{get_or-map, length-map}
 use Rattle.std.proofs.lemmas.List.FromFn.{get_or-map-range_with_len, length-map-range_with_len}
 use lib.Lanes.{zip2}
 use lib.Seq.{ext_get_or}
-use Rattle.cq_vectors.proofs.LentLemmas.{length-part_of, part_of-at}
+use Rattle.cq_vectors_stored.proofs.LentLemmas.{length-part_of, part_of-at}
 use Rattle.cq_values.specs.declared.value.Value.{Value}
 use Rattle.cq_values.specs.declared.value.Value.TheVariants.{Text}
 use Rattle.cq_values.specs.declared.comparison.Comparison.{Comparison}
@@ -14,10 +14,12 @@ use Rattle.cq_values.specs.Comparison.{compared}
 use Rattle.cq_values.specs.Truth.{is_true}
 use Rattle.cq_model.specs.Condition.{liked}
 use Rattle.cq_model.specs.Like.{like}
-use Rattle.cq_vectors.specs.Columns.{text_unless}
-use Rattle.cq_vectors.specs.LentColumns.{entry_unless, part_of}
+use Rattle.cq_vectors_stored.specs.Columns.{text_unless}
+use Rattle.cq_vectors_stored.specs.LentColumns.{entry_unless, part_of}
 use Rattle.cq_vectors_masks.specs.TruthMask.{known}
 use Rattle.cq_prims_texts.proofs.Known.{known_true}
+use Rattle.cq_prims_lanes.specs.UpTo.{known_of}
+use Rattle.cq_prims_texts.specs.Passed.{has_passed, is_set_at}
 use Rattle.cq_prims_lanes.proofs.Places.{map-all_places}
 
 module _ {A : Type 0} {B : Type 0} (value : A → Bool → Value) (h : A → Bool) where
@@ -34,13 +36,17 @@ alike : (t s : ℕ → Bool) (xs : List ℕ) → All (λ x. t x ≡ s x) xs → 
 alike t s [] same = refl
 alike t s (x ∷ xs) same = ap₂ (λ b l. b ∷ l) (same 0 0 (omega arith)) (alike t s xs (λ k d lt. same (suc k) d (omega arith)))
 
--- the answers of the places are those of the entries that they name
-pub by_codes : (entries : List (List ℕ)) (h : ℕ → Bool) (passed : List Bool) (codes : List ℕ) (flags : List Bool) → passed ≡ map h (range_with_len 0 (length entries)) → All (λ code. code < length entries) codes → length flags ≡ length codes
-    → zip2 known (map (λ i. get_or passed (get_or codes i 0) false) (range_with_len 0 (length flags))) flags ≡ zip2 known (map h codes) flags
-by_codes entries h passed codes flags is there long =
-    let read : All (λ code. get_or passed code false ≡ h code) codes =
+-- the answers of the places are those of their codes
+pub looked_up : (passed : List Bool) (codes : List ℕ) (flags : List Bool) → length flags ≡ length codes → zip2 known (map (has_passed passed codes) (range_with_len 0 (length flags))) flags ≡ known_of (is_set_at passed) codes flags
+looked_up passed codes flags long = ap (λ (l : List Bool). zip2 known l flags) (map-all_places (is_set_at passed) 0 codes (length flags) (sym long))
+
+-- the answers of the codes are those of the entries that they name
+pub by_codes : (entries : List (List ℕ)) (h : ℕ → Bool) (passed : List Bool) (codes : List ℕ) (flags : List Bool) → passed ≡ map h (range_with_len 0 (length entries)) → All (λ code. code < length entries) codes
+    → known_of (is_set_at passed) codes flags ≡ zip2 known (map h codes) flags
+by_codes entries h passed codes flags is there =
+    let read : All (λ code. is_set_at passed code ≡ h code) codes =
     λ k d lt. ap (λ (l : List Bool). get_or l (get_or codes k d) false) is ∙ get_or-map-range_with_len h 0 (length entries) (get_or codes k d) (get_or codes k d) false (there k d lt) (omega arith) in
-    ap (λ (l : List Bool). zip2 known l flags) (map-all_places (λ code. get_or passed code false) 0 codes (length flags) (sym long) ∙ alike (λ code. get_or passed code false) h codes read)
+    ap (λ (l : List Bool). zip2 known l flags) (alike (is_set_at passed) h codes read)
 
 compared_entry : (c : Comparison) (entries : List (List ℕ)) (text : List ℕ) (code : ℕ) (flag : Bool) → known (is_true (compared c (Text (get_or entries code [])) (Text text))) flag ≡ compared c (entry_unless entries code flag) (Text text)
 compared_entry c entries text code true = refl

@@ -1,4 +1,6 @@
 pub mod Known
+pub mod Bytes
 pub mod Shown
 pub mod Liked
 pub mod ByEntries
+pub mod Passed

@@ -6,7 +6,7 @@ use Rattle.std.proofs.lemmas.Simd.{zip2-map, get_or-chunk}
 use Rattle.std.specs.Str.{chars}
 use lib.Lanes.{zip2, chunk}
 use lib.Seq.{ext_get_or}
-use Rattle.cq_vectors.specs.Columns.{texts_of}
+use Rattle.cq_vectors_stored.specs.Columns.{texts_of}
 use lib.ListN.{get_or-map}
 use Rattle.cq_values.specs.declared.value.Value.{Value}
 use Rattle.cq_values.specs.declared.value.Value.TheVariants.{Null, Number, Text, Day}

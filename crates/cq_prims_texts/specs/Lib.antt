@@ -1,4 +1,7 @@
+pub mod Bytes
 pub mod TextSide
 pub mod Kinds
+pub mod Pairs
 pub mod NoText
-pub mod Part
+pub mod Fits
+pub mod Passed

@@ -5,13 +5,12 @@ ghost use Rattle.cq_values.specs.declared.value.Value.TheVariants.{Text};
 ghost use Rattle.std.specs.Bool.{OnTrue};
 ghost use Rattle.std.specs.Prelude.{map, ◌≡◌};
 
-use crate::code_test::CodeTest;
 use crate::entry_tests::{EntryCompared, EntryFits};
-use cq_prims_lanes::set_known_by;
+use crate::passed_codes::set_by_codes;
 use cq_prims_like::Pattern;
 use cq_values::Comparison;
-use cq_vectors::Codes;
 use cq_vectors_masks::{Plane, TruthMask};
+use cq_vectors_stored::Codes;
 
 /// The truth of the comparison with the text in each place, or an answer that there are too many entries.
 pub fn compare_entries(
@@ -24,7 +23,7 @@ pub fn compare_entries(
 {
     let (entries, codes) = texts.parts();
     let count = entries.len();
-    if count > 1024 {
+    if count > codes.len() {
         return false;
     }
     let mut passed = Plane::new();
@@ -36,14 +35,7 @@ pub fn compare_entries(
         },
         count,
     );
-    set_known_by(
-        &CodeTest {
-            passed: &passed,
-            codes,
-        },
-        texts.nulls(),
-        to,
-    );
+    set_by_codes(&passed, codes, texts.nulls(), to);
     true
 }
 
@@ -53,18 +45,11 @@ pub(crate) fn like_entries(texts: &Codes<'_>, pattern: &Pattern, to: &mut TruthM
 {
     let (entries, codes) = texts.parts();
     let count = entries.len();
-    if count > 1024 {
+    if count > codes.len() {
         return false;
     }
     let mut passed = Plane::new();
     passed.set_where(&EntryFits { entries, pattern }, count);
-    set_known_by(
-        &CodeTest {
-            passed: &passed,
-            codes,
-        },
-        texts.nulls(),
-        to,
-    );
+    set_by_codes(&passed, codes, texts.nulls(), to);
     true
 }

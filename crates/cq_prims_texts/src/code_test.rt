@@ -1,10 +1,11 @@
 //! Truths of entries, read by their codes.
+ghost use Rattle.cq_prims_texts.specs.Passed.{has_passed};
+ghost use Rattle.cq_vectors_stored.specs.Offsets.{offsets_in};
 ghost use Rattle.std.specs.List.{All};
-ghost use Rattle.std.specs.Prelude.{false, length, slice_index_or, ◌<◌};
-ghost use Rattle.cq_vectors.specs.Offsets.{offsets_in};
+ghost use Rattle.std.specs.Prelude.{length, ◌<◌};
 
-use cq_vectors::Offsets;
 use cq_vectors_masks::{PlaceTest, Plane, WordTest, answers};
+use cq_vectors_stored::Offsets;
 
 /// Whether the entry of a place passed a test, which was asked of each entry once.
 #[derive(Drop)]
@@ -17,7 +18,7 @@ pub(crate) struct CodeTest<'a> {
 impl<'a> PlaceTest for CodeTest<'a> {
     ghost places = { λ t. length (offsets_in t.codes) };
 
-    ghost holds = { λ t i. slice_index_or t.passed.now (slice_index_or (offsets_in t.codes) i 0) false };
+    ghost holds = { λ t. has_passed t.passed.now (offsets_in t.codes) };
 
     fn at(&self, i: usize) -> bool {
         self.passed.get(self.codes.at(i) as usize)

@@ -1,16 +1,13 @@
 //! Tests of the entries of texts, each asked once for all places that have the entry.
-ghost use Rattle.cq_model.specs.Like.{like};
-ghost use Rattle.cq_values.specs.Comparison.{compared};
-ghost use Rattle.cq_values.specs.Truth.{is_true};
-ghost use Rattle.cq_values.specs.declared.value.Value.TheVariants.{Text};
-ghost use Rattle.std.specs.Prelude.{[], length, slice_index_or};
-ghost use Rattle.std.specs.Str.{chars};
+ghost use Rattle.cq_prims_texts.specs.Fits.{fits_at};
+ghost use Rattle.cq_prims_texts.specs.Passed.{entry_passes};
+ghost use Rattle.std.specs.Prelude.{length};
 
 use cq_model_eval::compare;
 use cq_prims_like::Pattern;
 use cq_values::{Comparison, Lent};
-use cq_vectors::TextRun;
 use cq_vectors_masks::{PlaceTest, WordTest, answers};
+use cq_vectors_stored::TextRun;
 
 /// Whether the comparison of an entry with the text is True.
 #[derive(Drop)]
@@ -23,7 +20,7 @@ pub(crate) struct EntryCompared<'a> {
 impl<'a> PlaceTest for EntryCompared<'a> {
     ghost places = { λ t. length t.entries.now };
 
-    ghost holds = { λ t i. is_true (compared t.comparison (Text (slice_index_or t.entries.now i [])) (Text t.text.now)) };
+    ghost holds = { λ t. entry_passes t.comparison t.entries.now t.text.now };
 
     fn at(&self, i: usize) -> bool {
         let entry = Lent::Text(self.entries.get(i));
@@ -47,7 +44,7 @@ pub(crate) struct EntryFits<'a> {
 impl<'a> PlaceTest for EntryFits<'a> {
     ghost places = { λ t. length t.entries.now };
 
-    ghost holds = { λ t i. like (chars t.pattern.now) (chars (slice_index_or t.entries.now i [])) };
+    ghost holds = { λ t. fits_at t.pattern.now t.entries.now };
 
     fn at(&self, i: usize) -> bool {
         self.pattern.fits(self.entries.get(i))

@@ -1,9 +1,9 @@
 //! Whether a text is another.
-ghost use Rattle.std.specs.Prelude.{◌≡◌, [], length, slice_index_or};
-ghost use Rattle.std.specs.Str.{bytes_eq};
+ghost use Rattle.cq_prims_texts.specs.Pairs.{equal_at, equal_from};
+ghost use Rattle.std.specs.Prelude.{◌+◌, ◌<◌, ◌^◌, ◌≡◌, ◌≤◌, length};
 
 use crate::plain_texts::PlainTexts;
-use crate::text_side::TextSide;
+use crate::text_side::{TextForm, TextSide};
 use cq_vectors_masks::{PlaceTest, WordTest, answers};
 
 /// Whether the two texts have the same bytes.
@@ -17,40 +17,52 @@ pub struct EqualTexts<'a> {
 impl<'a> PlaceTest for EqualTexts<'a> {
     ghost places = { λ t. length t.a };
 
-    ghost holds = { λ t i. bytes_eq (slice_index_or t.a i []) (slice_index_or t.b i []) };
+    ghost holds = { λ t. equal_at t.a t.b };
 
     fn at(&self, i: usize) -> bool {
-        self.a.at(i) == self.b.at(i)
+        let (a, b) = (self.a.at(i), self.b.at(i));
+        a == b
     }
 }
 
 impl<'a> WordTest for EqualTexts<'a> {
     fn word(&self, from: usize) -> u64 {
-        if let (Some(a), Some(b)) = (self.a.as_column(), self.b.as_column()) {
-            return answers(&EqualPlain { a, b }, from, 64);
+        match self.a.form() {
+            TextForm::Column(a) => equal_word(a, &self.b, from),
+            TextForm::Constant(a) => equal_word(a, &self.b, from),
+            TextForm::Run(a) => equal_word(a, &self.b, from),
+            TextForm::Codes(a) => equal_word(a, &self.b, from),
         }
-        if let (Some(a), Some(b)) = (self.a.as_column(), self.b.as_one()) {
-            return answers(&EqualPlain { a, b }, from, 64);
-        }
-        if let (Some(a), Some(b)) = (self.a.as_one(), self.b.as_column()) {
-            return answers(&EqualPlain { a, b }, from, 64);
-        }
-        answers(self, from, 64)
+    }
+}
+
+/// Whether each of 64 texts is another, where the first ones have one form.
+fn equal_word<A: PlainTexts>(a: &A, b: &TextSide<'_>, from: usize) -> u64
+    requires same { length (A.texts a.now) ≡ length b.now }
+    requires there { from + 64 ≤ length b.now }
+    requires small { from + 64 < 2 ^ 64 }
+    ensures { result ≡ equal_from (A.texts a.now) b.now from }
+{
+    match b.form() {
+        TextForm::Column(b) => answers(&EqualPlain { a, b }, from, 64),
+        TextForm::Constant(b) => answers(&EqualPlain { a, b }, from, 64),
+        TextForm::Run(b) => answers(&EqualPlain { a, b }, from, 64),
+        TextForm::Codes(b) => answers(&EqualPlain { a, b }, from, 64),
     }
 }
 
 /// Whether two texts have the same bytes, each side in one form.
 #[derive(Drop)]
-struct EqualPlain<A: PlainTexts + Drop, B: PlainTexts + Drop> {
-    a: A,
-    b: B,
-    ghost same: { length (A.texts a) ≡ length (B.texts b) },
+struct EqualPlain<'a, A: PlainTexts, B: PlainTexts> {
+    a: &'a A,
+    b: &'a B,
+    ghost same: { length (A.texts a.now) ≡ length (B.texts b.now) },
 }
 
-impl<A: PlainTexts + Drop, B: PlainTexts + Drop> PlaceTest for EqualPlain<A, B> {
-    ghost places = { λ t. length (A.texts t.a) };
+impl<'a, A: PlainTexts, B: PlainTexts> PlaceTest for EqualPlain<'a, A, B> {
+    ghost places = { λ t. length (A.texts t.a.now) };
 
-    ghost holds = { λ t i. bytes_eq (slice_index_or (A.texts t.a) i []) (slice_index_or (B.texts t.b) i []) };
+    ghost holds = { λ t. equal_at (A.texts t.a.now) (B.texts t.b.now) };
 
     fn at(&self, i: usize) -> bool {
         self.a.at(i) == self.b.at(i)

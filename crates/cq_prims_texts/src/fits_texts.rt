@@ -1,9 +1,8 @@
 //! Whether a text of a column of texts fits a pattern.
-ghost use Rattle.cq_model.specs.Like.{like};
-ghost use Rattle.cq_prims_like.specs.Patterns.{IsFrontOf, answers_of};
-ghost use Rattle.cq_vectors.specs.Columns.{texts_of};
-ghost use Rattle.std.specs.Prelude.{[], ◌+◌, ◌≡◌, ◌≤◌, IfSome, length, slice_index_or, List, ℕ};
-ghost use Rattle.std.specs.Str.{chars};
+ghost use Rattle.cq_prims_like.specs.Patterns.{IsFrontOf};
+ghost use Rattle.cq_prims_texts.specs.Fits.{column_answers, fits_at};
+ghost use Rattle.cq_vectors_stored.specs.Columns.{texts_of};
+ghost use Rattle.std.specs.Prelude.{◌+◌, ◌≡◌, ◌≤◌, IfSome, length};
 
 use crate::having_texts::word_by_run;
 use cq_prims_like::{Pattern, begins};
@@ -19,7 +18,7 @@ pub(crate) struct FitsTexts<'a> {
 impl<'a> PlaceTest for FitsTexts<'a> {
     ghost places = { λ t. length t.texts.now };
 
-    ghost holds = { λ t i. like (chars t.pattern.now) (chars (slice_index_or (texts_of t.texts.now) i [])) };
+    ghost holds = { λ t. fits_at t.pattern.now (texts_of t.texts.now) };
 
     fn at(&self, i: usize) -> bool {
         let texts = self.texts;
@@ -48,7 +47,7 @@ impl<'a> FitsTexts<'a> {
     /// The same, if the pattern has a run that is sought in all texts at once.
     fn word_by_run(&self, from: usize) -> Option<u64>
         requires { from + 64 ≤ length self.now.texts.now }
-        ensures { IfSome result (λ word. word ≡ answers_of self.now.pattern.now (texts_of self.now.texts.now) from) }
+        ensures { IfSome result (λ word. word ≡ column_answers self.now from) }
     {
         let sought = self.pattern.sought()?;
         word_by_run(&sought, &self.texts[from..from + 64])
@@ -67,7 +66,7 @@ struct BeginsTexts<'a> {
 impl<'a> PlaceTest for BeginsTexts<'a> {
     ghost places = { λ t. length t.texts.now };
 
-    ghost holds = { λ t i. like (chars t.pattern.now) (chars (slice_index_or (texts_of t.texts.now) i [])) };
+    ghost holds = { λ t. fits_at t.pattern.now (texts_of t.texts.now) };
 
     fn at(&self, i: usize) -> bool {
         let texts = self.texts;

@@ -1,10 +1,9 @@
 //! Whether texts fit a pattern of which they have to have a run.
-ghost use Rattle.cq_model.specs.Like.{like};
 ghost use Rattle.cq_prims_like.specs.Patterns.{FindsInEach, answers_of};
-ghost use Rattle.cq_vectors.specs.Columns.{texts_of};
+ghost use Rattle.cq_prims_texts.specs.Fits.{fits_at};
+ghost use Rattle.cq_vectors_stored.specs.Columns.{texts_of};
 ghost use Rattle.std.proofs.Props.{props};
-ghost use Rattle.std.specs.Prelude.{[], ◌≡◌, IfSome, length, slice_index_or};
-ghost use Rattle.std.specs.Str.{chars};
+ghost use Rattle.std.specs.Prelude.{◌≡◌, IfSome, length};
 
 use cq_prims_like::{Sought, first_places};
 use cq_vectors_masks::{PlaceTest, answers};
@@ -36,7 +35,7 @@ struct HavingTexts<'a> {
 impl<'a> PlaceTest for HavingTexts<'a> {
     ghost places = { λ t. length t.texts.now };
 
-    ghost holds = { λ t i. like (chars t.sought.now.pattern) (chars (slice_index_or (texts_of t.texts.now) i [])) };
+    ghost holds = { λ t. fits_at t.sought.now.pattern (texts_of t.texts.now) };
 
     fn at(&self, i: usize) -> bool {
         let texts = self.texts;

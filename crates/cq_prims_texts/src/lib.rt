@@ -6,6 +6,7 @@
 
 mod by_entries;
 mod code_test;
+mod coded_fits;
 mod entry_tests;
 mod equal_texts;
 mod fits_test;
@@ -14,6 +15,7 @@ mod having_texts;
 mod less_texts;
 mod likes;
 mod no_text_test;
+mod passed_codes;
 mod plain_texts;
 mod run_fits;
 mod text_side;

@@ -1,12 +1,14 @@
 //! Sides of comparisons of texts.
-ghost use Rattle.std.specs.Prelude.{◌<◌, ◌≡◌, IfSome, [], length, map, replicate, slice_index_or};
+ghost use Rattle.std.specs.Prelude.{◌<◌, ◌≡◌, IfSome, [], length, replicate, slice_index_or};
 ghost use Rattle.cq_values.specs.Lent.{owned};
 ghost use Rattle.cq_prims_texts.specs.Kinds.{ShowsTexts};
-ghost use Rattle.cq_vectors.specs.Columns.{texts_of};
+ghost use Rattle.cq_prims_texts.specs.TextSide.{texts_in};
+ghost use Rattle.cq_vectors_stored.specs.Columns.{texts_of};
 
-use crate::plain_texts::{OneText, TextColumn};
+use crate::plain_texts::{CodedTexts, OneText, PlainTexts, RunColumn, TextColumn};
 use cq_values::Lent;
 use cq_vectors::{Form, Vector};
+use cq_vectors_stored::{Codes, RunTexts};
 use std::marker::Model;
 
 /// One side of a comparison, which contracts see as the bytes of the text of each place.
@@ -15,11 +17,13 @@ pub struct TextSide<'a> {
     form: TextForm<'a>,
 }
 
+/// How the texts of a side stand.
 #[derive(Drop)]
-enum TextForm<'a> {
-    Column(&'a [&'a str]),
-    /// One text for so many places.
-    Constant(&'a str, usize),
+pub(crate) enum TextForm<'a> {
+    Column(TextColumn<'a>),
+    Constant(OneText<'a>),
+    Run(RunColumn<'a>),
+    Codes(CodedTexts<'a>),
 }
 
 impl<'a> Model for TextSide<'a> {
@@ -39,6 +43,8 @@ impl<'a> TextSide<'a> {
         match vector.form() {
             Form::Texts(texts) => Some(TextSide::column(texts.values())),
             Form::Constant(value, len) => TextSide::of_constant(value, *len),
+            Form::Run(texts) => Some(TextSide::of_run(texts)),
+            Form::Codes(texts) => Some(TextSide::of_codes(texts)),
             _ => None,
         }
     }
@@ -52,11 +58,40 @@ impl<'a> TextSide<'a> {
         }
     }
 
+    fn of_run(part: &'a RunTexts<'_>) -> TextSide<'a>
+        ensures { ShowsTexts result part.now }
+    {
+        let (texts, start) = part.parts();
+        let _texts = texts.len();
+        let nulls = part.nulls();
+        TextSide {
+            form: TextForm::Run(RunColumn {
+                texts,
+                start,
+                nulls,
+            }),
+        }
+    }
+
+    fn of_codes(texts: &'a Codes<'_>) -> TextSide<'a>
+        ensures { ShowsTexts result texts.now }
+    {
+        let (entries, codes) = texts.parts();
+        let nulls = texts.nulls();
+        TextSide {
+            form: TextForm::Codes(CodedTexts {
+                entries,
+                codes,
+                nulls,
+            }),
+        }
+    }
+
     pub(crate) fn column(texts: &'a [&'a str]) -> TextSide<'a>
-        ensures { result ≡ map (λ t. t.now) texts.now }
+        ensures { result ≡ texts_of texts.now }
     {
         TextSide {
-            form: TextForm::Column(texts),
+            form: TextForm::Column(TextColumn { texts }),
         }
     }
 
@@ -64,43 +99,26 @@ impl<'a> TextSide<'a> {
         ensures { result ≡ replicate len text.now }
     {
         TextSide {
-            form: TextForm::Constant(text, len),
+            form: TextForm::Constant(OneText { text, len }),
         }
     }
 
-    pub(crate) fn at(&self, place: usize) -> &'a str
+    pub(crate) fn at(&self, place: usize) -> &str
         requires { place < length self.now }
         ensures { result.now ≡ slice_index_or self.now place [] }
     {
         match &self.form {
-            TextForm::Column(texts) => {
-                let texts = *texts;
-                texts[place]
-            }
-            TextForm::Constant(text, _) => *text,
+            TextForm::Column(texts) => texts.at(place),
+            TextForm::Constant(text) => text.at(place),
+            TextForm::Run(texts) => texts.at(place),
+            TextForm::Codes(texts) => texts.at(place),
         }
     }
 
-    /// The texts, where each place has its own.
-    pub(crate) fn as_column(&self) -> Option<TextColumn<'a>>
-        ensures { IfSome result (λ column. texts_of column.texts.now ≡ self.now) }
+    /// How the texts stand, for a loop over each form.
+    pub(crate) fn form(&self) -> &TextForm<'a>
+        ensures { texts_in result.now ≡ self.now }
     {
-        match &self.form {
-            TextForm::Column(texts) => Some(TextColumn { texts: *texts }),
-            TextForm::Constant(_, _) => None,
-        }
-    }
-
-    /// The text, where one is that of all places.
-    pub(crate) fn as_one(&self) -> Option<OneText<'a>>
-        ensures { IfSome result (λ one. replicate one.len one.text.now ≡ self.now) }
-    {
-        match &self.form {
-            TextForm::Column(_) => None,
-            TextForm::Constant(text, len) => Some(OneText {
-                text: *text,
-                len: *len,
-            }),
-        }
+        &self.form
     }
 }

@@ -1,11 +1,11 @@
--- One flag more.
-use Rattle.std.proofs.Common.{◌≡◌, ◌≢◌, ◌⊎◌, inl, inr, ℕ, zero, suc, ◌+◌, ◌<◌, ◌≤◌, Bool, true, false, List, length, map, get_or, refl, sym, ap, ◌∙◌, arith}
+-- One flag more, and the first ones gone.
+use Rattle.std.proofs.Common.{◌≡◌, ◌≢◌, ◌⊎◌, inl, inr, ℕ, zero, suc, ◌+◌, ◌-◌, ◌<◌, ◌≤◌, Bool, true, false, List, drop, length, map, get_or, refl, sym, ap, ◌∙◌, arith}
 use Rattle.std.specs.List.{range_with_len}
 use Rattle.std.specs.Prelude.{◌==◌, ◌||◌, slice_set}
 use Rattle.std.specs.Simd.Lanes.{mask_l, zip2}
 use Rattle.std.proofs.lemmas.Bool.{ne_eqb}
 use Rattle.std.proofs.lemmas.Bool.Decides.{eqb_tells}
-use Rattle.std.proofs.lemmas.List.{ext_get_or, get_or-set_other, length-set}
+use Rattle.std.proofs.lemmas.List.{ext_get_or, get_or-drop, get_or-set_other, length-drop, length-set}
 use Rattle.std.proofs.lemmas.Grind.{get_or-set_at}
 use Rattle.std.proofs.Math.Dec.{eqb}
 use Rattle.std.proofs.lemmas.List.FromFn.{get_or-map-range_with_len, length-map-range_with_len}
@@ -46,3 +46,12 @@ module _ (flags : List Bool) (place : ℕ) (lt : place < length flags) where
       let count = length-zip2 either flags one (sym length-one) in
       ext_get_or false (zip2 either flags one) (slice_set flags place true) (count ∙ sym (length-set flags place true))
       (λ k below. let less : k < length flags = omega (arith, below, count) in read k less ∙ one_more k less (eqb_tells k place))
+
+-- the flags so much further on are those behind the first
+pub flags-behind : (flags : List Bool) (from : ℕ) → map (λ place. get_or flags (from + place) false) (range_with_len 0 (length flags - from)) ≡ drop from flags
+flags-behind flags from =
+    let read : ℕ → Bool = λ place. get_or flags (from + place) false in
+    let left = length flags - from in
+    let count = length-map-range_with_len read 0 left in
+    ext_get_or false (map read (range_with_len 0 left)) (drop from flags) (count ∙ sym (length-drop from flags))
+    (λ k below. get_or-map-range_with_len read 0 left k k false (omega (arith, below, count)) (omega arith) ∙ sym (get_or-drop from flags k false))

@@ -1,10 +1,10 @@
 pub mod Ends
 pub mod Flags
-pub mod ItemsAt
 pub mod Marks
-pub mod Narrowing
 pub mod OneMore
+pub mod Parts
 pub mod PieceLists
+pub mod PlacesFrom
 pub mod SegmentRows
 pub mod SortedRows
 pub mod Transposed

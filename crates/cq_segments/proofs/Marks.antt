@@ -1,11 +1,11 @@
 -- Rows with their marks.
-use Rattle.std.proofs.Common.{◌≡◌, ℕ, zero, suc, ◌+◌, ◌<◌, Bool, true, false, List, [], ◌∷◌, ◌++◌, length, drop, take, get_or, replicate, refl, sym, ap, ap₂, ◌∙◌, arith}
+use Rattle.std.proofs.Common.{◌≡◌, ℕ, zero, suc, ◌+◌, ◌-◌, ◌<◌, Bool, true, false, if◌then◌else◌, List, [], ◌∷◌, ◌++◌, length, drop, take, get_or, replicate, refl, sym, ap, ap₂, ◌∙◌, arith}
 use Rattle.std.specs.Prelude.{slice_set}
 use Rattle.std.proofs.Math.Seq.{get_or-append_seam}
-use Rattle.std.proofs.lemmas.List.{append-nil, drop_more, get_or-map, length-take-le, take-append-drop, take_more}
+use Rattle.std.proofs.lemmas.List.{append-nil, drop-map, drop_more, get_or-map, length-drop, length-take-le, take-append-drop, take-map, take_more}
 use Rattle.cq_model_bags.proofs.Totals.{by_test}
 use Rattle.cq_values.specs.Value.{Row}
-use Rattle.cq_segments.specs.Marked.{MarkedRow, live, live_from, marked_count, marks_of, rows_of, unmarked, with_flags, with_mark}
+use Rattle.cq_segments.specs.Marked.{AreCounted, MarkedRow, live, live_from, marked_count, marks_of, rows_of, unmarked, with_flags, with_mark}
 
 -- ---- rows by their flags
 
@@ -45,6 +45,31 @@ set-flag [] (flag ∷ flags) place same = absurd (omega (arith, same))
 set-flag (row ∷ rows) [] place same = absurd (omega (arith, same))
 set-flag (row ∷ rows) (flag ∷ flags) zero same = refl
 set-flag (row ∷ rows) (flag ∷ flags) (suc place) same = ap (λ l. record { row = row; marked = flag } ∷ l) (set-flag rows flags place (omega (arith, same)))
+
+-- without a flag there is no mark
+pub flags-none : (rows : List Row) → with_flags rows [] ≡ unmarked rows
+flags-none [] = refl
+flags-none (row ∷ rows) = refl
+
+unmarked-take : (n : ℕ) (rows : List Row) → unmarked (take n rows) ≡ take n (unmarked rows)
+unmarked-take n rows = sym (take-map (λ (row : Row). record { row = row; marked = false }) n rows)
+
+unmarked-drop : (n : ℕ) (rows : List Row) → unmarked (drop n rows) ≡ drop n (unmarked rows)
+unmarked-drop n rows = sym (drop-map (λ (row : Row). record { row = row; marked = false }) n rows)
+
+-- the first rows by the first flags
+pub take-flags : (rows : List Row) (flags : List Bool) (n : ℕ) → with_flags (take n rows) (take n flags) ≡ take n (with_flags rows flags)
+take-flags rows flags zero = refl
+take-flags [] flags (suc n) = refl
+take-flags (row ∷ rows) [] (suc n) = ap (λ l. record { row = row; marked = false } ∷ l) (unmarked-take n rows)
+take-flags (row ∷ rows) (flag ∷ flags) (suc n) = ap (λ l. record { row = row; marked = flag } ∷ l) (take-flags rows flags n)
+
+-- and those behind them by the flags behind them
+pub drop-flags : (rows : List Row) (flags : List Bool) (n : ℕ) → with_flags (drop n rows) (drop n flags) ≡ drop n (with_flags rows flags)
+drop-flags rows flags zero = refl
+drop-flags [] flags (suc n) = refl
+drop-flags (row ∷ rows) [] (suc n) = flags-none (drop n rows) ∙ unmarked-drop n rows
+drop-flags (row ∷ rows) (flag ∷ flags) (suc n) = drop-flags rows flags n
 
 -- ---- what is counted
 
@@ -123,6 +148,17 @@ mark-in-front [] back place lt = absurd (omega (arith, lt))
 mark-in-front (m ∷ front) back zero lt = refl
 mark-in-front (m ∷ front) back (suc place) lt = ap (λ l. m ∷ l) (mark-in-front front back place (omega (arith, lt)))
 
+-- the marks in front and those behind
+pub count-parts : (n : ℕ) (stored : List MarkedRow) → marked_count (take n stored) + marked_count (drop n stored) ≡ marked_count stored
+count-parts n stored = sym (count-append (take n stored) (drop n stored)) ∙ ap marked_count (take-append-drop n stored)
+
+-- the rows behind the first ones are counted without the marks of those
+pub counted-behind : (rows : List Row) (flags : List Bool) (marked n : ℕ) → AreCounted rows flags marked → AreCounted (drop n rows) (drop n flags) (marked - marked_count (take n (with_flags rows flags)))
+counted-behind rows flags marked n are = record {
+  long = length-drop n flags ∙ ap (λ (k : ℕ). k - n) are.long ∙ sym (length-drop n rows);
+  count = omega (arith, are.count, count-parts n (with_flags rows flags), ap marked_count (drop-flags rows flags n));
+}
+
 -- ---- the places of live rows
 
 pub live_from-append : (k : ℕ) (front back : List MarkedRow) → live_from k (front ++ back) ≡ live_from k front ++ live_from (k + length front) back
@@ -160,6 +196,13 @@ module _ (stored : List MarkedRow) (place : ℕ) (lt : place < length stored) wh
 
   no_place : (k : ℕ) → here.marked ≡ true → live_from k (here ∷ []) ≡ []
   no_place k e = rw e refl
+
+  one_count : (flag : Bool) → here.marked ≡ flag → marked_count (here ∷ []) ≡ (if flag then 1 else 0)
+  one_count flag e = rw e (by_test flag (λ f. rw f refl) (λ f. rw f refl))
+
+  -- one row more has a mark or not
+  pub count-next : (flag : Bool) → get_or (marks_of stored) place false ≡ flag → marked_count (take (place + 1) stored) ≡ marked_count (take place stored) + (if flag then 1 else 0)
+  count-next flag e = ap marked_count next ∙ count-append (take place stored) (here ∷ []) ∙ ap (λ (k : ℕ). marked_count (take place stored) + k) (one_count flag (flag_here ∙ e))
 
   -- the place of a live row comes behind those before it
   pub live_from-kept : get_or (marks_of stored) place false ≡ false → live_from 0 (take (place + 1) stored) ≡ live_from 0 (take place stored) ++ place ∷ []

@@ -1,7 +1,7 @@
 -- The rows of a segment, by its pieces.
 use Rattle.std.proofs.Common.{◌≡◌, ◌∙◌, ℕ, zero, suc, ◌+◌, ◌-◌, ◌*◌, ◌/◌, ◌%◌, ◌<◌, ◌≤◌, true, false, List, [], ◌∷◌, ◌++◌, None, length, drop, take, get_or, refl, sym, ap, ap₂, subst, arith}
 use Rattle.std.specs.Prelude.{slice_set}
-use Rattle.std.specs.List.{AllByRecursion}
+use Rattle.std.specs.List.{AllByRecursion, list_any}
 use Rattle.std.specs.List.Sorted.{IsPermutation, IsSorted, IsStable}
 use Rattle.std.proofs.lemmas.List.{get_or_default, get_or_past, length-map, nil_from_length, take_more}
 use Rattle.std.proofs.lemmas.List.Elements.{All-from_recursion, recursion_from_All}
@@ -94,14 +94,24 @@ few_marks stored = omega (arith, length-live stored)
 -- ---- bounds
 
 -- a column that no row has is NULL
-pub nulls_past : (rows : List Row) (width at : ℕ) → AreWide width rows → width ≤ at → AreBounds true None (column_of rows at)
-nulls_past rows width at wide past = record { all = all rows wide; known = tt }
+pub nulls_past : (rows : List Row) (width at : ℕ) → 0 < length rows → AreWide width rows → width ≤ at → AreBounds true None (column_of rows at)
+nulls_past rows width at some wide past = record { all = all rows wide; known = tt; among = tt; null = sym (any rows some wide) }
   where
     all : (rows : List Row) → AreWide width rows → AllByRecursion (IsBounded true None) (column_of rows at)
     all [] wide = tt
     all (row ∷ rows) wide = ((ap is_null (get_or_past row at Null (omega (arith, past, wide.0))), refl), all rows wide.1)
 
+    any : (rows : List Row) → 0 < length rows → AreWide width rows → list_any is_null (column_of rows at) ≡ true
+    any [] some wide = absurd (omega (arith, some))
+    any (row ∷ rows) some wide = rw (get_or_past row at Null (omega (arith, past, wide.0))) refl
+
 -- ---- what is built
+
+-- rows in another order are as wide
+pub wide_sorted : (rows sorted : List Row) (width : ℕ) → IsPermutation rows sorted → AreWide width rows → AreWide width sorted
+wide_sorted rows sorted width same wide =
+    let P = λ (row : Row). length row ≡ width in
+    recursion_from_All P sorted (All-permutation P rows sorted same (All-from_recursion P rows wide))
 
 module _ (rows sorted : List Row) (pieces : List (List MarkedRow)) (made : joined pieces ≡ unmarked sorted) (same : IsPermutation rows sorted) where
   all_live : live (joined pieces) ≡ sorted
@@ -119,13 +129,11 @@ module _ (rows sorted : List Row) (pieces : List (List MarkedRow)) (made : joine
   segment-built width bounds full as_many bounded wide some few =
       let count = ap length made ∙ length-map sorted (λ (row : Row). record { row = row; marked = false }) ∙ length_permutation rows sorted same in
       let there = ap rows_of made ∙ rows_of-unmarked sorted in
-      let P = λ (row : Row). length row ≡ width in
-      let each = recursion_from_All P sorted (All-permutation P rows sorted same (All-from_recursion P rows wide)) in
       record {
         some = omega (arith, count, some);
         few = omega (arith, count, few);
         full = full;
-        wide = subst (AreWide (length bounds)) (sym there) (subst (λ n. AreWide n sorted) (sym as_many) each);
+        wide = subst (AreWide (length bounds)) (sym there) (subst (λ n. AreWide n sorted) (sym as_many) (wide_sorted rows sorted width same wide));
         bounded = subst (HaveBounds bounds) (sym there) bounded;
       }
 

@@ -22,7 +22,7 @@ at_place (c ∷ cs) place (suc at) = at_place cs place at
 pub length-rows : (columns : List (List Value)) (len : ℕ) → length (rows_of_columns columns len) ≡ len
 length-rows columns len = length-map-range_with_len (row_at columns) 0 len
 
-row_there : (columns : List (List Value)) (len place : ℕ) (d : Row) → place < len → get_or (rows_of_columns columns len) place d ≡ row_at columns place
+pub row_there : (columns : List (List Value)) (len place : ℕ) (d : Row) → place < len → get_or (rows_of_columns columns len) place d ≡ row_at columns place
 row_there columns len place d lt = get_or-map-range_with_len (row_at columns) 0 len place place d lt (omega arith)
 
 -- past the rows each column ends

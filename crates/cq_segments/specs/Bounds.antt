@@ -1,6 +1,6 @@
 -- The least and the greatest value of a column.
-use Rattle.std.specs.Prelude.{◌<◌, ◌≡◌, ◌⊎◌, ℕ, Bool, true, false, List, Option, Some, None, IfSome, map, slice_index_or}
-use Rattle.std.specs.List.{AllByRecursion}
+use Rattle.std.specs.Prelude.{◌<◌, ◌≡◌, ◌⊎◌, ℕ, Bool, true, false, List, Option, Some, None, IfSome, length, map, slice_index_or}
+use Rattle.std.specs.List.{AllByRecursion, list_any}
 use Rattle.std.specs.Option.{option_map}
 use Rattle.std.specs.Ordering.{is_gt}
 use Rattle.cq_model.specs.Group.{higher, lower}
@@ -16,16 +16,22 @@ use Rattle.cq_segments.specs.declared.bounds.Bounds.{Bounds}
 abbrev pub Ends : Type 0
 Ends = Option (Value × Value)
 
--- NULL where NULL is there, or not less than the first end nor greater than the second
+-- NULL where that is there, or a value between the ends, both included
 abbrev pub IsBounded : Bool → Ends → Value → Type 0
 IsBounded has_null None value = (is_null value ≡ true) × (has_null ≡ true)
 IsBounded has_null (Some ends) value =
     ((is_null value ≡ true) × (has_null ≡ true)) ⊎ (is_gt (value_cmp ends.0 value) ≡ false) × (is_gt (value_cmp value ends.1) ≡ false)
 
--- each value is bounded, and no end is NULL
+-- the value stands at some place of the values
+abbrev pub IsAmong : List Value → Value → Type 0
+IsAmong values value = (place : ℕ) × (place < length values) × (slice_index_or values place Null ≡ value)
+
+-- each value is bounded, ends are values, and NULL is there or not as told
 pub record AreBounds (has_null : Bool) (ends : Ends) (values : List Value) : Type 0 where
   pub all : AllByRecursion (IsBounded has_null ends) values
   pub known : IfSome ends (λ e. (is_null e.0 ≡ false) × (is_null e.1 ≡ false))
+  pub among : IfSome ends (λ e. IsAmong values e.0 × IsAmong values e.1)
+  pub null : has_null ≡ list_any is_null values
 
 -- the ends with a value more
 abbrev pub wider_ends : Ends → Value → Ends
@@ -39,6 +45,14 @@ value_at lent place = slice_index_or (map owned lent) place Null
 -- the values at the places of the ends
 abbrev pub ends_at : Option (ℕ × ℕ) → List Value → Ends
 ends_at places values = option_map (λ p. (slice_index_or values p.0 Null, slice_index_or values p.1 Null)) places
+
+-- and of values that are lent
+abbrev pub lent_ends : Option (ℕ × ℕ) → List Lent → Ends
+lent_ends places lent = ends_at places (map owned lent)
+
+-- the ends at the places, with the value of a place more
+abbrev pub AreWidened : List Lent → Option (ℕ × ℕ) → ℕ → (ℕ × ℕ) → Type 0
+AreWidened lent places place wider = lent_ends (Some wider) lent ≡ wider_ends (lent_ends places lent) (value_at lent place)
 
 -- both places are below the end
 abbrev pub AreWithin : ℕ → Option (ℕ × ℕ) → Type 0

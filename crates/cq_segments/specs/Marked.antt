@@ -1,5 +1,5 @@
 -- Stored rows with their marks: a row that has a mark is deleted, and stays where it is.
-use Rattle.std.specs.Prelude.{if◌then◌else◌, ℕ, zero, suc, ◌+◌, Bool, true, false, List, [], ◌∷◌, map}
+use Rattle.std.specs.Prelude.{if◌then◌else◌, ℕ, zero, suc, ◌+◌, ◌≡◌, Bool, true, false, List, [], ◌∷◌, length, map}
 use Rattle.cq_values.specs.Value.{Row}
 
 -- a stored row, and whether it is deleted
@@ -35,6 +35,11 @@ with_flags [] flags = []
 with_flags (row ∷ rows) [] = unmarked (row ∷ rows)
 with_flags (row ∷ rows) (flag ∷ flags) = record { row = row; marked = flag } ∷ with_flags rows flags
 
+-- each row has a flag, and so many are set
+pub record AreCounted (rows : List Row) (flags : List Bool) (marked : ℕ) : Type 0 where
+  pub long : length flags ≡ length rows
+  pub count : marked ≡ marked_count (with_flags rows flags)
+
 -- the row at a place gets its mark
 abbrev pub with_mark : ℕ → List MarkedRow → List MarkedRow
 with_mark place [] = []
@@ -46,7 +51,7 @@ abbrev pub with_marks : List ℕ → List MarkedRow → List MarkedRow
 with_marks [] stored = stored
 with_marks (place ∷ places) stored = with_marks places (with_mark place stored)
 
--- the places of the rows without a mark, where the first row stands at this place
+-- the places of the rows without a mark, counted from this place on
 abbrev pub live_from : ℕ → List MarkedRow → List ℕ
 live_from place [] = []
 live_from place (m ∷ stored) = if m.marked then live_from (suc place) stored else place ∷ live_from (suc place) stored

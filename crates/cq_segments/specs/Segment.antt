@@ -12,7 +12,7 @@ use Rattle.cq_segments.specs.declared.held_bounds.HeldBounds.{HeldBounds}
 abbrev pub HaveBounds : List HeldBounds → List Row → Type 0
 HaveBounds bounds rows = (at : ℕ) (b : HeldBounds) → at < length bounds → AreBounds (slice_index_or bounds at b).has_null (slice_index_or bounds at b).ends (column_of rows at)
 
--- 1 to 65,536 rows of one width, 1,024 to a piece, and the bounds of each column
+-- 1 to 65,536 rows of one width, 1,024 to a piece, with bounds of columns
 pub record IsSegment (pieces : List (List MarkedRow)) (bounds : List HeldBounds) : Type 0 where
   pub some : 0 < length (joined pieces)
   pub few : length (joined pieces) ≤ 65536

@@ -13,7 +13,11 @@ abbrev pub columns_cmp : List ℕ → Row → Row → Ordering
 columns_cmp [] = λ r s. Equal
 columns_cmp (at ∷ sort) = then_cmp (on (λ r. column r at) value_cmp) (columns_cmp sort)
 
--- these rows, none with a mark, in the order of the columns, where ties stand as given
+-- rows that are equal in the columns stay as given
+abbrev pub KeepsTies : List ℕ → List Row → List Row → Type 0
+KeepsTies sort rows sorted = IsStable (columns_cmp sort) rows sorted
+
+-- these rows without marks, in the order of the columns, and ties as given
 pub record IsBuilt (rows : List Row) (sort : List ℕ) (built : List MarkedRow) : Type 0 where
   pub none_marked : built ≡ unmarked (live built)
   pub same : IsPermutation rows (live built)

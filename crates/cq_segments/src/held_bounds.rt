@@ -4,7 +4,7 @@
 //! copies in all.
 ghost use Rattle.std.specs.Prelude.{IfOk, Some, length, map, ◌<◌, ◌≡◌};
 ghost use Rattle.cq_model.specs.Group.{higher, lower};
-ghost use Rattle.cq_segments.specs.Bounds.{AreBounds, AreWithin, ends_at, ends_of, value_at, wider_ends};
+ghost use Rattle.cq_segments.specs.Bounds.{AreBounds, AreWidened, AreWithin, ends_at, ends_of, lent_ends, value_at};
 ghost use Rattle.cq_values.specs.Lent.{owned};
 
 use crate::bounds::Bounds;
@@ -48,7 +48,7 @@ type Places = Option<(usize, usize)>;
 
 /// Whether NULL is there, and where the least and the greatest value stand.
 fn find_ends(values: &[Lent<'_>]) -> (bool, Places)
-    ensures bounds { AreBounds result.0 (ends_at result.1 (map owned values.now)) (map owned values.now) }
+    ensures bounds { AreBounds result.0 (lent_ends result.1 values.now) (map owned values.now) }
     ensures within { AreWithin (length values.now) result.1 }
 {
     let mut has_null = false;
@@ -67,7 +67,7 @@ fn find_ends(values: &[Lent<'_>]) -> (bool, Places)
 fn wider(values: &[Lent<'_>], places: &Places, place: usize) -> (usize, usize)
     requires within { AreWithin (length values.now) places.now }
     requires there { place < length values.now }
-    ensures ends { ends_at (Some result) (map owned values.now) ≡ wider_ends (ends_at places.now (map owned values.now)) (value_at values.now place) }
+    ensures ends { AreWidened values.now places.now place result }
     ensures within { AreWithin (length values.now) (Some result) }
 {
     match places {
@@ -79,26 +79,26 @@ fn wider(values: &[Lent<'_>], places: &Places, place: usize) -> (usize, usize)
     }
 }
 
-fn lesser(values: &[Lent<'_>], a: usize, b: usize) -> usize
-    requires a { a < length values.now }
-    requires b { b < length values.now }
-    ensures value { value_at values.now result ≡ lower (value_at values.now a) (value_at values.now b) }
-    ensures within { result < length values.now }
+fn lesser(lent: &[Lent<'_>], a: usize, b: usize) -> usize
+    requires a { a < length lent.now }
+    requires b { b < length lent.now }
+    ensures value { value_at lent.now result ≡ lower (value_at lent.now a) (value_at lent.now b) }
+    ensures within { result < length lent.now }
 {
-    if cmp_lent(&values[a], &values[b]).is_gt() {
+    if cmp_lent(&lent[a], &lent[b]).is_gt() {
         b
     } else {
         a
     }
 }
 
-fn greater(values: &[Lent<'_>], a: usize, b: usize) -> usize
-    requires a { a < length values.now }
-    requires b { b < length values.now }
-    ensures value { value_at values.now result ≡ higher (value_at values.now a) (value_at values.now b) }
-    ensures within { result < length values.now }
+fn greater(lent: &[Lent<'_>], a: usize, b: usize) -> usize
+    requires a { a < length lent.now }
+    requires b { b < length lent.now }
+    ensures value { value_at lent.now result ≡ higher (value_at lent.now a) (value_at lent.now b) }
+    ensures within { result < length lent.now }
 {
-    if cmp_lent(&values[a], &values[b]).is_gt() {
+    if cmp_lent(&lent[a], &lent[b]).is_gt() {
         a
     } else {
         b

@@ -1,18 +1,20 @@
-//! The values of a column of rows that are lent.
+//! The values of a column of stored rows.
 ghost use Rattle.std.specs.Prelude.{IfOk, map, ◌≡◌};
+ghost use Rattle.cq_segments.specs.Rows.{stored_rows};
 ghost use Rattle.cq_values.specs.Lent.{owned};
-ghost use Rattle.cq_vectors.specs.Gathered.{column_of, lent_rows};
+ghost use Rattle.cq_vectors.specs.Gathered.{column_of};
 
-use cq_values::{Lent, Row};
+use crate::stored_row::StoredRow;
+use cq_values::Lent;
 use std::alloc::{AllocError, Global};
 
 /// The values of a column where they stand.
-pub(crate) fn lend_column<'a>(
+pub fn lend_column<'a>(
     alloc: Global,
-    rows: &[&'a Row],
+    rows: &[StoredRow<'a>],
     column: usize,
 ) -> Result<Vec<Lent<'a>>, AllocError>
-    ensures { IfOk result (λ lent. map owned lent.items ≡ column_of (lent_rows rows.now) column) }
+    ensures { IfOk result (λ lent. map owned lent.items ≡ column_of (stored_rows rows.now) column) }
 {
     let mut lent: Vec<Lent<'a>> = Vec::new(alloc);
     lent.reserve(rows.len())?;

@@ -1,28 +1,28 @@
 //! Segments: up to 65,536 rows of a table that were built once, column by column, with a mark on each deleted one.
 //!
-//! A [`Segment`] is made of pieces of 1,024 rows, each the [`Columns`] of its rows and a plane of marks. It keeps the
-//! least and the greatest value of each column. To its callers a segment is the list of its rows with their marks.
+//! A [`Segment`] keeps each column in one encoding, with its least and its greatest value. Its rows are read in pieces of
+//! 1,024, each the [`Columns`] of its rows and a plane of marks. It is built of rows where they stand, each a
+//! [`StoredRow`]. To its callers a segment is the list of its rows with their marks.
 #![tactic(auto)]
 
 mod bounds;
 mod building;
 mod columns;
-mod columns_at;
-mod copies;
-mod held;
 mod held_bounds;
-mod held_texts;
 mod lending;
 mod marking;
-mod narrow;
 mod piece;
-mod places;
+mod places_from;
+mod plain_columns;
+mod room;
 mod segment;
 mod sorting;
+mod stored_row;
 
 pub use bounds::Bounds;
 pub use columns::Columns;
-pub use narrow::narrowed;
+pub use lending::lend_column;
 pub use piece::Piece;
-pub use places::copies_at;
+pub use room::widened;
 pub use segment::Segment;
+pub use stored_row::StoredRow;

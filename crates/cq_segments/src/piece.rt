@@ -1,17 +1,22 @@
-//! A piece of a segment.
+//! A piece of a segment, or of the rows that are not yet in one.
 //!
 //! It is made of the columns of its rows, none of which has a mark; `mark` sets one, and none is taken back. `columns`
-//! and `marks` lend what it is made of, and `live_places` lists the places without a mark. A mark costs some steps a
-//! word of the plane; how many rows are live is known at once.
+//! and `marks` lend what it is made of, and `live_places` lists the places without a mark. `cut_front` drops rows at the
+//! front. A mark costs some steps a word of the plane, a cut its rows; how many rows are live is known at once.
 ghost use Rattle.std.specs.Bool.{OnTrue};
-ghost use Rattle.std.specs.Prelude.{IfOk, false, length, slice_index_or, ◌<◌, ◌≡◌, ◌≤◌};
+ghost use Rattle.std.specs.Prelude.{IfOk, drop, false, length, slice_index_or, take, ◌<◌, ◌≡◌, ◌≤◌};
+ghost use Rattle.cq_segments.specs.Columns.{AreWide};
 ghost use Rattle.cq_segments.specs.Marked.{live, live_from, marked_count, marks_of, rows_of, unmarked, with_mark};
+ghost use Rattle.cq_vectors.specs.Gathered.{lent_rows};
 
 use crate::columns::Columns;
-use crate::marking::set_flag;
+use crate::marking::{drop_flags, set_flag};
+use crate::plain_columns::plain_columns;
+use cq_values::Row;
 use cq_vectors_masks::Plane;
 use std::alloc::{AllocError, Global};
 use std::marker::Model;
+use std::rc::Rc;
 
 /// At least one row and at most 1,024, each with its mark.
 #[derive(Drop)]
@@ -22,14 +27,14 @@ pub struct Piece {
 }
 
 impl Model for Piece {
-    ghost use Rattle.std.specs.Prelude.{List, length, ◌≡◌};
-    ghost use Rattle.cq_segments.specs.Marked.{MarkedRow, marked_count, with_flags};
+    ghost use Rattle.std.specs.Prelude.{List};
+    ghost use Rattle.cq_segments.specs.Marked.{AreCounted, MarkedRow, with_flags};
 
     ghost Value = { List MarkedRow };
 
     ghost view = { λ p. with_flags p.columns p.marks };
 
-    ghost invariant = { λ p. (length p.marks ≡ length p.columns) × (p.marked ≡ marked_count (with_flags p.columns p.marks)) };
+    ghost invariant = { λ p. AreCounted p.columns p.marks p.marked };
 }
 
 impl Piece {
@@ -44,6 +49,18 @@ impl Piece {
             marks,
             marked: 0,
         }
+    }
+
+    /// Copies of few rows, as plain values and without a mark.
+    pub fn of_rows(alloc: Global, rows: &[&Row], width: usize) -> Result<Piece, AllocError>
+        requires some { 0 < length rows.now }
+        requires few { length rows.now ≤ 1024 }
+        requires wide { AreWide width (lent_rows rows.now) }
+        ensures { IfOk result (λ p. p ≡ unmarked (lent_rows rows.now)) }
+    {
+        let encoded = plain_columns(alloc, rows, width)?;
+        let columns = Columns::of(Rc::new(alloc, encoded)?, 0, rows.len());
+        Ok(Piece::of(columns))
     }
 
     /// All of its rows, with a mark or without.
@@ -108,6 +125,32 @@ impl Piece {
             set_flag(&mut self.marks, place);
             self.marked += 1;
         }
+    }
+
+    /// Drops the first rows, with their marks.
+    pub fn cut_front(&mut self, count: usize)
+        requires { count < length self.old }
+        ensures { self.new ≡ drop count self.old }
+    {
+        let gone = self.marked_before(count);
+        self.columns.cut_front(count);
+        drop_flags(&mut self.marks, count);
+        self.marked -= gone;
+    }
+
+    /// How many of the first rows have a mark.
+    fn marked_before(&self, end: usize) -> usize
+        requires { end ≤ length self.now }
+        ensures { result ≡ marked_count (take end self.now) }
+    {
+        let _count = self.columns.len();
+        let mut marked = 0;
+        for place in 0..end {
+            if self.marks.get(place) {
+                marked += 1;
+            }
+        }
+        marked
     }
 
     /// The place of a row without a mark, where such rows are counted from 0.

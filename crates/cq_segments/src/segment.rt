@@ -1,28 +1,31 @@
 //! Rows of a table that were built once, column by column.
 //!
-//! `build` sorts rows and copies them into pieces of 1,024; after it only `mark` changes the segment. `pieces` lends
-//! them for readers, and `bounds` says of a column what a scan may skip. To build costs a sort and a copy of each value;
-//! `mark`, `is_marked` and `lend` cost some steps, `marked_len` one step a piece; none of these takes memory.
+//! `build` sorts rows and encodes each of their columns once; after it only `mark` changes the segment. `pieces` lends
+//! 1,024 rows at a time for readers, and `bounds` says of a column what a scan may skip. To build costs a sort and some
+//! steps a value; `mark`, `is_marked` and `lend` cost some steps, `marked_len` one step a piece; none of these takes memory.
 ghost use Rattle.std.specs.Prelude.{IfOk, [], false, length, slice_index_or, ◌<◌, ◌≡◌, ◌≤◌};
 ghost use Rattle.std.specs.List.{All};
 ghost use Rattle.cq_segments.specs.Bounds.{AreBounds, ends_of};
 ghost use Rattle.cq_segments.specs.Columns.{AreWide};
 ghost use Rattle.cq_segments.specs.Marked.{marked_count, marks_of, rows_of, with_mark};
 ghost use Rattle.cq_segments.specs.Pieces.{joined};
+ghost use Rattle.cq_segments.specs.Rows.{stored_rows};
 ghost use Rattle.cq_segments.specs.Sorted.{IsBuilt};
 ghost use Rattle.cq_values.specs.Lent.{owned};
 ghost use Rattle.cq_values.specs.Value.{column as column_at};
-ghost use Rattle.cq_vectors.specs.Gathered.{column_of, lent_rows};
+ghost use Rattle.cq_vectors.specs.Gathered.{column_of};
 
 use crate::bounds::Bounds;
-use crate::building::{make_bounds, make_pieces};
+use crate::building::{encode_columns, make_pieces};
 use crate::columns::Columns;
 use crate::held_bounds::HeldBounds;
 use crate::piece::Piece;
 use crate::sorting::sorted;
-use cq_values::{Lent, Row};
+use crate::stored_row::StoredRow;
+use cq_values::Lent;
 use std::alloc::{AllocError, Global};
 use std::marker::Model;
+use std::rc::Rc;
 
 /// At least one row and at most 65,536, all of one width, each with its mark.
 #[derive(Drop)]
@@ -48,18 +51,18 @@ impl Segment {
     /// Copies of these rows in the order of the sort columns, without a mark. Equal ones stay as given.
     pub fn build(
         alloc: Global,
-        rows: &[&Row],
+        rows: &[StoredRow<'_>],
         width: usize,
         sort: &[usize],
     ) -> Result<Segment, AllocError>
         requires some { 0 < length rows.now }
         requires few { length rows.now ≤ 65536 }
-        requires wide { AreWide width (lent_rows rows.now) }
-        ensures { IfOk result (IsBuilt (lent_rows rows.now) sort.now) }
+        requires wide { AreWide width (stored_rows rows.now) }
+        ensures { IfOk result (IsBuilt (stored_rows rows.now) sort.now) }
     {
         let rows = sorted(alloc, rows, sort)?;
-        let pieces = make_pieces(alloc, rows.as_slice(), width)?;
-        let bounds = make_bounds(alloc, pieces.as_slice(), width)?;
+        let (encoded, bounds) = encode_columns(alloc, rows.as_slice(), width)?;
+        let pieces = make_pieces(alloc, Rc::new(alloc, encoded)?, rows.len())?;
         Ok(Segment { pieces, bounds })
     }
 

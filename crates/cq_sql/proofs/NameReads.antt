@@ -1,5 +1,5 @@
 -- Names, numbers, texts and names of columns are read exactly.
-use Rattle.std.proofs.Common.{◌≡◌, ℕ, List, [], ◌∷◌, ◌++◌, Option, Some, None, refl, ap}
+use Rattle.std.proofs.Common.{◌≡◌, ℕ, List, [], ◌∷◌, ◌++◌, Option, Some, None, refl, ap, ◌∙◌}
 use Rattle.cq_sql_language.specs.declared.token.Symbol.TheVariants as symbols
 use Rattle.cq_sql_language.specs.declared.token.Token.{Token}
 use Rattle.cq_sql_language.specs.declared.token.Token.TheVariants as tokens
@@ -7,45 +7,45 @@ use Rattle.cq_sql_language.specs.declared.written.ColumnName.{ColumnName}
 use Rattle.cq_sql_language.specs.Parts.{IsName, IsNumber, IsText}
 use Rattle.cq_sql_language.specs.Query.{IsColumnName}
 use Rattle.cq_sql_language.specs.Spelling.{column_tokens}
-use Rattle.cq_sql_expressions.specs.Read.{after_symbol}
+use Rattle.cq_sql_expressions.specs.Read.{Reader, after_symbol}
 use Rattle.cq_sql_expressions.proofs.Exact.{Reads, Anything}
 use Rattle.cq_sql.specs.Parts.{name_at, number_at, text_at, column_name_at}
 use Rattle.std.proofs.lemmas.Option.{some_pair_parts}
 
+-- ---- Readers of one token
+-- what was read is the token in front
+in_front : {A : Type 0} (token_of : A → Token) (x y : A) (ts rest : List Token) → ◌≡◌ {A = Option (A × List Token)} (Some (y, ts)) (Some (x, rest)) → token_of y ∷ ts ≡ token_of x ∷ rest
+in_front token_of x y ts rest e =
+    let p = some_pair_parts y x ts rest e in
+    rw (p.0, p.1) refl
+
+-- a reader that takes the token of a thing, and nothing else, reads it exactly
+token_reads : {A : Type 0} (token_of : A → Token) (item : Reader A) → ((x : A) (rest : List Token) → item (token_of x ∷ rest) ≡ Some (x, rest))
+    → ((x : A) (ts rest : List Token) → item ts ≡ Some (x, rest) → ts ≡ token_of x ∷ rest) → Reads Anything (λ x ts. ts ≡ token_of x ∷ []) item
+token_reads token_of item found only = record {
+  found = λ x front rest h end. ap (λ (ts : List Token). item (ts ++ rest)) h ∙ found x rest;
+  only = λ x ts rest e. (token_of x ∷ [], only x ts rest e, refl);
+}
+
 -- names are read exactly
 pub name_reads : Reads Anything IsName name_at
-name_reads = record { found = found; only = only } where
-  found : (n : List ℕ) (front rest : List Token) → IsName n front → Anything rest → name_at (front ++ rest) ≡ Some (n, rest)
-  found n front rest h end = rw h refl
-
-  only : (n : List ℕ) (ts rest : List Token) → name_at ts ≡ Some (n, rest) → (front : List Token) × (ts ≡ front ++ rest) × IsName n front
-  only n (tokens.Name m ∷ ts) rest e =
-      let p = some_pair_parts m n ts rest e in
-      (tokens.Name m ∷ [], ap (λ (us : List Token). tokens.Name m ∷ us) p.1, ap (λ (x : List ℕ). tokens.Name x ∷ []) p.0)
+name_reads = token_reads tokens.Name name_at (λ n rest. refl) only where
+  only : (n : List ℕ) (ts rest : List Token) → name_at ts ≡ Some (n, rest) → ts ≡ tokens.Name n ∷ rest
+  only n (tokens.Name m ∷ ts) rest e = in_front tokens.Name n m ts rest e
   only n ts rest e = absurd cc
 
 -- numbers without a sign are read exactly
 pub number_reads : Reads Anything IsNumber number_at
-number_reads = record { found = found; only = only } where
-  found : (n : ℕ) (front rest : List Token) → IsNumber n front → Anything rest → number_at (front ++ rest) ≡ Some (n, rest)
-  found n front rest h end = rw h refl
-
-  only : (n : ℕ) (ts rest : List Token) → number_at ts ≡ Some (n, rest) → (front : List Token) × (ts ≡ front ++ rest) × IsNumber n front
-  only n (tokens.Number m ∷ ts) rest e =
-      let p = some_pair_parts m n ts rest e in
-      (tokens.Number m ∷ [], ap (λ (us : List Token). tokens.Number m ∷ us) p.1, ap (λ (x : ℕ). tokens.Number x ∷ []) p.0)
+number_reads = token_reads tokens.Number number_at (λ n rest. refl) only where
+  only : (n : ℕ) (ts rest : List Token) → number_at ts ≡ Some (n, rest) → ts ≡ tokens.Number n ∷ rest
+  only n (tokens.Number m ∷ ts) rest e = in_front tokens.Number n m ts rest e
   only n ts rest e = absurd cc
 
 -- texts are read exactly
 pub text_reads : Reads Anything IsText text_at
-text_reads = record { found = found; only = only } where
-  found : (t : List ℕ) (front rest : List Token) → IsText t front → Anything rest → text_at (front ++ rest) ≡ Some (t, rest)
-  found t front rest h end = rw h refl
-
-  only : (t : List ℕ) (ts rest : List Token) → text_at ts ≡ Some (t, rest) → (front : List Token) × (ts ≡ front ++ rest) × IsText t front
-  only t (tokens.Text text ∷ ts) rest e =
-      let p = some_pair_parts text t ts rest e in
-      (tokens.Text text ∷ [], ap (λ (us : List Token). tokens.Text text ∷ us) p.1, ap (λ (x : List ℕ). tokens.Text x ∷ []) p.0)
+text_reads = token_reads tokens.Text text_at (λ t rest. refl) only where
+  only : (t : List ℕ) (ts rest : List Token) → text_at ts ≡ Some (t, rest) → ts ≡ tokens.Text t ∷ rest
+  only t (tokens.Text text ∷ ts) rest e = in_front tokens.Text t text ts rest e
   only t ts rest e = absurd cc
 
 -- no dot follows

@@ -12,7 +12,7 @@ use Rattle.cq_sql_expressions.proofs.Conditions.{EndsExpression}
 use Rattle.cq_sql_expressions.proofs.Tight.{joint}
 use Rattle.cq_sql_expressions.specs.Lists.{after_join}
 use Rattle.cq_sql_expressions.specs.Read.{after_keyword, after_symbol}
-use Rattle.cq_sql_expressions.proofs.Exact.{keyword_takes, symbol_takes}
+use Rattle.cq_sql_expressions.proofs.Exact.{Takes, keyword_takes, symbol_takes}
 use Rattle.cq_sql.specs.Parts.{name_at}
 
 -- the place of the clause that the word begins; no clause is 0
@@ -32,23 +32,20 @@ place [] = 7
 place (tokens.Keyword word ∷ ts) = place_of word
 place (t ∷ ts) = 0
 
+-- a function that takes one token takes nothing where that token is not in front
+not_taken : {token : Token} (after : List Token → Option (List Token)) (ts : List Token) → Takes token after → ((us : List Token) → ts ≡ token ∷ us → ⊥) → after ts ≡ None
+not_taken after ts takes other = by_after (after ts) refl where
+  by_after : (left : Option (List Token)) → after ts ≡ left → after ts ≡ None
+  by_after None there = there
+  by_after (Some us) there = absurd (other us (takes.only ts us there))
+
 -- a word of an earlier place does not stand in front
 pub not_word : (word : Keyword) (ts : List Token) → place_of word < place ts → after_keyword word ts ≡ None
-not_word word ts lt = by_after (after_keyword word ts) refl where
-  by_after : (after : Option (List Token)) → after_keyword word ts ≡ after → after_keyword word ts ≡ None
-  by_after None there = there
-  by_after (Some us) there =
-      let takes = keyword_takes word in
-      absurd (omega (arith, lt, ap place (takes.only ts us there)))
+not_word word ts lt = not_taken (after_keyword word) ts (keyword_takes word) (λ us is. omega (arith, lt, ap place is))
 
 -- where a clause begins or nothing is left, no symbol stands in front
 pub not_symbol : (symbol : Symbol) (ts : List Token) → 0 < place ts → after_symbol symbol ts ≡ None
-not_symbol symbol ts lt = by_after (after_symbol symbol ts) refl where
-  by_after : (after : Option (List Token)) → after_symbol symbol ts ≡ after → after_symbol symbol ts ≡ None
-  by_after None there = there
-  by_after (Some us) there =
-      let takes = symbol_takes symbol in
-      absurd (omega (arith, lt, ap place (takes.only ts us there)))
+not_symbol symbol ts lt = not_taken (after_symbol symbol) ts (symbol_takes symbol) (λ us is. omega (arith, lt, ap place is))
 
 -- nor a name
 pub not_name : (ts : List Token) → 0 < place ts → name_at ts ≡ None

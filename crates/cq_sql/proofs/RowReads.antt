@@ -10,7 +10,7 @@ use Rattle.cq_sql_expressions.specs.declared.fault.SqlFault.{SqlFault}
 use Rattle.cq_sql_expressions.specs.declared.fault.SqlFault.TheVariants as errors
 use Rattle.cq_sql_expressions.specs.declared.leads.Lead.TheVariants as leads
 use Rattle.cq_sql_expressions.specs.Gives.{Fails}
-use Rattle.cq_sql_expressions.specs.Lists.{chain_from, led, list_at, more_at, stop_or_go}
+use Rattle.cq_sql_expressions.specs.Lists.{chain_from, led, list_at, more_at, one_more_behind, stop_or_go}
 use Rattle.cq_sql_expressions.specs.Read.{◌>>=◌, done, followed_by, behind, after_symbol}
 use Rattle.cq_sql_expressions.proofs.Chains.{turn_goes_on, turn_breaks, turn_fails, turn_stops}
 use Rattle.cq_sql.specs.Parts.{constant_at, row_at}
@@ -62,7 +62,7 @@ turn_behind before turn = option_map (behind_rows before) turn
 module _ (before : List (List Constant)) where
   -- a turn for the last of some rows is one for this row alone
   turn_same : (row : List Constant) (ts : List Token) → constant_led (before ++ row ∷ []) ts ≡ turn_behind before (led leads.Comma constant_at row ts)
-  unfolding constant_led led
+  unfolding constant_led one_more_behind
   turn_same row ts = by_comma (after_symbol symbols.Comma ts) where
     by_constant : (read : Option (Constant × List Token)) → (read >>= λ r. Some (onto_last r.0 (before ++ row ∷ []), r.1)) ≡ behind_rows before (read >>= λ r. Some (row ++ r.0 ∷ [], r.1))
     by_constant None = refl
@@ -125,7 +125,7 @@ list_same ts = by_row (row_at ts) ∙ ap (λ read. read >>= λ r. more_rows_at r
 module _ (rows : List (List Constant)) (count i : ℕ) (ts : List Token) (total : Option (List (List Constant) × List Token)) (lt : i < count) (so_far : chain_from (led leads.Comma row_at) (count - i) rows ts ≡ total) (us : List Token) (there : after_symbol symbols.Comma ts ≡ Some us) where
   -- what the turn reads behind the comma
   turn : led leads.Comma row_at rows ts ≡ Some (row_behind rows us)
-  unfolding led
+  unfolding one_more_behind
   turn = rw there (ap Some (sym (row_same rows us)))
 
   -- a row: the rest is still read

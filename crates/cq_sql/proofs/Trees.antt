@@ -41,20 +41,22 @@ word k = tokens.Keyword k ∷ []
 abbrev words : Keyword → Keyword → List Token
 words k l = tokens.Keyword k ∷ tokens.Keyword l ∷ []
 
+-- what is read behind the two words of its kind is a statement with them
+two_words_only : {X : Type 0} {Are : X → List Token → Type 0} {make : X → Statement} {item : Reader Statement} (k l : Keyword) → Makes Nothing Are make item
+    → ((x : X) (ts : List Token) → (IsWord k before IsWord l before Are x) ts → IsStatement (make x) ts) → (s : Statement) (ts rest : List Token) → item ts ≡ Some (s, rest) → WasRead (words k l) s ts rest
+two_words_only k l makes spelled s ts rest e =
+    kind_only (words k l) makes (λ x us h. spelled x (words k l ++ us) (worded k (tokens.Keyword l ∷ us) (worded l us h))) s ts rest e
+
 -- what is read behind CREATE creates a table or a view
 create_only : (s : Statement) (ts rest : List Token) → create_at ts ≡ Some (s, rest) → WasRead (word keywords.Create) s ts rest
-create_only s (tokens.Keyword keywords.Table ∷ ts) rest e =
-    kind_only (words keywords.Create keywords.Table) create_table_makes (λ x us h. worded keywords.Create (tokens.Keyword keywords.Table ∷ us) (worded keywords.Table us h)) s ts rest e
-create_only s (tokens.Keyword keywords.View ∷ ts) rest e =
-    kind_only (words keywords.Create keywords.View) create_view_makes (λ x us h. worded keywords.Create (tokens.Keyword keywords.View ∷ us) (worded keywords.View us h)) s ts rest e
+create_only s (tokens.Keyword keywords.Table ∷ ts) rest e = two_words_only keywords.Create keywords.Table create_table_makes (λ x us h. h) s ts rest e
+create_only s (tokens.Keyword keywords.View ∷ ts) rest e = two_words_only keywords.Create keywords.View create_view_makes (λ x us h. h) s ts rest e
 create_only s ts rest e = absurd cc
 
 -- what is read behind DROP drops a table or a view
 drop_only : (s : Statement) (ts rest : List Token) → drop_at ts ≡ Some (s, rest) → WasRead (word keywords.Drop) s ts rest
-drop_only s (tokens.Keyword keywords.Table ∷ ts) rest e =
-    kind_only (words keywords.Drop keywords.Table) drop_table_makes (λ x us h. worded keywords.Drop (tokens.Keyword keywords.Table ∷ us) (worded keywords.Table us h)) s ts rest e
-drop_only s (tokens.Keyword keywords.View ∷ ts) rest e =
-    kind_only (words keywords.Drop keywords.View) drop_view_makes (λ x us h. worded keywords.Drop (tokens.Keyword keywords.View ∷ us) (worded keywords.View us h)) s ts rest e
+drop_only s (tokens.Keyword keywords.Table ∷ ts) rest e = two_words_only keywords.Drop keywords.Table drop_table_makes (λ x us h. h) s ts rest e
+drop_only s (tokens.Keyword keywords.View ∷ ts) rest e = two_words_only keywords.Drop keywords.View drop_view_makes (λ x us h. h) s ts rest e
 drop_only s ts rest e = absurd cc
 
 -- statements are read exactly, by their first keywords

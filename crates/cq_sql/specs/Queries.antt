@@ -83,17 +83,8 @@ later_at =
 
 -- the query of these clauses
 abbrev pub query_of : Bool → List SelectItem → FromSource → List JoinedSource → LaterClauses → Select
-query_of is_distinct items first joins later = record {
-  is_distinct = is_distinct;
-  items = items;
-  first = first;
-  joins = joins;
-  condition = later.condition;
-  group = later.group;
-  having = later.having;
-  order = later.order;
-  limit = later.limit;
-}
+query_of is_distinct items first joins later =
+    record { is_distinct = is_distinct; items = items; first = first; joins = joins; condition = later.condition; group = later.group; having = later.having; order = later.order; limit = later.limit }
 
 -- takes a query, from SELECT to its last clause
 unfoldable pub query_at : Reader Select

@@ -1,9 +1,10 @@
 -- How rows are read one behind the other, as functions on lists.
-use Rattle.std.specs.Prelude.{List, [], ◌∷◌, ◌++◌, length, Option, Some}
+use Rattle.std.specs.Prelude.{ℕ, List, [], ◌∷◌, ◌++◌, length, Option, Some}
 use Rattle.std.specs.Option.{option_map}
 use Rattle.cq_sql_language.specs.declared.statement.Constant.{Constant}
 use Rattle.cq_sql_language.specs.declared.token.Symbol.TheVariants as symbols
 use Rattle.cq_sql_language.specs.declared.token.Token.{Token}
+use Rattle.cq_sql_language.specs.declared.token.Token.TheVariants as tokens
 use Rattle.cq_sql_language.specs.ConstantRows.{onto_last}
 use Rattle.cq_sql_expressions.specs.declared.leads.Lead.TheVariants as leads
 use Rattle.cq_sql_expressions.specs.Lists.{chain_from, more_at}
@@ -22,6 +23,10 @@ last_row_at rows ts = chain_from constant_led (length ts) rows ts
 unfoldable pub row_behind : List (List Constant) → Reader (List (List Constant))
 row_behind rows =
     behind (after_symbol symbols.Open) (followed_by constant_at (λ first. followed_by (last_row_at (rows ++ (first ∷ []) ∷ [])) (λ longer. behind (after_symbol symbols.Close) (done longer))))
+
+-- a comma, a number without a sign, and what is behind them
+abbrev pub number_behind_comma : ℕ → List Token → List Token
+number_behind_comma n rest = tokens.Symbol symbols.Comma ∷ tokens.Number n ∷ rest
 
 -- takes more rows, behind those that were read before
 unfoldable pub more_rows_at : List (List Constant) → Reader (List (List Constant))

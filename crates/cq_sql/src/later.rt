@@ -7,7 +7,7 @@ use crate::names::{ColumnNames, Numbers};
 use crate::order::OrderKeys;
 use cq_sql_expressions::{SqlExpressions, SqlFault, list_behind, tail_of};
 use cq_sql_language::{ColumnName, Keyword, OrderKey, SqlExpr, Token};
-use cq_values::Seq;
+use cq_values::{Seq, both};
 use std::alloc::Global;
 
 /// The clauses of a query from WHERE on. Lists that may be left out are empty then.
@@ -26,36 +26,17 @@ pub fn later_at(alloc: Global, tokens: &[Token]) -> Result<(LaterClauses, &[Toke
     ensures { Gives (λ x. (x.0, x.1.now)) result (later_at tokens.now) }
 {
     let (condition, rest) = tail_of::<SqlExpressions>(alloc, Keyword::Where, tokens)?;
-    let (group, rest) = match list_behind::<ColumnNames>(alloc, Keyword::Group, rest) {
-        Ok(found) => found,
-        Err(fault) => {
-            drop(condition);
-            return Err(fault);
-        }
-    };
-    let (having, rest) = match tail_of::<SqlExpressions>(alloc, Keyword::Having, rest) {
-        Ok(found) => found,
-        Err(fault) => {
-            drop(condition);
-            return Err(fault);
-        }
-    };
-    let (order, rest) = match list_behind::<OrderKeys>(alloc, Keyword::Order, rest) {
-        Ok(found) => found,
-        Err(fault) => {
-            drop(condition);
-            drop(having);
-            return Err(fault);
-        }
-    };
-    let (limit, rest) = match tail_of::<Numbers>(alloc, Keyword::Limit, rest) {
-        Ok(found) => found,
-        Err(fault) => {
-            drop(condition);
-            drop(having);
-            return Err(fault);
-        }
-    };
+    let group = list_behind::<ColumnNames>(alloc, Keyword::Group, rest);
+    let (condition, (group, rest)) = both(condition, group)?;
+    let having = tail_of::<SqlExpressions>(alloc, Keyword::Having, rest);
+    let ((condition, group), (having, rest)) = both((condition, group), having)?;
+    let order = list_behind::<OrderKeys>(alloc, Keyword::Order, rest);
+    let ((condition, group, having), (order, rest)) = both((condition, group, having), order)?;
+    let limit = tail_of::<Numbers>(alloc, Keyword::Limit, rest);
+    let ((condition, group, having, order), (limit, rest)) = both(
+        (condition, group, having, order),
+        limit,
+    )?;
     let later = LaterClauses {
         condition,
         group,

@@ -1,13 +1,11 @@
 //! The rows of an INSERT.
-ghost use Rattle.std.specs.Prelude.{◌<◌, ◌∷◌, ◌≡◌, IfSome, false, length};
+ghost use Rattle.std.specs.Prelude.{◌<◌, ◌≡◌, IfSome, false, length};
 ghost use Rattle.cq_sql_language.specs.declared.statement.Constant.TheVariants as constants;
-ghost use Rattle.cq_sql_language.specs.declared.token.Symbol.TheVariants as symbols;
-ghost use Rattle.cq_sql_language.specs.declared.token.Token.TheVariants as signs;
 ghost use Rattle.cq_sql_expressions.specs.declared.leads.Lead.TheVariants as leads;
 ghost use Rattle.cq_sql_expressions.specs.Gives.{Gives};
 ghost use Rattle.cq_sql_expressions.specs.Lists.{list_at};
 ghost use Rattle.cq_sql.specs.Parts.{row_at};
-ghost use Rattle.cq_sql.specs.Rows.{last_row_at, more_rows_at, row_behind};
+ghost use Rattle.cq_sql.specs.Rows.{last_row_at, more_rows_at, number_behind_comma, row_behind};
 
 use crate::constants::Constants;
 use cq_sql_expressions::{Readable, SqlFault, after_symbol, expect_symbol};
@@ -94,7 +92,7 @@ fn more_constants<'a>(
 
 /// The number behind a comma, where one without a sign is there, and the tokens behind it.
 fn after_number(tokens: &[Token]) -> Option<(u128, &[Token])>
-    ensures { IfSome result (λ r. tokens.now ≡ signs.Symbol symbols.Comma ∷ signs.Number r.0 ∷ r.1.now) }
+    ensures { IfSome result (λ r. tokens.now ≡ number_behind_comma r.0 r.1.now) }
 {
     match tokens {
         [Token::Symbol(Symbol::Comma), Token::Number(n), rest @ ..] => Some((*n, rest)),

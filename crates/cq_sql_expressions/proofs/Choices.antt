@@ -10,7 +10,7 @@ use Rattle.cq_sql_language.specs.Expression.{fits, is_in_order, are_in_order, ha
 use Rattle.cq_sql_language.specs.Spelling.{spelled, spelled_choices, spelled_more}
 use Rattle.cq_sql_expressions.specs.declared.separators.Separator.TheVariants as separators
 use Rattle.cq_sql_expressions.specs.Read.{Reader, done, behind, followed_by, after_symbol}
-use Rattle.cq_sql_expressions.specs.Lists.{chain_from}
+use Rattle.cq_sql_expressions.specs.Lists.{chain_from, one_more_behind}
 use Rattle.cq_sql_expressions.specs.Chains.{separated_part, more_parts}
 use Rattle.cq_sql_expressions.specs.Expressions.{Inside, choices_of, enclosed_choices}
 use Rattle.cq_sql_expressions.proofs.Exact.{bind_some, symbol_takes}
@@ -31,7 +31,7 @@ module _ (size : ℕ) (sum : Reader Written) (reads : ReadsTight size 4 sum) whe
   -- behind a comma a sum was read, and more entries
   more_read : (n : ℕ) (ws vs : List Written) (ts us rest : List Token) (read : Option (Written × List Token)) → sum us ≡ read → ts ≡ comma ∷ us → after_symbol symbols.Comma ts ≡ Some us
       → chain_from (separated_part separators.Comma sum) (suc n) ws ts ≡ Some (vs, rest) → ((os : List Written) (rs : List Token) → chain_from (separated_part separators.Comma sum) n os rs ≡ Some (vs, rest) → MoreEntries os rs vs rest) → MoreEntries ws ts vs rest
-  unfolding separated_part
+  unfolding one_more_behind
   more_read n ws vs ts us rest None is split there e again =
       let step : separated_part separators.Comma sum ws ts ≡ Some None = rw (there, is) refl in
       let bad : ◌≡◌ {A = Option (List Written × List Token)} None (Some (vs, rest)) = sym (breaks (separated_part separators.Comma sum) n ws ts step) ∙ e in
@@ -46,7 +46,7 @@ module _ (size : ℕ) (sum : Reader Written) (reads : ReadsTight size 4 sum) whe
   -- with or without a comma, what is read behind other entries are entries
   more_at : (n : ℕ) (ws vs : List Written) (ts rest : List Token) (after : Option (List Token)) → after_symbol symbols.Comma ts ≡ after → chain_from (separated_part separators.Comma sum) (suc n) ws ts ≡ Some (vs, rest)
       → ((os : List Written) (rs : List Token) → chain_from (separated_part separators.Comma sum) n os rs ≡ Some (vs, rest) → MoreEntries os rs vs rest) → MoreEntries ws ts vs rest
-  unfolding separated_part
+  unfolding one_more_behind
   more_at n ws vs ts rest None there e again =
       let step : separated_part separators.Comma sum ws ts ≡ None = rw there refl in
       let p = some_pair_parts ws vs ts rest (sym (stops (separated_part separators.Comma sum) (suc n) ws ts step) ∙ e) in

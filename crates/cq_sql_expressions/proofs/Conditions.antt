@@ -19,10 +19,9 @@ use Rattle.cq_sql_expressions.specs.Expressions.{Inside, primary_of, factor_of, 
 use Rattle.cq_sql_expressions.proofs.Exact.{Reads, bind_some, keyword_takes}
 use Rattle.cq_sql_expressions.proofs.Tight.{joint_in, Fits, from_fits, to_fits, ReadsTight}
 use Rattle.cq_sql_expressions.proofs.Primaries.{ReadsInside, primary_reads}
-use Rattle.cq_sql_expressions.proofs.Levels.{factor_reads}
+use Rattle.cq_sql_expressions.proofs.Levels.{factor_reads, prefixed_reads}
 use Rattle.cq_sql_expressions.proofs.Operators.{joined_reads, sum_reads}
 use Rattle.cq_sql_expressions.proofs.PredicateReads.{predicate_reads}
-use Rattle.std.proofs.lemmas.Option.{some_pair_parts}
 
 -- no predicate begins with NOT
 no_predicate : (inside : Inside) (us : List Token) → predicate_of inside (tokens.Keyword keywords.Not ∷ us) ≡ None
@@ -46,27 +45,10 @@ module _ (size : ℕ) (inside : Inside) (reads : ReadsTight size 3 (predicate_of
   negation_found (Not a) rest fit small end = rw (reads.found a rest (from_fits 3 a fit.1) (omega (arith, small)) (omega (arith, end))) refl
   negation_found w rest fit small end = plain_found w rest (after_keyword keywords.Not (spelled w ++ rest)) refl (omega (arith, fit.0), fit.1) small end
 
-  -- with or without NOT, what is read is as tight as that
-  by_word : (w : Written) (ts rest : List Token) (after : Option (List Token)) → after_keyword keywords.Not ts ≡ after → prefixed Not (predicate_of inside) ts after ≡ Some (w, rest) → Fits 2 w × (ts ≡ spelled w ++ rest)
-  by_word w ts rest None there e =
-      let o = reads.only w ts rest e in
-      ((omega (arith, o.0.0), o.0.1), o.1)
-  by_word w ts rest (Some us) there e =
-      let takes = keyword_takes keywords.Not in
-      let b = bind_some (predicate_of inside us) (λ r. Some (Not r.0, r.1)) (w, rest) e in
-      let o = reads.only b.0.0 us b.0.1 b.1 in
-      let p = some_pair_parts (Not b.0.0) w b.0.1 rest b.2 in
-      let whole : ts ≡ spelled (Not b.0.0) ++ rest = takes.only ts us there ∙ ap (λ (vs : List Token). tokens.Keyword keywords.Not ∷ vs) (o.1 ∙ ap (λ (vs : List Token). spelled b.0.0 ++ vs) p.1) in
-      subst (λ (x : Written). Fits 2 x × (ts ≡ spelled x ++ rest)) p.0 ((omega arith, to_fits 3 b.0.0 o.0), whole)
-
-  -- what is read is as tight as NOT and a predicate
-  negation_only : (w : Written) (ts rest : List Token) → negation_of inside ts ≡ Some (w, rest) → Fits 2 w × (ts ≡ spelled w ++ rest)
-  unfolding negation_of
-  negation_only w ts rest e = by_word w ts rest (after_keyword keywords.Not ts) refl e
-
   -- predicates with or without NOT are read exactly
   pub negation_reads : ReadsTight size 2 (negation_of inside)
-  negation_reads = record { found = negation_found; only = negation_only }
+  unfolding negation_of
+  negation_reads = prefixed_reads Not (keyword_takes keywords.Not) reads (λ w fit. (omega (arith, fit.0), fit.1)) (λ a fit. (omega arith, to_fits 3 a fit)) (λ a. refl) negation_found
 
 module _ (size : ℕ) (inside : Inside) (reads : ReadsInside size inside) where
   -- sums are read exactly, one pair of parentheses further out

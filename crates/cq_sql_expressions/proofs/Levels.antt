@@ -7,7 +7,7 @@ use Rattle.cq_sql_language.specs.Written.{Written, Number, Text, Date, Null, Col
 use Rattle.cq_sql_language.specs.Spelling.{spelled, column_tokens}
 use Rattle.cq_sql_expressions.specs.Read.{Reader, after_symbol}
 use Rattle.cq_sql_expressions.specs.Expressions.{Inside, prefixed, factor_of, primary_of}
-use Rattle.cq_sql_expressions.proofs.Exact.{bind_some, symbol_takes}
+use Rattle.cq_sql_expressions.proofs.Exact.{Takes, bind_some, symbol_takes}
 use Rattle.cq_sql_expressions.proofs.Tight.{joint_in, Fits, from_fits, to_fits, ReadsTight}
 use Rattle.std.proofs.lemmas.Option.{some_pair_parts}
 
@@ -17,6 +17,27 @@ by_same_reader {size} {level} {item} {other} reads same = record {
   found = λ w rest fit small end. same (spelled w ++ rest) ∙ reads.found w rest fit small end;
   only = λ w ts rest e. reads.only w ts rest (sym (same ts) ∙ e);
 }
+
+-- what is read with or without a token in front
+module _ {size inner outer : ℕ} {token : Token} {after : List Token → Option (List Token)} {item : Reader Written} (make : Written → Written) (takes : Takes token after) (reads : ReadsTight size inner item)
+    (weaker : (w : Written) → Fits inner w → Fits outer w) (made : (a : Written) → Fits inner a → Fits outer (make a)) (spelling : (a : Written) → spelled (make a) ≡ token ∷ spelled a) where
+  -- it fits, and its tokens were there
+  prefixed_only : (w : Written) (ts rest : List Token) (left : Option (List Token)) → after ts ≡ left → prefixed make item ts left ≡ Some (w, rest) → Fits outer w × (ts ≡ spelled w ++ rest)
+  prefixed_only w ts rest None there e =
+      let o = reads.only w ts rest e in
+      (weaker w o.0, o.1)
+  prefixed_only w ts rest (Some us) there e =
+      let b = bind_some (item us) (λ r. Some (make r.0, r.1)) (w, rest) e in
+      let o = reads.only b.0.0 us b.0.1 b.1 in
+      let p = some_pair_parts (make b.0.0) w b.0.1 rest b.2 in
+      let tail : us ≡ spelled b.0.0 ++ rest = o.1 ∙ ap (λ (vs : List Token). spelled b.0.0 ++ vs) p.1 in
+      let whole : ts ≡ spelled (make b.0.0) ++ rest = takes.only ts us there ∙ ap (λ (vs : List Token). token ∷ vs) tail ∙ ap (λ (vs : List Token). vs ++ rest) (sym (spelling b.0.0)) in
+      subst (λ (x : Written). Fits outer x × (ts ≡ spelled x ++ rest)) p.0 (made b.0.0 o.0, whole)
+
+  -- so such a reader is exact where it finds what fits
+  pub prefixed_reads : ((w : Written) (rest : List Token) → Fits outer w → length (spelled w) < size → joint_in rest ≤ outer → prefixed make item (spelled w ++ rest) (after (spelled w ++ rest)) ≡ Some (w, rest))
+      → ReadsTight size outer (λ ts. prefixed make item ts (after ts))
+  prefixed_reads found = record { found = found; only = λ w ts rest e. prefixed_only w ts rest (after ts) refl e }
 
 -- no column begins with a minus
 column_no_minus : (source : Option (List ℕ)) (name : List ℕ) (rest : List Token) → after_symbol symbols.Minus (column_tokens source name ++ rest) ≡ None
@@ -50,24 +71,7 @@ module _ (size : ℕ) (inside : Inside) (reads : ReadsTight size 7 (primary_of i
       rw (reads.found a rest (from_fits 7 a fit.1) (omega (arith, small)) (omega (arith, end))) refl
   found w rest fit small end = plain_found w rest (omega (arith, fit.0), fit.1) small end
 
-  -- with or without a minus, what is read is a factor
-  by_minus : (w : Written) (ts rest : List Token) (after : Option (List Token)) → after_symbol symbols.Minus ts ≡ after → prefixed Negative (primary_of inside) ts after ≡ Some (w, rest) → Fits 6 w × (ts ≡ spelled w ++ rest)
-  by_minus w ts rest None there e =
-      let o = reads.only w ts rest e in
-      ((omega (arith, o.0.0), o.0.1), o.1)
-  by_minus w ts rest (Some us) there e =
-      let takes = symbol_takes symbols.Minus in
-      let b = bind_some (primary_of inside us) (λ r. Some (Negative r.0, r.1)) (w, rest) e in
-      let o = reads.only b.0.0 us b.0.1 b.1 in
-      let p = some_pair_parts (Negative b.0.0) w b.0.1 rest b.2 in
-      let whole : ts ≡ spelled (Negative b.0.0) ++ rest = takes.only ts us there ∙ ap (λ (vs : List Token). tokens.Symbol symbols.Minus ∷ vs) (o.1 ∙ ap (λ (vs : List Token). spelled b.0.0 ++ vs) p.1) in
-      subst (λ (x : Written). Fits 6 x × (ts ≡ spelled x ++ rest)) p.0 ((omega arith, to_fits 7 b.0.0 o.0), whole)
-
-  -- what is read is a factor
-  only : (w : Written) (ts rest : List Token) → factor_of inside ts ≡ Some (w, rest) → Fits 6 w × (ts ≡ spelled w ++ rest)
-  unfolding factor_of
-  only w ts rest e = by_minus w ts rest (after_symbol symbols.Minus ts) refl e
-
   -- factors are read exactly
   pub factor_reads : ReadsTight size 6 (factor_of inside)
-  factor_reads = record { found = found; only = only }
+  unfolding factor_of
+  factor_reads = prefixed_reads Negative (symbol_takes symbols.Minus) reads (λ w fit. (omega (arith, fit.0), fit.1)) (λ a fit. (omega arith, to_fits 7 a fit)) (λ a. refl) found

@@ -7,13 +7,13 @@ pub mod Exact
 pub mod Levels
 pub mod Lists
 pub mod Operators
-pub mod Parts
 pub mod PredicateReads
 pub mod Primaries
 pub mod Ranks
 pub mod Steps
 pub mod Sums
 pub mod Tails
+pub mod Terms
 pub mod Tight
 pub mod Turns
 pub mod ValueTests

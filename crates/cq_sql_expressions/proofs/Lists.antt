@@ -10,7 +10,7 @@ use Rattle.cq_sql_language.specs.Query.{AreJoinWords}
 use Rattle.cq_sql_expressions.specs.declared.leads.Lead.{Lead}
 use Rattle.cq_sql_expressions.specs.declared.leads.Lead.TheVariants as leads
 use Rattle.cq_sql_expressions.specs.Read.{Reader, followed_by}
-use Rattle.cq_sql_expressions.specs.Lists.{chain_from, after_lead, led, more_at, list_at}
+use Rattle.cq_sql_expressions.specs.Lists.{chain_from, after_lead, led, more_at, list_at, one_more_behind}
 use Rattle.cq_sql_expressions.proofs.Chains.{goes_on, breaks, stops, runs_out}
 use Rattle.cq_sql_expressions.proofs.Exact.{Reads, Leads, bind_some, word_leads, sign_leads, join_leads}
 use Rattle.cq_sql_expressions.proofs.Steps.{by_same}
@@ -61,7 +61,7 @@ module _ {A : Type 0} (lead : Lead) (Ends : List Token → Type 0) (Is : A → L
 
   -- further entries are found in as many turns as there are
   led_found : (n : ℕ) (earlier xs : List A) (ts rest : List Token) → length xs ≤ n → Each (IsLed lead Is) xs ts → EndsList lead Ends rest → chain_from (led lead item) n earlier (ts ++ rest) ≡ Some (earlier ++ xs, rest)
-  unfolding led
+  unfolding one_more_behind
   led_found n earlier [] ts rest le h end =
       let step : led lead item earlier rest ≡ None = rw end.1 refl in
       rw h (stops (led lead item) n earlier rest step ∙ ap (λ (xs : List A). Some (xs, rest)) (sym (append-nil earlier)))
@@ -87,7 +87,7 @@ module _ {A : Type 0} (lead : Lead) (Ends : List Token → Type 0) (Is : A → L
   -- an entry was read, and others behind it
   one_more : (n : ℕ) (earlier all : List A) (ts us rest : List Token) (read : Option (A × List Token)) → item us ≡ read → after_lead lead ts ≡ Some us → chain_from (led lead item) (suc n) earlier ts ≡ Some (all, rest)
       → ((ys : List A) (vs : List Token) → chain_from (led lead item) n ys vs ≡ Some (all, rest) → AreLed ys vs all rest) → AreLed earlier ts all rest
-  unfolding led
+  unfolding one_more_behind
   one_more n earlier all ts us rest None is there e again =
       let step : led lead item earlier ts ≡ Some None = rw (there, is) refl in
       let bad : ◌≡◌ {A = Option (List A × List Token)} None (Some (all, rest)) = sym (breaks (led lead item) n earlier ts step) ∙ e in
@@ -104,7 +104,7 @@ module _ {A : Type 0} (lead : Lead) (Ends : List Token → Type 0) (Is : A → L
   -- with or without a lead, entries behind their leads were read
   by_lead : (n : ℕ) (earlier all : List A) (ts rest : List Token) (after : Option (List Token)) → after_lead lead ts ≡ after → chain_from (led lead item) (suc n) earlier ts ≡ Some (all, rest)
       → ((ys : List A) (vs : List Token) → chain_from (led lead item) n ys vs ≡ Some (all, rest) → AreLed ys vs all rest) → AreLed earlier ts all rest
-  unfolding led
+  unfolding one_more_behind
   by_lead n earlier all ts rest None there e again =
       let step : led lead item earlier ts ≡ None = rw there refl in
       no_more earlier all ts rest (sym (stops (led lead item) (suc n) earlier ts step) ∙ e)

@@ -17,7 +17,7 @@ use Rattle.cq_sql_expressions.specs.declared.separators.Operator.{Operator}
 use Rattle.cq_sql_expressions.specs.declared.separators.Operator.TheVariants as operators
 use Rattle.cq_sql_expressions.specs.declared.separators.Separator.TheVariants as separators
 use Rattle.cq_sql_expressions.specs.Read.{◌>>=◌, Reader}
-use Rattle.cq_sql_expressions.specs.Lists.{chain_from}
+use Rattle.cq_sql_expressions.specs.Lists.{chain_from, one_more_behind}
 use Rattle.cq_sql_expressions.specs.Chains.{after_separator, sign_at, join, separated_part, more_parts, joined_at, signed_term, more_terms}
 use Rattle.cq_sql_expressions.specs.Expressions.{Inside, product_of, sum_of}
 use Rattle.cq_sql_expressions.proofs.Exact.{Takes, keyword_takes, symbol_takes}
@@ -53,7 +53,7 @@ separator_takes operators.Or = keyword_takes keywords.Or
 joined_turn : (operator : Operator) (part : Reader Written) (n : ℕ) (first : Written) (ws : List Written) (ts : List Token) (after : Option (List Token)) → after_separator (separators.Operator operator) ts ≡ after
     → ((vs : List Written) (us : List Token) → (chain_from (separated_part (separators.Operator operator) part) n vs us >>= λ r. Some (fold (join operator) first r.0, r.1)) ≡ chain_from (joined_part operator part) n (fold (join operator) first vs) us)
     → (chain_from (separated_part (separators.Operator operator) part) (suc n) ws ts >>= λ r. Some (fold (join operator) first r.0, r.1)) ≡ chain_from (joined_part operator part) (suc n) (fold (join operator) first ws) ts
-unfolding separated_part
+unfolding one_more_behind
 joined_turn operator part n first ws ts None there again =
     let collected : separated_part (separators.Operator operator) part ws ts ≡ None = rw there refl in
     let joined : joined_part operator part (fold (join operator) first ws) ts ≡ None = rw there refl in

@@ -17,7 +17,7 @@ use Rattle.cq_sql_expressions.specs.declared.separators.Separator.TheVariants as
 use Rattle.cq_sql_expressions.specs.declared.predicates.Test.{Test}
 use Rattle.cq_sql_expressions.specs.declared.predicates.Test.TheVariants as tests
 use Rattle.cq_sql_expressions.specs.Read.{◌>>=◌, Reader, after_symbol}
-use Rattle.cq_sql_expressions.specs.Lists.{chain_from}
+use Rattle.cq_sql_expressions.specs.Lists.{chain_from, one_more_behind}
 use Rattle.cq_sql_expressions.specs.Chains.{separated_part}
 use Rattle.cq_sql_expressions.specs.Predicates.{comparison_of, worded, test_at}
 use Rattle.cq_sql_expressions.proofs.Exact.{bind_some}
@@ -150,7 +150,7 @@ module _ (size : ℕ) (sum : Reader Written) (reads : ReadsTight size 4 sum) whe
   -- the entries behind another one are read, behind those that were read before
   pub more_found : (bs : Choices) (n : ℕ) (ws : List Written) (rest : List Token) → length (spelled_more bs) ≤ n → length (spelled_more bs) < size → are_in_order bs ≡ true → joint_in rest ≤ 4
       → after_symbol symbols.Comma rest ≡ None → chain_from (separated_part separators.Comma sum) n ws (spelled_more bs ++ rest) ≡ Some (ws ++ entries bs, rest)
-  unfolding separated_part
+  unfolding one_more_behind
   more_found NoChoice n ws rest le small order end none =
       let step : separated_part separators.Comma sum ws rest ≡ None = rw none refl in
       stops (separated_part separators.Comma sum) n ws rest step ∙ ap (λ (vs : List Written). Some (vs, rest)) (sym (append-nil ws))

@@ -14,7 +14,7 @@ use Rattle.cq_sql_expressions.specs.declared.separators.Operator.{Operator}
 use Rattle.cq_sql_expressions.specs.declared.separators.Operator.TheVariants as operators
 use Rattle.cq_sql_expressions.specs.declared.separators.Separator.{Separator}
 use Rattle.cq_sql_expressions.specs.declared.separators.Separator.TheVariants as separators
-use Rattle.cq_sql_expressions.specs.Lists.{chain_from}
+use Rattle.cq_sql_expressions.specs.Lists.{chain_from, one_more_behind}
 use Rattle.cq_sql_expressions.specs.Read.{◌>>=◌, Reader, done, followed_by, after_keyword, after_symbol}
 
 -- the tokens behind this separator, if it stands in front
@@ -43,8 +43,8 @@ enclosed (openings.Extract part) w = Extract part w
 enclosed (openings.Aggregate function) w = Aggregate function w
 
 -- one more part, where the separator stands in front of it
-unfoldable pub separated_part : Separator → Reader Written → List Written → List Token → Option (Option (List Written × List Token))
-separated_part separator part ws ts = option_map (λ us. part us >>= λ r. Some (ws ++ r.0 ∷ [], r.1)) (after_separator separator ts)
+abbrev pub separated_part : Separator → Reader Written → List Written → List Token → Option (Option (List Written × List Token))
+separated_part separator part = one_more_behind (after_separator separator) part
 
 -- takes the later parts of a chain, behind those that were read before
 unfoldable pub more_parts : Separator → Reader Written → List Written → Reader (List Written)

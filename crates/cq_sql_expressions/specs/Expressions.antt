@@ -116,6 +116,10 @@ readers (suc depth) = record { expression = expression_of (readers depth); sum =
 abbrev pub parts_in : ℕ → Separator → Reader Written
 parts_in depth separator = part_of (readers depth) separator
 
+-- takes the later parts of a chain, where at most this many pairs may open
+abbrev pub later_parts : ℕ → Separator → List Written → Reader (List Written)
+later_parts depth separator = more_parts separator (parts_in depth separator)
+
 -- takes an expression from the front, as much as makes one
 unfoldable pub expression_at : Reader Written
 expression_at ts = expression_of (readers (length ts)) ts

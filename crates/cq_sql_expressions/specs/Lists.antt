@@ -34,9 +34,13 @@ after_lead leads.Comma = after_symbol symbols.Comma
 after_lead leads.And = after_keyword keywords.And
 after_lead leads.Join = after_join
 
+-- one more entry, where what is taken by the first function stands in front of it
+unfoldable pub one_more_behind : {A : Type 0} → (List Token → Option (List Token)) → Reader A → List A → List Token → Option (Option (List A × List Token))
+one_more_behind after item xs ts = option_map (λ us. item us >>= λ r. Some (xs ++ r.0 ∷ [], r.1)) (after ts)
+
 -- one more entry, where its lead stands in front of it
-unfoldable pub led : {A : Type 0} → Lead → Reader A → List A → List Token → Option (Option (List A × List Token))
-led lead item xs ts = option_map (λ us. item us >>= λ r. Some (xs ++ r.0 ∷ [], r.1)) (after_lead lead ts)
+abbrev pub led : {A : Type 0} → Lead → Reader A → List A → List Token → Option (Option (List A × List Token))
+led lead item = one_more_behind (after_lead lead) item
 
 -- takes more entries, behind those that were read before
 unfoldable pub more_at : {A : Type 0} → Lead → Reader A → List A → Reader (List A)

@@ -2,9 +2,9 @@
 //!
 //! A chain is read by a loop, so that a long one takes no deep recursion; `depth` is how many pairs of parentheses may still open.
 ghost use Rattle.cq_sql_language.specs.Written.{written};
-ghost use Rattle.cq_sql_expressions.specs.Chains.{joined_at, more_parts, more_terms};
+ghost use Rattle.cq_sql_expressions.specs.Chains.{joined_at, more_terms};
 ghost use Rattle.cq_sql_expressions.specs.Trees.{GivesTree, GivesTrees, trees};
-ghost use Rattle.cq_sql_expressions.specs.Expressions.{between_of, choices_of, content_of, enclosed_choices, factor_of, negation_of, operand_of, part_of, parts_in, predicate_of, primary_of, product_of, readers, sum_of, tested};
+ghost use Rattle.cq_sql_expressions.specs.Expressions.{between_of, choices_of, content_of, enclosed_choices, factor_of, later_parts, negation_of, operand_of, part_of, predicate_of, primary_of, product_of, readers, sum_of, tested};
 
 use crate::atoms::{Opening, atom_at, opening_at, text_at};
 use crate::fault::SqlFault;
@@ -45,7 +45,7 @@ fn more_parts(
     before: Vec<ExprNode>,
     tokens: &[Token],
 ) -> Result<(Vec<ExprNode>, &[Token]), SqlFault>
-    ensures { GivesTrees result (more_parts separator (parts_in depth separator) (trees before) tokens.now) }
+    ensures { GivesTrees result (later_parts depth separator (trees before) tokens.now) }
 {
     let (mut parts, mut rest) = (before, tokens);
     for _ in 0..tokens.len() {
@@ -213,8 +213,7 @@ fn more_terms(
 ) -> Result<(ExprNode, &[Token]), SqlFault>
     ensures { GivesTree result (more_terms (product_of (readers depth)) (written first) tokens.now) }
 {
-    let (mut signs, mut terms) = (Vec::new(alloc), Vec::new(alloc));
-    let mut rest = tokens;
+    let (mut signs, mut terms, mut rest) = (Vec::new(alloc), Vec::new(alloc), tokens);
     for _ in 0..tokens.len() {
         match sign_at(rest) {
             Some((sign, after)) => {

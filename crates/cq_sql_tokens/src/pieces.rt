@@ -3,12 +3,10 @@
 //! [`split`] begins, and each `next` of [`Pieces`] cuts the piece at the front off; behind the last one it answers
 //! none. A piece is lent from the script: no byte is copied, and each is read once, as the piece is cut that it stands
 //! in.
-ghost use Rattle.std.specs.Prelude.{◌≡◌, ◌∷◌};
 ghost use Rattle.std.specs.Option.{option_map};
 ghost use Rattle.std.specs.Iterator.{YieldsFirstBy, item_count};
 ghost use Rattle.cq_sql_language.specs.Pieces.{HasPieces};
-ghost use Rattle.cq_sql_tokens.specs.Cutting.{pieces_of, pieces_left};
-ghost use Rattle.cq_sql_tokens.specs.Piece.{piece_of};
+ghost use Rattle.cq_sql_tokens.specs.Piece.{BeginsWith, piece_of};
 
 use crate::cutting::first_cut;
 use std::marker::Model;
@@ -62,7 +60,7 @@ impl<'a> Iterator for Pieces<'a> {
 }
 
 fn first_piece(text: &str) -> (Piece<'_>, Option<&str>)
-    ensures { pieces_of text.now ≡ piece_of result.0 ∷ pieces_left (option_map (λ rest. rest.now) result.1) }
+    ensures { BeginsWith text.now result.0 (option_map (λ rest. rest.now) result.1) }
 {
     let cut = first_cut(text.as_bytes());
     if cut.end < text.len() {

@@ -76,31 +76,22 @@ pub fn tokens(alloc: Global, text: &str) -> Result<Seq<Token>, TokenFault>
     let mut rest = text;
     while !rest.is_empty() {
         if let Some((number, after)) = small_number_at(rest) {
-            match lone_sign_at(after) {
-                Some((Symbol::Comma, behind)) => {
-                    tokens.push(Token::Number(u128::from(number)))?;
-                    tokens.push(Token::Symbol(Symbol::Comma))?;
-                    rest = behind;
-                }
-                _ => {
-                    tokens.push(Token::Number(u128::from(number)))?;
-                    rest = after;
-                }
+            tokens.push(Token::Number(u128::from(number)))?;
+            rest = after;
+            if let Some((symbol, behind)) = lone_sign_at(after) {
+                tokens.push(Token::Symbol(symbol))?;
+                rest = behind;
             }
-            continue;
-        }
-        if let Some((symbol, after)) = lone_sign_at(rest) {
+        } else if let Some((symbol, after)) = lone_sign_at(rest) {
             tokens.push(Token::Symbol(symbol))?;
             rest = after;
-            continue;
-        }
-        if let Some(after) = gap_at(rest) {
+        } else if let Some(after) = gap_at(rest) {
             rest = after;
-            continue;
+        } else {
+            let (token, after) = token_at(alloc, rest)?;
+            tokens.push(token)?;
+            rest = after;
         }
-        let (token, after) = token_at(alloc, rest)?;
-        tokens.push(token)?;
-        rest = after;
     }
     Ok(tokens)
 }

@@ -1,133 +1,77 @@
 -- Segments that are built of rows.
-use Rattle.std.proofs.Common.{◌≡◌, ℕ, zero, suc, ◌+◌, ◌-◌, ◌<◌, ◌≤◌, List, [], ◌∷◌, ◌++◌, map, take, drop, length, refl, sym, subst, ap, ap₂, ◌∙◌, arith}
-use Rattle.std.specs.Borrow.{Bor}
-use Rattle.std.specs.List.{AllByRecursion}
-use Rattle.std.specs.List.Sorted.{IsPermutation}
-use Rattle.std.proofs.lemmas.List.{append-nil, append_assoc, length-append, length-map, length-take, map-append}
-use Rattle.std.proofs.lemmas.List.Sorted.{length_permutation}
+use Rattle.std.proofs.Common.{◌≡◌, ℕ, ◌+◌, ◌-◌, ◌<◌, List, [], ◌∷◌, ◌++◌, map, take, drop, length, refl, sym, subst, ap, ◌∙◌, arith}
+use Rattle.std.specs.Prelude.{min}
+use Rattle.std.proofs.lemmas.List.{append_assoc, drop-drop, drop-map, length-drop, take-append-drop, take-map}
 use Rattle.cq_values.specs.Value.{Row}
 use Rattle.cq_model_bags.specs.Canonical.{bag_of}
 use Rattle.cq_model_bags.proofs.Canonicals.{bag_of-same, bag_of-weights, length-bag_of, times_in-append}
-use Rattle.cq_model_bags.proofs.Bags.{same-sym}
-use Rattle.cq_model_bags.proofs.Lists.{all-back, all-drop, all-front, all-push, all-take}
 use Rattle.cq_model_bags.proofs.Sorts.{SameBag-permutation}
-use Rattle.cq_model_bags.specs.Bag.{once_each}
-use Rattle.cq_segments.specs.Columns.{AreWide}
-use Rattle.cq_segments.specs.Marked.{MarkedRow, live, marked_count, unmarked}
+use Rattle.cq_segments.specs.Marked.{MarkedRow, live, marked_count}
 use Rattle.cq_segments.specs.Pieces.{joined}
 use Rattle.cq_segments.specs.Sorted.{IsBuilt}
-use Rattle.cq_vectors.specs.Gathered.{lent_rows}
-use Rattle.cq_table.specs.Changes.{AreBuilt, IsBuiltOf, IsNew}
-use Rattle.cq_table.proofs.Marking.{length-live, live-append, marked_count-append, marked_count-unmarked}
+use Rattle.cq_table.specs.Changes.{AreBuilt}
+use Rattle.cq_table.specs.Table.{SameRows}
+use Rattle.cq_segments.proofs.Marks.{count-append, count-unmarked, length-live, live-append}
 use Rattle.cq_table.proofs.Moved.{as_often}
-use Rattle.cq_table.proofs.Segmenting.{joined-append}
+use Rattle.cq_table.proofs.RowLists.{drop-least, take-least}
 
 -- bags of rows that are put together
 bag_both : (xs ys us vs : List Row) → bag_of xs ≡ bag_of us → bag_of ys ≡ bag_of vs → bag_of (xs ++ ys) ≡ bag_of (us ++ vs)
 bag_both xs ys us vs first second =
     bag_of-same (xs ++ ys) (us ++ vs) (λ r. omega (arith, times_in-append xs ys r, times_in-append us vs r, as_often xs us first r, as_often ys vs second r))
 
--- of no rows no segment is built
-pub built-none : (sort : List ℕ) → AreBuilt sort [] []
-built-none sort = record { each = tt; same = refl }
+module _ (sort : List ℕ) where
+  -- segments have the rows that they were built of
+  pub same-built : (rows : List Row) (made : List (List MarkedRow)) → AreBuilt sort rows made → SameRows (live (joined made)) rows
+  same-built rows [] none = ap bag_of (sym none)
+  same-built rows (segment ∷ made) built =
+      let first = take 65536 rows in
+      let rest = drop 65536 rows in
+      ap bag_of (live-append segment (joined made))
+      ∙ bag_both (live segment) (live (joined made)) first rest (bag_of-weights (live segment) first (SameBag-permutation first (live segment) built.1.same)) (same-built rest made built.2)
+      ∙ ap bag_of (take-append-drop 65536 rows)
 
--- and of more rows one more
-pub built-more : (sort : List ℕ) (xs ys : List Row) (made : List (List MarkedRow)) (segment : List MarkedRow) → AreBuilt sort xs made → IsBuiltOf sort ys segment → AreBuilt sort (xs ++ ys) (made ++ segment ∷ [])
-built-more sort xs ys made segment built of =
-    let both : live (joined (made ++ segment ∷ [])) ≡ live (joined made) ++ live segment =
-    ap live (joined-append made (segment ∷ []) ∙ ap (λ (rs : List MarkedRow). joined made ++ rs) (append-nil segment)) ∙ live-append (joined made) segment in
-    record {
-      each = all-push (IsNew sort) made segment built.each of.new;
-      same = ap bag_of both ∙ bag_both (live (joined made)) (live segment) xs ys built.same of.same;
-    }
+  -- none of these has a mark
+  pub new-clear : (rows : List Row) (made : List (List MarkedRow)) → AreBuilt sort rows made → marked_count (joined made) ≡ 0
+  new-clear rows [] none = refl
+  new-clear rows (segment ∷ made) built =
+      let none : marked_count segment ≡ 0 = ap marked_count built.1.none_marked ∙ count-unmarked (live segment) in
+      omega (arith, none, count-append segment (joined made), new-clear (drop 65536 rows) made built.2)
 
--- what a segment is that was built
-pub built-of : (sort : List ℕ) (rows given : List Row) (segment : List MarkedRow) → given ≡ rows → length rows ≤ 65536 → IsBuilt given sort segment → IsBuiltOf sort rows segment
-built-of sort rows given segment same few built =
-    let order = subst (λ (rs : List Row). IsPermutation rs (live segment)) same built.same in
-    let long : length segment ≡ length (live segment) = ap length built.none_marked ∙ length-map (live segment) _ in
-    record {
-      new = record { none_marked = built.none_marked; sorted = built.sorted; few = omega (arith, few, long, length_permutation rows (live segment) order) };
-      same = bag_of-weights (live segment) rows (SameBag-permutation rows (live segment) order);
-    }
+  -- they are as many
+  pub length-built : (rows : List Row) (made : List (List MarkedRow)) → AreBuilt sort rows made → length (joined made) ≡ length rows
+  length-built rows made built =
+      omega (
+        arith,
+        new-clear rows made built,
+        length-live (joined made),
+        length-bag_of (live (joined made)),
+        ap length (same-built rows made built),
+        length-bag_of rows,
+      )
 
--- no row of new segments has a mark
-pub new-clear : (sort : List ℕ) (made : List (List MarkedRow)) → AllByRecursion (IsNew sort) made → marked_count (joined made) ≡ 0
-new-clear sort [] each = refl
-new-clear sort (segment ∷ made) each =
-    let none : marked_count segment ≡ 0 = ap marked_count each.0.none_marked ∙ marked_count-unmarked (live segment) in
-    omega (arith, none, marked_count-append segment (joined made), new-clear sort made each.1)
+  -- with segments of the rows that are left, those so far are built of all
+  abbrev pub BuiltWith : List Row → List Row → List (List MarkedRow) → Type 0
+  BuiltWith all left made = (next : List (List MarkedRow)) → AreBuilt sort left next → AreBuilt sort all (made ++ next)
 
--- they have as many rows as they were built of
-pub length-built : (sort : List ℕ) (rows : List Row) (made : List (List MarkedRow)) → AreBuilt sort rows made → length (joined made) ≡ length rows
-length-built sort rows made built =
-    omega (
-      arith,
-      new-clear sort made built.each,
-      length-live (joined made),
-      length-bag_of (live (joined made)),
-      ap length built.same,
-      length-bag_of rows,
-    )
+  -- and so they are with one segment more
+  pub built-more : (all left part rest : List Row) (made : List (List MarkedRow)) (segment : List MarkedRow) → 0 < length left → part ≡ take 65536 left → rest ≡ drop 65536 left
+      → IsBuilt part sort segment → BuiltWith all left made → BuiltWith all rest (made ++ segment ∷ [])
+  built-more all left part rest made segment some is_part is_rest one so_far next built =
+      subst (AreBuilt sort all) (sym (append_assoc made (segment ∷ []) next))
+      (so_far (segment ∷ next) (some, subst (λ (rows : List Row). IsBuilt rows sort segment) is_part one, subst (λ (rows : List Row). AreBuilt sort rows next) is_rest built))
 
-take-none : {X : Type 0} (n : ℕ) → take {A = X} n [] ≡ []
-take-none zero = refl
-take-none (suc n) = refl
+-- ---- The next rows
+module _ {X : Type 0} (f : X → Row) (xs : List X) (from n : ℕ) (least : n ≡ min (length xs - from) 65536) where
+  many : n ≡ min (length (drop from xs)) 65536
+  many = omega (arith, least, length-drop from xs)
 
--- the first rows, and some more
-take-part : {X : Type 0} (k n : ℕ) (xs : List X) → take (k + n) xs ≡ take k xs ++ take n (drop k xs)
-take-part zero n xs =
-    let same : 0 + n ≡ n = omega arith in
-    ap (λ (m : ℕ). take m xs) same
-take-part (suc k) n [] = take-none (suc k + n) ∙ sym (take-none n)
-take-part (suc k) n (x ∷ xs) =
-    let one : suc k + n ≡ suc (k + n) = omega arith in
-    ap (λ (m : ℕ). take m (x ∷ xs)) one ∙ ap (λ ys. x ∷ ys) (take-part k n xs)
+  -- those of the next segment are the first of those that are left
+  pub next-part : map f (take (from + n - from) (drop from xs)) ≡ take 65536 (map f (drop from xs))
+  next-part =
+      let same : from + n - from ≡ n = omega arith in
+      ap (λ (k : ℕ). map f (take k (drop from xs))) same ∙ ap (map f) (take-least 65536 (drop from xs) n many) ∙ sym (take-map f 65536 (drop from xs))
 
-module _ (rows : List (Bor Row)) (from n end : ℕ) (is_end : end ≡ from + n) where
-  -- the rows up to the end are those so far and the next ones
-  pub lent-part : lent_rows (take end rows) ≡ lent_rows (take from rows) ++ lent_rows (take (end - from) (drop from rows))
-  lent-part =
-      let same : end - from ≡ n = omega (arith, is_end) in
-      ap lent_rows (ap (λ (m : ℕ). take m rows) is_end ∙ take-part from n rows) ∙ map-append (λ (row : Bor Row). row.now) (take from rows) (take n (drop from rows))
-      ∙ ap (λ (m : ℕ). lent_rows (take from rows) ++ lent_rows (take m (drop from rows))) (sym same)
-
--- and no more than these
-pub few-part : (rows : List (Bor Row)) (from n end : ℕ) → end ≡ from + n → n ≤ 65536 → length (lent_rows (take (end - from) (drop from rows))) ≤ 65536
-few-part rows from n end is_end small =
-    omega (arith, small, is_end, length-map (take (end - from) (drop from rows)) (λ (row : Bor Row). row.now), length-take (end - from) (drop from rows))
-
-of_lent : (width : ℕ) (rows : List (Bor Row)) → AreWide width (lent_rows rows) → AllByRecursion (λ (row : Bor Row). length row.now ≡ width) rows
-of_lent width [] wide = tt
-of_lent width (row ∷ rows) wide = (wide.0, of_lent width rows wide.1)
-
-to_lent : (width : ℕ) (rows : List (Bor Row)) → AllByRecursion (λ (row : Bor Row). length row.now ≡ width) rows → AreWide width (lent_rows rows)
-to_lent width [] wide = tt
-to_lent width (row ∷ rows) wide = (wide.0, to_lent width rows wide.1)
-
--- parts of wide rows are as wide
-pub wide-part : (width n k : ℕ) (rows : List (Bor Row)) → AreWide width (lent_rows rows) → AreWide width (lent_rows (take n (drop k rows)))
-wide-part width n k rows wide =
-    to_lent width (take n (drop k rows))
-    (all-take (λ (row : Bor Row). length row.now ≡ width) n (drop k rows) (all-drop (λ (row : Bor Row). length row.now ≡ width) k rows (of_lent width rows wide)))
-
--- a list without length
-pub no-items : {X : Type 0} (xs : List X) → length xs ≡ 0 → xs ≡ []
-no-items [] none = refl
-no-items (x ∷ xs) none = absurd (omega (arith, none))
-
--- ---- Rows that wait for a segment
-module _ (sort : List ℕ) (width : ℕ) (all done waiting next left : List Row) (made : List (List MarkedRow)) (parts : done ++ (waiting ++ (next ++ left)) ≡ all) where
-  -- more rows wait
-  pub more-wait : done ++ ((waiting ++ next) ++ left) ≡ all
-  more-wait = ap (λ (rs : List Row). done ++ rs) (append_assoc waiting next left) ∙ parts
-
-  -- those that wait are as wide as all
-  pub wide-wait : AreWide width all → AreWide width (waiting ++ next)
-  wide-wait wide =
-      let behind = all-back (λ row. length row ≡ width) done ((waiting ++ next) ++ left) (subst (AreWide width) (sym more-wait) wide) in
-      all-front (λ row. length row ≡ width) (waiting ++ next) left behind
-
-  -- and are no longer waiting once a segment is built of them
-  pub none-wait : (done ++ (waiting ++ next)) ++ ([] ++ left) ≡ all
-  none-wait = append_assoc done (waiting ++ next) left ∙ more-wait
+  -- and the others are left behind it
+  pub next-rest : map f (drop (from + n) xs) ≡ drop 65536 (map f (drop from xs))
+  next-rest = ap (map f) (sym (drop-drop n from xs) ∙ drop-least 65536 (drop from xs) n many) ∙ sym (drop-map f 65536 (drop from xs))

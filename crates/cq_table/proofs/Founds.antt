@@ -10,12 +10,12 @@ use Rattle.cq_values.specs.Value.{Row}
 use Rattle.cq_operators_scans.specs.Kept.{places_where}
 use Rattle.cq_segments.specs.Marked.{MarkedRow, live, live_from, rows_of, with_mark, with_marks}
 use Rattle.cq_table.specs.Found.{AreLiveAt, AreThere, found_rows, is_live_at, passes}
-use Rattle.cq_segments.proofs.Marks.{rows_of-mark}
-use Rattle.cq_segments.specs.Places.{AreBelow, rows_at}
+use Rattle.cq_segments.proofs.Marks.{length-mark, live-unmarked, mark-behind, rows_of-mark}
+use Rattle.cq_encodings_vectors.specs.Places.{AreBelow, rows_at}
 use Rattle.cq_table_columns.specs.declared.front.Front.{Front}
 use Rattle.cq_table_columns.specs.declared.front.Front.TheVariants as fronts
 use Rattle.cq_table_columns.specs.Stored.{front_rows, marked_rows}
-use Rattle.cq_table.proofs.Marking.{all_live-with_mark, length-with_mark, live-unmarked, live_at-behind, live_at_within, with_mark-behind}
+use Rattle.cq_table.proofs.Marking.{all_live-with_mark, live_at-behind, live_at_within}
 
 -- the places in a list and in the one behind it
 pub places-append : {X : Type 0} (test : X → Bool) (n : ℕ) (xs ys : List X) → places_where n test (xs ++ ys) ≡ places_where n test xs ++ places_where (n + length xs) test ys
@@ -41,7 +41,7 @@ longer n front m long = omega (arith, long, length-append front (m ∷ []))
 one_marked : (n : ℕ) (front : List MarkedRow) (m : MarkedRow) (stored : List MarkedRow) → length front ≡ n → with_mark n (front ++ m ∷ stored) ≡ (front ++ deleted m ∷ []) ++ stored
 one_marked n front m stored long =
     let at : n ≡ length front + 0 = omega (arith, long) in
-    ap (λ (k : ℕ). with_mark k (front ++ m ∷ stored)) at ∙ with_mark-behind 0 front (m ∷ stored) ∙ sym (append_assoc front (deleted m ∷ []) stored)
+    ap (λ (k : ℕ). with_mark k (front ++ m ∷ stored)) at ∙ mark-behind front (m ∷ stored) 0 ∙ sym (append_assoc front (deleted m ∷ []) stored)
 
 module _ (keep : Row → Bool) where
   -- there are as many places as live rows that pass
@@ -224,7 +224,7 @@ pub live_there : (places : List ℕ) (stored : List MarkedRow) → AreLiveAt pla
 live_there [] stored live = tt
 live_there (place ∷ places) stored live = (
   live_at_within place stored live.0,
-  subst (λ (n : ℕ). AllByRecursion (λ p. p < n) places) (length-with_mark place stored) (live_there places (with_mark place stored) live.1),
+  subst (λ (n : ℕ). AllByRecursion (λ p. p < n) places) (length-mark stored place) (live_there places (with_mark place stored) live.1),
 )
 
 -- what holds of the live rows holds of those at places of live rows

@@ -3,7 +3,6 @@ pub mod Bagged
 pub mod Marking
 pub mod Founds
 pub mod Segmenting
-pub mod Writes
 pub mod Moved
 pub mod Built
 pub mod Tables

@@ -1,61 +1,22 @@
 -- What a mark does to the live rows.
 use Rattle.std.proofs.Common.{◌≡◌, ℕ, zero, suc, ◌+◌, ◌<◌, ◌≤◌, Bool, true, false, not, cond, List, [], ◌∷◌, ◌++◌, map, filter, length, refl, sym, subst, ap, ap₂, ◌∙◌, arith}
 use Rattle.std.specs.List.{AllByRecursion}
+use Rattle.std.proofs.lemmas.List.{length-map}
 use Rattle.cq_model_bags.proofs.Totals.{by_test}
 use Rattle.cq_values.specs.Value.{Row}
-use Rattle.cq_segments.specs.Marked.{MarkedRow, live, unmarked, with_mark, with_marks, marked_count}
-use Rattle.cq_table.specs.Found.{AreLiveAt, is_live_at}
+use Rattle.cq_segments.specs.Marked.{MarkedRow, live, rows_of, unmarked, with_mark, with_marks, marked_count}
+use Rattle.cq_segments.proofs.Marks.{length-mark, mark-in-front, rows_of-mark}
+use Rattle.cq_encodings_vectors.specs.Places.{AreBelow}
+use Rattle.cq_table.specs.Found.{AreLiveAt, AreThere, is_live_at}
 
--- the live rows of lists are those of each
-pub live-append : (xs ys : List MarkedRow) → live (xs ++ ys) ≡ live xs ++ live ys
-live-append [] ys = refl
-live-append (x ∷ xs) ys =
-    by_test x.marked (λ k. rw k (live-append xs ys)) (λ k. rw k (ap (λ (rs : List Row). x.row ∷ rs) (live-append xs ys)))
+-- rows without marks are as many
+pub length-unmarked : (rows : List Row) → length (unmarked rows) ≡ length rows
+length-unmarked rows = length-map rows _
 
--- all of the rows without marks are live
-pub live-unmarked : (rows : List Row) → live (unmarked rows) ≡ rows
-live-unmarked [] = refl
-live-unmarked (row ∷ rows) = ap (λ (rs : List Row). row ∷ rs) (live-unmarked rows)
-
--- and none of them has a mark
-pub marked_count-unmarked : (rows : List Row) → marked_count (unmarked rows) ≡ 0
-marked_count-unmarked [] = refl
-marked_count-unmarked (row ∷ rows) = omega (arith, marked_count-unmarked rows)
-
--- the marks of lists are those of each
-pub marked_count-append : (xs ys : List MarkedRow) → marked_count (xs ++ ys) ≡ marked_count xs + marked_count ys
-marked_count-append [] ys = omega arith
-marked_count-append (x ∷ xs) ys = omega (arith, marked_count-append xs ys)
-
--- each row is live or has a mark
-pub length-live : (rows : List MarkedRow) → length (live rows) + marked_count rows ≡ length rows
-length-live [] = refl
-length-live (r ∷ rows) =
-    let rest = length-live rows in
-    by_test r.marked (λ k. rw k (omega (arith, rest))) (λ k. rw k (omega (arith, rest)))
-
--- a mark leaves as many rows
-pub length-with_mark : (place : ℕ) (rows : List MarkedRow) → length (with_mark place rows) ≡ length rows
-length-with_mark place [] = refl
-length-with_mark zero (r ∷ rows) = refl
-length-with_mark (suc place) (r ∷ rows) = ap suc (length-with_mark place rows)
-
+-- marks leave as many rows
 pub length-with_marks : (places : List ℕ) (rows : List MarkedRow) → length (with_marks places rows) ≡ length rows
 length-with_marks [] rows = refl
-length-with_marks (place ∷ places) rows = length-with_marks places (with_mark place rows) ∙ length-with_mark place rows
-
--- a mark in front of other rows
-pub with_mark-front : (place : ℕ) (xs ys : List MarkedRow) → place < length xs → with_mark place (xs ++ ys) ≡ with_mark place xs ++ ys
-with_mark-front place [] ys lt = absurd (omega (arith, lt))
-with_mark-front zero (x ∷ xs) ys lt = refl
-with_mark-front (suc place) (x ∷ xs) ys lt = ap (λ (rs : List MarkedRow). x ∷ rs) (with_mark-front place xs ys (omega (arith, lt)))
-
--- and behind them
-pub with_mark-behind : (place : ℕ) (xs ys : List MarkedRow) → with_mark (length xs + place) (xs ++ ys) ≡ xs ++ with_mark place ys
-with_mark-behind place [] ys = ap (λ (k : ℕ). with_mark k ys) (omega arith)
-with_mark-behind place (x ∷ xs) ys =
-    let one : length (x ∷ xs) + place ≡ suc (length xs + place) = omega arith in
-    ap (λ (k : ℕ). with_mark k (x ∷ xs ++ ys)) one ∙ ap (λ (rs : List MarkedRow). x ∷ rs) (with_mark-behind place xs ys)
+length-with_marks (place ∷ places) rows = length-with_marks places (with_mark place rows) ∙ length-mark rows place
 
 -- whether a row behind others is live
 pub live_at-behind : (place : ℕ) (xs ys : List MarkedRow) → is_live_at (length xs + place) (xs ++ ys) ≡ is_live_at place ys
@@ -110,3 +71,15 @@ all_live-with_mark P (suc place) (r ∷ rows) all =
 pub all_live-with_marks : (P : Row → Type 0) (places : List ℕ) (rows : List MarkedRow) → AllByRecursion P (live rows) → AllByRecursion P (live (with_marks places rows))
 all_live-with_marks P [] rows all = all
 all_live-with_marks P (place ∷ places) rows all = all_live-with_marks P places (with_mark place rows) (all_live-with_mark P place rows all)
+
+-- and the rows themselves stay
+pub rows_of-marks : (places : List ℕ) (rows : List MarkedRow) → rows_of (with_marks places rows) ≡ rows_of rows
+rows_of-marks [] rows = refl
+rows_of-marks (place ∷ places) rows = rows_of-marks places (with_mark place rows) ∙ rows_of-mark rows place
+
+-- marks on rows in front of others
+pub with_marks-front : (places : List ℕ) (xs ys : List MarkedRow) → AreThere places xs → with_marks places (xs ++ ys) ≡ with_marks places xs ++ ys
+with_marks-front [] xs ys there = refl
+with_marks-front (place ∷ places) xs ys there =
+    ap (with_marks places) (mark-in-front xs ys place there.0)
+    ∙ with_marks-front places (with_mark place xs) ys (subst (λ (n : ℕ). AreBelow n places) (sym (length-mark xs place)) there.1)

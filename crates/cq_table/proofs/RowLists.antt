@@ -1,6 +1,8 @@
 -- Lists of rows: what all of them have, in any order.
-use Rattle.std.proofs.Common.{◌≡◌, Bool, List, [], ◌∷◌, sym, subst, Ordering}
-use Rattle.std.specs.Prelude.{filter}
+use Rattle.std.proofs.Common.{◌≡◌, ℕ, ◌<◌, ◌≤◌, Bool, List, [], ◌∷◌, take, drop, length, sym, subst, ap, ◌∙◌, arith, Ordering}
+use Rattle.std.specs.Prelude.{filter, min, nat_lt}
+use Rattle.std.proofs.lemmas.Bool.{ltb-false, ltb-true}
+use Rattle.std.proofs.lemmas.List.{drop_all, take_all}
 use Rattle.std.specs.List.{AllByRecursion}
 use Rattle.std.specs.Ordering.{is_gt}
 use Rattle.cq_values.specs.Order.{row_cmp}
@@ -43,3 +45,22 @@ module _ (keep : Row → Bool) (rows gone : List Row) (chosen : bag_of gone ≡ 
 pub turned : {X Y : Type 0} (P : X → Y → Type 0) (xs : List X) (ys : List Y) → AllByRecursion (λ x. AllByRecursion (P x) ys) xs → AllByRecursion (λ y. AllByRecursion (λ x. P x y) xs) ys
 turned P [] ys h = all-of (λ y. Unit {0}) (λ y. tt) ys
 turned P (x ∷ xs) ys h = all-both (P x) (λ y. AllByRecursion (λ z. P z y) xs) (λ y. P x y × AllByRecursion (λ z. P z y) xs) (λ y p q. (p, q)) ys h.0 (turned P xs ys h.1)
+
+-- ---- The first of a list
+-- so many, or all
+least : {P : Type 0} (n m : ℕ) → (min n m ≡ n → P) → (min n m ≡ m → m ≤ n → P) → P
+least n m few all = by_test (nat_lt n m)
+    (λ k. let lt : n < m = ltb-true n m k in few (omega (arith, lt)))
+    (λ k. let le : m ≤ n = ltb-false n m k in all (omega (arith, le)) le)
+
+-- so many items, or all where they are fewer
+pub take-least : {X : Type 0} (n : ℕ) (xs : List X) (k : ℕ) → k ≡ min (length xs) n → take k xs ≡ take n xs
+take-least n xs k is = least n (length xs)
+    (λ few. let same : k ≡ n = omega (arith, is, few) in ap (λ (m : ℕ). take m xs) same)
+    (λ all le. let same : k ≡ length xs = omega (arith, is, all) in ap (λ (m : ℕ). take m xs) same ∙ take_all (length xs) xs (omega arith) ∙ sym (take_all n xs le))
+
+-- and those behind them
+pub drop-least : {X : Type 0} (n : ℕ) (xs : List X) (k : ℕ) → k ≡ min (length xs) n → drop k xs ≡ drop n xs
+drop-least n xs k is = least n (length xs)
+    (λ few. let same : k ≡ n = omega (arith, is, few) in ap (λ (m : ℕ). drop m xs) same)
+    (λ all le. let same : k ≡ length xs = omega (arith, is, all) in ap (λ (m : ℕ). drop m xs) same ∙ drop_all (length xs) xs (omega arith) ∙ sym (drop_all n xs le))

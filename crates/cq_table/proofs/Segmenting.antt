@@ -6,7 +6,7 @@ use Rattle.cq_segments.specs.Marked.{MarkedRow, marked_count, rows_of, with_mark
 use Rattle.cq_segments.specs.Pieces.{joined}
 use Rattle.cq_table.specs.Reached.{HasReached, IsReached}
 use Rattle.cq_table.specs.declared.placing.Reached.{Reached}
-use Rattle.cq_table.proofs.Marking.{length-live, length-with_mark, marked_count-append, with_mark-behind, with_mark-front}
+use Rattle.cq_segments.proofs.Marks.{count-append, length-live, length-mark, mark-behind, mark-in-front}
 
 -- lists behind others
 pub joined-append : {X : Type 0} (xs ys : List (List X)) → joined (xs ++ ys) ≡ joined xs ++ joined ys
@@ -34,7 +34,7 @@ module _ (lists : List (List MarkedRow)) (i : ℕ) (list : List MarkedRow) (more
   long-within = omega (arith, long-next, joined-front (i + 1) lists)
 
   pub counted-next : marked_count (joined (take (i + 1) lists)) ≡ marked_count (joined (take i lists)) + marked_count list
-  counted-next = ap marked_count next ∙ marked_count-append (joined (take i lists)) list
+  counted-next = ap marked_count next ∙ count-append (joined (take i lists)) list
 
   pub counted-within : marked_count (joined (take i lists)) + marked_count list ≤ length (joined lists)
   counted-within = omega (arith, counted-next, long-next, joined-front (i + 1) lists, length-live (joined (take (i + 1) lists)))
@@ -74,12 +74,12 @@ joined-mark : (lists : List (List MarkedRow)) (at place : ℕ) → at < length l
     → joined (slice_set lists at (with_mark place (get_or lists at []))) ≡ with_mark (length (joined (take at lists)) + place) (joined lists)
 joined-mark [] at place there within = absurd (omega (arith, there))
 joined-mark (list ∷ lists) zero place there within =
-    sym (ap (λ (k : ℕ). with_mark k (list ++ joined lists)) (omega arith) ∙ with_mark-front place list (joined lists) within)
+    sym (ap (λ (k : ℕ). with_mark k (list ++ joined lists)) (omega arith) ∙ mark-in-front list (joined lists) place within)
 joined-mark (list ∷ lists) (suc at) place there within =
     let rest = joined-mark lists at place (omega (arith, there)) within in
     let far : length (joined (take (suc at) (list ∷ lists))) + place ≡ length list + (length (joined (take at lists)) + place) = omega (arith, length-append list (joined (take at lists))) in
     ap (λ (rs : List MarkedRow). list ++ rs) rest
-    ∙ sym (ap (λ (k : ℕ). with_mark k (list ++ joined lists)) far ∙ with_mark-behind (length (joined (take at lists)) + place) list (joined lists))
+    ∙ sym (ap (λ (k : ℕ). with_mark k (list ++ joined lists)) far ∙ mark-behind list (joined lists) (length (joined (take at lists)) + place))
 
 -- a mark leaves each list as long
 pub lengths-mark : (lists : List (List MarkedRow)) (at : ℕ) (list : List MarkedRow) → at < length lists → length list ≡ length (get_or lists at []) → map length (slice_set lists at list) ≡ map length lists
@@ -107,7 +107,7 @@ module _ (lists : List (List MarkedRow)) (written : List MarkedRow) (reached : R
     marked-in list marked =
         let at = place - reached.before in
         let one = ap (λ l. joined (slice_set lists reached.segment l)) marked ∙ joined-mark lists reached.segment at there (has.inside there) ∙ ap (λ (k : ℕ). with_mark k (joined lists)) (sym own) in
-        ap (λ rs. rs ++ written) one ∙ sym (with_mark-front place (joined lists) written within)
+        ap (λ rs. rs ++ written) one ∙ sym (mark-in-front (joined lists) written place within)
 
     -- the row in a segment is the row at the place
     pub row-in : (list : List MarkedRow) → list ≡ get_or lists reached.segment list → get_or (rows_of list) (place - reached.before) [] ≡ get_or (rows_of (joined lists ++ written)) place []
@@ -127,7 +127,7 @@ module _ (lists : List (List MarkedRow)) (written : List MarkedRow) (reached : R
 
     -- and so it is in the write store
     pub marked-written : joined lists ++ with_mark (place - reached.before) written ≡ with_mark place (joined lists ++ written)
-    marked-written = sym (ap (λ (k : ℕ). with_mark k (joined lists ++ written)) all ∙ with_mark-behind (place - reached.before) (joined lists) written)
+    marked-written = sym (ap (λ (k : ℕ). with_mark k (joined lists ++ written)) all ∙ mark-behind (joined lists) written (place - reached.before))
 
     pub row-written : get_or (rows_of written) (place - reached.before) [] ≡ get_or (rows_of (joined lists ++ written)) place []
     row-written = sym (ap (λ (k : ℕ). get_or (rows_of (joined lists ++ written)) k []) all ∙ row-behind (place - reached.before) (joined lists) written)

@@ -9,6 +9,7 @@ use Rattle.cq_values.specs.declared.value.Value.TheVariants.{Null}
 use Rattle.cq_values.specs.Value.{Row, column}
 use Rattle.cq_model_bags.proofs.Totals.{by_test}
 use Rattle.cq_model.specs.declared.assignment.Assignment.{Assignment}
+use Rattle.cq_model.specs.Expr.{Expr}
 use Rattle.cq_model.specs.Eval.{eval}
 use Rattle.cq_model.specs.Write.{with_set}
 
@@ -67,3 +68,7 @@ pub any_at : {X : Type 0} (p : X → Bool) (xs : List X) (i : ℕ) (x : X) → i
 any_at p [] i x h is hit = absurd (omega (arith, h))
 any_at p (y ∷ xs) zero x h is hit = rw (ap p (sym is) ∙ hit) refl
 any_at p (y ∷ xs) (suc i) x h is hit = by_test (p y) (λ k. rw k refl) (λ k. rw k (any_at p xs i x (omega (arith, h)) is hit))
+
+-- and what is among the values of an expression in rows
+pub any_value : (p : Value → Bool) (e : Expr) (rows : List Row) (i : ℕ) (row : Row) → i < length rows → row ≡ get_or rows i row → (v : Value) → v ≡ eval e row → true ≡ p v → true ≡ list_any (λ r. p (eval e r)) rows
+any_value p e rows i row h is v value hit = sym (any_at (λ r. p (eval e r)) rows i row h is (sym (hit ∙ ap p value)))

@@ -1,9 +1,10 @@
 -- Tables as their rows are stored: what writes, moves and merges leave of them.
 use Rattle.std.proofs.Common.{◌≡◌, ℕ, zero, suc, ◌+◌, ◌-◌, ◌<◌, ◌≤◌, ◌^◌, Bool, not, List, [], ◌∷◌, ◌++◌, map, take, drop, length, refl, sym, subst, ap, ap₂, ◌∙◌, arith}
 use Rattle.std.specs.Prelude.{None, Option, filter, min, nat_lt}
+use Rattle.std.proofs.Math.Seq.{drop-append_seam}
 use Rattle.std.specs.List.{AllByRecursion}
-use Rattle.std.proofs.lemmas.Bool.{ltb-false, ltb-true}
-use Rattle.std.proofs.lemmas.List.{append-nil, append_assoc, drop_all, length-append, length-drop, take-append-drop, take_all}
+use Rattle.std.proofs.lemmas.Bool.{ltb-false}
+use Rattle.std.proofs.lemmas.List.{append-nil, append_assoc, drop-map, length-append, length-drop, length-take, take-append-drop, take_all}
 use Rattle.cq_values.specs.Value.{Row}
 use Rattle.cq_values.specs.declared.column.ColumnDef.{ColumnDef}
 use Rattle.cq_model.specs.Expr.{Cond}
@@ -11,23 +12,24 @@ use Rattle.cq_model.specs.Meaning.{keeps}
 use Rattle.cq_model.specs.Write.{chosen, left_by}
 use Rattle.cq_model_bags.specs.Canonical.{bag_of}
 use Rattle.cq_model_bags.proofs.Canonicals.{length-bag_of}
-use Rattle.cq_model_bags.proofs.Lists.{all-append, all-back, all-front}
+use Rattle.cq_model_bags.proofs.Lists.{all-append, all-back, all-drop, all-front, all-weaker}
 use Rattle.cq_model_bags.proofs.Totals.{by_test}
 use Rattle.cq_model_state.specs.Fitting.{FitsColumns}
 use Rattle.cq_operators_scans.specs.Kept.{places_where}
 use Rattle.cq_segments.specs.Columns.{AreWide}
-use Rattle.cq_segments.specs.Marked.{MarkedRow, live, marked_count, unmarked, with_marks}
+use Rattle.cq_segments.specs.Marked.{MarkedRow, live, marked_count, rows_of, unmarked, with_marks}
 use Rattle.cq_segments.specs.Pieces.{joined}
-use Rattle.cq_table.specs.Changes.{AreBuilt, LeavesFound}
+use Rattle.cq_segments.proofs.Marks.{count-append, length-live, length-rows_of, live-append, live-unmarked, rows_of-append, rows_of-unmarked}
+use Rattle.cq_table.specs.Changes.{AreBuilt, Merges, MergesCounts, Moves, MovesCounts}
 use Rattle.cq_table.specs.Checks.{HasRoom, too_many}
-use Rattle.cq_table.specs.Found.{AreLiveAt, IsFound, found_rows, passes}
-use Rattle.cq_table.specs.Table.{AreSound, IsKept, SameRows, StoredTable, live_rows, stored_in, table_rows, with_stored}
+use Rattle.cq_table.specs.Found.{AreLiveAt, AreThere, IsFound, found_rows, passes}
+use Rattle.cq_table.specs.Table.{AreSound, IsKept, SameRows, StoredTable, live_rows, marked_len, stored_in, table_rows, with_stored, write_len}
 use Rattle.cq_table.proofs.Bagged.{bag_of_kept, bag_of_more, length-kept}
-use Rattle.cq_table.proofs.Built.{length-built, new-clear}
-use Rattle.cq_table.proofs.Founds.{found-places, length-places, live-marks}
-use Rattle.cq_table.proofs.Marking.{all_live-with_marks, length-live, live-append, live-unmarked, live_fewer, marked_count-append}
+use Rattle.cq_table.proofs.Built.{length-built, new-clear, same-built}
+use Rattle.cq_table.proofs.Founds.{found-places, length-places, live-marks, live_there}
+use Rattle.cq_table.proofs.Marking.{all_live-with_marks, live_fewer, rows_of-marks, with_marks-front}
 use Rattle.cq_table.proofs.Moved.{bag-merged, bag-moved}
-use Rattle.cq_table.proofs.RowLists.{all_of_bag, all_of_rows}
+use Rattle.cq_table.proofs.RowLists.{all_of_bag, all_of_rows, drop-least, take-least}
 use Rattle.cq_table.proofs.Segmenting.{joined-append, same-long}
 use Rattle.cq_table.proofs.Widths.{fitting_wide}
 
@@ -38,6 +40,10 @@ all-same P xs ys same all = all_of_rows P ys (subst (AllByRecursion P) (sym same
 -- there are as many
 long-same : (xs ys : List Row) → bag_of ys ≡ bag_of xs → length ys ≡ length xs
 long-same xs ys same = sym (length-bag_of ys) ∙ ap length same ∙ length-bag_of xs
+
+-- what stands behind lists of one length
+same-behind : (xs us ys vs : List Row) → length xs ≡ length us → xs ++ ys ≡ us ++ vs → ys ≡ vs
+same-behind xs us ys vs same is = sym (drop-append_seam xs ys) ∙ ap (drop (length xs)) is ∙ ap (λ (n : ℕ). drop n (us ++ vs)) same ∙ drop-append_seam us vs
 
 -- so many rows that are not too many
 pub few-enough : (most count : ℕ) → too_many most count ≡ None → count ≤ most
@@ -71,16 +77,21 @@ module _ (t : StoredTable) (condition : Option Cond) (places : List ℕ) (found 
       ∙ sym (bag_of_more (filter stay (table_rows t)) rows)
 
 -- ---- Tables that are changed
+-- the rows of the write store, with or without marks, and others that fit the columns have a value for each
+pub wide-with : (t : StoredTable) (count : ℕ) → IsKept t count → (rows : List Row) → AllByRecursion (FitsColumns t.columns) rows → AreWide (length t.columns) (rows_of t.written ++ rows)
+wide-with t count kept rows fitting = all-append (λ row. length row ≡ length t.columns) (rows_of t.written) rows kept.wide (fitting_wide t.columns rows fitting)
+
 module _ (t : StoredTable) (count : ℕ) (kept : IsKept t count) (segments : List (List MarkedRow)) (written : List MarkedRow) where
   -- with the same live rows
-  pub kept-same : bag_of (live (joined segments ++ written)) ≡ table_rows t → length (joined segments) < 2 ^ 63 → IsKept (with_stored segments written t) count
-  kept-same same few = record {
+  pub kept-same : bag_of (live (joined segments ++ written)) ≡ table_rows t → length (joined segments) < 2 ^ 63 → AreWide (length t.columns) (rows_of written) → IsKept (with_stored segments written t) count
+  kept-same same few wide = record {
     sound = record {
       fitting = all-same (FitsColumns t.columns) (live_rows t) (live (joined segments ++ written)) same kept.sound.fitting;
       limited = omega (arith, kept.sound.limited, long-same (live_rows t) (live (joined segments ++ written)) same);
     };
     counted = kept.counted ∙ sym (long-same (live_rows t) (live (joined segments ++ written)) same);
     few = few;
+    wide = wide;
   }
 
   module _ (places : List ℕ) (are : AreLiveAt places (stored_in t)) (rows : List Row) (fitting : AllByRecursion (FitsColumns t.columns) rows)
@@ -91,6 +102,16 @@ module _ (t : StoredTable) (count : ℕ) (kept : IsKept t count) (segments : Lis
     long_now : length (live (joined segments ++ written)) + length places ≡ length (live_rows t) + length rows
     long_now = omega (arith, ap length rows_now, length-append (live (with_marks places (stored_in t))) rows, live_fewer places (stored_in t) are)
 
+    -- behind the rows that the write store had, with a mark or without, stand the others
+    written_now : rows_of written ≡ rows_of t.written ++ rows
+    written_now =
+        let all : rows_of (joined segments) ++ rows_of written ≡ rows_of (joined t.segments) ++ (rows_of t.written ++ rows) =
+        sym (rows_of-append (joined segments) written) ∙ ap rows_of is ∙ rows_of-append (with_marks places (stored_in t)) (unmarked rows)
+        ∙ ap₂ (λ (xs ys : List Row). xs ++ ys) (rows_of-marks places (stored_in t) ∙ rows_of-append (joined t.segments) t.written) (rows_of-unmarked rows)
+        ∙ append_assoc (rows_of (joined t.segments)) (rows_of t.written) rows in
+        same-behind (rows_of (joined segments)) (rows_of (joined t.segments)) (rows_of written) (rows_of t.written ++ rows)
+        (length-rows_of (joined segments) ∙ same-long segments t.segments same ∙ sym (length-rows_of (joined t.segments))) all
+
     -- with marks, and no more rows than these were
     pub kept-exchanged : (left : ℕ) → left + length places ≡ count + length rows → length rows ≤ length places → IsKept (with_stored segments written t) left
     kept-exchanged left is_left fewer = record {
@@ -100,6 +121,7 @@ module _ (t : StoredTable) (count : ℕ) (kept : IsKept t count) (segments : Lis
       };
       counted = omega (arith, kept.counted, is_left, long_now);
       few = omega (arith, kept.few, same-long segments t.segments same);
+      wide = subst (AreWide (length t.columns)) (sym written_now) (wide-with t count kept rows fitting);
     }
 
 module _ (t : StoredTable) (count : ℕ) (kept : IsKept t count) (rows : List Row) where
@@ -119,25 +141,26 @@ module _ (t : StoredTable) (count : ℕ) (kept : IsKept t count) (rows : List Ro
     };
     counted = omega (arith, kept.counted, ap length rows_more, length-append (live_rows t) rows);
     few = kept.few;
+    wide = subst (AreWide (length t.columns)) (sym (rows_of-append t.written (unmarked rows) ∙ ap (λ (rs : List Row). rows_of t.written ++ rs) (rows_of-unmarked rows)))
+        (wide-with t count kept rows fitting);
   }
 
+module _ (t : StoredTable) (places : List ℕ) (are : AreLiveAt places (stored_in t)) (rows : List Row) (written : List MarkedRow) (appended : written ≡ t.written ++ unmarked rows) where
+  -- with rows behind those of the write store, its rows are all rows with these behind them
+  all_with : joined t.segments ++ written ≡ stored_in t ++ unmarked rows
+  all_with = ap (λ (rs : List MarkedRow). joined t.segments ++ rs) appended ∙ sym (append_assoc (joined t.segments) t.written (unmarked rows))
+
+  -- places of live rows are still there
+  pub still_there : AreThere places (joined t.segments ++ written)
+  still_there =
+      let le : length (stored_in t) ≤ length (joined t.segments ++ written) = omega (arith, ap length all_with, length-append (stored_in t) (unmarked rows)) in
+      all-weaker (λ p. p < length (stored_in t)) (λ p. p < length (joined t.segments ++ written)) (λ p lt. omega (arith, lt, le)) places (live_there places (stored_in t) are)
+
+  -- and marks there leave the others as they were
+  pub marks_with : with_marks places (joined t.segments ++ written) ≡ with_marks places (stored_in t) ++ unmarked rows
+  marks_with = ap (with_marks places) all_with ∙ with_marks-front places (stored_in t) (unmarked rows) (live_there places (stored_in t) are)
+
 -- ---- Rows that are moved
--- so many, or all
-least : {P : Type 0} (n m : ℕ) → (min n m ≡ n → P) → (min n m ≡ m → m ≤ n → P) → P
-least n m few all = by_test (nat_lt n m)
-    (λ k. let lt : n < m = ltb-true n m k in few (omega (arith, lt)))
-    (λ k. let le : m ≤ n = ltb-false n m k in all (omega (arith, le)) le)
-
-pub take-least : {X : Type 0} (n : ℕ) (xs : List X) → take (min n (length xs)) xs ≡ take n xs
-take-least n xs = least n (length xs)
-    (λ is. ap (λ (k : ℕ). take k xs) is)
-    (λ is all. ap (λ (k : ℕ). take k xs) is ∙ take_all (length xs) xs (omega arith) ∙ sym (take_all n xs all))
-
-pub drop-least : {X : Type 0} (n : ℕ) (xs : List X) → drop (min n (length xs)) xs ≡ drop n xs
-drop-least n xs = least n (length xs)
-    (λ is. ap (λ (k : ℕ). drop k xs) is)
-    (λ is all. ap (λ (k : ℕ). drop k xs) is ∙ drop_all (length xs) xs (omega arith) ∙ sym (drop_all n xs all))
-
 module _ (t : StoredTable) (fitting : AllByRecursion (FitsColumns t.columns) (live_rows t)) where
   all_written : AllByRecursion (FitsColumns t.columns) (live t.written)
   all_written = all-back (FitsColumns t.columns) (live (joined t.segments)) (live t.written) (subst (AllByRecursion (FitsColumns t.columns)) (live-append (joined t.segments) t.written) fitting)
@@ -154,34 +177,78 @@ module _ (t : StoredTable) (fitting : AllByRecursion (FitsColumns t.columns) (li
       fitting_wide t.columns (live (joined t.segments))
       (all-front (FitsColumns t.columns) (live (joined t.segments)) (live t.written) (subst (AllByRecursion (FitsColumns t.columns)) (live-append (joined t.segments) t.written) fitting))
 
-module _ (t : StoredTable) (made : List (List MarkedRow)) (n : ℕ) (built : AreBuilt t.sort (live (take n t.written)) made) where
-  pub move-bag : bag_of (live (joined (t.segments ++ made) ++ drop n t.written)) ≡ table_rows t
-  move-bag = ap (λ (rs : List MarkedRow). bag_of (live (rs ++ drop n t.written))) (joined-append t.segments made) ∙ bag-moved (joined t.segments) (joined made) t.written n built.same
+-- the segments that are built of the live ones of its first rows stand behind the others, and these rows are gone
+pub moved : (t : StoredTable) (count n : ℕ) → n ≡ min (length t.written) count → (made : List (List MarkedRow)) → AreBuilt t.sort (live (take n t.written)) made
+    → (segments : List (List MarkedRow)) → segments ≡ t.segments ++ made → (written : List MarkedRow) → written ≡ drop n t.written → Moves count t (with_stored segments written t)
+moved t count n least made built segments behind written left =
+    rw (behind, left ∙ drop-least count t.written n least) record {
+      made = made;
+      is = refl;
+      built = subst (λ (rs : List MarkedRow). AreBuilt t.sort (live rs) made) (take-least count t.written n least) built;
+    }
 
-  pub move-few : (count : ℕ) → length (take n t.written) ≤ count → length (joined t.segments) + count < 2 ^ 63 → length (joined (t.segments ++ made)) < 2 ^ 63
-  move-few count le few =
+-- what a move leaves as it was
+module _ (count : ℕ) (old new : StoredTable) (moves : Moves count old new) where
+  abbrev gone : List Row
+  gone = live (take count old.written)
+
+  all : joined (old.segments ++ moves.made) ≡ joined old.segments ++ joined moves.made
+  all = joined-append old.segments moves.made
+
+  pub moves-bag : table_rows new ≡ table_rows old
+  moves-bag =
+      ap table_rows moves.is ∙ ap (λ (rs : List MarkedRow). bag_of (live (rs ++ drop count old.written))) all
+      ∙ bag-moved (joined old.segments) (joined moves.made) old.written count (same-built old.sort gone moves.made moves.built)
+
+  pub moves-counts : MovesCounts count old new
+  moves-counts = record {
+    write_len = ap write_len moves.is ∙ length-drop count old.written;
+    marked_len = ap marked_len moves.is ∙ omega (arith, ap marked_count all, count-append (joined old.segments) (joined moves.made), new-clear old.sort gone moves.made moves.built);
+  }
+
+  pub moves-kept : (many n : ℕ) → IsKept old many → n ≡ min (length old.written) count → length (joined old.segments) + n < 2 ^ 63 → IsKept new many
+  moves-kept many n kept least few =
+      let fits : length (joined (old.segments ++ moves.made)) < 2 ^ 63 =
       omega (
         arith,
-        le,
         few,
-        ap length (joined-append t.segments made),
-        length-append (joined t.segments) (joined made),
-        length-built t.sort (live (take n t.written)) made built,
-        length-live (take n t.written),
-      )
+        least,
+        ap length all,
+        length-append (joined old.segments) (joined moves.made),
+        length-built old.sort gone moves.made moves.built,
+        length-live (take count old.written),
+        length-take count old.written,
+      ) in
+      let wide = subst (AreWide (length old.columns)) (drop-map (λ (m : MarkedRow). m.row) count old.written) (all-drop (λ row. length row ≡ length old.columns) count (rows_of old.written) kept.wide) in
+      subst (λ (t : StoredTable). IsKept t many) (sym moves.is)
+      (kept-same old many kept (old.segments ++ moves.made) (drop count old.written) (sym (ap table_rows moves.is) ∙ moves-bag) fits wide)
 
-  pub move-marks : marked_count (joined (t.segments ++ made)) ≡ marked_count (joined t.segments)
-  move-marks = omega (arith, ap marked_count (joined-append t.segments made), marked_count-append (joined t.segments) (joined made), new-clear t.sort made built.each)
+-- a source that has segments and no other rows
+pub alone : (segments lent : List (List MarkedRow)) (stored written : List MarkedRow) → stored ≡ joined lent ++ written → lent ≡ segments → written ≡ [] → stored ≡ joined segments
+alone segments lent stored written is same none = is ∙ ap₂ (λ (ls : List (List MarkedRow)) (rs : List MarkedRow). joined ls ++ rs) same none ∙ append-nil (joined segments)
 
-module _ (t : StoredTable) (made : List (List MarkedRow)) (built : AreBuilt t.sort (live (joined t.segments)) made) where
-  pub merge-bag : bag_of (live (joined made ++ t.written)) ≡ table_rows t
-  merge-bag = bag-merged (joined t.segments) (joined made) t.written built.same
+-- its first rows, as many as there are, are all
+pub whole : (segments : List (List MarkedRow)) (n : ℕ) → n ≡ length (joined segments) → (stored : List MarkedRow) → stored ≡ joined segments → live (take n stored) ≡ live (joined segments)
+whole segments n many stored is = ap (λ (rs : List MarkedRow). live (take n rs)) is ∙ ap live (take_all n (joined segments) (omega (arith, many)))
 
-  pub merge-few : length (joined t.segments) < 2 ^ 63 → length (joined made) < 2 ^ 63
-  merge-few few = omega (arith, few, length-built t.sort (live (joined t.segments)) made built, length-live (joined t.segments))
+-- the segments that are built of all of these stand in their place
+pub merged : (t : StoredTable) (made : List (List MarkedRow)) (n : ℕ) → n ≡ length (joined t.segments) → (stored : List MarkedRow) → stored ≡ joined t.segments → AreBuilt t.sort (live (take n stored)) made
+    → Merges t (with_stored made t.written t)
+merged t made n many stored is built = record { is = refl; built = subst (λ (rs : List Row). AreBuilt t.sort rs made) (whole t.segments n many stored is) built }
 
-  pub merge-marks : marked_count (joined made) ≡ 0
-  merge-marks = new-clear t.sort made built.each
+-- what a merge leaves as it was
+module _ (old new : StoredTable) (merges : Merges old new) where
+  pub merges-bag : table_rows new ≡ table_rows old
+  merges-bag = ap table_rows merges.is ∙ bag-merged (joined old.segments) (joined new.segments) old.written (same-built old.sort (live (joined old.segments)) new.segments merges.built)
+
+  pub merges-counts : MergesCounts old new
+  merges-counts = record { write_len = ap write_len merges.is; marked_len = new-clear old.sort (live (joined old.segments)) new.segments merges.built }
+
+  pub merges-kept : (many : ℕ) → IsKept old many → IsKept new many
+  merges-kept many kept =
+      let few : length (joined new.segments) < 2 ^ 63 =
+      omega (arith, kept.few, length-built old.sort (live (joined old.segments)) new.segments merges.built, length-live (joined old.segments)) in
+      subst (λ (t : StoredTable). IsKept t many) (sym merges.is) (kept-same old many kept new.segments old.written (sym (ap table_rows merges.is) ∙ merges-bag) few kept.wide)
 
 -- the live rows of the segments, counted
 pub count-segments : (t : StoredTable) (count : ℕ) → IsKept t count → count + marked_count t.written ≡ length (live (joined t.segments)) + length t.written

@@ -1,16 +1,15 @@
 -- What writes, moves and merges leave of a table.
-use Rattle.std.specs.Prelude.{◌≡◌, ◌≤◌, ◌+◌, ◌-◌, ℕ, List, [], ◌++◌, length, map, take, drop, Option}
-use Rattle.std.specs.List.{AllByRecursion}
-use Rattle.std.specs.List.Sorted.{IsSorted}
+use Rattle.std.specs.Prelude.{◌≡◌, ◌<◌, ◌+◌, ◌-◌, ℕ, List, [], ◌∷◌, ◌++◌, length, map, take, drop, Option}
 use Rattle.cq_values.specs.Value.{Row}
 use Rattle.cq_model_bags.specs.Canonical.{bag_of}
 use Rattle.cq_model.specs.Expr.{Cond}
-use Rattle.cq_model.specs.Write.{left_by}
+use Rattle.cq_model.specs.Write.{left_by, updated}
+use Rattle.cq_model.specs.declared.assignment.Assignment.{Assignment}
 use Rattle.cq_segments.specs.Marked.{MarkedRow, live, unmarked, with_marks}
 use Rattle.cq_segments.specs.Pieces.{joined}
-use Rattle.cq_segments.specs.Sorted.{columns_cmp}
+use Rattle.cq_segments.specs.Sorted.{IsBuilt}
 use Rattle.cq_table.specs.Found.{IsFound}
-use Rattle.cq_table.specs.Table.{SameRows, StoredTable, marked_len, stored_in, table_rows, with_stored, write_len}
+use Rattle.cq_table.specs.Table.{StoredTable, marked_len, stored_in, table_rows, with_stored, write_len}
 
 -- ---- Writes
 -- rows were put behind those of the write store
@@ -24,11 +23,19 @@ pub record Exchanges (places : List ℕ) (rows : List Row) (old new : StoredTabl
   pub segments : map length new.segments ≡ map length old.segments
   pub write_len : write_len new ≡ write_len old + length rows
 
--- rows were marked where they stand, and nothing else is changed
-pub record MarksOnly (old new : StoredTable) : Type 0 where
-  pub is : new ≡ with_stored new.segments new.written old
-  pub segments : map length new.segments ≡ map length old.segments
-  pub write_len : write_len new ≡ write_len old
+-- the rows that WHERE keeps are marked where they stand, and nothing else is changed
+pub record MarksOnly (condition : Option Cond) (old new : StoredTable) : Type 0 where
+  pub places : List ℕ
+  pub found : IsFound condition old places
+  pub marked : Exchanges places [] old new
+
+-- the bag has those rows alone that WHERE does not keep
+abbrev pub Deletes : Option Cond → StoredTable → StoredTable → Type 0
+Deletes condition old new = table_rows new ≡ bag_of (left_by condition (table_rows old))
+
+-- the bag has the image of each row that WHERE keeps in its place
+abbrev pub Updates : List Assignment → Option Cond → StoredTable → StoredTable → Type 0
+Updates assignments condition old new = table_rows new ≡ bag_of (updated assignments condition (table_rows old))
 
 -- if WHERE found the places, the bag has these rows in place of those that it keeps
 abbrev pub LeavesFound : List ℕ → List Row → StoredTable → StoredTable → Type 0
@@ -36,21 +43,10 @@ LeavesFound places rows old new =
     (condition : Option Cond) → IsFound condition old places → table_rows new ≡ bag_of (left_by condition (table_rows old) ++ rows)
 
 -- ---- Segments
--- a new segment: at most 65,536 rows in the order of the sort columns, none of them with a mark
-pub record IsNew (sort : List ℕ) (segment : List MarkedRow) : Type 0 where
-  pub none_marked : segment ≡ unmarked (live segment)
-  pub sorted : IsSorted (columns_cmp sort) (live segment)
-  pub few : length segment ≤ 65536
-
--- a new segment of these rows
-pub record IsBuiltOf (sort : List ℕ) (rows : List Row) (segment : List MarkedRow) : Type 0 where
-  pub new : IsNew sort segment
-  pub same : SameRows (live segment) rows
-
--- segments that were built of these rows
-pub record AreBuilt (sort : List ℕ) (rows : List Row) (segments : List (List MarkedRow)) : Type 0 where
-  pub each : AllByRecursion (IsNew sort) segments
-  pub same : SameRows (live (joined segments)) rows
+-- segments that were built of these rows in turn, each of the next 65,536 or of as many as are left
+abbrev pub AreBuilt : List ℕ → List Row → List (List MarkedRow) → Type 0
+AreBuilt sort rows [] = rows ≡ []
+AreBuilt sort rows (segment ∷ segments) = (0 < length rows) × IsBuilt (take 65536 rows) sort segment × AreBuilt sort (drop 65536 rows) segments
 
 -- the first rows left the write store, and the live ones of them stand in new segments behind the others
 pub record Moves (count : ℕ) (old new : StoredTable) : Type 0 where

@@ -14,7 +14,7 @@ use Rattle.cq_binder_rules.specs.Checks.{MayRefuse, fault_if, first_fault}
 use Rattle.cq_binder_rules.specs.UpdateChecks.{image_checks, value_checks}
 use Rattle.cq_table.specs.declared.fault.TableFault.{TableFault}
 use Rattle.cq_table.specs.declared.fault.TableFault.TheVariants as tables
-use Rattle.cq_table.specs.Found.{IsFound}
+use Rattle.cq_table.specs.Found.{IsFound, rows_found}
 use Rattle.cq_table.specs.Table.{StoredTable, table_rows}
 use Rattle.cq_model_state.specs.Fitting.{FitsColumns}
 
@@ -62,6 +62,14 @@ values_fault columns assignments rows = first_fault (flat_map (value_checks colu
 abbrev pub value_fault : List ColumnDef → List Assignment → Option Cond → List Row → Option Fault
 value_fault columns assignments condition rows = first_fault (image_checks columns assignments condition rows)
 
+-- those of the rows of a table that WHERE keeps
+abbrev pub chosen_fault : StoredTable → List Assignment → Option Cond → Option Fault
+chosen_fault t assignments condition = value_fault t.columns assignments condition (table_rows t)
+
+-- and those of its rows at these places
+abbrev pub found_fault : StoredTable → List Assignment → List ℕ → Option Fault
+found_fault t assignments places = values_fault t.columns assignments (rows_found t places)
+
 -- where the images of the chosen rows may be stored, they fit the columns
 abbrev pub DoFit : List ColumnDef → List Assignment → Option Cond → List Row → Type 0
 DoFit columns assignments condition rows =
@@ -70,7 +78,7 @@ DoFit columns assignments condition rows =
 -- if WHERE found the places, the values that the rows get which it keeps are checked
 abbrev pub ChecksFound : {X : Type 0} → List Assignment → List ℕ → StoredTable → Result X TableFault → Type 0
 ChecksFound assignments places t result =
-    (condition : Option Cond) → IsFound condition t places → IsChecked (value_fault t.columns assignments condition (table_rows t)) result
+    (condition : Option Cond) → IsFound condition t places → IsChecked (chosen_fault t assignments condition) result
 
 -- copies of the rows at some places, and their images
 pub record AreImages (assignments : List Assignment) (rows : List Row) (exchange : Vec Row Global × Vec Row Global) : Type 0 where

@@ -1,12 +1,18 @@
 -- A table as it is stored: rows in segments and in a write store, and the bag of those without a mark.
-use Rattle.std.specs.Prelude.{◌≡◌, ◌<◌, ◌≤◌, ◌^◌, ℕ, List, [], ◌++◌, length}
+use Rattle.std.specs.Prelude.{◌≡◌, ◌<◌, ◌≤◌, ◌^◌, ℕ, List, [], ◌++◌, length, take}
 use Rattle.std.specs.List.{AllByRecursion}
 use Rattle.cq_values.specs.declared.column.ColumnDef.{ColumnDef}
 use Rattle.cq_values.specs.Value.{Row}
 use Rattle.cq_model_bags.specs.Canonical.{bag_of}
 use Rattle.cq_model_state.specs.Fitting.{FitsColumns}
-use Rattle.cq_segments.specs.Marked.{MarkedRow, live, marked_count}
+use Rattle.cq_segments.specs.Columns.{AreWide}
+use Rattle.cq_segments.specs.Marked.{MarkedRow, live, marked_count, rows_of}
 use Rattle.cq_segments.specs.Pieces.{joined}
+use Rattle.cq_writestore.specs.Writes.{written_rows}
+use Rattle.cq_writestore.specs.declared.written.Written.{Written}
+use Rattle.cq_table_columns.specs.Stored.{stored_marked}
+use Rattle.cq_table_columns.specs.declared.stored.Stored.{Stored}
+use Rattle.cq_table.specs.declared.table.Layout.{Layout}
 
 -- a table: the columns that its segments are sorted by, how many live rows it may have, and its stored rows
 pub record StoredTable : Type 0 where
@@ -16,9 +22,22 @@ pub record StoredTable : Type 0 where
   pub segments : List (List MarkedRow)
   pub written : List MarkedRow
 
+-- the table that a layout, a limit of its rows and its stored rows make
+abbrev pub table_of : Layout → ℕ → List (List MarkedRow) → List MarkedRow → StoredTable
+table_of layout max_rows segments written =
+    record { columns = layout.columns; sort = layout.sort; max_rows = max_rows; segments = segments; written = written }
+
 -- all stored rows: those of the segments, one behind the other, and then those of the write store
 abbrev pub stored_in : StoredTable → List MarkedRow
 stored_in t = joined t.segments ++ t.written
+
+-- all stored rows of lent segments, and behind them those of a lent write store
+abbrev pub lent_stored : List (List MarkedRow) → Written → List MarkedRow
+lent_stored segments written = joined segments ++ written_rows written
+
+-- the live ones among the first rows of a source
+abbrev pub live_front : ℕ → Stored → List Row
+live_front count rows = live (take count (stored_marked rows))
 
 -- the live rows, where they are stored
 abbrev pub live_rows : StoredTable → List Row
@@ -45,11 +64,12 @@ pub record AreSound (columns : List ColumnDef) (max_rows : ℕ) (rows : List Row
 abbrev pub IsSound : StoredTable → Type 0
 IsSound t = AreSound t.columns t.max_rows (table_rows t)
 
--- its live rows are sound and so many, and those of its segments can be counted
+-- its live rows are sound and so many, those of its segments can be counted, and those of its write store are wide enough
 pub record IsKept (t : StoredTable) (live : ℕ) : Type 0 where
   pub sound : AreSound t.columns t.max_rows (live_rows t)
   pub counted : live ≡ length (live_rows t)
   pub few : length (joined t.segments) < 2 ^ 63
+  pub wide : AreWide (length t.columns) (rows_of t.written)
 
 -- a new table
 abbrev pub without_rows : List ColumnDef → List ℕ → ℕ → StoredTable

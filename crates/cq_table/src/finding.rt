@@ -1,10 +1,8 @@
 //! The places of the rows that a condition keeps.
 ghost use Rattle.std.specs.List.{AllByRecursion};
-ghost use Rattle.std.specs.Prelude.{◌++◌, ◌+◌, ◌≡◌, ◌<◌, ◌≤◌, ◌^◌, IfOk, OnOk, length};
-ghost use Rattle.cq_model.specs.Meaning.{keeps};
+ghost use Rattle.std.specs.Prelude.{◌+◌, ◌≡◌, ◌<◌, ◌≤◌, ◌^◌, IfOk, OnOk, length};
 ghost use Rattle.cq_model.specs.Width.{IsNarrowIn};
-ghost use Rattle.cq_operators_scans.specs.Kept.{places_where};
-ghost use Rattle.cq_table.specs.Found.{passes};
+ghost use Rattle.cq_table.specs.Found.{PutsPlaces, where_places};
 ghost use Rattle.cq_table_columns.specs.Stored.{all_rows, front_rows, marked_rows, stored_marked};
 
 use cq_model::Cond;
@@ -20,7 +18,7 @@ pub(crate) fn found_places(
 ) -> Result<Vec<usize>, AllocError>
     requires narrow { AllByRecursion (IsNarrowIn condition.now) (all_rows rows.now) }
     requires few { length (stored_marked rows.now) < 2 ^ 64 }
-    ensures { IfOk result (λ f. f.items ≡ places_where 0 (passes (keeps condition.now)) (stored_marked rows.now)) }
+    ensures { IfOk result (λ f. f.items ≡ where_places 0 condition.now (stored_marked rows.now)) }
 {
     let mut found = Vec::new(alloc);
     let mut before = 0;
@@ -45,7 +43,7 @@ fn find_in(
     requires narrow { AllByRecursion (IsNarrowIn condition.now) (front_rows front.now) }
     requires few { length (marked_rows front.now) ≤ 1024 }
     requires counted { before + length (marked_rows front.now) < 2 ^ 64 }
-    ensures { OnOk result (found.new.items ≡ found.old.items ++ places_where before (passes (keeps condition.now)) (marked_rows front.now)) }
+    ensures { OnOk result (PutsPlaces before condition.now front.now found.old found.new) }
 {
     let kept = kept_places(alloc, condition, front)?;
     let live = front.live_places(alloc)?;

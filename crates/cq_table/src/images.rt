@@ -1,9 +1,9 @@
 //! The images of rows under SET, and whether they may be stored.
 ghost use Rattle.std.specs.List.{AllByRecursion, list_any};
 ghost use Rattle.std.specs.Prelude.{◌≡◌, ◌<◌, IfOk, length, map};
+ghost use Rattle.cq_segments.specs.Rows.{stored_rows};
 ghost use Rattle.cq_values.specs.Lent.{owned};
 ghost use Rattle.cq_values.specs.Value.{column};
-ghost use Rattle.cq_table_columns.specs.Stored.{stored_rows};
 ghost use Rattle.cq_model.specs.Eval.{eval};
 ghost use Rattle.cq_model.specs.Width.{IsNarrowAt};
 ghost use Rattle.cq_model.specs.Write.{image_of};
@@ -13,7 +13,7 @@ ghost use Rattle.cq_table.specs.Checks.{AreNarrowSets, IsChecked, one_fault, val
 use crate::fault::TableFault;
 use cq_model::{Assignment, Expr};
 use cq_model_eval::{eval_row, narrow_is_exact};
-use cq_table_columns::StoredRow;
+use cq_segments::StoredRow;
 use cq_values::{ColumnDef, Lent, Row, Value, lend_column};
 use std::alloc::{AllocError, Global};
 

@@ -1,18 +1,18 @@
 //! Rows of a table that go on to segments.
 //!
 //! A move step takes the first rows of the write store to new segments, and drops those with a mark; a merge step makes
-//! all segments anew of their live rows. Both build first and then put in what they built: where one refuses, the table
-//! is as it was. No row of the bag changes. A move costs its rows, and a merge all rows of the segments.
+//! all segments anew of their live rows. Both build segments of 65,536 rows, and a last one of those that are left, and
+//! then put in what they built: where one refuses, the table is as it was. No row of the bag changes. A move costs its
+//! rows, and a merge all rows of the segments; each lends the live ones, at two words a row, before it builds.
 ghost use Rattle.std.specs.Prelude.{◌≡◌, ◌<◌, ◌*◌, ◌+◌, ◌^◌, OnErr, OnOk, length, min};
 ghost use Rattle.cq_segments.specs.Marked.{marked_count};
 ghost use Rattle.cq_segments.specs.Pieces.{joined};
 ghost use Rattle.cq_table.specs.Changes.{Merges, MergesCounts, Moves, MovesCounts};
 ghost use Rattle.cq_table.specs.Table.{table_rows};
 
-use crate::building::{build_all, build_anew, live_front};
+use crate::building::build_front;
 use crate::table::Table;
-use cq_operators_scans::widened;
-use cq_segments::Segment;
+use cq_segments::{Segment, widened};
 use cq_table_columns::Stored;
 use cq_writestore::Written;
 use std::alloc::{AllocError, Global};
@@ -27,11 +27,9 @@ impl Table {
     {
         let count = at_most(count, self.written.len());
         counted_places(alloc, self.segments.as_slice(), count)?;
-        let mut made = {
-            let rows = live_front(alloc, self.written.rows(), count)?;
-            let width = self.layout.columns.len();
-            build_all(alloc, &rows, width, self.layout.sort.as_slice())?
-        };
+        let live = self.written.len() - self.written.marked_len();
+        let rows = Stored::new(&[], self.written.rows(), live);
+        let mut made = build_front(alloc, &rows, count, &self.layout)?;
         self.segments.append(&mut made)?;
         self.written.take_front(count);
         Ok(())
@@ -44,10 +42,10 @@ impl Table {
         ensures bag { table_rows self.new ≡ table_rows self.old }
         ensures err { OnErr result (self.new ≡ self.old) }
     {
-        let count = self.live - (self.written.len() - self.written.marked_len());
-        let rows = Stored::new(self.segments.as_slice(), Written::of(&[]), count);
-        let width = self.layout.columns.len();
-        let made = build_anew(alloc, &rows, width, self.layout.sort.as_slice())?;
+        let live = self.live - (self.written.len() - self.written.marked_len());
+        let rows = Stored::new(self.segments.as_slice(), Written::of(&[]), live);
+        let count = count_rows(self.segments.as_slice());
+        let made = build_front(alloc, &rows, count, &self.layout)?;
         self.segments = made;
         Ok(())
     }
@@ -60,12 +58,21 @@ fn counted_places(alloc: Global, segments: &[Segment], more: usize) -> Result<()
     requires more { more < 2 ^ 63 }
     ensures { OnOk result (length (joined segments.now) + more < 2 ^ 63) }
 {
-    let mut places = more;
-    for segment in segments {
-        places += segment.len();
-    }
+    let places = count_rows(segments) + more;
     widened(alloc, places, places)?;
     Ok(())
+}
+
+/// How many rows the segments have, those with a mark too.
+fn count_rows(segments: &[Segment]) -> usize
+    requires { length (joined segments.now) < 2 ^ 63 }
+    ensures { result ≡ length (joined segments.now) }
+{
+    let mut count = 0;
+    for segment in segments {
+        count += segment.len();
+    }
+    count
 }
 
 /// How many rows of the segments have a mark.

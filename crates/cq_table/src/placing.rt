@@ -1,15 +1,13 @@
 //! Stored rows by their places, of which those of the segments come first, one segment behind the other.
-ghost use Rattle.std.specs.Prelude.{◌++◌, ◌+◌, ◌≡◌, ◌<◌, ◌≤◌, IfOk, [], length, map, slice_index_or};
-ghost use Rattle.cq_segments.specs.Marked.{rows_of, with_mark, with_marks};
+ghost use Rattle.std.specs.Prelude.{◌++◌, ◌+◌, ◌≡◌, ◌<◌, IfOk, [], length, map, slice_index_or};
 ghost use Rattle.cq_segments.specs.Pieces.{joined};
-ghost use Rattle.cq_table.specs.Found.{AreThere, found_rows};
+ghost use Rattle.cq_segments.specs.Rows.{row_of};
+ghost use Rattle.cq_table.specs.Found.{AreThere};
+ghost use Rattle.cq_table.specs.Placing.{AreRowsAt, MarksRow, MarksRows, row_stored_at};
 ghost use Rattle.cq_table.specs.Reached.{HasReached, IsReached};
-ghost use Rattle.cq_table_columns.specs.Stored.{row_of, stored_rows};
 ghost use Rattle.cq_writestore.specs.Writes.{written_rows};
 
-use cq_segments::Segment;
-use cq_table_columns::StoredRow;
-use cq_values::Row;
+use cq_segments::{Segment, StoredRow};
 use cq_writestore::{WriteStore, Written};
 use std::alloc::{AllocError, Global};
 
@@ -23,10 +21,9 @@ pub(crate) struct Reached {
 /// Marks the rows at these places.
 pub(crate) fn mark_all(segments: &mut Vec<Segment>, written: &mut WriteStore, places: &[usize])
     requires { AreThere places.now (joined segments.old.items ++ written.old.rows) }
-    ensures stored { joined segments.new.items ++ written.new.rows ≡ with_marks places.now (joined segments.old.items ++ written.old.rows) }
+    ensures stored { MarksRows places.now segments.old written.old segments.new written.new }
     ensures segments { map length segments.new.items ≡ map length segments.old.items }
     ensures written { length written.new.rows ≡ length written.old.rows }
-    ensures room { written.new.room ≡ written.old.room }
 {
     let mut reached = Reached {
         segment: 0,
@@ -46,7 +43,7 @@ pub(crate) fn rows_at<'a>(
     places: &[usize],
 ) -> Result<Vec<StoredRow<'a>>, AllocError>
     requires { AreThere places.now (joined segments.now ++ written_rows written) }
-    ensures { IfOk result (λ f. stored_rows f.items ≡ found_rows (joined segments.now ++ written_rows written.entry) places.now) }
+    ensures { IfOk result (λ f. AreRowsAt segments.now written.entry places.now f.items) }
 {
     let mut rows: Vec<StoredRow<'a>> = Vec::new(alloc);
     rows.reserve(places.len())?;
@@ -92,10 +89,9 @@ fn mark_at(segments: &mut Vec<Segment>, written: &mut WriteStore, reached: Reach
     requires reached { IsReached segments.old.items reached }
     requires there { HasReached segments.old.items place reached }
     requires within { place < length (joined segments.old.items ++ written.old.rows) }
-    ensures stored { joined segments.new.items ++ written.new.rows ≡ with_mark place (joined segments.old.items ++ written.old.rows) }
+    ensures stored { MarksRow place segments.old written.old segments.new written.new }
     ensures segments { map length segments.new.items ≡ map length segments.old.items }
     ensures written { length written.new.rows ≡ length written.old.rows }
-    ensures room { written.new.room ≡ written.old.room }
 {
     let at = place - reached.before;
     if reached.segment < segments.len() {
@@ -114,21 +110,13 @@ fn row_at<'a>(
     requires reached { IsReached segments.now reached }
     requires there { HasReached segments.now place reached }
     requires within { place < length (joined segments.now ++ written_rows written) }
-    ensures { row_of result ≡ slice_index_or (rows_of (joined segments.now ++ written_rows written.entry)) place [] }
+    ensures { row_of result ≡ row_stored_at segments.now written.entry place }
 {
     let at = place - reached.before;
     if reached.segment < segments.len() {
         let (columns, at) = segments[reached.segment].at(at);
         StoredRow::InColumns(columns, at)
     } else {
-        StoredRow::Alone(written_at(written, at))
+        written.at(at)
     }
-}
-
-/// The row of a write store at a place, marked or not.
-pub(crate) fn written_at<'a>(written: Written<'a>, place: usize) -> &'a Row
-    requires { place < length written.rows.now }
-    ensures { result.now ≡ slice_index_or written.entry.rows.now place [] }
-{
-    &written.rows[place]
 }

@@ -8,14 +8,13 @@ ghost use Rattle.std.specs.List.{AllByRecursion};
 ghost use Rattle.std.specs.Prelude.{◌++◌, ◌+◌, ◌≡◌, ◌≤◌, [], IfOk, OnErr, OnOk, length};
 ghost use Rattle.cq_model_bags.specs.Canonical.{bag_of};
 ghost use Rattle.cq_model.specs.Width.{IsNarrowIn};
-ghost use Rattle.cq_model.specs.Write.{chosen, left_by};
 ghost use Rattle.cq_model_state.specs.Fitting.{FitsColumns};
-ghost use Rattle.cq_segments.specs.Marked.{unmarked};
-ghost use Rattle.cq_table.specs.Changes.{Exchanges, LeavesFound, MarksOnly, with_written};
+ghost use Rattle.cq_segments.specs.Rows.{stored_rows};
+ghost use Rattle.cq_table.specs.Changes.{Deletes, Exchanges, LeavesFound, MarksOnly, with_written};
 ghost use Rattle.cq_table.specs.Checks.{HasRoom, IsChecked, no_room, too_many};
-ghost use Rattle.cq_table.specs.Found.{AreLiveAt, AreThere, IsFound, PicksChosen, found_rows};
+ghost use Rattle.cq_table.specs.Found.{AreLiveAt, AreThere, IsFound, PicksChosen, chosen_count, found_rows};
 ghost use Rattle.cq_table.specs.Table.{IsSound, limited_to, live_rows, marked_len, stored_in, table_rows, without_rows, write_len};
-ghost use Rattle.cq_table_columns.specs.Stored.{all_rows, stored_marked, stored_rows};
+ghost use Rattle.cq_table_columns.specs.Stored.{all_rows, stored_marked};
 
 use crate::fault::TableFault;
 use crate::finding::found_places;
@@ -23,8 +22,8 @@ use crate::found::Found;
 use crate::moving::count_marks;
 use crate::placing::{mark_all, rows_at};
 use cq_model::Cond;
-use cq_segments::Segment;
-use cq_table_columns::{Stored, StoredRow};
+use cq_segments::{Segment, StoredRow};
+use cq_table_columns::Stored;
 use cq_values::{ColumnDef, Row, Seq};
 use cq_writestore::WriteStore;
 use std::alloc::{AllocError, Global};
@@ -48,25 +47,13 @@ pub struct Table {
 }
 
 impl Model for Table {
-    ghost use Rattle.cq_table.specs.Table.{IsKept, StoredTable};
+    ghost use Rattle.cq_table.specs.Table.{IsKept, StoredTable, table_of};
 
     ghost Value = { StoredTable };
 
-    ghost view = { λ t. record {
-      columns = t.layout.columns;
-      sort = t.layout.sort;
-      max_rows = t.max_rows;
-      segments = t.segments.items;
-      written = t.written.rows;
-    } };
+    ghost view = { λ t. table_of t.layout t.max_rows t.segments.items t.written.rows };
 
-    ghost invariant = { λ t. IsKept (record {
-      columns = t.layout.columns;
-      sort = t.layout.sort;
-      max_rows = t.max_rows;
-      segments = t.segments.items;
-      written = t.written.rows;
-    }) t.live };
+    ghost invariant = { λ t. IsKept (table_of t.layout t.max_rows t.segments.items t.written.rows) t.live };
 }
 
 impl Table {
@@ -133,7 +120,7 @@ impl Table {
         ensures live { IfOk result (λ found. AreLiveAt found (stored_in self.now)) }
         ensures there { IfOk result (λ found. AreThere found (stored_in self.now)) }
         ensures chosen { IfOk result (PicksChosen condition.now self.now) }
-        ensures count { IfOk result (λ found. length found ≡ length (chosen condition.now (table_rows self.now))) }
+        ensures count { IfOk result (λ found. length found ≡ chosen_count condition.now self.now) }
     {
         let _small = self.written.len();
         let places = found_places(alloc, condition, &self.rows())?;
@@ -172,7 +159,7 @@ impl Table {
     }
 
     /// Adds all of these rows, or none.
-    pub fn insert(&mut self, rows: Vec<Row>) -> Result<(), TableFault>
+    pub fn insert(&mut self, alloc: Global, rows: Vec<Row>) -> Result<(), TableFault>
         requires { AllByRecursion (FitsColumns self.old.columns) rows.items }
         ensures room { IsChecked (no_room self.old (length rows.items)) result }
         ensures ok { OnOk result (self.new ≡ with_written rows.items self.old) }
@@ -180,12 +167,12 @@ impl Table {
         ensures err { OnErr result (self.new ≡ self.old) }
     {
         self.check_room(rows.len())?;
-        self.append(rows)?;
+        self.append(alloc, rows)?;
         Ok(())
     }
 
     /// Adds all of these rows, or none, where the table may have them.
-    pub fn append(&mut self, rows: Vec<Row>) -> Result<(), AllocError>
+    pub fn append(&mut self, alloc: Global, rows: Vec<Row>) -> Result<(), AllocError>
         requires fitting { AllByRecursion (FitsColumns self.old.columns) rows.items }
         requires room { HasRoom self.old (length rows.items) }
         ensures ok { OnOk result (self.new ≡ with_written rows.items self.old) }
@@ -193,8 +180,8 @@ impl Table {
         ensures err { OnErr result (self.new ≡ self.old) }
     {
         let (count, _most) = (rows.len(), self.max_rows);
-        self.written.reserve(count)?;
-        push_all(&mut self.written, rows);
+        let width = self.layout.columns.len();
+        self.written.append(alloc, rows, width)?;
         self.live += count;
         Ok(())
     }
@@ -216,9 +203,9 @@ impl Table {
         condition: &Option<Cond>,
     ) -> Result<usize, AllocError>
         requires { AllByRecursion (IsNarrowIn condition.now) (table_rows self.old) }
-        ensures count { IfOk result (λ count. count ≡ length (chosen condition.now (table_rows self.old))) }
-        ensures left { OnOk result (table_rows self.new ≡ bag_of (left_by condition.now (table_rows self.old))) }
-        ensures marks { OnOk result (MarksOnly self.old self.new) }
+        ensures count { IfOk result (λ count. count ≡ chosen_count condition.now self.old) }
+        ensures left { OnOk result (Deletes condition.now self.old self.new) }
+        ensures marks { OnOk result (MarksOnly condition.now self.old self.new) }
         ensures err { OnErr result (self.new ≡ self.old) }
     {
         let found = self.find(alloc, condition)?;
@@ -235,15 +222,5 @@ pub fn check_room(max_rows: u64, stored: usize, added: usize) -> Result<(), Tabl
         Err(TableFault::Full)
     } else {
         Ok(())
-    }
-}
-
-/// Puts the rows behind the others. There is room for them.
-pub(crate) fn push_all(written: &mut WriteStore, rows: Vec<Row>)
-    requires { length rows.items ≤ written.old.room }
-    ensures { written.new.rows ≡ written.old.rows ++ unmarked rows.items }
-{
-    for row in rows {
-        written.push_reserved(row);
     }
 }

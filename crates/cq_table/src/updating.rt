@@ -5,19 +5,17 @@
 //! and of its image.
 ghost use Rattle.std.specs.List.{AllByRecursion};
 ghost use Rattle.std.specs.Prelude.{◌≡◌, IfOk, OnErr, OnOk, length};
-ghost use Rattle.cq_model_bags.specs.Canonical.{bag_of};
-ghost use Rattle.cq_model.specs.Write.{chosen, updated};
 ghost use Rattle.cq_model_state.specs.Fitting.{FitsColumns};
-ghost use Rattle.cq_table.specs.Changes.{Exchanges, LeavesFound};
-ghost use Rattle.cq_table.specs.Checks.{AreImages, AreNarrowSets, CanWorkOut, ChecksFound, DoFit, IsChecked, value_fault, values_fault};
-ghost use Rattle.cq_table.specs.Found.{AreLiveAt, found_rows};
+ghost use Rattle.cq_table.specs.Changes.{Exchanges, LeavesFound, Updates};
+ghost use Rattle.cq_table.specs.Checks.{AreImages, AreNarrowSets, CanWorkOut, ChecksFound, DoFit, IsChecked, chosen_fault, found_fault};
+ghost use Rattle.cq_table.specs.Found.{AreLiveAt, chosen_count, rows_found};
 ghost use Rattle.cq_table.specs.Table.{stored_in, table_rows};
 
 use crate::fault::TableFault;
 use crate::found::Found;
 use crate::images::{check_values, copies, images};
 use crate::placing::mark_all;
-use crate::table::{Table, push_all};
+use crate::table::Table;
 use cq_model::{Assignment, Cond};
 use cq_values::Row;
 use std::alloc::{AllocError, Global};
@@ -36,9 +34,9 @@ impl Table {
     ) -> Result<Exchange, TableFault>
         requires live { AreLiveAt found.now (stored_in self.now) }
         requires narrow { AllByRecursion (AreNarrowSets assignments.now) (table_rows self.now) }
-        ensures checked { IsChecked (values_fault self.now.columns assignments.now (found_rows (stored_in self.now) found.now)) result }
+        ensures checked { IsChecked (found_fault self.now assignments.now found.now) result }
         ensures found { ChecksFound assignments.now found.now self.now result }
-        ensures images { IfOk result (AreImages assignments.now (found_rows (stored_in self.now) found.now)) }
+        ensures images { IfOk result (AreImages assignments.now (rows_found self.now found.now)) }
     {
         let chosen = self.chosen(alloc, found)?;
         let gone = copies(alloc, &chosen)?;
@@ -48,7 +46,12 @@ impl Table {
     }
 
     /// Marks the rows at these places and puts others, which are as many, into the write store: all of it, or nothing.
-    pub fn replace(&mut self, found: &Found, images: Vec<Row>) -> Result<(), AllocError>
+    pub fn replace(
+        &mut self,
+        alloc: Global,
+        found: &Found,
+        images: Vec<Row>,
+    ) -> Result<(), AllocError>
         requires live { AreLiveAt found.now (stored_in self.old) }
         requires count { length images.items ≡ length found.now }
         requires fitting { AllByRecursion (FitsColumns self.old.columns) images.items }
@@ -56,9 +59,9 @@ impl Table {
         ensures left { OnOk result (LeavesFound found.now images.items self.old self.new) }
         ensures err { OnErr result (self.new ≡ self.old) }
     {
-        self.written.reserve(images.len())?;
+        let width = self.layout.columns.len();
+        self.written.append(alloc, images, width)?;
         mark_all(&mut self.segments, &mut self.written, found.places());
-        push_all(&mut self.written, images);
         Ok(())
     }
 
@@ -72,14 +75,14 @@ impl Table {
     ) -> Result<usize, TableFault>
         requires work { CanWorkOut assignments.now condition.now (table_rows self.old) }
         requires fit { DoFit self.old.columns assignments.now condition.now (table_rows self.old) }
-        ensures checked { IsChecked (value_fault self.old.columns assignments.now condition.now (table_rows self.old)) result }
-        ensures count { IfOk result (λ count. count ≡ length (chosen condition.now (table_rows self.old))) }
-        ensures updated { OnOk result (table_rows self.new ≡ bag_of (updated assignments.now condition.now (table_rows self.old))) }
+        ensures checked { IsChecked (chosen_fault self.old assignments.now condition.now) result }
+        ensures count { IfOk result (λ count. count ≡ chosen_count condition.now self.old) }
+        ensures updated { OnOk result (Updates assignments.now condition.now self.old self.new) }
         ensures err { OnErr result (self.new ≡ self.old) }
     {
         let found = self.find(alloc, condition)?;
         let (_gone, images) = self.images(alloc, assignments, &found)?;
-        self.replace(&found, images)?;
+        self.replace(alloc, &found, images)?;
         Ok(found.len())
     }
 }

@@ -2,7 +2,7 @@
 use Rattle.std.proofs.Common.{◌≡◌, ℕ, ◌<◌, List, [], ◌∷◌, length, get_or, refl, sym, ap₂, arith}
 use Rattle.std.proofs.lemmas.List.{get_or-map, length-map}
 use Rattle.cq_values.specs.Value.{Row}
-use Rattle.cq_segments.specs.Places.{AreBelow, places_at, rows_at}
+use Rattle.cq_encodings_vectors.specs.Places.{AreBelow, places_at, rows_at}
 use Rattle.cq_model_bags.proofs.Lists.{all-at}
 
 -- they are below the same end

@@ -1,5 +1,5 @@
 -- Rows in parts, one behind the other.
-use Rattle.std.proofs.Common.{◌≡◌, ◌∙◌, ◌+◌, ◌≤◌, List, [], ◌∷◌, ◌++◌, length, length-append, refl, sym, ap, ap₂, arith}
+use Rattle.std.proofs.Common.{◌≡◌, ◌∙◌, ℕ, zero, suc, ◌+◌, ◌-◌, ◌≤◌, List, [], ◌∷◌, ◌++◌, length, length-append, take, refl, sym, ap, arith}
 use Rattle.std.proofs.lemmas.List.{append_assoc}
 use Rattle.cq_segments.specs.Marked.{MarkedRow, live}
 use Rattle.cq_segments.specs.Pieces.{joined}
@@ -37,16 +37,21 @@ are_parts whole part rest is =
     }
 
 -- the first piece, and what stands behind it
-pub first_piece : (pieces rest segments : List (List MarkedRow)) (written piece before : List MarkedRow) → pieces ≡ piece ∷ rest → joined pieces ++ joined segments ≡ before
-    → AreParts (before ++ written) piece (joined rest ++ joined segments ++ written)
-first_piece pieces rest segments written piece before first is =
-    are_parts (before ++ written) piece (joined rest ++ joined segments ++ written)
-    (ap (λ l. l ++ written) (sym is ∙ ap (λ p. joined p ++ joined segments) first ∙ append_assoc piece (joined rest) (joined segments)) ∙ append_assoc piece (joined rest ++ joined segments) written)
+pub first_piece : (whole : List MarkedRow) (pieces rest segments : List (List MarkedRow)) (written piece : List MarkedRow) → joined pieces ++ joined segments ++ written ≡ whole → pieces ≡ piece ∷ rest
+    → AreParts whole piece (joined rest ++ joined segments ++ written)
+first_piece whole pieces rest segments written piece is first =
+    are_parts whole piece (joined rest ++ joined segments ++ written)
+    (sym is ∙ ap (λ p. joined p ++ joined segments ++ written) first
+    ∙ ap (λ l. l ++ written) (append_assoc piece (joined rest) (joined segments)) ∙ append_assoc piece (joined rest ++ joined segments) written)
 
--- what stands in no piece stands in the write store
-pub first_written : (pieces segments : List (List MarkedRow)) (written front rest before : List MarkedRow) → pieces ≡ [] → segments ≡ [] → joined pieces ++ joined segments ≡ before → written ≡ front ++ rest
-    → AreParts (before ++ written) front (joined pieces ++ joined segments ++ rest)
-first_written pieces segments written front rest before none no_more is parts =
-    let empty : joined pieces ++ joined segments ≡ [] = ap₂ (λ p s. joined p ++ joined s) none no_more in
-    are_parts (before ++ written) front (joined pieces ++ joined segments ++ rest)
-    (ap₂ (λ a b. a ++ b) (sym is ∙ empty) parts ∙ ap (λ l. front ++ (l ++ rest)) (sym empty))
+-- of two parts the first ones are those of the first, and then those of the second
+pub first_parts : (count : ℕ) (front back : List MarkedRow) → take count (front ++ back) ≡ take count front ++ take (count - length front) back
+first_parts zero front back = ap (λ (n : ℕ). take n back) {x = 0} {y = 0 - length front} (omega arith)
+first_parts (suc count) [] back = ap (λ (n : ℕ). take n back) {x = suc count} {y = suc count - 0} (omega arith)
+first_parts (suc count) (m ∷ front) back =
+    ap (λ l. m ∷ l) (first_parts count front back)
+    ∙ ap (λ (n : ℕ). m ∷ take count front ++ take n back) {x = count - length front} {y = suc count - length (m ∷ front)} (omega arith)
+
+-- and so it is with the live ones among them
+pub live_parts : (count : ℕ) (whole front back : List MarkedRow) → whole ≡ front ++ back → live (take count whole) ≡ live (take count front) ++ live (take (count - length front) back)
+live_parts count whole front back is = ap (λ l. live (take count l)) is ∙ ap live (first_parts count front back) ∙ live-append (take count front) (take (count - length front) back)

@@ -1,7 +1,8 @@
 -- Rows of a list, of a front, or at places of a front.
 use Rattle.std.specs.Prelude.{List}
+use Rattle.cq_segments.specs.Rows.{stored_rows}
 use Rattle.cq_values.specs.Value.{Row}
-use Rattle.cq_table_columns.specs.Stored.{front_rows, stored_rows}
+use Rattle.cq_table_columns.specs.Stored.{front_rows}
 use Rattle.cq_table_columns.specs.declared.stored_rows.StoredRows.{StoredRows}
 use Rattle.cq_table_columns.specs.declared.stored_rows.StoredRows.TheVariants as stored
 

@@ -3,15 +3,16 @@
 //! What a condition keeps of a front is `of` its places; `at` keeps some of these, and `gather` gives a column of them.
 //! It costs two bytes a row; no row is copied. Places count all rows that stand there, so that marks are read once.
 ghost use Rattle.std.specs.Prelude.{◌≡◌, ◌≤◌, IfOk, length};
-ghost use Rattle.cq_segments.specs.Places.{AreBelow, rows_at};
-ghost use Rattle.cq_table_columns.specs.Stored.{front_rows, stored_rows};
+ghost use Rattle.cq_encodings_vectors.specs.Places.{AreBelow, rows_at};
+ghost use Rattle.cq_segments.specs.Rows.{stored_rows};
+ghost use Rattle.cq_table_columns.specs.Stored.{front_rows};
 ghost use Rattle.cq_vectors.specs.Gathered.{column_of};
 
 use crate::front::Front;
 use crate::gathering::gather;
 use crate::places::front_at;
-use crate::stored_row::StoredRow;
-use cq_segments::copies_at;
+use cq_encodings_vectors::copies_at;
+use cq_segments::StoredRow;
 use cq_vectors::Vector;
 use std::alloc::{AllocError, Global};
 use std::marker::Model;
@@ -26,7 +27,7 @@ pub struct Chosen<'a> {
 impl<'a> Model for Chosen<'a> {
     ghost use Rattle.std.specs.Prelude.{List, length};
     ghost use Rattle.cq_values.specs.Value.{Row as Values};
-    ghost use Rattle.cq_segments.specs.Places.{AreBelow, rows_at};
+    ghost use Rattle.cq_encodings_vectors.specs.Places.{AreBelow, rows_at};
     ghost use Rattle.cq_table_columns.specs.Stored.{front_rows};
 
     ghost Value = { List Values };

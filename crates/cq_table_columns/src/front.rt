@@ -4,17 +4,18 @@
 //! column of them as a vector. Where a row has a mark, `live_places` tells where the others stand, and `span` how many
 //! stand there with it. To find one live row costs a step a row before it, all of them one step each.
 ghost use Rattle.std.specs.List.{range_with_len};
-ghost use Rattle.std.specs.Prelude.{◌<◌, ◌≡◌, ◌≤◌, IfOk, [], length, slice_index_or};
+ghost use Rattle.std.specs.Prelude.{◌<◌, ◌≡◌, ◌≤◌, IfOk, [], length, slice_index_or, take};
 ghost use Rattle.cq_segments.specs.Marked.{live, live_from, rows_of};
-ghost use Rattle.cq_segments.specs.Places.{AreBelow, rows_at};
-ghost use Rattle.cq_table_columns.specs.Stored.{front_rows, marked_rows, row_of, stored_rows};
+ghost use Rattle.cq_encodings_vectors.specs.Places.{AreBelow};
+ghost use Rattle.cq_segments.specs.Rows.{row_of, stored_rows};
+ghost use Rattle.cq_table_columns.specs.Stored.{StandAt, front_rows, marked_rows};
 ghost use Rattle.cq_vectors.specs.Gathered.{column_of};
-ghost use Rattle.cq_writestore.specs.Writes.{written_rows};
+ghost use Rattle.cq_writestore.specs.Writes.{tail_rows};
 
 use crate::gathering::gather;
 use crate::places::front_at;
-use crate::stored_row::{StoredRow, row_in};
-use cq_segments::{Columns, Piece, copies_at};
+use cq_encodings_vectors::copies_at;
+use cq_segments::{Columns, Piece, StoredRow};
 use cq_values::Row;
 use cq_vectors::Vector;
 use cq_writestore::WrittenFront;
@@ -27,14 +28,14 @@ pub enum Front<'a> {
     Rows(&'a [Row]),
     /// They stand in columns.
     Columns(&'a Columns),
-    /// They stand in a piece of a segment, and some of its rows may have a mark.
+    /// They stand in a piece, and some of its rows may have a mark.
     Marked(&'a Piece),
-    /// They stand in the write store, and some of its rows may have a mark.
+    /// They stand at the end of the write store, and some of its rows may have a mark.
     Written(WrittenFront<'a>),
 }
 
 impl<'a> Front<'a> {
-    /// All rows of a piece of a segment.
+    /// All rows of a piece.
     pub fn of_piece(piece: &'a Piece) -> Front<'a>
         ensures stored { marked_rows result ≡ piece.now }
         ensures rows { front_rows result ≡ live piece.now }
@@ -49,10 +50,10 @@ impl<'a> Front<'a> {
         }
     }
 
-    /// The first rows of a write store.
+    /// The first rows of the tail of a write store.
     pub fn of_written(written: WrittenFront<'a>) -> Front<'a>
-        ensures stored { marked_rows result ≡ written_rows written.entry.written }
-        ensures rows { front_rows result ≡ live (written_rows written.entry.written) }
+        ensures stored { marked_rows result ≡ tail_rows written.entry.written }
+        ensures rows { front_rows result ≡ live (tail_rows written.entry.written) }
     {
         if written.is_whole() {
             Front::Rows(written.rows())
@@ -104,8 +105,8 @@ impl<'a> Front<'a> {
     {
         match self {
             Front::Rows(rows) => StoredRow::Alone(row_at(*rows, place)),
-            Front::Columns(columns) => row_in(*columns, place),
-            Front::Marked(piece) => row_in(piece.columns(), piece.live_place(place)),
+            Front::Columns(columns) => columns.row(place),
+            Front::Marked(piece) => piece.columns().row(piece.live_place(place)),
             Front::Written(written) => {
                 StoredRow::Alone(row_at(written.rows(), written.live_place(place)))
             }
@@ -128,6 +129,20 @@ impl<'a> Front<'a> {
                 front_at(alloc, &Front::Rows(written.rows()), &places)
             }
         }
+    }
+
+    /// Those of the rows that are among so many that stand there first, with a mark or without.
+    pub(crate) fn first_live(
+        &self,
+        alloc: Global,
+        count: usize,
+    ) -> Result<Vec<StoredRow<'a>>, AllocError>
+        requires { length (marked_rows self.now) ≤ 1024 }
+        ensures { IfOk result (λ r. stored_rows r.items ≡ live (take count (marked_rows self.now))) }
+    {
+        let places = self.live_places(alloc)?;
+        let len = len_below(&places, count);
+        front_at(alloc, &self.with_all(), &places[..len])
     }
 
     /// The values of a column, where a row that is too short has NULL.
@@ -164,7 +179,7 @@ impl<'a> Front<'a> {
     /// Where the live rows at these places stand among all that stand there.
     pub(crate) fn places_at(&self, alloc: Global, places: &[u16]) -> Result<Vec<u16>, AllocError>
         requires { AreBelow (length (front_rows self.now)) places.now }
-        ensures rows { IfOk result (λ p. rows_at (rows_of (marked_rows self.now)) p.items ≡ rows_at (front_rows self.now) places.now) }
+        ensures rows { IfOk result (λ p. StandAt self.now places.now p.items) }
         ensures there { IfOk result (λ p. AreBelow (length (marked_rows self.now)) p.items) }
     {
         match self {
@@ -180,6 +195,22 @@ impl<'a> Front<'a> {
             }
         }
     }
+}
+
+/// How many of the first places are below an end.
+fn len_below(places: &[u16], end: usize) -> usize
+    ensures few { result ≤ length places.now }
+    ensures below { AreBelow end (take result places.now) }
+    ensures next { result < length places.now → end ≤ slice_index_or places.now result 0 }
+{
+    let mut len = 0;
+    for place in places {
+        if usize::from(*place) >= end {
+            return len;
+        }
+        len += 1;
+    }
+    len
 }
 
 fn copied(alloc: Global, places: &[u16]) -> Result<Vec<u16>, AllocError>
@@ -226,7 +257,7 @@ fn lend_columns<'a>(alloc: Global, columns: &'a Columns) -> Result<Vec<StoredRow
     let mut lent: Vec<StoredRow<'a>> = Vec::new(alloc);
     lent.reserve(columns.len())?;
     for place in 0..columns.len() {
-        lent.push_reserved(row_in(columns, place));
+        lent.push_reserved(columns.row(place));
     }
     Ok(lent)
 }

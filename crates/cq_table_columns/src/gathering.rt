@@ -1,12 +1,11 @@
 //! The values of a column of rows.
-ghost use Rattle.std.specs.Prelude.{IfOk, IfSome, length, map, ◌≡◌, ◌≤◌};
-ghost use Rattle.cq_table_columns.specs.Stored.{stored_rows};
-ghost use Rattle.cq_values.specs.Lent.{owned};
-ghost use Rattle.cq_vectors.specs.Gathered.{column_of, lent_rows};
+ghost use Rattle.std.specs.Prelude.{IfOk, IfSome, length, ◌≡◌, ◌≤◌};
+ghost use Rattle.cq_segments.specs.Rows.{LendAll, stored_rows};
+ghost use Rattle.cq_vectors.specs.Gathered.{column_of};
 
-use crate::stored_row::StoredRow;
-use cq_segments::narrowed;
-use cq_values::{Lent, Row};
+use cq_encodings_vectors::narrowed;
+use cq_segments::{StoredRow, lend_column};
+use cq_values::Row;
 use cq_vectors::Vector;
 use std::alloc::{AllocError, Global};
 
@@ -22,14 +21,14 @@ pub fn gather<'a>(
     if let Some(alone) = lend_alone(alloc, rows)? {
         return Vector::gather_lent(alloc, alone.as_slice(), column);
     }
-    let lent = lend_values(alloc, rows, column)?;
+    let lent = lend_column(alloc, rows, column)?;
     let form = narrowed(alloc, lent)?;
     Ok(Vector::new(form))
 }
 
 /// The rows, or None where one does not stand alone.
 fn lend_alone<'a>(alloc: Global, rows: &[StoredRow<'a>]) -> Result<Option<Vec<&'a Row>>, AllocError>
-    ensures { IfOk result (λ found. IfSome found (λ lent. lent_rows lent.items ≡ stored_rows rows.now)) }
+    ensures { IfOk result (λ found. IfSome found (λ lent. LendAll rows.now lent.items)) }
 {
     let mut lent: Vec<&'a Row> = Vec::new(alloc);
     lent.reserve(rows.len())?;
@@ -40,20 +39,4 @@ fn lend_alone<'a>(alloc: Global, rows: &[StoredRow<'a>]) -> Result<Option<Vec<&'
         }
     }
     Ok(Some(lent))
-}
-
-/// The values of a column where they stand.
-fn lend_values<'a>(
-    alloc: Global,
-    rows: &[StoredRow<'a>],
-    column: usize,
-) -> Result<Vec<Lent<'a>>, AllocError>
-    ensures { IfOk result (λ lent. map owned lent.items ≡ column_of (stored_rows rows.now) column) }
-{
-    let mut lent: Vec<Lent<'a>> = Vec::new(alloc);
-    lent.reserve(rows.len())?;
-    for row in rows {
-        lent.push_reserved(row.lend(column));
-    }
-    Ok(lent)
 }

@@ -1,9 +1,10 @@
 //! Rows where they are stored, of which queries read columns.
 //!
-//! First come those of segments, column by column, and behind them those of the write store, each a row of its own. A
-//! [`Stored`] lends those of them that have no mark. They are read in a [`Front`] of at most 1,024 rows after the other,
-//! or one by one, each a [`StoredRow`]. Those that are left of a front behind a condition are [`StoredRows`] at its
-//! places. In which form rows are stored is not seen by those who read them: to them they are lists of live rows.
+//! First come those of segments, column by column, and behind them those of the write store: in columns too, and the
+//! newest each a row of its own. A [`Stored`] lends those of them that have no mark. They are read in a [`Front`] of at
+//! most 1,024 rows after the other, or one by one, each a `StoredRow`. Those that are left of a front behind a condition
+//! are [`StoredRows`] at its places. In which form rows are stored is not seen by those who read them: to them they are
+//! lists of live rows.
 #![tactic(auto)]
 
 mod chosen;
@@ -11,7 +12,6 @@ mod front;
 mod gathering;
 mod places;
 mod stored;
-mod stored_row;
 mod stored_rows;
 mod stored_source;
 
@@ -20,6 +20,5 @@ pub use front::Front;
 pub use gathering::gather;
 pub use places::lent_at;
 pub use stored::Stored;
-pub use stored_row::StoredRow;
 pub use stored_rows::StoredRows;
 pub use stored_source::{StoredSource, rows_of};

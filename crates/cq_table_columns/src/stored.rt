@@ -2,17 +2,18 @@
 //!
 //! `new` and `of` lend the rows of a table or of a list; those of a table that have a mark are passed over. A reader
 //! takes `split_front` until nothing is left: at most 1,024 rows at a time, in the order of the one list that they are.
-//! Who counts the rows with a mark too takes `split_piece`. No call takes memory, and all of it is copied freely.
-ghost use Rattle.std.specs.Prelude.{length, ◌++◌, ◌≡◌};
+//! Who counts the rows with a mark too takes `split_piece`, or `first_live`, which alone takes memory. All of it is
+//! copied freely.
+ghost use Rattle.std.specs.Prelude.{IfOk, length, take, ◌++◌, ◌≡◌};
 ghost use Rattle.cq_segments.specs.Marked.{live};
 ghost use Rattle.cq_segments.specs.Pieces.{joined};
 ghost use Rattle.cq_writestore.specs.Writes.{written_rows};
 
 use crate::front::Front;
-use crate::stored_row::StoredRow;
-use cq_segments::{Piece, Segment};
+use cq_segments::{Piece, Segment, StoredRow};
 use cq_values::Row;
 use cq_writestore::Written;
+use std::alloc::{AllocError, Global};
 
 /// Rows of a source where they are stored: first those in segments, and then those of the write store.
 #[derive(Clone, Copy)]
@@ -25,9 +26,11 @@ pub struct Stored<'a> {
 }
 
 impl<'a> Stored<'a> {
+    ghost use Rattle.cq_segments.specs.Rows.{row_of, stored_rows};
+    ghost use Rattle.cq_writestore.specs.Writes.{FewerLeft};
     ghost use Rattle.std.specs.Option.{option_map};
     ghost use Rattle.std.specs.Prelude.{◌<◌, ◌≤◌, ◌↔◌, [], IsTrue, slice_get};
-    ghost use Rattle.cq_table_columns.specs.Stored.{all_rows, front_rows, marked_rows, row_of, stored_marked};
+    ghost use Rattle.cq_table_columns.specs.Stored.{HasPieceOrTail, IsTail, all_rows, front_rows, marked_rows, stored_marked};
 
     /// Rows that stand in a list.
     pub fn of(rows: &'a [Row]) -> Stored<'a>
@@ -81,7 +84,7 @@ impl<'a> Stored<'a> {
     pub fn split_front(&self) -> (Front<'a>, Stored<'a>)
         ensures parts { all_rows self.now ≡ front_rows result.0 ++ all_rows result.1 }
         ensures few { length (front_rows result.0) ≤ 1024 }
-        ensures less { 0 < length (all_rows self.now) → length (all_rows result.1) < length (all_rows self.now) }
+        ensures less { FewerLeft (all_rows self.now) (all_rows result.1) }
     {
         let (mut front, mut rest) = self.split_piece();
         while front.len() == 0 && !rest.is_empty() {
@@ -92,58 +95,85 @@ impl<'a> Stored<'a> {
         (front, rest)
     }
 
+    /// The live rows among so many that come first, where rows with a mark are counted too.
+    pub fn first_live(&self, alloc: Global, count: usize) -> Result<Vec<StoredRow<'a>>, AllocError>
+        ensures { IfOk result (λ r. stored_rows r.items ≡ live (take count (stored_marked self.now))) }
+    {
+        let mut rows: Vec<StoredRow<'a>> = Vec::new(alloc);
+        let (mut left, mut more) = (*self, count);
+        while more > 0 && !left.is_empty() {
+            let (front, rest) = left.split_piece();
+            rows.append(&mut front.first_live(alloc, more)?)?;
+            more = more.saturating_sub(front.span());
+            left = rest;
+        }
+        Ok(rows)
+    }
+
     /// The rows of the first piece, at most 1,024 that stand there, and those behind them. Each of them may have a mark.
     pub fn split_piece(&self) -> (Front<'a>, Stored<'a>)
         ensures parts { stored_marked self.now ≡ marked_rows result.0 ++ stored_marked result.1 }
         ensures rows { all_rows self.now ≡ front_rows result.0 ++ all_rows result.1 }
         ensures few { length (marked_rows result.0) ≤ 1024 }
-        ensures less { 0 < length (stored_marked self.now) → length (stored_marked result.1) < length (stored_marked self.now) }
+        ensures less { FewerLeft (stored_marked self.now) (stored_marked result.1) }
     {
-        let (pieces, segments) = self.entered();
-        let (written, count) = (self.written, self.count);
-        match pieces.split_first() {
+        let source = self.entered();
+        match source.pieces.split_first() {
             Some((piece, pieces)) => {
                 let front = Front::of_piece(piece);
-                let count = count - front.len();
-                (
-                    front,
-                    Stored {
-                        pieces,
-                        segments,
-                        written,
-                        count,
-                    },
-                )
+                let rest = Stored {
+                    pieces,
+                    segments: source.segments,
+                    written: source.written,
+                    count: source.count - front.len(),
+                };
+                (front, rest)
             }
-            None => {
-                let (front, written) = written.split_front();
-                let front = Front::of_written(front);
-                let count = count - front.len();
-                (
-                    front,
-                    Stored {
-                        pieces,
-                        segments,
-                        written,
-                        count,
-                    },
-                )
-            }
+            None => source.split_tail(),
         }
     }
 
-    /// The pieces that come next, and the segments behind them: none only where there is no segment either.
-    fn entered(&self) -> (&'a [Piece], &'a [Segment])
-        ensures same { joined result.0.now ++ joined result.1.now ≡ joined self.now.pieces.now ++ joined self.now.segments.now }
-        ensures some { result.0.now ≡ [] → result.1.now ≡ [] }
+    /// The same of rows that stand at the end of the write store.
+    fn split_tail(&self) -> (Front<'a>, Stored<'a>)
+        requires { IsTail self.now }
+        ensures parts { stored_marked self.now ≡ marked_rows result.0 ++ stored_marked result.1 }
+        ensures rows { all_rows self.now ≡ front_rows result.0 ++ all_rows result.1 }
+        ensures few { length (marked_rows result.0) ≤ 1024 }
+        ensures less { FewerLeft (stored_marked self.now) (stored_marked result.1) }
     {
-        let (pieces, segments) = (self.pieces, self.segments);
-        if !pieces.is_empty() {
-            return (pieces, segments);
+        let (front, tail) = self.written.tail.split_front();
+        let front = Front::of_written(front);
+        let rest = Stored {
+            pieces: &[],
+            segments: &[],
+            written: Written::of_tail(tail),
+            count: self.count - front.len(),
+        };
+        (front, rest)
+    }
+
+    /// The same rows with the pieces that come next: none only where what is left stands in no piece.
+    fn entered(&self) -> Stored<'a>
+        ensures same { stored_marked result ≡ stored_marked self.now }
+        ensures next { HasPieceOrTail result }
+    {
+        let (segments, written, count) = (self.segments, self.written, self.count);
+        if !self.pieces.is_empty() {
+            return *self;
         }
         match segments.split_first() {
-            Some((segment, segments)) => (segment.pieces(), segments),
-            None => (pieces, segments),
+            Some((segment, segments)) => Stored {
+                pieces: segment.pieces(),
+                segments,
+                written,
+                count,
+            },
+            None => Stored {
+                pieces: written.pieces,
+                segments,
+                written: Written::of_tail(written.tail),
+                count,
+            },
         }
     }
 }

@@ -4,16 +4,16 @@
 //! `at` keeps the rows at some places, `into_rows` lists them. Of a front a column is read as it stands, and no call
 //! copies a value that it does not give.
 ghost use Rattle.std.specs.Prelude.{◌≡◌, ◌≤◌, IfOk, length};
-ghost use Rattle.cq_segments.specs.Places.{AreBelow, rows_at};
+ghost use Rattle.cq_encodings_vectors.specs.Places.{AreBelow, rows_at};
+ghost use Rattle.cq_segments.specs.Rows.{stored_rows};
 ghost use Rattle.cq_table_columns.specs.Rows.{rows_in};
-ghost use Rattle.cq_table_columns.specs.Stored.{stored_rows};
 ghost use Rattle.cq_vectors.specs.Gathered.{column_of};
 
 use crate::chosen::Chosen;
 use crate::front::Front;
 use crate::gathering::gather;
 use crate::places::lent_at;
-use crate::stored_row::StoredRow;
+use cq_segments::StoredRow;
 use cq_vectors::Vector;
 use std::alloc::{AllocError, Global};
 

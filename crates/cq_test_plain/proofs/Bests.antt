@@ -6,7 +6,20 @@ use Rattle.std.proofs.lemmas.List.{take_more}
 use Rattle.cq_values.specs.declared.value.Value.{Value}
 use Rattle.cq_model.specs.Group.{extreme}
 use Rattle.cq_model_bags.proofs.Lists.{all-push, all-weaker}
-use Rattle.cq_model.proofs.Extremes.{IsChoice, IsOne, extreme-best, extreme-one}
+use Rattle.cq_model.proofs.Extremes.{IsChoice, IsDownTo, IsOne, IsUpTo, extreme-best, extreme-one, higher-choice, lower-choice}
+use Rattle.cq_test_plain.specs.Ends.{better}
+use Rattle.cq_test_plain.specs.declared.aggregates.End.{End}
+use Rattle.cq_test_plain.specs.declared.aggregates.End.TheVariants.{Greatest, Least}
+
+-- the first value is as near to the end as the second
+abbrev pub IsAsNear : End → Value → Value → Type 0
+IsAsNear Least = IsUpTo
+IsAsNear Greatest = IsDownTo
+
+-- the nearer of two values is a choice
+pub nearer-choice : (end : End) → IsChoice (better end) (IsAsNear end)
+nearer-choice Least = lower-choice
+nearer-choice Greatest = higher-choice
 
 -- one of the values, and as good as each of these
 pub record IsBest (R : Value → Value → Type 0) (v : Value) (values these : List Value) : Type 0 where

@@ -65,6 +65,12 @@ module _ (tables views : List (List Row)) (sources : List Lent) (held : HoldRows
   pub bags-held : lent_bags sources ≡ stored_bags tables views
   bags-held = λ k source. held_at source k
 
+-- so it is where they are lent
+pub bags-lent : (tables views lent_tables lent_views : List (List Row)) (sources lent : List Lent) → lent_tables ≡ tables → lent_views ≡ views → HoldRows lent_tables lent_views sources → lent ≡ sources
+    → lent_bags lent ≡ stored_bags tables views
+bags-lent tables views lent_tables lent_views sources lent first second held same =
+    ap lent_bags same ∙ bags-held lent_tables lent_views sources held ∙ (λ i. stored_bags (first i) (second i))
+
 -- the bags of entries that hold tables alone
 pub bags-alone : (tables : List (List Row)) (sources : List Lent) → HoldRows tables [] sources → lent_bags sources ≡ tables_alone (rows_at tables)
 bags-alone tables sources held = bags-held tables [] sources held ∙ alone tables

@@ -1,3 +1,4 @@
+pub mod Ends
 pub mod Faults
 pub mod Rows
 pub mod Joins

@@ -2,6 +2,7 @@
 ghost use Rattle.std.specs.Prelude.{◌+ℤ◌, ◌+◌, ◌^◌, ◌≡◌, ◌≤◌, IfErr, IfOk, OnOk, length, nat_abs, pos};
 ghost use Rattle.cq_model_bags.specs.Bag.{once_each};
 ghost use Rattle.cq_model.specs.Group.{InRange, SumInRange, addend, aggregate, extreme, higher, lower};
+ghost use Rattle.cq_test_plain.specs.Ends.{better};
 ghost use Rattle.cq_test_plain.specs.Faults.{Tells};
 ghost use Rattle.cq_test_plain.specs.FaultsOf.{IsAggregateFault};
 ghost use Rattle.cq_test_plain.specs.OfGroups.{known_values};
@@ -15,6 +16,13 @@ use cq_model::{Aggregate, Expr};
 use cq_values::{Row, Total, Value};
 use std::alloc::{AllocError, Global};
 
+/// Which end of the total order is asked for.
+#[derive(Clone, Copy, Debug)]
+enum End {
+    Least,
+    Greatest,
+}
+
 /// An aggregate over these rows.
 pub(crate) fn aggregate(alloc: Global, kind: &Aggregate, rows: &[Row]) -> Result<Value, PlainFault>
     ensures ok { IfOk result (λ v. v ≡ aggregate kind.now (once_each rows.now)) }
@@ -25,8 +33,8 @@ pub(crate) fn aggregate(alloc: Global, kind: &Aggregate, rows: &[Row]) -> Result
         Aggregate::CountAll => Ok(count(rows)),
         Aggregate::Count(expr) => Ok(count(&values_of(alloc, expr, rows)?)),
         Aggregate::Sum(expr) => sum(&values_of(alloc, expr, rows)?),
-        Aggregate::Min(expr) => Ok(least(alloc, &values_of(alloc, expr, rows)?)?),
-        Aggregate::Max(expr) => Ok(greatest(alloc, &values_of(alloc, expr, rows)?)?),
+        Aggregate::Min(expr) => Ok(extreme(alloc, &values_of(alloc, expr, rows)?, End::Least)?),
+        Aggregate::Max(expr) => Ok(extreme(alloc, &values_of(alloc, expr, rows)?, End::Greatest)?),
     }
 }
 
@@ -82,38 +90,33 @@ fn add_value(total: &mut Total, value: &Value)
     }
 }
 
-/// The value that comes first in the total order, and NULL where there is none.
-fn least(alloc: Global, values: &[Value]) -> Result<Value, AllocError>
-    ensures { IfOk result (λ v. v ≡ extreme lower values.now) }
+/// The value at this end of the total order, and NULL where there is none.
+fn extreme(alloc: Global, values: &[Value], end: End) -> Result<Value, AllocError>
+    ensures { IfOk result (λ v. v ≡ extreme (better end) values.now) }
 {
     let Some(first) = values.first() else {
         return Ok(Value::Null);
     };
-    let mut least = first;
+    let mut best = first;
     for value in values {
-        least = lower(least, value);
+        best = better(end, best, value);
     }
-    least.copy(alloc)
+    best.copy(alloc)
+}
+
+fn better<'a>(end: End, a: &'a Value, b: &'a Value) -> &'a Value
+    ensures { result.now ≡ better end a.now b.now }
+{
+    match end {
+        End::Least => lower(a, b),
+        End::Greatest => higher(a, b),
+    }
 }
 
 fn lower<'a>(a: &'a Value, b: &'a Value) -> &'a Value
     ensures { result.now ≡ lower a.now b.now }
 {
     if a > b { b } else { a }
-}
-
-/// The value that comes last in the total order, and NULL where there is none.
-fn greatest(alloc: Global, values: &[Value]) -> Result<Value, AllocError>
-    ensures { IfOk result (λ v. v ≡ extreme higher values.now) }
-{
-    let Some(first) = values.first() else {
-        return Ok(Value::Null);
-    };
-    let mut greatest = first;
-    for value in values {
-        greatest = higher(greatest, value);
-    }
-    greatest.copy(alloc)
 }
 
 fn higher<'a>(a: &'a Value, b: &'a Value) -> &'a Value

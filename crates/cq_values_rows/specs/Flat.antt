@@ -23,6 +23,10 @@ unfoldable pub AreRisingFrom : ℕ → List ℕ → Type 0
 AreRisingFrom start [] = ⊤
 AreRisingFrom start (end ∷ ends) = (start ≤ end) × AreRisingFrom end ends
 
+-- no row ends before the one before it, nor the last behind so many values
+abbrev pub EndWithin : List ℕ → ℕ → Type 0
+EndWithin ends len = AreRisingFrom 0 ends × (last_end 0 ends ≤ len)
+
 -- the row at the place has the values from the start up to the end
 pub record IsPlaced (ends : List ℕ) (place start end : ℕ) : Type 0 where
   pub in_order : start ≤ end

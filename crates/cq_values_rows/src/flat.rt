@@ -17,14 +17,14 @@ pub struct FlatRows {
 }
 
 impl Model for FlatRows {
-    ghost use Rattle.std.specs.Prelude.{◌≤◌, length};
-    ghost use Rattle.cq_values_rows.specs.Flat.{AreRisingFrom, Flat, flat_of, last_end};
+    ghost use Rattle.std.specs.Prelude.{length};
+    ghost use Rattle.cq_values_rows.specs.Flat.{EndWithin, Flat, flat_of};
 
     ghost Value = { Flat };
 
     ghost view = { λ f. flat_of f.values.items f.ends.items };
 
-    ghost invariant = { λ f. AreRisingFrom 0 f.ends.items × (last_end 0 f.ends.items ≤ length f.values.items) };
+    ghost invariant = { λ f. EndWithin f.ends.items (length f.values.items) };
 }
 
 impl FlatRows {

@@ -1,5 +1,5 @@
 -- Loops that gather a column: what each value holds, and a flag where it is NULL.
-use Rattle.std.proofs.Common.{◌≡◌, ℕ, zero, suc, ◌+◌, ◌<◌, ◌≤◌, ℤ, pos, Bool, Bor, List, [], ◌∷◌, ◌++◌, map, length, length-take, get_or, take, refl, sym, ap, ap₂, subst, ◌∙◌, arith, FitsSigned}
+use Rattle.std.proofs.Common.{◌≡◌, ℕ, zero, suc, ◌+◌, ◌<◌, ◌≤◌, ℤ, pos, Bool, true, false, Bor, List, [], ◌∷◌, ◌++◌, map, length, length-take, get_or, take, refl, sym, ap, ap₂, subst, ◌∙◌, arith, FitsSigned}
 use Rattle.std.specs.Int.{Width}
 use Rattle.std.specs.List.{All}
 use lib.Lanes.{zip2}
@@ -11,7 +11,7 @@ use Rattle.cq_values.specs.Days.{IsDay}
 use Rattle.cq_values.specs.Order.{number, bytes}
 use Rattle.cq_values.specs.Value.{Row, column}
 use Rattle.cq_model.specs.Condition.{is_null}
-use Rattle.cq_vectors.specs.Columns.{AllFit, AreDays, EmptyWhere, ZeroWhere, day_unless, number_unless, text_unless}
+use Rattle.cq_vectors_stored.specs.Columns.{AllFit, AreDays, EmptyWhere, ZeroWhere, day_unless, number_unless, text_unless}
 use Rattle.cq_vectors.specs.Gathered.{IsNumber, IsDate, IsText, column_of, lent_rows}
 
 -- of the first i values the parts and the flags are written, and each value is of the kind
@@ -90,23 +90,22 @@ module _ {A : Type 0} (unless : A → Bool → Value) (part : Value → A) (valu
   pub as_many : length (map is_null values) ≡ length (map part values)
   as_many = length-map values is_null ∙ sym (length-map values part)
 
+-- what is kept of NULL stands where a value is NULL
+null_where : {A : Type 0} (part : Value → A) (nothing : A) → part Null ≡ nothing → (values : List Value) (k : ℕ) → get_or (map is_null values) k false ≡ true → get_or (map part values) k nothing ≡ nothing
+null_where part nothing is [] k e = absurd (cc e)
+null_where part nothing is (Null ∷ vs) zero e = is
+null_where part nothing is (Number n ∷ vs) zero e = absurd (cc e)
+null_where part nothing is (Day d ∷ vs) zero e = absurd (cc e)
+null_where part nothing is (Text t ∷ vs) zero e = absurd (cc e)
+null_where part nothing is (v ∷ vs) (suc k) e = null_where part nothing is vs k e
+
 -- NULL has the number 0
 pub zero_where : (values : List Value) → ZeroWhere (map is_null values) (map number values)
-zero_where [] k e = absurd (cc e)
-zero_where (Null ∷ vs) zero e = refl
-zero_where (Number n ∷ vs) zero e = absurd (cc e)
-zero_where (Day d ∷ vs) zero e = absurd (cc e)
-zero_where (Text t ∷ vs) zero e = absurd (cc e)
-zero_where (v ∷ vs) (suc k) e = zero_where vs k e
+zero_where values = null_where number (pos 0) refl values
 
 -- and no bytes
 pub empty_where : (values : List Value) → EmptyWhere (map is_null values) (map bytes values)
-empty_where [] k e = absurd (cc e)
-empty_where (Null ∷ vs) zero e = refl
-empty_where (Number n ∷ vs) zero e = absurd (cc e)
-empty_where (Day d ∷ vs) zero e = absurd (cc e)
-empty_where (Text t ∷ vs) zero e = absurd (cc e)
-empty_where (v ∷ vs) (suc k) e = empty_where vs k e
+empty_where values = null_where bytes [] refl values
 
 -- a fact of each number, and of 0 past the end
 number_facts : (P : ℤ → Type 0) → P (pos 0) → (values : List Value) → All (λ v. P (number v)) values → (k : ℕ) → P (get_or (map number values) k (pos 0))
@@ -120,45 +119,45 @@ all_fit width past values h = number_facts (FitsSigned width) past values (λ k 
 pub are_days : (values : List Value) → All IsDate values → AreDays (map number values)
 are_days values h = number_facts (λ n. IsDay n) (omega arith, omega arith) values (λ k d lt. (h k d lt).day)
 
+module _ {A : Type 0} {part : Value → A} {Kind : Value → Type 0} {values : List Value} {i : ℕ} {xs : List A} {flags : List Bool} (h : Gathers part Kind values i xs flags) (le : length values ≤ i) where
+  -- what is written of all values makes them again
+  parts_whole : (unless : A → Bool → Value) → ((v : Value) → Kind v → unless (part v) (is_null v) ≡ v) → zip2 unless xs flags ≡ values
+  parts_whole unless kind =
+      let all = gathers_all h le in
+      ap₂ (zip2 unless) all.0 all.1 ∙ rebuilt unless part values (λ k d lt. kind (get_or values k d) (all.2 k d lt))
+
+  -- what holds of all parts holds of what is written
+  parts_are : (P : List A → Type 0) → (All Kind values → P (map part values)) → P xs
+  parts_are P made = let all = gathers_all h le in subst P (sym all.0) (made all.2)
+
+  -- and what holds of the parts where a value is NULL
+  parts_where : (P : List Bool → List A → Type 0) → P (map is_null values) (map part values) → P flags xs
+  parts_where P made = let all = gathers_all h le in subst (P flags) (sym all.0) (subst (λ l. P l (map part values)) (sym all.1) made)
+
+module _ {Kind : Value → Type 0} {values : List Value} {i : ℕ} {xs : List ℤ} {flags : List Bool} (h : Gathers number Kind values i xs flags) (le : length values ≤ i) where
+  pub numbers_zero : ZeroWhere flags xs
+  numbers_zero = parts_where h le ZeroWhere (zero_where values)
+
 module _ {width : Width} {values : List Value} {i : ℕ} {xs : List ℤ} {flags : List Bool} (h : Gathers number (IsNumber width) values i xs flags) (le : length values ≤ i) where
   pub numbers_whole : zip2 number_unless xs flags ≡ values
-  numbers_whole =
-      let all = gathers_all h le in
-      ap₂ (zip2 number_unless) all.0 all.1 ∙ rebuilt number_unless number values (λ k d lt. (all.2 k d lt).kind)
-
-  pub numbers_zero : ZeroWhere flags xs
-  numbers_zero =
-      let all = gathers_all h le in
-      subst (ZeroWhere flags) (sym all.0) (subst (λ l. ZeroWhere l (map number values)) (sym all.1) (zero_where values))
+  numbers_whole = parts_whole h le number_unless (λ v kind. kind.kind)
 
   pub numbers_fit : FitsSigned width (pos 0) → AllFit width xs
-  numbers_fit past =
-      let all = gathers_all h le in
-      subst (AllFit width) (sym all.0) (all_fit width past values all.2)
+  numbers_fit past = parts_are h le (AllFit width) (all_fit width past values)
 
 module _ {values : List Value} {i : ℕ} {xs : List ℤ} {flags : List Bool} (h : Gathers number IsDate values i xs flags) (le : length values ≤ i) where
   pub days_whole : zip2 day_unless xs flags ≡ values
-  days_whole =
-      let all = gathers_all h le in
-      ap₂ (zip2 day_unless) all.0 all.1 ∙ rebuilt day_unless number values (λ k d lt. (all.2 k d lt).kind)
+  days_whole = parts_whole h le day_unless (λ v kind. kind.kind)
 
   pub days_zero : ZeroWhere flags xs
-  days_zero =
-      let all = gathers_all h le in
-      subst (ZeroWhere flags) (sym all.0) (subst (λ l. ZeroWhere l (map number values)) (sym all.1) (zero_where values))
+  days_zero = numbers_zero h le
 
   pub days_are : AreDays xs
-  days_are =
-      let all = gathers_all h le in
-      subst AreDays (sym all.0) (are_days values all.2)
+  days_are = parts_are h le AreDays (are_days values)
 
 module _ {values : List Value} {i : ℕ} {ts : List (List ℕ)} {flags : List Bool} (h : Gathers bytes IsText values i ts flags) (le : length values ≤ i) where
   pub texts_whole : zip2 text_unless ts flags ≡ values
-  texts_whole =
-      let all = gathers_all h le in
-      ap₂ (zip2 text_unless) all.0 all.1 ∙ rebuilt text_unless bytes values all.2
+  texts_whole = parts_whole h le text_unless (λ v kind. kind)
 
   pub texts_empty : EmptyWhere flags ts
-  texts_empty =
-      let all = gathers_all h le in
-      subst (EmptyWhere flags) (sym all.0) (subst (λ l. EmptyWhere l (map bytes values)) (sym all.1) (empty_where values))
+  texts_empty = parts_where h le EmptyWhere (empty_where values)

@@ -1,4 +1,1 @@
-pub mod ColumnLemmas
 pub mod Gathering
-pub mod LentLemmas
-pub mod TextRunLemmas

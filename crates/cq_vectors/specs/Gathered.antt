@@ -7,7 +7,7 @@ use Rattle.cq_values.specs.Days.{IsDay}
 use Rattle.cq_values.specs.Order.{number, bytes}
 use Rattle.cq_values.specs.Value.{Row, column}
 use Rattle.cq_model.specs.Condition.{is_null}
-use Rattle.cq_vectors.specs.Columns.{day_unless, number_unless, text_unless}
+use Rattle.cq_vectors_stored.specs.Columns.{day_unless, number_unless, text_unless}
 
 -- the value of the column in each row, and NULL where a row has no such column
 abbrev pub column_of : List Row → ℕ → List Value

@@ -1,7 +1,3 @@
-pub mod Columns
 pub mod Form
 pub mod Gathered
 pub mod Batch
-pub mod LentColumns
-pub mod Offsets
-pub mod TextRun

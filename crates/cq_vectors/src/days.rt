@@ -7,16 +7,15 @@ ghost use Rattle.std.specs.Prelude.{FitsSigned, IfOk, IfSome, length, map, slice
 ghost use Rattle.std.specs.Simd.Lanes.{zip2};
 ghost use Rattle.cq_values.specs.Lent.{owned};
 ghost use Rattle.cq_values.specs.Order.{number};
-ghost use Rattle.cq_values.specs.Days.{IsDay};
 ghost use Rattle.cq_values.specs.declared.value.Value.TheVariants.{Day as DayOf, Null};
 ghost use Rattle.cq_model.specs.Condition.{is_null};
 ghost use Rattle.cq_values.specs.Value.{column as column_at};
-ghost use Rattle.cq_vectors.specs.Columns.{AllFit, AreDays, ZeroWhere, day_unless};
+ghost use Rattle.cq_vectors_stored.specs.Columns.{AllFit, AreDays, ZeroWhere, day_unless};
 ghost use Rattle.cq_vectors.specs.Gathered.{IsDate, column_of, lent_rows};
 
-use crate::lent_days::LentDays;
 use cq_values::{Day, Lent, Row, Value};
 use cq_vectors_masks::Plane;
+use cq_vectors_stored::{LentDays, lend_day};
 use std::alloc::{AllocError, Global};
 use std::marker::Model;
 
@@ -31,7 +30,7 @@ impl Model for Days {
     ghost use Rattle.std.specs.Prelude.{List};
     ghost use Rattle.std.specs.Simd.Lanes.{zip2};
     ghost use Rattle.cq_values.specs.declared.value.Value.{Value as Datum};
-    ghost use Rattle.cq_vectors.specs.Columns.{AreDates, day_unless};
+    ghost use Rattle.cq_vectors_stored.specs.Columns.{AreDates, day_unless};
 
     ghost Value = { List Datum };
 
@@ -117,16 +116,6 @@ impl Days {
         } else {
             Lent::Null
         }
-    }
-}
-
-pub(crate) fn lend_day<'a>(number: i32) -> Lent<'a>
-    requires { IsDay number }
-    ensures { owned result ≡ DayOf number }
-{
-    match Day::new(number) {
-        Some(day) => Lent::Day(day),
-        None => unreachable!(),
     }
 }
 

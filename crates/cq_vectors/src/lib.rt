@@ -6,31 +6,15 @@
 #![tactic(auto)]
 
 mod batch;
-mod codes;
 mod days;
-mod lent_days;
-mod lent_numbers;
-mod narrow;
-mod narrow_days;
 mod numbers;
-mod offsets;
-mod run_texts;
-mod text_run;
 mod texts;
 mod vector;
 mod wide_numbers;
 
 pub use batch::Batch;
-pub use codes::Codes;
 pub use days::Days;
-pub use lent_days::LentDays;
-pub use lent_numbers::LentNumbers;
-pub use narrow::Narrow;
-pub use narrow_days::NarrowDays;
 pub use numbers::Numbers;
-pub use offsets::Offsets;
-pub use run_texts::RunTexts;
-pub use text_run::TextRun;
 pub use texts::Texts;
 pub use vector::{Form, Vector};
 pub use wide_numbers::WideNumbers;

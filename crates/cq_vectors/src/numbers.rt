@@ -11,12 +11,12 @@ ghost use Rattle.cq_values.specs.Order.{number};
 ghost use Rattle.cq_values.specs.declared.value.Value.TheVariants.{Null, Number};
 ghost use Rattle.cq_model.specs.Condition.{is_null};
 ghost use Rattle.cq_values.specs.Value.{column as column_at};
-ghost use Rattle.cq_vectors.specs.Columns.{AllFit, ZeroWhere, number_unless};
+ghost use Rattle.cq_vectors_stored.specs.Columns.{AllFit, ZeroWhere, number_unless};
 ghost use Rattle.cq_vectors.specs.Gathered.{IsNumber, column_of, lent_rows};
 
-use crate::lent_numbers::LentNumbers;
 use cq_values::{Lent, Row, Value};
 use cq_vectors_masks::Plane;
+use cq_vectors_stored::LentNumbers;
 use std::alloc::{AllocError, Global};
 use std::marker::Model;
 
@@ -32,7 +32,7 @@ impl Model for Numbers {
     ghost use Rattle.std.specs.Prelude.{List};
     ghost use Rattle.std.specs.Simd.Lanes.{zip2};
     ghost use Rattle.cq_values.specs.declared.value.Value.{Value as Datum};
-    ghost use Rattle.cq_vectors.specs.Columns.{AreNumbers, number_unless};
+    ghost use Rattle.cq_vectors_stored.specs.Columns.{AreNumbers, number_unless};
 
     ghost Value = { List Datum };
 

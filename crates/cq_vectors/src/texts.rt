@@ -10,7 +10,7 @@ ghost use Rattle.cq_values.specs.Order.{bytes};
 ghost use Rattle.cq_values.specs.declared.value.Value.TheVariants.{Null};
 ghost use Rattle.cq_model.specs.Condition.{is_null};
 ghost use Rattle.cq_values.specs.Value.{column as column_at};
-ghost use Rattle.cq_vectors.specs.Columns.{EmptyWhere, text_unless, texts_of};
+ghost use Rattle.cq_vectors_stored.specs.Columns.{EmptyWhere, text_unless, texts_of};
 ghost use Rattle.cq_vectors.specs.Gathered.{IsText, column_of, lent_rows};
 
 use cq_values::{Lent, Row, Value};
@@ -29,7 +29,7 @@ impl<'a> Model for Texts<'a> {
     ghost use Rattle.std.specs.Prelude.{List};
     ghost use Rattle.std.specs.Simd.Lanes.{zip2};
     ghost use Rattle.cq_values.specs.declared.value.Value.{Value as Datum};
-    ghost use Rattle.cq_vectors.specs.Columns.{AreTexts, text_unless, texts_of};
+    ghost use Rattle.cq_vectors_stored.specs.Columns.{AreTexts, text_unless, texts_of};
 
     ghost Value = { List Datum };
 

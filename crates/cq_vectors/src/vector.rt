@@ -12,23 +12,18 @@ ghost use Rattle.cq_values.specs.Value.{column as column_at, is_null};
 ghost use Rattle.cq_vectors.specs.Form.{values_in};
 ghost use Rattle.cq_vectors.specs.Gathered.{column_of, lent_rows};
 
-use crate::codes::Codes;
 use crate::days::Days;
-use crate::lent_days::LentDays;
-use crate::lent_numbers::LentNumbers;
-use crate::narrow::Narrow;
-use crate::narrow_days::NarrowDays;
 use crate::numbers::Numbers;
-use crate::run_texts::RunTexts;
 use crate::texts::Texts;
 use crate::wide_numbers::WideNumbers;
 use cq_values::{Lent, Row, Value};
 use cq_vectors_masks::Plane;
+use cq_vectors_stored::{Codes, LentDays, LentNumbers, Narrow, NarrowDays, RunTexts};
 use std::alloc::{AllocError, Global};
 use std::marker::Model;
 
 /// How a vector holds its values. Kernels read a form as a slice; `Values` is for what no narrower form holds. Of
-/// `Narrow` and what stands below it the values are those of a stored column, which lends them.
+/// `Narrow` and what stands below it the values are those of a stored column, which lends them, or of places of one.
 #[derive(Drop)]
 pub enum Form<'a> {
     Numbers(Numbers),

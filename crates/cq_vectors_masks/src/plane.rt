@@ -78,7 +78,7 @@ impl Plane {
         requires { 1024 ≤ length to.old }
         ensures few { result ≤ 1024 }
         ensures whole { length self.now ≤ 1024 }
-        ensures places { take result to.new ≡ filter (λ place. slice_index_or self.now place false) all_places }
+        ensures places { take result to.new ≡ filter (λ p. slice_index_or self.now p false) all_places }
     {
         walk_words(&self.words, to)
     }
@@ -206,7 +206,7 @@ fn ones(n: usize) -> u64
 
 fn words_where<T: WordTest>(test: &T, len: usize, to: &mut [u64; 16])
     requires { len ≤ T.places test.now }
-    ensures { (place : ℕ) → place < 1024 → is_set to.new place ≡ nat_lt place len && T.holds test.now place }
+    ensures { (p : ℕ) → p < 1024 → is_set to.new p ≡ nat_lt p len && T.holds test.now p }
 {
     for k in 0..16 {
         to[k] = word_where(test, 64 * k, len);

@@ -11,7 +11,7 @@ pub fn keep_set(plane: &Plane, places: &[u16], to: &mut [u16]) -> usize
     requires room { length places.now ≤ length to.old }
     requires small { (k : ℕ) → slice_index places.now k < 1024 }
     ensures few { result ≤ length places.now }
-    ensures kept { take result to.new ≡ filter (λ place. slice_index_or plane.now place false) places.now }
+    ensures kept { take result to.new ≡ filter (λ p. slice_index_or plane.now p false) places.now }
 {
     let mut n = 0;
     for i in 0..places.len() {

@@ -1,5 +1,5 @@
 -- A state that takes rows in stands for them beside those that it had.
-use Rattle.std.proofs.Common.{◌≡◌, ◌∙◌, ◌≤◌, ◌^◌, pos, List, [], ◌∷◌, ◌++◌, length, refl, sym, ap, subst, arith, append_assoc}
+use Rattle.std.proofs.Common.{◌≡◌, ◌∙◌, ◌+◌, ◌≤◌, ◌^◌, pos, List, [], ◌∷◌, ◌++◌, length, refl, sym, ap, subst, arith, append_assoc}
 use Rattle.std.proofs.lemmas.Int.{ints}
 use Rattle.std.proofs.lemmas.List.{append-nil, map-append}
 use Rattle.std.proofs.lemmas.Nat.{mul-le}
@@ -88,12 +88,12 @@ fills-none v more none = record {
 }
 
 module _ (v : ViewState) (a b : Tables) (first : AreBags a) (second : AreBags b) where
-  -- rows that can be taken in with others can be taken in alone
-  pub can-first : CanFill v (changed a b) → CanFill v a
-  can-first can =
+  -- as both can be taken in, so can bags that are as wide, no larger, and stored where both are
+  can-as : (c : Tables) (can : CanFill v (changed a b)) → AreBags c → AreAsTold v can.can.tables c → ((s : Source) → sizes (c s) ≤ sizes (a s) + sizes (b s)) → ((s : Source) → AreStored (a s ++ b s) → AreStored (c s))
+      → CanFill v c
+  can-as c can bags wide no_larger stored =
       let tables = can.can.tables in
-      let wide = wide-first v tables a b can.can.wide in
-      let less = spans-less tables a tables (changed a b) (λ s. omega (arith, sizes-append (a s) (b s))) (sources_of v.query) in
+      let less = spans-less tables c tables (changed a b) (λ s. omega (arith, sizes-append (a s) (b s), no_larger s)) (sources_of v.query) in
       let whole = can.can.stored.1 in
       record {
         can = record {
@@ -102,36 +102,20 @@ module _ (v : ViewState) (a b : Tables) (first : AreBags a) (second : AreBags b)
           stands = can.can.stands;
           wide = wide;
           few = omega (arith, can.can.few, less);
-          stored = (
-            can.can.stored.0,
-            all-both (λ s. AreStored (a s ++ b s)) (λ s. AreStored (a s ++ b s)) (λ s. AreStored (a s)) (λ s all same. stored-front (a s) (b s) all) (sources_of v.query) whole whole,
-          );
+          stored = (can.can.stored.0, all-both (λ s. AreStored (a s ++ b s)) (λ s. AreStored (a s ++ b s)) (λ s. AreStored (c s)) (λ s all same. stored s all) (sources_of v.query) whole whole);
         };
-        bags = (can.bags.0, first);
+        bags = (can.bags.0, bags);
       }
+
+  -- rows that can be taken in with others can be taken in alone
+  pub can-first : CanFill v (changed a b) → CanFill v a
+  can-first can = can-as a can first (wide-first v can.can.tables a b can.can.wide) (λ s. omega arith) (λ s all. stored-front (a s) (b s) all)
 
   -- and behind the others
   pub can-swapped : CanFill v (changed a b) → CanFill v (changed b a)
   can-swapped can =
-      let tables = can.can.tables in
-      let wide = wide-swapped v tables a b can.can.wide in
-      let less = spans-less tables (changed b a) tables (changed a b) (λ s. omega (arith, sizes-append (a s) (b s), sizes-append (b s) (a s))) (sources_of v.query) in
-      let whole = can.can.stored.1 in
-      record {
-        can = record {
-          can = can.can.can;
-          tables = tables;
-          stands = can.can.stands;
-          wide = wide;
-          few = omega (arith, can.can.few, less);
-          stored = (
-            can.can.stored.0,
-            all-both (λ s. AreStored (a s ++ b s)) (λ s. AreStored (a s ++ b s)) (λ s. AreStored (b s ++ a s))
-                (λ s all same. stored-append (b s) (a s) (stored-back (a s) (b s) all) (stored-front (a s) (b s) all)) (sources_of v.query) whole whole,
-          );
-        };
-        bags = (can.bags.0, bags-changed b a second first);
-      }
+      can-as (changed b a) can (bags-changed b a second first) (wide-swapped v can.can.tables a b can.can.wide) (λ s. omega (arith, sizes-append (b s) (a s)))
+      (λ s all. stored-append (b s) (a s) (stored-back (a s) (b s) all) (stored-front (a s) (b s) all))
 
   -- so the others are what is left then
   pub can-second : (w : ViewState) → CanFill v (changed a b) → Fills a v w → CanFill w b

@@ -4,7 +4,7 @@
 //! each view; a view that reads the table copies the columns of them that it reads, and no other view pays for it.
 ghost use Rattle.std.specs.Prelude.{IfOk, OnOk, length};
 ghost use Rattle.cq_deltas_joins.specs.Sources.{rows_at};
-ghost use Rattle.cq_table_columns.specs.Stored.{stored_rows};
+ghost use Rattle.cq_segments.specs.Rows.{stored_rows};
 ghost use Rattle.cq_views.specs.Changes.{StaysInRange, changes_of, exchanged};
 ghost use Rattle.cq_views.specs.Cut.{AddsCut, AreCut, IsCut, TakesCut};
 
@@ -12,8 +12,8 @@ use crate::cutting::entry_of;
 use cq_deltas_joins::SourceRows;
 use cq_model::Source;
 use cq_model_eval::key_of;
+use cq_segments::StoredRow;
 use cq_sides_weights::Weights;
-use cq_table_columns::StoredRow;
 use cq_values::Row;
 use cq_views_columns::SourceColumns;
 use std::alloc::{AllocError, Global};

@@ -1,8 +1,9 @@
 -- A query over rows that have the columns alone which it reads.
-use Rattle.std.specs.Prelude.{◌≡◌, ◌↔◌, ℕ, if◌then◌else◌, List, [], ◌∷◌, map, filter}
+use Rattle.std.specs.Prelude.{◌≡◌, ◌↔◌, ℕ, if◌then◌else◌, List, [], ◌∷◌, map, filter, Option}
 use Rattle.std.specs.List.{range_with_len}
 use Rattle.std.specs.Option.{option_map}
 use Rattle.cq_model_bags.specs.Bag.{IsBag, projected}
+use Rattle.cq_model.specs.Expr.{Cond, Expr}
 use Rattle.cq_model.specs.Pushed.{HaveWidths}
 use Rattle.cq_model.specs.Sources.{same_source}
 use Rattle.cq_model.specs.Group.{key_of}
@@ -40,6 +41,10 @@ abbrev pub sources_read : Query → List ℕ → List Source → List ℕ → Li
 sources_read q all (s ∷ sources) (wide ∷ widths) = record { source = s; columns = columns_read q all s wide } ∷ sources_read q all sources widths
 sources_read q all sources widths = []
 
+-- where the columns of these sources stand in the joined rows
+abbrev pub joined_places : List SourceColumns → List Source → List ℕ → List ℕ
+joined_places columns sources widths = places_from (columns_at columns) 0 sources widths
+
 -- an ON over rows with these columns alone
 abbrev pub renamed_on : (ℕ → ℕ) → List ℕ → List Equality → List Equality
 renamed_on to own on = map (λ e. record { left = to e.left; right = place_in own e.right }) on
@@ -52,20 +57,26 @@ renamed_join to columns join = record { source = join.source; on = renamed_on to
 abbrev pub renamed_joins : List ℕ → (Source → List ℕ) → List Join → List Join
 renamed_joins places columns joins = map (renamed_join (place_in places) columns) joins
 
+-- WHERE with its columns at these places
+abbrev pub filter_at : List ℕ → Query → Option Cond
+filter_at places q = option_map (renamed_cond (place_in places)) q.filter
+
+-- the items of a query with their columns there
+abbrev pub items_at : List ℕ → Query → List Expr
+items_at places q = renamed_items (place_in places) q.shape q.items
+
 -- a query over rows with these columns alone
 abbrev pub renamed_query : List ℕ → (Source → List ℕ) → Query → Query
-renamed_query places columns q = record {
-  first = q.first;
+renamed_query places columns q = record q {
   joins = renamed_joins places columns q.joins;
-  filter = option_map (renamed_cond (place_in places)) q.filter;
+  filter = filter_at places q;
   shape = renamed_shape (place_in places) q.shape;
-  items = renamed_items (place_in places) q.shape q.items;
-  distinct = q.distinct;
+  items = items_at places q;
 }
 
 -- a query over rows with these columns alone, whose sources have these widths
 abbrev pub renamed_over : Query → List Source → List ℕ → List SourceColumns → Query
-renamed_over q sources widths columns = renamed_query (places_from (columns_at columns) 0 sources widths) (columns_at columns) q
+renamed_over q sources widths columns = renamed_query (joined_places columns sources widths) (columns_at columns) q
 
 -- bags whose rows have as many columns as these widths say, source by source of FROM
 pub record HaveColumns (q : Query) (widths : List ℕ) (tables : Tables) : Type 0 where
@@ -74,12 +85,15 @@ pub record HaveColumns (q : Query) (widths : List ℕ) (tables : Tables) : Type 
   pub rows : HaveWidths width tables
   pub bags : (source : Source) → IsBag (tables source)
 
+-- over these bags it is in range where the query is in range over theirs
+abbrev pub IsInRangeAlike : Query → NarrowQuery → Tables → Type 0
+IsInRangeAlike query new tables = MeaningInRange new.query (narrowed_bags new.columns tables) ↔ MeaningInRange query tables
+
 -- it reads the same columns alone, has the same bag over the narrower rows, and is kept and shown wherever the query is
 pub record IsNarrowOf (query : Query) (widths : List ℕ) (new : NarrowQuery) : Type 0 where
   pub columns : new.columns ≡ sources_read query widths (sources_of query) widths
   pub bag : (tables : Tables) → HaveColumns query widths tables → meaning new.query (narrowed_bags new.columns tables) ≡ meaning query tables
-  pub range : (tables : Tables) → HaveColumns query widths tables
-      → MeaningInRange new.query (narrowed_bags new.columns tables) ↔ MeaningInRange query tables
+  pub range : (tables : Tables) → HaveColumns query widths tables → IsInRangeAlike query new tables
   pub sources : sources_of new.query ≡ sources_of query
   pub distinct : new.query.distinct ≡ query.distinct
   pub sizes : column_sizes new.query ≡ column_sizes query

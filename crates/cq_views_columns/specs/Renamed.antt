@@ -6,6 +6,7 @@ use Rattle.cq_model.specs.declared.query.Aggregate.{Aggregate}
 use Rattle.cq_model.specs.declared.query.Aggregate.TheVariants.{CountAll, Count, Sum, Min, Max}
 use Rattle.cq_model.specs.declared.query.Shape.{Shape}
 use Rattle.cq_model.specs.declared.query.Shape.TheVariants.{Plain, Grouped}
+use Rattle.cq_model_terms.specs.Places.{place_in}
 use Rattle.cq_model_terms.specs.Renamed.{renamed}
 
 -- what is shown of a group, with each column at its new place
@@ -19,6 +20,10 @@ renamed_aggregate to (Max e) = Max (renamed to e)
 -- groups by the new places; HAVING reads the groups, and stays
 abbrev pub renamed_groups : (ℕ → ℕ) → Option (List ℕ) → List Aggregate → Option Cond → Shape
 renamed_groups to keys aggregates having = Grouped (option_map (map to) keys) (map (renamed_aggregate to) aggregates) having
+
+-- so they are where the columns stand at these places
+abbrev pub groups_at : List ℕ → Option (List ℕ) → List Aggregate → Option Cond → Shape
+groups_at places keys aggregates having = renamed_groups (place_in places) keys aggregates having
 
 -- where there are some
 abbrev pub renamed_shape : (ℕ → ℕ) → Shape → Shape

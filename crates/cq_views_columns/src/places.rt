@@ -1,7 +1,7 @@
 //! Where the columns that are kept stand in the narrower rows.
-ghost use Rattle.std.specs.Prelude.{◌+◌, ◌++◌, ◌<◌, ◌^◌, ◌≡◌, IfOk, OnOk, sum};
-ghost use Rattle.cq_views_columns.specs.Narrow.{columns_at};
-ghost use Rattle.cq_views_columns.specs.Places.{behind, below, places_from};
+ghost use Rattle.std.specs.Prelude.{◌+◌, ◌<◌, ◌^◌, ◌≡◌, IfOk, OnOk, sum};
+ghost use Rattle.cq_views_columns.specs.Narrow.{joined_places};
+ghost use Rattle.cq_views_columns.specs.Places.{PutsPlaces};
 
 use crate::columns::{SourceColumns, columns_at};
 use cq_model::Source;
@@ -15,7 +15,7 @@ pub(crate) fn places_of(
     widths: &[usize],
 ) -> Result<Vec<usize>, AllocError>
     requires { sum widths.now < 2 ^ 64 }
-    ensures { IfOk result (λ v. v.items ≡ places_from (columns_at columns.now) 0 sources.now widths.now) }
+    ensures { IfOk result (λ v. v.items ≡ joined_places columns.now sources.now widths.now) }
 {
     let mut places = Vec::new(alloc);
     let mut before = 0;
@@ -33,7 +33,7 @@ fn add_places(
     places: &mut Vec<usize>,
 ) -> Result<(), AllocError>
     requires { before + wide < 2 ^ 64 }
-    ensures { OnOk result (places.new.items ≡ places.old.items ++ behind before (below wide columns.now)) }
+    ensures { OnOk result (PutsPlaces before wide columns.now places.old places.new) }
 {
     for column in columns {
         if *column < wide {

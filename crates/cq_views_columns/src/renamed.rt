@@ -4,8 +4,8 @@ ghost use Rattle.std.specs.Prelude.{◌≡◌, IfOk, map};
 ghost use Rattle.cq_model_terms.specs.Naming.{place_by};
 ghost use Rattle.cq_model_terms.specs.Places.{place_in};
 ghost use Rattle.cq_model_terms.specs.Renamed.{renamed, renamed_cond};
-ghost use Rattle.cq_views_columns.specs.Narrow.{columns_at, renamed_joins, renamed_on, renamed_query};
-ghost use Rattle.cq_views_columns.specs.Renamed.{renamed_aggregate, renamed_groups, renamed_items, renamed_shape};
+ghost use Rattle.cq_views_columns.specs.Narrow.{columns_at, filter_at, items_at, renamed_joins, renamed_on, renamed_query};
+ghost use Rattle.cq_views_columns.specs.Renamed.{groups_at, renamed_aggregate, renamed_items, renamed_shape};
 
 use crate::columns::{SourceColumns, columns_at};
 use cq_model::{Aggregate, Cond, Equality, Expr, Join, Query, Shape};
@@ -79,9 +79,9 @@ fn renamed_parts(
     query: &Query,
     places: &[usize],
 ) -> Result<(Option<Cond>, Shape, Seq<Expr>), AllocError>
-    ensures filter { IfOk result (λ r. r.0 ≡ option_map (renamed_cond (place_in places.now)) query.now.filter) }
+    ensures filter { IfOk result (λ r. r.0 ≡ filter_at places.now query.now) }
     ensures shape { IfOk result (λ r. r.1 ≡ renamed_shape (place_in places.now) query.now.shape) }
-    ensures items { IfOk result (λ r. r.2 ≡ renamed_items (place_in places.now) query.now.shape query.now.items) }
+    ensures items { IfOk result (λ r. r.2 ≡ items_at places.now query.now) }
 {
     let filter = renamed_filter(alloc, &query.filter, Naming::Among(places))?;
     let (filter, (shape, items)) = both(filter, renamed_shown(alloc, query, places))?;
@@ -95,7 +95,7 @@ fn renamed_shown(
     places: &[usize],
 ) -> Result<(Shape, Seq<Expr>), AllocError>
     ensures shape { IfOk result (λ r. r.0 ≡ renamed_shape (place_in places.now) query.now.shape) }
-    ensures items { IfOk result (λ r. r.1 ≡ renamed_items (place_in places.now) query.now.shape query.now.items) }
+    ensures items { IfOk result (λ r. r.1 ≡ items_at places.now query.now) }
 {
     let shape = renamed_shape(alloc, &query.shape, places)?;
     let items = query.items.as_slice();
@@ -147,7 +147,7 @@ fn renamed_groups(
     having: &Option<Cond>,
     places: &[usize],
 ) -> Result<Shape, AllocError>
-    ensures { IfOk result (λ s. s ≡ renamed_groups (place_in places.now) keys.now aggregates.now having.now) }
+    ensures { IfOk result (λ s. s ≡ groups_at places.now keys.now aggregates.now having.now) }
 {
     let keys = renamed_keys(alloc, keys, places)?;
     let having = renamed_filter(alloc, having, Naming::Same)?;

@@ -1,5 +1,5 @@
 -- A view shows its query's bag, and can show it where the query's totals are in range.
-use Rattle.std.proofs.Common.{◌≡◌, List, [], ◌∷◌, map, None, Some, Option, sym, ◌∙◌, ap, subst}
+use Rattle.std.proofs.Common.{◌≡◌, List, [], ◌∷◌, map, None, Some, Option, sym, ◌∙◌, ap, ap₂, subst}
 use Rattle.cq_values.specs.Value.{Row}
 use Rattle.cq_model_bags.specs.Bag.{SameBag, IsBag, Weighted, filtered, once_each, projected}
 use Rattle.cq_model_bags.proofs.Bags.{same-refl}
@@ -9,7 +9,7 @@ use Rattle.cq_views_model.specs.Kept.{Groups, Images, LastStands}
 use Rattle.cq_views_model.specs.Shown.{ListsKeys}
 use Rattle.cq_model_laws.proofs.Positives.{joined_rows-bag}
 use Rattle.cq_model_laws.proofs.Shown.{last-shown}
-use Rattle.cq_model.specs.Expr.{Cond}
+use Rattle.cq_model.specs.Expr.{Cond, Expr}
 use Rattle.cq_model.specs.Group.{group_row}
 use Rattle.cq_model.specs.Meaning.{ShapeInRange, items_of, joined_rows, keeps, shaped, shown}
 use Rattle.cq_model.specs.Sizes.{count_size}
@@ -37,6 +37,10 @@ module _ (query : Query) (groups : KeyedGroups) where
 
   abbrev items : Row → Row
   items = items_of query.items
+
+  -- what the items are in the rows that were found is what the query's items are in all rows
+  pub items-shown : (its : List Expr) (rows results : List Row) → its ≡ query.items → rows ≡ all_rows query.shape groups → results ≡ map (items_of its) rows → results ≡ map items (all_rows query.shape groups)
+  items-shown its rows results is are e = e ∙ ap₂ (λ (es : List Expr) (rs : List Row). map (items_of es) rs) is are
 
   by-shape : (shape : Shape) → HasNoHaving shape → Lists shape → (xs : Weighted) → Stand shape xs → IsBag xs
       → SameBag (once_each (map items (all_rows shape groups))) (projected items (shaped shape xs))

@@ -1,11 +1,12 @@
 -- Rows that groups take in turn are taken together.
-use Rattle.std.proofs.Common.{◌≡◌, ◌∙◌, ◌<◌, ◌^◌, List, [], ◌++◌, length-append, refl, sym, ap, subst, arith}
+use Rattle.std.proofs.Common.{◌≡◌, ◌∙◌, ◌<◌, ◌^◌, List, [], ◌++◌, length, length-append, refl, sym, ap, subst, arith}
 use Rattle.std.proofs.lemmas.List.{append-nil, append_assoc, map-append}
 use Rattle.cq_values.specs.Value.{Row}
 use Rattle.cq_model_bags.proofs.Linears.{filtered-append}
 use Rattle.cq_model_bags.specs.Bag.{Weighted}
 use Rattle.cq_deltas.specs.Additions.{Addition, addition, additions}
 use Rattle.cq_deltas.specs.Keyed.{additions_at}
+use Rattle.cq_sides.specs.Ticks.{counted}
 use Rattle.cq_model.specs.Meaning.{keeps}
 use Rattle.cq_model.specs.declared.query.Query.{Query}
 use Rattle.cq_views_state.specs.Grouping.{CanTake, Keeps, Takes, kept_additions}
@@ -26,23 +27,30 @@ takes-none t = record {
   ticks = λ fits. omega (arith, fits);
 }
 
-pub takes-more : (a b c : GroupTaker) (xs ys : Weighted) → Takes a xs b → Takes b ys c → Takes a (xs ++ ys) c
-takes-more a b c xs ys first second =
-    let query = a.query.now in
+-- what two runs add, one behind the other, is what all their rows add
+added-more : (a b c : GroupTaker) (xs ys : Weighted) → Takes a xs b → Takes b ys c
+    → additions_at c.groups c.change ≡ additions_at a.groups a.change ++ kept_additions a.query.now (xs ++ ys)
+added-more a b c xs ys first second =
     let before = additions_at a.groups a.change in
-    let more = subst (λ (q : Query). additions_at c.groups c.change ≡ additions_at b.groups b.change ++ kept_additions q ys) first.query second.added in
-    record {
-      query = second.query ∙ first.query;
-      added =
-          more ∙ ap (λ (zs : List Addition). zs ++ kept_additions query ys) first.added
-          ∙ append_assoc before (kept_additions query xs) (kept_additions query ys)
-          ∙ ap (λ (zs : List Addition). before ++ zs) (sym (additions-append query xs ys));
-      keys = λ keys. second.keys (first.keys keys);
-      ticks = λ fits.
-          let here = first.ticks fits in
-          let there : b.ticks < 2 ^ 128 = omega (arith, here) in
-          omega (arith, here, second.ticks there, length-append xs ys);
-    }
+    let adds : Query → List Addition → List Addition = λ q zs. zs ++ kept_additions q ys in
+    let more : additions_at c.groups c.change ≡ adds a.query.now (additions_at b.groups b.change) = second.added ∙ ap (λ (q : Query). adds q (additions_at b.groups b.change)) first.query in
+    more ∙ ap (adds a.query.now) first.added ∙ append_assoc before (kept_additions a.query.now xs) (kept_additions a.query.now ys)
+    ∙ ap (λ (zs : List Addition). before ++ zs) (sym (additions-append a.query.now xs ys))
+
+-- and each of the rows counts one
+ticks-more : (a b c : GroupTaker) (xs ys : Weighted) → Takes a xs b → Takes b ys c → a.ticks < 2 ^ 128 → c.ticks ≡ counted a.ticks (length (xs ++ ys))
+ticks-more a b c xs ys first second fits =
+    let here = first.ticks fits in
+    let there : b.ticks < 2 ^ 128 = omega (arith, here) in
+    omega (arith, here, second.ticks there, length-append xs ys)
+
+pub takes-more : (a b c : GroupTaker) (xs ys : Weighted) → Takes a xs b → Takes b ys c → Takes a (xs ++ ys) c
+takes-more a b c xs ys first second = record {
+  query = second.query ∙ first.query;
+  added = added-more a b c xs ys first second;
+  keys = λ keys. second.keys (first.keys keys);
+  ticks = ticks-more a b c xs ys first second;
+}
 
 pub keeps-itself : (t : GroupTaker) → Keeps t t
 keeps-itself t = record { query = refl; same = λ k. refl; more = omega arith }

@@ -1,9 +1,12 @@
 -- Changed joined rows that a view's groups take one after the other.
 use Rattle.std.specs.Prelude.{◌≡◌, ◌<◌, ◌≤◌, ◌^◌, ℕ, ◌++◌, List, length}
+use Rattle.std.specs.Global.{Vec}
 use Rattle.cq_values.specs.Value.{Row}
 use Rattle.cq_model_bags.specs.Bag.{Weighted}
+use Rattle.cq_deltas_joins.specs.Sources.{rows_at}
 use Rattle.cq_deltas_joins.specs.Streaming.{IsFewChange}
 use Rattle.cq_deltas_joins.specs.declared.chain.Chain.{Chain}
+use Rattle.cq_deltas_joins.specs.declared.sources.SourceRows.{SourceRows}
 use Rattle.cq_deltas.specs.Additions.{Addition, additions}
 use Rattle.cq_deltas.specs.Keyed.{HasKeys, KeyedGroups, additions_at}
 use Rattle.cq_deltas.specs.Placed.{Placed}
@@ -47,6 +50,10 @@ pub record AreReadied (query : Query) (groups : KeyedGroups) (more : List Placed
 -- what the changes add behind the joins waits for the groups
 abbrev pub AddsChange : Query → Chain → Tables → KeyedGroups → List Placed → Type 0
 AddsChange query chain changes groups more = TakesMerged (AreReadied query groups more) (IsFewChange chain changes)
+
+-- so it is with changes that are handed in
+abbrev pub AddsChangeBy : Query → Chain → Vec SourceRows → KeyedGroups → List Placed → Type 0
+AddsChangeBy query chain changes groups more = AddsChange query chain (rows_at changes.items) groups more
 
 -- each row that the changes add behind the joins counted one
 abbrev pub CountsChange : Chain → Tables → ℕ → ℕ → Type 0

@@ -6,12 +6,12 @@ ghost use Rattle.cq_deltas_joins.specs.WaitingChanges.{AreWaiting};
 ghost use Rattle.cq_deltas_joins.specs.Sources.{rows_at};
 ghost use Rattle.cq_deltas_joins.specs.Steps.{CanTake};
 ghost use Rattle.cq_deltas_joins.specs.Work.{CountsPairs};
-ghost use Rattle.cq_views_state.specs.Grouping.{AddsChange, CountsChange};
+ghost use Rattle.cq_views_state.specs.Grouping.{AddsChangeBy, CountsChange};
 ghost use Rattle.cq_views_state.specs.Last.{GroupsStay};
 ghost use Rattle.cq_views_model.specs.Query.{CanBeKept};
 
 use crate::query::{aggregates_of, key_columns};
-use cq_deltas::{GroupChange, Groups};
+use cq_deltas::{GroupChange, Grouping, Groups};
 use cq_deltas_joins::{Chain, SourceRows, Takes, Waiting};
 use cq_model::Query;
 use cq_model_eval::keeps;
@@ -41,11 +41,14 @@ impl<'a> Takes for GroupTaker<'a> {
 
     fn take(&mut self, alloc: Global, row: &[Value], weight: i128) -> Result<(), AllocError> {
         self.ticks = self.ticks.saturating_add(1);
-        let (keys, aggregates) = (key_columns(self.query), aggregates_of(self.query));
+        let (columns, aggregates) = (key_columns(self.query), aggregates_of(self.query));
+        let grouping = Grouping {
+            columns,
+            aggregates,
+        };
         if keeps(&self.query.filter, row) {
             let change = &mut self.change;
-            self.groups
-                .ready(alloc, keys, aggregates, row, weight, change)
+            self.groups.ready(alloc, grouping, row, weight, change)
         } else {
             Ok(())
         }
@@ -73,7 +76,7 @@ pub(crate) fn stream_groups(
 ) -> Result<(Waiting, GroupChange), AllocError>
     requires can { CanBeKept query.now }
     requires change { CanChange chain.old (rows_at changes.items) }
-    ensures adds { IfOk result (λ r. AddsChange query.now chain.old (rows_at changes.items) groups.new r.1) }
+    ensures adds { IfOk result (λ r. AddsChangeBy query.now chain.old changes groups.new r.1) }
     ensures rows { OnOk result (CountsChange chain.old (rows_at changes.items) ticks.old ticks.new) }
     ensures waiting { IfOk result (λ r. AreWaiting chain.old (rows_at changes.items) chain.new r.0) }
     ensures ready { IfOk result (λ r. AllZip CanTake chain.new.steps.items r.0.joins.items) }

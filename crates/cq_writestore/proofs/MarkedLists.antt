@@ -1,17 +1,12 @@
 -- Rows by their flags, where some rows may have none.
 use Rattle.std.proofs.Common.{◌≡◌, ◌⊎◌, inl, inr, ◌∙◌, ℕ, zero, suc, ◌+◌, ◌<◌, ◌≤◌, ◌-◌, Bool, true, false, List, [], ◌∷◌, ◌++◌, min, length, drop, take, get_or, refl, sym, ap, arith}
 use Rattle.std.proofs.lemmas.Bool.{cases_lt}
-use Rattle.std.proofs.lemmas.List.{drop-map, length-drop, length-take-le, take-append-drop, take-map, take_all}
+use Rattle.std.proofs.lemmas.List.{drop-append-le, length-drop, length-take-le, take_all}
 use Rattle.std.proofs.Math.ListN.{drop_of_length-le}
-use Rattle.std.proofs.Math.Seq.{take-append_seam}
+use Rattle.std.proofs.Math.Seq.{drop-append-add, take-append_seam}
 use Rattle.cq_values.specs.Value.{Row}
 use Rattle.cq_segments.specs.Marked.{MarkedRow, live, live_from, marked_count, marks_of, rows_of, unmarked, with_flags}
-use Rattle.cq_segments.proofs.Marks.{count-append, length-flags, length-live, live_from-kept, live_from-passed, live_from-there, none-marked}
-
--- without a flag there is no mark
-pub flags-none : (rows : List Row) → with_flags rows [] ≡ unmarked rows
-flags-none [] = refl
-flags-none (row ∷ rows) = refl
+use Rattle.cq_segments.proofs.Marks.{flags-none, length-flags, length-live, live_from-kept, live_from-passed, live_from-there, none-marked}
 
 -- the mark of a row is its flag
 pub flag-at : (rows : List Row) (flags : List Bool) (place : ℕ) → place < length rows → get_or (marks_of (with_flags rows flags)) place false ≡ get_or flags place false
@@ -20,26 +15,6 @@ flag-at (row ∷ rows) [] zero lt = refl
 flag-at (row ∷ rows) [] (suc place) lt = ap (λ l. get_or (marks_of l) place false) (sym (flags-none rows)) ∙ flag-at rows [] place (omega (arith, lt))
 flag-at (row ∷ rows) (flag ∷ flags) zero lt = refl
 flag-at (row ∷ rows) (flag ∷ flags) (suc place) lt = flag-at rows flags place (omega (arith, lt))
-
-unmarked-take : (n : ℕ) (rows : List Row) → unmarked (take n rows) ≡ take n (unmarked rows)
-unmarked-take n rows = sym (take-map (λ (row : Row). record { row = row; marked = false }) n rows)
-
-unmarked-drop : (n : ℕ) (rows : List Row) → unmarked (drop n rows) ≡ drop n (unmarked rows)
-unmarked-drop n rows = sym (drop-map (λ (row : Row). record { row = row; marked = false }) n rows)
-
--- the first rows by the first flags
-pub take-flags : (rows : List Row) (flags : List Bool) (n : ℕ) → with_flags (take n rows) (take n flags) ≡ take n (with_flags rows flags)
-take-flags rows flags zero = refl
-take-flags [] flags (suc n) = refl
-take-flags (row ∷ rows) [] (suc n) = ap (λ l. record { row = row; marked = false } ∷ l) (unmarked-take n rows)
-take-flags (row ∷ rows) (flag ∷ flags) (suc n) = ap (λ l. record { row = row; marked = flag } ∷ l) (take-flags rows flags n)
-
--- and those behind them by the flags behind them
-pub drop-flags : (rows : List Row) (flags : List Bool) (n : ℕ) → with_flags (drop n rows) (drop n flags) ≡ drop n (with_flags rows flags)
-drop-flags rows flags zero = refl
-drop-flags [] flags (suc n) = refl
-drop-flags (row ∷ rows) [] (suc n) = flags-none (drop n rows) ∙ unmarked-drop n rows
-drop-flags (row ∷ rows) (flag ∷ flags) (suc n) = drop-flags rows flags n
 
 -- as many flags as there are
 pub take-min : {X : Type 0} (n : ℕ) (xs : List X) → take (min n (length xs)) xs ≡ take n xs
@@ -67,10 +42,6 @@ push-flag (r ∷ rows) (flag ∷ flags) row same = ap (λ l. record { row = r; m
 pub all_live : (stored : List MarkedRow) → length (live stored) ≡ length stored → stored ≡ unmarked (rows_of stored)
 all_live stored same = none-marked stored (omega (arith, same, length-live stored))
 
--- the marks in front and those behind
-pub count-parts : (n : ℕ) (stored : List MarkedRow) → marked_count (take n stored) + marked_count (drop n stored) ≡ marked_count stored
-count-parts n stored = sym (count-append (take n stored) (drop n stored)) ∙ ap marked_count (take-append-drop n stored)
-
 module _ (rows : List Row) (flags : List Bool) (place : ℕ) (lt : place < length rows) where
   -- the place is there
   pub row_there : place < length (with_flags rows flags)
@@ -96,3 +67,15 @@ turned n left xs le is =
 -- the marks of the first rows are as many as are not live
 pub count-front : (stored : List MarkedRow) (n : ℕ) → n ≤ length stored → marked_count (take n stored) + length (live (take n stored)) ≡ n
 count-front stored n le = omega (arith, length-live (take n stored), length-take-le n stored le)
+
+-- what is dropped of two lists is dropped of the first, and of the other what is more than that
+pub drop-both : {X : Type 0} (n : ℕ) (xs ys : List X) → drop n (xs ++ ys) ≡ drop n xs ++ drop (n - length xs) ys
+drop-both n xs ys = by_length (cases_lt n (length xs))
+  where
+    by_length : (n < length xs) ⊎ (length xs ≤ n) → drop n (xs ++ ys) ≡ drop n xs ++ drop (n - length xs) ys
+    by_length (inl less) =
+        drop-append-le n xs ys (omega (arith, less)) ∙ ap (λ (k : ℕ). drop n xs ++ drop k ys) {x = 0} {y = n - length xs} (omega (arith, less))
+    by_length (inr past) =
+        ap (λ (k : ℕ). drop k (xs ++ ys)) {x = n} {y = length xs + (n - length xs)} (omega (arith, past))
+        ∙ drop-append-add xs ys (n - length xs)
+        ∙ ap (λ l. l ++ drop (n - length xs) ys) (sym (drop_of_length-le xs {i = n} past))

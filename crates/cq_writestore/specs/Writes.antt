@@ -1,6 +1,8 @@
 -- A write store: its rows with their marks, and how many more there is room for.
-use Rattle.std.specs.Prelude.{ℕ, List}
-use Rattle.cq_segments.specs.Marked.{MarkedRow, with_flags}
+use Rattle.std.specs.Prelude.{◌≡◌, ◌<◌, ◌≤◌, ◌+◌, ◌^◌, ◌++◌, ℕ, List, length}
+use Rattle.cq_segments.specs.Marked.{MarkedRow, rows_of, unmarked, with_flags}
+use Rattle.cq_segments.specs.Pieces.{joined}
+use Rattle.cq_writestore.specs.declared.tail.Tail.{Tail}
 use Rattle.cq_writestore.specs.declared.written.Written.{Written}
 
 -- rows in order of insertion, and the room that is left
@@ -8,6 +10,23 @@ pub record Writes : Type 0 where
   pub rows : List MarkedRow
   pub room : ℕ
 
--- the rows that are lent, each with its mark
+-- there is room for so many rows behind a tail, and all of them can be counted
+pub record HasRoom (held : List MarkedRow) (tail : Writes) (room : ℕ) : Type 0 where
+  pub fits : room ≤ tail.room
+  pub small : length held + length tail.rows + room < 2 ^ 63
+
+-- the rows of a tail, each with its mark
+abbrev pub tail_rows : Tail → List MarkedRow
+tail_rows tail = with_flags tail.rows.now tail.marks.now
+
+-- all rows that are lent: those of the pieces, and then those of the tail
 abbrev pub written_rows : Written → List MarkedRow
-written_rows written = with_flags written.rows.now written.marks.now
+written_rows written = joined written.pieces.now ++ tail_rows written.tail
+
+-- none of these rows has a mark
+abbrev pub NoneMarked : List MarkedRow → Type 0
+NoneMarked rows = rows ≡ unmarked (rows_of rows)
+
+-- fewer are left than there were, unless there were none
+abbrev pub FewerLeft : {A : Type 0} → List A → List A → Type 0
+FewerLeft all rest = 0 < length all → length rest < length all

@@ -1,38 +1,40 @@
 //! The rows of a table that are not yet in a segment.
 //!
 //! A store begins empty. `reserve` makes room, and `push_reserved` puts a row behind the others: so what may fail comes
-//! before what changes the rows. `mark` deletes a row, `take_front` drops the first ones once they are moved, and
-//! `rows` lends all of them. Each costs its rows, and `take_front` a shift of those that stay.
-ghost use Rattle.std.specs.Prelude.{OnOk, [], drop, length, ◌++◌, ◌+◌, ◌<◌, ◌^◌, ◌≡◌, ◌≤◌, ◌∷◌};
-ghost use Rattle.cq_segments.specs.Marked.{marked_count, unmarked, with_mark};
+//! before what changes the rows. `append` puts many there, and makes pieces of 1,024 rows as soon as there are as many.
+//! `mark` deletes a row, `take_front` drops the first ones once they are moved, and `rows` lends all of them. Each costs
+//! its rows, and a step a piece; `append` also up to 1,023 older rows, which it puts into a piece, and `take_front` shifts
+//! those that stay and are in no piece.
+ghost use Rattle.std.specs.Prelude.{OnErr, OnOk, [], drop, length, ◌++◌, ◌+◌, ◌<◌, ◌^◌, ◌≡◌, ◌≤◌, ◌∷◌};
+ghost use Rattle.cq_segments.specs.Columns.{AreWide};
+ghost use Rattle.cq_segments.specs.Marked.{marked_count, rows_of, unmarked, with_mark};
 ghost use Rattle.cq_writestore.specs.Writes.{written_rows};
 
+use crate::piece_store::PieceStore;
+use crate::tail_store::{TailStore, push_all};
 use crate::written::Written;
+use cq_segments::widened;
 use cq_values::Row;
 use std::alloc::{AllocError, Global};
 use std::marker::Model;
 
-/// Rows in order of insertion, each with its mark.
+/// Rows in order of insertion, each with its mark: first those in pieces, and behind them the newest.
 #[derive(Drop)]
 pub struct WriteStore {
-    rows: Vec<Row>,
-    marks: Vec<bool>,
-    marked: usize,
+    pieces: PieceStore,
+    tail: TailStore,
+    room: usize,
 }
 
 impl Model for WriteStore {
-    ghost use Rattle.std.specs.Prelude.{length, min, vec_capacity, vec_len, ◌-◌, ◌≡◌};
-    ghost use Rattle.cq_segments.specs.Marked.{marked_count, with_flags};
-    ghost use Rattle.cq_writestore.specs.Writes.{Writes};
+    ghost use Rattle.std.specs.Prelude.{◌++◌};
+    ghost use Rattle.cq_writestore.specs.Writes.{HasRoom, Writes};
 
     ghost Value = { Writes };
 
-    ghost view = { λ s. record {
-      rows = with_flags s.rows.items s.marks.items;
-      room = min (vec_capacity s.rows - vec_len s.rows) (vec_capacity s.marks - vec_len s.marks);
-    } };
+    ghost view = { λ s. record { rows = s.pieces ++ s.tail.rows; room = s.room } };
 
-    ghost invariant = { λ s. (length s.marks.items ≡ length s.rows.items) × (s.marked ≡ marked_count (with_flags s.rows.items s.marks.items)) };
+    ghost invariant = { λ s. HasRoom s.pieces s.tail s.room };
 }
 
 impl WriteStore {
@@ -40,9 +42,9 @@ impl WriteStore {
         ensures { result.rows ≡ [] }
     {
         WriteStore {
-            rows: Vec::new(alloc),
-            marks: Vec::new(alloc),
-            marked: 0,
+            pieces: PieceStore::new(alloc),
+            tail: TailStore::new(alloc),
+            room: 0,
         }
     }
 
@@ -51,7 +53,7 @@ impl WriteStore {
         ensures len { result ≡ length self.now.rows }
         ensures small { result < 2 ^ 63 }
     {
-        self.rows.len()
+        self.pieces.len() + self.tail.len()
     }
 
     /// How many rows have a mark.
@@ -59,7 +61,7 @@ impl WriteStore {
         ensures len { result ≡ marked_count self.now.rows }
         ensures few { result ≤ length self.now.rows }
     {
-        self.marked
+        self.pieces.marked_len() + self.tail.marked_len()
     }
 
     /// The rows, where they are stored.
@@ -67,8 +69,8 @@ impl WriteStore {
         ensures { written_rows result ≡ self.now.rows }
     {
         Written {
-            rows: self.rows.as_slice(),
-            marks: self.marks.as_slice(),
+            pieces: self.pieces.pieces(),
+            tail: self.tail.tail(),
         }
     }
 
@@ -78,8 +80,10 @@ impl WriteStore {
         ensures rows { self.new.rows ≡ self.old.rows }
         ensures kept { self.old.room ≤ self.new.room }
     {
-        self.rows.reserve(additional)?;
-        self.marks.reserve(additional)
+        self.count_more(additional)?;
+        self.tail.reserve(additional)?;
+        self.room = self.room.max(additional);
+        Ok(())
     }
 
     /// Puts a row behind the others, for which there is room.
@@ -88,8 +92,29 @@ impl WriteStore {
         ensures rows { self.new.rows ≡ self.old.rows ++ unmarked (row ∷ []) }
         ensures room { self.old.room ≤ self.new.room + 1 }
     {
-        self.rows.push_reserved(row);
-        self.marks.push_reserved(false);
+        self.tail.push_reserved(row);
+        self.room -= 1;
+    }
+
+    /// Puts rows of this width behind the others, all of them or none.
+    pub fn append(&mut self, alloc: Global, rows: Vec<Row>, width: usize) -> Result<(), AllocError>
+        requires wide { AreWide width (rows_of self.old.rows ++ rows.items) }
+        ensures ok { OnOk result (self.new.rows ≡ self.old.rows ++ unmarked rows.items) }
+        ensures err { OnErr result (self.new.rows ≡ self.old.rows) }
+    {
+        self.count_more(rows.len())?;
+        let full = (self.tail.len() + rows.len()) / 1024;
+        if full == 0 {
+            return self.append_few(rows);
+        }
+        let made = self.tail.full_pieces(alloc, rows.as_slice(), full, width)?;
+        let gone = (1024 * full).saturating_sub(self.tail.len());
+        self.tail.reserve(rows.len() - gone)?;
+        self.pieces.append(made)?;
+        self.tail.take_front(1024 * full);
+        push_all(&mut self.tail, without_front(rows, gone));
+        self.room = 0;
+        Ok(())
     }
 
     /// Marks a row. One that has a mark keeps it.
@@ -98,9 +123,11 @@ impl WriteStore {
         ensures rows { self.new.rows ≡ with_mark place self.old.rows }
         ensures room { self.new.room ≡ self.old.room }
     {
-        if !self.marks[place] {
-            self.marks[place] = true;
-            self.marked += 1;
+        let held = self.pieces.len();
+        if place < held {
+            self.pieces.mark(place);
+        } else {
+            self.tail.mark(place - held);
         }
     }
 
@@ -109,13 +136,42 @@ impl WriteStore {
         ensures rows { self.new.rows ≡ drop count self.old.rows }
         ensures room { self.old.room ≤ self.new.room }
     {
-        let count = count.min(self.rows.len());
-        let gone = count - self.rows().split_at(count).0.live_len();
-        let left = self.rows.len() - count;
-        self.rows.rotate_left(count);
-        self.rows.truncate(left);
-        self.marks.rotate_left(count);
-        self.marks.truncate(left);
-        self.marked -= gone;
+        let held = self.pieces.len();
+        self.pieces.take_front(count);
+        self.tail.take_front(count.saturating_sub(held));
     }
+
+    /// Puts rows behind those of the tail, all of them or none.
+    fn append_few(&mut self, rows: Vec<Row>) -> Result<(), AllocError>
+        requires { length self.old.rows + length rows.items < 2 ^ 63 }
+        ensures ok { OnOk result (self.new.rows ≡ self.old.rows ++ unmarked rows.items) }
+        ensures err { OnErr result (self.new.rows ≡ self.old.rows) }
+    {
+        self.tail.reserve(rows.len())?;
+        push_all(&mut self.tail, rows);
+        self.room = 0;
+        Ok(())
+    }
+
+    /// Refuses more rows than can be counted.
+    fn count_more(&self, additional: usize) -> Result<(), AllocError>
+        ensures { OnOk result (length self.now.rows + additional < 2 ^ 63) }
+    {
+        let alloc = self.tail.allocator();
+        let count = widened(alloc, self.len(), additional)?;
+        widened(alloc, count, count)?;
+        Ok(())
+    }
+}
+
+/// Those of the rows that come behind so many.
+fn without_front(rows: Vec<Row>, count: usize) -> Vec<Row>
+    requires { count ≤ length rows.items }
+    ensures { result.items ≡ drop count rows.items }
+{
+    let mut rows = rows;
+    let left = rows.len() - count;
+    rows.rotate_left(count);
+    rows.truncate(left);
+    rows
 }

@@ -1,84 +1,69 @@
-//! Rows in order of insertion, lent with their marks.
+//! Rows of a write store, lent with their marks.
 //!
-//! A reader takes `split_front` until nothing is left: at most 1,024 rows at a time. No call takes memory.
+//! They stand in pieces, and the newest in a tail behind these. `at` finds one of them in some steps.
+ghost use Rattle.std.proofs.Props.{props};
+ghost use Rattle.std.specs.Prelude.{[], drop, length, slice_index_or, ◌+◌, ◌<◌, ◌^◌, ◌≡◌};
+ghost use Rattle.cq_segments.specs.Pieces.{joined};
+ghost use Rattle.cq_writestore.specs.Spots.{AreWhole};
 
-use crate::front::WrittenFront;
+use crate::spot::{Spot, rows_in, spot_of};
+use crate::tail::Tail;
+use cq_segments::{Piece, StoredRow};
 use cq_values::Row;
 
-/// Rows in order of insertion, each with its mark. Those past the last mark have none.
+/// Rows in order of insertion, each with its mark: first those in pieces, and behind them a tail.
 #[derive(Clone, Copy)]
 pub struct Written<'a> {
-    pub rows: &'a [Row],
-    pub marks: &'a [bool],
+    pub pieces: &'a [Piece],
+    pub tail: Tail<'a>,
+    ghost whole: { AreWhole (drop 1 pieces.now) } by { Prim.hlevel props },
+    ghost few: { length (joined pieces.now) + length tail.rows.now < 2 ^ 64 },
 }
 
 impl<'a> Written<'a> {
-    ghost use Rattle.std.specs.Bool.{OnTrue};
-    ghost use Rattle.std.specs.Prelude.{false, drop, length, slice_index_or, take, ◌++◌, ◌<◌, ◌≡◌, ◌≤◌};
-    ghost use Rattle.cq_segments.specs.Marked.{live, unmarked};
-    ghost use Rattle.cq_writestore.specs.Writes.{written_rows};
+    ghost use Rattle.cq_segments.specs.Marked.{rows_of, unmarked};
+    ghost use Rattle.cq_segments.specs.Rows.{row_of};
+    ghost use Rattle.cq_writestore.specs.Writes.{tail_rows, written_rows};
 
     /// Rows of a list, none of which has a mark.
     pub fn of(rows: &'a [Row]) -> Written<'a>
         ensures { written_rows result ≡ unmarked rows.now }
     {
-        Written { rows, marks: &[] }
+        Written::of_tail(Tail::of(rows))
+    }
+
+    /// Rows of which none stands in a piece.
+    pub fn of_tail(tail: Tail<'a>) -> Written<'a>
+        ensures rows { written_rows result ≡ tail_rows tail.entry }
+        ensures tail { result.tail ≡ tail.entry }
+        ensures none { result.pieces.now ≡ [] }
+    {
+        let _len = tail.rows.len();
+        Written { pieces: &[], tail }
     }
 
     pub fn len(&self) -> usize
         ensures { result ≡ length (written_rows self.now) }
     {
-        self.rows.len()
+        rows_in(self.pieces) + self.tail.len()
     }
 
-    /// Whether the row at a place has a mark.
-    pub fn is_marked(&self, place: usize) -> bool
-        ensures { result ≡ slice_index_or self.now.marks.now place false }
+    /// The row at a place, where it stands.
+    pub fn at(&self, place: usize) -> StoredRow<'a>
+        requires { place < length (written_rows self.now) }
+        ensures { row_of result ≡ slice_index_or (rows_of (written_rows self.now)) place [] }
     {
-        match self.marks.get(place) {
-            Some(mark) => *mark,
-            None => false,
+        let (pieces, rows) = (self.pieces, self.tail.rows);
+        match spot_of(pieces, place) {
+            Spot::InPiece(piece, at) => pieces[piece].columns().row(at),
+            Spot::Behind(at) => StoredRow::Alone(row_at(rows, at)),
         }
     }
+}
 
-    /// How many rows have no mark.
-    pub fn live_len(&self) -> usize
-        ensures { result ≡ length (live (written_rows self.now)) }
-    {
-        let mut count = 0;
-        for place in 0..self.rows.len() {
-            if !self.is_marked(place) {
-                count += 1;
-            }
-        }
-        count
-    }
-
-    /// The first rows, at most 1,024, and those behind them.
-    pub fn split_front(&self) -> (WrittenFront<'a>, Written<'a>)
-        ensures parts { written_rows self.now ≡ written_rows result.0.written ++ written_rows result.1 }
-        ensures few { length (written_rows result.0.written) ≤ 1024 }
-        ensures less { 0 < length (written_rows self.now) → length (written_rows result.1) < length (written_rows self.now) }
-    {
-        let (front, rest) = self.split_at(self.rows.len().min(1024));
-        (WrittenFront::new(front), rest)
-    }
-
-    /// The first rows, and those behind them.
-    pub fn split_at(&self, mid: usize) -> (Written<'a>, Written<'a>)
-        requires { mid ≤ length (written_rows self.now) }
-        ensures front { written_rows result.0 ≡ take mid (written_rows self.now) }
-        ensures back { written_rows result.1 ≡ drop mid (written_rows self.now) }
-    {
-        let (rows, marks) = (self.rows, self.marks);
-        let (rows, more_rows) = rows.split_at(mid);
-        let (marks, more_marks) = marks.split_at(mid.min(marks.len()));
-        (
-            Written { rows, marks },
-            Written {
-                rows: more_rows,
-                marks: more_marks,
-            },
-        )
-    }
+fn row_at(rows: &[Row], place: usize) -> &Row
+    requires { place < length rows.now }
+    ensures { result.now ≡ slice_index_or rows.now place [] }
+{
+    &rows[place]
 }

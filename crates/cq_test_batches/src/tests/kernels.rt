@@ -1,6 +1,7 @@
 //! Comparisons of vectors in each pair of forms at the lengths where words of flags end, with NULLs at both ends; patterns.
 ghost use Rattle.std.specs.Prelude.{IfOk, length, ◌<◌, ◌≡◌, ◌≤◌};
 
+use super::columns::row_within;
 use cq_prims::{compare, is_null, like};
 use cq_prims_like::Pattern;
 use cq_values::{Comparison, Day, Lent, Row, Text, Truth, Value};
@@ -35,15 +36,8 @@ fn text_of(rank: usize) -> &'static str {
 fn ranked(alloc: Global, kind: char, len: usize, shift: usize) -> Result<Vec<Row>, AllocError> {
     let mut rows = Vec::new(alloc);
     for place in 0..len {
-        let is_end = place == 0 || place == len - 1;
-        let value = if is_end {
-            Value::Null
-        } else {
-            value_of(alloc, kind, (place % 3 + shift % 3) % 3)?
-        };
-        let mut row = Row::new(alloc);
-        row.push(value)?;
-        rows.push(row)?;
+        let value = value_of(alloc, kind, (place % 3 + shift % 3) % 3)?;
+        rows.push(row_within(alloc, place, len, value)?)?;
     }
     Ok(rows)
 }

@@ -2,9 +2,9 @@
 ghost use Rattle.std.specs.Bool.{OnTrue};
 ghost use Rattle.std.specs.Prelude.{IfOk, length, ◌≡◌};
 ghost use Rattle.cq_segments.specs.Columns.{AreWide};
-ghost use Rattle.cq_vectors.specs.Gathered.{lent_rows};
+ghost use Rattle.cq_segments.specs.Rows.{stored_rows};
 
-use cq_segments::Segment;
+use cq_segments::{Segment, StoredRow};
 use cq_table_columns::{Chosen, Front};
 use cq_values::{Lent, Row, Value};
 use cq_writestore::WriteStore;
@@ -55,12 +55,12 @@ fn are_wide(rows: &[Row], width: usize) -> bool
     true
 }
 
-fn lend(alloc: Global, rows: &[Row]) -> Result<Vec<&Row>, AllocError>
-    ensures { IfOk result (λ lent. lent_rows lent.items ≡ rows.now) }
+fn lend(alloc: Global, rows: &[Row]) -> Result<Vec<StoredRow<'_>>, AllocError>
+    ensures { IfOk result (λ lent. stored_rows lent.items ≡ rows.now) }
 {
-    let mut lent: Vec<&Row> = Vec::new(alloc);
+    let mut lent: Vec<StoredRow<'_>> = Vec::new(alloc);
     for row in rows {
-        lent.push(row)?;
+        lent.push(StoredRow::Alone(row))?;
     }
     Ok(lent)
 }
@@ -215,7 +215,7 @@ fn the_front_of_the_write_store_leaves_with_its_marks(rt: HostRuntime) -> Result
     store.take_front(1);
     assert_eq!(rt; store.len(), 2);
     assert_eq!(rt; store.marked_len(), 1);
-    let (front, rest) = store.rows().split_front();
+    let (front, rest) = store.rows().tail.split_front();
     let front = Front::of_written(front);
     assert_eq!(rt; front.len(), 1);
     assert_eq!(rt; first_of(alloc, &front)?, 7);

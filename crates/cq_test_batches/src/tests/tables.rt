@@ -63,8 +63,8 @@ fn a_table_takes_as_many_rows_as_it_may_have(rt: HostRuntime) -> Result<(), Fail
         not_null: true,
     })?;
     let mut table = Table::new(alloc, columns, Seq::new(alloc), 2);
-    assert!(rt; table.insert(two).is_ok());
-    assert!(rt; table.insert(one) == Err(TableFault::Full));
+    assert!(rt; table.insert(alloc, two).is_ok());
+    assert!(rt; table.insert(alloc, one) == Err(TableFault::Full));
     assert_eq!(rt; table.len(), 2);
     drop(table);
     Ok(())

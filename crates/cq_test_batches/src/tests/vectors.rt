@@ -1,7 +1,8 @@
 //! Vectors of the lengths at which words of flags begin and end, with NULLs at both ends.
 ghost use Rattle.std.specs.Prelude.{length};
 
-use cq_values::{Day, Lent, Row, Text, Value};
+use super::columns::{is_number, row_of, row_within};
+use cq_values::{Day, Row, Text, Value};
 use cq_vectors::{Form, Vector};
 use std::alloc::{AllocError, Global};
 use std::test::Fail;
@@ -10,21 +11,9 @@ use std::test::Fail;
 fn numbered(alloc: Global, len: usize) -> Result<Vec<Row>, AllocError> {
     let mut rows = Vec::new(alloc);
     for place in 0..len {
-        let is_end = place == 0 || place == len - 1;
-        let value = if is_end {
-            Value::Null
-        } else {
-            Value::Number(place as i128)
-        };
-        rows.push(row_of(alloc, value)?)?;
+        rows.push(row_within(alloc, place, len, Value::Number(place as i128))?)?;
     }
     Ok(rows)
-}
-
-fn row_of(alloc: Global, value: Value) -> Result<Row, AllocError> {
-    let mut row = Row::new(alloc);
-    row.push(value)?;
-    Ok(row)
 }
 
 fn two_rows(alloc: Global, first: Value, second: Value) -> Result<Vec<Row>, AllocError> {
@@ -32,13 +21,6 @@ fn two_rows(alloc: Global, first: Value, second: Value) -> Result<Vec<Row>, Allo
     rows.push(row_of(alloc, first)?)?;
     rows.push(row_of(alloc, second)?)?;
     Ok(rows)
-}
-
-fn is_number(value: &Lent<'_>, number: i128) -> bool {
-    match value {
-        Lent::Number(n) => *n == number,
-        _ => false,
-    }
 }
 
 #[test]

@@ -4,7 +4,7 @@ ghost use Rattle.cq_deltas.specs.Keyed.{HasKeys, additions_at, group_at};
 ghost use Rattle.cq_deltas.specs.Laws.{AreSmall};
 ghost use Rattle.cq_values.specs.Value.{Row as Values};
 
-use cq_deltas::{GroupChange, Groups};
+use cq_deltas::{GroupChange, Grouping, Groups};
 use cq_model::{Aggregate, Expr, ShowFault};
 use cq_values::Value;
 use cq_values_rows::FlatRows;
@@ -35,10 +35,14 @@ fn under_null(alloc: Global) -> Result<FlatRows, ShowFault> {
         Aggregate::Count(Expr::column(1)),
         Aggregate::Sum(Expr::column(1)),
     ];
+    let by = Grouping {
+        columns: &[0],
+        aggregates: &aggregates,
+    };
     let mut groups = Groups::new(alloc);
     let mut change = GroupChange::new(alloc);
-    groups.ready(alloc, &[0], &aggregates, &five, 2, &mut change)?;
-    groups.ready(alloc, &[0], &aggregates, &null, 1, &mut change)?;
+    groups.ready(alloc, by, &five, 2, &mut change)?;
+    groups.ready(alloc, by, &null, 1, &mut change)?;
     shown_alone(alloc, &aggregates, groups, change)
 }
 
@@ -55,17 +59,14 @@ fn null_is_one_key_and_adds_nothing(rt: HostRuntime) -> Result<(), Fail> {
 fn total(alloc: Global, weight: i8) -> Result<FlatRows, ShowFault> {
     let (greatest, zero) = ([Value::Number(i128::MAX)], [Value::Number(0)]);
     let aggregates = [Aggregate::Sum(Expr::column(0))];
+    let by = Grouping {
+        columns: &[],
+        aggregates: &aggregates,
+    };
     let mut groups = Groups::new(alloc);
     let mut change = GroupChange::new(alloc);
-    groups.ready(
-        alloc,
-        &[],
-        &aggregates,
-        &greatest,
-        i128::from(weight),
-        &mut change,
-    )?;
-    groups.ready(alloc, &[], &aggregates, &zero, 4, &mut change)?;
+    groups.ready(alloc, by, &greatest, i128::from(weight), &mut change)?;
+    groups.ready(alloc, by, &zero, 4, &mut change)?;
     shown_alone(alloc, &aggregates, groups, change)
 }
 
@@ -89,13 +90,17 @@ fn ends(alloc: Global, fives: i8, threes: i8) -> Result<FlatRows, ShowFault> {
         Aggregate::Min(Expr::column(0)),
         Aggregate::Max(Expr::column(0)),
     ];
+    let by = Grouping {
+        columns: &[],
+        aggregates: &aggregates,
+    };
     let (fives, threes) = (i128::from(fives), i128::from(threes));
     let mut groups = Groups::new(alloc);
     let mut change = GroupChange::new(alloc);
-    groups.ready(alloc, &[], &aggregates, &five, 2, &mut change)?;
-    groups.ready(alloc, &[], &aggregates, &three, threes, &mut change)?;
-    groups.ready(alloc, &[], &aggregates, &null, 1, &mut change)?;
-    groups.ready(alloc, &[], &aggregates, &five, fives, &mut change)?;
+    groups.ready(alloc, by, &five, 2, &mut change)?;
+    groups.ready(alloc, by, &three, threes, &mut change)?;
+    groups.ready(alloc, by, &null, 1, &mut change)?;
+    groups.ready(alloc, by, &five, fives, &mut change)?;
     shown_alone(alloc, &aggregates, groups, change)
 }
 

@@ -156,3 +156,35 @@ fn a_view_counts_the_writes_that_change_it(rt: HostRuntime) -> Result<(), Fail> 
     drop(engine);
     counted
 }
+
+/// A statement, and how many rows of `t` stand in the write store behind it, and how many in segments with a mark.
+const STORED: &[(&str, u64, u64)] = &[
+    ("CREATE TABLE t(k INTEGER)", 0, 0),
+    ("INSERT INTO t VALUES (1), (2), (3), (4), (5)", 5, 0),
+    ("MOVE t 3", 2, 0),
+    ("DELETE FROM t WHERE k = 2 OR k = 5", 2, 1),
+    ("MOVE t 0", 2, 1),
+    ("UPDATE t SET k = k + 1 WHERE k < 2", 3, 2),
+    ("MOVE t 99", 0, 2),
+    ("MERGE t", 0, 0),
+];
+
+fn tell_lengths(rt: &impl Abort, alloc: Global, engine: &mut Engine) -> Result<(), Fail> {
+    assert!(rt; engine.stored("t") == None);
+    for (statement, written, marked) in STORED {
+        drop(carry_out(rt, alloc, engine, statement)?);
+        assert!(rt;
+            engine.stored("t") == Some((*written, *marked)),
+            "{statement}"
+        );
+    }
+    Ok(())
+}
+
+#[test]
+fn the_engine_tells_where_rows_are_stored(rt: HostRuntime) -> Result<(), Fail> {
+    let mut engine = engine(rt.alloc())?;
+    let told = tell_lengths(&rt, rt.alloc(), &mut engine);
+    drop(engine);
+    told
+}

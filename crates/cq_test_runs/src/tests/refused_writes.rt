@@ -64,61 +64,65 @@ const BEFORE: &[Step] = &[
     (BOUNDS, Some(&[&[10, 2, 4], &[11, 1, 1]])),
 ];
 
-/// A write, and what each table and each view answers behind it.
+/// What they answer behind an INSERT.
+const INSERTED: &[Step] = &[
+    ORDERS,
+    PRODUCTS,
+    (
+        LINES,
+        Some(&[
+            &[1, 10, 2],
+            &[1, 11, 1],
+            &[2, 10, 4],
+            &[2, 11, 3],
+            &[3, 12, 5],
+        ]),
+    ),
+    (TURNOVER, Some(&[&[7, 38, 4], &[8, 20, 1]])),
+    (PAIRS, Some(&[&[10, 11], &[10, 11]])),
+    (BOUNDS, Some(&[&[10, 2, 4], &[11, 1, 3], &[12, 5, 5]])),
+];
+
+/// And then behind an UPDATE.
+const UPDATED: &[Step] = &[
+    ORDERS,
+    PRODUCTS,
+    (
+        LINES,
+        Some(&[
+            &[1, 10, 2],
+            &[1, 11, 1],
+            &[2, 10, 5],
+            &[2, 11, 4],
+            &[3, 12, 5],
+        ]),
+    ),
+    (TURNOVER, Some(&[&[7, 46, 4], &[8, 20, 1]])),
+    (PAIRS, Some(&[&[10, 11], &[10, 11]])),
+    (BOUNDS, Some(&[&[10, 2, 5], &[11, 1, 4], &[12, 5, 5]])),
+];
+
+/// And then behind a DELETE.
+const DELETED: &[Step] = &[
+    ORDERS,
+    PRODUCTS,
+    (LINES, Some(&[&[2, 10, 5], &[2, 11, 4], &[3, 12, 5]])),
+    (TURNOVER, Some(&[&[7, 35, 2], &[8, 20, 1]])),
+    (PAIRS, Some(&[&[10, 11]])),
+    (BOUNDS, Some(&[&[10, 5, 5], &[11, 4, 4], &[12, 5, 5]])),
+];
+
+/// A write or a step of the mover, and what each table and each view answers behind it.
 type Write = (&'static str, &'static [Step]);
 
 const WRITES: &[Write] = &[
-    (
-        "INSERT INTO l VALUES (2, 11, 3), (3, 12, 5)",
-        &[
-            ORDERS,
-            PRODUCTS,
-            (
-                LINES,
-                Some(&[
-                    &[1, 10, 2],
-                    &[1, 11, 1],
-                    &[2, 10, 4],
-                    &[2, 11, 3],
-                    &[3, 12, 5],
-                ]),
-            ),
-            (TURNOVER, Some(&[&[7, 38, 4], &[8, 20, 1]])),
-            (PAIRS, Some(&[&[10, 11], &[10, 11]])),
-            (BOUNDS, Some(&[&[10, 2, 4], &[11, 1, 3], &[12, 5, 5]])),
-        ],
-    ),
-    (
-        "UPDATE l SET q = q + 1 WHERE o = 2",
-        &[
-            ORDERS,
-            PRODUCTS,
-            (
-                LINES,
-                Some(&[
-                    &[1, 10, 2],
-                    &[1, 11, 1],
-                    &[2, 10, 5],
-                    &[2, 11, 4],
-                    &[3, 12, 5],
-                ]),
-            ),
-            (TURNOVER, Some(&[&[7, 46, 4], &[8, 20, 1]])),
-            (PAIRS, Some(&[&[10, 11], &[10, 11]])),
-            (BOUNDS, Some(&[&[10, 2, 5], &[11, 1, 4], &[12, 5, 5]])),
-        ],
-    ),
-    (
-        "DELETE FROM l WHERE o = 1",
-        &[
-            ORDERS,
-            PRODUCTS,
-            (LINES, Some(&[&[2, 10, 5], &[2, 11, 4], &[3, 12, 5]])),
-            (TURNOVER, Some(&[&[7, 35, 2], &[8, 20, 1]])),
-            (PAIRS, Some(&[&[10, 11]])),
-            (BOUNDS, Some(&[&[10, 5, 5], &[11, 4, 4], &[12, 5, 5]])),
-        ],
-    ),
+    ("INSERT INTO l VALUES (2, 11, 3), (3, 12, 5)", INSERTED),
+    ("MOVE l 2", INSERTED),
+    ("UPDATE l SET q = q + 1 WHERE o = 2", UPDATED),
+    ("MERGE l", UPDATED),
+    ("DELETE FROM l WHERE o = 1", DELETED),
+    ("MERGE l", DELETED),
+    ("MOVE l 9", DELETED),
 ];
 
 /// How many writes there were, and how many of them each view has taken in.

@@ -8,22 +8,19 @@ use Rattle.cq_binder_queries.proofs.names.view_columns.Goals as goal
 pub returns-in_err-check_names : goal.returns-in_err-check_names
 returns-in_err-check_names c =
     let p = err_from_is_err_and c.from_residual-in_err-check_names.result c.from_residual-in_err-check_names.ensures.1 in
-    let v = c.args.view.now in
     let named = rw c.as_slice.ensures at c.in_ok-columns.ensures in
     let e = rw c.as_slice-2.ensures at c.in_err-check_names.ensures in
-    rw (p.1, p.2) (name_refused (scope_of c.args.scope.now) v.items (no_clause v.is_distinct ∷ []) c.in_ok-columns.columns named c.in_err-check_names.field-0.0 e)
+    rw (p.1, p.2) (name_refused (scope_of c.args.scope.now) c.args.view.now.items (no_clause c.args.view.now.is_distinct ∷ []) c.in_ok-columns.columns named c.in_err-check_names.field-0.0 e)
 
 pub returns-in_err-refuse_clause : goal.returns-in_err-refuse_clause
 returns-in_err-refuse_clause c =
     let p = err_from_is_err_and c.from_residual-in_err-refuse_clause.result c.from_residual-in_err-refuse_clause.ensures.1 in
-    let v = c.args.view.now in
     let named = rw c.as_slice.ensures at c.in_ok-columns.ensures in
     let distinct = rw c.as_slice-2.ensures at c.in_ok-check_names.ensures in
-    rw (p.1, p.2) (rest_refused (scope_of c.args.scope.now) v.items (no_clause v.is_distinct ∷ []) c.in_ok-columns.columns named c.in_err-refuse_clause.field-0.0 distinct.0 c.in_err-refuse_clause.ensures)
+    rw (p.1, p.2) (rest_refused (scope_of c.args.scope.now) c.args.view.now.items (no_clause c.args.view.now.is_distinct ∷ []) c.in_ok-columns.columns named c.in_err-refuse_clause.field-0.0 distinct.0 c.in_err-refuse_clause.ensures)
 
 pub returns : goal.returns
 returns c =
-    let v = c.args.view.now in
     let named = rw c.as_slice.ensures at c.in_ok-columns.ensures in
     let distinct = rw c.as_slice-2.ensures at c.in_ok-check_names.ensures in
-    (names_pass (scope_of c.args.scope.now) v.items (no_clause v.is_distinct ∷ []) c.in_ok-columns.columns named distinct.0 c.in_ok-refuse_clause.ensures.0, named)
+    (names_pass (scope_of c.args.scope.now) c.args.view.now.items (no_clause c.args.view.now.is_distinct ∷ []) c.in_ok-columns.columns named distinct.0 c.in_ok-refuse_clause.ensures.0, named)

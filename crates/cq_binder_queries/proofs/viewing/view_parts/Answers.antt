@@ -1,4 +1,8 @@
+use Rattle.std.proofs.Common.{List, ap, subst, sym, ◌∙◌}
 use Rattle.std.proofs.lemmas.Result.{err_from_is_err_and}
+use Rattle.cq_values.specs.declared.column.ColumnDef.{ColumnDef}
+use Rattle.cq_binder_queries.specs.declared.parts.BoundParts.{BoundParts}
+use Rattle.cq_binder_queries.specs.Parts.{AreBoundParts}
 use Rattle.cq_binder_queries.proofs.Creating.{absent_refused, clauses_refused, end_refused, names_refused, view_passes}
 use Rattle.cq_binder_queries.proofs.viewing.view_parts.Goals as goal
 
@@ -14,12 +18,19 @@ pub returns-in-Err-ended_parts : goal.returns-in-Err-ended_parts
 returns-in-Err-ended_parts c =
     end_refused c.args.view.now c.args.columns.now c.in_ok-clauses.ensures.0 c.in-Ok.ensures.0 c.in-Err-ended_parts.fault c.in-Err-ended_parts.ensures
 
-pub returns-in-Err-refuse_absent : goal.returns-in-Err-refuse_absent
-returns-in-Err-refuse_absent c =
-    absent_refused c.args.view.now c.args.columns.now c.in_ok-clauses.ensures.0 c.in-Ok.ensures.0 c.in-Ok-ended_parts.ensures.0 c.in-Err-refuse_absent.fault c.in-Err-refuse_absent.ensures
+pub returns-in_err-shown : goal.returns-in_err-shown
+returns-in_err-shown c =
+    let p = err_from_is_err_and c.from_residual-in_err-shown.result c.from_residual-in_err-shown.ensures.1 in
+    let absent = rw c.in_err-shown.ensures at c.refuse_absent.ensures in
+    rw (p.1, p.2) (absent_refused c.args.view.now c.args.columns.now c.in_ok-clauses.ensures.0 c.in-Ok.ensures.0 c.in-Ok-ended_parts.ensures.0 c.in_err-shown.field-0.0 absent)
 
 pub returns : goal.returns
-returns c = (
-  view_passes c.args.view.now c.args.columns.now c.in_ok-clauses.ensures.0 c.in-Ok.ensures.0 c.in-Ok-ended_parts.ensures.0 c.in-Ok-refuse_absent.ensures.0,
-  record { columns_of = c.in-Ok.ensures.1; parts = c.in-Ok-ended_parts.ensures.1 },
-)
+returns c =
+    let both = c.in_ok-shown.ensures in
+    let absent = rw both.1 at c.refuse_absent.ensures in (
+      view_passes c.args.view.now c.args.columns.now c.in_ok-clauses.ensures.0 c.in-Ok.ensures.0 c.in-Ok-ended_parts.ensures.0 absent.0,
+      record {
+        columns_of = ap (λ (pair : List ColumnDef × BoundParts). pair.0) both.0 ∙ c.in-Ok.ensures.1;
+        parts = subst (λ (pair : List ColumnDef × BoundParts). AreBoundParts c.args.columns.now c.args.view.now pair.1) (sym both.0) c.in-Ok-ended_parts.ensures.1;
+      },
+    )

@@ -1,5 +1,5 @@
 use Rattle.std.proofs.Common.{take, ◌≡◌}
-use Rattle.cq_vectors.specs.Columns.{texts_of}
+use Rattle.cq_vectors_stored.specs.Columns.{texts_of}
 use Rattle.cq_encodings.proofs.dict.run_of.Given as goal
 
 abbrev pub invariant-loop-text : goal.invariant-loop-text

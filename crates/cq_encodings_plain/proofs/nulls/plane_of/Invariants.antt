@@ -1,7 +1,7 @@
-use Rattle.std.proofs.Common.{drop, map, take, ◌≡◌}
-use Rattle.cq_values.specs.Value.{is_null}
+use Rattle.std.proofs.Common.{drop, take, ◌≡◌}
+use Rattle.cq_encodings_plain.specs.Parts.{nulls_of}
 use Rattle.cq_encodings_plain.proofs.nulls.plane_of.Given as goal
 
 -- the flags so far
 abbrev pub invariant-loop-i : goal.invariant-loop-i
-invariant-loop-i l = l.plane ≡ map is_null (take l.i (drop l.start l.values))
+invariant-loop-i l = l.plane ≡ nulls_of (take l.i (drop l.start l.values))

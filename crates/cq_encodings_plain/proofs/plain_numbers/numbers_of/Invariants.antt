@@ -2,14 +2,15 @@ use Rattle.std.proofs.Common.{length, map, pos, take, vec_capacity, vec_len, ◌
 use Rattle.std.specs.Simd.Lanes.{zip2}
 use Rattle.cq_encodings_plain.specs.Kind.{datum}
 use Rattle.cq_encodings_plain.specs.Nulls.{NothingWhere}
-use Rattle.cq_values.specs.Value.{is_null}
+use Rattle.cq_encodings_plain.specs.Parts.{nulls_of}
+use Rattle.cq_values.specs.Lent.{owned}
 use Rattle.cq_encodings_plain.proofs.plain_numbers.numbers_of.Given as goal
 
 -- the numbers so far and the flags make the values so far
 abbrev pub invariant-loop-value : goal.invariant-loop-value
 invariant-loop-value l = record {
-  same : zip2 (datum l.kind) l.numbers.items (map is_null (take l.value-index l.values)) ≡ take l.value-index l.values;
-  clear : NothingWhere (pos 0) (map is_null (take l.value-index l.values)) l.numbers.items;
+  same : zip2 (datum l.kind) l.numbers.items (nulls_of (take l.value-index l.values)) ≡ map owned (take l.value-index l.values);
+  clear : NothingWhere (pos 0) (nulls_of (take l.value-index l.values)) l.numbers.items;
   long : length l.numbers.items ≡ l.value-index;
   room : vec_len l.numbers + (length l.values - l.value-index) ≤ vec_capacity l.numbers;
 }

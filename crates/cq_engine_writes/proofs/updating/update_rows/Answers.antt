@@ -35,8 +35,10 @@ returns-clause-updates c =
     )
 
 pub returns-clause-lengths : goal.returns-clause-lengths
-returns-clause-lengths c =
-    omega (arith, c.in_ok-replace.ensures.lengths, c.len.ensures, length_come c.args.table.now c.args.assignments.now c.args.condition.now c.requires.can c.args.views.now.items c.prepared.new.views.items c.in_ok-found.found c.in_ok-found.images.items c.in_ok-found.pendings.items c.in_ok-found.ensures.ready)
+returns-clause-lengths c = record {
+  write_len = omega (arith, c.in_ok-replace.ensures.lengths.write_len, c.len.ensures, length_come c.args.table.now c.args.assignments.now c.args.condition.now c.requires.can c.args.views.now.items c.prepared.new.views.items c.in_ok-found.found c.in_ok-found.images.items c.in_ok-found.pendings.items c.in_ok-found.ensures.ready);
+  segments = c.in_ok-replace.ensures.lengths.segments;
+}
 
 pub returns-clause-follow : goal.returns-clause-follow
 returns-clause-follow c =

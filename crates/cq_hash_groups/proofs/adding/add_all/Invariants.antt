@@ -1,6 +1,6 @@
 use Rattle.std.proofs.Common.{◌≡◌, ℕ, ◌+◌, get_or, length, take}
 use Rattle.cq_hash_groups.specs.Groups.{all_added}
-use Rattle.cq_hash_groups.specs.Slots.{AreWithin, no_slots}
+use Rattle.cq_hash_groups_slots.specs.Slots.{AreWithin, no_slots}
 use Rattle.cq_hash_groups.proofs.adding.add_all.Given as goal
 
 -- the aggregates so far have the rows, and none has more values than were there or added

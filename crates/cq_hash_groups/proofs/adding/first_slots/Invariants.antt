@@ -1,5 +1,5 @@
 use Rattle.std.proofs.Common.{◌≡◌, map, take}
-use Rattle.cq_hash_groups.specs.Slots.{empty_slots, grown_slots}
+use Rattle.cq_hash_groups_slots.specs.Slots.{empty_slots, grown_slots}
 use Rattle.cq_hash_groups.proofs.adding.first_slots.Given as goal
 
 -- the aggregates so far have their groups

@@ -1,4 +1,4 @@
-use Rattle.std.proofs.Common.{◌≡◌, ◌∙◌, ◌<◌, ℕ, length, get_or, sym, ap, subst, rules}
+use Rattle.std.proofs.Common.{◌∙◌, ℕ, length, sym, ap, subst, rules}
 use Rattle.cq_values.specs.Value.{column}
 use Rattle.cq_hash_keys.specs.Stages.{IsWithinBoth, longest, singles}
 use Rattle.cq_hash_keys.specs.Keys.{key_at}

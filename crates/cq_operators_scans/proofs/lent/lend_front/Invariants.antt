@@ -1,5 +1,6 @@
 use Rattle.std.proofs.Common.{◌≡◌, ◌++◌, take}
-use Rattle.cq_table_columns.specs.Stored.{front_rows, stored_rows}
+use Rattle.cq_segments.specs.Rows.{stored_rows}
+use Rattle.cq_table_columns.specs.Stored.{front_rows}
 use Rattle.cq_operators_scans.proofs.lent.lend_front.Given as goal
 
 -- those lent before, and the rows so far

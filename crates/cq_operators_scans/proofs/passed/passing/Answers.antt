@@ -1,14 +1,22 @@
-use Rattle.std.proofs.Common.{◌∙◌, ◌++◌, ap, sym, List}
+use Rattle.std.proofs.Common.{◌∙◌, ◌++◌, ap, subst, sym, List}
+use Rattle.std.specs.List.{AllByRecursion}
 use Rattle.std.proofs.lemmas.List.{map-append}
 use Rattle.std.proofs.lemmas.Result.{IfOk-weaker}
-use Rattle.cq_table_columns.specs.Stored.{all_rows, front_rows, row_of, stored_rows}
+use Rattle.cq_segments.specs.Rows.{row_of, stored_rows}
+use Rattle.cq_table_columns.specs.Stored.{all_rows, front_rows}
 use Rattle.cq_model.specs.Own.{passes_own}
+use Rattle.cq_model_bags.proofs.Lists.{all-front}
 use Rattle.cq_values.specs.Value.{Row}
 use Rattle.cq_operators_scans.specs.Passing.{CanPass, conditions_in}
 use Rattle.cq_operators_scans.proofs.Asking.{empty-asked}
 use Rattle.cq_operators_scans.proofs.Fronts.{front-kept}
 use Rattle.cq_operators_scans.proofs.Lists.{all-behind}
 use Rattle.cq_operators_scans.proofs.passed.passing.Goals as goal
+
+pub passing_front-requires-clause-exact : goal.passing_front-requires-clause-exact
+passing_front-requires-clause-exact c =
+    let can = CanPass c.args.before (conditions_in c.args.conditions.now) in
+    all-front can (front_rows c.split_front.result.0) (all_rows c.split_front.result.1) (subst (AllByRecursion can) c.split_front.ensures.parts c.loop-left.invariant.exact)
 
 pub loop-left-preserved : goal.loop-left-preserved
 loop-left-preserved c =

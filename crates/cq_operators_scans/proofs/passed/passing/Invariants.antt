@@ -1,7 +1,8 @@
 use Rattle.std.proofs.Common.{◌≡◌, ◌++◌, length}
 use Rattle.std.specs.List.{AllByRecursion}
 use Rattle.cq_operators_scans.specs.Passing.{CanPass, conditions_in, passing_rows}
-use Rattle.cq_table_columns.specs.Stored.{all_rows, stored_rows}
+use Rattle.cq_segments.specs.Rows.{stored_rows}
+use Rattle.cq_table_columns.specs.Stored.{all_rows}
 use Rattle.cq_operators_scans.proofs.passed.passing.Given as goal
 
 -- what passed so far and what passes of the rows that are left make up all

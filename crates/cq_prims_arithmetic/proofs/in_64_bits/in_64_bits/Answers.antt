@@ -1,32 +1,21 @@
-use Rattle.std.proofs.Common.{◌≡◌, length, ap, sym, ◌∙◌, arith}
+use Rattle.std.proofs.Common.{length, ap, sym, ◌∙◌, arith}
 use lib.Lanes.{zip2}
-use Rattle.std.proofs.lemmas.Simd.{length-zip2}
-use Rattle.cq_vectors.specs.Columns.{number_unless}
+use Rattle.cq_vectors_stored.specs.Columns.{number_unless}
 use Rattle.cq_prims_arithmetic.specs.Operation.{zero_if}
-use Rattle.cq_prims_arithmetic.proofs.ColumnLemmas.{fit_cleared, values_cleared, zero_cleared}
+use Rattle.cq_prims_arithmetic.proofs.ColumnLemmas.{cleared-same, fit_cleared, results-same, values_cleared, zero_cleared}
 use Rattle.cq_prims_arithmetic.proofs.in_64_bits.in_64_bits.Goals as goal
 
 pub clear_nulls-requires : goal.clear_nulls-requires
-clear_nulls-requires g c =
-    let ms = g.A.Side.numbers c.args.a.now in
-    let ns = g.B.Side.numbers c.args.b.now in
-    sym (ap length c.in_ok-values.ensures ∙ length-zip2 g.O.Operation.apply ms ns (c.requires.left ∙ sym c.requires.right) ∙ c.requires.left)
+clear_nulls-requires g c = sym (ap length c.in_ok-values.ensures ∙ results-same g.O.Operation.apply (g.A.Side.numbers c.args.a.now) (g.B.Side.numbers c.args.b.now) c.args.nulls c.requires.left c.requires.right)
 
 pub new-requires-clause-same : goal.new-requires-clause-same
 new-requires-clause-same g c =
-    let ms = g.A.Side.numbers c.args.a.now in
-    let ns = g.B.Side.numbers c.args.b.now in
-    let made = zip2 g.O.Operation.apply ms ns in
-    let long : length made ≡ length c.args.nulls = length-zip2 g.O.Operation.apply ms ns (c.requires.left ∙ sym c.requires.right) ∙ c.requires.left in
-    rw (c.clear_nulls.ensures, c.in_ok-values.ensures) (sym (length-zip2 zero_if made c.args.nulls long ∙ long))
+    rw (c.clear_nulls.ensures, c.in_ok-values.ensures) (sym (cleared-same g.O.Operation.apply (g.A.Side.numbers c.args.a.now) (g.B.Side.numbers c.args.b.now) c.args.nulls c.requires.left c.requires.right))
 
 pub new-requires-clause-few : goal.new-requires-clause-few
 new-requires-clause-few g c =
-    let ms = g.A.Side.numbers c.args.a.now in
-    let ns = g.B.Side.numbers c.args.b.now in
-    let made = zip2 g.O.Operation.apply ms ns in
-    let long : length made ≡ length c.args.nulls = length-zip2 g.O.Operation.apply ms ns (c.requires.left ∙ sym c.requires.right) ∙ c.requires.left in
-    rw (c.clear_nulls.ensures, c.in_ok-values.ensures) (omega (arith, length-zip2 zero_if made c.args.nulls long, long, c.len.ensures.len, c.len.ensures.few))
+    let same = cleared-same g.O.Operation.apply (g.A.Side.numbers c.args.a.now) (g.B.Side.numbers c.args.b.now) c.args.nulls c.requires.left c.requires.right in
+    rw (c.clear_nulls.ensures, c.in_ok-values.ensures) (omega (arith, same, c.len.ensures.len, c.len.ensures.few))
 
 pub new-requires-clause-zero : goal.new-requires-clause-zero
 new-requires-clause-zero g c = rw (c.clear_nulls.ensures, c.in_ok-values.ensures) (zero_cleared (zip2 g.O.Operation.apply (g.A.Side.numbers c.args.a.now) (g.B.Side.numbers c.args.b.now)) c.args.nulls)

@@ -3,7 +3,7 @@ use Rattle.std.specs.Vec.{vec_capacity, vec_len}
 use Rattle.cq_model.specs.Eval.{extracted}
 use Rattle.cq_model.specs.Group.{addend}
 use Rattle.std.specs.Int.{w64}
-use Rattle.cq_vectors.specs.Columns.{AllFit}
+use Rattle.cq_vectors_stored.specs.Columns.{AllFit}
 use Rattle.cq_prims_arithmetic.specs.Operation.{no_number}
 use Rattle.cq_prims_arithmetic.proofs.parts.extract.Given as goal
 

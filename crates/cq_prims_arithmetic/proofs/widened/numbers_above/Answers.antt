@@ -1,8 +1,9 @@
 use Rattle.std.proofs.Common.{◌≡◌, ◌∙◌, ◌<◌, ◌+ℤ◌, [], ◌∷◌, ◌++◌, ap, ap₂, arith, get_or, length, map, of_z, pos, subst, sym, take, to_z, to_z-of_z, w64, FitsSigned, List, ℤ}
 use Rattle.std.proofs.lemmas.Int.{ints}
 use Rattle.std.proofs.lemmas.List.{take_all}
-use Rattle.cq_vectors.specs.Offsets.{offsets_in}
-use Rattle.cq_prims_arithmetic.proofs.WidenedLemmas.{above, above_more}
+use Rattle.cq_vectors_stored.specs.Offsets.{offsets_in}
+use Rattle.cq_prims_arithmetic.specs.Sides.{above}
+use Rattle.cq_prims_arithmetic.proofs.WidenedLemmas.{above_more}
 use Rattle.cq_prims_arithmetic.proofs.widened.numbers_above.Goals as goal
 
 pub loop-i-preserved : goal.loop-i-preserved

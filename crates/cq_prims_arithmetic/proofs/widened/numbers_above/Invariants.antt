@@ -1,7 +1,7 @@
 use Rattle.std.proofs.Common.{◌≡◌, ◌+◌, ◌-◌, ◌≤◌, map, take}
 use Rattle.std.specs.Vec.{vec_capacity, vec_len}
-use Rattle.cq_vectors.specs.Offsets.{offsets_in}
-use Rattle.cq_prims_arithmetic.proofs.WidenedLemmas.{above}
+use Rattle.cq_vectors_stored.specs.Offsets.{offsets_in}
+use Rattle.cq_prims_arithmetic.specs.Sides.{above}
 use Rattle.cq_prims_arithmetic.proofs.widened.numbers_above.Given as goal
 
 -- the numbers of the first i places, and room for the others

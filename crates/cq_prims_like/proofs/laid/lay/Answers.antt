@@ -1,7 +1,7 @@
 use Rattle.std.proofs.Common.{◌≡◌, ◌<◌, ◌+◌, ◌++◌, ap₂, subst, sym, ◌∙◌, arith, length, take, List, ℕ, Bor, []}
 use Rattle.std.proofs.lemmas.List.{length-map}
 use lib.ListN.{get_or-map}
-use Rattle.cq_vectors.specs.Columns.{texts_of}
+use Rattle.cq_vectors_stored.specs.Columns.{texts_of}
 use Rattle.cq_prims_like.proofs.PlaceLemmas.{concat_more}
 use Rattle.cq_prims_like.proofs.laid.lay.Goals as goal
 

@@ -1,6 +1,6 @@
 use Rattle.std.proofs.Common.{◌≡◌, ◌≤◌, take}
 use Rattle.std.specs.List.{concat}
-use Rattle.cq_vectors.specs.Columns.{texts_of}
+use Rattle.cq_vectors_stored.specs.Columns.{texts_of}
 use Rattle.cq_prims_like.proofs.laid.lay.Given as goal
 
 -- the room begins with the texts so far

@@ -2,7 +2,7 @@ use Rattle.std.proofs.Common.{◌<◌, ◌∙◌, arith, length, length-set, Lis
 use Rattle.std.proofs.lemmas.List.{length-map}
 use lib.ListN.{get_or-map}
 use Rattle.memchr.specs.Find.{FindsNeedle}
-use Rattle.cq_vectors.specs.Columns.{texts_of}
+use Rattle.cq_vectors_stored.specs.Columns.{texts_of}
 use Rattle.cq_prims_like.proofs.PlaceLemmas.{end_within, next_start, place_found, found_more, room_of_found}
 use Rattle.cq_prims_like.proofs.laid.places_in.Goals as goal
 

@@ -2,7 +2,7 @@ use Rattle.std.proofs.Common.{◌≡◌, ◌≤◌, ◌<◌, ℕ, [], take, leng
 use Rattle.std.specs.Prelude.{None}
 use Rattle.std.specs.List.{concat}
 use Rattle.memchr.specs.Find.{FindsNeedle}
-use Rattle.cq_vectors.specs.Columns.{texts_of}
+use Rattle.cq_vectors_stored.specs.Columns.{texts_of}
 use Rattle.cq_prims_like.proofs.laid.places_in.Given as goal
 
 -- the first places in the texts so far, and the next place of the run in the bytes

@@ -1,5 +1,5 @@
 use Rattle.std.proofs.Common.{subst}
-use Rattle.cq_vectors.specs.Columns.{texts_of}
+use Rattle.cq_vectors_stored.specs.Columns.{texts_of}
 use Rattle.cq_prims_like.specs.Patterns.{FindsInEach}
 use Rattle.cq_prims_texts.proofs.having_texts.word_by_run.Goals as goal
 

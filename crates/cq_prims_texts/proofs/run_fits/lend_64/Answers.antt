@@ -1,6 +1,6 @@
 use Rattle.std.proofs.Common.{◌∙◌, ◌≡◌, ◌<◌, ◌∷◌, ◌++◌, [], ap, ap₂, arith, drop, get_or, length, ◌+◌, length-set, sym, take, Bor, List, ℕ}
 use Rattle.std.proofs.lemmas.List.{get_or-drop, length-drop, length-map, map-set, take_all, take_more, take_more_set}
-use Rattle.cq_vectors.specs.Columns.{texts_of}
+use Rattle.cq_vectors_stored.specs.Columns.{texts_of}
 use Rattle.cq_prims_texts.proofs.run_fits.lend_64.Goals as goal
 
 pub loop-i-preserved : goal.loop-i-preserved

@@ -1,18 +1,13 @@
-use Rattle.std.proofs.Common.{◌≡◌, ◌<◌, ◌≤◌, ◌+◌, ◌-◌, ℕ, [], get_or, length, take}
-use Rattle.std.specs.List.{AllByRecursion}
-use Rattle.cq_vectors.specs.Gathered.{lent_rows}
+use Rattle.std.proofs.Common.{◌≡◌, ◌<◌, ◌-◌, ◌*◌, ℕ, [], get_or, length, min, take}
+use Rattle.cq_segments.specs.Columns.{encoded_rows}
 use Rattle.cq_segments.specs.Marked.{unmarked}
 use Rattle.cq_segments.specs.Pieces.{joined}
 use Rattle.cq_segments.proofs.building.make_pieces.Given as goal
 
--- the pieces so far have the rows so far, and each is full where rows are left
-abbrev pub invariant-loop-from : goal.invariant-loop-from
-invariant-loop-from l = record {
-  rows : joined l.made.items ≡ unmarked (lent_rows (take l.from l.rows));
-  few : AllByRecursion (λ p. length p ≤ 1024) l.made.items;
-  full : (k : ℕ) → k + 1 < length l.made.items → length (get_or l.made.items k []) ≡ 1024;
-  whole : (k : ℕ) → l.from < length l.rows → k < length l.made.items → length (get_or l.made.items k []) ≡ 1024;
+-- the pieces so far have the rows so far, each 1,024 of them or as many as are left
+abbrev pub invariant-loop-part : goal.invariant-loop-part
+invariant-loop-part l = record {
+  rows : joined l.made.items ≡ unmarked (take (1024 * l.part) (encoded_rows l.encoded.value.items l.len));
+  as_many : length l.made.items ≡ l.part;
+  lengths : (k : ℕ) → k < length l.made.items → length (get_or l.made.items k []) ≡ min 1024 (length (encoded_rows l.encoded.value.items l.len) - 1024 * k);
 }
-
-abbrev pub decreases-loop-from : goal.decreases-loop-from
-decreases-loop-from l = length l.rows - l.from

@@ -1,7 +1,7 @@
 use Rattle.std.proofs.Common.{◌-◌, length, arith, sym, ◌∙◌}
 use Rattle.std.proofs.lemmas.Result.{err_from_is_err_and}
 use Rattle.cq_sql_expressions.specs.declared.leads.Lead.TheVariants as leads
-use Rattle.cq_sql_expressions.specs.Lists.{led}
+use Rattle.cq_sql_expressions.specs.Lists.{after_lead, led}
 use Rattle.cq_sql_expressions.proofs.Chains.{runs_out}
 use Rattle.cq_sql_expressions.proofs.Turns.{entries_stop}
 use Rattle.cq_sql.specs.Parts.{row_at}
@@ -16,7 +16,7 @@ returns-in_err-rest-in-Some c =
 
 pub returns-in-None : goal.returns-in-None
 returns-in-None c =
-    entries_stop leads.Comma row_at c.loop.rows (length c.args.tokens.now) c.loop.counter c.loop.rest.now (more_rows_at c.args.rows.now c.args.tokens.now) c.loop-test.true c.loop.invariant (sym c.in-None.ensures)
+    entries_stop (after_lead leads.Comma) row_at c.loop.rows (length c.args.tokens.now) c.loop.counter c.loop.rest.now (more_rows_at c.args.rows.now c.args.tokens.now) c.loop-test.true c.loop.invariant (sym c.in-None.ensures)
 
 pub loop-preserved : goal.loop-preserved
 loop-preserved c =

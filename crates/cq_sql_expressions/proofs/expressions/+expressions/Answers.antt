@@ -4,25 +4,26 @@ use Rattle.std.proofs.lemmas.List.{map-append, length-map}
 use Rattle.cq_sql_language.specs.declared.token.Token.{Token}
 use Rattle.cq_sql_language.specs.Written.{Written, written, terms}
 use Rattle.cq_sql_expressions.specs.Gives.{Fails}
-use Rattle.cq_sql_expressions.specs.Chains.{separated_part, more_parts, signed_term, more_terms}
+use Rattle.cq_sql_expressions.specs.Chains.{after_separator, separated_part, more_parts, signed_term, more_terms}
 use Rattle.cq_sql_expressions.specs.Expressions.{part_of, product_of, readers}
 use Rattle.cq_sql_expressions.proofs.Chains.{runs_out}
-use Rattle.cq_sql_expressions.proofs.Parts.{part_goes_on, part_fails, part_stops, term_goes_on, term_fails, term_stops, product_is}
+use Rattle.cq_sql_expressions.proofs.Terms.{term_goes_on, term_fails, term_stops, product_is}
+use Rattle.cq_sql_expressions.proofs.Turns.{entry_goes_on, entry_fails, entries_stop}
 use Rattle.cq_sql_expressions.proofs.Depths.{choices_shut, choices_inside, expression_inside, sum_inside}
 use Rattle.cq_sql_expressions.proofs.expressions.+expressions.Goals as goal
 
 pub more_parts-returns-in_err-part-in-Some : goal.more_parts-returns-in_err-part-in-Some
 more_parts-returns-in_err-part-in-Some t c =
     let p = err_from_is_err_and c.from_residual.result c.from_residual.ensures.1 in
-    rw (p.1, p.2) (part_fails c.args.separator (part_of (readers c.args.depth) c.args.separator) (map written c.loop.parts.items) (length c.args.tokens.now) c.loop.counter c.loop.rest.now (more_parts c.args.separator (part_of (readers c.args.depth) c.args.separator) (map written c.args.before.items) c.args.tokens.now) c.loop-test.true c.loop.invariant c.in_err-part-in-Some.field-0.0 c.in-Some.after.now (sym c.in-Some.ensures) c.in_err-part-in-Some.ensures)
+    rw (p.1, p.2) (entry_fails (after_separator c.args.separator) (part_of (readers c.args.depth) c.args.separator) (map written c.loop.parts.items) (length c.args.tokens.now) c.loop.counter c.loop.rest.now (more_parts c.args.separator (part_of (readers c.args.depth) c.args.separator) (map written c.args.before.items) c.args.tokens.now) c.loop-test.true c.loop.invariant c.in_err-part-in-Some.field-0.0 c.in-Some.after.now (sym c.in-Some.ensures) c.in_err-part-in-Some.ensures)
 
 pub more_parts-returns-in-None : goal.more_parts-returns-in-None
 more_parts-returns-in-None t c =
-    part_stops c.args.separator (part_of (readers c.args.depth) c.args.separator) (map written c.loop.parts.items) (length c.args.tokens.now) c.loop.counter c.loop.rest.now (more_parts c.args.separator (part_of (readers c.args.depth) c.args.separator) (map written c.args.before.items) c.args.tokens.now) c.loop-test.true c.loop.invariant (sym c.in-None.ensures)
+    entries_stop (after_separator c.args.separator) (part_of (readers c.args.depth) c.args.separator) (map written c.loop.parts.items) (length c.args.tokens.now) c.loop.counter c.loop.rest.now (more_parts c.args.separator (part_of (readers c.args.depth) c.args.separator) (map written c.args.before.items) c.args.tokens.now) c.loop-test.true c.loop.invariant (sym c.in-None.ensures)
 
 pub more_parts-loop-preserved : goal.more_parts-loop-preserved
 more_parts-loop-preserved t c =
-    rw (c.in_ok-push-in-Some.ensures.items, map-append written c.loop.parts.items (c.in_ok-part-in-Some.part ∷ [])) (part_goes_on c.args.separator (part_of (readers c.args.depth) c.args.separator) (map written c.loop.parts.items) (length c.args.tokens.now) c.loop.counter c.loop.rest.now (more_parts c.args.separator (part_of (readers c.args.depth) c.args.separator) (map written c.args.before.items) c.args.tokens.now) c.loop-test.true c.loop.invariant c.in-Some.after.now c.in_ok-part-in-Some.next.now (written c.in_ok-part-in-Some.part) (sym c.in-Some.ensures) c.in_ok-part-in-Some.ensures)
+    rw (c.in_ok-push-in-Some.ensures.items, map-append written c.loop.parts.items (c.in_ok-part-in-Some.part ∷ [])) (entry_goes_on (after_separator c.args.separator) (part_of (readers c.args.depth) c.args.separator) (map written c.loop.parts.items) (length c.args.tokens.now) c.loop.counter c.loop.rest.now (more_parts c.args.separator (part_of (readers c.args.depth) c.args.separator) (map written c.args.before.items) c.args.tokens.now) c.loop-test.true c.loop.invariant c.in-Some.after.now c.in_ok-part-in-Some.next.now (written c.in_ok-part-in-Some.part) (sym c.in-Some.ensures) c.in_ok-part-in-Some.ensures)
 
 pub more_parts-returns : goal.more_parts-returns
 more_parts-returns t c =

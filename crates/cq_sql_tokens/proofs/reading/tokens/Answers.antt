@@ -5,49 +5,46 @@ use Rattle.cq_sql_tokens.specs.Lexing.{gap_at}
 use Rattle.cq_sql_tokens.proofs.Cuts.{skips, takes, takes_spaced, is_done, stops, gap_shrinks, token_shrinks, spaced_shrinks}
 use Rattle.cq_sql_tokens.proofs.reading.tokens.Goals as goal
 
--- a number, and the comma behind it
-
-pub loop-rest-smaller-in_ok-push-in-Some-Comma-default-2 : goal.loop-rest-smaller-in_ok-push-in-Some-Comma-default-2
-loop-rest-smaller-in_ok-push-in-Some-Comma-default-2 c =
-    let number = c.in-Some in
-    let comma = c.in-Some-Comma-default in
-    omega (
-      arith,
-      token_shrinks c.loop-rest.rest.now (tokens.Number number.number) number.after.now number.ensures.gap number.ensures.token,
-      spaced_shrinks number.after.now (tokens.Symbol comma.field-0-0) (drop 1 number.after.now) comma.behind.now comma.ensures.gap comma.ensures.token comma.ensures.rest,
-    )
-
-pub loop-rest-preserved-in_ok-push-in-Some-Comma-default-2 : goal.loop-rest-preserved-in_ok-push-in-Some-Comma-default-2
-loop-rest-preserved-in_ok-push-in-Some-Comma-default-2 c =
-    let number = c.in-Some in
-    let comma = c.in-Some-Comma-default in
-    let before = takes c.args.text.now c.loop-rest.tokens c.loop-rest.rest.now (tokens.Number number.number) number.after.now number.ensures.gap number.ensures.token c.loop-rest.invariant.1 in (
-      search rules,
-      rw (c.in_ok-push-in-Some-Comma-default-2.ensures.ok, c.in_ok-push-in-Some-Comma-default.ensures.ok, c.from.ensures, ← comma.field-0-0-is)
-          (takes_spaced c.args.text.now _ number.after.now (tokens.Symbol comma.field-0-0) (drop 1 number.after.now) comma.behind.now comma.ensures.gap comma.ensures.token comma.ensures.rest before),
-    )
-
--- a number with none behind it
-
-pub loop-rest-smaller-in_ok-push-in_default-lone_sign_at : goal.loop-rest-smaller-in_ok-push-in_default-lone_sign_at
-loop-rest-smaller-in_ok-push-in_default-lone_sign_at c =
-    token_shrinks c.loop-rest.rest.now (tokens.Number c.in-Some.number) c.in-Some.after.now c.in-Some.ensures.gap c.in-Some.ensures.token
-
-pub loop-rest-preserved-in_ok-push-in_default-lone_sign_at : goal.loop-rest-preserved-in_ok-push-in_default-lone_sign_at
-loop-rest-preserved-in_ok-push-in_default-lone_sign_at c =
-    (search rules, rw (c.in_ok-push-in_default-lone_sign_at.ensures.ok, c.from-in_default-lone_sign_at.ensures) (takes c.args.text.now c.loop-rest.tokens c.loop-rest.rest.now (tokens.Number c.in-Some.number) c.in-Some.after.now c.in-Some.ensures.gap c.in-Some.ensures.token c.loop-rest.invariant.1))
-
--- a parenthesis or a comma alone
+-- a number, and the sign behind it
 
 pub loop-rest-smaller-in-Some-lone_sign_at : goal.loop-rest-smaller-in-Some-lone_sign_at
 loop-rest-smaller-in-Some-lone_sign_at c =
+    let number = c.in-Some in
     let sign = c.in-Some-lone_sign_at in
-    spaced_shrinks c.loop-rest.rest.now (tokens.Symbol sign.symbol) (drop 1 c.loop-rest.rest.now) sign.after.now sign.ensures.gap sign.ensures.token sign.ensures.rest
+    omega (
+      arith,
+      token_shrinks c.loop-rest.rest.now (tokens.Number number.number) number.after.now number.ensures.gap number.ensures.token,
+      spaced_shrinks number.after.now (tokens.Symbol sign.symbol) (drop 1 number.after.now) sign.behind.now sign.ensures.gap sign.ensures.token sign.ensures.rest,
+    )
 
 pub loop-rest-preserved-in-Some-lone_sign_at : goal.loop-rest-preserved-in-Some-lone_sign_at
 loop-rest-preserved-in-Some-lone_sign_at c =
+    let number = c.in-Some in
     let sign = c.in-Some-lone_sign_at in
-    (search rules, rw c.in_ok-push.ensures.ok (takes_spaced c.args.text.now c.loop-rest.tokens c.loop-rest.rest.now (tokens.Symbol sign.symbol) (drop 1 c.loop-rest.rest.now) sign.after.now sign.ensures.gap sign.ensures.token sign.ensures.rest c.loop-rest.invariant.1))
+    let before = takes c.args.text.now c.loop-rest.tokens c.loop-rest.rest.now (tokens.Number number.number) number.after.now number.ensures.gap number.ensures.token c.loop-rest.invariant.1 in
+    (search rules, rw (c.in_ok-push-2.ensures.ok, c.in_ok-push.ensures.ok, c.from.ensures) (takes_spaced c.args.text.now _ number.after.now (tokens.Symbol sign.symbol) (drop 1 number.after.now) sign.behind.now sign.ensures.gap sign.ensures.token sign.ensures.rest before))
+
+-- a number with none behind it
+
+pub loop-rest-smaller-in_default-lone_sign_at : goal.loop-rest-smaller-in_default-lone_sign_at
+loop-rest-smaller-in_default-lone_sign_at c =
+    token_shrinks c.loop-rest.rest.now (tokens.Number c.in-Some.number) c.in-Some.after.now c.in-Some.ensures.gap c.in-Some.ensures.token
+
+pub loop-rest-preserved-in_default-lone_sign_at : goal.loop-rest-preserved-in_default-lone_sign_at
+loop-rest-preserved-in_default-lone_sign_at c =
+    (search rules, rw (c.in_ok-push.ensures.ok, c.from.ensures) (takes c.args.text.now c.loop-rest.tokens c.loop-rest.rest.now (tokens.Number c.in-Some.number) c.in-Some.after.now c.in-Some.ensures.gap c.in-Some.ensures.token c.loop-rest.invariant.1))
+
+-- a parenthesis or a comma alone
+
+pub loop-rest-smaller-in-Some-lone_sign_at-2 : goal.loop-rest-smaller-in-Some-lone_sign_at-2
+loop-rest-smaller-in-Some-lone_sign_at-2 c =
+    let sign = c.in-Some-lone_sign_at-2 in
+    spaced_shrinks c.loop-rest.rest.now (tokens.Symbol sign.symbol) (drop 1 c.loop-rest.rest.now) sign.after.now sign.ensures.gap sign.ensures.token sign.ensures.rest
+
+pub loop-rest-preserved-in-Some-lone_sign_at-2 : goal.loop-rest-preserved-in-Some-lone_sign_at-2
+loop-rest-preserved-in-Some-lone_sign_at-2 c =
+    let sign = c.in-Some-lone_sign_at-2 in
+    (search rules, rw c.in_ok-push-3.ensures.ok (takes_spaced c.args.text.now c.loop-rest.tokens c.loop-rest.rest.now (tokens.Symbol sign.symbol) (drop 1 c.loop-rest.rest.now) sign.after.now sign.ensures.gap sign.ensures.token sign.ensures.rest c.loop-rest.invariant.1))
 
 -- a blank, a comment, or any other token
 
@@ -71,7 +68,7 @@ loop-rest-smaller c =
 pub loop-rest-preserved : goal.loop-rest-preserved
 loop-rest-preserved c =
     let none : gap_at c.loop-rest.rest.now ≡ None = rw (← c.gap_at.ensures, c.in_default-gap_at.is) in
-    (search rules, rw c.in_ok-push-2.ensures.ok (takes c.args.text.now c.loop-rest.tokens c.loop-rest.rest.now c.in_ok-token.token c.in_ok-token.after.now none c.in_ok-token.ensures c.loop-rest.invariant.1))
+    (search rules, rw c.in_ok-push-4.ensures.ok (takes c.args.text.now c.loop-rest.tokens c.loop-rest.rest.now c.in_ok-token.token c.in_ok-token.after.now none c.in_ok-token.ensures c.loop-rest.invariant.1))
 
 pub returns : goal.returns
 returns c = is_done c.args.text.now c.loop-rest.tokens c.loop-rest.rest.now (sym c.is_empty.ensures ∙ c.loop-rest-test.false) c.loop-rest.invariant.1

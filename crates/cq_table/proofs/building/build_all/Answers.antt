@@ -1,31 +1,40 @@
-use Rattle.std.proofs.Common.{◌≡◌, ◌∙◌, ◌+◌, ◌-◌, ◌≤◌, ◌++◌, ◌∷◌, [], List, ap, arith, drop, length, refl, subst, sym, take, ℕ}
-use Rattle.std.proofs.lemmas.List.{length-take-le}
-use Rattle.cq_segments.specs.Marked.{MarkedRow}
-use Rattle.cq_vectors.specs.Gathered.{lent_rows}
-use Rattle.cq_values.specs.Value.{Row}
+use Rattle.std.proofs.Common.{◌≡◌, ◌∙◌, ◌+◌, ◌-◌, ◌<◌, [], ap, arith, drop, length, subst, sym, take}
+use Rattle.std.proofs.lemmas.List.{append-nil, drop-map, drop_all, length-drop, length-map}
+use Rattle.cq_model_bags.proofs.Lists.{all-drop, all-take}
+use Rattle.cq_segments.specs.Columns.{AreWide}
+use Rattle.cq_segments.specs.Sorted.{IsBuilt}
+use Rattle.cq_segments.specs.Rows.{row_of, stored_rows}
 use Rattle.cq_table.specs.Changes.{AreBuilt}
-use Rattle.cq_table.proofs.Built.{built-more, built-of, few-part, lent-part, wide-part}
+use Rattle.cq_table.proofs.Built.{built-more, next-part, next-rest}
 use Rattle.cq_table.proofs.building.build_all.Goals as goal
 
 pub build-requires-clause-wide : goal.build-requires-clause-wide
 build-requires-clause-wide c =
     let from = c.loop-from.from in
-    wide-part c.args.width (from + c.min.result - from) from c.args.rows.now c.requires
+    let rows = c.args.rows.now in
+    let width = length c.args.layout.now.columns in
+    let left = subst (AreWide width) (drop-map row_of from rows) (all-drop (λ row. length row ≡ width) from (stored_rows rows) c.requires) in
+    rw c.len-width.ensures
+    (subst (AreWide width) (sym (next-part row_of rows from c.min.result c.min.ensures)) (all-take (λ row. length row ≡ width) 65536 (stored_rows (drop from rows)) left))
 
 pub loop-from-preserved : goal.loop-from-preserved
 loop-from-preserved c =
-    let rows = c.args.rows.now in
     let from = c.loop-from.from in
-    let n = c.min.result in
-    let end : ℕ = from + n in
-    let part = take (end - from) (drop from rows) in
-    let small : n ≤ 65536 = omega (arith, c.min.ensures) in
-    let few : length (lent_rows part) ≤ 65536 = few-part rows from n end refl small in
-    let segment = c.in_ok-build.field-0 in
-    let one = built-of c.args.sort.now (lent_rows part) (lent_rows part) segment refl few c.in_ok-build.ensures in
-    let more = built-more c.args.sort.now (lent_rows (take from rows)) (lent_rows part) c.loop-from.made.items segment c.loop-from.invariant.built one in
+    let rows = c.args.rows.now in
+    let sort = c.args.layout.now.sort in
+    let left = stored_rows (drop from rows) in
+    let next = stored_rows (take (from + c.min.result - from) (drop from rows)) in
+    let one : IsBuilt next sort c.in_ok-build.field-0 = rw c.as_slice-sort.ensures at c.in_ok-build.ensures in
+    let some : 0 < length left = omega (arith, c.loop-from-test.true, length-map (drop from rows) row_of, length-drop from rows) in
     record {
       within = omega (arith, c.loop-from-test.true, c.min.ensures);
-      built = subst (λ (rs : List Row). AreBuilt c.args.sort.now rs c.push.new.self.items) (sym (lent-part rows from n end refl))
-          (subst (λ (made : List (List MarkedRow)). AreBuilt c.args.sort.now (lent_rows (take from rows) ++ lent_rows part) made) (sym c.in_ok-push.ensures.items) more);
+      built = rw c.in_ok-push.ensures.items
+          (built-more sort (stored_rows rows) left next (stored_rows (drop (from + c.min.result) rows)) c.loop-from.made.items c.in_ok-build.field-0 some
+          (next-part row_of rows from c.min.result c.min.ensures) (next-rest row_of rows from c.min.result c.min.ensures) one c.loop-from.invariant.built);
     }
+
+pub returns : goal.returns
+returns c =
+    let l = c.loop-from in
+    let none = drop_all l.from c.args.rows.now (omega (arith, c.loop-from-test.false)) in
+    subst (AreBuilt c.args.layout.now.sort (stored_rows c.args.rows.now)) (append-nil l.made.items) (l.invariant.built [] (ap stored_rows none))

@@ -4,14 +4,13 @@ use Rattle.std.proofs.lemmas.List.{append_assoc, length-append, map-append, take
 use Rattle.cq_model.specs.Meaning.{keeps}
 use Rattle.cq_model_bags.proofs.Lists.{all-at}
 use Rattle.cq_operators_scans.specs.Kept.{places_where}
-use Rattle.cq_segments.proofs.Marks.{length-live_from}
+use Rattle.cq_segments.proofs.Marks.{length-live, length-live_from}
 use Rattle.cq_segments.specs.Marked.{live, live_from}
-use Rattle.cq_segments.specs.Places.{AreBelow}
+use Rattle.cq_encodings_vectors.specs.Places.{AreBelow}
 use Rattle.cq_table_columns.specs.Stored.{front_rows, marked_rows}
 use Rattle.cq_table.specs.Found.{passes}
 use Rattle.cq_table.proofs.Founds.{front-live, kept_there, live_there_at, placed-all, placed-more}
 use Rattle.cq_table.proofs.Segmenting.{same-there}
-use Rattle.cq_table.proofs.Marking.{length-live}
 use Rattle.cq_table.proofs.finding.find_in.Goals as goal
 
 pub kept_places-requires-clause-few : goal.kept_places-requires-clause-few

@@ -1,6 +1,8 @@
-use Rattle.std.proofs.Common.{◌≡◌, ◌∙◌, ◌+◌, ◌<◌, ◌++◌, [], List, ℕ, ap, arith, length, rules, sym}
+use Rattle.std.proofs.Common.{◌≡◌, ◌∙◌, ◌+◌, ◌<◌, ◌++◌, [], List, ℕ, ap, arith, length, rules, subst, sym}
+use Rattle.std.specs.List.{AllByRecursion}
 use Rattle.std.proofs.lemmas.List.{append-nil, append_assoc, length-append}
 use Rattle.cq_model.specs.Meaning.{keeps}
+use Rattle.cq_model_bags.proofs.Lists.{all-front}
 use Rattle.cq_model.specs.Width.{IsNarrowIn}
 use Rattle.cq_operators_scans.specs.Kept.{places_where}
 use Rattle.cq_segments.specs.Marked.{MarkedRow}
@@ -8,6 +10,17 @@ use Rattle.cq_table_columns.specs.Stored.{all_rows, front_rows, marked_rows, sto
 use Rattle.cq_table.specs.Found.{passes}
 use Rattle.cq_table.proofs.Founds.{all-behind, none-pass, places-append}
 use Rattle.cq_table.proofs.finding.found_places.Goals as goal
+
+pub find_in-requires-clause-narrow : goal.find_in-requires-clause-narrow
+find_in-requires-clause-narrow c =
+    let narrow = IsNarrowIn c.args.condition.now in
+    all-front narrow (front_rows c.split_piece.result.0) (all_rows c.split_piece.result.1) (subst (AllByRecursion narrow) c.split_piece.ensures.rows c.loop-left.invariant.narrow)
+
+pub find_in-requires-clause-counted : goal.find_in-requires-clause-counted
+find_in-requires-clause-counted c =
+    let front = marked_rows c.split_piece.result.0 in
+    let rest = stored_marked c.split_piece.result.1 in
+    omega (arith, c.requires.few, c.loop-left.invariant.counted, ap length c.split_piece.ensures.parts, length-append front rest)
 
 pub loop-left-preserved : goal.loop-left-preserved
 loop-left-preserved c =

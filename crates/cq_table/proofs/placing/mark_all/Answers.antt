@@ -30,7 +30,6 @@ loop-place-preserved c =
           ∙ ap (λ (ps : List ℕ). with_marks ps old) (sym (take_more places l.place-index 0 c.loop-place-test.true));
       segments = c.mark_at.ensures.segments ∙ so_far.segments;
       written = c.mark_at.ensures.written ∙ so_far.written;
-      room = c.mark_at.ensures.room ∙ so_far.room;
       reached = still-reached l.segments.items c.mark_at.new.segments.items c.reach-reached.result (sym c.mark_at.ensures.segments)
           (subst (λ (segments : List (List MarkedRow)). IsReached segments c.reach-reached.result) c.deref.ensures.value c.reach-reached.ensures.reached);
     }

@@ -10,6 +10,5 @@ invariant-loop-place l = record {
   stored : joined l.segments.items ++ l.written.rows ≡ with_marks (take l.place-index l.places) (joined l.initial.segments.items ++ l.initial.written.rows);
   segments : map length l.segments.items ≡ map length l.initial.segments.items;
   written : length l.written.rows ≡ length l.initial.written.rows;
-  room : l.written.room ≡ l.initial.written.room;
   reached : IsReached l.segments.items l.reached;
 }

@@ -1,7 +1,7 @@
 use Rattle.std.proofs.Common.{◌≡◌, ◌∙◌, ◌++◌, ◌-◌, [], List, ap, arith, get_or, length, rules}
 use Rattle.cq_segments.specs.Marked.{MarkedRow, with_mark}
 use Rattle.cq_segments.specs.Pieces.{joined}
-use Rattle.cq_table.proofs.Marking.{length-with_mark}
+use Rattle.cq_segments.proofs.Marks.{length-mark}
 use Rattle.cq_table.proofs.Segmenting.{lengths-mark, marked-in, marked-written, same-there}
 use Rattle.cq_table.proofs.placing.mark_at.Goals as goal
 
@@ -19,7 +19,7 @@ returns-then-reached-len-clause-segments c =
     let at = c.args.reached.segment in
     let here : c.index_mut.result.now ≡ get_or segments at [] = c.index_mut.ensures.value ∙ same-there segments at c.index_mut.result.now [] (search rules) in
     lengths-mark segments at c.mark.new.self (search rules)
-    (ap length c.mark.ensures ∙ length-with_mark (c.args.place - c.args.reached.before) c.index_mut.result.now ∙ ap length here)
+    (ap length c.mark.ensures ∙ length-mark c.index_mut.result.now (c.args.place - c.args.reached.before) ∙ ap length here)
 
 pub returns-else-reached-len-clause-stored : goal.returns-else-reached-len-clause-stored
 returns-else-reached-len-clause-stored c =
@@ -27,4 +27,4 @@ returns-else-reached-len-clause-stored c =
     ∙ marked-written c.args.segments.now.items c.args.written.now.rows c.args.reached c.args.place c.requires.reached c.requires.there (search rules)
 
 pub returns-else-reached-len-clause-written : goal.returns-else-reached-len-clause-written
-returns-else-reached-len-clause-written c = ap length c.mark-else-reached-len.ensures.rows ∙ length-with_mark (c.args.place - c.args.reached.before) c.args.written.now.rows
+returns-else-reached-len-clause-written c = ap length c.mark-else-reached-len.ensures.rows ∙ length-mark c.args.written.now.rows (c.args.place - c.args.reached.before)

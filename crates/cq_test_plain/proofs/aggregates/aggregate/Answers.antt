@@ -42,12 +42,12 @@ returns-in_ok-values_of-in-Sum-clause-fault c =
     (sum-shows c.in-Sum.expr c.args.rows.now (subst (λ (kind : Aggregate). SumInRange kind (once_each c.args.rows.now)) c.in-Sum.is r)))) e t)
     c.sum.ensures.fault
 
-pub returns-in_ok-least-in-Min-clause-ok : goal.returns-in_ok-least-in-Min-clause-ok
-returns-in_ok-least-in-Min-clause-ok c =
-    c.in_ok-least-in-Min.ensures ∙ ap (extreme lower) (c.deref-in-Min.ensures.value ∙ c.in_ok-values_of-in-Min.ensures.ok)
+pub returns-in_ok-extreme-in-Min-clause-ok : goal.returns-in_ok-extreme-in-Min-clause-ok
+returns-in_ok-extreme-in-Min-clause-ok c =
+    c.in_ok-extreme-in-Min.ensures ∙ ap (extreme lower) (c.deref-in-Min.ensures.value ∙ c.in_ok-values_of-in-Min.ensures.ok)
     ∙ min-of c.in-Min.expr c.args.rows.now ∙ ap (λ (kind : Aggregate). aggregate kind (once_each c.args.rows.now)) (sym c.in-Min.is)
 
-pub returns-in_ok-greatest-in-Max-clause-ok : goal.returns-in_ok-greatest-in-Max-clause-ok
-returns-in_ok-greatest-in-Max-clause-ok c =
-    c.in_ok-greatest-in-Max.ensures ∙ ap (extreme higher) (c.deref-in-Max.ensures.value ∙ c.in_ok-values_of-in-Max.ensures.ok)
+pub returns-in_ok-extreme-in-Max-clause-ok : goal.returns-in_ok-extreme-in-Max-clause-ok
+returns-in_ok-extreme-in-Max-clause-ok c =
+    c.in_ok-extreme-in-Max.ensures ∙ ap (extreme higher) (c.deref-in-Max.ensures.value ∙ c.in_ok-values_of-in-Max.ensures.ok)
     ∙ max-of c.in-Max.expr c.args.rows.now ∙ ap (λ (kind : Aggregate). aggregate kind (once_each c.args.rows.now)) (sym c.in-Max.is)

@@ -1,9 +1,6 @@
-use Rattle.std.proofs.Common.{◌∙◌, ◌≡◌, List, map, ap₂, rules}
+use Rattle.std.proofs.Common.{◌∙◌, ◌≡◌, rules}
 use Rattle.cq_model.specs.declared.fault.ShowFault.TheVariants.{SumOutOfRange}
-use Rattle.cq_model.specs.Expr.{Expr}
-use Rattle.cq_model.specs.Meaning.{items_of}
-use Rattle.cq_values.specs.Value.{Row}
-use Rattle.cq_views_state.proofs.Showings.{groups-in_range, groups-out_of_range, groups-shown}
+use Rattle.cq_views_state.proofs.Showings.{groups-in_range, groups-out_of_range, groups-shown, items-shown}
 use Rattle.cq_views_state.proofs.Sizing.{all-narrow, groups-sized}
 use Rattle.cq_views_state.specs.Shown.{ShowsOutOfRange, all_rows}
 use Rattle.cq_views_state.specs.declared.last.Last.TheVariants.{Groups}
@@ -26,21 +23,13 @@ item_rows-requires c =
 
 pub returns-clause-rows : goal.returns-clause-rows
 returns-clause-rows c =
-    let query = c.args.query.now in
-    let groups = c.args.groups.now in
-    let rows : c.flat.result ≡ all_rows query.shape groups = c.flat.ensures ∙ c.in_ok-rows.ensures.rows in
-    let shown : c.in_ok-item_rows.field-0 ≡ map (items_of query.items) (all_rows query.shape groups) =
-    c.in_ok-item_rows.ensures ∙ ap₂ (λ (items : List Expr) (rs : List Row). map (items_of items) rs) c.as_slice.ensures rows in
-    groups-shown query groups c.all_rows.ensures.keys c.requires.can.groups c.in_ok-item_rows.field-0 shown
+    let shown = items-shown c.args.query.now c.args.groups.now _ _ _ c.as_slice.ensures (c.flat.ensures ∙ c.in_ok-rows.ensures.rows) c.in_ok-item_rows.ensures in
+    groups-shown c.args.query.now c.args.groups.now c.all_rows.ensures.keys c.requires.can.groups c.in_ok-item_rows.field-0 shown
 
 pub returns-clause-sized : goal.returns-clause-sized
 returns-clause-sized c =
-    let query = c.args.query.now in
-    let groups = c.args.groups.now in
-    let rows : c.flat.result ≡ all_rows query.shape groups = c.flat.ensures ∙ c.in_ok-rows.ensures.rows in
-    let shown : c.in_ok-item_rows.field-0 ≡ map (items_of query.items) (all_rows query.shape groups) =
-    c.in_ok-item_rows.ensures ∙ ap₂ (λ (items : List Expr) (rs : List Row). map (items_of items) rs) c.as_slice.ensures rows in
-    groups-sized query groups c.requires.on c.all_rows.ensures.keys c.in_ok-rows.ensures.range c.in_ok-item_rows.field-0 shown
+    let shown = items-shown c.args.query.now c.args.groups.now _ _ _ c.as_slice.ensures (c.flat.ensures ∙ c.in_ok-rows.ensures.rows) c.in_ok-item_rows.ensures in
+    groups-sized c.args.query.now c.args.groups.now c.requires.on c.all_rows.ensures.keys c.in_ok-rows.ensures.range c.in_ok-item_rows.field-0 shown
 
 pub returns-clause-range : goal.returns-clause-range
 returns-clause-range c = groups-in_range c.args.query.now c.args.groups.now c.all_rows.ensures.keys c.in_ok-rows.ensures.range

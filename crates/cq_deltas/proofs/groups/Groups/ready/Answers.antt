@@ -18,14 +18,14 @@ returns-clause-adds c =
     let new = c.make_room.new.self in
     let place = c.in_ok-place.place in
     let there = c.in_ok-place.ensures.place in
-    let row : Placed = placed_at place c.args.aggregates.now c.args.row.now c.args.weight in
+    let row : Placed = placed_at place c.args.by.aggregates.now c.args.row.now c.args.weight in
     let pushed : c.push.new.self ≡ c.args.change.now ++ row ∷ [] = rw (to_z-of_z w128 c.args.weight c.ranges.weight) at c.in_ok-push.ensures.row in
     let behind : c.len.result - 1 + 1 ≡ length (c.args.change.now ++ row ∷ []) =
     omega (arith, c.len.ensures, ap (λ (rows : List Placed). length rows) pushed, length-append c.args.change.now (row ∷ [])) in
     let is_last : row_read c.row-last.result ≡ row = last-row c.args.change.now row (row_read c.row-last.result) (c.len.result - 1) behind (rw pushed at c.row-last.ensures) in
     let kept = c.make_room.ensures.keep.keys place (key-there middle place c.in_ok-key.key there) in
-    let key : key_at new place ≡ key_of c.args.columns.now c.args.row.now = ap (λ (o : Option Row). unwrap_or o []) (kept ∙ there) ∙ c.in_ok-key.ensures in
-    let one = addition c.args.columns.now c.args.aggregates.now (c.args.row.now, c.args.weight) in
+    let key : key_at new place ≡ key_of c.args.by.columns.now c.args.row.now = ap (λ (o : Option Row). unwrap_or o []) (kept ∙ there) ∙ c.in_ok-key.ensures in
+    let one = addition c.args.by.columns.now c.args.by.aggregates.now (c.args.row.now, c.args.weight) in
     let is : addition_at new row ≡ one = λ j. record { key = key j; weight = c.args.weight; addends = row.addends } in
     on_ok_weaker c.make_room.result
     (λ room.

@@ -1,5 +1,5 @@
 use Rattle.std.proofs.Common.{ap, arith, length, ◌≡◌}
-use Rattle.cq_vectors.specs.Columns.{text_unless}
+use Rattle.cq_vectors_stored.specs.Columns.{text_unless}
 use Rattle.cq_encodings.specs.Dict.{coded}
 use Rattle.cq_encodings.proofs.Coded.{length-coded}
 use Rattle.cq_encodings_plain.proofs.Zipped.{length-zipped}

@@ -1,7 +1,7 @@
 use Rattle.std.proofs.Common.{List, [], ap, arith, false, get_or, length, refl, sym, true, ◌≡◌, ◌∙◌}
 use Rattle.cq_values.specs.declared.value.Value.{Value}
 use Rattle.cq_values.specs.declared.value.Value.TheVariants.{Null}
-use Rattle.cq_vectors.specs.Columns.{text_unless}
+use Rattle.cq_vectors_stored.specs.Columns.{text_unless}
 use Rattle.cq_encodings.specs.Dict.{coded}
 use Rattle.cq_encodings.proofs.Coded.{coded_at, length-coded}
 use Rattle.cq_encodings_plain.proofs.Zipped.{zipped_at, zipped_past}

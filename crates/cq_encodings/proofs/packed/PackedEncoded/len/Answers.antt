@@ -1,5 +1,5 @@
 use Rattle.std.proofs.Common.{ap, length, sym, ◌∙◌}
-use Rattle.cq_encodings.proofs.Offsets.{length-packed}
+use Rattle.cq_encodings.proofs.Above.{length-packed}
 use Rattle.cq_encodings.proofs.packed.PackedEncoded.len.Goals as goal
 
 pub returns : goal.returns

@@ -5,7 +5,7 @@ use Rattle.std.proofs.lemmas.Int.{to_z-of_z}
 use Rattle.cq_values.specs.declared.value.Value.{Value}
 use Rattle.cq_values.specs.declared.value.Value.TheVariants.{Null}
 use Rattle.cq_encodings_plain.specs.Kind.{datum}
-use Rattle.cq_encodings.proofs.Offsets.{packed_at, packed_past}
+use Rattle.cq_encodings.proofs.Above.{packed_at, packed_past}
 use Rattle.cq_encodings.proofs.packed.PackedEncoded.value_at.Goals as goal
 use Rattle.cq_encodings.proofs.packed.PackedEncoded.value_at.Goals.{then-place-len-via-then-place-len, then-place-len-via-else-place-len+then-at}
 

@@ -1,5 +1,5 @@
 use Rattle.std.proofs.Common.{ap, length, sym, ◌∙◌}
-use Rattle.cq_vectors.specs.Columns.{text_unless}
+use Rattle.cq_vectors_stored.specs.Columns.{text_unless}
 use Rattle.cq_encodings_plain.proofs.Zipped.{length-zipped}
 use Rattle.cq_encodings_plain.proofs.plain_texts.PlainTextsEncoded.len.Goals as goal
 

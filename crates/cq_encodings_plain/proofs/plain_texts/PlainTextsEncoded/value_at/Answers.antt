@@ -1,7 +1,7 @@
 use Rattle.std.proofs.Common.{List, [], ap, arith, false, get_or, refl, sym, true, ◌∙◌}
 use Rattle.cq_values.specs.declared.value.Value.{Value}
 use Rattle.cq_values.specs.declared.value.Value.TheVariants.{Null}
-use Rattle.cq_vectors.specs.Columns.{text_unless}
+use Rattle.cq_vectors_stored.specs.Columns.{text_unless}
 use Rattle.cq_encodings_plain.proofs.Zipped.{zipped_at, zipped_past}
 use Rattle.cq_encodings_plain.proofs.plain_texts.PlainTextsEncoded.value_at.Goals as goal
 use Rattle.cq_encodings_plain.proofs.plain_texts.PlainTextsEncoded.value_at.Goals.{then-place-len-via-then-place-len, then-place-len-via-else-place-len+then-at}

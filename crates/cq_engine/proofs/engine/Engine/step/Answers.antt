@@ -1,7 +1,8 @@
 use Rattle.std.proofs.lemmas.Result.{err_from_is_err_and}
 use Rattle.cq_binder_queries.specs.Catalog.{alone}
 use Rattle.cq_engine_tables.specs.Views.{views_of}
-use Rattle.cq_engine.proofs.Binding.{bind_counted, bind_reads, bind_refused, bound_can, bound_over, carried, carried_counts, bound_here, passed_over}
+use Rattle.cq_engine.proofs.Binding.{bind_counted, bind_reads, bind_refused, bound_over, carried, carried_counts, bound_here, passed_over}
+use Rattle.cq_engine.proofs.BoundCommands.{bound_can}
 use Rattle.cq_engine.proofs.Counting.{grown_by_none}
 use Rattle.cq_engine.proofs.Kept.{all_at, all_shown}
 use Rattle.cq_engine.proofs.Lengths.{stores-bound}

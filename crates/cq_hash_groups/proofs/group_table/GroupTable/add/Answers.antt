@@ -5,9 +5,9 @@ use Rattle.cq_values.specs.Value.{Row}
 use Rattle.cq_model_bags.specs.Bag.{firsts}
 use Rattle.cq_hash_keys.specs.Keys.{key_at}
 use Rattle.cq_model.specs.Group.{key_of}
-use Rattle.cq_hash_groups.specs.declared.slots.Slots.{Slots}
+use Rattle.cq_hash_groups_slots.specs.declared.slots.Slots.{Slots}
 use Rattle.cq_hash_groups.specs.Groups.{AreAllWithin, Holds, StoredGroups, all_added, group_columns}
-use Rattle.cq_hash_groups.specs.Puts.{AreNumbers}
+use Rattle.cq_hash_groups_slots.specs.Puts.{AreNumbers}
 use Rattle.cq_hash_groups.proofs.Holding.{slots-hold}
 use Rattle.cq_hash_groups.proofs.KeysMet.{keys-append}
 use Rattle.cq_hash_groups.proofs.group_table.GroupTable.add.Goals as goal

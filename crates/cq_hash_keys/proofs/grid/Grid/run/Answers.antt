@@ -1,10 +1,10 @@
-use Rattle.std.proofs.Common.{◌≡◌, ◌∙◌, ◌+◌, ◌-◌, ◌<◌, ℕ, length, get_or, Some, sym, ap, arith, rules}
+use Rattle.std.proofs.Common.{◌≡◌, ◌∙◌, ◌-◌, ◌<◌, ℕ, length, get_or, Some, sym, ap, arith, rules}
 use Rattle.std.specs.List.{zip}
 use Rattle.indexmap.specs.IndexMap.{get}
-use Rattle.cq_hash_keys.specs.Codes.{code_in, code_or}
+use Rattle.cq_hash_keys_values.specs.Codes.{code_in, code_or}
 use Rattle.cq_hash_keys.specs.Grid.{cell_of, pair_in, same_pair}
-use Rattle.cq_hash_keys.proofs.Grids.{known-code}
-use Rattle.cq_hash_keys.proofs.Runs.{run-next}
+use Rattle.cq_hash_keys_values.proofs.KnownCodes.{known-code}
+use Rattle.cq_hash_keys_values.proofs.Runs.{run-next}
 use Rattle.cq_hash_keys.proofs.Zips.{zip-at}
 use Rattle.cq_hash_keys.proofs.grid.Grid.run.Goals as goal
 

@@ -1,7 +1,7 @@
 use Rattle.std.proofs.Common.{◌≤◌}
 use Rattle.std.specs.List.{zip}
 use Rattle.cq_hash_keys.specs.Grid.{pair_in}
-use Rattle.cq_hash_keys.specs.Met.{IsRun}
+use Rattle.cq_hash_keys_values.specs.Met.{IsRun}
 use Rattle.cq_hash_keys.proofs.grid.Grid.run.Given as goal
 
 -- the numbers so far are told

@@ -1,11 +1,9 @@
-use Rattle.std.proofs.Common.{◌≡◌, ◌∙◌, ◌∷◌, ◌++◌, List, sym, ap, subst}
+use Rattle.std.proofs.Common.{◌∙◌, ◌++◌, List, sym, ap, subst}
 use Rattle.std.specs.List.{AllByRecursion}
 use Rattle.std.proofs.lemmas.Result.{on_ok_weaker}
 use Rattle.cq_model_bags.specs.Bag.{firsts}
-use Rattle.cq_values.specs.declared.value.Value.{Value}
 use Rattle.cq_values.specs.Value.{Row}
 use Rattle.cq_hash_keys.specs.Keys.{HasLength, key_rows, values_of}
-use Rattle.cq_hash_keys.specs.Stages.{rows_with, singles}
 use Rattle.cq_hash_keys.proofs.KeyRows.{all-columns}
 use Rattle.cq_hash_keys.proofs.key_table.KeyTable.add.Goals as goal
 

@@ -1,10 +1,10 @@
-use Rattle.std.proofs.Common.{◌≡◌, ◌∙◌, ◌+◌, ◌++◌, ℕ, List, [], drop, length, take, sym, ap, subst, arith, rules}
+use Rattle.std.proofs.Common.{◌≡◌, ◌∙◌, ◌+◌, ◌++◌, List, [], drop, length, take, sym, ap, subst, arith, rules}
 use Rattle.std.proofs.lemmas.Grind.{common_steps}
 use Rattle.std.proofs.lemmas.Result.{on_ok_weaker}
 use Rattle.cq_model_bags.specs.Bag.{firsts}
 use Rattle.cq_hash_keys.specs.declared.stage.Stage.{Stage}
 use Rattle.cq_hash_keys.specs.Keys.{StoredKeys, values_of}
-use Rattle.cq_hash_keys.specs.Met.{AreNumbersOf}
+use Rattle.cq_hash_keys_values.specs.Met.{AreNumbersOf}
 use Rattle.cq_hash_keys.specs.Stages.{GoesOn, StaysStages, rows_with, singles}
 use Rattle.cq_hash_keys.specs.Table.{IsKeyTable, keys_in}
 use Rattle.cq_hash_keys.proofs.Tables.{keys-added, numbers-added, part-table, whole-table}

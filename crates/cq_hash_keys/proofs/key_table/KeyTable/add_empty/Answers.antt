@@ -1,10 +1,10 @@
-use Rattle.std.proofs.Common.{◌≡◌, ◌∙◌, ◌++◌, ◌∷◌, ℕ, List, [], replicate, true, sym, ap, subst, arith, rules}
+use Rattle.std.proofs.Common.{◌≡◌, ◌∙◌, ◌++◌, List, [], replicate, true, sym, ap, subst, arith, rules}
 use Rattle.std.proofs.lemmas.Grind.{common_steps}
 use Rattle.cq_model_bags.specs.Bag.{firsts}
 use Rattle.cq_values.specs.Value.{Row}
 use Rattle.cq_hash_keys.specs.Keys.{AreNumbers, AreWithin, StoredKeys, key_rows}
 use Rattle.cq_hash_keys.specs.Table.{keys_in}
-use Rattle.cq_hash_keys.proofs.Tables.{empty-added, empty-told, keys-none}
+use Rattle.cq_hash_keys.proofs.EmptyKeys.{empty-added, empty-told, keys-none}
 use Rattle.cq_hash_keys.proofs.key_table.KeyTable.add_empty.Goals as goal
 
 pub returns-then-len-gt0-clause-keys : goal.returns-then-len-gt0-clause-keys

@@ -3,7 +3,6 @@ use Rattle.std.proofs.lemmas.Grind.{common_steps}
 use Rattle.std.proofs.lemmas.List.{map-append, take_more}
 use Rattle.cq_values.specs.declared.value.Value.{Value}
 use Rattle.cq_values.specs.Lent.{owned}
-use Rattle.cq_values.specs.declared.lent.Lent.{Lent}
 use Rattle.cq_values.specs.Value.{Row, column}
 use Rattle.cq_vectors.specs.Gathered.{column_of}
 use Rattle.cq_hash_keys.specs.Keys.{key_at}

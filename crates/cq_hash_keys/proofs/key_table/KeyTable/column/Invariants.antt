@@ -1,4 +1,4 @@
-use Rattle.std.proofs.Common.{◌≡◌, ◌+◌, ◌-◌, ◌≤◌, drop, length, map, take}
+use Rattle.std.proofs.Common.{◌≡◌, ◌+◌, ◌-◌, ◌≤◌, drop, map, take}
 use Rattle.std.specs.Vec.{vec_capacity, vec_len}
 use Rattle.cq_values.specs.Lent.{owned}
 use Rattle.cq_vectors.specs.Gathered.{column_of}

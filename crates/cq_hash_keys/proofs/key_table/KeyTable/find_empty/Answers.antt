@@ -1,8 +1,8 @@
-use Rattle.std.proofs.Common.{◌≡◌, ◌∙◌, List, [], Option, ℕ, None, Some, cond, replicate, sym, ap, arith, rules}
+use Rattle.std.proofs.Common.{◌≡◌, ◌∙◌, List, [], Option, ℕ, replicate, sym, ap, arith, rules}
 use Rattle.std.proofs.lemmas.Grind.{common_steps}
 use Rattle.cq_values.specs.Value.{Row}
 use Rattle.cq_hash_keys.specs.Keys.{StoredKeys, key_rows, places_of}
-use Rattle.cq_hash_keys.proofs.Tables.{empty-found, keys-none}
+use Rattle.cq_hash_keys.proofs.EmptyKeys.{empty-found, keys-none}
 use Rattle.cq_hash_keys.proofs.key_table.KeyTable.find_empty.Goals as goal
 
 pub returns : goal.returns

@@ -1,4 +1,4 @@
-use Rattle.std.proofs.Common.{subst, sym}
+use Rattle.std.proofs.Common.{subst}
 use Rattle.cq_hash_keys.specs.Keys.{AreKeys, StoredKeys}
 use Rattle.cq_hash_keys.proofs.Tables.{are-keys}
 use Rattle.cq_hash_keys.proofs.key_table.KeyTable.keys.Goals as goal

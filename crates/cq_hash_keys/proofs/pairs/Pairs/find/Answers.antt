@@ -1,8 +1,8 @@
-use Rattle.std.proofs.Common.{◌≡◌, ◌∙◌, ◌<◌, ◌∷◌, ◌++◌, ℕ, List, [], map, length, get_or, take, Option, None, sym, ap, arith, rules}
+use Rattle.std.proofs.Common.{◌≡◌, ◌∙◌, ◌<◌, ◌∷◌, ◌++◌, ℕ, [], map, length, get_or, take, Option, None, ap, arith, rules}
 use Rattle.std.proofs.Math.Seq.{take-length}
 use Rattle.std.specs.List.{zip}
 use Rattle.cq_hash_keys.specs.Pairs.{place_of_both}
-use Rattle.cq_hash_keys.proofs.Meeting.{found-next}
+use Rattle.cq_hash_keys_values.proofs.Meeting.{found-next}
 use Rattle.cq_hash_keys.proofs.Zips.{length-zip, zip-at}
 use Rattle.cq_hash_keys.proofs.pairs.Pairs.find.Goals as goal
 

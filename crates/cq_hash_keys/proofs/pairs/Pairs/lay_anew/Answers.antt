@@ -1,10 +1,10 @@
-use Rattle.std.proofs.Common.{◌≡◌, ◌∙◌, ◌<◌, ◌+◌, ◌∷◌, ◌++◌, ℕ, List, [], length, get_or, take, None, Some, sym, ap, subst, arith, rules}
+use Rattle.std.proofs.Common.{◌≡◌, ◌∙◌, ◌<◌, ◌∷◌, ◌++◌, ℕ, List, [], length, get_or, take, Some, sym, ap, rules}
 use Rattle.std.proofs.Math.Seq.{take-length}
 use Rattle.std.proofs.lemmas.List.{take_more}
 use Rattle.cq_hash_keys.specs.Grid.{pair_in, same_pair}
-use Rattle.cq_hash_keys.specs.Pairs.{ArePairs, place_of_pair}
+use Rattle.cq_hash_keys.specs.Pairs.{place_of_pair}
 use Rattle.cq_hash_keys.proofs.Grids.{pair-itself, pair-same}
-use Rattle.cq_hash_keys.proofs.Meeting.{finds-more, first-time}
+use Rattle.cq_hash_keys_values.proofs.Meeting.{finds-more, first-time}
 use Rattle.cq_hash_keys.proofs.pairs.Pairs.lay_anew.Goals as goal
 
 pub put-requires : goal.put-requires

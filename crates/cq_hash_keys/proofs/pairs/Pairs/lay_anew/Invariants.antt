@@ -1,4 +1,4 @@
-use Rattle.std.proofs.Common.{◌≡◌, ◌≤◌, ℕ, length, take}
+use Rattle.std.proofs.Common.{◌≡◌, ℕ, take}
 use Rattle.cq_hash_keys.specs.Grid.{pair_in}
 use Rattle.cq_hash_keys.specs.Pairs.{place_of_pair}
 use Rattle.cq_hash_keys.proofs.pairs.Pairs.lay_anew.Given as goal

@@ -3,7 +3,7 @@ use Rattle.indexmap.specs.IndexSet.{insert_key}
 use Rattle.cq_hash_keys.specs.Grid.{pair_in, same_pair}
 use Rattle.cq_hash_keys.specs.Pairs.{ArePairs, place_of_pair}
 use Rattle.cq_hash_keys.proofs.Grids.{pair-itself, pair-same}
-use Rattle.cq_hash_keys.proofs.Meeting.{finds-more, goes-behind, once-push}
+use Rattle.cq_hash_keys_values.proofs.Meeting.{finds-more, goes-behind, once-push}
 use Rattle.cq_hash_keys.proofs.pairs.Pairs.new_number.Goals as goal
 
 pub invariant_of-self-2 : goal.invariant_of-self-2

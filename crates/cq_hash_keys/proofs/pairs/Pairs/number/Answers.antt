@@ -1,9 +1,9 @@
 use Rattle.std.proofs.Common.{◌≡◌, ◌∙◌, ℕ, List, sym, subst, Some, rules}
 use Rattle.indexmap.specs.IndexSet.{insert_key}
 use Rattle.cq_hash_keys.specs.Grid.{pair_in, same_pair}
-use Rattle.cq_hash_keys.specs.Met.{IsNumberIn}
+use Rattle.cq_hash_keys_values.specs.Met.{IsNumberIn}
 use Rattle.cq_hash_keys.proofs.Grids.{pair-itself, pair-same}
-use Rattle.cq_hash_keys.proofs.Meeting.{there-stays, told}
+use Rattle.cq_hash_keys_values.proofs.Meeting.{there-stays, told}
 use Rattle.cq_hash_keys.proofs.pairs.Pairs.number.Goals as goal
 
 pub returns-in-Some-clause-met : goal.returns-in-Some-clause-met

@@ -1,10 +1,10 @@
-use Rattle.std.proofs.Common.{◌≡◌, ◌∙◌, ◌+◌, ◌<◌, ◌≤◌, ℕ, length, get_or, set, take, refl, sym, ap, arith, rules}
+use Rattle.std.proofs.Common.{◌≡◌, ◌∙◌, ◌<◌, ℕ, length, get_or, set, take, refl, sym, ap, arith}
 use Rattle.std.proofs.Math.Seq.{take-length}
 use Rattle.std.specs.List.{zip}
 use Rattle.cq_hash_keys.specs.Grid.{same_pair}
-use Rattle.cq_hash_keys.specs.Met.{with_new}
+use Rattle.cq_hash_keys_values.specs.Met.{with_new}
 use Rattle.cq_hash_keys.proofs.Grids.{pair-itself, pair-same}
-use Rattle.cq_hash_keys.proofs.Runs.{all-are_told, one-and-run}
+use Rattle.cq_hash_keys_values.proofs.Runs.{all-are_told, one-and-run}
 use Rattle.cq_hash_keys.proofs.Zips.{length-zip, zip-at}
 use Rattle.cq_hash_keys.proofs.pairs.Pairs.number_all.Goals as goal
 

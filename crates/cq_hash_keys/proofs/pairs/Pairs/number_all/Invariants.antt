@@ -1,7 +1,7 @@
 use Rattle.std.proofs.Common.{◌≡◌, ◌≤◌, ◌-◌, length, take}
 use Rattle.std.specs.List.{zip}
 use Rattle.cq_hash_keys.specs.Grid.{same_pair}
-use Rattle.cq_hash_keys.specs.Met.{IsToldTo, with_new}
+use Rattle.cq_hash_keys_values.specs.Met.{IsToldTo, with_new}
 use Rattle.cq_hash_keys.proofs.pairs.Pairs.number_all.Given as goal
 
 -- the pairs so far are met and told

@@ -1,7 +1,7 @@
 use Rattle.std.proofs.Common.{ℕ, ◌<◌, List, [], length, refl, sym, subst}
 use Rattle.std.specs.List.{AllByRecursion, zip}
 use Rattle.cq_hash_keys.specs.Grid.{same_pair}
-use Rattle.cq_hash_keys.specs.Met.{TakesFront}
+use Rattle.cq_hash_keys_values.specs.Met.{TakesFront}
 use Rattle.cq_hash_keys.proofs.stage.Stage.add.Goals as goal
 
 pub returns-in_err-add-clause-part : goal.returns-in_err-add-clause-part

@@ -1,8 +1,8 @@
-use Rattle.std.proofs.Common.{ℕ, List, Option, ◌∙◌, ap, map, rules}
+use Rattle.std.proofs.Common.{ℕ, List, Option, ◌∙◌, ap, map}
 use Rattle.std.specs.List.{zip}
 use Rattle.std.proofs.lemmas.Result.{on_ok_weaker}
 use Rattle.cq_hash_keys.specs.Pairs.{place_of_both}
-use Rattle.cq_hash_keys.specs.Values.{place_in}
+use Rattle.cq_hash_keys_values.specs.Values.{place_in}
 use Rattle.cq_hash_keys.proofs.Zips.{zip-second}
 use Rattle.cq_hash_keys.proofs.stage.Stage.find.Goals as goal
 

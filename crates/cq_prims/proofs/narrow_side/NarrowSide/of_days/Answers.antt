@@ -3,8 +3,8 @@ use Rattle.std.proofs.lemmas.Int.{ints}
 use Rattle.std.specs.Int.{w128}
 use lib.Lanes.{zip2}
 use Rattle.cq_values.specs.declared.value.Value.TheVariants.{Day}
-use Rattle.cq_vectors.specs.LentColumns.{day_above}
-use Rattle.cq_vectors.specs.Offsets.{offsets_in}
+use Rattle.cq_vectors_stored.specs.LentColumns.{day_above}
+use Rattle.cq_vectors_stored.specs.Offsets.{offsets_in}
 use Rattle.cq_prims.proofs.narrow_side.NarrowSide.of_days.Goals as goal
 
 pub returns : goal.returns

@@ -3,7 +3,7 @@ use Rattle.std.proofs.lemmas.Int.{ints}
 use Rattle.std.proofs.lemmas.Bool.Decides.{Decides-int_eq}
 use Rattle.std.specs.Ordering.{int_eq}
 use Rattle.cq_model_bags.proofs.Totals.{by_test}
-use Rattle.cq_vectors.specs.Offsets.{offsets_in}
+use Rattle.cq_vectors_stored.specs.Offsets.{offsets_in}
 use Rattle.cq_prims_lanes.proofs.OffsetTests.{by_none}
 use Rattle.cq_prims.proofs.narrow_side.NarrowSide.set_equal.Goals as goal
 

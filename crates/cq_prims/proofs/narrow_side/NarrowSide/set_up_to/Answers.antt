@@ -1,5 +1,5 @@
 use Rattle.std.proofs.Common.{◌∙◌, ap, get_or, Option, ℕ}
-use Rattle.cq_vectors.specs.Offsets.{offsets_in}
+use Rattle.cq_vectors_stored.specs.Offsets.{offsets_in}
 use Rattle.cq_prims_lanes.specs.UpTo.{is_up_to}
 use Rattle.cq_prims_lanes.proofs.OffsetTests.{by_none}
 use Rattle.cq_prims.proofs.narrow_side.NarrowSide.set_up_to.Goals as goal

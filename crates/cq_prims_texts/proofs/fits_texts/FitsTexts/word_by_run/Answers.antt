@@ -3,7 +3,7 @@ use Rattle.std.specs.Simd.Lanes.{mask_l}
 use Rattle.std.specs.Str.{chars}
 use Rattle.std.proofs.lemmas.Option.{IfSome_then}
 use Rattle.cq_model.specs.Like.{like}
-use Rattle.cq_vectors.specs.Columns.{texts_of}
+use Rattle.cq_vectors_stored.specs.Columns.{texts_of}
 use Rattle.cq_prims_like.specs.Patterns.{answers_of}
 use Rattle.cq_prims_texts.proofs.Liked.{places_behind}
 use Rattle.cq_prims_texts.proofs.fits_texts.FitsTexts.word_by_run.Goals as goal

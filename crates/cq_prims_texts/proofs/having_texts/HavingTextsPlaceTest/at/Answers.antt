@@ -3,7 +3,7 @@ use Rattle.std.specs.Prelude.{None}
 use Rattle.std.proofs.lemmas.List.{length-map}
 use lib.ListN.{get_or-map}
 use Rattle.memchr.specs.Find.{FindsNeedle}
-use Rattle.cq_vectors.specs.Columns.{texts_of}
+use Rattle.cq_vectors_stored.specs.Columns.{texts_of}
 use Rattle.cq_prims_texts.proofs.having_texts.HavingTextsPlaceTest.at.Goals as goal
 
 pub fits-requires : goal.fits-requires

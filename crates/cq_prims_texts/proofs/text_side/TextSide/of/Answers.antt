@@ -1,6 +1,6 @@
 use Rattle.std.proofs.Common.{◌∙◌, sym, ap, subst}
 use Rattle.cq_vectors.specs.Form.{values_in}
-use Rattle.cq_vectors.specs.Columns.{texts_of}
+use Rattle.cq_vectors_stored.specs.Columns.{texts_of}
 use Rattle.cq_prims_texts.specs.Kinds.{ShowsTexts}
 use Rattle.cq_prims_texts.proofs.Shown.{column_shows_texts}
 use Rattle.cq_prims_texts.proofs.text_side.TextSide.of.Goals as goal

@@ -1,30 +1,30 @@
-use Rattle.std.proofs.Common.{◌≡◌, ◌<◌, ◌≤◌, ◌∙◌, [], ap, arith, get_or, length, map, subst, sym, IfOk}
-use Rattle.std.proofs.lemmas.List.{length-map}
-use Rattle.cq_vectors.specs.Gathered.{column_of}
-use Rattle.cq_segments.specs.Held.{values_held}
-use Rattle.cq_segments.proofs.Transposed.{column_kept, nulls_past}
+use Rattle.std.proofs.Common.{◌≡◌, ◌+◌, ◌∙◌, IfOk, ap, arith, length, subst, sym}
+use Rattle.std.proofs.lemmas.List.{length-drop, length-map}
+use Rattle.std.proofs.lemmas.List.FromFn.{length-range_with_len}
+use Rattle.cq_encodings.specs.AnyEncoded.{encoded_values}
+use Rattle.cq_encodings_vectors.specs.Parts.{part_of}
+use Rattle.cq_encodings_vectors.specs.Places.{AreBelow, values_at}
+use Rattle.cq_values.specs.Value.{column}
+use Rattle.cq_segments.proofs.PlacesFrom.{range_below, values-from}
 use Rattle.cq_segments.proofs.columns.Columns.gather.Goals as goal
 
-pub gather-requires : goal.gather-requires
-gather-requires c =
-    let at = c.args.column in
-    let held = c.self.inside.columns.items in
-    let there = c.in-Some.ensures.there ∙ ap (λ held. get_or (map values_held held) at []) c.as_slice.ensures.value in
-    let lt : at < length (map values_held held) = omega (arith, c.in-Some.ensures.within, ap length c.as_slice.ensures.value, length-map held values_held) in
-    omega (arith, ap length there, c.self.invariant.long at [] lt, c.self.invariant.few)
+pub vector_at-requires-clause-few : goal.vector_at-requires-clause-few
+vector_at-requires-clause-few c =
+    omega (arith, ap length (c.as_slice.ensures.value ∙ c.in_ok-places-in-Some.ensures), length-range_with_len c.in-Some.from c.len.result, c.len.ensures.few)
 
-pub returns-in-Some : goal.returns-in-Some
-returns-in-Some c =
-    let at = c.args.column in
-    let held = c.self.inside.columns.items in
-    let there = c.in-Some.ensures.there ∙ ap (λ held. get_or (map values_held held) at []) c.as_slice.ensures.value in
-    let lt : at < length (map values_held held) = omega (arith, c.in-Some.ensures.within, ap length c.as_slice.ensures.value, length-map held values_held) in
-    let kept = sym (column_kept (map values_held held) c.self.inside.count at c.self.invariant lt) ∙ ap (λ rows. column_of rows at) c.self.view_is in
-    subst (λ values. IfOk c.gather.result (λ vector. vector ≡ values)) (there ∙ kept) c.gather.ensures
+pub vector_at-requires-clause-there : goal.vector_at-requires-clause-there
+vector_at-requires-clause-there c =
+    let from = c.in-Some.from in
+    let values = part_of c.in-Some.part (encoded_values c.in-Some.encoded.now) in
+    let rows = c.args.self.now in
+    let count : from + c.len.result ≡ length values = omega (arith, c.len.ensures.len, c.len.ensures.some, ap length c.in-Some.ensures.part, length-drop from values, length-map rows (λ row. column row c.args.column)) in
+    subst (AreBelow (length values)) (sym (c.as_slice.ensures.value ∙ c.in_ok-places-in-Some.ensures)) (range_below from c.len.result (length values) (omega (arith, count)))
 
-pub returns-in-None : goal.returns-in-None
-returns-in-None c =
-    let at = c.args.column in
-    let held = c.self.inside.columns.items in
-    let le : length (map values_held held) ≤ at = omega (arith, c.in-None.ensures.past, ap length c.as_slice.ensures.value, length-map held values_held) in
-    c.new.ensures ∙ sym (nulls_past (map values_held held) c.self.inside.count at c.self.invariant le) ∙ ap (λ rows. column_of rows at) c.self.view_is
+pub returns-in_ok-places-in-Some : goal.returns-in_ok-places-in-Some
+returns-in_ok-places-in-Some c =
+    let from = c.in-Some.from in
+    let values = part_of c.in-Some.part (encoded_values c.in-Some.encoded.now) in
+    let rows = c.args.self.now in
+    let count : from + c.len.result ≡ length values = omega (arith, c.len.ensures.len, c.len.ensures.some, ap length c.in-Some.ensures.part, length-drop from values, length-map rows (λ row. column row c.args.column)) in
+    let read = ap (values_at values) (c.as_slice.ensures.value ∙ c.in_ok-places-in-Some.ensures) ∙ values-from values from c.len.result count ∙ c.in-Some.ensures.part in
+    subst (λ l. IfOk c.vector_at.result (λ v. v ≡ l)) read c.vector_at.ensures

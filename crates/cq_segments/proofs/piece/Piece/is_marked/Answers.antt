@@ -7,4 +7,4 @@ pub get-requires : goal.get-requires
 get-requires c = omega (arith, c.requires, ap length c.self.view_is, length-flags c.self.inside.columns c.self.inside.marks, c.len-count.ensures.len, c.len-count.ensures.few)
 
 pub returns : goal.returns
-returns c = c.get.ensures ∙ ap (λ l. get_or l c.args.place false) (sym (marks_of-flags c.self.inside.columns c.self.inside.marks c.self.invariant.0) ∙ ap marks_of c.self.view_is)
+returns c = c.get.ensures ∙ ap (λ l. get_or l c.args.place false) (sym (marks_of-flags c.self.inside.columns c.self.inside.marks c.self.invariant.long) ∙ ap marks_of c.self.view_is)

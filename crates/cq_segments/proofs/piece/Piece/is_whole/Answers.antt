@@ -7,4 +7,4 @@ use Rattle.cq_segments.proofs.piece.Piece.is_whole.Goals as goal
 pub returns : goal.returns
 returns c =
     OnTrue_from (nat_eq c.self.inside.marked 0) (c.args.self.now ≡ unmarked (rows_of c.args.self.now))
-    (λ e. none-marked c.args.self.now (ap marked_count (sym c.self.view_is) ∙ sym c.self.invariant.1 ∙ eqb-true c.self.inside.marked 0 e))
+    (λ e. none-marked c.args.self.now (ap marked_count (sym c.self.view_is) ∙ sym c.self.invariant.count ∙ eqb-true c.self.inside.marked 0 e))

@@ -7,10 +7,10 @@ pub overflow_sub-result : goal.overflow_sub-result
 overflow_sub-result c =
     let rows = c.self.inside.columns in
     let flags = c.self.inside.marks in
-    omega (arith, c.len.ensures.len, c.self.invariant.1, length-live (with_flags rows flags), length-flags rows flags)
+    omega (arith, c.len.ensures.len, c.self.invariant.count, length-live (with_flags rows flags), length-flags rows flags)
 
 pub returns : goal.returns
 returns c =
     let rows = c.self.inside.columns in
     let flags = c.self.inside.marks in
-    omega (arith, c.len.ensures.len, c.self.invariant.1, length-live (with_flags rows flags), length-flags rows flags, ap (λ s. length (live s)) c.self.view_is)
+    omega (arith, c.len.ensures.len, c.self.invariant.count, length-live (with_flags rows flags), length-flags rows flags, ap (λ s. length (live s)) c.self.view_is)

@@ -14,7 +14,7 @@ returns-then-left-eq0-clause-place c =
     let stored = c.args.self.now in
     let place = c.loop-place.place in
     let lt : place < length stored = omega (arith, c.loop-place-test.true, c.len-place-end.ensures.len, length-flags c.self.inside.columns c.self.inside.marks, ap length c.self.view_is) in
-    let flag = ap (λ l. get_or l place false) (ap marks_of (sym c.self.view_is) ∙ marks_of-flags c.self.inside.columns c.self.inside.marks c.self.invariant.0) ∙ sym c.get.ensures ∙ c.if-not-get.true in
+    let flag = ap (λ l. get_or l place false) (ap marks_of (sym c.self.view_is) ∙ marks_of-flags c.self.inside.columns c.self.inside.marks c.self.invariant.long) ∙ sym c.get.ensures ∙ c.if-not-get.true in
     let count : length (live_from 0 (take place stored)) ≡ c.args.count = omega (arith, c.loop-place.invariant, c.if-left-eq0.true) in
     sym (live_from-there stored place lt flag) ∙ ap (λ n. get_or (live_from 0 stored) n 0) count
 
@@ -23,7 +23,7 @@ loop-place-preserved c =
     let stored = c.args.self.now in
     let place = c.loop-place.place in
     let lt : place < length stored = omega (arith, c.loop-place-test.true, c.len-place-end.ensures.len, length-flags c.self.inside.columns c.self.inside.marks, ap length c.self.view_is) in
-    let flag = ap (λ l. get_or l place false) (ap marks_of (sym c.self.view_is) ∙ marks_of-flags c.self.inside.columns c.self.inside.marks c.self.invariant.0) ∙ sym c.get.ensures in
+    let flag = ap (λ l. get_or l place false) (ap marks_of (sym c.self.view_is) ∙ marks_of-flags c.self.inside.columns c.self.inside.marks c.self.invariant.long) ∙ sym c.get.ensures in
     elim c.if-not-get.branch [
       | then-not-get+else-left-eq0 w ↦ rw w.left-is (omega (arith, c.loop-place.invariant, w.if-left-eq0.false, ap length (live_from-kept stored place lt (flag ∙ w.if-not-get.true)), length-append (live_from 0 (take place stored)) (place ∷ [])))
       | else-not-get w ↦ rw w.left-is (omega (arith, c.loop-place.invariant, ap length (live_from-passed stored place lt (flag ∙ w.if-not-get.false))))

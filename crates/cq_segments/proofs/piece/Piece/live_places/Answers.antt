@@ -10,7 +10,7 @@ loop-place-preserved c =
     let stored = c.args.self.now in
     let place = c.loop-place.place in
     let lt : place < length stored = omega (arith, c.loop-place-test.true, c.len-place-end.ensures.len, length-flags c.self.inside.columns c.self.inside.marks, ap length c.self.view_is) in
-    let flag = ap (λ l. get_or l place false) (ap marks_of (sym c.self.view_is) ∙ marks_of-flags c.self.inside.columns c.self.inside.marks c.self.invariant.0) ∙ sym c.get.ensures in
+    let flag = ap (λ l. get_or l place false) (ap marks_of (sym c.self.view_is) ∙ marks_of-flags c.self.inside.columns c.self.inside.marks c.self.invariant.long) ∙ sym c.get.ensures in
     elim c.if-not-get.branch [
       | then-not-get w ↦ record {
         places = rw w.places-is (w.push_reserved.ensures.items ∙ ap (λ l. l ++ place ∷ []) c.loop-place.invariant.places ∙ sym (live_from-kept stored place lt (flag ∙ w.if-not-get.true)));

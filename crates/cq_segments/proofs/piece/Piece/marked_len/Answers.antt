@@ -4,4 +4,4 @@ use Rattle.cq_segments.proofs.Marks.{length-live}
 use Rattle.cq_segments.proofs.piece.Piece.marked_len.Goals as goal
 
 pub returns-clause-few : goal.returns-clause-few
-returns-clause-few c = omega (arith, c.self.invariant.1, ap marked_count c.self.view_is, length-live c.args.self.now)
+returns-clause-few c = omega (arith, c.self.invariant.count, ap marked_count c.self.view_is, length-live c.args.self.now)

@@ -8,10 +8,11 @@ pub invariant_of-result : goal.invariant_of-result
 invariant_of-result c =
     let rows = c.args.columns in
     let n = c.len.ensures.len in
-    let clear = ap (with_flags rows) (c.set_all.ensures ∙ ap (λ k. replicate k false) n) ∙ clear-flags rows in (
-      ap length c.set_all.ensures ∙ length-replicate c.len.result false ∙ n,
-      sym (ap marked_count clear ∙ count-unmarked rows),
-    )
+    let clear = ap (with_flags rows) (c.set_all.ensures ∙ ap (λ k. replicate k false) n) ∙ clear-flags rows in
+    record {
+      long = ap length c.set_all.ensures ∙ length-replicate c.len.result false ∙ n;
+      count = sym (ap marked_count clear ∙ count-unmarked rows);
+    }
 
 pub returns : goal.returns
 returns c =

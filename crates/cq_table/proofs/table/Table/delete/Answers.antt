@@ -2,7 +2,7 @@ use Rattle.std.proofs.Common.{◌≡◌, ◌∙◌, ◌+◌, ◌-◌, ◌++◌, 
 use Rattle.std.proofs.lemmas.List.{append-nil}
 use Rattle.cq_segments.specs.Marked.{unmarked, with_marks}
 use Rattle.cq_segments.specs.Pieces.{joined}
-use Rattle.cq_table.specs.Table.{StoredTable, stored_in}
+use Rattle.cq_table.specs.Table.{stored_in, table_of}
 use Rattle.cq_table.proofs.Founds.{live_there}
 use Rattle.cq_table.proofs.Marking.{live_fewer}
 use Rattle.cq_table.proofs.Tables.{kept-exchanged, leaves}
@@ -10,35 +10,17 @@ use Rattle.cq_table.proofs.table.Table.delete.Goals as goal
 
 pub mark_all-requires : goal.mark_all-requires
 mark_all-requires c =
-    let t : StoredTable = record {
-      columns = c.self.inside.layout.columns;
-      sort = c.self.inside.layout.sort;
-      max_rows = c.self.inside.max_rows;
-      segments = c.self.inside.segments.items;
-      written = c.self.inside.written.rows;
-    } in
+    let t = table_of c.self.inside.layout c.self.inside.max_rows c.self.inside.segments.items c.self.inside.written.rows in
     rw c.places.ensures (live_there c.args.found.now (stored_in t) (rw (← c.self.view_is) at c.requires))
 
 pub overflow_sub-self : goal.overflow_sub-self
 overflow_sub-self c =
-    let t : StoredTable = record {
-      columns = c.self.inside.layout.columns;
-      sort = c.self.inside.layout.sort;
-      max_rows = c.self.inside.max_rows;
-      segments = c.self.inside.segments.items;
-      written = c.self.inside.written.rows;
-    } in
+    let t = table_of c.self.inside.layout c.self.inside.max_rows c.self.inside.segments.items c.self.inside.written.rows in
     omega (arith, c.self.invariant.counted, c.len.ensures, live_fewer c.args.found.now (stored_in t) (rw (← c.self.view_is) at c.requires))
 
 pub invariant_of-self : goal.invariant_of-self
 invariant_of-self c =
-    let t : StoredTable = record {
-      columns = c.self.inside.layout.columns;
-      sort = c.self.inside.layout.sort;
-      max_rows = c.self.inside.max_rows;
-      segments = c.self.inside.segments.items;
-      written = c.self.inside.written.rows;
-    } in
+    let t = table_of c.self.inside.layout c.self.inside.max_rows c.self.inside.segments.items c.self.inside.written.rows in
     let places = c.args.found.now in
     let are = rw (← c.self.view_is) at c.requires in
     let is = c.mark_all.ensures.stored ∙ ap (λ (ps : List ℕ). with_marks ps (stored_in t)) c.places.ensures ∙ sym (append-nil (with_marks places (stored_in t))) in
@@ -47,13 +29,7 @@ invariant_of-self c =
 
 pub returns-clause-left : goal.returns-clause-left
 returns-clause-left c =
-    let t : StoredTable = record {
-      columns = c.self.inside.layout.columns;
-      sort = c.self.inside.layout.sort;
-      max_rows = c.self.inside.max_rows;
-      segments = c.self.inside.segments.items;
-      written = c.self.inside.written.rows;
-    } in
+    let t = table_of c.self.inside.layout c.self.inside.max_rows c.self.inside.segments.items c.self.inside.written.rows in
     let places = c.args.found.now in
     let is = c.mark_all.ensures.stored ∙ ap (λ (ps : List ℕ). with_marks ps (stored_in t)) c.places.ensures ∙ sym (append-nil (with_marks places (stored_in t))) in
     rw (← c.self.view_is) (λ condition found. leaves t condition places found (joined c.mark_all.new.segments.items ++ c.mark_all.new.written.rows) [] is)

@@ -30,4 +30,5 @@ invariant_of-self c = record {
   sound = record { fitting = c.self.invariant.sound.fitting; limited = omega (arith, c.self.invariant.counted, few-enough c.args.max_rows (c.self.inside.live + 0) c.in_ok-check_room.ensures) };
   counted = c.self.invariant.counted;
   few = c.self.invariant.few;
+  wide = c.self.invariant.wide;
 }

@@ -1,6 +1,6 @@
 use Rattle.std.proofs.Common.{◌∙◌, ap, sym, subst, length, List, ℕ}
 use Rattle.cq_values.specs.Value.{Row}
-use Rattle.cq_segments.specs.Places.{AreBelow, places_at, rows_at}
+use Rattle.cq_encodings_vectors.specs.Places.{AreBelow, places_at, rows_at}
 use Rattle.cq_table_columns.specs.Stored.{front_rows}
 use Rattle.cq_table_columns.proofs.AtPlaces.{below-at, places-below, rows-at}
 use Rattle.cq_table_columns.proofs.chosen.Chosen.at.Goals as goal

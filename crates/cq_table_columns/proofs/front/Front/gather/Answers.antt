@@ -1,7 +1,7 @@
 use Rattle.std.proofs.Common.{◌∙◌, ap, ap₂, arith, length, subst, sym}
 use Rattle.std.proofs.lemmas.Result.{IfOk-weaker}
 use Rattle.cq_segments.specs.Marked.{rows_of}
-use Rattle.cq_segments.specs.Places.{AreBelow, rows_at}
+use Rattle.cq_encodings_vectors.specs.Places.{AreBelow, rows_at}
 use Rattle.cq_segments.proofs.Marks.{length-live_from}
 use Rattle.cq_vectors.specs.Gathered.{column_of}
 use Rattle.cq_table_columns.specs.Stored.{front_rows}

@@ -1,9 +1,9 @@
 use Rattle.std.proofs.Common.{◌∙◌, ap, length, subst, sym}
 use Rattle.std.proofs.lemmas.Result.{IfOk-weaker}
 use Rattle.cq_segments.specs.Marked.{live_from, rows_of}
-use Rattle.cq_segments.specs.Places.{AreBelow, places_at, rows_at}
+use Rattle.cq_encodings_vectors.specs.Places.{AreBelow, places_at, rows_at}
 use Rattle.cq_segments.proofs.Marks.{length-live_from, rows_of-unmarked}
-use Rattle.cq_writestore.specs.Writes.{written_rows}
+use Rattle.cq_writestore.specs.Writes.{tail_rows}
 use Rattle.cq_table_columns.specs.Stored.{front_rows, marked_rows}
 use Rattle.cq_table_columns.proofs.LiveRows.{places_there, rows_there}
 use Rattle.cq_table_columns.proofs.front.Front.places_at.Goals as goal
@@ -17,7 +17,7 @@ copies_at-requires c =
 
 pub copies_at-requires-in-Written : goal.copies_at-requires-in-Written
 copies_at-requires-in-Written c =
-    let stored = written_rows c.in-Written.written.written in
+    let stored = tail_rows c.in-Written.written.written in
     let live = c.deref-in-Written.ensures.value ∙ c.in_ok-live-in-Written.ensures in
     let count = ap length live ∙ length-live_from 0 stored ∙ ap (λ f. length (front_rows f)) (sym c.in-Written.is) in
     subst (λ n. AreBelow n c.args.places.now) (sym count) c.requires
@@ -57,7 +57,7 @@ returns-in_ok-live-in-Marked-clause-there c =
 
 pub returns-in_ok-live-in-Written-clause-rows : goal.returns-in_ok-live-in-Written-clause-rows
 returns-in_ok-live-in-Written-clause-rows c =
-    let stored = written_rows c.in-Written.written.written in
+    let stored = tail_rows c.in-Written.written.written in
     let places = c.args.places.now in
     let live = c.deref-in-Written.ensures.value ∙ c.in_ok-live-in-Written.ensures in
     let below = subst (λ f. AreBelow (length (front_rows f)) places) c.in-Written.is c.requires in
@@ -69,7 +69,7 @@ returns-in_ok-live-in-Written-clause-rows c =
 
 pub returns-in_ok-live-in-Written-clause-there : goal.returns-in_ok-live-in-Written-clause-there
 returns-in_ok-live-in-Written-clause-there c =
-    let stored = written_rows c.in-Written.written.written in
+    let stored = tail_rows c.in-Written.written.written in
     let places = c.args.places.now in
     let live = c.deref-in-Written.ensures.value ∙ c.in_ok-live-in-Written.ensures in
     let below = subst (λ f. AreBelow (length (front_rows f)) places) c.in-Written.is c.requires in

@@ -1,4 +1,4 @@
-use Rattle.cq_vectors.proofs.ColumnLemmas.{keeps_days}
+use Rattle.cq_vectors_stored.proofs.ColumnLemmas.{keeps_days}
 use Rattle.cq_vectors.proofs.days.Days.new.Goals as goal
 
 pub invariant_of-result : goal.invariant_of-result

@@ -1,6 +1,6 @@
 use Rattle.std.proofs.Common.{map, subst, sym}
 use Rattle.cq_values.specs.Order.{number}
-use Rattle.cq_vectors.specs.Columns.{ZeroWhere}
+use Rattle.cq_vectors_stored.specs.Columns.{ZeroWhere}
 use Rattle.cq_vectors.proofs.Gathering.{zero_where}
 use Rattle.cq_vectors.proofs.numbers.Numbers.lend_all.Goals as goal
 

@@ -1,6 +1,6 @@
 use Rattle.std.proofs.Common.{◌∙◌, arith, ap, ◌∷◌, []}
 use Rattle.std.proofs.lemmas.List.{length-map, map-append}
-use Rattle.cq_vectors.specs.Columns.{texts_of}
+use Rattle.cq_vectors_stored.specs.Columns.{texts_of}
 use Rattle.cq_vectors.proofs.Gathering.{gathers_start, gathers_long, length-column_of, texts_whole, texts_empty, row_more}
 use Rattle.cq_vectors.proofs.texts.Texts.gather.Goals as goal
 

@@ -1,4 +1,4 @@
-use Rattle.cq_vectors.specs.Columns.{texts_of}
+use Rattle.cq_vectors_stored.specs.Columns.{texts_of}
 use Rattle.cq_values.specs.Order.{bytes}
 use Rattle.cq_vectors.specs.Gathered.{IsText, column_of, lent_rows}
 use Rattle.cq_vectors.proofs.Gathering.{Gathers}

@@ -2,8 +2,8 @@ use Rattle.std.proofs.Common.{◌∙◌, ◌≡◌, ◌<◌, ap, arith, length, 
 use Rattle.std.proofs.lemmas.List.{length-map}
 use Rattle.cq_values.specs.Order.{bytes}
 use Rattle.cq_model.specs.Condition.{is_null}
-use Rattle.cq_vectors.specs.Columns.{text_unless, texts_of}
-use Rattle.cq_vectors.proofs.ColumnLemmas.{text_at}
+use Rattle.cq_vectors_stored.specs.Columns.{text_unless, texts_of}
+use Rattle.cq_vectors_stored.proofs.ColumnLemmas.{text_at}
 use Rattle.cq_vectors.proofs.texts.Texts.lend.Goals as goal
 use lib.Lanes.{zip2}
 

@@ -1,7 +1,7 @@
 use Rattle.std.proofs.Common.{◌∙◌, arith, sym}
 use Rattle.std.proofs.lemmas.List.{length-map}
-use Rattle.cq_vectors.specs.Columns.{texts_of}
-use Rattle.cq_vectors.proofs.ColumnLemmas.{keeps_texts}
+use Rattle.cq_vectors_stored.specs.Columns.{texts_of}
+use Rattle.cq_vectors_stored.proofs.ColumnLemmas.{keeps_texts}
 use Rattle.cq_vectors.proofs.texts.Texts.new.Goals as goal
 
 pub invariant_of-result : goal.invariant_of-result

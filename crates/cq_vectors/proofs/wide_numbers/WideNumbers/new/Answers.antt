@@ -1,4 +1,4 @@
-use Rattle.cq_vectors.proofs.ColumnLemmas.{keeps_numbers}
+use Rattle.cq_vectors_stored.proofs.ColumnLemmas.{keeps_numbers}
 use Rattle.cq_vectors.proofs.wide_numbers.WideNumbers.new.Goals as goal
 
 pub invariant_of-result : goal.invariant_of-result

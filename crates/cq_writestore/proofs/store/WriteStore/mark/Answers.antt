@@ -1,47 +1,36 @@
-use Rattle.std.proofs.Common.{◌∙◌, ◌<◌, ◌+◌, ap, arith, false, get_or, length, sym, true}
-use Rattle.std.proofs.lemmas.List.{get_or_default, length-set}
-use Rattle.cq_segments.specs.Marked.{marked_count, marks_of, with_flags, with_mark}
-use Rattle.cq_segments.proofs.Marks.{count-mark, length-flags, length-live, length-mark, mark-again, marks_of-flags, set-flag}
+use Rattle.std.proofs.Common.{◌∙◌, ◌+◌, ◌-◌, ◌++◌, ℕ, ap, arith, length, sym}
+use Rattle.cq_segments.specs.Marked.{with_mark}
+use Rattle.cq_segments.proofs.Marks.{length-mark, mark-behind, mark-in-front}
 use Rattle.cq_writestore.proofs.store.WriteStore.mark.Goals as goal
 
-pub index-requires : goal.index-requires
-index-requires c = omega (arith, c.requires, c.self.invariant.0, c.self.inside.marks.ok, length-flags c.self.inside.rows.items c.self.inside.marks.items, ap (λ w. length w.rows) c.self.view_is)
-
-pub index_mut-requires : goal.index_mut-requires
-index_mut-requires c = omega (arith, c.requires, c.self.invariant.0, c.self.inside.marks.ok, length-flags c.self.inside.rows.items c.self.inside.marks.items, ap (λ w. length w.rows) c.self.view_is)
-
-pub overflow_add-self : goal.overflow_add-self
-overflow_add-self c =
-    let rows = c.self.inside.rows.items in
-    let flags = c.self.inside.marks.items in
-    let place = c.args.place in
-    let stored = with_flags rows flags in
-    let there : place < length stored = omega (arith, c.requires, ap (λ w. length w.rows) c.self.view_is) in
-    let flag : place < length flags = omega (arith, there, length-flags rows flags, c.self.invariant.0) in
-    let free = ap (λ l. get_or l place false) (marks_of-flags rows flags c.self.invariant.0) ∙ get_or_default flags place false c.index.result.now flag ∙ sym c.index.ensures ∙ c.if-not-index.true in
-    omega (arith, count-mark stored place there free, c.self.invariant.1, length-live (with_mark place stored), length-mark stored place, length-flags rows flags, c.self.invariant.0, c.self.inside.marks.ok, c.self.inside.marks.small)
-
 pub invariant_of-self : goal.invariant_of-self
-invariant_of-self c =
-    let rows = c.self.inside.rows.items in
-    let flags = c.self.inside.marks.items in
-    let place = c.args.place in
-    let stored = with_flags rows flags in
-    let there : place < length stored = omega (arith, c.requires, ap (λ w. length w.rows) c.self.view_is) in
-    let flag : place < length flags = omega (arith, there, length-flags rows flags, c.self.invariant.0) in
-    let free = ap (λ l. get_or l place false) (marks_of-flags rows flags c.self.invariant.0) ∙ get_or_default flags place false c.index.result.now flag ∙ sym c.index.ensures ∙ c.if-not-index.true in (
-      length-set flags place true ∙ c.self.invariant.0,
-      ap (λ n. n + 1) c.self.invariant.1 ∙ sym (count-mark stored place there free) ∙ ap marked_count (sym (set-flag rows flags place c.self.invariant.0)),
-    )
+invariant_of-self c = record {
+  fits = c.self.invariant.fits;
+  small = omega (arith, c.self.invariant.small, ap length c.mark.ensures, length-mark c.self.inside.pieces c.args.place);
+}
 
-pub returns-then-not-index-clause-rows : goal.returns-then-not-index-clause-rows
-returns-then-not-index-clause-rows c = set-flag c.self.inside.rows.items c.self.inside.marks.items c.args.place c.self.invariant.0 ∙ ap (λ w. with_mark c.args.place w.rows) c.self.view_is
+pub invariant_of-self-else-place-held : goal.invariant_of-self-else-place-held
+invariant_of-self-else-place-held c =
+    let marked = c.mark-else-place-held.ensures in
+    record {
+      fits = omega (arith, c.self.invariant.fits, marked.room);
+      small = omega (arith, c.self.invariant.small, ap length marked.rows, length-mark c.self.inside.tail.rows (c.args.place - c.len-held.result));
+    }
 
-pub returns-else-not-index-clause-rows : goal.returns-else-not-index-clause-rows
-returns-else-not-index-clause-rows c =
-    let rows = c.self.inside.rows.items in
-    let flags = c.self.inside.marks.items in
+pub returns-then-place-held-clause-rows : goal.returns-then-place-held-clause-rows
+returns-then-place-held-clause-rows c =
+    let pieces = c.self.inside.pieces in
+    let rows = c.self.inside.tail.rows in
     let place = c.args.place in
-    let flag : place < length flags = omega (arith, c.requires, ap (λ w. length w.rows) c.self.view_is, length-flags rows flags, c.self.invariant.0) in
-    let set = ap (λ w. get_or (marks_of w.rows) place false) (sym c.self.view_is) ∙ ap (λ l. get_or l place false) (marks_of-flags rows flags c.self.invariant.0) ∙ get_or_default flags place false c.index.result.now flag ∙ sym c.index.ensures ∙ c.if-not-index.false in
-    sym (mark-again c.args.self.now.rows place set)
+    ap (λ l. l ++ rows) c.mark.ensures ∙ sym (mark-in-front pieces rows place (omega (arith, c.if-place-held.true, c.len-held.ensures)))
+    ∙ ap (λ w. with_mark place w.rows) c.self.view_is
+
+pub returns-else-place-held-clause-rows : goal.returns-else-place-held-clause-rows
+returns-else-place-held-clause-rows c =
+    let pieces = c.self.inside.pieces in
+    let rows = c.self.inside.tail.rows in
+    let place = c.args.place in
+    let at = place - c.len-held.result in
+    ap (λ l. pieces ++ l) c.mark-else-place-held.ensures.rows ∙ sym (mark-behind pieces rows at)
+    ∙ ap (λ (n : ℕ). with_mark n (pieces ++ rows)) {x = length pieces + at} {y = place} (omega (arith, c.if-place-held.false, c.len-held.ensures))
+    ∙ ap (λ w. with_mark place w.rows) c.self.view_is

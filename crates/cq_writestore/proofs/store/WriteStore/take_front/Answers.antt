@@ -1,62 +1,12 @@
-use Rattle.std.proofs.Common.{◌≡◌, ◌≤◌, ◌-◌, ◌∙◌, ap, ap₂, arith, drop, length, min, sym, take}
-use Rattle.std.proofs.lemmas.List.{length-drop}
-use Rattle.cq_segments.specs.Marked.{live, marked_count, with_flags}
-use Rattle.cq_segments.proofs.Marks.{length-flags}
-use Rattle.cq_writestore.specs.Writes.{written_rows}
-use Rattle.cq_writestore.proofs.MarkedLists.{count-front, count-parts, drop-flags, drop-min, turned}
+use Rattle.std.proofs.Common.{◌∙◌, ◌-◌, ◌++◌, ℕ, ap, ap₂, drop, sym}
+use Rattle.cq_writestore.proofs.MarkedLists.{drop-both}
 use Rattle.cq_writestore.proofs.store.WriteStore.take_front.Goals as goal
-
-pub split_at-requires : goal.split_at-requires
-split_at-requires c =
-    let rows = c.self.inside.rows in
-    omega (arith, c.min-count.ensures, c.len.ensures, rows.ok, length-flags rows.items c.self.inside.marks.items, ap (λ w. length w.rows) c.self.view_is, ap length c.rows.ensures)
-
-pub overflow_sub-gone : goal.overflow_sub-gone
-overflow_sub-gone c =
-    let rows = c.self.inside.rows in
-    let stored = written_rows c.rows.result in
-    let n = c.min-count.result in
-    let there : n ≤ length stored = omega (arith, c.min-count.ensures, c.len.ensures, rows.ok, length-flags rows.items c.self.inside.marks.items, ap (λ w. length w.rows) c.self.view_is, ap length c.rows.ensures) in
-    omega (arith, c.live_len.ensures, ap (λ l. length (live l)) c.split_at.ensures.front, count-front stored n there)
-
-pub overflow_sub-self : goal.overflow_sub-self
-overflow_sub-self c =
-    let rows = c.self.inside.rows in
-    let stored = written_rows c.rows.result in
-    let n = c.min-count.result in
-    let there : n ≤ length stored = omega (arith, c.min-count.ensures, c.len.ensures, rows.ok, length-flags rows.items c.self.inside.marks.items, ap (λ w. length w.rows) c.self.view_is, ap length c.rows.ensures) in
-    let all = ap marked_count c.rows.ensures ∙ sym (ap (λ w. marked_count w.rows) c.self.view_is) in
-    omega (arith, c.live_len.ensures, ap (λ l. length (live l)) c.split_at.ensures.front, count-front stored n there, count-parts n stored, all, c.self.invariant.1)
-
-pub invariant_of-self : goal.invariant_of-self
-invariant_of-self c =
-    let rows = c.self.inside.rows in
-    let marks = c.self.inside.marks in
-    let stored = written_rows c.rows.result in
-    let n = c.min-count.result in
-    let left = c.len-2.result - n in
-    let there : n ≤ length stored = omega (arith, c.min-count.ensures, c.len.ensures, rows.ok, length-flags rows.items marks.items, ap (λ w. length w.rows) c.self.view_is, ap length c.rows.ensures) in
-    let low : n ≤ length rows.items = omega (arith, c.min-count.ensures, c.len.ensures, rows.ok) in
-    let rest : left ≡ length rows.items - n = omega (arith, c.len-2.ensures, rows.ok) in
-    let of_rows = c.truncate.ensures.items ∙ ap (take left) c.rotate_left.ensures.items ∙ turned n left rows.items low rest in
-    let of_marks = c.truncate-2.ensures.items ∙ ap (take left) c.rotate_left-2.ensures.items ∙ turned n left marks.items (omega (arith, low, c.self.invariant.0)) (omega (arith, rest, c.self.invariant.0)) in
-    let same = ap (λ w. w.rows) c.self.view_is ∙ sym c.rows.ensures in
-    let whole = ap₂ with_flags of_rows of_marks ∙ drop-flags rows.items marks.items n ∙ ap (drop n) same in (
-      omega (arith, ap length of_rows, ap length of_marks, length-drop n rows.items, length-drop n marks.items, c.self.invariant.0),
-      omega (arith, ap marked_count whole, ap marked_count same, c.live_len.ensures, ap (λ l. length (live l)) c.split_at.ensures.front, count-front stored n there, count-parts n stored, c.self.invariant.1),
-    )
 
 pub returns-clause-rows : goal.returns-clause-rows
 returns-clause-rows c =
-    let rows = c.self.inside.rows in
-    let marks = c.self.inside.marks in
-    let stored = c.args.self.now.rows in
-    let n = c.min-count.result in
-    let left = c.len-2.result - n in
-    let low : n ≤ length rows.items = omega (arith, c.min-count.ensures, c.len.ensures, rows.ok) in
-    let rest : left ≡ length rows.items - n = omega (arith, c.len-2.ensures, rows.ok) in
-    let of_rows = c.truncate.ensures.items ∙ ap (take left) c.rotate_left.ensures.items ∙ turned n left rows.items low rest in
-    let of_marks = c.truncate-2.ensures.items ∙ ap (take left) c.rotate_left-2.ensures.items ∙ turned n left marks.items (omega (arith, low, c.self.invariant.0)) (omega (arith, rest, c.self.invariant.0)) in
-    let same = ap (λ w. w.rows) c.self.view_is in
-    let least : n ≡ min c.args.count (length stored) = omega (arith, c.min-count.ensures, c.len.ensures, rows.ok, length-flags rows.items marks.items, ap length same) in
-    ap₂ with_flags of_rows of_marks ∙ drop-flags rows.items marks.items n ∙ ap (drop n) same ∙ ap (λ k. drop k stored) least ∙ drop-min c.args.count stored
+    let pieces = c.self.inside.pieces in
+    let rows = c.self.inside.tail.rows in
+    let count = c.args.count in
+    let left = c.saturating_sub.ensures ∙ ap (λ (n : ℕ). count - n) c.len-held.ensures in
+    ap₂ (λ a b. a ++ b) c.take_front.ensures c.take_front-2.ensures.rows ∙ ap (λ (n : ℕ). drop count pieces ++ drop n rows) left
+    ∙ sym (drop-both count pieces rows) ∙ ap (λ w. drop count w.rows) c.self.view_is

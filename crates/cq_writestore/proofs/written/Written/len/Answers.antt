@@ -1,6 +1,8 @@
-use Rattle.std.proofs.Common.{sym}
+use Rattle.std.proofs.Common.{arith}
 use Rattle.cq_segments.proofs.Marks.{length-flags}
 use Rattle.cq_writestore.proofs.written.Written.len.Goals as goal
 
-pub returns : goal.returns
-returns c = sym (length-flags c.args.self.now.rows.now c.args.self.now.marks.now)
+pub overflow_add-result : goal.overflow_add-result
+overflow_add-result c =
+    let tail = c.args.self.now.tail in
+    omega (arith, c.rows_in.ensures, c.len.ensures, c.args.self.now.few, length-flags tail.rows.now tail.marks.now)

@@ -1,0 +1,6 @@
+pub mod AtPlaces
+pub mod ItemsAt
+pub mod Narrowing
+pub mod OffsetsAt
+pub mod Packing
+pub mod PartsLemmas

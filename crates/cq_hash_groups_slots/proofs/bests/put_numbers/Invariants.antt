@@ -1,0 +1,13 @@
+use Rattle.std.proofs.Common.{◌≡◌, drop, length}
+use Rattle.cq_values.specs.declared.value.Value.TheVariants.{Null}
+use Rattle.cq_hash_groups_slots.specs.NumberColumns.{with_nulls}
+use Rattle.cq_hash_groups_slots.specs.Puts.{put_all, put_best}
+use Rattle.cq_hash_groups_slots.proofs.bests.put_numbers.Given as goal
+
+-- what remains, put into the bests so far, makes what is to come
+abbrev pub invariant-loop-place : goal.invariant-loop-place
+invariant-loop-place g l = record {
+  rest : put_all (put_best l.which) Null (drop l.place l.numbers) (drop l.place (with_nulls (g.C.NumberColumn.numbers l.column) l.nulls)) l.bests
+      ≡ put_all (put_best l.which) Null l.numbers (with_nulls (g.C.NumberColumn.numbers l.column) l.nulls) l.fn.bests;
+  same : length l.bests ≡ length l.fn.bests;
+}

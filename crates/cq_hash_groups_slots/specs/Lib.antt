@@ -1,0 +1,4 @@
+pub mod NumberColumns
+pub mod Puts
+pub mod Slots
+pub mod Width

@@ -1,0 +1,15 @@
+//! What is kept of each group for an aggregate.
+//!
+//! To its callers a [`Slots`] is what is kept of all groups for one aggregate, by their numbers: how many values each
+//! has, their exact total, or the best of them.
+#![tactic(auto)]
+
+mod bests;
+mod counts;
+mod number_columns;
+mod slots;
+mod small_sums;
+mod sums;
+mod wide_sums;
+
+pub use slots::Slots;

@@ -1,0 +1,62 @@
+//! Columns of numbers of 64 bits, read where they stand.
+//!
+//! A column has a number in each place, also where NULL stands: a plane tells these places, and nobody may use the number.
+ghost use Rattle.std.specs.Prelude.{length, pos, slice_index_or, List, ℤ, ◌<◌, ◌≡◌};
+ghost use Rattle.cq_values.specs.Lent.{owned};
+ghost use Rattle.cq_vectors_stored.specs.Columns.{number_unless};
+ghost use Rattle.cq_vectors_stored.specs.LentColumns.{FitAbove};
+ghost use Rattle.cq_vectors_stored.specs.Offsets.{offsets_in};
+ghost use Rattle.cq_hash_groups_slots.specs.NumberColumns.{all_above};
+
+use cq_values::Lent;
+use cq_vectors_stored::Offsets;
+
+/// A number in each place.
+pub(crate) trait NumberColumn {
+    ghost numbers: { Self → List ℤ };
+
+    fn at(&self, place: usize) -> i64
+        requires { place < length (numbers self.now) }
+        ensures { result ≡ slice_index_or (numbers self.now) place (pos 0) };
+}
+
+/// Numbers as they are.
+#[derive(Drop)]
+pub(crate) struct Plain<'b> {
+    pub(crate) values: &'b [i64],
+}
+
+impl NumberColumn for Plain<'_> {
+    ghost numbers = { λ c. c.values.now };
+
+    fn at(&self, place: usize) -> i64 {
+        self.values[place]
+    }
+}
+
+/// Offsets above a base.
+#[derive(Drop)]
+pub(crate) struct Above<'b> {
+    pub(crate) base: i64,
+    pub(crate) offsets: Offsets<'b>,
+    ghost fit: { FitAbove base (offsets_in offsets) },
+}
+
+impl NumberColumn for Above<'_> {
+    ghost numbers = { λ c. all_above c.base (offsets_in c.offsets) };
+
+    fn at(&self, place: usize) -> i64 {
+        self.base + i64::from(self.offsets.at(place))
+    }
+}
+
+/// The number, unless it stands under a NULL.
+pub(crate) fn lent_unless(number: i64, is_null: bool) -> Lent<'static>
+    ensures { owned result ≡ number_unless number is_null }
+{
+    if is_null {
+        Lent::Null
+    } else {
+        Lent::Number(i128::from(number))
+    }
+}

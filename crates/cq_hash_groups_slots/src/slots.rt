@@ -1,0 +1,83 @@
+//! What is kept of groups for one aggregate.
+ghost use Rattle.std.specs.Prelude.{◌+◌, ◌^◌, ◌≡◌, IfErr, IfOk, OnOk, length, ℕ};
+ghost use Rattle.cq_model.specs.declared.fault.ShowFault.TheVariants.{SumOutOfRange};
+ghost use Rattle.cq_hash_groups_slots.specs.Puts.{AreNumbers, most_before};
+ghost use Rattle.cq_hash_groups_slots.specs.Slots.{AreWithin, CanShow, empty_slots, groups_in, grown_slots, put_slots, shown_at};
+
+use crate::bests::{Bests, Extreme};
+use crate::counts::Counts;
+use crate::sums::Sums;
+use cq_model::{Aggregate, ShowFault};
+use cq_values::Value;
+use cq_vectors::Vector;
+use std::alloc::{AllocError, Global};
+
+/// What is kept of each group for one aggregate, by the group's number.
+#[derive(Drop)]
+pub enum Slots {
+    Counts(Counts),
+    Sums(Sums),
+    Bests(Extreme, Bests),
+}
+
+impl Slots {
+    /// No groups. Takes no memory.
+    pub fn new(alloc: Global, aggregate: &Aggregate) -> Slots
+        ensures { result ≡ empty_slots aggregate.now }
+    {
+        match aggregate {
+            Aggregate::CountAll | Aggregate::Count(_) => Slots::Counts(Counts::new(alloc)),
+            Aggregate::Sum(_) => Slots::Sums(Sums::new(alloc)),
+            Aggregate::Min(_) => Slots::Bests(Extreme::Least, Bests::new(alloc)),
+            Aggregate::Max(_) => Slots::Bests(Extreme::Greatest, Bests::new(alloc)),
+        }
+    }
+
+    /// Makes so many groups of them, where a new one has no values.
+    pub fn grow(&mut self, groups: usize) -> Result<(), AllocError>
+        ensures ok { OnOk result (self.new ≡ grown_slots groups self.old) }
+        ensures within { (n : ℕ) → AreWithin n self.old → AreWithin n self.new }
+    {
+        match self {
+            Slots::Counts(counts) => counts.grow(groups),
+            Slots::Sums(sums) => sums.grow(groups),
+            Slots::Bests(_, bests) => bests.grow(groups),
+        }
+    }
+
+    /// Puts the values into the groups of their numbers.
+    pub fn put(
+        &mut self,
+        alloc: Global,
+        numbers: &[usize],
+        values: &Vector<'_>,
+    ) -> Result<(), AllocError>
+        requires there { AreNumbers (groups_in self.old) numbers.now }
+        requires same { length numbers.now ≡ length values.now }
+        requires room { AreWithin (most_before (length numbers.now)) self.old }
+        ensures ok { OnOk result (self.new ≡ put_slots numbers.now values.now self.old) }
+        ensures within { (n : ℕ) → AreWithin n self.old → AreWithin (n + length numbers.now) self.new }
+    {
+        match self {
+            Slots::Counts(counts) => {
+                counts.put(numbers, values);
+                Ok(())
+            }
+            Slots::Sums(sums) => sums.put(alloc, numbers, values),
+            Slots::Bests(which, bests) => bests.put(alloc, *which, numbers, values),
+        }
+    }
+
+    /// What a group shows.
+    pub fn value(&self, alloc: Global, group: usize) -> Result<Value, ShowFault>
+        ensures value { IfOk result (λ v. v ≡ shown_at group self.now) }
+        ensures range { OnOk result (CanShow group self.now) }
+        ensures fault { IfErr result (λ e. e ≡ SumOutOfRange → CanShow group self.now → ⊥) }
+    {
+        match self {
+            Slots::Counts(counts) => Ok(counts.value(group)),
+            Slots::Sums(sums) => sums.value(group),
+            Slots::Bests(_, bests) => Ok(bests.value(alloc, group)?),
+        }
+    }
+}

@@ -1,6 +1,0 @@
-use Rattle.std.proofs.Common.{◌≡◌, rules}
-use Rattle.cq_hash_keys.proofs.Windows.{lower}
-use Rattle.cq_hash_keys.proofs.window.Window.reach_down.Goals as goal
-
-pub returns-in_ok-self : goal.returns-in_ok-self
-returns-in_ok-self c = search (rules, lower)

@@ -1,0 +1,64 @@
+-- Numbers of entries that are noted while texts are read by their codes.
+use Rattle.std.proofs.Common.{◌≡◌, ℕ, zero, suc, ap₂, map, replicate, ◌+◌, ◌-◌, ◌<◌, Bool, true, false, cond, List, set, length, get_or, refl, sym, ◌∙◌, ap, subst, arith}
+use Rattle.std.proofs.lemmas.Bool.{cases_lt}
+use Rattle.std.proofs.lemmas.List.{get_or-set_other, get_or-set_same, length-map}
+use Rattle.std.proofs.lemmas.Simd.{get_or-zip2}
+use Rattle.indexmap.specs.IndexSet.{insert_key}
+use Rattle.cq_values.specs.declared.value.Value.{Value}
+use Rattle.cq_values.specs.declared.value.Value.TheVariants.{Null}
+use Rattle.cq_model.specs.Condition.{is_null}
+use Rattle.cq_vectors_stored.specs.LentColumns.{entries_at, entry_unless}
+use Rattle.cq_hash_keys_values.specs.Coded.{AreNoted, slot_value}
+use Rattle.cq_hash_keys_values.specs.Met.{IsNumberIn}
+use Rattle.cq_hash_keys_values.specs.Values.{same_value}
+use Rattle.cq_hash_keys_values.proofs.Choices.{by-sum}
+use Rattle.cq_hash_keys_values.proofs.Runs.{still-number}
+use Rattle.cq_hash_keys_values.proofs.ValueKeys.{value-itself, value-same}
+
+-- before, at or behind a place
+pub by-place : {P : Type 0} (k at : ℕ) → ((k ≡ at → ⊥) → P) → (k ≡ at → P) → P
+by-place k at other here = by-sum (cases_lt k at)
+    (λ before. other (λ e. omega (arith, e, before)))
+    (λ past. by-sum (cases_lt at k) (λ behind. other (λ e. omega (arith, e, behind))) (λ within. here (omega (arith, past, within))))
+
+zeros : (n k none : ℕ) → none ≡ 0 → get_or (replicate n none) k none ≡ 0
+zeros zero k none is = is
+zeros (suc n) zero none is = is
+zeros (suc n) (suc k) none is = zeros n k none is
+
+module _ (entries : List (List ℕ)) where
+  entry-slot : (code : ℕ) (flag : Bool) → entry_unless entries code flag ≡ slot_value entries (cond flag 0 (code + 1))
+  entry-slot code true = refl
+  entry-slot code false = let e : suc code ≡ code + 1 = omega arith in ap (slot_value entries) e
+
+  -- the slot of a place has its value
+  pub slot-at : (codes : List ℕ) (flags : List Bool) (i : ℕ) → i < length codes → length flags ≡ length codes
+      → slot_value entries (cond (get_or flags i false) 0 (get_or codes i 0 + 1)) ≡ get_or (entries_at entries codes flags) i Null
+  slot-at codes flags i lt same =
+      sym (get_or-zip2 (entry_unless entries) codes flags i 0 false Null lt (omega (arith, lt, same)) ∙ entry-slot (get_or codes i 0) (get_or flags i false))
+
+  -- what is noted stays so as a value is put in
+  pub noted-more : (old new : List Value) (v : Value) (slots : List ℕ) → new ≡ insert_key same_value old v → AreNoted entries old slots → AreNoted entries new slots
+  noted-more old new v slots made noted k some = still-number same_value Null value-same value-itself old new (slot_value entries k) v (get_or slots k 0 - 1) made (noted k some)
+
+  -- one number more is noted
+  pub noted-at : (met : List Value) (slots : List ℕ) (slot n : ℕ) → slot < length slots → IsNumberIn Null met (slot_value entries slot) n → AreNoted entries met slots → AreNoted entries met (set slots slot (n + 1))
+  noted-at met slots slot n lt is noted k some = by-place k slot
+      (λ apart.
+      let e : get_or (set slots slot (n + 1)) k 0 ≡ get_or slots k 0 = get_or-set_other slots slot k (n + 1) 0 (λ e. apart (omega (arith, e))) in
+      subst (λ (m : ℕ). IsNumberIn Null met (slot_value entries k) (m - 1)) (sym e) (noted k (λ z. some (e ∙ z))))
+      (λ here.
+      let e : get_or (set slots slot (n + 1)) k 0 - 1 ≡ n = ap (λ (j : ℕ). get_or (set slots slot (n + 1)) j 0 - 1) here ∙ ap (λ (m : ℕ). m - 1) (get_or-set_same slots slot (n + 1) 0 lt) ∙ omega arith in
+      subst (IsNumberIn Null met (slot_value entries k)) (sym e) (subst (λ (j : ℕ). IsNumberIn Null met (slot_value entries j) n) (sym here) is))
+
+  -- nothing is noted in slots of 0
+  pub none-noted : (met : List Value) (n : ℕ) → AreNoted entries met (replicate n 0)
+  none-noted met n k some = absurd (some (zeros n k 0 refl))
+
+  -- and the slot that is read of a place has its value
+  pub read-slot : (texts : List Value) (codes : List ℕ) (i slot code : ℕ) (flag : Bool) → texts ≡ entries_at entries codes (map is_null texts) → length codes ≡ length texts → i < length texts
+      → flag ≡ get_or (map is_null texts) i false → code ≡ get_or codes i 0 → slot ≡ cond flag 0 (code + 1) → slot_value entries slot ≡ get_or texts i Null
+  read-slot texts codes i slot code flag whole long lt is_flag is_code is_slot =
+      ap (slot_value entries) (is_slot ∙ ap₂ (λ (b : Bool) (n : ℕ). cond b 0 (n + 1)) is_flag is_code)
+      ∙ slot-at codes (map is_null texts) i (omega (arith, lt, long)) (length-map texts is_null ∙ sym long)
+      ∙ ap (λ (vs : List Value). get_or vs i Null) (sym whole)

@@ -1,0 +1,10 @@
+pub mod Choices
+pub mod CodedKeys
+pub mod Growing
+pub mod KnownCodes
+pub mod Meeting
+pub mod Runs
+pub mod TextKeys
+pub mod ValueKeys
+pub mod WholeKeys
+pub mod Windows

@@ -1,0 +1,32 @@
+use Rattle.std.proofs.Common.{◌≡◌, ◌∙◌, List, sym, subst, None, Some, rules}
+use Rattle.indexmap.specs.IndexSet.{insert_key}
+use Rattle.cq_values.specs.declared.value.Value.{Value}
+use Rattle.cq_values.specs.declared.value.Value.TheVariants.{Null}
+use Rattle.cq_hash_keys_values.specs.Dictionary.{number_in}
+use Rattle.cq_hash_keys_values.specs.Met.{IsNumberIn}
+use Rattle.cq_hash_keys_values.specs.Values.{place_in, same_value}
+use Rattle.cq_hash_keys_values.specs.Whole.{whole_value}
+use Rattle.cq_hash_keys_values.proofs.Meeting.{there-stays, told}
+use Rattle.cq_hash_keys_values.proofs.ValueKeys.{value-itself, value-same}
+use Rattle.cq_hash_keys_values.proofs.values.Values.whole.Goals as goal
+
+pub returns-in-Some-clause-met : goal.returns-in-Some-clause-met
+returns-in-Some-clause-met c =
+    let v = whole_value c.args.kind c.args.value in
+    let is : number_in c.self.inside.ways v ≡ Some c.in-Some.number = search rules in
+    subst (λ (met : List Value). met ≡ insert_key same_value met v) c.self.view_is
+    (there-stays same_value Null value-same value-itself c.self.inside.met.items v c.in-Some.number (sym (c.self.invariant v) ∙ is))
+
+pub returns-in-Some-clause-number : goal.returns-in-Some-clause-number
+returns-in-Some-clause-number c =
+    let v = whole_value c.args.kind c.args.value in
+    let is : number_in c.self.inside.ways v ≡ Some c.in-Some.number = search rules in
+    subst (λ (met : List Value). IsNumberIn Null met v c.in-Some.number) c.self.view_is
+    (told same_value Null value-same value-itself c.self.inside.met.items v c.in-Some.number (sym (c.self.invariant v) ∙ is))
+
+pub new_number-requires : goal.new_number-requires
+new_number-requires c =
+    let v = whole_value c.args.kind c.args.value in
+    let is : number_in c.self.inside.ways v ≡ None = search rules in
+    let none : place_in c.args.self.now v ≡ None = subst (λ (met : List Value). place_in met v ≡ None) c.self.view_is (sym (c.self.invariant v) ∙ is) in
+    subst (λ (w : Value). place_in c.args.self.now w ≡ None) (sym (c.lend.ensures ∙ c.requires)) none

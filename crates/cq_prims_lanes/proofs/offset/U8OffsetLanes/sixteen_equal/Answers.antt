@@ -1,0 +1,6 @@
+use Rattle.std.proofs.Common.{arith, eqb, w8}
+use Rattle.cq_prims_lanes.proofs.OffsetLanes.{offset_answers}
+use Rattle.cq_prims_lanes.proofs.offset.U8OffsetLanes.sixteen_equal.Goals as goal
+
+pub returns : goal.returns
+returns c = offset_answers w8 eqb 16 (omega arith) c.args.offsets.now c.args.from c.args.number c.requires.there

@@ -1,7 +1,0 @@
-use Rattle.std.proofs.Common.{◌≡◌, take}
-use Rattle.cq_segments.specs.Places.{flags_at}
-use Rattle.cq_segments.proofs.columns_at.push_flags.Given as goal
-
--- the flags of the places so far
-abbrev pub invariant-loop-place : goal.invariant-loop-place
-invariant-loop-place l = l.flags ≡ flags_at l.plane (take l.place-index l.places)

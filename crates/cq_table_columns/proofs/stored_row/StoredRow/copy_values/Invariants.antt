@@ -1,7 +1,0 @@
-use Rattle.std.proofs.Common.{◌≡◌, take}
-use Rattle.cq_table_columns.specs.Stored.{row_of}
-use Rattle.cq_table_columns.proofs.stored_row.StoredRow.copy_values.Given as goal
-
--- the values so far are copied
-abbrev pub invariant-loop-column : goal.invariant-loop-column
-invariant-loop-column l = l.row ≡ take l.column (row_of l.self)

@@ -1,0 +1,5 @@
+pub mod Columns
+pub mod FlaggedOffsets
+pub mod LentColumns
+pub mod Offsets
+pub mod TextRun

@@ -1,0 +1,5 @@
+use Rattle.cq_segments.proofs.Marks.{flags-none}
+use Rattle.cq_writestore.proofs.tail.Tail.of.Goals as goal
+
+pub returns : goal.returns
+returns c = flags-none c.args.rows.now

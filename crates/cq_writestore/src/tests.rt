@@ -1,0 +1,126 @@
+//! The write store at the lengths at which a piece is full.
+ghost use Rattle.std.specs.Bool.{OnTrue};
+ghost use Rattle.std.specs.Prelude.{OnOk, ◌++◌};
+ghost use Rattle.cq_segments.specs.Columns.{AreWide};
+ghost use Rattle.cq_segments.specs.Marked.{rows_of};
+
+use crate::store::WriteStore;
+use cq_values::{Lent, Row, Value};
+use std::alloc::{AllocError, Global};
+use std::test::Fail;
+
+/// So many rows, each of the number of its place.
+fn counted(alloc: Global, len: usize) -> Result<Vec<Row>, AllocError> {
+    let mut rows = Vec::new(alloc);
+    for place in 0..len {
+        let mut row = Row::with_capacity(alloc, 1)?;
+        row.push(Value::Number(place as i128))?;
+        rows.push(row)?;
+    }
+    Ok(rows)
+}
+
+fn are_wide(rows: &[Row], width: usize) -> bool
+    ensures { OnTrue result (AreWide width rows.now) }
+{
+    for row in rows {
+        if row.len() != width {
+            return false;
+        }
+    }
+    true
+}
+
+/// The number in the row at a place, and -1 where there is none.
+fn number_at(store: &WriteStore, place: usize) -> i128 {
+    if place < store.len() {
+        match store.rows().at(place).lend(0) {
+            Lent::Number(number) => return number,
+            _ => {}
+        }
+    }
+    -1
+}
+
+#[test]
+fn rows_stand_in_pieces_as_soon_as_one_is_full(rt: HostRuntime) -> Result<(), Fail> {
+    let alloc = rt.alloc();
+    // how many rows are added and dropped; how many pieces are left, and how many rows behind them
+    let cases = [
+        (1023, 0, 0, 1023),
+        (1024, 0, 1, 0),
+        (2500, 0, 2, 452),
+        (2500, 1000, 2, 452),
+        (2500, 1024, 1, 452),
+        (2500, 2100, 0, 400),
+        (2500, 2600, 0, 0),
+    ];
+    for (added, gone, pieces, tail) in cases {
+        let mut store = WriteStore::new(alloc);
+        let rows = counted(alloc, added)?;
+        assert!(rt; are_wide(rows.as_slice(), 1));
+        store.append(alloc, rows, 1)?;
+        store.take_front(gone);
+        assert_eq!(rt;
+            store.rows().pieces.len(),
+            pieces,
+            "of {added} without {gone}"
+        );
+        assert_eq!(rt; store.rows().tail.len(), tail, "of {added} without {gone}");
+    }
+    Ok(())
+}
+
+/// Puts so many rows of one number behind those of the store.
+fn add(alloc: Global, store: &mut WriteStore, len: usize) -> Result<(), AllocError>
+    requires { AreWide 1 (rows_of store.old.rows) }
+    ensures { OnOk result (AreWide 1 (rows_of store.new.rows)) }
+{
+    let rows = counted(alloc, len)?;
+    if are_wide(rows.as_slice(), 1) {
+        store.append(alloc, rows, 1)?;
+    }
+    Ok(())
+}
+
+#[test]
+fn rows_of_several_calls_fill_a_piece(rt: HostRuntime) -> Result<(), Fail> {
+    let alloc = rt.alloc();
+    let mut store = WriteStore::new(alloc);
+    add(alloc, &mut store, 1000)?;
+    assert_eq!(rt; store.rows().pieces.len(), 0);
+    add(alloc, &mut store, 1000)?;
+    assert_eq!(rt; store.rows().pieces.len(), 1);
+    assert_eq!(rt; store.rows().tail.len(), 976);
+    assert_eq!(rt; number_at(&store, 1023), 23);
+    assert_eq!(rt; number_at(&store, 1024), 24);
+    match store.rows().pieces.first() {
+        Some(piece) => assert!(rt; piece.is_whole()),
+        None => assert!(rt; false),
+    }
+    Ok(())
+}
+
+#[test]
+fn a_row_is_found_behind_a_front_that_is_cut(rt: HostRuntime) -> Result<(), Fail> {
+    let alloc = rt.alloc();
+    let mut store = WriteStore::new(alloc);
+    let rows = counted(alloc, 2500)?;
+    assert!(rt; are_wide(rows.as_slice(), 1));
+    store.append(alloc, rows, 1)?;
+    store.take_front(1000);
+    // a place, and the number that stands there
+    let cases = [
+        (0, 1000),
+        (23, 1023),
+        (24, 1024),
+        (1047, 2047),
+        (1048, 2048),
+        (1499, 2499),
+        (1500, -1),
+    ];
+    for (place, number) in cases {
+        assert_eq!(rt; number_at(&store, place), number, "at {place}");
+    }
+    Ok(())
+}
