@@ -119,12 +119,7 @@ impl NamedTable {
     }
 
     /// Adds all of these rows, or none. The table may have so many rows.
-    pub fn insert(
-        &mut self,
-        alloc: Global,
-        max_rows: u64,
-        rows: Vec<Row>,
-    ) -> Result<(), TableFault>
+    pub fn insert(&mut self, alloc: Global, max_rows: u64, rows: Vec<Row>) -> Result<(), TableFault>
         requires { AllByRecursion (FitsColumns self.old.is.columns) rows.items }
         ensures room { IsChecked (no_room_for max_rows self.old.is rows.items) result }
         ensures ok { OnOk result (self.new.is ≡ holding (self.old.is.rows ++ rows.items) self.old.is) }
