@@ -4,6 +4,8 @@
 //! columns as they are read, 1,024 to a piece, so that none of them is ever made for itself.
 #![tactic(auto)]
 
+mod filling;
 mod new_rows;
 
+pub use filling::Filling;
 pub use new_rows::NewRows;

@@ -1,11 +1,11 @@
 //! Rows that a statement brings.
 //!
-//! `of` takes rows as they are. `as_rows` lends them where all stand as rows, `copies` makes rows of all, and `into_parts`
-//! hands over what they are made of. Only `copies` takes memory.
+//! `of` takes rows as they are. `as_rows` lends them where all stand as rows, `copies` and `into_rows` make rows of all, and
+//! `into_parts` hands over what they are made of. Only `copies` and `into_rows` take memory.
 ghost use Rattle.std.specs.Prelude.{IfOk, IfSome, length, ◌++◌, ◌<◌, ◌^◌, ◌≡◌};
 ghost use Rattle.cq_segments.specs.Marked.{rows_of};
 ghost use Rattle.cq_segments.specs.Pieces.{joined};
-ghost use Rattle.cq_writestore_rows.specs.NewRows.{AreWhole, NoneMarked};
+ghost use Rattle.cq_writestore_rows.specs.NewRows.{AreFresh, AreWhole, NoneMarked};
 
 use cq_segments::Piece;
 use cq_values::{Row, copy_row};
@@ -34,6 +34,14 @@ impl Model for NewRows {
 }
 
 impl NewRows {
+    /// Rows of pieces, and those behind them.
+    pub(crate) fn new(pieces: Vec<Piece>, tail: Vec<Row>) -> NewRows
+        requires { AreFresh pieces.items tail.items }
+        ensures { result ≡ rows_of (joined pieces.items) ++ tail.items }
+    {
+        NewRows { pieces, tail }
+    }
+
     /// Rows as they are.
     pub fn of(rows: Vec<Row>) -> NewRows
         ensures { result ≡ rows.items }
@@ -77,6 +85,16 @@ impl NewRows {
             rows.push(copy_row(alloc, row.as_slice())?)?;
         }
         Ok(rows)
+    }
+
+    /// All rows as rows. Where some stand in pieces, they are copies.
+    pub fn into_rows(self, alloc: Global) -> Result<Vec<Row>, AllocError>
+        ensures { IfOk result (λ rows. rows.items ≡ self) }
+    {
+        if self.pieces.is_empty() {
+            return Ok(self.tail);
+        }
+        self.copies(alloc)
     }
 
     /// The pieces, each of 1,024 rows without a mark, and the rows behind them.
