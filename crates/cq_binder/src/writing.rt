@@ -15,7 +15,8 @@ use cq_binder_queries::{Catalog, TableEntry, bound_where, table_columns};
 use cq_binder_rules::Bound;
 use cq_model::Cond;
 use cq_sql_language::{ConstantRows, SqlExpr};
-use cq_values::{ColumnDef, Row, Seq, Text};
+use cq_values::{ColumnDef, Text};
+use cq_writestore_rows::NewRows;
 use std::alloc::Global;
 
 /// INSERT.
@@ -41,14 +42,14 @@ fn bound_rows(
     alloc: Global,
     columns: &[ColumnDef],
     rows: &ConstantRows,
-) -> Result<Seq<Row>, BindFault>
+) -> Result<NewRows, BindFault>
     ensures { WalksTo (flat_map (row_checks columns.now) rows.now) (map row_of rows.now) result }
 {
     let mut made = Vec::with_capacity(alloc, rows.len())?;
     for place in 0..rows.len() {
         made.push(bound_row(alloc, columns, rows.row(place))?)?;
     }
-    Ok(Seq::from_vec(made))
+    Ok(NewRows::of(made))
 }
 
 /// DELETE.

@@ -4,11 +4,12 @@
 //! views are those of the state that it was bound in. It owns its rows and its query, and knows no name but those that
 //! it makes.
 use cq_model::{Assignment, Cond, Order, Query};
-use cq_values::{ColumnDef, Row, Seq, Text};
+use cq_values::{ColumnDef, Seq, Text};
+use cq_writestore_rows::NewRows;
 
 /// What an accepted statement tells the engine to do. A table goes by its number, and a view by its place among the
 /// views. INSERT and COPY are both `Insert`, since the rows of a file are read while it is walked through.
-#[derive(Debug, Drop)]
+#[derive(Drop)]
 pub enum Bound {
     CreateTable {
         name: Text,
@@ -24,7 +25,7 @@ pub enum Bound {
     DropView(usize),
     Insert {
         table: u64,
-        rows: Seq<Row>,
+        rows: NewRows,
     },
     Delete {
         table: u64,

@@ -1,23 +1,21 @@
 //! The value of a field for a column.
 ghost use Rattle.std.specs.Prelude.{◌≡◌};
 ghost use Rattle.cq_binder_rules.specs.Fields.{field_value, is_null_field, null_in, stored_text, text_in, typed_field};
-ghost use Rattle.cq_csvio_read.specs.Reading.{Gives};
+ghost use Rattle.cq_csvio_read.specs.Reading.{value_in};
 ghost use Rattle.cq_values.specs.declared.ty.Ty.TheVariants as types;
 
 use crate::number::read_number;
 use cq_binder_rules::Fault;
 use cq_model::MAX_TEXT;
-use cq_values::{ColumnDef, Text, Ty, Value, date_of};
-use std::alloc::Global;
+use cq_values::{ColumnDef, Lent, Ty, date_of};
 
-/// The value of a field for a column, or its refusal, which may name the record.
-pub(crate) fn read_field(
-    alloc: Global,
+/// The value of a field for a column, where it stands, or its refusal, which may name the record.
+pub(crate) fn read_field<'a>(
     at: u64,
     column: &ColumnDef,
-    field: &[u8],
-) -> Result<Value, Fault>
-    ensures { Gives (field_value at column.now field.now) result }
+    field: &'a [u8],
+) -> Result<Lent<'a>, Fault>
+    ensures { value_in result ≡ field_value at column.now field.now }
 {
     let text = match str::from_utf8(field) {
         Ok(text) => text,
@@ -28,7 +26,7 @@ pub(crate) fn read_field(
     }
     match column.ty {
         Ty::Integer => read_number(at, field),
-        Ty::Text => read_text(alloc, text),
+        Ty::Text => read_text(text),
         Ty::Date => read_date(at, text),
     }
 }
@@ -43,23 +41,23 @@ fn is_null(ty: Ty, field: &[u8]) -> bool
     }
 }
 
-fn null_in(column: &ColumnDef) -> Result<Value, Fault>
-    ensures { result ≡ null_in column.now }
+fn null_in<'a>(column: &ColumnDef) -> Result<Lent<'a>, Fault>
+    ensures { value_in result ≡ null_in column.now }
 {
     if column.not_null {
         return Err(Fault::NullNotAllowed);
     }
-    Ok(Value::Null)
+    Ok(Lent::Null)
 }
 
-fn read_text(alloc: Global, text: &str) -> Result<Value, Fault>
-    ensures { Gives (stored_text (text_in text.now)) result }
+fn read_text(text: &str) -> Result<Lent<'_>, Fault>
+    ensures { value_in result ≡ stored_text (text_in text.now) }
 {
     let stored = unescaped(text);
     if MAX_TEXT < stored.len() {
         return Err(Fault::TextTooLong);
     }
-    Ok(Value::Text(Text::new(alloc, stored)?))
+    Ok(Lent::Text(stored))
 }
 
 /// The text without the first of two backslashes in front of it.
@@ -72,14 +70,14 @@ fn unescaped(text: &str) -> &str
     }
 }
 
-fn read_date(at: u64, text: &str) -> Result<Value, Fault>
-    ensures { result ≡ typed_field at types.Date text.now }
+fn read_date<'a>(at: u64, text: &str) -> Result<Lent<'a>, Fault>
+    ensures { value_in result ≡ typed_field at types.Date text.now }
 {
     if let [b'\\', ..] = text.as_bytes() {
         return Err(Fault::BadRecord(at));
     }
     match date_of(text) {
-        Ok(day) => Ok(Value::Day(day)),
+        Ok(day) => Ok(Lent::Day(day)),
         Err(_) => Err(Fault::BadDate),
     }
 }

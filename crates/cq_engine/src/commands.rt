@@ -15,8 +15,9 @@ use cq_engine_tables::{NamedTable, drop_in, drop_view_at, merge_in, move_in};
 use cq_engine_writes::{delete_in, insert_in, update_in};
 use cq_model::{Assignment, Cond, Order, Query};
 use cq_model_step::Answer;
-use cq_values::{ColumnDef, Row, Seq, Text};
+use cq_values::{ColumnDef, Seq, Text};
 use cq_views::standing_depends_on_sources;
+use cq_writestore_rows::NewRows;
 
 impl Engine {
     /// Carries out a command that was bound by the catalog.
@@ -121,7 +122,7 @@ impl Engine {
         Answer::Done
     }
 
-    fn insert(&mut self, table: u64, rows: Seq<Row>) -> Result<Answer, Fault>
+    fn insert(&mut self, table: u64, rows: NewRows) -> Result<Answer, Fault>
         requires drawn { self.old.state.drawn < 2 ^ 64 - 1 }
         requires bound { CanDo self.old (commands.Insert table rows) }
         ensures done { Does self.old (commands.Insert table rows) result self.new }
@@ -137,7 +138,7 @@ impl Engine {
             &mut self.tables,
             &mut self.views,
             table,
-            rows.into_vec(),
+            rows,
             epoch,
         )?;
         self.writes = epoch;

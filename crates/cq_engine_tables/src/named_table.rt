@@ -24,6 +24,7 @@ use cq_segments::StoredRow;
 use cq_table::{Exchange, Found, TableFault};
 use cq_table_columns::Stored;
 use cq_values::{ColumnDef, Row, Seq, Text};
+use cq_writestore_rows::NewRows;
 use std::alloc::{AllocError, Global};
 use std::marker::Model;
 
@@ -119,11 +120,16 @@ impl NamedTable {
     }
 
     /// Adds all of these rows, or none. The table may have so many rows.
-    pub fn insert(&mut self, alloc: Global, max_rows: u64, rows: Vec<Row>) -> Result<(), TableFault>
-        requires { AllByRecursion (FitsColumns self.old.is.columns) rows.items }
-        ensures room { IsChecked (no_room_for max_rows self.old.is rows.items) result }
-        ensures ok { OnOk result (self.new.is ≡ holding (self.old.is.rows ++ rows.items) self.old.is) }
-        ensures lengths { OnOk result (Grows (length rows.items) self.old self.new) }
+    pub fn insert(
+        &mut self,
+        alloc: Global,
+        max_rows: u64,
+        rows: NewRows,
+    ) -> Result<(), TableFault>
+        requires { AllByRecursion (FitsColumns self.old.is.columns) rows }
+        ensures room { IsChecked (no_room_for max_rows self.old.is rows) result }
+        ensures ok { OnOk result (self.new.is ≡ holding (self.old.is.rows ++ rows) self.old.is) }
+        ensures lengths { OnOk result (Grows (length rows) self.old self.new) }
         ensures err { OnErr result (self.new ≡ self.old) }
     {
         self.stored.limit(max_rows)?;

@@ -1,10 +1,12 @@
 -- What a write changes, and views that can be made ready for it.
-use Rattle.std.proofs.Common.{◌≡◌, ◌+◌, ◌*◌, ◌≤◌, ◌^◌, ℕ, ℤ, pos, neg_ℤ, false, List, [], ◌∷◌, length, Option, Some, None, refl, sym, arith}
-use Rattle.std.specs.List.{AllByRecursion}
+use Rattle.std.proofs.Common.{◌≡◌, ◌∙◌, ◌+◌, ◌*◌, ◌≤◌, ◌^◌, ℕ, ℤ, pos, neg_ℤ, false, List, [], ◌∷◌, length, Option, Some, None, refl, sym, ap, ap₂, arith}
+use Rattle.std.specs.Prelude.{◌||◌}
+use Rattle.std.specs.List.{AllByRecursion, list_any}
 use Rattle.std.proofs.lemmas.Bool.{eq-eqb, eqb-false, ne_eqb}
 use Rattle.std.proofs.lemmas.Nat.{mul-le}
 use Rattle.cq_values.specs.Value.{Row}
 use Rattle.cq_model_bags.proofs.Bags.{same-refl}
+use Rattle.cq_binder_rules.specs.Refusal.{is_used}
 use Rattle.cq_model.specs.Sizes.{IsStored}
 use Rattle.cq_model.specs.declared.query.Source.{Source}
 use Rattle.cq_model.specs.declared.query.Source.TheVariants.{Table, View}
@@ -15,14 +17,16 @@ use Rattle.cq_sides_weights.specs.Held.{sizes}
 use Rattle.cq_deltas_joins.proofs.Storing.{stored-append}
 use Rattle.cq_deltas_joins.specs.Chains.{spans}
 use Rattle.cq_deltas_joins.specs.Steps.{AreStored, span}
+use Rattle.cq_views_model.specs.Query.{reads}
 use Rattle.cq_views_state.specs.declared.state.Pending.{Pending}
-use Rattle.cq_engine_tables.specs.Taking.{AllStandFor, AreReady, AreReadyFor, CanAllPrepare, CanAllTake}
-use Rattle.cq_engine_tables.specs.Views.{Fits, NamedView}
+use Rattle.cq_engine_tables.specs.Taking.{AllStandFor, AreReady, AreReadyFor, AreSame, CanAllPrepare, CanAllTake}
+use Rattle.cq_engine_tables.specs.Views.{Fits, NamedView, views_of}
+use Rattle.cq_engine_tables.proofs.Named.{used_by}
 use Rattle.cq_views.proofs.Exchanges.{sizes-weighed}
 use Rattle.cq_views.proofs.Taking.{only-have}
 use Rattle.cq_views.specs.Changes.{exchanged, weighed}
 use Rattle.cq_views.specs.Filling.{only}
-use Rattle.cq_engine_writes.specs.Changing.{AreStanding, IsChangeAt}
+use Rattle.cq_engine_writes.specs.Changing.{AreReadyAt, AreStanding, IsChangeAt}
 use Rattle.cq_model_bags.proofs.Lists.{all-of}
 
 -- ---- The change of one table
@@ -117,3 +121,28 @@ take_ready n tables changes (w ∷ ws) (Some p ∷ ps) ready = (ready.0.2, take_
 
 pub all_take : (n : ℕ) (changes : Tables) (vs ws : List NamedView) (ps : List (Option Pending)) → AreStanding vs → AreReadyFor n changes vs ws ps → CanAllTake ws ps
 all_take n changes vs ws ps standing ready = take_ready n standing.tables changes ws ps (ready standing.tables standing.stand)
+
+-- ---- Views none of which reads the table
+module _ (n : ℕ) (tables few changes : Tables) where
+  -- what comes to it makes no difference to them
+  ready_unread : (ws : List NamedView) (ps : List (Option Pending)) → list_any (λ v. reads n v.kept.query) ws ≡ false → AreReady n tables few ws ps → AreReady n tables changes ws ps
+  ready_unread [] [] unread ready = tt
+  ready_unread [] (p ∷ ps) unread ready = absurd ready
+  ready_unread (w ∷ ws) [] unread ready = absurd ready
+  ready_unread (w ∷ ws) (None ∷ ps) unread ready = (ready.0, ready_unread ws ps (rw ready.0 at unread) ready.1)
+  ready_unread (w ∷ ws) (Some p ∷ ps) unread ready = absurd (cc (rw ready.0.0 at unread))
+
+-- views that are the same read the same
+reads_same : (n : ℕ) (vs ws : List NamedView) → AreSame vs ws → list_any (λ v. reads n v.kept.query) ws ≡ list_any (λ v. reads n v.kept.query) vs
+reads_same n [] [] same = refl
+reads_same n [] (w ∷ ws) same = absurd same
+reads_same n (v ∷ vs) [] same = absurd same
+reads_same n (v ∷ vs) (w ∷ ws) same = ap₂ (λ a b. a || b) (ap (reads n) same.0.kept.query) (reads_same n vs ws same.1)
+
+-- where none was used, those that are ready for no rows are ready for any
+pub unread : (n : ℕ) (rows : List Row) (vs ws : List NamedView) (ps : List (Option Pending)) → is_used n (views_of vs) ≡ false → AreSame vs ws → AreReadyAt n (exchanged [] []) vs ws ps → AreReadyAt n (exchanged [] rows) vs ws ps
+unread n rows vs ws ps none same ready = record {
+  changes = change n [] rows;
+  of = change_there n [] rows;
+  ready = λ tables stand. ready_unread n tables ready.changes (change n [] rows) ws ps (reads_same n vs ws same ∙ sym (used_by n vs) ∙ none) (ready.ready tables stand);
+}

@@ -8,12 +8,12 @@ ghost use Rattle.cq_engine_writes.specs.Changing.{AreStanding};
 ghost use Rattle.cq_engine_writes.specs.Following.{FollowHeld};
 ghost use Rattle.cq_engine_writes.specs.Writing.{InsertsRows};
 
-use crate::changing::prepare_views;
+use crate::changing::prepare_come;
 use cq_binder_rules::Fault;
 use cq_engine_tables::{NamedTable, View, commit_all};
 use cq_table::check_room;
-use cq_values::Row;
 use cq_views::standing_depends_on_sources;
+use cq_writestore_rows::NewRows;
 use std::alloc::Global;
 
 /// Adds the rows to this table, or none of them. The views on the table take them in.
@@ -22,20 +22,20 @@ pub(crate) fn insert_into(
     max_rows: u64,
     table: &mut NamedTable,
     views: &mut Vec<View>,
-    rows: Vec<Row>,
+    rows: NewRows,
     epoch: u64,
 ) -> Result<(), Fault>
     requires fitting { IsFitting table.old.is }
     requires limited { max_rows ≤ rows_limit }
     requires stand { AreStanding views.old.items }
-    requires rows { AllByRecursion (FitsColumns table.old.is.columns) rows.items }
-    ensures inserts { InsertsRows max_rows rows.items table.old.is result table.new.is }
-    ensures lengths { OnOk result (Grows (length rows.items) table.old table.new) }
+    requires rows { AllByRecursion (FitsColumns table.old.is.columns) rows }
+    ensures inserts { InsertsRows max_rows rows table.old.is result table.new.is }
+    ensures lengths { OnOk result (Grows (length rows) table.old table.new) }
     ensures follow { OnOk result (FollowHeld epoch table.old table.new views.old views.new) }
     ensures err { OnErr result ((table.new ≡ table.old) × AreSame views.old.items views.new.items) }
 {
     check_room(max_rows, table.len(), rows.len())?;
-    let pendings = prepare_views(alloc, views, table.number(), &[], &rows)?;
+    let pendings = prepare_come(alloc, views, table.number(), &rows)?;
     table.insert(alloc, max_rows, rows)?;
     commit_all(views, pendings, epoch);
     standing_depends_on_sources();

@@ -15,8 +15,8 @@ use crate::updating::update_rows;
 use cq_binder_rules::Fault;
 use cq_engine_tables::{NamedTable, View, place_numbered};
 use cq_model::{Assignment, Cond};
-use cq_values::Row;
 use cq_views::standing_depends_on_sources;
+use cq_writestore_rows::NewRows;
 use std::alloc::{AllocError, Global};
 
 /// Adds the rows to the table of a number, where they fit. The views on it take them in, and each view is at the epoch.
@@ -26,7 +26,7 @@ pub fn insert_in(
     tables: &mut Vec<NamedTable>,
     views: &mut Vec<View>,
     number: u64,
-    rows: Vec<Row>,
+    rows: NewRows,
     epoch: u64,
 ) -> Result<(), Fault>
     requires max { max_rows ≤ rows_limit }
@@ -35,9 +35,9 @@ pub fn insert_in(
     requires right { (now : ℕ) × AreRight (tables_of tables.old.items) now views.old.items }
     requires limited { AreLimited rows_limit (tables_of tables.old.items) }
     requires there { IsThere number (tables_of tables.old.items) }
-    requires rows { FitTable number tables.old rows.items }
-    ensures inserts { InsertsHeld max_rows number rows.items tables.old result tables.new }
-    ensures lengths { OnOk result (GrowsAt number (length rows.items) tables.old tables.new) }
+    requires rows { FitTable number tables.old rows }
+    ensures inserts { InsertsHeld max_rows number rows tables.old result tables.new }
+    ensures lengths { OnOk result (GrowsAt number (length rows) tables.old tables.new) }
     ensures moved { OnOk result (MovedHeld epoch tables.new views.old views.new) }
     ensures err { OnErr result (AreUnwritten tables.old tables.new views.old views.new) }
 {

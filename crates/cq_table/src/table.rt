@@ -24,8 +24,9 @@ use crate::placing::{mark_all, rows_at};
 use cq_model::Cond;
 use cq_segments::{Segment, StoredRow};
 use cq_table_columns::Stored;
-use cq_values::{ColumnDef, Row, Seq};
+use cq_values::{ColumnDef, Seq};
 use cq_writestore::WriteStore;
+use cq_writestore_rows::NewRows;
 use std::alloc::{AllocError, Global};
 use std::marker::Model;
 
@@ -159,11 +160,11 @@ impl Table {
     }
 
     /// Adds all of these rows, or none.
-    pub fn insert(&mut self, alloc: Global, rows: Vec<Row>) -> Result<(), TableFault>
-        requires { AllByRecursion (FitsColumns self.old.columns) rows.items }
-        ensures room { IsChecked (no_room self.old (length rows.items)) result }
-        ensures ok { OnOk result (self.new ≡ with_written rows.items self.old) }
-        ensures bag { OnOk result (table_rows self.new ≡ bag_of (table_rows self.old ++ rows.items)) }
+    pub fn insert(&mut self, alloc: Global, rows: NewRows) -> Result<(), TableFault>
+        requires { AllByRecursion (FitsColumns self.old.columns) rows }
+        ensures room { IsChecked (no_room self.old (length rows)) result }
+        ensures ok { OnOk result (self.new ≡ with_written rows self.old) }
+        ensures bag { OnOk result (table_rows self.new ≡ bag_of (table_rows self.old ++ rows)) }
         ensures err { OnErr result (self.new ≡ self.old) }
     {
         self.check_room(rows.len())?;
@@ -172,11 +173,11 @@ impl Table {
     }
 
     /// Adds all of these rows, or none, where the table may have them.
-    pub fn append(&mut self, alloc: Global, rows: Vec<Row>) -> Result<(), AllocError>
-        requires fitting { AllByRecursion (FitsColumns self.old.columns) rows.items }
-        requires room { HasRoom self.old (length rows.items) }
-        ensures ok { OnOk result (self.new ≡ with_written rows.items self.old) }
-        ensures bag { OnOk result (table_rows self.new ≡ bag_of (table_rows self.old ++ rows.items)) }
+    pub fn append(&mut self, alloc: Global, rows: NewRows) -> Result<(), AllocError>
+        requires fitting { AllByRecursion (FitsColumns self.old.columns) rows }
+        requires room { HasRoom self.old (length rows) }
+        ensures ok { OnOk result (self.new ≡ with_written rows self.old) }
+        ensures bag { OnOk result (table_rows self.new ≡ bag_of (table_rows self.old ++ rows)) }
         ensures err { OnErr result (self.new ≡ self.old) }
     {
         let (count, _most) = (rows.len(), self.max_rows);

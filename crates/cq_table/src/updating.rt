@@ -18,6 +18,7 @@ use crate::placing::mark_all;
 use crate::table::Table;
 use cq_model::{Assignment, Cond};
 use cq_values::Row;
+use cq_writestore_rows::NewRows;
 use std::alloc::{AllocError, Global};
 
 /// Copies of the rows that an UPDATE takes, and the rows that come in their places.
@@ -60,7 +61,7 @@ impl Table {
         ensures err { OnErr result (self.new ≡ self.old) }
     {
         let width = self.layout.columns.len();
-        self.written.append(alloc, images, width)?;
+        self.written.append(alloc, NewRows::of(images), width)?;
         mark_all(&mut self.segments, &mut self.written, found.places());
         Ok(())
     }

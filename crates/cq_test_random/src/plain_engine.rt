@@ -5,7 +5,8 @@
 use cq_binder_rules::Bound;
 use cq_model::{Assignment, Cond, Order, Query, Source};
 use cq_test_plain::{Lent, PlainFault, answer_on, left_by, listing, updated};
-use cq_values::{Row, copy_row};
+use cq_values::Row;
+use cq_writestore_rows::NewRows;
 use std::alloc::{AllocError, Global};
 
 /// The rows of each table under its number, and the commands that created the views, in the order of their places.
@@ -43,7 +44,7 @@ impl PlainEngine {
                 self.drop_view(*place);
                 Ok(())
             }
-            Bound::Insert { table, rows } => Ok(self.insert(*table, rows.as_slice())?),
+            Bound::Insert { table, rows } => Ok(self.insert(*table, rows)?),
             Bound::Delete { table, condition } => self.delete(*table, condition),
             Bound::Update {
                 table,
@@ -65,11 +66,11 @@ impl PlainEngine {
         }
     }
 
-    fn insert(&mut self, number: u64, rows: &[Row]) -> Result<(), AllocError> {
+    fn insert(&mut self, number: u64, rows: &NewRows) -> Result<(), AllocError> {
         let alloc = self.alloc;
         if let Some(held) = self.rows_of(number) {
-            for row in rows {
-                held.push(copy_row(alloc, row.as_slice())?)?;
+            for row in rows.copies(alloc)? {
+                held.push(row)?;
             }
         }
         Ok(())

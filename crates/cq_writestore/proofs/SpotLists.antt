@@ -11,7 +11,8 @@ use Rattle.cq_segments.specs.Marked.{MarkedRow, marked_count, marks_of, rows_of,
 use Rattle.cq_segments.specs.Pieces.{joined}
 use Rattle.cq_segments.proofs.Marks.{count-mark, length-mark, mark-at, mark-behind, mark-in-front, row-at}
 use Rattle.cq_segments.proofs.PieceLists.{joined-at, joined-set}
-use Rattle.cq_writestore.specs.Spots.{AreHeld, AreWhole, IsIn}
+use Rattle.cq_writestore.specs.Spots.{AreHeld, IsIn}
+use Rattle.cq_writestore_rows.specs.NewRows.{AreWhole}
 
 -- ---- whole lists
 

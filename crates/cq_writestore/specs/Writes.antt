@@ -1,6 +1,6 @@
 -- A write store: its rows with their marks, and how many more there is room for.
-use Rattle.std.specs.Prelude.{◌≡◌, ◌<◌, ◌≤◌, ◌+◌, ◌^◌, ◌++◌, ℕ, List, length}
-use Rattle.cq_segments.specs.Marked.{MarkedRow, rows_of, unmarked, with_flags}
+use Rattle.std.specs.Prelude.{◌<◌, ◌≤◌, ◌+◌, ◌^◌, ◌++◌, ℕ, List, length}
+use Rattle.cq_segments.specs.Marked.{MarkedRow, with_flags}
 use Rattle.cq_segments.specs.Pieces.{joined}
 use Rattle.cq_writestore.specs.declared.tail.Tail.{Tail}
 use Rattle.cq_writestore.specs.declared.written.Written.{Written}
@@ -22,10 +22,6 @@ tail_rows tail = with_flags tail.rows.now tail.marks.now
 -- all rows that are lent: those of the pieces, and then those of the tail
 abbrev pub written_rows : Written → List MarkedRow
 written_rows written = joined written.pieces.now ++ tail_rows written.tail
-
--- none of these rows has a mark
-abbrev pub NoneMarked : List MarkedRow → Type 0
-NoneMarked rows = rows ≡ unmarked (rows_of rows)
 
 -- fewer are left than there were, unless there were none
 abbrev pub FewerLeft : {A : Type 0} → List A → List A → Type 0

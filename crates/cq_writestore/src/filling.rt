@@ -3,7 +3,8 @@ ghost use Rattle.std.specs.Prelude.{IfOk, OnOk, drop, length, take, ◌*◌, ◌
 ghost use Rattle.cq_segments.specs.Columns.{AreWide};
 ghost use Rattle.cq_segments.specs.Marked.{with_flags};
 ghost use Rattle.cq_vectors.specs.Gathered.{lent_rows};
-ghost use Rattle.cq_writestore.specs.Spots.{AreFilled, AreWhole};
+ghost use Rattle.cq_writestore.specs.Spots.{AreFilled};
+ghost use Rattle.cq_writestore_rows.specs.NewRows.{AreWhole};
 
 use cq_segments::Piece;
 use cq_values::Row;

@@ -5,7 +5,7 @@
 ghost use Rattle.std.specs.Prelude.{OnErr, OnOk, [], drop, length, ◌++◌, ◌+◌, ◌<◌, ◌^◌, ◌≡◌, ◌≤◌};
 ghost use Rattle.cq_segments.specs.Marked.{marked_count, with_mark};
 ghost use Rattle.cq_segments.specs.Pieces.{joined};
-ghost use Rattle.cq_writestore.specs.Spots.{AreWhole};
+ghost use Rattle.cq_writestore_rows.specs.NewRows.{AreWhole};
 
 use crate::spot::{Spot, spot_of};
 use cq_segments::Piece;

@@ -1,7 +1,8 @@
 //! Where the rows of pieces stand.
 ghost use Rattle.std.specs.Prelude.{drop, length, ◌<◌, ◌^◌, ◌≡◌};
 ghost use Rattle.cq_segments.specs.Pieces.{joined};
-ghost use Rattle.cq_writestore.specs.Spots.{AreWhole, IsSpot};
+ghost use Rattle.cq_writestore.specs.Spots.{IsSpot};
+ghost use Rattle.cq_writestore_rows.specs.NewRows.{AreWhole};
 
 use cq_segments::Piece;
 

@@ -1,10 +1,11 @@
 //! The rows of a table that are not yet in a segment.
 //!
 //! A store begins empty. `reserve` makes room, and `push_reserved` puts a row behind the others: so what may fail comes
-//! before what changes the rows. `append` puts many there, and makes pieces of 1,024 rows as soon as there are as many.
-//! `mark` deletes a row, `take_front` drops the first ones once they are moved, and `rows` lends all of them. Each costs
-//! its rows, and a step a piece; `append` also up to 1,023 older rows, which it puts into a piece, and `take_front` shifts
-//! those that stay and are in no piece.
+//! before what changes the rows. `append` puts many there, and makes pieces of 1,024 rows as soon as there are as many;
+//! pieces that it is given are taken as they are, where all older rows are in pieces. `mark` deletes a row, `take_front`
+//! drops the first ones once they are moved, and `rows` lends all of them. Each costs its rows, and a step a piece;
+//! `append` also up to 1,023 older rows, which it puts into a piece, and `take_front` shifts those that stay and are in no
+//! piece.
 ghost use Rattle.std.specs.Prelude.{OnErr, OnOk, [], drop, length, ◌++◌, ◌+◌, ◌<◌, ◌^◌, ◌≡◌, ◌≤◌, ◌∷◌};
 ghost use Rattle.cq_segments.specs.Columns.{AreWide};
 ghost use Rattle.cq_segments.specs.Marked.{marked_count, rows_of, unmarked, with_mark};
@@ -15,6 +16,7 @@ use crate::tail_store::{TailStore, push_all};
 use crate::written::Written;
 use cq_segments::widened;
 use cq_values::Row;
+use cq_writestore_rows::NewRows;
 use std::alloc::{AllocError, Global};
 use std::marker::Model;
 
@@ -97,22 +99,20 @@ impl WriteStore {
     }
 
     /// Puts rows of this width behind the others, all of them or none.
-    pub fn append(&mut self, alloc: Global, rows: Vec<Row>, width: usize) -> Result<(), AllocError>
-        requires wide { AreWide width (rows_of self.old.rows ++ rows.items) }
-        ensures ok { OnOk result (self.new.rows ≡ self.old.rows ++ unmarked rows.items) }
+    pub fn append(&mut self, alloc: Global, rows: NewRows, width: usize) -> Result<(), AllocError>
+        requires wide { AreWide width (rows_of self.old.rows ++ rows) }
+        ensures ok { OnOk result (self.new.rows ≡ self.old.rows ++ unmarked rows) }
         ensures err { OnErr result (self.new.rows ≡ self.old.rows) }
     {
         self.count_more(rows.len())?;
-        let full = (self.tail.len() + rows.len()) / 1024;
-        if full == 0 {
-            return self.append_few(rows);
+        if self.tail.len() > 0 || rows.as_rows().is_some() {
+            let rows = rows.into_rows(alloc)?;
+            return self.append_rows(alloc, rows, width);
         }
-        let made = self.tail.full_pieces(alloc, rows.as_slice(), full, width)?;
-        let gone = (1024 * full).saturating_sub(self.tail.len());
-        self.tail.reserve(rows.len() - gone)?;
+        let (made, behind) = rows.into_parts();
+        self.tail.reserve(behind.len())?;
         self.pieces.append(made)?;
-        self.tail.take_front(1024 * full);
-        push_all(&mut self.tail, without_front(rows, gone));
+        push_all(&mut self.tail, behind);
         self.room = 0;
         Ok(())
     }
@@ -141,6 +141,32 @@ impl WriteStore {
         self.tail.take_front(count.saturating_sub(held));
     }
 
+    /// Puts rows of this width behind the others, and makes pieces as soon as there are enough: all of it, or nothing.
+    fn append_rows(
+        &mut self,
+        alloc: Global,
+        rows: Vec<Row>,
+        width: usize,
+    ) -> Result<(), AllocError>
+        requires wide { AreWide width (rows_of self.old.rows ++ rows.items) }
+        requires small { length self.old.rows + length rows.items < 2 ^ 63 }
+        ensures ok { OnOk result (self.new.rows ≡ self.old.rows ++ unmarked rows.items) }
+        ensures err { OnErr result (self.new.rows ≡ self.old.rows) }
+    {
+        let full = (self.tail.len() + rows.len()) / 1024;
+        if full == 0 {
+            return self.append_few(rows);
+        }
+        let made = self.tail.full_pieces(alloc, rows.as_slice(), full, width)?;
+        let gone = (1024 * full).saturating_sub(self.tail.len());
+        self.tail.reserve(rows.len() - gone)?;
+        self.pieces.append(made)?;
+        self.tail.take_front(1024 * full);
+        push_all(&mut self.tail, without_front(rows, gone));
+        self.room = 0;
+        Ok(())
+    }
+
     /// Puts rows behind those of the tail, all of them or none.
     fn append_few(&mut self, rows: Vec<Row>) -> Result<(), AllocError>
         requires { length self.old.rows + length rows.items < 2 ^ 63 }
@@ -153,9 +179,10 @@ impl WriteStore {
         Ok(())
     }
 
-    /// Refuses more rows than can be counted.
+    /// Refuses more rows than can be counted, and no fewer.
     fn count_more(&self, additional: usize) -> Result<(), AllocError>
-        ensures { OnOk result (length self.now.rows + additional < 2 ^ 63) }
+        ensures ok { OnOk result (length self.now.rows + additional < 2 ^ 63) }
+        ensures refused { OnErr result (2 ^ 63 ≤ length self.now.rows + additional) }
     {
         let alloc = self.tail.allocator();
         let count = widened(alloc, self.len(), additional)?;

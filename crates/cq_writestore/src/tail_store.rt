@@ -5,7 +5,8 @@
 ghost use Rattle.std.specs.Prelude.{IfOk, OnOk, [], drop, length, ◌*◌, ◌++◌, ◌+◌, ◌<◌, ◌^◌, ◌≡◌, ◌≤◌, ◌∷◌};
 ghost use Rattle.cq_segments.specs.Columns.{AreWide};
 ghost use Rattle.cq_segments.specs.Marked.{marked_count, rows_of, unmarked, with_mark};
-ghost use Rattle.cq_writestore.specs.Spots.{AreFilled, AreWhole};
+ghost use Rattle.cq_writestore.specs.Spots.{AreFilled};
+ghost use Rattle.cq_writestore_rows.specs.NewRows.{AreWhole};
 ghost use Rattle.cq_writestore.specs.Writes.{tail_rows};
 
 use crate::filling::{lend_both, make_pieces};

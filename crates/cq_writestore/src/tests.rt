@@ -5,7 +5,8 @@ ghost use Rattle.cq_segments.specs.Columns.{AreWide};
 ghost use Rattle.cq_segments.specs.Marked.{rows_of};
 
 use crate::store::WriteStore;
-use cq_values::{Lent, Row, Value};
+use cq_values::{ColumnDef, Lent, Row, Text, Ty, Value};
+use cq_writestore_rows::{Filling, NewRows};
 use std::alloc::{AllocError, Global};
 use std::test::Fail;
 
@@ -18,6 +19,21 @@ fn counted(alloc: Global, len: usize) -> Result<Vec<Row>, AllocError> {
         rows.push(row)?;
     }
     Ok(rows)
+}
+
+/// So many rows as a file brings them, in pieces where there are enough, each of the number of its place.
+fn filled(alloc: Global, len: usize) -> Result<NewRows, Fail> {
+    let columns = [ColumnDef {
+        name: Text::new(alloc, "n")?,
+        ty: Ty::Integer,
+        not_null: true,
+    }];
+    let mut filling = Filling::new(alloc, &columns)?;
+    for place in 0..len {
+        filling.push(&Lent::Number(place as i128))?;
+        filling.end_row()?;
+    }
+    Ok(filling.finish()?)
 }
 
 fn are_wide(rows: &[Row], width: usize) -> bool
@@ -59,7 +75,7 @@ fn rows_stand_in_pieces_as_soon_as_one_is_full(rt: HostRuntime) -> Result<(), Fa
         let mut store = WriteStore::new(alloc);
         let rows = counted(alloc, added)?;
         assert!(rt; are_wide(rows.as_slice(), 1));
-        store.append(alloc, rows, 1)?;
+        store.append(alloc, NewRows::of(rows), 1)?;
         store.take_front(gone);
         assert_eq!(rt;
             store.rows().pieces.len(),
@@ -71,13 +87,13 @@ fn rows_stand_in_pieces_as_soon_as_one_is_full(rt: HostRuntime) -> Result<(), Fa
     Ok(())
 }
 
-/// Puts so many rows of one number behind those of the store.
-fn add(alloc: Global, store: &mut WriteStore, len: usize) -> Result<(), AllocError>
+/// Puts rows of one number behind those of the store.
+fn add(alloc: Global, store: &mut WriteStore, rows: NewRows) -> Result<(), AllocError>
     requires { AreWide 1 (rows_of store.old.rows) }
     ensures { OnOk result (AreWide 1 (rows_of store.new.rows)) }
 {
-    let rows = counted(alloc, len)?;
-    if are_wide(rows.as_slice(), 1) {
+    let copies = rows.copies(alloc)?;
+    if are_wide(copies.as_slice(), 1) {
         store.append(alloc, rows, 1)?;
     }
     Ok(())
@@ -87,9 +103,9 @@ fn add(alloc: Global, store: &mut WriteStore, len: usize) -> Result<(), AllocErr
 fn rows_of_several_calls_fill_a_piece(rt: HostRuntime) -> Result<(), Fail> {
     let alloc = rt.alloc();
     let mut store = WriteStore::new(alloc);
-    add(alloc, &mut store, 1000)?;
+    add(alloc, &mut store, NewRows::of(counted(alloc, 1000)?))?;
     assert_eq!(rt; store.rows().pieces.len(), 0);
-    add(alloc, &mut store, 1000)?;
+    add(alloc, &mut store, NewRows::of(counted(alloc, 1000)?))?;
     assert_eq!(rt; store.rows().pieces.len(), 1);
     assert_eq!(rt; store.rows().tail.len(), 976);
     assert_eq!(rt; number_at(&store, 1023), 23);
@@ -107,7 +123,7 @@ fn a_row_is_found_behind_a_front_that_is_cut(rt: HostRuntime) -> Result<(), Fail
     let mut store = WriteStore::new(alloc);
     let rows = counted(alloc, 2500)?;
     assert!(rt; are_wide(rows.as_slice(), 1));
-    store.append(alloc, rows, 1)?;
+    store.append(alloc, NewRows::of(rows), 1)?;
     store.take_front(1000);
     // a place, and the number that stands there
     let cases = [
@@ -121,6 +137,41 @@ fn a_row_is_found_behind_a_front_that_is_cut(rt: HostRuntime) -> Result<(), Fail
     ];
     for (place, number) in cases {
         assert_eq!(rt; number_at(&store, place), number, "at {place}");
+    }
+    Ok(())
+}
+
+/// Whether so many rows have the numbers from 0 on, behind those that come before this place.
+fn rise_from(store: &WriteStore, from: usize, count: usize) -> bool {
+    for place in 0..count {
+        match from.checked_add(place) {
+            Some(at) => if number_at(store, at) != place as i128 {
+                return false;
+            },
+            None => return false,
+        }
+    }
+    true
+}
+
+#[test]
+fn rows_of_a_file_stand_behind_the_older_ones(rt: HostRuntime) -> Result<(), Fail> {
+    let alloc = rt.alloc();
+    // how many rows are there and come; how many pieces there are then, and how many rows behind them
+    let cases = [
+        (0, 1024, 1, 0),
+        (0, 2500, 2, 452),
+        (1024, 1500, 2, 476),
+        (1000, 1500, 2, 452),
+    ];
+    for (older, come, pieces, tail) in cases {
+        let mut store = WriteStore::new(alloc);
+        add(alloc, &mut store, NewRows::of(counted(alloc, older)?))?;
+        add(alloc, &mut store, filled(alloc, come)?)?;
+        assert_eq!(rt; store.rows().pieces.len(), pieces, "{come} behind {older}");
+        assert_eq!(rt; store.rows().tail.len(), tail, "{come} behind {older}");
+        assert!(rt; rise_from(&store, 0, older));
+        assert!(rt; rise_from(&store, older, come));
     }
     Ok(())
 }

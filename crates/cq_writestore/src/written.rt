@@ -4,7 +4,7 @@
 ghost use Rattle.std.proofs.Props.{props};
 ghost use Rattle.std.specs.Prelude.{[], drop, length, slice_index_or, ◌+◌, ◌<◌, ◌^◌, ◌≡◌};
 ghost use Rattle.cq_segments.specs.Pieces.{joined};
-ghost use Rattle.cq_writestore.specs.Spots.{AreWhole};
+ghost use Rattle.cq_writestore_rows.specs.NewRows.{AreWhole};
 
 use crate::spot::{Spot, rows_in, spot_of};
 use crate::tail::Tail;

@@ -4,6 +4,7 @@ ghost use Rattle.cq_values.specs.declared.value.Value.TheVariants.{Number};
 
 use cq_table::{Layout, Table, TableFault};
 use cq_values::{ColumnDef, Row, Seq, Text, Ty, Value};
+use cq_writestore_rows::NewRows;
 use std::alloc::{AllocError, Global};
 use std::test::Fail;
 
@@ -63,8 +64,8 @@ fn a_table_takes_as_many_rows_as_it_may_have(rt: HostRuntime) -> Result<(), Fail
         not_null: true,
     })?;
     let mut table = Table::new(alloc, columns, Seq::new(alloc), 2);
-    assert!(rt; table.insert(alloc, two).is_ok());
-    assert!(rt; table.insert(alloc, one) == Err(TableFault::Full));
+    assert!(rt; table.insert(alloc, NewRows::of(two)).is_ok());
+    assert!(rt; table.insert(alloc, NewRows::of(one)) == Err(TableFault::Full));
     assert_eq!(rt; table.len(), 2);
     drop(table);
     Ok(())

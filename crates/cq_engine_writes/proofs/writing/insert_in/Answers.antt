@@ -16,7 +16,7 @@ insert_into-requires-clause-rows c =
     let at = rw c.deref.ensures.value at c.place_numbered-place.ensures in
     let here = at_number c.args.tables.now.items c.place_numbered-place.result c.index_mut.result.now c.args.number at.within c.index_mut.ensures.value (at.numbered c.index_mut.result.now) in
     let columns = columns_numbered (tables_of c.args.tables.now.items) c.place_numbered-place.result t c.requires.numbered.0 c.args.number c.requires.numbered.1 here.0 here.1 here.2 in
-    subst (λ (cs : List ColumnDef). AllByRecursion (FitsColumns cs) c.args.rows.items) columns c.requires.rows
+    subst (λ (cs : List ColumnDef). AllByRecursion (FitsColumns cs) c.args.rows) columns c.requires.rows
 
 pub insert_into-requires-clause-stand : goal.insert_into-requires-clause-stand
 insert_into-requires-clause-stand c = standing (tables_of c.args.tables.now.items) c.requires.right.0 c.args.views.now.items c.requires.fitting c.requires.limited c.requires.right.1
@@ -28,7 +28,7 @@ returns-clause-inserts c =
     let here = at_number c.args.tables.now.items c.place_numbered-place.result c.index_mut.result.now c.args.number at.within c.index_mut.ensures.value (at.numbered c.index_mut.result.now) in
     rw (tables_set c.args.tables.now.items c.place_numbered-place.result c.insert_into.new.table)
     (inserts_here c.requires.numbered.0 (tables_of c.args.tables.now.items) c.place_numbered-place.result t c.requires.numbered.1 here.0 here.1 c.args.number here.2
-    c.args.max_rows c.args.rows.items c.insert_into.new.table.is c.insert_into.result c.insert_into.ensures.inserts)
+    c.args.max_rows c.args.rows c.insert_into.new.table.is c.insert_into.result c.insert_into.ensures.inserts)
 
 pub returns-clause-moved : goal.returns-clause-moved
 returns-clause-moved c =
@@ -37,7 +37,7 @@ returns-clause-moved c =
     let here = at_number c.args.tables.now.items c.place_numbered-place.result c.index_mut.result.now c.args.number at.within c.index_mut.ensures.value (at.numbered c.index_mut.result.now) in
     rw (tables_set c.args.tables.now.items c.place_numbered-place.result c.insert_into.new.table)
     (inserted_moved c.standing_depends_on_sources.ensures c.requires.right.0 c.requires.numbered.0 (tables_of c.args.tables.now.items) c.place_numbered-place.result t c.args.views.now.items
-    c.requires.numbered.1 here.0 here.1 c.requires.right.1 c.args.epoch c.insert_into.new.table.is c.insert_into.new.views.items c.args.max_rows c.args.rows.items c.insert_into.result
+    c.requires.numbered.1 here.0 here.1 c.requires.right.1 c.args.epoch c.insert_into.new.table.is c.insert_into.new.views.items c.args.max_rows c.args.rows c.insert_into.result
     c.insert_into.ensures.inserts c.insert_into.ensures.follow)
 
 pub insert_into-requires-clause-fitting : goal.insert_into-requires-clause-fitting
@@ -49,5 +49,5 @@ insert_into-requires-clause-fitting c =
 pub returns-clause-lengths : goal.returns-clause-lengths
 returns-clause-lengths c =
     let at = rw c.deref.ensures.value at c.place_numbered-place.ensures in
-    change-written (λ _. GrowBy (length c.args.rows.items)) c.args.number c.args.tables.now.items c.place_numbered-place.result c.requires.numbered.0 c.index_mut.result.now c.insert_into.new.table c.requires.numbered.1 at.within c.index_mut.ensures.value
-    (at.numbered c.index_mut.result.now) (c.index_mut.result.now.is.rows ++ c.args.rows.items) c.insert_into.result (inserted_rows c.args.max_rows c.args.rows.items c.index_mut.result.now.is c.insert_into.new.table.is c.insert_into.result c.insert_into.ensures.inserts) c.insert_into.ensures.lengths
+    change-written (λ _. GrowBy (length c.args.rows)) c.args.number c.args.tables.now.items c.place_numbered-place.result c.requires.numbered.0 c.index_mut.result.now c.insert_into.new.table c.requires.numbered.1 at.within c.index_mut.ensures.value
+    (at.numbered c.index_mut.result.now) (c.index_mut.result.now.is.rows ++ c.args.rows) c.insert_into.result (inserted_rows c.args.max_rows c.args.rows c.index_mut.result.now.is c.insert_into.new.table.is c.insert_into.result c.insert_into.ensures.inserts) c.insert_into.ensures.lengths

@@ -8,7 +8,7 @@ use Rattle.cq_segments.specs.Columns.{AreWide}
 use Rattle.cq_segments.specs.Marked.{MarkedRow, with_flags}
 use Rattle.cq_segments.specs.Pieces.{joined}
 use Rattle.cq_segments.proofs.Marks.{length-flags}
-use Rattle.cq_writestore.specs.Spots.{AreWhole}
+use Rattle.cq_writestore_rows.specs.NewRows.{AreWhole}
 use Rattle.cq_writestore.proofs.Filled.{flags_part, lent_part, made-more}
 use Rattle.cq_writestore.proofs.filling.make_pieces.Goals as goal
 

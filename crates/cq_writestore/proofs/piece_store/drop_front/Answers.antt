@@ -1,7 +1,8 @@
 use Rattle.std.proofs.Common.{◌-◌, ◌∙◌, ap, arith, drop, subst, sym, take}
 use Rattle.std.specs.Prelude.{slice_set}
 use Rattle.cq_segments.specs.Pieces.{joined}
-use Rattle.cq_writestore.specs.Spots.{AreWhole, IsIn}
+use Rattle.cq_writestore.specs.Spots.{IsIn}
+use Rattle.cq_writestore_rows.specs.NewRows.{AreWhole}
 use Rattle.cq_writestore.proofs.MarkedLists.{turned}
 use Rattle.cq_writestore.proofs.SpotLists.{joined-cut, whole-cut}
 use Rattle.cq_writestore.proofs.piece_store.drop_front.Goals as goal

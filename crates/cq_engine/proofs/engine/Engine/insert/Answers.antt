@@ -25,7 +25,7 @@ invariant_of-self c =
 pub returns-in_err-insert_in-clause-done : goal.returns-in_err-insert_in-clause-done
 returns-in_err-insert_in-clause-done c =
     let p = err_from_is_err_and c.from_residual.result c.from_residual.ensures.1 in
-    let walk = rw c.into_vec.ensures at c.in_err-insert_in.ensures.inserts in
+    let walk = c.in_err-insert_in.ensures.inserts in
     let same = c.in_err-insert_in.ensures.err in
     let tables = tables_of c.self.inside.tables.items in
     let views = c.self.inside.views.items in
@@ -34,7 +34,7 @@ returns-in_err-insert_in-clause-done c =
 
 pub invariant_of-self-2 : goal.invariant_of-self-2
 invariant_of-self-2 c =
-    let walk = rw c.into_vec.ensures at c.in_ok-insert_in.ensures.inserts in
+    let walk = c.in_ok-insert_in.ensures.inserts in
     let tables = tables_of c.self.inside.tables.items in
     let drawn = c.self.inside.drawn in (
       omega (arith, c.self.invariant.0),
@@ -46,10 +46,10 @@ invariant_of-self-2 c =
 
 pub returns-clause-done : goal.returns-clause-done
 returns-clause-done c =
-    let walk = rw c.into_vec.ensures at c.in_ok-insert_in.ensures.inserts in
+    let walk = c.in_ok-insert_in.ensures.inserts in
     let tables = tables_of c.self.inside.tables.items in
     let views = c.self.inside.views.items in
-    rw (← c.self.view_is, c.len-count.ensures) (
+    rw (← c.self.view_is, c.len-count.ensures.len) (
       walk.0,
       insert_done tables (views_of views) c.self.inside.writes c.self.inside.drawn c.self.inside.limits.max_rows (all_at tables c.self.inside.writes views c.self.invariant.3)
           c.args.table c.args.rows (tables_of c.insert_in.new.tables.items) (views_of c.insert_in.new.views.items) walk.1 c.in_ok-insert_in.ensures.moved.views,
@@ -61,4 +61,4 @@ returns-in_err-insert_in-clause-stores c =
     rw (← c.self.view_is, p.1) (same-lengths c.self.inside.tables.items c.insert_in.new.tables.items c.in_err-insert_in.ensures.err.0)
 
 pub returns-clause-stores : goal.returns-clause-stores
-returns-clause-stores c = rw (← c.self.view_is, c.len-count.ensures) (rw c.into_vec.ensures at c.in_ok-insert_in.ensures.lengths)
+returns-clause-stores c = rw (← c.self.view_is, c.len-count.ensures.len) c.in_ok-insert_in.ensures.lengths

@@ -8,7 +8,7 @@ returns-clause-ok c =
     let t = c.self.inside in
     let limited = c.in_ok-limit.ensures.ok in
     rw (← c.self.view_is)
-    (named-inserted t.number t.name t.stored c.insert.new.self c.args.max_rows c.args.rows.items c.insert.result (rw limited at c.insert.ensures.ok) (rw limited at c.insert.ensures.bag))
+    (named-inserted t.number t.name t.stored c.insert.new.self c.args.max_rows c.args.rows c.insert.result (rw limited at c.insert.ensures.ok) (rw limited at c.insert.ensures.bag))
 
 pub returns-clause-lengths : goal.returns-clause-lengths
-returns-clause-lengths c = rw (← c.self.view_is) (lengths-inserted c.self.inside.number c.self.inside.name c.self.inside.stored c.insert.new.self c.args.max_rows c.args.rows.items c.insert.result (rw c.in_ok-limit.ensures.ok at c.insert.ensures.ok))
+returns-clause-lengths c = rw (← c.self.view_is) (lengths-inserted c.self.inside.number c.self.inside.name c.self.inside.stored c.insert.new.self c.args.max_rows c.args.rows c.insert.result (rw c.in_ok-limit.ensures.ok at c.insert.ensures.ok))

@@ -10,12 +10,12 @@ use Rattle.cq_table.proofs.table.Table.replace.Goals as goal
 pub append-requires : goal.append-requires
 append-requires c =
     let t = table_of c.self.inside.layout c.self.inside.max_rows c.self.inside.segments.items c.self.inside.written.rows in
-    record { wide = rw c.len-width.ensures (wide-with t c.self.inside.live c.self.invariant c.args.images.items (rw (← c.self.view_is) at c.requires.fitting)) }
+    record { wide = rw (c.len-width.ensures, c.of.ensures) (wide-with t c.self.inside.live c.self.invariant c.args.images.items (rw (← c.self.view_is) at c.requires.fitting)) }
 
 pub mark_all-requires : goal.mark_all-requires
 mark_all-requires c =
     let t = table_of c.self.inside.layout c.self.inside.max_rows c.self.inside.segments.items c.self.inside.written.rows in
-    rw c.places.ensures (still_there t c.args.found.now (rw (← c.self.view_is) at c.requires.live) c.args.images.items c.append.new.self.rows c.in_ok-append.ensures.ok)
+    rw c.places.ensures (still_there t c.args.found.now (rw (← c.self.view_is) at c.requires.live) c.args.images.items c.append.new.self.rows (rw c.of.ensures at c.in_ok-append.ensures.ok))
 
 pub invariant_of-self-2 : goal.invariant_of-self-2
 invariant_of-self-2 c =
@@ -23,7 +23,7 @@ invariant_of-self-2 c =
     let places = c.args.found.now in
     let images = c.args.images.items in
     let are = rw (← c.self.view_is) at c.requires.live in
-    let is = rw c.places.ensures at c.mark_all.ensures.stored ∙ marks_with t places are images c.append.new.self.rows c.in_ok-append.ensures.ok in
+    let is = rw c.places.ensures at c.mark_all.ensures.stored ∙ marks_with t places are images c.append.new.self.rows (rw c.of.ensures at c.in_ok-append.ensures.ok) in
     kept-exchanged t c.self.inside.live c.self.invariant c.mark_all.new.segments.items c.mark_all.new.written.rows places are images (rw (← c.self.view_is) at c.requires.fitting) is c.mark_all.ensures.segments
     c.self.inside.live (omega (arith, c.requires.count)) (omega (arith, c.requires.count))
 
@@ -31,16 +31,16 @@ pub returns-clause-ok : goal.returns-clause-ok
 returns-clause-ok c =
     let t = table_of c.self.inside.layout c.self.inside.max_rows c.self.inside.segments.items c.self.inside.written.rows in
     let images = c.args.images.items in
-    let is = rw c.places.ensures at c.mark_all.ensures.stored ∙ marks_with t c.args.found.now (rw (← c.self.view_is) at c.requires.live) images c.append.new.self.rows c.in_ok-append.ensures.ok in
+    let is = rw c.places.ensures at c.mark_all.ensures.stored ∙ marks_with t c.args.found.now (rw (← c.self.view_is) at c.requires.live) images c.append.new.self.rows (rw c.of.ensures at c.in_ok-append.ensures.ok) in
     rw (← c.self.view_is) record {
       is = refl;
       stored = is;
       segments = c.mark_all.ensures.segments;
-      write_len = omega (arith, c.mark_all.ensures.written, ap length c.in_ok-append.ensures.ok, length-append t.written (unmarked images), length-unmarked images);
+      write_len = omega (arith, c.mark_all.ensures.written, ap length (rw c.of.ensures at c.in_ok-append.ensures.ok), length-append t.written (unmarked images), length-unmarked images);
     }
 
 pub returns-clause-left : goal.returns-clause-left
 returns-clause-left c =
     let t = table_of c.self.inside.layout c.self.inside.max_rows c.self.inside.segments.items c.self.inside.written.rows in
-    let is = rw c.places.ensures at c.mark_all.ensures.stored ∙ marks_with t c.args.found.now (rw (← c.self.view_is) at c.requires.live) c.args.images.items c.append.new.self.rows c.in_ok-append.ensures.ok in
+    let is = rw c.places.ensures at c.mark_all.ensures.stored ∙ marks_with t c.args.found.now (rw (← c.self.view_is) at c.requires.live) c.args.images.items c.append.new.self.rows (rw c.of.ensures at c.in_ok-append.ensures.ok) in
     rw (← c.self.view_is) (λ condition found. leaves t condition c.args.found.now found (joined c.mark_all.new.segments.items ++ c.mark_all.new.written.rows) c.args.images.items is)

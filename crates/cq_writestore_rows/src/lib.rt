@@ -1,0 +1,11 @@
+//! Rows that a statement brings to a table, on their way to its write store.
+//!
+//! To its callers [`NewRows`] is the list of these rows. Those of an INSERT are kept as rows; those of a file are put into
+//! columns as they are read, 1,024 to a piece, so that none of them is ever made for itself.
+#![tactic(auto)]
+
+mod filling;
+mod new_rows;
+
+pub use filling::Filling;
+pub use new_rows::NewRows;
