@@ -24,11 +24,6 @@ abbrev pub value_in : Result Lent Fault → Result Value Fault
 value_in (Ok lent) = Ok (owned lent)
 value_in (Err f) = Err f
 
--- rows of so many values, and none of them is begun
-pub record IsReadyFor (width : ℕ) (filled : Filled) : Type 0 where
-  pub none : filled.begun ≡ []
-  pub wide : filled.width ≡ width
-
 -- the value that is wanted stands behind those of the row that is begun
 pub record AddsValue (wanted : Result Value Fault) (old new : Filled) : Type 0 where
   pub value : Value

@@ -3,7 +3,8 @@ ghost use Rattle.std.specs.Prelude.{Err, IfErr, OnOk, length, ◌<◌};
 ghost use Rattle.csv.specs.Records.{fields_of};
 ghost use Rattle.cq_binder_rules.specs.Fields.{field_value};
 ghost use Rattle.cq_binder_rules.specs.Records.{record_row};
-ghost use Rattle.cq_csvio_read.specs.Reading.{AddsRow, AddsValue, Gives, IsReadyFor, ReadsRows};
+ghost use Rattle.cq_csvio_read.specs.Reading.{AddsRow, AddsValue, Gives, ReadsRows};
+ghost use Rattle.cq_writestore_rows.specs.Filling.{IsReadyFor};
 
 use crate::field::read_field;
 use crate::records::{file_reader, next_record};

@@ -16,6 +16,11 @@ pub record Filled : Type 0 where
 abbrev pub IsEmpty : ℕ → Filled → Type 0
 IsEmpty width filled = filled ≡ record { rows = []; begun = []; width = width }
 
+-- rows of so many values, and none of them is begun
+pub record IsReadyFor (width : ℕ) (filled : Filled) : Type 0 where
+  pub none : filled.begun ≡ []
+  pub wide : filled.width ≡ width
+
 -- a value more in the row that is begun
 abbrev pub with_value : Value → Filled → Filled
 with_value value old = record { rows = old.rows; begun = old.begun ++ value ∷ []; width = old.width }

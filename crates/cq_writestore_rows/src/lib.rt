@@ -6,6 +6,8 @@
 
 mod filling;
 mod new_rows;
+#[cfg(test)]
+mod tests;
 
 pub use filling::Filling;
 pub use new_rows::NewRows;

@@ -1,6 +1,6 @@
 use Rattle.std.proofs.Common.{◌≡◌, ◌+◌, length}
 use Rattle.cq_binder_rules.specs.Records.{file_rows, record_rows}
-use Rattle.cq_csvio_read.specs.Reading.{IsReadyFor}
+use Rattle.cq_writestore_rows.specs.Filling.{IsReadyFor}
 use Rattle.cq_csvio_read.specs.Records.{IsReading, records_left}
 use Rattle.cq_csvio_read.proofs.Walk.{behind}
 use Rattle.cq_csvio_read.proofs.reading.read_rows.Given as goal
