@@ -11,8 +11,7 @@ loop-rest-smaller-in-Some-lone_sign_at c = signed_shrinks _ _ _ c.in-Some.ensure
 pub loop-rest-preserved-in-Some-lone_sign_at : goal.loop-rest-preserved-in-Some-lone_sign_at
 loop-rest-preserved-in-Some-lone_sign_at c =
     let sign = c.in-Some-lone_sign_at.ensures in
-    let before = takes _ _ _ _ _ c.in-Some.ensures.gap c.in-Some.ensures.token c.loop-rest.invariant.1 in
-    (search rules, rw (c.in_ok-push-2.ensures.ok, c.in_ok-push.ensures.ok, c.from.ensures) (takes_spaced _ _ _ _ _ _ sign.gap sign.token sign.rest before))
+    (search rules, rw (c.in_ok-push-2.ensures.ok, c.in_ok-push.ensures.ok, c.from.ensures) (takes_spaced _ _ _ _ _ _ sign.gap sign.token sign.rest (takes _ _ _ _ _ c.in-Some.ensures.gap c.in-Some.ensures.token c.loop-rest.invariant.1)))
 
 -- a number with none behind it
 
