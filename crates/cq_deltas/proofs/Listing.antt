@@ -87,7 +87,7 @@ module _ (aggregates : List Aggregate) where
   pub range-shown : (table : KeyedGroups) → IsDistinct same_row (keys_of table) → EntriesCanBeShown aggregates table → GroupsCanBeShown aggregates table
   range-shown table d = range-to table table (each-own table d)
 
-  pub entries-range : (table : KeyedGroups) → IsDistinct same_row (keys_of table) → GroupsCanBeShown aggregates table → EntriesCanBeShown aggregates table
+  entries-range : (table : KeyedGroups) → IsDistinct same_row (keys_of table) → GroupsCanBeShown aggregates table → EntriesCanBeShown aggregates table
   entries-range table d = range-from table table (each-own table d)
 
   -- ---- one entry after the other
@@ -126,8 +126,12 @@ module _ (aggregates : List Aggregate) where
     pub range-more : EntriesCanBeShown aggregates (take i table) → EntriesCanBeShown aggregates (e ∷ []) → EntriesCanBeShown aggregates (take (i + 1) table)
     range-more all can = rw one-more (range-append (take i table) (e ∷ []) all can)
 
-    pub range-of : EntriesCanBeShown aggregates table → EntriesCanBeShown aggregates (e ∷ [])
+    range-of : EntriesCanBeShown aggregates table → EntriesCanBeShown aggregates (e ∷ [])
     range-of all = subst (λ (x : Row × StoredGroup). EntriesCanBeShown aggregates (x ∷ [])) (sym is) (range-in table i e in_table all)
+
+    -- where all groups can be shown the entry can
+    pub place-range : IsDistinct same_row (keys_of table) → GroupsCanBeShown aggregates table → EntriesCanBeShown aggregates (e ∷ [])
+    place-range d all = range-of (entries-range table d all)
 
   -- at the end all entries are shown
   module _ (table : KeyedGroups) (n : ℕ) (d : IsDistinct same_row (keys_of table)) (at_end : n ≡ length table) where

@@ -20,8 +20,8 @@ use Rattle.cq_values.specs.Keys.{value_cmp_total, row_cmp_total, row_cmp_same}
 use Rattle.cq_model.specs.Condition.{is_null}
 use Rattle.cq_model_bags.specs.Bag.{Weighted, weight_of, SameBag}
 use Rattle.cq_model_bags.proofs.Totals.{by_test, weight_of-append}
-use Rattle.cq_deltas.specs.Extremes.{HasRoom, IsAdded, IsGone, KeepsOtherRoom, KeepsRoom, alone, held_of, in_front, nonzero, with_more}
-use Rattle.cq_deltas.proofs.Lookups.{Entries, listed, is_value, alone_cmp, same_alone, value-same, value-itself, null-last, null-after, some-none, at-first, at-rest, first-count, all-looked_up, zero-weight, found-room, room-found, no-entry}
+use Rattle.cq_deltas.specs.Extremes.{AreCounts, HasRoom, Held, IsAdded, IsGone, KeepsOtherRoom, KeepsRoom, alone, held_of, in_front, nonzero, with_more}
+use Rattle.cq_deltas.proofs.Lookups.{Entries, listed, null-weight, value-weight, is_value, alone_cmp, same_alone, value-same, value-itself, null-last, null-after, some-none, at-first, at-rest, first-count, all-looked_up, zero-weight, found-room, room-found, no-entry}
 use Rattle.cq_model.proofs.Conditions.{null-value}
 
 by_order : {P : Type 0} (o : Ordering) → (o ≡ Less → P) → (o ≡ Equal → P) → (o ≡ Greater → P) → P
@@ -172,3 +172,17 @@ rounded a w fa fw fs = (λ i. to_z w128 (of_z w128 (to_z-of_z w128 a fa i +ℤ t
 pub fits-rounded : (a w : ℤ) → FitsSigned w128 a → FitsSigned w128 w → FitsSigned w128 (a +ℤ w)
     → FitsSigned w128 (to_z w128 (of_z w128 a) +ℤ to_z w128 (of_z w128 w))
 fits-rounded a w fa fw fs = rw (to_z-of_z w128 a fa, to_z-of_z w128 w fw) fs
+
+-- ---- a weight that is small enough beside what is held fits with it
+module _ (es : Entries) (n : ℤ) (a : AreCounts es) (held : Held) (is : held_of es n ≡ held) (v : Value) (w : ℤ) (small : nat_abs (weight_of held.values (alone v)) + nat_abs w < 2 ^ 127) where
+  sum-fits : (m : ℤ) → weight_of (held_of es n).values (alone v) ≡ m → FitsSigned w128 (m +ℤ w)
+  sum-fits m weighs =
+      fits-sum m w (subst (λ (k : ℤ). nat_abs k + nat_abs w < 2 ^ 127) (ap (λ (h : Held). weight_of h.values (alone v)) (sym is) ∙ weighs) small)
+
+  -- beside NULLs
+  pub null-fits : v ≡ Null → FitsSigned w128 (n +ℤ w)
+  null-fits null = sum-fits n (ap (λ (u : Value). weight_of (held_of es n).values (alone u)) null ∙ null-weight es n a)
+
+  -- beside a value that has a count
+  pub value-fits : (count : ℤ) → lookup (is_value v) es ≡ Some count → FitsSigned w128 (count +ℤ w)
+  value-fits count found = sum-fits count (value-weight es n v count a found)

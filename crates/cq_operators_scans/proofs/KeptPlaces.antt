@@ -1,14 +1,14 @@
 -- Rows that are kept by their places.
-use Rattle.std.proofs.Common.{◌≡◌, ℕ, zero, suc, ◌+◌, ◌-◌, ◌<◌, ◌≤◌, Bool, true, false, cond, List, [], ◌∷◌, ◌++◌, map, length, get_or, refl, sym, ◌∙◌, ap, ap₂, subst, arith}
+use Rattle.std.proofs.Common.{◌≡◌, ℕ, zero, suc, ◌+◌, ◌<◌, ◌≤◌, Bool, true, false, cond, List, [], ◌∷◌, ◌++◌, map, length, get_or, refl, sym, ◌∙◌, ap, ap₂, subst, arith}
 use Rattle.std.specs.List.{AllByRecursion, filter, range_with_len}
-use Rattle.std.proofs.lemmas.List.{append_assoc, get_or-append_right, get_or-map, length-append, length-map}
+use Rattle.std.proofs.lemmas.List.{length-map}
 use Rattle.cq_values.specs.Truth.{is_true}
 use Rattle.cq_values.specs.Value.{Row}
 use Rattle.cq_values.specs.declared.truth.Truth.{Truth}
-use Rattle.cq_values.specs.declared.truth.Truth.TheVariants.{Unknown}
 use Rattle.cq_vectors_masks.specs.Selection.{is_true_at, where_true}
 use Rattle.cq_encodings_vectors.specs.Places.{rows_at}
 use Rattle.cq_operators_scans.specs.Paired.{ArePlaces}
+use Rattle.cq_operators_scans.proofs.RowBehind.{next-is, next-long, row-here, told-here}
 use Rattle.cq_model_bags.proofs.Lists.{all-filter}
 
 -- the row at a place comes first, where the place is kept
@@ -26,16 +26,11 @@ kept-from : (test : Row → Truth) (whole before after : List Row) → whole ≡
     → rows_at whole (where_true (map test whole) (range_with_len n (length after))) ≡ filter (λ row. is_true (test row)) after
 kept-from test whole before [] is n long = refl
 kept-from test whole before (row ∷ after) is n long =
-    let none : n - n ≡ 0 = omega arith in
-    let here : get_or whole n [] ≡ row = ap (λ (rows : List Row). get_or rows n []) is ∙ get_or-append_right before (row ∷ after) n n [] long (omega arith) ∙ ap (λ (i : ℕ). get_or (row ∷ after) i []) none in
-    let more : n < length whole = omega (arith, long, ap length is, length-append before (row ∷ after)) in
-    let told : is_true_at (map test whole) n ≡ is_true (test row) = ap is_true (get_or-map test whole n [] Unknown more ∙ ap test here) in
-    let next : length (before ++ row ∷ []) ≡ n + 1 = length-append before (row ∷ []) ∙ ap (λ (i : ℕ). i + 1) long in
-    let rest = kept-from test whole (before ++ row ∷ []) after (is ∙ sym (append_assoc before (row ∷ []) after)) (n + 1) next in
+    let rest = kept-from test whole (before ++ row ∷ []) after (next-is whole before row after is) (n + 1) (next-long whole before row after is n long) in
     let places = where_true (map test whole) (range_with_len (n + 1) (length after)) in
     one-at (is_true_at (map test whole) n) whole n places
-    ∙ ap (λ (b : Bool). cond b (get_or whole n [] ∷ rows_at whole places) (rows_at whole places)) told
-    ∙ ap₂ (λ (r : Row) (rows : List Row). cond (is_true (test row)) (r ∷ rows) rows) here rest
+    ∙ ap (λ (b : Bool). cond b (get_or whole n [] ∷ rows_at whole places) (rows_at whole places)) (told-here whole before row after is n long test)
+    ∙ ap₂ (λ (r : Row) (rows : List Row). cond (is_true (test row)) (r ∷ rows) rows) (row-here whole before row after is n long) rest
 
 module _ (test : Row → Truth) (rows : List Row) (truths : List Truth) (are : truths ≡ map test rows) (places : List ℕ) (is : places ≡ where_true truths (range_with_len 0 (length truths))) where
   long : length truths ≡ length rows

@@ -8,3 +8,4 @@ pub mod KeptPlaces
 pub mod Behind
 pub mod Asking
 pub mod PlacesWhere
+pub mod RowBehind

@@ -1,28 +1,24 @@
 -- The places of the rows in which a condition is True.
-use Rattle.std.proofs.Common.{◌≡◌, ℕ, suc, ◌+◌, ◌-◌, ◌<◌, Bool, true, List, [], ◌∷◌, ◌++◌, add-one, map, length, get_or, refl, sym, ◌∙◌, ap, ap₂, arith}
-use Rattle.std.specs.Prelude.{None, if◌then◌else◌}
+use Rattle.std.proofs.Common.{◌≡◌, ℕ, ◌+◌, List, [], ◌∷◌, ◌++◌, add-one, map, length, refl, ◌∙◌, ap, ap₂}
+use Rattle.std.specs.Prelude.{None}
 use Rattle.std.specs.List.{range_with_len}
-use Rattle.std.proofs.lemmas.List.{append_assoc, get_or-append_right, get_or-map, length-append, length-map}
+use Rattle.std.proofs.lemmas.List.{length-map}
 use Rattle.cq_values.specs.Truth.{is_true}
 use Rattle.cq_values.specs.Value.{Row}
 use Rattle.cq_values.specs.declared.truth.Truth.{Truth}
-use Rattle.cq_values.specs.declared.truth.Truth.TheVariants.{Unknown}
-use Rattle.cq_vectors_masks.specs.Selection.{is_true_at, where_true}
+use Rattle.cq_vectors_masks.specs.Selection.{where_true}
 use Rattle.cq_model_bags.proofs.Totals.{by_test}
 use Rattle.cq_model.specs.Meaning.{keeps}
 use Rattle.cq_operators_scans.specs.Kept.{places_where}
+use Rattle.cq_operators_scans.proofs.RowBehind.{next-is, next-long, told-here}
 
 -- behind some rows, the places where a test is True are those of the rows that pass it
 where-from : (test : Row → Truth) (whole before after : List Row) → whole ≡ before ++ after → (n : ℕ) → length before ≡ n
     → where_true (map test whole) (range_with_len n (length after)) ≡ places_where n (λ row. is_true (test row)) after
 where-from test whole before [] is n long = refl
 where-from test whole before (row ∷ after) is n long =
-    let none : n - n ≡ 0 = omega arith in
-    let here : get_or whole n [] ≡ row = ap (λ (rows : List Row). get_or rows n []) is ∙ get_or-append_right before (row ∷ after) n n [] long (omega arith) ∙ ap (λ (i : ℕ). get_or (row ∷ after) i []) none in
-    let more : n < length whole = omega (arith, long, ap length is, length-append before (row ∷ after)) in
-    let told : is_true_at (map test whole) n ≡ is_true (test row) = ap is_true (get_or-map test whole n [] Unknown more ∙ ap test here) in
-    let next : length (before ++ row ∷ []) ≡ n + 1 = length-append before (row ∷ []) ∙ ap (λ (i : ℕ). i + 1) long in
-    let rest = where-from test whole (before ++ row ∷ []) after (is ∙ sym (append_assoc before (row ∷ []) after)) (n + 1) next
+    let told = told-here whole before row after is n long test in
+    let rest = where-from test whole (before ++ row ∷ []) after (next-is whole before row after is) (n + 1) (next-long whole before row after is n long)
     ∙ ap (λ (i : ℕ). places_where i (λ (row : Row). is_true (test row)) after) (add-one n) in
     by_test (is_true (test row))
     (λ k. rw (told, k) (ap (λ (places : List ℕ). n ∷ places) rest))

@@ -1,5 +1,5 @@
 -- Offsets above a base beside one constant.
-use Rattle.std.proofs.Common.{◌≡◌, ℕ, ℤ, pos, ◌+ℤ◌, Bool, true, false, not, List, [], ◌∷◌, length, get_or, replicate, refl, sym, ap, ap₂, ◌∙◌, arith, Ordering, Less, Equal, Greater, int_cmp, cond}
+use Rattle.std.proofs.Common.{◌≡◌, ℕ, ℤ, pos, ◌+ℤ◌, Bool, true, false, not, List, [], ◌∷◌, length, map, get_or, replicate, refl, sym, ap, ap₂, ◌∙◌, arith, Ordering, Less, Equal, Greater, int_cmp, cond}
 use Rattle.std.specs.Ordering.{is_le, ordering_then}
 use Rattle.std.specs.Prelude.{int_lt}
 use Rattle.std.proofs.lemmas.Int.{ints}
@@ -9,12 +9,13 @@ use Rattle.cq_values.specs.declared.comparison.Comparison.{Comparison}
 use Rattle.cq_values.specs.declared.comparison.Comparison.TheVariants as by
 use Rattle.cq_values.specs.declared.value.Value.{Value}
 use Rattle.cq_values.specs.Comparison.{compared, passes}
-use Rattle.cq_values.specs.Truth.{truth_of}
+use Rattle.cq_values.specs.Truth.{not_truth, truth_of}
 use Rattle.cq_vectors_stored.specs.Offsets.{offsets_in}
 use Rattle.cq_vectors_masks.specs.TruthMask.{known}
 use Rattle.cq_prims.specs.declared.narrow_side.NarrowSide.{NarrowSide}
 use Rattle.cq_prims.specs.Beside.{AreBeside}
 use Rattle.cq_prims.specs.Numbers.{unless}
+use Rattle.cq_prims.proofs.Compared.{zip2-opposite}
 use Rattle.cq_prims_lanes.specs.UpTo.{known_of}
 use Rattle.cq_prims_lanes.proofs.OffsetTests.{tests_alike}
 
@@ -58,3 +59,8 @@ module _ (c : Comparison) (s : ℤ → ℤ → Bool) (agree : (m n : ℤ) → s 
       ap (λ (l : List Bool). zip2 known l flags) (tests_alike t (λ o. s (side.base +ℤ pos o) side.value) xs (λ k. same (get_or xs k 0)))
       ∙ all beside.days side.base side.value xs flags long
       ∙ sym (ap₂ (zip2 (compared c)) beside.column constant)
+
+  -- and turned it gives those of the opposite comparison
+  pub by_opposite : (d : Comparison) → ((o : Ordering) → not (passes c o) ≡ passes d o) → (side : NarrowSide) (vs ws : List Value) → length side.nulls.now ≡ length (offsets_in side.offsets) → AreBeside side vs ws
+      → (t : ℕ → Bool) → ((o : ℕ) → t o ≡ s (side.base +ℤ pos o) side.value) → map not_truth (known_of t (offsets_in side.offsets) side.nulls.now) ≡ zip2 (compared d) vs ws
+  by_opposite d opposite side vs ws long beside t same = ap (map not_truth) (by_beside side vs ws long beside t same) ∙ zip2-opposite c d opposite vs ws

@@ -1,9 +1,9 @@
 -- The results of the places, as numbers and flags.
-use Rattle.std.proofs.Common.{◌≡◌, ℕ, zero, suc, ◌+◌, ◌<◌, ℤ, Bool, List, [], ◌∷◌, ◌++◌, map, take, length, get_or, refl, sym, ap, ap₂, ◌∙◌, arith, FitsSigned}
+use Rattle.std.proofs.Common.{◌≡◌, ℕ, zero, suc, ◌+◌, ◌<◌, ◌≤◌, ℤ, Bool, List, [], ◌∷◌, ◌++◌, map, take, length, get_or, refl, sym, ap, ap₂, ◌∙◌, arith, FitsSigned}
 use Rattle.std.specs.Int.{w128}
 use lib.Lanes.{zip2}
 use Rattle.std.proofs.lemmas.Simd.{length-zip2, get_or-zip2}
-use Rattle.std.proofs.lemmas.List.{take_more, map-append}
+use Rattle.std.proofs.lemmas.List.{map-append, take_all, take_more}
 use Rattle.cq_values.specs.declared.value.Value.{Value}
 use Rattle.cq_values.specs.declared.value.Value.TheVariants.{Null, Number, Day, Text}
 use Rattle.cq_model.specs.Exact.{ValueInRange}
@@ -74,6 +74,10 @@ result_at f vs ws i same lt = get_or-zip2 f vs ws i Null Null Null lt (omega (ar
 
 pub length_results : (f : Value → Value → Value) (vs ws : List Value) → length vs ≡ length ws → length (zip2 f vs ws) ≡ length vs
 length_results f vs ws same = length-zip2 f vs ws same
+
+-- behind the last place all of them are made
+pub whole_results : (f : Value → Value → Value) (vs ws : List Value) → length vs ≡ length ws → (i : ℕ) → length vs ≤ i → take i (zip2 f vs ws) ≡ zip2 f vs ws
+whole_results f vs ws same i past = take_all i (zip2 f vs ws) (omega (arith, past, length_results f vs ws same))
 
 -- the numbers and flags of all results make them
 pub all_made : (values : List Value) (i : ℕ) (numbers : List ℤ) (flags : List Bool) → take i values ≡ values → numbers ≡ map addend (take i values) → flags ≡ map no_number (take i values) → AreNumbers values → zip2 number_unless numbers flags ≡ values

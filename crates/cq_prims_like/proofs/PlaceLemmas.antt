@@ -1,13 +1,15 @@
 -- Where a run stands in a text that stands in other bytes.
-use Rattle.std.proofs.Common.{◌≡◌, ℕ, ◌<◌, ◌≤◌, ◌+◌, ◌-◌, ◌^◌, Option, ◌⊎◌, inl, inr, List, [], ◌∷◌, ◌++◌, length, take, drop, get_or, sym, ap, subst, ◌∙◌, arith, append-nil, append_assoc, length-append, length-drop}
+use Rattle.std.proofs.Common.{Bor, ◌≡◌, ℕ, ◌<◌, ◌≤◌, ◌+◌, ◌-◌, ◌^◌, Option, ◌⊎◌, inl, inr, List, [], ◌∷◌, ◌++◌, length, take, drop, get_or, sym, ap, subst, ◌∙◌, arith, append-nil, append_assoc, length-append, length-drop}
 use Rattle.std.specs.Prelude.{Some, None, IfSome, set}
 use Rattle.std.specs.List.{concat}
 use Rattle.std.proofs.lemmas.Bool.{cases_lt}
 use Rattle.std.proofs.lemmas.List.Folds.{concat-append}
-use Rattle.std.proofs.lemmas.List.{take_more, get_or-set_same, get_or-set_other, take-append-drop, take-append-le, drop-append-le, length-take-le}
+use Rattle.std.proofs.lemmas.List.{length-map, take_more, get_or-set_same, get_or-set_other, take-append-drop, take-append-le, drop-append-le, length-take-le}
 use Rattle.std.proofs.Math.Seq.{drop-append-add}
+use lib.ListN.{get_or-map}
 use Rattle.memchr.specs.Find.{FindsNeedle, OccursAt}
 use Rattle.memchr.proofs.lemmas.MatchLemmas.{OccursAt-part, OccursAt-from_part}
+use Rattle.cq_vectors_stored.specs.Columns.{texts_of}
 use Rattle.cq_prims_like.specs.Patterns.{FindsWithin}
 
 module _ (run front text rest bytes : List ℕ) (is : bytes ≡ front ++ (text ++ rest)) where
@@ -131,17 +133,38 @@ module _ (texts : List (List ℕ)) (i : ℕ) (below : i < length texts) (text by
     whole : bytes ≡ concat (take i texts) ++ (text ++ concat (drop (i + 1) texts))
     whole = laid ∙ concat_split texts i below ∙ ap (λ t. concat (take i texts) ++ (t ++ concat (drop (i + 1) texts))) is
 
-    pub end_within : start + length text ≤ length bytes
+    end_within : start + length text ≤ length bytes
     end_within = omega (arith, far, ap {B = ℕ} length whole, length-append (concat (take i texts)) (text ++ concat (drop (i + 1) texts)), length-append text (concat (drop (i + 1) texts)))
 
-    pub next_start : start + length text ≡ length (concat (take (i + 1) texts))
+    next_start : start + length text ≡ length (concat (take (i + 1) texts))
     next_start = omega (arith, far, ap {B = ℕ} length (concat_more texts i below), length-append (concat (take i texts)) (get_or texts i []), ap {B = ℕ} length is)
 
-    pub place_found : (run : List ℕ) (next place : Option ℕ) → FindsWithin run start (start + length text) next place → FindsNeedle bytes run start next
+    place_found : (run : List ℕ) (next place : Option ℕ) → FindsWithin run start (start + length text) next place → FindsNeedle bytes run start next
         → FindsNeedle (get_or texts i []) run 0 place
     place_found run next place within found =
         subst (λ t. FindsNeedle t run 0 place) (sym is)
         (within (concat (take i texts)) text (concat (drop (i + 1) texts)) (sym far) (λ j. start + length text) (subst (λ b. FindsNeedle b run start next) whole found))
+
+-- and of texts that are lent
+module _ (texts : List (Bor (List ℕ))) (i : ℕ) (inside : i < length texts) (bytes : List ℕ) (start : ℕ) (laid : bytes ≡ concat (texts_of texts)) (far : start ≡ length (concat (take i (texts_of texts)))) where
+  abbrev here : List ℕ
+  here = (get_or texts i (record { ref_ptr = (0, 0); now = [] })).now
+
+  below : i < length (texts_of texts)
+  below = omega (arith, inside, length-map texts (λ t. t.now))
+
+  is : get_or (texts_of texts) i [] ≡ here
+  is = get_or-map (λ (t : Bor (List ℕ)). t.now) texts i (record { ref_ptr = (0, 0); now = [] })
+
+  pub lent_within : start + length here ≤ length bytes
+  lent_within = end_within (texts_of texts) i below here bytes start is laid far
+
+  pub lent_start : start + length here ≡ length (concat (take (i + 1) (texts_of texts)))
+  lent_start = next_start (texts_of texts) i below here bytes start is laid far
+
+  pub lent_found : (run : List ℕ) (next place : Option ℕ) → FindsWithin run start (start + length here) next place → FindsNeedle bytes run start next
+      → FindsNeedle (get_or (texts_of texts) i []) run 0 place
+  lent_found = place_found (texts_of texts) i below here bytes start is laid far
 
 -- one more of the first places
 pub found_more : (P : ℕ → Option ℕ → Type 0) (places : List (Option ℕ)) (i : ℕ) (place : Option ℕ) → i < length places

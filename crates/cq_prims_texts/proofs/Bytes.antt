@@ -33,3 +33,10 @@ module _ (entries : List (List ℕ)) (codes : List ℕ) (flags : List Bool) (lon
   entry_bytes-at i lt =
       get_or-map bytes (entries_at entries codes flags) i Null
       ∙ ap bytes (get_or-zip2 (entry_unless entries) codes flags i 0 false Null lt (omega (arith, lt, long)))
+
+  -- each of their places has a code, and is what the flag there makes of it
+  pub code_there : (i : ℕ) → i < length (entry_bytes entries codes flags) → i < length codes
+  code_there i inside = omega (arith, inside, length-entry_bytes)
+
+  pub flagged-at : (i : ℕ) → i < length (entry_bytes entries codes flags) → (flag : Bool) → flag ≡ get_or flags i false → bytes (entry_unless entries (get_or codes i 0) flag) ≡ get_or (entry_bytes entries codes flags) i []
+  flagged-at i inside flag is = ap (λ (b : Bool). bytes (entry_unless entries (get_or codes i 0) b)) is ∙ sym (entry_bytes-at i (code_there i inside))

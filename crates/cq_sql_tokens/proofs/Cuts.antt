@@ -162,3 +162,8 @@ past_space_shrinks (b ∷ bs) = grind arith
 
 pub spaced_shrinks : (rest : List ℕ) (t : Token) (after behind : List ℕ) → gap_at rest ≡ None → token_at rest ≡ Some (t, after) → behind ≡ past_space after → length behind < length rest
 spaced_shrinks rest t after behind none e is = rw is (omega (arith, past_space_shrinks after, token_shrinks rest t after none e))
+
+-- a number with a sign behind it
+pub signed_shrinks : (rest : List ℕ) (t : Token) (after : List ℕ) → gap_at rest ≡ None → token_at rest ≡ Some (t, after)
+    → (u : Token) (sign behind : List ℕ) → gap_at after ≡ None → token_at after ≡ Some (u, sign) → behind ≡ past_space sign → length behind < length rest
+signed_shrinks rest t after none e u sign behind none_behind f is = omega (arith, token_shrinks rest t after none e, spaced_shrinks after u sign behind none_behind f is)

@@ -1,3 +1,4 @@
 pub mod AtPlaces
 pub mod LiveRows
+pub mod MarkedFronts
 pub mod Parts

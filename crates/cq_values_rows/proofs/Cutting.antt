@@ -1,5 +1,5 @@
 -- Rows that are cut from one list.
-use Rattle.std.proofs.Common.{◌≡◌, ◌∙◌, refl, sym, ap, arith, ◌≤◌, ◌<◌, ◌+◌, ◌-◌, ℕ, zero, suc, List, [], ◌∷◌, ◌++◌, length, append-nil, Some, get_or, subst}
+use Rattle.std.proofs.Common.{◌≡◌, ◌∙◌, refl, sym, ap, arith, ◌≤◌, ◌<◌, ◌+◌, ◌-◌, ℕ, zero, suc, List, [], ◌∷◌, ◌++◌, append_assoc, length, append-nil, Some, get_or, subst}
 use Rattle.std.specs.Prelude.{take, drop, slice_get, slice_range}
 use Rattle.std.proofs.lemmas.List.{drop-append-le, take-append-le, take_rest, drop-drop, drop_all, drop_more, length-drop}
 use Rattle.cq_values.specs.declared.value.Value.{Value}
@@ -115,7 +115,7 @@ pub next_dropped : (vs : List Value) (n : ℕ) (v : Value) (rest : List Value) �
 next_dropped vs n v rest e = ap (λ (m : ℕ). drop m vs) (after n) ∙ (taken vs n v rest e).1
 
 -- the values behind a row, of those from where it begins
-pub left_behind : (vs : List Value) (start end : ℕ) → start ≤ end → drop (end - start) (drop start vs) ≡ drop end vs
+left_behind : (vs : List Value) (start end : ℕ) → start ≤ end → drop (end - start) (drop start vs) ≡ drop end vs
 left_behind vs start end l = drop-drop (end - start) start vs ∙ ap (λ (n : ℕ). drop n vs) (omega (arith, l))
 
 -- ---- one end after the other
@@ -136,9 +136,34 @@ module _ (ends : List ℕ) (i : ℕ) (inside : i < length ends) where
   next_last start = ap (last_end start) next
 
   -- it and those behind it are the rows from here on
-  pub next_cut : (start : ℕ) (vs : List Value) → rows_from start (drop i ends) vs ≡ slice_range vs start here ∷ rows_from here (drop (i + 1) ends) vs
+  next_cut : (start : ℕ) (vs : List Value) → rows_from start (drop i ends) vs ≡ slice_range vs start here ∷ rows_from here (drop (i + 1) ends) vs
   unfolding rows_from
   next_cut start vs = ap (λ (later : List ℕ). rows_from start later vs) next
+
+-- where the values behind a start are left, and the ends from a place on rise from it
+module _ (ends : List ℕ) (i : ℕ) (inside : i < length ends) (start : ℕ) (rising : AreRisingFrom start (drop i ends)) (values left : List Value) (is : left ≡ drop start values) where
+  -- they are enough for the next row
+  pub next_within : last_end start (drop i ends) ≡ last_end 0 ends → last_end 0 ends ≤ length values → get_or ends i 0 - start ≤ length left
+  next_within last within =
+      let rises = next_rises ends i inside start rising in
+      let past = last_past (get_or ends i 0) (drop (i + 1) ends) rises.1 in
+      omega (arith, rises.0, past, next_last ends i inside start, last, within, ap length is, length-drop start values)
+
+  -- which is cut from them
+  pub row_next : (row : Row) → row ≡ take (get_or ends i 0 - start) left → (whole before after : List Row) → whole ≡ before ++ rows_from start (drop i ends) values → after ≡ before ++ row ∷ []
+      → whole ≡ after ++ rows_from (get_or ends i 0) (drop (i + 1) ends) values
+  row_next row cut whole before after so_far pushed =
+      let end : ℕ = get_or ends i 0 in
+      let later : List Row = rows_from end (drop (i + 1) ends) values in
+      let same : row ≡ slice_range values start end = cut ∙ ap (take (end - start)) is in
+      so_far ∙ ap (λ (rows : List Row). before ++ rows) (next_cut ends i inside start values)
+      ∙ ap (λ (r : Row). before ++ r ∷ later) (sym same) ∙ sym (append_assoc before (row ∷ []) later)
+      ∙ ap (λ (rows : List Row). rows ++ later) (sym pushed)
+
+  -- and leaves those behind it
+  pub next_left : (behind : List Value) → behind ≡ drop (get_or ends i 0 - start) left → behind ≡ drop (get_or ends i 0) values
+  next_left behind cut =
+      cut ∙ ap (drop (get_or ends i 0 - start)) is ∙ left_behind values start (get_or ends i 0) (next_rises ends i inside start rising).0
 
 -- behind the last end all rows are cut
 pub all_cut : (ends : List ℕ) (i start : ℕ) (vs : List Value) (rows whole : List Row) → length ends ≤ i → whole ≡ rows ++ rows_from start (drop i ends) vs → rows ≡ whole

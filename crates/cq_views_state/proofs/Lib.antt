@@ -10,6 +10,7 @@ pub mod Limits
 pub mod Listing
 pub mod Moves
 pub mod Naming
+pub mod Preparing
 pub mod SameBags
 pub mod SameLast
 pub mod Showings

@@ -29,7 +29,7 @@ times-none old row = record {
 }
 
 -- then one more
-pub times-more : (old cur : List Row) (row copy : Row) (n : ℤ) → copy ≡ row → SameBag (once_each cur) (once_each old ++ (row, n) ∷ [])
+times-more : (old cur : List Row) (row copy : Row) (n : ℤ) → copy ≡ row → SameBag (once_each cur) (once_each old ++ (row, n) ∷ [])
     → SameBag (once_each (cur ++ copy ∷ [])) (once_each old ++ (row, n +ℤ pos 1) ∷ [])
 times-more old cur row copy n is so_far = record {
   at = λ q.
@@ -50,6 +50,11 @@ times-more old cur row copy n is so_far = record {
       let now : weight_of ((row, n +ℤ pos 1) ∷ []) q ≡ pos 0 = rw s refl in
       omega (arith, ints, here, a, b, d, one, before, now));
 }
+
+pub times-added : (old cur : List Row) (row copy : Row) (n : ℤ) → copy ≡ row → SameBag (once_each cur) (once_each old ++ (row, n) ∷ []) → (new : List Row) → new ≡ cur ++ copy ∷ []
+    → SameBag (once_each new) (once_each old ++ (row, n +ℤ pos 1) ∷ [])
+times-added old cur row copy n is so_far new added =
+    subst (λ (rows : List Row). SameBag (once_each rows) (once_each old ++ (row, n +ℤ pos 1) ∷ [])) (sym added) (times-more old cur row copy n is so_far)
 
 -- ---- all rows
 distinct-positive : (xs : Weighted) → IsDistinct same_row (keys_of xs) → ((r : Row) → pos 0 ≤ℤ weight_of xs r) → AllByRecursion (λ x. pos 0 ≤ℤ x.1) xs

@@ -20,10 +20,8 @@ loop-part-preserved t c = ask-next c.args.before c.args.wide c.args.tree.now c.d
 pub returns-after-loop-part-clause-own : goal.returns-after-loop-part-clause-own
 returns-after-loop-part-clause-own t c =
     let tree = c.args.tree.now in
-    let old = c.args.own.now.items in
-    let middle = c.add_own.new.own.items in
-    own-through tree tree c.args.before c.args.wide old middle c.loop-part.own.items (whole (cond_of tree))
-    (own-through c.deref.result.now tree c.args.before c.args.wide old old middle (first-is-part tree c.in-And.first c.in-And.rest c.in-And.is c.deref.result.now c.deref.ensures) (λ filter of own. own) c.in_ok-add_own-in-And.ensures.own)
+    own-through tree tree c.args.before c.args.wide c.args.own.now.items c.add_own.new.own.items c.loop-part.own.items (whole (cond_of tree))
+    (own-through c.deref.result.now tree c.args.before c.args.wide c.args.own.now.items c.args.own.now.items c.add_own.new.own.items (first-is-part tree c.in-And.first c.in-And.rest c.in-And.is c.deref.result.now c.deref.ensures) (λ filter of own. own) c.in_ok-add_own-in-And.ensures.own)
     c.loop-part.invariant.own
 
 pub returns-after-loop-part-clause-all : goal.returns-after-loop-part-clause-all

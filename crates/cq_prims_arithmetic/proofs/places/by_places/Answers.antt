@@ -2,11 +2,10 @@ use Rattle.std.proofs.Common.{◌≡◌, take, to_z, of_z, ◌<◌, length, sym,
 use Rattle.std.specs.Int.{w128}
 use Rattle.std.proofs.lemmas.Int.{ints, to_z-of_z}
 use lib.Lanes.{zip2}
-use Rattle.std.proofs.lemmas.List.{take_all}
 use Rattle.cq_model.specs.Exact.{ValueInRange}
 use Rattle.cq_model.specs.Group.{addend}
 use Rattle.cq_prims_arithmetic.specs.Operation.{lifted, no_number}
-use Rattle.cq_prims_arithmetic.proofs.PlaceLemmas.{all_fit, all_in_range, all_made, lifted_numbers, length_results, push_more, result_at, zero_where}
+use Rattle.cq_prims_arithmetic.proofs.PlaceLemmas.{all_fit, all_in_range, all_made, lifted_numbers, length_results, push_more, result_at, whole_results, zero_where}
 use Rattle.cq_prims_arithmetic.proofs.places.by_places.Goals as goal
 
 pub number_at-number-requires : goal.number_at-number-requires
@@ -35,14 +34,10 @@ new-requires-clause-zero g c =
 
 pub new-requires-clause-fit : goal.new-requires-clause-fit
 new-requires-clause-fit g c =
-    let results = zip2 (lifted g.O.Operation.apply) c.args.of.now.a.now c.args.of.now.b.now in
-    let long = length_results (lifted g.O.Operation.apply) c.args.of.now.a.now c.args.of.now.b.now c.args.of.now.same in
-    let whole = take_all c.loop-i.i results (omega (arith, long, c.loop-i-test.false, c.len-len.ensures.len)) in
-    rw (c.loop-i.invariant.0, whole) (all_fit results (all_in_range results c.args.of.now.fits))
+    let whole = whole_results (lifted g.O.Operation.apply) c.args.of.now.a.now c.args.of.now.b.now c.args.of.now.same c.loop-i.i (omega (arith, c.loop-i-test.false, c.len-len.ensures.len)) in
+    rw (c.loop-i.invariant.0, whole) (all_fit _ (all_in_range _ c.args.of.now.fits))
 
 pub returns : goal.returns
 returns g c =
-    let results = zip2 (lifted g.O.Operation.apply) c.args.of.now.a.now c.args.of.now.b.now in
-    let long = length_results (lifted g.O.Operation.apply) c.args.of.now.a.now c.args.of.now.b.now c.args.of.now.same in
-    let whole = take_all c.loop-i.i results (omega (arith, long, c.loop-i-test.false, c.len-len.ensures.len)) in
-    c.new-2.ensures ∙ c.new.ensures ∙ all_made results c.loop-i.i c.loop-i.values.items c.loop-i.nulls whole c.loop-i.invariant.0 c.loop-i.invariant.1 (lifted_numbers g.O.Operation.apply c.args.of.now.a.now c.args.of.now.b.now)
+    let whole = whole_results (lifted g.O.Operation.apply) c.args.of.now.a.now c.args.of.now.b.now c.args.of.now.same c.loop-i.i (omega (arith, c.loop-i-test.false, c.len-len.ensures.len)) in
+    c.new-2.ensures ∙ c.new.ensures ∙ all_made _ c.loop-i.i c.loop-i.values.items c.loop-i.nulls whole c.loop-i.invariant.0 c.loop-i.invariant.1 (lifted_numbers g.O.Operation.apply c.args.of.now.a.now c.args.of.now.b.now)

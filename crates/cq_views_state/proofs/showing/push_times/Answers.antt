@@ -3,7 +3,7 @@ use Rattle.std.specs.Int.{w128}
 use Rattle.std.proofs.lemmas.Int.{to_z-of_z}
 use Rattle.cq_values.specs.Value.{Row}
 use Rattle.cq_model_bags.specs.Bag.{SameBag, once_each}
-use Rattle.cq_views_state.proofs.Listing.{times-more, times-none}
+use Rattle.cq_views_state.proofs.Listing.{times-added, times-none}
 use Rattle.cq_views_state.proofs.showing.push_times.Goals as goal
 
 pub loop-time-init : goal.loop-time-init
@@ -19,22 +19,16 @@ pub loop-time-preserved : goal.loop-time-preserved
 loop-time-preserved c =
     let n : ℤ = to_z w128 c.loop-time._time-bits in
     let row : Row = c.args.row.now in
-    let old = c.args.rows.now.rows in
-    let so_far = c.loop-time.rows.rows in
     let fits : FitsSigned w128 (n +ℤ pos 1) = search rules in
     let less : (n +ℤ pos 1) ≤ℤ to_z w128 (of_z w128 c.args.times) = search rules in
-    let copy : Row = c.push_copies.new.self.begun in
-    let is : copy ≡ row = c.in_ok-push_copies.ensures.begun ∙ ap₂ (λ (r s : Row). r ++ s) c.loop-time.invariant.begun c.as_slice.ensures in
-    let added : c.end_row.new.self.rows ≡ so_far ++ copy ∷ [] =
-    c.in_ok-end_row.ensures.rows ∙ ap (λ (rows : List Row). rows ++ copy ∷ []) c.in_ok-push_copies.ensures.rows in
-    let more = times-more old so_far row copy n is c.loop-time.invariant.bag in
-    let same = to_z-of_z w128 (n +ℤ pos 1) fits in
+    let is : c.push_copies.new.self.begun ≡ row = c.in_ok-push_copies.ensures.begun ∙ ap₂ (λ (r s : Row). r ++ s) c.loop-time.invariant.begun c.as_slice.ensures in
+    let added = c.in_ok-end_row.ensures.rows ∙ ap (λ (rows : List Row). rows ++ c.push_copies.new.self.begun ∷ []) c.in_ok-push_copies.ensures.rows in
+    let more = times-added c.args.rows.now.rows _ row _ n is c.loop-time.invariant.bag c.end_row.new.self.rows added in
+    let same = sym (to_z-of_z w128 (n +ℤ pos 1) fits) in
     record {
-      bag =
-          subst (λ (m : ℤ). SameBag (once_each c.end_row.new.self.rows) (once_each old ++ (row, m) ∷ [])) (sym same)
-          (subst (λ (rows : List Row). SameBag (once_each rows) (once_each old ++ (row, n +ℤ pos 1) ∷ [])) (sym added) more);
+      bag = subst (λ (m : ℤ). SameBag (once_each c.end_row.new.self.rows) (once_each c.args.rows.now.rows ++ (row, m) ∷ [])) same more;
       begun = c.in_ok-end_row.ensures.begun;
-      within = subst (λ (m : ℤ). m ≤ℤ to_z w128 (of_z w128 c.args.times)) (sym same) less;
+      within = subst (λ (m : ℤ). m ≤ℤ to_z w128 (of_z w128 c.args.times)) same less;
     }
 
 pub returns-clause-rows : goal.returns-clause-rows

@@ -5,8 +5,8 @@ use Rattle.cq_values.specs.Comparison.{compared}
 use Rattle.cq_values.specs.Truth.{not_truth}
 use Rattle.cq_values.specs.declared.comparison.Comparison.TheVariants.{Equal, NotEqual, Less, LessOrEqual, Greater, GreaterOrEqual}
 use Rattle.cq_prims_lanes.specs.UpTo.{is_up_to}
-use Rattle.cq_prims.proofs.Beside.{at_most_agrees, by_beside, not_at_most}
-use Rattle.cq_prims.proofs.Compared.{equal_agrees, less_agrees, not_equal, not_less, zip2-opposite}
+use Rattle.cq_prims.proofs.Beside.{at_most_agrees, by_beside, by_opposite, not_at_most}
+use Rattle.cq_prims.proofs.Compared.{equal_agrees, less_agrees, not_equal, not_less}
 use Rattle.cq_prims.proofs.narrow_side.NarrowSide.compare.Goals as goal
 
 pub returns-in-Less : goal.returns-in-Less
@@ -18,9 +18,7 @@ returns-in-Less c vs ws beside =
 pub returns-in-LessOrEqual : goal.returns-in-LessOrEqual
 returns-in-LessOrEqual c vs ws beside =
     let side = c.args.self.now in
-    let last = c.last_up_to in
-    c.set_up_to-in-LessOrEqual.ensures
-    ∙ by_beside LessOrEqual (λ m n. not (int_lt n m)) at_most_agrees side vs ws side.same beside (is_up_to last.result) last.ensures
+    c.set_up_to-in-LessOrEqual.ensures ∙ by_beside LessOrEqual (λ m n. not (int_lt n m)) at_most_agrees side vs ws side.same beside (is_up_to c.last_up_to.result) c.last_up_to.ensures
     ∙ ap (λ k. zip2 (compared k) vs ws) (sym c.in-LessOrEqual.is)
 
 pub returns-in-Equal : goal.returns-in-Equal
@@ -32,22 +30,17 @@ returns-in-Equal c vs ws beside =
 pub returns-in-NotEqual : goal.returns-in-NotEqual
 returns-in-NotEqual c vs ws beside =
     let side = c.args.self.now in
-    let equal = by_beside Equal int_eq equal_agrees side vs ws side.same beside (λ (o : ℕ). int_eq (side.base +ℤ pos o) side.value) (λ o. refl) in
-    c.set_not.ensures ∙ ap (map not_truth) (c.set_equal-in-NotEqual.ensures ∙ equal)
-    ∙ zip2-opposite Equal NotEqual not_equal vs ws ∙ ap (λ k. zip2 (compared k) vs ws) (sym c.in-NotEqual.is)
+    let turned = by_opposite Equal int_eq equal_agrees NotEqual not_equal side vs ws side.same beside (λ (o : ℕ). int_eq (side.base +ℤ pos o) side.value) (λ o. refl) in
+    c.set_not.ensures ∙ ap (map not_truth) c.set_equal-in-NotEqual.ensures ∙ turned ∙ ap (λ k. zip2 (compared k) vs ws) (sym c.in-NotEqual.is)
 
 pub returns-in-Greater : goal.returns-in-Greater
 returns-in-Greater c vs ws beside =
-    let side = c.args.self.now in
     let last = c.last_up_to-in-Greater in
-    let at_most = by_beside LessOrEqual (λ m n. not (int_lt n m)) at_most_agrees side vs ws side.same beside (is_up_to last.result) last.ensures in
-    c.set_not-in-Greater.ensures ∙ ap (map not_truth) (c.set_up_to-in-Greater.ensures ∙ at_most)
-    ∙ zip2-opposite LessOrEqual Greater not_at_most vs ws ∙ ap (λ k. zip2 (compared k) vs ws) (sym c.in-Greater.is)
+    let turned = by_opposite LessOrEqual (λ m n. not (int_lt n m)) at_most_agrees Greater not_at_most c.args.self.now vs ws c.args.self.now.same beside (is_up_to last.result) last.ensures in
+    c.set_not-in-Greater.ensures ∙ ap (map not_truth) c.set_up_to-in-Greater.ensures ∙ turned ∙ ap (λ k. zip2 (compared k) vs ws) (sym c.in-Greater.is)
 
 pub returns-in-GreaterOrEqual : goal.returns-in-GreaterOrEqual
 returns-in-GreaterOrEqual c vs ws beside =
-    let side = c.args.self.now in
     let last = c.last_below-in-GreaterOrEqual in
-    let below = by_beside Less int_lt less_agrees side vs ws side.same beside (is_up_to last.result) last.ensures in
-    c.set_not-in-GreaterOrEqual.ensures ∙ ap (map not_truth) (c.set_up_to-in-GreaterOrEqual.ensures ∙ below)
-    ∙ zip2-opposite Less GreaterOrEqual not_less vs ws ∙ ap (λ k. zip2 (compared k) vs ws) (sym c.in-GreaterOrEqual.is)
+    let turned = by_opposite Less int_lt less_agrees GreaterOrEqual not_less c.args.self.now vs ws c.args.self.now.same beside (is_up_to last.result) last.ensures in
+    c.set_not-in-GreaterOrEqual.ensures ∙ ap (map not_truth) c.set_up_to-in-GreaterOrEqual.ensures ∙ turned ∙ ap (λ k. zip2 (compared k) vs ws) (sym c.in-GreaterOrEqual.is)
