@@ -1,11 +1,14 @@
 //! A column in whichever form it is kept.
+ghost use Rattle.std.specs.Prelude.{IfSome, slice_index_or};
 ghost use Rattle.cq_encodings.specs.AnyEncoded.{encoded_values};
+ghost use Rattle.cq_encodings_plain.specs.Kind.{StandsFor};
+ghost use Rattle.cq_values.specs.declared.value.Value.TheVariants.{Null};
 
 use crate::deltas::Deltas;
 use crate::dict::Dict;
 use crate::packed::Packed;
 use crate::runs::Runs;
-use cq_encodings_plain::{Decoded, Encoded, Plain};
+use cq_encodings_plain::{Decoded, Encoded, Kind, Plain};
 use cq_values::Lent;
 
 /// Values in one of the forms.
@@ -16,6 +19,20 @@ pub enum AnyEncoded {
     Dict(Dict),
     Packed(Packed),
     Deltas(Deltas),
+}
+
+impl AnyEncoded {
+    /// The number that stands for the value at a place, and its kind. None where it is NULL, and where the values are
+    /// not kept as plain numbers.
+    #[inline(always)]
+    pub fn number_at(&self, place: usize) -> Option<(Kind, i64)>
+        ensures { IfSome result (λ n. StandsFor n.0 n.1 (slice_index_or (encoded_values self.now) place Null)) }
+    {
+        match self {
+            AnyEncoded::Plain(Plain::Numbers(numbers)) => numbers.number_at(place),
+            _ => None,
+        }
+    }
 }
 
 impl Encoded for AnyEncoded {

@@ -16,6 +16,16 @@ pub(crate) fn bounds_of(kind: Kind, values: &[Lent<'_>]) -> Option<(i64, i64)> {
     Some((least, greatest))
 }
 
+/// The least and the greatest of some numbers.
+pub(crate) fn ends_of(numbers: &[i64]) -> (i64, i64) {
+    let (mut least, mut greatest) = (i64::MAX, i64::MIN);
+    for number in numbers {
+        least = least.min(*number);
+        greatest = greatest.max(*number);
+    }
+    (least, greatest)
+}
+
 /// Whether the numbers of a kind that are there rise, by less than 2^16 from each to the next.
 pub(crate) fn rise_slowly(kind: Kind, values: &[Lent<'_>]) -> bool {
     let mut last = None;

@@ -79,7 +79,7 @@ fn offset_of(kind: Kind, value: &Lent<'_>, least: i64) -> Option<u64>
 }
 
 /// How far a number lies above another, or None where it lies below.
-fn distance(number: i64, least: i64) -> Option<u64>
+pub(crate) fn distance(number: i64, least: i64) -> Option<u64>
     ensures { IfSome result (λ offset. least +ℤ pos offset ≡ number) }
 {
     if number < least {

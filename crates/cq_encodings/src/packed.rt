@@ -1,11 +1,13 @@
 //! Numbers or days that lie close together.
+ghost use Rattle.std.specs.List.{AllByRecursion};
 ghost use Rattle.std.specs.Prelude.{IfOk, IfSome, map, pos, ◌+ℤ◌, ◌≡◌};
 ghost use Rattle.std.specs.Simd.Lanes.{zip2};
-ghost use Rattle.cq_encodings_plain.specs.Kind.{datum};
+ghost use Rattle.cq_encodings_plain.specs.Kind.{IsOf, datum, number_values};
 ghost use Rattle.cq_encodings.specs.Packed.{AreOffsets, above};
 ghost use Rattle.cq_values.specs.Lent.{owned};
 
-use crate::bounds::bounds_of;
+use crate::bounds::{bounds_of, ends_of};
+use crate::distances::distances_at;
 use crate::offsets::offsets_at;
 use cq_encodings_plain::{
     Encoded, Kind, Nulls, PackedNumbers, is_of, kind_of, lend_number, width_up_to,
@@ -49,6 +51,31 @@ impl Packed {
             Some((least, greatest)) => packed_between(alloc, values, kind, least, greatest),
             None => Ok(None),
         }
+    }
+
+    /// Numbers of a kind, none of which is NULL. None where they lie 2^32 apart or more.
+    pub(crate) fn of_numbers(
+        alloc: Global,
+        kind: Kind,
+        numbers: &[i64],
+    ) -> Result<Option<Packed>, AllocError>
+        requires { AllByRecursion (IsOf kind) numbers.now }
+        ensures { IfOk result (λ found. IfSome found (λ packed. packed ≡ number_values kind numbers.now)) }
+    {
+        let (least, greatest) = ends_of(numbers);
+        if i128::from(greatest) - i128::from(least) >= 1 << 32 || !is_of(kind, least) {
+            return Ok(None);
+        }
+        let width = width_up_to(greatest.wrapping_sub(least).cast_unsigned());
+        let Some(widths) = distances_at(alloc, least, numbers, width)? else {
+            return Ok(None);
+        };
+        Ok(Some(Packed {
+            kind,
+            least,
+            offsets: PackedNumbers::from_widths(widths),
+            nulls: Nulls::clear(alloc, numbers.len())?,
+        }))
     }
 
     /// The kind, the least number, the offsets and the flags, for loops: the offset is 0 where NULL stands.

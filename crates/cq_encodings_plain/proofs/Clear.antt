@@ -14,16 +14,20 @@ part_of values start count =
     ap (map is_null) (sym (take-map owned count (drop start values)) ∙ ap (take count) (sym (drop-map owned start values)))
     ∙ sym (take-map is_null count (drop start (map owned values))) ∙ ap (take count) (sym (drop-map is_null start (map owned values)))
 
+-- flags that are clear, from a place on
+pub clear_part : (len start count : ℕ) → count ≡ min (len - start) 1024 → replicate count false ≡ take 1024 (drop start (replicate len false))
+clear_part len start count is =
+    let rest = replicate (len - start) false in
+    sym (ap (take 1024) (drop-replicate start len false)
+    ∙ sym (take_min 1024 rest)
+    ∙ ap (λ (n : ℕ). take n rest) {x = min 1024 (length rest)} {y = count} (omega (arith, is, length-replicate (len - start) false))
+    ∙ take-replicate count (len - start) false (omega (arith, is)))
+
 -- where none is NULL no flag is set from a place on
 pub none_null_from : (values : List Lent) (start count : ℕ) → IsNoneNull values → count ≡ min (length values - start) 1024 → replicate count false ≡ nulls_of (take 1024 (drop start values))
 none_null_from values start count none is =
-    let rest = replicate (length values - start) false in
-    sym (part_of values start 1024
-    ∙ ap (λ (flags : List Bool). take 1024 (drop start flags)) none
-    ∙ ap (take 1024) (drop-replicate start (length values) false)
-    ∙ sym (take_min 1024 rest)
-    ∙ ap (λ (n : ℕ). take n rest) {x = min 1024 (length rest)} {y = count} (omega (arith, is, length-replicate (length values - start) false))
-    ∙ take-replicate count (length values - start) false (omega (arith, is)))
+    clear_part (length values) start count is
+    ∙ sym (part_of values start 1024 ∙ ap (λ (flags : List Bool). take 1024 (drop start flags)) none)
 
 -- none of the values so far is NULL, with one more that is not
 pub none_more : (values : List Lent) (i : ℕ) (value : Lent) → i < length values → value ≡ get_or values i lent.Null → is_null (owned value) ≡ false → IsNoneNull (take i values) → IsNoneNull (take (i + 1) values)

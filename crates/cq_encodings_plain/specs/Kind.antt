@@ -1,5 +1,5 @@
 -- Numbers and days, which are both kept as numbers.
-use Rattle.std.specs.Prelude.{ℤ, pos, neg_ℤ, int_le, Bool, true, false, ◌&&◌, if◌then◌else◌, FitsSigned}
+use Rattle.std.specs.Prelude.{◌≡◌, List, map, ℤ, pos, neg_ℤ, int_le, Bool, true, false, ◌&&◌, if◌then◌else◌, FitsSigned}
 use Rattle.std.specs.Int.{w64}
 use Rattle.cq_values.specs.Days.{IsDay}
 use Rattle.cq_values.specs.declared.value.Value.{Value}
@@ -21,3 +21,12 @@ datum Days n false = if is_day n then Day n else Null
 abbrev pub IsOf : Kind → ℤ → Type 0
 IsOf Numbers n = FitsSigned w64 n
 IsOf Days n = IsDay n
+
+-- the number is one of the kind, and stands for the value
+pub record StandsFor (kind : Kind) (number : ℤ) (value : Value) : Type 0 where
+  pub of : IsOf kind number
+  pub same : datum kind number false ≡ value
+
+-- the values that numbers of a kind stand for, none of them NULL
+abbrev pub number_values : Kind → List ℤ → List Value
+number_values kind numbers = map (λ number. datum kind number false) numbers

@@ -67,6 +67,19 @@ impl Nulls {
         Ok(Nulls { planes })
     }
 
+    /// The flags of so many values, none of which is NULL.
+    pub fn clear(alloc: Global, len: usize) -> Result<Nulls, AllocError>
+        ensures { IfOk result (λ nulls. nulls ≡ replicate len false) }
+    {
+        let count = len.div_ceil(1024);
+        let mut planes = Vec::new(alloc);
+        planes.reserve(count)?;
+        for k in 0..count {
+            planes.push_reserved(clear_from(len, 1024 * k));
+        }
+        Ok(Nulls { planes })
+    }
+
     /// Whether the value at a place is NULL; past the end there is none that is.
     pub fn at(&self, place: usize) -> bool
         ensures { result ≡ slice_index_or self.now place false }
@@ -110,6 +123,14 @@ fn plane_of(values: &[Lent<'_>], start: usize, count: usize) -> Plane
         plane.push(values[start + i].is_null());
     }
     plane
+}
+
+/// The flags of 1,024 values from a place on, or of as many as are left, where none of them is NULL.
+fn clear_from(len: usize, start: usize) -> Plane
+    requires { start ≤ len }
+    ensures { result ≡ take 1024 (drop start (replicate len false)) }
+{
+    clear_plane((len - start).min(1024))
 }
 
 fn clear_plane(len: usize) -> Plane

@@ -1,13 +1,14 @@
 //! Numbers or days that are far apart.
-ghost use Rattle.std.specs.Prelude.{IfOk, IfSome, length, map, pos, ◌≡◌};
+ghost use Rattle.std.specs.Prelude.{IfOk, IfSome, length, map, pos, slice_index_or, ◌≡◌};
 ghost use Rattle.std.specs.Simd.Lanes.{zip2};
-ghost use Rattle.cq_encodings_plain.specs.Kind.{datum};
+ghost use Rattle.cq_encodings_plain.specs.Kind.{StandsFor, datum};
 ghost use Rattle.cq_encodings_plain.specs.Nulls.{NothingWhere};
 ghost use Rattle.cq_encodings_plain.specs.Parts.{AreNumbersOf};
 ghost use Rattle.cq_values.specs.Lent.{owned};
+ghost use Rattle.cq_values.specs.declared.value.Value.TheVariants.{Null};
 
 use crate::encoded::Encoded;
-use crate::kind::{Kind, kind_of, lend_number, number_of};
+use crate::kind::{Kind, is_of, kind_of, lend_number, number_of};
 use crate::nulls::Nulls;
 use cq_values::Lent;
 use std::alloc::{AllocError, Global};
@@ -61,6 +62,22 @@ impl PlainNumbers {
         ensures clear { NothingWhere (pos 0) result.2.now result.1.now }
     {
         (self.kind, self.numbers.as_slice(), &self.nulls)
+    }
+
+    /// The number that stands for the value at a place, and its kind. None where it is NULL, and past the end.
+    #[inline(always)]
+    pub fn number_at(&self, place: usize) -> Option<(Kind, i64)>
+        ensures { IfSome result (λ n. StandsFor n.0 n.1 (slice_index_or self.now place Null)) }
+    {
+        if place >= self.numbers.len() || self.nulls.at(place) {
+            return None;
+        }
+        let number = self.numbers[place];
+        if is_of(self.kind, number) {
+            Some((self.kind, number))
+        } else {
+            None
+        }
     }
 }
 
