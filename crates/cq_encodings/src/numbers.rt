@@ -14,11 +14,7 @@ use std::alloc::{AllocError, Global};
 
 /// Numbers of a kind in the form that [`choose`](crate::choose) picks for their values, which are lent to it where they
 /// are not packed.
-pub fn choose_numbers(
-    alloc: Global,
-    kind: Kind,
-    numbers: &[i64],
-) -> Result<AnyEncoded, AllocError>
+pub fn choose_numbers(alloc: Global, kind: Kind, numbers: &[i64]) -> Result<AnyEncoded, AllocError>
     requires { AllByRecursion (IsOf kind) numbers.now }
     ensures { IfOk result (λ encoded. encoded_values encoded ≡ number_values kind numbers.now) }
 {
@@ -31,11 +27,7 @@ pub fn choose_numbers(
     choose_lent(alloc, &lent)
 }
 
-fn lend_numbers<'a>(
-    alloc: Global,
-    kind: Kind,
-    numbers: &[i64],
-) -> Result<Vec<Lent<'a>>, AllocError>
+fn lend_numbers<'a>(alloc: Global, kind: Kind, numbers: &[i64]) -> Result<Vec<Lent<'a>>, AllocError>
     ensures { IfOk result (λ lent. map owned lent.items ≡ number_values kind numbers.now) }
 {
     let mut lent: Vec<Lent<'a>> = Vec::new(alloc);
