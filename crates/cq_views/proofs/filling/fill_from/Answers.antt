@@ -19,8 +19,6 @@ fill_with-requires-clause-can c =
 
 pub loop-left-preserved : goal.loop-left-preserved
 loop-left-preserved c =
-    let view = c.loop-left.view in
-    let next = c.fill_with.new.view in
     let columns = c.args.columns.now in
     let f = key_of columns in
     let left = all_rows c.loop-left.left in
@@ -29,8 +27,8 @@ loop-left-preserved c =
     let parts = cut-parts columns left front rest c.split_front.ensures.parts in
     let filled = c.in_ok-fill_with.ensures in
     record {
-      can = rest-can view c.args.source (map f left) (map f front) (map f rest) parts c.loop-left.invariant.can next filled;
-      fills = λ last fills. c.loop-left.invariant.fills last (left-filled view c.args.source (map f left) (map f front) (map f rest) parts next last filled fills);
+      can = rest-can c.loop-left.view c.args.source (map f left) (map f front) (map f rest) parts c.loop-left.invariant.can c.fill_with.new.view filled;
+      fills = λ last fills. c.loop-left.invariant.fills last (left-filled c.loop-left.view c.args.source (map f left) (map f front) (map f rest) parts c.fill_with.new.view last filled fills);
     }
 
 pub loop-left-smaller : goal.loop-left-smaller
