@@ -1,6 +1,7 @@
 pub mod Ends
 pub mod Flags
 pub mod Marks
+pub mod NumberEnds
 pub mod OneMore
 pub mod Parts
 pub mod PieceLists
@@ -9,3 +10,4 @@ pub mod SegmentRows
 pub mod SortedRows
 pub mod Transposed
 pub mod ValuesAt
+pub mod ValuesFrom

@@ -1,17 +1,22 @@
 //! What a segment is built of.
 ghost use Rattle.std.specs.Prelude.{IfOk, length, ◌≡◌, ◌≤◌};
+ghost use Rattle.cq_encodings.specs.AnyEncoded.{encoded_values};
+ghost use Rattle.cq_segments.specs.Bounds.{AreBounds};
 ghost use Rattle.cq_segments.specs.Columns.{AreLong, columns_in, columns_of, encoded_rows};
 ghost use Rattle.cq_segments.specs.Marked.{unmarked};
 ghost use Rattle.cq_segments.specs.Pieces.{AreFull, joined};
 ghost use Rattle.cq_segments.specs.Rows.{stored_rows};
 ghost use Rattle.cq_segments.specs.Segment.{HaveBounds};
+ghost use Rattle.cq_vectors.specs.Gathered.{column_of};
 
 use crate::columns::Columns;
 use crate::held_bounds::HeldBounds;
 use crate::lending::lend_column;
+use crate::number_bounds::bounds_of_numbers;
+use crate::numbers::numbers_in_column;
 use crate::piece::Piece;
 use crate::stored_row::StoredRow;
-use cq_encodings::{AnyEncoded, choose_lent};
+use cq_encodings::{AnyEncoded, choose_lent, choose_numbers};
 use std::alloc::{AllocError, Global};
 use std::rc::Rc;
 
@@ -28,11 +33,31 @@ pub(crate) fn encode_columns(
     let mut encoded = Vec::new(alloc);
     let mut bounds = Vec::new(alloc);
     for column in 0..width {
-        let values = lend_column(alloc, rows, column)?;
-        encoded.push(choose_lent(alloc, values.as_slice())?)?;
-        bounds.push(HeldBounds::of(alloc, values.as_slice())?)?;
+        let (form, ends) = encode_column(alloc, rows, column)?;
+        encoded.push(form)?;
+        bounds.push(ends)?;
     }
     Ok((encoded, bounds))
+}
+
+/// One column of the rows in the form that is best for it, and its bounds.
+fn encode_column(
+    alloc: Global,
+    rows: &[StoredRow<'_>],
+    column: usize,
+) -> Result<(AnyEncoded, HeldBounds), AllocError>
+    ensures values { IfOk result (λ e. encoded_values e.0 ≡ column_of (stored_rows rows.now) column) }
+    ensures bounds { IfOk result (λ e. AreBounds e.1.has_null e.1.ends (column_of (stored_rows rows.now) column)) }
+{
+    if let Some((kind, numbers)) = numbers_in_column(alloc, rows, column)? {
+        if let Some(bounds) = bounds_of_numbers(alloc, kind, &numbers)? {
+            return Ok((choose_numbers(alloc, kind, &numbers)?, bounds));
+        }
+    }
+    let values = lend_column(alloc, rows, column)?;
+    let form = choose_lent(alloc, &values)?;
+    let bounds = HeldBounds::of(alloc, &values)?;
+    Ok((form, bounds))
 }
 
 /// The rows of encoded columns, 1,024 to a piece. The pieces share the columns.

@@ -150,7 +150,7 @@ impl Columns {
     }
 
     /// The encoding of a column, which part of it these rows have, and from which place of the part on.
-    fn column(&self, at: usize) -> Option<(&AnyEncoded, usize, usize)>
+    pub(crate) fn column(&self, at: usize) -> Option<(&AnyEncoded, usize, usize)>
         ensures early { IfSome result (λ p. (p.1 < 64) × (p.2 < 1024)) }
         ensures there { IfSome result (λ p. 1024 * p.1 ≤ length (encoded_values p.0.now)) }
         ensures part { IfSome result (λ p. values_from p.0.now p.1 p.2 ≡ column_of self.now at) }

@@ -11,6 +11,8 @@ mod columns;
 mod held_bounds;
 mod lending;
 mod marking;
+mod number_bounds;
+mod numbers;
 mod piece;
 mod places_from;
 mod plain_columns;
