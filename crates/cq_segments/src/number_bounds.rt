@@ -24,7 +24,10 @@ pub(crate) fn bounds_of_numbers(
     let Some((least, greatest)) = ends_of(kind, numbers) else {
         return Ok(None);
     };
-    let ends = Some((value_of(alloc, kind, least)?, value_of(alloc, kind, greatest)?));
+    let ends = Some((
+        value_of(alloc, kind, least)?,
+        value_of(alloc, kind, greatest)?,
+    ));
     Ok(Some(HeldBounds {
         has_null: false,
         ends,

@@ -4,10 +4,9 @@
 ghost use Rattle.std.specs.List.{AllByRecursion};
 ghost use Rattle.std.specs.Prelude.{IfOk, IfSome, [], slice_index_or, ◌≡◌};
 ghost use Rattle.cq_encodings_plain.specs.Kind.{IsOf, StandsFor};
-ghost use Rattle.cq_segments.specs.Numbers.{AreNumbers};
+ghost use Rattle.cq_segments.specs.Numbers.{AreNumbersAt};
 ghost use Rattle.cq_segments.specs.Rows.{row_of, stored_rows};
 ghost use Rattle.cq_values.specs.Value.{column as column_at};
-ghost use Rattle.cq_vectors.specs.Gathered.{column_of};
 
 use crate::columns::Columns;
 use crate::stored_row::StoredRow;
@@ -21,7 +20,7 @@ pub(crate) fn numbers_in_column(
     rows: &[StoredRow<'_>],
     column: usize,
 ) -> Result<Option<(Kind, Vec<i64>)>, AllocError>
-    ensures { IfOk result (λ found. IfSome found (λ n. AreNumbers n.0 n.1.items (column_of (stored_rows rows.now) column))) }
+    ensures { IfOk result (λ found. IfSome found (λ n. AreNumbersAt n.0 n.1.items (stored_rows rows.now) column)) }
 {
     let Some(kind) = kind_in(rows, column) else {
         return Ok(None);
