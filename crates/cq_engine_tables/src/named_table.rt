@@ -120,12 +120,7 @@ impl NamedTable {
     }
 
     /// Adds all of these rows, or none. The table may have so many rows.
-    pub fn insert(
-        &mut self,
-        alloc: Global,
-        max_rows: u64,
-        rows: NewRows,
-    ) -> Result<(), TableFault>
+    pub fn insert(&mut self, alloc: Global, max_rows: u64, rows: NewRows) -> Result<(), TableFault>
         requires { AllByRecursion (FitsColumns self.old.is.columns) rows }
         ensures room { IsChecked (no_room_for max_rows self.old.is rows) result }
         ensures ok { OnOk result (self.new.is ≡ holding (self.old.is.rows ++ rows) self.old.is) }

@@ -142,12 +142,7 @@ impl WriteStore {
     }
 
     /// Puts rows of this width behind the others, and makes pieces as soon as there are enough: all of it, or nothing.
-    fn append_rows(
-        &mut self,
-        alloc: Global,
-        rows: Vec<Row>,
-        width: usize,
-    ) -> Result<(), AllocError>
+    fn append_rows(&mut self, alloc: Global, rows: Vec<Row>, width: usize) -> Result<(), AllocError>
         requires wide { AreWide width (rows_of self.old.rows ++ rows.items) }
         requires small { length self.old.rows + length rows.items < 2 ^ 63 }
         ensures ok { OnOk result (self.new.rows ≡ self.old.rows ++ unmarked rows.items) }
