@@ -1,7 +1,7 @@
 -- Flags in pieces of one size.
-use Rattle.std.proofs.Common.{◌≡◌, ℕ, suc, ◌+◌, ◌*◌, ◌/◌, ◌%◌, ◌<◌, ◌≤◌, ◌⊎◌, inl, inr, Bool, false, List, [], ◌∷◌, ◌++◌, length, get_or, map, take, drop, refl, sym, subst, ap, ap₂, ◌∙◌, arith}
+use Rattle.std.proofs.Common.{◌≡◌, ℕ, zero, suc, ◌+◌, ◌*◌, ◌/◌, ◌%◌, ◌<◌, ◌≤◌, ◌⊎◌, inl, inr, Bool, false, List, [], ◌∷◌, ◌++◌, length, get_or, map, take, drop, refl, sym, subst, ap, ap₂, ◌∙◌, arith}
 use Rattle.std.proofs.lemmas.Bool.{cases_lt}
-use Rattle.std.proofs.lemmas.List.{drop-drop, drop-map, drop_all, get_or-drop, get_or-take, get_or_past, length-drop, length-map, take-append-drop, take-map}
+use Rattle.std.proofs.lemmas.List.{append-nil, drop-drop, drop-map, drop_all, get_or-drop, get_or-take, get_or_past, length-drop, length-map, take-append-drop, take-map, take_all}
 use Rattle.cq_encodings_plain.specs.Nulls.{ArePieces, joined}
 
 module _ (size : ℕ) where
@@ -46,3 +46,14 @@ module _ {A : Type 0} (flag : A → Bool) (values : List A) (pieces : List (List
 
   pub pieces_of_joined : (made : (k : ℕ) → k < length pieces → get_or pieces k [] ≡ map flag (take 1024 (drop (1024 * k) values))) → length values ≤ 1024 * length pieces → ArePieces pieces (joined pieces)
   pieces_of_joined made few = subst (ArePieces pieces) (sym (all_joined made few)) (are_pieces made few)
+
+-- few flags are one piece
+pub one_piece : (flags : List Bool) → length flags ≤ 1024 → ArePieces (flags ∷ []) (joined (flags ∷ []))
+one_piece flags few k = by_place k
+  where
+    all : joined (flags ∷ []) ≡ flags
+    all = append-nil flags
+
+    by_place : (j : ℕ) → get_or (flags ∷ []) j [] ≡ take 1024 (drop (1024 * j) (joined (flags ∷ [])))
+    by_place zero = sym (ap (take 1024) all ∙ take_all 1024 flags few)
+    by_place (suc j) = sym (ap (take 1024) (drop_all (1024 * suc j) (joined (flags ∷ [])) (omega (arith, few, ap length all))))

@@ -67,6 +67,16 @@ impl Nulls {
         Ok(Nulls { planes })
     }
 
+    /// The flags of a plane.
+    pub fn of_plane(alloc: Global, plane: Plane) -> Result<Nulls, AllocError>
+        ensures { IfOk result (λ nulls. nulls ≡ plane) }
+    {
+        let _len = plane.len();
+        let mut planes = Vec::with_capacity(alloc, 1)?;
+        planes.push(plane)?;
+        Ok(Nulls { planes })
+    }
+
     /// Whether the value at a place is NULL; past the end there is none that is.
     pub fn at(&self, place: usize) -> bool
         ensures { result ≡ slice_index_or self.now place false }

@@ -54,6 +54,19 @@ impl PlainNumbers {
         }))
     }
 
+    /// Numbers of a kind with their flags, of which those at NULL are 0.
+    pub fn of_parts(kind: Kind, numbers: Vec<i64>, nulls: Nulls) -> PlainNumbers
+        requires long { length nulls ≡ length numbers.items }
+        requires clear { NothingWhere (pos 0) nulls numbers.items }
+        ensures { result ≡ zip2 (datum kind) numbers.items nulls }
+    {
+        PlainNumbers {
+            kind,
+            numbers,
+            nulls,
+        }
+    }
+
     /// The kind, the numbers and the flags, for loops: 0 where NULL stands.
     pub fn parts(&self) -> (Kind, &[i64], &Nulls)
         ensures whole { self.now ≡ zip2 (datum result.0) result.1.now result.2.now }

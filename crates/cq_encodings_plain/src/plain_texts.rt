@@ -47,6 +47,15 @@ impl PlainTexts {
         Ok(Some(PlainTexts { texts, nulls }))
     }
 
+    /// Texts with their flags, of which those at NULL are empty.
+    pub fn of_parts(texts: TextRun, nulls: Nulls) -> PlainTexts
+        requires long { length nulls ≡ length texts }
+        requires clear { NothingWhere [] nulls texts }
+        ensures { result ≡ zip2 text_unless texts nulls }
+    {
+        PlainTexts { texts, nulls }
+    }
+
     /// The texts and the flags, for loops: an empty text where NULL stands.
     pub fn parts(&self) -> (&TextRun, &Nulls)
         ensures whole { self.now ≡ zip2 text_unless result.0.now result.1.now }

@@ -121,3 +121,15 @@ module _ (encoded : List AnyEncoded) (rows : List Row) (width len : ℕ) (same :
   rows_of_one_part few wide =
       rows_of_parts encoded len 0 len encoded_long (omega (arith, few))
       ∙ take_all 1024 (encoded_rows encoded len) (omega (arith, few, length-rows (columns_in encoded) len)) ∙ decoded wide
+
+-- ---- columns of few rows
+
+module _ (encoded : List AnyEncoded) (len : ℕ) (are : AreColumns (columns_in encoded) len) where
+  -- they are one part
+  pub few_are : AreColumns (parts_of 0 encoded) len
+  few_are = parts_are encoded len 0 len are.long (omega (arith, are.few)) (omega (arith, are.some))
+
+  pub few_rows : rows_of_columns (parts_of 0 encoded) len ≡ encoded_rows encoded len
+  few_rows =
+      rows_of_parts encoded len 0 len are.long (omega (arith, are.few))
+      ∙ take_all 1024 (encoded_rows encoded len) (omega (arith, are.few, length-rows (columns_in encoded) len))

@@ -5,13 +5,14 @@
 //! front. A mark costs some steps a word of the plane, a cut its rows; how many rows are live is known at once.
 ghost use Rattle.std.specs.Bool.{OnTrue};
 ghost use Rattle.std.specs.Prelude.{IfOk, drop, false, length, slice_index_or, take, ◌<◌, ◌≡◌, ◌≤◌};
-ghost use Rattle.cq_segments.specs.Columns.{AreWide};
+ghost use Rattle.cq_segments.specs.Columns.{AreColumns, AreWide, columns_in, encoded_rows};
 ghost use Rattle.cq_segments.specs.Marked.{live, live_from, marked_count, marks_of, rows_of, unmarked, with_mark};
 ghost use Rattle.cq_vectors.specs.Gathered.{lent_rows};
 
 use crate::columns::Columns;
 use crate::marking::{drop_flags, set_flag};
 use crate::plain_columns::plain_columns;
+use cq_encodings::AnyEncoded;
 use cq_values::Row;
 use cq_vectors_masks::Plane;
 use std::alloc::{AllocError, Global};
@@ -60,6 +61,19 @@ impl Piece {
     {
         let encoded = plain_columns(alloc, rows, width)?;
         let columns = Columns::of(Rc::new(alloc, encoded)?, 0, rows.len());
+        Ok(Piece::of(columns))
+    }
+
+    /// The rows of encoded columns, without a mark.
+    pub fn of_columns(
+        alloc: Global,
+        encoded: Vec<AnyEncoded>,
+        len: usize,
+    ) -> Result<Piece, AllocError>
+        requires { AreColumns (columns_in encoded.items) len }
+        ensures { IfOk result (λ p. p ≡ unmarked (encoded_rows encoded.items len)) }
+    {
+        let columns = Columns::of(Rc::new(alloc, encoded)?, 0, len);
         Ok(Piece::of(columns))
     }
 
