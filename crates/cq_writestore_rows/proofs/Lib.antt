@@ -1,2 +1,6 @@
+pub mod Ended
 pub mod Filled
+pub mod NextFilling
+pub mod OneMore
 pub mod WholeLists
+pub mod Zipped

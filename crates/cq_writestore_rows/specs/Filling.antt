@@ -1,10 +1,10 @@
 -- Rows that come value by value.
-use Rattle.std.specs.Prelude.{◌≡◌, ◌++◌, ℕ, List, [], ◌∷◌}
+use Rattle.std.specs.Prelude.{◌≡◌, ◌<◌, ◌≤◌, ◌+◌, ◌^◌, ◌++◌, ℕ, List, [], ◌∷◌, length, slice_index_or}
 use Rattle.cq_values.specs.Value.{Row}
 use Rattle.cq_values.specs.declared.value.Value.{Value}
-use Rattle.cq_segments.specs.Columns.{AreWide}
 use Rattle.cq_segments.specs.Marked.{MarkedRow}
-use Rattle.cq_writestore_rows.specs.NewRows.{AreFresh}
+use Rattle.cq_segments.specs.Pieces.{joined}
+use Rattle.cq_writestore_rows.specs.NewRows.{AreWhole, NoneMarked}
 
 -- the rows that have ended, the values of the one that is begun, and how many values a row has
 pub record Filled : Type 0 where
@@ -29,7 +29,21 @@ with_value value old = record { rows = old.rows; begun = old.begun ++ value ∷ 
 abbrev pub with_row : Filled → Filled
 with_row old = record { rows = old.rows ++ old.begun ∷ []; begun = []; width = old.width }
 
--- whole pieces, and rows of one width behind them
-pub record IsFilling (pieces : List (List MarkedRow)) (rows : List Row) (width : ℕ) : Type 0 where
-  pub fresh : AreFresh pieces rows
-  pub wide : AreWide width rows
+-- columns of so many values, and those before a place have one more
+pub record AreBegun (columns : List (List Value)) (begun len : ℕ) : Type 0 where
+  pub within : begun ≤ length columns
+  pub before : (k : ℕ) → k < begun → length (slice_index_or columns k []) ≡ len + 1
+  pub behind : (k : ℕ) → begun ≤ k → k < length columns → length (slice_index_or columns k []) ≡ len
+
+-- each column has so many values, or more
+abbrev pub AreOpen : ℕ → List (List Value) → Type 0
+AreOpen len columns = (k : ℕ) → k < length columns → len ≤ length (slice_index_or columns k [])
+
+-- whole pieces, and columns of fewer rows behind them
+pub record IsFilling (pieces : List (List MarkedRow)) (width : ℕ) (columns : List (List Value)) (begun len : ℕ) : Type 0 where
+  pub whole : AreWhole pieces
+  pub fresh : NoneMarked (joined pieces)
+  pub small : length (joined pieces) + len < 2 ^ 63
+  pub wide : length columns ≡ width
+  pub few : len < 1024
+  pub are : AreBegun columns begun len

@@ -1,48 +1,54 @@
 //! Rows that are put into columns as they come.
 //!
-//! `push` takes the values of a row, from the left, and `end_row` ends it. `finish` gives the rows. After an error some
-//! rows may be lost.
-ghost use Rattle.std.specs.Prelude.{IfOk, OnOk, [], length, ◌<◌, ◌^◌, ◌≡◌, ◌≤◌};
-ghost use Rattle.cq_segments.specs.Columns.{AreWide};
+//! `push` takes the values of a row, from the left, and `end_row` ends it. `finish` gives the rows. A value is put where it
+//! stays, and 1,024 rows at a time become a piece, so a row takes no memory of its own. After an error some rows may be lost.
+ghost use Rattle.std.specs.Prelude.{IfOk, OnOk, [], length, ◌+◌, ◌<◌, ◌^◌, ◌≡◌, ◌≤◌, replicate};
+ghost use Rattle.cq_segments.specs.Columns.{AreColumns, rows_of_columns};
 ghost use Rattle.cq_segments.specs.Marked.{unmarked};
 ghost use Rattle.cq_values.specs.Lent.{owned};
-ghost use Rattle.cq_vectors.specs.Gathered.{lent_rows};
-ghost use Rattle.cq_writestore_rows.specs.Filling.{IsEmpty, with_row, with_value};
+ghost use Rattle.cq_values.specs.Value.{Row as Values};
+ghost use Rattle.cq_writestore_rows.specs.Filling.{AreOpen, IsEmpty, with_row, with_value};
+ghost use Rattle.cq_writestore_rows.specs.TypedColumn.{values_in};
 
 use crate::new_rows::NewRows;
-use cq_segments::Piece;
-use cq_values::{ColumnDef, Lent, Row};
+use crate::typed_column::TypedColumn;
+use cq_encodings::AnyEncoded;
+use cq_segments::{Piece, widened};
+use cq_values::{ColumnDef, Lent, Row, Ty};
 use std::alloc::{AllocError, Global};
 use std::marker::Model;
 use std::mem;
-
-/// How many rows can be counted.
-const MOST_ROWS: usize = (1 << 63) - 1;
 
 /// Rows that are all of one width, and the first values of another.
 #[derive(Drop)]
 pub struct Filling {
     pieces: Vec<Piece>,
-    rows: Vec<Row>,
-    begun: Row,
-    width: usize,
+    types: Vec<Ty>,
+    columns: Vec<TypedColumn>,
+    /// How many columns have a value of the row that is begun.
+    begun: usize,
+    /// How many rows have ended behind those of the pieces.
+    len: usize,
 }
 
 impl Model for Filling {
-    ghost use Rattle.std.specs.Prelude.{◌++◌};
+    ghost use Rattle.std.specs.Prelude.{length, take, ◌++◌};
+    ghost use Rattle.cq_segments.specs.Columns.{rows_of_columns};
     ghost use Rattle.cq_segments.specs.Marked.{rows_of};
     ghost use Rattle.cq_segments.specs.Pieces.{joined};
+    ghost use Rattle.cq_vectors.specs.Batch.{row_at};
     ghost use Rattle.cq_writestore_rows.specs.Filling.{Filled, IsFilling};
+    ghost use Rattle.cq_writestore_rows.specs.TypedColumn.{values_in};
 
     ghost Value = { Filled };
 
     ghost view = { λ f. record {
-      rows = rows_of (joined f.pieces.items) ++ f.rows.items;
-      begun = f.begun;
-      width = f.width;
+      rows = rows_of (joined f.pieces.items) ++ rows_of_columns (values_in f.columns.items) f.len;
+      begun = row_at (take f.begun (values_in f.columns.items)) f.len;
+      width = length f.types.items;
     } };
 
-    ghost invariant = { λ f. IsFilling f.pieces.items f.rows.items f.width };
+    ghost invariant = { λ f. IsFilling f.pieces.items (length f.types.items) (values_in f.columns.items) f.begun f.len };
 }
 
 impl Filling {
@@ -50,11 +56,13 @@ impl Filling {
     pub fn new(alloc: Global, columns: &[ColumnDef]) -> Result<Filling, AllocError>
         ensures { IfOk result (IsEmpty (length columns.now)) }
     {
+        let types: Vec<Ty> = columns.iter().map(|column| column.ty).collect(alloc)?;
         Ok(Filling {
             pieces: Vec::new(alloc),
-            rows: Vec::new(alloc),
-            begun: Row::new(alloc),
-            width: columns.len(),
+            columns: empty_columns(alloc, types.as_slice())?,
+            types,
+            begun: 0,
+            len: 0,
         })
     }
 
@@ -63,7 +71,7 @@ impl Filling {
         ensures len { result ≡ length self.now.rows }
         ensures small { result < 2 ^ 63 }
     {
-        1024 * self.pieces.len() + self.rows.len()
+        1024 * self.pieces.len() + self.len
     }
 
     /// Puts a value behind those of the row that is begun.
@@ -71,8 +79,9 @@ impl Filling {
         requires { length self.old.begun < self.old.width }
         ensures { OnOk result (self.new ≡ with_value (owned value.now) self.old) }
     {
-        let alloc = *self.rows.allocator();
-        self.begun.push(value.to_value(alloc)?)?;
+        let alloc = *self.pieces.allocator();
+        self.columns[self.begun].push(alloc, value)?;
+        self.begun += 1;
         Ok(())
     }
 
@@ -81,17 +90,18 @@ impl Filling {
         requires { length self.old.begun ≡ self.old.width }
         ensures { OnOk result (self.new ≡ with_row self.old) }
     {
-        if self.len() == MOST_ROWS {
-            return Err(AllocError);
+        let alloc = *self.pieces.allocator();
+        self.count_one_more(alloc)?;
+        if self.len < 1023 {
+            self.begun = 0;
+            self.len += 1;
+            return Ok(());
         }
-        let alloc = *self.rows.allocator();
-        let row = mem::replace(&mut self.begun, Row::new(alloc));
-        self.rows.push(row)?;
-        if self.rows.len() == 1024 {
-            let rows = mem::replace(&mut self.rows, Vec::new(alloc));
-            self.pieces
-                .push(piece_of(alloc, rows.as_slice(), self.width)?)?;
-        }
+        let empty = empty_columns(alloc, self.types.as_slice())?;
+        let full = mem::replace(&mut self.columns, empty);
+        self.begun = 0;
+        self.len = 0;
+        self.pieces.push(piece_of(alloc, full)?)?;
         Ok(())
     }
 
@@ -99,29 +109,56 @@ impl Filling {
     pub fn finish(self) -> Result<NewRows, AllocError>
         ensures { IfOk result (λ rows. rows ≡ self.rows) }
     {
-        Ok(NewRows::new(self.pieces, self.rows))
+        let alloc = *self.pieces.allocator();
+        let tail = rows_in(alloc, self.columns.as_slice(), self.len)?;
+        Ok(NewRows::new(self.pieces, tail))
+    }
+
+    /// Refuses a row more than can be counted.
+    fn count_one_more(&self, alloc: Global) -> Result<(), AllocError>
+        ensures { OnOk result (length self.now.rows + 1 < 2 ^ 63) }
+    {
+        let count = self.len() + 1;
+        widened(alloc, count, count)?;
+        Ok(())
     }
 }
 
-/// A piece of copies of rows.
-fn piece_of(alloc: Global, rows: &[Row], width: usize) -> Result<Piece, AllocError>
-    requires some { 0 < length rows.now }
-    requires few { length rows.now ≤ 1024 }
-    requires wide { AreWide width rows.now }
-    ensures { IfOk result (λ p. p ≡ unmarked rows.now) }
+/// A column without values for each type.
+fn empty_columns(alloc: Global, types: &[Ty]) -> Result<Vec<TypedColumn>, AllocError>
+    ensures { IfOk result (λ columns. values_in columns.items ≡ replicate (length types.now) []) }
 {
-    let lent = lend_all(alloc, rows)?;
-    Piece::of_rows(alloc, lent.as_slice(), width)
+    let mut columns = Vec::with_capacity(alloc, types.len())?;
+    for ty in types {
+        columns.push(TypedColumn::new(alloc, *ty)?)?;
+    }
+    Ok(columns)
 }
 
-/// The rows, where they stand.
-fn lend_all<'a>(alloc: Global, rows: &'a [Row]) -> Result<Vec<&'a Row>, AllocError>
-    ensures { IfOk result (λ lent. lent_rows lent.items ≡ rows.now) }
+/// A piece of the rows of columns.
+fn piece_of(alloc: Global, columns: Vec<TypedColumn>) -> Result<Piece, AllocError>
+    requires { AreColumns (values_in columns.items) 1024 }
+    ensures { IfOk result (λ p. p ≡ unmarked (rows_of_columns (values_in columns.items) 1024)) }
 {
-    let mut lent: Vec<&'a Row> = Vec::new(alloc);
-    lent.reserve(rows.len())?;
-    for row in rows {
-        lent.push_reserved(row);
+    let mut encoded = Vec::new(alloc);
+    for column in columns {
+        encoded.push(AnyEncoded::Plain(column.into_plain(alloc)?))?;
     }
-    Ok(lent)
+    Piece::of_columns(alloc, encoded, 1024)
+}
+
+/// Copies of the first rows of columns.
+fn rows_in(alloc: Global, columns: &[TypedColumn], len: usize) -> Result<Vec<Row>, AllocError>
+    requires { AreOpen len (values_in columns.now) }
+    ensures { IfOk result (λ rows. rows.items ≡ rows_of_columns (values_in columns.now) len) }
+{
+    let mut rows = Vec::with_capacity(alloc, len)?;
+    for place in 0..len {
+        let mut row = Row::with_capacity(alloc, columns.len())?;
+        for column in columns {
+            row.push(column.value_at(place).to_value(alloc)?)?;
+        }
+        rows.push(row)?;
+    }
+    Ok(rows)
 }

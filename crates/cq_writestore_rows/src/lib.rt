@@ -6,8 +6,11 @@
 
 mod filling;
 mod new_rows;
+mod number_column;
 #[cfg(test)]
 mod tests;
+mod text_column;
+mod typed_column;
 
 pub use filling::Filling;
 pub use new_rows::NewRows;

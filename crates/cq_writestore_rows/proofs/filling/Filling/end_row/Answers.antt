@@ -1,29 +1,40 @@
-use Rattle.std.proofs.Common.{◌≡◌, ◌∙◌, ◌++◌, ◌∷◌, ◌+◌, ◌<◌, ◌^◌, [], ap, append_assoc, arith, length, rules, sym}
-use Rattle.cq_segments.specs.Marked.{rows_of, unmarked}
-use Rattle.cq_segments.specs.Pieces.{joined}
-use Rattle.cq_writestore_rows.proofs.Filled.{fresh_more, fresh_one, rows_more}
+use Rattle.std.proofs.Common.{◌≡◌, ◌∙◌, List, [], ap, arith, length, replicate, rules, subst, sym}
+use Rattle.cq_segments.specs.Columns.{AreColumns, rows_of_columns}
+use Rattle.cq_segments.specs.Marked.{unmarked}
+use Rattle.cq_values.specs.declared.value.Value.{Value}
+use Rattle.cq_writestore_rows.specs.TypedColumn.{values_in}
+use Rattle.cq_writestore_rows.proofs.NextFilling.{filled_emptied, filled_ended, filling_emptied, filling_ended, filling_full, filling_lost}
 use Rattle.cq_writestore_rows.proofs.filling.Filling.end_row.Goals as goal
 
-pub invariant_of-self-then-len-eq1024 : goal.invariant_of-self-then-len-eq1024
-invariant_of-self-then-len-eq1024 c =
-    let pieces = c.self.inside.pieces.items in
-    let rows = c.self.inside.rows.items in
-    let row = c.self.inside.begun in
-    let few : length (rows_of (joined pieces) ++ rows) + 1 < 2 ^ 63 = omega (arith, c.len.ensures.len, c.len.ensures.small, c.if-len-eq-MOST_ROWS.false, ap (λ f. length f.rows) c.self.view_is) in
-    let all : c.replace-rows.result.items ≡ rows ++ row ∷ [] = search rules in
-    let full : length (rows ++ row ∷ []) ≡ 1024 = ap length (sym all) ∙ search rules in
-    let made : c.in_ok-piece_of.field-0 ≡ unmarked (rows ++ row ∷ []) = search rules in
-    let more = fresh_more pieces (rows ++ row ∷ []) (fresh_one pieces rows row c.self.invariant.fresh few) full c.in_ok-piece_of.field-0 made in
-    search (rules, more)
+pub invariant_of-self : goal.invariant_of-self
+invariant_of-self c = filling_ended _ _ _ _ _ c.self.invariant _ c.self.view_is c.requires c.in_ok-count_one_more.ensures c.if-self-lt1023.true
 
-pub returns-in_ok-push-2 : goal.returns-in_ok-push-2
-returns-in_ok-push-2 c =
-    let pieces = c.self.inside.pieces.items in
-    let rows = c.self.inside.rows.items in
-    let row = c.self.inside.begun in
-    let few : length (rows_of (joined pieces) ++ rows) + 1 < 2 ^ 63 = omega (arith, c.len.ensures.len, c.len.ensures.small, c.if-len-eq-MOST_ROWS.false, ap (λ f. length f.rows) c.self.view_is) in
-    let all : c.replace-rows.result.items ≡ rows ++ row ∷ [] = search rules in
-    let full : length (rows ++ row ∷ []) ≡ 1024 = ap length (sym all) ∙ search rules in
-    let made : c.in_ok-piece_of.field-0 ≡ unmarked (rows ++ row ∷ []) = search rules in
-    let more = rows_more pieces (rows ++ row ∷ []) (fresh_one pieces rows row c.self.invariant.fresh few) full c.in_ok-piece_of.field-0 made in
-    search (rules, more, append_assoc (rows_of (joined pieces)) rows (row ∷ []))
+pub returns-then-self-lt1023 : goal.returns-then-self-lt1023
+returns-then-self-lt1023 c = filled_ended _ _ _ _ _ c.self.invariant _ c.self.view_is c.requires c.in_ok-count_one_more.ensures
+
+pub piece_of-requires : goal.piece_of-requires
+piece_of-requires c =
+    let same : values_in c.replace-full.result.items ≡ values_in c.self.inside.columns.items = search rules in
+    let full : c.self.inside.len ≡ 1023 = omega (arith, c.self.invariant.few, c.if-self-lt1023.false) in
+    subst (λ l. AreColumns l 1024) (sym same) (filling_full _ _ _ _ _ c.self.invariant _ c.self.view_is c.requires c.in_ok-count_one_more.ensures full)
+
+pub invariant_of-self-in_err-push : goal.invariant_of-self-in_err-push
+invariant_of-self-in_err-push c =
+    let none : values_in c.replace-full.new.dest.items ≡ replicate (length c.self.inside.types.items) [] = search rules in
+    filling_lost _ _ _ _ _ c.self.invariant _ c.in_err-push.ensures.items _ none
+
+pub invariant_of-self-2 : goal.invariant_of-self-2
+invariant_of-self-2 c =
+    let none : values_in c.replace-full.new.dest.items ≡ replicate (length c.self.inside.types.items) [] = search rules in
+    let full : c.self.inside.len ≡ 1023 = omega (arith, c.self.invariant.few, c.if-self-lt1023.false) in
+    let same : values_in c.replace-full.result.items ≡ values_in c.self.inside.columns.items = search rules in
+    let made = c.in_ok-piece_of.ensures ∙ ap (λ (l : List (List Value)). unmarked (rows_of_columns l 1024)) same in
+    filling_emptied _ _ _ _ _ c.self.invariant _ c.self.view_is c.requires c.in_ok-count_one_more.ensures full _ made _ c.in_ok-push.ensures.items _ none
+
+pub returns : goal.returns
+returns c =
+    let none : values_in c.replace-full.new.dest.items ≡ replicate (length c.self.inside.types.items) [] = search rules in
+    let full : c.self.inside.len ≡ 1023 = omega (arith, c.self.invariant.few, c.if-self-lt1023.false) in
+    let same : values_in c.replace-full.result.items ≡ values_in c.self.inside.columns.items = search rules in
+    let made = c.in_ok-piece_of.ensures ∙ ap (λ (l : List (List Value)). unmarked (rows_of_columns l 1024)) same in
+    filled_emptied _ _ _ _ _ c.self.invariant _ c.self.view_is c.requires c.in_ok-count_one_more.ensures full _ made _ c.in_ok-push.ensures.items _ none
