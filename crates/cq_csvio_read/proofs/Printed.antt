@@ -28,7 +28,7 @@ use Rattle.cq_csvio_read.proofs.NumberTexts.{number_ascii, number_read, number_t
 use Rattle.cq_csvio_read.proofs.Walk.{of_width}
 
 null_read : (at : ℕ) (d : ColumnDef) → d.not_null ≡ false → field_value at d (92 ∷ 78 ∷ []) ≡ Ok values.Null
-null_read at d free = null_field at d (92 ∷ 78 ∷ []) (IsUtf8-from_ascii (92 ∷ 78 ∷ []) (IsAscii-cons 92 (78 ∷ []) (omega arith) (IsAscii-cons 78 [] (omega arith) IsAscii-nil))) refl ∙ rw free refl
+null_read at d free = null_field at d (92 ∷ 78 ∷ []) refl ∙ rw free refl
 
 number_back : (at : ℕ) (d : ColumnDef) (n : ℤ) → FitsColumn d (values.Number n) → field_value at d (value_text (values.Number n)) ≡ Ok (values.Number n)
 number_back at d n fits =

@@ -17,15 +17,24 @@ pub(crate) fn read_field<'a>(
 ) -> Result<Lent<'a>, Fault>
     ensures { value_in result ≡ field_value at column.now field.now }
 {
-    let text = match str::from_utf8(field) {
-        Ok(text) => text,
-        Err(_) => return Err(Fault::BadRecord(at)),
-    };
     if is_null(column.ty, field) {
         return null_in(column);
     }
     match column.ty {
         Ty::Integer => read_number(at, field),
+        ty => match str::from_utf8(field) {
+            Ok(text) => read_typed(at, ty, text),
+            Err(_) => Err(Fault::BadRecord(at)),
+        },
+    }
+}
+
+/// The value of a text that is not NULL, in a column of this type.
+fn read_typed<'a>(at: u64, ty: Ty, text: &'a str) -> Result<Lent<'a>, Fault>
+    ensures { value_in result ≡ typed_field at ty text.now }
+{
+    match ty {
+        Ty::Integer => read_number(at, text.as_bytes()),
         Ty::Text => read_text(text),
         Ty::Date => read_date(at, text),
     }
