@@ -1,7 +1,7 @@
 //! Sums of groups.
 //!
-//! They are kept in 32 bits for as long as these hold each of them, and then in 64. After that they are so wide that they
-//! hold any total.
+//! They are kept in 32 bits for as long as these hold each of them and all values come from narrow columns without NULL, and
+//! then in 64. After that they are so wide that they hold any total.
 ghost use Rattle.std.specs.Prelude.{◌+◌, ◌≡◌, ◌≤◌, IfErr, IfOk, OnErr, OnOk, [], length, slice_index_or};
 ghost use Rattle.cq_model.specs.Group.{InRange};
 ghost use Rattle.cq_hash_groups_slots.specs.Puts.{AreNumbers, AreSumsWithin, IsTotalFault, PutFrom, SumsGrowBy, most_before, no_sum, put_all, put_sum, shown_sum};

@@ -1,7 +1,7 @@
 //! Rows that are put into columns as they come.
 //!
-//! `push` takes the values of a row, from the left, and `end_row` ends it. `finish` gives the rows. A value is put where it
-//! stays, and 1,024 rows at a time become a piece, so a row takes no memory of its own. After an error some rows may be lost.
+//! `push` takes the values of a row, from the left, and `end_row` ends it. A value is put where it stays, and 1,024 rows at a
+//! time become a piece. `finish` gives the rows: it makes a row of each that is in no piece. After an error some may be lost.
 ghost use Rattle.std.specs.Prelude.{IfOk, OnOk, [], length, ◌+◌, ◌<◌, ◌^◌, ◌≡◌, ◌≤◌, replicate};
 ghost use Rattle.cq_segments.specs.Columns.{AreColumns, rows_of_columns};
 ghost use Rattle.cq_segments.specs.Marked.{unmarked};
