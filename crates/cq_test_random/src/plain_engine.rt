@@ -69,9 +69,8 @@ impl PlainEngine {
     fn insert(&mut self, number: u64, rows: &NewRows) -> Result<(), AllocError> {
         let alloc = self.alloc;
         if let Some(held) = self.rows_of(number) {
-            for row in rows.copies(alloc)? {
-                held.push(row)?;
-            }
+            let mut made = rows.copies(alloc)?;
+            held.append(&mut made)?;
         }
         Ok(())
     }
