@@ -11,7 +11,7 @@ use Rattle.cq_model_bags.proofs.Totals.{by_test}
 use Rattle.cq_model.specs.Condition.{is_null}
 use Rattle.cq_model.specs.Group.{higher}
 use Rattle.cq_hash_groups_slots.specs.declared.wide_sums.Sum.{Sum}
-use Rattle.cq_hash_groups_slots.specs.Puts.{PutFrom, most_before, put_all, put_count, put_sum, no_sum, AreCountsWithin, AreSumsWithin, IsSumWithin, AreNumbers, SumsGrowBy}
+use Rattle.cq_hash_groups_slots.specs.Puts.{PutFrom, most_before, put_all, put_count, put_sum, no_sum, AreCountsWithin, AreSumsWithin, IsSumWithin, AreNumbers}
 
 -- numbers of some groups are those of more
 pub numbers-of_more : (few many : ℕ) (numbers : List ℕ) → few ≤ many → AreNumbers few numbers → AreNumbers many numbers
@@ -125,30 +125,14 @@ module _ {start place : ℕ} {numbers : List ℕ} {values : List Value} {old now
       sum-more (2 ^ 96 + place) (2 ^ 97) (get_or now group s) (omega (arith, small))
       (sum-at (2 ^ 96 + place) now group s is_group (so_far.within (2 ^ 96) (sums-more (2 ^ 96) (2 ^ 96 + start) old (omega arith) room)))
 
--- the same in 64 bits
-pub small_room_behind : {start place : ℕ} {numbers : List ℕ} {values : List Value} {old now : List Sum} → PutFrom start place numbers values old now → (s : Sum) → place < length numbers → AreNumbers (length old) numbers
-    → length numbers ≤ 2 ^ 64 - 1 → AreSumsWithin (most_before (length numbers) + start) old → IsSumWithin (most_before 1) (get_or now (get_or numbers place 0) s)
-small_room_behind {start} {place} {numbers} {values} {old} {now} so_far s lt there small room =
-    let most = most_before (length numbers) in
-    let n = get_or numbers place 0 in
-    sum-more (most + place) (most_before 1) (get_or now n s) (omega (arith, small, lt))
-    (sum-at (most + place) now n s (is_group so_far s lt there) (so_far.within most room))
-
--- where the first value was the first to be put in
+-- the same in 64 bits, where the first value was the first to be put in
 pub small_room : {place : ℕ} {numbers : List ℕ} {values : List Value} {old now : List Sum} → PutFrom 0 place numbers values old now → (s : Sum) → place < length numbers → AreNumbers (length old) numbers
     → length numbers ≤ 2 ^ 64 - 1 → AreSumsWithin (most_before (length numbers)) old → IsSumWithin (most_before 1) (get_or now (get_or numbers place 0) s)
 small_room {place} {numbers} {values} {old} {now} so_far s lt there small room =
     let most = most_before (length numbers) in
-    small_room_behind so_far s lt there small (sums-more most (most + 0) old (omega arith) room)
-
--- values up to a place were put in, and then those behind it
-pub put_from-then : {start mid end : ℕ} {numbers : List ℕ} {values : List Value} {old now new : List Sum} → PutFrom start mid numbers values old now → PutFrom mid end numbers values now new
-    → PutFrom start end numbers values old new
-put_from-then a b = record { rest = b.rest ∙ a.rest; within = λ m all. b.within m (a.within m all); same = b.same ∙ a.same }
-
--- the sums do not grow by more than the values that could be put in
-pub put_from-grows : {place : ℕ} {numbers : List ℕ} {values : List Value} {old now : List Sum} → PutFrom 0 place numbers values old now → place ≤ length numbers → SumsGrowBy (length numbers) old now
-put_from-grows {place} {numbers} {values} {old} {now} so_far few m all = sums-more (m + place) (m + length numbers) now (omega (arith, few)) (put_from-within so_far m all)
+    let n = get_or numbers place 0 in
+    sum-more (most + place) (most_before 1) (get_or now n s) (omega (arith, small, lt))
+    (sum-at (most + place) now n s (is_group so_far s lt there) (put_from-within so_far most room))
 
 -- the greater value is the other one exactly where this one is less
 pub higher-by_less : (v w : Value) (o : Ordering) (less : Bool) → o ≡ value_cmp v w → less ≡ is_lt o → higher v w ≡ cond less w v

@@ -1,11 +1,10 @@
--- The three forms in which the sums of all groups are kept.
+-- The two forms in which the sums of all groups are kept.
 use Rattle.std.specs.Prelude.{List}
 use Rattle.cq_hash_groups_slots.specs.declared.sums.Width.{Width}
-use Rattle.cq_hash_groups_slots.specs.declared.sums.Width.TheVariants.{Narrow, Small, Wide}
+use Rattle.cq_hash_groups_slots.specs.declared.sums.Width.TheVariants.{Small, Wide}
 use Rattle.cq_hash_groups_slots.specs.declared.wide_sums.Sum.{Sum}
 
 -- the sum of each group, in whichever form
 abbrev pub sums_in : Width → List Sum
-sums_in (Narrow sums) = sums
 sums_in (Small sums) = sums
 sums_in (Wide sums) = sums

@@ -6,7 +6,6 @@
 
 mod bests;
 mod counts;
-mod narrow_sums;
 mod number_columns;
 mod slots;
 mod small_sums;

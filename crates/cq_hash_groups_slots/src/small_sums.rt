@@ -2,7 +2,7 @@
 //!
 //! `put` puts values in up to the first whose sum 64 bits do not hold, and tells its place: from there on the sums have to
 //! be wide. It costs one read and one write of 16 bytes for a value, and takes no memory.
-ghost use Rattle.std.specs.Prelude.{◌++◌, replicate, ℕ, ◌+◌, ◌≡◌, ◌≤◌, IfOk, IfSome, OnErr, OnOk, length, map, slice_index_or};
+ghost use Rattle.std.specs.Prelude.{◌++◌, replicate, ℕ, ◌+◌, ◌≡◌, ◌≤◌, IfSome, OnErr, OnOk, [], length, map, slice_index_or};
 ghost use Rattle.cq_values.specs.Lent.{owned};
 ghost use Rattle.cq_values.specs.declared.value.Value.TheVariants.{Number};
 ghost use Rattle.cq_model.specs.Group.{InRange};
@@ -10,7 +10,6 @@ ghost use Rattle.cq_vectors_stored.specs.Columns.{number_unless};
 ghost use Rattle.cq_hash_groups_slots.specs.Puts.{AreNumbers, AreSumsWithin, IsSumWithin, PutFrom, PutNumbers, most_before, no_sum, put_sum, shown_sum};
 ghost use Rattle.cq_hash_groups_slots.specs.Slots.{grown};
 
-use crate::narrow_sums::{NarrowSum, NarrowSums};
 use crate::number_columns::{Above, NumberColumn, Plain};
 use cq_values::{Lent, Value};
 use cq_vectors::{Form, Vector};
@@ -35,16 +34,6 @@ impl Model for SmallSum {
 }
 
 impl SmallSum {
-    /// The same sum.
-    fn of(narrow: &NarrowSum) -> SmallSum
-        ensures { result ≡ narrow.now }
-    {
-        SmallSum {
-            count: u64::from(narrow.count),
-            total: i64::from(narrow.total),
-        }
-    }
-
     /// With a number more, where 64 bits hold the total.
     fn with_number(&self, n: i64) -> Option<SmallSum>
         requires { IsSumWithin (most_before 1) self.now }
@@ -129,12 +118,13 @@ impl Model for SmallSums {
 }
 
 impl SmallSums {
-    /// The same sums.
-    pub(crate) fn of(alloc: Global, narrow: &NarrowSums) -> Result<SmallSums, AllocError>
-        ensures { IfOk result (λ small. small ≡ narrow.now) }
+    /// No groups. Takes no memory.
+    pub(crate) fn new(alloc: Global) -> SmallSums
+        ensures { result ≡ [] }
     {
-        let sums = small_sums(alloc, narrow.as_slice())?;
-        Ok(SmallSums { sums })
+        SmallSums {
+            sums: Vec::new(alloc),
+        }
     }
 
     /// Makes so many groups of them, where a new one has no values.
@@ -158,24 +148,6 @@ impl SmallSums {
         put_values(&mut self.sums, numbers, values)
     }
 
-    /// The same of the values from a place on.
-    pub(crate) fn put_each_from(
-        &mut self,
-        start: usize,
-        numbers: &[usize],
-        values: &Vector<'_>,
-    ) -> usize
-        requires start { start ≤ length numbers.now }
-        requires there { AreNumbers (length self.old) numbers.now }
-        requires same { length numbers.now ≡ length values.now }
-        requires room { AreSumsWithin (most_before (length numbers.now) + start) self.old }
-        ensures least { start ≤ result }
-        ensures few { result ≤ length numbers.now }
-        ensures put { PutFrom start result numbers.now values.now self.old self.new }
-    {
-        put_each(start, numbers, values, &mut self.sums)
-    }
-
     /// The sums as they stand.
     pub(crate) fn as_slice(&self) -> &[SmallSum]
         ensures { result.now ≡ self.now }
@@ -193,17 +165,6 @@ impl SmallSums {
             None => Value::Null,
         }
     }
-}
-
-fn small_sums(alloc: Global, narrow: &[NarrowSum]) -> Result<Vec<SmallSum>, AllocError>
-    ensures { IfOk result (λ sums. sums.items ≡ narrow.now) }
-{
-    let mut sums = Vec::new(alloc);
-    sums.reserve(narrow.len())?;
-    for sum in narrow {
-        sums.push_reserved(SmallSum::of(sum));
-    }
-    Ok(sums)
 }
 
 fn put_values(sums: &mut [SmallSum], numbers: &[usize], values: &Vector<'_>) -> usize
@@ -226,7 +187,7 @@ fn put_values(sums: &mut [SmallSum], numbers: &[usize], values: &Vector<'_>) -> 
             },
             column.nulls(),
         ),
-        None => put_each(0, numbers, values, sums),
+        None => put_each(numbers, values, sums),
     }
 }
 
@@ -275,16 +236,14 @@ fn put_numbers<C: NumberColumn>(sums: &mut [SmallSum], numbers: &[usize], column
     numbers.len()
 }
 
-fn put_each(start: usize, numbers: &[usize], values: &Vector<'_>, sums: &mut [SmallSum]) -> usize
-    requires start { start ≤ length numbers.now }
+fn put_each(numbers: &[usize], values: &Vector<'_>, sums: &mut [SmallSum]) -> usize
     requires there { AreNumbers (length sums.old) numbers.now }
     requires same { length numbers.now ≡ length values.now }
-    requires room { AreSumsWithin (most_before (length numbers.now) + start) sums.old }
-    ensures least { start ≤ result }
+    requires room { AreSumsWithin (most_before (length numbers.now)) sums.old }
     ensures few { result ≤ length numbers.now }
-    ensures put { PutFrom start result numbers.now values.now sums.old sums.new }
+    ensures put { PutFrom 0 result numbers.now values.now sums.old sums.new }
 {
-    for place in start..numbers.len() {
+    for place in 0..numbers.len() {
         let group = numbers[place];
         let Some(sum) = sums[group].with_value(&values.lend(place)) else {
             return place;

@@ -1,14 +1,11 @@
 //! Sums of groups.
 //!
-//! They are kept in 32 bits for as long as these hold each of them and all values come from narrow columns without NULL, and
-//! then in 64. After that they are so wide that they hold any total.
-ghost use Rattle.std.specs.Prelude.{◌+◌, ◌≡◌, ◌≤◌, IfErr, IfOk, OnErr, OnOk, [], length, slice_index_or};
+//! They are kept in 64 bits for as long as these hold each of them, and after that so wide that they hold any total.
+ghost use Rattle.std.specs.Prelude.{◌≡◌, IfErr, IfOk, OnErr, OnOk, [], length, slice_index_or};
 ghost use Rattle.cq_model.specs.Group.{InRange};
-ghost use Rattle.cq_hash_groups_slots.specs.Puts.{AreNumbers, AreSumsWithin, IsTotalFault, PutFrom, SumsGrowBy, most_before, no_sum, put_all, put_sum, shown_sum};
+ghost use Rattle.cq_hash_groups_slots.specs.Puts.{AreNumbers, AreSumsWithin, IsTotalFault, SumsGrowBy, most_before, no_sum, put_all, put_sum, shown_sum};
 ghost use Rattle.cq_hash_groups_slots.specs.Slots.{grown};
-ghost use Rattle.cq_hash_groups_slots.specs.Width.{sums_in};
 
-use crate::narrow_sums::NarrowSums;
 use crate::small_sums::SmallSums;
 use crate::wide_sums::WideSums;
 use cq_model::ShowFault;
@@ -17,10 +14,9 @@ use cq_vectors::Vector;
 use std::alloc::{AllocError, Global};
 use std::marker::Model;
 
-/// The sums of all groups in one of three forms.
+/// The sums of all groups in one of two forms.
 #[derive(Drop)]
 pub enum Width {
-    Narrow(NarrowSums),
     Small(SmallSums),
     Wide(WideSums),
 }
@@ -47,7 +43,7 @@ impl Sums {
         ensures { result ≡ [] }
     {
         Sums {
-            sums: Width::Narrow(NarrowSums::new(alloc)),
+            sums: Width::Small(SmallSums::new(alloc)),
         }
     }
 
@@ -57,13 +53,12 @@ impl Sums {
         ensures err { OnErr result (self.new ≡ self.old) }
     {
         match &mut self.sums {
-            Width::Narrow(sums) => sums.grow(groups),
             Width::Small(sums) => sums.grow(groups),
             Width::Wide(sums) => sums.grow(groups),
         }
     }
 
-    /// Puts the values into the groups of their numbers. The first total that a form does not hold makes all sums wider.
+    /// Puts the values into the groups of their numbers. The first total that 64 bits do not hold makes all sums wide.
     pub(crate) fn put(
         &mut self,
         alloc: Global,
@@ -77,17 +72,12 @@ impl Sums {
         ensures within { SumsGrowBy (length numbers.now) self.old self.new }
     {
         match &mut self.sums {
-            Width::Narrow(narrow) => {
-                let done = narrow.put(numbers, values);
-                if done < numbers.len() {
-                    let small = SmallSums::of(alloc, narrow)?;
-                    self.sums = put_small(alloc, small, done, numbers, values)?;
-                }
-            }
             Width::Small(small) => {
                 let done = small.put(numbers, values);
                 if done < numbers.len() {
-                    self.sums = put_wide(alloc, small, done, numbers, values)?;
+                    let mut wide = WideSums::of(alloc, small)?;
+                    wide.put(done, numbers, values);
+                    self.sums = Width::Wide(wide);
                 }
             }
             Width::Wide(wide) => wide.put(0, numbers, values),
@@ -102,50 +92,8 @@ impl Sums {
         ensures fault { IfErr result (IsTotalFault (slice_index_or self.now group no_sum)) }
     {
         match &self.sums {
-            Width::Narrow(sums) => Ok(sums.value(group)),
             Width::Small(sums) => Ok(sums.value(group)),
             Width::Wide(sums) => sums.value(group),
         }
     }
-}
-
-/// Sums of 64 bits with the values from a place on, or wide ones where they do not hold these.
-fn put_small(
-    alloc: Global,
-    small: SmallSums,
-    start: usize,
-    numbers: &[usize],
-    values: &Vector<'_>,
-) -> Result<Width, AllocError>
-    requires start { start ≤ length numbers.now }
-    requires there { AreNumbers (length small) numbers.now }
-    requires same { length numbers.now ≡ length values.now }
-    requires room { AreSumsWithin (most_before (length numbers.now) + start) small }
-    ensures { IfOk result (λ sums. PutFrom start (length numbers.now) numbers.now values.now small (sums_in sums)) }
-{
-    let mut small = small;
-    let done = small.put_each_from(start, numbers, values);
-    if done == numbers.len() {
-        return Ok(Width::Small(small));
-    }
-    put_wide(alloc, &small, done, numbers, values)
-}
-
-/// The sums as wide ones, with the values from a place on.
-fn put_wide(
-    alloc: Global,
-    small: &SmallSums,
-    start: usize,
-    numbers: &[usize],
-    values: &Vector<'_>,
-) -> Result<Width, AllocError>
-    requires start { start ≤ length numbers.now }
-    requires there { AreNumbers (length small.now) numbers.now }
-    requires same { length numbers.now ≡ length values.now }
-    requires room { AreSumsWithin (most_before (length numbers.now) + start) small.now }
-    ensures { IfOk result (λ sums. PutFrom start (length numbers.now) numbers.now values.now small.now (sums_in sums)) }
-{
-    let mut wide = WideSums::of(alloc, small)?;
-    wide.put(start, numbers, values);
-    Ok(Width::Wide(wide))
 }
