@@ -4,10 +4,9 @@ ghost use Rattle.cq_encodings.specs.AnyEncoded.{encoded_values};
 ghost use Rattle.cq_encodings_plain.specs.Kind.{StandsFor};
 ghost use Rattle.cq_values.specs.declared.value.Value.TheVariants.{Null};
 
-use crate::deltas::Deltas;
 use crate::dict::Dict;
-use crate::packed::Packed;
 use crate::runs::Runs;
+use cq_encodings_numbers::{Deltas, Packed};
 use cq_encodings_plain::{Decoded, Encoded, Kind, Plain};
 use cq_values::Lent;
 

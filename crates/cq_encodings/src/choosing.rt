@@ -6,11 +6,10 @@ ghost use Rattle.cq_encodings.specs.AnyEncoded.{encoded_values};
 ghost use Rattle.cq_values.specs.Lent.{owned};
 
 use crate::any_encoded::AnyEncoded;
-use crate::bounds::{bounds_of, rise_slowly};
-use crate::deltas::Deltas;
 use crate::dict::Dict;
-use crate::packed::packed_between;
+use crate::rising::rise_slowly;
 use crate::runs::{Runs, are_equal};
+use cq_encodings_numbers::{Deltas, Packed};
 use cq_encodings_plain::{Kind, Plain, kind_of};
 use cq_values::{Lent, Value};
 use std::alloc::{AllocError, Global};
@@ -47,13 +46,8 @@ fn choose_for_numbers(
 ) -> Result<AnyEncoded, AllocError>
     ensures { IfOk result (λ encoded. encoded_values encoded ≡ map owned values.now) }
 {
-    let Some((least, greatest)) = bounds_of(kind, values) else {
-        return Ok(AnyEncoded::Plain(Plain::of(alloc, values)?));
-    };
-    if i128::from(greatest) - i128::from(least) < 1 << 32 {
-        if let Some(packed) = packed_between(alloc, values, kind, least, greatest)? {
-            return Ok(AnyEncoded::Packed(packed));
-        }
+    if let Some(packed) = Packed::of_close(alloc, kind, values)? {
+        return Ok(AnyEncoded::Packed(packed));
     }
     if rise_slowly(kind, values) {
         if let Some(deltas) = Deltas::of(alloc, values)? {

@@ -7,7 +7,7 @@ ghost use Rattle.cq_values.specs.Lent.{owned};
 
 use crate::any_encoded::AnyEncoded;
 use crate::choosing::choose_lent;
-use crate::packed::Packed;
+use cq_encodings_numbers::Packed;
 use cq_encodings_plain::{Kind, lend_number};
 use cq_values::Lent;
 use std::alloc::{AllocError, Global};

@@ -12,7 +12,7 @@ use Rattle.cq_encodings_plain.specs.Kind.{IsOf, datum, is_day}
 use Rattle.cq_encodings_plain.specs.Nulls.{NothingWhere}
 use Rattle.cq_encodings_plain.specs.declared.kind.Kind.{Kind}
 use Rattle.cq_encodings_plain.specs.declared.kind.Kind.TheVariants.{Numbers, Days}
-use Rattle.cq_encodings.specs.Packed.{AreOffsets, FitAbove, above}
+use Rattle.cq_encodings_numbers.specs.Packed.{AreOffsets, FitAbove, above}
 use Rattle.cq_encodings_vectors.specs.Parts.{items_of}
 use Rattle.cq_encodings_vectors.proofs.PartsLemmas.{clear-part, facts-part, few-part, same-part, zip2-made, zip2-part}
 

@@ -1,0 +1,3 @@
+pub mod Above
+pub mod NumbersAbove
+pub mod Walking

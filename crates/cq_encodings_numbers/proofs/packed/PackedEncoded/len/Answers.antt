@@ -1,0 +1,8 @@
+use Rattle.std.proofs.Common.{ap, length, sym, ◌∙◌}
+use Rattle.cq_encodings_numbers.proofs.Above.{length-packed}
+use Rattle.cq_encodings_numbers.proofs.packed.PackedEncoded.len.Goals as goal
+
+pub returns : goal.returns
+returns c =
+    let inside = c.self.inside in
+    c.len.ensures ∙ sym (length-packed inside.kind inside.least inside.offsets inside.nulls c.self.invariant.long) ∙ ap length c.self.view_is

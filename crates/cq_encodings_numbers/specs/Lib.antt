@@ -1,0 +1,3 @@
+pub mod Deltas
+pub mod Packed
+pub mod Steps

@@ -1,0 +1,17 @@
+//! Columns of numbers or days in fewer bits: as offsets from the least of them ([`Packed`]), or as the steps from each to
+//! the next ([`Deltas`]).
+//!
+//! To its callers each form is the list of the values that it was made of.
+#![tactic(auto)]
+
+mod bounds;
+mod deltas;
+mod distances;
+mod offsets;
+mod packed;
+mod steps;
+#[cfg(test)]
+mod tests;
+
+pub use deltas::Deltas;
+pub use packed::Packed;
