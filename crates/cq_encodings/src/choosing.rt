@@ -8,7 +8,7 @@ ghost use Rattle.cq_values.specs.Lent.{owned};
 use crate::any_encoded::AnyEncoded;
 use crate::dict::Dict;
 use crate::rising::rise_slowly;
-use crate::runs::{Runs, are_equal};
+use crate::runs::{Runs, are_equal, stand_still};
 use cq_encodings_numbers::{Deltas, Packed};
 use cq_encodings_plain::{Kind, Plain, kind_of};
 use cq_values::{Lent, Value};
@@ -30,7 +30,7 @@ pub fn choose(alloc: Global, values: &[Value]) -> Result<AnyEncoded, AllocError>
 pub fn choose_lent(alloc: Global, values: &[Lent<'_>]) -> Result<AnyEncoded, AllocError>
     ensures { IfOk result (λ encoded. encoded_values encoded ≡ map owned values.now) }
 {
-    if stand_still(values) {
+    if stand_still(values, are_equal) {
         return Ok(AnyEncoded::Runs(Runs::of(alloc, values)?));
     }
     match kind_of(values) {
@@ -64,20 +64,4 @@ fn choose_for_texts(alloc: Global, values: &[Lent<'_>]) -> Result<AnyEncoded, Al
         Some(dict) => Ok(AnyEncoded::Dict(dict)),
         None => Ok(AnyEncoded::Plain(Plain::of(alloc, values)?)),
     }
-}
-
-/// Whether the values are one run at most, or runs of 1,024 and more on average: a place is read by a walk over the runs,
-/// which are no more than 64 then. Counts no further than it must.
-fn stand_still(values: &[Lent<'_>]) -> bool {
-    let most = (values.len() / 1_024).max(1);
-    let mut count = 1;
-    for i in 1..values.len() {
-        if !are_equal(&values[i], &values[i - 1]) {
-            if count == most {
-                return false;
-            }
-            count += 1;
-        }
-    }
-    true
 }

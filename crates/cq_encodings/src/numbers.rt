@@ -7,6 +7,7 @@ ghost use Rattle.cq_values.specs.Lent.{owned};
 
 use crate::any_encoded::AnyEncoded;
 use crate::choosing::choose_lent;
+use crate::runs::stand_still;
 use cq_encodings_numbers::Packed;
 use cq_encodings_plain::{Kind, lend_number};
 use cq_values::Lent;
@@ -18,7 +19,7 @@ pub fn choose_numbers(alloc: Global, kind: Kind, numbers: &[i64]) -> Result<AnyE
     requires { AllByRecursion (IsOf kind) numbers.now }
     ensures { IfOk result (λ encoded. encoded_values encoded ≡ number_values kind numbers.now) }
 {
-    if !stand_still(numbers) {
+    if !stand_still(numbers, |a, b| a == b) {
         if let Some(packed) = Packed::of_numbers(alloc, kind, numbers)? {
             return Ok(AnyEncoded::Packed(packed));
         }
@@ -36,19 +37,4 @@ fn lend_numbers<'a>(alloc: Global, kind: Kind, numbers: &[i64]) -> Result<Vec<Le
         lent.push_reserved(lend_number(kind, i128::from(*number)));
     }
     Ok(lent)
-}
-
-/// Whether the numbers are one run at most, or runs of 1,024 and more on average. Counts no further than it must.
-fn stand_still(numbers: &[i64]) -> bool {
-    let most = (numbers.len() / 1_024).max(1);
-    let mut count = 1;
-    for i in 1..numbers.len() {
-        if numbers[i] != numbers[i - 1] {
-            if count == most {
-                return false;
-            }
-            count += 1;
-        }
-    }
-    true
 }

@@ -126,6 +126,24 @@ pub(crate) fn are_equal(a: &Lent<'_>, b: &Lent<'_>) -> bool
     }
 }
 
+/// Whether values are one run at most, or runs of 1,024 and more on average: a place is read by a walk over the runs,
+/// which are no more than 64 then. Counts no further than it must.
+pub(crate) fn stand_still<T, F: Fn(&T, &T) -> bool>(values: &[T], are_equal: F) -> bool
+    requires { F.IsAlwaysCallable are_equal }
+{
+    let most = (values.len() / 1_024).max(1);
+    let mut count = 1;
+    for i in 1..values.len() {
+        if !are_equal(&values[i], &values[i - 1]) {
+            if count == most {
+                return false;
+            }
+            count += 1;
+        }
+    }
+    true
+}
+
 fn copy_at(alloc: Global, values: &[Lent<'_>], place: usize) -> Result<Value, AllocError>
     requires { place < length values.now }
     ensures { IfOk result (λ value. value ≡ value_in values.now place) }
