@@ -1,5 +1,5 @@
 -- Texts as their numbers among the different ones.
-use Rattle.std.proofs.Common.{◌≡◌, ℕ, ◌<◌, ◌≤◌, Bor, List, [], ◌∷◌, ◌++◌, length, get_or, map, slice_get, subst, take, Some, refl, ap, ap₂, ◌∙◌, arith}
+use Rattle.std.proofs.Common.{◌≡◌, ℕ, ◌+◌, ◌<◌, ◌≤◌, Bor, List, [], ◌∷◌, ◌++◌, length, get_or, map, slice_get, subst, take, Some, refl, ap, ap₂, ◌∙◌, arith}
 use Rattle.std.specs.List.{All, fold}
 use Rattle.std.specs.Simd.Lanes.{zip2}
 use Rattle.std.proofs.lemmas.List.{get_or-map, length-map, map-append, take_all}
@@ -7,10 +7,11 @@ use Rattle.std.proofs.lemmas.List.Elements.{All-head, All-push, All-tail, All-we
 use Rattle.std.proofs.lemmas.Option.{get_or_from_slice_get, slice_get_within}
 use Rattle.cq_vectors_stored.specs.Columns.{text_unless, texts_of}
 use Rattle.cq_values.specs.declared.lent.Lent.{Lent}
+use Rattle.cq_values.specs.declared.lent.Lent.TheVariants as lent
 use Rattle.cq_values.specs.Lent.{owned}
 use Rattle.cq_encodings_plain.specs.Nulls.{NothingWhere}
-use Rattle.cq_encodings_plain.specs.Parts.{nulls_of}
-use Rattle.cq_encodings_plain.proofs.Zipped.{length-nulls_of}
+use Rattle.cq_encodings_plain.specs.Parts.{Makes, nulls_of}
+use Rattle.cq_encodings_plain.proofs.Zipped.{length-nulls_of, zipped_more}
 use Rattle.cq_encodings.specs.Dict.{AreCodesOf, IsFirstText, Keeps, coded, with_text}
 
 -- the text of a key that was found
@@ -40,6 +41,14 @@ length-coded entries codes = length-map codes (λ code. get_or entries code [])
 
 pub coded_at : (entries : List (List ℕ)) (codes : List ℕ) (place code : ℕ) → place < length codes → get_or codes place 0 ≡ code → get_or (coded entries codes) place [] ≡ get_or entries code []
 coded_at entries codes place code lt is = get_or-map (λ code. get_or entries code []) codes place 0 [] lt ∙ ap (λ code. get_or entries code []) is
+
+-- one number and one value more
+pub coded_so_far : (old new : List (List ℕ)) (codes : List ℕ) (code : ℕ) (values : List Lent) (i : ℕ) (value : Lent) → i < length values → value ≡ get_or values i lent.Null → length codes ≡ i
+    → Keeps old new → All (λ code. code < length old) codes → Makes text_unless (get_or new code []) value → zip2 text_unless (coded old codes) (nulls_of (take i values)) ≡ map owned (take i values)
+    → zip2 text_unless (coded new (codes ++ code ∷ [])) (nulls_of (take (i + 1) values)) ≡ map owned (take (i + 1) values)
+coded_so_far old new codes code values i value lt there long keeps within is so_far =
+    ap (λ (ts : List (List ℕ)). zip2 text_unless ts (nulls_of (take (i + 1) values))) (coded_more old new codes code keeps within)
+    ∙ zipped_more text_unless (coded old codes) (get_or new code []) values i value lt there (length-coded old codes ∙ long) is so_far
 
 -- what was written of all values are their numbers
 pub codes_are : (entries : List (List ℕ)) (codes : List ℕ) (values : List Lent) (i : ℕ) → length values ≤ i → i ≤ length values → length codes ≡ i

@@ -1,4 +1,4 @@
-use Rattle.std.proofs.Common.{List, [], ap, arith, get_or, length, subst, sym, take, ◌+◌, ◌<◌, ◌∙◌, ℕ}
+use Rattle.std.proofs.Common.{List, ap, arith, length, subst, sym, take, ◌+◌, ◌<◌, ◌∙◌, ℕ}
 use Rattle.std.specs.List.{All}
 use Rattle.std.specs.Simd.Lanes.{zip2}
 use Rattle.std.proofs.lemmas.Bool.{OnTrue_at}
@@ -10,15 +10,14 @@ use Rattle.cq_vectors_stored.specs.Columns.{text_unless}
 use Rattle.cq_encodings_plain.specs.Nulls.{NothingWhere}
 use Rattle.cq_encodings_plain.specs.Parts.{nulls_of}
 use Rattle.cq_encodings.specs.Dict.{coded, with_text}
-use Rattle.cq_encodings.proofs.Coded.{codes_are, coded_more, length-coded, within_more}
+use Rattle.cq_encodings.proofs.Coded.{codes_are, coded_so_far, within_more}
 use Rattle.cq_encodings.proofs.Different.{met_more}
-use Rattle.cq_encodings_plain.proofs.Zipped.{nothing_more, zipped_more}
+use Rattle.cq_encodings_plain.proofs.Zipped.{nothing_more}
 use Rattle.cq_encodings.proofs.dict.write_codes.Goals as goal
 
 pub loop-value-preserved : goal.loop-value-preserved
 loop-value-preserved g c =
     let i = c.loop-value.value-index in
-    let flags = nulls_of (take (i + 1) c.args.values.now) in
     let old = c.loop-value.known in
     let new = c.code_of.new.known in
     let codes = g.W.FixedWidth.numbers c.loop-value.to in
@@ -27,13 +26,12 @@ loop-value-preserved g c =
     let pushed = OnTrue_at c.if-not-push_number.false c.push_number.ensures.pushed in
     let there = get_or_read c.args.values.now i c.value-item.result c.loop-value-test.true c.value-item.is lent.Null in
     record {
-      same = ap (λ (ns : List ℕ). zip2 text_unless (coded new ns) flags) pushed
-          ∙ ap (λ (ts : List (List ℕ)). zip2 text_unless ts flags) (coded_more old new codes code is.kept c.loop-value.invariant.within)
-          ∙ zipped_more text_unless (coded old codes) (get_or new code []) c.args.values.now i c.value-item.result c.loop-value-test.true there
-          (length-coded old codes ∙ c.loop-value.invariant.long) is.same c.loop-value.invariant.same;
+      same = ap (λ (ns : List ℕ). zip2 text_unless (coded new ns) (nulls_of (take (i + 1) c.args.values.now))) pushed
+          ∙ coded_so_far old new codes code c.args.values.now i c.value-item.result c.loop-value-test.true there
+          c.loop-value.invariant.long is.kept c.loop-value.invariant.within is.same c.loop-value.invariant.same;
       met = is.met ∙ ap (λ (ts : List (List ℕ)). with_text ts (owned c.value-item.result)) c.loop-value.invariant.met
           ∙ sym (met_more c.args.values.now c.args.known.now i c.value-item.result c.loop-value-test.true there);
-      clear = subst (λ (ns : List ℕ). NothingWhere 0 flags ns) (sym pushed)
+      clear = subst (λ (ns : List ℕ). NothingWhere 0 (nulls_of (take (i + 1) c.args.values.now)) ns) (sym pushed)
           (nothing_more 0 codes code c.args.values.now i c.value-item.result c.loop-value-test.true there
           c.loop-value.invariant.long is.null c.loop-value.invariant.clear);
       within = subst (λ (ns : List ℕ). All (λ n. n < length new) ns) (sym pushed) (within_more old new codes code is.kept is.within c.loop-value.invariant.within);
