@@ -1,18 +1,19 @@
 -- Offsets at some places, which are nothing where NULL stands.
-use Rattle.std.proofs.Common.{◌≡◌, ◌≤◌, ◌<◌, ℕ, Bool, List, length, get_or, map, subst, true, false, ◌∙◌, arith}
+use Rattle.std.proofs.Common.{◌≡◌, ◌≤◌, ◌<◌, ℕ, Bool, List, length, get_or, map, subst, sym, ap, true, false, ◌∙◌, arith}
 use Rattle.std.specs.List.{All}
 use Rattle.std.specs.Simd.Lanes.{zip2}
-use Rattle.std.proofs.lemmas.List.{get_or_past}
+use Rattle.std.proofs.lemmas.List.{get_or_past, length-map}
 use Rattle.std.proofs.lemmas.List.Elements.{All-from_recursion, All-map, All-weaker}
+use Rattle.cq_model.specs.Condition.{is_null}
 use Rattle.cq_values.specs.declared.value.Value.{Value}
 use Rattle.cq_encodings_plain.specs.Nulls.{NothingWhere}
 use Rattle.cq_encodings_vectors.specs.Places.{AreBelow, flags_at, items_at, unless_set, values_at}
 use Rattle.cq_encodings_vectors.proofs.AtPlaces.{at-clear, at-few, at-made, at-same, facts-read, kept-read}
 
-module _ (all : List ℕ) (nulls : List Bool) (places : List ℕ) {xs : List ℕ} {flags : List Bool}
-    (clear : NothingWhere 0 nulls all) (copied : xs ≡ items_at all places 0) (shown : flags ≡ flags_at nulls places) where
+module _ (values : List Value) (all : List ℕ) (places : List ℕ) {nulls : List Bool} {xs : List ℕ} {flags : List Bool}
+    (null : nulls ≡ map is_null values) (clear : NothingWhere 0 (map is_null values) all) (copied : xs ≡ items_at all places 0) (shown : flags ≡ flags_at nulls places) where
   read : xs ≡ map (λ place. unless_set 0 (get_or all place 0) (get_or nulls place false)) places
-  read = copied ∙ kept-read 0 nulls (λ place. get_or all place 0) clear places
+  read = copied ∙ kept-read 0 nulls (λ place. get_or all place 0) (subst (λ (bs : List Bool). NothingWhere 0 bs all) (sym null) clear) places
 
   pub offsets-few : length places ≤ 1024 → length xs ≤ 1024
   offsets-few = at-few 0 (λ (n : ℕ). n) 0 all nulls places read shown
@@ -24,9 +25,11 @@ module _ (all : List ℕ) (nulls : List Bool) (places : List ℕ) {xs : List ℕ
   offsets-clear = at-clear 0 (λ (n : ℕ). n) 0 all nulls places read shown
 
   -- what is made of them is what is made of all, at the places
-  pub offsets-made : (make : ℕ → Bool → Value) → ((x y : ℕ) → make x true ≡ make y true) → length nulls ≡ length all → (values : List Value) → values ≡ zip2 make all nulls
+  pub offsets-made : (make : ℕ → Bool → Value) → ((x y : ℕ) → make x true ≡ make y true) → length all ≡ length values → values ≡ zip2 make all (map is_null values)
       → AreBelow (length values) places → zip2 make xs flags ≡ values_at values places
-  offsets-made make = at-made 0 (λ (n : ℕ). n) 0 all nulls places read shown make
+  offsets-made make same long whole =
+      at-made 0 (λ (n : ℕ). n) 0 all nulls places read shown make same
+      (ap length null ∙ length-map values is_null ∙ sym long) values (whole ∙ ap (λ bs. zip2 make all bs) (sym null))
 
 -- what holds of each offset holds of those at the places
 pub known-at : (P : ℕ → Type 0) (all places : List ℕ) → All P all → AreBelow (length all) places → All P (items_at all places 0)

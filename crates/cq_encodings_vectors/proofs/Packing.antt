@@ -14,7 +14,7 @@ use Rattle.cq_encodings_plain.specs.declared.kind.Kind.{Kind}
 use Rattle.cq_encodings_plain.specs.declared.kind.Kind.TheVariants.{Numbers, Days}
 use Rattle.cq_encodings_numbers.specs.Packed.{AreOffsets, FitAbove, above}
 use Rattle.cq_encodings_vectors.specs.Parts.{items_of}
-use Rattle.cq_encodings_vectors.proofs.PartsLemmas.{clear-part, facts-part, few-part, same-part, zip2-made, zip2-part}
+use Rattle.cq_encodings_vectors.proofs.PartsLemmas.{clear-shown, facts-part, few-part, same-part, zip2-made, zip2-part}
 
 -- what a number stands for in a column of numbers
 pub number_datum : (n : ℤ) (b : Bool) → number_unless n b ≡ datum Numbers n b
@@ -42,7 +42,7 @@ pub at_base : (P : ℤ → Type 0) (base : ℤ) (offsets : List ℕ) → ((j : �
 at_base P base offsets facts =
     subst P (ap (λ (n : ℕ). base +ℤ pos n) (get_or_past offsets (length offsets) 0 (omega arith)) ∙ +ℤ_idr base) (facts (length offsets))
 
-module _ (k : ℕ) (kind : Kind) (least : ℤ) (all : List ℕ) (flags : List Bool) (are : AreOffsets kind least all flags) where
+module _ (k : ℕ) {kind : Kind} {least : ℤ} {all : List ℕ} {flags : List Bool} (are : AreOffsets kind least all flags) where
   -- the least number is kept in 64 bits
   pub least_fits : FitsSigned w64 least
   least_fits = fits_of_kind kind least (at_base (IsOf kind) least all are.fit)
@@ -55,9 +55,7 @@ module _ (k : ℕ) (kind : Kind) (least : ℤ) (all : List ℕ) (flags : List Bo
     packed-same = ap length shown ∙ same-part 0 k all flags are.long ∙ sym (ap length is)
 
     pub packed-clear : NothingWhere 0 plane xs
-    packed-clear =
-        subst (λ (bs : List Bool). NothingWhere 0 bs xs) (sym shown)
-        (subst (NothingWhere 0 (items_of k flags)) (sym is) (clear-part 0 k all flags are.long are.clear))
+    packed-clear = clear-shown 0 k all flags are.long is shown are.clear
 
     module _ (n : ℤ) (back : n ≡ least) where
       -- what holds of each number holds of those of the part

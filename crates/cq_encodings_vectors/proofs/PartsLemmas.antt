@@ -103,6 +103,11 @@ module _ {A : Type 0} (nothing : A) (k : ℕ) (all : List A) (flags : List Bool)
       by_length (inl lt) = part-at k all j nothing lt ∙ clear (1024 * k + j) (sym (part-at k flags j false (omega (arith, lt, same-part))) ∙ set)
       by_length (inr past) = get_or_past (items_of k all) j nothing past
 
+  -- nor in what is equal to the parts
+  pub clear-shown : {xs : List A} {plane : List Bool} → xs ≡ items_of k all → plane ≡ items_of k flags → NothingWhere nothing flags all → NothingWhere nothing plane xs
+  clear-shown {xs} {plane} is shown clear =
+      subst (λ (bs : List Bool). NothingWhere nothing bs xs) (sym shown) (subst (NothingWhere nothing (items_of k flags)) (sym is) (clear-part clear))
+
   -- what is made of parts is a part of what is made
   pub zip2-part : (f g : A → Bool → Value) → ((j : ℕ) (b : Bool) → f (get_or all j nothing) b ≡ g (get_or all j nothing) b) → zip2 f (items_of k all) (items_of k flags) ≡ items_of k (zip2 g all flags)
   zip2-part f g same =

@@ -10,57 +10,37 @@ lend_offsets-requires c =
     omega (arith, c.requires, ap length p.ensures.whole, length-made (datum p.result.0) (λ offset. p.result.1 +ℤ pos offset) p.result.2.now p.result.3.now p.ensures.parts.long)
 
 pub new-requires-clause-few : goal.new-requires-clause-few
-new-requires-clause-few c =
-    let p = c.parts-kind in
-    packed-few c.args.k p.result.0 p.result.1 p.result.2.now p.result.3.now p.ensures.parts c.in_ok-offsets.ensures c.in_ok-plane.ensures.there
+new-requires-clause-few c = packed-few c.args.k c.parts-kind.ensures.parts c.in_ok-offsets.ensures c.in_ok-plane.ensures.there
 
 pub new-requires-clause-same : goal.new-requires-clause-same
-new-requires-clause-same c =
-    let p = c.parts-kind in
-    packed-same c.args.k p.result.0 p.result.1 p.result.2.now p.result.3.now p.ensures.parts c.in_ok-offsets.ensures c.in_ok-plane.ensures.there
+new-requires-clause-same c = packed-same c.args.k c.parts-kind.ensures.parts c.in_ok-offsets.ensures c.in_ok-plane.ensures.there
 
 pub new-requires-clause-clear : goal.new-requires-clause-clear
-new-requires-clause-clear c =
-    let p = c.parts-kind in
-    packed-clear c.args.k p.result.0 p.result.1 p.result.2.now p.result.3.now p.ensures.parts c.in_ok-offsets.ensures c.in_ok-plane.ensures.there
+new-requires-clause-clear c = packed-clear c.args.k c.parts-kind.ensures.parts c.in_ok-offsets.ensures c.in_ok-plane.ensures.there
 
 pub new-requires-clause-fit : goal.new-requires-clause-fit
-new-requires-clause-fit c =
-    let p = c.parts-kind in
-    packed-fit c.args.k p.result.0 p.result.1 p.result.2.now p.result.3.now p.ensures.parts c.in_ok-offsets.ensures c.in_ok-plane.ensures.there
-    _ (to_z-of_z (least_fits c.args.k p.result.0 p.result.1 p.result.2.now p.result.3.now p.ensures.parts)) c.in-Numbers.is
+new-requires-clause-fit c = packed-fit c.args.k c.parts-kind.ensures.parts c.in_ok-offsets.ensures c.in_ok-plane.ensures.there _ (to_z-of_z (least_fits c.args.k c.parts-kind.ensures.parts)) c.in-Numbers.is
 
 pub narrow_days-requires-clause-few : goal.narrow_days-requires-clause-few
-narrow_days-requires-clause-few c =
-    let p = c.parts-kind in
-    packed-few c.args.k p.result.0 p.result.1 p.result.2.now p.result.3.now p.ensures.parts c.in_ok-offsets.ensures c.in_ok-plane.ensures.there
+narrow_days-requires-clause-few c = packed-few c.args.k c.parts-kind.ensures.parts c.in_ok-offsets.ensures c.in_ok-plane.ensures.there
 
 pub narrow_days-requires-clause-same : goal.narrow_days-requires-clause-same
-narrow_days-requires-clause-same c =
-    let p = c.parts-kind in
-    packed-same c.args.k p.result.0 p.result.1 p.result.2.now p.result.3.now p.ensures.parts c.in_ok-offsets.ensures c.in_ok-plane.ensures.there
+narrow_days-requires-clause-same c = packed-same c.args.k c.parts-kind.ensures.parts c.in_ok-offsets.ensures c.in_ok-plane.ensures.there
 
 pub narrow_days-requires-clause-clear : goal.narrow_days-requires-clause-clear
-narrow_days-requires-clause-clear c =
-    let p = c.parts-kind in
-    packed-clear c.args.k p.result.0 p.result.1 p.result.2.now p.result.3.now p.ensures.parts c.in_ok-offsets.ensures c.in_ok-plane.ensures.there
+narrow_days-requires-clause-clear c = packed-clear c.args.k c.parts-kind.ensures.parts c.in_ok-offsets.ensures c.in_ok-plane.ensures.there
 
 pub narrow_days-requires-clause-fit : goal.narrow_days-requires-clause-fit
-narrow_days-requires-clause-fit c =
-    let p = c.parts-kind in
-    packed-are_days c.args.k p.result.0 p.result.1 p.result.2.now p.result.3.now p.ensures.parts c.in_ok-offsets.ensures c.in_ok-plane.ensures.there
-    _ (to_z-of_z (least_fits c.args.k p.result.0 p.result.1 p.result.2.now p.result.3.now p.ensures.parts)) c.in-Days.is
+narrow_days-requires-clause-fit c = packed-are_days c.args.k c.parts-kind.ensures.parts c.in_ok-offsets.ensures c.in_ok-plane.ensures.there _ (to_z-of_z (least_fits c.args.k c.parts-kind.ensures.parts)) c.in-Days.is
 
 pub returns-in-Numbers : goal.returns-in-Numbers
 returns-in-Numbers c =
-    let p = c.parts-kind in
     c.new.ensures
-    ∙ packed-numbers c.args.k p.result.0 p.result.1 p.result.2.now p.result.3.now p.ensures.parts c.in_ok-offsets.ensures c.in_ok-plane.ensures.there
-    _ (to_z-of_z (least_fits c.args.k p.result.0 p.result.1 p.result.2.now p.result.3.now p.ensures.parts)) c.args.packed.now p.ensures.whole c.in-Numbers.is
+    ∙ packed-numbers c.args.k c.parts-kind.ensures.parts c.in_ok-offsets.ensures c.in_ok-plane.ensures.there
+    _ (to_z-of_z (least_fits c.args.k c.parts-kind.ensures.parts)) c.args.packed.now c.parts-kind.ensures.whole c.in-Numbers.is
 
 pub returns-in_ok-days-in-Days : goal.returns-in_ok-days-in-Days
 returns-in_ok-days-in-Days c =
-    let p = c.parts-kind in
     c.in_ok-days-in-Days.ensures
-    ∙ packed-days c.args.k p.result.0 p.result.1 p.result.2.now p.result.3.now p.ensures.parts c.in_ok-offsets.ensures c.in_ok-plane.ensures.there
-    _ (to_z-of_z (least_fits c.args.k p.result.0 p.result.1 p.result.2.now p.result.3.now p.ensures.parts)) c.args.packed.now p.ensures.whole c.in-Days.is
+    ∙ packed-days c.args.k c.parts-kind.ensures.parts c.in_ok-offsets.ensures c.in_ok-plane.ensures.there
+    _ (to_z-of_z (least_fits c.args.k c.parts-kind.ensures.parts)) c.args.packed.now c.parts-kind.ensures.whole c.in-Days.is

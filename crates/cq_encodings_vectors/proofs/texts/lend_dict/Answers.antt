@@ -1,23 +1,16 @@
-use Rattle.std.proofs.Common.{◌∙◌, ◌*◌, ◌<◌, ℕ, Bool, List, [], ap, ap₂, arith, drop, get_or, length, refl, subst, sym}
+use Rattle.std.proofs.Common.{◌∙◌, ◌*◌, ◌<◌, ℕ, [], ap, ap₂, arith, drop, get_or, length, refl, subst, sym}
 use Rattle.std.specs.Simd.Lanes.{zip2}
 use Rattle.std.proofs.lemmas.List.Elements.{All-drop, All-take}
-use Rattle.cq_encodings_plain.specs.Nulls.{NothingWhere}
 use Rattle.cq_encodings_vectors.specs.Parts.{items_of}
-use Rattle.cq_encodings_vectors.proofs.PartsLemmas.{clear-part, few-part, length-made, same-part, zip2-made, zip2-part}
+use Rattle.cq_encodings_vectors.proofs.PartsLemmas.{clear-shown, few-part, length-made, same-part, zip2-made, zip2-part}
 use Rattle.cq_vectors_stored.specs.Columns.{text_unless}
 use Rattle.cq_vectors_stored.specs.LentColumns.{AreCodes, entry_unless}
-use Rattle.cq_vectors_stored.specs.Offsets.{offsets_in}
 use Rattle.cq_encodings_vectors.proofs.texts.lend_dict.Goals as goal
 
 pub lend_offsets-requires : goal.lend_offsets-requires
 lend_offsets-requires c =
-    let entries = c.parts.result.0.now in
-    omega (
-      arith,
-      c.requires,
-      ap length c.parts.ensures.whole,
-      length-made text_unless (λ code. get_or entries code []) c.parts.result.1.now c.parts.result.2.now c.parts.ensures.parts.long,
-    )
+    let long = length-made text_unless (λ code. get_or c.parts.result.0.now code []) c.parts.result.1.now c.parts.result.2.now c.parts.ensures.parts.long in
+    omega (arith, c.requires, ap length c.parts.ensures.whole, long)
 
 pub new-requires-clause-few : goal.new-requires-clause-few
 new-requires-clause-few c = omega (arith, ap length c.in_ok-codes.ensures, few-part c.args.k c.parts.result.1.now)
@@ -28,11 +21,8 @@ new-requires-clause-same c =
 
 pub new-requires-clause-clear : goal.new-requires-clause-clear
 new-requires-clause-clear c =
-    let all = c.parts.result.1.now in
-    let flags = c.parts.result.2.now in
-    let k = c.args.k in
-    subst (λ (bs : List Bool). NothingWhere 0 bs (offsets_in c.in_ok-codes.codes)) (sym c.in_ok-plane.ensures.there)
-    (subst (NothingWhere 0 (items_of k flags)) (sym c.in_ok-codes.ensures) (clear-part 0 k all flags c.parts.ensures.parts.long c.parts.ensures.parts.clear))
+    let parts = c.parts.ensures.parts in
+    clear-shown 0 c.args.k c.parts.result.1.now c.parts.result.2.now parts.long c.in_ok-codes.ensures c.in_ok-plane.ensures.there parts.clear
 
 pub new-requires-clause-known : goal.new-requires-clause-known
 new-requires-clause-known c =
