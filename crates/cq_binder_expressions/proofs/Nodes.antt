@@ -1,5 +1,5 @@
 -- What the chains in an expression give.
-use Rattle.std.proofs.Common.{arith, ◌≡◌, ℕ, ◌≤◌, List, [], ◌∷◌, length, min, take, map, Ok, Err, zero, suc, sym, ◌∙◌, ap, ap₂, Vec, Box, Global, ◌⊎◌, inl, inr}
+use Rattle.std.proofs.Common.{arith, ◌≡◌, ℕ, ◌≤◌, List, [], ◌∷◌, length, min, take, map, Result, Ok, Err, zero, suc, sym, ◌∙◌, ap, ap₂, Vec, Box, Global, ◌⊎◌, inl, inr}
 use Rattle.std.proofs.lemmas.List.{take-map, take_min}
 use denote.Param.Weighed.{most}
 use Rattle.cq_sql_language.specs.declared.written.ExprNode.{ExprNode}
@@ -29,6 +29,10 @@ module _ (s : Scope) (e first : ExprNode) (op : Operator) (parts : List ExprNode
   -- and where it stands, the others go on
   pub goes_on : (x : Typing) → Ok x ≡ typed s (written first) → chained s op x (map written parts) ≡ typed s (written e)
   goes_on x stands = sym (is.gives ∙ ap (λ r. r and_then λ y. chained s op y (map written parts)) (sym stands))
+
+  -- as they are lent
+  pub goes_on_lent : (x : Typing) (lent : List ExprNode) (given : Result Typing Fault) → given ≡ chained s op x (map written lent) → lent ≡ parts → Ok x ≡ typed s (written first) → given ≡ typed s (written e)
+  goes_on_lent x lent given is_given same stands = is_given ∙ ap (λ (es : List ExprNode). chained s op x (map written es)) same ∙ goes_on x stands
 
 module _ (s : Scope) (e : ExprNode) (first : Box ExprNode Global) (others : Vec ExprNode Global) where
   -- a product

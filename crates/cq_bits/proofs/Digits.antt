@@ -74,7 +74,7 @@ whole_words w n =
     omega (arith, e, mul-add w (64 * (n / 64)) (n % 64), mul_left_comm w 64 (n / 64), mul_comm w (n / 64), mul_comm w (n % 64))
 
 -- values before the end have all of their bits before the end
-pub before_end : (w s i m n : ℕ) → i + m ≤ n → w * (s + i) + w * m ≤ w * (s + n)
+before_end : (w s i m n : ℕ) → i + m ≤ n → w * (s + i) + w * m ≤ w * (s + n)
 before_end w s i m n le = omega (arith, mul-add w (s + i) m, mul-le-mul_left w (let h : s + i + m ≤ s + n = omega arith in h))
 
 -- a value of a window ends within
@@ -84,6 +84,10 @@ ends_within w j per lt = omega (arith, mul-suc w j, mul-le-mul_left w (let h : s
 -- a window that is before the last one ends within
 pub within_windows : (per k n : ℕ) → 0 < per → k < n / per → per * k + per ≤ n
 within_windows per k n some lt = omega (arith, mul-suc per k, mul-le-mul_left per (let h : suc k ≤ n / per = lt in h), div-add-mod n per, mul_comm per (n / per))
+
+-- the values of such a window have all of their bits before the end
+pub before_windows : (w s per k n : ℕ) → 0 < per → k < n / per → w * (s + per * k) + w * per ≤ w * (s + n)
+before_windows w s per k n some lt = before_end w s (per * k) per n (within_windows per k n some lt)
 
 -- the lowest bits
 masked : (n w : ℕ) → w ≤ 64 → bit_and n (18446744073709551615 / 2 ^ (64 - w)) ≡ n % 2 ^ w

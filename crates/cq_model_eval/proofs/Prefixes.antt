@@ -111,11 +111,11 @@ pub whole_fits : (pattern text : List ℕ) → whole ≡ prefix_match pattern te
 whole_fits pattern text e = any_whole (like pattern) text (like_prefix pattern text ∙ ap fits_by (sym e))
 
 -- where the pattern does not fit the whole text, it fits an end without the first character or none
-pub misfit_next : (pattern : List ℕ) (c : ℕ) (text : List ℕ) → misfit ≡ prefix_match pattern (c ∷ text) → fits_some_end pattern (c ∷ text) ≡ fits_some_end pattern text
-misfit_next pattern c text e = let no : like pattern (c ∷ text) ≡ false = like_prefix pattern (c ∷ text) ∙ ap fits_by (sym e) in rw no refl
+pub misfit_next : (pattern : List ℕ) (c : ℕ) (rest text : List ℕ) → text ≡ c ∷ rest → misfit ≡ prefix_match pattern text → fits_some_end pattern rest ≡ fits_some_end pattern text
+misfit_next pattern c rest text is e = let no : like pattern text ≡ false = like_prefix pattern text ∙ ap fits_by (sym e) in rw is (let none : like pattern (c ∷ rest) ≡ false = rw is at no in rw none refl)
 
-pub misfit_last : (pattern : List ℕ) → misfit ≡ prefix_match pattern [] → fits_some_end pattern [] ≡ false
-misfit_last pattern e = let no : like pattern [] ≡ false = like_prefix pattern [] ∙ ap fits_by (sym e) in rw no refl
+pub misfit_last : (pattern text : List ℕ) → text ≡ [] → misfit ≡ prefix_match pattern text → false ≡ fits_some_end pattern text
+misfit_last pattern text is e = let no : like pattern text ≡ false = like_prefix pattern text ∙ ap fits_by (sym e) in rw is (let none : like pattern [] ≡ false = rw is at no in rw none refl)
 
 empty_end : (text : List ℕ) → fits_some_end [] text ≡ true
 empty_end [] = refl

@@ -28,13 +28,23 @@ pub record Sizing (need : ℕ → ℕ → ℕ) (z : ℕ → ℕ) (left : List Ex
   pub same : so_far.size ≡ size
   pub fits : so_far.widest < 2 ^ 127
 
-module _ (need : ℕ → ℕ → ℕ) (z : ℕ → ℕ) (items : List ExprTree) (i : ℕ) (part : ExprTree) (size : ℕ) (whole : Expr) (more : i < length items) (is : part ≡ get_or items i part) where
+module _ {need : ℕ → ℕ → ℕ} {z : ℕ → ℕ} (items : List ExprTree) {i : ℕ} {part : ExprTree} {size : ℕ} {whole : Expr} (more : i < length items) (is : part ≡ get_or items i part) (prefix : Sizing need z (drop i items) size whole) where
   -- the next part, and what it makes of the prefix, are on the way to the whole
-  pub size-within : Sizing need z (drop i items) size whole → ((width (expr_of part) z).widest ≤ (width whole z).widest) × (need size (width (expr_of part) z).size ≤ (width whole z).widest)
-  size-within j =
-      let e = ap {B = ℕ} (λ (x : Extent). x.widest) (chain-next (extend need) (λ t. width (expr_of t) z) items i part j.so_far (width whole z) more is j.extents) in
-      let w = widest-front need (extend need j.so_far (width (expr_of part) z)) (map (λ t. width (expr_of t) z) (drop (i + 1) items)) in
-      (omega (arith, w, e), rw (sym j.same) (omega (arith, w, e)))
+  size-within : ((width (expr_of part) z).widest ≤ (width whole z).widest) × (need size (width (expr_of part) z).size ≤ (width whole z).widest)
+  size-within =
+      let e = ap {B = ℕ} (λ (x : Extent). x.widest) (chain-next (extend need) (λ t. width (expr_of t) z) items i part prefix.so_far (width whole z) more is prefix.extents) in
+      let w = widest-front need (extend need prefix.so_far (width (expr_of part) z)) (map (λ t. width (expr_of t) z) (drop (i + 1) items)) in
+      (omega (arith, w, e), rw (sym prefix.same) (omega (arith, w, e)))
+
+  -- a chain is too wide where its next part is
+  pub next-wide : None ≡ fitting (width (expr_of part) z) → None ≡ fitting (width whole z)
+  next-wide wide = fitting-wide (width whole z) (omega (arith, size-within.0, fitting-None (width (expr_of part) z) wide))
+
+  -- and where what the next part makes of the prefix is
+  pub joined-wide : (n : ℕ) → Some n ≡ fitting (width (expr_of part) z) → 2 ^ 127 ≤ need size n → None ≡ fitting (width whole z)
+  joined-wide n fits wide =
+      let same : need size n ≡ need size (width (expr_of part) z).size = ap (need size) (fitting-Some (width (expr_of part) z) n fits).0 in
+      fitting-wide (width whole z) (omega (arith, size-within.1, same, wide))
 
 module _ (z : ℕ → ℕ) (tree : ExprTree) (first : Box ExprTree Global) (rest : Vec ExprTree Global) (head : ExprTree) (one : head ≡ first.value) where
   from-first : (need : ℕ → ℕ → ℕ) → width (expr_of tree) z ≡ fold (extend need) (width (expr_of head) z) (map (λ t. width (expr_of t) z) rest.items) → None ≡ fitting (width (expr_of head) z) → None ≡ fitting (width (expr_of tree) z)

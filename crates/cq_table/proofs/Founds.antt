@@ -10,12 +10,13 @@ use Rattle.cq_values.specs.Value.{Row}
 use Rattle.cq_operators_scans.specs.Kept.{places_where}
 use Rattle.cq_segments.specs.Marked.{MarkedRow, live, live_from, rows_of, with_mark, with_marks}
 use Rattle.cq_table.specs.Found.{AreLiveAt, AreThere, found_rows, is_live_at, passes}
-use Rattle.cq_segments.proofs.Marks.{length-mark, live-unmarked, mark-behind, rows_of-mark}
+use Rattle.cq_segments.proofs.Marks.{length-live_from, length-mark, live-unmarked, mark-behind, rows_of-mark}
 use Rattle.cq_encodings_vectors.specs.Places.{AreBelow, rows_at}
 use Rattle.cq_table_columns.specs.declared.front.Front.{Front}
 use Rattle.cq_table_columns.specs.declared.front.Front.TheVariants as fronts
 use Rattle.cq_table_columns.specs.Stored.{front_rows, marked_rows}
 use Rattle.cq_table.proofs.Marking.{all_live-with_mark, live_at-behind, live_at_within}
+use Rattle.cq_table.proofs.Segmenting.{same-there}
 
 -- the places in a list and in the one behind it
 pub places-append : {X : Type 0} (test : X → Bool) (n : ℕ) (xs ys : List X) → places_where n test (xs ++ ys) ≡ places_where n test xs ++ places_where (n + length xs) test ys
@@ -185,12 +186,12 @@ module _ (keep : Row → Bool) (before : ℕ) (stored : List MarkedRow) where
       ∙ ap (λ (n : ℕ). places_where n (passes keep) stored) (omega arith)
 
 -- a place that a condition keeps is there
-pub kept_there : (keep : Row → Bool) (rows : List Row) (places : List ℕ) (i : ℕ) → places ≡ places_where 0 keep rows → i < length places → get_or places i 0 < length rows
+kept_there : (keep : Row → Bool) (rows : List Row) (places : List ℕ) (i : ℕ) → places ≡ places_where 0 keep rows → i < length places → get_or places i 0 < length rows
 kept_there keep rows places i is there =
     all-at (λ (n : ℕ). n < length rows) places i 0 there (subst (AreBelow (length rows)) (sym is) (below-where keep 0 (length rows) rows (omega arith)))
 
 -- and the place of a live row lies below all
-pub live_there_at : (stored : List MarkedRow) (live : List ℕ) (i : ℕ) → live ≡ live_from 0 stored → i < length live → get_or live i 0 < length stored
+live_there_at : (stored : List MarkedRow) (live : List ℕ) (i : ℕ) → live ≡ live_from 0 stored → i < length live → get_or live i 0 < length stored
 live_there_at stored live i is there =
     all-at (λ (n : ℕ). n < length stored) live i 0 there (subst (AreBelow (length stored)) (sym is) (below-live 0 (length stored) stored (omega arith)))
 
@@ -201,14 +202,48 @@ placed-more f before found places i there so_far place is =
     ap₂ (λ (ps : List ℕ) (p : ℕ). ps ++ p ∷ []) so_far is ∙ append_assoc before (map f (take i places)) (f (get_or places i 0) ∷ [])
     ∙ ap (λ (ps : List ℕ). before ++ ps) (sym (ap (map f) (take_more places i 0 there) ∙ map-append f (take i places) (get_or places i 0 ∷ [])))
 
--- and in the end all
-pub placed-all : (keep : Row → Bool) (before : ℕ) (stored : List MarkedRow) (rows : List Row) → live stored ≡ rows → (all : List ℕ) → all ≡ live_from 0 stored
-    → (places : List ℕ) → places ≡ places_where 0 keep rows → (i : ℕ) → length places ≤ i
-    → map (λ j. before + slice_index_or all j 0) (take i places) ≡ places_where before (passes keep) stored
-placed-all keep before stored rows is all are places kept i end =
-    ap (map (λ (j : ℕ). before + slice_index_or all j 0)) (take_all i places end ∙ kept ∙ ap (places_where 0 keep) (sym is))
-    ∙ ap (λ (ps : List ℕ). map (λ (j : ℕ). before + slice_index_or ps j 0) (places_where 0 keep (live stored))) are
-    ∙ placed-behind keep before stored
+-- the places of the live rows of a front, and those among them that a condition keeps
+pub record KeptAmong (keep : Row → Bool) (stored : List MarkedRow) (all places : List ℕ) : Type 0 where
+  pub are : all ≡ live_from 0 stored
+  pub kept : places ≡ places_where 0 keep (live stored)
+
+pub kept_in : (keep : Row → Bool) (front : Front) (all places given : List ℕ) → all ≡ live_from 0 (marked_rows front) → places ≡ given → given ≡ places_where 0 keep (front_rows front)
+    → KeptAmong keep (marked_rows front) all places
+kept_in keep front all places given are same kept = record { are = are; kept = same ∙ kept ∙ ap (places_where 0 keep) (sym (front-live front)) }
+
+module _ {keep : Row → Bool} {stored : List MarkedRow} {all places : List ℕ} (k : KeptAmong keep stored all places) where
+  module _ {i from : ℕ} (there : i < length places) (is : from ≡ get_or places i 0) where
+    -- one that is kept is that of a live row
+    pub kept_live : from < length all
+    kept_live = omega (arith, is, kept_there keep (live stored) places i k.kept there, ap length k.are, length-live_from 0 stored)
+
+    module _ {at : ℕ} (read : at ≡ get_or all from at) where
+      kept_here : at ≡ get_or all from 0
+      kept_here = read ∙ same-there all from at 0 kept_live
+
+      -- which stands at this place among all rows
+      pub kept_at : at ≡ slice_index_or all (get_or places i 0) 0
+      kept_at = kept_here ∙ ap (λ (n : ℕ). get_or all n 0) is
+
+      -- and it is one of theirs
+      pub kept_within : at < length stored
+      kept_within = omega (arith, kept_here, live_there_at stored all from k.are kept_live)
+
+  -- all that are kept are those that pass
+  pub placed-all : (before i : ℕ) → length places ≤ i → map (λ j. before + slice_index_or all j 0) (take i places) ≡ places_where before (passes keep) stored
+  placed-all before i end =
+      ap (map (λ (j : ℕ). before + slice_index_or all j 0)) (take_all i places end ∙ k.kept)
+      ∙ ap (λ (ps : List ℕ). map (λ (j : ℕ). before + slice_index_or ps j 0) (places_where 0 keep (live stored))) k.are
+      ∙ placed-behind keep before stored
+
+-- the places in a front, and then those in what is left, are the places in all
+pub places-split : (test : MarkedRow → Bool) (before span : ℕ) (front rest whole : List MarkedRow) → whole ≡ front ++ rest → span ≡ length front → (found more : List ℕ) → more ≡ found ++ places_where before test front
+    → more ++ places_where (before + span) test rest ≡ found ++ places_where before test whole
+places-split test before span front rest whole parts long found more is =
+    ap (λ (ps : List ℕ). ps ++ places_where (before + span) test rest) is
+    ∙ append_assoc found (places_where before test front) (places_where (before + span) test rest)
+    ∙ ap (λ (ps : List ℕ). found ++ ps)
+    (ap (λ (n : ℕ). places_where before test front ++ places_where (before + n) test rest) long ∙ sym (places-append test before front rest) ∙ ap (places_where before test) (sym parts))
 
 -- what holds of all rows holds of those behind a front
 pub all-behind : (P : Row → Type 0) (whole front rest : List Row) → whole ≡ front ++ rest → AllByRecursion P whole → AllByRecursion P rest

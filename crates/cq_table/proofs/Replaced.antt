@@ -1,9 +1,9 @@
 -- Rows that are replaced by their images: the bag that is left.
-use Rattle.std.proofs.Common.{◌≡◌, ◌+ℤ◌, pos, Bool, not, List, [], ◌∷◌, ◌++◌, length, map, sym, ap, ◌∙◌, arith}
+use Rattle.std.proofs.Common.{◌≡◌, ◌+ℤ◌, pos, Bool, not, List, [], ◌∷◌, ◌++◌, length, map, subst, sym, ap, ◌∙◌, arith}
 use Rattle.std.specs.Prelude.{filter, if◌then◌else◌}
 use Rattle.std.specs.List.{AllByRecursion}
 use Rattle.std.proofs.lemmas.Int.{ints}
-use Rattle.std.proofs.lemmas.List.{map-append}
+use Rattle.std.proofs.lemmas.List.{length-map, map-append}
 use Rattle.cq_values.specs.Value.{Row}
 use Rattle.cq_model_bags.specs.Bag.{Weighted, SameBag, weight_of, once_each}
 use Rattle.cq_model_bags.specs.Canonical.{bag_of}
@@ -23,7 +23,7 @@ module _ (keep : Row → Bool) (rows gone : List Row) (chosen : bag_of gone ≡ 
   left = filter (λ x. not (keep x)) rows
 
   -- as many go as are kept
-  pub length-chosen : length gone ≡ length (filter keep rows)
+  length-chosen : length gone ≡ length (filter keep rows)
   length-chosen = sym (length-bag_of gone) ∙ ap length chosen ∙ length-bag_of (filter keep rows)
 
   gone_same : SameBag (once_each gone) (once_each (filter keep rows))
@@ -52,5 +52,16 @@ module _ (keep : Row → Bool) (rows gone : List Row) (chosen : bag_of gone ≡ 
     })
 
     -- what the images of those that are kept have, the images of those that go have
-    pub images_all : (P : Row → Type 0) → AllByRecursion (λ row. P (image row)) (filter keep rows) → AllByRecursion P (map image gone)
+    images_all : (P : Row → Type 0) → AllByRecursion (λ row. P (image row)) (filter keep rows) → AllByRecursion P (map image gone)
     images_all P all = all-map (λ (row : Row). P (image row)) P image (λ row p. p) gone (gone_all keep rows gone chosen (λ row. P (image row)) all)
+
+    -- so it is with the images as they were worked out
+    module _ (images : List Row) (are : images ≡ map image gone) where
+      pub length-images : length images ≡ length (filter keep rows)
+      length-images = ap length are ∙ length-map gone image ∙ length-chosen
+
+      pub images_have : (P : Row → Type 0) → AllByRecursion (λ row. P (image row)) (filter keep rows) → AllByRecursion P images
+      images_have P all = subst (AllByRecursion P) (sym are) (images_all P all)
+
+      pub images_replace : bag_of (left ++ images) ≡ bag_of (map (λ x. if keep x then image x else x) rows)
+      images_replace = ap (λ (rs : List Row). bag_of (left ++ rs)) are ∙ same_replaced

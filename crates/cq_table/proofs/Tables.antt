@@ -26,7 +26,7 @@ use Rattle.cq_table.specs.Found.{AreLiveAt, AreThere, IsFound, found_rows, passe
 use Rattle.cq_table.specs.Table.{AreSound, IsKept, SameRows, StoredTable, live_rows, marked_len, stored_in, table_rows, with_stored, write_len}
 use Rattle.cq_table.proofs.Bagged.{bag_of_kept, bag_of_more, length-kept}
 use Rattle.cq_table.proofs.Built.{length-built, new-clear, same-built}
-use Rattle.cq_table.proofs.Founds.{found-places, length-places, live-marks, live_there}
+use Rattle.cq_table.proofs.Founds.{all-found, found-places, length-places, live-marks, live_there}
 use Rattle.cq_table.proofs.Marking.{all_live-with_marks, live_fewer, rows_of-marks, with_marks-front}
 use Rattle.cq_table.proofs.Moved.{bag-merged, bag-moved}
 use Rattle.cq_table.proofs.RowLists.{all_of_bag, all_of_rows, drop-least, take-least}
@@ -52,6 +52,10 @@ few-enough most count none = by_test (nat_lt most count)
     (λ k. ltb-false most count k)
 
 -- ---- Rows that are found
+-- what holds of the rows of a table holds of those at places of live rows
+pub all-rows_found : (P : Row → Type 0) (t : StoredTable) (places : List ℕ) → AreLiveAt places (stored_in t) → AllByRecursion P (table_rows t) → AllByRecursion P (found_rows (stored_in t) places)
+all-rows_found P t places are all = all-found P places (stored_in t) are (all_of_rows P (live_rows t) all)
+
 module _ (t : StoredTable) (condition : Option Cond) (places : List ℕ) (found : IsFound condition t places) where
   -- the rows at the places are those that WHERE keeps
   pub picks : SameRows (found_rows (stored_in t) places) (chosen condition (table_rows t))

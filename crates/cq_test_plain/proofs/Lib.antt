@@ -4,6 +4,7 @@ pub mod Narrow
 pub mod Exits
 pub mod GroupFaults
 pub mod Agreeing
+pub mod ListedAggregates
 pub mod Assignments
 pub mod ToldAt
 pub mod Lents

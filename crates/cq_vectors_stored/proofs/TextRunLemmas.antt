@@ -122,6 +122,10 @@ module _ {bytes ends : List ℕ} {texts : List (List ℕ)} (laid : IsLaid bytes 
         short = omega (arith, room.short, long);
       }
 
+-- texts that are seen are laid where those are that they stand for
+pub laid_seen : {bytes ends : List ℕ} {texts seen : List (List ℕ)} → texts ≡ seen → IsLaid bytes ends texts → IsLaid bytes ends seen
+laid_seen {bytes} {ends} same laid = subst (IsLaid bytes ends) same laid
+
 -- what is laid so is what the bytes are cut into
 pub laid_is_cut : {bytes ends : List ℕ} {texts : List (List ℕ)} → IsLaid bytes ends texts → cut bytes 0 ends ≡ texts
 laid_is_cut {bytes} {ends} {texts} laid = ap₂ (λ (bs : List ℕ) (es : List ℕ). cut bs 0 es) laid.joined laid.ended ∙ cut-concat 0 texts

@@ -2,13 +2,12 @@ use Rattle.std.proofs.Common.{ℕ, ◌+◌, ◌*◌, ◌/◌, ◌%◌, ◌^◌, 
 use Rattle.std.proofs.lemmas.List.FromFn.{fill_by_all}
 use Rattle.std.proofs.Math.Nat.{mul-suc}
 use Rattle.cq_bits.specs.Packed.{number_of, value_at}
-use Rattle.cq_bits.proofs.Digits.{before_end, ends_within, cut_out, cut_out_first, value_written, within_windows}
+use Rattle.cq_bits.proofs.Digits.{before_windows, ends_within, cut_out, cut_out_first, value_written, within_windows}
 use Rattle.cq_bits.proofs.unpacking.unpack_by.Goals as goal
 
 pub window-bits-requires-clause-there : goal.window-bits-requires-clause-there
 window-bits-requires-clause-there g c =
-    let ends = within_windows g.row.PER c.loop-k.k (length c.args.to.now) c.requires.each c.loop-k-test.true in
-    let before = before_end c.args.width c.args.start (g.row.PER * c.loop-k.k) g.row.PER (length c.args.to.now) ends in
+    let before = before_windows c.args.width c.args.start g.row.PER c.loop-k.k (length c.args.to.now) c.requires.each c.loop-k-test.true in
     omega (arith, before, ends_within c.args.width 0 g.row.PER c.requires.each)
 
 pub loop-j-preserved : goal.loop-j-preserved
@@ -23,8 +22,7 @@ loop-j-preserved g c = λ i lt.
 
 pub overflow_add-word : goal.overflow_add-word
 overflow_add-word g c =
-    let ends = within_windows g.row.PER c.loop-k.k (length c.args.to.now) c.requires.each c.loop-k-test.true in
-    let before = before_end c.args.width c.args.start (g.row.PER * c.loop-k.k) g.row.PER (length c.args.to.now) ends in
+    let before = before_windows c.args.width c.args.start g.row.PER c.loop-k.k (length c.args.to.now) c.requires.each c.loop-k-test.true in
     record { fits = omega (arith, before) }
 
 pub loop-i-preserved : goal.loop-i-preserved

@@ -1,8 +1,7 @@
 use Rattle.std.proofs.Common.{◌∙◌, sym, ap, arith, rules}
 use Rattle.std.proofs.lemmas.Bool.Decides.{nat_tests}
 use Rattle.std.specs.Str.{chars}
-use Rattle.cq_model_eval.specs.PatternPrefix.{seen, prefix_match}
-use Rattle.cq_model.specs.Like.{fits_some_end}
+use Rattle.cq_model_eval.specs.PatternPrefix.{seen}
 use Rattle.cq_model_eval.proofs.Prefixes.{open_same, open_shorter, whole_fits, misfit_next, misfit_last, empty_fits}
 use Rattle.cq_model_eval.proofs.pattern.some_end_fits.Goals as goal
 
@@ -30,15 +29,8 @@ pub loop-pattern-preserved : goal.loop-pattern-preserved
 loop-pattern-preserved c = (
   search rules,
   search rules,
-  let misfits = c.in-Misfit.ensures in
-      sym (misfit_next (chars c.loop-pattern.pattern.now) c.in-Some.field-0-0 (chars c.in-Some.rest.now) (misfits ∙ ap (prefix_match (chars c.loop-pattern.pattern.now)) c.in-Some.ensures))
-      ∙ ap (fits_some_end (chars c.loop-pattern.pattern.now)) (sym c.in-Some.ensures)
-      ∙ c.loop-pattern.invariant.2,
+  misfit_next (chars c.loop-pattern.pattern.now) c.in-Some.field-0-0 (chars c.in-Some.rest.now) (chars c.loop-pattern.text.now) c.in-Some.ensures c.in-Misfit.ensures ∙ c.loop-pattern.invariant.2,
 )
 
 pub returns-in-None : goal.returns-in-None
-returns-in-None c =
-    let misfits = c.in-Misfit.ensures in
-    sym (misfit_last (chars c.loop-pattern.pattern.now) (misfits ∙ ap (prefix_match (chars c.loop-pattern.pattern.now)) c.in-None.ensures))
-    ∙ ap (fits_some_end (chars c.loop-pattern.pattern.now)) (sym c.in-None.ensures)
-    ∙ c.loop-pattern.invariant.2
+returns-in-None c = misfit_last (chars c.loop-pattern.pattern.now) (chars c.loop-pattern.text.now) c.in-None.ensures c.in-Misfit.ensures ∙ c.loop-pattern.invariant.2

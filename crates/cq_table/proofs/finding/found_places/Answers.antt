@@ -1,14 +1,12 @@
-use Rattle.std.proofs.Common.{◌≡◌, ◌∙◌, ◌+◌, ◌<◌, ◌++◌, [], List, ℕ, ap, arith, length, rules, subst, sym}
+use Rattle.std.proofs.Common.{◌≡◌, ◌∙◌, ◌++◌, [], List, ℕ, ap, arith, length, rules, subst, sym}
 use Rattle.std.specs.List.{AllByRecursion}
-use Rattle.std.proofs.lemmas.List.{append-nil, append_assoc, length-append}
+use Rattle.std.proofs.lemmas.List.{append-nil, length-append}
 use Rattle.cq_model.specs.Meaning.{keeps}
 use Rattle.cq_model_bags.proofs.Lists.{all-front}
 use Rattle.cq_model.specs.Width.{IsNarrowIn}
-use Rattle.cq_operators_scans.specs.Kept.{places_where}
-use Rattle.cq_segments.specs.Marked.{MarkedRow}
 use Rattle.cq_table_columns.specs.Stored.{all_rows, front_rows, marked_rows, stored_marked}
 use Rattle.cq_table.specs.Found.{passes}
-use Rattle.cq_table.proofs.Founds.{all-behind, none-pass, places-append}
+use Rattle.cq_table.proofs.Founds.{all-behind, none-pass, places-split}
 use Rattle.cq_table.proofs.finding.found_places.Goals as goal
 
 pub find_in-requires-clause-narrow : goal.find_in-requires-clause-narrow
@@ -24,19 +22,11 @@ find_in-requires-clause-counted c =
 
 pub loop-left-preserved : goal.loop-left-preserved
 loop-left-preserved c =
-    let test = passes (keeps c.args.condition.now) in
     let l = c.loop-left in
     let front = marked_rows c.split_piece.result.0 in
     let rest = stored_marked c.split_piece.result.1 in
-    let parts = places-append test l.before front rest in
-    let span : l.before + c.span-before.result ≡ l.before + length front = omega (arith, c.span-before.ensures) in
     record {
-      found =
-          ap (λ (ps : List ℕ). ps ++ places_where (l.before + c.span-before.result) test rest) c.in_ok-find_in.ensures
-          ∙ append_assoc l.found.items (places_where l.before test front) (places_where (l.before + c.span-before.result) test rest)
-          ∙ ap (λ (ps : List ℕ). l.found.items ++ ps)
-          (ap (λ (n : ℕ). places_where l.before test front ++ places_where n test rest) span ∙ sym parts ∙ ap (places_where l.before test) (sym c.split_piece.ensures.parts))
-          ∙ l.invariant.found;
+      found = places-split (passes (keeps c.args.condition.now)) l.before c.span-before.result front rest _ c.split_piece.ensures.parts c.span-before.ensures l.found.items _ c.in_ok-find_in.ensures ∙ l.invariant.found;
       counted = omega (arith, l.invariant.counted, c.span-before.ensures, ap length c.split_piece.ensures.parts, length-append front rest);
       narrow = all-behind (IsNarrowIn c.args.condition.now) (all_rows l.left) (front_rows c.split_piece.result.0) (all_rows c.split_piece.result.1) c.split_piece.ensures.rows l.invariant.narrow;
     }

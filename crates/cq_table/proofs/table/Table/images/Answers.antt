@@ -8,11 +8,11 @@ use Rattle.cq_model.specs.declared.assignment.Assignment.{Assignment}
 use Rattle.cq_model.specs.Width.{IsNarrowAt}
 use Rattle.cq_binder_rules.specs.Checks.{MayRefuse}
 use Rattle.cq_table.specs.Checks.{AreNarrowSets, fault_of, values_fault}
-use Rattle.cq_table.specs.Table.{live_rows, stored_in, table_rows}
+use Rattle.cq_table.specs.Table.{stored_in, table_rows}
 use Rattle.cq_table.proofs.Checked.{fault_same}
-use Rattle.cq_table.proofs.Founds.{all-found, live_there}
-use Rattle.cq_table.proofs.RowLists.{all_of_rows, turned}
-use Rattle.cq_table.proofs.Tables.{picks}
+use Rattle.cq_table.proofs.Founds.{live_there}
+use Rattle.cq_table.proofs.RowLists.{turned}
+use Rattle.cq_table.proofs.Tables.{all-rows_found, picks}
 use Rattle.cq_table.proofs.table.Table.images.Goals as goal
 
 pub chosen-requires : goal.chosen-requires
@@ -21,17 +21,13 @@ chosen-requires c = live_there c.args.found.now (stored_in c.args.self.now) c.re
 pub check_values-requires : goal.check_values-requires
 check_values-requires c =
     let sets = c.args.assignments.now in
-    let t = c.args.self.now in
     let gone = c.in_ok-gone.ensures ∙ ap stored_rows c.deref.ensures.value ∙ c.in_ok-chosen.ensures in
-    let narrow = all-found (AreNarrowSets sets) c.args.found.now (stored_in t) c.requires.live (all_of_rows (AreNarrowSets sets) (live_rows t) c.requires.narrow) in
-    rw (c.deref-2.ensures.value, gone) (turned (λ (r : Row) (a : Assignment). IsNarrowAt a.value r) _ sets narrow)
+    rw (c.deref-2.ensures.value, gone) (turned (λ (r : Row) (a : Assignment). IsNarrowAt a.value r) _ sets (all-rows_found (AreNarrowSets sets) c.args.self.now c.args.found.now c.requires.live c.requires.narrow))
 
 pub images-requires : goal.images-requires
 images-requires c =
-    let sets = c.args.assignments.now in
-    let t = c.args.self.now in
     let gone = c.in_ok-gone.ensures ∙ ap stored_rows c.deref.ensures.value ∙ c.in_ok-chosen.ensures in
-    rw (c.deref-3.ensures.value, gone) (all-found (AreNarrowSets sets) c.args.found.now (stored_in t) c.requires.live (all_of_rows (AreNarrowSets sets) (live_rows t) c.requires.narrow))
+    rw (c.deref-3.ensures.value, gone) (all-rows_found (AreNarrowSets c.args.assignments.now) c.args.self.now c.args.found.now c.requires.live c.requires.narrow)
 
 pub returns-in_err-check_values-clause-found : goal.returns-in_err-check_values-clause-found
 returns-in_err-check_values-clause-found c condition found =

@@ -8,9 +8,7 @@ use Rattle.cq_table.proofs.Tables.{kept-exchanged, leaves, marks_with, still_the
 use Rattle.cq_table.proofs.table.Table.replace.Goals as goal
 
 pub append-requires : goal.append-requires
-append-requires c =
-    let t = table_of c.self.inside.layout c.self.inside.max_rows c.self.inside.segments.items c.self.inside.written.rows in
-    record { wide = rw (c.len-width.ensures, c.of.ensures) (wide-with t c.self.inside.live c.self.invariant c.args.images.items (rw (← c.self.view_is) at c.requires.fitting)) }
+append-requires c = record { wide = rw (c.len-width.ensures, c.of.ensures) (wide-with _ c.self.inside.live c.self.invariant c.args.images.items (rw (← c.self.view_is) at c.requires.fitting)) }
 
 pub mark_all-requires : goal.mark_all-requires
 mark_all-requires c =
@@ -20,11 +18,9 @@ mark_all-requires c =
 pub invariant_of-self-2 : goal.invariant_of-self-2
 invariant_of-self-2 c =
     let t = table_of c.self.inside.layout c.self.inside.max_rows c.self.inside.segments.items c.self.inside.written.rows in
-    let places = c.args.found.now in
-    let images = c.args.images.items in
     let are = rw (← c.self.view_is) at c.requires.live in
-    let is = rw c.places.ensures at c.mark_all.ensures.stored ∙ marks_with t places are images c.append.new.self.rows (rw c.of.ensures at c.in_ok-append.ensures.ok) in
-    kept-exchanged t c.self.inside.live c.self.invariant c.mark_all.new.segments.items c.mark_all.new.written.rows places are images (rw (← c.self.view_is) at c.requires.fitting) is c.mark_all.ensures.segments
+    let is = rw c.places.ensures at c.mark_all.ensures.stored ∙ marks_with t c.args.found.now are c.args.images.items c.append.new.self.rows (rw c.of.ensures at c.in_ok-append.ensures.ok) in
+    kept-exchanged _ c.self.inside.live c.self.invariant c.mark_all.new.segments.items c.mark_all.new.written.rows c.args.found.now are c.args.images.items (rw (← c.self.view_is) at c.requires.fitting) is c.mark_all.ensures.segments
     c.self.inside.live (omega (arith, c.requires.count)) (omega (arith, c.requires.count))
 
 pub returns-clause-ok : goal.returns-clause-ok

@@ -1,14 +1,10 @@
-use Rattle.std.proofs.Common.{◌∙◌, List, ◌++◌, length, sym, ap}
-use Rattle.std.proofs.lemmas.List.{length-map}
+use Rattle.std.proofs.Common.{◌∙◌, sym}
 use Rattle.std.proofs.lemmas.Result.{err_from_is_err_and}
-use Rattle.cq_values.specs.Value.{Row}
-use Rattle.cq_model_bags.specs.Canonical.{bag_of}
 use Rattle.cq_model.specs.Meaning.{keeps}
-use Rattle.cq_model.specs.Write.{image_of, left_by}
+use Rattle.cq_model.specs.Write.{image_of}
 use Rattle.cq_model_state.specs.Fitting.{FitsColumns}
-use Rattle.cq_table.specs.Found.{found_rows}
-use Rattle.cq_table.specs.Table.{stored_in, table_rows}
-use Rattle.cq_table.proofs.Replaced.{images_all, length-chosen, same_replaced}
+use Rattle.cq_table.specs.Table.{table_rows}
+use Rattle.cq_table.proofs.Replaced.{images_have, images_replace, length-images}
 use Rattle.cq_table.proofs.table.Table.update_where.Goals as goal
 
 pub find-requires : goal.find-requires
@@ -29,21 +25,12 @@ pub replace-requires-clause-live : goal.replace-requires-clause-live
 replace-requires-clause-live c = c.in_ok-found.ensures.live
 
 pub replace-requires-clause-count : goal.replace-requires-clause-count
-replace-requires-clause-count c =
-    let t = c.args.self.now in
-    let found = c.in_ok-found.ensures in
-    let gone = found_rows (stored_in t) c.in_ok-found.found in
-    ap length c.in_ok-_gone.ensures.images.images ∙ length-map gone (image_of c.args.assignments.now)
-    ∙ length-chosen (keeps c.args.condition.now) (table_rows t) gone found.chosen ∙ sym found.count
+replace-requires-clause-count c = length-images (keeps c.args.condition.now) (table_rows c.args.self.now) _ c.in_ok-found.ensures.chosen (image_of c.args.assignments.now) _ c.in_ok-_gone.ensures.images.images ∙ sym c.in_ok-found.ensures.count
 
 pub replace-requires-clause-fitting : goal.replace-requires-clause-fitting
 replace-requires-clause-fitting c =
-    let t = c.args.self.now in
-    let found = c.in_ok-found.ensures in
-    let gone = found_rows (stored_in t) c.in_ok-found.found in
-    let free = c.in_ok-_gone.ensures.found c.args.condition.now found.found in
-    rw c.in_ok-_gone.ensures.images.images
-    (images_all (keeps c.args.condition.now) (table_rows t) gone found.chosen (image_of c.args.assignments.now) (FitsColumns t.columns) (c.requires.fit free))
+    let free = c.in_ok-_gone.ensures.found c.args.condition.now c.in_ok-found.ensures.found in
+    images_have (keeps c.args.condition.now) (table_rows c.args.self.now) _ c.in_ok-found.ensures.chosen (image_of c.args.assignments.now) _ c.in_ok-_gone.ensures.images.images (FitsColumns c.args.self.now.columns) (c.requires.fit free)
 
 pub returns-clause-checked : goal.returns-clause-checked
 returns-clause-checked c = c.in_ok-_gone.ensures.found c.args.condition.now c.in_ok-found.ensures.found
@@ -53,9 +40,5 @@ returns-clause-count c = c.len.ensures ∙ c.in_ok-found.ensures.count
 
 pub returns-clause-updated : goal.returns-clause-updated
 returns-clause-updated c =
-    let t = c.args.self.now in
-    let found = c.in_ok-found.ensures in
-    let gone = found_rows (stored_in t) c.in_ok-found.found in
-    c.in_ok-replace.ensures.left c.args.condition.now found.found
-    ∙ ap (λ (rs : List Row). bag_of (left_by c.args.condition.now (table_rows t) ++ rs)) c.in_ok-_gone.ensures.images.images
-    ∙ same_replaced (keeps c.args.condition.now) (table_rows t) gone found.chosen (image_of c.args.assignments.now)
+    c.in_ok-replace.ensures.left c.args.condition.now c.in_ok-found.ensures.found
+    ∙ images_replace (keeps c.args.condition.now) (table_rows c.args.self.now) _ c.in_ok-found.ensures.chosen (image_of c.args.assignments.now) _ c.in_ok-_gone.ensures.images.images
