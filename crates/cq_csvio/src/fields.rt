@@ -1,5 +1,6 @@
 //! Texts and values as fields.
 ghost use Rattle.std.specs.Prelude.{◌≡◌, List, OnOk, ℕ};
+ghost use Rattle.std.specs.Fmt.{signed_decimal};
 ghost use Rattle.cq_csvio.specs.Lines.{Adds};
 ghost use Rattle.cq_values.specs.Printed.{date_text, two_digits, value_text};
 
@@ -30,10 +31,7 @@ impl Field for Value {
 
     fn add_to(&self, lines: &mut Lines) -> Result<(), TextFault> {
         match self {
-            Value::Number(n) => {
-                let mut buffer = Buffer::new();
-                lines.add(buffer.format(*n).as_bytes())
-            }
+            Value::Number(n) => add_number(lines, *n),
             Value::Day(day) => lines.add(&date_bytes(*day)),
             // A text that begins with a backslash gets one more, so that it is not taken for NULL.
             Value::Text(text) => match text.as_str().as_bytes() {
@@ -42,6 +40,17 @@ impl Field for Value {
             },
             Value::Null => lines.add(b"\\N"),
         }
+    }
+}
+
+/// Most numbers fit 64 bits, and are printed faster there.
+fn add_number(lines: &mut Lines, n: i128) -> Result<(), TextFault>
+    ensures { OnOk result (Adds (signed_decimal n) lines.old lines.new) }
+{
+    let mut buffer = Buffer::new();
+    match i64::try_from(n) {
+        Ok(small) => lines.add(buffer.format(small).as_bytes()),
+        Err(_) => lines.add(buffer.format(n).as_bytes()),
     }
 }
 

@@ -1,22 +1,23 @@
 -- The ranks of rows lead as the listing stands, so sorting packed rows lists the rows.
-use Rattle.std.proofs.Common.{◌≡◌, ◌<◌, ℕ, zero, suc, ◌+◌, ◌^◌, false, List, [], ◌∷◌, map, length, get_or, refl, sym, ◌∙◌, ap, subst, arith, Ordering, nat_cmp}
+use Rattle.std.proofs.Common.{◌≡◌, ◌<◌, ℕ, zero, suc, ◌+◌, ◌^◌, ◌++◌, false, List, [], ◌∷◌, map, length, take, get_or, Option, Some, None, refl, sym, ◌∙◌, ap, subst, arith, Ordering, nat_cmp}
+use Rattle.std.specs.Prelude.{slice_get}
 use Rattle.std.specs.Ordering.{is_lt, ordering_then}
 use Rattle.std.specs.List.{All}
 use Rattle.std.specs.List.Sorted.{IsPermutation, IsSortedBy}
 use Rattle.std.specs.Cmp.{IsTotalOrder}
 use Rattle.std.proofs.lemmas.Cmp.{on_total, then_total, nat_cmp_total}
-use Rattle.std.proofs.lemmas.List.{get_or-map, length-map}
+use Rattle.std.proofs.lemmas.List.{append-nil, append_assoc, get_or-map, length-map, map-append, take-map, take_all, take_more}
 use Rattle.std.proofs.lemmas.List.Elements.{All-map}
 use Rattle.std.proofs.lemmas.List.Sorted.{All-permutation, IsPermutation-map}
 use Rattle.cq_values.specs.Value.{Row, column}
 use Rattle.cq_values.specs.Order.{row_cmp}
 use Rattle.cq_model_bags.specs.declared.sort_key.SortKey.{SortKey}
 use Rattle.cq_model_bags.specs.Bag.{once_each}
-use Rattle.cq_model_bags.specs.Listing.{Lists, listing_cmp}
+use Rattle.cq_model_bags.specs.Listing.{IsListing, Lists, listing_cmp}
 use Rattle.cq_model_bags.proofs.Listings.{listing_cmp_total}
 use Rattle.cq_model_bags.proofs.Sorts.{SameBag-permutation, in_order-sorted}
-use Rattle.cq_operators_listing.specs.declared.packed.Packed.{Packed}
-use Rattle.cq_operators_listing.specs.Packed.{IsPackedFor, packed, cmp_packed}
+use Rattle.cq_operators_listing.specs.Packed.{IsPackedFor, RankedRow, TakesFirst, packed, cmp_packed}
+use Rattle.cq_operators_listing.specs.Stored.{rows_in}
 use Rattle.cq_operators_listing.specs.Ranks.{column_rank, key_rank, row_ranks}
 use Rattle.cq_operators_listing.proofs.Tellings.{Leads, led, value-small, directed-leads, directed-small, joined-leads}
 
@@ -56,38 +57,74 @@ row-leads (k ∷ l ∷ ks) r s =
 
 -- ---- packed rows
 pub cmp_packed_total : (keys : List SortKey) → IsTotalOrder (cmp_packed keys)
-cmp_packed_total keys = then_total (on_total (λ (p : Packed). p.ranks) nat_cmp_total) (on_total (λ (p : Packed). p.row) (listing_cmp_total keys))
+cmp_packed_total keys = then_total (on_total (λ (p : RankedRow). p.ranks) nat_cmp_total) (on_total (λ (p : RankedRow). p.row) (listing_cmp_total keys))
 
 -- packed rows compare as the rows
-pub cmp_packed-rows : (keys : List SortKey) (p q : Packed) → IsPackedFor keys p → IsPackedFor keys q → cmp_packed keys p q ≡ listing_cmp keys p.row q.row
+pub cmp_packed-rows : (keys : List SortKey) (p q : RankedRow) → IsPackedFor keys p → IsPackedFor keys q → cmp_packed keys p q ≡ listing_cmp keys p.row q.row
 cmp_packed-rows keys p q e f =
-    ap (λ (n : ℕ). ordering_then (nat_cmp n q.ranks) (listing_cmp keys p.row q.row)) (ap (λ (p : Packed). p.ranks) e)
-    ∙ ap (λ (n : ℕ). ordering_then (nat_cmp (row_ranks keys p.row) n) (listing_cmp keys p.row q.row)) (ap (λ (p : Packed). p.ranks) f)
+    ap (λ (n : ℕ). ordering_then (nat_cmp n q.ranks) (listing_cmp keys p.row q.row)) (ap (λ (p : RankedRow). p.ranks) e)
+    ∙ ap (λ (n : ℕ). ordering_then (nat_cmp (row_ranks keys p.row) n) (listing_cmp keys p.row q.row)) (ap (λ (p : RankedRow). p.ranks) f)
     ∙ led (row_ranks keys p.row) (row_ranks keys q.row) (listing_cmp keys p.row q.row) (row-leads keys p.row q.row)
 
-unpacked : (keys : List SortKey) (rows : List Row) → map (λ (p : Packed). p.row) (map (packed keys) rows) ≡ rows
+unpacked : (keys : List SortKey) (rows : List Row) → map (λ (p : RankedRow). p.row) (map (packed keys) rows) ≡ rows
 unpacked keys [] = refl
 unpacked keys (r ∷ rows) = ap (λ (rs : List Row). r ∷ rs) (unpacked keys rows)
 
 -- packed rows that are sorted are a listing of the rows
-pub lists-packed : (keys : List SortKey) (rows : List Row) (packs : List Packed) → IsPermutation (map (packed keys) rows) packs
+pub lists-packed : (keys : List SortKey) (rows : List Row) (packs : List RankedRow) → IsPermutation (map (packed keys) rows) packs
     → IsSortedBy (λ p q. is_lt (cmp_packed keys p q)) packs → Lists keys (once_each rows) (map (λ p. p.row) packs)
 lists-packed keys rows packs moved sorted =
     let all : All (IsPackedFor keys) packs =
     All-permutation (IsPackedFor keys) _ _ moved (All-map (IsPackedFor keys) (packed keys) rows (λ i d h. refl)) in
-    let rows_moved : IsPermutation rows (map (λ (p : Packed). p.row) packs) =
-    subst (λ (rs : List Row). IsPermutation rs (map (λ (p : Packed). p.row) packs)) (unpacked keys rows) (IsPermutation-map (λ (p : Packed). p.row) _ _ moved) in
+    let rows_moved : IsPermutation rows (map (λ (p : RankedRow). p.row) packs) =
+    subst (λ (rs : List Row). IsPermutation rs (map (λ (p : RankedRow). p.row) packs)) (unpacked keys rows) (IsPermutation-map (λ (p : RankedRow). p.row) _ _ moved) in
     record {
-      same = SameBag-permutation rows (map (λ (p : Packed). p.row) packs) rows_moved;
-      in_order = in_order-sorted (listing_cmp_total keys) (map (λ (p : Packed). p.row) packs) (rows_sorted all);
+      same = SameBag-permutation rows (map (λ (p : RankedRow). p.row) packs) rows_moved;
+      in_order = in_order-sorted (listing_cmp_total keys) (map (λ (p : RankedRow). p.row) packs) (rows_sorted all);
     }
   where
-    rows_sorted : All (IsPackedFor keys) packs → IsSortedBy (λ x y. is_lt (listing_cmp keys x y)) (map (λ (p : Packed). p.row) packs)
+    rows_sorted : All (IsPackedFor keys) packs → IsSortedBy (λ x y. is_lt (listing_cmp keys x y)) (map (λ (p : RankedRow). p.row) packs)
     rows_sorted all k d low high =
-        let e : Packed = packed keys d in
-        let within : k + 1 < length packs = subst (λ (n : ℕ). k + 1 < n) (length-map packs (λ (p : Packed). p.row)) high in
+        let e : RankedRow = packed keys d in
+        let within : k + 1 < length packs = subst (λ (n : ℕ). k + 1 < n) (length-map packs (λ (p : RankedRow). p.row)) high in
         let here : k < length packs = omega (arith, within) in
-        ap (λ (r : Row). is_lt (listing_cmp keys r (get_or (map (λ (p : Packed). p.row) packs) k d))) (get_or-map (λ (p : Packed). p.row) packs (k + 1) e d within)
-        ∙ ap (λ (r : Row). is_lt (listing_cmp keys (get_or packs (k + 1) e).row r)) (get_or-map (λ (p : Packed). p.row) packs k e d here)
+        ap (λ (r : Row). is_lt (listing_cmp keys r (get_or (map (λ (p : RankedRow). p.row) packs) k d))) (get_or-map (λ (p : RankedRow). p.row) packs (k + 1) e d within)
+        ∙ ap (λ (r : Row). is_lt (listing_cmp keys (get_or packs (k + 1) e).row r)) (get_or-map (λ (p : RankedRow). p.row) packs k e d here)
         ∙ ap is_lt (sym (cmp_packed-rows keys (get_or packs (k + 1) e) (get_or packs k e) (all (k + 1) e within) (all k e here)))
         ∙ sorted k e low within
+
+-- and as many of them as LIMIT leaves are the listing that it cuts
+pub listing-packed : (keys : List SortKey) (limit : Option ℕ) (rows : List Row) (packs : List RankedRow) (count : ℕ) → IsPermutation (map (packed keys) rows) packs
+    → IsSortedBy (λ p q. is_lt (cmp_packed keys p q)) packs → TakesFirst limit (length packs) count → IsListing keys limit (once_each rows) (map (λ p. p.row) (take count packs))
+listing-packed keys limit rows packs count moved sorted first =
+    let all = map (λ (p : RankedRow). p.row) packs in (
+      all,
+      lists-packed keys rows packs moved sorted,
+      sym (take-map (λ (p : RankedRow). p.row) count packs) ∙ sym (first all (length-map packs (λ (p : RankedRow). p.row))),
+    )
+
+-- without LIMIT all rows are left
+pub takes-none : (len : ℕ) → TakesFirst None len len
+takes-none len rows e = sym (take_all len rows (omega (arith, e)))
+
+-- ---- rows of several lists
+pub rows_in-more : (lists : List (List Row)) (rows : List Row) → rows_in (lists ++ rows ∷ []) ≡ rows_in lists ++ rows
+rows_in-more [] rows = append-nil rows
+rows_in-more (l ∷ lists) rows = ap (λ (rs : List Row). l ++ rs) (rows_in-more lists rows) ∙ sym (append_assoc l (rows_in lists) rows)
+
+-- those of one list more are packed
+pub packed-more : (keys : List SortKey) (lists : List (List Row)) (k : ℕ) (d : List Row) → k < length lists
+    → map (packed keys) (rows_in (take k lists)) ++ map (packed keys) (get_or lists k d) ≡ map (packed keys) (rows_in (take (k + 1) lists))
+packed-more keys lists k d h =
+    sym (map-append (packed keys) (rows_in (take k lists)) (get_or lists k d))
+    ∙ ap (map (packed keys)) (sym (rows_in-more (take k lists) (get_or lists k d)) ∙ ap (λ (ls : List (List Row)). rows_in ls) (sym (take_more lists k d h)))
+
+-- a row of the first list is the one of all
+get_front : (xs ys : List Row) (k : ℕ) (w : Row) → slice_get xs k ≡ Some w → slice_get (xs ++ ys) k ≡ Some w
+get_front [] ys k w h = absurd (cc h)
+get_front (x ∷ xs) ys zero w h = h
+get_front (x ∷ xs) ys (suc k) w h = get_front xs ys k w h
+
+pub in_first : (lists : List (List Row)) (first : List Row) (k : ℕ) (w : Row) → slice_get lists 0 ≡ Some first → slice_get first k ≡ Some w → slice_get (rows_in lists) k ≡ Some w
+in_first [] first k w is at = absurd (cc is)
+in_first (l ∷ lists) first k w is at = get_front l (rows_in lists) k w (subst (λ (f : List Row). slice_get f k ≡ Some w) (cc (sym is)) at)

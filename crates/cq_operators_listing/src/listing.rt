@@ -1,24 +1,25 @@
 //! Listings: what ORDER BY and LIMIT show of rows that come in any order.
 //!
 //! `new` names the order; `add` takes the rows of a batch and `add_rows` rows that are made, any number of times;
-//! `rows` gives the one list at the end. Without LIMIT all rows are kept and sorted once. With one of up to 1,000,000
-//! the list is cut when it has twice as many rows and 1,024 more, and a place whose first key stands behind the last
-//! row that is kept becomes no row. So memory grows with the limit, and a row costs a comparison or its part of a sort.
-ghost use Rattle.std.specs.Prelude.{[], ◌++◌, ◌≡◌, ◌≤◌, IfOk, IfSome, List, OnOk, Some, map, take};
+//! `rows` gives the one list at the end. The rows of a batch stand in one list of values, where they are sorted by places;
+//! only those that are listed become rows, one behind the other. Without LIMIT all are kept and sorted once. With one of
+//! up to 1,000,000 the list is cut when it has twice as many rows and 1,024 more, and a place whose first key stands
+//! behind the last row that is kept becomes no row. So memory grows with the limit, and a row costs a comparison or its
+//! part of a sort.
+ghost use Rattle.std.specs.Prelude.{[], ◌++◌, ◌≡◌, ◌≤◌, IfOk, IfSome, List, OnOk, Some, map, slice_get};
 ghost use Rattle.cq_values.specs.Value.{Row as Values};
-ghost use Rattle.cq_model_bags.specs.Bag.{once_each};
-ghost use Rattle.cq_model_bags.specs.Listing.{IsListing, Lists, first_rows};
 ghost use Rattle.cq_vectors.specs.Batch.{row_at, rows_of};
 ghost use Rattle.cq_operators_listing.specs.Front.{IsWorst};
 ghost use Rattle.cq_operators_listing.specs.Places.{ArePlaces, first_key as first_of};
-ghost use Rattle.cq_operators_listing.specs.Stored.{CanList, ListsAll, TakesIn};
+ghost use Rattle.cq_operators_listing.specs.Stored.{AreFirstOf, CanList, ListsAll, TakesIn, rows_in};
 
-use crate::arranging::sort;
-use crate::places::{copied, places_before, push_rows};
+use crate::arranging::{first_listed, pack_all};
+use crate::places::{copied, places_before, rows_at};
 use cq_model::Order;
 use cq_model_bags::SortKey;
-use cq_values::Row;
-use cq_vectors::{Batch, Vector};
+use cq_values::{Row, Value, lend_column};
+use cq_values_rows::RowList;
+use cq_vectors::Batch;
 use std::alloc::{AllocError, Global};
 use std::marker::Model;
 
@@ -26,7 +27,10 @@ use std::marker::Model;
 #[derive(Drop)]
 pub struct Listing<'q> {
     order: &'q Order,
-    rows: Vec<Row>,
+    /// The rows, one list behind the other.
+    lists: Vec<RowList>,
+    /// How many rows there are.
+    len: usize,
     /// How many rows in front are in order, where they are as many as LIMIT allows.
     front: Option<usize>,
 }
@@ -34,13 +38,13 @@ pub struct Listing<'q> {
 impl<'q> Model for Listing<'q> {
     ghost use Rattle.std.specs.Prelude.{IfSome};
     ghost use Rattle.cq_operators_listing.specs.Front.{IsFront};
-    ghost use Rattle.cq_operators_listing.specs.Stored.{StoredListing, kept_for};
+    ghost use Rattle.cq_operators_listing.specs.Stored.{StoredListing, kept_for, rows_in};
 
     ghost Value = { StoredListing };
 
-    ghost view = { λ l. kept_for l.order.now l.rows.items };
+    ghost view = { λ l. kept_for l.order.now (rows_in l.lists.items) };
 
-    ghost invariant = { λ l. IfSome l.front (IsFront (kept_for l.order.now l.rows.items)) };
+    ghost invariant = { λ l. IfSome l.front (IsFront (kept_for l.order.now (rows_in l.lists.items))) };
 }
 
 impl<'q> Listing<'q> {
@@ -51,7 +55,8 @@ impl<'q> Listing<'q> {
     {
         Listing {
             order,
-            rows: Vec::new(alloc),
+            lists: Vec::new(alloc),
+            len: 0,
             front: None,
         }
     }
@@ -63,7 +68,8 @@ impl<'q> Listing<'q> {
         ensures ok { OnOk result (TakesIn self.old self.new (rows_of batch.now)) }
     {
         let places = self.places_of(alloc, batch)?;
-        self.push_places(alloc, batch.columns.as_slice(), places.as_slice())?;
+        let rows = rows_at(alloc, batch.columns.as_slice(), places.as_slice())?;
+        self.append(RowList::flat(rows))?;
         self.cut(alloc)?;
         Ok(())
     }
@@ -74,7 +80,7 @@ impl<'q> Listing<'q> {
         ensures limit { self.new.limit ≡ self.old.limit }
         ensures ok { OnOk result (TakesIn self.old self.new rows.items) }
     {
-        self.append(rows)?;
+        self.append(RowList::listed(rows))?;
         self.cut(alloc)?;
         Ok(())
     }
@@ -83,18 +89,25 @@ impl<'q> Listing<'q> {
     pub fn rows(self, alloc: Global) -> Result<Vec<Row>, AllocError>
         ensures { ListsAll self.entry result }
     {
-        let Listing { order, rows, .. } = self;
-        let mut rows = rows;
-        sort(alloc, &mut rows, order.keys.as_slice())?;
-        Ok(limited(rows, order.limit))
+        let rows = self.first_rows(alloc, self.order.limit)?;
+        Ok(rows)
+    }
+
+    /// The first rows in order.
+    fn first_rows(&self, alloc: Global, limit: Option<u128>) -> Result<Vec<Row>, AllocError>
+        ensures { IfOk result (λ first. AreFirstOf self.now limit first.items) }
+    {
+        let keys = self.order.keys.as_slice();
+        let packs = pack_all(alloc, keys, self.lists.as_slice())?;
+        first_listed(alloc, keys, limit, packs)
     }
 
     /// The last of the rows in front, where they are as many as LIMIT allows.
-    fn worst(&self) -> Option<&Row>
+    fn worst(&self) -> Option<&[Value]>
         ensures { IfSome result (λ worst. IsWorst self.now worst.now) }
     {
         match self.front {
-            Some(count) if count > 0 => self.rows.as_slice().get(count - 1),
+            Some(count) if count > 0 => row_in_first(self.lists.as_slice(), count - 1),
             _ => None,
         }
     }
@@ -107,39 +120,21 @@ impl<'q> Listing<'q> {
         if let Some(worst) = self.worst() {
             let key = first_key(self.order.keys.as_slice());
             if let Some(column) = batch.columns.as_slice().get(key.column) {
-                let limit = worst.lend(key.column);
+                let limit = lend_column(worst, key.column);
                 return places_before(alloc, key.descending, column, &limit, places);
             }
         }
         copied(alloc, places)
     }
 
-    fn push_places(
-        &mut self,
-        alloc: Global,
-        columns: &[Vector<'_>],
-        places: &[u16],
-    ) -> Result<(), AllocError>
+    fn append(&mut self, rows: RowList) -> Result<(), AllocError>
         ensures keys { self.new.keys ≡ self.old.keys }
         ensures limit { self.new.limit ≡ self.old.limit }
-        ensures rows { OnOk result (self.new.rows ≡ self.old.rows ++ map (row_at columns.now) places.now) }
+        ensures rows { OnOk result (self.new.rows ≡ self.old.rows ++ rows) }
     {
-        let front = self.front;
-        self.front = None;
-        push_rows(alloc, columns, places, &mut self.rows)?;
-        self.front = front;
-        Ok(())
-    }
-
-    fn append(&mut self, rows: Vec<Row>) -> Result<(), AllocError>
-        ensures keys { self.new.keys ≡ self.old.keys }
-        ensures limit { self.new.limit ≡ self.old.limit }
-        ensures rows { OnOk result (self.new.rows ≡ self.old.rows ++ rows.items) }
-    {
-        let front = self.front;
-        self.front = None;
-        append_rows(&mut self.rows, rows)?;
-        self.front = front;
+        let len = self.len.saturating_add(rows.len());
+        self.lists.push(rows)?;
+        self.len = len;
         Ok(())
     }
 
@@ -150,7 +145,7 @@ impl<'q> Listing<'q> {
         ensures ok { OnOk result ((all : List Values) → CanList self.old all → CanList self.new all) }
     {
         if let Some(count) = cut_size(self.order.limit) {
-            if self.rows.len() >= 2 * count + 1024 {
+            if self.len >= 2 * count + 1024 {
                 self.cut_to(alloc, count)?;
             }
         }
@@ -163,25 +158,35 @@ impl<'q> Listing<'q> {
         ensures limit { self.new.limit ≡ self.old.limit }
         ensures ok { OnOk result ((all : List Values) → CanList self.old all → CanList self.new all) }
     {
+        let first = self.first_rows(alloc, Some(count as u128))?;
+        let len = first.len();
+        let lists = alone(alloc, first)?;
         self.front = None;
-        keep_first(alloc, &mut self.rows, self.order.keys.as_slice(), count)?;
-        if count <= self.rows.len() {
+        self.lists = lists;
+        self.len = len;
+        if count <= len {
             self.front = Some(count);
         }
         Ok(())
     }
 }
 
-/// Puts rows behind others. Where there are no others, the rows are kept where they are.
-fn append_rows(to: &mut Vec<Row>, rows: Vec<Row>) -> Result<(), AllocError>
-    ensures { OnOk result (to.new.items ≡ to.old.items ++ rows.items) }
+/// The rows as the only list.
+fn alone(alloc: Global, rows: Vec<Row>) -> Result<Vec<RowList>, AllocError>
+    ensures { IfOk result (λ lists. rows_in lists.items ≡ rows.items) }
 {
-    let mut rows = rows;
-    if to.is_empty() {
-        *to = rows;
-        Ok(())
-    } else {
-        to.append(&mut rows)
+    let mut lists = Vec::new(alloc);
+    lists.push(RowList::listed(rows))?;
+    Ok(lists)
+}
+
+/// The row at a place, where it is in the first list.
+fn row_in_first(lists: &[RowList], place: usize) -> Option<&[Value]>
+    ensures { IfSome result (λ row. slice_get (rows_in lists.now) place ≡ Some row.now) }
+{
+    match lists.get(0) {
+        Some(first) if place < first.len() => Some(first.row(place)),
+        _ => None,
     }
 }
 
@@ -206,36 +211,4 @@ fn first_key(keys: &[SortKey]) -> SortKey
             descending: false,
         },
     }
-}
-
-/// The first rows of the list alone, in order.
-fn keep_first(
-    alloc: Global,
-    rows: &mut Vec<Row>,
-    keys: &[SortKey],
-    count: usize,
-) -> Result<(), AllocError>
-    ensures { OnOk result (IsListing keys.now (Some count) (once_each rows.old.items) rows.new.items) }
-{
-    sort(alloc, rows, keys)?;
-    rows.truncate(count);
-    Ok(())
-}
-
-/// The rows that LIMIT leaves. A limit may be larger than any list.
-fn limited(rows: Vec<Row>, limit: Option<u128>) -> Vec<Row>
-    ensures { result.items ≡ first_rows limit rows.items }
-{
-    match limit {
-        Some(limit) if limit < rows.len() as u128 => first_rows(rows, limit as usize),
-        _ => rows,
-    }
-}
-
-fn first_rows(rows: Vec<Row>, count: usize) -> Vec<Row>
-    ensures { result.items ≡ take count rows.items }
-{
-    let mut rows = rows;
-    rows.truncate(count);
-    rows
 }

@@ -1,11 +1,12 @@
 //! The places of a batch that become rows.
-ghost use Rattle.std.specs.Prelude.{◌≡◌, ◌++◌, IfOk, OnOk, map};
+ghost use Rattle.std.specs.Prelude.{◌≡◌, ◌++◌, ◌∷◌, [], IfOk, OnOk, map};
 ghost use Rattle.cq_values.specs.Lent.{owned};
 ghost use Rattle.cq_vectors.specs.Batch.{row_at as values_at};
 ghost use Rattle.cq_operators_listing.specs.Places.{places_before as before};
 
 use crate::comparing::cmp_directed;
-use cq_values::{Lent, Row};
+use cq_values::Lent;
+use cq_values_rows::FlatRows;
 use cq_vectors::Vector;
 use std::alloc::{AllocError, Global};
 
@@ -41,28 +42,33 @@ pub(crate) fn copied(alloc: Global, places: &[u16]) -> Result<Vec<u16>, AllocErr
     Ok(kept)
 }
 
-/// Adds a row of copies for each of the places.
-pub(crate) fn push_rows(
+/// The rows at the places, as copies.
+pub(crate) fn rows_at(
     alloc: Global,
     columns: &[Vector<'_>],
     places: &[u16],
-    to: &mut Vec<Row>,
-) -> Result<(), AllocError>
-    ensures { OnOk result (to.new.items ≡ to.old.items ++ map (values_at columns.now) places.now) }
+) -> Result<FlatRows, AllocError>
+    ensures { IfOk result (λ flat. flat.rows ≡ map (values_at columns.now) places.now) }
 {
+    let mut rows = FlatRows::with_capacity(alloc, places.len(), columns.len())?;
     for place in places {
-        let row = row_at(alloc, columns, *place as usize)?;
-        to.push(row)?;
+        push_row(alloc, columns, *place as usize, &mut rows)?;
     }
-    Ok(())
+    Ok(rows)
 }
 
-fn row_at(alloc: Global, columns: &[Vector<'_>], place: usize) -> Result<Row, AllocError>
-    ensures { IfOk result (λ row. row ≡ values_at columns.now place) }
+fn push_row(
+    alloc: Global,
+    columns: &[Vector<'_>],
+    place: usize,
+    to: &mut FlatRows,
+) -> Result<(), AllocError>
+    requires { to.old.begun ≡ [] }
+    ensures rows { OnOk result (to.new.rows ≡ to.old.rows ++ values_at columns.now place ∷ []) }
+    ensures begun { OnOk result (to.new.begun ≡ []) }
 {
-    let mut row = Row::with_capacity(alloc, columns.len())?;
     for column in columns {
-        row.push(column.lend(place).to_value(alloc)?)?;
+        to.push(column.lend(place).to_value(alloc)?)?;
     }
-    Ok(row)
+    to.end_row()
 }
