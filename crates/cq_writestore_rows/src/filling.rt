@@ -2,7 +2,7 @@
 //!
 //! `push` takes the values of a row, from the left, and `end_row` ends it. A value is put where it stays, and 1,024 rows at a
 //! time become a piece. `finish` gives the rows: it makes a row of each that is in no piece. After an error some may be lost.
-ghost use Rattle.std.specs.Prelude.{IfOk, OnOk, [], length, ◌+◌, ◌<◌, ◌^◌, ◌≡◌, ◌≤◌, replicate};
+ghost use Rattle.std.specs.Prelude.{IfOk, OnErr, OnOk, [], length, ◌+◌, ◌<◌, ◌^◌, ◌≡◌, ◌≤◌, replicate};
 ghost use Rattle.cq_segments.specs.Columns.{AreColumns, rows_of_columns};
 ghost use Rattle.cq_segments.specs.Marked.{unmarked};
 ghost use Rattle.cq_values.specs.Lent.{owned};
@@ -114,9 +114,10 @@ impl Filling {
         Ok(NewRows::new(self.pieces, tail))
     }
 
-    /// Refuses a row more than can be counted.
+    /// Refuses a row more than can be counted, and no other.
     fn count_one_more(&self, alloc: Global) -> Result<(), AllocError>
-        ensures { OnOk result (length self.now.rows + 1 < 2 ^ 63) }
+        ensures ok { OnOk result (length self.now.rows + 1 < 2 ^ 63) }
+        ensures refused { OnErr result (2 ^ 63 ≤ length self.now.rows + 1) }
     {
         let count = self.len() + 1;
         widened(alloc, count, count)?;

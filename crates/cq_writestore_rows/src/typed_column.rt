@@ -37,11 +37,20 @@ impl TypedColumn {
         ensures ok { OnOk result (column_values self.new ≡ column_values self.old ++ owned value.now ∷ []) }
         ensures err { OnErr result (column_values self.new ≡ column_values self.old) }
     {
-        if !self.put(value)? {
-            let mut values = self.copies(alloc)?;
-            values.push(value.to_value(alloc)?)?;
-            *self = TypedColumn::Values(values);
+        if self.put(value)? {
+            return Ok(());
         }
+        self.put_any(alloc, value)
+    }
+
+    /// Puts a value behind the others, which need be of no type from now on.
+    fn put_any(&mut self, alloc: Global, value: &Lent<'_>) -> Result<(), AllocError>
+        ensures ok { OnOk result (column_values self.new ≡ column_values self.old ++ owned value.now ∷ []) }
+        ensures err { OnErr result (column_values self.new ≡ column_values self.old) }
+    {
+        let mut values = self.copies(alloc)?;
+        values.push(value.to_value(alloc)?)?;
+        *self = TypedColumn::Values(values);
         Ok(())
     }
 
