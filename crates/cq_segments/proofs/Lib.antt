@@ -1,6 +1,7 @@
 pub mod Ends
 pub mod Flags
 pub mod Marks
+pub mod Misses
 pub mod NumberEnds
 pub mod OneMore
 pub mod Parts

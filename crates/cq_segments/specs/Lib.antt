@@ -1,4 +1,5 @@
 pub mod Bounds
+pub mod ColumnTest
 pub mod Columns
 pub mod Marked
 pub mod Numbers

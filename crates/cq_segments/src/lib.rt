@@ -7,6 +7,7 @@
 
 mod bounds;
 mod building;
+mod column_test;
 mod columns;
 mod held_bounds;
 mod lending;
@@ -22,6 +23,7 @@ mod sorting;
 mod stored_row;
 
 pub use bounds::Bounds;
+pub use column_test::ColumnTest;
 pub use columns::Columns;
 pub use lending::lend_column;
 pub use piece::Piece;

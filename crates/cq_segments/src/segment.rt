@@ -1,11 +1,13 @@
 //! Rows of a table that were built once, column by column.
 //!
 //! `build` sorts rows and encodes each of their columns once; after it only `mark` changes the segment. `pieces` lends
-//! 1,024 rows at a time for readers, and `bounds` says of a column what a scan may skip. To build costs a sort and some
+//! 1,024 rows at a time for readers, and `may_match` says by the `bounds` of a column whether a scan may skip it all. To build costs a sort and some
 //! steps a value; `mark`, `is_marked` and `lend` cost some steps, `marked_len` one step a piece; none of these takes memory.
+ghost use Rattle.std.specs.Bool.{OnFalse};
 ghost use Rattle.std.specs.Prelude.{IfOk, [], false, length, slice_index_or, ◌<◌, ◌≡◌, ◌≤◌};
 ghost use Rattle.std.specs.List.{All};
 ghost use Rattle.cq_segments.specs.Bounds.{AreBounds, ends_of};
+ghost use Rattle.cq_segments.specs.ColumnTest.{NoneMatches};
 ghost use Rattle.cq_segments.specs.Columns.{AreWide};
 ghost use Rattle.cq_segments.specs.Marked.{marked_count, marks_of, rows_of, with_mark};
 ghost use Rattle.cq_segments.specs.Pieces.{joined};
@@ -17,6 +19,7 @@ ghost use Rattle.cq_vectors.specs.Gathered.{column_of};
 
 use crate::bounds::Bounds;
 use crate::building::{encode_columns, make_pieces};
+use crate::column_test::ColumnTest;
 use crate::columns::Columns;
 use crate::held_bounds::HeldBounds;
 use crate::piece::Piece;
@@ -145,6 +148,22 @@ impl Segment {
             None => Bounds {
                 has_null: true,
                 ends: None,
+            },
+        }
+    }
+
+    /// Whether a row may make the test True. By `false` a scan may skip the segment, and no row is lost.
+    pub fn may_match(&self, test: &ColumnTest<'_>) -> bool
+        ensures skips_no_match { OnFalse result (NoneMatches test.now (rows_of self.now)) }
+    {
+        match test {
+            ColumnTest::Compare(column, comparison, constant) => {
+                self.bounds(*column).may_pass(*comparison, constant)
+            }
+            ColumnTest::IsNull(column) => self.bounds(*column).has_null,
+            ColumnTest::IsNotNull(column) => match self.bounds(*column).ends {
+                Some(_) => true,
+                None => false,
             },
         }
     }
