@@ -1,6 +1,7 @@
 -- Numbers of entries that are noted while texts are read by their codes.
-use Rattle.std.proofs.Common.{◌≡◌, ℕ, zero, suc, ap₂, map, replicate, ◌+◌, ◌-◌, ◌<◌, Bool, true, false, cond, List, set, length, get_or, refl, sym, ◌∙◌, ap, subst, arith}
-use Rattle.std.proofs.lemmas.Bool.{cases_lt}
+use Rattle.std.proofs.Common.{◌≡◌, ℕ, zero, suc, ap₂, map, replicate, ◌+◌, ◌-◌, ◌<◌, ◌≤◌, Bool, true, false, true≢false, cond, List, [], ◌∷◌, set, length, get_or, nat_eq, Some, None, refl, sym, ◌∙◌, ap, subst, arith}
+use lib.Lanes.{zip2}
+use Rattle.std.proofs.lemmas.Bool.{cases_lt, eq-eqb}
 use Rattle.std.proofs.lemmas.List.{get_or-set_other, get_or-set_same, length-map}
 use Rattle.std.proofs.lemmas.Simd.{get_or-zip2}
 use Rattle.indexmap.specs.IndexSet.{insert_key}
@@ -8,7 +9,8 @@ use Rattle.cq_values.specs.declared.value.Value.{Value}
 use Rattle.cq_values.specs.declared.value.Value.TheVariants.{Null}
 use Rattle.cq_model.specs.Condition.{is_null}
 use Rattle.cq_vectors_stored.specs.LentColumns.{entries_at, entry_unless}
-use Rattle.cq_hash_keys_values.specs.Coded.{AreNoted, slot_value}
+use Rattle.cq_model_bags.proofs.Totals.{by_test}
+use Rattle.cq_hash_keys_values.specs.Coded.{AreNoted, IsNotedRun, noted_in, slot_for, slot_value}
 use Rattle.cq_hash_keys_values.specs.Met.{IsNumberIn}
 use Rattle.cq_hash_keys_values.specs.Values.{same_value}
 use Rattle.cq_hash_keys_values.proofs.Choices.{by-sum}
@@ -25,6 +27,19 @@ zeros : (n k none : ℕ) → none ≡ 0 → get_or (replicate n none) k none ≡
 zeros zero k none is = is
 zeros (suc n) zero none is = is
 zeros (suc n) (suc k) none is = zeros n k none is
+
+-- a slot that tells a number has one more than it
+noted-some : (slots : List ℕ) (slot n : ℕ) → noted_in slots slot ≡ Some n → (get_or slots slot 0 ≡ 0 → ⊥) × (get_or slots slot 0 - 1 ≡ n)
+noted-some slots slot n is = by_test (nat_eq (get_or slots slot 0) 0)
+    (λ s. let none : None ≡ Some n = rw s at is in absurd (cc none))
+    (λ s. let some : Some (get_or slots slot 0 - 1) ≡ Some n = rw s at is in ((λ z. true≢false (sym (eq-eqb (get_or slots slot 0) 0 z) ∙ s)), cc some))
+
+-- where no flag is set each slot stands behind its code
+pub slots-clear : (codes : List ℕ) (flags : List Bool) → length flags ≡ length codes → ((k : ℕ) → get_or flags k false ≡ false) → zip2 slot_for codes flags ≡ map (λ (code : ℕ). code + 1) codes
+slots-clear [] flags same clear = refl
+slots-clear (code ∷ codes) [] same clear = absurd (omega arith)
+slots-clear (code ∷ codes) (true ∷ flags) same clear = absurd (cc (clear 0))
+slots-clear (code ∷ codes) (false ∷ flags) same clear = ap (λ (slots : List ℕ). (code + 1) ∷ slots) (slots-clear codes flags (omega arith) (λ k. clear (suc k)))
 
 module _ (entries : List (List ℕ)) where
   entry-slot : (code : ℕ) (flag : Bool) → entry_unless entries code flag ≡ slot_value entries (cond flag 0 (code + 1))
@@ -62,3 +77,14 @@ module _ (entries : List (List ℕ)) where
       ap (slot_value entries) (is_slot ∙ ap₂ (λ (b : Bool) (n : ℕ). cond b 0 (n + 1)) is_flag is_code)
       ∙ slot-at codes (map is_null texts) i (omega (arith, lt, long)) (length-map texts is_null ∙ sym long)
       ∙ ap (λ (vs : List Value). get_or vs i Null) (sym whole)
+
+  -- what a run of slots tells are the numbers of the texts
+  pub noted-told : (met : List Value) (slots codes : List ℕ) (flags : List Bool) (from upto : ℕ) (old new : List ℕ) → length flags ≡ length codes → upto ≤ length codes → AreNoted entries met slots
+      → IsNotedRun slots codes flags from upto old new → (i : ℕ) → from ≤ i → i < upto → IsNumberIn Null met (get_or (entries_at entries codes flags) i Null) (get_or new i 0)
+  noted-told met slots codes flags from upto old new same end noted run i above below =
+      let lt : i < length codes = omega (arith, below, end) in
+      let slot : ℕ = slot_for (get_or codes i 0) (get_or flags i false) in
+      let is_slot : get_or (zip2 slot_for codes flags) i 0 ≡ slot = get_or-zip2 slot_for codes flags i 0 false 0 lt (omega (arith, lt, same)) in
+      let has = noted-some slots slot (get_or new i 0) (ap (noted_in slots) (sym is_slot) ∙ run.found i above below) in
+      subst (λ (v : Value). IsNumberIn Null met v (get_or new i 0)) (slot-at codes flags i lt same)
+      (subst (IsNumberIn Null met (slot_value entries slot)) has.1 (noted slot has.0))
