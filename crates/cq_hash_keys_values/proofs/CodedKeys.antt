@@ -1,9 +1,9 @@
 -- Numbers of entries that are noted while texts are read by their codes.
-use Rattle.std.proofs.Common.{◌≡◌, ℕ, zero, suc, ap₂, map, replicate, ◌+◌, ◌-◌, ◌<◌, ◌≤◌, Bool, true, false, true≢false, cond, List, [], ◌∷◌, set, length, get_or, nat_eq, Some, None, refl, sym, ◌∙◌, ap, subst, arith}
+use Rattle.std.proofs.Common.{◌≡◌, ℕ, zero, suc, ap₂, map, take, replicate, ◌+◌, ◌-◌, ◌<◌, ◌≤◌, Bool, true, false, true≢false, cond, List, [], ◌∷◌, set, length, get_or, nat_eq, Some, None, refl, sym, ◌∙◌, ap, subst, arith}
 use lib.Lanes.{zip2}
 use Rattle.std.proofs.lemmas.Bool.{cases_lt, eq-eqb}
-use Rattle.std.proofs.lemmas.List.{get_or-set_other, get_or-set_same, length-map}
-use Rattle.std.proofs.lemmas.Simd.{get_or-zip2}
+use Rattle.std.proofs.lemmas.List.{get_or-set_other, get_or-set_same, length-map, take_all}
+use Rattle.std.proofs.lemmas.Simd.{get_or-zip2, length-zip2}
 use Rattle.indexmap.specs.IndexSet.{insert_key}
 use Rattle.cq_values.specs.declared.value.Value.{Value}
 use Rattle.cq_values.specs.declared.value.Value.TheVariants.{Null}
@@ -11,10 +11,10 @@ use Rattle.cq_model.specs.Condition.{is_null}
 use Rattle.cq_vectors_stored.specs.LentColumns.{entries_at, entry_unless}
 use Rattle.cq_model_bags.proofs.Totals.{by_test}
 use Rattle.cq_hash_keys_values.specs.Coded.{AreNoted, IsNotedRun, noted_in, slot_for, slot_value}
-use Rattle.cq_hash_keys_values.specs.Met.{IsNumberIn}
+use Rattle.cq_hash_keys_values.specs.Met.{AreNumbersOf, IsNumberIn, IsToldTo, with_new}
 use Rattle.cq_hash_keys_values.specs.Values.{same_value}
 use Rattle.cq_hash_keys_values.proofs.Choices.{by-sum}
-use Rattle.cq_hash_keys_values.proofs.Runs.{still-number}
+use Rattle.cq_hash_keys_values.proofs.Runs.{all-are_told, one-and-known, still-number}
 use Rattle.cq_hash_keys_values.proofs.ValueKeys.{value-itself, value-same}
 
 -- before, at or behind a place
@@ -88,3 +88,23 @@ module _ (entries : List (List ℕ)) where
       let has = noted-some slots slot (get_or new i 0) (ap (noted_in slots) (sym is_slot) ∙ run.found i above below) in
       subst (λ (v : Value). IsNumberIn Null met v (get_or new i 0)) (slot-at codes flags i lt same)
       (subst (IsNumberIn Null met (slot_value entries slot)) has.1 (noted slot has.0))
+
+  -- a text that may be new, and then those of a run of slots
+  pub coded-next : (start old new : List Value) (slots codes : List ℕ) (flags : List Bool) (i upto slot n : ℕ) (numbers last : List ℕ) → i < length codes → length flags ≡ length codes → length numbers ≡ length codes
+      → slot ≡ slot_for (get_or codes i 0) (get_or flags i false) → old ≡ with_new same_value start (take i (entries_at entries codes flags)) → IsToldTo Null old (entries_at entries codes flags) i numbers
+      → new ≡ insert_key same_value old (slot_value entries slot) → IsNumberIn Null new (slot_value entries slot) n → AreNoted entries new slots → i + 1 ≤ upto → upto ≤ length codes → IsNotedRun slots codes flags (i + 1) upto (set numbers i n) last
+      → (new ≡ with_new same_value start (take upto (entries_at entries codes flags))) × (IsToldTo Null new (entries_at entries codes flags) upto last × (length last ≡ length codes))
+  coded-next start old new slots codes flags i upto slot n numbers last lt same as_many slot_is met told made number noted from end run =
+      let long : length (entries_at entries codes flags) ≡ length codes = length-zip2 (entry_unless entries) codes flags (sym same) in
+      let is : slot_value entries slot ≡ get_or (entries_at entries codes flags) i Null = ap (slot_value entries) slot_is ∙ slot-at codes flags i lt same in
+      let r = one-and-known same_value Null value-same value-itself start old new (entries_at entries codes flags) i upto numbers (set numbers i n) last (slot_value entries slot) n (omega (arith, lt, long)) is (as_many ∙ sym long) met told made number refl from
+      (omega (arith, end, long)) run.same run.kept (noted-told new slots codes flags (i + 1) upto (set numbers i n) last same end noted run) in
+      (r.0, (r.1.0, r.1.1 ∙ long))
+
+  -- at the end all texts are told
+  pub coded-end : (start met : List Value) (codes : List ℕ) (flags : List Bool) (upto : ℕ) (numbers : List ℕ) → length flags ≡ length codes → length numbers ≡ length codes → upto ≡ length codes
+      → met ≡ with_new same_value start (take upto (entries_at entries codes flags)) → IsToldTo Null met (entries_at entries codes flags) upto numbers
+      → (met ≡ with_new same_value start (entries_at entries codes flags)) × AreNumbersOf Null met (entries_at entries codes flags) numbers
+  coded-end start met codes flags upto numbers same as_many end made told =
+      let long : length (entries_at entries codes flags) ≡ length codes = length-zip2 (entry_unless entries) codes flags (sym same) in
+      (made ∙ ap (λ (vs : List Value). with_new same_value start vs) (take_all upto (entries_at entries codes flags) (omega (arith, end, long))), all-are_told Null met (entries_at entries codes flags) upto numbers (as_many ∙ sym long) (end ∙ sym long) told)
