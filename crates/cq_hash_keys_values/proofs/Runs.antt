@@ -49,13 +49,12 @@ module _ {X : Type 0} (same : X → X → Bool) (none : X) (is_same : (x y : X) 
       let kept = stays none old more.0 n is.0 in
       subst (λ ys. IsNumberIn none ys x n) (sym e) (kept.0, kept.1 ∙ is.1)
 
-  -- one that may be new, and then a run of what is known
-  pub one-and-run : (start old new xs : List X) (at upto : ℕ) (numbers after last : List ℕ) (x : X) (n : ℕ) → at < length xs → x ≡ get_or xs at none → length numbers ≡ length xs
+  -- one that may be new, and then numbers of what is known
+  pub one-and-known : (start old new xs : List X) (at upto : ℕ) (numbers after last : List ℕ) (x : X) (n : ℕ) → at < length xs → x ≡ get_or xs at none → length numbers ≡ length xs
       → old ≡ with_new same start (take at xs) → IsToldTo none old xs at numbers → new ≡ insert_key same old x → IsNumberIn none new x n → after ≡ set numbers at n → at + 1 ≤ upto → upto ≤ length xs
-      → IsRun none (λ y. position (same y) new) xs (at + 1) upto after last → (new ≡ with_new same start (take upto xs)) × (IsToldTo none new xs upto last × (length last ≡ length xs))
-  one-and-run start old new xs at upto numbers after last x n lt is long so_far told_far made number written le end run =
-      let in_run : (i : ℕ) → at + 1 ≤ i → i < upto → IsNumberIn none new (get_or xs i none) (get_or last i 0) =
-      λ i above below. told same none is_same itself new (get_or xs i none) (get_or last i 0) (run.found i above below) in
+      → length last ≡ length after → ((i : ℕ) → i < at + 1 → get_or last i 0 ≡ get_or after i 0) → ((i : ℕ) → at + 1 ≤ i → i < upto → IsNumberIn none new (get_or xs i none) (get_or last i 0))
+      → (new ≡ with_new same start (take upto xs)) × (IsToldTo none new xs upto last × (length last ≡ length xs))
+  one-and-known start old new xs at upto numbers after last x n lt is long so_far told_far made number written le end as_long kept_so in_run =
       let rest : at + 1 + (upto - (at + 1)) ≡ upto = omega (arith, le) in
       let first : new ≡ with_new same start (take (at + 1) xs) = met-next same none is_same itself start old new xs at x lt is made so_far in (
         run-met start new xs (at + 1) (upto - (at + 1)) (omega (arith, rest, end)) first (λ i above below. (get_or last i 0, in_run i above (omega (arith, below, rest))))
@@ -63,7 +62,7 @@ module _ {X : Type 0} (same : X → X → Bool) (none : X) (is_same : (x y : X) 
         (
           λ i below. by-sum (cases_lt i (at + 1))
               (λ before.
-              let kept : get_or last i 0 ≡ get_or (set numbers at n) i 0 = run.kept i before ∙ ap (λ (ns : List ℕ). get_or ns i 0) written in
+              let kept : get_or last i 0 ≡ get_or (set numbers at n) i 0 = kept_so i before ∙ ap (λ (ns : List ℕ). get_or ns i 0) written in
               by-sum (cases_lt i at)
               (λ earlier.
               let e : get_or last i 0 ≡ get_or numbers i 0 = kept ∙ get_or-set_other numbers at i n 0 (λ e. omega (arith, e, earlier)) in
@@ -74,9 +73,17 @@ module _ {X : Type 0} (same : X → X → Bool) (none : X) (is_same : (x y : X) 
               let y : x ≡ get_or xs i none = is ∙ ap (λ (k : ℕ). get_or xs k none) (sym j) in
               subst (IsNumberIn none new (get_or xs i none)) (sym e) (subst (λ z. IsNumberIn none new z n) y number)))
               (λ past. in_run i past below),
-          run.same ∙ ap (λ (ns : List ℕ). length ns) written ∙ length-set numbers at n ∙ long,
+          as_long ∙ ap (λ (ns : List ℕ). length ns) written ∙ length-set numbers at n ∙ long,
         ),
       )
+
+  -- one that may be new, and then a run of what is known
+  pub one-and-run : (start old new xs : List X) (at upto : ℕ) (numbers after last : List ℕ) (x : X) (n : ℕ) → at < length xs → x ≡ get_or xs at none → length numbers ≡ length xs
+      → old ≡ with_new same start (take at xs) → IsToldTo none old xs at numbers → new ≡ insert_key same old x → IsNumberIn none new x n → after ≡ set numbers at n → at + 1 ≤ upto → upto ≤ length xs
+      → IsRun none (λ y. position (same y) new) xs (at + 1) upto after last → (new ≡ with_new same start (take upto xs)) × (IsToldTo none new xs upto last × (length last ≡ length xs))
+  one-and-run start old new xs at upto numbers after last x n lt is long so_far told_far made number written le end run =
+      one-and-known start old new xs at upto numbers after last x n lt is long so_far told_far made number written le end run.same run.kept
+      (λ i above below. told same none is_same itself new (get_or xs i none) (get_or last i 0) (run.found i above below))
 
 -- all are told
 pub all-are_told : {X : Type 0} (none : X) (met xs : List X) (upto : ℕ) (numbers : List ℕ) → length numbers ≡ length xs → upto ≡ length xs → IsToldTo none met xs upto numbers → AreNumbersOf none met xs numbers

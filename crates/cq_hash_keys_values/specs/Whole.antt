@@ -6,7 +6,9 @@ use Rattle.cq_hash_keys_values.specs.declared.dictionary.Dictionary.{Dictionary}
 use Rattle.cq_hash_keys_values.specs.declared.kind.Kind.{Kind}
 use Rattle.cq_hash_keys_values.specs.declared.kind.Kind.TheVariants as kind
 use Rattle.cq_hash_keys_values.specs.declared.window.Window.{Window}
+use Rattle.cq_hash_keys_values.specs.Codes.{code_in}
 use Rattle.cq_hash_keys_values.specs.Met.{IsRun}
+use Rattle.cq_hash_keys_values.specs.Window.{place_above}
 
 -- the value that a whole number of this kind stands for
 abbrev pub whole_value : Kind → ℤ → Value
@@ -29,6 +31,10 @@ PutsAbove base offsets numbers = take (length offsets) numbers ≡ map (λ o. ba
 abbrev pub window_of : Dictionary → Kind → Window
 window_of d kind.Number = d.numbers
 window_of d kind.Day = d.days
+
+-- the code of a whole number in its window
+abbrev pub window_code : Dictionary → Kind → ℤ → ℕ
+window_code d kind n = code_in (window_of d kind).codes.items (place_above (window_of d kind).least n)
 
 -- the first of the whole numbers stand for these values
 abbrev pub StandsAs : Kind → List ℤ → List Value → Type 0

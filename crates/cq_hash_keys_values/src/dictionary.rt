@@ -1,10 +1,11 @@
 //! The numbers of a column's values.
-ghost use Rattle.std.specs.Prelude.{IfSome, IsSome, None, OnErr, OnOk, length, true, ◌≡◌, ◌≤◌, ◌↔◌};
+ghost use Rattle.std.specs.Bool.{OnFalse};
+ghost use Rattle.std.specs.Prelude.{IfSome, IsSome, None, OnErr, OnOk, [], length, map, true, ◌≡◌, ◌≤◌, ◌↔◌};
 ghost use Rattle.cq_values.specs.Lent.{owned};
 ghost use Rattle.cq_values.specs.declared.value.Value.{Value as Datum};
 ghost use Rattle.cq_values.specs.declared.value.Value.TheVariants.{Day as DayOf, Null, Number, Text as TextOf};
 ghost use Rattle.cq_hash_keys_values.specs.Dictionary.{Agree, PutsAt, fits_64_bits, number_in};
-ghost use Rattle.cq_hash_keys_values.specs.Whole.{IsWholeRun, whole_value, window_of};
+ghost use Rattle.cq_hash_keys_values.specs.Whole.{IsWholeRun, whole_value, whole_values, window_code, window_of};
 
 use crate::kind::Kind;
 use crate::texts::TextNumbers;
@@ -100,6 +101,48 @@ impl Dictionary {
             }
         }
         values.len()
+    }
+
+    /// Looks each of these up.
+    pub(crate) fn find(&self, kind: Kind, values: &[i64], found: &mut [Option<usize>])
+        requires { length found.old ≡ length values.now }
+        ensures same { length found.new ≡ length found.old }
+        ensures found { found.new ≡ map (number_in self.now) (whole_values kind values.now) }
+    {
+        let window = self.window(kind);
+        let (least, codes) = window.list();
+        let has_others = window.has_others();
+        for place in 0..values.len() {
+            let code = code_at(codes, least, values[place]);
+            found[place] = self.coded(kind, values[place], code, has_others);
+        }
+    }
+
+    /// The number of a value that stands as a whole number with this code. A map is asked only where it has numbers.
+    #[inline(always)]
+    fn coded(&self, kind: Kind, value: i64, code: u32, has_others: bool) -> Option<usize>
+        requires code { code ≡ window_code self.now kind value }
+        requires others { OnFalse has_others ((window_of self.now kind).others.entries ≡ []) }
+        ensures { result ≡ number_in self.now (whole_value kind value) }
+    {
+        match code {
+            0 => self.past_list(kind, value, has_others),
+            code => Some(code as usize - 1),
+        }
+    }
+
+    /// The number of a value whose code is 0.
+    #[inline(always)]
+    fn past_list(&self, kind: Kind, value: i64, has_others: bool) -> Option<usize>
+        requires code { window_code self.now kind value ≡ 0 }
+        requires others { OnFalse has_others ((window_of self.now kind).others.entries ≡ []) }
+        ensures { result ≡ number_in self.now (whole_value kind value) }
+    {
+        if has_others {
+            self.whole(kind, value)
+        } else {
+            None
+        }
     }
 
     /// Gives a number to a value that has none.

@@ -108,18 +108,17 @@ impl Values {
     {
         numbers.clear();
         numbers.resize(values.len(), None)?;
-        let found = numbers.as_mut_slice();
-        for place in 0..values.len() {
-            found[place] = self.whole_place(kind, values[place]);
-        }
+        self.find_all(kind, values, numbers.as_mut_slice());
         Ok(())
     }
 
-    #[inline(always)]
-    fn whole_place(&self, kind: Kind, value: i64) -> Option<usize>
-        ensures { result ≡ place_in self.now (whole_value kind value) }
+    /// Looks up each of these whole numbers.
+    fn find_all(&self, kind: Kind, values: &[i64], found: &mut [Option<usize>])
+        requires { length found.old ≡ length values.now }
+        ensures same { length found.new ≡ length found.old }
+        ensures found { found.new ≡ map (place_in self.now) (whole_values kind values.now) }
     {
-        self.ways.whole(kind, value)
+        self.ways.find(kind, values, found);
     }
 
     /// The number of the value at a place, which stands as a whole number. It is put in where it is new.
