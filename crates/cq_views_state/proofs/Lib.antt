@@ -3,7 +3,7 @@ pub mod Changing
 pub mod Filtering
 pub mod Fitting
 pub mod Groups
-pub mod Imaging
+pub mod ImageSizes
 pub mod InTurn
 pub mod Joining
 pub mod Limits

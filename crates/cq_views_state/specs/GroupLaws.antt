@@ -1,14 +1,14 @@
 -- Rows that groups take in turn are taken together.
-use Rattle.std.proofs.Common.{◌≡◌, ◌∙◌, ◌<◌, ◌^◌, List, [], ◌++◌, length, length-append, refl, sym, ap, subst, arith}
+use Rattle.std.proofs.Common.{◌≡◌, ◌∙◌, ◌<◌, ◌^◌, ℕ, List, [], ◌++◌, length-append, refl, sym, ap, subst, arith}
 use Rattle.std.proofs.lemmas.List.{append-nil, append_assoc, map-append}
 use Rattle.cq_values.specs.Value.{Row}
 use Rattle.cq_model_bags.proofs.Linears.{filtered-append}
 use Rattle.cq_model_bags.specs.Bag.{Weighted}
 use Rattle.cq_deltas.specs.Additions.{Addition, addition, additions}
 use Rattle.cq_deltas.specs.Keyed.{additions_at}
-use Rattle.cq_sides.specs.Ticks.{counted}
 use Rattle.cq_model.specs.Meaning.{keeps}
 use Rattle.cq_model.specs.declared.query.Query.{Query}
+use Rattle.cq_views_state.specs.Counting.{CountsEach}
 use Rattle.cq_views_state.specs.Grouping.{CanTake, Keeps, Takes, kept_additions}
 use Rattle.cq_views_state.specs.Last.{GroupsStay, kept_rows}
 use Rattle.cq_views_model.specs.Query.{CanBeKept, aggregates_of, key_columns}
@@ -19,12 +19,22 @@ additions-append query xs ys =
     ap (additions (key_columns query) (aggregates_of query)) (filtered-append (keeps query.filter) xs ys)
     ∙ map-append (addition (key_columns query) (aggregates_of query)) (kept_rows query xs) (kept_rows query ys)
 
+-- each of the rows of two runs counts one
+pub each-none : (n : ℕ) → CountsEach n [] n
+each-none n fits = omega (arith, fits)
+
+pub each-more : (a b c : ℕ) (xs ys : Weighted) → CountsEach a xs b → CountsEach b ys c → CountsEach a (xs ++ ys) c
+each-more a b c xs ys first second fits =
+    let here = first fits in
+    let there : b < 2 ^ 128 = omega (arith, here) in
+    omega (arith, here, second there, length-append xs ys)
+
 pub takes-none : (t : GroupTaker) → Takes t [] t
 takes-none t = record {
   query = refl;
   added = sym (append-nil (additions_at t.groups t.change));
   keys = λ keys. keys;
-  ticks = λ fits. omega (arith, fits);
+  ticks = each-none t.ticks;
 }
 
 -- what two runs add, one behind the other, is what all their rows add
@@ -37,19 +47,12 @@ added-more a b c xs ys first second =
     more ∙ ap (adds a.query.now) first.added ∙ append_assoc before (kept_additions a.query.now xs) (kept_additions a.query.now ys)
     ∙ ap (λ (zs : List Addition). before ++ zs) (sym (additions-append a.query.now xs ys))
 
--- and each of the rows counts one
-ticks-more : (a b c : GroupTaker) (xs ys : Weighted) → Takes a xs b → Takes b ys c → a.ticks < 2 ^ 128 → c.ticks ≡ counted a.ticks (length (xs ++ ys))
-ticks-more a b c xs ys first second fits =
-    let here = first.ticks fits in
-    let there : b.ticks < 2 ^ 128 = omega (arith, here) in
-    omega (arith, here, second.ticks there, length-append xs ys)
-
 pub takes-more : (a b c : GroupTaker) (xs ys : Weighted) → Takes a xs b → Takes b ys c → Takes a (xs ++ ys) c
 takes-more a b c xs ys first second = record {
   query = second.query ∙ first.query;
   added = added-more a b c xs ys first second;
   keys = λ keys. second.keys (first.keys keys);
-  ticks = ticks-more a b c xs ys first second;
+  ticks = each-more a.ticks b.ticks c.ticks xs ys first.ticks second.ticks;
 }
 
 pub keeps-itself : (t : GroupTaker) → Keeps t t

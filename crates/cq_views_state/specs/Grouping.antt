@@ -1,5 +1,5 @@
 -- Changed joined rows that a view's groups take one after the other.
-use Rattle.std.specs.Prelude.{◌≡◌, ◌<◌, ◌≤◌, ◌^◌, ℕ, ◌++◌, List, length}
+use Rattle.std.specs.Prelude.{◌≡◌, ◌≤◌, ◌++◌, List}
 use Rattle.std.specs.Global.{Vec}
 use Rattle.cq_values.specs.Value.{Row}
 use Rattle.cq_model_bags.specs.Bag.{Weighted}
@@ -14,7 +14,7 @@ use Rattle.cq_model.specs.Sizes.{IsStored}
 use Rattle.cq_model.specs.Meaning.{Tables}
 use Rattle.cq_model.specs.declared.query.Query.{Query}
 use Rattle.cq_deltas_joins.specs.Taking.{TakesMerged}
-use Rattle.cq_sides.specs.Ticks.{counted}
+use Rattle.cq_views_state.specs.Counting.{CountsEach}
 use Rattle.cq_views_state.specs.Last.{AreAdded, GroupsStay, kept_rows}
 use Rattle.cq_views_model.specs.Query.{CanBeKept, aggregates_of, key_columns}
 use Rattle.cq_views_state.specs.declared.grouping.GroupTaker.{GroupTaker}
@@ -34,7 +34,7 @@ pub record Takes (old : GroupTaker) (xs : Weighted) (new : GroupTaker) : Type 0 
   pub query : new.query.now ≡ old.query.now
   pub added : additions_at new.groups new.change ≡ additions_at old.groups old.change ++ kept_additions old.query.now xs
   pub keys : HasKeys old.change old.groups → HasKeys new.change new.groups
-  pub ticks : old.ticks < 2 ^ 128 → new.ticks ≡ counted old.ticks (length xs)
+  pub ticks : CountsEach old.ticks xs new.ticks
 
 -- no group is changed, and no count fell
 pub record Keeps (old new : GroupTaker) : Type 0 where
@@ -54,7 +54,3 @@ AddsChange query chain changes groups more = TakesMerged (AreReadied query group
 -- so it is with changes that are handed in
 abbrev pub AddsChangeBy : Query → Chain → Vec SourceRows → KeyedGroups → List Placed → Type 0
 AddsChangeBy query chain changes groups more = AddsChange query chain (rows_at changes.items) groups more
-
--- each row that the changes add behind the joins counted one
-abbrev pub CountsChange : Chain → Tables → ℕ → ℕ → Type 0
-CountsChange chain changes old new = TakesMerged (λ xs. new ≡ counted old (length xs)) (IsFewChange chain changes)

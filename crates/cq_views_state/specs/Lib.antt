@@ -1,5 +1,8 @@
+pub mod Counting
 pub mod GroupLaws
 pub mod Grouping
+pub mod ImageLaws
+pub mod Imaging
 pub mod Joins
 pub mod Last
 pub mod Laws

@@ -1,12 +1,11 @@
 //! What changes of the joined rows add to groups.
-ghost use Rattle.std.specs.List.{AllZip};
 ghost use Rattle.std.specs.Prelude.{◌≤◌, IfOk, OnOk};
-ghost use Rattle.cq_deltas_joins.specs.Chains.{CanChange, IsStill};
-ghost use Rattle.cq_deltas_joins.specs.WaitingChanges.{AreWaiting};
+ghost use Rattle.cq_deltas_joins.specs.Chains.{CanChange};
+ghost use Rattle.cq_deltas_joins.specs.WaitingChanges.{AreReady};
 ghost use Rattle.cq_deltas_joins.specs.Sources.{rows_at};
-ghost use Rattle.cq_deltas_joins.specs.Steps.{CanTake};
-ghost use Rattle.cq_deltas_joins.specs.Work.{CountsPairs};
-ghost use Rattle.cq_views_state.specs.Grouping.{AddsChangeBy, CountsChange};
+ghost use Rattle.cq_deltas_joins.specs.Work.{OnlyCounts};
+ghost use Rattle.cq_views_state.specs.Counting.{CountsChange};
+ghost use Rattle.cq_views_state.specs.Grouping.{AddsChangeBy};
 ghost use Rattle.cq_views_state.specs.Last.{GroupsStay};
 ghost use Rattle.cq_views_model.specs.Query.{CanBeKept};
 
@@ -78,10 +77,8 @@ pub(crate) fn stream_groups(
     requires change { CanChange chain.old (rows_at changes.items) }
     ensures adds { IfOk result (λ r. AddsChangeBy query.now chain.old changes groups.new r.1) }
     ensures rows { OnOk result (CountsChange chain.old (rows_at changes.items) ticks.old ticks.new) }
-    ensures waiting { IfOk result (λ r. AreWaiting chain.old (rows_at changes.items) chain.new r.0) }
-    ensures ready { IfOk result (λ r. AllZip CanTake chain.new.steps.items r.0.joins.items) }
-    ensures still { IsStill chain.old chain.new }
-    ensures counts { CountsPairs chain.old (rows_at changes.items) chain.new }
+    ensures ready { IfOk result (λ r. AreReady chain.old (rows_at changes.items) chain.new r.0) }
+    ensures kept { OnlyCounts chain.old (rows_at changes.items) chain.new }
     ensures same { GroupsStay query.now groups.old groups.new }
     ensures more { ticks.old ≤ ticks.new }
 {

@@ -10,9 +10,9 @@
 //! no work of them.
 #![tactic(auto)]
 
-mod changes;
 mod columns;
 mod grouping;
+mod imaging;
 mod joins;
 mod last;
 mod laws;

@@ -18,8 +18,8 @@ ghost use Rattle.cq_views_state.specs.Shown.{AreRowsOf, CanShow, IsNotShown, IsS
 ghost use Rattle.cq_views_state.specs.Work.{CountsPut, CountsRows, work_of};
 ghost use Rattle.cq_views_state.specs.State.{CanCommit, CanPrepare, IsWaiting, SameView, StandsFor, StaysStanding, TakesIn};
 
-use crate::changes::ready_images;
 use crate::grouping::stream_groups;
+use crate::imaging::stream_images;
 use crate::joins::joined;
 use crate::last::{Last, LastChange};
 use crate::showing::shown_rows;
@@ -137,28 +137,17 @@ impl ViewState {
         ensures more { work_of self.old ≤ work_of self.new }
     {
         let (query, chain) = (&self.query, &mut self.chain);
+        let ticks = &mut self.ticks;
         match &mut self.last {
             Last::Groups(groups) => {
-                let ticks = &mut self.ticks;
                 let (waiting, change) = stream_groups(alloc, query, chain, changes, groups, ticks)?;
                 let change = LastChange::Groups(change);
                 Ok(Pending { waiting, change })
             }
             Last::Images(images) => {
-                let (rows, waiting) = chain.change(alloc, changes)?;
-                self.ticks = self.ticks.saturating_add(rows.len() as u128);
-                let change = ready_images(alloc, query, &rows, images);
-                drop(rows);
-                match change {
-                    Ok(change) => Ok(Pending {
-                        waiting,
-                        change: LastChange::Images(change),
-                    }),
-                    Err(fault) => {
-                        drop(waiting);
-                        Err(fault)
-                    }
-                }
+                let (waiting, change) = stream_images(alloc, query, chain, changes, images, ticks)?;
+                let change = LastChange::Images(change);
+                Ok(Pending { waiting, change })
             }
         }
     }
