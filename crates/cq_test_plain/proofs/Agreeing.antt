@@ -15,10 +15,14 @@ use Rattle.cq_model.specs.declared.query.Query.{Query}
 use Rattle.cq_model.specs.declared.query.Source.{Source}
 use Rattle.cq_model.specs.declared.query.Source.TheVariants.{Table, View}
 use Rattle.cq_model.specs.Meaning.{Tables, MeaningInRange, ShapeInRange, chain, joined_rows, keeps, meaning, meets, shown}
-use Rattle.cq_model.specs.Views.{sources_of, tables_alone, view_bag, SourceInRange, ViewInRange}
+use Rattle.cq_model.specs.Views.{sources_of, tables_alone, view_bag, with_views, SourceInRange, ViewInRange}
+use Rattle.cq_test_plain.specs.declared.fault.PlainFault.{PlainFault}
+use Rattle.cq_test_plain.specs.Faults.{Tells}
+use Rattle.cq_test_plain.specs.FaultsOf.{IsNamedFault}
 use Rattle.cq_test_plain.specs.Named.{IsNamed, is_view}
 use Rattle.cq_test_plain.specs.Wide.{AtSomeRow, IsQueryWide, IsShownWide, IsSourceWide, IsViewWide, IsWideIn}
 use Rattle.cq_test_plain.specs.Stored.{query_at, rows_at, stored_bags}
+use Rattle.cq_test_plain.proofs.Exits.{tells_more}
 
 -- one more join among those that are asked
 pub any_source : (v : ℕ) (joins : List Join) → list_any (λ join. is_view v join.source) joins ≡ list_any (is_view v) (map (λ join. join.source) joins)
@@ -124,14 +128,29 @@ module _ (tables : List (List Row)) (queries : List Query) (q : Query) where
     }
   ]
 
-  -- where a view that is named fails, so does the answer
-  pub view_wide : (at : ℕ) (view : Query) → at < length queries → view ≡ get_or queries at view → IsNamed q at × IsQueryWide view (tables_alone (rows_at tables)) → Any (IsSourceWide (rows_at tables) (query_at queries)) (sources_of q)
-  view_wide at view h is wide =
-      any_named (IsSourceWide (rows_at tables) (query_at queries)) (sources_of q) at wide.0 (subst (IsViewWide (rows_at tables)) (sym (get_at queries at view h is)) wide.1)
+  -- so the sources of the query hold what it asks for
+  pub sources-stored : (views : List (List Row)) (count : ℕ) → length queries ≤ count → AreStored views count
+      → AllByRecursion (λ source. stored_bags tables views source ≡ with_views (rows_at tables) (query_at queries) source) (sources_of q)
+  sources-stored views count h stored =
+      all_named (λ source. stored_bags tables views source ≡ with_views (rows_at tables) (query_at queries) source) (sources_of q) (λ t. refl) (λ v named. (all-stored views count h stored v).bag named)
 
-  pub view_outside : (at : ℕ) (view : Query) → at < length queries → view ≡ get_or queries at view → IsNamed q at × (MeaningInRange view (tables_alone (rows_at tables)) → ⊥) → AllByRecursion (SourceInRange (rows_at tables) (query_at queries)) (sources_of q) → ⊥
-  view_outside at view h is outside all =
-      outside.1 (subst (ViewInRange (rows_at tables)) (get_at queries at view h is) (at_named (SourceInRange (rows_at tables) (query_at queries)) (sources_of q) at outside.0 all))
+  -- and their totals can be shown
+  pub sources-shown : (views : List (List Row)) (count : ℕ) → length queries ≤ count → AreStored views count → AllByRecursion (SourceInRange (rows_at tables) (query_at queries)) (sources_of q)
+  sources-shown views count h stored = all_named (SourceInRange (rows_at tables) (query_at queries)) (sources_of q) (λ t. tt) (λ v named. (all-stored views count h stored v).range named)
+
+  -- where a view that is named fails, so does the answer
+  module _ (at : ℕ) (view : Query) (h : at < length queries) (is : view ≡ get_or queries at view) where
+    view_wide : IsNamed q at × IsQueryWide view (tables_alone (rows_at tables)) → Any (IsSourceWide (rows_at tables) (query_at queries)) (sources_of q)
+    view_wide wide =
+        any_named (IsSourceWide (rows_at tables) (query_at queries)) (sources_of q) at wide.0 (subst (IsViewWide (rows_at tables)) (sym (get_at queries at view h is)) wide.1)
+
+    view_outside : IsNamed q at × (MeaningInRange view (tables_alone (rows_at tables)) → ⊥) → AllByRecursion (SourceInRange (rows_at tables) (query_at queries)) (sources_of q) → ⊥
+    view_outside outside all =
+        outside.1 (subst (ViewInRange (rows_at tables)) (get_at queries at view h is) (at_named (SourceInRange (rows_at tables) (query_at queries)) (sources_of q) at outside.0 all))
+
+    pub view_fails : (fault : PlainFault) → IsNamedFault q at view (tables_alone (rows_at tables)) fault
+        → Tells (Any (IsSourceWide (rows_at tables) (query_at queries)) (sources_of q)) (AllByRecursion (SourceInRange (rows_at tables) (query_at queries)) (sources_of q) → ⊥) fault
+    view_fails fault told = tells_more view_wide view_outside fault told
 
 -- ---- what depends on the sources alone
 module _ (q : Query) (tables others : Tables) (all : AllByRecursion (λ source. tables source ≡ others source) (sources_of q)) where

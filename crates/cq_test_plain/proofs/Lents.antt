@@ -74,3 +74,8 @@ bags-lent tables views lent_tables lent_views sources lent first second held sam
 -- the bags of entries that hold tables alone
 pub bags-alone : (tables : List (List Row)) (sources : List Lent) → HoldRows tables [] sources → lent_bags sources ≡ tables_alone (rows_at tables)
 bags-alone tables sources held = bags-held tables [] sources held ∙ alone tables
+
+-- so it is where the tables are lent
+pub bags-alone_lent : (tables lent_tables : List (List Row)) (sources lent : List Lent) → lent_tables ≡ tables → HoldRows lent_tables [] sources → lent ≡ sources → lent_bags lent ≡ tables_alone (rows_at tables)
+bags-alone_lent tables lent_tables sources lent first held same =
+    ap lent_bags same ∙ bags-alone lent_tables sources held ∙ ap (λ (ts : List (List Row)). tables_alone (rows_at ts)) first
