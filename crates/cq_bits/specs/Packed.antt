@@ -1,7 +1,7 @@
 -- Numbers of a few bits each, side by side in words of 64 bits. Side by side they are one number, whose bit b is bit b mod
 -- 64 of word b div 64, and bit b mod w of the value at place b div w.
-use Rattle.std.specs.Prelude.{ℕ, ◌+◌, ◌*◌, ◌/◌, ◌%◌, ◌^◌, ◌≡◌, ◌≤◌, List, [], ◌∷◌, length, map}
-use Rattle.std.specs.List.{range_with_len}
+use Rattle.std.specs.Prelude.{ℕ, ◌+◌, ◌*◌, ◌/◌, ◌%◌, ◌^◌, ◌<◌, ◌≡◌, ◌≤◌, List, [], ◌∷◌, length, map}
+use Rattle.std.specs.List.{All, range_with_len}
 
 -- the number that has these digits of so many bits each, the lowest first
 unfoldable pub number_of : ℕ → List ℕ → ℕ
@@ -29,3 +29,17 @@ AreRead width words values = values_from width words 0 (length values) ≡ value
 pub record HoldsValues (width : ℕ) (words : List ℕ) (len : ℕ) : Type 0 where
   pub narrow : width ≤ 64
   pub there : width * len ≤ 64 * length words
+
+-- so many bits are enough for each of the numbers
+abbrev pub Fit : ℕ → List ℕ → Type 0
+Fit width numbers = All (λ number. number < 2 ^ width) numbers
+
+-- so many bits are enough for each of the numbers, and fewer are not
+pub record IsWidthOf (width : ℕ) (numbers : List ℕ) : Type 0 where
+  pub fits : Fit width numbers
+  pub least : (other : ℕ) → Fit other numbers → width ≤ other
+
+-- words that hold so many values at their least width
+pub record AreBits (width : ℕ) (words : List ℕ) (len : ℕ) : Type 0 where
+  pub holds : HoldsValues width words len
+  pub width_of : IsWidthOf width (values_from width words 0 len)

@@ -3,6 +3,7 @@
 //! It is made whole, by `of`, and does not change. `at` reads one number in the time of two words; `read` unpacks many,
 //! a quarter to one and a half nanoseconds each, and fastest at widths 8, 16, 32 and 64. Readers take no memory.
 ghost use Rattle.std.specs.Prelude.{IfOk, drop, length, slice_index, take, ◌+◌, ◌<◌, ◌≡◌, ◌≤◌};
+ghost use Rattle.cq_bits.specs.Packed.{IsWidthOf};
 
 use crate::packing::{pack, width_of};
 use crate::unpacking::{unpack_at, unpack_into};
@@ -19,13 +20,13 @@ pub struct Bits {
 
 impl Model for Bits {
     ghost use Rattle.std.specs.Prelude.{List, ℕ};
-    ghost use Rattle.cq_bits.specs.Packed.{HoldsValues, values_from};
+    ghost use Rattle.cq_bits.specs.Packed.{AreBits, values_from};
 
     ghost Value = { List ℕ };
 
     ghost view = { λ b. values_from b.width b.words.items 0 b.len };
 
-    ghost invariant = { λ b. HoldsValues b.width b.words.items b.len };
+    ghost invariant = { λ b. AreBits b.width b.words.items b.len };
 }
 
 impl Bits {
@@ -51,7 +52,8 @@ impl Bits {
 
     /// How many bits each number takes.
     pub fn width(&self) -> u32
-        ensures { result ≤ 64 }
+        ensures narrow { result ≤ 64 }
+        ensures is { IsWidthOf result self.now }
     {
         self.width
     }

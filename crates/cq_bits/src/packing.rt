@@ -1,7 +1,7 @@
 //! From numbers to words.
 ghost use Rattle.std.specs.List.{All};
 ghost use Rattle.std.specs.Prelude.{OnErr, OnOk, [], length, vec_capacity, vec_len, ℕ, ◌+◌, ◌*◌, ◌/◌, ◌<◌, ◌^◌, ◌≡◌, ◌≤◌};
-ghost use Rattle.cq_bits.specs.Packed.{AreRead, IsPacked};
+ghost use Rattle.cq_bits.specs.Packed.{AreRead, IsPacked, IsWidthOf};
 
 use std::alloc::AllocError;
 
@@ -56,7 +56,7 @@ fn push_packed(values: &[u64], width: u32, to: &mut Vec<u64>)
 /// How many bits the widest of some numbers takes.
 pub(crate) fn width_of(numbers: &[u64]) -> u32
     ensures narrow { result ≤ 64 }
-    ensures wide { All (λ number. number < 2 ^ result) numbers.now }
+    ensures is { IsWidthOf result numbers.now }
 {
     let mut bits = 0;
     for number in numbers {

@@ -3,3 +3,4 @@ pub mod Different
 pub mod Lending
 pub mod Neighbours
 pub mod Repeats
+pub mod TextCodes

@@ -1,3 +1,4 @@
 pub mod AnyEncoded
 pub mod Dict
 pub mod Runs
+pub mod Texts

@@ -20,6 +20,7 @@ ghost use Rattle.cq_encodings.specs.Dict.{
   AreCodes,
   AreCodesOf,
   IsCode,
+  IsDict,
   AddsNoText,
   IsFirstText,
   coded,
@@ -75,6 +76,18 @@ impl Dict {
             found => return Ok(found),
         }
         dict_in::<Vec<u32>>(alloc, values, most)
+    }
+
+    /// The different texts, the numbers of all, and the flags.
+    pub(crate) fn of_parts(entries: TextRun, codes: PackedNumbers, nulls: Nulls) -> Dict
+        requires { IsDict entries codes nulls }
+        ensures { result ≡ zip2 text_unless (coded entries codes) nulls }
+    {
+        Dict {
+            entries,
+            codes,
+            nulls,
+        }
     }
 
     /// The different texts, the numbers and the flags, for loops: the number is 0 where NULL stands.
@@ -200,7 +213,7 @@ fn text_in<'a>(value: &Lent<'a>) -> Option<&'a str>
 }
 
 /// Whether more texts are different than is worth it.
-fn gives_up(seen: usize, different: usize, most: usize) -> bool {
+pub(crate) fn gives_up(seen: usize, different: usize, most: usize) -> bool {
     different > most || seen == 2_000 && different > 1_000
 }
 
@@ -217,7 +230,7 @@ fn code_of<'a>(known: &mut KnownTexts<'a>, value: &Lent<'a>) -> Result<Option<u6
 }
 
 /// The texts one behind the other, or None where they do not fit one run.
-fn run_of(alloc: Global, texts: &[&str]) -> Result<Option<TextRun>, AllocError>
+pub(crate) fn run_of(alloc: Global, texts: &[&str]) -> Result<Option<TextRun>, AllocError>
     ensures { IfOk result (λ found. IfSome found (λ run. run ≡ texts_of texts.now)) }
 {
     let mut run = TextRun::new(alloc);

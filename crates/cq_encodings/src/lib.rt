@@ -13,6 +13,8 @@ mod rising;
 mod runs;
 #[cfg(test)]
 mod tests;
+mod text_codes;
+mod texts;
 
 pub use any_encoded::AnyEncoded;
 pub use choosing::{choose, choose_lent};
@@ -20,3 +22,4 @@ pub use cq_encodings_numbers::{Deltas, Packed};
 pub use dict::Dict;
 pub use numbers::choose_numbers;
 pub use runs::Runs;
+pub use texts::choose_texts;

@@ -48,11 +48,6 @@ impl Runs {
         })
     }
 
-    /// How many runs there are.
-    pub fn count(&self) -> usize {
-        self.runs.len()
-    }
-
     /// The value of all places, where there is exactly one run.
     pub fn one(&self) -> Option<Lent<'_>>
         ensures { IfSome result (λ value. IsConstant (owned value) self.now) }

@@ -1,8 +1,15 @@
-use crate::{AnyEncoded, Deltas, Dict, Packed, Runs, choose};
-use cq_encodings_plain::{Decoded, Encoded, Plain};
+ghost use Rattle.std.specs.List.{AllByRecursion};
+ghost use Rattle.cq_encodings_plain.specs.Kind.{IsOf};
+ghost use Rattle.cq_encodings_plain.specs.declared.kind.Kind.TheVariants.{Numbers};
+
+use crate::{AnyEncoded, Deltas, Dict, Packed, Runs, choose, choose_numbers};
+use cq_encodings_plain::{Decoded, Encoded, Kind, Plain};
 use cq_values::{Day, Lent, Text, Value, cmp_lent};
 use std::alloc::{AllocError, Global};
 use std::test::Fail;
+
+mod lengths;
+mod text_forms;
 
 /// So many numbers from a first one on, each so far above the one before it, and NULL in each place that ends in 7.
 fn numbers(alloc: Global, first: i128, step: i128, len: u32) -> Result<Vec<Value>, AllocError> {
@@ -61,13 +68,17 @@ fn lent<'a>(alloc: Global, values: &'a [Value]) -> Result<Vec<Lent<'a>>, AllocEr
 /// The name of the form that is chosen.
 fn chosen(alloc: Global, values: &[Value]) -> Result<&'static str, AllocError> {
     let encoded = choose(alloc, values)?;
-    Ok(match &encoded {
+    Ok(name_of(&encoded))
+}
+
+fn name_of(encoded: &AnyEncoded) -> &'static str {
+    match encoded {
         AnyEncoded::Plain(_) => "plain",
         AnyEncoded::Runs(_) => "runs",
         AnyEncoded::Dict(_) => "dict",
         AnyEncoded::Packed(_) => "packed",
         AnyEncoded::Deltas(_) => "deltas",
-    })
+    }
 }
 
 /// Whether the values are read back, one by one, and 1,024 at a time from places around the ends of planes.
@@ -106,9 +117,9 @@ fn are_decoded(decoded: &Decoded<'_>, values: &[Value], start: usize) -> bool {
 #[test]
 fn numbers_are_read_back_from_offsets(rt: HostRuntime) -> Result<(), Fail> {
     let values = numbers(rt.alloc(), -70_000, 9, 2_050)?;
-    if let Some(packed) = Packed::of(rt.alloc(), &lent(rt.alloc(), &values)?)? {
-        assert_eq!(rt; packed.width(), 16);
-        assert!(rt; are_read_back(rt.alloc(), &packed, &values)?);
+    match Packed::of(rt.alloc(), &lent(rt.alloc(), &values)?)? {
+        Some(packed) => assert!(rt; are_read_back(rt.alloc(), &packed, &values)?),
+        None => assert!(rt; false),
     }
     Ok(())
 }
@@ -116,9 +127,9 @@ fn numbers_are_read_back_from_offsets(rt: HostRuntime) -> Result<(), Fail> {
 #[test]
 fn numbers_are_read_back_from_steps(rt: HostRuntime) -> Result<(), Fail> {
     let values = numbers(rt.alloc(), -70_000, 9, 2_050)?;
-    if let Some(deltas) = Deltas::of(rt.alloc(), &lent(rt.alloc(), &values)?)? {
-        assert_eq!(rt; deltas.width(), 8);
-        assert!(rt; are_read_back(rt.alloc(), &deltas, &values)?);
+    match Deltas::of(rt.alloc(), &lent(rt.alloc(), &values)?)? {
+        Some(deltas) => assert!(rt; are_read_back(rt.alloc(), &deltas, &values)?),
+        None => assert!(rt; false),
     }
     Ok(())
 }
@@ -154,7 +165,7 @@ fn texts_are_read_back_as_they_are(rt: HostRuntime) -> Result<(), Fail> {
 fn texts_are_read_back_from_runs(rt: HostRuntime) -> Result<(), Fail> {
     let values = texts(rt.alloc(), 7, 1_030)?;
     let runs = Runs::of(rt.alloc(), &lent(rt.alloc(), &values)?)?;
-    assert_eq!(rt; runs.count(), 1_030);
+    assert!(rt; runs.one().is_none());
     assert!(rt; are_read_back(rt.alloc(), &runs, &values)?);
     Ok(())
 }
@@ -164,9 +175,12 @@ fn texts_are_read_back_from_a_dictionary(rt: HostRuntime) -> Result<(), Fail> {
     let values = texts(rt.alloc(), 7, 1_030)?;
     let lent = lent(rt.alloc(), &values)?;
     assert!(rt; Dict::of(rt.alloc(), &lent, 6)?.is_none());
-    if let Some(dict) = Dict::of(rt.alloc(), &lent, 7)? {
-        assert_eq!(rt; dict.different(), 7);
-        assert!(rt; are_read_back(rt.alloc(), &dict, &values)?);
+    match Dict::of(rt.alloc(), &lent, 7)? {
+        Some(dict) => {
+            assert_eq!(rt; dict.different(), 7);
+            assert!(rt; are_read_back(rt.alloc(), &dict, &values)?);
+        }
+        None => assert!(rt; false),
     }
     Ok(())
 }
@@ -187,12 +201,43 @@ fn values_that_stand_still_are_runs(rt: HostRuntime) -> Result<(), Fail> {
 fn numbers_are_kept_by_how_far_they_are_apart(rt: HostRuntime) -> Result<(), Fail> {
     let close = numbers(rt.alloc(), 1, 1, 1024)?;
     assert_eq!(rt; chosen(rt.alloc(), &close)?, "packed");
+    // More values than a segment has: as many as that, or fewer, which rise so slowly lie less than 2^32 apart.
     let rising = numbers(rt.alloc(), -5, 30_000, 160_000)?;
     assert_eq!(rt; chosen(rt.alloc(), &rising)?, "deltas");
     let far = numbers(rt.alloc(), 0, 1 << 40, 1024)?;
     assert_eq!(rt; chosen(rt.alloc(), &far)?, "plain");
     let wide = numbers(rt.alloc(), 1 << 90, 1, 1024)?;
     assert_eq!(rt; chosen(rt.alloc(), &wide)?, "plain");
+    Ok(())
+}
+
+/// The name of the form that is chosen for numbers, if their values are kept in the same one.
+fn chosen_alike(alloc: Global, numbers: &[i64]) -> Result<&'static str, AllocError>
+    requires { AllByRecursion (IsOf Numbers) numbers.now }
+{
+    let mut values = Vec::new(alloc);
+    for number in numbers {
+        values.push(Value::Number(i128::from(*number)))?;
+    }
+    let encoded = choose_numbers(alloc, Kind::Numbers, numbers)?;
+    let name = name_of(&encoded);
+    Ok(if chosen(alloc, &values)? == name {
+        name
+    } else {
+        "another"
+    })
+}
+
+#[test]
+fn numbers_are_kept_as_their_values_are(rt: HostRuntime) -> Result<(), Fail> {
+    assert_eq!(rt; chosen_alike(rt.alloc(), &[])?, "runs");
+    assert_eq!(rt; chosen_alike(rt.alloc(), &[7, 7, 7])?, "runs");
+    assert_eq!(rt; chosen_alike(rt.alloc(), &[1, 300, -5])?, "packed");
+    assert_eq!(rt;
+        chosen_alike(rt.alloc(), &[0, 5_000_000_000, 5_000_000_001])?,
+        "plain"
+    );
+    assert_eq!(rt; chosen_alike(rt.alloc(), &[i64::MIN, i64::MAX])?, "plain");
     Ok(())
 }
 

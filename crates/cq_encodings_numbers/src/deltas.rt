@@ -53,11 +53,6 @@ impl Deltas {
             nulls,
         }))
     }
-
-    /// How many bits each step takes.
-    pub fn width(&self) -> u32 {
-        self.numbers.width()
-    }
 }
 
 impl Encoded for Deltas {

@@ -101,11 +101,6 @@ impl Packed {
     {
         (self.kind, self.least, &self.offsets, &self.nulls)
     }
-
-    /// How many bits each offset takes.
-    pub fn width(&self) -> u32 {
-        self.offsets.width()
-    }
 }
 
 impl Encoded for Packed {

@@ -47,11 +47,6 @@ impl Steps {
         self.steps.len()
     }
 
-    /// How many bits each step takes.
-    pub fn width(&self) -> u32 {
-        self.steps.width()
-    }
-
     /// The number at a place, by the steps from the last mark before it.
     pub fn at(&self, place: usize) -> u64
         requires { place < length self.now }

@@ -9,7 +9,7 @@ fn offsets_take_the_width_of_the_greatest(rt: HostRuntime) -> Result<(), Fail> {
     for (range, width) in cases {
         let values = [Lent::Number(-7), Lent::Null, Lent::Number(range - 7)];
         match Packed::of(rt.alloc(), &values)? {
-            Some(packed) => assert_eq!(rt; packed.width(), width, "{range} apart"),
+            Some(packed) => assert_eq!(rt; packed.parts().2.width(), width, "{range} apart"),
             None => assert!(rt; false, "{range} apart"),
         }
     }

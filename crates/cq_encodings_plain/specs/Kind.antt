@@ -1,9 +1,9 @@
 -- Numbers and days, which are both kept as numbers.
-use Rattle.std.specs.Prelude.{◌≡◌, List, map, ℤ, pos, neg_ℤ, int_le, Bool, true, false, ◌&&◌, if◌then◌else◌, FitsSigned}
+use Rattle.std.specs.Prelude.{◌≡◌, List, [], ◌∷◌, map, Option, Some, None, ℤ, pos, neg_ℤ, int_le, Bool, true, false, ◌&&◌, if◌then◌else◌, FitsSigned}
 use Rattle.std.specs.Int.{w64}
 use Rattle.cq_values.specs.Days.{IsDay}
 use Rattle.cq_values.specs.declared.value.Value.{Value}
-use Rattle.cq_values.specs.declared.value.Value.TheVariants.{Null, Number, Day}
+use Rattle.cq_values.specs.declared.value.Value.TheVariants.{Null, Number, Day, Text}
 use Rattle.cq_encodings_plain.specs.declared.kind.Kind.{Kind}
 use Rattle.cq_encodings_plain.specs.declared.kind.Kind.TheVariants.{Numbers, Days}
 
@@ -30,3 +30,11 @@ pub record StandsFor (kind : Kind) (number : ℤ) (value : Value) : Type 0 where
 -- the values that numbers of a kind stand for, none of them NULL
 abbrev pub number_values : Kind → List ℤ → List Value
 number_values kind numbers = map (λ number. datum kind number false) numbers
+
+-- the kind of the first value that is not NULL, if there is one and it is no text
+abbrev pub first_kind : List Value → Option Kind
+first_kind [] = None
+first_kind (Null ∷ values) = first_kind values
+first_kind (Number n ∷ values) = Some Numbers
+first_kind (Day n ∷ values) = Some Days
+first_kind (Text text ∷ values) = None

@@ -15,6 +15,7 @@ ghost use Rattle.std.specs.Prelude.{
   ◌≡◌,
   ◌≤◌,
 };
+ghost use Rattle.cq_bits.specs.Packed.{Fit};
 ghost use Rattle.cq_encodings_plain.specs.PackedNumbers.{numbers_in};
 
 use crate::packed_numbers::Widths;
@@ -36,6 +37,10 @@ pub trait FixedWidth: Drop {
         requires { 0 < room self.old }
         ensures pushed { OnTrue result (numbers self.new ≡ numbers self.old ++ number ∷ []) }
         ensures room { room self.old ≤ room self.new + 1 };
+
+    /// How many bits each number takes.
+    fn width(&self) -> u32
+        ensures { Fit result (numbers self.now) };
 
     fn into_widths(self) -> Widths
         ensures { numbers_in result ≡ numbers self };
@@ -60,6 +65,10 @@ impl FixedWidth for Vec<u8> {
             }
             Err(_) => false,
         }
+    }
+
+    fn width(&self) -> u32 {
+        8
     }
 
     fn into_widths(self) -> Widths {
@@ -88,6 +97,10 @@ impl FixedWidth for Vec<u16> {
         }
     }
 
+    fn width(&self) -> u32 {
+        16
+    }
+
     fn into_widths(self) -> Widths {
         Widths::Two(self)
     }
@@ -114,6 +127,10 @@ impl FixedWidth for Vec<u32> {
         }
     }
 
+    fn width(&self) -> u32 {
+        32
+    }
+
     fn into_widths(self) -> Widths {
         Widths::Four(self)
     }
@@ -133,6 +150,10 @@ impl FixedWidth for Vec<u64> {
     fn push_number(&mut self, number: u64) -> bool {
         self.push_reserved(number);
         true
+    }
+
+    fn width(&self) -> u32 {
+        64
     }
 
     fn into_widths(self) -> Widths {

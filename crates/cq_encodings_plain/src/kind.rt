@@ -1,7 +1,7 @@
 //! Numbers and days, which are both kept as numbers.
-ghost use Rattle.std.specs.Prelude.{IfSome, false, true, ◌≡◌};
+ghost use Rattle.std.specs.Prelude.{IfSome, false, map, true, ◌≡◌};
 ghost use Rattle.std.specs.Bool.{OnTrue};
-ghost use Rattle.cq_encodings_plain.specs.Kind.{IsOf, datum};
+ghost use Rattle.cq_encodings_plain.specs.Kind.{IsOf, datum, first_kind};
 ghost use Rattle.cq_encodings_plain.specs.Parts.{Makes};
 ghost use Rattle.cq_encodings_plain.specs.declared.kind.Kind.TheVariants.{Days};
 ghost use Rattle.cq_values.specs.Lent.{owned};
@@ -82,7 +82,9 @@ pub fn number_of(kind: Kind, value: &Lent<'_>, any: i64) -> Option<i64>
 }
 
 /// What kind the values are of that are not NULL: that of the first one. None where there is none, or it is a text.
-pub fn kind_of(values: &[Lent<'_>]) -> Option<Kind> {
+pub fn kind_of(values: &[Lent<'_>]) -> Option<Kind>
+    ensures { result ≡ first_kind (map owned values.now) }
+{
     for value in values {
         match value {
             Lent::Null => {}

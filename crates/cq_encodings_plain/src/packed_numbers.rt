@@ -2,8 +2,9 @@
 //!
 //! Widths of whole bytes are typed lists, which loops read as they stand; numbers of every other width stand side by
 //! side in words. Readers take no memory.
-ghost use Rattle.std.specs.Prelude.{[], IfOk, IfSome, length, slice_index, ◌<◌, ◌≡◌, ◌≤◌};
+ghost use Rattle.std.specs.Prelude.{[], IfOk, IfSome, length, slice_index, ◌<◌, ◌≡◌, ◌≤◌, ◌^◌};
 ghost use Rattle.std.specs.Bool.{OnTrue};
+ghost use Rattle.cq_bits.specs.Packed.{Fit};
 ghost use Rattle.cq_encodings_plain.specs.PackedNumbers.{numbers_in};
 
 use crate::fixed_width::FixedWidth;
@@ -68,12 +69,14 @@ impl PackedNumbers {
     }
 
     /// How many bits each number takes.
-    pub fn width(&self) -> u32 {
+    pub fn width(&self) -> u32
+        ensures { Fit result self.now }
+    {
         match &self.widths {
-            Widths::One(_) => 8,
-            Widths::Two(_) => 16,
-            Widths::Four(_) => 32,
-            Widths::Eight(_) => 64,
+            Widths::One(numbers) => numbers.width(),
+            Widths::Two(numbers) => numbers.width(),
+            Widths::Four(numbers) => numbers.width(),
+            Widths::Eight(numbers) => numbers.width(),
             Widths::Bits(numbers) => numbers.width(),
         }
     }
@@ -101,16 +104,22 @@ impl PackedNumbers {
 }
 
 /// The width of whole bytes that the widest of some numbers fits: 8, 16, 32 or 64 bits.
-pub fn width_of(numbers: &[u64]) -> u32 {
+pub fn width_of(numbers: &[u64]) -> u32
+    ensures { Fit result numbers.now }
+{
     let mut greatest = 0;
     for number in numbers {
-        greatest = greatest.max(*number);
+        if greatest < *number {
+            greatest = *number;
+        }
     }
     width_up_to(greatest)
 }
 
 /// The width of whole bytes that numbers up to the greatest fit.
-pub fn width_up_to(greatest: u64) -> u32 {
+pub fn width_up_to(greatest: u64) -> u32
+    ensures { greatest < 2 ^ result }
+{
     if greatest < 1 << 8 {
         8
     } else if greatest < 1 << 16 {

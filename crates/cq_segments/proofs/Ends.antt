@@ -63,7 +63,7 @@ wider_among values None v here among = (here, here)
 wider_among values (Some e) v here among = (one_among values (lower e.0 v) e.0 v (lower-choice.one e.0 v) among.0 here, one_among values (higher e.1 v) e.1 v (higher-choice.one e.1 v) among.1 here)
 
 -- what is among values is among more of them
-ends_among : (values more : List Value) (ends : Ends) → ((w : Value) → IsAmong values w → IsAmong more w) → IfSome ends (λ e. IsAmong values e.0 × IsAmong values e.1) → IfSome ends (λ e. IsAmong more e.0 × IsAmong more e.1)
+pub ends_among : (values more : List Value) (ends : Ends) → ((w : Value) → IsAmong values w → IsAmong more w) → IfSome ends (λ e. IsAmong values e.0 × IsAmong values e.1) → IfSome ends (λ e. IsAmong more e.0 × IsAmong more e.1)
 ends_among values more None each among = tt
 ends_among values more (Some e) each among = (each e.0 among.0, each e.1 among.1)
 

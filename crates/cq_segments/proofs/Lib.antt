@@ -5,10 +5,12 @@ pub mod Misses
 pub mod NumberEnds
 pub mod OneMore
 pub mod Parts
+pub mod PieceColumns
 pub mod PieceLists
 pub mod PlacesFrom
 pub mod SegmentRows
 pub mod SortedRows
+pub mod TextEnds
 pub mod Transposed
 pub mod ValuesAt
 pub mod ValuesFrom

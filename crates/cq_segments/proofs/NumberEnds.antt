@@ -1,5 +1,5 @@
 -- The ends of numbers of a kind.
-use Rattle.std.proofs.Common.{◌≡◌, ◌⊎◌, ◌∙◌, ℕ, ◌+◌, ◌<◌, ℤ, pos, true, false, List, [], ◌∷◌, ◌++◌, None, Some, get_or, length, map, take, inl, inr, refl, sym, ap, ap₂, subst, arith}
+use Rattle.std.proofs.Common.{◌≡◌, ◌⊎◌, ◌∙◌, ℕ, ◌+◌, ◌<◌, ℤ, pos, true, false, List, [], ◌∷◌, ◌++◌, None, Some, get_or, length, take, inl, inr, refl, sym, ap, ap₂, subst, arith}
 use Rattle.std.specs.List.{AllByRecursion}
 use Rattle.std.proofs.lemmas.Int.{ints}
 use Rattle.std.proofs.lemmas.List.{get_or-map, get_or_default, length-map, map-append}
@@ -9,11 +9,11 @@ use Rattle.cq_model_bags.proofs.Lists.{all-at, all-push}
 use Rattle.cq_values.specs.Days.{IsDay}
 use Rattle.cq_values.specs.Value.{is_null}
 use Rattle.cq_values.specs.declared.value.Value.{Value}
-use Rattle.cq_values.specs.declared.value.Value.TheVariants.{Day, Null, Number}
+use Rattle.cq_values.specs.declared.value.Value.TheVariants.{Day, Number}
 use Rattle.cq_encodings_plain.specs.declared.kind.Kind.{Kind}
 use Rattle.cq_encodings_plain.specs.declared.kind.Kind.TheVariants.{Days, Numbers}
 use Rattle.cq_encodings_plain.specs.Kind.{IsOf, StandsFor, datum, is_day, number_values}
-use Rattle.cq_segments.specs.Bounds.{AreBounds, Ends, wider_ends}
+use Rattle.cq_segments.specs.Bounds.{AreBounds, Ends}
 use Rattle.cq_segments.specs.Numbers.{AreEnds, AreNumbers}
 use Rattle.cq_segments.proofs.Ends.{with_value}
 

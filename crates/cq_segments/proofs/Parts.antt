@@ -113,15 +113,6 @@ module _ (encoded : List AnyEncoded) (rows : List Row) (width len : ℕ) (same :
   pub encoded_long : AreLong len (columns_in encoded)
   encoded_long = subst (AreLong len) (sym same) (subst (λ n. AreLong n (columns_of rows width)) (sym count) (columns_long rows width))
 
-  -- where they are few they are one part
-  pub one_part : 0 < len → len ≤ 1024 → AreColumns (parts_of 0 encoded) len
-  one_part some few = parts_are encoded len 0 len encoded_long (omega (arith, few)) (omega (arith, some))
-
-  pub rows_of_one_part : len ≤ 1024 → AreWide width rows → rows_of_columns (parts_of 0 encoded) len ≡ rows
-  rows_of_one_part few wide =
-      rows_of_parts encoded len 0 len encoded_long (omega (arith, few))
-      ∙ take_all 1024 (encoded_rows encoded len) (omega (arith, few, length-rows (columns_in encoded) len)) ∙ decoded wide
-
 -- ---- columns of few rows
 
 module _ (encoded : List AnyEncoded) (len : ℕ) (are : AreColumns (columns_in encoded) len) where

@@ -6,7 +6,7 @@ use Rattle.std.specs.List.Sorted.{IsPermutation, IsSorted, IsStable}
 use Rattle.std.proofs.lemmas.List.{get_or_default, get_or_past, length-map, nil_from_length, take_more}
 use Rattle.std.proofs.lemmas.List.Elements.{All-from_recursion, recursion_from_All}
 use Rattle.std.proofs.lemmas.List.Folds.{length-flat_map-take}
-use Rattle.std.proofs.lemmas.List.Sorted.{All-permutation, length_permutation}
+use Rattle.std.proofs.lemmas.List.Sorted.{All-permutation}
 use Rattle.cq_values.specs.Value.{Row, is_null}
 use Rattle.cq_values.specs.declared.value.Value.TheVariants.{Null}
 use Rattle.cq_vectors.specs.Gathered.{column_of}
@@ -113,11 +113,11 @@ wide_sorted rows sorted width same wide =
     let P = λ (row : Row). length row ≡ width in
     recursion_from_All P sorted (All-permutation P rows sorted same (All-from_recursion P rows wide))
 
-module _ (rows sorted : List Row) (pieces : List (List MarkedRow)) (made : joined pieces ≡ unmarked sorted) (same : IsPermutation rows sorted) where
-  all_live : live (joined pieces) ≡ sorted
+module _ (rows sorted : List Row) (built : List MarkedRow) (made : built ≡ unmarked sorted) (same : IsPermutation rows sorted) where
+  all_live : live built ≡ sorted
   all_live = ap live made ∙ live-unmarked sorted
 
-  pub is_built : (sort : List ℕ) → IsSorted (columns_cmp sort) sorted → IsStable (columns_cmp sort) rows sorted → IsBuilt rows sort (joined pieces)
+  pub is_built : (sort : List ℕ) → IsSorted (columns_cmp sort) sorted → IsStable (columns_cmp sort) rows sorted → IsBuilt rows sort built
   is_built sort in_order stable = record {
     none_marked = made ∙ ap unmarked (sym all_live);
     same = subst (IsPermutation rows) (sym all_live) same;
@@ -125,17 +125,19 @@ module _ (rows sorted : List Row) (pieces : List (List MarkedRow)) (made : joine
     stable = subst (IsStable (columns_cmp sort) rows) (sym all_live) stable;
   }
 
-  pub segment-built : (width : ℕ) (bounds : List HeldBounds) → AreFull pieces → length bounds ≡ width → HaveBounds bounds sorted → AreWide width rows → 0 < length rows → length rows ≤ 65536 → IsSegment pieces bounds
-  segment-built width bounds full as_many bounded wide some few =
-      let count = ap length made ∙ length-map sorted (λ (row : Row). record { row = row; marked = false }) ∙ length_permutation rows sorted same in
-      let there = ap rows_of made ∙ rows_of-unmarked sorted in
-      record {
-        some = omega (arith, count, some);
-        few = omega (arith, count, few);
-        full = full;
-        wide = subst (AreWide (length bounds)) (sym there) (subst (λ n. AreWide n sorted) (sym as_many) (wide_sorted rows sorted width same wide));
-        bounded = subst (HaveBounds bounds) (sym there) bounded;
-      }
+-- pieces of rows with their bounds are a segment
+pub segment-built : (rows : List Row) (pieces : List (List MarkedRow)) → joined pieces ≡ unmarked rows
+    → (width : ℕ) (bounds : List HeldBounds) → AreFull pieces → length bounds ≡ width → HaveBounds bounds rows → AreWide width rows → 0 < length rows → length rows ≤ 65536 → IsSegment pieces bounds
+segment-built rows pieces made width bounds full as_many bounded wide some few =
+    let count = ap length made ∙ length-map rows (λ (row : Row). record { row = row; marked = false }) in
+    let there = ap rows_of made ∙ rows_of-unmarked rows in
+    record {
+      some = omega (arith, count, some);
+      few = omega (arith, count, few);
+      full = full;
+      wide = subst (AreWide (length bounds)) (sym there) (subst (λ n. AreWide n rows) (sym as_many) wide);
+      bounded = subst (HaveBounds bounds) (sym there) bounded;
+    }
 
 -- ---- marks, piece by piece
 

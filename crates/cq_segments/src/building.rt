@@ -3,32 +3,29 @@ ghost use Rattle.std.specs.Prelude.{IfOk, length, ◌≡◌, ◌≤◌};
 ghost use Rattle.cq_encodings.specs.AnyEncoded.{encoded_values};
 ghost use Rattle.cq_segments.specs.Bounds.{AreBounds};
 ghost use Rattle.cq_segments.specs.Columns.{AreLong, columns_in, columns_of, encoded_rows};
+ghost use Rattle.cq_segments.specs.InOrder.{rows_in_order};
 ghost use Rattle.cq_segments.specs.Marked.{unmarked};
 ghost use Rattle.cq_segments.specs.Pieces.{AreFull, joined};
-ghost use Rattle.cq_segments.specs.Rows.{stored_rows};
 ghost use Rattle.cq_segments.specs.Segment.{HaveBounds};
 ghost use Rattle.cq_vectors.specs.Gathered.{column_of};
 
 use crate::columns::Columns;
 use crate::held_bounds::HeldBounds;
-use crate::lending::lend_column;
-use crate::number_bounds::bounds_of_numbers;
-use crate::numbers::numbers_in_column;
+use crate::in_order::InOrder;
 use crate::piece::Piece;
-use crate::stored_row::StoredRow;
-use cq_encodings::{AnyEncoded, choose_lent, choose_numbers};
+use cq_encodings::AnyEncoded;
 use std::alloc::{AllocError, Global};
 use std::rc::Rc;
 
 /// Each column of the rows in the form that is best for it, and the bounds of each.
 pub(crate) fn encode_columns(
     alloc: Global,
-    rows: &[StoredRow<'_>],
+    rows: &InOrder<'_>,
     width: usize,
 ) -> Result<(Vec<AnyEncoded>, Vec<HeldBounds>), AllocError>
-    ensures values { IfOk result (λ e. columns_in e.0.items ≡ columns_of (stored_rows rows.now) width) }
+    ensures values { IfOk result (λ e. columns_in e.0.items ≡ columns_of (rows_in_order rows.now) width) }
     ensures as_many { IfOk result (λ e. length e.1.items ≡ width) }
-    ensures bounds { IfOk result (λ e. HaveBounds e.1.items (stored_rows rows.now)) }
+    ensures bounds { IfOk result (λ e. HaveBounds e.1.items (rows_in_order rows.now)) }
 {
     let mut encoded = Vec::new(alloc);
     let mut bounds = Vec::new(alloc);
@@ -43,21 +40,14 @@ pub(crate) fn encode_columns(
 /// One column of the rows in the form that is best for it, and its bounds.
 fn encode_column(
     alloc: Global,
-    rows: &[StoredRow<'_>],
+    rows: &InOrder<'_>,
     column: usize,
 ) -> Result<(AnyEncoded, HeldBounds), AllocError>
-    ensures values { IfOk result (λ e. encoded_values e.0 ≡ column_of (stored_rows rows.now) column) }
-    ensures bounds { IfOk result (λ e. AreBounds e.1.has_null e.1.ends (column_of (stored_rows rows.now) column)) }
+    ensures values { IfOk result (λ e. encoded_values e.0 ≡ column_of (rows_in_order rows.now) column) }
+    ensures bounds { IfOk result (λ e. AreBounds e.1.has_null e.1.ends (column_of (rows_in_order rows.now) column)) }
 {
-    if let Some((kind, numbers)) = numbers_in_column(alloc, rows, column)? {
-        if let Some(bounds) = bounds_of_numbers(alloc, kind, &numbers)? {
-            return Ok((choose_numbers(alloc, kind, &numbers)?, bounds));
-        }
-    }
-    let values = lend_column(alloc, rows, column)?;
-    let form = choose_lent(alloc, &values)?;
-    let bounds = HeldBounds::of(alloc, &values)?;
-    Ok((form, bounds))
+    let values = rows.gather(alloc, column)?;
+    values.encode(alloc)
 }
 
 /// The rows of encoded columns, 1,024 to a piece. The pieces share the columns.

@@ -1,6 +1,7 @@
 //! The bounds of a column of numbers or days, none of which is NULL.
 ghost use Rattle.std.specs.List.{AllByRecursion};
-ghost use Rattle.std.specs.Prelude.{IfOk, IfSome, Some, false, ◌≡◌};
+ghost use Rattle.std.specs.Option.{IfNone};
+ghost use Rattle.std.specs.Prelude.{IfOk, IfSome, Some, [], false, ◌≡◌};
 ghost use Rattle.cq_encodings_plain.specs.Kind.{IsOf, datum, number_values};
 ghost use Rattle.cq_model.specs.Group.{higher, lower};
 ghost use Rattle.cq_segments.specs.Bounds.{AreBounds};
@@ -12,26 +13,29 @@ use cq_encodings_plain::{Kind, lend_number};
 use cq_values::Value;
 use std::alloc::{AllocError, Global};
 
-/// The bounds of numbers of a kind. None where there is no number.
+/// The bounds of numbers of a kind.
 pub(crate) fn bounds_of_numbers(
     alloc: Global,
     kind: Kind,
     numbers: &[i64],
-) -> Result<Option<HeldBounds>, AllocError>
+) -> Result<HeldBounds, AllocError>
     requires { AllByRecursion (IsOf kind) numbers.now }
-    ensures { IfOk result (λ f. IfSome f (λ b. AreBounds b.has_null b.ends (number_values kind numbers.now))) }
+    ensures { IfOk result (λ b. AreBounds b.has_null b.ends (number_values kind numbers.now)) }
 {
     let Some((least, greatest)) = ends_of(kind, numbers) else {
-        return Ok(None);
+        return Ok(HeldBounds {
+            has_null: false,
+            ends: None,
+        });
     };
     let ends = Some((
         value_of(alloc, kind, least)?,
         value_of(alloc, kind, greatest)?,
     ));
-    Ok(Some(HeldBounds {
+    Ok(HeldBounds {
         has_null: false,
         ends,
-    }))
+    })
 }
 
 /// What a number stands for.
@@ -44,7 +48,8 @@ fn value_of(alloc: Global, kind: Kind, number: i64) -> Result<Value, AllocError>
 /// The least and the greatest of numbers of a kind.
 fn ends_of(kind: Kind, numbers: &[i64]) -> Option<(i64, i64)>
     requires { AllByRecursion (IsOf kind) numbers.now }
-    ensures { IfSome result (λ e. AreEnds kind e.0 e.1 (number_values kind numbers.now)) }
+    ensures some { IfSome result (λ e. AreEnds kind e.0 e.1 (number_values kind numbers.now)) }
+    ensures none { IfNone result (numbers.now ≡ []) }
 {
     let first = *numbers.first()?;
     let (mut least, mut greatest) = (first, first);

@@ -10,7 +10,7 @@ ghost use Rattle.cq_values.specs.Value.{column as column_at};
 
 use crate::columns::Columns;
 use crate::stored_row::StoredRow;
-use cq_encodings_plain::Kind;
+use cq_encodings_plain::{Kind, kind_of};
 use std::alloc::{AllocError, Global};
 
 /// The numbers that stand for the values of a column, and their kind. None where there is no row, one of the values is
@@ -36,12 +36,12 @@ pub(crate) fn numbers_in_column(
     Ok(Some((kind, numbers)))
 }
 
-/// The kind of the number in the first row.
+/// The kind of the value in the first row.
 fn kind_in(rows: &[StoredRow<'_>], column: usize) -> Option<Kind> {
-    let (kind, _) = number_of(rows.first()?, column)?;
-    Some(kind)
+    kind_of(&[rows.first()?.lend(column)])
 }
 
+/// It is called in one place, so that the loop there has it inside.
 #[inline(always)]
 fn number_of(row: &StoredRow<'_>, column: usize) -> Option<(Kind, i64)>
     ensures { IfSome result (λ n. StandsFor n.0 n.1 (column_at (row_of row.now) column)) }

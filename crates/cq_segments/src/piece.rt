@@ -5,15 +5,12 @@
 //! front. A mark costs some steps a word of the plane, a cut its rows; how many rows are live is known at once.
 ghost use Rattle.std.specs.Bool.{OnTrue};
 ghost use Rattle.std.specs.Prelude.{IfOk, drop, false, length, slice_index_or, take, ◌<◌, ◌≡◌, ◌≤◌};
-ghost use Rattle.cq_segments.specs.Columns.{AreColumns, AreWide, columns_in, encoded_rows};
+ghost use Rattle.cq_segments.specs.Columns.{AreColumns, columns_in, encoded_rows};
 ghost use Rattle.cq_segments.specs.Marked.{live, live_from, marked_count, marks_of, rows_of, unmarked, with_mark};
-ghost use Rattle.cq_vectors.specs.Gathered.{lent_rows};
 
 use crate::columns::Columns;
 use crate::marking::{drop_flags, set_flag};
-use crate::plain_columns::plain_columns;
 use cq_encodings::AnyEncoded;
-use cq_values::Row;
 use cq_vectors_masks::Plane;
 use std::alloc::{AllocError, Global};
 use std::marker::Model;
@@ -50,18 +47,6 @@ impl Piece {
             marks,
             marked: 0,
         }
-    }
-
-    /// Copies of few rows, as plain values and without a mark.
-    pub fn of_rows(alloc: Global, rows: &[&Row], width: usize) -> Result<Piece, AllocError>
-        requires some { 0 < length rows.now }
-        requires few { length rows.now ≤ 1024 }
-        requires wide { AreWide width (lent_rows rows.now) }
-        ensures { IfOk result (λ p. p ≡ unmarked (lent_rows rows.now)) }
-    {
-        let encoded = plain_columns(alloc, rows, width)?;
-        let columns = Columns::of(Rc::new(alloc, encoded)?, 0, rows.len());
-        Ok(Piece::of(columns))
     }
 
     /// The rows of encoded columns, without a mark.

@@ -9,7 +9,8 @@ ghost use Rattle.std.specs.List.{All};
 ghost use Rattle.cq_segments.specs.Bounds.{AreBounds, ends_of};
 ghost use Rattle.cq_segments.specs.ColumnTest.{NoneMatches};
 ghost use Rattle.cq_segments.specs.Columns.{AreWide};
-ghost use Rattle.cq_segments.specs.Marked.{marked_count, marks_of, rows_of, with_mark};
+ghost use Rattle.cq_segments.specs.InOrder.{rows_in_order};
+ghost use Rattle.cq_segments.specs.Marked.{marked_count, marks_of, rows_of, unmarked, with_mark};
 ghost use Rattle.cq_segments.specs.Pieces.{joined};
 ghost use Rattle.cq_segments.specs.Rows.{stored_rows};
 ghost use Rattle.cq_segments.specs.Sorted.{IsBuilt};
@@ -22,6 +23,7 @@ use crate::building::{encode_columns, make_pieces};
 use crate::column_test::ColumnTest;
 use crate::columns::Columns;
 use crate::held_bounds::HeldBounds;
+use crate::in_order::InOrder;
 use crate::piece::Piece;
 use crate::sorting::sorted;
 use crate::stored_row::StoredRow;
@@ -63,9 +65,42 @@ impl Segment {
         requires wide { AreWide width (stored_rows rows.now) }
         ensures { IfOk result (IsBuilt (stored_rows rows.now) sort.now) }
     {
-        let rows = sorted(alloc, rows, sort)?;
-        let (encoded, bounds) = encode_columns(alloc, rows.as_slice(), width)?;
-        let pieces = make_pieces(alloc, Rc::new(alloc, encoded)?, rows.len())?;
+        let count = rows.len();
+        let sorted = InOrder::Rows(sorted(alloc, rows, sort)?);
+        let built = Segment::encode(alloc, &sorted, count, width)?;
+        Ok(built)
+    }
+
+    /// Copies of the rows of pieces in their order, those with a mark too, without a mark.
+    pub fn of_pieces(alloc: Global, pieces: &[Piece], width: usize) -> Result<Segment, AllocError>
+        requires some { 0 < length (joined pieces.now) }
+        requires few { length (joined pieces.now) ≤ 65536 }
+        requires wide { AreWide width (rows_of (joined pieces.now)) }
+        ensures { IfOk result (IsBuilt (rows_of (joined pieces.now)) []) }
+    {
+        let mut len = 0;
+        for piece in pieces {
+            len += piece.len();
+        }
+        let built = Segment::encode(alloc, &InOrder::Pieces(pieces), len, width)?;
+        Ok(built)
+    }
+
+    /// Copies of rows without a mark.
+    fn encode(
+        alloc: Global,
+        rows: &InOrder<'_>,
+        len: usize,
+        width: usize,
+    ) -> Result<Segment, AllocError>
+        requires len { len ≡ length (rows_in_order rows.now) }
+        requires some { 0 < len }
+        requires few { len ≤ 65536 }
+        requires wide { AreWide width (rows_in_order rows.now) }
+        ensures { IfOk result (λ s. s ≡ unmarked (rows_in_order rows.now)) }
+    {
+        let (encoded, bounds) = encode_columns(alloc, rows, width)?;
+        let pieces = make_pieces(alloc, Rc::new(alloc, encoded)?, len)?;
         Ok(Segment { pieces, bounds })
     }
 

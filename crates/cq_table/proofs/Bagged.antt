@@ -1,9 +1,6 @@
 -- Stored rows, and the bag that they are.
-use Rattle.std.proofs.Common.{◌≡◌, ℕ, ◌+◌, Bool, not, List, [], ◌++◌, length, arith, refl, sym, ap, ◌∙◌, subst}
+use Rattle.std.proofs.Common.{◌≡◌, ℕ, Bool, List, [], ◌++◌, length, arith, refl, sym, ap, ◌∙◌, subst}
 use Rattle.std.specs.Prelude.{filter}
-use Rattle.std.specs.List.{AllByRecursion}
-use Rattle.std.proofs.lemmas.List.{length-append}
-use Rattle.std.proofs.lemmas.List.Filters.{length-filter_both}
 use Rattle.cq_values.specs.Value.{Row}
 use Rattle.cq_model_bags.specs.Bag.{Weighted, SameBag, once_each, filtered}
 use Rattle.cq_model_bags.specs.Canonical.{bag_of}
@@ -14,7 +11,6 @@ use Rattle.cq_values.specs.declared.column.ColumnDef.{ColumnDef}
 use Rattle.cq_model_state.specs.Fitting.{FitsColumns}
 use Rattle.cq_table.specs.Table.{AreSound}
 use Rattle.cq_table.proofs.RowLists.{all_of_bag}
-use Rattle.cq_model_bags.proofs.Lists.{all-append, all-filter}
 
 -- no rows are the empty bag
 pub bag_of_none : bag_of [] ≡ []

@@ -1,9 +1,9 @@
 -- Rows that are found by their places, and what marks at these places leave.
-use Rattle.std.proofs.Common.{◌≡◌, ℕ, zero, suc, ◌+◌, ◌-◌, ◌<◌, ◌≤◌, Bool, true, false, not, cond, List, [], ◌∷◌, ◌++◌, map, filter, length, take, get_or, refl, sym, subst, ap, ap₂, ◌∙◌, arith}
-use Rattle.std.specs.Prelude.{◌&&◌, slice_index_or}
+use Rattle.std.proofs.Common.{◌≡◌, ℕ, zero, suc, ◌+◌, ◌-◌, ◌<◌, ◌≤◌, Bool, true, not, cond, List, [], ◌∷◌, ◌++◌, map, filter, length, take, get_or, refl, sym, subst, ap, ap₂, ◌∙◌, arith}
+use Rattle.std.specs.Prelude.{slice_index_or}
 use Rattle.std.specs.List.{AllByRecursion}
 use Rattle.std.proofs.lemmas.Simd.{map-map}
-use Rattle.std.proofs.lemmas.List.{append_assoc, map-append, length-append, length-map, get_or-append_right, take_all, take_more}
+use Rattle.std.proofs.lemmas.List.{append_assoc, map-append, length-append, length-map, get_or-append_right, nil_from_length, take_all, take_more}
 use Rattle.cq_model_bags.proofs.Lists.{all-at, all-back}
 use Rattle.cq_model_bags.proofs.Totals.{by_test}
 use Rattle.cq_values.specs.Value.{Row}
@@ -162,13 +162,9 @@ shifted test k n (x ∷ xs) =
     let rest = shifted test k (suc n) xs ∙ ap (λ (m : ℕ). places_where m test xs) one in
     by_test (test x) (λ e. rw e (ap (λ (ps : List ℕ). (k + n) ∷ ps) rest)) (λ e. rw e rest)
 
--- where no row is live, none passes
-pub none-pass : (keep : Row → Bool) (n : ℕ) (stored : List MarkedRow) → live stored ≡ [] → places_where n (passes keep) stored ≡ []
-none-pass keep n [] none = refl
-none-pass keep n (m ∷ stored) none =
-    by_test m.marked
-    (λ k. rw k (none-pass keep (suc n) stored (let e = rw k at none in e)))
-    (λ k. absurd (let e = rw k at none in cc e))
+-- where a test keeps no live row, none passes
+pub none-pass : (keep : Row → Bool) (n : ℕ) (stored : List MarkedRow) → filter keep (live stored) ≡ [] → places_where n (passes keep) stored ≡ []
+none-pass keep n stored none = nil_from_length (places_where n (passes keep) stored) (length-places keep n stored ∙ ap length none)
 
 -- the rows of a front, with a mark or without
 pub front-live : (front : Front) → live (marked_rows front) ≡ front_rows front

@@ -10,3 +10,4 @@ pub mod Setting
 pub mod Checked
 pub mod Widths
 pub mod Replaced
+pub mod WholePieces

@@ -1,29 +1,25 @@
 -- Tables as their rows are stored: what writes, moves and merges leave of them.
-use Rattle.std.proofs.Common.{◌≡◌, ℕ, zero, suc, ◌+◌, ◌-◌, ◌<◌, ◌≤◌, ◌^◌, Bool, not, List, [], ◌∷◌, ◌++◌, map, take, drop, length, refl, sym, subst, ap, ap₂, ◌∙◌, arith}
-use Rattle.std.specs.Prelude.{None, Option, filter, min, nat_lt}
+use Rattle.std.proofs.Common.{◌≡◌, ℕ, ◌+◌, ◌<◌, ◌≤◌, ◌^◌, Bool, not, List, [], ◌++◌, map, take, drop, length, refl, sym, subst, ap, ap₂, ◌∙◌, arith}
+use Rattle.std.specs.Prelude.{Option, filter, min}
 use Rattle.std.proofs.Math.Seq.{drop-append_seam}
 use Rattle.std.specs.List.{AllByRecursion}
-use Rattle.std.proofs.lemmas.Bool.{ltb-false}
-use Rattle.std.proofs.lemmas.List.{append-nil, append_assoc, drop-map, length-append, length-drop, length-take, take-append-drop, take_all}
+use Rattle.std.proofs.lemmas.List.{append-nil, append_assoc, drop-map, length-append, length-drop, length-take, take_all}
 use Rattle.cq_values.specs.Value.{Row}
-use Rattle.cq_values.specs.declared.column.ColumnDef.{ColumnDef}
 use Rattle.cq_model.specs.Expr.{Cond}
 use Rattle.cq_model.specs.Meaning.{keeps}
 use Rattle.cq_model.specs.Write.{chosen, left_by}
 use Rattle.cq_model_bags.specs.Canonical.{bag_of}
 use Rattle.cq_model_bags.proofs.Canonicals.{length-bag_of}
-use Rattle.cq_model_bags.proofs.Lists.{all-append, all-back, all-drop, all-front, all-weaker}
-use Rattle.cq_model_bags.proofs.Totals.{by_test}
+use Rattle.cq_model_bags.proofs.Lists.{all-append, all-drop, all-front, all-weaker}
 use Rattle.cq_model_state.specs.Fitting.{FitsColumns}
-use Rattle.cq_operators_scans.specs.Kept.{places_where}
 use Rattle.cq_segments.specs.Columns.{AreWide}
 use Rattle.cq_segments.specs.Marked.{MarkedRow, live, marked_count, rows_of, unmarked, with_marks}
 use Rattle.cq_segments.specs.Pieces.{joined}
 use Rattle.cq_segments.proofs.Marks.{count-append, length-live, length-rows_of, live-append, live-unmarked, rows_of-append, rows_of-unmarked}
 use Rattle.cq_table.specs.Changes.{AreBuilt, Merges, MergesCounts, Moves, MovesCounts}
-use Rattle.cq_table.specs.Checks.{HasRoom, too_many}
-use Rattle.cq_table.specs.Found.{AreLiveAt, AreThere, IsFound, found_rows, passes}
-use Rattle.cq_table.specs.Table.{AreSound, IsKept, SameRows, StoredTable, live_rows, marked_len, stored_in, table_rows, with_stored, write_len}
+use Rattle.cq_table.specs.Checks.{HasRoom}
+use Rattle.cq_table.specs.Found.{AreLiveAt, AreThere, IsFound, found_rows}
+use Rattle.cq_table.specs.Table.{IsKept, SameRows, StoredTable, live_rows, marked_len, stored_in, table_rows, with_stored, write_len}
 use Rattle.cq_table.proofs.Bagged.{bag_of_kept, bag_of_more, length-kept}
 use Rattle.cq_table.proofs.Built.{length-built, new-clear, same-built}
 use Rattle.cq_table.proofs.Founds.{all-found, found-places, length-places, live-marks, live_there}
@@ -44,12 +40,6 @@ long-same xs ys same = sym (length-bag_of ys) ∙ ap length same ∙ length-bag_
 -- what stands behind lists of one length
 same-behind : (xs us ys vs : List Row) → length xs ≡ length us → xs ++ ys ≡ us ++ vs → ys ≡ vs
 same-behind xs us ys vs same is = sym (drop-append_seam xs ys) ∙ ap (drop (length xs)) is ∙ ap (λ (n : ℕ). drop n (us ++ vs)) same ∙ drop-append_seam us vs
-
--- so many rows that are not too many
-pub few-enough : (most count : ℕ) → too_many most count ≡ None → count ≤ most
-few-enough most count none = by_test (nat_lt most count)
-    (λ k. absurd (let e = rw k at none in cc e))
-    (λ k. ltb-false most count k)
 
 -- ---- Rows that are found
 -- what holds of the rows of a table holds of those at places of live rows
@@ -166,16 +156,7 @@ module _ (t : StoredTable) (places : List ℕ) (are : AreLiveAt places (stored_i
 
 -- ---- Rows that are moved
 module _ (t : StoredTable) (fitting : AllByRecursion (FitsColumns t.columns) (live_rows t)) where
-  all_written : AllByRecursion (FitsColumns t.columns) (live t.written)
-  all_written = all-back (FitsColumns t.columns) (live (joined t.segments)) (live t.written) (subst (AllByRecursion (FitsColumns t.columns)) (live-append (joined t.segments) t.written) fitting)
-
-  -- the live rows at the front of the write store have a value for each column
-  pub wide-front : (n : ℕ) → AreWide (length t.columns) (live (take n t.written))
-  wide-front n =
-      let split = ap live (sym (take-append-drop n t.written)) ∙ live-append (take n t.written) (drop n t.written) in
-      fitting_wide t.columns (live (take n t.written)) (all-front (FitsColumns t.columns) (live (take n t.written)) (live (drop n t.written)) (subst (AllByRecursion (FitsColumns t.columns)) split all_written))
-
-  -- and so have those of the segments
+  -- the live rows of the segments have a value for each column
   pub wide-segments : AreWide (length t.columns) (live (joined t.segments))
   wide-segments =
       fitting_wide t.columns (live (joined t.segments))

@@ -4,3 +4,4 @@ pub mod Placing
 pub mod Reached
 pub mod Changes
 pub mod Checks
+pub mod Whole

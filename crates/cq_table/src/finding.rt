@@ -6,11 +6,12 @@ ghost use Rattle.cq_table.specs.Found.{PutsPlaces, where_places};
 ghost use Rattle.cq_table_columns.specs.Stored.{all_rows, front_rows, marked_rows, stored_marked};
 
 use cq_model::Cond;
-use cq_operators_scans::kept_places;
+use cq_operators_scans::{kept_places, split_unkept};
 use cq_table_columns::{Front, Stored};
 use std::alloc::{AllocError, Global};
 
-/// The places of the live rows that the condition keeps, among all stored rows. It goes through them 1,024 at a time.
+/// The places of the live rows that the condition keeps, among all stored rows. It goes through them 1,024 at
+/// a time, and past the segments that can have none.
 pub(crate) fn found_places(
     alloc: Global,
     condition: &Option<Cond>,
@@ -24,10 +25,15 @@ pub(crate) fn found_places(
     let mut before = 0;
     let mut left = *rows;
     while !left.is_empty() {
-        let (front, rest) = left.split_piece();
-        find_in(alloc, condition, before, &front, &mut found)?;
-        before += front.span();
-        left = rest;
+        if let Some((segment, rest)) = split_unkept(condition, &left) {
+            before += segment.len();
+            left = rest;
+        } else {
+            let (front, rest) = left.split_piece();
+            find_in(alloc, condition, before, &front, &mut found)?;
+            before += front.span();
+            left = rest;
+        }
     }
     Ok(found)
 }

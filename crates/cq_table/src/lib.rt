@@ -15,6 +15,7 @@ mod moving;
 mod placing;
 mod table;
 mod updating;
+mod whole;
 
 pub use fault::TableFault;
 pub use found::Found;

@@ -3,14 +3,15 @@
 //! A move step takes the first rows of the write store to new segments, and drops those with a mark; a merge step makes
 //! all segments anew of their live rows. Both build segments of 65,536 rows, and a last one of those that are left, and
 //! then put in what they built: where one refuses, the table is as it was. No row of the bag changes. A move costs its
-//! rows, and a merge all rows of the segments; each lends the live ones, at two words a row, before it builds.
-ghost use Rattle.std.specs.Prelude.{◌≡◌, ◌<◌, ◌*◌, ◌+◌, ◌^◌, OnErr, OnOk, length, min};
+//! rows, and a merge all rows of the segments; each lends the live ones, at two words a row, before it builds. Where no
+//! order is asked for, a move takes whole pieces as they stand.
+ghost use Rattle.std.specs.Prelude.{◌≡◌, ◌<◌, ◌≤◌, ◌*◌, ◌+◌, ◌^◌, OnErr, OnOk, length, min};
 ghost use Rattle.cq_segments.specs.Marked.{marked_count};
 ghost use Rattle.cq_segments.specs.Pieces.{joined};
 ghost use Rattle.cq_table.specs.Changes.{Merges, MergesCounts, Moves, MovesCounts};
 ghost use Rattle.cq_table.specs.Table.{table_rows};
 
-use crate::building::build_front;
+use crate::building::{build_front, build_written};
 use crate::table::Table;
 use cq_segments::{Segment, widened};
 use cq_table_columns::Stored;
@@ -28,8 +29,7 @@ impl Table {
         let count = at_most(count, self.written.len());
         counted_places(alloc, self.segments.as_slice(), count)?;
         let live = self.written.len() - self.written.marked_len();
-        let rows = Stored::new(&[], self.written.rows(), live);
-        let mut made = build_front(alloc, &rows, count, &self.layout)?;
+        let mut made = build_written(alloc, &self.written.rows(), live, count, &self.layout)?;
         self.segments.append(&mut made)?;
         self.written.take_front(count);
         Ok(())
@@ -56,7 +56,8 @@ impl Table {
 fn counted_places(alloc: Global, segments: &[Segment], more: usize) -> Result<(), AllocError>
     requires old { length (joined segments.now) < 2 ^ 63 }
     requires more { more < 2 ^ 63 }
-    ensures { OnOk result (length (joined segments.now) + more < 2 ^ 63) }
+    ensures counted { OnOk result (length (joined segments.now) + more < 2 ^ 63) }
+    ensures refused { OnErr result (2 ^ 63 ≤ length (joined segments.now) + more) }
 {
     let places = count_rows(segments) + more;
     widened(alloc, places, places)?;

@@ -141,15 +141,12 @@ impl Table {
         )
     }
 
-    /// Lets the table have so many rows from now on, if it has no more already.
-    pub fn limit(&mut self, max_rows: u64) -> Result<(), TableFault>
-        ensures room { IsChecked (too_many max_rows (length (table_rows self.old))) result }
-        ensures ok { OnOk result (self.new ≡ limited_to max_rows self.old) }
-        ensures err { OnErr result (self.new ≡ self.old) }
+    /// Lets the table have so many rows from now on. It has no more already.
+    pub fn limit(&mut self, max_rows: u64)
+        requires { length (table_rows self.old) ≤ max_rows }
+        ensures { self.new ≡ limited_to max_rows self.old }
     {
-        check_room(max_rows, self.live, 0)?;
         self.max_rows = max_rows;
-        Ok(())
     }
 
     /// Refuses more rows than the table may have, where so many are added.
@@ -181,8 +178,8 @@ impl Table {
         ensures err { OnErr result (self.new ≡ self.old) }
     {
         let (count, _most) = (rows.len(), self.max_rows);
-        let width = self.layout.columns.len();
-        self.written.append(alloc, rows, width)?;
+        let columns = self.layout.columns.as_slice();
+        self.written.append(alloc, rows, columns)?;
         self.live += count;
         Ok(())
     }

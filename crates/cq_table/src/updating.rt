@@ -60,8 +60,8 @@ impl Table {
         ensures left { OnOk result (LeavesFound found.now images.items self.old self.new) }
         ensures err { OnErr result (self.new ≡ self.old) }
     {
-        let width = self.layout.columns.len();
-        self.written.append(alloc, NewRows::of(images), width)?;
+        let columns = self.layout.columns.as_slice();
+        self.written.append(alloc, NewRows::of(images), columns)?;
         mark_all(&mut self.segments, &mut self.written, found.places());
         Ok(())
     }

@@ -44,6 +44,13 @@ first_piece whole pieces rest segments written piece is first =
     (sym is ∙ ap (λ p. joined p ++ joined segments ++ written) first
     ∙ ap (λ l. l ++ written) (append_assoc piece (joined rest) (joined segments)) ∙ append_assoc piece (joined rest ++ joined segments) written)
 
+-- the first segment where no piece comes before it, and what stands behind it
+pub first_segment : (whole : List MarkedRow) (pieces segments rest : List (List MarkedRow)) (written segment : List MarkedRow) → joined pieces ++ joined segments ++ written ≡ whole → pieces ≡ [] → segments ≡ segment ∷ rest
+    → AreParts whole segment (joined rest ++ written)
+first_segment whole pieces segments rest written segment is none first =
+    are_parts whole segment (joined rest ++ written)
+    (sym is ∙ ap (λ p. joined p ++ joined segments ++ written) none ∙ ap (λ s. joined s ++ written) first ∙ append_assoc segment (joined rest) written)
+
 -- of two parts the first ones are those of the first, and then those of the second
 pub first_parts : (count : ℕ) (front back : List MarkedRow) → take count (front ++ back) ≡ take count front ++ take (count - length front) back
 first_parts zero front back = ap (λ (n : ℕ). take n back) {x = 0} {y = 0 - length front} (omega arith)

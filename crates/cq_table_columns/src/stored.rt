@@ -2,9 +2,9 @@
 //!
 //! `new` and `of` lend the rows of a table or of a list; those of a table that have a mark are passed over. A reader
 //! takes `split_front` until nothing is left: at most 1,024 rows at a time, in the order of the one list that they are.
-//! Who counts the rows with a mark too takes `split_piece`, or `first_live`, which alone takes memory. All of it is
-//! copied freely.
-ghost use Rattle.std.specs.Prelude.{IfOk, length, take, ◌++◌, ◌≡◌};
+//! Who counts the rows with a mark too takes `split_piece`, or `first_live`, which alone takes memory; `split_segment`
+//! passes a segment that need not be read. All of it is copied freely.
+ghost use Rattle.std.specs.Prelude.{IfOk, IfSome, length, take, ◌++◌, ◌≡◌};
 ghost use Rattle.cq_segments.specs.Marked.{live};
 ghost use Rattle.cq_segments.specs.Pieces.{joined};
 ghost use Rattle.cq_writestore.specs.Writes.{written_rows};
@@ -108,6 +108,30 @@ impl<'a> Stored<'a> {
             left = rest;
         }
         Ok(rows)
+    }
+
+    /// The segment that comes next, and the rows behind it: none inside of a segment, where all of its rows have a
+    /// mark, and in the write store.
+    pub fn split_segment(&self) -> Option<(&'a Segment, Stored<'a>)>
+        ensures parts { IfSome result (λ s. stored_marked self.now ≡ s.0.now ++ stored_marked s.1) }
+        ensures rows { IfSome result (λ s. all_rows self.now ≡ live s.0.now ++ all_rows s.1) }
+        ensures some { IfSome result (λ s. 0 < length (live s.0.now)) }
+    {
+        if !self.pieces.is_empty() {
+            return None;
+        }
+        let (segment, segments) = self.segments.split_first()?;
+        let live = segment.len() - segment.marked_len();
+        if live == 0 {
+            return None;
+        }
+        let rest = Stored {
+            pieces: &[],
+            segments,
+            written: self.written,
+            count: self.count - live,
+        };
+        Some((segment, rest))
     }
 
     /// The rows of the first piece, at most 1,024 that stand there, and those behind them. Each of them may have a mark.

@@ -1,3 +1,4 @@
-pub mod Filled
+pub mod Adding
+pub mod Flagged
 pub mod MarkedLists
 pub mod SpotLists

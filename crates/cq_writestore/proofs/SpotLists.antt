@@ -4,13 +4,13 @@ use Rattle.std.specs.List.{AllByRecursion}
 use Rattle.std.specs.Prelude.{slice_set}
 use Rattle.std.proofs.Math.Nat.{div-add-mod}
 use Rattle.std.proofs.Math.Seq.{drop-append-add, drop-nil}
-use Rattle.std.proofs.lemmas.List.{drop-append-le, drop_more, get_or-drop, get_or_default, length-drop, length-take-le}
+use Rattle.std.proofs.lemmas.List.{drop-append-le, drop-drop, drop_more, get_or-drop, get_or_default, length-drop, length-take-le, take-append-drop}
 use Rattle.std.proofs.lemmas.List.Concat.{get_or-flat_map}
 use Rattle.cq_model_bags.proofs.Lists.{all-append, all-at, all-drop, all-take}
 use Rattle.cq_segments.specs.Marked.{MarkedRow, marked_count, marks_of, rows_of, with_mark}
 use Rattle.cq_segments.specs.Pieces.{joined}
 use Rattle.cq_segments.proofs.Marks.{count-mark, length-mark, mark-at, mark-behind, mark-in-front, row-at}
-use Rattle.cq_segments.proofs.PieceLists.{joined-at, joined-set}
+use Rattle.cq_segments.proofs.PieceLists.{joined-append, joined-at, joined-set}
 use Rattle.cq_writestore.specs.Spots.{AreHeld, IsIn}
 use Rattle.cq_writestore_rows.specs.NewRows.{AreWhole}
 
@@ -39,6 +39,20 @@ module _ {X : Type 0} where
   pub whole-later : (lists : List (List X)) (k : ℕ) → AreWhole (drop 1 lists) → AreWhole (drop (k + 1) lists)
   whole-later [] k whole = subst AreWhole (sym (drop-nil (k + 1))) tt
   whole-later (list ∷ lists) k whole = subst AreWhole (ap (λ (n : ℕ). drop n (list ∷ lists)) {x = suc k} {y = k + 1} (omega arith)) (all-drop IsWhole k lists whole)
+
+  -- and behind the first ones
+  pub whole-behind : (lists : List (List X)) (k : ℕ) → AreWhole (drop 1 lists) → AreWhole (drop 1 (drop k lists))
+  whole-behind lists k whole = subst AreWhole (sym (drop-drop 1 k lists)) (whole-later lists k whole)
+
+  -- which have no more items than all
+  pub few-behind : (lists : List (List X)) (k : ℕ) → length (joined (drop k lists)) ≤ length (joined lists)
+  few-behind lists k =
+      omega (
+        arith,
+        ap (λ (ls : List (List X)). length (joined ls)) (take-append-drop k lists),
+        ap length (joined-append (take k lists) (drop k lists)),
+        length-append (joined (take k lists)) (joined (drop k lists)),
+      )
 
   -- with a list of the same length in its place
   pub whole-set : (lists : List (List X)) (k : ℕ) (list : List X) → AreWhole (drop 1 lists) → k < length lists → length list ≡ length (get_or lists k []) → AreWhole (drop 1 (slice_set lists k list))

@@ -1,2 +1,3 @@
+pub mod Refilled
 pub mod Spots
 pub mod Writes

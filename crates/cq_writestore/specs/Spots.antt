@@ -1,15 +1,10 @@
 -- Where the items of lists stand, of which each but the first has 1,024.
-use Rattle.std.specs.Prelude.{◌≡◌, ◌<◌, ◌+◌, ◌*◌, ℕ, List, [], drop, length, slice_index_or, take}
-use Rattle.std.specs.Global.{Vec}
+use Rattle.std.specs.Prelude.{◌≡◌, ◌<◌, ◌+◌, ℕ, List, [], drop, length, slice_index_or, take}
 use Rattle.cq_segments.specs.Marked.{MarkedRow, marked_count}
 use Rattle.cq_segments.specs.Pieces.{joined}
 use Rattle.cq_writestore.specs.declared.spot.Spot.{Spot}
 use Rattle.cq_writestore.specs.declared.spot.Spot.TheVariants.{Behind, InPiece}
 use Rattle.cq_writestore_rows.specs.NewRows.{AreWhole}
-
--- the lists have so many times 1,024 of the first items
-abbrev pub AreFilled : {X : Type 0} → ℕ → List X → Vec (List X) → Type 0
-AreFilled count items lists = joined lists.items ≡ take (1024 * count) items
 
 -- the item at a place stands in this list, at a place there
 pub record IsIn {X : Type 0} (lists : List (List X)) (place k at : ℕ) : Type 0 where

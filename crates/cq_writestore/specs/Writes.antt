@@ -1,6 +1,6 @@
 -- A write store: its rows with their marks, and how many more there is room for.
-use Rattle.std.specs.Prelude.{◌<◌, ◌≤◌, ◌+◌, ◌^◌, ◌++◌, ℕ, List, length}
-use Rattle.cq_segments.specs.Marked.{MarkedRow, with_flags}
+use Rattle.std.specs.Prelude.{◌<◌, ◌≤◌, ◌+◌, ◌^◌, ◌++◌, ℕ, Bool, List, drop, length, take}
+use Rattle.cq_segments.specs.Marked.{MarkedRow, rows_of, with_flags}
 use Rattle.cq_segments.specs.Pieces.{joined}
 use Rattle.cq_writestore.specs.declared.tail.Tail.{Tail}
 use Rattle.cq_writestore.specs.declared.written.Written.{Written}
@@ -26,3 +26,7 @@ written_rows written = joined written.pieces.now ++ tail_rows written.tail
 -- fewer are left than there were, unless there were none
 abbrev pub FewerLeft : {A : Type 0} → List A → List A → Type 0
 FewerLeft all rest = 0 < length all → length rest < length all
+
+-- rows with a mark for each flag that is set, behind so many that stay as they are
+abbrev pub with_flags_behind : ℕ → List Bool → List MarkedRow → List MarkedRow
+with_flags_behind held flags stored = take held stored ++ with_flags (rows_of (drop held stored)) flags

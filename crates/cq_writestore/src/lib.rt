@@ -5,9 +5,9 @@
 //! so many more.
 #![tactic(auto)]
 
-mod filling;
 mod front;
 mod piece_store;
+mod refilled;
 mod spot;
 mod store;
 mod tail;

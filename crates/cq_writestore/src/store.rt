@@ -2,23 +2,26 @@
 //!
 //! A store begins empty. `reserve` makes room, and `push_reserved` puts a row behind the others: so what may fail comes
 //! before what changes the rows. `append` puts many there, and makes pieces of 1,024 rows as soon as there are as many;
-//! pieces that it is given are taken as they are, where all older rows are in pieces. `mark` deletes a row, `take_front`
-//! drops the first ones once they are moved, and `rows` lends all of them. Each costs its rows, and a step a piece;
-//! `append` also up to 1,023 older rows, which it puts into a piece, and `take_front` shifts those that stay and are in no
-//! piece.
+//! pieces that it is given are taken as they are, where all older rows are in pieces, and else their values go into
+//! columns anew. `mark` deletes a row, `take_front` drops the first ones once they are moved, and `rows` lends all of them.
+//! Each costs its rows, and a step a piece; `append` also up to 1,023 older rows, which it puts into a piece, and
+//! `take_front` shifts those that stay and are in no piece.
 ghost use Rattle.std.specs.Prelude.{OnErr, OnOk, [], drop, length, ◌++◌, ◌+◌, ◌<◌, ◌^◌, ◌≡◌, ◌≤◌, ◌∷◌};
 ghost use Rattle.cq_segments.specs.Columns.{AreWide};
 ghost use Rattle.cq_segments.specs.Marked.{marked_count, rows_of, unmarked, with_mark};
-ghost use Rattle.cq_writestore.specs.Writes.{written_rows};
+ghost use Rattle.cq_writestore.specs.Writes.{with_flags_behind, written_rows};
+ghost use Rattle.cq_writestore_rows.specs.NewRows.{NoneMarked};
 
 use crate::piece_store::PieceStore;
+use crate::refilled::refilled;
 use crate::tail_store::{TailStore, push_all};
 use crate::written::Written;
 use cq_segments::widened;
-use cq_values::Row;
+use cq_values::{ColumnDef, Row};
 use cq_writestore_rows::NewRows;
 use std::alloc::{AllocError, Global};
 use std::marker::Model;
+use std::mem;
 
 /// Rows in order of insertion, each with its mark: first those in pieces, and behind them the newest.
 #[derive(Drop)]
@@ -98,22 +101,29 @@ impl WriteStore {
         self.room -= 1;
     }
 
-    /// Puts rows of this width behind the others, all of them or none.
-    pub fn append(&mut self, alloc: Global, rows: NewRows, width: usize) -> Result<(), AllocError>
-        requires wide { AreWide width (rows_of self.old.rows ++ rows) }
+    /// Puts rows for these columns behind the others, all of them or none.
+    pub fn append(
+        &mut self,
+        alloc: Global,
+        rows: NewRows,
+        columns: &[ColumnDef],
+    ) -> Result<(), AllocError>
+        requires wide { AreWide (length columns.now) (rows_of self.old.rows ++ rows) }
         ensures ok { OnOk result (self.new.rows ≡ self.old.rows ++ unmarked rows) }
         ensures err { OnErr result (self.new.rows ≡ self.old.rows) }
     {
         self.count_more(rows.len())?;
-        if self.tail.len() > 0 || rows.as_rows().is_some() {
-            let rows = rows.into_rows(alloc)?;
-            return self.append_rows(alloc, rows, width);
+        if self.tail.len() + rows.len() < 1024 {
+            return self.append_few(rows.into_rows(alloc)?);
         }
-        let (made, behind) = rows.into_parts();
-        self.tail.reserve(behind.len())?;
+        let held = self.pieces.len();
+        let all = refilled(alloc, self.tail.tail().rows, rows, columns)?;
+        let (made, behind) = all.into_parts();
+        let tail = TailStore::of(alloc, behind)?;
         self.pieces.append(made)?;
-        push_all(&mut self.tail, behind);
+        let older = mem::replace(&mut self.tail, tail);
         self.room = 0;
+        self.mark_behind(held, older.tail().marks);
         Ok(())
     }
 
@@ -141,27 +151,6 @@ impl WriteStore {
         self.tail.take_front(count.saturating_sub(held));
     }
 
-    /// Puts rows of this width behind the others, and makes pieces as soon as there are enough: all of it, or nothing.
-    fn append_rows(&mut self, alloc: Global, rows: Vec<Row>, width: usize) -> Result<(), AllocError>
-        requires wide { AreWide width (rows_of self.old.rows ++ rows.items) }
-        requires small { length self.old.rows + length rows.items < 2 ^ 63 }
-        ensures ok { OnOk result (self.new.rows ≡ self.old.rows ++ unmarked rows.items) }
-        ensures err { OnErr result (self.new.rows ≡ self.old.rows) }
-    {
-        let full = (self.tail.len() + rows.len()) / 1024;
-        if full == 0 {
-            return self.append_few(rows);
-        }
-        let made = self.tail.full_pieces(alloc, rows.as_slice(), full, width)?;
-        let gone = (1024 * full).saturating_sub(self.tail.len());
-        self.tail.reserve(rows.len() - gone)?;
-        self.pieces.append(made)?;
-        self.tail.take_front(1024 * full);
-        push_all(&mut self.tail, without_front(rows, gone));
-        self.room = 0;
-        Ok(())
-    }
-
     /// Puts rows behind those of the tail, all of them or none.
     fn append_few(&mut self, rows: Vec<Row>) -> Result<(), AllocError>
         requires { length self.old.rows + length rows.items < 2 ^ 63 }
@@ -174,6 +163,20 @@ impl WriteStore {
         Ok(())
     }
 
+    /// Marks those rows behind so many others whose flags are set.
+    fn mark_behind(&mut self, held: usize, flags: &[bool])
+        requires there { held + length flags.now ≤ length self.old.rows }
+        requires fresh { NoneMarked (drop held self.old.rows) }
+        ensures { self.new.rows ≡ with_flags_behind held flags.now self.old.rows }
+    {
+        let _count = self.len();
+        for place in 0..flags.len() {
+            if flags[place] {
+                self.mark(held + place);
+            }
+        }
+    }
+
     /// Refuses more rows than can be counted, and no fewer.
     fn count_more(&self, additional: usize) -> Result<(), AllocError>
         ensures ok { OnOk result (length self.now.rows + additional < 2 ^ 63) }
@@ -184,16 +187,4 @@ impl WriteStore {
         widened(alloc, count, count)?;
         Ok(())
     }
-}
-
-/// Those of the rows that come behind so many.
-fn without_front(rows: Vec<Row>, count: usize) -> Vec<Row>
-    requires { count ≤ length rows.items }
-    ensures { result.items ≡ drop count rows.items }
-{
-    let mut rows = rows;
-    let left = rows.len() - count;
-    rows.rotate_left(count);
-    rows.truncate(left);
-    rows
 }

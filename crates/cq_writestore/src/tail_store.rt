@@ -1,17 +1,11 @@
 //! The newest rows of a write store, which no piece has.
 //!
-//! `full_pieces` makes pieces of them and of rows that come behind them; the rows stay. Each call costs its rows, and
-//! `take_front` a shift of those that stay.
-ghost use Rattle.std.specs.Prelude.{IfOk, OnOk, [], drop, length, ◌*◌, ◌++◌, ◌+◌, ◌<◌, ◌^◌, ◌≡◌, ◌≤◌, ◌∷◌};
-ghost use Rattle.cq_segments.specs.Columns.{AreWide};
-ghost use Rattle.cq_segments.specs.Marked.{marked_count, rows_of, unmarked, with_mark};
-ghost use Rattle.cq_writestore.specs.Spots.{AreFilled};
-ghost use Rattle.cq_writestore_rows.specs.NewRows.{AreWhole};
+//! Each call costs its rows, and `take_front` a shift of those that stay.
+ghost use Rattle.std.specs.Prelude.{IfOk, OnOk, [], drop, length, ◌++◌, ◌+◌, ◌<◌, ◌^◌, ◌≡◌, ◌≤◌, ◌∷◌};
+ghost use Rattle.cq_segments.specs.Marked.{marked_count, unmarked, with_mark};
 ghost use Rattle.cq_writestore.specs.Writes.{tail_rows};
 
-use crate::filling::{lend_both, make_pieces};
 use crate::tail::Tail;
-use cq_segments::Piece;
 use cq_values::Row;
 use std::alloc::{AllocError, Global};
 use std::marker::Model;
@@ -50,6 +44,16 @@ impl TailStore {
         }
     }
 
+    /// Rows without a mark.
+    pub(crate) fn of(alloc: Global, rows: Vec<Row>) -> Result<TailStore, AllocError>
+        ensures { IfOk result (λ store. store.rows ≡ unmarked rows.items) }
+    {
+        let mut store = TailStore::new(alloc);
+        store.reserve(rows.len())?;
+        push_all(&mut store, rows);
+        Ok(store)
+    }
+
     /// Where its memory comes from.
     pub(crate) fn allocator(&self) -> Global {
         *self.rows.allocator()
@@ -74,6 +78,7 @@ impl TailStore {
     pub(crate) fn tail(&self) -> Tail<'_>
         ensures rows { tail_rows result ≡ self.now.rows }
         ensures len { length result.rows.now ≡ length self.now.rows }
+        ensures marks { length result.marks.now ≡ length self.now.rows }
     {
         Tail {
             rows: self.rows.as_slice(),
@@ -126,23 +131,6 @@ impl TailStore {
         self.marks.rotate_left(count);
         self.marks.truncate(left);
         self.marked -= gone;
-    }
-
-    /// So many pieces of the first of its rows and those that come behind them, 1,024 to a piece.
-    pub(crate) fn full_pieces(
-        &self,
-        alloc: Global,
-        more: &[Row],
-        count: usize,
-        width: usize,
-    ) -> Result<Vec<Piece>, AllocError>
-        requires enough { 1024 * count ≤ length self.now.rows + length more.now }
-        requires wide { AreWide width (rows_of self.now.rows ++ more.now) }
-        ensures rows { IfOk result (AreFilled count (self.now.rows ++ unmarked more.now)) }
-        ensures whole { IfOk result (λ p. AreWhole p.items) }
-    {
-        let lent = lend_both(alloc, self.rows.as_slice(), more)?;
-        make_pieces(alloc, lent.as_slice(), self.marks.as_slice(), count, width)
     }
 }
 

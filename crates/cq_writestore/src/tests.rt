@@ -21,14 +21,18 @@ fn counted(alloc: Global, len: usize) -> Result<Vec<Row>, AllocError> {
     Ok(rows)
 }
 
-/// So many rows as a file brings them, in pieces where there are enough, each of the number of its place.
-fn filled(alloc: Global, len: usize) -> Result<NewRows, Fail> {
-    let columns = [ColumnDef {
+/// One column, of numbers.
+fn columns(alloc: Global) -> Result<[ColumnDef; 1], AllocError> {
+    Ok([ColumnDef {
         name: Text::new(alloc, "n")?,
         ty: Ty::Integer,
         not_null: true,
-    }];
-    let mut filling = Filling::new(alloc, &columns)?;
+    }])
+}
+
+/// So many rows as a file brings them, in pieces where there are enough, each of the number of its place.
+fn filled(alloc: Global, len: usize) -> Result<NewRows, Fail> {
+    let mut filling = Filling::new(alloc, &columns(alloc)?)?;
     for place in 0..len {
         filling.push(&Lent::Number(place as i128))?;
         filling.end_row()?;
@@ -75,7 +79,7 @@ fn rows_stand_in_pieces_as_soon_as_one_is_full(rt: HostRuntime) -> Result<(), Fa
         let mut store = WriteStore::new(alloc);
         let rows = counted(alloc, added)?;
         assert!(rt; are_wide(rows.as_slice(), 1));
-        store.append(alloc, NewRows::of(rows), 1)?;
+        store.append(alloc, NewRows::of(rows), &columns(alloc)?)?;
         store.take_front(gone);
         assert_eq!(rt;
             store.rows().pieces.len(),
@@ -92,9 +96,10 @@ fn add(alloc: Global, store: &mut WriteStore, rows: NewRows) -> Result<(), Alloc
     requires { AreWide 1 (rows_of store.old.rows) }
     ensures { OnOk result (AreWide 1 (rows_of store.new.rows)) }
 {
+    let columns = columns(alloc)?;
     let copies = rows.copies(alloc)?;
     if are_wide(copies.as_slice(), 1) {
-        store.append(alloc, rows, 1)?;
+        store.append(alloc, rows, &columns)?;
     }
     Ok(())
 }
@@ -123,7 +128,7 @@ fn a_row_is_found_behind_a_front_that_is_cut(rt: HostRuntime) -> Result<(), Fail
     let mut store = WriteStore::new(alloc);
     let rows = counted(alloc, 2500)?;
     assert!(rt; are_wide(rows.as_slice(), 1));
-    store.append(alloc, NewRows::of(rows), 1)?;
+    store.append(alloc, NewRows::of(rows), &columns(alloc)?)?;
     store.take_front(1000);
     // a place, and the number that stands there
     let cases = [
@@ -154,24 +159,53 @@ fn rise_from(store: &WriteStore, from: usize, count: usize) -> bool {
     true
 }
 
+/// Marks the row at a place, if there is one.
+fn mark_at(store: &mut WriteStore, place: usize)
+    requires { AreWide 1 (rows_of store.old.rows) }
+    ensures { AreWide 1 (rows_of store.new.rows) }
+{
+    if place < store.len() {
+        store.mark(place);
+    }
+}
+
+/// Whether the row at a place has a mark, where each piece is whole.
+fn is_marked(store: &WriteStore, place: usize) -> bool {
+    let rows = store.rows();
+    match rows.pieces.get(place / 1024) {
+        Some(piece) => place % 1024 < piece.len() && piece.is_marked(place % 1024),
+        None => rows.tail.is_marked(place % 1024),
+    }
+}
+
 #[test]
 fn rows_of_a_file_stand_behind_the_older_ones(rt: HostRuntime) -> Result<(), Fail> {
     let alloc = rt.alloc();
-    // how many rows are there and come; how many pieces there are then, and how many rows behind them
+    // how many rows are there, which of them has a mark, and how many come; how many pieces there are then, and how many
+    // rows behind them
     let cases = [
-        (0, 1024, 1, 0),
-        (0, 2500, 2, 452),
-        (1024, 1500, 2, 476),
-        (1000, 1500, 2, 452),
+        (0, 0, 1024, 1, 0),
+        (0, 0, 2500, 2, 452),
+        (1, 0, 1024, 1, 1),
+        (1024, 1000, 1500, 2, 476),
+        (1000, 7, 1500, 2, 452),
+        (1000, 999, 2000, 2, 952),
     ];
-    for (older, come, pieces, tail) in cases {
+    for (older, marked, come, pieces, tail) in cases {
         let mut store = WriteStore::new(alloc);
         add(alloc, &mut store, NewRows::of(counted(alloc, older)?))?;
+        mark_at(&mut store, marked);
         add(alloc, &mut store, filled(alloc, come)?)?;
         assert_eq!(rt; store.rows().pieces.len(), pieces, "{come} behind {older}");
         assert_eq!(rt; store.rows().tail.len(), tail, "{come} behind {older}");
         assert!(rt; rise_from(&store, 0, older));
         assert!(rt; rise_from(&store, older, come));
+        assert_eq!(rt; store.marked_len(), older.min(1), "{come} behind {older}");
+        assert_eq!(rt;
+            is_marked(&store, marked),
+            marked < older,
+            "{come} behind {older}"
+        );
     }
     Ok(())
 }

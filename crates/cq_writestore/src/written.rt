@@ -2,7 +2,7 @@
 //!
 //! They stand in pieces, and the newest in a tail behind these. `at` finds one of them in some steps.
 ghost use Rattle.std.proofs.Props.{props};
-ghost use Rattle.std.specs.Prelude.{[], drop, length, slice_index_or, ◌+◌, ◌<◌, ◌^◌, ◌≡◌};
+ghost use Rattle.std.specs.Prelude.{[], drop, length, slice_index_or, ◌++◌, ◌+◌, ◌<◌, ◌^◌, ◌≡◌, ◌≤◌};
 ghost use Rattle.cq_segments.specs.Pieces.{joined};
 ghost use Rattle.cq_writestore_rows.specs.NewRows.{AreWhole};
 
@@ -10,6 +10,7 @@ use crate::spot::{Spot, rows_in, spot_of};
 use crate::tail::Tail;
 use cq_segments::{Piece, StoredRow};
 use cq_values::Row;
+use cq_writestore_rows::NewRows;
 
 /// Rows in order of insertion, each with its mark: first those in pieces, and behind them a tail.
 #[derive(Clone, Copy)]
@@ -32,6 +33,17 @@ impl<'a> Written<'a> {
         Written::of_tail(Tail::of(rows))
     }
 
+    /// Rows on their way to a store, none of which has a mark.
+    pub fn of_new(rows: &'a NewRows) -> Written<'a>
+        ensures { written_rows result ≡ unmarked rows.now }
+    {
+        let (pieces, tail) = rows.as_parts();
+        Written {
+            pieces,
+            tail: Tail::of(tail),
+        }
+    }
+
     /// Rows of which none stands in a piece.
     pub fn of_tail(tail: Tail<'a>) -> Written<'a>
         ensures rows { written_rows result ≡ tail_rows tail.entry }
@@ -40,6 +52,18 @@ impl<'a> Written<'a> {
     {
         let _len = tail.rows.len();
         Written { pieces: &[], tail }
+    }
+
+    /// The rows behind the first pieces.
+    pub fn behind(&self, pieces: usize) -> Written<'a>
+        requires { pieces ≤ length self.now.pieces.now }
+        ensures { written_rows result ≡ joined (drop pieces self.now.pieces.now) ++ tail_rows self.now.tail }
+    {
+        let (_, behind) = self.pieces.split_at(pieces);
+        Written {
+            pieces: behind,
+            tail: self.tail,
+        }
     }
 
     pub fn len(&self) -> usize

@@ -57,6 +57,13 @@ impl Filling {
         ensures { IfOk result (IsEmpty (length columns.now)) }
     {
         let types: Vec<Ty> = columns.iter().map(|column| column.ty).collect(alloc)?;
+        Filling::of_types(alloc, types)
+    }
+
+    /// No row yet. Each is to have a value of each of these types, or of another, which costs more.
+    pub fn of_types(alloc: Global, types: Vec<Ty>) -> Result<Filling, AllocError>
+        ensures { IfOk result (IsEmpty (length types.items)) }
+    {
         Ok(Filling {
             pieces: Vec::new(alloc),
             columns: empty_columns(alloc, types.as_slice())?,

@@ -1,7 +1,8 @@
 //! Rows that a statement brings to a table, on their way to its write store.
 //!
 //! To its callers [`NewRows`] is the list of these rows. Those of an INSERT are kept as rows; those of a file are put into
-//! columns as they are read, 1,024 to a piece, and the last ones, which fill no piece, become rows at its end.
+//! columns as they are read, 1,024 to a piece, and the last ones, which fill no piece, become rows at its end. The rows of
+//! a query's groups are kept in the same way.
 #![tactic(auto)]
 
 mod filling;

@@ -1,8 +1,8 @@
 //! Rows that a statement brings.
 //!
-//! `of` takes rows as they are. `as_rows` lends them where all stand as rows, `copies` and `into_rows` make rows of all, and
-//! `into_parts` hands over what they are made of. Only `copies` and `into_rows` take memory.
-ghost use Rattle.std.specs.Prelude.{IfOk, IfSome, length, ◌++◌, ◌<◌, ◌^◌, ◌≡◌};
+//! `of` takes rows as they are. `as_rows` lends them where all stand as rows, `copies` and `into_rows` make rows of all;
+//! `as_parts` lends and `into_parts` hands over what they are made of. Only `copies` and `into_rows` take memory.
+ghost use Rattle.std.specs.Prelude.{IfOk, IfSome, length, ◌++◌, ◌+◌, ◌<◌, ◌^◌, ◌≡◌};
 ghost use Rattle.cq_segments.specs.Marked.{rows_of};
 ghost use Rattle.cq_segments.specs.Pieces.{joined};
 ghost use Rattle.cq_writestore_rows.specs.NewRows.{AreFresh, AreWhole, NoneMarked};
@@ -95,6 +95,16 @@ impl NewRows {
             return Ok(self.tail);
         }
         self.copies(alloc)
+    }
+
+    /// What they are made of, where it stands: pieces, each of 1,024 rows without a mark, and the rows behind them.
+    pub fn as_parts(&self) -> (&[Piece], &[Row])
+        ensures rows { rows_of (joined result.0.now) ++ result.1.now ≡ self.now }
+        ensures whole { AreWhole result.0.now }
+        ensures fresh { NoneMarked (joined result.0.now) }
+        ensures small { length (joined result.0.now) + length result.1.now < 2 ^ 63 }
+    {
+        (self.pieces.as_slice(), self.tail.as_slice())
     }
 
     /// The pieces, each of 1,024 rows without a mark, and the rows behind them.

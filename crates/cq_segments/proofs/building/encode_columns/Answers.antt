@@ -5,14 +5,14 @@ use Rattle.cq_encodings.specs.AnyEncoded.{encoded_values}
 use Rattle.cq_vectors.specs.Gathered.{column_of}
 use Rattle.cq_segments.specs.Bounds.{AreBounds}
 use Rattle.cq_segments.specs.Columns.{columns_in}
-use Rattle.cq_segments.specs.Rows.{stored_rows}
+use Rattle.cq_segments.specs.InOrder.{rows_in_order}
 use Rattle.cq_segments.specs.Segment.{HaveBounds}
 use Rattle.cq_segments.proofs.OneMore.{bounds-more}
 use Rattle.cq_segments.proofs.building.encode_columns.Goals as goal
 
 pub loop-column-preserved : goal.loop-column-preserved
 loop-column-preserved c =
-    let rows = stored_rows c.args.rows.now in
+    let rows = rows_in_order c.args.rows.now in
     let encoded = c.loop-column.encoded.items in
     let bounds = c.loop-column.bounds.items in
     let column = c.in_ok-form.form in

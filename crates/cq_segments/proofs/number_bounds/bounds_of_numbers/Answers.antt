@@ -13,4 +13,4 @@ returns c =
     let greatest_fits : SFits w64 c.in-Some.greatest = search rules in
     let least = c.in_ok-value_of.ensures ∙ ap stands (to_z-of_z w64 c.in-Some.least least_fits) in
     let greatest = c.in_ok-value_of-2.ensures ∙ ap stands (to_z-of_z w64 c.in-Some.greatest greatest_fits) in
-    subst (λ (ends : Ends). AreBounds false ends (number_values c.args.kind c.args.numbers.now)) (ap₂ (λ (v w : Value). Some (v, w)) (sym least) (sym greatest)) c.in-Some.ensures
+    subst (λ (ends : Ends). AreBounds false ends (number_values c.args.kind c.args.numbers.now)) (ap₂ (λ (v w : Value). Some (v, w)) (sym least) (sym greatest)) c.in-Some.ensures.some

@@ -1,4 +1,4 @@
-use Rattle.std.proofs.Common.{take, ◌≤◌}
+use Rattle.std.proofs.Common.{take}
 use Rattle.cq_encodings_plain.specs.Kind.{IsOf, number_values}
 use Rattle.cq_segments.specs.Numbers.{AreEnds}
 use Rattle.cq_segments.proofs.number_bounds.ends_of.Given as goal

@@ -1,4 +1,4 @@
-use Rattle.std.proofs.Common.{◌≡◌, ◌∙◌, ◌+◌, ◌-◌, ◌<◌, [], ap, arith, drop, length, subst, sym, take}
+use Rattle.std.proofs.Common.{◌≡◌, ◌+◌, ◌-◌, ◌<◌, [], ap, arith, drop, length, subst, sym, take}
 use Rattle.std.proofs.lemmas.List.{append-nil, drop-map, drop_all, length-drop, length-map}
 use Rattle.cq_model_bags.proofs.Lists.{all-drop, all-take}
 use Rattle.cq_segments.specs.Columns.{AreWide}

@@ -1,4 +1,4 @@
-use Rattle.std.proofs.Common.{arith, ap, take, ◌∙◌}
+use Rattle.std.proofs.Common.{arith, ap, ◌∙◌}
 use Rattle.std.proofs.lemmas.List.{take_all}
 use Rattle.cq_segments.specs.Marked.{marked_count}
 use Rattle.cq_segments.specs.Pieces.{joined}

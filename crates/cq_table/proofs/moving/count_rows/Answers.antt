@@ -1,4 +1,4 @@
-use Rattle.std.proofs.Common.{arith, ap, length, take, ◌∙◌}
+use Rattle.std.proofs.Common.{arith, ap, length, ◌∙◌}
 use Rattle.std.proofs.lemmas.List.{take_all}
 use Rattle.cq_segments.specs.Pieces.{joined}
 use Rattle.cq_table.proofs.Segmenting.{long-next, long-within}

@@ -1,5 +1,5 @@
-use Rattle.std.proofs.Common.{◌≡◌, ◌∙◌, ◌+◌, ◌<◌, ◌++◌, ◌∷◌, [], List, ℕ, ap, arith, get_or, length, subst, sym, take}
-use Rattle.std.proofs.lemmas.List.{length-append, take_more}
+use Rattle.std.proofs.Common.{◌∙◌, ◌<◌, ◌++◌, List, ℕ, ap, arith, get_or, length, subst, sym, take}
+use Rattle.std.proofs.lemmas.List.{take_more}
 use Rattle.cq_model_bags.proofs.Lists.{all-at}
 use Rattle.cq_segments.specs.Marked.{MarkedRow, with_mark, with_marks}
 use Rattle.cq_segments.specs.Pieces.{joined}

@@ -1,4 +1,4 @@
-use Rattle.std.proofs.Common.{◌≡◌, ◌∙◌, ◌++◌, ◌-◌, [], List, ap, arith, get_or, length, rules}
+use Rattle.std.proofs.Common.{◌≡◌, ◌∙◌, ◌++◌, ◌-◌, [], List, ap, get_or, length, rules}
 use Rattle.cq_segments.specs.Marked.{MarkedRow, with_mark}
 use Rattle.cq_segments.specs.Pieces.{joined}
 use Rattle.cq_segments.proofs.Marks.{length-mark}

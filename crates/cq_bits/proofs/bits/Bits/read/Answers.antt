@@ -7,7 +7,7 @@ use Rattle.cq_bits.proofs.bits.Bits.read.Goals as goal
 pub unpack_into-requires-clause-there : goal.unpack_into-requires-clause-there
 unpack_into-requires-clause-there c =
     let long = length-values_from c.self.inside.width c.self.inside.words.items c.self.inside.len in
-    bits_there c.self.inside.width (c.args.start + length c.args.to.now) c.self.inside.len _ (omega (arith, long, ap length c.self.view_is)) (omega (arith, c.self.invariant.there))
+    bits_there c.self.inside.width (c.args.start + length c.args.to.now) c.self.inside.len _ (omega (arith, long, ap length c.self.view_is)) (omega (arith, c.self.invariant.holds.there))
 
 pub returns : goal.returns
 returns c =

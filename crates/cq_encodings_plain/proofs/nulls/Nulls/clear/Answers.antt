@@ -1,4 +1,4 @@
-use Rattle.std.proofs.Common.{arith, drop, false, length, replicate, sym, take, ◌*◌, ◌∙◌}
+use Rattle.std.proofs.Common.{arith, drop, false, replicate, sym, take, ◌*◌, ◌∙◌}
 use Rattle.std.proofs.lemmas.List.{length-replicate, map-id}
 use Rattle.cq_encodings_plain.proofs.Pieces.{all_joined, pieces_of_joined}
 use Rattle.cq_encodings_plain.proofs.nulls.Nulls.clear.Goals as goal

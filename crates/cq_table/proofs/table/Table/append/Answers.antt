@@ -10,7 +10,7 @@ use Rattle.cq_table.proofs.table.Table.append.Goals as goal
 pub append-requires : goal.append-requires
 append-requires c =
     let t = table_of c.self.inside.layout c.self.inside.max_rows c.self.inside.segments.items c.self.inside.written.rows in
-    record { wide = rw c.len-width.ensures (wide-with t c.self.inside.live c.self.invariant c.args.rows (rw (← c.self.view_is) at c.requires.fitting)) }
+    record { wide = rw c.as_slice-columns.ensures (wide-with t c.self.inside.live c.self.invariant c.args.rows (rw (← c.self.view_is) at c.requires.fitting)) }
 
 pub overflow_add-self : goal.overflow_add-self
 overflow_add-self c =

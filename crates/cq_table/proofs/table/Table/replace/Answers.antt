@@ -1,14 +1,14 @@
-use Rattle.std.proofs.Common.{◌≡◌, ◌∙◌, ◌+◌, ◌++◌, List, ap, arith, length, refl}
+use Rattle.std.proofs.Common.{◌∙◌, ◌++◌, ap, arith, length, refl}
 use Rattle.std.proofs.lemmas.List.{length-append}
 use Rattle.cq_segments.specs.Marked.{unmarked}
 use Rattle.cq_segments.specs.Pieces.{joined}
-use Rattle.cq_table.specs.Table.{stored_in, table_of}
+use Rattle.cq_table.specs.Table.{table_of}
 use Rattle.cq_table.proofs.Marking.{length-unmarked}
 use Rattle.cq_table.proofs.Tables.{kept-exchanged, leaves, marks_with, still_there, wide-with}
 use Rattle.cq_table.proofs.table.Table.replace.Goals as goal
 
 pub append-requires : goal.append-requires
-append-requires c = record { wide = rw (c.len-width.ensures, c.of.ensures) (wide-with _ c.self.inside.live c.self.invariant c.args.images.items (rw (← c.self.view_is) at c.requires.fitting)) }
+append-requires c = record { wide = rw (c.as_slice-columns.ensures, c.of.ensures) (wide-with _ c.self.inside.live c.self.invariant c.args.images.items (rw (← c.self.view_is) at c.requires.fitting)) }
 
 pub mark_all-requires : goal.mark_all-requires
 mark_all-requires c =

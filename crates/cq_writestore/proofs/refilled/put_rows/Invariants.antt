@@ -1,0 +1,7 @@
+use Rattle.std.proofs.Common.{take}
+use Rattle.cq_writestore.specs.Refilled.{Adds}
+use Rattle.cq_writestore.proofs.refilled.put_rows.Given as goal
+
+-- the rows so far are there
+abbrev pub invariant-loop-row : goal.invariant-loop-row
+invariant-loop-row l = Adds (take l.row-index l.rows) l.initial.filling l.filling
