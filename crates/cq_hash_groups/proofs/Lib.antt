@@ -3,6 +3,7 @@ pub mod Holding
 pub mod Keeping
 pub mod KeysMet
 pub mod Showing
+pub mod ShownRow
 pub mod Turns
 pub mod ValuesPut
 pub mod Widths

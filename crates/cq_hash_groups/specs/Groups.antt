@@ -1,6 +1,5 @@
 -- Groups of the rows that were added to a table, and what is kept of them.
-use Rattle.std.specs.Prelude.{◌≡◌, ◌+◌, ℕ, ◌<◌, ◌^◌, pos, not, List, [], ◌∷◌, ◌++◌, length, map, filter, Option, Some, None, slice_index_or, unwrap_or, Vec}
-use Rattle.std.specs.Global.{Global}
+use Rattle.std.specs.Prelude.{◌≡◌, ◌+◌, ℕ, ◌<◌, ◌^◌, pos, not, List, [], ◌∷◌, ◌++◌, length, map, filter, Option, Some, None, slice_index_or, unwrap_or}
 use Rattle.std.specs.List.{AllByRecursion}
 use Rattle.cq_values.specs.declared.value.Value.{Value}
 use Rattle.cq_values.specs.declared.value.Value.TheVariants.{Number}
@@ -24,6 +23,7 @@ use Rattle.cq_hash_groups_slots.specs.declared.wide_sums.Sum.{Sum as Summed}
 use Rattle.cq_hash_groups_slots.specs.Puts.{best_of, summed}
 use Rattle.cq_hash_groups_slots.specs.Slots.{AreWithin, CanShow, empty_slots, grown_slots, no_slots, put_slots, shown_at}
 use Rattle.cq_model.specs.Totals.{total_of}
+use Rattle.cq_writestore_rows.specs.Filling.{Filled}
 
 -- a table of groups: what is asked, how many rows there were, the keys that were met, and what is kept for each aggregate
 pub record StoredGroups : Type 0 where
@@ -116,13 +116,25 @@ HoldsMore more old new = (rows : List Row) → Holds old rows → Holds new (row
 abbrev pub IsKey : ℕ → Row → Row → Type 0
 IsKey width key row = HasValues width key → row ≡ key
 
--- the row is a key of so many values, and then the aggregates of its group
-abbrev pub IsShownRow : ℕ → Row → ℕ → List Slots → Row → Type 0
-IsShownRow width key group slots row = HasValues width key → row ≡ key ++ map (shown_at group) slots
+-- the row of a group: its key, and then its aggregates
+abbrev pub shown_row : Row → ℕ → List Slots → Row
+shown_row key group slots = key ++ map (shown_at group) slots
+
+-- the row of a group stands behind those that were there, if its key has so many values
+abbrev pub AddsShownRow : ℕ → List Row → ℕ → List Slots → Filled → Filled → Type 0
+AddsShownRow width keys group slots old new =
+    let key = key_at keys group in HasValues width key → new.rows ≡ old.rows ++ shown_row key group slots ∷ []
+
+-- a row has begun with so many values, which are those of the key
+pub record BeginsKey (width : ℕ) (key : Row) (old new : Filled) : Type 0 where
+  pub rows : new.rows ≡ old.rows
+  pub wide : new.width ≡ old.width
+  pub count : length new.begun ≡ width
+  pub values : IsKey width key new.begun
 
 -- the rows of the groups are those of these rows
-abbrev pub AreGroups : StoredGroups → List Row → Vec Row Global → Type 0
-AreGroups t rows groups = once_each groups.items ≡ grouped t.keys t.aggregates (once_each rows)
+abbrev pub AreGroups : StoredGroups → List Row → List Row → Type 0
+AreGroups t rows groups = once_each groups ≡ grouped t.keys t.aggregates (once_each rows)
 
 -- in no group is a SUM's total too large to show
 abbrev pub CanBeShown : StoredGroups → List Row → Type 0

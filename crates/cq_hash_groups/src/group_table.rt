@@ -1,8 +1,8 @@
 //! Groups of rows, as they are added.
 //!
 //! `new` names the columns of GROUP BY and the aggregates; `add` takes the rows of a scan, any number of times; `rows`
-//! gives the row of each group at the end. An add costs a look-up a row, and a step for each aggregate of it; memory
-//! grows with the groups alone. A total is exact, and told out of range only when the rows are asked for.
+//! gives the row of each group at the end, put into columns. An add costs a look-up a row, and a step for each aggregate
+//! of it; memory grows with the groups alone. A total is exact, and told out of range only when the rows are asked for.
 ghost use Rattle.std.specs.List.{AllByRecursion};
 ghost use Rattle.std.specs.Prelude.{◌+◌, ◌++◌, ◌≡◌, ◌≤◌, IfErr, IfOk, List, OnOk, [], length};
 ghost use Rattle.cq_model.specs.Sizes.{count_size};
@@ -12,13 +12,14 @@ ghost use Rattle.cq_hash_groups.specs.Groups.{AreGroups, CanBeShown, Holds, Hold
 
 use crate::adding::{add_all, first_slots};
 use crate::keys::{first_groups, key_width, number_rows};
-use crate::shown::shown_row;
+use crate::shown::{put_row, shown_types};
 use cq_hash_groups_slots::Slots;
 use cq_hash_keys::KeyTable;
 use cq_model::{Aggregate, ShowFault};
 use cq_operators_scans::Scan;
 use cq_segments::widened;
-use cq_values::{Row, Seq};
+use cq_values::Seq;
+use cq_writestore_rows::{Filling, NewRows};
 use std::alloc::{AllocError, Global};
 use std::marker::Model;
 
@@ -100,7 +101,7 @@ impl<'q> GroupTable<'q> {
     }
 
     /// The row of each group: its key, and then its aggregates.
-    pub fn rows(&self, alloc: Global) -> Result<Vec<Row>, ShowFault>
+    pub fn rows(&self, alloc: Global) -> Result<NewRows, ShowFault>
         ensures ok { (r : List Values) → Holds self.now r → IfOk result (AreGroups self.now r) }
         ensures range { (r : List Values) → Holds self.now r → OnOk result (CanBeShown self.now r) }
         ensures few { (r : List Values) → Holds self.now r → OnOk result (length r ≤ count_size) }
@@ -108,12 +109,11 @@ impl<'q> GroupTable<'q> {
     {
         let width = key_width(self.keys);
         let groups = self.found.len();
-        let mut rows = Vec::new(alloc);
-        rows.reserve(groups)?;
+        let types = shown_types(alloc, &self.found, width, &self.slots)?;
+        let mut filling = Filling::of_types(alloc, types)?;
         for group in 0..groups {
-            let row = shown_row(alloc, &self.found, width, &self.slots, group)?;
-            rows.push(row)?;
+            put_row(&self.found, width, &self.slots, group, &mut filling)?;
         }
-        Ok(rows)
+        Ok(filling.finish()?)
     }
 }

@@ -1,54 +1,114 @@
 //! The rows of groups.
 ghost use Rattle.std.specs.List.{AllByRecursion};
-ghost use Rattle.std.specs.Prelude.{◌<◌, ◌≡◌, IfErr, IfOk, OnOk, length};
+ghost use Rattle.std.specs.Prelude.{[], ◌+◌, ◌<◌, ◌≡◌, ◌≤◌, IfErr, IfOk, OnOk, length};
 ghost use Rattle.cq_hash_keys.specs.Keys.{key_at};
-ghost use Rattle.cq_hash_groups.specs.Groups.{IsKey, IsShownRow, IsSlotsFault};
+ghost use Rattle.cq_hash_groups.specs.Groups.{AddsShownRow, BeginsKey, IsSlotsFault};
 ghost use Rattle.cq_hash_groups_slots.specs.Slots.{CanShow};
+ghost use Rattle.cq_writestore_rows.specs.Filling.{IsReadyFor};
 
 use cq_hash_groups_slots::Slots;
 use cq_hash_keys::KeyTable;
 use cq_model::ShowFault;
-use cq_segments::widened;
-use cq_values::Row;
+use cq_values::{Lent, Ty};
+use cq_writestore_rows::Filling;
 use std::alloc::{AllocError, Global};
 
-/// The row of a group: its key of so many values, and then its aggregates.
-pub(crate) fn shown_row(
+/// A type for each value of a group's row: that of the first one which is not NULL.
+pub(crate) fn shown_types(
     alloc: Global,
     found: &KeyTable,
     width: usize,
     slots: &[Slots],
+) -> Result<Vec<Ty>, AllocError>
+    requires { width ≡ found.now.width }
+    ensures { IfOk result (λ types. length types.items ≡ width + length slots.now) }
+{
+    let mut types = Vec::new(alloc);
+    for column in 0..width {
+        types.push(key_type(found, column))?;
+    }
+    for each in slots {
+        types.push(slots_type(each, found.len()))?;
+    }
+    Ok(types)
+}
+
+/// Puts the row of a group behind the others: its key of so many values, and then its aggregates.
+pub(crate) fn put_row(
+    found: &KeyTable,
+    width: usize,
+    slots: &[Slots],
     group: usize,
-) -> Result<Row, ShowFault>
+    filling: &mut Filling,
+) -> Result<(), ShowFault>
     requires group { group < length found.now.keys }
     requires width { width ≡ found.now.width }
-    ensures row { IfOk result (IsShownRow width (key_at found.now.keys group) group slots.now) }
+    requires ready { IsReadyFor (width + length slots.now) filling.old }
+    ensures row { OnOk result (AddsShownRow width found.now.keys group slots.now filling.old filling.new) }
+    ensures ready { OnOk result (IsReadyFor (width + length slots.now) filling.new) }
     ensures range { OnOk result (AllByRecursion (CanShow group) slots.now) }
     ensures fault { IfErr result (IsSlotsFault group slots.now) }
 {
-    let mut row = roomy_key(alloc, found, width, slots.len(), group)?;
+    put_key(found, width, group, filling)?;
     for each in slots {
-        row.push(each.value(alloc, group)?)?;
+        match each.lend(group) {
+            Ok(value) => filling.push(&value)?,
+            Err(fault) => return Err(fault),
+        }
     }
-    Ok(row)
+    filling.end_row()?;
+    Ok(())
 }
 
-/// The key, with room for so many values behind it.
-fn roomy_key(
-    alloc: Global,
+/// Begins a row with the values of a key.
+fn put_key(
     found: &KeyTable,
     width: usize,
-    more: usize,
     group: usize,
-) -> Result<Row, AllocError>
+    filling: &mut Filling,
+) -> Result<(), AllocError>
     requires group { group < length found.now.keys }
     requires width { width ≡ found.now.width }
-    ensures { IfOk result (IsKey width (key_at found.now.keys group)) }
+    requires none { filling.old.begun ≡ [] }
+    requires room { width ≤ filling.old.width }
+    ensures { OnOk result (BeginsKey width (key_at found.now.keys group) filling.old filling.new) }
 {
-    let wide = widened(alloc, width, more)?;
-    let mut row = Row::with_capacity(alloc, wide)?;
     for column in 0..width {
-        row.push(found.lend(group, column).to_value(alloc)?)?;
+        filling.push(&found.lend(group, column))?;
     }
-    Ok(row)
+    Ok(())
+}
+
+/// The type of the values in a column of keys.
+fn key_type(found: &KeyTable, column: usize) -> Ty
+    requires { column < found.now.width }
+{
+    for key in 0..found.len() {
+        if let Some(ty) = type_of(&found.lend(key, column)) {
+            return ty;
+        }
+    }
+    Ty::Integer
+}
+
+/// The type of what groups show of an aggregate.
+fn slots_type(slots: &Slots, groups: usize) -> Ty {
+    for group in 0..groups {
+        if let Ok(value) = slots.lend(group) {
+            if let Some(ty) = type_of(&value) {
+                return ty;
+            }
+        }
+    }
+    Ty::Integer
+}
+
+/// The type of a value, and None of NULL.
+fn type_of(value: &Lent<'_>) -> Option<Ty> {
+    match value {
+        Lent::Number(_) => Some(Ty::Integer),
+        Lent::Text(_) => Some(Ty::Text),
+        Lent::Day(_) => Some(Ty::Date),
+        Lent::Null => None,
+    }
 }

@@ -72,13 +72,13 @@ impl Bests {
         put_bests(alloc, which, numbers, &mut self.values, values)
     }
 
-    /// The best value of a group.
-    pub(crate) fn value(&self, alloc: Global, group: usize) -> Result<Value, AllocError>
-        ensures { IfOk result (λ v. v ≡ slice_index_or self.now group Null) }
+    /// The best value of a group, where it stands.
+    pub(crate) fn lend(&self, group: usize) -> Lent<'_>
+        ensures { owned result ≡ slice_index_or self.now group Null }
     {
         match self.values.get(group) {
-            Some(value) => value.copy(alloc),
-            None => Ok(Value::Null),
+            Some(value) => value.lend(),
+            None => Lent::Null,
         }
     }
 }

@@ -1,5 +1,6 @@
 //! What is kept of groups for one aggregate.
 ghost use Rattle.std.specs.Prelude.{◌+◌, ◌^◌, ◌≡◌, IfErr, IfOk, OnOk, length, ℕ};
+ghost use Rattle.cq_values.specs.Lent.{owned};
 ghost use Rattle.cq_model.specs.declared.fault.ShowFault.TheVariants.{SumOutOfRange};
 ghost use Rattle.cq_hash_groups_slots.specs.Puts.{AreNumbers, most_before};
 ghost use Rattle.cq_hash_groups_slots.specs.Slots.{AreWithin, CanShow, empty_slots, groups_in, grown_slots, put_slots, shown_at};
@@ -8,7 +9,7 @@ use crate::bests::{Bests, Extreme};
 use crate::counts::Counts;
 use crate::sums::Sums;
 use cq_model::{Aggregate, ShowFault};
-use cq_values::Value;
+use cq_values::Lent;
 use cq_vectors::Vector;
 use std::alloc::{AllocError, Global};
 
@@ -68,16 +69,16 @@ impl Slots {
         }
     }
 
-    /// What a group shows.
-    pub fn value(&self, alloc: Global, group: usize) -> Result<Value, ShowFault>
-        ensures value { IfOk result (λ v. v ≡ shown_at group self.now) }
+    /// What a group shows, where it stands.
+    pub fn lend(&self, group: usize) -> Result<Lent<'_>, ShowFault>
+        ensures value { IfOk result (λ v. owned v ≡ shown_at group self.now) }
         ensures range { OnOk result (CanShow group self.now) }
         ensures fault { IfErr result (λ e. e ≡ SumOutOfRange → CanShow group self.now → ⊥) }
     {
         match self {
-            Slots::Counts(counts) => Ok(counts.value(group)),
-            Slots::Sums(sums) => sums.value(group),
-            Slots::Bests(_, bests) => Ok(bests.value(alloc, group)?),
+            Slots::Counts(counts) => Ok(counts.lend(group)),
+            Slots::Sums(sums) => sums.lend(group),
+            Slots::Bests(_, bests) => Ok(bests.lend(group)),
         }
     }
 }

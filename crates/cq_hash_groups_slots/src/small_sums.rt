@@ -11,7 +11,7 @@ ghost use Rattle.cq_hash_groups_slots.specs.Puts.{AreNumbers, AreSumsWithin, IsS
 ghost use Rattle.cq_hash_groups_slots.specs.Slots.{grown};
 
 use crate::number_columns::{Above, NumberColumn, Plain};
-use cq_values::{Lent, Value};
+use cq_values::Lent;
 use cq_vectors::{Form, Vector};
 use cq_vectors_masks::Plane;
 use std::alloc::{AllocError, Global};
@@ -89,15 +89,15 @@ impl SmallSum {
     }
 
     /// The total, which is NULL of no values.
-    fn value(&self) -> Value
-        ensures value { result ≡ shown_sum self.now }
+    fn lend(&self) -> Lent<'_>
+        ensures value { owned result ≡ shown_sum self.now }
         ensures range { InRange self.now.total }
     {
         let (count, total) = (self.count, self.total);
         if count == 0 {
-            Value::Null
+            Lent::Null
         } else {
-            Value::Number(i128::from(total))
+            Lent::Number(i128::from(total))
         }
     }
 }
@@ -156,13 +156,13 @@ impl SmallSums {
     }
 
     /// The total of a group, which is NULL of no values.
-    pub(crate) fn value(&self, group: usize) -> Value
-        ensures value { result ≡ shown_sum (slice_index_or self.now group no_sum) }
+    pub(crate) fn lend(&self, group: usize) -> Lent<'_>
+        ensures value { owned result ≡ shown_sum (slice_index_or self.now group no_sum) }
         ensures range { InRange (slice_index_or self.now group no_sum).total }
     {
         match self.sums.get(group) {
-            Some(sum) => sum.value(),
-            None => Value::Null,
+            Some(sum) => sum.lend(),
+            None => Lent::Null,
         }
     }
 }

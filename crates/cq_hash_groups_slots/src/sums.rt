@@ -2,6 +2,7 @@
 //!
 //! They are kept in 64 bits for as long as these hold each of them, and after that so wide that they hold any total.
 ghost use Rattle.std.specs.Prelude.{◌≡◌, IfErr, IfOk, OnErr, OnOk, [], length, slice_index_or};
+ghost use Rattle.cq_values.specs.Lent.{owned};
 ghost use Rattle.cq_model.specs.Group.{InRange};
 ghost use Rattle.cq_hash_groups_slots.specs.Puts.{AreNumbers, AreSumsWithin, IsTotalFault, SumsGrowBy, most_before, no_sum, put_all, put_sum, shown_sum};
 ghost use Rattle.cq_hash_groups_slots.specs.Slots.{grown};
@@ -9,7 +10,7 @@ ghost use Rattle.cq_hash_groups_slots.specs.Slots.{grown};
 use crate::small_sums::SmallSums;
 use crate::wide_sums::WideSums;
 use cq_model::ShowFault;
-use cq_values::Value;
+use cq_values::Lent;
 use cq_vectors::Vector;
 use std::alloc::{AllocError, Global};
 use std::marker::Model;
@@ -86,14 +87,14 @@ impl Sums {
     }
 
     /// The total of a group, which is NULL of no values.
-    pub(crate) fn value(&self, group: usize) -> Result<Value, ShowFault>
-        ensures value { IfOk result (λ v. v ≡ shown_sum (slice_index_or self.now group no_sum)) }
+    pub(crate) fn lend(&self, group: usize) -> Result<Lent<'_>, ShowFault>
+        ensures value { IfOk result (λ v. owned v ≡ shown_sum (slice_index_or self.now group no_sum)) }
         ensures range { OnOk result (InRange (slice_index_or self.now group no_sum).total) }
         ensures fault { IfErr result (IsTotalFault (slice_index_or self.now group no_sum)) }
     {
         match &self.sums {
-            Width::Small(sums) => Ok(sums.value(group)),
-            Width::Wide(sums) => sums.value(group),
+            Width::Small(sums) => Ok(sums.lend(group)),
+            Width::Wide(sums) => sums.lend(group),
         }
     }
 }

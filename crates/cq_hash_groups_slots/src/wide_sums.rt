@@ -8,7 +8,7 @@ ghost use Rattle.cq_hash_groups_slots.specs.Slots.{grown};
 use crate::number_columns::{Above, NumberColumn, Plain, lent_unless};
 use crate::small_sums::{SmallSum, SmallSums};
 use cq_model::ShowFault;
-use cq_values::{Lent, Total, Value};
+use cq_values::{Lent, Total};
 use cq_vectors::{Form, Vector};
 use cq_vectors_masks::Plane;
 use std::alloc::{AllocError, Global};
@@ -61,8 +61,8 @@ impl Sum {
     }
 
     /// The total, which is NULL of no values.
-    fn value(&self) -> Result<Value, ShowFault>
-        ensures value { IfOk result (λ v. v ≡ shown_sum self.now) }
+    fn lend(&self) -> Result<Lent<'_>, ShowFault>
+        ensures value { IfOk result (λ v. owned v ≡ shown_sum self.now) }
         ensures range { OnOk result (InRange self.now.total) }
         ensures fault { IfErr result (IsTotalFault self.now) }
     {
@@ -70,9 +70,9 @@ impl Sum {
             return Err(ShowFault::SumOutOfRange);
         };
         if self.count == 0 {
-            Ok(Value::Null)
+            Ok(Lent::Null)
         } else {
-            Ok(Value::Number(total))
+            Ok(Lent::Number(total))
         }
     }
 }
@@ -122,14 +122,14 @@ impl WideSums {
     }
 
     /// The total of a group, which is NULL of no values.
-    pub(crate) fn value(&self, group: usize) -> Result<Value, ShowFault>
-        ensures value { IfOk result (λ v. v ≡ shown_sum (slice_index_or self.now group no_sum)) }
+    pub(crate) fn lend(&self, group: usize) -> Result<Lent<'_>, ShowFault>
+        ensures value { IfOk result (λ v. owned v ≡ shown_sum (slice_index_or self.now group no_sum)) }
         ensures range { OnOk result (InRange (slice_index_or self.now group no_sum).total) }
         ensures fault { IfErr result (IsTotalFault (slice_index_or self.now group no_sum)) }
     {
         match self.sums.get(group) {
-            Some(sum) => sum.value(),
-            None => Ok(Value::Null),
+            Some(sum) => sum.lend(),
+            None => Ok(Lent::Null),
         }
     }
 }

@@ -18,7 +18,7 @@ use Rattle.cq_model_laws.proofs.Names.{both-first, both-second, holds-same}
 use Rattle.cq_model.proofs.Conditions.{part-true}
 
 -- the columns of a part are those of its row in place
-column-part : (before wide : ℕ) (r s t : Row) → length r ≡ before → length s ≡ wide → (i : ℕ) → is_within before wide i ≡ true → column (r ++ s ++ t) i ≡ column (in_place before s) i
+pub column-part : (before wide : ℕ) (r s t : Row) → length r ≡ before → length s ≡ wide → (i : ℕ) → is_within before wide i ≡ true → column (r ++ s ++ t) i ≡ column (in_place before s) i
 column-part before wide r s t e w i h =
     let low : before ≤ i = grind (arith, nat_tests, both-first (nat_le before i) (nat_lt i (before + wide)) h) in
     let high : i < before + wide = grind (arith, nat_tests, both-second (nat_le before i) (nat_lt i (before + wide)) h) in

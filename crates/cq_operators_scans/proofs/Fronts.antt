@@ -1,5 +1,5 @@
 -- Rows that are kept front by front.
-use Rattle.std.proofs.Common.{◌≡◌, Bool, List, ◌++◌, sym, ◌∙◌, ap}
+use Rattle.std.proofs.Common.{◌≡◌, Bool, List, [], ◌++◌, sym, ◌∙◌, ap}
 use Rattle.std.specs.List.{filter}
 use Rattle.std.proofs.lemmas.List.{append_assoc}
 use Rattle.std.proofs.lemmas.List.Elements.{filter-append}
@@ -11,3 +11,7 @@ module _ (p : Row → Bool) (left front rest : List Row) (parts : left ≡ front
   front-kept before kept whole more so_far =
       ap (λ (rs : List Row). rs ++ filter p rest) more ∙ append_assoc before (filter p front) (filter p rest)
       ∙ ap (λ (rs : List Row). before ++ rs) (sym (ap (filter p) parts ∙ filter-append p front rest)) ∙ so_far
+
+  -- where none of the front is kept, what is behind it keeps all
+  pub front-dropped : filter p front ≡ [] → filter p left ≡ filter p rest
+  front-dropped none = ap (filter p) parts ∙ filter-append p front rest ∙ ap (λ (rs : List Row). rs ++ filter p rest) none

@@ -9,3 +9,4 @@ pub mod Behind
 pub mod Asking
 pub mod PlacesWhere
 pub mod RowBehind
+pub mod Skipped

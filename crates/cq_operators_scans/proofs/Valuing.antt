@@ -108,7 +108,7 @@ module _ (rows : List Row) (tree : ExprTree) (made values : List Value) (x : Exp
       is_made ∙ ap (map (extracted day_part)) are ∙ map-map (eval (expr_of x)) (extracted day_part) rows
       ∙ ap (λ (y : ExprTree). map (λ row. extracted day_part (eval (expr_of y) row)) rows) same ∙ sym (ap (λ (e : Expr). map (eval e) rows) (ap expr_of is ∙ tree-Extract day_part part))
 
-tree-Literal : (v : Value) → expr_of (variant.Literal v) ≡ Literal v
+pub tree-Literal : (v : Value) → expr_of (variant.Literal v) ≡ Literal v
 unfolding view.roll-ExprTree denote.Hole.Carrier.roll
 tree-Literal v = fold-roll-ExprTree Expr expr_step (node.Literal v)
 

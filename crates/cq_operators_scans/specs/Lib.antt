@@ -5,3 +5,4 @@ pub mod Truths
 pub mod Paired
 pub mod Parts
 pub mod Passing
+pub mod Skipping

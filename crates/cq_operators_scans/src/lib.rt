@@ -2,6 +2,7 @@
 //!
 //! To its callers a [`Scan`] is its list of rows. [`vector_of`] gives the value of an expression in each of them,
 //! [`Scan::kept_by`] those in which a condition is True, and [`kept_places`] where the rows stand that WHERE keeps.
+//! By [`split_missed`] and [`split_unkept`] a reader goes past a segment that has no such row.
 #![tactic(auto)]
 
 mod keeping;
@@ -10,6 +11,7 @@ mod operand;
 mod parts;
 mod passed;
 mod scan;
+mod skipping;
 mod truths;
 mod vectors;
 mod worked;
@@ -18,4 +20,5 @@ pub use keeping::kept_places;
 pub use operand::{Operand, lend_vectors};
 pub use passed::{passing, scan_passing};
 pub use scan::Scan;
+pub use skipping::{split_missed, split_unkept};
 pub use vectors::{own_vector_of, vector_of};

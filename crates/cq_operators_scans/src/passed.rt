@@ -8,6 +8,7 @@ ghost use Rattle.cq_table_columns.specs.Stored.{all_rows, front_rows};
 
 use crate::lent::lend_all;
 use crate::scan::Scan;
+use crate::skipping::split_missed;
 use crate::truths::truths_of_tree;
 use cq_model::CondTree;
 use cq_model_terms::columns_of;
@@ -17,7 +18,7 @@ use cq_vectors_masks::Selection;
 use std::alloc::{AllocError, Global};
 
 /// The rows that pass all conditions, where they are. In these the values of a row stand behind so many others. It goes
-/// through the rows 1,024 at a time.
+/// through the rows 1,024 at a time, and past the segments that can have none.
 pub fn passing<'a>(
     alloc: Global,
     before: usize,
@@ -33,10 +34,14 @@ pub fn passing<'a>(
     let mut passing = Vec::new(alloc);
     let mut left = *rows;
     while !left.is_empty() {
-        let (front, rest) = left.split_front();
-        let mut passed = passing_front(alloc, before, conditions, &front)?;
-        passing.append(&mut passed)?;
-        left = rest;
+        if let Some((_, rest)) = split_missed(before, conditions, &left) {
+            left = rest;
+        } else {
+            let (front, rest) = left.split_front();
+            let mut passed = passing_front(alloc, before, conditions, &front)?;
+            passing.append(&mut passed)?;
+            left = rest;
+        }
     }
     Ok(passing)
 }

@@ -20,7 +20,8 @@ use Rattle.cq_values.specs.declared.truth.Truth.TheVariants.{True, False, Unknow
 use Rattle.std.proofs.lemmas.Bool.{and_parts}
 use Rattle.cq_model.proofs.Conditions.{part-true}
 
-true-both : (a b : Truth) → is_true a ≡ true → is_true b ≡ true → is_true (and_truth a b) ≡ true
+-- AND of two that are True is True
+pub true-both : (a b : Truth) → is_true a ≡ true → is_true b ≡ true → is_true (and_truth a b) ≡ true
 true-both True b h k = k
 true-both False b h k = absurd (cc)
 true-both Unknown b h k = absurd (cc)

@@ -4,3 +4,4 @@ pub mod Chains
 pub mod Exactly
 pub mod Owned
 pub mod OwnTests
+pub mod EachOwn

@@ -4,12 +4,13 @@ use Rattle.cq_model.specs.Own.{passes_own}
 use Rattle.cq_model.specs.Expr.{Cond}
 use Rattle.cq_values.specs.Value.{Row}
 use Rattle.cq_plan.specs.Chain.{ChainedSource}
-use Rattle.cq_plan.specs.Own.{AreOwnOf}
+use Rattle.cq_plan.specs.Own.{AreOwnOf, AskAllOwnOf}
 
--- what passes own conditions of WHERE of a source's rows
+-- what passes own conditions of WHERE of a source's rows: all that are the source's own
 pub record ArePassing (where_is : Option Cond) (before wide : ℕ) (rows passing : List Row) : Type 0 where
   pub conditions : List Cond
   pub own : AreOwnOf where_is before wide conditions
+  pub all : AskAllOwnOf where_is before wide conditions
   pub are : passing ≡ filter (passes_own before conditions) rows
 
 -- sources that are joined, each with the rows that pass own conditions, and with the same ON

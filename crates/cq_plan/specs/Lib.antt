@@ -4,3 +4,4 @@ pub mod Own
 pub mod OwnTest
 pub mod Below
 pub mod Laws
+pub mod EachOwn

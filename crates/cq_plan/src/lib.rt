@@ -5,14 +5,17 @@
 #![tactic(auto)]
 
 mod columns;
+mod each_own;
 mod laws;
 mod own;
 mod own_test;
 mod plan;
 
 pub use columns::columns_of_condition;
+pub use each_own::each_is_own;
 pub use laws::{
-    chain_of_lists, chains_in_parts, own_conditions_are_exact, own_conditions_below_joins,
+    chain_of_lists, chains_in_parts, own_conditions_are_all, own_conditions_are_exact,
+    own_conditions_below_joins,
 };
 pub use own::own_conditions;
 pub use own_test::own_condition;

@@ -61,7 +61,7 @@ fn compare_codes(comparison: Comparison, a: &Vector<'_>, b: &Vector<'_>, to: &mu
 }
 
 /// The comparison that says the same of the sides turned.
-fn turned(comparison: Comparison) -> Comparison
+pub fn turned(comparison: Comparison) -> Comparison
     ensures { result ≡ turned comparison }
 {
     match comparison {

@@ -20,6 +20,6 @@ mod number_side;
 mod sides;
 mod wide_side;
 
-pub use comparisons::compare;
+pub use comparisons::{compare, turned};
 pub use cq_prims_texts::like;
 pub use nulls::is_null;

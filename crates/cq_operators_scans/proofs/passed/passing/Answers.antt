@@ -2,6 +2,7 @@ use Rattle.std.proofs.Common.{◌∙◌, ◌++◌, ap, subst, sym, List}
 use Rattle.std.specs.List.{AllByRecursion}
 use Rattle.std.proofs.lemmas.List.{map-append}
 use Rattle.std.proofs.lemmas.Result.{IfOk-weaker}
+use Rattle.cq_segments.specs.Marked.{live}
 use Rattle.cq_segments.specs.Rows.{row_of, stored_rows}
 use Rattle.cq_table_columns.specs.Stored.{all_rows, front_rows}
 use Rattle.cq_model.specs.Own.{passes_own}
@@ -9,7 +10,7 @@ use Rattle.cq_model_bags.proofs.Lists.{all-front}
 use Rattle.cq_values.specs.Value.{Row}
 use Rattle.cq_operators_scans.specs.Passing.{CanPass, conditions_in}
 use Rattle.cq_operators_scans.proofs.Asking.{empty-asked}
-use Rattle.cq_operators_scans.proofs.Fronts.{front-kept}
+use Rattle.cq_operators_scans.proofs.Fronts.{front-dropped, front-kept}
 use Rattle.cq_operators_scans.proofs.Lists.{all-behind}
 use Rattle.cq_operators_scans.proofs.passed.passing.Goals as goal
 
@@ -28,6 +29,17 @@ loop-left-preserved c =
     let more = ap stored_rows c.in_ok-append.ensures.items ∙ map-append row_of c.loop-left.passing.items c.in_ok-passed.passed.items ∙ ap (λ (rows : List Row). so_far ++ rows) c.in_ok-passed.ensures in record {
       passing = front-kept (passes_own c.args.before conditions) left front rest c.split_front.ensures.parts so_far _ _ more c.loop-left.invariant.passing;
       exact = all-behind (CanPass c.args.before conditions) left front rest c.split_front.ensures.parts c.loop-left.invariant.exact;
+    }
+
+pub loop-left-preserved-in-Some : goal.loop-left-preserved-in-Some
+loop-left-preserved-in-Some c =
+    let left = all_rows c.loop-left.left in
+    let front = live c.in-Some.field-0-0.now in
+    let rest = all_rows c.in-Some.rest in
+    let conditions = conditions_in c.args.conditions.now in
+    let so_far = stored_rows c.loop-left.passing.items in record {
+      passing = ap (λ (rows : List Row). so_far ++ rows) (sym (front-dropped (passes_own c.args.before conditions) left front rest c.in-Some.ensures.rows c.in-Some.ensures.none)) ∙ c.loop-left.invariant.passing;
+      exact = all-behind (CanPass c.args.before conditions) left front rest c.in-Some.ensures.rows c.loop-left.invariant.exact;
     }
 
 pub returns-then-is_empty : goal.returns-then-is_empty

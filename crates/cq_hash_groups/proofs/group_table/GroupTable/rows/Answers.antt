@@ -1,46 +1,50 @@
-use Rattle.std.proofs.Common.{◌≡◌, ◌<◌, ◌++◌, List, map, take, length, get_or, [], rules, arith, sym, ◌∙◌, ap, subst}
+use Rattle.std.proofs.Common.{◌≡◌, ◌<◌, ◌+◌, ◌++◌, ◌∷◌, List, map, take, length, get_or, [], rules, arith, refl, sym, ◌∙◌, ap, subst}
 use Rattle.std.proofs.lemmas.List.{get_or_default, take_all}
 use Rattle.cq_values.specs.Value.{Row}
 use Rattle.cq_model_bags.specs.Bag.{once_each}
 use Rattle.cq_model.specs.Group.{SumsInRange}
 use Rattle.cq_model.specs.declared.fault.ShowFault.TheVariants.{SumOutOfRange}
-use Rattle.cq_hash_groups.specs.Groups.{StoredGroups, group_columns, slots_at}
-use Rattle.cq_hash_groups_slots.specs.Slots.{shown_at}
+use Rattle.cq_hash_groups.specs.Groups.{StoredGroups, group_columns, shown_row, slots_at}
+use Rattle.cq_hash_groups_slots.specs.declared.slots.Slots.{Slots}
+use Rattle.cq_writestore_rows.specs.Filling.{IsReadyFor}
 use Rattle.cq_hash_groups.proofs.Holding.{range-fails, range-next, rows-next}
 use Rattle.cq_hash_groups.proofs.Showing.{AreShown, ranges-are_grouped, rows-are_grouped, shown_rows}
 use Rattle.cq_hash_groups.proofs.Widths.{wide-at}
 use Rattle.cq_hash_groups.proofs.group_table.GroupTable.rows.Goals as goal
 
-pub returns-in_err-row-clause-fault : goal.returns-in_err-row-clause-fault
-returns-in_err-row-clause-fault c = λ of h.
+pub returns-in_err-put_row-clause-fault : goal.returns-in_err-put_row-clause-fault
+returns-in_err-put_row-clause-fault c = λ of h.
     let t = c.args.self.now in
     let group = c.loop-group.group in
     let found_is = ap (λ (u : StoredGroups). u.found) c.self.view_is in
     let lt : group < length t.found = omega (arith, c.loop-group-test.true, c.len-groups.ensures, ap length found_is) in
-    let slots_are : c.deref.result.now ≡ map (slots_at (group_columns t.keys) of t.found) t.aggregates = c.deref.ensures.value ∙ ap (λ (u : StoredGroups). u.slots) c.self.view_is ∙ h.slots in
+    let slots_are : c.deref-in-loop-group.result.now ≡ map (slots_at (group_columns t.keys) of t.found) t.aggregates = c.deref-in-loop-group.ensures.value ∙ ap (λ (u : StoredGroups). u.slots) c.self.view_is ∙ h.slots in
     let key = get_or t.found group [] in
-    let fault : c.in_err-row.field-0.0 ≡ SumOutOfRange → SumsInRange t.keys t.aggregates (once_each of) → ⊥ =
-    λ is all. range-fails t.keys t.aggregates of t.found c.deref.result.now slots_are group key lt (get_or_default t.found group [] key lt) h.found (λ can. c.in_err-row.ensures.fault is can) all in
+    let fault : c.in_err-put_row.field-0.0 ≡ SumOutOfRange → SumsInRange t.keys t.aggregates (once_each of) → ⊥ =
+    λ is all. range-fails t.keys t.aggregates of t.found c.deref-in-loop-group.result.now slots_are group key lt (get_or_default t.found group [] key lt) h.found (λ can. c.in_err-put_row.ensures.fault is can) all in
     search rules
 
 pub loop-group-preserved : goal.loop-group-preserved
 loop-group-preserved c =
     let t = c.args.self.now in
     let group = c.loop-group.group in
+    let width = c.key_width-width.result in
+    let slots = c.deref-in-loop-group.result.now in
     let found_is = ap (λ (u : StoredGroups). u.found) c.self.view_is in
     let keys_are = ap (λ (u : StoredGroups). u.keys) c.self.view_is in
-    let slots_is : c.deref.result.now ≡ t.slots = c.deref.ensures.value ∙ ap (λ (u : StoredGroups). u.slots) c.self.view_is in
+    let slots_is : slots ≡ t.slots = c.deref-in-loop-group.ensures.value ∙ ap (λ (u : StoredGroups). u.slots) c.self.view_is in
     let lt : group < length t.found = omega (arith, c.loop-group-test.true, c.len-groups.ensures, ap length found_is) in
     let key = get_or t.found group [] in
     let same : get_or c.self.inside.found.keys group [] ≡ key = ap (λ (fs : List Row). get_or fs group []) found_is in
     record {
+      ready = subst (λ (ss : List Slots). IsReadyFor (width + length ss) c.put_row.new.filling) slots_is c.in_ok-put_row.ensures.ready;
       rows = λ of h.
-          let wide : length (get_or c.self.inside.found.keys group []) ≡ c.key_width-width.result = rw same (wide-at t.keys of t.found group h.found lt ∙ sym (c.key_width-width.ensures ∙ ap (λ ks. length (group_columns ks)) keys_are)) in
-          let row_is = c.in_ok-row.ensures.row wide ∙ ap (λ (k : Row). k ++ map (shown_at group) c.deref.result.now) same in
-          c.in_ok-push.ensures.items
-          ∙ rows-next t.keys t.aggregates of t.found c.deref.result.now (slots_is ∙ h.slots) group key lt (get_or_default t.found group [] key lt) c.loop-group.rows.items c.in_ok-row.row (c.loop-group.invariant.rows of h) row_is;
+          let wide : length (get_or c.self.inside.found.keys group []) ≡ width = rw same (wide-at t.keys of t.found group h.found lt ∙ sym (c.key_width-width.ensures ∙ ap (λ ks. length (group_columns ks)) keys_are)) in
+          c.in_ok-put_row.ensures.row wide
+          ∙ ap (λ (k : Row). c.loop-group.filling.rows ++ shown_row k group slots ∷ []) same
+          ∙ rows-next t.keys t.aggregates of t.found slots (slots_is ∙ h.slots) group key lt (get_or_default t.found group [] key lt) c.loop-group.filling.rows (shown_row key group slots) (c.loop-group.invariant.rows of h) refl;
       range = λ of h.
-          range-next t.keys t.aggregates of t.found c.deref.result.now (slots_is ∙ h.slots) group key lt (get_or_default t.found group [] key lt) (c.loop-group.invariant.range of h) c.in_ok-row.ensures.range;
+          range-next t.keys t.aggregates of t.found slots (slots_is ∙ h.slots) group key lt (get_or_default t.found group [] key lt) (c.loop-group.invariant.range of h) c.in_ok-put_row.ensures.range;
     }
 
 pub returns-clause-ok : goal.returns-clause-ok
@@ -48,7 +52,7 @@ returns-clause-ok c =
     let t = c.args.self.now in
     let all : take c.loop-group.group t.found ≡ t.found =
     take_all c.loop-group.group t.found (omega (arith, c.loop-group-test.false, c.len-groups.ensures, ap (λ (u : StoredGroups). length u.found) c.self.view_is)) in
-    λ of h. ap once_each (c.loop-group.invariant.rows of h ∙ ap (shown_rows t.keys t.aggregates of) (all ∙ h.found)) ∙ rows-are_grouped t.keys t.aggregates of
+    λ of h. ap once_each (c.in_ok-finish.ensures ∙ c.loop-group.invariant.rows of h ∙ ap (shown_rows t.keys t.aggregates of) (all ∙ h.found)) ∙ rows-are_grouped t.keys t.aggregates of
 
 pub returns-clause-range : goal.returns-clause-range
 returns-clause-range c =

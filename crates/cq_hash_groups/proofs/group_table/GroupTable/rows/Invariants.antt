@@ -1,12 +1,14 @@
-use Rattle.std.proofs.Common.{◌≡◌, List, take}
+use Rattle.std.proofs.Common.{◌≡◌, ◌+◌, List, length, take}
 use Rattle.cq_values.specs.Value.{Row}
 use Rattle.cq_hash_groups.specs.Groups.{Holds}
 use Rattle.cq_hash_groups.proofs.Showing.{AreShown, shown_rows}
+use Rattle.cq_writestore_rows.specs.Filling.{IsReadyFor}
 use Rattle.cq_hash_groups.proofs.group_table.GroupTable.rows.Given as goal
 
 -- the groups so far are shown, whichever rows the table is of
 abbrev pub invariant-loop-group : goal.invariant-loop-group
 invariant-loop-group l = record {
-  rows : (of : List Row) → Holds l.self of → l.rows.items ≡ shown_rows l.self.keys l.self.aggregates of (take l.group l.self.found);
+  ready : IsReadyFor (l.width + length l.self.slots) l.filling;
+  rows : (of : List Row) → Holds l.self of → l.filling.rows ≡ shown_rows l.self.keys l.self.aggregates of (take l.group l.self.found);
   range : (of : List Row) → Holds l.self of → AreShown l.self.keys l.self.aggregates of (take l.group l.self.found);
 }

@@ -1,0 +1,181 @@
+//! Segments of which no row can pass the conditions of a scan.
+//!
+//! A scan asks before it reads a segment, and goes on behind it where the bounds of its columns rule each row out. A
+//! comparison of a column with a constant, BETWEEN, IN and IS NULL are asked of the bounds, and what AND joins part by
+//! part; any other condition may hold. A part costs one or two comparisons a segment, and takes no memory.
+ghost use Rattle.std.specs.Bool.{OnFalse};
+ghost use Rattle.std.specs.List.{filter};
+ghost use Rattle.std.specs.Prelude.{◌<◌, ◌≡◌, ◌++◌, [], IfSome, length};
+ghost use Rattle.cq_model.specs.Expr.{Not};
+ghost use Rattle.cq_model.specs.Meaning.{keeps};
+ghost use Rattle.cq_model.specs.Trees.{cond_of, expr_of};
+ghost use Rattle.cq_operators_scans.specs.Passing.{passing_rows};
+ghost use Rattle.cq_operators_scans.specs.Skipping.{IsColumn, NoneBetween, NoneCompares, NoneHolds, NoneIn, NonePasses};
+ghost use Rattle.cq_segments.specs.Marked.{live, rows_of};
+ghost use Rattle.cq_table_columns.specs.Stored.{all_rows, stored_marked};
+
+use cq_model::{Cond, CondTree, ExprTree};
+use cq_prims::turned;
+use cq_segments::{ColumnTest, Segment};
+use cq_table_columns::Stored;
+use cq_values::{Comparison, Value};
+
+/// What is asked of a value: how it compares with a constant, or whether it is NULL.
+#[derive(Clone, Copy)]
+enum ValueTest<'c> {
+    Compare(Comparison, &'c Value),
+    IsNull,
+    IsNotNull,
+}
+
+/// The segment that comes next and the rows behind it, where no row of it can pass all conditions. In these the values
+/// of a row stand behind so many others.
+pub fn split_missed<'a>(
+    before: usize,
+    conditions: &[&CondTree],
+    rows: &Stored<'a>,
+) -> Option<(&'a Segment, Stored<'a>)>
+    ensures parts { IfSome result (λ s. stored_marked rows.now ≡ s.0.now ++ stored_marked s.1) }
+    ensures rows { IfSome result (λ s. all_rows rows.now ≡ live s.0.now ++ all_rows s.1) }
+    ensures some { IfSome result (λ s. 0 < length (live s.0.now)) }
+    ensures none { IfSome result (λ s. passing_rows before conditions.now (live s.0.now) ≡ []) }
+{
+    let (segment, rest) = rows.split_segment()?;
+    for condition in conditions {
+        if !may_hold(segment, before, *condition) {
+            return Some((segment, rest));
+        }
+    }
+    None
+}
+
+/// The same of rows of which WHERE can keep none.
+pub fn split_unkept<'a>(
+    condition: &Option<Cond>,
+    rows: &Stored<'a>,
+) -> Option<(&'a Segment, Stored<'a>)>
+    ensures parts { IfSome result (λ s. stored_marked rows.now ≡ s.0.now ++ stored_marked s.1) }
+    ensures rows { IfSome result (λ s. all_rows rows.now ≡ live s.0.now ++ all_rows s.1) }
+    ensures some { IfSome result (λ s. 0 < length (live s.0.now)) }
+    ensures none { IfSome result (λ s. filter (keeps condition.now) (live s.0.now) ≡ []) }
+{
+    match condition {
+        Some(condition) => split_missed(0, &[condition.tree()], rows),
+        None => None,
+    }
+}
+
+/// Whether a condition may be True in a row of the segment.
+fn may_hold(segment: &Segment, before: usize, condition: &CondTree) -> bool
+    ensures { OnFalse result (NoneHolds before (cond_of condition.now) (rows_of segment.now)) }
+{
+    match condition {
+        CondTree::Compare(comparison, a, b) => may_compare(segment, before, *comparison, a, b),
+        CondTree::IsNull(expr) => may_pass(segment, before, expr, &ValueTest::IsNull),
+        CondTree::Between(expr, least, greatest) => {
+            may_be_between(segment, before, expr, least, greatest)
+        }
+        CondTree::In(expr, choices) => may_be_in(segment, before, expr, choices),
+        CondTree::Not(part) => may_fail(segment, before, part),
+        CondTree::And(first, rest) => {
+            if !may_hold(segment, before, first) {
+                return false;
+            }
+            for part in rest {
+                if !may_hold(segment, before, part) {
+                    return false;
+                }
+            }
+            true
+        }
+        CondTree::Like(..) | CondTree::Or(..) => true,
+    }
+}
+
+/// Whether the opposite of a condition may be True there: only that of IS NULL is asked of the bounds.
+fn may_fail(segment: &Segment, before: usize, condition: &CondTree) -> bool
+    ensures { OnFalse result (NoneHolds before (Not (cond_of condition.now)) (rows_of segment.now)) }
+{
+    match condition {
+        CondTree::IsNull(expr) => may_pass(segment, before, expr, &ValueTest::IsNotNull),
+        _ => true,
+    }
+}
+
+/// Whether a value may lie between two others in a row of the segment.
+fn may_be_between(
+    segment: &Segment,
+    before: usize,
+    expr: &ExprTree,
+    least: &ExprTree,
+    greatest: &ExprTree,
+) -> bool
+    ensures { OnFalse result (NoneBetween before expr.now least.now greatest.now (rows_of segment.now)) }
+{
+    may_compare(segment, before, Comparison::GreaterOrEqual, expr, least)
+        && may_compare(segment, before, Comparison::LessOrEqual, expr, greatest)
+}
+
+/// Whether a value may be one of these in a row of the segment.
+fn may_be_in(segment: &Segment, before: usize, expr: &ExprTree, choices: &[ExprTree]) -> bool
+    ensures { OnFalse result (NoneIn before expr.now choices.now (rows_of segment.now)) }
+{
+    for choice in choices {
+        if may_compare(segment, before, Comparison::Equal, expr, choice) {
+            return true;
+        }
+    }
+    false
+}
+
+/// Whether a comparison may be True in a row of the segment: only that with a constant on one side is asked of the
+/// bounds.
+fn may_compare(
+    segment: &Segment,
+    before: usize,
+    comparison: Comparison,
+    a: &ExprTree,
+    b: &ExprTree,
+) -> bool
+    ensures { OnFalse result (NoneCompares before comparison a.now b.now (rows_of segment.now)) }
+{
+    if let ExprTree::Literal(constant) = b {
+        return may_pass(
+            segment,
+            before,
+            a,
+            &ValueTest::Compare(comparison, constant),
+        );
+    }
+    if let ExprTree::Literal(constant) = a {
+        let turned = turned(comparison);
+        return may_pass(segment, before, b, &ValueTest::Compare(turned, constant));
+    }
+    true
+}
+
+/// Whether a value may pass the test there: that of a column alone is asked of the bounds.
+fn may_pass(segment: &Segment, before: usize, expr: &ExprTree, test: &ValueTest<'_>) -> bool
+    ensures { OnFalse result (NonePasses before test.now expr.now (rows_of segment.now)) }
+{
+    let Some(column) = stored_column(before, expr) else {
+        return true;
+    };
+    match test {
+        ValueTest::Compare(comparison, constant) => {
+            segment.may_match(&ColumnTest::Compare(column, *comparison, constant.lend()))
+        }
+        ValueTest::IsNull => segment.may_match(&ColumnTest::IsNull(column)),
+        ValueTest::IsNotNull => segment.may_match(&ColumnTest::IsNotNull(column)),
+    }
+}
+
+/// The column of the segment that an expression is, if it is one.
+fn stored_column(before: usize, expr: &ExprTree) -> Option<usize>
+    ensures { IfSome result (IsColumn before (expr_of expr.now)) }
+{
+    match expr {
+        ExprTree::Column(place) => place.checked_sub(before),
+        _ => None,
+    }
+}

@@ -1,0 +1,19 @@
+-- WHERE of which each part that AND joins is one source's own.
+use Rattle.std.specs.Prelude.{◌≡◌, ℕ, ◌+◌, Bool, true, false, ◌&&◌, ◌||◌, List, [], ◌∷◌, Option, Some, None}
+use Rattle.cq_model.specs.Own.{tests_only}
+use Rattle.cq_model.specs.Expr.{Cond, And}
+
+-- whether a condition names the columns of one source alone: the sources stand behind so many columns and are so wide
+abbrev pub names_one : ℕ → List ℕ → Cond → Bool
+names_one before [] c = false
+names_one before (wide ∷ widths) c = tests_only before wide c || names_one (before + wide) widths c
+
+-- whether each part does
+abbrev pub each_names_one : List ℕ → Cond → Bool
+each_names_one widths (And a b) = each_names_one widths a && each_names_one widths b
+each_names_one widths c = names_one 0 widths c
+
+-- so it is with WHERE
+abbrev pub AreEachOwn : Option Cond → List ℕ → Type 0
+AreEachOwn None widths = Unit {0}
+AreEachOwn (Some filter) widths = each_names_one widths filter ≡ true
