@@ -64,7 +64,7 @@ impl Catalog for EngineCatalog<'_> {
         Some(TableEntry {
             number: table.number(),
             name: table.name(),
-            columns: table.columns(),
+            columns: table.table().columns(),
         })
     }
 

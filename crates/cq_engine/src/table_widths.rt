@@ -59,7 +59,7 @@ fn width_of(tables: &[NamedTable], source: Source) -> usize
     match source {
         Source::Table(number) => {
             let place = place_numbered(tables, number);
-            tables[place].columns().len()
+            tables[place].table().columns().len()
         }
         Source::View(_) => 0,
     }

@@ -109,7 +109,7 @@ pub fn rows_there<'a>(tables: &'a [NamedTable], source: Source, shown: &'a [Row]
     ensures { AreRowsThere (tables_of tables.now) source shown.now (all_rows result) }
 {
     match source {
-        Source::Table(number) => tables[place_numbered(tables, number)].rows(),
+        Source::Table(number) => tables[place_numbered(tables, number)].table().rows(),
         Source::View(_) => Stored::of(shown),
     }
 }

@@ -77,7 +77,7 @@ fn select_alone(
     match query.first {
         Source::Table(number) => {
             let place = place_numbered(tables, number);
-            Ok(list(alloc, query, order, tables[place].rows())?)
+            Ok(list(alloc, query, order, tables[place].table().rows())?)
         }
         Source::View(place) => select_from_view(alloc, &views[place as usize], query, order),
     }

@@ -12,7 +12,7 @@ use Rattle.cq_table.specs.Changes.{Exchanges, LeavesFound, Merges, MergesCounts,
 use Rattle.cq_table.specs.Found.{AreLiveAt, AreThere, IsFound, PicksChosen}
 use Rattle.cq_table.specs.Table.{stored_in, StoredTable, limited_to, marked_len, table_rows, with_stored, write_len}
 use Rattle.cq_engine_tables.specs.Chosen.{IsChosen, LeavesChosen}
-use Rattle.cq_engine_tables.specs.HeldTables.{ExchangeBy, GrowBy, MarkIn, MergeTo, MoveBy, held, lengths_of}
+use Rattle.cq_engine_tables.specs.HeldTables.{ExchangeBy, GrowBy, HeldTable, MarkIn, MergeTo, MoveBy, held, lengths_of}
 use Rattle.cq_engine_tables.specs.Tables.{named}
 
 -- no rows are the empty bag
@@ -25,6 +25,14 @@ pub chosen-found : {E : Type 0} (number : ℕ) (name : List ℕ) (t : StoredTabl
     → IfOk result (λ places. AreThere places (stored_in t)) → IfOk result (PicksChosen condition t) → IfOk result (λ places. length places ≡ length (chosen condition (table_rows t))) → IfOk result (IsChosen condition (held number name t))
 chosen-found number name t condition (Ok places) found live there picks count = record { found = found; live = live; there = there; picks = picks; count = count }
 chosen-found number name t condition (Err e) found live there picks count = tt
+
+-- the table that is held has these columns and these rows
+module _ (t : StoredTable) (h : HeldTable) (is : held h.is.number h.is.name t ≡ h) where
+  pub columns-held : t.columns ≡ h.is.columns
+  columns-held = ap (λ (x : HeldTable). x.is.columns) is
+
+  pub rows-held : table_rows t ≡ h.is.rows
+  rows-held = ap (λ (x : HeldTable). x.is.rows) is
 
 module _ (number : ℕ) (name : List ℕ) (old new : StoredTable) where
   -- with other rows and the same columns

@@ -5,24 +5,20 @@
 //! `images`), and then changes them by one call, which leaves them as they were where it fails. Each call costs what the
 //! same call of `cq_table` does.
 ghost use Rattle.std.specs.List.{AllByRecursion};
-ghost use Rattle.std.specs.Prelude.{◌++◌, ◌≡◌, [], IfOk, OnErr, OnOk, length};
+ghost use Rattle.std.specs.Prelude.{◌++◌, ◌+◌, ◌≡◌, ◌≤◌, [], IfOk, OnErr, OnOk, length};
 ghost use Rattle.cq_segments.specs.Rows.{stored_rows};
 ghost use Rattle.cq_values.specs.Texts.{is_text};
-ghost use Rattle.cq_model_bags.specs.Canonical.{bag_of};
-ghost use Rattle.cq_table_columns.specs.Stored.{all_rows};
-ghost use Rattle.cq_model_state.specs.Fitting.{FitsColumns, IsFitting};
+ghost use Rattle.cq_model_state.specs.Fitting.{FitsColumns};
 ghost use Rattle.cq_model_state.specs.State.{empty_table, holding};
 ghost use Rattle.cq_model.specs.Width.{IsNarrowIn};
-ghost use Rattle.cq_table.specs.Checks.{AreImages, AreNarrowSets, IsChecked};
+ghost use Rattle.cq_table.specs.Checks.{AreImages, AreNarrowSets};
 ghost use Rattle.cq_table.specs.Found.{AreLiveAt, AreThere};
-ghost use Rattle.cq_engine_tables.specs.HeldTables.{Exchanges, Grows, MarkIn, MergeTo, MoveBy, lengths_of, nothing};
+ghost use Rattle.cq_engine_tables.specs.HeldTables.{Exchanges, Grows, MarkIn, MergeTo, MoveBy, held, lengths_of, nothing};
 ghost use Rattle.cq_engine_tables.specs.Chosen.{ChecksChosen, IsChosen, LeavesChosen, rows_chosen, stored_of};
-ghost use Rattle.cq_engine_tables.specs.Tables.{no_room_for};
 
 use cq_model::{Assignment, Cond};
 use cq_segments::StoredRow;
 use cq_table::{Exchange, Found, TableFault};
-use cq_table_columns::Stored;
 use cq_values::{ColumnDef, Row, Seq, Text};
 use cq_writestore_rows::NewRows;
 use std::alloc::{AllocError, Global};
@@ -83,24 +79,11 @@ impl NamedTable {
         self.number
     }
 
-    pub fn columns(&self) -> &[ColumnDef]
-        ensures { result.now ≡ self.now.is.columns }
+    /// The table itself, to be read.
+    pub fn table(&self) -> &cq_table::Table
+        ensures { held self.now.is.number self.now.is.name result.now ≡ self.now }
     {
-        self.stored.columns()
-    }
-
-    /// The rows as they are stored.
-    pub fn rows(&self) -> Stored<'_>
-        ensures bag { bag_of (all_rows result) ≡ self.now.is.rows }
-        ensures fitting { IsFitting self.now.is }
-    {
-        self.stored.rows()
-    }
-
-    pub fn len(&self) -> usize
-        ensures { result ≡ length self.now.is.rows }
-    {
-        self.stored.len()
+        &self.stored
     }
 
     /// Where the rows stand that WHERE keeps. It is good until the table is written, moved or merged.
@@ -119,16 +102,16 @@ impl NamedTable {
         self.stored.chosen(alloc, found)
     }
 
-    /// Adds all of these rows, or none. The table may have so many rows.
-    pub fn insert(&mut self, alloc: Global, max_rows: u64, rows: NewRows) -> Result<(), TableFault>
-        requires { AllByRecursion (FitsColumns self.old.is.columns) rows }
-        ensures room { IsChecked (no_room_for max_rows self.old.is rows) result }
+    /// Adds all of these rows, or none. The table may have so many rows, and has room for them.
+    pub fn insert(&mut self, alloc: Global, max_rows: u64, rows: NewRows) -> Result<(), AllocError>
+        requires fitting { AllByRecursion (FitsColumns self.old.is.columns) rows }
+        requires room { length self.old.is.rows + length rows ≤ max_rows }
         ensures ok { OnOk result (self.new.is ≡ holding (self.old.is.rows ++ rows) self.old.is) }
         ensures lengths { OnOk result (Grows (length rows) self.old self.new) }
         ensures err { OnErr result (self.new ≡ self.old) }
     {
-        self.stored.limit(max_rows)?;
-        self.stored.insert(alloc, rows)
+        self.stored.limit(max_rows);
+        self.stored.append(alloc, rows)
     }
 
     /// Takes the rows that were found away. It cannot fail, and takes no memory.

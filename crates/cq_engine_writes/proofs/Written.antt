@@ -1,15 +1,13 @@
 -- A write of one table, and the views that follow it.
 use Rattle.std.proofs.Common.{◌≡◌, ◌+◌, ◌≤◌, ◌<◌, ◌^◌, ℕ, pos, neg_ℤ, Bool, not, List, [], ◌∷◌, ◌++◌, length, get_or, set, Option, Result, Ok, Err, sym, ap, ◌∙◌, arith, subst}
-use Rattle.std.specs.Prelude.{filter, nat_lt, None}
+use Rattle.std.specs.Prelude.{filter, None}
 use Rattle.std.specs.Result.{OnErr, OnOk}
 use Rattle.std.specs.List.{AllByRecursion}
-use Rattle.std.proofs.lemmas.Bool.{ltb-false}
 use Rattle.std.proofs.lemmas.List.{append-nil, length-append}
 use Rattle.cq_values.specs.Value.{Row}
 use Rattle.cq_model_bags.specs.Bag.{Weighted, SameBag, once_each}
 use Rattle.cq_model_bags.specs.Canonical.{bag_of}
 use Rattle.cq_model_bags.proofs.Canonicals.{length-bag_of}
-use Rattle.cq_model_bags.proofs.Totals.{by_test}
 use Rattle.cq_binder_rules.specs.declared.fault.Fault.{Fault}
 use Rattle.cq_binder_rules.specs.Checks.{MayRefuse}
 use Rattle.cq_model.specs.Expr.{Cond}
@@ -26,6 +24,7 @@ use Rattle.cq_engine_writes.specs.Following.{Follow, Moved}
 use Rattle.cq_engine_tables.specs.Taking.{AreSame, HaveTaken}
 use Rattle.cq_engine_tables.specs.Views.{AreRight, Fits, NamedView, bags_in}
 use Rattle.cq_engine_writes.proofs.Changes.{with_fewer, with_more}
+use Rattle.cq_engine_writes.proofs.Checks.{few-enough}
 use Rattle.cq_engine_writes.proofs.Exchanged.{with_exchanged}
 use Rattle.cq_engine_writes.proofs.Following.{all_stand, follow, moved}
 use Rattle.cq_engine_tables.proofs.Bags.{bags_few, bags_stored}
@@ -146,9 +145,9 @@ module _ (n : ℕ) where
         fitting-with_rows n (rows_in tables n ++ rows) tables next numbered fitting (all-append (FitsColumns (columns_in tables n)) (rows_in tables n) rows (fitting_in n tables fitting) own)
 
     pub inserted_bounded : (most : ℕ) → room_for most tables n rows ≡ None → AreLimited most tables → AreLimited most (inserted_into n rows tables)
-    inserted_bounded most room bounded = by_test (nat_lt most (length (rows_in tables n) + length rows))
-        (λ k. absurd (cc (rw k at room)))
-        (λ k. bounded-with_rows n (rows_in tables n ++ rows) most tables (omega (arith, ltb-false most (length (rows_in tables n) + length rows) k, length-append (rows_in tables n) rows)) bounded)
+    inserted_bounded most room bounded =
+        bounded-with_rows n (rows_in tables n ++ rows) most tables
+        (omega (arith, few-enough most (length (rows_in tables n) + length rows) room, length-append (rows_in tables n) rows)) bounded
 
   module _ (condition : Option Cond) (tables : List TableOf) where
     abbrev stay : Row → Bool

@@ -16,7 +16,7 @@ use cq_views::standing_depends_on_sources;
 use cq_writestore_rows::NewRows;
 use std::alloc::Global;
 
-/// Adds the rows to this table, or none of them. The views on the table take them in.
+/// Adds the rows to this table, or none of them. Room is asked once, before the views are made ready to take them in.
 pub(crate) fn insert_into(
     alloc: Global,
     max_rows: u64,
@@ -34,7 +34,7 @@ pub(crate) fn insert_into(
     ensures follow { OnOk result (FollowHeld epoch table.old table.new views.old views.new) }
     ensures err { OnErr result ((table.new ≡ table.old) × AreSame views.old.items views.new.items) }
 {
-    check_room(max_rows, table.len(), rows.len())?;
+    check_room(max_rows, table.table().len(), rows.len())?;
     let pendings = prepare_come(alloc, views, table.number(), &rows)?;
     table.insert(alloc, max_rows, rows)?;
     commit_all(views, pendings, epoch);

@@ -4,9 +4,9 @@ ghost use Rattle.std.specs.Prelude.{IfOk, length, ◌≡◌};
 ghost use Rattle.cq_segments.specs.Columns.{AreWide};
 ghost use Rattle.cq_segments.specs.Rows.{stored_rows};
 
-use cq_segments::{Segment, StoredRow};
+use cq_segments::{ColumnTest, Segment, StoredRow};
 use cq_table_columns::{Chosen, Front};
-use cq_values::{Lent, Row, Value};
+use cq_values::{Comparison, Lent, Row, Value};
 use cq_writestore::WriteStore;
 use std::alloc::{AllocError, Global};
 use std::test::Fail;
@@ -195,6 +195,58 @@ fn bounds_leave_null_out(rt: HostRuntime) -> Result<(), Fail> {
             assert!(rt; bounds.has_null);
             assert!(rt; matches!(bounds.ends, Some((Lent::Number(4), Lent::Number(9)))));
             assert!(rt; segment.bounds(1).ends.is_none());
+        }
+        None => assert!(rt; false),
+    }
+    Ok(())
+}
+
+/// The rows of 1 to 1,024, each beside NULL.
+fn to_1_024(alloc: Global) -> Result<Vec<Row>, AllocError> {
+    let mut rows = Vec::new(alloc);
+    for n in 1..1_025 {
+        rows.push(pair(alloc, n, -1)?)?;
+    }
+    Ok(rows)
+}
+
+#[test]
+fn a_segment_is_skipped_by_its_bounds(rt: HostRuntime) -> Result<(), Fail> {
+    let alloc = rt.alloc();
+    // a comparison of the first column with a number, and whether one of 1 to 1,024 passes it
+    let cases = [
+        (Comparison::Greater, 2_000, false),
+        (Comparison::Equal, 0, false),
+        (Comparison::GreaterOrEqual, 1_024, true),
+        (Comparison::Less, 2, true),
+        (Comparison::NotEqual, 5, true),
+    ];
+    let rows = to_1_024(alloc)?;
+    match built(alloc, rows.as_slice(), &[])? {
+        Some(mut segment) => {
+            mark(&mut segment, 1_023);
+            for (comparison, number, may) in cases {
+                let test = ColumnTest::Compare(0, comparison, Lent::Number(number));
+                assert_eq!(rt; segment.may_match(&test), may, "{number}");
+            }
+            assert!(rt; !segment.may_match(&ColumnTest::IsNull(0)));
+            assert!(rt; segment.may_match(&ColumnTest::IsNotNull(0)));
+        }
+        None => assert!(rt; false),
+    }
+    Ok(())
+}
+
+#[test]
+fn a_column_of_nulls_is_skipped_by_what_asks_for_a_value(rt: HostRuntime) -> Result<(), Fail> {
+    let alloc = rt.alloc();
+    let rows = pairs(alloc, &[(1, -1), (2, -1)])?;
+    match built(alloc, rows.as_slice(), &[])? {
+        Some(segment) => {
+            let one = ColumnTest::Compare(1, Comparison::Equal, Lent::Number(1));
+            assert!(rt; !segment.may_match(&one));
+            assert!(rt; segment.may_match(&ColumnTest::IsNull(1)));
+            assert!(rt; !segment.may_match(&ColumnTest::IsNotNull(1)));
         }
         None => assert!(rt; false),
     }

@@ -4,6 +4,7 @@ use Rattle.cq_engine.proofs.TableColumns.{width-numbered}
 use Rattle.cq_engine.specs.TableWidths.{IsTableThere}
 use Rattle.cq_engine_tables.specs.Views.{IsWide}
 use Rattle.cq_engine_tables.specs.HeldTables.{tables_of}
+use Rattle.cq_engine_tables.proofs.Held.{columns-held}
 use Rattle.cq_engine_tables.proofs.HeldTables.{at_number}
 use Rattle.cq_engine.proofs.table_widths.width_of.Goals as goal
 
@@ -15,7 +16,7 @@ returns-in-Table c =
     let at = c.place_numbered-place.ensures in
     let here = at_number c.args.tables.now c.place_numbered-place.result c.index-tables-place.result c.in-Table.number at.within c.index-tables-place.is (at.numbered c.index-tables-place.result) in
     subst (λ (s : Source). IsWide tables s (length c.columns.result.now)) (sym c.in-Table.is)
-    (rw c.columns.ensures
+    (rw (c.columns.ensures, columns-held c.table.result.now c.index-tables-place.result c.table.ensures)
     (width-numbered tables c.place_numbered-place.result t c.requires.numbered.0 c.in-Table.number c.requires.numbered.1 here.0 here.1 here.2))
 
 -- no view is named

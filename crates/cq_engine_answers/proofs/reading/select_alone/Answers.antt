@@ -2,6 +2,7 @@ use Rattle.std.proofs.Common.{◌<◌, ◌∙◌, length, refl, sym, ap, subst, 
 use Rattle.std.proofs.lemmas.Option.{slice_get_read}
 use Rattle.cq_table_columns.specs.Stored.{all_rows}
 use Rattle.cq_model.specs.Sizes.{stored_sizes}
+use Rattle.cq_model_bags.specs.Canonical.{bag_of}
 use Rattle.cq_model_state.specs.State.{columns_in}
 use Rattle.cq_engine_answers.specs.Reading.{IsSourceThere}
 use Rattle.cq_engine_answers.specs.Narrow.{IsWithinSized, joined_sizes, source_sizes}
@@ -10,6 +11,7 @@ use Rattle.cq_engine_answers.proofs.Backed.{all_backed}
 use Rattle.cq_engine_answers.proofs.Readings.{alone_sizes, alone_within, backed_there, from_kept, from_rows, place_there, sizes_there, stored_sized, within_shown}
 use Rattle.cq_engine_tables.proofs.Rows.{rows_numbered}
 use Rattle.cq_engine_tables.specs.HeldTables.{tables_of}
+use Rattle.cq_engine_tables.proofs.Held.{rows-held}
 use Rattle.cq_engine_tables.proofs.HeldTables.{at_number}
 use Rattle.cq_engine_answers.proofs.reading.select_alone.Goals as goal
 
@@ -24,8 +26,9 @@ list-requires c =
     let at = c.place_numbered-place.ensures in
     let here = at_number c.args.tables.now c.place_numbered-place.result c.index-tables-place.result c.in-Table.number at.within c.index-tables-place.is (at.numbered c.index-tables-place.result) in
     let rows = rows_numbered tables c.place_numbered-place.result t c.requires.numbered.0 n c.requires.numbered.1 here.0 here.1 here.2 in
+    let bag = ap bag_of c.rows.ensures.rows ∙ rows-held c.table.result.now c.index-tables-place.result c.table.ensures in
     let sizes = alone_sizes tables (views_of views) q c.requires.plain ∙ ap (source_sizes tables (views_of views)) c.in-Table.is in
-    let sized = stored_sized tables views n (all_rows c.rows.result) c.requires.fitting (c.rows.ensures.bag ∙ sym rows) in
+    let sized = stored_sized tables views n (all_rows c.rows.result) c.requires.fitting (bag ∙ sym rows) in
     let can = c.requires.can_read in
     let within = alone_within (joined_sizes tables (views_of views) q) q c.requires.plain can.filter can.shown in
     within_shown (stored_sizes (columns_in tables n)) q (all_rows c.rows.result) (subst (λ ns. IsWithinSized ns q) sizes within) sized
@@ -37,7 +40,8 @@ returns-in_ok-list-in-Table c =
     let at = c.place_numbered-place.ensures in
     let here = at_number c.args.tables.now c.place_numbered-place.result c.index-tables-place.result c.in-Table.number at.within c.index-tables-place.is (at.numbered c.index-tables-place.result) in
     let rows = rows_numbered (tables_of c.args.tables.now) c.place_numbered-place.result t c.requires.numbered.0 c.in-Table.number c.requires.numbered.1 here.0 here.1 here.2 in
-    from_rows (tables_of c.args.tables.now) c.args.views.now c.args.query.now c.args.order.now c.in-Table.number (all_rows c.rows.result) c.in_ok-list-in-Table.field-0 c.requires.plain c.in-Table.is (c.rows.ensures.bag ∙ sym rows) c.in_ok-list-in-Table.ensures
+    let bag = ap bag_of c.rows.ensures.rows ∙ rows-held c.table.result.now c.index-tables-place.result c.table.ensures in
+    from_rows (tables_of c.args.tables.now) c.args.views.now c.args.query.now c.args.order.now c.in-Table.number (all_rows c.rows.result) c.in_ok-list-in-Table.field-0 c.requires.plain c.in-Table.is (bag ∙ sym rows) c.in_ok-list-in-Table.ensures
 
 -- the place of a view is there
 pub bounds-views-place : goal.bounds-views-place

@@ -1,11 +1,18 @@
-use Rattle.std.proofs.Common.{refl}
+use Rattle.std.proofs.Common.{◌+◌, ap, arith, length, refl}
+use Rattle.cq_engine_tables.proofs.Held.{rows-held}
 use Rattle.cq_engine_tables.proofs.Stored.{rows_stored}
 use Rattle.cq_engine_tables.proofs.Turns.{all_same}
+use Rattle.cq_engine_writes.proofs.Checks.{few-enough}
 use Rattle.cq_engine_writes.proofs.Written.{inserted-follow, where_refused}
 use Rattle.cq_engine_writes.proofs.insertion.insert_into.Goals as goal
 
 pub prepare_come-requires-clause-come : goal.prepare_come-requires-clause-come
 prepare_come-requires-clause-come c = rows_stored c.args.table.now.is.columns c.args.rows c.requires.rows
+
+pub insert-requires-clause-room : goal.insert-requires-clause-room
+insert-requires-clause-room c =
+    let held = rows-held c.table.result.now c.args.table.now c.table.ensures in
+    omega (arith, few-enough c.args.max_rows (c.len.result + c.len-2.result) c.in_ok-check_room.ensures, c.len.ensures, c.len-2.ensures.len, ap length held)
 
 pub returns-clause-follow : goal.returns-clause-follow
 returns-clause-follow c =

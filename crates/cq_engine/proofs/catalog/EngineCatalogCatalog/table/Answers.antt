@@ -3,6 +3,7 @@ use Rattle.std.specs.Prelude.{option_map}
 use Rattle.cq_binder_queries.specs.Catalog.{heading}
 use Rattle.cq_model_state.specs.State.{table_named}
 use Rattle.cq_engine_tables.specs.HeldTables.{HeldTable, tables_of}
+use Rattle.cq_engine_tables.proofs.Held.{columns-held}
 use Rattle.cq_engine.proofs.Lengths.{absent-mapped, table-found}
 use Rattle.cq_engine.proofs.catalog.EngineCatalogCatalog.table.Goals as goal
 
@@ -15,5 +16,6 @@ pub returns : goal.returns
 returns c =
     let t = c.index-self-place.result in
     let there = table-found c.self.inside.tables.now c.args.name.now c.in_ok-place.place t c.in_ok-place.ensures.within c.index-self-place.is c.in_ok-place.ensures.found in
-    rw (← c.self.view_is) ((λ i. Some (record { number = c.number.ensures i; name = c.name.ensures i; columns = c.columns.ensures i }))
+    let columns = c.columns.ensures ∙ columns-held c.table.result.now _ c.table.ensures in
+    rw (← c.self.view_is) ((λ i. Some (record { number = c.number.ensures i; name = c.name.ensures i; columns = columns i }))
     ∙ ap (λ (x : HeldTable). Some (heading x.is)) (sym c.index-self-place.is) ∙ sym (ap (option_map heading) there))
