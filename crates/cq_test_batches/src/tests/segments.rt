@@ -204,8 +204,8 @@ fn bounds_leave_null_out(rt: HostRuntime) -> Result<(), Fail> {
 /// The rows of 1 to 1,024, each beside NULL.
 fn to_1_024(alloc: Global) -> Result<Vec<Row>, AllocError> {
     let mut rows = Vec::new(alloc);
-    for n in 1..1_025 {
-        rows.push(pair(alloc, n, -1)?)?;
+    for place in 0..1_024usize {
+        rows.push(pair(alloc, place as i128 + 1, -1)?)?;
     }
     Ok(rows)
 }
