@@ -6,7 +6,6 @@ use Rattle.std.specs.List.{AllByRecursion, fold, list_all}
 use Rattle.std.proofs.lemmas.Bool.{OnFalse_at, OnFalse_from}
 use Rattle.std.proofs.lemmas.List.{get_or-map, length-map, take_all}
 use Rattle.cq_values.specs.Comparison.{compared}
-use Rattle.cq_values.specs.Lent.{owned}
 use Rattle.cq_values.specs.Truth.{and_truth, is_true, not_truth, or_truth, truth_of}
 use Rattle.cq_values.specs.Value.{Row, column, is_null}
 use Rattle.cq_values.specs.declared.comparison.Comparison.{Comparison}
@@ -17,13 +16,12 @@ use Rattle.cq_values.specs.declared.truth.Truth.TheVariants.{True, False, Unknow
 use Rattle.cq_values.specs.declared.value.Value.{Value}
 use Rattle.cq_model.specs.Condition.{holds}
 use Rattle.cq_model.specs.Eval.{eval}
-use Rattle.cq_model.specs.Expr.{Cond, Expr, Literal, Compare, IsNull, Between, In, Not}
+use Rattle.cq_model.specs.Expr.{Cond, Expr, Compare, IsNull, Between, In, Not}
 use Rattle.cq_model.specs.Own.{in_place, passes_own}
 use Rattle.cq_model.specs.Trees.{cond_of, expr_of}
 use Rattle.cq_model.specs.declared.expr.CondTree.{CondTree}
 use Rattle.cq_model.specs.declared.expr.CondTree.TheViews as view
 use Rattle.cq_model.specs.declared.expr.ExprTree.{ExprTree}
-use Rattle.cq_model.specs.declared.expr.ExprTree.TheVariants as variant
 use Rattle.cq_model_bags.proofs.Lists.{all-both, all-next, all-of, all-weaker}
 use Rattle.cq_model_bags.proofs.Totals.{by_test}
 use Rattle.cq_model_eval.proofs.Conditions.{holds-And}
@@ -33,8 +31,7 @@ use Rattle.cq_segments.specs.ColumnTest.{NoneMatches, tested}
 use Rattle.cq_segments.specs.Marked.{MarkedRow, live, rows_of}
 use Rattle.cq_segments.specs.declared.column_test.ColumnTest.TheVariants as asked
 use Rattle.cq_operators_scans.specs.Passing.{conditions_in, passing_rows}
-use Rattle.cq_operators_scans.specs.Skipping.{IsColumn, NoneCompares, NoneHolds}
-use Rattle.cq_operators_scans.proofs.Valuing.{tree-Literal}
+use Rattle.cq_operators_scans.specs.Skipping.{HasValue, IsColumn, NoneHolds}
 
 -- ---- truths
 
@@ -121,12 +118,12 @@ module _ (before : ℕ) where
     misses c d may follows none = OnFalse_from may (NoneHolds before d rows) (λ h. all-weaker (Fails c) (Fails d) follows rows (OnFalse_at h none))
 
     module _ (e : Expr) (at : ℕ) (is : IsColumn before e at) (may : Bool) where
-      -- a comparison of a column with a constant is that of the test
-      pub none-compared : (c : Comparison) (constant : Lent) (v : Value) → owned constant ≡ v → OnFalse may (NoneMatches (asked.Compare at c constant) rows) → OnFalse may (NoneHolds before (Compare c e (Literal v)) rows)
-      none-compared c constant v same none =
-          OnFalse_from may (NoneHolds before (Compare c e (Literal v)) rows)
-          (λ h. all-weaker (λ row. is_true (tested (asked.Compare at c constant) row) ≡ false) (Fails (Compare c e (Literal v)))
-          (λ row f. ap (λ (w : Value). is_true (compared c w v)) (is row) ∙ ap (λ (w : Value). is_true (compared c (column row at) w)) (sym same) ∙ f) rows (OnFalse_at h none))
+      -- a comparison of a column with what has one value in every row is that of the test with this value
+      pub none-compared : (c : Comparison) (other : Expr) (v : Lent) → HasValue other v → OnFalse may (NoneMatches (asked.Compare at c v) rows) → OnFalse may (NoneHolds before (Compare c e other) rows)
+      none-compared c other v same none =
+          OnFalse_from may (NoneHolds before (Compare c e other) rows)
+          (λ h. all-weaker (λ row. is_true (tested (asked.Compare at c v) row) ≡ false) (Fails (Compare c e other))
+          (λ row f. ap (λ (w : Value). is_true (compared c w (eval other (in_place before row)))) (is row) ∙ ap (λ (w : Value). is_true (compared c (column row at) w)) (same (in_place before row)) ∙ f) rows (OnFalse_at h none))
 
       -- IS NULL of a column is the test for NULL
       pub none-null : OnFalse may (NoneMatches (asked.IsNull at) rows) → OnFalse may (NoneHolds before (IsNull e) rows)
@@ -142,20 +139,10 @@ module _ (before : ℕ) where
           (λ h. all-weaker (λ row. is_true (tested (asked.IsNotNull at) row) ≡ false) (Fails (Not (IsNull e)))
           (λ row f. ap (λ (v : Value). is_true (not_truth (truth_of (is_null v)))) (is row) ∙ ap is_true (not-told (is_null (column row at))) ∙ f) rows (OnFalse_at h none))
 
-    -- a comparison with the constant on the left is the turned one
-    none-turned : (c d : Comparison) (e : Expr) (v : Value) (may : Bool) → d ≡ turned c → OnFalse may (NoneHolds before (Compare d e (Literal v)) rows) → OnFalse may (NoneHolds before (Compare c (Literal v) e) rows)
-    none-turned c d e v may is none =
-        misses (Compare d e (Literal v)) (Compare c (Literal v) e) may (λ row f. ap is_true (sym (turned_by c d is v (eval e (in_place before row)))) ∙ f) none
-
-    module _ (c : Comparison) (a b : ExprTree) (v : Value) (may : Bool) where
-      -- a literal on the right is a constant
-      pub literal-right : b ≡ variant.Literal v → OnFalse may (NoneHolds before (Compare c (expr_of a) (Literal v)) rows) → OnFalse may (NoneCompares before c a b rows)
-      literal-right is none = subst (λ (e : Expr). OnFalse may (NoneHolds before (Compare c (expr_of a) e) rows)) (sym (ap expr_of is ∙ tree-Literal v)) none
-
-      -- and so is one on the left, with the comparison turned
-      pub literal-left : (d : Comparison) → d ≡ turned c → a ≡ variant.Literal v → OnFalse may (NoneHolds before (Compare d (expr_of b) (Literal v)) rows) → OnFalse may (NoneCompares before c a b rows)
-      literal-left d turns is none =
-          subst (λ (e : Expr). OnFalse may (NoneHolds before (Compare c e (expr_of b)) rows)) (sym (ap expr_of is ∙ tree-Literal v)) (none-turned c d (expr_of b) v may turns none)
+    -- a comparison is the turned one of its sides turned round
+    pub none-turned : (c d : Comparison) (a b : Expr) (may : Bool) → d ≡ turned c → OnFalse may (NoneHolds before (Compare d b a) rows) → OnFalse may (NoneHolds before (Compare c a b) rows)
+    none-turned c d a b may is none =
+        misses (Compare d b a) (Compare c a b) may (λ row f. ap is_true (sym (turned_by c d is (eval a (in_place before row)) (eval b (in_place before row)))) ∙ f) none
 
     module _ (e a b : Expr) (may : Bool) where
       -- no value is between two where none is from the least on

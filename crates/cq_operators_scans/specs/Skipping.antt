@@ -1,12 +1,14 @@
 -- Rows of a segment of which none can pass.
 use Rattle.std.specs.Prelude.{◌≡◌, ℕ, false, List, map}
 use Rattle.std.specs.List.{AllByRecursion}
+use Rattle.cq_values.specs.Lent.{owned}
 use Rattle.cq_values.specs.Truth.{is_true}
 use Rattle.cq_values.specs.Value.{Row, column}
 use Rattle.cq_values.specs.declared.comparison.Comparison.{Comparison}
+use Rattle.cq_values.specs.declared.lent.Lent.{Lent}
 use Rattle.cq_model.specs.Condition.{holds}
 use Rattle.cq_model.specs.Eval.{eval}
-use Rattle.cq_model.specs.Expr.{Cond, Expr, Literal, Compare, IsNull, Between, In, Not}
+use Rattle.cq_model.specs.Expr.{Cond, Expr, Negate, Compare, IsNull, Between, In, Not}
 use Rattle.cq_model.specs.Own.{in_place}
 use Rattle.cq_model.specs.Trees.{expr_of}
 use Rattle.cq_model.specs.declared.expr.ExprTree.{ExprTree}
@@ -23,7 +25,7 @@ NoneCompares before comparison a b rows = NoneHolds before (Compare comparison (
 
 -- the condition that an expression passes a test
 abbrev pub asked : ValueTest → Expr → Cond
-asked (test.Compare comparison constant) e = Compare comparison e (Literal constant.now)
+asked (test.Compare comparison other) e = Compare comparison e (expr_of other.now)
 asked test.IsNull e = IsNull e
 asked test.IsNotNull e = Not (IsNull e)
 
@@ -42,3 +44,11 @@ NoneIn before e choices rows = NoneHolds before (In (expr_of e) (map expr_of cho
 -- the expression is this column of the rows
 abbrev pub IsColumn : ℕ → Expr → ℕ → Type 0
 IsColumn before e at = (row : Row) → eval e (in_place before row) ≡ column row at
+
+-- the expression has this value in every row
+abbrev pub HasValue : Expr → Lent → Type 0
+HasValue e value = (row : Row) → eval e row ≡ owned value
+
+-- its negative has this one
+abbrev pub IsNegative : Expr → Lent → Type 0
+IsNegative e value = HasValue (Negate e) value

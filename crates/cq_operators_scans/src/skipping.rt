@@ -2,7 +2,8 @@
 //!
 //! A scan asks before it reads a segment, and goes on behind it where the bounds of its columns rule each row out. A
 //! comparison of a column with a constant, BETWEEN, IN and IS NULL are asked of the bounds, and what AND joins part by
-//! part; any other condition may hold. A part costs one or two comparisons a segment, and takes no memory.
+//! part; any other condition may hold. A constant is a literal, or the negative of a number. A part costs one or two
+//! comparisons a segment, and takes no memory.
 ghost use Rattle.std.specs.Bool.{OnFalse};
 ghost use Rattle.std.specs.List.{filter};
 ghost use Rattle.std.specs.Prelude.{◌<◌, ◌≡◌, ◌++◌, [], IfSome, length};
@@ -10,7 +11,8 @@ ghost use Rattle.cq_model.specs.Expr.{Not};
 ghost use Rattle.cq_model.specs.Meaning.{keeps};
 ghost use Rattle.cq_model.specs.Trees.{cond_of, expr_of};
 ghost use Rattle.cq_operators_scans.specs.Passing.{passing_rows};
-ghost use Rattle.cq_operators_scans.specs.Skipping.{IsColumn, NoneBetween, NoneCompares, NoneHolds, NoneIn, NonePasses};
+ghost use Rattle.cq_operators_scans.specs.Skipping.{HasValue, IsColumn, IsNegative, NoneBetween};
+ghost use Rattle.cq_operators_scans.specs.Skipping.{NoneCompares, NoneHolds, NoneIn, NonePasses};
 ghost use Rattle.cq_segments.specs.Marked.{live, rows_of};
 ghost use Rattle.cq_table_columns.specs.Stored.{all_rows, stored_marked};
 
@@ -18,12 +20,12 @@ use cq_model::{Cond, CondTree, ExprTree};
 use cq_prims::turned;
 use cq_segments::{ColumnTest, Segment};
 use cq_table_columns::Stored;
-use cq_values::{Comparison, Value};
+use cq_values::{Comparison, Lent, Value};
 
-/// What is asked of a value: how it compares with a constant, or whether it is NULL.
+/// What is asked of a value: how it compares with another one, or whether it is NULL.
 #[derive(Clone, Copy)]
 enum ValueTest<'c> {
-    Compare(Comparison, &'c Value),
+    Compare(Comparison, &'c ExprTree),
     IsNull,
     IsNotNull,
 }
@@ -139,22 +141,13 @@ fn may_compare(
 ) -> bool
     ensures { OnFalse result (NoneCompares before comparison a.now b.now (rows_of segment.now)) }
 {
-    if let ExprTree::Literal(constant) = b {
-        return may_pass(
-            segment,
-            before,
-            a,
-            &ValueTest::Compare(comparison, constant),
-        );
-    }
-    if let ExprTree::Literal(constant) = a {
-        let turned = turned(comparison);
-        return may_pass(segment, before, b, &ValueTest::Compare(turned, constant));
-    }
-    true
+    let turned = turned(comparison);
+    may_pass(segment, before, a, &ValueTest::Compare(comparison, b))
+        && may_pass(segment, before, b, &ValueTest::Compare(turned, a))
 }
 
-/// Whether a value may pass the test there: that of a column alone is asked of the bounds.
+/// Whether a value may pass the test there: that of a column alone is asked of the bounds, and a comparison with a
+/// constant alone.
 fn may_pass(segment: &Segment, before: usize, expr: &ExprTree, test: &ValueTest<'_>) -> bool
     ensures { OnFalse result (NonePasses before test.now expr.now (rows_of segment.now)) }
 {
@@ -162,11 +155,35 @@ fn may_pass(segment: &Segment, before: usize, expr: &ExprTree, test: &ValueTest<
         return true;
     };
     match test {
-        ValueTest::Compare(comparison, constant) => {
-            segment.may_match(&ColumnTest::Compare(column, *comparison, constant.lend()))
+        ValueTest::Compare(comparison, other) => {
+            let Some(constant) = constant_of(other) else {
+                return true;
+            };
+            segment.may_match(&ColumnTest::Compare(column, *comparison, constant))
         }
         ValueTest::IsNull => segment.may_match(&ColumnTest::IsNull(column)),
         ValueTest::IsNotNull => segment.may_match(&ColumnTest::IsNotNull(column)),
+    }
+}
+
+/// The value of an expression that has the same one in every row, if it is a literal or the negative of a number.
+fn constant_of(expr: &ExprTree) -> Option<Lent<'_>>
+    ensures { IfSome result (HasValue (expr_of expr.now)) }
+{
+    match expr {
+        ExprTree::Literal(value) => Some(value.lend()),
+        ExprTree::Negate(part) => negative_of(part),
+        _ => None,
+    }
+}
+
+/// The negative of an expression, if it is a number: none of the least one, which has no negative.
+fn negative_of<'c>(expr: &ExprTree) -> Option<Lent<'c>>
+    ensures { IfSome result (IsNegative (expr_of expr.now)) }
+{
+    match expr {
+        ExprTree::Literal(Value::Number(number)) => Some(Lent::Number(number.checked_neg()?)),
+        _ => None,
     }
 }
 

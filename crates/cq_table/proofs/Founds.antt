@@ -3,7 +3,7 @@ use Rattle.std.proofs.Common.{◌≡◌, ℕ, zero, suc, ◌+◌, ◌-◌, ◌<�
 use Rattle.std.specs.Prelude.{slice_index_or}
 use Rattle.std.specs.List.{AllByRecursion}
 use Rattle.std.proofs.lemmas.Simd.{map-map}
-use Rattle.std.proofs.lemmas.List.{append_assoc, map-append, length-append, length-map, get_or-append_right, nil_from_length, take_all, take_more}
+use Rattle.std.proofs.lemmas.List.{append-nil, append_assoc, map-append, length-append, length-map, get_or-append_right, nil_from_length, take_all, take_more}
 use Rattle.cq_model_bags.proofs.Lists.{all-at, all-back}
 use Rattle.cq_model_bags.proofs.Totals.{by_test}
 use Rattle.cq_values.specs.Value.{Row}
@@ -180,6 +180,13 @@ module _ (keep : Row → Bool) (before : ℕ) (stored : List MarkedRow) where
       sym (map-map (λ (p : ℕ). before + p) (λ (i : ℕ). slice_index_or (live_from 0 stored) i 0) (places_where 0 keep (live stored)))
       ∙ ap (map (λ (p : ℕ). before + p)) (placed keep 0 stored) ∙ shifted (passes keep) before 0 stored
       ∙ ap (λ (n : ℕ). places_where n (passes keep) stored) (omega arith)
+
+-- where a condition keeps no row of a front, nothing is put behind what was found
+pub none-placed : (keep : Row → Bool) (before : ℕ) (front : Front) (places found : List ℕ) → length places ≡ 0 → places ≡ places_where 0 keep (front_rows front) → found ≡ found ++ places_where before (passes keep) (marked_rows front)
+none-placed keep before front places found none is =
+    let at : ℕ → ℕ = λ i. before + slice_index_or (live_from 0 (marked_rows front)) i 0 in
+    let all = placed-behind keep before (marked_rows front) in
+    sym (append-nil found) ∙ ap (λ (ps : List ℕ). found ++ ps) (ap (map at) (sym (nil_from_length places none) ∙ is ∙ ap (places_where 0 keep) (sym (front-live front))) ∙ all)
 
 -- a place that a condition keeps is there
 kept_there : (keep : Row → Bool) (rows : List Row) (places : List ℕ) (i : ℕ) → places ≡ places_where 0 keep rows → i < length places → get_or places i 0 < length rows

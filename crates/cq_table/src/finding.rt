@@ -52,6 +52,9 @@ fn find_in(
     ensures { OnOk result (PutsPlaces before condition.now front.now found.old found.new) }
 {
     let kept = kept_places(alloc, condition, front)?;
+    if kept.len() == 0 {
+        return Ok(());
+    }
     let live = front.live_places(alloc)?;
     for place in kept.places() {
         found.push(before + usize::from(live[usize::from(*place)]))?;

@@ -3,10 +3,10 @@ use Rattle.cq_segments.specs.Marked.{rows_of}
 use Rattle.cq_operators_scans.proofs.Skipped.{none-compared, none-known, none-null}
 use Rattle.cq_operators_scans.proofs.skipping.may_pass.Goals as goal
 
-pub returns-in-Compare : goal.returns-in-Compare
-returns-in-Compare c =
+pub returns-in-Some-constant_of : goal.returns-in-Some-constant_of
+returns-in-Some-constant_of c =
     rw c.in-Compare.is (none-compared c.args.before (rows_of c.args.segment.now) (expr_of c.args.expr.now) c.in-Some.column c.in-Some.ensures c.may_match.result
-    c.in-Compare.comparison c.lend.result c.in-Compare.constant.now c.lend.ensures c.may_match.ensures.skips_no_match)
+    c.in-Compare.comparison (expr_of c.in-Compare.other.now) c.in-Some-constant_of.constant c.in-Some-constant_of.ensures c.may_match.ensures.skips_no_match)
 
 pub returns-in-IsNull : goal.returns-in-IsNull
 returns-in-IsNull c =

@@ -3,7 +3,7 @@ use Rattle.std.specs.Prelude.{slice_index_or}
 use Rattle.cq_model.specs.Meaning.{keeps}
 use Rattle.cq_segments.proofs.Marks.{length-live}
 use Rattle.cq_table_columns.specs.Stored.{marked_rows}
-use Rattle.cq_table.proofs.Founds.{front-live, kept_at, kept_in, kept_live, kept_within, placed-all, placed-more}
+use Rattle.cq_table.proofs.Founds.{front-live, kept_at, kept_in, kept_live, kept_within, none-placed, placed-all, placed-more}
 use Rattle.cq_table.proofs.finding.find_in.Goals as goal
 
 pub kept_places-requires-clause-few : goal.kept_places-requires-clause-few
@@ -27,6 +27,10 @@ loop-place-preserved c =
     c.in_ok-push.ensures.items
     ∙ placed-more put c.args.found.now.items c.loop-place.found.items c.places-place-items.result.now c.loop-place.place-index c.loop-place-test.true c.loop-place.invariant (c.args.before + c.from-in-loop-place.result)
     (ap (λ (n : ℕ). c.args.before + n) at)
+
+pub returns-then-len-eq0 : goal.returns-then-len-eq0
+returns-then-len-eq0 c =
+    none-placed (keeps c.args.condition.now) c.args.before c.args.front.now _ c.args.found.now.items (omega (arith, c.if-len-eq0.true, c.len.ensures.len)) c.in_ok-kept.ensures
 
 pub returns : goal.returns
 returns c =
