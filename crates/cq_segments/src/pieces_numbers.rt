@@ -6,9 +6,7 @@ ghost use Rattle.std.specs.List.{AllByRecursion};
 ghost use Rattle.std.specs.Prelude.{IfOk, IfSome, take, ◌≡◌, ◌≤◌};
 ghost use Rattle.cq_encodings.specs.AnyEncoded.{encoded_values};
 ghost use Rattle.cq_encodings_plain.specs.Kind.{IsOf, number_values};
-ghost use Rattle.cq_segments.specs.Marked.{rows_of};
-ghost use Rattle.cq_segments.specs.Numbers.{AreNumbersAt};
-ghost use Rattle.cq_segments.specs.Pieces.{joined};
+ghost use Rattle.cq_segments.specs.Numbers.{AreNumbersIn};
 ghost use Rattle.cq_vectors.specs.Gathered.{column_of};
 
 use crate::columns::Columns;
@@ -24,7 +22,7 @@ pub(crate) fn numbers_in_pieces(
     pieces: &[Piece],
     column: usize,
 ) -> Result<Option<(Kind, Vec<i64>)>, AllocError>
-    ensures { IfOk result (λ found. IfSome found (λ n. AreNumbersAt n.0 n.1.items (rows_of (joined pieces.now)) column)) }
+    ensures { IfOk result (λ found. IfSome found (AreNumbersIn pieces.now column)) }
 {
     let Some(kind) = kind_in(pieces, column) else {
         return Ok(None);
