@@ -7,7 +7,7 @@ use Rattle.cq_values.specs.declared.value.Value.{Value}
 use Rattle.cq_values.specs.declared.value.Value.TheVariants.{Null}
 use Rattle.cq_vectors_stored.specs.LentColumns.{part_of}
 use Rattle.cq_encodings_plain.specs.Nulls.{NothingWhere}
-use Rattle.cq_encodings_vectors.specs.Places.{AreBelow, flags_at, run_at_places, unless_set, values_at}
+use Rattle.cq_encodings_vectors.specs.Places.{AreBelow, NoneIsSet, flags_at, run_at_places, unless_set, values_at}
 
 -- where no flag is set none is set at the places
 pub clear-at : (flags : List Bool) (places : List ℕ) → ((place : ℕ) → get_or flags place false ≡ false) → replicate (length places) false ≡ flags_at flags places
@@ -45,6 +45,13 @@ module _ {B : Type 0} (nothing : B) where
   pub clear-kept : (nulls : List Bool) (item : ℕ → B) → ((place : ℕ) → get_or nulls place false ≡ false) → (places : List ℕ)
       → map item places ≡ map (λ place. unless_set nothing (item place) (get_or nulls place false)) places
   clear-kept nulls item clear = kept-read nulls item (λ place set. absurd (cc (sym (clear place) ∙ set)))
+
+  -- also where none is set at the places
+  pub clear-kept-at : (nulls : List Bool) (item : ℕ → B) (places : List ℕ) → NoneIsSet (flags_at nulls places)
+      → map item places ≡ map (λ place. unless_set nothing (item place) (get_or nulls place false)) places
+  clear-kept-at nulls item [] clear = refl
+  clear-kept-at nulls item (place ∷ places) clear =
+      ap₂ (λ x xs. x ∷ xs) (kept (item place) (get_or nulls place false) (λ set. absurd (cc (sym (clear 0) ∙ set)))) (clear-kept-at nulls item places (λ j. clear (suc j)))
 
   -- what holds of what is read anywhere holds at the places
   pub facts-read : (P : B → Type 0) → P nothing → (read : ℕ → B) → ((place : ℕ) → P (read place)) → (places : List ℕ) (j : ℕ) → P (get_or (map read places) j nothing)

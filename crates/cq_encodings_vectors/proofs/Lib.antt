@@ -1,4 +1,7 @@
 pub mod AtPlaces
+pub mod CodesAt
+pub mod CopiedAt
+pub mod DaysAt
 pub mod ItemsAt
 pub mod Narrowing
 pub mod NumbersAt

@@ -7,14 +7,14 @@ use Rattle.std.proofs.lemmas.List.{get_or_past}
 use Rattle.cq_values.specs.Days.{IsDay}
 use Rattle.cq_values.specs.declared.value.Value.{Value}
 use Rattle.cq_vectors_stored.specs.Columns.{day_unless, number_unless}
-use Rattle.cq_vectors_stored.specs.LentColumns.{day_above, number_above}
+use Rattle.cq_vectors_stored.specs.LentColumns.{day_above, days_above, number_above, numbers_above}
 use Rattle.cq_encodings_plain.specs.Kind.{IsOf, datum, is_day}
 use Rattle.cq_encodings_plain.specs.Nulls.{NothingWhere}
 use Rattle.cq_encodings_plain.specs.declared.kind.Kind.{Kind}
 use Rattle.cq_encodings_plain.specs.declared.kind.Kind.TheVariants.{Numbers, Days}
 use Rattle.cq_encodings_numbers.specs.Packed.{AreOffsets, FitAbove, above}
 use Rattle.cq_encodings_vectors.specs.Parts.{items_of}
-use Rattle.cq_encodings_vectors.proofs.PartsLemmas.{clear-shown, facts-part, few-part, same-part, zip2-made, zip2-part}
+use Rattle.cq_encodings_vectors.proofs.PartsLemmas.{clear-shown, facts-part, few-part, length-made, same-part, zip2-made, zip2-part, zip2-same}
 
 -- what a number stands for in a column of numbers
 pub number_datum : (n : ℤ) (b : Bool) → number_unless n b ≡ datum Numbers n b
@@ -41,6 +41,23 @@ fits_of_kind Days n day = grind (arith, ints, day.0, day.1)
 pub at_base : (P : ℤ → Type 0) (base : ℤ) (offsets : List ℕ) → ((j : ℕ) → P (base +ℤ pos (get_or offsets j 0))) → P base
 at_base P base offsets facts =
     subst P (ap (λ (n : ℕ). base +ℤ pos n) (get_or_past offsets (length offsets) 0 (omega arith)) ∙ +ℤ_idr base) (facts (length offsets))
+
+-- as many values as offsets
+pub packed-long : (kind : Kind) (least : ℤ) (all : List ℕ) (flags : List Bool) → AreOffsets kind least all flags → (values : List Value) → values ≡ zip2 (datum kind) (above least all) flags → length values ≡ length all
+packed-long kind least all flags are values whole = ap length whole ∙ length-made (datum kind) (λ offset. least +ℤ pos offset) all flags are.long
+
+-- numbers of a kind above a least one are numbers
+pub numbers_whole : (kind : Kind) (least : ℤ) (all : List ℕ) (flags : List Bool) → kind ≡ Numbers → zip2 (datum kind) (above least all) flags ≡ numbers_above least all flags
+numbers_whole kind least all flags numbers =
+    ap (λ (of : Kind). zip2 (datum of) (above least all) flags) numbers ∙ zip2-made (datum Numbers) (λ offset. least +ℤ pos offset) all flags
+    ∙ zip2-same (λ offset b. datum Numbers (least +ℤ pos offset) b) (number_above least) 0 all flags (λ j b. sym (number_datum (least +ℤ pos (get_or all j 0)) b))
+
+-- or days
+pub days_whole : (kind : Kind) (least : ℤ) (all : List ℕ) (flags : List Bool) → kind ≡ Days → FitAbove kind least all → zip2 (datum kind) (above least all) flags ≡ days_above least all flags
+days_whole kind least all flags days fit =
+    ap (λ (of : Kind). zip2 (datum of) (above least all) flags) days ∙ zip2-made (datum Days) (λ offset. least +ℤ pos offset) all flags
+    ∙ zip2-same (λ offset b. datum Days (least +ℤ pos offset) b) (day_above least) 0 all flags
+    (λ j b. sym (day_datum (least +ℤ pos (get_or all j 0)) (subst (λ (of : Kind). FitAbove of least all) days fit j) b))
 
 module _ (k : ℕ) {kind : Kind} {least : ℤ} {all : List ℕ} {flags : List Bool} (are : AreOffsets kind least all flags) where
   -- the least number is kept in 64 bits

@@ -48,7 +48,7 @@ constant-part k count value values is many =
 
 module _ {A : Type 0} (f g : A → Bool → Value) (d : A) where
   -- functions that agree on the items make the same of them
-  zip2-same : (xs : List A) (bs : List Bool) → ((j : ℕ) (b : Bool) → f (get_or xs j d) b ≡ g (get_or xs j d) b) → zip2 f xs bs ≡ zip2 g xs bs
+  pub zip2-same : (xs : List A) (bs : List Bool) → ((j : ℕ) (b : Bool) → f (get_or xs j d) b ≡ g (get_or xs j d) b) → zip2 f xs bs ≡ zip2 g xs bs
   zip2-same [] bs same = refl
   zip2-same (x ∷ xs) [] same = refl
   zip2-same (x ∷ xs) (b ∷ bs) same = ap (λ vs. f x b ∷ vs) (zip2-same xs bs (λ j. same (suc j))) ∙ ap (λ v. v ∷ zip2 g xs bs) (same 0 b)

@@ -6,6 +6,7 @@ use Rattle.cq_values.specs.declared.value.Value.TheVariants.{Null}
 use Rattle.cq_values.specs.Value.{Row}
 use Rattle.cq_vectors.specs.declared.vector.Form.{Form}
 use Rattle.cq_vectors.specs.Form.{values_in}
+use Rattle.cq_vectors_stored.specs.LentColumns.{days_above}
 
 -- each place is below the end
 abbrev pub AreBelow : ℕ → List ℕ → Type 0
@@ -31,6 +32,10 @@ values_at values places = map (λ place. slice_index_or values place Null) place
 abbrev pub flags_at : List Bool → List ℕ → List Bool
 flags_at flags places = map (λ place. slice_index_or flags place false) places
 
+-- no flag is set
+abbrev pub NoneIsSet : List Bool → Type 0
+NoneIsSet flags = (place : ℕ) → slice_index_or flags place false ≡ false
+
 -- the item, or nothing where the flag is set
 abbrev pub unless_set : {X : Type 0} → X → X → Bool → X
 unless_set nothing item flag = if flag then nothing else item
@@ -54,3 +59,15 @@ raised_at base offsets places = map (number_of_place base offsets) places
 -- a form holds what another form has at some places
 abbrev pub AreAt : Form → List ℕ → Form → Type 0
 AreAt all places found = values_in found ≡ values_at (values_in all) places
+
+-- the values are those of others at some places
+abbrev pub AreThose : List Value → List ℕ → List Value → Type 0
+AreThose all places values = values ≡ values_at all places
+
+-- the form that was found holds those
+abbrev pub HoldsThose : List Value → List ℕ → Form → Type 0
+HoldsThose all places found = AreThose all places (values_in found)
+
+-- the days above a base at some places, and NULL where the flag says so
+abbrev pub AreDaysAt : ℤ → List ℕ → List Bool → List ℕ → List Value → Type 0
+AreDaysAt base offsets flags places days = AreThose (days_above base offsets flags) places days

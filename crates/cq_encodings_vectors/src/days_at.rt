@@ -32,7 +32,7 @@ pub(crate) fn days_at(
 }
 
 /// The days of some places, whatever the width of the offsets.
-fn days_above(
+pub(crate) fn days_above(
     alloc: Global,
     base: i32,
     offsets: Offsets<'_>,

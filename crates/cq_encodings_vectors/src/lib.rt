@@ -4,6 +4,10 @@
 #![tactic(auto)]
 
 mod at_places;
+mod column_nulls;
+mod column_numbers;
+mod column_texts;
+mod columns;
 mod days_at;
 mod narrow;
 mod nulls_at;
@@ -20,6 +24,7 @@ mod values;
 mod vectors;
 mod widths;
 
+pub use columns::column_at;
 pub use narrow::narrowed;
 pub use places::copies_at;
 pub use vectors::{vector_at, vector_of};

@@ -73,7 +73,7 @@ fn numbers_of(numbers: &[i64], k: usize) -> &[i64]
 }
 
 /// Each number of a slice can be kept in 64 bits. It is a loop for the proof alone, and the compiler leaves it out.
-fn fit_all(numbers: &[i64])
+pub(crate) fn fit_all(numbers: &[i64])
     ensures { AllFit w64 numbers.now }
 {
     for number in numbers {

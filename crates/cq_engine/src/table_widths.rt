@@ -10,7 +10,7 @@ ghost use Rattle.cq_engine_tables.specs.Views.{AreWide, IsWide};
 use cq_engine_tables::{NamedTable, place_numbered};
 use cq_model::{Query, Source};
 use cq_model_terms::sources_of;
-use cq_segments::widened;
+use cq_segments_pieces::widened;
 use cq_values::Seq;
 use std::alloc::{AllocError, Global};
 

@@ -213,9 +213,9 @@ module _ (law : ChainOfLists) (lents : List StoredSource) (q : Query) (first : L
         (can_ask law_of_own q.filter can.sizes lents [] 0 (sources_of q) refl can.rows (subst (AllByRecursion (λ rows. 0 < length rows)) all_sources some) can.filter)
 
   -- its listing is that of what it means on them
-  pub selects_listed : (order : Order) (list : Vec Row Global) → SelectsRows q order joined (Ok list) → SelectsLent q order lents (Ok list.items)
+  pub selects_listed : (order : Order) (list : List Row) → SelectsRows q order joined (Ok list) → SelectsLent q order lents (Ok list)
   selects_listed order list s = (
-    subst (λ xs. IsListing order.keys order.limit (let all = shown q xs in if q.distinct then distinct all else all) list.items) kept s.0,
+    subst (λ xs. IsListing order.keys order.limit (let all = shown q xs in if q.distinct then distinct all else all) list) kept s.0,
     subst (ShapeInRange q.shape) kept s.1,
   )
 

@@ -170,7 +170,7 @@ fn list_joined(
     groups_keep_sizes();
     own_conditions_are_exact();
     match select(alloc, query, order, &first, others) {
-        Ok(rows) => Ok(RowList::listed(rows)),
+        Ok(rows) => Ok(rows),
         Err(ShowFault::Memory) => Err(Fault::Memory),
         Err(ShowFault::SumOutOfRange) => Err(Fault::SumOutOfRange),
     }

@@ -28,7 +28,7 @@ pub(crate) fn list(
 {
     let plan = Plan::of(alloc, query)?;
     let list = listed_rows(alloc, &plan, order, rows)?;
-    Ok(RowList::listed(list))
+    Ok(list)
 }
 
 /// The same of rows that are made. Where all are shown as they are, they are listed themselves, and none is copied.
@@ -56,8 +56,7 @@ fn list_whole(alloc: Global, order: &Order, rows: RowList) -> Result<RowList, Al
     if order.limit.is_none() && is_listed(order.keys.as_slice(), &rows) {
         Ok(rows)
     } else {
-        let rows = rows.into_rows(alloc)?;
-        Ok(RowList::listed(rows_in_order(alloc, order, rows)?))
+        rows_in_order(alloc, order, &rows)
     }
 }
 

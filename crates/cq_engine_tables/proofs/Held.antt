@@ -4,7 +4,7 @@ use Rattle.std.specs.Prelude.{IfOk, OnErr, OnOk, Option, Result, Ok, Err}
 use Rattle.std.proofs.lemmas.List.{length-append, length-map}
 use Rattle.cq_model_bags.specs.Canonical.{bag_of}
 use Rattle.cq_model_state.specs.State.{TableOf, holding}
-use Rattle.cq_segments.specs.Marked.{MarkedRow, unmarked}
+use Rattle.cq_segments_pieces.specs.Marked.{MarkedRow, unmarked}
 use Rattle.cq_values.specs.Value.{Row}
 use Rattle.cq_model.specs.Expr.{Cond}
 use Rattle.cq_model.specs.Write.{chosen, left_by}

@@ -7,8 +7,8 @@ use Rattle.cq_model.specs.Meaning.{keeps}
 use Rattle.cq_model.specs.Write.{chosen, left_by}
 use Rattle.cq_model_state.specs.State.{holding}
 use Rattle.cq_operators_scans.specs.Kept.{places_where}
-use Rattle.cq_segments.specs.Marked.{MarkedRow}
-use Rattle.cq_segments.specs.Pieces.{joined}
+use Rattle.cq_segments_pieces.specs.Marked.{MarkedRow}
+use Rattle.cq_segments_pieces.specs.Pieces.{joined}
 use Rattle.cq_table.specs.Checks.{IsChecked}
 use Rattle.cq_table.specs.declared.fault.TableFault.{TableFault}
 use Rattle.cq_table.specs.Found.{AreLiveAt, AreThere, found_rows, passes}

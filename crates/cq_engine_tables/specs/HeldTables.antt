@@ -2,8 +2,8 @@
 use Rattle.std.specs.Prelude.{◌≡◌, ◌+◌, ◌-◌, ◌==◌, ℕ, false, if◌then◌else◌, List, [], ◌∷◌, filter, length, map, not}
 use Rattle.std.specs.Global.{Vec}
 use Rattle.cq_model_state.specs.State.{TableOf}
-use Rattle.cq_segments.specs.Marked.{MarkedRow, marked_count}
-use Rattle.cq_segments.specs.Pieces.{joined}
+use Rattle.cq_segments_pieces.specs.Marked.{MarkedRow, marked_count}
+use Rattle.cq_segments_pieces.specs.Pieces.{joined}
 use Rattle.cq_table.specs.Table.{StoredTable}
 use Rattle.cq_engine_tables.specs.Tables.{named}
 

@@ -6,7 +6,7 @@
 //! same call of `cq_table` does.
 ghost use Rattle.std.specs.List.{AllByRecursion};
 ghost use Rattle.std.specs.Prelude.{◌++◌, ◌+◌, ◌≡◌, ◌≤◌, [], IfOk, OnErr, OnOk, length};
-ghost use Rattle.cq_segments.specs.Rows.{stored_rows};
+ghost use Rattle.cq_segments_pieces.specs.Rows.{stored_rows};
 ghost use Rattle.cq_values.specs.Texts.{is_text};
 ghost use Rattle.cq_model_state.specs.Fitting.{FitsColumns};
 ghost use Rattle.cq_model_state.specs.State.{empty_table, holding};
@@ -17,7 +17,7 @@ ghost use Rattle.cq_engine_tables.specs.HeldTables.{Exchanges, Grows, MarkIn, Me
 ghost use Rattle.cq_engine_tables.specs.Chosen.{ChecksChosen, IsChosen, LeavesChosen, rows_chosen, stored_of};
 
 use cq_model::{Assignment, Cond};
-use cq_segments::StoredRow;
+use cq_segments_pieces::StoredRow;
 use cq_table::{Exchange, Found, TableFault};
 use cq_values::{ColumnDef, Row, Seq, Text};
 use cq_writestore_rows::NewRows;

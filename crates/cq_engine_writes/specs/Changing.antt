@@ -2,8 +2,8 @@
 use Rattle.std.specs.Prelude.{◌≡◌, ◌≤◌, ℕ, false, List, [], Option}
 use Rattle.std.specs.Global.{Vec}
 use Rattle.std.specs.List.{AllByRecursion}
-use Rattle.cq_segments.specs.Rows.{stored_rows}
-use Rattle.cq_segments.specs.declared.stored_row.StoredRow.{StoredRow}
+use Rattle.cq_segments_pieces.specs.Rows.{stored_rows}
+use Rattle.cq_segments_pieces.specs.declared.stored_row.StoredRow.{StoredRow}
 use Rattle.cq_values.specs.Value.{Row}
 use Rattle.cq_model_bags.specs.Bag.{Weighted, SameBag}
 use Rattle.cq_model.specs.declared.query.Source.{Source}

@@ -4,10 +4,10 @@ ghost use Rattle.std.specs.Prelude.{◌+◌, ◌≤◌, ◌^◌, [], IfOk, lengt
 ghost use Rattle.cq_model.specs.Sizes.{IsStored};
 ghost use Rattle.cq_engine_tables.specs.Taking.{AreSame, CanAllTake};
 ghost use Rattle.cq_engine_writes.specs.Changing.{AreReadyForRows, AreReadyForStored, AreStanding};
-ghost use Rattle.cq_segments.specs.Rows.{stored_rows};
+ghost use Rattle.cq_segments_pieces.specs.Rows.{stored_rows};
 
 use cq_engine_tables::{View, is_used, prepare_all};
-use cq_segments::StoredRow;
+use cq_segments_pieces::StoredRow;
 use cq_table_columns::Front;
 use cq_values::Row;
 use cq_views::TableChange;

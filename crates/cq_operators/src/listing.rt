@@ -7,10 +7,10 @@ ghost use Rattle.cq_operators.specs.Listed.{IsListingOf, ListsSource};
 
 use crate::exec::Exec;
 use cq_model::Order;
-use cq_operators_listing::Listing;
+use cq_operators_listing::{Listing, in_order};
 use cq_plan::Plan;
 use cq_table_columns::Stored;
-use cq_values::Row;
+use cq_values_rows::RowList;
 use cq_vectors::Batch;
 use cq_vectors_masks::Selection;
 use std::alloc::{AllocError, Global};
@@ -21,9 +21,9 @@ pub fn listed_rows<'a>(
     plan: &'a Plan<'a>,
     order: &Order,
     rows: Stored<'a>,
-) -> Result<Vec<Row>, AllocError>
+) -> Result<RowList, AllocError>
     requires { AllByRecursion (IsWithin plan.now) (all_rows rows) }
-    ensures { IfOk result (λ list. ListsSource order.now plan.now rows.entry list.items) }
+    ensures { IfOk result (λ list. ListsSource order.now plan.now rows.entry list) }
 {
     let mut exec = Exec::open(plan, rows);
     let mut batch = Batch {
@@ -37,16 +37,9 @@ pub fn listed_rows<'a>(
     Ok(list.rows(alloc)?)
 }
 
-/// The listing of rows that are made. None of them is copied.
-pub fn rows_in_order(alloc: Global, order: &Order, rows: Vec<Row>) -> Result<Vec<Row>, AllocError>
-    ensures { IfOk result (λ list. IsListingOf order.now rows.items list.items) }
+/// The listing of rows that are made. Only those that LIMIT leaves are copied.
+pub fn rows_in_order(alloc: Global, order: &Order, rows: &RowList) -> Result<RowList, AllocError>
+    ensures { IfOk result (λ list. IsListingOf order.now rows.now list) }
 {
-    let mut list = Listing::new(alloc, order);
-    match list.add_rows(alloc, rows) {
-        Ok(()) => list.rows(alloc),
-        Err(fault) => {
-            drop(list);
-            Err(fault)
-        }
-    }
+    in_order(alloc, order, rows)
 }

@@ -2,7 +2,6 @@
 use Rattle.std.proofs.Common.{◌≡◌, ℕ, zero, suc, ◌-◌, ◌≤◌, ◌<◌, Bool, true, false, List, [], ◌∷◌, ◌++◌, map, filter, take, drop, length, get_or, refl, sym, ◌∙◌, ap, subst, arith, Ordering, Option, Some, None}
 use Rattle.std.specs.Prelude.{IfSome, slice_get}
 use Rattle.std.proofs.lemmas.Option.{get_or_from_slice_get}
-use Rattle.std.specs.Borrow.{Bor}
 use Rattle.std.specs.List.{AllByRecursion}
 use Rattle.std.specs.Ordering.{is_gt}
 use Rattle.std.specs.Cmp.{IsTotalOrder}
@@ -15,7 +14,7 @@ use Rattle.cq_model_bags.specs.Canonical.{with_row, sorted_by}
 use Rattle.cq_model_bags.specs.Listing.{IsInOrder, IsListing, first_rows, listing_cmp}
 use Rattle.cq_model_bags.proofs.Totals.{by_test}
 use Rattle.cq_model_bags.proofs.Listings.{listing_cmp_total, one_list, one_listing, after_other}
-use Rattle.cq_operators_listing.specs.Stored.{AreFirstOf, StoredListing, CanList, Suffice, TakesIn, with_rows}
+use Rattle.cq_operators_listing.specs.Stored.{StoredListing, CanList, Suffice, TakesIn, with_rows}
 use Rattle.cq_operators_listing.specs.Front.{IsFront, IsWorst}
 use Rattle.cq_operators_listing.proofs.Sorting.{listed, listed-swap, listed-append, is_listing, lists-sorted_by, can_list, listed_alike}
 use Rattle.cq_model_bags.proofs.Lists.{all-at, all-take}
@@ -176,15 +175,18 @@ is_worst listing count i w n read front =
     get_or-take (r ∷ rows) zero d = refl
     get_or-take (r ∷ rows) (suc i) d = get_or-take rows i d
 
-pub worst_of : (listing : StoredListing) (count : ℕ) (r : Option (Bor Row)) → 0 < count → IfSome r (λ w. slice_get listing.rows (count - 1) ≡ Some w.now) → IsFront listing count
-    → IfSome r (λ w. IsWorst listing w.now)
-worst_of listing count None h at front = tt
-worst_of listing count (Some w) h at front =
-    is_worst listing count (count - 1) w.now (omega (arith, h)) (sym (get_or_from_slice_get listing.rows (count - 1) w.now w.now at)) front
+pub worst_of : (listing : StoredListing) (count : ℕ) (w : Row) → 0 < count → slice_get listing.rows (count - 1) ≡ Some w → IsFront listing count → IsWorst listing w
+worst_of listing count w h at front = is_worst listing count (count - 1) w (omega (arith, h)) (sym (get_or_from_slice_get listing.rows (count - 1) w w at)) front
 
 -- the rows in front, where so many are told
 pub front_of : (listing : StoredListing) (front : Option ℕ) (count : ℕ) → front ≡ Some count → IfSome front (IsFront listing) → IsFront listing count
 front_of listing front count e h = subst (λ (o : Option ℕ). IfSome o (IsFront listing)) e h
+
+-- and where so many are there
+pub front_where : (listing : StoredListing) (front : Option ℕ) (count len : ℕ) → IfSome front (λ n. (n ≡ count) × (count ≤ len)) → (count ≤ len → IsFront listing count)
+    → IfSome front (IsFront listing)
+front_where listing None count len h front = tt
+front_where listing (Some n) count len h front = subst (IsFront listing) (sym h.0) (front h.1)
 
 -- ---- a cut
 -- the first rows alone list as all did
@@ -205,7 +207,8 @@ takes_in old mid new kept more k l r s cut all can =
     cut (all ++ more) (subst (λ (m : StoredListing). CanList m (all ++ more)) e (s all can))
 
 -- what is listed of the kept rows is listed of all
-pub lists_kept : (s : StoredListing) (limit : Option ℕ) (first shown : List Row) → limit ≡ s.limit → shown ≡ first → AreFirstOf s limit first
-    → (all : List Row) → CanList s all → IsListing s.keys s.limit (once_each all) shown
-lists_kept s limit first shown l is h all can =
-    (can shown).1 (subst (λ (rows : List Row). IsListing s.keys s.limit (once_each s.rows) rows) (sym is) (subst (λ (limit : Option ℕ). IsListing s.keys limit (once_each s.rows) first) l h))
+pub lists_kept : (s : StoredListing) (keys : List SortKey) (limit : Option ℕ) (rows first shown : List Row) → keys ≡ s.keys → limit ≡ s.limit → rows ≡ s.rows → shown ≡ first
+    → IsListing keys limit (once_each rows) first → (all : List Row) → CanList s all → IsListing s.keys s.limit (once_each all) shown
+lists_kept s keys limit rows first shown k l r is h all can =
+    let e : record s { keys = keys; limit = limit; rows = rows } ≡ s = λ i. record { keys = k i; limit = l i; rows = r i } in
+    (can shown).1 (subst (λ (t : StoredListing). IsListing t.keys t.limit (once_each t.rows) shown) e (subst (IsListing keys limit (once_each rows)) (sym is) h))

@@ -4,3 +4,4 @@ pub mod FirstKeys
 pub mod Tellings
 pub mod Digits
 pub mod Rows
+pub mod Truths

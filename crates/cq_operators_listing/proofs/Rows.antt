@@ -1,12 +1,11 @@
 -- The ranks of rows lead as the listing stands, so sorting packed rows lists the rows.
-use Rattle.std.proofs.Common.{◌≡◌, ◌<◌, ℕ, zero, suc, ◌+◌, ◌^◌, ◌++◌, false, List, [], ◌∷◌, map, length, take, get_or, Option, Some, None, refl, sym, ◌∙◌, ap, subst, arith, Ordering, nat_cmp}
-use Rattle.std.specs.Prelude.{slice_get}
+use Rattle.std.proofs.Common.{◌≡◌, ◌<◌, ℕ, zero, suc, ◌+◌, ◌^◌, false, List, [], ◌∷◌, map, length, take, get_or, Option, None, refl, sym, ◌∙◌, ap, subst, arith, Ordering, nat_cmp}
 use Rattle.std.specs.Ordering.{is_lt, ordering_then}
 use Rattle.std.specs.List.{All}
 use Rattle.std.specs.List.Sorted.{IsPermutation, IsSortedBy}
 use Rattle.std.specs.Cmp.{IsTotalOrder}
 use Rattle.std.proofs.lemmas.Cmp.{on_total, then_total, nat_cmp_total}
-use Rattle.std.proofs.lemmas.List.{append-nil, append_assoc, get_or-map, length-map, map-append, take-map, take_all, take_more}
+use Rattle.std.proofs.lemmas.List.{get_or-map, length-map, take-map, take_all}
 use Rattle.std.proofs.lemmas.List.Elements.{All-map}
 use Rattle.std.proofs.lemmas.List.Sorted.{All-permutation, IsPermutation-map}
 use Rattle.cq_values.specs.Value.{Row, column}
@@ -17,7 +16,6 @@ use Rattle.cq_model_bags.specs.Listing.{IsListing, Lists, listing_cmp}
 use Rattle.cq_model_bags.proofs.Listings.{listing_cmp_total}
 use Rattle.cq_model_bags.proofs.Sorts.{SameBag-permutation, in_order-sorted}
 use Rattle.cq_operators_listing.specs.Packed.{IsPackedFor, RankedRow, TakesFirst, packed, cmp_packed}
-use Rattle.cq_operators_listing.specs.Stored.{rows_in}
 use Rattle.cq_operators_listing.specs.Ranks.{column_rank, key_rank, row_ranks}
 use Rattle.cq_operators_listing.proofs.Tellings.{Leads, led, value-small, directed-leads, directed-small, joined-leads}
 
@@ -106,25 +104,3 @@ listing-packed keys limit rows packs count moved sorted first =
 -- without LIMIT all rows are left
 pub takes-none : (len : ℕ) → TakesFirst None len len
 takes-none len rows e = sym (take_all len rows (omega (arith, e)))
-
--- ---- rows of several lists
-pub rows_in-more : (lists : List (List Row)) (rows : List Row) → rows_in (lists ++ rows ∷ []) ≡ rows_in lists ++ rows
-rows_in-more [] rows = append-nil rows
-rows_in-more (l ∷ lists) rows = ap (λ (rs : List Row). l ++ rs) (rows_in-more lists rows) ∙ sym (append_assoc l (rows_in lists) rows)
-
--- those of one list more are packed
-pub packed-more : (keys : List SortKey) (lists : List (List Row)) (k : ℕ) (d : List Row) → k < length lists
-    → map (packed keys) (rows_in (take k lists)) ++ map (packed keys) (get_or lists k d) ≡ map (packed keys) (rows_in (take (k + 1) lists))
-packed-more keys lists k d h =
-    sym (map-append (packed keys) (rows_in (take k lists)) (get_or lists k d))
-    ∙ ap (map (packed keys)) (sym (rows_in-more (take k lists) (get_or lists k d)) ∙ ap (λ (ls : List (List Row)). rows_in ls) (sym (take_more lists k d h)))
-
--- a row of the first list is the one of all
-get_front : (xs ys : List Row) (k : ℕ) (w : Row) → slice_get xs k ≡ Some w → slice_get (xs ++ ys) k ≡ Some w
-get_front [] ys k w h = absurd (cc h)
-get_front (x ∷ xs) ys zero w h = h
-get_front (x ∷ xs) ys (suc k) w h = get_front xs ys k w h
-
-pub in_first : (lists : List (List Row)) (first : List Row) (k : ℕ) (w : Row) → slice_get lists 0 ≡ Some first → slice_get first k ≡ Some w → slice_get (rows_in lists) k ≡ Some w
-in_first [] first k w is at = absurd (cc is)
-in_first (l ∷ lists) first k w is at = get_front l (rows_in lists) k w (subst (λ (f : List Row). slice_get f k ≡ Some w) (cc (sym is)) at)

@@ -1,11 +1,13 @@
 -- The places of a batch whose rows may be shown, as their first key tells.
-use Rattle.std.specs.Prelude.{ℕ, Bool, false, not, List, [], ◌∷◌, filter, map, Vec}
-use Rattle.std.specs.Global.{Global}
+use Rattle.std.specs.Prelude.{◌≡◌, ◌<◌, ℕ, Bool, true, false, not, List, [], ◌∷◌, filter, length, map}
+use Rattle.std.specs.List.{All}
 use Rattle.std.specs.Ordering.{is_gt}
 use Rattle.cq_values.specs.declared.value.Value.{Value}
-use Rattle.cq_values.specs.Value.{column}
+use Rattle.cq_values.specs.Value.{column, is_null}
+use Rattle.cq_values.specs.declared.truth.Truth.{Truth}
 use Rattle.cq_model_bags.specs.declared.sort_key.SortKey.{SortKey}
 use Rattle.cq_model_bags.specs.Listing.{directed}
+use Rattle.cq_vectors_masks.specs.Selection.{where_true}
 use Rattle.cq_vectors.specs.Batch.{row_at, rows_of}
 use Rattle.cq_vectors.specs.declared.batch.Batch.{Batch}
 use Rattle.cq_operators_listing.specs.Stored.{StoredListing, Suffice}
@@ -23,6 +25,16 @@ is_behind descending values worst place = is_gt (directed descending (column val
 abbrev pub places_before : Bool → List Value → Value → List ℕ → List ℕ
 places_before descending values worst places = filter (λ place. not (is_behind descending values worst place)) places
 
+-- past a column's end no truth is told: these tell of all places, or no NULL stands before the worst value
+abbrev pub CanTell : Bool → List Value → Value → List ℕ → Type 0
+CanTell true values worst places = All (λ place. place < length values) places
+CanTell false values worst places = is_null worst ≡ false
+
+-- the truths are True at the places whose value does not stand behind this one
+abbrev pub TellBefore : Bool → List Value → Value → List Truth → Type 0
+TellBefore descending values worst truths =
+    (places : List ℕ) → CanTell descending values worst places → where_true truths places ≡ places_before descending values worst places
+
 -- of the batch's rows it suffices to make those at these places
-abbrev pub ArePlaces : StoredListing → Batch → Vec ℕ Global → Type 0
-ArePlaces listing batch places = Suffice listing (map (row_at batch.columns.items) places.items) (rows_of batch)
+abbrev pub ArePlaces : StoredListing → Batch → List ℕ → Type 0
+ArePlaces listing batch places = Suffice listing (map (row_at batch.columns.items) places) (rows_of batch)

@@ -1,7 +1,5 @@
 -- A list that is being made, and the rows that it can still show.
-use Rattle.std.specs.Prelude.{◌↔◌, ◌++◌, ℕ, List, Option, Result, IfOk, Vec}
-use Rattle.std.specs.List.{flat_map}
-use Rattle.std.specs.Global.{Global}
+use Rattle.std.specs.Prelude.{◌↔◌, ◌++◌, ℕ, List, Option, Result, IfOk}
 use Rattle.std.specs.declared.alloc.AllocError.{AllocError}
 use Rattle.cq_values.specs.Value.{Row}
 use Rattle.cq_model_bags.specs.declared.sort_key.SortKey.{SortKey}
@@ -18,10 +16,6 @@ pub record StoredListing : Type 0 where
 -- an order, with the rows that are kept for it
 abbrev pub kept_for : Order → List Row → StoredListing
 kept_for order rows = record { keys = order.keys; limit = order.limit; rows = rows }
-
--- the rows of several lists, one list behind the other
-abbrev pub rows_in : List (List Row) → List Row
-rows_in lists = flat_map (λ rows. rows) lists
 
 -- what is a listing of all these rows is one of the kept rows, and the other way round
 abbrev pub CanList : StoredListing → List Row → Type 0
@@ -42,14 +36,10 @@ Suffice listing kept more = (all : List Row) → CanList listing all → CanList
 abbrev pub TakesIn : StoredListing → StoredListing → List Row → Type 0
 TakesIn old new more = (all : List Row) → CanList old all → CanList new (all ++ more)
 
--- the rows are the first ones in order, as many as a LIMIT leaves
-abbrev pub AreFirstOf : StoredListing → Option ℕ → List Row → Type 0
-AreFirstOf listing limit first = IsListing listing.keys limit (once_each listing.rows) first
-
 -- the rows are the listing of all of these
-abbrev pub AreListed : StoredListing → List Row → Vec Row Global → Type 0
-AreListed listing all rows = IsListing listing.keys listing.limit (once_each all) rows.items
+abbrev pub AreListed : StoredListing → List Row → List Row → Type 0
+AreListed listing all rows = IsListing listing.keys listing.limit (once_each all) rows
 
 -- they are the listing of whatever the list can be of
-abbrev pub ListsAll : StoredListing → Result (Vec Row Global) AllocError → Type 0
+abbrev pub ListsAll : StoredListing → Result (List Row) AllocError → Type 0
 ListsAll listing result = (all : List Row) → CanList listing all → IfOk result (AreListed listing all)

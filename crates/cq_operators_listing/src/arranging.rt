@@ -1,17 +1,16 @@
 //! Rows put in the order of a listing.
 ghost use Rattle.std.specs.Bool.{IsTrue, OnTrue};
-ghost use Rattle.std.specs.Prelude.{◌↔◌, ◌≡◌, ◌≤◌, ◌++◌, IfOk, OnOk, map};
+ghost use Rattle.std.specs.Prelude.{◌↔◌, ◌≡◌, ◌≤◌, [], IfOk, map};
 ghost use Rattle.cq_model_bags.specs.Bag.{once_each};
-ghost use Rattle.cq_model_bags.specs.Listing.{Lists};
+ghost use Rattle.cq_model_bags.specs.Listing.{IsListing, Lists};
 ghost use Rattle.cq_operators_listing.specs.InOrder.{EachInOrder};
 ghost use Rattle.cq_operators_listing.specs.Packed.{AreFirst, TakesFirst, packed};
-ghost use Rattle.cq_operators_listing.specs.Stored.{rows_in};
 
 use crate::comparing::cmp_listed;
 use crate::packed::{Packed, cmp_packed};
+use cq_model::Order;
 use cq_model_bags::SortKey;
-use cq_values::{Row, copy_row};
-use cq_values_rows::{RowList, rows_come_in_turn};
+use cq_values_rows::{FlatRows, RowList, rows_come_in_turn};
 use std::alloc::{AllocError, Global};
 
 /// Whether the rows are in order. It looks no further than the first pair that is not.
@@ -27,44 +26,51 @@ pub fn is_listed(keys: &[SortKey], rows: &RowList) -> bool
     true
 }
 
-/// The rows of all lists, where they stand.
-pub(crate) fn pack_all<'r>(
+/// The listing of rows that are made. Only those that LIMIT leaves are copied.
+pub fn in_order(alloc: Global, order: &Order, rows: &RowList) -> Result<RowList, AllocError>
+    ensures { IfOk result (λ list. IsListing order.now.keys order.now.limit (once_each rows.now) list) }
+{
+    let first = first_rows(alloc, order.keys.as_slice(), order.limit, rows)?;
+    Ok(RowList::flat(first))
+}
+
+/// The first rows in order, as copies.
+pub(crate) fn first_rows(
     alloc: Global,
     keys: &[SortKey],
-    lists: &'r [RowList],
-) -> Result<Vec<Packed<'r>>, AllocError>
-    ensures { IfOk result (λ packs. packs.items ≡ map (packed keys.now) (rows_in lists.now)) }
+    limit: Option<u128>,
+    rows: &RowList,
+) -> Result<FlatRows, AllocError>
+    ensures { IfOk result (λ first. IsListing keys.now limit (once_each rows.now) first.rows) }
 {
-    let mut packs = Vec::new(alloc);
-    for rows in lists {
-        pack(keys, rows, &mut packs)?;
+    let packs = pack_all(alloc, keys, rows)?;
+    first_listed(alloc, keys, limit, packs)
+}
+
+/// The rows with their ranks, where they stand.
+fn pack_all<'r>(
+    alloc: Global,
+    keys: &[SortKey],
+    rows: &'r RowList,
+) -> Result<Vec<Packed<'r>>, AllocError>
+    ensures { IfOk result (λ packs. packs.items ≡ map (packed keys.now) rows.now) }
+{
+    rows_come_in_turn();
+    let mut packs = Vec::with_capacity(alloc, rows.len())?;
+    for place in 0..rows.len() {
+        packs.push(Packed::new(keys, rows.row(place)))?;
     }
     Ok(packs)
 }
 
-/// Puts the rows behind the others.
-fn pack<'r>(
-    keys: &[SortKey],
-    rows: &'r RowList,
-    packs: &mut Vec<Packed<'r>>,
-) -> Result<(), AllocError>
-    ensures { OnOk result (packs.new.items ≡ packs.old.items ++ map (packed keys.now) rows.now) }
-{
-    rows_come_in_turn();
-    for place in 0..rows.len() {
-        packs.push(Packed::new(keys, rows.row(place)))?;
-    }
-    Ok(())
-}
-
 /// The rows in order, as many as LIMIT allows. Only these are copied.
-pub(crate) fn first_listed(
+fn first_listed(
     alloc: Global,
     keys: &[SortKey],
     limit: Option<u128>,
     packs: Vec<Packed<'_>>,
-) -> Result<Vec<Row>, AllocError>
-    ensures { IfOk result (λ first. AreFirst keys.now limit packs.entry first.items) }
+) -> Result<FlatRows, AllocError>
+    ensures { IfOk result (λ first. AreFirst keys.now limit packs.entry first.rows) }
 {
     let mut packs = packs;
     packs.sort_unstable_by(|a, b| cmp_packed(keys, a, b));
@@ -84,13 +90,18 @@ fn count_within(limit: Option<u128>, len: usize) -> usize
     }
 }
 
-/// The rows in lists of their own, each made where it is read next.
-fn copies(alloc: Global, packs: &[Packed<'_>]) -> Result<Vec<Row>, AllocError>
-    ensures { IfOk result (λ rows. rows.items ≡ map (λ pack. pack.row) packs.now) }
+/// The rows in one list, each made where it is read next.
+fn copies(alloc: Global, packs: &[Packed<'_>]) -> Result<FlatRows, AllocError>
+    ensures { IfOk result (λ flat. flat.rows ≡ map (λ pack. pack.row) packs.now) }
 {
-    let mut rows = Vec::with_capacity(alloc, packs.len())?;
+    let width = match packs.first() {
+        Some(pack) => pack.row().len(),
+        None => 0,
+    };
+    let mut flat = FlatRows::with_capacity(alloc, packs.len(), width)?;
     for pack in packs {
-        rows.push(copy_row(alloc, pack.row())?)?;
+        flat.push_copies(alloc, pack.row())?;
+        flat.end_row()?;
     }
-    Ok(rows)
+    Ok(flat)
 }

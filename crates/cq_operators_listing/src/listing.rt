@@ -1,36 +1,36 @@
 //! Listings: what ORDER BY and LIMIT show of rows that come in any order.
 //!
-//! `new` names the order; `add` takes the rows of a batch and `add_rows` rows that are made, any number of times;
-//! `rows` gives the one list at the end. The rows of a batch stand in one list of values, where they are sorted by places;
-//! only those that are listed become rows, one behind the other. Without LIMIT all are kept and sorted once. With one of
-//! up to 1,000,000 the list is cut when it has twice as many rows and 1,024 more, and a place whose first key stands
-//! behind the last row that is kept becomes no row. So memory grows with the limit, and a row costs a comparison or its
-//! part of a sort.
-ghost use Rattle.std.specs.Prelude.{[], ◌++◌, ◌≡◌, ◌≤◌, IfOk, IfSome, List, OnOk, Some, map, slice_get};
+//! `new` names the order, `add` takes the rows of a batch, any number of times, and `rows` gives the one list at the end.
+//! The rows of all batches stand in one list of values, where they are sorted by places; only those that are listed are
+//! copied, into one list again. Without LIMIT all are kept and sorted once. With one of up to 1,000,000 the list is cut
+//! when it has twice as many rows and 1,024 more, and a place whose first key stands behind the last row that is kept
+//! becomes no row: that is asked of all places of a batch at once. So memory grows with the limit, and a row costs a
+//! comparison or its part of a sort.
+ghost use Rattle.std.specs.Bool.{OnFalse, OnTrue};
+ghost use Rattle.std.specs.Prelude.{[], ◌++◌, ◌≡◌, ◌≤◌, IfSome, List, OnOk, Some, map};
 ghost use Rattle.cq_values.specs.Value.{Row as Values};
 ghost use Rattle.cq_vectors.specs.Batch.{row_at, rows_of};
 ghost use Rattle.cq_operators_listing.specs.Front.{IsWorst};
 ghost use Rattle.cq_operators_listing.specs.Places.{ArePlaces, first_key as first_of};
-ghost use Rattle.cq_operators_listing.specs.Stored.{AreFirstOf, CanList, ListsAll, TakesIn, rows_in};
+ghost use Rattle.cq_operators_listing.specs.Stored.{CanList, ListsAll, TakesIn};
 
-use crate::arranging::{first_listed, pack_all};
-use crate::places::{copied, places_before, rows_at};
+use crate::arranging::first_rows;
+use crate::places::{places_before, push_rows};
 use cq_model::Order;
 use cq_model_bags::SortKey;
-use cq_values::{Row, Value, lend_column};
-use cq_values_rows::RowList;
-use cq_vectors::Batch;
+use cq_values::Value;
+use cq_values_rows::{FlatRows, RowList};
+use cq_vectors::{Batch, Vector};
+use cq_vectors_masks::Selection;
 use std::alloc::{AllocError, Global};
 use std::marker::Model;
+use std::mem::replace;
 
 /// Rows as they come, of which those are kept that the list can still show.
 #[derive(Drop)]
 pub struct Listing<'q> {
     order: &'q Order,
-    /// The rows, one list behind the other.
-    lists: Vec<RowList>,
-    /// How many rows there are.
-    len: usize,
+    rows: FlatRows,
     /// How many rows in front are in order, where they are as many as LIMIT allows.
     front: Option<usize>,
 }
@@ -38,13 +38,13 @@ pub struct Listing<'q> {
 impl<'q> Model for Listing<'q> {
     ghost use Rattle.std.specs.Prelude.{IfSome};
     ghost use Rattle.cq_operators_listing.specs.Front.{IsFront};
-    ghost use Rattle.cq_operators_listing.specs.Stored.{StoredListing, kept_for, rows_in};
+    ghost use Rattle.cq_operators_listing.specs.Stored.{StoredListing, kept_for};
 
     ghost Value = { StoredListing };
 
-    ghost view = { λ l. kept_for l.order.now (rows_in l.lists.items) };
+    ghost view = { λ l. kept_for l.order.now l.rows.rows };
 
-    ghost invariant = { λ l. IfSome l.front (IsFront (kept_for l.order.now (rows_in l.lists.items))) };
+    ghost invariant = { λ l. IfSome l.front (IsFront (kept_for l.order.now l.rows.rows)) };
 }
 
 impl<'q> Listing<'q> {
@@ -55,8 +55,7 @@ impl<'q> Listing<'q> {
     {
         Listing {
             order,
-            lists: Vec::new(alloc),
-            len: 0,
+            rows: FlatRows::new(alloc),
             front: None,
         }
     }
@@ -67,39 +66,18 @@ impl<'q> Listing<'q> {
         ensures limit { self.new.limit ≡ self.old.limit }
         ensures ok { OnOk result (TakesIn self.old self.new (rows_of batch.now)) }
     {
-        let places = self.places_of(alloc, batch)?;
-        let rows = rows_at(alloc, batch.columns.as_slice(), places.as_slice())?;
-        self.append(RowList::flat(rows))?;
-        self.cut(alloc)?;
-        Ok(())
-    }
-
-    /// Takes in rows that are made.
-    pub fn add_rows(&mut self, alloc: Global, rows: Vec<Row>) -> Result<(), AllocError>
-        ensures keys { self.new.keys ≡ self.old.keys }
-        ensures limit { self.new.limit ≡ self.old.limit }
-        ensures ok { OnOk result (TakesIn self.old self.new rows.items) }
-    {
-        self.append(RowList::listed(rows))?;
-        self.cut(alloc)?;
-        Ok(())
+        self.append_shown(alloc, batch)?;
+        self.cut(alloc)
     }
 
     /// The one list that stands for all rows that were added.
-    pub fn rows(self, alloc: Global) -> Result<Vec<Row>, AllocError>
+    pub fn rows(self, alloc: Global) -> Result<RowList, AllocError>
         ensures { ListsAll self.entry result }
     {
-        let rows = self.first_rows(alloc, self.order.limit)?;
-        Ok(rows)
-    }
-
-    /// The first rows in order.
-    fn first_rows(&self, alloc: Global, limit: Option<u128>) -> Result<Vec<Row>, AllocError>
-        ensures { IfOk result (λ first. AreFirstOf self.now limit first.items) }
-    {
-        let keys = self.order.keys.as_slice();
-        let packs = pack_all(alloc, keys, self.lists.as_slice())?;
-        first_listed(alloc, keys, limit, packs)
+        let Listing { order, rows, .. } = self;
+        let all = RowList::flat(rows);
+        let first = first_rows(alloc, order.keys.as_slice(), order.limit, &all)?;
+        Ok(RowList::flat(first))
     }
 
     /// The last of the rows in front, where they are as many as LIMIT allows.
@@ -107,34 +85,54 @@ impl<'q> Listing<'q> {
         ensures { IfSome result (λ worst. IsWorst self.now worst.now) }
     {
         match self.front {
-            Some(count) if count > 0 => row_in_first(self.lists.as_slice(), count - 1),
+            Some(count) if count > 0 && count <= self.rows.len() => Some(self.rows.row(count - 1)),
             _ => None,
         }
     }
 
-    /// The places of a batch whose rows may be shown.
-    fn places_of(&self, alloc: Global, batch: &Batch<'_>) -> Result<Vec<u16>, AllocError>
-        ensures { IfOk result (ArePlaces self.now batch.now) }
+    /// The places of a batch whose rows may be shown. Answers whether they are fewer than all.
+    fn select_shown(&self, batch: &Batch<'_>, to: &mut Selection) -> bool
+        ensures { OnTrue result (ArePlaces self.now batch.now to.new) }
     {
-        let places = batch.selection.places();
-        if let Some(worst) = self.worst() {
-            let key = first_key(self.order.keys.as_slice());
-            if let Some(column) = batch.columns.as_slice().get(key.column) {
-                let limit = lend_column(worst, key.column);
-                return places_before(alloc, key.descending, column, &limit, places);
-            }
+        let Some(worst) = self.worst() else {
+            return false;
+        };
+        let key = first_key(self.order.keys.as_slice());
+        match batch.columns.as_slice().get(key.column) {
+            Some(values) => places_before(key, values, worst, &batch.selection, to),
+            None => false,
         }
-        copied(alloc, places)
     }
 
-    fn append(&mut self, rows: RowList) -> Result<(), AllocError>
+    /// Puts the rows of a batch that may be shown behind the others.
+    fn append_shown(&mut self, alloc: Global, batch: &Batch<'_>) -> Result<(), AllocError>
         ensures keys { self.new.keys ≡ self.old.keys }
         ensures limit { self.new.limit ≡ self.old.limit }
-        ensures rows { OnOk result (self.new.rows ≡ self.old.rows ++ rows) }
+        ensures ok { OnOk result (TakesIn self.old self.new (rows_of batch.now)) }
     {
-        let len = self.len.saturating_add(rows.len());
-        self.lists.push(rows)?;
-        self.len = len;
+        let mut shown = Selection::new();
+        if self.select_shown(batch, &mut shown) {
+            self.append(alloc, batch.columns.as_slice(), shown.places())
+        } else {
+            self.append(alloc, batch.columns.as_slice(), batch.selection.places())
+        }
+    }
+
+    /// Puts the rows of the places behind the others.
+    fn append(
+        &mut self,
+        alloc: Global,
+        columns: &[Vector<'_>],
+        places: &[u16],
+    ) -> Result<(), AllocError>
+        ensures keys { self.new.keys ≡ self.old.keys }
+        ensures limit { self.new.limit ≡ self.old.limit }
+        ensures rows { OnOk result (self.new.rows ≡ self.old.rows ++ map (row_at columns.now) places.now) }
+    {
+        let front = self.front;
+        self.front = None;
+        push_rows(alloc, columns, places, &mut self.rows)?;
+        self.front = front;
         Ok(())
     }
 
@@ -145,7 +143,7 @@ impl<'q> Listing<'q> {
         ensures ok { OnOk result ((all : List Values) → CanList self.old all → CanList self.new all) }
     {
         if let Some(count) = cut_size(self.order.limit) {
-            if self.len >= 2 * count + 1024 {
+            if self.rows.len() >= 2 * count + 1024 {
                 self.cut_to(alloc, count)?;
             }
         }
@@ -158,35 +156,11 @@ impl<'q> Listing<'q> {
         ensures limit { self.new.limit ≡ self.old.limit }
         ensures ok { OnOk result ((all : List Values) → CanList self.old all → CanList self.new all) }
     {
-        let first = self.first_rows(alloc, Some(count as u128))?;
-        let len = first.len();
-        let lists = alone(alloc, first)?;
         self.front = None;
-        self.lists = lists;
-        self.len = len;
-        if count <= len {
-            self.front = Some(count);
-        }
+        let all = RowList::flat(replace(&mut self.rows, FlatRows::new(alloc)));
+        self.rows = first_rows(alloc, self.order.keys.as_slice(), Some(count as u128), &all)?;
+        self.front = front_within(count, self.rows.len());
         Ok(())
-    }
-}
-
-/// The rows as the only list.
-fn alone(alloc: Global, rows: Vec<Row>) -> Result<Vec<RowList>, AllocError>
-    ensures { IfOk result (λ lists. rows_in lists.items ≡ rows.items) }
-{
-    let mut lists = Vec::new(alloc);
-    lists.push(RowList::listed(rows))?;
-    Ok(lists)
-}
-
-/// The row at a place, where it is in the first list.
-fn row_in_first(lists: &[RowList], place: usize) -> Option<&[Value]>
-    ensures { IfSome result (λ row. slice_get (rows_in lists.now) place ≡ Some row.now) }
-{
-    match lists.get(0) {
-        Some(first) if place < first.len() => Some(first.row(place)),
-        _ => None,
     }
 }
 
@@ -198,6 +172,13 @@ fn cut_size(limit: Option<u128>) -> Option<usize>
         Some(limit) if limit <= 1_000_000 => Some(limit as usize),
         _ => None,
     }
+}
+
+/// As many rows in front as LIMIT allows, where so many are there.
+fn front_within(count: usize, len: usize) -> Option<usize>
+    ensures { IfSome result (λ front. (front ≡ count) × (count ≤ len)) }
+{
+    if count <= len { Some(count) } else { None }
 }
 
 /// The key that is compared first. Without ORDER BY it is the first column.

@@ -1,60 +1,105 @@
-//! The places of a batch that become rows.
-ghost use Rattle.std.specs.Prelude.{◌≡◌, ◌++◌, ◌∷◌, [], IfOk, OnOk, map};
-ghost use Rattle.cq_values.specs.Lent.{owned};
+//! The places of a batch whose rows may be shown, and the rows that are made of them.
+ghost use Rattle.std.specs.Bool.{OnTrue};
+ghost use Rattle.std.specs.List.{All};
+ghost use Rattle.std.specs.Prelude.{◌≡◌, ◌<◌, ◌++◌, ◌∷◌, [], OnOk, map};
+ghost use Rattle.cq_values.specs.Value.{column};
 ghost use Rattle.cq_vectors.specs.Batch.{row_at as values_at};
-ghost use Rattle.cq_operators_listing.specs.Places.{places_before as before};
+ghost use Rattle.cq_vectors_masks.specs.Selection.{AreRising, where_true};
+ghost use Rattle.cq_operators_listing.specs.Places.{CanTell, TellBefore, places_before as before};
 
-use crate::comparing::cmp_directed;
-use cq_values::Lent;
+use cq_model_bags::SortKey;
+use cq_prims::{compare, is_null};
+use cq_values::{Comparison, Value, lend_column};
 use cq_values_rows::FlatRows;
-use cq_vectors::Vector;
+use cq_vectors::{Form, Vector};
+use cq_vectors_masks::{Selection, TruthMask, keep_true};
 use std::alloc::{AllocError, Global};
 
-/// The places at which the column's value does not stand behind the worst one. No row is made for another.
+/// The places at which the key does not stand behind that of the worst row, asked of all values at once. Answers whether
+/// it could tell them.
 pub(crate) fn places_before(
-    alloc: Global,
-    descending: bool,
-    column: &Vector<'_>,
-    worst: &Lent<'_>,
-    places: &[u16],
-) -> Result<Vec<u16>, AllocError>
-    ensures { IfOk result (λ v. v.items ≡ before descending column.now (owned worst.now) places.now) }
+    key: SortKey,
+    values: &Vector<'_>,
+    worst: &[Value],
+    places: &Selection,
+    to: &mut Selection,
+) -> bool
+    ensures { OnTrue result (to.new ≡ before key.descending values.now (column worst.now key.column) places.now) }
 {
-    let mut kept = Vec::new(alloc);
-    kept.reserve(places.len())?;
-    for place in places {
-        let value = column.lend(*place as usize);
-        if !cmp_directed(descending, &value, worst).is_gt() {
-            kept.push(*place)?;
-        }
+    if !can_tell(key, values, worst, places.places()) {
+        return false;
     }
-    Ok(kept)
+    let mut truths = TruthMask::new();
+    set_before(key, values, worst, &mut truths);
+    keep_places(&truths, places, to);
+    true
 }
 
-pub(crate) fn copied(alloc: Global, places: &[u16]) -> Result<Vec<u16>, AllocError>
-    ensures { IfOk result (λ kept. kept.items ≡ places.now) }
+/// Those of the places that are True. Where none is, no place is looked at.
+fn keep_places(truths: &TruthMask, places: &Selection, to: &mut Selection)
+    ensures { to.new ≡ where_true truths.now places.now }
 {
-    let mut kept = Vec::new(alloc);
-    kept.reserve(places.len())?;
-    for place in places {
-        kept.push(*place)?;
+    to.set_true(truths);
+    if to.len() == 0 {
+        return;
     }
-    Ok(kept)
+    keep_true(truths, places, to);
 }
 
-/// The rows at the places, as copies.
-pub(crate) fn rows_at(
+/// Whether truths tell which values stand behind the worst one. Past the values no truth is told, and there is NULL,
+/// which stands first in descending order; in the other no value stands behind NULL.
+fn can_tell(key: SortKey, values: &Vector<'_>, worst: &[Value], places: &[u16]) -> bool
+    requires { AreRising places.now }
+    ensures { OnTrue result (CanTell key.descending values.now (column worst.now key.column) places.now) }
+{
+    if key.descending {
+        end_below(places, values.len())
+    } else {
+        !lend_column(worst, key.column).is_null()
+    }
+}
+
+/// Whether all of the places, which rise, are below the length.
+fn end_below(places: &[u16], len: usize) -> bool
+    requires { AreRising places.now }
+    ensures { OnTrue result (All (λ place. place < len) places.now) }
+{
+    if places.is_empty() {
+        true
+    } else {
+        (places[places.len() - 1] as usize) < len
+    }
+}
+
+/// Where the value does not stand behind the worst one. NULL stands last, or first in descending order.
+fn set_before(key: SortKey, values: &Vector<'_>, worst: &[Value], to: &mut TruthMask)
+    ensures { TellBefore key.descending values.now (column worst.now key.column) to.new }
+{
+    let worst = Vector::new(Form::Constant(lend_column(worst, key.column), values.len()));
+    if key.descending {
+        let (mut known, mut nulls) = (TruthMask::new(), TruthMask::new());
+        compare(Comparison::LessOrEqual, &worst, values, &mut known);
+        is_null(values, &mut nulls);
+        to.set_or(&known, &nulls);
+    } else {
+        compare(Comparison::LessOrEqual, values, &worst, to);
+    }
+}
+
+/// Puts the rows of the places behind the others, as copies.
+pub(crate) fn push_rows(
     alloc: Global,
     columns: &[Vector<'_>],
     places: &[u16],
-) -> Result<FlatRows, AllocError>
-    ensures { IfOk result (λ flat. flat.rows ≡ map (values_at columns.now) places.now) }
+    to: &mut FlatRows,
+) -> Result<(), AllocError>
+    ensures { OnOk result (to.new.rows ≡ to.old.rows ++ map (values_at columns.now) places.now) }
 {
-    let mut rows = FlatRows::with_capacity(alloc, places.len(), columns.len())?;
+    to.begin_row();
     for place in places {
-        push_row(alloc, columns, *place as usize, &mut rows)?;
+        push_row(alloc, columns, *place as usize, to)?;
     }
-    Ok(rows)
+    Ok(())
 }
 
 fn push_row(

@@ -10,3 +10,4 @@ pub mod Asking
 pub mod PlacesWhere
 pub mod RowBehind
 pub mod Skipped
+pub mod Standing

@@ -28,7 +28,7 @@ use Rattle.cq_model_eval.proofs.Conditions.{holds-And}
 use Rattle.cq_prims.proofs.Compared.{turned_by}
 use Rattle.cq_prims.specs.Turned.{turned}
 use Rattle.cq_segments.specs.ColumnTest.{NoneMatches, tested}
-use Rattle.cq_segments.specs.Marked.{MarkedRow, live, rows_of}
+use Rattle.cq_segments_pieces.specs.Marked.{MarkedRow, live, rows_of}
 use Rattle.cq_segments.specs.declared.column_test.ColumnTest.TheVariants as asked
 use Rattle.cq_operators_scans.specs.Passing.{conditions_in, passing_rows}
 use Rattle.cq_operators_scans.specs.Skipping.{HasValue, IsColumn, NoneHolds}

@@ -2,8 +2,10 @@
 use Rattle.std.specs.Prelude.{◌≡◌, ℕ, Bool, List, map}
 use Rattle.std.specs.Borrow.{Bor}
 use Rattle.std.specs.List.{AllByRecursion, filter}
-use Rattle.cq_segments.specs.Rows.{stored_rows}
-use Rattle.cq_segments.specs.declared.stored_row.StoredRow.{StoredRow}
+use Rattle.cq_encodings_vectors.specs.Places.{rows_at}
+use Rattle.cq_segments_pieces.specs.Marked.{MarkedRow, live, rows_of}
+use Rattle.cq_table_columns.specs.Rows.{rows_in}
+use Rattle.cq_table_columns.specs.declared.stored_rows.StoredRows.{StoredRows}
 use Rattle.cq_values.specs.Truth.{is_true}
 use Rattle.cq_values.specs.Value.{Row}
 use Rattle.cq_model.specs.Own.{in_place, passes_own}
@@ -42,5 +44,13 @@ abbrev pub CanAllPass : ℕ → List (Bor CondTree) → List Row → Type 0
 CanAllPass before conditions rows = AllByRecursion (CanPass before (conditions_in conditions)) rows
 
 -- these are the rows that pass them all
-abbrev pub ArePassed : ℕ → List (Bor CondTree) → List Row → List StoredRow → Type 0
-ArePassed before conditions rows passed = stored_rows passed ≡ passing_rows before conditions rows
+abbrev pub ArePassed : ℕ → List (Bor CondTree) → List Row → StoredRows → Type 0
+ArePassed before conditions rows passed = rows_in passed ≡ passing_rows before conditions rows
+
+-- at these places stand the rows that pass one of them
+abbrev pub ArePassing : ℕ → CondTree → List Row → List ℕ → Type 0
+ArePassing before tree rows places = rows_at rows places ≡ passing_one before tree rows
+
+-- at these places of stored rows stand those without a mark that pass them all
+abbrev pub ArePassedAt : ℕ → List (Bor CondTree) → List MarkedRow → List ℕ → Type 0
+ArePassedAt before conditions stored places = rows_at (rows_of stored) places ≡ passing_rows before conditions (live stored)

@@ -10,6 +10,7 @@ mod lent;
 mod operand;
 mod parts;
 mod passed;
+mod places;
 mod scan;
 mod skipping;
 mod truths;

@@ -2,34 +2,56 @@
 ghost use Rattle.std.specs.List.{AllByRecursion};
 ghost use Rattle.std.specs.Prelude.{◌≡◌, ◌≤◌, IfOk, length};
 ghost use Rattle.cq_model.specs.Trees.{cond_of};
-ghost use Rattle.cq_operators_scans.specs.Passing.{ArePassed, CanAllPass, IsExactBehind, passing_one, passing_rows};
+ghost use Rattle.cq_operators_scans.specs.Paired.{ArePlaces};
+ghost use Rattle.cq_operators_scans.specs.Passing.{ArePassed, ArePassing, CanAllPass, IsExactBehind};
+ghost use Rattle.cq_operators_scans.specs.Passing.{passing_one, passing_rows};
 ghost use Rattle.cq_table_columns.specs.Rows.{rows_in};
 ghost use Rattle.cq_table_columns.specs.Stored.{all_rows, front_rows};
 
 use crate::lent::lend_all;
+use crate::places::segment_passing;
 use crate::scan::Scan;
 use crate::skipping::split_missed;
 use crate::truths::truths_of_tree;
 use cq_model::CondTree;
 use cq_model_terms::columns_of;
-use cq_segments::StoredRow;
-use cq_table_columns::{Front, Stored, StoredRows};
+use cq_table_columns::{Front, Placed, Stored, StoredRows};
 use cq_vectors_masks::Selection;
 use std::alloc::{AllocError, Global};
 
 /// The rows that pass all conditions, where they are. In these the values of a row stand behind so many others. It goes
-/// through the rows 1,024 at a time, and past the segments that can have none.
+/// through the rows 1,024 at a time, and past the segments that can have none. Where all stand in one segment it gives
+/// places there, else a list.
 pub fn passing<'a>(
     alloc: Global,
     before: usize,
     conditions: &[&'a CondTree],
     rows: &Stored<'a>,
-) -> Result<Vec<StoredRow<'a>>, AllocError>
+) -> Result<StoredRows<'a>, AllocError>
     requires { CanAllPass before conditions.now (all_rows rows.now) }
-    ensures { IfOk result (λ p. ArePassed before conditions.now (all_rows rows.now) p.items) }
+    ensures { IfOk result (ArePassed before conditions.now (all_rows rows.now)) }
+{
+    if let Some(segment) = rows.only_segment() {
+        if split_missed(before, conditions, rows).is_none() {
+            let places = segment_passing(alloc, before, conditions, segment)?;
+            return Ok(StoredRows::Placed(Placed::of(segment, places)));
+        }
+    }
+    list_passing(alloc, before, conditions, rows)
+}
+
+/// A list of the rows that pass all conditions.
+fn list_passing<'a>(
+    alloc: Global,
+    before: usize,
+    conditions: &[&'a CondTree],
+    rows: &Stored<'a>,
+) -> Result<StoredRows<'a>, AllocError>
+    requires { CanAllPass before conditions.now (all_rows rows.now) }
+    ensures { IfOk result (ArePassed before conditions.now (all_rows rows.now)) }
 {
     if conditions.is_empty() {
-        return lend_all(alloc, rows);
+        return Ok(StoredRows::Listed(lend_all(alloc, rows)?));
     }
     let mut passing = Vec::new(alloc);
     let mut left = *rows;
@@ -38,27 +60,12 @@ pub fn passing<'a>(
             left = rest;
         } else {
             let (front, rest) = left.split_front();
-            let mut passed = passing_front(alloc, before, conditions, &front)?;
-            passing.append(&mut passed)?;
+            let passed = pass_all(alloc, before, conditions, &front)?;
+            passing.append(&mut passed.into_rows(alloc)?)?;
             left = rest;
         }
     }
-    Ok(passing)
-}
-
-/// Those of at most 1,024 rows that pass: each condition is asked of the rows that the ones before it left.
-fn passing_front<'a>(
-    alloc: Global,
-    before: usize,
-    conditions: &[&'a CondTree],
-    front: &Front<'a>,
-) -> Result<Vec<StoredRow<'a>>, AllocError>
-    requires few { length (front_rows front.now) ≤ 1024 }
-    requires exact { CanAllPass before conditions.now (front_rows front.now) }
-    ensures { IfOk result (λ p. ArePassed before conditions.now (front_rows front.now) p.items) }
-{
-    let passed = pass_all(alloc, before, conditions, front)?;
-    passed.into_rows(alloc)
+    Ok(StoredRows::Listed(passing))
 }
 
 /// The same as a scan, of which these columns are gathered: the rows stay places of the front.
@@ -103,11 +110,27 @@ fn pass_one<'a>(
     requires exact { AllByRecursion (IsExactBehind before (cond_of condition.now)) (rows_in rows.now) }
     ensures { IfOk result (λ p. rows_in p ≡ passing_one before condition.now (rows_in rows.now)) }
 {
+    let kept = passing_places(alloc, before, condition, rows)?;
+    rows.at(alloc, kept.places())
+}
+
+/// The places of the rows that pass a condition.
+pub(crate) fn passing_places<'a>(
+    alloc: Global,
+    before: usize,
+    condition: &'a CondTree,
+    rows: &StoredRows<'a>,
+) -> Result<Selection, AllocError>
+    requires few { length (rows_in rows.now) ≤ 1024 }
+    requires exact { AllByRecursion (IsExactBehind before (cond_of condition.now)) (rows_in rows.now) }
+    ensures there { IfOk result (ArePlaces (rows_in rows.now)) }
+    ensures rows { IfOk result (ArePassing before condition.now (rows_in rows.now)) }
+{
     let columns = columns_of(alloc, condition)?;
     let read = rows.copy(alloc)?;
     let scan = Scan::open_behind(alloc, before, read, &columns)?;
     let truths = truths_of_tree(alloc, condition, &scan)?;
     let mut kept = Selection::new();
     kept.set_true(&truths);
-    rows.at(alloc, kept.places())
+    Ok(kept)
 }

@@ -13,7 +13,7 @@ ghost use Rattle.cq_model.specs.Trees.{cond_of, expr_of};
 ghost use Rattle.cq_operators_scans.specs.Passing.{passing_rows};
 ghost use Rattle.cq_operators_scans.specs.Skipping.{HasValue, IsColumn, IsNegative, NoneBetween};
 ghost use Rattle.cq_operators_scans.specs.Skipping.{NoneCompares, NoneHolds, NoneIn, NonePasses};
-ghost use Rattle.cq_segments.specs.Marked.{live, rows_of};
+ghost use Rattle.cq_segments_pieces.specs.Marked.{live, rows_of};
 ghost use Rattle.cq_table_columns.specs.Stored.{all_rows, stored_marked};
 
 use cq_model::{Cond, CondTree, ExprTree};

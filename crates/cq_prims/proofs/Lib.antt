@@ -3,3 +3,4 @@ pub mod Shown
 pub mod NullLemmas
 pub mod Beside
 pub mod SideLanes
+pub mod NamedLemmas

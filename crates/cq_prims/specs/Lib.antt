@@ -6,3 +6,4 @@ pub mod Sides
 pub mod Beside
 pub mod OneTruth
 pub mod Turned
+pub mod Named

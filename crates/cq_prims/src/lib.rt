@@ -1,6 +1,7 @@
 //! Conditions over vectors: comparisons, IS NULL and LIKE, which set the truth of each place in a mask that is lent.
 //!
 //! To its callers [`compare`], [`is_null`] and [`like`] give the list of the truths that the conditions have of the values.
+//! Where a condition was asked of entries, [`dict_mask`] gives their truths to the places that name them.
 #![tactic(auto)]
 
 mod comparisons;
@@ -12,6 +13,8 @@ mod lent_test;
 mod less_days;
 mod less_numbers;
 mod less_wide;
+mod named;
+mod named_tests;
 mod narrow_compare;
 mod narrow_side;
 mod null_test;
@@ -22,4 +25,5 @@ mod wide_side;
 
 pub use comparisons::{compare, turned};
 pub use cq_prims_texts::like;
+pub use named::dict_mask;
 pub use nulls::is_null;

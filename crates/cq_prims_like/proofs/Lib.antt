@@ -3,3 +3,4 @@ pub mod PieceLemmas
 pub mod AroundLemmas
 pub mod PlaceLemmas
 pub mod FormLemmas
+pub mod RunLemmas

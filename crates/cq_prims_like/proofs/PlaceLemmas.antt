@@ -104,11 +104,20 @@ module _ (run front text rest : List ℕ) (start : ℕ) (far : length front ≡ 
         occurs_alone run front text rest bytes (λ i. bytes) (place - start) (subst (OccursAt bytes run) (sym same) found.1) short,
       )
 
-  -- where the first one ends behind the text, the text has none
-  pub late_within : (place : ℕ) → FindsNeedle (front ++ (text ++ rest)) run start (Some place) → start + length text < place + length run → FindsNeedle text run 0 None
-  late_within place found late k low below there =
+  -- where the first from a place before the text ends behind it, the text has none
+  passed_within : (from place : ℕ) → from ≤ start → FindsNeedle (front ++ (text ++ rest)) run from (Some place) → start + length text < place + length run → FindsNeedle text run 0 None
+  passed_within from place later found late k low below there =
       let room = there.fits in
-      found.0.before (start + k) (omega arith) (omega (arith, room, late)) (there_behind k there)
+      found.0.before (start + k) (omega (arith, later)) (omega (arith, room, late)) (there_behind k there)
+
+  pub late_within : (place : ℕ) → FindsNeedle (front ++ (text ++ rest)) run start (Some place) → start + length text < place + length run → FindsNeedle text run 0 None
+  late_within place found late = passed_within start place (omega arith) found late
+
+  -- where none from there on ends within the text, the text has none
+  pub nowhere_within : (from : ℕ) (next : Option ℕ) → from ≤ start → FindsNeedle (front ++ (text ++ rest)) run from next
+      → IfSome next (λ place. start + length text < place + length run) → FindsNeedle text run 0 None
+  nowhere_within from None later found late = none_within (none_later run bytes from start later found)
+  nowhere_within from (Some place) later found late = passed_within from place later found late
 
 -- a place that is found leaves room for the run
 pub room_of_found : (run bytes : List ℕ) (start : ℕ) (next : Option ℕ) → length bytes ≤ 4096 → FindsNeedle bytes run start next
@@ -130,16 +139,16 @@ concat_split texts i below =
 -- ---- one text more of those that are laid
 module _ (texts : List (List ℕ)) (i : ℕ) (below : i < length texts) (text bytes : List ℕ) (start : ℕ) where
   module _ (is : get_or texts i [] ≡ text) (laid : bytes ≡ concat texts) (far : start ≡ length (concat (take i texts))) where
-    whole : bytes ≡ concat (take i texts) ++ (text ++ concat (drop (i + 1) texts))
+    pub whole : bytes ≡ concat (take i texts) ++ (text ++ concat (drop (i + 1) texts))
     whole = laid ∙ concat_split texts i below ∙ ap (λ t. concat (take i texts) ++ (t ++ concat (drop (i + 1) texts))) is
 
-    end_within : start + length text ≤ length bytes
+    pub end_within : start + length text ≤ length bytes
     end_within = omega (arith, far, ap {B = ℕ} length whole, length-append (concat (take i texts)) (text ++ concat (drop (i + 1) texts)), length-append text (concat (drop (i + 1) texts)))
 
-    next_start : start + length text ≡ length (concat (take (i + 1) texts))
+    pub next_start : start + length text ≡ length (concat (take (i + 1) texts))
     next_start = omega (arith, far, ap {B = ℕ} length (concat_more texts i below), length-append (concat (take i texts)) (get_or texts i []), ap {B = ℕ} length is)
 
-    place_found : (run : List ℕ) (next place : Option ℕ) → FindsWithin run start (start + length text) next place → FindsNeedle bytes run start next
+    pub place_found : (run : List ℕ) (next place : Option ℕ) → FindsWithin run start (start + length text) next place → FindsNeedle bytes run start next
         → FindsNeedle (get_or texts i []) run 0 place
     place_found run next place within found =
         subst (λ t. FindsNeedle t run 0 place) (sym is)

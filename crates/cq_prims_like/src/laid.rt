@@ -1,11 +1,10 @@
 //! Texts laid one behind the other, so that a run of bytes is sought in many of them at once.
-ghost use Rattle.cq_prims_like.specs.Patterns.{FindsInEach, FindsWithin};
+ghost use Rattle.cq_prims_like.specs.Patterns.{FindsInEach};
 ghost use Rattle.cq_vectors_stored.specs.Columns.{texts_of};
-ghost use Rattle.memchr.specs.Find.{FindsNeedle};
 ghost use Rattle.std.specs.List.{concat};
-ghost use Rattle.std.specs.Prelude.{◌+◌, ◌++◌, ◌<◌, ◌^◌, ◌≡◌, ◌≤◌, IfSome, length, take, ℕ};
+ghost use Rattle.std.specs.Prelude.{◌+◌, ◌++◌, ◌≡◌, ◌≤◌, IfSome, length, take};
 
-use crate::places::place_from;
+use crate::places::{next_from, place_within};
 use memchr::memmem::Finder;
 
 /// How many bytes the texts may have together.
@@ -61,39 +60,4 @@ fn places_in(run: &Finder<'static>, texts: &[&str], bytes: &[u8]) -> [Option<usi
         start = end;
     }
     places
-}
-
-/// The first place of the run from the start on, where the first from some place before it is known.
-fn next_from(
-    run: &Finder<'static>,
-    bytes: &[u8],
-    start: usize,
-    next: Option<usize>,
-) -> Option<usize>
-    requires within { start ≤ length bytes.now }
-    requires known { (from : ℕ) × (from ≤ start) × FindsNeedle bytes.now run.now from next }
-    ensures { FindsNeedle bytes.now run.now start result }
-{
-    match next {
-        Some(place) if place < start => place_from(run, bytes, start),
-        _ => next,
-    }
-}
-
-/// The first place of the run in the text from `start` to `end`, where the first from `start` on is known.
-fn place_within(
-    run: &Finder<'static>,
-    start: usize,
-    end: usize,
-    next: Option<usize>,
-) -> Option<usize>
-    requires { IfSome next (λ place. (start ≤ place) × (place + length run.now < 2 ^ 64)) }
-    ensures { FindsWithin run.now start end next result }
-{
-    let place = next?;
-    if place + run.needle().len() <= end {
-        Some(place - start)
-    } else {
-        None
-    }
 }

@@ -2,7 +2,7 @@
 //!
 //! A [`Pattern`] is its bytes to its callers, and [`Pattern::fits`] tells whether it fits a text. In what form it is kept is
 //! seen in this crate alone. Where a text has to have a run of bytes to fit, [`Pattern::sought`] gives the pattern by that
-//! run, and [`first_places`] seeks it in 64 texts at once.
+//! run. [`first_places`] seeks it in 64 texts at once, and [`Sought::answers`] in 64 that stand one behind the other.
 #![tactic(auto)]
 
 mod around;

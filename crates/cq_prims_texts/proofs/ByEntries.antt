@@ -90,14 +90,13 @@ module _ (texts : List (List ℕ)) (start : ℕ) (flags : List Bool) (there : st
       ap (λ (l : List Bool). zip2 known l flags) of_part
       ∙ each_place text_unless fits (λ v. liked v pattern) known (liked_text pattern) (part_of texts start (length flags)) flags (sym (length-part_of texts start (length flags) there))
 
--- the answers of some texts of a run that are lent are those of the run from there on
-pub places_of_run : (test : List ℕ → Bool) (texts : List (List ℕ)) (start from n : ℕ) (lent : List (List ℕ)) → lent ≡ part_of texts (start + from) n → start + from + n ≤ length texts
-    → map (λ i. test (get_or lent i [])) (range_with_len 0 n) ≡ map (λ i. test (get_or texts (start + i) [])) (range_with_len from n)
-places_of_run test texts start from n lent is there =
-    let some = λ (i : ℕ). test (get_or lent i []) in
-    let all = λ (i : ℕ). test (get_or texts (start + i) []) in
-    ext_get_or false _ _ (length-map-range_with_len some 0 n ∙ sym (length-map-range_with_len all from n)) (λ i lt.
-    let within : i < n = omega (arith, lt, length-map-range_with_len some 0 n) in
-    get_or-map-range_with_len some 0 n i i false within (omega arith)
-    ∙ ap test (ap (λ (l : List (List ℕ)). get_or l i []) is ∙ part_of-at texts (start + from) n i there within ∙ ap (λ (j : ℕ). get_or texts j []) {x = start + from + i} {y = start + (from + i)} (omega arith))
-    ∙ sym (get_or-map-range_with_len all from n i (from + i) false within refl))
+-- the answers for the texts of a run from a text on are those from its place on, where the first text has a place of its own
+pub places_of_run : (test : List ℕ → Bool) (texts : List (List ℕ)) (start from n : ℕ)
+    → map (λ i. test (get_or texts i [])) (range_with_len (start + from) n) ≡ map (λ i. test (get_or texts (start + i) [])) (range_with_len from n)
+places_of_run test texts start from n =
+    let whole = λ (i : ℕ). test (get_or texts i []) in
+    let behind = λ (i : ℕ). test (get_or texts (start + i) []) in
+    ext_get_or false _ _ (length-map-range_with_len whole (start + from) n ∙ sym (length-map-range_with_len behind from n)) (λ i lt.
+    let within : i < n = omega (arith, lt, length-map-range_with_len whole (start + from) n) in
+    get_or-map-range_with_len whole (start + from) n i (start + (from + i)) false within (omega arith)
+    ∙ sym (get_or-map-range_with_len behind from n i (from + i) false within refl))

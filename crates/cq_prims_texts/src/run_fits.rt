@@ -5,7 +5,6 @@ ghost use Rattle.cq_vectors_stored.specs.Columns.{texts_of};
 ghost use Rattle.cq_vectors_stored.specs.LentColumns.{part_of};
 ghost use Rattle.std.specs.Prelude.{length, ◌+◌, ◌≡◌, ◌≤◌};
 
-use crate::having_texts::word_by_run;
 use cq_prims_like::{Pattern, begins};
 use cq_vectors_masks::{PlaceTest, WordTest, answers};
 use cq_vectors_stored::TextRun;
@@ -51,8 +50,7 @@ impl<'a> RunFits<'a> {
         ensures { GivesAnswers self.now.pattern.now self.now.texts.now self.now.start from result }
     {
         let sought = self.pattern.sought()?;
-        let texts = lend_64(self.texts, self.start + from);
-        word_by_run(&sought, &texts)
+        Some(sought.answers(self.texts, self.start + from))
     }
 }
 
@@ -73,17 +71,4 @@ impl<'a> PlaceTest for RunBegins<'a> {
         let fits = self.fits;
         begins(fits.texts.get(fits.start + i), self.front)
     }
-}
-
-/// The texts from one on, where they stand.
-fn lend_64<'b>(texts: &'b TextRun, start: usize) -> [&'b str; 64]
-    requires there { start + 64 ≤ length texts.now }
-    requires few { start + 64 ≤ 65536 }
-    ensures { texts_of result ≡ part_of texts.now start 64 }
-{
-    let mut lent = [""; 64];
-    for i in 0..64 {
-        lent[i] = texts.get(start + i);
-    }
-    lent
 }

@@ -1,16 +1,9 @@
 pub mod Ends
-pub mod Flags
-pub mod Marks
 pub mod Misses
 pub mod NumberEnds
 pub mod OneMore
-pub mod Parts
 pub mod PieceColumns
-pub mod PieceLists
-pub mod PlacesFrom
+pub mod SegmentColumns
 pub mod SegmentRows
 pub mod SortedRows
 pub mod TextEnds
-pub mod Transposed
-pub mod ValuesAt
-pub mod ValuesFrom

@@ -7,12 +7,12 @@ use Rattle.std.proofs.lemmas.List.Elements.{recursion_from_All}
 use Rattle.cq_values.specs.Value.{Row}
 use Rattle.cq_vectors.specs.Gathered.{column_of}
 use Rattle.cq_segments.specs.Bounds.{AreBounds}
-use Rattle.cq_segments.specs.Marked.{MarkedRow, unmarked}
-use Rattle.cq_segments.specs.Pieces.{AreFull, joined}
+use Rattle.cq_segments_pieces.specs.Marked.{MarkedRow, unmarked}
+use Rattle.cq_segments_pieces.specs.Pieces.{AreFull, joined}
 use Rattle.cq_segments.specs.Segment.{HaveBounds}
 use Rattle.cq_segments.specs.declared.held_bounds.HeldBounds.{HeldBounds}
-use Rattle.cq_segments.proofs.Marks.{unmarked-append}
-use Rattle.cq_segments.proofs.PieceLists.{joined-more}
+use Rattle.cq_segments_pieces.proofs.Marks.{unmarked-append}
+use Rattle.cq_segments_pieces.proofs.PieceLists.{joined-more}
 
 -- what holds at each place and of one item more holds at each place of both
 pub each-more : {X : Type 0} (P : ℕ → X → Type 0) (d : X) (xs : List X) (x : X) → ((k : ℕ) → k < length xs → P k (get_or xs k d)) → P (length xs) x → (k : ℕ) → k < length (xs ++ x ∷ []) → P k (get_or (xs ++ x ∷ []) k d)

@@ -5,10 +5,10 @@ use Rattle.std.proofs.lemmas.List.{map-append, take_all, take_more}
 use Rattle.cq_values.specs.Value.{Row, column}
 use Rattle.cq_values.specs.declared.value.Value.{Value}
 use Rattle.cq_vectors.specs.Gathered.{column_of}
-use Rattle.cq_segments.specs.Marked.{MarkedRow, rows_of}
-use Rattle.cq_segments.specs.Pieces.{joined}
-use Rattle.cq_segments.proofs.Marks.{rows_of-append}
-use Rattle.cq_segments.proofs.PieceLists.{joined-more}
+use Rattle.cq_segments_pieces.specs.Marked.{MarkedRow, rows_of}
+use Rattle.cq_segments_pieces.specs.Pieces.{joined}
+use Rattle.cq_segments_pieces.proofs.Marks.{rows_of-append}
+use Rattle.cq_segments_pieces.proofs.PieceLists.{joined-more}
 
 -- where no flag is set, each part makes a value
 pub zip_clear : {A : Type 0} (unless : A → Bool → Value) (parts : List A) (flags : List Bool) → length flags ≡ length parts → ((k : ℕ) → get_or flags k false ≡ false)

@@ -3,22 +3,22 @@ use Rattle.std.proofs.Common.{◌≡◌, ◌∙◌, ℕ, zero, suc, ◌+◌, ◌
 use Rattle.std.specs.Prelude.{slice_set}
 use Rattle.std.specs.List.{AllByRecursion, list_any}
 use Rattle.std.specs.List.Sorted.{IsPermutation, IsSorted, IsStable}
-use Rattle.std.proofs.lemmas.List.{get_or_default, get_or_past, length-map, nil_from_length, take_more}
+use Rattle.std.proofs.lemmas.List.{get_or_default, get_or_past, length-map, nil_from_length}
 use Rattle.std.proofs.lemmas.List.Elements.{All-from_recursion, recursion_from_All}
-use Rattle.std.proofs.lemmas.List.Folds.{length-flat_map-take}
 use Rattle.std.proofs.lemmas.List.Sorted.{All-permutation}
 use Rattle.cq_values.specs.Value.{Row, is_null}
 use Rattle.cq_values.specs.declared.value.Value.TheVariants.{Null}
+use Rattle.cq_encodings.specs.declared.any_encoded.AnyEncoded.{AnyEncoded}
 use Rattle.cq_vectors.specs.Gathered.{column_of}
 use Rattle.cq_segments.specs.Bounds.{AreBounds, IsBounded}
-use Rattle.cq_segments.specs.Columns.{AreWide}
-use Rattle.cq_segments.specs.Marked.{MarkedRow, live, marked_count, marks_of, rows_of, unmarked, with_mark}
-use Rattle.cq_segments.specs.Pieces.{AreFull, joined}
+use Rattle.cq_segments_pieces.specs.Columns.{AreWide, columns_in, columns_of}
+use Rattle.cq_segments_pieces.specs.Marked.{MarkedRow, live, marks_of, rows_of, unmarked, with_mark}
+use Rattle.cq_segments_pieces.specs.Pieces.{AreFull, joined}
 use Rattle.cq_segments.specs.Segment.{HaveBounds, IsSegment}
 use Rattle.cq_segments.specs.Sorted.{IsBuilt, columns_cmp}
 use Rattle.cq_segments.specs.declared.held_bounds.HeldBounds.{HeldBounds}
-use Rattle.cq_segments.proofs.Marks.{count-append, length-live, length-mark, live-unmarked, mark-at, mark-behind, mark-in-front, row-at, rows_of-mark, rows_of-unmarked}
-use Rattle.cq_segments.proofs.PieceLists.{before_it, full-length, full-set, item-at, joined-at, joined-more, joined-set, list_there, place_there}
+use Rattle.cq_segments_pieces.proofs.Marks.{length-mark, live-unmarked, mark-at, mark-behind, mark-in-front, row-at, rows_of-mark, rows_of-unmarked}
+use Rattle.cq_segments_pieces.proofs.PieceLists.{before_it, full-length, full-set, item-at, joined-at, joined-set, list_there, place_there}
 
 abbrev blank : MarkedRow
 blank = record { row = []; marked = false }
@@ -71,13 +71,14 @@ module _ (pieces : List (List MarkedRow)) (are : AreFull pieces) (stored : List 
     same_length = ap length marked ∙ length-mark stored place ∙ ap length (sym whole)
 
     -- are those of a segment still
-    pub segment-marked : (bounds : List HeldBounds) → IsSegment pieces bounds → IsSegment marked_pieces bounds
-    segment-marked bounds s = record {
+    pub segment-marked : (encoded : List AnyEncoded) (bounds : List HeldBounds) → IsSegment encoded pieces bounds → IsSegment encoded marked_pieces bounds
+    segment-marked encoded bounds s = record {
       some = omega (arith, s.some, same_length);
       few = omega (arith, s.few, same_length);
       full = full-set pieces are (place / 1024) (with_mark (place % 1024) piece) piece_there (length-mark piece (place % 1024) ∙ ap length piece_is);
       wide = subst (AreWide (length bounds)) (sym same_rows) s.wide;
       bounded = subst (HaveBounds bounds) (sym same_rows) s.bounded;
+      columns = s.columns ∙ ap (λ rows. columns_of rows (length bounds)) (sym same_rows);
     }
 
 -- ---- how many rows
@@ -86,10 +87,6 @@ module _ (pieces : List (List MarkedRow)) (are : AreFull pieces) (stored : List 
 pub last_piece : (pieces : List (List MarkedRow)) (n : ℕ) → AreFull pieces → n ≡ length pieces → 0 < length (joined pieces) → (0 < n) × (length (joined pieces) ≡ 1024 * (n - 1) + length (get_or pieces (n - 1) []))
 last_piece pieces zero are e some = absurd (omega (arith, some, ap (λ l. length (joined l)) (nil_from_length pieces (sym e))))
 last_piece pieces (suc k) are e some = (omega arith, full-length pieces are (suc k - 1) (omega (arith, e)))
-
--- no more marks than rows
-pub few_marks : (stored : List MarkedRow) → marked_count stored ≤ length stored
-few_marks stored = omega (arith, length-live stored)
 
 -- ---- bounds
 
@@ -127,8 +124,9 @@ module _ (rows sorted : List Row) (built : List MarkedRow) (made : built ≡ unm
 
 -- pieces of rows with their bounds are a segment
 pub segment-built : (rows : List Row) (pieces : List (List MarkedRow)) → joined pieces ≡ unmarked rows
-    → (width : ℕ) (bounds : List HeldBounds) → AreFull pieces → length bounds ≡ width → HaveBounds bounds rows → AreWide width rows → 0 < length rows → length rows ≤ 65536 → IsSegment pieces bounds
-segment-built rows pieces made width bounds full as_many bounded wide some few =
+    → (width : ℕ) (encoded : List AnyEncoded) (bounds : List HeldBounds) → AreFull pieces → columns_in encoded ≡ columns_of rows width → length bounds ≡ width → HaveBounds bounds rows
+    → AreWide width rows → 0 < length rows → length rows ≤ 65536 → IsSegment encoded pieces bounds
+segment-built rows pieces made width encoded bounds full columns as_many bounded wide some few =
     let count = ap length made ∙ length-map rows (λ (row : Row). record { row = row; marked = false }) in
     let there = ap rows_of made ∙ rows_of-unmarked rows in
     record {
@@ -137,21 +135,5 @@ segment-built rows pieces made width bounds full as_many bounded wide some few =
       full = full;
       wide = subst (AreWide (length bounds)) (sym there) (subst (λ n. AreWide n rows) (sym as_many) wide);
       bounded = subst (HaveBounds bounds) (sym there) bounded;
+      columns = columns ∙ ap₂ columns_of (sym there) (sym as_many);
     }
-
--- ---- marks, piece by piece
-
-module _ (pieces : List (List MarkedRow)) (i : ℕ) (lt : i < length pieces) (piece : List MarkedRow) (read : piece ≡ get_or pieces i piece) where
-  is_there : piece ≡ get_or pieces i []
-  is_there = read ∙ get_or_default pieces i piece [] lt
-
-  -- the marks of one piece more
-  pub count-more : marked_count (joined (take (i + 1) pieces)) ≡ marked_count (joined (take i pieces)) + marked_count piece
-  count-more =
-      ap (λ l. marked_count (joined l)) (take_more pieces i [] lt) ∙ ap marked_count (joined-more (take i pieces) (get_or pieces i []))
-      ∙ count-append (joined (take i pieces)) (get_or pieces i []) ∙ ap (λ l. marked_count (joined (take i pieces)) + marked_count l) (sym is_there)
-
-  -- are no more than rows
-  pub few-more : marked_count (joined (take i pieces)) + marked_count piece ≤ length (joined pieces)
-  few-more =
-      omega (arith, few_marks (joined (take i pieces)), few_marks piece, ap length is_there, length-flat_map-take (λ (l : List MarkedRow). l) pieces i [] lt)

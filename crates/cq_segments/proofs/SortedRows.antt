@@ -8,10 +8,10 @@ use Rattle.std.proofs.lemmas.List.{get_or-map, length-map}
 use Rattle.cq_model_bags.proofs.Totals.{by_test}
 use Rattle.cq_values.specs.Keys.{value_cmp_total}
 use Rattle.cq_values.specs.Value.{Row, column}
-use Rattle.cq_segments.specs.Rows.{row_of, stored_rows}
+use Rattle.cq_segments_pieces.specs.Rows.{row_of, stored_rows}
 use Rattle.cq_segments.specs.Sorted.{columns_cmp}
-use Rattle.cq_segments.specs.declared.stored_row.StoredRow.{StoredRow}
-use Rattle.cq_segments.specs.declared.stored_row.StoredRow.TheVariants as stored
+use Rattle.cq_segments_pieces.specs.declared.stored_row.StoredRow.{StoredRow}
+use Rattle.cq_segments_pieces.specs.declared.stored_row.StoredRow.TheVariants as stored
 
 -- the order of the columns is total
 pub columns_cmp_total : (sort : List ℕ) → IsTotalOrder (columns_cmp sort)

@@ -1,9 +1,9 @@
 -- Rows in the order in which they stand in a segment.
 use Rattle.std.specs.Prelude.{List}
 use Rattle.cq_values.specs.Value.{Row}
-use Rattle.cq_segments.specs.Marked.{rows_of}
-use Rattle.cq_segments.specs.Pieces.{joined}
-use Rattle.cq_segments.specs.Rows.{stored_rows}
+use Rattle.cq_segments_pieces.specs.Marked.{rows_of}
+use Rattle.cq_segments_pieces.specs.Pieces.{joined}
+use Rattle.cq_segments_pieces.specs.Rows.{stored_rows}
 use Rattle.cq_segments.specs.declared.in_order.InOrder.{InOrder}
 use Rattle.cq_segments.specs.declared.in_order.InOrder.TheVariants as order
 

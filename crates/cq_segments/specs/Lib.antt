@@ -1,12 +1,8 @@
 pub mod Bounds
 pub mod ColumnTest
-pub mod Columns
 pub mod Gathered
 pub mod InOrder
-pub mod Marked
 pub mod Numbers
-pub mod Pieces
-pub mod Rows
 pub mod Segment
 pub mod Sorted
 pub mod Texts

@@ -6,7 +6,7 @@ use Rattle.std.specs.Ordering.{on, then_cmp}
 use Rattle.std.specs.List.Sorted.{IsPermutation, IsSorted, IsStable}
 use Rattle.cq_values.specs.Order.{value_cmp}
 use Rattle.cq_values.specs.Value.{Row, column}
-use Rattle.cq_segments.specs.Marked.{MarkedRow, live, unmarked}
+use Rattle.cq_segments_pieces.specs.Marked.{MarkedRow, live, unmarked}
 
 -- by the first of these columns, then by the next
 abbrev pub columns_cmp : List ℕ → Row → Row → Ordering

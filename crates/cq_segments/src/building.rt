@@ -2,18 +2,17 @@
 ghost use Rattle.std.specs.Prelude.{IfOk, length, ◌≡◌, ◌≤◌};
 ghost use Rattle.cq_encodings.specs.AnyEncoded.{encoded_values};
 ghost use Rattle.cq_segments.specs.Bounds.{AreBounds};
-ghost use Rattle.cq_segments.specs.Columns.{AreLong, columns_in, columns_of, encoded_rows};
+ghost use Rattle.cq_segments_pieces.specs.Columns.{AreLong, columns_in, columns_of, encoded_rows};
 ghost use Rattle.cq_segments.specs.InOrder.{rows_in_order};
-ghost use Rattle.cq_segments.specs.Marked.{unmarked};
-ghost use Rattle.cq_segments.specs.Pieces.{AreFull, joined};
+ghost use Rattle.cq_segments_pieces.specs.Marked.{unmarked};
+ghost use Rattle.cq_segments_pieces.specs.Pieces.{AreFull, joined};
 ghost use Rattle.cq_segments.specs.Segment.{HaveBounds};
 ghost use Rattle.cq_vectors.specs.Gathered.{column_of};
 
-use crate::columns::Columns;
 use crate::held_bounds::HeldBounds;
 use crate::in_order::InOrder;
-use crate::piece::Piece;
 use cq_encodings::AnyEncoded;
+use cq_segments_pieces::{Columns, Piece};
 use std::alloc::{AllocError, Global};
 use std::rc::Rc;
 

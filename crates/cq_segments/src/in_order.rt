@@ -2,20 +2,17 @@
 ghost use Rattle.std.specs.Prelude.{IfOk, OnOk, map, ◌++◌, ◌≡◌};
 ghost use Rattle.cq_segments.specs.Gathered.{AreOfKind, gathered_values};
 ghost use Rattle.cq_segments.specs.InOrder.{rows_in_order};
-ghost use Rattle.cq_segments.specs.Marked.{rows_of};
-ghost use Rattle.cq_segments.specs.Pieces.{joined};
-ghost use Rattle.cq_segments.specs.Rows.{stored_rows};
+ghost use Rattle.cq_segments_pieces.specs.Marked.{rows_of};
+ghost use Rattle.cq_segments_pieces.specs.Pieces.{joined};
+ghost use Rattle.cq_segments_pieces.specs.Rows.{stored_rows};
 ghost use Rattle.cq_values.specs.Lent.{owned};
 ghost use Rattle.cq_vectors.specs.Gathered.{column_of};
 
-use crate::columns::Columns;
 use crate::gathered::Gathered;
-use crate::lending::lend_column;
 use crate::numbers::numbers_in_column;
-use crate::piece::Piece;
 use crate::pieces_numbers::numbers_in_pieces;
 use crate::pieces_texts::texts_in_pieces;
-use crate::stored_row::StoredRow;
+use cq_segments_pieces::{Columns, Piece, StoredRow, lend_column};
 use std::alloc::{AllocError, Global};
 
 /// Rows, or all of those of pieces.

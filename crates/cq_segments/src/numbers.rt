@@ -5,12 +5,11 @@ ghost use Rattle.std.specs.List.{AllByRecursion};
 ghost use Rattle.std.specs.Prelude.{IfOk, IfSome, [], slice_index_or, ◌≡◌};
 ghost use Rattle.cq_encodings_plain.specs.Kind.{IsOf, StandsFor};
 ghost use Rattle.cq_segments.specs.Numbers.{AreNumbersAt};
-ghost use Rattle.cq_segments.specs.Rows.{row_of, stored_rows};
+ghost use Rattle.cq_segments_pieces.specs.Rows.{row_of, stored_rows};
 ghost use Rattle.cq_values.specs.Value.{column as column_at};
 
-use crate::columns::Columns;
-use crate::stored_row::StoredRow;
 use cq_encodings_plain::{Kind, kind_of};
+use cq_segments_pieces::{Columns, StoredRow};
 use std::alloc::{AllocError, Global};
 
 /// The numbers that stand for the values of a column, and their kind. None where there is no row, one of the values is

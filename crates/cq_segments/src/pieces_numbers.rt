@@ -9,10 +9,9 @@ ghost use Rattle.cq_encodings_plain.specs.Kind.{IsOf, number_values};
 ghost use Rattle.cq_segments.specs.Numbers.{AreNumbersIn};
 ghost use Rattle.cq_vectors.specs.Gathered.{column_of};
 
-use crate::columns::Columns;
-use crate::piece::Piece;
 use cq_encodings::AnyEncoded;
 use cq_encodings_plain::{Kind, Plain, PlainNumbers, is_of};
+use cq_segments_pieces::{Columns, Piece};
 use std::alloc::{AllocError, Global};
 
 /// The numbers that stand for the values of a column, and their kind. None where there is no piece, a value is NULL or

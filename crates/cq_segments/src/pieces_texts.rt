@@ -4,16 +4,15 @@
 ghost use Rattle.std.specs.Prelude.{IfOk, IfSome, OnOk, take, ◌++◌, ◌≡◌, ◌≤◌};
 ghost use Rattle.cq_encodings.specs.AnyEncoded.{encoded_values};
 ghost use Rattle.cq_encodings.specs.Texts.{text_values};
-ghost use Rattle.cq_segments.specs.Marked.{rows_of};
-ghost use Rattle.cq_segments.specs.Pieces.{joined};
+ghost use Rattle.cq_segments_pieces.specs.Marked.{rows_of};
+ghost use Rattle.cq_segments_pieces.specs.Pieces.{joined};
 ghost use Rattle.cq_segments.specs.Texts.{AreTextsAt};
 ghost use Rattle.cq_vectors.specs.Gathered.{column_of};
 ghost use Rattle.cq_vectors_stored.specs.Columns.{texts_of};
 
-use crate::columns::Columns;
-use crate::piece::Piece;
 use cq_encodings::AnyEncoded;
 use cq_encodings_plain::{Plain, PlainTexts};
+use cq_segments_pieces::{Columns, Piece};
 use cq_vectors_stored::TextRun;
 use std::alloc::{AllocError, Global};
 

@@ -1,33 +1,36 @@
 //! Rows of a table that were built once, column by column.
 //!
 //! `build` sorts rows and encodes each of their columns once; after it only `mark` changes the segment. `pieces` lends
-//! 1,024 rows at a time for readers, and `may_match` says by the `bounds` of a column whether a scan may skip it all. To build costs a sort and some
-//! steps a value; `mark`, `is_marked` and `lend` cost some steps, `marked_len` one step a piece; none of these takes memory.
+//! 1,024 rows at a time for readers, `gather_at` copies a column of some rows, and `may_match` says by the `bounds` of a
+//! column whether a scan may skip it all. To build costs a sort and some steps a value; `mark`, `is_marked` and `lend`
+//! cost some steps, `marked_len` one step a piece; none of these takes memory.
 ghost use Rattle.std.specs.Bool.{OnFalse};
 ghost use Rattle.std.specs.Prelude.{IfOk, [], false, length, slice_index_or, ◌<◌, ◌≡◌, ◌≤◌};
 ghost use Rattle.std.specs.List.{All};
+ghost use Rattle.cq_encodings_vectors.specs.Places.{AreBelow, rows_at};
 ghost use Rattle.cq_segments.specs.Bounds.{AreBounds, ends_of};
 ghost use Rattle.cq_segments.specs.ColumnTest.{NoneMatches};
-ghost use Rattle.cq_segments.specs.Columns.{AreWide};
+ghost use Rattle.cq_segments_pieces.specs.Columns.{AreWide};
 ghost use Rattle.cq_segments.specs.InOrder.{rows_in_order};
-ghost use Rattle.cq_segments.specs.Marked.{marked_count, marks_of, rows_of, unmarked, with_mark};
-ghost use Rattle.cq_segments.specs.Pieces.{joined};
-ghost use Rattle.cq_segments.specs.Rows.{stored_rows};
+ghost use Rattle.cq_segments_pieces.specs.Marked.{marked_count, marks_of, rows_of, unmarked, with_mark};
+ghost use Rattle.cq_segments_pieces.specs.Pieces.{joined};
+ghost use Rattle.cq_segments_pieces.specs.Rows.{row_of, stored_rows};
 ghost use Rattle.cq_segments.specs.Sorted.{IsBuilt};
 ghost use Rattle.cq_values.specs.Lent.{owned};
-ghost use Rattle.cq_values.specs.Value.{column as column_at};
+ghost use Rattle.cq_values.specs.Value.{column as value_of};
 ghost use Rattle.cq_vectors.specs.Gathered.{column_of};
 
 use crate::bounds::Bounds;
 use crate::building::{encode_columns, make_pieces};
 use crate::column_test::ColumnTest;
-use crate::columns::Columns;
 use crate::held_bounds::HeldBounds;
 use crate::in_order::InOrder;
-use crate::piece::Piece;
 use crate::sorting::sorted;
-use crate::stored_row::StoredRow;
+use cq_encodings::AnyEncoded;
+use cq_encodings_vectors::column_at;
+use cq_segments_pieces::{Columns, Piece, StoredRow};
 use cq_values::Lent;
+use cq_vectors::{Form, Vector};
 use std::alloc::{AllocError, Global};
 use std::marker::Model;
 use std::rc::Rc;
@@ -35,21 +38,23 @@ use std::rc::Rc;
 /// At least one row and at most 65,536, all of one width, each with its mark.
 #[derive(Drop)]
 pub struct Segment {
+    /// The columns of all rows, which the pieces share.
+    encoded: Rc<Vec<AnyEncoded>>,
     pieces: Vec<Piece>,
     bounds: Vec<HeldBounds>,
 }
 
 impl Model for Segment {
     ghost use Rattle.std.specs.Prelude.{List};
-    ghost use Rattle.cq_segments.specs.Marked.{MarkedRow};
-    ghost use Rattle.cq_segments.specs.Pieces.{joined};
+    ghost use Rattle.cq_segments_pieces.specs.Marked.{MarkedRow};
+    ghost use Rattle.cq_segments_pieces.specs.Pieces.{joined};
     ghost use Rattle.cq_segments.specs.Segment.{IsSegment};
 
     ghost Value = { List MarkedRow };
 
     ghost view = { λ s. joined s.pieces.items };
 
-    ghost invariant = { λ s. IsSegment s.pieces.items s.bounds.items };
+    ghost invariant = { λ s. IsSegment s.encoded.value.items s.pieces.items s.bounds.items };
 }
 
 impl Segment {
@@ -100,8 +105,13 @@ impl Segment {
         ensures { IfOk result (λ s. s ≡ unmarked (rows_in_order rows.now)) }
     {
         let (encoded, bounds) = encode_columns(alloc, rows, width)?;
-        let pieces = make_pieces(alloc, Rc::new(alloc, encoded)?, len)?;
-        Ok(Segment { pieces, bounds })
+        let shared = Rc::new(alloc, encoded)?;
+        let pieces = make_pieces(alloc, shared.clone()?, len)?;
+        Ok(Segment {
+            encoded: shared,
+            pieces,
+            bounds,
+        })
     }
 
     pub fn len(&self) -> usize
@@ -149,6 +159,31 @@ impl Segment {
         (piece.columns(), (place % 1024) as u16)
     }
 
+    /// The row at a place, where it stands.
+    pub fn row(&self, place: usize) -> StoredRow<'_>
+        requires { place < length self.now }
+        ensures { row_of result ≡ slice_index_or (rows_of self.now) place [] }
+    {
+        self.pieces[place / 1024].columns().row(place % 1024)
+    }
+
+    /// The values of a column in the rows at some places, of any piece.
+    pub fn gather_at(
+        &self,
+        alloc: Global,
+        places: &[u16],
+        column: usize,
+    ) -> Result<Vector<'_>, AllocError>
+        requires few { length places.now ≤ 1024 }
+        requires there { AreBelow (length self.now) places.now }
+        ensures { IfOk result (λ v. v ≡ column_of (rows_at (rows_of self.now) places.now) column) }
+    {
+        match self.encoded.as_ref().get(column) {
+            Some(encoded) => column_at(alloc, encoded, places),
+            None => Ok(Vector::new(Form::Constant(Lent::Null, places.len()))),
+        }
+    }
+
     pub fn is_marked(&self, place: usize) -> bool
         requires { place < length self.now }
         ensures { result ≡ slice_index_or (marks_of self.now) place false }
@@ -167,7 +202,7 @@ impl Segment {
     /// The value of a column in the row at a place, and NULL where there is none.
     pub fn lend(&self, place: usize, column: usize) -> Lent<'_>
         requires { place < length self.now }
-        ensures { owned result ≡ column_at (slice_index_or (rows_of self.now) place []) column }
+        ensures { owned result ≡ value_of (slice_index_or (rows_of self.now) place []) column }
     {
         self.pieces[place / 1024]
             .columns()

@@ -1,10 +1,10 @@
 //! Rows in the order of some columns.
 ghost use Rattle.std.specs.List.Sorted.{IsPermutation, IsSorted};
 ghost use Rattle.std.specs.Prelude.{IfOk, ◌≡◌};
-ghost use Rattle.cq_segments.specs.Rows.{row_of, stored_rows};
+ghost use Rattle.cq_segments_pieces.specs.Rows.{row_of, stored_rows};
 ghost use Rattle.cq_segments.specs.Sorted.{KeepsTies, columns_cmp};
 
-use crate::stored_row::StoredRow;
+use cq_segments_pieces::StoredRow;
 use cq_values::cmp_lent;
 use std::alloc::{AllocError, Global};
 use std::cmp::Ordering;

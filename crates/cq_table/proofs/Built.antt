@@ -6,12 +6,12 @@ use Rattle.cq_values.specs.Value.{Row}
 use Rattle.cq_model_bags.specs.Canonical.{bag_of}
 use Rattle.cq_model_bags.proofs.Canonicals.{bag_of-same, bag_of-weights, length-bag_of, times_in-append}
 use Rattle.cq_model_bags.proofs.Sorts.{SameBag-permutation}
-use Rattle.cq_segments.specs.Marked.{MarkedRow, live, marked_count}
-use Rattle.cq_segments.specs.Pieces.{joined}
+use Rattle.cq_segments_pieces.specs.Marked.{MarkedRow, live, marked_count}
+use Rattle.cq_segments_pieces.specs.Pieces.{joined}
 use Rattle.cq_segments.specs.Sorted.{IsBuilt}
 use Rattle.cq_table.specs.Changes.{AreBuilt}
 use Rattle.cq_table.specs.Table.{SameRows}
-use Rattle.cq_segments.proofs.Marks.{count-append, count-unmarked, length-live, live-append}
+use Rattle.cq_segments_pieces.proofs.Marks.{count-append, count-unmarked, length-live, live-append}
 use Rattle.cq_table.proofs.Moved.{as_often}
 use Rattle.cq_table.proofs.RowLists.{drop-least, take-least}
 

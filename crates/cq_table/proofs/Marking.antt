@@ -4,8 +4,8 @@ use Rattle.std.specs.List.{AllByRecursion}
 use Rattle.std.proofs.lemmas.List.{length-map}
 use Rattle.cq_model_bags.proofs.Totals.{by_test}
 use Rattle.cq_values.specs.Value.{Row}
-use Rattle.cq_segments.specs.Marked.{MarkedRow, live, rows_of, unmarked, with_mark, with_marks}
-use Rattle.cq_segments.proofs.Marks.{length-mark, mark-in-front, rows_of-mark}
+use Rattle.cq_segments_pieces.specs.Marked.{MarkedRow, live, rows_of, unmarked, with_mark, with_marks}
+use Rattle.cq_segments_pieces.proofs.Marks.{length-mark, mark-in-front, rows_of-mark}
 use Rattle.cq_encodings_vectors.specs.Places.{AreBelow}
 use Rattle.cq_table.specs.Found.{AreLiveAt, AreThere, is_live_at}
 

@@ -5,8 +5,8 @@ use Rattle.cq_values.specs.Value.{Row}
 use Rattle.cq_model_bags.specs.Canonical.{bag_of}
 use Rattle.cq_model_bags.proofs.Canonicals.{bag_of-same, times_in-append, times_in-bag_of}
 use Rattle.cq_model_bags.proofs.Listings.{times_in}
-use Rattle.cq_segments.specs.Marked.{MarkedRow, live}
-use Rattle.cq_segments.proofs.Marks.{live-append}
+use Rattle.cq_segments_pieces.specs.Marked.{MarkedRow, live}
+use Rattle.cq_segments_pieces.proofs.Marks.{live-append}
 
 -- rows of one bag are there as often
 pub as_often : (xs ys : List Row) → bag_of xs ≡ bag_of ys → (r : Row) → times_in r xs ≡ times_in r ys

@@ -2,11 +2,11 @@
 use Rattle.std.proofs.Common.{◌≡◌, ℕ, zero, suc, ◌+◌, ◌-◌, ◌<◌, ◌≤◌, List, [], ◌∷◌, ◌++◌, map, take, length, get_or, refl, sym, ap, ◌∙◌, arith}
 use Rattle.std.specs.Prelude.{slice_set}
 use Rattle.std.proofs.lemmas.List.{append-nil, append_assoc, length-append, length-map, take_all, take_more}
-use Rattle.cq_segments.specs.Marked.{MarkedRow, marked_count, rows_of, with_mark}
-use Rattle.cq_segments.specs.Pieces.{joined}
+use Rattle.cq_segments_pieces.specs.Marked.{MarkedRow, marked_count, rows_of, with_mark}
+use Rattle.cq_segments_pieces.specs.Pieces.{joined}
 use Rattle.cq_table.specs.Reached.{HasReached, IsReached}
 use Rattle.cq_table.specs.declared.placing.Reached.{Reached}
-use Rattle.cq_segments.proofs.Marks.{count-append, length-live, mark-behind, mark-in-front}
+use Rattle.cq_segments_pieces.proofs.Marks.{count-append, length-live, mark-behind, mark-in-front}
 
 -- lists behind others
 pub joined-append : {X : Type 0} (xs ys : List (List X)) → joined (xs ++ ys) ≡ joined xs ++ joined ys

@@ -12,10 +12,10 @@ use Rattle.cq_model_bags.specs.Canonical.{bag_of}
 use Rattle.cq_model_bags.proofs.Canonicals.{length-bag_of}
 use Rattle.cq_model_bags.proofs.Lists.{all-append, all-drop, all-front, all-weaker}
 use Rattle.cq_model_state.specs.Fitting.{FitsColumns}
-use Rattle.cq_segments.specs.Columns.{AreWide}
-use Rattle.cq_segments.specs.Marked.{MarkedRow, live, marked_count, rows_of, unmarked, with_marks}
-use Rattle.cq_segments.specs.Pieces.{joined}
-use Rattle.cq_segments.proofs.Marks.{count-append, length-live, length-rows_of, live-append, live-unmarked, rows_of-append, rows_of-unmarked}
+use Rattle.cq_segments_pieces.specs.Columns.{AreWide}
+use Rattle.cq_segments_pieces.specs.Marked.{MarkedRow, live, marked_count, rows_of, unmarked, with_marks}
+use Rattle.cq_segments_pieces.specs.Pieces.{joined}
+use Rattle.cq_segments_pieces.proofs.Marks.{count-append, length-live, length-rows_of, live-append, live-unmarked, rows_of-append, rows_of-unmarked}
 use Rattle.cq_table.specs.Changes.{AreBuilt, Merges, MergesCounts, Moves, MovesCounts}
 use Rattle.cq_table.specs.Checks.{HasRoom}
 use Rattle.cq_table.specs.Found.{AreLiveAt, AreThere, IsFound, found_rows}

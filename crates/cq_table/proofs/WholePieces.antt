@@ -4,11 +4,11 @@ use Rattle.std.specs.List.{AllByRecursion}
 use Rattle.std.proofs.lemmas.List.{append_assoc, drop-append-le, drop-take, drop_all, length-append, length-drop, length-map, length-take, take-append-drop, take-append-le, take-take, take_all}
 use Rattle.cq_model_bags.proofs.Lists.{all-back, all-drop, all-front, all-take, all-weaker}
 use Rattle.cq_model_bags.proofs.Totals.{by_test}
-use Rattle.cq_segments.specs.Columns.{AreWide}
-use Rattle.cq_segments.specs.Marked.{MarkedRow, live, rows_of, unmarked}
-use Rattle.cq_segments.specs.Pieces.{joined}
+use Rattle.cq_segments_pieces.specs.Columns.{AreWide}
+use Rattle.cq_segments_pieces.specs.Marked.{MarkedRow, live, rows_of, unmarked}
+use Rattle.cq_segments_pieces.specs.Pieces.{joined}
 use Rattle.cq_segments.specs.Sorted.{IsBuilt}
-use Rattle.cq_segments.proofs.Marks.{live-append, live-unmarked, rows_of-append, unmarked-append}
+use Rattle.cq_segments_pieces.proofs.Marks.{live-append, live-unmarked, rows_of-append, unmarked-append}
 use Rattle.cq_table.specs.Changes.{AreBuilt}
 use Rattle.cq_table.specs.Whole.{AreWholeFirst, BuiltBefore, IsWhole}
 use Rattle.cq_table.proofs.Segmenting.{joined-append}

@@ -3,7 +3,7 @@ use Rattle.std.proofs.Common.{List, length}
 use Rattle.std.specs.List.{AllByRecursion}
 use Rattle.cq_values.specs.Value.{Row}
 use Rattle.cq_values.specs.declared.column.ColumnDef.{ColumnDef}
-use Rattle.cq_segments.specs.Columns.{AreWide}
+use Rattle.cq_segments_pieces.specs.Columns.{AreWide}
 use Rattle.cq_model_state.specs.Fitting.{FitsColumn, FitsColumns}
 use Rattle.cq_model_bags.proofs.Lists.{all-weaker}
 use Rattle.cq_model_state.proofs.Pairwise.{pointwise_length}

@@ -5,8 +5,8 @@ use Rattle.cq_model_bags.specs.Canonical.{bag_of}
 use Rattle.cq_model.specs.Expr.{Cond}
 use Rattle.cq_model.specs.Write.{left_by, updated}
 use Rattle.cq_model.specs.declared.assignment.Assignment.{Assignment}
-use Rattle.cq_segments.specs.Marked.{MarkedRow, live, unmarked, with_marks}
-use Rattle.cq_segments.specs.Pieces.{joined}
+use Rattle.cq_segments_pieces.specs.Marked.{MarkedRow, live, unmarked, with_marks}
+use Rattle.cq_segments_pieces.specs.Pieces.{joined}
 use Rattle.cq_segments.specs.Sorted.{IsBuilt}
 use Rattle.cq_table.specs.Found.{IsFound}
 use Rattle.cq_table.specs.Table.{StoredTable, marked_len, stored_in, table_rows, with_stored, write_len}

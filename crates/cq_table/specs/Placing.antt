@@ -1,11 +1,11 @@
 -- Stored rows by their places: those of the segments, and behind them those of the write store.
 use Rattle.std.specs.Prelude.{◌≡◌, ℕ, List, [], ◌++◌, slice_index_or}
 use Rattle.std.specs.Global.{Vec}
-use Rattle.cq_segments.specs.Rows.{stored_rows}
-use Rattle.cq_segments.specs.declared.stored_row.StoredRow.{StoredRow}
+use Rattle.cq_segments_pieces.specs.Rows.{stored_rows}
+use Rattle.cq_segments_pieces.specs.declared.stored_row.StoredRow.{StoredRow}
 use Rattle.cq_values.specs.Value.{Row}
-use Rattle.cq_segments.specs.Marked.{MarkedRow, rows_of, with_mark, with_marks}
-use Rattle.cq_segments.specs.Pieces.{joined}
+use Rattle.cq_segments_pieces.specs.Marked.{MarkedRow, rows_of, with_mark, with_marks}
+use Rattle.cq_segments_pieces.specs.Pieces.{joined}
 use Rattle.cq_writestore.specs.Writes.{Writes}
 use Rattle.cq_writestore.specs.declared.written.Written.{Written}
 use Rattle.cq_table.specs.Found.{found_rows}

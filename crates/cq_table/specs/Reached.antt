@@ -1,7 +1,7 @@
 -- The segment in which a place stands, among those of segments and behind them the write store.
 use Rattle.std.specs.Prelude.{◌≡◌, ◌≤◌, ◌<◌, ◌-◌, ℕ, List, [], length, take, slice_index_or}
-use Rattle.cq_segments.specs.Marked.{MarkedRow}
-use Rattle.cq_segments.specs.Pieces.{joined}
+use Rattle.cq_segments_pieces.specs.Marked.{MarkedRow}
+use Rattle.cq_segments_pieces.specs.Pieces.{joined}
 use Rattle.cq_table.specs.declared.placing.Reached.{Reached}
 
 -- it is one of the segments, or the end of them, and the rows before it are counted

@@ -5,9 +5,9 @@ use Rattle.cq_values.specs.declared.column.ColumnDef.{ColumnDef}
 use Rattle.cq_values.specs.Value.{Row}
 use Rattle.cq_model_bags.specs.Canonical.{bag_of}
 use Rattle.cq_model_state.specs.Fitting.{FitsColumns}
-use Rattle.cq_segments.specs.Columns.{AreWide}
-use Rattle.cq_segments.specs.Marked.{MarkedRow, live, marked_count, rows_of}
-use Rattle.cq_segments.specs.Pieces.{joined}
+use Rattle.cq_segments_pieces.specs.Columns.{AreWide}
+use Rattle.cq_segments_pieces.specs.Marked.{MarkedRow, live, marked_count, rows_of}
+use Rattle.cq_segments_pieces.specs.Pieces.{joined}
 use Rattle.cq_writestore.specs.Writes.{written_rows}
 use Rattle.cq_writestore.specs.declared.written.Written.{Written}
 use Rattle.cq_table_columns.specs.Stored.{stored_marked}

@@ -1,17 +1,18 @@
 //! Segments that are built of rows.
 ghost use Rattle.std.specs.Prelude.{IfOk, length, take, ◌≡◌, ◌≤◌};
-ghost use Rattle.cq_segments.specs.Columns.{AreWide};
-ghost use Rattle.cq_segments.specs.Marked.{live, rows_of};
-ghost use Rattle.cq_segments.specs.Rows.{stored_rows};
+ghost use Rattle.cq_segments_pieces.specs.Columns.{AreWide};
+ghost use Rattle.cq_segments_pieces.specs.Marked.{live, rows_of};
+ghost use Rattle.cq_segments_pieces.specs.Rows.{stored_rows};
 ghost use Rattle.cq_table.specs.Changes.{AreBuilt};
 ghost use Rattle.cq_table.specs.Table.{live_front};
 ghost use Rattle.cq_writestore.specs.Writes.{written_rows};
 
-use crate::table::Layout;
-use crate::whole::{build_whole, count_whole};
-use cq_segments::{Segment, StoredRow};
+use cq_segments::Segment;
+use cq_segments_pieces::StoredRow;
 use cq_table_columns::Stored;
 use cq_writestore::Written;
+use crate::table::Layout;
+use crate::whole::{build_whole, count_whole};
 use std::alloc::{AllocError, Global};
 
 /// Segments of the live ones among the first rows of a source. No row is copied before it is encoded.

@@ -1,7 +1,7 @@
 //! The images of rows under SET, and whether they may be stored.
 ghost use Rattle.std.specs.List.{AllByRecursion, list_any};
 ghost use Rattle.std.specs.Prelude.{◌≡◌, ◌<◌, IfOk, length, map};
-ghost use Rattle.cq_segments.specs.Rows.{stored_rows};
+ghost use Rattle.cq_segments_pieces.specs.Rows.{stored_rows};
 ghost use Rattle.cq_values.specs.Lent.{owned};
 ghost use Rattle.cq_values.specs.Value.{column};
 ghost use Rattle.cq_model.specs.Eval.{eval};
@@ -10,11 +10,11 @@ ghost use Rattle.cq_model.specs.Write.{image_of};
 ghost use Rattle.cq_binder_rules.specs.UpdateChecks.{is_null, is_outside, never_null};
 ghost use Rattle.cq_table.specs.Checks.{AreNarrowSets, IsChecked, one_fault, values_fault};
 
-use crate::fault::TableFault;
 use cq_model::{Assignment, Expr};
 use cq_model_eval::{eval_row, narrow_is_exact};
-use cq_segments::StoredRow;
+use cq_segments_pieces::StoredRow;
 use cq_values::{ColumnDef, Lent, Row, Value, lend_column};
+use crate::fault::TableFault;
 use std::alloc::{AllocError, Global};
 
 /// Refuses the first assignment with a value in one of the rows that its column cannot have.

@@ -6,16 +6,17 @@
 //! rows, and a merge all rows of the segments; each lends the live ones, at two words a row, before it builds. Where no
 //! order is asked for, a move takes whole pieces as they stand.
 ghost use Rattle.std.specs.Prelude.{◌≡◌, ◌<◌, ◌≤◌, ◌*◌, ◌+◌, ◌^◌, OnErr, OnOk, length, min};
-ghost use Rattle.cq_segments.specs.Marked.{marked_count};
-ghost use Rattle.cq_segments.specs.Pieces.{joined};
+ghost use Rattle.cq_segments_pieces.specs.Marked.{marked_count};
+ghost use Rattle.cq_segments_pieces.specs.Pieces.{joined};
 ghost use Rattle.cq_table.specs.Changes.{Merges, MergesCounts, Moves, MovesCounts};
 ghost use Rattle.cq_table.specs.Table.{table_rows};
 
-use crate::building::{build_front, build_written};
-use crate::table::Table;
-use cq_segments::{Segment, widened};
+use cq_segments::Segment;
+use cq_segments_pieces::widened;
 use cq_table_columns::Stored;
 use cq_writestore::Written;
+use crate::building::{build_front, build_written};
+use crate::table::Table;
 use std::alloc::{AllocError, Global};
 
 impl Table {

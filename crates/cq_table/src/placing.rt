@@ -1,13 +1,14 @@
 //! Stored rows by their places, of which those of the segments come first, one segment behind the other.
 ghost use Rattle.std.specs.Prelude.{◌++◌, ◌+◌, ◌≡◌, ◌<◌, IfOk, [], length, map, slice_index_or};
-ghost use Rattle.cq_segments.specs.Pieces.{joined};
-ghost use Rattle.cq_segments.specs.Rows.{row_of};
+ghost use Rattle.cq_segments_pieces.specs.Pieces.{joined};
+ghost use Rattle.cq_segments_pieces.specs.Rows.{row_of};
 ghost use Rattle.cq_table.specs.Found.{AreThere};
 ghost use Rattle.cq_table.specs.Placing.{AreRowsAt, MarksRow, MarksRows, row_stored_at};
 ghost use Rattle.cq_table.specs.Reached.{HasReached, IsReached};
 ghost use Rattle.cq_writestore.specs.Writes.{written_rows};
 
-use cq_segments::{Segment, StoredRow};
+use cq_segments::Segment;
+use cq_segments_pieces::StoredRow;
 use cq_writestore::{WriteStore, Written};
 use std::alloc::{AllocError, Global};
 

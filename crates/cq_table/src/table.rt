@@ -9,24 +9,25 @@ ghost use Rattle.std.specs.Prelude.{◌++◌, ◌+◌, ◌≡◌, ◌≤◌, [],
 ghost use Rattle.cq_model_bags.specs.Canonical.{bag_of};
 ghost use Rattle.cq_model.specs.Width.{IsNarrowIn};
 ghost use Rattle.cq_model_state.specs.Fitting.{FitsColumns};
-ghost use Rattle.cq_segments.specs.Rows.{stored_rows};
+ghost use Rattle.cq_segments_pieces.specs.Rows.{stored_rows};
 ghost use Rattle.cq_table.specs.Changes.{Deletes, Exchanges, LeavesFound, MarksOnly, with_written};
 ghost use Rattle.cq_table.specs.Checks.{HasRoom, IsChecked, no_room, too_many};
 ghost use Rattle.cq_table.specs.Found.{AreLiveAt, AreThere, IsFound, PicksChosen, chosen_count, found_rows};
 ghost use Rattle.cq_table.specs.Table.{IsSound, limited_to, live_rows, marked_len, stored_in, table_rows, without_rows, write_len};
 ghost use Rattle.cq_table_columns.specs.Stored.{all_rows, stored_marked};
 
+use cq_model::Cond;
+use cq_segments::Segment;
+use cq_segments_pieces::StoredRow;
+use cq_table_columns::Stored;
+use cq_values::{ColumnDef, Seq};
+use cq_writestore::WriteStore;
+use cq_writestore_rows::NewRows;
 use crate::fault::TableFault;
 use crate::finding::found_places;
 use crate::found::Found;
 use crate::moving::count_marks;
 use crate::placing::{mark_all, rows_at};
-use cq_model::Cond;
-use cq_segments::{Segment, StoredRow};
-use cq_table_columns::Stored;
-use cq_values::{ColumnDef, Seq};
-use cq_writestore::WriteStore;
-use cq_writestore_rows::NewRows;
 use std::alloc::{AllocError, Global};
 use std::marker::Model;
 

@@ -1,12 +1,13 @@
 //! Segments of pieces as they stand: where no order is asked for, no row is looked at by itself.
 ghost use Rattle.std.specs.Prelude.{[], IfOk, length, ◌*◌, ◌<◌, ◌≡◌, ◌≤◌};
-ghost use Rattle.cq_segments.specs.Columns.{AreWide};
-ghost use Rattle.cq_segments.specs.Marked.{rows_of};
-ghost use Rattle.cq_segments.specs.Pieces.{joined};
+ghost use Rattle.cq_segments_pieces.specs.Columns.{AreWide};
+ghost use Rattle.cq_segments_pieces.specs.Marked.{rows_of};
+ghost use Rattle.cq_segments_pieces.specs.Pieces.{joined};
 ghost use Rattle.cq_table.specs.Whole.{AreWholeFirst, BuiltBefore, first_rows};
 
+use cq_segments::Segment;
+use cq_segments_pieces::Piece;
 use crate::table::Layout;
-use cq_segments::{Piece, Segment};
 use std::alloc::{AllocError, Global};
 
 /// How many segments of so many rows can be built of the first pieces as they stand: none where an order is asked for.

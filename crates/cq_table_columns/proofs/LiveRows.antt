@@ -5,9 +5,9 @@ use Rattle.std.proofs.Math.Seq.{get_or-append_seam}
 use Rattle.std.proofs.lemmas.List.{append_assoc, get_or-map, nil_from_length, take-append-drop, take-map}
 use Rattle.cq_model_bags.proofs.Totals.{by_test}
 use Rattle.cq_values.specs.Value.{Row}
-use Rattle.cq_segments.specs.Marked.{MarkedRow, live, live_from, rows_of, unmarked}
+use Rattle.cq_segments_pieces.specs.Marked.{MarkedRow, live, live_from, rows_of, unmarked}
 use Rattle.cq_encodings_vectors.specs.Places.{AreBelow, places_at, rows_at}
-use Rattle.cq_segments.proofs.Marks.{length-live_from, length-rows_of, live-append}
+use Rattle.cq_segments_pieces.proofs.Marks.{length-live_from, length-rows_of, live-append}
 use Rattle.cq_table_columns.proofs.AtPlaces.{below-at, rows-at}
 
 -- ---- rows none of which has a mark stand at all places

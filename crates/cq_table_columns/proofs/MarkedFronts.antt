@@ -1,9 +1,9 @@
 -- Live rows of a front, by their places among all that stand there.
 use Rattle.std.proofs.Common.{◌≡◌, ◌∙◌, ℕ, List, length, sym, ap, ap₂, subst}
 use Rattle.cq_values.specs.Value.{Row}
-use Rattle.cq_segments.specs.Marked.{MarkedRow, live, live_from, rows_of, unmarked}
+use Rattle.cq_segments_pieces.specs.Marked.{MarkedRow, live, live_from, rows_of, unmarked}
 use Rattle.cq_encodings_vectors.specs.Places.{AreBelow, places_at, rows_at}
-use Rattle.cq_segments.proofs.Marks.{length-live_from, rows_of-unmarked}
+use Rattle.cq_segments_pieces.proofs.Marks.{length-live_from, rows_of-unmarked}
 use Rattle.cq_table_columns.proofs.LiveRows.{places_there, rows_there}
 use Rattle.cq_table_columns.specs.Stored.{StandAt, front_rows, marked_rows}
 use Rattle.cq_table_columns.specs.declared.front.Front.{Front}

@@ -1,9 +1,9 @@
 -- Rows in parts, one behind the other.
 use Rattle.std.proofs.Common.{◌≡◌, ◌∙◌, ℕ, zero, suc, ◌+◌, ◌-◌, ◌≤◌, List, [], ◌∷◌, ◌++◌, length, length-append, take, refl, sym, ap, arith}
 use Rattle.std.proofs.lemmas.List.{append_assoc}
-use Rattle.cq_segments.specs.Marked.{MarkedRow, live}
-use Rattle.cq_segments.specs.Pieces.{joined}
-use Rattle.cq_segments.proofs.Marks.{length-live, live-append, live-unmarked}
+use Rattle.cq_segments_pieces.specs.Marked.{MarkedRow, live}
+use Rattle.cq_segments_pieces.specs.Pieces.{joined}
+use Rattle.cq_segments_pieces.proofs.Marks.{length-live, live-append, live-unmarked}
 use Rattle.cq_table_columns.specs.Stored.{front_rows, marked_rows}
 use Rattle.cq_table_columns.specs.declared.front.Front.{Front}
 use Rattle.cq_table_columns.specs.declared.front.Front.TheVariants as front

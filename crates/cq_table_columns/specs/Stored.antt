@@ -2,8 +2,8 @@
 use Rattle.std.specs.Prelude.{◌≡◌, ◌++◌, ℕ, List, []}
 use Rattle.cq_values.specs.Value.{Row}
 use Rattle.cq_encodings_vectors.specs.Places.{rows_at}
-use Rattle.cq_segments.specs.Marked.{MarkedRow, live, rows_of, unmarked}
-use Rattle.cq_segments.specs.Pieces.{joined}
+use Rattle.cq_segments_pieces.specs.Marked.{MarkedRow, live, rows_of, unmarked}
+use Rattle.cq_segments_pieces.specs.Pieces.{joined}
 use Rattle.cq_writestore.specs.Writes.{tail_rows, written_rows}
 use Rattle.cq_table_columns.specs.declared.front.Front.{Front}
 use Rattle.cq_table_columns.specs.declared.front.Front.TheVariants as front

@@ -4,7 +4,7 @@
 //! It costs two bytes a row; no row is copied. Places count all rows that stand there, so that marks are read once.
 ghost use Rattle.std.specs.Prelude.{◌≡◌, ◌≤◌, IfOk, length};
 ghost use Rattle.cq_encodings_vectors.specs.Places.{AreBelow, rows_at};
-ghost use Rattle.cq_segments.specs.Rows.{stored_rows};
+ghost use Rattle.cq_segments_pieces.specs.Rows.{stored_rows};
 ghost use Rattle.cq_table_columns.specs.Stored.{front_rows};
 ghost use Rattle.cq_vectors.specs.Gathered.{column_of};
 
@@ -12,7 +12,7 @@ use crate::front::Front;
 use crate::gathering::gather;
 use crate::places::front_at;
 use cq_encodings_vectors::copies_at;
-use cq_segments::StoredRow;
+use cq_segments_pieces::StoredRow;
 use cq_vectors::Vector;
 use std::alloc::{AllocError, Global};
 use std::marker::Model;

@@ -5,17 +5,17 @@
 //! stand there with it. To find one live row costs a step a row before it, all of them one step each.
 ghost use Rattle.std.specs.List.{range_with_len};
 ghost use Rattle.std.specs.Prelude.{◌<◌, ◌≡◌, ◌≤◌, IfOk, [], length, slice_index_or, take};
-ghost use Rattle.cq_segments.specs.Marked.{live, live_from, rows_of};
+ghost use Rattle.cq_segments_pieces.specs.Marked.{live, live_from, rows_of};
 ghost use Rattle.cq_encodings_vectors.specs.Places.{AreBelow};
-ghost use Rattle.cq_segments.specs.Rows.{row_of, stored_rows};
+ghost use Rattle.cq_segments_pieces.specs.Rows.{row_of, stored_rows};
 ghost use Rattle.cq_table_columns.specs.Stored.{StandAt, front_rows, marked_rows};
 ghost use Rattle.cq_vectors.specs.Gathered.{column_of};
 ghost use Rattle.cq_writestore.specs.Writes.{tail_rows};
 
 use crate::gathering::gather;
-use crate::places::front_at;
+use crate::places::{copied, front_at};
 use cq_encodings_vectors::copies_at;
-use cq_segments::{Columns, Piece, StoredRow};
+use cq_segments_pieces::{Columns, Piece, StoredRow};
 use cq_values::Row;
 use cq_vectors::Vector;
 use cq_writestore::WrittenFront;
@@ -211,14 +211,6 @@ fn len_below(places: &[u16], end: usize) -> usize
         len += 1;
     }
     len
-}
-
-fn copied(alloc: Global, places: &[u16]) -> Result<Vec<u16>, AllocError>
-    ensures { IfOk result (λ p. p.items ≡ places.now) }
-{
-    let mut copied: Vec<u16> = Vec::new(alloc);
-    copied.extend_from_slice(places)?;
-    Ok(copied)
 }
 
 fn first_places(alloc: Global, len: usize) -> Result<Vec<u16>, AllocError>

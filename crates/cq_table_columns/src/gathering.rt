@@ -1,10 +1,10 @@
 //! The values of a column of rows.
 ghost use Rattle.std.specs.Prelude.{IfOk, IfSome, length, ◌≡◌, ◌≤◌};
-ghost use Rattle.cq_segments.specs.Rows.{LendAll, stored_rows};
+ghost use Rattle.cq_segments_pieces.specs.Rows.{LendAll, stored_rows};
 ghost use Rattle.cq_vectors.specs.Gathered.{column_of};
 
 use cq_encodings_vectors::narrowed;
-use cq_segments::{StoredRow, lend_column};
+use cq_segments_pieces::{StoredRow, lend_column};
 use cq_values::Row;
 use cq_vectors::Vector;
 use std::alloc::{AllocError, Global};

@@ -3,14 +3,15 @@
 //! `new` and `of` lend the rows of a table or of a list; those of a table that have a mark are passed over. A reader
 //! takes `split_front` until nothing is left: at most 1,024 rows at a time, in the order of the one list that they are.
 //! Who counts the rows with a mark too takes `split_piece`, or `first_live`, which alone takes memory; `split_segment`
-//! passes a segment that need not be read. All of it is copied freely.
+//! passes a segment that need not be read, and `only_segment` tells where all stand in one. All of it is copied freely.
 ghost use Rattle.std.specs.Prelude.{IfOk, IfSome, length, take, ◌++◌, ◌≡◌};
-ghost use Rattle.cq_segments.specs.Marked.{live};
-ghost use Rattle.cq_segments.specs.Pieces.{joined};
+ghost use Rattle.cq_segments_pieces.specs.Marked.{live};
+ghost use Rattle.cq_segments_pieces.specs.Pieces.{joined};
 ghost use Rattle.cq_writestore.specs.Writes.{written_rows};
 
 use crate::front::Front;
-use cq_segments::{Piece, Segment, StoredRow};
+use cq_segments::Segment;
+use cq_segments_pieces::{Piece, StoredRow};
 use cq_values::Row;
 use cq_writestore::Written;
 use std::alloc::{AllocError, Global};
@@ -26,7 +27,7 @@ pub struct Stored<'a> {
 }
 
 impl<'a> Stored<'a> {
-    ghost use Rattle.cq_segments.specs.Rows.{row_of, stored_rows};
+    ghost use Rattle.cq_segments_pieces.specs.Rows.{row_of, stored_rows};
     ghost use Rattle.cq_writestore.specs.Writes.{FewerLeft};
     ghost use Rattle.std.specs.Option.{option_map};
     ghost use Rattle.std.specs.Prelude.{◌<◌, ◌≤◌, ◌↔◌, [], IsTrue, slice_get};
@@ -132,6 +133,14 @@ impl<'a> Stored<'a> {
             count: self.count - live,
         };
         Some((segment, rest))
+    }
+
+    /// The segment in which all of the rows stand: none where the first pieces of it are gone, and where no row is left.
+    pub fn only_segment(&self) -> Option<&'a Segment>
+        ensures { IfSome result (λ s. all_rows self.now ≡ live s.now) }
+    {
+        let (segment, rest) = self.split_segment()?;
+        if rest.is_empty() { Some(segment) } else { None }
     }
 
     /// The rows of the first piece, at most 1,024 that stand there, and those behind them. Each of them may have a mark.

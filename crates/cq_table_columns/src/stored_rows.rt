@@ -1,28 +1,30 @@
 //! Rows where they are stored.
 //!
-//! What a scan goes on with: rows of a list, a whole front, or some places of one. `gather` gives a column as a vector,
-//! `at` keeps the rows at some places, `into_rows` lists them. Of a front a column is read as it stands, and no call
-//! copies a value that it does not give.
+//! What a scan goes on with: rows of a list, a whole front, or some places of one or of a segment. `gather` gives a column
+//! as a vector, `at` and `at_each` keep the rows at some places, `into_rows` lists them. Of a front a column is read as it
+//! stands, and no call copies a value that it does not give.
 ghost use Rattle.std.specs.Prelude.{◌≡◌, ◌≤◌, IfOk, length};
 ghost use Rattle.cq_encodings_vectors.specs.Places.{AreBelow, rows_at};
-ghost use Rattle.cq_segments.specs.Rows.{stored_rows};
+ghost use Rattle.cq_segments_pieces.specs.Rows.{stored_rows};
 ghost use Rattle.cq_table_columns.specs.Rows.{rows_in};
 ghost use Rattle.cq_vectors.specs.Gathered.{column_of};
 
 use crate::chosen::Chosen;
 use crate::front::Front;
 use crate::gathering::gather;
-use crate::places::lent_at;
-use cq_segments::StoredRow;
+use crate::placed::Placed;
+use crate::places::{lent_at, lent_each};
+use cq_segments_pieces::StoredRow;
 use cq_vectors::Vector;
 use std::alloc::{AllocError, Global};
 
-/// Rows where they are stored: those of a list, those of a front, or those at some places of a front.
+/// Rows where they are stored: those of a list, those of a front, or those at some places of a front or of a segment.
 #[derive(Drop)]
 pub enum StoredRows<'a> {
     Listed(Vec<StoredRow<'a>>),
     Front(Front<'a>),
     Chosen(Chosen<'a>),
+    Placed(Placed<'a>),
 }
 
 impl<'a> StoredRows<'a> {
@@ -33,6 +35,7 @@ impl<'a> StoredRows<'a> {
             StoredRows::Listed(rows) => rows.len(),
             StoredRows::Front(front) => front.len(),
             StoredRows::Chosen(chosen) => chosen.len(),
+            StoredRows::Placed(placed) => placed.len(),
         }
     }
 
@@ -45,6 +48,7 @@ impl<'a> StoredRows<'a> {
             StoredRows::Listed(rows) => gather(alloc, rows, column),
             StoredRows::Front(front) => front.gather(alloc, column),
             StoredRows::Chosen(chosen) => chosen.gather(alloc, column),
+            StoredRows::Placed(placed) => placed.gather(alloc, column),
         }
     }
 
@@ -57,10 +61,30 @@ impl<'a> StoredRows<'a> {
             StoredRows::Listed(rows) => Ok(StoredRows::Listed(lent_at(alloc, rows, places)?)),
             StoredRows::Front(front) => Ok(StoredRows::Chosen(Chosen::of(alloc, front, places)?)),
             StoredRows::Chosen(chosen) => Ok(StoredRows::Chosen(chosen.at(alloc, places)?)),
+            StoredRows::Placed(placed) => Ok(StoredRows::Placed(placed.at(alloc, places)?)),
         }
     }
 
-    /// The same once more. Of a front no row is copied.
+    /// Those at some places, where one may come again. Of a front they are listed.
+    pub fn at_each(&self, alloc: Global, places: &[usize]) -> Result<StoredRows<'a>, AllocError>
+        requires { AreBelow (length (rows_in self.now)) places.now }
+        ensures { IfOk result (λ rows. rows_in rows ≡ rows_at (rows_in self.now) places.now) }
+    {
+        match self {
+            StoredRows::Listed(rows) => Ok(StoredRows::Listed(lent_each(alloc, rows, places)?)),
+            StoredRows::Front(front) => {
+                let rows = front.rows(alloc)?;
+                Ok(StoredRows::Listed(lent_each(alloc, &rows, places)?))
+            }
+            StoredRows::Chosen(chosen) => {
+                let rows = chosen.rows(alloc)?;
+                Ok(StoredRows::Listed(lent_each(alloc, &rows, places)?))
+            }
+            StoredRows::Placed(placed) => Ok(StoredRows::Placed(placed.at_each(alloc, places)?)),
+        }
+    }
+
+    /// The same once more. Of a front or a segment no row is copied.
     pub fn copy(&self, alloc: Global) -> Result<StoredRows<'a>, AllocError>
         ensures { IfOk result (λ rows. rows_in rows ≡ rows_in self.now) }
     {
@@ -72,6 +96,7 @@ impl<'a> StoredRows<'a> {
             }
             StoredRows::Front(front) => Ok(StoredRows::Front(*front)),
             StoredRows::Chosen(chosen) => Ok(StoredRows::Chosen(chosen.copy(alloc)?)),
+            StoredRows::Placed(placed) => Ok(StoredRows::Placed(placed.copy(alloc)?)),
         }
     }
 
@@ -83,6 +108,7 @@ impl<'a> StoredRows<'a> {
             StoredRows::Listed(rows) => Ok(rows),
             StoredRows::Front(front) => front.rows(alloc),
             StoredRows::Chosen(chosen) => chosen.rows(alloc),
+            StoredRows::Placed(placed) => placed.rows(alloc),
         }
     }
 }

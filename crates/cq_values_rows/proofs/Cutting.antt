@@ -1,7 +1,7 @@
 -- Rows that are cut from one list.
 use Rattle.std.proofs.Common.{◌≡◌, ◌∙◌, refl, sym, ap, arith, ◌≤◌, ◌<◌, ◌+◌, ◌-◌, ℕ, zero, suc, List, [], ◌∷◌, ◌++◌, append_assoc, length, append-nil, Some, get_or, subst}
 use Rattle.std.specs.Prelude.{take, drop, slice_get, slice_range}
-use Rattle.std.proofs.lemmas.List.{drop-append-le, take-append-le, take_rest, drop-drop, drop_all, drop_more, length-drop}
+use Rattle.std.proofs.lemmas.List.{drop-append-le, take-append-le, take_rest, drop-drop, drop_all, drop_more, length-drop, length-take-le, take-append-drop}
 use Rattle.cq_values.specs.declared.value.Value.{Value}
 use Rattle.cq_values.specs.Value.{Row}
 use Rattle.cq_values_rows.specs.Flat.{AreRisingFrom, IsPlaced, last_end, rows_from}
@@ -47,6 +47,31 @@ pub rows_counted : (start : ℕ) (ends : List ℕ) (vs : List Value) → length 
 unfolding rows_from
 rows_counted start [] vs = refl
 rows_counted start (end ∷ ends) vs = ap suc (rows_counted end ends vs)
+
+-- the last end is that of the last row
+pub end_last : (start : ℕ) (ends : List ℕ) (d : ℕ) → (length ends ≡ 0 → ⊥) → get_or ends (length ends - 1) d ≡ last_end start ends
+unfolding last_end
+end_last start [] d n = absurd (n refl)
+end_last start (end ∷ []) d n = refl
+end_last start (end ∷ later ∷ ends) d n =
+    ap (λ (place : ℕ). get_or (end ∷ later ∷ ends) place d) {x = length (end ∷ later ∷ ends) - 1} {y = suc (length (later ∷ ends) - 1)} (omega arith)
+    ∙ end_last end (later ∷ ends) d (λ e. absurd (omega (arith, e)))
+
+-- ---- the values up to the last end alone
+module _ (ends : List ℕ) (vs : List Value) (end : ℕ) (rising : AreRisingFrom 0 ends) (last : end ≡ last_end 0 ends) (within : last_end 0 ends ≤ length vs) where
+  -- no row ends behind them
+  pub end_kept : last_end 0 ends ≤ length (take end vs)
+  end_kept = omega (arith, last, length-take-le end vs (omega (arith, last, within)))
+
+  -- all rows are kept
+  pub rows_kept : rows_from 0 ends (take end vs) ≡ rows_from 0 ends vs
+  rows_kept = sym (rows_longer 0 ends (take end vs) (drop end vs) rising end_kept) ∙ ap (rows_from 0 ends) (take-append-drop end vs)
+
+  -- and none is begun
+  pub none_begun : slice_range (take end vs) (last_end 0 ends) (length (take end vs)) ≡ []
+  none_begun =
+      take_rest (take end vs) (last_end 0 ends)
+      ∙ drop_all (last_end 0 ends) (take end vs) (omega (arith, last, length-take-le end vs (omega (arith, last, within))))
 
 -- what is from a place on, up to the end
 pub range_to_end : (vs : List Value) (start : ℕ) → slice_range vs start (length vs) ≡ drop start vs

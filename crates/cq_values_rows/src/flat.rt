@@ -28,6 +28,17 @@ impl Model for FlatRows {
 }
 
 impl FlatRows {
+    #[tactic(auto, using(crate::proofs::Cutting::rows_counted), unfolding(crate::specs::Flat::rows_from, crate::specs::Flat::last_end, crate::specs::Flat::AreRisingFrom))]
+    pub fn new(alloc: Global) -> FlatRows
+        ensures rows { result.rows ≡ [] }
+        ensures begun { result.begun ≡ [] }
+    {
+        FlatRows {
+            values: Vec::new(alloc),
+            ends: Vec::new(alloc),
+        }
+    }
+
     /// No rows, with room for so many rows of so many values each.
     #[tactic(auto, using(crate::proofs::Cutting::rows_counted), unfolding(crate::specs::Flat::rows_from, crate::specs::Flat::last_end, crate::specs::Flat::AreRisingFrom))]
     pub fn with_capacity(alloc: Global, rows: usize, width: usize) -> Result<FlatRows, AllocError>
@@ -37,6 +48,16 @@ impl FlatRows {
         let values = Vec::with_capacity(alloc, rows.saturating_mul(width))?;
         let ends = Vec::with_capacity(alloc, rows)?;
         Ok(FlatRows { values, ends })
+    }
+
+    /// Begins a row anew. What was begun is dropped.
+    #[tactic(auto, using(crate::proofs::Cutting::rows_kept, crate::proofs::Cutting::none_begun, crate::proofs::Cutting::end_kept))]
+    pub fn begin_row(&mut self)
+        ensures rows { self.new.rows ≡ self.old.rows }
+        ensures begun { self.new.begun ≡ [] }
+    {
+        let end = end_of(self.ends.as_slice());
+        self.values.truncate(end);
     }
 
     /// Puts a value at the end of the row that is begun.
@@ -94,6 +115,18 @@ impl FlatRows {
     {
         let FlatRows { values, ends } = self;
         cut_rows(alloc, ends.as_slice(), values.into_iter())
+    }
+}
+
+/// Where the last row ends.
+#[tactic(auto, using(crate::proofs::Cutting::end_last), unfolding(crate::specs::Flat::last_end))]
+fn end_of(ends: &[usize]) -> usize
+    ensures { result ≡ last_end 0 ends.now }
+{
+    if ends.is_empty() {
+        0
+    } else {
+        ends[ends.len() - 1]
     }
 }
 

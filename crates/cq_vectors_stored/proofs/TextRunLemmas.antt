@@ -1,8 +1,8 @@
 -- Texts that stand one behind the other.
-use Rattle.std.proofs.Common.{◌≡◌, ℕ, zero, suc, ◌+◌, ◌-◌, ◌<◌, List, [], ◌∷◌, ◌++◌, length, get_or, take, drop, refl, sym, ap, ap₂, subst, ◌∙◌, arith}
+use Rattle.std.proofs.Common.{◌≡◌, ℕ, zero, suc, ◌+◌, ◌-◌, ◌<◌, ◌≤◌, List, [], ◌∷◌, ◌++◌, length, get_or, take, drop, refl, sym, ap, ap₂, subst, ◌∙◌, arith, append_assoc}
 use Rattle.std.specs.List.{All, concat}
 use Rattle.std.specs.Str.{IsUtf8, IsCharBoundary}
-use Rattle.std.proofs.Math.Seq.{take-append_seam, drop-append_seam}
+use Rattle.std.proofs.Math.Seq.{take-add, take-append_seam, drop-append_seam}
 use Rattle.std.proofs.lemmas.List.{get_or_default, length-append, append-nil, take-append-drop, take_more, drop_more}
 use Rattle.std.proofs.lemmas.List.Elements.{All-append, All-drop}
 use Rattle.std.proofs.lemmas.List.Folds.{concat-append}
@@ -67,6 +67,10 @@ length-up_to texts i lt =
     ∙ ap (λ (ts : List (List ℕ)). length (concat ts)) (take_more texts i [] lt) ∙ ap length (concat-append (take i texts) (one ∷ []))
     ∙ ap (λ (l : List ℕ). length (concat (take i texts) ++ l)) (append-nil one) ∙ length-append (concat (take i texts)) one
 
+-- laid one behind the other, texts from one on stand behind those before it
+concat_from : (texts : List (List ℕ)) (start len : ℕ) → concat (take (start + len) texts) ≡ concat (take start texts) ++ concat (take len (drop start texts))
+concat_from texts start len = ap concat (take-add start len texts) ∙ concat-append (take start texts) (take len (drop start texts))
+
 module _ {bytes ends : List ℕ} {texts : List (List ℕ)} (laid : IsLaid bytes ends texts) where
   pub ends_long : length ends ≡ length texts
   ends_long = ap length laid.ended ∙ length-ends_of 0 texts
@@ -74,15 +78,46 @@ module _ {bytes ends : List ℕ} {texts : List (List ℕ)} (laid : IsLaid bytes 
   pub bytes_long : length bytes ≡ length (concat texts)
   bytes_long = ap length laid.joined
 
+  module _ (start len : ℕ) where
+    abbrev front : List ℕ
+    front = concat (take start texts)
+
+    abbrev part : List ℕ
+    part = concat (take len (drop start texts))
+
+    abbrev behind : List ℕ
+    behind = concat (drop (start + len) texts)
+
+    pub part_long : length (concat (take (start + len) texts)) ≡ length front + length part
+    part_long = ap length (concat_from texts start len) ∙ length-append front part
+
+    in_front : bytes ≡ front ++ (part ++ behind)
+    in_front =
+        laid.joined ∙ ap concat (sym (take-append-drop (start + len) texts)) ∙ concat-append (take (start + len) texts) (drop (start + len) texts)
+        ∙ ap (λ (l : List ℕ). l ++ behind) (concat_from texts start len) ∙ append_assoc front part behind
+
+    pub part_within : length front + length part ≤ length bytes
+    part_within = omega (arith, ap {B = ℕ} length in_front, length-append front (part ++ behind), length-append part behind)
+
+    -- the bytes between where one begins and where another ends are those of the texts from the one on
+    pub part_between : (n : ℕ) → n ≡ length part → take n (drop (length front) bytes) ≡ part
+    part_between n long =
+        ap (λ (bs : List ℕ). take n (drop (length front) bs)) in_front ∙ ap (take n) (drop-append_seam front (part ++ behind))
+        ∙ ap (λ (m : ℕ). take m (part ++ behind)) long ∙ take-append_seam part behind
+
+  -- a text ends where those up to it do
+  pub up_to_end : (i d : ℕ) → i < length texts → get_or ends i d ≡ length (concat (take (i + 1) texts))
+  up_to_end i d lt =
+      get_or_default ends i d 0 (omega (arith, ends_long)) ∙ ap (λ (es : List ℕ). get_or es i 0) laid.ended ∙ first_ends-at texts i lt
+      ∙ ap (λ (n : ℕ). length (concat (take n texts))) {x = suc i} {y = i + 1} (omega arith)
+
   -- a text begins where those before it end
-  pub start_at : (i d : ℕ) → 0 < i → i < length texts → get_or ends (i - 1) d ≡ length (concat (take i texts))
-  start_at i d some lt =
-      get_or_default ends (i - 1) d 0 (omega (arith, ends_long)) ∙ ap (λ (es : List ℕ). get_or es (i - 1) 0) laid.ended ∙ first_ends-at texts (i - 1) (omega arith)
-      ∙ ap (λ (n : ℕ). length (concat (take n texts))) {x = suc (i - 1)} {y = i} (omega arith)
+  pub start_at : (i d : ℕ) → 0 < i → i ≤ length texts → get_or ends (i - 1) d ≡ length (concat (take i texts))
+  start_at i d some le = up_to_end (i - 1) d (omega arith) ∙ ap (λ (n : ℕ). length (concat (take n texts))) {x = i - 1 + 1} {y = i} (omega arith)
 
   module _ (i : ℕ) (lt : i < length texts) where
     pub end_at : (d : ℕ) → get_or ends i d ≡ length (concat (take i texts)) + length (get_or texts i [])
-    end_at d = get_or_default ends i d 0 (omega (arith, ends_long)) ∙ ap (λ (es : List ℕ). get_or es i 0) laid.ended ∙ first_ends-at texts i lt ∙ length-up_to texts i lt
+    end_at d = up_to_end i d lt ∙ ap (λ (n : ℕ). length (concat (take n texts))) {x = i + 1} {y = suc i} (omega arith) ∙ length-up_to texts i lt
 
     -- a text begins at a character
     pub starts_well : IsCharBoundary bytes (length (concat (take i texts)))

@@ -1,10 +1,13 @@
 //! Texts that stand one behind the other.
 //!
 //! A run is made empty and grows by `push`; a text in it does not change. What is kept of each text is where it ends.
-//! `get` lends a text where it stands and takes no memory; `push` asks for room for one text, and a run that is full
-//! takes none: `has_room` tells. To contracts a run is the list of its texts, each as its bytes.
-ghost use Rattle.std.specs.List.{concat};
-ghost use Rattle.std.specs.Prelude.{IsTrue, OnErr, OnOk, [], ◌++◌, ◌∷◌, length, slice_index_or, ◌+◌, ◌<◌, ◌≡◌, ◌≤◌, ◌↔◌, take};
+//! `get` lends a text where it stands, and `bytes_of` the bytes of many; neither takes memory. `push` asks for room for
+//! one text, and a run that is full takes none: `has_room` tells. To contracts a run is the list of its texts, each as
+//! its bytes.
+ghost use Rattle.std.specs.List.{All, concat};
+ghost use Rattle.std.specs.Prelude.{IsTrue, OnErr, OnOk, [], ◌++◌, ◌∷◌, length, slice_index_or, ◌+◌, ◌<◌, ◌^◌, ◌≡◌, ◌≤◌, ◌↔◌, take};
+ghost use Rattle.std.specs.Str.{IsUtf8};
+ghost use Rattle.cq_vectors_stored.specs.LentColumns.{part_of};
 ghost use Rattle.cq_vectors_stored.specs.TextRun.{HasRoom};
 
 use std::alloc::{AllocError, Global};
@@ -76,11 +79,31 @@ impl TextRun {
         &self.string.as_str()[start..self.ends[i] as usize]
     }
 
-    /// Where a text begins.
-    fn start(&self, i: usize) -> usize
-        requires { i < length self.now }
+    /// The bytes of so many texts from one on, as they stand.
+    pub fn bytes_of(&self, start: usize, len: usize) -> &[u8]
+        requires { start + len ≤ length self.now }
+        ensures bytes { result.now ≡ concat (part_of self.now start len) }
+        ensures short { length result.now < 2 ^ 32 }
+        ensures utf8 { All IsUtf8 self.now }
+    {
+        let bytes = self.string.as_bytes();
+        let (from, to) = (self.start(start), self.start(start + len));
+        &bytes[from..to]
+    }
+
+    /// Where a text begins, and where all end for one past the last.
+    pub fn start(&self, i: usize) -> usize
+        requires { i ≤ length self.now }
         ensures { result ≡ length (concat (take i self.now)) }
     {
         if i == 0 { 0 } else { self.ends[i - 1] as usize }
+    }
+
+    /// Where a text ends.
+    pub fn end(&self, i: usize) -> usize
+        requires { i < length self.now }
+        ensures { result ≡ length (concat (take (i + 1) self.now)) }
+    {
+        self.ends[i] as usize
     }
 }

@@ -1,6 +1,6 @@
 -- What a write changes in a table: rows that go, and rows that come.
 use Rattle.std.specs.Prelude.{◌+◌, ◌<◌, ◌^◌, ℕ, ℤ, pos, neg_ℤ, nat_abs, List, ◌++◌, map}
-use Rattle.cq_segments.specs.Rows.{stored_rows}
+use Rattle.cq_segments_pieces.specs.Rows.{stored_rows}
 use Rattle.cq_values.specs.Value.{Row}
 use Rattle.cq_model_bags.specs.Bag.{Weighted, once_each, weight_of}
 use Rattle.cq_views.specs.Filling.{only}

@@ -3,8 +3,8 @@ use Rattle.std.proofs.Common.{◌≡◌, ◌∙◌, ℕ, zero, suc, ◌+◌, ◌
 use Rattle.std.proofs.Math.Seq.{drop-length, take-append_seam}
 use Rattle.std.proofs.lemmas.List.{append_assoc, drop-append-le, length-map, take-append-drop}
 use Rattle.cq_values.specs.Value.{Row}
-use Rattle.cq_segments.specs.Marked.{MarkedRow, rows_of, unmarked, with_flags, with_mark}
-use Rattle.cq_segments.proofs.Marks.{flags-none, length-flags, length-rows_of, mark-behind, rows_of-flags, rows_of-unmarked, unmarked-append}
+use Rattle.cq_segments_pieces.specs.Marked.{MarkedRow, rows_of, unmarked, with_flags, with_mark}
+use Rattle.cq_segments_pieces.proofs.Marks.{flags-none, length-flags, length-rows_of, mark-behind, rows_of-flags, rows_of-unmarked, unmarked-append}
 use Rattle.cq_writestore.specs.Writes.{with_flags_behind}
 use Rattle.cq_writestore_rows.specs.NewRows.{NoneMarked}
 

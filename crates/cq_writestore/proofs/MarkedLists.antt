@@ -5,8 +5,8 @@ use Rattle.std.proofs.lemmas.List.{drop-append-le, length-drop, length-take-le, 
 use Rattle.std.proofs.Math.ListN.{drop_of_length-le}
 use Rattle.std.proofs.Math.Seq.{drop-append-add, take-append_seam}
 use Rattle.cq_values.specs.Value.{Row}
-use Rattle.cq_segments.specs.Marked.{MarkedRow, live, live_from, marked_count, marks_of, rows_of, unmarked, with_flags}
-use Rattle.cq_segments.proofs.Marks.{flags-none, length-flags, length-live, live_from-kept, live_from-passed, live_from-there, none-marked}
+use Rattle.cq_segments_pieces.specs.Marked.{MarkedRow, live, live_from, marked_count, marks_of, rows_of, unmarked, with_flags}
+use Rattle.cq_segments_pieces.proofs.Marks.{flags-none, length-flags, length-live, live_from-kept, live_from-passed, live_from-there, none-marked}
 
 -- the mark of a row is its flag
 pub flag-at : (rows : List Row) (flags : List Bool) (place : ℕ) → place < length rows → get_or (marks_of (with_flags rows flags)) place false ≡ get_or flags place false

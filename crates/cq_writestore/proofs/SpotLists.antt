@@ -7,10 +7,10 @@ use Rattle.std.proofs.Math.Seq.{drop-append-add, drop-nil}
 use Rattle.std.proofs.lemmas.List.{drop-append-le, drop-drop, drop_more, get_or-drop, get_or_default, length-drop, length-take-le, take-append-drop}
 use Rattle.std.proofs.lemmas.List.Concat.{get_or-flat_map}
 use Rattle.cq_model_bags.proofs.Lists.{all-append, all-at, all-drop, all-take}
-use Rattle.cq_segments.specs.Marked.{MarkedRow, marked_count, marks_of, rows_of, with_mark}
-use Rattle.cq_segments.specs.Pieces.{joined}
-use Rattle.cq_segments.proofs.Marks.{count-mark, length-mark, mark-at, mark-behind, mark-in-front, row-at}
-use Rattle.cq_segments.proofs.PieceLists.{joined-append, joined-at, joined-set}
+use Rattle.cq_segments_pieces.specs.Marked.{MarkedRow, marked_count, marks_of, rows_of, with_mark}
+use Rattle.cq_segments_pieces.specs.Pieces.{joined}
+use Rattle.cq_segments_pieces.proofs.Marks.{count-mark, length-mark, mark-at, mark-behind, mark-in-front, row-at}
+use Rattle.cq_segments_pieces.proofs.PieceLists.{joined-append, joined-at, joined-set}
 use Rattle.cq_writestore.specs.Spots.{AreHeld, IsIn}
 use Rattle.cq_writestore_rows.specs.NewRows.{AreWhole}
 

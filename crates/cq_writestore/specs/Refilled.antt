@@ -1,7 +1,7 @@
 -- Rows that are put into columns anew.
 use Rattle.std.specs.Prelude.{◌≡◌, ◌++◌, List, []}
 use Rattle.cq_values.specs.Value.{Row}
-use Rattle.cq_segments.specs.Columns.{AreWide}
+use Rattle.cq_segments_pieces.specs.Columns.{AreWide}
 use Rattle.cq_writestore_rows.specs.Filling.{Filled}
 
 -- the next row can begin, and these are as wide as each is to be

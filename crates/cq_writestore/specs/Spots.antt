@@ -1,7 +1,7 @@
 -- Where the items of lists stand, of which each but the first has 1,024.
 use Rattle.std.specs.Prelude.{◌≡◌, ◌<◌, ◌+◌, ℕ, List, [], drop, length, slice_index_or, take}
-use Rattle.cq_segments.specs.Marked.{MarkedRow, marked_count}
-use Rattle.cq_segments.specs.Pieces.{joined}
+use Rattle.cq_segments_pieces.specs.Marked.{MarkedRow, marked_count}
+use Rattle.cq_segments_pieces.specs.Pieces.{joined}
 use Rattle.cq_writestore.specs.declared.spot.Spot.{Spot}
 use Rattle.cq_writestore.specs.declared.spot.Spot.TheVariants.{Behind, InPiece}
 use Rattle.cq_writestore_rows.specs.NewRows.{AreWhole}

@@ -1,7 +1,7 @@
 -- A write store: its rows with their marks, and how many more there is room for.
 use Rattle.std.specs.Prelude.{◌<◌, ◌≤◌, ◌+◌, ◌^◌, ◌++◌, ℕ, Bool, List, drop, length, take}
-use Rattle.cq_segments.specs.Marked.{MarkedRow, rows_of, with_flags}
-use Rattle.cq_segments.specs.Pieces.{joined}
+use Rattle.cq_segments_pieces.specs.Marked.{MarkedRow, rows_of, with_flags}
+use Rattle.cq_segments_pieces.specs.Pieces.{joined}
 use Rattle.cq_writestore.specs.declared.tail.Tail.{Tail}
 use Rattle.cq_writestore.specs.declared.written.Written.{Written}
 

@@ -17,7 +17,7 @@ pub struct WrittenFront<'a> {
 impl<'a> WrittenFront<'a> {
     ghost use Rattle.std.specs.Bool.{OnTrue};
     ghost use Rattle.std.specs.Prelude.{IfOk, slice_index_or, ◌<◌, ◌≡◌};
-    ghost use Rattle.cq_segments.specs.Marked.{live, live_from, rows_of, unmarked};
+    ghost use Rattle.cq_segments_pieces.specs.Marked.{live, live_from, rows_of, unmarked};
     ghost use Rattle.cq_writestore.specs.Writes.{tail_rows};
     ghost use Rattle.cq_writestore_rows.specs.NewRows.{NoneMarked};
 

@@ -3,12 +3,12 @@
 //! Each piece but the first has 1,024 rows, so a row is found in some steps. `take_front` drops whole pieces and cuts the
 //! next one; it costs a step a piece, and the rows that it cuts.
 ghost use Rattle.std.specs.Prelude.{OnErr, OnOk, [], drop, length, ◌++◌, ◌+◌, ◌<◌, ◌^◌, ◌≡◌, ◌≤◌};
-ghost use Rattle.cq_segments.specs.Marked.{marked_count, with_mark};
-ghost use Rattle.cq_segments.specs.Pieces.{joined};
+ghost use Rattle.cq_segments_pieces.specs.Marked.{marked_count, with_mark};
+ghost use Rattle.cq_segments_pieces.specs.Pieces.{joined};
 ghost use Rattle.cq_writestore_rows.specs.NewRows.{AreWhole};
 
+use cq_segments_pieces::Piece;
 use crate::spot::{Spot, spot_of};
-use cq_segments::Piece;
 use std::alloc::{AllocError, Global};
 use std::marker::Model;
 
@@ -22,8 +22,8 @@ pub(crate) struct PieceStore {
 
 impl Model for PieceStore {
     ghost use Rattle.std.specs.Prelude.{List};
-    ghost use Rattle.cq_segments.specs.Marked.{MarkedRow};
-    ghost use Rattle.cq_segments.specs.Pieces.{joined};
+    ghost use Rattle.cq_segments_pieces.specs.Marked.{MarkedRow};
+    ghost use Rattle.cq_segments_pieces.specs.Pieces.{joined};
     ghost use Rattle.cq_writestore.specs.Spots.{AreHeld};
 
     ghost Value = { List MarkedRow };

@@ -2,13 +2,13 @@
 //!
 //! Each value goes from where it stands to where it stays: a row is made of the last ones alone, which fill no piece.
 ghost use Rattle.std.specs.Prelude.{IfOk, OnOk, [], length, ◌++◌, ◌≡◌, ◌∷◌};
-ghost use Rattle.cq_segments.specs.Columns.{AreWide};
-ghost use Rattle.cq_segments.specs.Marked.{rows_of};
-ghost use Rattle.cq_segments.specs.Pieces.{joined};
-ghost use Rattle.cq_segments.specs.Rows.{row_of};
+ghost use Rattle.cq_segments_pieces.specs.Columns.{AreWide};
+ghost use Rattle.cq_segments_pieces.specs.Marked.{rows_of};
+ghost use Rattle.cq_segments_pieces.specs.Pieces.{joined};
+ghost use Rattle.cq_segments_pieces.specs.Rows.{row_of};
 ghost use Rattle.cq_writestore.specs.Refilled.{Adds, CanTake};
 
-use cq_segments::{Columns, Piece, StoredRow};
+use cq_segments_pieces::{Columns, Piece, StoredRow};
 use cq_values::{ColumnDef, Row};
 use cq_writestore_rows::{Filling, NewRows};
 use std::alloc::{AllocError, Global};

@@ -1,10 +1,10 @@
 //! Where the rows of pieces stand.
 ghost use Rattle.std.specs.Prelude.{drop, length, ◌<◌, ◌^◌, ◌≡◌};
-ghost use Rattle.cq_segments.specs.Pieces.{joined};
+ghost use Rattle.cq_segments_pieces.specs.Pieces.{joined};
 ghost use Rattle.cq_writestore.specs.Spots.{IsSpot};
 ghost use Rattle.cq_writestore_rows.specs.NewRows.{AreWhole};
 
-use cq_segments::Piece;
+use cq_segments_pieces::Piece;
 
 /// Where a row stands that comes at some place.
 pub(crate) enum Spot {

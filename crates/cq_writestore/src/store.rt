@@ -7,18 +7,18 @@
 //! Each costs its rows, and a step a piece; `append` also up to 1,023 older rows, which it puts into a piece, and
 //! `take_front` shifts those that stay and are in no piece.
 ghost use Rattle.std.specs.Prelude.{OnErr, OnOk, [], drop, length, ◌++◌, ◌+◌, ◌<◌, ◌^◌, ◌≡◌, ◌≤◌, ◌∷◌};
-ghost use Rattle.cq_segments.specs.Columns.{AreWide};
-ghost use Rattle.cq_segments.specs.Marked.{marked_count, rows_of, unmarked, with_mark};
+ghost use Rattle.cq_segments_pieces.specs.Columns.{AreWide};
+ghost use Rattle.cq_segments_pieces.specs.Marked.{marked_count, rows_of, unmarked, with_mark};
 ghost use Rattle.cq_writestore.specs.Writes.{with_flags_behind, written_rows};
 ghost use Rattle.cq_writestore_rows.specs.NewRows.{NoneMarked};
 
+use cq_segments_pieces::widened;
+use cq_values::{ColumnDef, Row};
+use cq_writestore_rows::NewRows;
 use crate::piece_store::PieceStore;
 use crate::refilled::refilled;
 use crate::tail_store::{TailStore, push_all};
 use crate::written::Written;
-use cq_segments::widened;
-use cq_values::{ColumnDef, Row};
-use cq_writestore_rows::NewRows;
 use std::alloc::{AllocError, Global};
 use std::marker::Model;
 use std::mem;

@@ -15,7 +15,7 @@ pub struct Tail<'a> {
 impl<'a> Tail<'a> {
     ghost use Rattle.std.specs.Bool.{OnTrue};
     ghost use Rattle.std.specs.Prelude.{false, drop, length, slice_index_or, take, ◌++◌, ◌<◌, ◌≡◌, ◌≤◌};
-    ghost use Rattle.cq_segments.specs.Marked.{live, unmarked};
+    ghost use Rattle.cq_segments_pieces.specs.Marked.{live, unmarked};
     ghost use Rattle.cq_writestore.specs.Writes.{tail_rows, FewerLeft};
 
     /// Rows of a list, none of which has a mark.

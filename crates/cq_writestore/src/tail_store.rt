@@ -2,7 +2,7 @@
 //!
 //! Each call costs its rows, and `take_front` a shift of those that stay.
 ghost use Rattle.std.specs.Prelude.{IfOk, OnOk, [], drop, length, ◌++◌, ◌+◌, ◌<◌, ◌^◌, ◌≡◌, ◌≤◌, ◌∷◌};
-ghost use Rattle.cq_segments.specs.Marked.{marked_count, unmarked, with_mark};
+ghost use Rattle.cq_segments_pieces.specs.Marked.{marked_count, unmarked, with_mark};
 ghost use Rattle.cq_writestore.specs.Writes.{tail_rows};
 
 use crate::tail::Tail;
@@ -20,7 +20,7 @@ pub(crate) struct TailStore {
 
 impl Model for TailStore {
     ghost use Rattle.std.specs.Prelude.{min, vec_capacity, vec_len, ◌-◌};
-    ghost use Rattle.cq_segments.specs.Marked.{AreCounted, with_flags};
+    ghost use Rattle.cq_segments_pieces.specs.Marked.{AreCounted, with_flags};
     ghost use Rattle.cq_writestore.specs.Writes.{Writes};
 
     ghost Value = { Writes };

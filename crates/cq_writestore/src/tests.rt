@@ -1,8 +1,8 @@
 //! The write store at the lengths at which a piece is full.
 ghost use Rattle.std.specs.Bool.{OnTrue};
 ghost use Rattle.std.specs.Prelude.{OnOk, ◌++◌};
-ghost use Rattle.cq_segments.specs.Columns.{AreWide};
-ghost use Rattle.cq_segments.specs.Marked.{rows_of};
+ghost use Rattle.cq_segments_pieces.specs.Columns.{AreWide};
+ghost use Rattle.cq_segments_pieces.specs.Marked.{rows_of};
 
 use crate::store::WriteStore;
 use cq_values::{ColumnDef, Lent, Row, Text, Ty, Value};

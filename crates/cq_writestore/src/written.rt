@@ -3,14 +3,14 @@
 //! They stand in pieces, and the newest in a tail behind these. `at` finds one of them in some steps.
 ghost use Rattle.std.proofs.Props.{props};
 ghost use Rattle.std.specs.Prelude.{[], drop, length, slice_index_or, ◌++◌, ◌+◌, ◌<◌, ◌^◌, ◌≡◌, ◌≤◌};
-ghost use Rattle.cq_segments.specs.Pieces.{joined};
+ghost use Rattle.cq_segments_pieces.specs.Pieces.{joined};
 ghost use Rattle.cq_writestore_rows.specs.NewRows.{AreWhole};
 
-use crate::spot::{Spot, rows_in, spot_of};
-use crate::tail::Tail;
-use cq_segments::{Piece, StoredRow};
+use cq_segments_pieces::{Piece, StoredRow};
 use cq_values::Row;
 use cq_writestore_rows::NewRows;
+use crate::spot::{Spot, rows_in, spot_of};
+use crate::tail::Tail;
 
 /// Rows in order of insertion, each with its mark: first those in pieces, and behind them a tail.
 #[derive(Clone, Copy)]
@@ -22,8 +22,8 @@ pub struct Written<'a> {
 }
 
 impl<'a> Written<'a> {
-    ghost use Rattle.cq_segments.specs.Marked.{rows_of, unmarked};
-    ghost use Rattle.cq_segments.specs.Rows.{row_of};
+    ghost use Rattle.cq_segments_pieces.specs.Marked.{rows_of, unmarked};
+    ghost use Rattle.cq_segments_pieces.specs.Rows.{row_of};
     ghost use Rattle.cq_writestore.specs.Writes.{tail_rows, written_rows};
 
     /// Rows of a list, none of which has a mark.

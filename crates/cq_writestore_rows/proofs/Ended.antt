@@ -6,11 +6,11 @@ use Rattle.std.proofs.lemmas.List.FromFn.{map-range_with_len_more}
 use Rattle.cq_values.specs.Value.{column}
 use Rattle.cq_values.specs.declared.value.Value.{Value}
 use Rattle.cq_vectors.specs.Batch.{row_at}
-use Rattle.cq_segments.specs.Columns.{AreColumns, rows_of_columns}
-use Rattle.cq_segments.specs.Marked.{MarkedRow, rows_of}
-use Rattle.cq_segments.specs.Pieces.{joined}
-use Rattle.cq_segments.proofs.Marks.{length-rows_of}
-use Rattle.cq_segments.proofs.Transposed.{length-rows}
+use Rattle.cq_segments_pieces.specs.Columns.{AreColumns, rows_of_columns}
+use Rattle.cq_segments_pieces.specs.Marked.{MarkedRow, rows_of}
+use Rattle.cq_segments_pieces.specs.Pieces.{joined}
+use Rattle.cq_segments_pieces.proofs.Marks.{length-rows_of}
+use Rattle.cq_segments_pieces.proofs.Transposed.{length-rows}
 use Rattle.cq_writestore_rows.specs.Filling.{AreBegun, AreOpen, IsFilling}
 use Rattle.cq_writestore_rows.specs.NewRows.{AreFresh}
 use Rattle.cq_writestore_rows.proofs.WholeLists.{whole-length}

@@ -3,10 +3,10 @@ use Rattle.std.proofs.Common.{◌≡◌, ◌∙◌, ◌+◌, ◌<◌, ◌^◌, �
 use Rattle.std.proofs.lemmas.List.{append-nil, length-map, map-append}
 use Rattle.cq_model_bags.proofs.Lists.{all-push}
 use Rattle.cq_values.specs.Value.{Row}
-use Rattle.cq_segments.specs.Marked.{MarkedRow, rows_of, unmarked}
-use Rattle.cq_segments.specs.Pieces.{joined}
-use Rattle.cq_segments.proofs.Marks.{rows_of-unmarked}
-use Rattle.cq_segments.proofs.PieceLists.{joined-more}
+use Rattle.cq_segments_pieces.specs.Marked.{MarkedRow, rows_of, unmarked}
+use Rattle.cq_segments_pieces.specs.Pieces.{joined}
+use Rattle.cq_segments_pieces.proofs.Marks.{rows_of-unmarked}
+use Rattle.cq_segments_pieces.proofs.PieceLists.{joined-more}
 use Rattle.cq_writestore_rows.specs.NewRows.{AreFresh}
 
 -- one row more behind the pieces

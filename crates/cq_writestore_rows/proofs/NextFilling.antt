@@ -6,11 +6,11 @@ use Rattle.std.proofs.lemmas.List.{append-nil, get_or-map, length-replicate, len
 use Rattle.cq_values.specs.Value.{Row}
 use Rattle.cq_values.specs.declared.value.Value.{Value}
 use Rattle.cq_vectors.specs.Batch.{row_at}
-use Rattle.cq_segments.specs.Columns.{AreColumns, rows_of_columns}
-use Rattle.cq_segments.specs.Marked.{MarkedRow, rows_of, unmarked}
-use Rattle.cq_segments.specs.Pieces.{joined}
-use Rattle.cq_segments.proofs.Marks.{length-rows_of}
-use Rattle.cq_segments.proofs.Transposed.{length-rows}
+use Rattle.cq_segments_pieces.specs.Columns.{AreColumns, rows_of_columns}
+use Rattle.cq_segments_pieces.specs.Marked.{MarkedRow, rows_of, unmarked}
+use Rattle.cq_segments_pieces.specs.Pieces.{joined}
+use Rattle.cq_segments_pieces.proofs.Marks.{length-rows_of}
+use Rattle.cq_segments_pieces.proofs.Transposed.{length-rows}
 use Rattle.cq_writestore_rows.specs.Filling.{Filled, IsFilling, with_row, with_value}
 use Rattle.cq_writestore_rows.specs.NewRows.{AreFresh}
 use Rattle.cq_writestore_rows.specs.TypedColumn.{column_values, values_in}

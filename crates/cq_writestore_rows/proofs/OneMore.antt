@@ -10,8 +10,8 @@ use Rattle.cq_values.specs.Value.{column}
 use Rattle.cq_values.specs.declared.value.Value.{Value}
 use Rattle.cq_values.specs.declared.value.Value.TheVariants.{Null}
 use Rattle.cq_vectors.specs.Batch.{row_at}
-use Rattle.cq_segments.specs.Columns.{rows_of_columns}
-use Rattle.cq_segments.proofs.Transposed.{length-rows, row_there}
+use Rattle.cq_segments_pieces.specs.Columns.{rows_of_columns}
+use Rattle.cq_segments_pieces.proofs.Transposed.{length-rows, row_there}
 use Rattle.cq_writestore_rows.specs.Filling.{AreBegun}
 
 -- a column with a value more

@@ -2,8 +2,8 @@
 use Rattle.std.proofs.Common.{◌≡◌, ◌+◌, ◌*◌, ◌<◌, ◌^◌, ◌++◌, List, [], ◌∷◌, length, length-append, refl, arith}
 use Rattle.std.proofs.lemmas.List.{length-map}
 use Rattle.cq_values.specs.Value.{Row}
-use Rattle.cq_segments.specs.Marked.{MarkedRow, rows_of}
-use Rattle.cq_segments.specs.Pieces.{joined}
+use Rattle.cq_segments_pieces.specs.Marked.{MarkedRow, rows_of}
+use Rattle.cq_segments_pieces.specs.Pieces.{joined}
 use Rattle.cq_writestore_rows.specs.NewRows.{AreFresh, AreWhole}
 
 pub whole-length : {X : Type 0} → (lists : List (List X)) → AreWhole lists → length (joined lists) ≡ 1024 * length lists

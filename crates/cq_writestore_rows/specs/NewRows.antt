@@ -2,8 +2,8 @@
 use Rattle.std.specs.Prelude.{◌≡◌, ◌<◌, ◌+◌, ◌^◌, List, length}
 use Rattle.std.specs.List.{AllByRecursion}
 use Rattle.cq_values.specs.Value.{Row}
-use Rattle.cq_segments.specs.Marked.{MarkedRow, rows_of, unmarked}
-use Rattle.cq_segments.specs.Pieces.{joined}
+use Rattle.cq_segments_pieces.specs.Marked.{MarkedRow, rows_of, unmarked}
+use Rattle.cq_segments_pieces.specs.Pieces.{joined}
 
 -- 1,024 items to each list
 abbrev pub AreWhole : {X : Type 0} → List (List X) → Type 0

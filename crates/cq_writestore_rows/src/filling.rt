@@ -3,18 +3,18 @@
 //! `push` takes the values of a row, from the left, and `end_row` ends it. A value is put where it stays, and 1,024 rows at a
 //! time become a piece. `finish` gives the rows: it makes a row of each that is in no piece. After an error some may be lost.
 ghost use Rattle.std.specs.Prelude.{IfOk, OnErr, OnOk, [], length, ◌+◌, ◌<◌, ◌^◌, ◌≡◌, ◌≤◌, replicate};
-ghost use Rattle.cq_segments.specs.Columns.{AreColumns, rows_of_columns};
-ghost use Rattle.cq_segments.specs.Marked.{unmarked};
+ghost use Rattle.cq_segments_pieces.specs.Columns.{AreColumns, rows_of_columns};
+ghost use Rattle.cq_segments_pieces.specs.Marked.{unmarked};
 ghost use Rattle.cq_values.specs.Lent.{owned};
 ghost use Rattle.cq_values.specs.Value.{Row as Values};
 ghost use Rattle.cq_writestore_rows.specs.Filling.{AreOpen, IsEmpty, with_row, with_value};
 ghost use Rattle.cq_writestore_rows.specs.TypedColumn.{values_in};
 
+use cq_encodings::AnyEncoded;
+use cq_segments_pieces::{Piece, widened};
+use cq_values::{ColumnDef, Lent, Row, Ty};
 use crate::new_rows::NewRows;
 use crate::typed_column::TypedColumn;
-use cq_encodings::AnyEncoded;
-use cq_segments::{Piece, widened};
-use cq_values::{ColumnDef, Lent, Row, Ty};
 use std::alloc::{AllocError, Global};
 use std::marker::Model;
 use std::mem;
@@ -33,9 +33,9 @@ pub struct Filling {
 
 impl Model for Filling {
     ghost use Rattle.std.specs.Prelude.{length, take, ◌++◌};
-    ghost use Rattle.cq_segments.specs.Columns.{rows_of_columns};
-    ghost use Rattle.cq_segments.specs.Marked.{rows_of};
-    ghost use Rattle.cq_segments.specs.Pieces.{joined};
+    ghost use Rattle.cq_segments_pieces.specs.Columns.{rows_of_columns};
+    ghost use Rattle.cq_segments_pieces.specs.Marked.{rows_of};
+    ghost use Rattle.cq_segments_pieces.specs.Pieces.{joined};
     ghost use Rattle.cq_vectors.specs.Batch.{row_at};
     ghost use Rattle.cq_writestore_rows.specs.Filling.{Filled, IsFilling};
     ghost use Rattle.cq_writestore_rows.specs.TypedColumn.{values_in};

@@ -3,11 +3,11 @@
 //! `of` takes rows as they are. `as_rows` lends them where all stand as rows, `copies` and `into_rows` make rows of all;
 //! `as_parts` lends and `into_parts` hands over what they are made of. Only `copies` and `into_rows` take memory.
 ghost use Rattle.std.specs.Prelude.{IfOk, IfSome, length, ◌++◌, ◌+◌, ◌<◌, ◌^◌, ◌≡◌};
-ghost use Rattle.cq_segments.specs.Marked.{rows_of};
-ghost use Rattle.cq_segments.specs.Pieces.{joined};
+ghost use Rattle.cq_segments_pieces.specs.Marked.{rows_of};
+ghost use Rattle.cq_segments_pieces.specs.Pieces.{joined};
 ghost use Rattle.cq_writestore_rows.specs.NewRows.{AreFresh, AreWhole, NoneMarked};
 
-use cq_segments::Piece;
+use cq_segments_pieces::Piece;
 use cq_values::{Row, copy_row};
 use std::alloc::{AllocError, Global};
 use std::marker::Model;
@@ -22,8 +22,8 @@ pub struct NewRows {
 impl Model for NewRows {
     ghost use Rattle.std.specs.Prelude.{List, ◌++◌};
     ghost use Rattle.cq_values.specs.Value.{Row as Values};
-    ghost use Rattle.cq_segments.specs.Marked.{rows_of};
-    ghost use Rattle.cq_segments.specs.Pieces.{joined};
+    ghost use Rattle.cq_segments_pieces.specs.Marked.{rows_of};
+    ghost use Rattle.cq_segments_pieces.specs.Pieces.{joined};
     ghost use Rattle.cq_writestore_rows.specs.NewRows.{AreFresh};
 
     ghost Value = { List Values };

@@ -1,9 +1,8 @@
-//! Comparisons of vectors in each pair of forms at the lengths where words of flags end, with NULLs at both ends; patterns.
+//! Comparisons of vectors in each pair of forms, and where they are NULL, at the lengths where words of flags end.
 ghost use Rattle.std.specs.Prelude.{IfOk, length, ◌<◌, ◌≡◌, ◌≤◌};
 
 use super::columns::row_within;
-use cq_prims::{compare, is_null, like};
-use cq_prims_like::Pattern;
+use cq_prims::{compare, is_null};
 use cq_values::{Comparison, Day, Lent, Row, Text, Truth, Value};
 use cq_vectors::{Form, Vector};
 use cq_vectors_masks::TruthMask;
@@ -33,7 +32,12 @@ fn text_of(rank: usize) -> &'static str {
 }
 
 /// A column of values whose ranks go round, with NULL in the first place and in the last.
-fn ranked(alloc: Global, kind: char, len: usize, shift: usize) -> Result<Vec<Row>, AllocError> {
+pub(crate) fn ranked(
+    alloc: Global,
+    kind: char,
+    len: usize,
+    shift: usize,
+) -> Result<Vec<Row>, AllocError> {
     let mut rows = Vec::new(alloc);
     for place in 0..len {
         let value = value_of(alloc, kind, (place % 3 + shift % 3) % 3)?;
@@ -55,7 +59,7 @@ fn letter_at(truths: &TruthMask, place: usize) -> char {
 }
 
 /// Asks that the truths from a place on are these letters.
-fn check_letters(rt: &impl Abort, truths: &TruthMask, first: usize, letters: &str) {
+pub(crate) fn check_letters(rt: &impl Abort, truths: &TruthMask, first: usize, letters: &str) {
     let mut place = first;
     for letter in letters.chars() {
         assert_eq!(rt; letter_at(truths, place), letter, "at {place}");
@@ -191,104 +195,82 @@ fn comparison_of(sign: &str) -> Comparison {
     }
 }
 
+/// Lengths, and the last places from which 1, 2 and 0 stand, before NULL in the last place of all.
+const ROUNDS: &[(usize, usize)] = &[
+    (5, 1),
+    (63, 58),
+    (64, 58),
+    (65, 61),
+    (1023, 1018),
+    (1024, 1018),
+];
+
 /// Asks how the column of the numbers 1, 2 and 0 behind NULL compares with 1, on its right and on its left.
-fn check_with_one(rt: &impl Abort, a: &Vector<'_>) {
+fn check_with_one(rt: &impl Abort, a: &Vector<'_>, round: usize) {
     let one = Vector::new(Form::Constant(Lent::Number(1), a.len()));
     assert!(rt; a.len() == one.len());
     for (sign, right, left) in WITH_ONE {
         let mut to = TruthMask::new();
         compare(comparison_of(sign), a, &one, &mut to);
         check_letters(rt, &to, 1, right);
+        check_letters(rt, &to, round, right);
         compare(comparison_of(sign), &one, a, &mut to);
         check_letters(rt, &to, 1, left);
+        check_letters(rt, &to, round, left);
         check_letters(rt, &to, 0, "u");
-        check_letters(rt, &to, 64, "u");
+        check_letters(rt, &to, a.len().saturating_sub(1), "u");
     }
     drop(one);
 }
 
 #[test]
 fn each_comparison_with_a_constant_has_its_truths(rt: HostRuntime) -> Result<(), Fail> {
-    let rows = ranked(rt.alloc(), 'n', 65, 0)?;
+    for (len, round) in ROUNDS {
+        let rows = ranked(rt.alloc(), 'n', *len, 0)?;
+        assert!(rt; rows.len() <= 1024);
+        let a = Vector::gather(rt.alloc(), rows.as_slice(), 0)?;
+        check_with_one(&rt, &a, *round);
+        drop(a);
+    }
+    Ok(())
+}
+
+/// Lengths, and whether the first three places are NULL and the last three.
+const NULLS: &[(usize, &str, &str)] = &[
+    (0, "", ""),
+    (1, "t", "t"),
+    (63, "tff", "fft"),
+    (64, "tff", "fft"),
+    (65, "tff", "fft"),
+    (1023, "tff", "fft"),
+    (1024, "tff", "fft"),
+];
+
+/// Asks where a column of a kind is NULL.
+fn check_nulls(
+    rt: &impl Abort,
+    alloc: Global,
+    kind: char,
+    (len, first, last): (usize, &str, &str),
+) -> Result<(), Fail> {
+    let rows = ranked(alloc, kind, len, 0)?;
     assert!(rt; rows.len() <= 1024);
-    let a = Vector::gather(rt.alloc(), rows.as_slice(), 0)?;
-    check_with_one(&rt, &a);
+    let a = Vector::gather(alloc, rows.as_slice(), 0)?;
+    let mut to = TruthMask::new();
+    is_null(&a, &mut to);
     drop(a);
+    assert_eq!(rt; to.len(), len);
+    check_letters(rt, &to, 0, first);
+    check_letters(rt, &to, len.saturating_sub(3), last);
     Ok(())
 }
 
 #[test]
 fn is_null_is_known_in_each_place(rt: HostRuntime) -> Result<(), Fail> {
     for kind in "nwdt".chars() {
-        let rows = ranked(rt.alloc(), kind, 65, 0)?;
-        assert!(rt; rows.len() <= 1024);
-        let a = Vector::gather(rt.alloc(), rows.as_slice(), 0)?;
-        let mut to = TruthMask::new();
-        is_null(&a, &mut to);
-        drop(a);
-        check_letters(&rt, &to, 0, "tf");
-        check_letters(&rt, &to, 63, "ft");
+        for case in NULLS {
+            check_nulls(&rt, rt.alloc(), kind, *case)?;
+        }
     }
     Ok(())
-}
-
-/// A pattern, a text, and whether it fits.
-const FITS: &[(&str, &str, bool)] = &[
-    ("abc", "abc", true),
-    ("abc", "abcd", false),
-    ("", "", true),
-    ("ab%", "abc", true),
-    ("ab%", "xab", false),
-    ("%bc", "abc", true),
-    ("%bc", "bcx", false),
-    ("%b%", "abc", true),
-    ("%é%", "crémant", true),
-    ("%b%", "acd", false),
-    ("%%", "", true),
-    ("a_c", "aéc", true),
-    ("a_c", "ac", false),
-    ("%a_c", "xxabc", true),
-];
-
-#[test]
-fn patterns_of_each_form_fit_what_they_stand_for(rt: HostRuntime) -> Result<(), Fail> {
-    for (pattern, text, answer) in FITS {
-        let fitting = Pattern::new(rt.alloc(), pattern)?;
-        let fits = fitting.fits(text);
-        drop(fitting);
-        assert_eq!(rt; fits, *answer, "{pattern} and {text}");
-    }
-    Ok(())
-}
-
-/// Asks whether a column of a kind is like the pattern, from its first place on.
-fn check_likes(
-    rt: &impl Abort,
-    alloc: Global,
-    pattern: &Pattern,
-    kind: char,
-    letters: &str,
-) -> Result<(), Fail> {
-    let rows = ranked(alloc, kind, 65, 0)?;
-    assert!(rt; rows.len() <= 1024);
-    let a = Vector::gather(alloc, rows.as_slice(), 0)?;
-    let mut to = TruthMask::new();
-    like(&a, pattern, &mut to);
-    drop(a);
-    check_letters(rt, &to, 0, letters);
-    Ok(())
-}
-
-/// Texts and numbers: in the places 0, 1, 2 and 3 NULL, and then the ranks 1, 2 and 0.
-fn check_both(rt: &impl Abort, alloc: Global, pattern: &Pattern) -> Result<(), Fail> {
-    check_likes(rt, alloc, pattern, 't', "utft")?;
-    check_likes(rt, alloc, pattern, 'n', "uuuu")
-}
-
-#[test]
-fn a_text_alone_is_like_a_pattern(rt: HostRuntime) -> Result<(), Fail> {
-    let pattern = Pattern::new(rt.alloc(), "%a%")?;
-    let checked = check_both(&rt, rt.alloc(), &pattern);
-    drop(pattern);
-    checked
 }

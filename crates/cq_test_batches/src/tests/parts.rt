@@ -30,6 +30,8 @@ fn rows_of(alloc: Global, len: usize, value: &Value) -> Result<Vec<Row>, AllocEr
 
 /// The length, and the last place.
 const MONTHS: &[(usize, usize)] = &[
+    (0, 0),
+    (1, 0),
     (3, 2),
     (63, 62),
     (64, 63),

@@ -88,7 +88,7 @@ fn shown_by(alloc: Global, query: &Query, len: usize) -> Result<Vec<Row>, Fail>
     drop(plan);
     drop(order);
     drop(rows);
-    Ok(shown?)
+    Ok(shown?.into_rows(alloc)?)
 }
 
 /// Whether the row at a place is this number, and then NULL.

@@ -35,9 +35,8 @@ returns-in-Ok c =
     let lents = c.args.lent.now in
     let first = all_rows c.args.first in
     let others = c.args.others.now in
-    subst (λ (rows : List Row). SelectsLent q order lents (Ok rows)) (sym c.listed.ensures)
-    (selects_listed c.chain_of_lists.ensures lents q first others c.requires.first c.requires.others order c.in-Ok.rows
-    (subst (SelectsRows q order (joined_sources q first others)) c.in-Ok.is c.select.ensures))
+    selects_listed c.chain_of_lists.ensures lents q first others c.requires.first c.requires.others order c.in-Ok.rows
+    (subst (SelectsRows q order (joined_sources q first others)) c.in-Ok.is c.select.ensures)
 
 -- a total that cannot be shown there cannot be shown
 pub returns-in-Err-SumOutOfRange : goal.returns-in-Err-SumOutOfRange

@@ -2,7 +2,7 @@ use Rattle.std.proofs.Common.{ap, arith, length}
 use Rattle.std.proofs.lemmas.List.{length-map}
 use Rattle.std.specs.Prelude.{IfOk}
 use Rattle.cq_engine_writes.specs.Changing.{AreReadyForRows}
-use Rattle.cq_segments.specs.Rows.{row_of, stored_rows}
+use Rattle.cq_segments_pieces.specs.Rows.{row_of, stored_rows}
 use Rattle.cq_engine_tables.proofs.Turns.{all_same}
 use Rattle.cq_engine_writes.proofs.changing.prepare_copied.Goals as goal
 

@@ -1,7 +1,7 @@
 use Rattle.std.proofs.lemmas.Result.{IfOk-weaker}
 use Rattle.std.proofs.Common.{arith}
 use Rattle.std.proofs.lemmas.List.{length-map}
-use Rattle.cq_segments.specs.Rows.{row_of, stored_rows}
+use Rattle.cq_segments_pieces.specs.Rows.{row_of, stored_rows}
 use Rattle.cq_engine_writes.proofs.Preparing.{all_take, can_all_prepare, change, change_few, change_stored, change_there}
 use Rattle.cq_engine_writes.proofs.changing.prepare_views.Goals as goal
 

@@ -2,7 +2,7 @@ use Rattle.std.proofs.Common.{◌+◌, ◌<◌, ◌^◌, ◌∙◌, length, refl
 use Rattle.std.proofs.lemmas.List.{length-map}
 use Rattle.cq_model.specs.Meaning.{keeps}
 use Rattle.cq_model_bags.specs.Canonical.{bag_of}
-use Rattle.cq_segments.specs.Rows.{row_of, stored_rows}
+use Rattle.cq_segments_pieces.specs.Rows.{row_of, stored_rows}
 use Rattle.cq_engine_tables.proofs.Stored.{rows_stored}
 use Rattle.cq_engine_tables.proofs.Turns.{all_same}
 use Rattle.cq_engine_writes.proofs.Written.{deleted-follow, gone_few, gone_stored, left_alone, where_refused}

@@ -1,5 +1,5 @@
 use Rattle.std.proofs.Common.{◌≡◌, ◌++◌, take}
-use Rattle.cq_segments.specs.Rows.{stored_rows}
+use Rattle.cq_segments_pieces.specs.Rows.{stored_rows}
 use Rattle.cq_table_columns.specs.Stored.{front_rows}
 use Rattle.cq_operators_scans.proofs.lent.lend_front.Given as goal
 

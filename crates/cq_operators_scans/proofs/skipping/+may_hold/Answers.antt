@@ -1,5 +1,5 @@
 use Rattle.std.proofs.lemmas.Bool.{OnFalse_at}
-use Rattle.cq_segments.specs.Marked.{rows_of}
+use Rattle.cq_segments_pieces.specs.Marked.{rows_of}
 use Rattle.cq_operators_scans.proofs.Skipped.{none-first, none-part}
 use Rattle.cq_operators_scans.proofs.skipping.+may_hold.Goals as goal
 

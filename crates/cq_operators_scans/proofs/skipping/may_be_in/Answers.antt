@@ -1,7 +1,7 @@
 use Rattle.std.proofs.Common.{arith}
 use Rattle.std.proofs.lemmas.Bool.{OnFalse_at}
 use Rattle.cq_model.specs.Trees.{expr_of}
-use Rattle.cq_segments.specs.Marked.{rows_of}
+use Rattle.cq_segments_pieces.specs.Marked.{rows_of}
 use Rattle.cq_operators_scans.proofs.Skipped.{none-in, none-next, none-yet}
 use Rattle.cq_operators_scans.proofs.skipping.may_be_in.Goals as goal
 

@@ -1,6 +1,6 @@
 use Rattle.std.proofs.Common.{take}
 use Rattle.cq_model.specs.Trees.{expr_of}
-use Rattle.cq_segments.specs.Marked.{rows_of}
+use Rattle.cq_segments_pieces.specs.Marked.{rows_of}
 use Rattle.cq_operators_scans.proofs.Skipped.{NoneChosen}
 use Rattle.cq_operators_scans.proofs.skipping.may_be_in.Given as goal
 

@@ -1,5 +1,5 @@
 use Rattle.cq_model.specs.Trees.{expr_of}
-use Rattle.cq_segments.specs.Marked.{rows_of}
+use Rattle.cq_segments_pieces.specs.Marked.{rows_of}
 use Rattle.cq_operators_scans.proofs.Skipped.{none-compared, none-known, none-null}
 use Rattle.cq_operators_scans.proofs.skipping.may_pass.Goals as goal
 

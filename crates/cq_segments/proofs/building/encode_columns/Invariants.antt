@@ -1,5 +1,5 @@
 use Rattle.std.proofs.Common.{◌≡◌, length}
-use Rattle.cq_segments.specs.Columns.{columns_in, columns_of}
+use Rattle.cq_segments_pieces.specs.Columns.{columns_in, columns_of}
 use Rattle.cq_segments.specs.InOrder.{rows_in_order}
 use Rattle.cq_segments.specs.Segment.{HaveBounds}
 use Rattle.cq_segments.proofs.building.encode_columns.Given as goal

@@ -3,12 +3,12 @@ use Rattle.std.specs.Global.{Vec}
 use Rattle.std.proofs.Math.Nat.{div-add-mod}
 use Rattle.std.proofs.lemmas.List.{take_all}
 use Rattle.cq_encodings.specs.declared.any_encoded.AnyEncoded.{AnyEncoded}
-use Rattle.cq_segments.specs.Columns.{AreColumns, columns_in, encoded_rows, parts_of, rows_of_columns}
-use Rattle.cq_segments.specs.Marked.{MarkedRow, unmarked}
-use Rattle.cq_segments.specs.Pieces.{joined}
+use Rattle.cq_segments_pieces.specs.Columns.{AreColumns, columns_in, encoded_rows, parts_of, rows_of_columns}
+use Rattle.cq_segments_pieces.specs.Marked.{MarkedRow, unmarked}
+use Rattle.cq_segments_pieces.specs.Pieces.{joined}
 use Rattle.cq_segments.proofs.OneMore.{full_pieces, lengths-more, piece-more}
-use Rattle.cq_segments.proofs.Parts.{parts_are, rows_of_parts}
-use Rattle.cq_segments.proofs.Transposed.{length-rows}
+use Rattle.cq_segments_pieces.proofs.Parts.{parts_are, rows_of_parts}
+use Rattle.cq_segments_pieces.proofs.Transposed.{length-rows}
 use Rattle.cq_segments.proofs.building.make_pieces.Goals as goal
 
 pub of-requires-clause-long : goal.of-requires-clause-long

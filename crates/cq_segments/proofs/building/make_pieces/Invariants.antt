@@ -1,7 +1,7 @@
 use Rattle.std.proofs.Common.{◌≡◌, ◌<◌, ◌-◌, ◌*◌, ℕ, [], get_or, length, min, take}
-use Rattle.cq_segments.specs.Columns.{encoded_rows}
-use Rattle.cq_segments.specs.Marked.{unmarked}
-use Rattle.cq_segments.specs.Pieces.{joined}
+use Rattle.cq_segments_pieces.specs.Columns.{encoded_rows}
+use Rattle.cq_segments_pieces.specs.Marked.{unmarked}
+use Rattle.cq_segments_pieces.specs.Pieces.{joined}
 use Rattle.cq_segments.proofs.building.make_pieces.Given as goal
 
 -- the pieces so far have the rows so far, each 1,024 of them or as many as are left

@@ -1,5 +1,5 @@
 use Rattle.std.proofs.Common.{length, take, vec_capacity, vec_len, ◌++◌, ◌+◌, ◌-◌, ◌≡◌, ◌≤◌}
-use Rattle.cq_segments.specs.Rows.{stored_rows}
+use Rattle.cq_segments_pieces.specs.Rows.{stored_rows}
 use Rattle.cq_segments.proofs.in_order.lend_behind.Given as goal
 
 -- the rows so far, and there is room for the rest

@@ -1,7 +1,7 @@
 use Rattle.std.proofs.Common.{IfSome, arith, subst}
 use Rattle.cq_values.specs.declared.value.Value.{Value}
 use Rattle.cq_encodings_plain.specs.Kind.{StandsFor}
-use Rattle.cq_segments.proofs.ValuesFrom.{value_from}
+use Rattle.cq_segments_pieces.proofs.ValuesFrom.{value_from}
 use Rattle.cq_segments.proofs.numbers.number_at.Goals as goal
 
 pub returns-then-place-len : goal.returns-then-place-len

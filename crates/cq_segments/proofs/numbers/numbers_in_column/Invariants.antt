@@ -1,7 +1,7 @@
 use Rattle.std.proofs.Common.{◌≤◌, ◌+◌, ◌-◌, length, take, vec_capacity, vec_len}
 use Rattle.cq_vectors.specs.Gathered.{column_of}
 use Rattle.cq_segments.specs.Numbers.{AreNumbers}
-use Rattle.cq_segments.specs.Rows.{stored_rows}
+use Rattle.cq_segments_pieces.specs.Rows.{stored_rows}
 use Rattle.cq_segments.proofs.numbers.numbers_in_column.Given as goal
 
 -- the numbers so far, and there is room for the rest

@@ -1,7 +1,7 @@
 use Rattle.std.proofs.Common.{take, ◌≡◌}
 use Rattle.cq_encodings_plain.specs.Kind.{number_values}
-use Rattle.cq_segments.specs.Marked.{rows_of}
-use Rattle.cq_segments.specs.Pieces.{joined}
+use Rattle.cq_segments_pieces.specs.Marked.{rows_of}
+use Rattle.cq_segments_pieces.specs.Pieces.{joined}
 use Rattle.cq_vectors.specs.Gathered.{column_of}
 use Rattle.cq_segments.proofs.pieces_numbers.numbers_in_pieces.Given as goal
 

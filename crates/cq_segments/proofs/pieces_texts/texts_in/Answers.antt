@@ -1,7 +1,7 @@
 use Rattle.std.proofs.Common.{◌∙◌, ◌≡◌, IfSome, List, ap₂, arith, subst, sym, take, ℕ}
 use Rattle.cq_encodings.specs.AnyEncoded.{encoded_values}
 use Rattle.cq_encodings.specs.Texts.{text_values}
-use Rattle.cq_segments.specs.Columns.{values_from}
+use Rattle.cq_segments_pieces.specs.Columns.{values_from}
 use Rattle.cq_values.specs.declared.value.Value.{Value}
 use Rattle.cq_vectors.specs.Gathered.{column_of}
 use Rattle.cq_segments.proofs.pieces_texts.texts_in.Goals as goal

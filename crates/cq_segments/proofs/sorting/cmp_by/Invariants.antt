@@ -1,5 +1,5 @@
 use Rattle.std.proofs.Common.{◌≡◌, drop}
-use Rattle.cq_segments.specs.Rows.{row_of}
+use Rattle.cq_segments_pieces.specs.Rows.{row_of}
 use Rattle.cq_segments.specs.Sorted.{columns_cmp}
 use Rattle.cq_segments.proofs.sorting.cmp_by.Given as goal
 

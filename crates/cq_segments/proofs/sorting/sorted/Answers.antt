@@ -4,7 +4,7 @@ use Rattle.std.specs.Ordering.{is_lt}
 use Rattle.std.proofs.lemmas.List.MinMax.{ranks_by}
 use Rattle.std.proofs.lemmas.Fn.{always_returns_same}
 use Rattle.std.proofs.lemmas.List.Sorted.{IsPermutation-map}
-use Rattle.cq_segments.specs.Rows.{row_of, stored_rows}
+use Rattle.cq_segments_pieces.specs.Rows.{row_of, stored_rows}
 use Rattle.cq_segments.specs.Sorted.{columns_cmp}
 use Rattle.cq_segments.proofs.SortedRows.{columns_cmp_total, sorted-stored, stable-stored, stored_lt}
 use Rattle.cq_segments.proofs.sorting.sorted.Goals as goal

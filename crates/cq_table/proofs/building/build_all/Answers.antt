@@ -1,9 +1,9 @@
 use Rattle.std.proofs.Common.{◌≡◌, ◌+◌, ◌-◌, ◌<◌, [], ap, arith, drop, length, subst, sym, take}
 use Rattle.std.proofs.lemmas.List.{append-nil, drop-map, drop_all, length-drop, length-map}
 use Rattle.cq_model_bags.proofs.Lists.{all-drop, all-take}
-use Rattle.cq_segments.specs.Columns.{AreWide}
+use Rattle.cq_segments_pieces.specs.Columns.{AreWide}
 use Rattle.cq_segments.specs.Sorted.{IsBuilt}
-use Rattle.cq_segments.specs.Rows.{row_of, stored_rows}
+use Rattle.cq_segments_pieces.specs.Rows.{row_of, stored_rows}
 use Rattle.cq_table.specs.Changes.{AreBuilt}
 use Rattle.cq_table.proofs.Built.{built-more, next-part, next-rest}
 use Rattle.cq_table.proofs.building.build_all.Goals as goal

@@ -1,5 +1,5 @@
 use Rattle.std.proofs.Common.{◌≤◌, ◌-◌, drop, length}
-use Rattle.cq_segments.specs.Rows.{stored_rows}
+use Rattle.cq_segments_pieces.specs.Rows.{stored_rows}
 use Rattle.cq_table.proofs.Built.{BuiltWith}
 use Rattle.cq_table.proofs.building.build_all.Given as goal
 

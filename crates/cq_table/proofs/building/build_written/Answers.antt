@@ -1,9 +1,9 @@
 use Rattle.std.proofs.Common.{◌≡◌, ◌*◌, ◌-◌, arith, length, subst}
 use Rattle.cq_model_bags.proofs.Lists.{all-front}
-use Rattle.cq_segments.specs.Columns.{AreWide}
-use Rattle.cq_segments.specs.Marked.{rows_of}
-use Rattle.cq_segments.specs.Pieces.{joined}
-use Rattle.cq_segments.proofs.Marks.{rows_of-append}
+use Rattle.cq_segments_pieces.specs.Columns.{AreWide}
+use Rattle.cq_segments_pieces.specs.Marked.{rows_of}
+use Rattle.cq_segments_pieces.specs.Pieces.{joined}
+use Rattle.cq_segments_pieces.proofs.Marks.{rows_of-append}
 use Rattle.cq_values.specs.Value.{Row}
 use Rattle.cq_table.proofs.WholePieces.{live-behind, live-split, live-wide, wide-behind}
 use Rattle.cq_writestore.specs.Writes.{tail_rows}

@@ -1,7 +1,7 @@
 use Rattle.std.proofs.Common.{◌∙◌, ◌+◌, ◌++◌, List, ℕ, ap, arith, length}
 use Rattle.std.specs.Prelude.{slice_index_or}
 use Rattle.cq_model.specs.Meaning.{keeps}
-use Rattle.cq_segments.proofs.Marks.{length-live}
+use Rattle.cq_segments_pieces.proofs.Marks.{length-live}
 use Rattle.cq_table_columns.specs.Stored.{marked_rows}
 use Rattle.cq_table.proofs.Founds.{front-live, kept_at, kept_in, kept_live, kept_within, none-placed, placed-all, placed-more}
 use Rattle.cq_table.proofs.finding.find_in.Goals as goal

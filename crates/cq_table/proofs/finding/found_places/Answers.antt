@@ -4,7 +4,7 @@ use Rattle.std.proofs.lemmas.List.{append-nil, length-append}
 use Rattle.cq_model.specs.Meaning.{keeps}
 use Rattle.cq_model_bags.proofs.Lists.{all-front}
 use Rattle.cq_model.specs.Width.{IsNarrowIn}
-use Rattle.cq_segments.specs.Marked.{live}
+use Rattle.cq_segments_pieces.specs.Marked.{live}
 use Rattle.cq_table_columns.specs.Stored.{all_rows, front_rows, marked_rows, stored_marked}
 use Rattle.cq_table.specs.Found.{passes}
 use Rattle.cq_table.proofs.Founds.{all-behind, none-pass, places-split}

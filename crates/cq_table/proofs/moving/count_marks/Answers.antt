@@ -1,7 +1,7 @@
 use Rattle.std.proofs.Common.{arith, ap, ◌∙◌}
 use Rattle.std.proofs.lemmas.List.{take_all}
-use Rattle.cq_segments.specs.Marked.{marked_count}
-use Rattle.cq_segments.specs.Pieces.{joined}
+use Rattle.cq_segments_pieces.specs.Marked.{marked_count}
+use Rattle.cq_segments_pieces.specs.Pieces.{joined}
 use Rattle.cq_table.proofs.Segmenting.{counted-next, counted-within}
 use Rattle.cq_table.proofs.moving.count_marks.Goals as goal
 

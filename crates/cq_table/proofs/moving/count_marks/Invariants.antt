@@ -1,6 +1,6 @@
 use Rattle.std.proofs.Common.{◌≡◌, take}
-use Rattle.cq_segments.specs.Marked.{marked_count}
-use Rattle.cq_segments.specs.Pieces.{joined}
+use Rattle.cq_segments_pieces.specs.Marked.{marked_count}
+use Rattle.cq_segments_pieces.specs.Pieces.{joined}
 use Rattle.cq_table.proofs.moving.count_marks.Given as goal
 
 -- the marks of the segments so far

@@ -1,6 +1,6 @@
 use Rattle.std.proofs.Common.{arith, ap, length, ◌∙◌}
 use Rattle.std.proofs.lemmas.List.{take_all}
-use Rattle.cq_segments.specs.Pieces.{joined}
+use Rattle.cq_segments_pieces.specs.Pieces.{joined}
 use Rattle.cq_table.proofs.Segmenting.{long-next, long-within}
 use Rattle.cq_table.proofs.moving.count_rows.Goals as goal
 

@@ -1,8 +1,8 @@
 use Rattle.std.proofs.Common.{◌∙◌, ◌<◌, ◌++◌, List, ℕ, ap, arith, get_or, length, subst, sym, take}
 use Rattle.std.proofs.lemmas.List.{take_more}
 use Rattle.cq_model_bags.proofs.Lists.{all-at}
-use Rattle.cq_segments.specs.Marked.{MarkedRow, with_mark, with_marks}
-use Rattle.cq_segments.specs.Pieces.{joined}
+use Rattle.cq_segments_pieces.specs.Marked.{MarkedRow, with_mark, with_marks}
+use Rattle.cq_segments_pieces.specs.Pieces.{joined}
 use Rattle.cq_table.specs.Reached.{IsReached}
 use Rattle.cq_table.proofs.Founds.{marks-more}
 use Rattle.cq_table.proofs.Marking.{length-with_marks}

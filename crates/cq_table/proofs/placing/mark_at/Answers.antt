@@ -1,7 +1,7 @@
 use Rattle.std.proofs.Common.{◌≡◌, ◌∙◌, ◌++◌, ◌-◌, [], List, ap, get_or, length, rules}
-use Rattle.cq_segments.specs.Marked.{MarkedRow, with_mark}
-use Rattle.cq_segments.specs.Pieces.{joined}
-use Rattle.cq_segments.proofs.Marks.{length-mark}
+use Rattle.cq_segments_pieces.specs.Marked.{MarkedRow, with_mark}
+use Rattle.cq_segments_pieces.specs.Pieces.{joined}
+use Rattle.cq_segments_pieces.proofs.Marks.{length-mark}
 use Rattle.cq_table.proofs.Segmenting.{lengths-mark, marked-in, marked-written, same-there}
 use Rattle.cq_table.proofs.placing.mark_at.Goals as goal
 

@@ -1,7 +1,7 @@
 use Rattle.std.proofs.Common.{◌≡◌, ◌≤◌, ◌+◌, ◌-◌, ◌++◌, length, take}
 use Rattle.std.specs.Vec.{vec_capacity, vec_len}
-use Rattle.cq_segments.specs.Pieces.{joined}
-use Rattle.cq_segments.specs.Rows.{stored_rows}
+use Rattle.cq_segments_pieces.specs.Pieces.{joined}
+use Rattle.cq_segments_pieces.specs.Rows.{stored_rows}
 use Rattle.cq_writestore.specs.Writes.{written_rows}
 use Rattle.cq_table.specs.Found.{found_rows}
 use Rattle.cq_table.specs.Reached.{IsReached}

@@ -1,5 +1,5 @@
 use Rattle.std.proofs.Common.{◌≡◌, take}
-use Rattle.cq_segments.specs.Rows.{stored_rows}
+use Rattle.cq_segments_pieces.specs.Rows.{stored_rows}
 use Rattle.cq_vectors.specs.Gathered.{lent_rows}
 use Rattle.cq_table_columns.proofs.gathering.lend_alone.Given as goal
 

@@ -1,7 +1,7 @@
 use Rattle.std.proofs.Common.{◌≡◌, ◌≤◌, ◌+◌, ◌-◌, length, take}
 use Rattle.std.specs.Vec.{vec_capacity, vec_len}
 use Rattle.cq_encodings_vectors.specs.Places.{rows_at}
-use Rattle.cq_segments.specs.Rows.{stored_rows}
+use Rattle.cq_segments_pieces.specs.Rows.{stored_rows}
 use Rattle.cq_table_columns.specs.Stored.{front_rows}
 use Rattle.cq_table_columns.proofs.places.front_at.Given as goal
 

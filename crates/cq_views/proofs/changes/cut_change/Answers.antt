@@ -1,5 +1,5 @@
 use Rattle.std.proofs.Common.{sym}
-use Rattle.cq_segments.specs.Rows.{stored_rows}
+use Rattle.cq_segments_pieces.specs.Rows.{stored_rows}
 use Rattle.cq_views.proofs.Exchanges.{no-entry, own-entry}
 use Rattle.cq_views.specs.Changes.{exchanged}
 use Rattle.cq_model.specs.declared.query.Source.TheVariants.{Table}

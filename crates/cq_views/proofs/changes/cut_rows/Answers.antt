@@ -1,7 +1,7 @@
 use Rattle.std.proofs.Common.{◌<◌, ◌^◌, length, map, rules, arith}
 use Rattle.std.proofs.lemmas.List.{length-map}
 use Rattle.cq_model.specs.Group.{key_of}
-use Rattle.cq_segments.specs.Rows.{row_of, stored_rows}
+use Rattle.cq_segments_pieces.specs.Rows.{row_of, stored_rows}
 use Rattle.cq_views.proofs.Exchanges.{all-cut_rows, gone-in_range}
 use Rattle.cq_views.proofs.changes.cut_rows.Goals as goal
 

@@ -1,8 +1,8 @@
 use Rattle.std.proofs.Common.{◌≡◌, ◌∙◌, ◌+◌, ◌++◌, List, length, map, neg_ℤ, pos, refl, sym, ap, subst, take}
 use Rattle.std.proofs.lemmas.List.{take_all}
 use Rattle.std.proofs.lemmas.Simd.{map-map}
-use Rattle.cq_segments.specs.Rows.{row_of}
-use Rattle.cq_segments.specs.declared.stored_row.StoredRow.{StoredRow}
+use Rattle.cq_segments_pieces.specs.Rows.{row_of}
+use Rattle.cq_segments_pieces.specs.declared.stored_row.StoredRow.{StoredRow}
 use Rattle.cq_values.specs.Value.{Row}
 use Rattle.cq_model_bags.specs.Bag.{SameBag}
 use Rattle.cq_views.specs.Changes.{weighed}

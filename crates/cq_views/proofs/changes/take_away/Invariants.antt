@@ -1,6 +1,6 @@
 use Rattle.std.proofs.Common.{◌++◌, map, neg_ℤ, pos, take}
 use Rattle.cq_model_bags.specs.Bag.{SameBag}
-use Rattle.cq_segments.specs.Rows.{row_of}
+use Rattle.cq_segments_pieces.specs.Rows.{row_of}
 use Rattle.cq_views.specs.Changes.{weighed}
 use Rattle.cq_model.specs.Group.{key_of}
 use Rattle.cq_views.proofs.changes.take_away.Given as goal

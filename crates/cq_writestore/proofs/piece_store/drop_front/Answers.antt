@@ -1,6 +1,6 @@
 use Rattle.std.proofs.Common.{◌-◌, ◌∙◌, ap, arith, drop, subst, sym, take}
 use Rattle.std.specs.Prelude.{slice_set}
-use Rattle.cq_segments.specs.Pieces.{joined}
+use Rattle.cq_segments_pieces.specs.Pieces.{joined}
 use Rattle.cq_writestore.specs.Spots.{IsIn}
 use Rattle.cq_writestore_rows.specs.NewRows.{AreWhole}
 use Rattle.cq_writestore.proofs.MarkedLists.{turned}

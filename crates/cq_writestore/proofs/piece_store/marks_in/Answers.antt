@@ -1,5 +1,5 @@
 use Rattle.std.proofs.Common.{◌+◌, ◌∙◌, ap₂, arith, sym}
-use Rattle.cq_segments.proofs.SegmentRows.{count-more, few-more}
+use Rattle.cq_segments_pieces.proofs.PieceMarks.{count-more, few-more}
 use Rattle.cq_writestore.proofs.piece_store.marks_in.Goals as goal
 
 pub overflow_add-count : goal.overflow_add-count

@@ -1,6 +1,6 @@
 use Rattle.std.proofs.Common.{◌∙◌, ◌<◌, [], arith, length, subst}
 use Rattle.std.proofs.lemmas.List.{get_or_default, take_all}
-use Rattle.cq_segments.specs.Rows.{row_of}
+use Rattle.cq_segments_pieces.specs.Rows.{row_of}
 use Rattle.cq_writestore.specs.Refilled.{Adds}
 use Rattle.cq_writestore.proofs.Adding.{adds-next, adds-none, can_follow-next}
 use Rattle.cq_writestore.proofs.refilled.put_columns.Goals as goal

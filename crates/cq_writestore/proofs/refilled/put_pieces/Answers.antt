@@ -1,8 +1,8 @@
 use Rattle.std.proofs.Common.{◌∙◌, ◌++◌, List, ap, subst, sym}
 use Rattle.cq_values.specs.Value.{Row}
-use Rattle.cq_segments.specs.Marked.{rows_of}
-use Rattle.cq_segments.specs.Pieces.{joined}
-use Rattle.cq_segments.proofs.Marks.{rows_of-append}
+use Rattle.cq_segments_pieces.specs.Marked.{rows_of}
+use Rattle.cq_segments_pieces.specs.Pieces.{joined}
+use Rattle.cq_segments_pieces.proofs.Marks.{rows_of-append}
 use Rattle.cq_writestore.specs.Refilled.{CanTake}
 use Rattle.cq_writestore.proofs.Adding.{can-front, left-can, left-rows}
 use Rattle.cq_writestore.proofs.refilled.put_pieces.Goals as goal

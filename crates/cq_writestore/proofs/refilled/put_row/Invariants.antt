@@ -1,5 +1,5 @@
 use Rattle.std.proofs.Common.{◌≡◌, take}
-use Rattle.cq_segments.specs.Rows.{row_of}
+use Rattle.cq_segments_pieces.specs.Rows.{row_of}
 use Rattle.cq_writestore.proofs.refilled.put_row.Given as goal
 
 -- the values so far are there, and no row has ended

@@ -1,8 +1,8 @@
 use Rattle.std.proofs.Common.{◌++◌, List, length, refl, subst, sym}
 use Rattle.cq_values.specs.Value.{Row}
-use Rattle.cq_segments.specs.Columns.{AreWide}
-use Rattle.cq_segments.specs.Marked.{rows_of}
-use Rattle.cq_segments.specs.Pieces.{joined}
+use Rattle.cq_segments_pieces.specs.Columns.{AreWide}
+use Rattle.cq_segments_pieces.specs.Marked.{rows_of}
+use Rattle.cq_segments_pieces.specs.Pieces.{joined}
 use Rattle.cq_writestore.proofs.Adding.{can-front, is_ready, left-can}
 use Rattle.cq_writestore.proofs.refilled.refilled.Goals as goal
 

@@ -1,5 +1,5 @@
 use Rattle.std.proofs.Common.{◌≡◌, ◌≤◌, ◌++◌, length}
-use Rattle.cq_segments.specs.Marked.{unmarked}
+use Rattle.cq_segments_pieces.specs.Marked.{unmarked}
 use Rattle.cq_writestore.proofs.tail_store.push_all.Given as goal
 
 -- the rows that are left come behind those of the tail, and there is room for them

@@ -1,9 +1,9 @@
 use Rattle.std.proofs.Common.{◌++◌, ◌≡◌, ◌∙◌, List, ap, length, subst, sym}
 use Rattle.cq_model_bags.proofs.Lists.{all-append}
 use Rattle.cq_values.specs.Value.{Row}
-use Rattle.cq_segments.specs.Columns.{AreWide}
-use Rattle.cq_segments.specs.Marked.{rows_of, unmarked}
-use Rattle.cq_segments.proofs.Marks.{rows_of-append, rows_of-unmarked}
+use Rattle.cq_segments_pieces.specs.Columns.{AreWide}
+use Rattle.cq_segments_pieces.specs.Marked.{rows_of, unmarked}
+use Rattle.cq_segments_pieces.proofs.Marks.{rows_of-append, rows_of-unmarked}
 use Rattle.cq_writestore.proofs.tests.add.Goals as goal
 
 -- the rows behind the others are as wide as these

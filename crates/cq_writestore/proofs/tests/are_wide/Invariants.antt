@@ -1,5 +1,5 @@
 use Rattle.std.proofs.Common.{take}
-use Rattle.cq_segments.specs.Columns.{AreWide}
+use Rattle.cq_segments_pieces.specs.Columns.{AreWide}
 use Rattle.cq_writestore.proofs.tests.are_wide.Given as goal
 
 -- the rows so far are as wide

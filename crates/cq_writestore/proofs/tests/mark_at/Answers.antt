@@ -1,8 +1,8 @@
 use Rattle.std.proofs.Common.{◌∙◌, List, ap, subst, sym}
 use Rattle.cq_values.specs.Value.{Row}
-use Rattle.cq_segments.specs.Columns.{AreWide}
-use Rattle.cq_segments.specs.Marked.{rows_of}
-use Rattle.cq_segments.proofs.Marks.{rows_of-mark}
+use Rattle.cq_segments_pieces.specs.Columns.{AreWide}
+use Rattle.cq_segments_pieces.specs.Marked.{rows_of}
+use Rattle.cq_segments_pieces.proofs.Marks.{rows_of-mark}
 use Rattle.cq_writestore.proofs.tests.mark_at.Goals as goal
 
 pub returns-then-place-len : goal.returns-then-place-len

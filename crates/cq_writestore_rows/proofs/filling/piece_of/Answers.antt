@@ -1,6 +1,6 @@
 use Rattle.std.proofs.Common.{◌≡◌, IfOk, List, arith, subst}
-use Rattle.cq_segments.specs.Columns.{columns_in, rows_of_columns}
-use Rattle.cq_segments.specs.Marked.{unmarked}
+use Rattle.cq_segments_pieces.specs.Columns.{columns_in, rows_of_columns}
+use Rattle.cq_segments_pieces.specs.Marked.{unmarked}
 use Rattle.cq_values.specs.declared.value.Value.{Value}
 use Rattle.cq_writestore_rows.specs.TypedColumn.{values_in}
 use Rattle.cq_writestore_rows.proofs.NextFilling.{all_done}

@@ -1,5 +1,5 @@
 use Rattle.std.proofs.Common.{◌≡◌, ◌++◌}
-use Rattle.cq_segments.specs.Columns.{columns_in}
+use Rattle.cq_segments_pieces.specs.Columns.{columns_in}
 use Rattle.cq_writestore_rows.specs.TypedColumn.{values_in}
 use Rattle.cq_writestore_rows.proofs.filling.piece_of.Given as goal
 

@@ -1,5 +1,5 @@
 use Rattle.std.proofs.Common.{◌≡◌, take}
-use Rattle.cq_segments.specs.Columns.{rows_of_columns}
+use Rattle.cq_segments_pieces.specs.Columns.{rows_of_columns}
 use Rattle.cq_vectors.specs.Batch.{row_at}
 use Rattle.cq_writestore_rows.specs.TypedColumn.{values_in}
 use Rattle.cq_writestore_rows.proofs.filling.rows_in.Given as goal

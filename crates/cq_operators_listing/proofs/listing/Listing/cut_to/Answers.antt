@@ -1,34 +1,31 @@
-use Rattle.std.proofs.Common.{List, ◌∙◌, ap, arith, length, subst, sym, take, Some}
+use Rattle.std.proofs.Common.{◌≡◌, List, Some, ap, arith, subst, ◌∙◌}
 use Rattle.cq_values.specs.Value.{Row}
 use Rattle.cq_model_bags.specs.declared.sort_key.SortKey.{SortKey}
 use Rattle.cq_model_bags.specs.Bag.{once_each}
-use Rattle.cq_model_bags.specs.Listing.{IsInOrder, IsListing, listing_cmp}
-use Rattle.cq_operators_listing.specs.Stored.{StoredListing, rows_in}
-use Rattle.cq_operators_listing.proofs.Fronts.{can_list-cut, in_order-first}
+use Rattle.cq_model_bags.specs.Listing.{IsListing}
+use Rattle.cq_operators_listing.specs.Stored.{StoredListing, kept_for}
+use Rattle.cq_operators_listing.proofs.Fronts.{can_list-cut, front_where, in_order-first}
 use Rattle.cq_operators_listing.proofs.listing.Listing.cut_to.Goals as goal
 
-pub invariant_of-self : goal.invariant_of-self
-invariant_of-self c =
-    let old = c.args.self.now in
+-- the rows that are left are the first ones in order
+pub invariant_of-self-2 : goal.invariant_of-self-2
+invariant_of-self-2 c =
     let keys = c.self.inside.order.now.keys in
-    let shown = c.in_ok-first.first.items in
-    let first = subst (λ (keys : List SortKey). IsListing keys (Some c.args.count) (once_each old.rows) shown) (sym (ap (λ (s : StoredListing). s.keys) c.self.view_is)) c.in_ok-first.ensures in
-    record {
+    let shown = c.in_ok-self-inside.field-0.rows in
+    let first = subst (λ (keys : List SortKey). IsListing keys (Some c.args.count) (once_each c.flat-all.result) shown) c.as_slice.ensures c.in_ok-self-inside.ensures in
+    front_where (kept_for c.self.inside.order.now shown) c.front_within-self-inside.result c.args.count c.len.result c.front_within-self-inside.ensures
+    (λ there. record {
       limit = ap (λ (s : StoredListing). s.limit) c.self.view_is ∙ c.requires;
-      enough = omega (arith, c.if-count-len.true, c.len-len.ensures, ap length c.in_ok-lists.ensures);
-      in_order = subst (λ (rows : List Row). IsInOrder (listing_cmp keys) (take c.args.count rows)) (sym c.in_ok-lists.ensures) (in_order-first keys c.args.count (once_each old.rows) shown first);
-    }
+      enough = omega (arith, there, c.len.ensures);
+      in_order = in_order-first keys c.args.count (once_each c.flat-all.result) shown first;
+    })
 
-pub returns-then-count-len-clause-ok : goal.returns-then-count-len-clause-ok
-returns-then-count-len-clause-ok c =
+pub returns-clause-ok : goal.returns-clause-ok
+returns-clause-ok c all can =
     let old = c.args.self.now in
-    let new : StoredListing = record { keys = c.self.inside.order.now.keys; limit = c.self.inside.order.now.limit; rows = rows_in c.in_ok-lists.lists.items } in
-    can_list-cut old new c.args.count (ap (λ (s : StoredListing). s.keys) c.self.view_is) (ap (λ (s : StoredListing). s.limit) c.self.view_is) c.requires
-    (subst (λ (rows : List Row). IsListing old.keys (Some c.args.count) (once_each old.rows) rows) (sym c.in_ok-lists.ensures) c.in_ok-first.ensures)
-
-pub returns-else-count-len-clause-ok : goal.returns-else-count-len-clause-ok
-returns-else-count-len-clause-ok c =
-    let old = c.args.self.now in
-    let new : StoredListing = record { keys = c.self.inside.order.now.keys; limit = c.self.inside.order.now.limit; rows = rows_in c.in_ok-lists.lists.items } in
-    can_list-cut old new c.args.count (ap (λ (s : StoredListing). s.keys) c.self.view_is) (ap (λ (s : StoredListing). s.limit) c.self.view_is) c.requires
-    (subst (λ (rows : List Row). IsListing old.keys (Some c.args.count) (once_each old.rows) rows) (sym c.in_ok-lists.ensures) c.in_ok-first.ensures)
+    let shown = c.in_ok-self-inside.field-0.rows in
+    let keys = ap (λ (s : StoredListing). s.keys) c.self.view_is in
+    let rows : c.flat-all.result ≡ old.rows = c.flat-all.ensures ∙ ap (λ f. f.rows) c.replace.ensures.value ∙ ap (λ (s : StoredListing). s.rows) c.self.view_is in
+    let first = subst (λ (keys : List SortKey). IsListing keys (Some c.args.count) (once_each c.flat-all.result) shown) (c.as_slice.ensures ∙ keys) c.in_ok-self-inside.ensures in
+    can_list-cut old (kept_for c.self.inside.order.now shown) c.args.count keys (ap (λ (s : StoredListing). s.limit) c.self.view_is) c.requires
+    (subst (λ (all : List Row). IsListing old.keys (Some c.args.count) (once_each all) shown) rows first) all can

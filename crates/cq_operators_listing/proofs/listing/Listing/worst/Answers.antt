@@ -1,8 +1,8 @@
-use Rattle.std.proofs.Common.{◌≡◌, ◌-◌, List, Some, ◌∙◌, ap, subst}
-use Rattle.std.specs.Prelude.{IfSome, slice_get}
+use Rattle.std.proofs.Common.{◌≡◌, ◌-◌, List, Some, ap, subst}
+use Rattle.std.specs.Prelude.{slice_get}
 use Rattle.cq_values.specs.Value.{Row}
 use Rattle.cq_operators_listing.specs.Front.{IsFront}
-use Rattle.cq_operators_listing.specs.Stored.{StoredListing, rows_in}
+use Rattle.cq_operators_listing.specs.Stored.{StoredListing}
 use Rattle.cq_operators_listing.proofs.Fronts.{front_of, worst_of}
 use Rattle.cq_operators_listing.proofs.listing.Listing.worst.Goals as goal
 
@@ -10,6 +10,5 @@ pub returns-in-Some : goal.returns-in-Some
 returns-in-Some c =
     let count = c.in-Some.count in
     let front = subst (λ (s : StoredListing). IsFront s count) c.self.view_is (front_of _ c.self.inside.front count c.in-Some.is c.self.invariant) in
-    let there = ap (λ (lists : List (List Row)). rows_in lists) c.as_slice.ensures.value ∙ ap (λ (s : StoredListing). s.rows) c.self.view_is in
-    let at = subst (λ (rows : List Row). IfSome c.row_in_first.result (λ w. slice_get rows (count - 1) ≡ Some w.now)) there c.row_in_first.ensures in
-    worst_of c.args.self.now count c.row_in_first.result c.if-count-gt0.true at front
+    let at = subst (λ (rows : List Row). slice_get rows (count - 1) ≡ Some c.row.result.now) (ap (λ (s : StoredListing). s.rows) c.self.view_is) c.row.ensures in
+    worst_of c.args.self.now count c.row.result.now c.if-count-gt0.true at front

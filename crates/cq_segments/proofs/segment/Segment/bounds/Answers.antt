@@ -1,8 +1,8 @@
 use Rattle.std.proofs.Common.{◌<◌, ◌≤◌, ap, arith, length, subst, sym}
 use Rattle.std.proofs.lemmas.Bool.{ltb-false}
-use Rattle.cq_segments.specs.Columns.{AreWide}
-use Rattle.cq_segments.specs.Marked.{rows_of}
-use Rattle.cq_segments.proofs.Marks.{length-rows_of}
+use Rattle.cq_segments_pieces.specs.Columns.{AreWide}
+use Rattle.cq_segments_pieces.specs.Marked.{rows_of}
+use Rattle.cq_segments_pieces.proofs.Marks.{length-rows_of}
 use Rattle.cq_segments.proofs.SegmentRows.{nulls_past}
 use Rattle.cq_segments.proofs.segment.Segment.bounds.Goals as goal
 

@@ -1,7 +1,7 @@
 use Rattle.std.proofs.Common.{arith}
 use Rattle.std.proofs.lemmas.List.{length-map}
 use Rattle.std.proofs.lemmas.List.Sorted.{length_permutation}
-use Rattle.cq_segments.specs.Rows.{row_of, stored_rows}
+use Rattle.cq_segments_pieces.specs.Rows.{row_of, stored_rows}
 use Rattle.cq_segments.proofs.SegmentRows.{is_built, wide_sorted}
 use Rattle.cq_segments.proofs.segment.Segment.build.Goals as goal
 

@@ -1,6 +1,6 @@
 use Rattle.std.proofs.Common.{◌∙◌, ◌/◌, ap, arith, subst, sym}
 use Rattle.std.specs.Prelude.{slice_set}
-use Rattle.cq_segments.specs.Pieces.{joined}
+use Rattle.cq_segments_pieces.specs.Pieces.{joined}
 use Rattle.cq_segments.specs.Segment.{IsSegment}
 use Rattle.cq_segments.proofs.SegmentRows.{marked, piece_there, segment-marked, within}
 use Rattle.cq_segments.proofs.segment.Segment.mark.Goals as goal
@@ -14,10 +14,11 @@ mark-requires c = within c.self.inside.pieces.items c.self.invariant.full c.args
 pub invariant_of-self : goal.invariant_of-self
 invariant_of-self c =
     let pieces = c.self.inside.pieces.items in
+    let encoded = c.self.inside.encoded.value.items in
     let bounds = c.self.inside.bounds.items in
     let piece = c.index_mut.result.now in
-    subst (λ p. IsSegment (slice_set pieces (c.args.place / 1024) p) bounds) (sym c.mark.ensures)
-    (segment-marked pieces c.self.invariant.full c.args.self.now c.self.view_is c.args.place c.requires piece c.index_mut.ensures.value bounds c.self.invariant)
+    subst (λ p. IsSegment encoded (slice_set pieces (c.args.place / 1024) p) bounds) (sym c.mark.ensures)
+    (segment-marked pieces c.self.invariant.full c.args.self.now c.self.view_is c.args.place c.requires piece c.index_mut.ensures.value encoded bounds c.self.invariant)
 
 pub returns : goal.returns
 returns c =

@@ -1,8 +1,8 @@
 use Rattle.std.proofs.Common.{◌∙◌, ◌+◌, ap, ap₂, arith, length, sym}
 use Rattle.std.proofs.lemmas.List.{take_all}
-use Rattle.cq_segments.specs.Marked.{marked_count}
-use Rattle.cq_segments.specs.Pieces.{joined}
-use Rattle.cq_segments.proofs.SegmentRows.{count-more, few-more, few_marks}
+use Rattle.cq_segments_pieces.specs.Marked.{marked_count}
+use Rattle.cq_segments_pieces.specs.Pieces.{joined}
+use Rattle.cq_segments_pieces.proofs.PieceMarks.{count-more, few-more, few_marks}
 use Rattle.cq_segments.proofs.segment.Segment.marked_len.Goals as goal
 
 pub overflow_add-count : goal.overflow_add-count

@@ -1,7 +1,7 @@
 use Rattle.std.proofs.Common.{ap}
 use Rattle.std.specs.Option.{option_map}
 use Rattle.cq_segments.specs.Bounds.{ends_of}
-use Rattle.cq_segments.specs.Marked.{rows_of}
+use Rattle.cq_segments_pieces.specs.Marked.{rows_of}
 use Rattle.cq_segments.proofs.Misses.{none_compared, none_known, none_null}
 use Rattle.cq_values.specs.Lent.{owned}
 use Rattle.cq_segments.proofs.segment.Segment.may_match.Goals as goal

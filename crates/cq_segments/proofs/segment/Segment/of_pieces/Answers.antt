@@ -1,8 +1,8 @@
 use Rattle.std.proofs.Common.{List, [], arith, refl}
 use Rattle.std.proofs.lemmas.List.Folds.{length-flat_map-take}
 use Rattle.std.proofs.lemmas.List.Sorted.{IsPermutation-refl}
-use Rattle.cq_segments.specs.Marked.{MarkedRow, rows_of}
-use Rattle.cq_segments.specs.Pieces.{joined}
+use Rattle.cq_segments_pieces.specs.Marked.{MarkedRow, rows_of}
+use Rattle.cq_segments_pieces.specs.Pieces.{joined}
 use Rattle.cq_segments.proofs.SegmentRows.{is_built}
 use Rattle.cq_segments.proofs.segment.Segment.of_pieces.Goals as goal
 

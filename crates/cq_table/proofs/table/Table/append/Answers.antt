@@ -1,8 +1,8 @@
 use Rattle.std.proofs.Common.{◌≡◌, ◌∙◌, ◌+◌, ◌++◌, List, ap, arith, length}
 use Rattle.cq_model_bags.specs.Canonical.{bag_of}
 use Rattle.cq_model_bags.proofs.Canonicals.{length-bag_of}
-use Rattle.cq_segments.specs.Marked.{MarkedRow, live}
-use Rattle.cq_segments.specs.Pieces.{joined}
+use Rattle.cq_segments_pieces.specs.Marked.{MarkedRow, live}
+use Rattle.cq_segments_pieces.specs.Pieces.{joined}
 use Rattle.cq_table.specs.Table.{live_rows, table_of}
 use Rattle.cq_table.proofs.Tables.{bag-more, kept-more, wide-with}
 use Rattle.cq_table.proofs.table.Table.append.Goals as goal

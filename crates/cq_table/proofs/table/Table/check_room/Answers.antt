@@ -1,8 +1,8 @@
 use Rattle.std.proofs.Common.{◌≡◌, ◌+◌, ◌++◌, length, subst, arith}
 use Rattle.cq_model_bags.specs.Canonical.{bag_of}
 use Rattle.cq_model_bags.proofs.Canonicals.{length-bag_of}
-use Rattle.cq_segments.specs.Marked.{live}
-use Rattle.cq_segments.specs.Pieces.{joined}
+use Rattle.cq_segments_pieces.specs.Marked.{live}
+use Rattle.cq_segments_pieces.specs.Pieces.{joined}
 use Rattle.cq_table.specs.Checks.{IsChecked, too_many}
 use Rattle.cq_table.proofs.table.Table.check_room.Goals as goal
 

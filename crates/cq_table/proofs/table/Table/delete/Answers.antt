@@ -1,7 +1,7 @@
 use Rattle.std.proofs.Common.{◌∙◌, ◌-◌, ◌++◌, [], List, ℕ, ap, arith, sym}
 use Rattle.std.proofs.lemmas.List.{append-nil}
-use Rattle.cq_segments.specs.Marked.{with_marks}
-use Rattle.cq_segments.specs.Pieces.{joined}
+use Rattle.cq_segments_pieces.specs.Marked.{with_marks}
+use Rattle.cq_segments_pieces.specs.Pieces.{joined}
 use Rattle.cq_table.specs.Table.{stored_in, table_of}
 use Rattle.cq_table.proofs.Founds.{live_there}
 use Rattle.cq_table.proofs.Marking.{live_fewer}

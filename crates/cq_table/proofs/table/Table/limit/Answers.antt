@@ -1,7 +1,7 @@
 use Rattle.std.proofs.Common.{◌++◌, arith}
 use Rattle.cq_model_bags.proofs.Canonicals.{length-bag_of}
-use Rattle.cq_segments.specs.Marked.{live}
-use Rattle.cq_segments.specs.Pieces.{joined}
+use Rattle.cq_segments_pieces.specs.Marked.{live}
+use Rattle.cq_segments_pieces.specs.Pieces.{joined}
 use Rattle.cq_table.proofs.table.Table.limit.Goals as goal
 
 pub invariant_of-self : goal.invariant_of-self

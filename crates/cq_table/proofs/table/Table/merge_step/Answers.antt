@@ -1,7 +1,7 @@
 use Rattle.std.proofs.Common.{◌∙◌, ap, arith, length, refl}
-use Rattle.cq_segments.specs.Marked.{live}
-use Rattle.cq_segments.specs.Pieces.{joined}
-use Rattle.cq_segments.proofs.Marks.{length-live}
+use Rattle.cq_segments_pieces.specs.Marked.{live}
+use Rattle.cq_segments_pieces.specs.Pieces.{joined}
+use Rattle.cq_segments_pieces.proofs.Marks.{length-live}
 use Rattle.cq_table.specs.Table.{table_of}
 use Rattle.cq_table.proofs.Tables.{alone, count-segments, merged, merges-bag, merges-counts, merges-kept, whole, wide-segments}
 use Rattle.cq_table.proofs.table.Table.merge_step.Goals as goal

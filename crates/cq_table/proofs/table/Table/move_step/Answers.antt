@@ -1,7 +1,7 @@
 use Rattle.std.proofs.Common.{◌≡◌, ap, arith, length}
 use Rattle.std.specs.Prelude.{min}
-use Rattle.cq_segments.specs.Marked.{live}
-use Rattle.cq_segments.proofs.Marks.{length-live}
+use Rattle.cq_segments_pieces.specs.Marked.{live}
+use Rattle.cq_segments_pieces.proofs.Marks.{length-live}
 use Rattle.cq_table.specs.Table.{table_of}
 use Rattle.cq_table.proofs.Tables.{moved, moves-bag, moves-counts, moves-kept}
 use Rattle.cq_table.proofs.table.Table.move_step.Goals as goal

@@ -1,7 +1,7 @@
 use Rattle.std.proofs.Common.{◌∙◌, ◌++◌, ap, arith, length, refl}
 use Rattle.std.proofs.lemmas.List.{length-append}
-use Rattle.cq_segments.specs.Marked.{unmarked}
-use Rattle.cq_segments.specs.Pieces.{joined}
+use Rattle.cq_segments_pieces.specs.Marked.{unmarked}
+use Rattle.cq_segments_pieces.specs.Pieces.{joined}
 use Rattle.cq_table.specs.Table.{table_of}
 use Rattle.cq_table.proofs.Marking.{length-unmarked}
 use Rattle.cq_table.proofs.Tables.{kept-exchanged, leaves, marks_with, still_there, wide-with}

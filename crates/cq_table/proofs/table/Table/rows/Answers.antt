@@ -1,6 +1,6 @@
 use Rattle.std.proofs.Common.{◌++◌}
-use Rattle.cq_segments.specs.Marked.{live}
-use Rattle.cq_segments.specs.Pieces.{joined}
+use Rattle.cq_segments_pieces.specs.Marked.{live}
+use Rattle.cq_segments_pieces.specs.Pieces.{joined}
 use Rattle.cq_table.proofs.Bagged.{sound_bag}
 use Rattle.cq_table.proofs.table.Table.rows.Goals as goal
 

@@ -2,7 +2,7 @@ use Rattle.std.proofs.Common.{ℕ, ◌<◌, ◌∙◌, ap, ap₂, length, subst,
 use Rattle.std.proofs.ByRecursion.{All-take}
 use Rattle.std.proofs.lemmas.Result.{IfOk-weaker}
 use Rattle.cq_encodings_vectors.specs.Places.{AreBelow, rows_at}
-use Rattle.cq_segments.specs.Marked.{live_from, rows_of}
+use Rattle.cq_segments_pieces.specs.Marked.{live_from, rows_of}
 use Rattle.cq_table_columns.specs.Stored.{marked_rows}
 use Rattle.cq_table_columns.proofs.LiveRows.{EndsAt, live_below, rows_first}
 use Rattle.cq_table_columns.proofs.front.Front.first_live.Goals as goal

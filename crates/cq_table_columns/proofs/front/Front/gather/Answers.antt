@@ -1,8 +1,8 @@
 use Rattle.std.proofs.Common.{◌∙◌, ap, ap₂, arith, length, subst, sym}
 use Rattle.std.proofs.lemmas.Result.{IfOk-weaker}
-use Rattle.cq_segments.specs.Marked.{rows_of}
+use Rattle.cq_segments_pieces.specs.Marked.{rows_of}
 use Rattle.cq_encodings_vectors.specs.Places.{AreBelow, rows_at}
-use Rattle.cq_segments.proofs.Marks.{length-live_from}
+use Rattle.cq_segments_pieces.proofs.Marks.{length-live_from}
 use Rattle.cq_vectors.specs.Gathered.{column_of}
 use Rattle.cq_table_columns.specs.Stored.{front_rows}
 use Rattle.cq_table_columns.proofs.LiveRows.{live_at, live_below}

@@ -1,7 +1,7 @@
 use Rattle.std.proofs.Common.{◌∙◌, ap, sym}
 use Rattle.std.specs.List.{range_with_len}
 use Rattle.std.proofs.lemmas.Result.{IfOk-weaker}
-use Rattle.cq_segments.specs.Marked.{live_from}
+use Rattle.cq_segments_pieces.specs.Marked.{live_from}
 use Rattle.cq_table_columns.specs.Stored.{marked_rows}
 use Rattle.cq_table_columns.proofs.LiveRows.{live_from-unmarked}
 use Rattle.cq_table_columns.proofs.front.Front.live_places.Goals as goal

@@ -1,6 +1,6 @@
 use Rattle.std.proofs.Common.{◌∙◌, ap, sym}
-use Rattle.cq_segments.specs.Marked.{live, rows_of}
-use Rattle.cq_segments.proofs.Marks.{live-unmarked}
+use Rattle.cq_segments_pieces.specs.Marked.{live, rows_of}
+use Rattle.cq_segments_pieces.proofs.Marks.{live-unmarked}
 use Rattle.cq_table_columns.proofs.front.Front.of_piece.Goals as goal
 
 pub returns-then-is_whole-clause-rows : goal.returns-then-is_whole-clause-rows

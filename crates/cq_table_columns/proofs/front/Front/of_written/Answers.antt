@@ -1,6 +1,6 @@
 use Rattle.std.proofs.Common.{◌∙◌, ap, sym}
-use Rattle.cq_segments.specs.Marked.{live, rows_of}
-use Rattle.cq_segments.proofs.Marks.{live-unmarked}
+use Rattle.cq_segments_pieces.specs.Marked.{live, rows_of}
+use Rattle.cq_segments_pieces.proofs.Marks.{live-unmarked}
 use Rattle.cq_writestore.specs.Writes.{tail_rows}
 use Rattle.cq_table_columns.proofs.front.Front.of_written.Goals as goal
 

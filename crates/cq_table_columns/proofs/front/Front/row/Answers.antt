@@ -1,5 +1,5 @@
 use Rattle.std.proofs.Common.{◌<◌, ◌∙◌, [], ap, arith, get_or, length, sym}
-use Rattle.cq_segments.specs.Marked.{live, rows_of}
+use Rattle.cq_segments_pieces.specs.Marked.{live, rows_of}
 use Rattle.cq_writestore.specs.Writes.{tail_rows}
 use Rattle.cq_table_columns.specs.Stored.{front_rows}
 use Rattle.cq_table_columns.proofs.LiveRows.{live_row}

@@ -1,6 +1,6 @@
 use Rattle.std.proofs.Common.{◌∙◌, ap, ap₂, length, subst, sym}
 use Rattle.std.proofs.lemmas.Result.{IfOk-weaker}
-use Rattle.cq_segments.specs.Marked.{rows_of}
+use Rattle.cq_segments_pieces.specs.Marked.{rows_of}
 use Rattle.cq_encodings_vectors.specs.Places.{AreBelow, rows_at}
 use Rattle.cq_writestore.specs.Writes.{tail_rows}
 use Rattle.cq_table_columns.specs.Stored.{front_rows}

@@ -1,6 +1,6 @@
 use Rattle.std.proofs.Common.{◌∙◌, ap, sym}
-use Rattle.cq_segments.specs.Marked.{rows_of}
-use Rattle.cq_segments.proofs.Marks.{rows_of-unmarked}
+use Rattle.cq_segments_pieces.specs.Marked.{rows_of}
+use Rattle.cq_segments_pieces.proofs.Marks.{rows_of-unmarked}
 use Rattle.cq_table_columns.specs.Stored.{marked_rows}
 use Rattle.cq_table_columns.proofs.front.Front.with_all.Goals as goal
 

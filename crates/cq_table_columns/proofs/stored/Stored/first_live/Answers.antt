@@ -1,7 +1,7 @@
 use Rattle.std.proofs.Common.{◌≡◌, ◌∙◌, ◌-◌, ◌++◌, ℕ, ap, ap₂, arith, length, refl, sym, take}
 use Rattle.std.proofs.lemmas.List.{append-nil, append_assoc, map-append}
-use Rattle.cq_segments.specs.Marked.{live}
-use Rattle.cq_segments.specs.Rows.{row_of, stored_rows}
+use Rattle.cq_segments_pieces.specs.Marked.{live}
+use Rattle.cq_segments_pieces.specs.Rows.{row_of, stored_rows}
 use Rattle.cq_table_columns.specs.Stored.{marked_rows, stored_marked}
 use Rattle.cq_table_columns.proofs.LiveRows.{none_first}
 use Rattle.cq_table_columns.proofs.Parts.{live_parts}

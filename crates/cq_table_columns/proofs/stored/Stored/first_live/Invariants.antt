@@ -1,6 +1,6 @@
 use Rattle.std.proofs.Common.{◌≡◌, ◌++◌, length, take}
-use Rattle.cq_segments.specs.Marked.{live}
-use Rattle.cq_segments.specs.Rows.{stored_rows}
+use Rattle.cq_segments_pieces.specs.Marked.{live}
+use Rattle.cq_segments_pieces.specs.Rows.{stored_rows}
 use Rattle.cq_table_columns.specs.Stored.{stored_marked}
 use Rattle.cq_table_columns.proofs.stored.Stored.first_live.Given as goal
 

@@ -1,6 +1,6 @@
 use Rattle.std.proofs.Common.{◌∙◌, ap, length, sym}
-use Rattle.cq_segments.specs.Marked.{live}
-use Rattle.cq_segments.proofs.Marks.{live-unmarked}
+use Rattle.cq_segments_pieces.specs.Marked.{live}
+use Rattle.cq_segments_pieces.proofs.Marks.{live-unmarked}
 use Rattle.cq_table_columns.proofs.stored.Stored.of.Goals as goal
 
 pub invariant_of-result : goal.invariant_of-result

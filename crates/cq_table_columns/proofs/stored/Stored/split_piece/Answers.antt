@@ -1,6 +1,6 @@
 use Rattle.std.proofs.Common.{◌∙◌, ◌++◌, ap, arith, length, sym}
-use Rattle.cq_segments.specs.Marked.{live}
-use Rattle.cq_segments.specs.Pieces.{joined}
+use Rattle.cq_segments_pieces.specs.Marked.{live}
+use Rattle.cq_segments_pieces.specs.Pieces.{joined}
 use Rattle.cq_writestore.specs.Writes.{written_rows}
 use Rattle.cq_table_columns.specs.Stored.{stored_marked}
 use Rattle.cq_table_columns.proofs.Parts.{first_piece}

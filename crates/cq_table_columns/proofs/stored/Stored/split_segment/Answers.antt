@@ -1,7 +1,7 @@
-use Rattle.std.proofs.Common.{◌≡◌, ◌∙◌, [], ap, arith, length, refl, sym}
+use Rattle.std.proofs.Common.{◌≡◌, ◌∙◌, [], arith, length, refl, sym}
 use Rattle.std.proofs.lemmas.Bool.{eqb-true}
 use Rattle.std.proofs.lemmas.List.{nil_from_length}
-use Rattle.cq_segments.proofs.Marks.{length-live}
+use Rattle.cq_segments_pieces.proofs.Marks.{length-live}
 use Rattle.cq_writestore.specs.Writes.{written_rows}
 use Rattle.cq_table_columns.specs.Stored.{stored_marked}
 use Rattle.cq_table_columns.proofs.Parts.{first_segment}

@@ -1,5 +1,5 @@
 use Rattle.std.proofs.Common.{◌∙◌, ◌++◌, ap, ap₂, arith, length, sym}
-use Rattle.cq_segments.specs.Marked.{live}
+use Rattle.cq_segments_pieces.specs.Marked.{live}
 use Rattle.cq_writestore.specs.Writes.{tail_rows}
 use Rattle.cq_table_columns.specs.Stored.{stored_marked}
 use Rattle.cq_table_columns.proofs.Parts.{are_parts}

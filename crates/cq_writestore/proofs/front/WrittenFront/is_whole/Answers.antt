@@ -1,6 +1,6 @@
 use Rattle.std.proofs.Common.{◌≡◌, ◌∙◌, nat_eq, sym}
 use Rattle.std.proofs.lemmas.Bool.{OnTrue_from, eqb-true}
-use Rattle.cq_segments.specs.Marked.{rows_of, unmarked}
+use Rattle.cq_segments_pieces.specs.Marked.{rows_of, unmarked}
 use Rattle.cq_writestore.specs.Writes.{tail_rows}
 use Rattle.cq_writestore.proofs.MarkedLists.{all_live}
 use Rattle.cq_writestore.proofs.front.WrittenFront.is_whole.Goals as goal

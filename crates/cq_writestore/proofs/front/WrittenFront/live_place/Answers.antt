@@ -1,7 +1,7 @@
 use Rattle.std.proofs.Common.{◌≡◌, ◌<◌, ◌∙◌, ◌∷◌, [], ap, arith, get_or, length, length-append, sym, take}
 use Rattle.std.proofs.lemmas.List.{take_all}
-use Rattle.cq_segments.specs.Marked.{live_from}
-use Rattle.cq_segments.proofs.Marks.{length-flags, length-live_from}
+use Rattle.cq_segments_pieces.specs.Marked.{live_from}
+use Rattle.cq_segments_pieces.proofs.Marks.{length-flags, length-live_from}
 use Rattle.cq_writestore.specs.Writes.{tail_rows}
 use Rattle.cq_writestore.proofs.MarkedLists.{place-kept, place-passed, place-there}
 use Rattle.cq_writestore.proofs.front.WrittenFront.live_place.Goals.{then-not-is_marked+else-left-eq0, else-not-is_marked}

@@ -1,5 +1,5 @@
 use Rattle.std.proofs.Common.{◌≡◌, ◌+◌, length, take}
-use Rattle.cq_segments.specs.Marked.{live_from}
+use Rattle.cq_segments_pieces.specs.Marked.{live_from}
 use Rattle.cq_writestore.specs.Writes.{tail_rows}
 use Rattle.cq_writestore.proofs.front.WrittenFront.live_place.Given as goal
 

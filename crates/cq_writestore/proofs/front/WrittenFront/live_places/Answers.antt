@@ -1,5 +1,5 @@
 use Rattle.std.proofs.Common.{◌∙◌, ◌∷◌, ◌<◌, ◌++◌, [], ap, arith, length, sym}
-use Rattle.cq_segments.proofs.Marks.{length-flags}
+use Rattle.cq_segments_pieces.proofs.Marks.{length-flags}
 use Rattle.cq_writestore.proofs.MarkedLists.{place-kept, place-passed}
 use Rattle.cq_writestore.proofs.front.WrittenFront.live_places.Goals.{then-not-is_marked, else-not-is_marked}
 use Rattle.cq_writestore.proofs.front.WrittenFront.live_places.Goals as goal

@@ -1,6 +1,6 @@
 use Rattle.std.proofs.Common.{◌≡◌, ◌≤◌, ◌+◌, ◌-◌, take}
 use Rattle.std.specs.Vec.{vec_capacity, vec_len}
-use Rattle.cq_segments.specs.Marked.{live_from}
+use Rattle.cq_segments_pieces.specs.Marked.{live_from}
 use Rattle.cq_writestore.specs.Writes.{tail_rows}
 use Rattle.cq_writestore.proofs.front.WrittenFront.live_places.Given as goal
 

@@ -1,5 +1,5 @@
 use Rattle.std.proofs.Common.{sym}
-use Rattle.cq_segments.proofs.Marks.{rows_of-flags}
+use Rattle.cq_segments_pieces.proofs.Marks.{rows_of-flags}
 use Rattle.cq_writestore.proofs.front.WrittenFront.rows.Goals as goal
 
 pub returns-clause-rows : goal.returns-clause-rows

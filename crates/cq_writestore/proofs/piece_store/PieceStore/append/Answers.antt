@@ -1,7 +1,7 @@
 use Rattle.std.proofs.Common.{◌∙◌, ap, arith, drop, length, length-append, subst, sym}
-use Rattle.cq_segments.specs.Marked.{marked_count}
-use Rattle.cq_segments.specs.Pieces.{joined}
-use Rattle.cq_segments.proofs.PieceLists.{joined-append}
+use Rattle.cq_segments_pieces.specs.Marked.{marked_count}
+use Rattle.cq_segments_pieces.specs.Pieces.{joined}
+use Rattle.cq_segments_pieces.proofs.PieceLists.{joined-append}
 use Rattle.cq_writestore_rows.specs.NewRows.{AreWhole}
 use Rattle.cq_writestore.proofs.SpotLists.{whole-append, whole-length}
 use Rattle.cq_writestore.proofs.piece_store.PieceStore.append.Goals as goal

@@ -1,10 +1,10 @@
 use Rattle.std.proofs.Common.{◌∙◌, ◌+◌, ap, arith, false, get_or, subst, sym}
 use Rattle.std.specs.Prelude.{slice_set}
 use Rattle.std.proofs.lemmas.List.{get_or_default}
-use Rattle.cq_segments.specs.Marked.{marks_of, with_mark}
-use Rattle.cq_segments.specs.Pieces.{joined}
-use Rattle.cq_segments.proofs.Marks.{mark-again}
-use Rattle.cq_segments.proofs.SegmentRows.{few_marks}
+use Rattle.cq_segments_pieces.specs.Marked.{marks_of, with_mark}
+use Rattle.cq_segments_pieces.specs.Pieces.{joined}
+use Rattle.cq_segments_pieces.proofs.Marks.{mark-again}
+use Rattle.cq_segments_pieces.proofs.PieceMarks.{few_marks}
 use Rattle.cq_writestore.specs.Spots.{AreHeld, IsIn}
 use Rattle.cq_writestore.proofs.SpotLists.{held-marked, mark_in, mark_read}
 use Rattle.cq_writestore.proofs.piece_store.PieceStore.mark.Goals as goal

@@ -1,7 +1,7 @@
 use Rattle.std.proofs.Common.{◌∙◌, ap, arith, drop, length}
 use Rattle.std.proofs.lemmas.List.{length-drop}
-use Rattle.cq_segments.specs.Marked.{marked_count}
-use Rattle.cq_segments.specs.Pieces.{joined}
+use Rattle.cq_segments_pieces.specs.Marked.{marked_count}
+use Rattle.cq_segments_pieces.specs.Pieces.{joined}
 use Rattle.cq_writestore.proofs.piece_store.PieceStore.take_front.Goals as goal
 
 pub marks_in-self-inside-requires : goal.marks_in-self-inside-requires

@@ -2,10 +2,10 @@ use Rattle.std.proofs.Common.{◌≡◌, ◌∙◌, ◌++◌, List, ap, ap₂, a
 use Rattle.std.proofs.lemmas.List.{append_assoc, length-map}
 use Rattle.cq_model_bags.proofs.Lists.{all-back}
 use Rattle.cq_values.specs.Value.{Row}
-use Rattle.cq_segments.specs.Columns.{AreWide}
-use Rattle.cq_segments.specs.Marked.{rows_of, unmarked}
-use Rattle.cq_segments.specs.Pieces.{joined}
-use Rattle.cq_segments.proofs.Marks.{rows_of-append, rows_of-flags}
+use Rattle.cq_segments_pieces.specs.Columns.{AreWide}
+use Rattle.cq_segments_pieces.specs.Marked.{rows_of, unmarked}
+use Rattle.cq_segments_pieces.specs.Pieces.{joined}
+use Rattle.cq_segments_pieces.proofs.Marks.{rows_of-append, rows_of-flags}
 use Rattle.cq_writestore.specs.Writes.{with_flags_behind}
 use Rattle.cq_writestore.proofs.Flagged.{flags_within, marks_kept, none_behind, stored_as, stored_count}
 use Rattle.cq_writestore.proofs.store.WriteStore.append.Goals as goal

@@ -1,6 +1,6 @@
 use Rattle.std.proofs.Common.{◌∙◌, ◌+◌, ◌-◌, ◌++◌, ℕ, ap, arith, length, sym}
-use Rattle.cq_segments.specs.Marked.{with_mark}
-use Rattle.cq_segments.proofs.Marks.{length-mark, mark-behind, mark-in-front}
+use Rattle.cq_segments_pieces.specs.Marked.{with_mark}
+use Rattle.cq_segments_pieces.proofs.Marks.{length-mark, mark-behind, mark-in-front}
 use Rattle.cq_writestore.proofs.store.WriteStore.mark.Goals as goal
 
 pub invariant_of-self : goal.invariant_of-self

@@ -1,7 +1,7 @@
 use Rattle.std.proofs.Common.{◌≡◌, ◌∙◌, ◌+◌, ◌++◌, ap, arith, drop, length, sym, take}
 use Rattle.std.proofs.lemmas.List.{length-take-le, take-append-drop}
-use Rattle.cq_segments.specs.Marked.{rows_of, with_mark}
-use Rattle.cq_segments.proofs.Marks.{flags-none}
+use Rattle.cq_segments_pieces.specs.Marked.{rows_of, with_mark}
+use Rattle.cq_segments_pieces.proofs.Marks.{flags-none}
 use Rattle.cq_writestore.proofs.Flagged.{length-flags_behind, marked-behind, passed-behind}
 use Rattle.cq_writestore.proofs.store.WriteStore.mark_behind.Goals.{then-flags-place, else-flags-place}
 use Rattle.cq_writestore.proofs.store.WriteStore.mark_behind.Goals as goal

@@ -1,6 +1,6 @@
 use Rattle.std.proofs.Common.{ap, arith}
-use Rattle.cq_segments.specs.Marked.{marked_count}
-use Rattle.cq_segments.proofs.Marks.{count-append}
+use Rattle.cq_segments_pieces.specs.Marked.{marked_count}
+use Rattle.cq_segments_pieces.proofs.Marks.{count-append}
 use Rattle.cq_writestore.proofs.store.WriteStore.marked_len.Goals as goal
 
 pub returns-clause-len : goal.returns-clause-len

@@ -1,5 +1,5 @@
 use Rattle.std.proofs.Common.{sym}
-use Rattle.cq_segments.proofs.Marks.{length-flags}
+use Rattle.cq_segments_pieces.proofs.Marks.{length-flags}
 use Rattle.cq_writestore.proofs.tail.Tail.len.Goals as goal
 
 pub returns : goal.returns

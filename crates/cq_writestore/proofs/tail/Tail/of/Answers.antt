@@ -1,4 +1,4 @@
-use Rattle.cq_segments.proofs.Marks.{flags-none}
+use Rattle.cq_segments_pieces.proofs.Marks.{flags-none}
 use Rattle.cq_writestore.proofs.tail.Tail.of.Goals as goal
 
 pub returns : goal.returns

@@ -1,6 +1,6 @@
 use Rattle.std.proofs.Common.{◌∙◌, ap, ap₂, arith, drop, take}
-use Rattle.cq_segments.specs.Marked.{with_flags}
-use Rattle.cq_segments.proofs.Marks.{drop-flags, length-flags, take-flags}
+use Rattle.cq_segments_pieces.specs.Marked.{with_flags}
+use Rattle.cq_segments_pieces.proofs.Marks.{drop-flags, length-flags, take-flags}
 use Rattle.cq_writestore.proofs.MarkedLists.{drop-min, take-min}
 use Rattle.cq_writestore.proofs.tail.Tail.split_at.Goals as goal
 

@@ -1,6 +1,6 @@
 use Rattle.std.proofs.Common.{ap, arith, length}
 use Rattle.std.proofs.lemmas.List.{length-take}
-use Rattle.cq_segments.proofs.Marks.{length-flags}
+use Rattle.cq_segments_pieces.proofs.Marks.{length-flags}
 use Rattle.cq_writestore.specs.Writes.{tail_rows}
 use Rattle.cq_writestore.proofs.tail.Tail.split_front.Goals as goal
 

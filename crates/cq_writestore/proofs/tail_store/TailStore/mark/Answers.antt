@@ -1,7 +1,7 @@
 use Rattle.std.proofs.Common.{◌∙◌, ◌<◌, ◌+◌, ap, arith, false, get_or, length, sym, true}
 use Rattle.std.proofs.lemmas.List.{get_or_default, length-set}
-use Rattle.cq_segments.specs.Marked.{marked_count, marks_of, with_flags, with_mark}
-use Rattle.cq_segments.proofs.Marks.{count-mark, length-flags, length-live, length-mark, mark-again, marks_of-flags, set-flag}
+use Rattle.cq_segments_pieces.specs.Marked.{marked_count, marks_of, with_flags, with_mark}
+use Rattle.cq_segments_pieces.proofs.Marks.{count-mark, length-flags, length-live, length-mark, mark-again, marks_of-flags, set-flag}
 use Rattle.cq_writestore.proofs.tail_store.TailStore.mark.Goals as goal
 
 pub index-requires : goal.index-requires

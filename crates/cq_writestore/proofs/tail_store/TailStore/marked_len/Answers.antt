@@ -1,6 +1,6 @@
 use Rattle.std.proofs.Common.{ap, arith}
-use Rattle.cq_segments.specs.Marked.{marked_count}
-use Rattle.cq_segments.proofs.Marks.{length-live}
+use Rattle.cq_segments_pieces.specs.Marked.{marked_count}
+use Rattle.cq_segments_pieces.proofs.Marks.{length-live}
 use Rattle.cq_writestore.proofs.tail_store.TailStore.marked_len.Goals as goal
 
 pub returns-clause-few : goal.returns-clause-few

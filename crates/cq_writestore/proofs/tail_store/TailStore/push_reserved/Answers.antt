@@ -1,6 +1,6 @@
 use Rattle.std.proofs.Common.{◌∙◌, ◌∷◌, ◌++◌, [], ap, ap₂, arith, false, length, length-append}
-use Rattle.cq_segments.specs.Marked.{marked_count, unmarked, with_flags}
-use Rattle.cq_segments.proofs.Marks.{count-append, count-unmarked}
+use Rattle.cq_segments_pieces.specs.Marked.{marked_count, unmarked, with_flags}
+use Rattle.cq_segments_pieces.proofs.Marks.{count-append, count-unmarked}
 use Rattle.cq_writestore.proofs.MarkedLists.{push-flag}
 use Rattle.cq_writestore.proofs.tail_store.TailStore.push_reserved.Goals as goal
 

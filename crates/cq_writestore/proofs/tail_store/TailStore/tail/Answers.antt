@@ -1,5 +1,5 @@
 use Rattle.std.proofs.Common.{◌∙◌, ap, length, sym}
-use Rattle.cq_segments.proofs.Marks.{length-flags}
+use Rattle.cq_segments_pieces.proofs.Marks.{length-flags}
 use Rattle.cq_writestore.proofs.tail_store.TailStore.tail.Goals as goal
 
 pub returns-clause-len : goal.returns-clause-len

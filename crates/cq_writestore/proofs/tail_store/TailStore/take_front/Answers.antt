@@ -1,7 +1,7 @@
 use Rattle.std.proofs.Common.{◌≡◌, ◌≤◌, ◌-◌, ◌∙◌, ap, ap₂, arith, drop, length, min, sym, take}
 use Rattle.std.proofs.lemmas.List.{length-drop}
-use Rattle.cq_segments.specs.Marked.{live, marked_count, with_flags}
-use Rattle.cq_segments.proofs.Marks.{count-parts, drop-flags, length-flags}
+use Rattle.cq_segments_pieces.specs.Marked.{live, marked_count, with_flags}
+use Rattle.cq_segments_pieces.proofs.Marks.{count-parts, drop-flags, length-flags}
 use Rattle.cq_writestore.specs.Writes.{tail_rows}
 use Rattle.cq_writestore.proofs.MarkedLists.{count-front, drop-min, turned}
 use Rattle.cq_writestore.proofs.tail_store.TailStore.take_front.Goals as goal

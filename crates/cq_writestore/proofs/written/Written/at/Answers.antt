@@ -1,8 +1,8 @@
 use Rattle.std.proofs.Common.{◌∙◌, ◌++◌, ◌+◌, [], ℕ, ap, arith, get_or, length, length-append, sym}
 use Rattle.std.proofs.lemmas.List.{get_or-append-add, get_or_append_left}
-use Rattle.cq_segments.specs.Marked.{rows_of}
-use Rattle.cq_segments.specs.Pieces.{joined}
-use Rattle.cq_segments.proofs.Marks.{length-flags, length-rows_of, rows_of-append, rows_of-flags}
+use Rattle.cq_segments_pieces.specs.Marked.{rows_of}
+use Rattle.cq_segments_pieces.specs.Pieces.{joined}
+use Rattle.cq_segments_pieces.proofs.Marks.{length-flags, length-rows_of, rows_of-append, rows_of-flags}
 use Rattle.cq_writestore.specs.Writes.{tail_rows}
 use Rattle.cq_writestore.proofs.SpotLists.{in_all, row_read}
 use Rattle.cq_writestore.proofs.written.Written.at.Goals as goal

@@ -1,5 +1,5 @@
 use Rattle.std.proofs.Common.{arith}
-use Rattle.cq_segments.proofs.Marks.{length-flags}
+use Rattle.cq_segments_pieces.proofs.Marks.{length-flags}
 use Rattle.cq_writestore.proofs.written.Written.len.Goals as goal
 
 pub overflow_add-result : goal.overflow_add-result

@@ -1,8 +1,8 @@
 use Rattle.std.proofs.Common.{◌≡◌, ◌∙◌, ◌++◌, List, ap, ap₂, arith, length, sym}
 use Rattle.cq_model_bags.proofs.Lists.{all-drop}
-use Rattle.cq_segments.specs.Marked.{MarkedRow, rows_of, unmarked}
-use Rattle.cq_segments.specs.Pieces.{joined}
-use Rattle.cq_segments.proofs.Marks.{length-flags, length-rows_of, rows_of-unmarked, unmarked-append}
+use Rattle.cq_segments_pieces.specs.Marked.{MarkedRow, rows_of, unmarked}
+use Rattle.cq_segments_pieces.specs.Pieces.{joined}
+use Rattle.cq_segments_pieces.proofs.Marks.{length-flags, length-rows_of, rows_of-unmarked, unmarked-append}
 use Rattle.cq_writestore.proofs.written.Written.of_new.Goals as goal
 
 pub invariant_of-result : goal.invariant_of-result

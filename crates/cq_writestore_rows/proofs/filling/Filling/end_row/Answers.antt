@@ -1,6 +1,6 @@
 use Rattle.std.proofs.Common.{◌≡◌, ◌∙◌, List, [], ap, arith, length, replicate, rules, subst, sym}
-use Rattle.cq_segments.specs.Columns.{AreColumns, rows_of_columns}
-use Rattle.cq_segments.specs.Marked.{unmarked}
+use Rattle.cq_segments_pieces.specs.Columns.{AreColumns, rows_of_columns}
+use Rattle.cq_segments_pieces.specs.Marked.{unmarked}
 use Rattle.cq_values.specs.declared.value.Value.{Value}
 use Rattle.cq_writestore_rows.specs.TypedColumn.{values_in}
 use Rattle.cq_writestore_rows.proofs.NextFilling.{filled_emptied, filled_ended, filling_emptied, filling_ended, filling_full, filling_lost}

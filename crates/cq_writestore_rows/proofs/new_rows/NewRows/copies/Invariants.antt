@@ -1,6 +1,6 @@
 use Rattle.std.proofs.Common.{◌≡◌, ◌++◌, drop, take}
-use Rattle.cq_segments.specs.Marked.{rows_of}
-use Rattle.cq_segments.specs.Pieces.{joined}
+use Rattle.cq_segments_pieces.specs.Marked.{rows_of}
+use Rattle.cq_segments_pieces.specs.Pieces.{joined}
 use Rattle.cq_writestore_rows.proofs.new_rows.NewRows.copies.Given as goal
 
 -- the rows of the pieces so far, and those of this one before the place

@@ -1,0 +1,69 @@
+//! Where the rows of a segment stand that pass conditions of their own.
+ghost use Rattle.std.specs.Prelude.{◌≡◌, ◌-◌, ◌++◌, ◌+◌, IfOk, OnOk, length, map};
+ghost use Rattle.cq_encodings_vectors.specs.Places.{AreBelow};
+ghost use Rattle.cq_operators_scans.specs.Passing.{ArePassedAt, CanAllPass};
+ghost use Rattle.cq_segments_pieces.specs.Marked.{live};
+
+use crate::passed::passing_places;
+use cq_encodings_vectors::copies_at;
+use cq_model::CondTree;
+use cq_segments::Segment;
+use cq_segments_pieces::Piece;
+use cq_table_columns::{Front, StoredRows};
+use std::alloc::{AllocError, Global};
+
+/// The places of the rows without a mark that pass all conditions, rising. In these the values of a row stand behind so
+/// many others.
+pub(crate) fn segment_passing<'a>(
+    alloc: Global,
+    before: usize,
+    conditions: &[&'a CondTree],
+    segment: &'a Segment,
+) -> Result<Vec<u16>, AllocError>
+    requires { CanAllPass before conditions.now (live segment.now) }
+    ensures there { IfOk result (λ p. AreBelow (length segment.now) p.items) }
+    ensures passed { IfOk result (λ p. ArePassedAt before conditions.now segment.now p.items) }
+{
+    let _len = segment.len();
+    let mut passing: Vec<u16> = Vec::new(alloc);
+    let mut start = 0;
+    for piece in segment.pieces() {
+        let places = piece_passing(alloc, before, conditions, piece)?;
+        append_from(start, places.as_slice(), &mut passing)?;
+        start += piece.len();
+    }
+    Ok(passing)
+}
+
+/// The same of a piece: each condition is asked of the rows that the ones before it left.
+fn piece_passing<'a>(
+    alloc: Global,
+    before: usize,
+    conditions: &[&'a CondTree],
+    piece: &'a Piece,
+) -> Result<Vec<u16>, AllocError>
+    requires { CanAllPass before conditions.now (live piece.now) }
+    ensures there { IfOk result (λ p. AreBelow (length piece.now) p.items) }
+    ensures passed { IfOk result (λ p. ArePassedAt before conditions.now piece.now p.items) }
+{
+    let mut passed = StoredRows::Front(Front::of_piece(piece));
+    let mut places = piece.live_places(alloc)?;
+    for condition in conditions {
+        let kept = passing_places(alloc, before, *condition, &passed)?;
+        passed = passed.at(alloc, kept.places())?;
+        places = copies_at(alloc, places.as_slice(), kept.places())?;
+    }
+    Ok(places)
+}
+
+/// Places that are counted from a start on, behind others.
+fn append_from(start: usize, places: &[u16], all: &mut Vec<u16>) -> Result<(), AllocError>
+    requires { AreBelow (65536 - start) places.now }
+    ensures { OnOk result (all.new.items ≡ all.old.items ++ map (λ p. start + p) places.now) }
+{
+    all.reserve(places.len())?;
+    for place in places {
+        all.push_reserved((start + usize::from(*place)) as u16);
+    }
+    Ok(())
+}

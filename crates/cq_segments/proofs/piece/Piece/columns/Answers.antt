@@ -1,7 +1,0 @@
-use Rattle.std.proofs.Common.{◌∙◌, ap, sym}
-use Rattle.cq_segments.specs.Marked.{rows_of}
-use Rattle.cq_segments.proofs.Marks.{rows_of-flags}
-use Rattle.cq_segments.proofs.piece.Piece.columns.Goals as goal
-
-pub returns : goal.returns
-returns c = sym (rows_of-flags c.self.inside.columns c.self.inside.marks) ∙ ap rows_of c.self.view_is

@@ -1,0 +1,9 @@
+pub mod Flags
+pub mod Marks
+pub mod Parts
+pub mod PieceLists
+pub mod PieceMarks
+pub mod PlacesFrom
+pub mod Transposed
+pub mod ValuesAt
+pub mod ValuesFrom

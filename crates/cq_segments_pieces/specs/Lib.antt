@@ -1,0 +1,4 @@
+pub mod Columns
+pub mod Marked
+pub mod Pieces
+pub mod Rows

@@ -1,0 +1,3 @@
+//! A module for each thing that is called.
+mod segments;
+mod tables;
