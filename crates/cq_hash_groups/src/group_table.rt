@@ -10,6 +10,9 @@ ghost use Rattle.cq_values.specs.Value.{Row as Values};
 ghost use Rattle.cq_hash_groups.specs.Exact.{AreExactOver};
 ghost use Rattle.cq_hash_groups.specs.Groups.{AreGroups, CanBeShown, Holds, HoldsMore, IsGroupsFault};
 
+use crate::adding::{add_all, first_slots};
+use crate::keys::{first_groups, key_width, number_rows};
+use crate::shown::{put_row, shown_types};
 use cq_hash_groups_slots::Slots;
 use cq_hash_keys::KeyTable;
 use cq_model::{Aggregate, ShowFault};
@@ -17,9 +20,6 @@ use cq_operators_scans::Scan;
 use cq_segments_pieces::widened;
 use cq_values::Seq;
 use cq_writestore_rows::{Filling, NewRows};
-use crate::adding::{add_all, first_slots};
-use crate::keys::{first_groups, key_width, number_rows};
-use crate::shown::{put_row, shown_types};
 use std::alloc::{AllocError, Global};
 use std::marker::Model;
 

@@ -7,12 +7,12 @@ ghost use Rattle.cq_table.specs.Changes.{AreBuilt};
 ghost use Rattle.cq_table.specs.Table.{live_front};
 ghost use Rattle.cq_writestore.specs.Writes.{written_rows};
 
+use crate::table::Layout;
+use crate::whole::{build_whole, count_whole};
 use cq_segments::Segment;
 use cq_segments_pieces::StoredRow;
 use cq_table_columns::Stored;
 use cq_writestore::Written;
-use crate::table::Layout;
-use crate::whole::{build_whole, count_whole};
 use std::alloc::{AllocError, Global};
 
 /// Segments of the live ones among the first rows of a source. No row is copied before it is encoded.

@@ -10,11 +10,11 @@ ghost use Rattle.cq_model.specs.Write.{image_of};
 ghost use Rattle.cq_binder_rules.specs.UpdateChecks.{is_null, is_outside, never_null};
 ghost use Rattle.cq_table.specs.Checks.{AreNarrowSets, IsChecked, one_fault, values_fault};
 
+use crate::fault::TableFault;
 use cq_model::{Assignment, Expr};
 use cq_model_eval::{eval_row, narrow_is_exact};
 use cq_segments_pieces::StoredRow;
 use cq_values::{ColumnDef, Lent, Row, Value, lend_column};
-use crate::fault::TableFault;
 use std::alloc::{AllocError, Global};
 
 /// Refuses the first assignment with a value in one of the rows that its column cannot have.

@@ -11,12 +11,12 @@ ghost use Rattle.cq_segments_pieces.specs.Pieces.{joined};
 ghost use Rattle.cq_table.specs.Changes.{Merges, MergesCounts, Moves, MovesCounts};
 ghost use Rattle.cq_table.specs.Table.{table_rows};
 
+use crate::building::{build_front, build_written};
+use crate::table::Table;
 use cq_segments::Segment;
 use cq_segments_pieces::widened;
 use cq_table_columns::Stored;
 use cq_writestore::Written;
-use crate::building::{build_front, build_written};
-use crate::table::Table;
 use std::alloc::{AllocError, Global};
 
 impl Table {

@@ -16,6 +16,11 @@ ghost use Rattle.cq_table.specs.Found.{AreLiveAt, AreThere, IsFound, PicksChosen
 ghost use Rattle.cq_table.specs.Table.{IsSound, limited_to, live_rows, marked_len, stored_in, table_rows, without_rows, write_len};
 ghost use Rattle.cq_table_columns.specs.Stored.{all_rows, stored_marked};
 
+use crate::fault::TableFault;
+use crate::finding::found_places;
+use crate::found::Found;
+use crate::moving::count_marks;
+use crate::placing::{mark_all, rows_at};
 use cq_model::Cond;
 use cq_segments::Segment;
 use cq_segments_pieces::StoredRow;
@@ -23,11 +28,6 @@ use cq_table_columns::Stored;
 use cq_values::{ColumnDef, Seq};
 use cq_writestore::WriteStore;
 use cq_writestore_rows::NewRows;
-use crate::fault::TableFault;
-use crate::finding::found_places;
-use crate::found::Found;
-use crate::moving::count_marks;
-use crate::placing::{mark_all, rows_at};
 use std::alloc::{AllocError, Global};
 use std::marker::Model;
 

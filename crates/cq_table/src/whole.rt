@@ -5,9 +5,9 @@ ghost use Rattle.cq_segments_pieces.specs.Marked.{rows_of};
 ghost use Rattle.cq_segments_pieces.specs.Pieces.{joined};
 ghost use Rattle.cq_table.specs.Whole.{AreWholeFirst, BuiltBefore, first_rows};
 
+use crate::table::Layout;
 use cq_segments::Segment;
 use cq_segments_pieces::Piece;
-use crate::table::Layout;
 use std::alloc::{AllocError, Global};
 
 /// How many segments of so many rows can be built of the first pieces as they stand: none where an order is asked for.

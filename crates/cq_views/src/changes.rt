@@ -8,6 +8,7 @@ ghost use Rattle.cq_segments_pieces.specs.Rows.{stored_rows};
 ghost use Rattle.cq_views.specs.Changes.{StaysInRange, changes_of, exchanged};
 ghost use Rattle.cq_views.specs.Cut.{AddsCut, AreCut, IsCut, TakesCut};
 
+use crate::cutting::entry_of;
 use cq_deltas_joins::SourceRows;
 use cq_model::Source;
 use cq_model_eval::key_of;
@@ -15,7 +16,6 @@ use cq_segments_pieces::StoredRow;
 use cq_sides_weights::Weights;
 use cq_values::Row;
 use cq_views_columns::SourceColumns;
-use crate::cutting::entry_of;
 use std::alloc::{AllocError, Global};
 
 /// For how many rows room is made at once.

@@ -7,8 +7,8 @@ ghost use Rattle.cq_segments_pieces.specs.Marked.{marked_count, with_mark};
 ghost use Rattle.cq_segments_pieces.specs.Pieces.{joined};
 ghost use Rattle.cq_writestore_rows.specs.NewRows.{AreWhole};
 
-use cq_segments_pieces::Piece;
 use crate::spot::{Spot, spot_of};
+use cq_segments_pieces::Piece;
 use std::alloc::{AllocError, Global};
 use std::marker::Model;
 

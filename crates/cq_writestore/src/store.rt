@@ -12,13 +12,13 @@ ghost use Rattle.cq_segments_pieces.specs.Marked.{marked_count, rows_of, unmarke
 ghost use Rattle.cq_writestore.specs.Writes.{with_flags_behind, written_rows};
 ghost use Rattle.cq_writestore_rows.specs.NewRows.{NoneMarked};
 
-use cq_segments_pieces::widened;
-use cq_values::{ColumnDef, Row};
-use cq_writestore_rows::NewRows;
 use crate::piece_store::PieceStore;
 use crate::refilled::refilled;
 use crate::tail_store::{TailStore, push_all};
 use crate::written::Written;
+use cq_segments_pieces::widened;
+use cq_values::{ColumnDef, Row};
+use cq_writestore_rows::NewRows;
 use std::alloc::{AllocError, Global};
 use std::marker::Model;
 use std::mem;

@@ -6,11 +6,11 @@ ghost use Rattle.std.specs.Prelude.{[], drop, length, slice_index_or, ◌++◌, 
 ghost use Rattle.cq_segments_pieces.specs.Pieces.{joined};
 ghost use Rattle.cq_writestore_rows.specs.NewRows.{AreWhole};
 
+use crate::spot::{Spot, rows_in, spot_of};
+use crate::tail::Tail;
 use cq_segments_pieces::{Piece, StoredRow};
 use cq_values::Row;
 use cq_writestore_rows::NewRows;
-use crate::spot::{Spot, rows_in, spot_of};
-use crate::tail::Tail;
 
 /// Rows in order of insertion, each with its mark: first those in pieces, and behind them a tail.
 #[derive(Clone, Copy)]

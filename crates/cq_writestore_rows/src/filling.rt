@@ -10,11 +10,11 @@ ghost use Rattle.cq_values.specs.Value.{Row as Values};
 ghost use Rattle.cq_writestore_rows.specs.Filling.{AreOpen, IsEmpty, with_row, with_value};
 ghost use Rattle.cq_writestore_rows.specs.TypedColumn.{values_in};
 
+use crate::new_rows::NewRows;
+use crate::typed_column::TypedColumn;
 use cq_encodings::AnyEncoded;
 use cq_segments_pieces::{Piece, widened};
 use cq_values::{ColumnDef, Lent, Row, Ty};
-use crate::new_rows::NewRows;
-use crate::typed_column::TypedColumn;
 use std::alloc::{AllocError, Global};
 use std::marker::Model;
 use std::mem;
