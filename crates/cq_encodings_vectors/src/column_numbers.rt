@@ -78,7 +78,7 @@ fn clear_days_at(
     requires there { AreBelow (length (offsets_in offsets)) places.now }
     requires long { length nulls.now ≡ length (offsets_in offsets) }
     requires fit { DaysAbove base (offsets_in offsets) }
-    ensures { IfOk result (λ found. IfSome found (AreDaysAt base (offsets_in offsets.entry) nulls.now places.now)) }
+    ensures { IfOk result (λ d. IfSome d (AreDaysAt base (offsets_in offsets.entry) nulls.now places.now)) }
 {
     let flags = flags_of(nulls, offsets.len(), places);
     match i32::try_from(base) {
