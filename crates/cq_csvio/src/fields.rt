@@ -2,11 +2,12 @@
 ghost use Rattle.std.specs.Prelude.{◌≡◌, List, OnOk, ℕ};
 ghost use Rattle.std.specs.Fmt.{signed_decimal};
 ghost use Rattle.cq_csvio.specs.Lines.{Adds};
+ghost use Rattle.cq_values.specs.Lent.{owned};
 ghost use Rattle.cq_values.specs.Printed.{date_text, two_digits, value_text};
 
 use crate::fault::TextFault;
 use crate::lines::Lines;
-use cq_values::{Day, Text, Value};
+use cq_values::{Day, Lent, Text};
 use itoa::Buffer;
 
 /// What can be printed as a field of a line.
@@ -26,19 +27,20 @@ impl Field for Text {
     }
 }
 
-impl Field for Value {
-    ghost text = { value_text };
+impl Field for Lent<'_> {
+    ghost text = { λ v. value_text (owned v) };
 
+    #[inline]
     fn add_to(&self, lines: &mut Lines) -> Result<(), TextFault> {
         match self {
-            Value::Number(n) => add_number(lines, *n),
-            Value::Day(day) => lines.add(&date_bytes(*day)),
+            Lent::Number(n) => add_number(lines, *n),
+            Lent::Day(day) => lines.add(&date_bytes(*day)),
             // A text that begins with a backslash gets one more, so that it is not taken for NULL.
-            Value::Text(text) => match text.as_str().as_bytes() {
+            Lent::Text(text) => match text.as_bytes() {
                 bytes @ [b'\\', ..] => lines.add_escaped(bytes),
                 bytes => lines.add(bytes),
             },
-            Value::Null => lines.add(b"\\N"),
+            Lent::Null => lines.add(b"\\N"),
         }
     }
 }

@@ -8,7 +8,7 @@ use crate::fault::TextFault;
 use crate::fields::Field;
 use crate::lines::Lines;
 use cq_values::{Seq, Text};
-use cq_values_rows::{RowList, rows_come_in_turn};
+use cq_values_rows::{LentRow, RowList};
 use itoa::Buffer;
 use std::alloc::Global;
 
@@ -30,11 +30,19 @@ pub fn print_result(alloc: Global, header: &[Text], rows: &RowList) -> Result<Se
 fn add_rows(lines: &mut Lines, rows: &RowList) -> Result<(), TextFault>
     ensures { OnOk result (AddsLines (flat_map row_text rows.now) lines.old lines.new) }
 {
-    rows_come_in_turn();
     for place in 0..rows.len() {
-        add_line(lines, rows.row(place))?;
+        add_row(lines, &rows.row(place))?;
     }
     Ok(())
+}
+
+fn add_row(lines: &mut Lines, row: &LentRow<'_>) -> Result<(), TextFault>
+    ensures { OnOk result (AddsLines (row_text row.now) lines.old lines.new) }
+{
+    for at in 0..row.len() {
+        row.lend(at).add_to(lines)?;
+    }
+    lines.end()
 }
 
 fn add_line<F: Field>(lines: &mut Lines, fields: &[F]) -> Result<(), TextFault>

@@ -1,5 +1,5 @@
 -- A query that can be worked out with the sizes of columns is exact on the rows that lent rows become.
-use Rattle.std.proofs.Common.{◌≡◌, ◌<◌, ◌+◌, ℕ, pos, ◌<ℤ◌, List, [], ◌∷◌, ◌++◌, append_assoc, filter, length, map, get_or, Option, Some, None, Ok, Err, refl, sym, ◌∙◌, ap, inr, subst, arith, Vec, Global}
+use Rattle.std.proofs.Common.{◌≡◌, ◌+◌, ℕ, pos, ◌<ℤ◌, List, [], ◌∷◌, ◌++◌, append_assoc, filter, length, map, get_or, Option, Some, None, Ok, Err, refl, sym, ◌∙◌, ap, inl, inr, subst, arith, Bool, true, false}
 use Rattle.std.specs.Prelude.{if◌then◌else◌}
 use Rattle.std.proofs.lemmas.Int.{ints}
 use Rattle.std.proofs.lemmas.List.{length-append}
@@ -8,18 +8,18 @@ use Rattle.cq_values.specs.Value.{Row}
 use Rattle.cq_model_bags.specs.Bag.{IsBag, Weighted, distinct, once_each, weight_of}
 use Rattle.cq_model_bags.specs.Listing.{IsListing}
 use Rattle.cq_binder_rules.specs.declared.fault.Fault.TheVariants as faults
-use Rattle.cq_table_columns.specs.Stored.{all_rows}
-use Rattle.cq_table_columns.specs.declared.stored.Stored.{Stored}
 use Rattle.cq_model_eval.specs.Laws.{NarrowIsExact, NarrowIsExactIn}
 use Rattle.cq_hash_groups.specs.Exact.{AreExactOver, IsExactFor}
-use Rattle.cq_model.specs.declared.fault.ShowFault.TheVariants.{SumOutOfRange}
-use Rattle.cq_operators.specs.Linked.{HaveOneWidth, IsExactBy}
+use Rattle.cq_model.specs.declared.fault.ShowFault.{ShowFault}
+use Rattle.cq_model.specs.declared.fault.ShowFault.TheVariants.{Memory, SumOutOfRange}
+use Rattle.cq_operators.specs.Exec.{GivesRest, IsInRange, IsOpened, Remaining}
+use Rattle.cq_operators.specs.Linked.{IsExactBy}
 use Rattle.cq_model_laws.specs.Sizes.{GroupsKeepSizes, HasSizes, JoinedHaveSizes, JoinedRowsKeepSizes, KeepsColumns, grouped_sizes}
 use Rattle.cq_model_laws.proofs.Columns.{listed-columns}
 use Rattle.cq_model_laws.proofs.Positives.{once_each-bag}
 use Rattle.cq_table_columns.specs.Sources.{stored_bags, rows_or}
 use Rattle.cq_table_columns.specs.declared.stored_source.StoredSource.{StoredSource}
-use Rattle.cq_model.specs.Exact.{AreExactAt}
+use Rattle.cq_model.specs.Exact.{AreExactAt, AreExactIn}
 use Rattle.cq_model.specs.Expr.{Cond, Expr}
 use Rattle.cq_model.specs.declared.query.Aggregate.{Aggregate}
 use Rattle.cq_model.specs.declared.query.Aggregate.TheVariants.{CountAll, Count, Sum, Min, Max}
@@ -30,15 +30,21 @@ use Rattle.cq_model.specs.declared.query.Shape.{Shape}
 use Rattle.cq_model.specs.declared.query.Shape.TheVariants.{Grouped, Plain}
 use Rattle.cq_model.specs.declared.query.Source.{Source}
 use Rattle.cq_model.specs.Group.{group_row, grouped, keys_of, rows_of_key}
-use Rattle.cq_model.specs.Meaning.{ShapeInRange, chain, joined_rows, keeps, shown}
+use Rattle.cq_model.specs.Meaning.{MeaningInRange, ShapeInRange, chain, joined_rows, keeps, meaning, shown}
+use Rattle.cq_model.specs.Own.{in_place}
 use Rattle.cq_model.specs.Views.{sources_of}
 use Rattle.cq_model.specs.Width.{IsNarrowIn, sizes_of}
-use Rattle.cq_operators.specs.Selected.{AreCounted, CanAskBelow, CanAskOwn, CanAskSources, CanSelect, CanShape, CanShow, SelectsRows, joined_sources, kept_rows, links_of, rows_in, rows_of_all}
-use Rattle.cq_plan.specs.Chain.{AreOf, HaveValues}
+use Rattle.cq_operators.specs.Selected.{AreCounted, CanSelect, CanShape, CanShow, kept_rows, rows_in}
+use Rattle.cq_plan.specs.Chain.{AreOf, ChainedSource, joined_lists, links_with}
+use Rattle.cq_plan.specs.Own.{AreOwnOf, conditions_of}
+use Rattle.cq_plan.specs.Plan.{IsPlanOf, kept_of}
+use Rattle.cq_plan.specs.Planned.{AreAllOwn, CanAskEach, HaveColumns, asked_below, below_of, is_joined, widths_of}
+use Rattle.cq_plan.specs.declared.plans.Plan.{Plan}
+use Rattle.cq_plan.specs.declared.plans.PlannedSource.{PlannedSource}
 use Rattle.cq_plan.specs.Laws.{ChainOfLists, OwnConditionsAreExact}
-use Rattle.cq_engine_answers.specs.Lent.{AreOthers, CanAnswer, HaveSizes, rows_for}
+use Rattle.cq_engine_answers.specs.Lent.{CanAnswer, HaveSizes}
 use Rattle.cq_engine_answers.specs.Narrow.{AreArgumentsSized, AreItemsSized, IsConditionSized, IsShapeSized}
-use Rattle.cq_engine_answers.specs.Selects.{SelectsLent}
+use Rattle.cq_engine_answers.specs.Selects.{SelectsLent, shown_as}
 use Rattle.cq_model_bags.proofs.Lists.{all-filter, all-listed, all-weaker}
 use Rattle.cq_model_bags.proofs.Once.{is_there}
 use Rattle.cq_model.proofs.ListedValues.{count_all-listed}
@@ -110,83 +116,72 @@ module _ (at : NarrowIsExact) (within : NarrowIsExactIn) where
     can_show law sizes keys aggregates rows sized having items can.1 can.2,
   )
 
--- ---- own conditions below the joins
-module _ (law : OwnConditionsAreExact) (where_is : Option Cond) (sizes : Source → List ℕ) (lents : List StoredSource) where
+-- ---- the rows of each source, as they are planned
+module _ (sizes : Source → List ℕ) (lents : List StoredSource) where
   abbrev rows_at : Source → List Row
   rows_at s = rows_or lents s []
 
-  -- the width of rows, of which there is one, is that of their columns
-  one-width : (wide : ℕ) (columns : List ℕ) (rows : List Row) → 0 < length rows → HaveValues wide rows → AllByRecursion (HasSizes columns) rows → wide ≡ length columns
-  one-width wide columns [] some values sized = absurd (omega (arith, some))
-  one-width wide columns (r ∷ rows) some values sized = sym values.0 ∙ sized.0.values
+  abbrev width_at : Source → ℕ
+  width_at s = length (sizes s)
 
-  can_ask : (front : List ℕ) (before : ℕ) (sources : List Source) → before ≡ length front → AllByRecursion (HaveSizes sizes lents) sources → AllByRecursion (λ rows. 0 < length rows) (map rows_at sources)
-      → IsConditionSized (front ++ flat_map sizes sources) where_is → CanAskBelow where_is before (map rows_at sources)
-  can_ask front before [] is sized some can = tt
-  can_ask front before (s ∷ sources) is sized some can = λ wide values. (
-    subst (λ n. CanAskOwn where_is n wide (rows_at s)) (sym is)
-        (λ cs own. law where_is front (sizes s) (flat_map sizes sources) wide cs (rows_at s) can own (all-weaker _ _ (λ row has. has.sized) (rows_at s) sized.0)),
-    can_ask (front ++ sizes s) (before + wide) sources
-        (omega (arith, is, length-append front (sizes s), one-width wide (sizes s) (rows_at s) some.0 values sized.0))
-        sized.1 some.1 (subst (λ ns. IsConditionSized ns where_is) (sym (append_assoc front (sizes s) (flat_map sizes sources))) can),
-  )
+  -- they have the columns of the plan
+  have-columns : (ss : List PlannedSource) (sources : List Source) → widths_of ss ≡ map width_at sources → AllByRecursion (HaveSizes sizes lents) sources → HaveColumns ss (map rows_at sources)
+  have-columns [] [] wide sized = tt
+  have-columns [] (s ∷ sources) wide sized = absurd (cc wide)
+  have-columns (p ∷ ss) [] wide sized = absurd (cc wide)
+  have-columns (p ∷ ss) (s ∷ sources) wide sized =
+      let head : p.wide ≡ width_at s = cc wide in
+      let tail : widths_of ss ≡ map width_at sources = cc wide in
+      (all-weaker _ _ (λ row has. has.values ∙ sym head) (rows_at s) sized.0, have-columns ss sources tail sized.1)
+
+  -- and what they are asked can be worked out
+  module _ (law : OwnConditionsAreExact) (below : Option Cond) where
+    can-ask : (front : List ℕ) (before : ℕ) (ss : List PlannedSource) (sources : List Source) → before ≡ length front → AreAllOwn below before ss → widths_of ss ≡ map width_at sources → AllByRecursion (HaveSizes sizes lents) sources
+        → IsConditionSized (front ++ flat_map sizes sources) below → CanAskEach ss (map rows_at sources)
+    can-ask front before [] [] is own wide sized can = tt
+    can-ask front before [] (s ∷ sources) is own wide sized can = absurd (cc wide)
+    can-ask front before (p ∷ ss) [] is own wide sized can = absurd (cc wide)
+    can-ask front before (p ∷ ss) (s ∷ sources) is own wide sized can =
+        let head : p.wide ≡ width_at s = cc wide in
+        let tail : widths_of ss ≡ map width_at sources = cc wide in
+        let conditions = conditions_of p.own.items in (
+          subst (λ n. AllByRecursion (λ row. AllByRecursion (λ c. AreExactIn c (in_place n row)) conditions) (rows_at s)) (sym is ∙ sym own.0.place)
+              (law below front (sizes s) (flat_map sizes sources) p.wide conditions (rows_at s) can (subst (λ n. AreOwnOf below n p.wide conditions) is own.0.own) (all-weaker _ _ (λ row has. has.sized) (rows_at s) sized.0)),
+          can-ask (front ++ sizes s) (before + p.wide) ss sources
+              (omega (arith, is, length-append front (sizes s), head))
+              own.1 tail sized.1 (subst (λ ns. IsConditionSized ns below) (sym (append_assoc front (sizes s) (flat_map sizes sources))) can),
+        )
+
+-- WHERE, or nothing, can be worked out where WHERE can
+sized-below : (sizes : List ℕ) (where_is : Option Cond) (below : Bool) → IsConditionSized sizes where_is → IsConditionSized sizes (asked_below below where_is)
+sized-below sizes where_is true can = can
+sized-below sizes where_is false can = λ row sized. tt
 
 -- ---- rows that are lent
 -- the others are the sources of the joins
-links-are : (lents : List StoredSource) (joins : List Join) (others : List Stored) → rows_of_all others ≡ map (rows_for lents) joins → AreOf (stored_bags lents) joins (links_of joins others)
-links-are lents [] [] are = tt
-links-are lents [] (o ∷ others) are = absurd (cc are)
-links-are lents (j ∷ joins) [] are = absurd (cc are)
-links-are lents (j ∷ joins) (o ∷ others) are =
-    let head : all_rows o ≡ rows_or lents j.source [] = cc are in
-    let tail : rows_of_all others ≡ map (rows_for lents) joins = cc are in
-    (refl, ap once_each (sym head), links-are lents joins others tail)
+links-are : (lents : List StoredSource) (joins : List Join) → AreOf (stored_bags lents) joins (links_with joins (map (λ s. rows_or lents s []) (map (λ j. j.source) joins)))
+links-are lents [] = tt
+links-are lents (j ∷ joins) = (refl, refl, links-are lents joins)
 
--- one source of rows for each join
-pub others-length : (lents : List StoredSource) (joins : List Join) (others : List Stored) → rows_of_all others ≡ map (rows_for lents) joins → length others ≡ length joins
-others-length lents [] [] are = refl
-others-length lents [] (o ∷ others) are = absurd (cc are)
-others-length lents (j ∷ joins) [] are = absurd (cc are)
-others-length lents (j ∷ joins) (o ∷ others) are =
-    let tail : rows_of_all others ≡ map (rows_for lents) joins = cc are in
-    omega (arith, others-length lents joins others tail)
+module _ (law : ChainOfLists) (lents : List StoredSource) (q : Query) where
+  abbrev pub all_sources : List (List Row)
+  all_sources = map (λ s. rows_or lents s []) (sources_of q)
 
-module _ (law : ChainOfLists) (lents : List StoredSource) (q : Query) (first : List Row) (others : List Stored) (is : first ≡ rows_or lents q.first []) (are : AreOthers lents q others) where
   abbrev joined : List Row
-  joined = joined_sources q first others
+  joined = joined_lists q.joins all_sources
 
-  links_are : AreOf (stored_bags lents) q.joins (links_of q.joins others)
-  links_are = links-are lents q.joins others are
+  abbrev links : List ChainedSource
+  links = links_with q.joins (map (λ s. rows_or lents s []) (map (λ j. j.source) q.joins))
 
   chained : once_each joined ≡ chain (stored_bags lents) (stored_bags lents q.first) q.joins
-  chained = law.chain (stored_bags lents) first q.joins (links_of q.joins others) links_are ∙ ap (λ (rows : List Row). chain (stored_bags lents) (once_each rows) q.joins) is
+  chained = law.chain (stored_bags lents) (rows_or lents q.first []) q.joins links (links-are lents q.joins)
 
-  kept : once_each (kept_rows q joined) ≡ joined_rows q (stored_bags lents)
-  kept = law.kept q (stored_bags lents) first (links_of q.joins others) (ap once_each (sym is)) links_are
+  kept : once_each (kept_of q all_sources) ≡ joined_rows q (stored_bags lents)
+  kept = law.kept q (stored_bags lents) (rows_or lents q.first []) links refl (links-are lents q.joins)
 
-  -- the rows of all sources, in the order of FROM
-  all_sources : first ∷ rows_of_all others ≡ map (λ s. rows_or lents s []) (sources_of q)
-  all_sources = ap (λ (rows : List Row). rows ∷ rows_of_all others) is ∙ ap (λ (os : List (List Row)). rows_or lents q.first [] ∷ os) (are ∙ in_turn q.joins)
-    where
-      in_turn : (joins : List Join) → map (rows_for lents) joins ≡ map (λ s. rows_or lents s []) (map (λ j. j.source) joins)
-      in_turn [] = refl
-      in_turn (j ∷ joins) = ap (λ (os : List (List Row)). rows_or lents j.source [] ∷ os) (in_turn joins)
-
-  module _ (can : CanAnswer lents q) where
+  module _ (widths : List ℕ) (can : CanAnswer lents q widths) where
     abbrev all_sizes : List ℕ
     all_sizes = flat_map can.sizes (sources_of q)
-
-    -- what follows of the sizes of each source holds of each
-    each_source : (P : List Row → Type 0) → ((s : Source) → HaveSizes can.sizes lents s → P (rows_or lents s [])) → AllByRecursion P (first ∷ rows_of_all others)
-    each_source P each = subst (AllByRecursion P) (sym all_sources) (go (sources_of q) can.rows)
-      where
-        go : (sources : List Source) → AllByRecursion (HaveSizes can.sizes lents) sources → AllByRecursion P (map (λ s. rows_or lents s []) sources)
-        go [] all = tt
-        go (s ∷ sources) all = (each s all.0, go sources all.1)
-
-    -- the rows of each have one width
-    pub even : AllByRecursion HaveOneWidth (first ∷ rows_of_all others)
-    even = each_source HaveOneWidth (λ s sized. (length (can.sizes s), all-weaker _ _ (λ row has. has.values) (rows_or lents s []) sized))
 
     -- joined rows have the sizes of all columns
     joined_sized : JoinedRowsKeepSizes → JoinedHaveSizes all_sizes q (stored_bags lents)
@@ -206,19 +201,53 @@ module _ (law : ChainOfLists) (lents : List StoredSource) (q : Query) (first : L
               (all-there (HasSizes all_sizes) (kept_rows q joined) (subst (KeepsColumns all_sizes) (sym kept) sized.kept));
         }
 
-    -- and own conditions on the rows of each source
-    pub can_ask_sources : OwnConditionsAreExact → CanAskSources q.filter (first ∷ rows_of_all others)
-    can_ask_sources law_of_own = λ some.
-        subst (CanAskBelow q.filter 0) (sym all_sources)
-        (can_ask law_of_own q.filter can.sizes lents [] 0 (sources_of q) refl can.rows (subst (AllByRecursion (λ rows. 0 < length rows)) all_sources some) can.filter)
+    module _ (plan : Plan) (order : Order) (is : IsPlanOf q order widths plan) where
+      wide : widths_of plan.sources.items ≡ map (λ s. length (can.sizes s)) (sources_of q)
+      wide = is.wide ∙ can.wide
 
-  -- its listing is that of what it means on them
-  pub selects_listed : (order : Order) (list : List Row) → SelectsRows q order joined (Ok list) → SelectsLent q order lents (Ok list)
-  selects_listed order list s = (
-    subst (λ xs. IsListing order.keys order.limit (let all = shown q xs in if q.distinct then distinct all else all) list) kept s.0,
-    subst (ShapeInRange q.shape) kept s.1,
-  )
+      -- the rows of each source have its columns
+      pub all_wide : HaveColumns plan.sources.items all_sources
+      all_wide = have-columns can.sizes lents plan.sources.items (sources_of q) wide can.rows
 
-  -- a total that cannot be shown is one of what it means
-  pub selects_none : (order : Order) → SelectsRows q order joined (Err SumOutOfRange) → SelectsLent q order lents (Err faults.SumOutOfRange)
-  selects_none order s = inr (refl, λ range. s (subst (ShapeInRange q.shape) (sym kept) range))
+      -- and own conditions can be worked out on them
+      pub can_ask_each : OwnConditionsAreExact → CanAskEach plan.sources.items all_sources
+      can_ask_each law_of_own =
+          can-ask can.sizes lents law_of_own (below_of plan.query.now) [] 0 plan.sources.items (sources_of q) refl is.whole.own wide can.rows
+          (subst (λ (p : Query). IsConditionSized all_sizes (below_of p)) (sym is.query) (sized-below all_sizes q.filter (is_joined q) can.filter))
+
+  -- ---- the list
+  module _ (order : Order) (e : Remaining) (opened : IsOpened q order (kept_of q all_sources) e) where
+    ranged : IsInRange e → MeaningInRange q (stored_bags lents)
+    ranged range =
+        subst (ShapeInRange q.shape) kept
+        (subst (λ (rows : List Row). ShapeInRange q.shape (once_each rows)) opened.kept (subst (λ (p : Query). ShapeInRange p.shape (once_each e.kept)) opened.query range))
+
+    unranged : MeaningInRange q (stored_bags lents) → IsInRange e
+    unranged range =
+        subst (λ (p : Query). ShapeInRange p.shape (once_each e.kept)) (sym opened.query)
+        (subst (λ (rows : List Row). ShapeInRange q.shape (once_each rows)) (sym opened.kept) (subst (ShapeInRange q.shape) (sym kept) range))
+
+    -- what remains of the query's list is all of it
+    pub selects_rest : (rows : List Row) → GivesRest e (Ok rows) → SelectsLent q order lents (Ok rows)
+    selects_rest rows rest = (
+      subst (λ (list : List Row). IsListing order.keys order.limit (meaning q (stored_bags lents)) list) (sym rest.0)
+          (subst (λ xs. IsListing order.keys order.limit (let all = shown q xs in if q.distinct then distinct all else all) e.left) kept opened.whole),
+      ranged rest.2,
+    )
+
+    -- a total that cannot be shown is one of what it means
+    pub selects_none : GivesRest e (Err SumOutOfRange) → SelectsLent q order lents (Err faults.SumOutOfRange)
+    selects_none rest = inr (refl, λ range. rest.1 (unranged range))
+
+    -- a fault is told as it is
+    pub tells-rest : (f : ShowFault) → GivesRest e (Err f) → SelectsLent q order lents (Err (shown_as f))
+    tells-rest Memory rest = inl refl
+    tells-rest SumOutOfRange rest = selects_none rest
+
+  -- what is opened by a plan of the query
+  pub opened-of : (order : Order) (widths : List ℕ) (plan : Plan) → IsPlanOf q order widths plan → (sources : List (List Row)) → sources ≡ all_sources → (e : Remaining)
+      → IsOpened plan.query.now plan.order.now (kept_of plan.query.now sources) e → IsOpened q order (kept_of q all_sources) e
+  opened-of order widths plan is sources are e opened =
+      subst (λ (ss : List (List Row)). IsOpened q order (kept_of q ss) e) are
+      (subst (λ (o : Order). IsOpened q o (kept_of q sources) e) is.order
+      (subst (λ (p : Query). IsOpened p plan.order.now (kept_of p sources) e) is.query opened))

@@ -26,7 +26,7 @@ use Rattle.cq_engine_answers.specs.declared.gathered.Gathered.{Gathered}
 use Rattle.cq_engine_answers.specs.Lent.{CanAnswer}
 use Rattle.cq_engine_answers.specs.Reading.{CanRead}
 use Rattle.cq_engine_answers.specs.Gathered.{AreGathered, AreLent, AreRowsThere, AreShownBy, HaveColumnsOf, IsGatherFault, IsGathered, IsHidden, IsLent}
-use Rattle.cq_engine_answers.specs.Narrow.{source_sizes}
+use Rattle.cq_engine_answers.specs.Narrow.{source_sizes, source_widths}
 use Rattle.cq_engine_answers.specs.Selects.{Selects, SelectsLent, sources_in}
 use Rattle.cq_engine_tables.specs.Views.{AreRight, NamedView, views_of}
 use Rattle.cq_engine_answers.proofs.Lents.{AreFor, sources-have}
@@ -138,9 +138,10 @@ module _ (tables : List TableOf) (views : List NamedView) where
             law_of_sources q (stored_bags lents) (sources_in tables (views_of views)) (have (λ s rows. SameBag (once_each rows) (sources_in tables (views_of views) s)) (λ s rows are. are.same))
 
         -- it can be worked out on them
-        pub can_answer : CanAnswer lents q
-        can_answer = record {
+        pub can_answer : (widths : List ℕ) → widths ≡ source_widths tables (views_of views) (sources_of q) → CanAnswer lents q widths
+        can_answer widths wide = record {
           sizes = Sizes;
+          wide = wide;
           rows = have (λ s rows. AllByRecursion (HasSizes (Sizes s)) rows) (λ s rows are. are.sized);
           filter = can.filter;
           shown = can.shown;

@@ -1,8 +1,9 @@
 -- Lent rows: what each entry has, the rows of each source have that entries were made for.
-use Rattle.std.proofs.Common.{◌≡◌, true, List, [], ◌∷◌, refl, sym, subst}
+use Rattle.std.proofs.Common.{◌≡◌, true, List, [], ◌∷◌, ap, map, refl, sym, subst}
 use Rattle.std.specs.List.{AllByRecursion, list_any}
 use Rattle.cq_values.specs.Value.{Row}
 use Rattle.cq_model_bags.proofs.Totals.{by_test}
+use Rattle.cq_model.specs.declared.query.Join.{Join}
 use Rattle.cq_model.specs.declared.query.Source.{Source}
 use Rattle.cq_table_columns.specs.Stored.{all_rows}
 use Rattle.cq_table_columns.specs.declared.stored_source.StoredSource.{StoredSource}
@@ -48,3 +49,8 @@ module _ (P : Source → List Row → Type 0) where
   -- so do the rows of each source that entries were made for
   pub sources-have : (sources : List Source) (lents : List StoredSource) → AreFor sources lents → AllByRecursion (λ l. P l.source (all_rows l.rows)) lents → AllByRecursion (λ s. P s (rows_or lents s [])) sources
   sources-have sources lents made all = all-first-have lents all sources (all-there sources lents made)
+
+-- the rows of the sources of joins, in their order
+pub rows-in-turn : (lents : List StoredSource) (joins : List Join) → map (λ j. rows_or lents j.source []) joins ≡ map (λ s. rows_or lents s []) (map (λ j. j.source) joins)
+rows-in-turn lents [] = refl
+rows-in-turn lents (j ∷ joins) = ap (λ (others : List (List Row)). rows_or lents j.source [] ∷ others) (rows-in-turn lents joins)

@@ -3,5 +3,4 @@ pub mod Backed
 pub mod Readings
 pub mod Lents
 pub mod Joined
-pub mod Planned
 pub mod Exactly

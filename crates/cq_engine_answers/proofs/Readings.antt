@@ -1,46 +1,37 @@
 -- What SELECT reads: the rows of a table, or those that a view keeps, are the bag that its name in FROM stands for.
-use Rattle.std.proofs.Common.{◌≡◌, ℕ, zero, suc, ◌<◌, true, false, List, [], ◌∷◌, map, length, Option, Some, refl, sym, ap, ◌∙◌, inl, inr, arith, subst, Result, Ok, Err}
-use Rattle.std.specs.Prelude.{◌==◌, filter, option_map, slice_get}
+use Rattle.std.proofs.Common.{◌≡◌, ℕ, zero, suc, ◌<◌, List, [], ◌∷◌, length, Option, Some, refl, sym, ap, ◌∙◌, inl, inr, arith, subst, Result, Ok, Err}
+use Rattle.std.specs.Prelude.{◌⊎◌, ◌==◌, filter, option_map, slice_get}
 use Rattle.std.specs.List.{AllByRecursion}
-use Rattle.std.proofs.lemmas.Bool.{eqb-true}
-use Rattle.std.proofs.lemmas.List.{append-nil, length-map}
+use Rattle.std.proofs.lemmas.List.{length-map}
 use Rattle.std.proofs.lemmas.Option.{slice_get-map}
 use Rattle.cq_values.specs.Value.{Row}
 use Rattle.cq_model_bags.specs.Bag.{SameBag, once_each}
 use Rattle.cq_model_bags.specs.Canonical.{bag_of}
 use Rattle.cq_model_bags.proofs.Bags.{same-sym}
 use Rattle.cq_model_bags.proofs.Canonicals.{same-bag_of}
-use Rattle.cq_model.specs.declared.query.Join.{Join}
 use Rattle.cq_model.specs.declared.query.Order.{Order}
 use Rattle.cq_model.specs.declared.query.Query.{Query}
-use Rattle.cq_model.specs.declared.query.Shape.{Shape}
-use Rattle.cq_model.specs.declared.query.Shape.TheVariants.{Plain}
 use Rattle.cq_model.specs.declared.query.Source.{Source}
-use Rattle.cq_model.specs.declared.query.Source.TheVariants.{Table, View}
-use Rattle.cq_model.specs.Meaning.{Tables, MeaningInRange, items_of, keeps, meaning}
+use Rattle.cq_model.specs.declared.query.Source.TheVariants.{View}
+use Rattle.cq_model.specs.Meaning.{Tables, MeaningInRange, keeps, meaning}
 use Rattle.cq_model.specs.Sizes.{column_sizes, stored_sizes}
 use Rattle.cq_model.specs.Views.{tables_alone, view_bag, ViewInRange}
 use Rattle.cq_binder_rules.specs.declared.fault.Fault.{Fault}
+use Rattle.cq_binder_rules.specs.declared.fault.Fault.TheVariants.{Memory, SumOutOfRange}
 use Rattle.cq_model_state.specs.Fitting.{AreFitting}
-use Rattle.cq_model_state.specs.State.{TableOf, ViewOf, State, columns_in, rows_in, tables_now, queries_of}
+use Rattle.cq_model_state.specs.State.{TableOf, State, columns_in, rows_in, tables_now, queries_of}
 use Rattle.cq_model_laws.specs.Sizes.{HasSizes}
 use Rattle.cq_binder_queries.specs.Catalog.{alone}
-use Rattle.cq_views.specs.Shown.{AreRowsOf, IsShown, Suits}
-use Rattle.cq_engine_answers.specs.Narrow.{IsConditionSized, IsShapeSized, IsWithin, IsWithinSized, joined_sizes, source_sizes, view_sizes}
+use Rattle.cq_views.specs.Shown.{AreRowsOf, IsNotShown, IsShown, Suits}
+use Rattle.cq_engine_answers.specs.Narrow.{source_sizes, view_sizes}
 use Rattle.cq_engine_answers.specs.Reading.{IsSourceThere, plain}
-use Rattle.cq_engine_answers.specs.Selects.{AreListed, Selects, SelectsKept, IsInRange, sources_in}
+use Rattle.cq_engine_answers.specs.Selects.{AreListed, Selects, IsInRange, sources_in}
 use Rattle.cq_engine_tables.specs.Views.{NamedView, IsRight, AreRight, view_of, views_of}
 use Rattle.cq_engine_answers.specs.Gathered.{AreShownBy, HaveColumnsOf, IsBacked, IsHidden, IsReadFault, IsShowFault}
-use Rattle.cq_engine_answers.proofs.Results.{listing_plain}
 use Rattle.cq_engine_tables.proofs.Rows.{fitting_in}
 use Rattle.cq_engine_tables.proofs.Wide.{suits}
 use Rattle.cq_table.proofs.RowLists.{all_of_rows}
 use Rattle.cq_engine_tables.proofs.Stored.{rows_sized}
-
--- on rows of these sizes a query can be worked out
-pub within_shown : (sizes : List ℕ) (q : Query) (rows : List Row) → IsWithinSized sizes q → AllByRecursion (HasSizes sizes) rows → AllByRecursion (IsWithin q) rows
-within_shown sizes q [] within sized = tt
-within_shown sizes q (row ∷ rows) within sized = (within row sized.0.sized, within_shown sizes q rows within sized.1)
 
 -- what all have, the one at a place has
 right_there : (tables : List TableOf) (now : ℕ) (views : List NamedView) (place : ℕ) (v : NamedView) → AreRight tables now views → slice_get views place ≡ Some v → IsRight tables now v
@@ -110,41 +101,16 @@ module _ (tables : List TableOf) (views : List NamedView) where
     pub suits_for : AreFitting tables → Suits v.kept bases
     suits_for fitting = suits tables now v fitting (right_there tables now views place v right at)
 
--- ---- SELECT from one table or view
--- a query without groups, joins and DISTINCT
-pub plain_query : (q : Query) → q.shape ≡ Plain → (length q.joins == 0) ≡ true → q.distinct ≡ false → q ≡ plain q.first q.filter q.items
-plain_query q shape joins distinct =
-    let none : q.joins ≡ [] = no_joins q.joins joins in
-    λ i. record { first = q.first; joins = none i; filter = q.filter; shape = shape i; items = q.items; distinct = distinct i }
-  where
-    no_joins : (js : List Join) → (length js == 0) ≡ true → js ≡ []
-    no_joins [] e = refl
-    no_joins (j ∷ js) e = absurd (omega (arith, eqb-true (length (j ∷ js)) 0 e))
-
--- a query without joins reads columns of one source's sizes
-pub alone_sizes : (tables : List TableOf) (views : List ViewOf) (q : Query) → q ≡ plain q.first q.filter q.items → joined_sizes tables views q ≡ source_sizes tables views q.first
-alone_sizes tables views q is = ap (joined_sizes tables views) is ∙ append-nil (source_sizes tables views q.first)
-
--- on a row of which it can be worked out
-pub alone_within : (sizes : List ℕ) (q : Query) → q ≡ plain q.first q.filter q.items → IsConditionSized sizes q.filter → IsShapeSized sizes q.shape q.items → IsWithinSized sizes q
-alone_within sizes q is filter shown row sized =
-    let items : IsShapeSized sizes Plain q.items = subst (λ (shape : Shape). IsShapeSized sizes shape q.items) (ap (λ p. p.shape) is) shown in
-    record { condition = filter row sized; items = items row sized }
+-- ---- SELECT from one view
+-- SELECT from what a view keeps, which is the bag of the view's query on each tables that suit it
+abbrev pub SelectsKept : Query → Order → NamedView → Result (List Row) Fault → Type 0
+SelectsKept q order v (Ok rows) = (tables : Tables) → Suits v.kept tables
+    → AreListed order (meaning (plain q.first q.filter q.items) (λ source. meaning v.kept.query tables)) rows × MeaningInRange v.kept.query tables
+SelectsKept q order v (Err f) = (f ≡ Memory) ⊎ ((f ≡ SumOutOfRange) × IsNotShown v.kept)
 
 module _ (tables : List TableOf) (views : List NamedView) (q : Query) (order : Order) where
   abbrev Answered : List Row → Query → Type 0
   Answered list p = AreListed order (meaning p (sources_in tables (views_of views))) list × IsInRange tables (views_of views) p
-
-  -- from a table, whose rows are those of its number
-  pub from_rows : (n : ℕ) (stored list : List Row) → q ≡ plain q.first q.filter q.items → q.first ≡ Table n → bag_of stored ≡ rows_in tables n
-      → AreListed order (once_each (map (items_of q.items) (filter (keeps q.filter) stored))) list → Selects tables (views_of views) q order (Ok list)
-  from_rows n stored list is first rows listed = subst (Answered list) (sym shape) (answer, record { own = tt; named = (tt, tt) })
-    where
-      shape : q ≡ plain (Table n) q.filter q.items
-      shape = is ∙ ap (λ (source : Source). plain source q.filter q.items) first
-
-      answer : AreListed order (meaning (plain (Table n) q.filter q.items) (sources_in tables (views_of views))) list
-      answer = listing_plain q.filter q.items (Table n) (sources_in tables (views_of views)) order stored list (rows_same tables views n stored rows) listed
 
   -- from a view at its place
   module _ (now place : ℕ) (v : NamedView) (right : AreRight tables now views) (at : slice_get views place ≡ Some v) (fitting : AreFitting tables) where

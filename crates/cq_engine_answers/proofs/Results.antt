@@ -1,6 +1,5 @@
 -- What a query makes of rows and of the bag that they are.
-use Rattle.std.proofs.Common.{◌≡◌, Bool, true, false, List, [], ◌∷◌, map, None, refl, ap, ◌∙◌, subst}
-use Rattle.std.specs.Bool.{OnTrue}
+use Rattle.std.proofs.Common.{◌≡◌, List, [], ◌∷◌, map, None, refl, ap, ◌∙◌, subst}
 use Rattle.std.specs.Prelude.{Option}
 use Rattle.cq_values.specs.Value.{Row}
 use Rattle.cq_model_bags.specs.Bag.{Weighted, SameBag, once_each, filtered, projected}
@@ -38,15 +37,10 @@ module _ (filter : Option Cond) (items : List Expr) where
       )
 
 -- where no condition chooses, items that show rows as they are show these rows
-shown_whole : (filter : Option Cond) (items : List Expr) (rows : List Row) → filter ≡ None → map (items_of items) rows ≡ rows
+pub shown_whole : (filter : Option Cond) (items : List Expr) (rows : List Row) → filter ≡ None → map (items_of items) rows ≡ rows
     → map (items_of items) (chosen filter rows) ≡ rows
 shown_whole filter items rows none same = ap (map (items_of items)) (ap (λ (c : Option Cond). chosen c rows) none ∙ all_chosen rows) ∙ same
   where
     all_chosen : (rs : List Row) → chosen None rs ≡ rs
     all_chosen [] = refl
     all_chosen (r ∷ rs) = ap (λ (ss : List Row). r ∷ ss) (all_chosen rs)
-
-pub shown_where : (filter : Option Cond) (items : List Expr) (rows : List Row) (whole : Bool) → filter ≡ None → OnTrue whole (map (items_of items) rows ≡ rows)
-    → OnTrue whole (map (items_of items) (chosen filter rows) ≡ rows)
-shown_where filter items rows true none same = shown_whole filter items rows none same
-shown_where filter items rows false none same = tt

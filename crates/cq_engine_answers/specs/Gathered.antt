@@ -52,6 +52,10 @@ IsReadFault views source f = (f ≡ Memory) ⊎ ((f ≡ SumOutOfRange) × IsHidd
 abbrev pub IsGatherFault : List NamedView → List Source → Fault → Type 0
 IsGatherFault views sources f = (f ≡ Memory) ⊎ ((f ≡ SumOutOfRange) × Any (IsHidden views) sources)
 
+-- what was gathered where these rows were made for a source
+abbrev pub made_for : Source → List Row → Gathered
+made_for source rows = record { source = source; shown = rows }
+
 -- what was gathered is of this source
 pub record IsGathered (views : List NamedView) (source : Source) (gathered : Gathered) : Type 0 where
   pub same : gathered.source ≡ source

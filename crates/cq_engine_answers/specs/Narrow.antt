@@ -1,5 +1,5 @@
 -- Queries that can be worked out on rows.
-use Rattle.std.specs.Prelude.{ℕ, List, [], Option, Some, None, slice_get, slice_index_or}
+use Rattle.std.specs.Prelude.{ℕ, List, [], Option, Some, None, length, map, slice_get}
 use Rattle.std.specs.List.{AllByRecursion, flat_map}
 use Rattle.cq_values.specs.Value.{Row}
 use Rattle.cq_model_laws.specs.Sizes.{grouped_sizes}
@@ -14,15 +14,6 @@ use Rattle.cq_model.specs.declared.query.Source.TheVariants.{Table, View}
 use Rattle.cq_model.specs.Views.{sources_of}
 use Rattle.cq_model.specs.Width.{AreNarrowAt, IsNarrowIn, limits_of, sizes_of}
 use Rattle.cq_model_state.specs.State.{TableOf, ViewOf, columns_in}
-
--- a row on which a query can be worked out
-pub record IsWithin (q : Query) (row : Row) : Type 0 where
-  pub condition : IsNarrowIn q.filter row
-  pub items : AreNarrowAt q.items row
-
--- a query that can be worked out on each row with numbers of these sizes
-abbrev pub IsWithinSized : List ℕ → Query → Type 0
-IsWithinSized sizes q = (row : Row) → IsSized (λ i. slice_index_or sizes i 0) row → IsWithin q row
 
 -- a condition that can be worked out on each row with numbers of these sizes
 abbrev pub IsConditionSized : List ℕ → Option Cond → Type 0
@@ -57,3 +48,7 @@ source_sizes tables views (View place) = view_sizes (slice_get views place)
 -- the sizes of the columns of all that FROM names, one source behind the other
 abbrev pub joined_sizes : List TableOf → List ViewOf → Query → List ℕ
 joined_sizes tables views q = flat_map (source_sizes tables views) (sources_of q)
+
+-- how many columns each of these has
+abbrev pub source_widths : List TableOf → List ViewOf → List Source → List ℕ
+source_widths tables views sources = map (λ s. length (source_sizes tables views s)) sources

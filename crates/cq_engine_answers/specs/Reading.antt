@@ -1,5 +1,5 @@
 -- Queries that can be read from the tables and views that they name.
-use Rattle.std.specs.Prelude.{◌<◌, false, List, [], length, Option}
+use Rattle.std.specs.Prelude.{◌<◌, ◌≡◌, false, List, [], length, Option, None}
 use Rattle.std.specs.List.{AllByRecursion}
 use Rattle.cq_model.specs.Expr.{Cond, Expr}
 use Rattle.cq_model.specs.declared.query.Query.{Query}
@@ -14,6 +14,10 @@ use Rattle.cq_engine_answers.specs.Narrow.{IsConditionSized, IsShapeSized, joine
 -- what items show of the rows of one source that WHERE keeps
 abbrev pub plain : Source → Option Cond → List Expr → Query
 plain source filter items = record { first = source; joins = []; filter = filter; shape = Plain; items = items; distinct = false }
+
+-- each row of the one source is shown
+abbrev pub ShowsEachRow : Query → Type 0
+ShowsEachRow q = (q ≡ plain q.first q.filter q.items) × (q.filter ≡ None)
 
 -- a table has the number, or a view the place, that a name in FROM stands for
 abbrev pub IsSourceThere : List TableOf → List ViewOf → Source → Type 0

@@ -1,13 +1,13 @@
 -- What SELECT answers from tables and from views.
-use Rattle.std.specs.Prelude.{◌≡◌, ◌⊎◌, List, map, filter, Result, Ok, Err}
+use Rattle.std.specs.Prelude.{◌≡◌, ◌⊎◌, List, Result, Ok, Err}
 use Rattle.cq_values.specs.Value.{Row}
-use Rattle.cq_model_bags.specs.Bag.{Weighted, once_each}
+use Rattle.cq_model_bags.specs.Bag.{Weighted}
 use Rattle.cq_model_bags.specs.Listing.{IsListing}
 use Rattle.cq_model.specs.declared.fault.ShowFault.{ShowFault}
 use Rattle.cq_model.specs.declared.fault.ShowFault.TheVariants as shown_fault
 use Rattle.cq_model.specs.declared.query.Order.{Order}
 use Rattle.cq_model.specs.declared.query.Query.{Query}
-use Rattle.cq_model.specs.Meaning.{Tables, MeaningInRange, items_of, keeps, meaning}
+use Rattle.cq_model.specs.Meaning.{Tables, MeaningInRange, meaning}
 use Rattle.cq_model.specs.Views.{with_views, AnswerInRange}
 use Rattle.cq_binder_rules.specs.declared.fault.Fault.{Fault}
 use Rattle.cq_binder_rules.specs.declared.fault.Fault.TheVariants.{Memory, SumOutOfRange}
@@ -15,21 +15,10 @@ use Rattle.cq_model_state.specs.State.{TableOf, ViewOf, tables_now, queries_of}
 use Rattle.cq_table_columns.specs.declared.stored_source.StoredSource.{StoredSource}
 use Rattle.cq_table_columns.specs.Sources.{stored_bags}
 use Rattle.cq_binder_queries.specs.Catalog.{alone}
-use Rattle.cq_views.specs.Shown.{IsNotShown, Suits}
-use Rattle.cq_engine_tables.specs.Views.{NamedView}
-use Rattle.cq_engine_answers.specs.Reading.{plain}
-
--- what the items show of the rows that WHERE keeps, one after the other
-abbrev pub shown_rows : Query → List Row → List Row
-shown_rows q rows = map (items_of q.items) (filter (keeps q.filter) rows)
 
 -- the rows are the one list of these in an order, cut by its LIMIT
 abbrev pub AreListed : Order → Weighted → List Row → Type 0
 AreListed order bag rows = IsListing order.keys order.limit bag rows
-
--- the rows are the list of what the items show of these
-abbrev pub ListsShown : Query → Order → List Row → List Row → Type 0
-ListsShown q order rows listed = AreListed order (once_each (shown_rows q rows)) listed
 
 -- the bags that the names in FROM stand for
 abbrev pub sources_in : List TableOf → List ViewOf → Tables
@@ -48,12 +37,6 @@ Selects tables views q order (Err f) = (f ≡ Memory) ⊎ ((f ≡ SumOutOfRange)
 abbrev pub SelectsLent : Query → Order → List StoredSource → Result (List Row) Fault → Type 0
 SelectsLent q order lent (Ok rows) = AreListed order (meaning q (stored_bags lent)) rows × MeaningInRange q (stored_bags lent)
 SelectsLent q order lent (Err f) = (f ≡ Memory) ⊎ ((f ≡ SumOutOfRange) × (MeaningInRange q (stored_bags lent) → ⊥))
-
--- it does so from what a view keeps, which is the bag of the view's query on each tables that suit it
-abbrev pub SelectsKept : Query → Order → NamedView → Result (List Row) Fault → Type 0
-SelectsKept q order v (Ok rows) = (tables : Tables) → Suits v.kept tables
-    → AreListed order (meaning (plain q.first q.filter q.items) (λ source. meaning v.kept.query tables)) rows × MeaningInRange v.kept.query tables
-SelectsKept q order v (Err f) = (f ≡ Memory) ⊎ ((f ≡ SumOutOfRange) × IsNotShown v.kept)
 
 -- why the rows of a view cannot be shown
 abbrev pub shown_as : ShowFault → Fault

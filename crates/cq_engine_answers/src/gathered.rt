@@ -73,8 +73,8 @@ pub(crate) fn rows_shown(alloc: Global, view: &View) -> Result<RowList, Fault>
     view.rows(alloc).map_err(show_fault)
 }
 
-/// Why a view's rows cannot be shown.
-fn show_fault(fault: ShowFault) -> Fault
+/// Why rows cannot be shown.
+pub(crate) fn show_fault(fault: ShowFault) -> Fault
     ensures { result ≡ shown_as fault }
 {
     match fault {

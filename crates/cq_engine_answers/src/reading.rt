@@ -1,35 +1,39 @@
 //! SELECT from tables and from views.
-ghost use Rattle.std.specs.Prelude.{◌≡◌, ◌↔◌, [], IfOk, IsTrue, ℕ};
-ghost use Rattle.cq_model.specs.declared.query.Shape.TheVariants.{Plain};
-ghost use Rattle.cq_model.specs.Sizes.{column_sizes};
-ghost use Rattle.cq_table_columns.specs.Stored.{all_rows};
-ghost use Rattle.cq_table_columns.specs.Sources.{rows_or};
+//!
+//! The rows of the views that FROM names are made, and those of its tables are lent where they are. The query is planned,
+//! and an [`Exec`] on these rows gives the whole list. A query that shows each row of one view with all its columns lists
+//! the rows that the view shows, and copies none.
+ghost use Rattle.std.specs.Bool.{OnTrue};
+ghost use Rattle.std.specs.Prelude.{◌≡◌, ◌∷◌, [], IfOk, ℕ};
+ghost use Rattle.cq_model.specs.declared.query.Source.TheVariants.{View as at_view};
 ghost use Rattle.cq_model_state.specs.Fitting.{AreLimited, AreFitting, rows_limit};
 ghost use Rattle.cq_model_state.specs.State.{AreNumbered};
-ghost use Rattle.cq_engine_answers.specs.Lent.{AreOthers, CanAnswer};
-ghost use Rattle.cq_engine_answers.specs.Narrow.{IsWithinSized};
-ghost use Rattle.cq_engine_answers.specs.Reading.{CanRead, plain};
-ghost use Rattle.cq_engine_answers.specs.Selects.{Selects, SelectsKept, SelectsLent};
+ghost use Rattle.cq_engine_answers.specs.Gathered.{AreGathered, made_for};
+ghost use Rattle.cq_engine_answers.specs.Lent.{AreInputs, CanAnswer};
+ghost use Rattle.cq_engine_answers.specs.Reading.{CanRead, ShowsEachRow};
+ghost use Rattle.cq_engine_answers.specs.Selects.{Selects, SelectsLent};
+ghost use Rattle.cq_model.specs.Views.{sources_of as named_in};
 ghost use Rattle.cq_engine_tables.specs.HeldTables.{tables_of};
 ghost use Rattle.cq_engine_tables.specs.Views.{AreRight, views_of};
-ghost use Rattle.cq_engine_answers.specs.Gathered.{IsBacked};
 
-use crate::gathered::{gather, lend_all, rows_shown};
-use crate::selection::{list, list_made};
+use crate::gathered::{Gathered, gather, lend_all, rows_shown, show_fault};
+use crate::selection::list_whole;
+use crate::widths::widths_of;
 use cq_binder_rules::Fault;
-use cq_engine_tables::{NamedTable, View, place_numbered};
-use cq_model::{Order, Query, Shape, ShowFault, Source};
+use cq_engine_tables::{NamedTable, View};
+use cq_model::{Order, Query, Shape, Source};
 use cq_model_eval::narrow_is_exact;
 use cq_model_laws::{groups_keep_sizes, joined_rows_keep_sizes, meaning_depends_on_sources};
 use cq_model_terms::sources_of;
-use cq_operators::select;
-use cq_plan::{chain_of_lists, own_conditions_are_exact};
+use cq_operators::Exec;
+use cq_plan::{chain_of_lists, own_conditions_are_exact, plan};
 use cq_table_columns::{Stored, StoredSource, rows_of};
+use cq_values::Seq;
 use cq_values_rows::RowList;
+use cq_views_state::show_whole_rows;
 use std::alloc::{AllocError, Global};
 
-/// The listing of a query on the tables and views that it names. Rows of one source are read where they are, unless they
-/// are grouped.
+/// The listing of a query on the tables and views that it names.
 pub fn select_from(
     alloc: Global,
     tables: &[NamedTable],
@@ -44,65 +48,34 @@ pub fn select_from(
     requires can_read { CanRead (tables_of tables.now) (views_of views.now) query.now }
     ensures { Selects (tables_of tables.now) (views_of views.now) query.now order.now result }
 {
-    if query.joins.is_empty() && !query.distinct && is_plain(&query.shape) {
-        select_alone(alloc, tables, views, query, order)
-    } else {
-        select_joined(alloc, tables, views, query, order)
-    }
-}
-
-/// Whether each row stands for itself.
-fn is_plain(shape: &Shape) -> bool
-    ensures { IsTrue result ↔ (shape.now ≡ Plain) }
-{
-    matches!(shape, Shape::Plain)
-}
-
-/// The listing of a query on the table or the view that it names alone.
-fn select_alone(
-    alloc: Global,
-    tables: &[NamedTable],
-    views: &[View],
-    query: &Query,
-    order: &Order,
-) -> Result<RowList, Fault>
-    requires numbered { (next : ℕ) × AreNumbered (tables_of tables.now) next }
-    requires fitting { AreFitting (tables_of tables.now) }
-    requires few { AreLimited rows_limit (tables_of tables.now) }
-    requires right { (now : ℕ) × AreRight (tables_of tables.now) now views.now }
-    requires can_read { CanRead (tables_of tables.now) (views_of views.now) query.now }
-    requires plain { query.now ≡ plain query.now.first query.now.filter query.now.items }
-    ensures { Selects (tables_of tables.now) (views_of views.now) query.now order.now result }
-{
     match query.first {
-        Source::Table(number) => {
-            let place = place_numbered(tables, number);
-            Ok(list(alloc, query, order, tables[place].table().rows())?)
+        Source::View(place) if shows_each_row(query) => {
+            select_view(alloc, tables, views, place, query, order)
         }
-        Source::View(place) => select_from_view(alloc, &views[place as usize], query, order),
+        _ => {
+            let sources = sources_of(alloc, query)?;
+            let gathered = gather(alloc, views, &sources)?;
+            select_gathered(alloc, tables, views, query, order, &gathered)
+        }
     }
 }
 
-/// The listing of a query on the rows that a view keeps.
-fn select_from_view(
-    alloc: Global,
-    view: &View,
-    query: &Query,
-    order: &Order,
-) -> Result<RowList, Fault>
-    requires backed { IsBacked view.now }
-    requires within { IsWithinSized (column_sizes view.now.kept.query) query.now }
-    ensures { SelectsKept query.now order.now view.now result }
+/// Whether the query shows each row of its one source.
+fn shows_each_row(query: &Query) -> bool
+    ensures { OnTrue result (ShowsEachRow query.now) }
 {
-    let rows = rows_shown(alloc, view)?;
-    Ok(list_made(alloc, query, order, rows)?)
+    query.joins.is_empty()
+        && query.filter.is_none()
+        && matches!(query.shape, Shape::Plain)
+        && !query.distinct
 }
 
-/// The listing of a query on the rows of all its sources, which are joined.
-fn select_joined(
+/// The listing of what a query shows of each row of a view. Where it shows all columns, the rows themselves are listed.
+fn select_view(
     alloc: Global,
     tables: &[NamedTable],
     views: &[View],
+    place: u64,
     query: &Query,
     order: &Order,
 ) -> Result<RowList, Fault>
@@ -111,57 +84,60 @@ fn select_joined(
     requires few { AreLimited rows_limit (tables_of tables.now) }
     requires right { (now : ℕ) × AreRight (tables_of tables.now) now views.now }
     requires can_read { CanRead (tables_of tables.now) (views_of views.now) query.now }
+    requires first { query.now.first ≡ at_view place }
+    requires each { ShowsEachRow query.now }
     ensures { Selects (tables_of tables.now) (views_of views.now) query.now order.now result }
 {
-    let sources = sources_of(alloc, query)?;
-    let gathered = gather(alloc, views, &sources)?;
-    let lent = lend_all(alloc, tables, &gathered)?;
-    meaning_depends_on_sources();
-    list_answer(alloc, &lent, query, order)
+    let rows = rows_shown(alloc, &views[place as usize])?;
+    if show_whole_rows(query.items.as_slice(), &rows) {
+        return Ok(list_whole(alloc, order, rows)?);
+    }
+    let gathered = gathered_alone(alloc, query.first, rows)?;
+    select_gathered(alloc, tables, views, query, order, &gathered)
 }
 
-/// The listing of a query on lent rows, which are joined by their keys.
+/// The rows of a view that is read alone, in lists of their own.
+fn gathered_alone(alloc: Global, source: Source, rows: RowList) -> Result<Vec<Gathered>, AllocError>
+    ensures { IfOk result (λ gathered. gathered.items ≡ made_for source rows ∷ []) }
+{
+    let shown = Seq::from_vec(rows.into_rows(alloc)?);
+    let mut gathered = Vec::new(alloc);
+    gathered.push(Gathered { source, shown })?;
+    Ok(gathered)
+}
+
+/// The listing of a query on the rows of its tables and on those that its views showed.
+fn select_gathered(
+    alloc: Global,
+    tables: &[NamedTable],
+    views: &[View],
+    query: &Query,
+    order: &Order,
+    gathered: &[Gathered],
+) -> Result<RowList, Fault>
+    requires numbered { (next : ℕ) × AreNumbered (tables_of tables.now) next }
+    requires fitting { AreFitting (tables_of tables.now) }
+    requires right { (now : ℕ) × AreRight (tables_of tables.now) now views.now }
+    requires can_read { CanRead (tables_of tables.now) (views_of views.now) query.now }
+    requires gathered { AreGathered views.now (named_in query.now) gathered.now }
+    ensures { Selects (tables_of tables.now) (views_of views.now) query.now order.now result }
+{
+    let lent = lend_all(alloc, tables, gathered)?;
+    let sources = sources_of(alloc, query)?;
+    let widths = widths_of(alloc, tables, views, &sources)?;
+    meaning_depends_on_sources();
+    list_answer(alloc, &lent, &widths, query, order)
+}
+
+/// The listing of a query on lent rows. Its sources have so many columns each.
 fn list_answer(
     alloc: Global,
     lent: &[StoredSource<'_>],
+    widths: &[usize],
     query: &Query,
     order: &Order,
 ) -> Result<RowList, Fault>
-    requires { CanAnswer lent.now query.now }
-    ensures { SelectsLent query.now order.now lent.now result }
-{
-    let first = rows_of(lent, query.first);
-    let others = others_of(alloc, lent, query)?;
-    list_joined(alloc, lent, query, order, first, &others)
-}
-
-/// The rows of the source of each join.
-fn others_of<'a>(
-    alloc: Global,
-    lent: &[StoredSource<'a>],
-    query: &Query,
-) -> Result<Vec<Stored<'a>>, AllocError>
-    ensures { IfOk result (λ others. AreOthers lent.now query.now others.items) }
-{
-    let mut others: Vec<Stored<'a>> = Vec::new(alloc);
-    for join in query.joins.as_slice() {
-        others.push(rows_of(lent, join.source))?;
-    }
-    Ok(others)
-}
-
-/// The listing of a query on the rows of its sources, which are joined by their keys.
-fn list_joined(
-    alloc: Global,
-    lent: &[StoredSource<'_>],
-    query: &Query,
-    order: &Order,
-    first: Stored<'_>,
-    others: &[Stored<'_>],
-) -> Result<RowList, Fault>
-    requires can { CanAnswer lent.now query.now }
-    requires first { all_rows first ≡ rows_or lent.now query.now.first [] }
-    requires others { AreOthers lent.now query.now others.now }
+    requires { CanAnswer lent.now query.now widths.now }
     ensures { SelectsLent query.now order.now lent.now result }
 {
     chain_of_lists();
@@ -169,9 +145,28 @@ fn list_joined(
     joined_rows_keep_sizes();
     groups_keep_sizes();
     own_conditions_are_exact();
-    match select(alloc, query, order, &first, others) {
+    let inputs = inputs_of(alloc, lent, query)?;
+    let planned = plan(alloc, query, order, widths)?;
+    let mut room = RowList::listed(Vec::new(alloc));
+    let exec = Exec::open(&planned, &inputs, &mut room);
+    match exec.rows(alloc) {
         Ok(rows) => Ok(rows),
-        Err(ShowFault::Memory) => Err(Fault::Memory),
-        Err(ShowFault::SumOutOfRange) => Err(Fault::SumOutOfRange),
+        Err(fault) => Err(show_fault(fault)),
     }
+}
+
+/// The rows of each source, in the order of FROM.
+fn inputs_of<'a>(
+    alloc: Global,
+    lent: &[StoredSource<'a>],
+    query: &Query,
+) -> Result<Vec<Stored<'a>>, AllocError>
+    ensures { IfOk result (λ inputs. AreInputs lent.now query.now inputs.items) }
+{
+    let mut inputs: Vec<Stored<'a>> = Vec::new(alloc);
+    inputs.push(rows_of(lent, query.first))?;
+    for join in query.joins.as_slice() {
+        inputs.push(rows_of(lent, join.source))?;
+    }
+    Ok(inputs)
 }

@@ -8,7 +8,8 @@ use Rattle.cq_hash_keys.specs.Keys.{key_at}
 use Rattle.cq_model.specs.declared.query.Aggregate.{Aggregate}
 use Rattle.cq_model.specs.Group.{SumInRange, SumsInRange, group_row, key_of}
 use Rattle.cq_hash_groups_slots.specs.declared.slots.Slots.{Slots}
-use Rattle.cq_hash_groups.specs.Groups.{all_added, first_keys, group_columns, group_keys, rows_at, slots_at}
+use Rattle.cq_hash_groups.specs.Groups.{all_added, first_keys, group_columns, group_keys, kept_at, rows_at, slots_at}
+use Rattle.cq_hash_groups.specs.Lead.{first_sum}
 use Rattle.cq_hash_groups_slots.specs.Puts.{AreNumbers}
 use Rattle.cq_hash_groups_slots.specs.Slots.{CanShow, shown_at}
 use Rattle.cq_hash_groups.proofs.Keeping.{slots-added}
@@ -20,9 +21,10 @@ use Rattle.cq_model_bags.proofs.Lists.{all-at}
 -- what is kept, with rows added to the groups of their keys
 pub slots-hold : (keys : Option (List ℕ)) (aggregates : List Aggregate) (rows more found next : List Row) (numbers : List ℕ) → found ≡ group_keys keys rows → next ≡ firsts (found ++ map (key_of (group_columns keys)) more)
     → map (key_at next) numbers ≡ map (key_of (group_columns keys)) more → AreNumbers (length next) numbers
-    → all_added (length next) numbers more aggregates (map (slots_at (group_columns keys) rows found) aggregates) ≡ map (slots_at (group_columns keys) (rows ++ more) next) aggregates
+    → all_added (first_sum aggregates) (length next) numbers more aggregates (map (kept_at (group_columns keys) rows found (first_sum aggregates)) aggregates) ≡ map (kept_at (group_columns keys) (rows ++ more) next (first_sum aggregates)) aggregates
 slots-hold keys aggregates rows more found next numbers found_is next_is are there =
     let columns = group_columns keys in
+    let lead = first_sum aggregates in
     let news = keys-more columns (first_keys keys) rows more in
     let new = news.0 in
     let e : next ≡ found ++ new =
@@ -30,8 +32,8 @@ slots-hold keys aggregates rows more found next numbers found_is next_is are the
     let apart : AreApart (found ++ new) = subst AreApart (sym next_is ∙ e) (apart-firsts (found ++ map (key_of columns) more)) in
     let are_here = subst (λ (fs : List Row). map (key_at fs) numbers ≡ map (key_of columns) more) e are in
     let there_here = subst (λ (fs : List Row). AreNumbers (length fs) numbers) e there in
-    subst (λ (fs : List Row). all_added (length fs) numbers more aggregates (map (slots_at columns rows found) aggregates) ≡ map (slots_at columns (rows ++ more) fs) aggregates) (sym e)
-    (each-added (length (found ++ new)) numbers more (slots_at columns rows found) (slots_at columns (rows ++ more) (found ++ new)) (slots-added columns rows found new news.2 more numbers apart are_here there_here) aggregates)
+    subst (λ (fs : List Row). all_added lead (length fs) numbers more aggregates (map (kept_at columns rows found lead) aggregates) ≡ map (kept_at columns (rows ++ more) fs lead) aggregates) (sym e)
+    (each-added lead (length (found ++ new)) numbers more (kept_at columns rows found lead) (kept_at columns (rows ++ more) (found ++ new) lead) (slots-added columns rows found new news.2 more numbers apart are_here there_here lead) aggregates)
 
 module _ (keys : Option (List ℕ)) (aggregates : List Aggregate) (of found : List Row) (slots : List Slots) (slots_are : slots ≡ map (slots_at (group_columns keys) of found) aggregates)
     (group : ℕ) (key : Row) (lt : group < length found) (is : key ≡ get_or found group key) where

@@ -1,5 +1,5 @@
 -- What is kept of groups stands for their rows, before and after rows are added.
-use Rattle.std.proofs.Common.{◌≡◌, ℕ, zero, suc, ◌-◌, ◌<◌, true, false, List, [], ◌∷◌, ◌++◌, map, length, get_or, set, replicate, refl, sym, ◌∙◌, ap, ap₂, arith}
+use Rattle.std.proofs.Common.{◌≡◌, ℕ, zero, suc, ◌-◌, ◌<◌, true, false, List, [], ◌∷◌, ◌++◌, map, length, get_or, set, replicate, refl, sym, ◌∙◌, ap, ap₂, arith, Option, Some, None}
 use Rattle.std.specs.List.{AllByRecursion}
 use Rattle.std.proofs.lemmas.List.{append-nil, append_assoc, map-append, length-append, length-map, get_or-map}
 use Rattle.cq_values.specs.declared.value.Value.{Value}
@@ -13,10 +13,12 @@ use Rattle.cq_model.specs.declared.query.Aggregate.TheVariants.{CountAll, Count,
 use Rattle.cq_model.specs.Group.{key_of}
 use Rattle.cq_hash_groups_slots.specs.declared.bests.Extreme.TheVariants.{Least, Greatest}
 use Rattle.cq_hash_groups_slots.specs.declared.slots.Slots.TheVariants.{Counts, Sums, Bests}
-use Rattle.cq_hash_groups.specs.Groups.{rows_at, argument, kept_count, kept_sum, kept_best, slots_at, added_slots}
-use Rattle.cq_hash_groups_slots.specs.Puts.{put_all, put_count, put_sum, put_best, no_sum, AreNumbers}
-use Rattle.cq_hash_groups_slots.specs.Slots.{grown}
-use Rattle.cq_hash_groups.proofs.ValuesPut.{count-push, sum-push, best-push}
+use Rattle.cq_hash_groups.specs.Arguments.{argument}
+use Rattle.cq_hash_groups.specs.Lead.{counted_beside}
+use Rattle.cq_hash_groups.specs.Groups.{rows_at, kept_as, kept_at, kept_count, kept_nulls, kept_sum, kept_best, slots_at, added_as, added_slots}
+use Rattle.cq_hash_groups_slots.specs.Puts.{put_all, put_count, put_null, put_sum, put_best, no_sum, AreNumbers}
+use Rattle.cq_hash_groups_slots.specs.Slots.{grown, grown_slots, put_slots}
+use Rattle.cq_hash_groups.proofs.ValuesPut.{count-push, null-push, sum-push, best-push}
 use Rattle.cq_hash_groups.proofs.KeysMet.{AreApart, apart-sym, rows-append}
 use Rattle.cq_model_bags.proofs.Lists.{all-at}
 
@@ -89,14 +91,22 @@ module _ {S : Type 0} (kept : List Value → S) (put : S → Value → S) (nothi
   added rows keys new more numbers none apart are there =
       ap (put_all put nothing numbers (map value more)) (grown-keys rows keys new none) ∙ put-rows (keys ++ new) apart rows more numbers are there
 
-module _ (columns : List ℕ) (rows keys new : List Row) (none : AllByRecursion (λ k. rows_at columns rows k ≡ []) new) where
-  -- what is kept for an aggregate stands for the rows that were there and those that were added
-  pub slots-added : (more : List Row) (numbers : List ℕ) → AreApart (keys ++ new) → map (key_at (keys ++ new)) numbers ≡ map (key_of columns) more → AreNumbers (length (keys ++ new)) numbers
-      → (a : Aggregate) → added_slots (length (keys ++ new)) numbers more a (slots_at columns rows keys a) ≡ slots_at columns (rows ++ more) (keys ++ new) a
-  slots-added more numbers apart are there CountAll = ap Counts (added kept_count put_count 0 refl count-push (argument CountAll) columns rows keys new more numbers none apart are there)
-  slots-added more numbers apart are there (Count e) = ap Counts (added kept_count put_count 0 refl count-push (argument (Count e)) columns rows keys new more numbers none apart are there)
-  slots-added more numbers apart are there (Sum e) = ap Sums (added kept_sum put_sum no_sum refl sum-push (argument (Sum e)) columns rows keys new more numbers none apart are there)
-  slots-added more numbers apart are there (Min e) =
+module _ (columns : List ℕ) (rows keys new : List Row) (none : AllByRecursion (λ k. rows_at columns rows k ≡ []) new)
+    (more : List Row) (numbers : List ℕ) (apart : AreApart (keys ++ new)) (are : map (key_at (keys ++ new)) numbers ≡ map (key_of columns) more) (there : AreNumbers (length (keys ++ new)) numbers) where
+  -- what is kept for an aggregate on its own
+  alone-added : (a : Aggregate) → put_slots numbers (map (argument a) more) (grown_slots (length (keys ++ new)) (slots_at columns rows keys a)) ≡ slots_at columns (rows ++ more) (keys ++ new) a
+  alone-added CountAll = ap Counts (added kept_count put_count 0 refl count-push (argument CountAll) columns rows keys new more numbers none apart are there)
+  alone-added (Count e) = ap Counts (added kept_count put_count 0 refl count-push (argument (Count e)) columns rows keys new more numbers none apart are there)
+  alone-added (Sum e) = ap Sums (added kept_sum put_sum no_sum refl sum-push (argument (Sum e)) columns rows keys new more numbers none apart are there)
+  alone-added (Min e) =
       ap (Bests Least) (added (kept_best Least) (put_best Least) Null refl (best-push Least) (argument (Min e)) columns rows keys new more numbers none apart are there)
-  slots-added more numbers apart are there (Max e) =
+  alone-added (Max e) =
       ap (Bests Greatest) (added (kept_best Greatest) (put_best Greatest) Null refl (best-push Greatest) (argument (Max e)) columns rows keys new more numbers none apart are there)
+
+  either-added : (a : Aggregate) (lead : Option Aggregate) → added_as lead (length (keys ++ new)) numbers more a (kept_as columns rows keys a lead) ≡ kept_as columns (rows ++ more) (keys ++ new) a lead
+  either-added a None = alone-added a
+  either-added a (Some lead) = ap Counts (added kept_nulls put_null 0 refl null-push (argument lead) columns rows keys new more numbers none apart are there)
+
+  -- what is kept for an aggregate stands for the rows that were there and those that were added
+  pub slots-added : (lead : Option Aggregate) (a : Aggregate) → added_slots lead (length (keys ++ new)) numbers more a (kept_at columns rows keys lead a) ≡ kept_at columns (rows ++ more) (keys ++ new) lead a
+  slots-added lead a = either-added a (counted_beside lead a)

@@ -1,9 +1,11 @@
+pub mod Beside
 pub mod Columns
 pub mod Holding
 pub mod Keeping
 pub mod KeysMet
 pub mod Showing
 pub mod ShownRow
+pub mod ToldSlots
 pub mod Turns
 pub mod ValuesPut
 pub mod Widths

@@ -16,7 +16,8 @@ use Rattle.cq_model.specs.declared.query.Aggregate.TheVariants.{CountAll, Count,
 use Rattle.cq_model.specs.Eval.{eval}
 use Rattle.cq_model.specs.Group.{InRange, SumInRange, SumsInRange, aggregate, group_row, grouped, key_of, keys_of, rows_of_key}
 use Rattle.cq_hash_groups_slots.specs.declared.bests.Extreme.TheVariants.{Least, Greatest}
-use Rattle.cq_hash_groups.specs.Groups.{argument, group_columns, group_keys, kept_best, kept_count, kept_each, kept_sum, known, rows_at, slots_at}
+use Rattle.cq_hash_groups.specs.Arguments.{argument}
+use Rattle.cq_hash_groups.specs.Groups.{group_columns, group_keys, kept_best, kept_count, kept_each, kept_sum, known, rows_at, slots_at}
 use Rattle.cq_hash_groups_slots.specs.declared.wide_sums.Sum.{Sum as Summed}
 use Rattle.cq_hash_groups_slots.specs.Puts.{no_sum, shown_sum}
 use Rattle.cq_hash_groups_slots.specs.Slots.{CanShow, shown_at}
@@ -26,7 +27,7 @@ use Rattle.cq_model.specs.Totals.{shown_total, total_of}
 use Rattle.cq_model.proofs.ListedValues.{count-of, count_all-of, max-of, min-of, sum-in_range, sum-of, sum-shows}
 
 -- each row counts
-count-rows : (rows : List Row) → kept_count (map (λ r. Number (pos 0)) rows) ≡ length rows
+pub count-rows : (rows : List Row) → kept_count (map (λ r. Number (pos 0)) rows) ≡ length rows
 count-rows [] = refl
 count-rows (r ∷ rows) = ap suc (count-rows rows)
 

@@ -1,5 +1,5 @@
 -- What is kept for each aggregate, one after the other.
-use Rattle.std.proofs.Common.{◌≡◌, ℕ, zero, suc, ◌+◌, ◌-◌, ◌<◌, ◌≤◌, List, [], ◌∷◌, map, take, replicate, length, get_or, set, refl, sym, ◌∙◌, ap, ap₂, min, add-one, arith, subst}
+use Rattle.std.proofs.Common.{◌≡◌, ℕ, zero, suc, ◌+◌, ◌-◌, ◌<◌, ◌≤◌, List, [], ◌∷◌, map, take, replicate, length, get_or, set, refl, sym, ◌∙◌, ap, ap₂, min, add-one, arith, subst, Option}
 use Rattle.std.proofs.lemmas.List.{get_or_default, length-append, length-replicate}
 use Rattle.cq_values.specs.declared.value.Value.TheVariants.{Null}
 use Rattle.cq_values.specs.Value.{Row}
@@ -12,9 +12,9 @@ use Rattle.cq_hash_groups_slots.specs.Puts.{IsSumWithin, no_sum}
 use Rattle.cq_hash_groups_slots.specs.Slots.{AreWithin, empty_slots, groups_in, grown_slots, no_slots}
 use Rattle.cq_hash_groups_slots.proofs.Putting.{at-grown, sums-more}
 
-module _ (groups : ℕ) (numbers : List ℕ) (rows : List Row) where
+module _ (lead : Option Aggregate) (groups : ℕ) (numbers : List ℕ) (rows : List Row) where
   -- a turn leaves what comes after it
-  not-yet : (asked : List Aggregate) (ss : List Slots) (i : ℕ) (d : Slots) → get_or (all_added groups numbers rows (take i asked) ss) i d ≡ get_or ss i d
+  not-yet : (asked : List Aggregate) (ss : List Slots) (i : ℕ) (d : Slots) → get_or (all_added lead groups numbers rows (take i asked) ss) i d ≡ get_or ss i d
   not-yet [] ss zero d = refl
   not-yet [] ss (suc i) d = refl
   not-yet (a ∷ asked) [] zero d = refl
@@ -24,27 +24,27 @@ module _ (groups : ℕ) (numbers : List ℕ) (rows : List Row) where
 
   -- a turn writes its place
   one-more : (asked : List Aggregate) (ss : List Slots) (i : ℕ) (a : Aggregate) (d : Slots) → i < length asked → i < length ss
-      → all_added groups numbers rows (take (suc i) asked) ss ≡ set (all_added groups numbers rows (take i asked) ss) i (added_slots groups numbers rows (get_or asked i a) (get_or ss i d))
+      → all_added lead groups numbers rows (take (suc i) asked) ss ≡ set (all_added lead groups numbers rows (take i asked) ss) i (added_slots lead groups numbers rows (get_or asked i a) (get_or ss i d))
   one-more [] ss i a d g h = absurd (omega (arith, g))
   one-more (b ∷ asked) [] i a d g h = absurd (omega (arith, h))
   one-more (b ∷ asked) (s ∷ ss) zero a d g h = refl
-  one-more (b ∷ asked) (s ∷ ss) (suc i) a d g h = ap (λ (l : List Slots). added_slots groups numbers rows b s ∷ l) (one-more asked ss i a d (omega (arith, g)) (omega (arith, h)))
+  one-more (b ∷ asked) (s ∷ ss) (suc i) a d g h = ap (λ (l : List Slots). added_slots lead groups numbers rows b s ∷ l) (one-more asked ss i a d (omega (arith, g)) (omega (arith, h)))
 
-  length-added : (asked : List Aggregate) (ss : List Slots) → length (all_added groups numbers rows asked ss) ≡ length ss
+  length-added : (asked : List Aggregate) (ss : List Slots) → length (all_added lead groups numbers rows asked ss) ≡ length ss
   length-added [] ss = refl
   length-added (a ∷ asked) [] = refl
   length-added (a ∷ asked) (s ∷ ss) = ap suc (length-added asked ss)
 
   -- when one of the lists is at its end, all are added
-  all-done : (asked : List Aggregate) (ss : List Slots) (n : ℕ) → min (length ss) (length asked) ≤ n → all_added groups numbers rows (take n asked) ss ≡ all_added groups numbers rows asked ss
+  all-done : (asked : List Aggregate) (ss : List Slots) (n : ℕ) → min (length ss) (length asked) ≤ n → all_added lead groups numbers rows (take n asked) ss ≡ all_added lead groups numbers rows asked ss
   all-done [] ss zero h = refl
   all-done [] ss (suc n) h = refl
   all-done (a ∷ asked) [] zero h = refl
   all-done (a ∷ asked) [] (suc n) h = refl
   all-done (a ∷ asked) (s ∷ ss) zero h = absurd (omega (arith, h))
-  all-done (a ∷ asked) (s ∷ ss) (suc n) h = ap (λ (l : List Slots). added_slots groups numbers rows a s ∷ l) (all-done asked ss n (omega (arith, h)))
+  all-done (a ∷ asked) (s ∷ ss) (suc n) h = ap (λ (l : List Slots). added_slots lead groups numbers rows a s ∷ l) (all-done asked ss n (omega (arith, h)))
 
-  module _ (asked : List Aggregate) (initial now : List Slots) (i : ℕ) (so_far : now ≡ all_added groups numbers rows (take i asked) initial) where
+  module _ (asked : List Aggregate) (initial now : List Slots) (i : ℕ) (so_far : now ≡ all_added lead groups numbers rows (take i asked) initial) where
     pub same-length : length now ≡ length initial
     same-length = ap length so_far ∙ length-added (take i asked) initial
 
@@ -55,17 +55,17 @@ module _ (groups : ℕ) (numbers : List ℕ) (rows : List Row) where
     pub room-at : (n : ℕ) (d : Slots) → i < length now → AreWithin n (get_or initial i no_slots) → AreWithin n (get_or now i d)
     room-at n d lt h = subst (AreWithin n) (sym (get_or_default now i d no_slots lt ∙ still no_slots)) h
 
-    pub turn : (a : Aggregate) (s new : Slots) → i < length asked → i < length initial → new ≡ added_slots groups numbers rows (get_or asked i a) (get_or now i s)
-        → set now i new ≡ all_added groups numbers rows (take (i + 1) asked) initial
+    pub turn : (a : Aggregate) (s new : Slots) → i < length asked → i < length initial → new ≡ added_slots lead groups numbers rows (get_or asked i a) (get_or now i s)
+        → set now i new ≡ all_added lead groups numbers rows (take (i + 1) asked) initial
     turn a s new g h e =
-        ap₂ (λ (l : List Slots) (x : Slots). set l i x) so_far (e ∙ ap (added_slots groups numbers rows (get_or asked i a)) (still s))
+        ap₂ (λ (l : List Slots) (x : Slots). set l i x) so_far (e ∙ ap (added_slots lead groups numbers rows (get_or asked i a)) (still s))
         ∙ rw (add-one i) (sym (one-more asked initial i a s g h))
 
-    pub turns-done : min (length initial) (length asked) ≤ i → now ≡ all_added groups numbers rows asked initial
+    pub turns-done : min (length initial) (length asked) ≤ i → now ≡ all_added lead groups numbers rows asked initial
     turns-done h = so_far ∙ all-done asked initial i h
 
   -- rows added to what stands for each aggregate
-  pub each-added : (old new : Aggregate → Slots) → ((a : Aggregate) → added_slots groups numbers rows a (old a) ≡ new a) → (asked : List Aggregate) → all_added groups numbers rows asked (map old asked) ≡ map new asked
+  pub each-added : (old new : Aggregate → Slots) → ((a : Aggregate) → added_slots lead groups numbers rows a (old a) ≡ new a) → (asked : List Aggregate) → all_added lead groups numbers rows asked (map old asked) ≡ map new asked
   each-added old new h [] = refl
   each-added old new h (a ∷ asked) = ap₂ (λ (s : Slots) (ss : List Slots). s ∷ ss) (h a) (each-added old new h asked)
 

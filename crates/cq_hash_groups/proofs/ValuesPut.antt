@@ -1,5 +1,5 @@
 -- How what is kept of values changes with one value more.
-use Rattle.std.proofs.Common.{◌≡◌, false, cond, List, [], ◌∷◌, ◌++◌, length, refl, sym, ◌∙◌, ap, ap₂, subst, ◌⊎◌, inl, inr}
+use Rattle.std.proofs.Common.{◌≡◌, false, cond, List, [], ◌∷◌, ◌++◌, filter, length, refl, sym, ◌∙◌, ap, ap₂, subst, ◌⊎◌, inl, inr}
 use Rattle.std.specs.List.{AllByRecursion}
 use Rattle.std.proofs.lemmas.List.{length-append}
 use Rattle.cq_values.specs.declared.value.Value.{Value}
@@ -8,8 +8,8 @@ use Rattle.cq_model.specs.Condition.{is_null}
 use Rattle.cq_model.specs.Group.{extreme}
 use Rattle.cq_hash_groups_slots.specs.declared.bests.Extreme.{Extreme}
 use Rattle.cq_hash_groups_slots.specs.declared.bests.Extreme.TheVariants.{Least, Greatest}
-use Rattle.cq_hash_groups.specs.Groups.{known, kept_count, kept_sum, kept_best}
-use Rattle.cq_hash_groups_slots.specs.Puts.{best_of, put_best, put_count, put_sum, summed}
+use Rattle.cq_hash_groups.specs.Groups.{known, kept_count, kept_nulls, kept_sum, kept_best}
+use Rattle.cq_hash_groups_slots.specs.Puts.{best_of, put_best, put_count, put_null, put_sum, summed}
 use Rattle.cq_model.proofs.Extremes.{IsChoice, IsOne, extreme-best, extreme-one, higher-choice, lower-choice}
 use Rattle.cq_model.specs.Totals.{total_of}
 use Rattle.cq_model.proofs.ListedValues.{total-push}
@@ -25,6 +25,17 @@ pub count-push : (vs : List Value) (v : Value) → kept_count (vs ++ v ∷ []) �
 count-push vs v = ap length (known-push vs v) ∙ by_test (is_null v)
     (λ k. rw k refl)
     (λ k. rw k (length-append (known vs) (v ∷ []) ∙ refl))
+
+nulls-push : (vs : List Value) (v : Value) → filter is_null (vs ++ v ∷ []) ≡ cond (is_null v) (filter is_null vs ++ v ∷ []) (filter is_null vs)
+nulls-push [] v = by_test (is_null v) (λ k. rw k refl) (λ k. rw k refl)
+nulls-push (w ∷ vs) v = by_test (is_null w)
+    (λ k. rw (k, nulls-push vs v) (by_test (is_null v) (λ n. rw n refl) (λ n. rw n refl)))
+    (λ k. rw k (nulls-push vs v))
+
+pub null-push : (vs : List Value) (v : Value) → kept_nulls (vs ++ v ∷ []) ≡ put_null (kept_nulls vs) v
+null-push vs v = ap length (nulls-push vs v) ∙ by_test (is_null v)
+    (λ k. rw k (length-append (filter is_null vs) (v ∷ []) ∙ refl))
+    (λ k. rw k refl)
 
 pub sum-push : (vs : List Value) (v : Value) → kept_sum (vs ++ v ∷ []) ≡ put_sum (kept_sum vs) v
 sum-push vs v = ap (λ (ws : List Value). summed (length ws) (total_of ws)) (known-push vs v) ∙ by_test (is_null v)

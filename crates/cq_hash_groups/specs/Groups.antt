@@ -1,13 +1,11 @@
 -- Groups of the rows that were added to a table, and what is kept of them.
-use Rattle.std.specs.Prelude.{◌≡◌, ◌+◌, ℕ, ◌<◌, ◌^◌, pos, not, List, [], ◌∷◌, ◌++◌, length, map, filter, Option, Some, None, slice_index_or, unwrap_or}
+use Rattle.std.specs.Prelude.{◌≡◌, ◌+◌, ℕ, ◌<◌, ◌^◌, not, List, [], ◌∷◌, ◌++◌, length, map, filter, Option, Some, None, slice_index_or, unwrap_or}
 use Rattle.std.specs.List.{AllByRecursion}
 use Rattle.cq_values.specs.declared.value.Value.{Value}
-use Rattle.cq_values.specs.declared.value.Value.TheVariants.{Number}
 use Rattle.cq_values.specs.Order.{same_row}
 use Rattle.cq_values.specs.Value.{Row}
 use Rattle.cq_model_bags.specs.Bag.{firsts, once_each}
 use Rattle.cq_model.specs.Condition.{is_null}
-use Rattle.cq_model.specs.Eval.{eval}
 use Rattle.cq_model.specs.Group.{SumsInRange, extreme, grouped, key_of}
 use Rattle.cq_model.specs.declared.query.Aggregate.{Aggregate}
 use Rattle.cq_model.specs.declared.query.Aggregate.TheVariants.{CountAll, Count, Sum, Min, Max}
@@ -21,7 +19,9 @@ use Rattle.cq_hash_groups_slots.specs.declared.slots.Slots.{Slots}
 use Rattle.cq_hash_groups_slots.specs.declared.slots.Slots.TheVariants.{Counts, Sums, Bests}
 use Rattle.cq_hash_groups_slots.specs.declared.wide_sums.Sum.{Sum as Summed}
 use Rattle.cq_hash_groups_slots.specs.Puts.{best_of, summed}
-use Rattle.cq_hash_groups_slots.specs.Slots.{AreWithin, CanShow, empty_slots, grown_slots, no_slots, put_slots, shown_at}
+use Rattle.cq_hash_groups_slots.specs.Slots.{AreWithin, CanShow, empty_slots, grown_slots, no_slots, put_nulls, put_slots, shown_at}
+use Rattle.cq_hash_groups.specs.Arguments.{argument}
+use Rattle.cq_hash_groups.specs.Lead.{counted_beside, first_sum}
 use Rattle.cq_model.specs.Totals.{total_of}
 use Rattle.cq_writestore_rows.specs.Filling.{Filled}
 
@@ -66,19 +66,11 @@ group_keys keys rows = firsts (first_keys keys ++ map (key_of (group_columns key
 abbrev pub rows_at : List ℕ → List Row → Row → List Row
 rows_at columns rows key = filter (λ r. same_row (key_of columns r) key) rows
 
--- what an aggregate reads of a row: each row itself counts for COUNT(*)
-abbrev pub argument : Aggregate → Row → Value
-argument CountAll r = Number (pos 0)
-argument (Count e) r = eval e r
-argument (Sum e) r = eval e r
-argument (Min e) r = eval e r
-argument (Max e) r = eval e r
-
 -- values other than NULL
 abbrev pub known : List Value → List Value
 known values = filter (λ v. not (is_null v)) values
 
--- how many values other than NULL there are
+-- how many of them there are
 abbrev pub kept_count : List Value → ℕ
 kept_count values = length (known values)
 
@@ -90,11 +82,15 @@ kept_sum values = summed (length (known values)) (total_of (known values))
 abbrev pub kept_best : Extreme → List Value → Value
 kept_best which values = extreme (best_of which) (known values)
 
+-- how many NULLs there are
+abbrev pub kept_nulls : List Value → ℕ
+kept_nulls values = length (filter is_null values)
+
 -- of each group what is kept of its values
 abbrev pub kept_each : {S : Type 0} → (List Value → S) → (Row → Value) → List ℕ → List Row → List Row → List S
 kept_each kept value columns rows keys = map (λ key. kept (map value (rows_at columns rows key))) keys
 
--- what is kept for an aggregate of the groups of these keys
+-- what is told for an aggregate of the groups of these keys
 abbrev pub slots_at : List ℕ → List Row → List Row → Aggregate → Slots
 slots_at columns rows keys CountAll = Counts (kept_each kept_count (argument CountAll) columns rows keys)
 slots_at columns rows keys (Count e) = Counts (kept_each kept_count (argument (Count e)) columns rows keys)
@@ -102,11 +98,20 @@ slots_at columns rows keys (Sum e) = Sums (kept_each kept_sum (argument (Sum e))
 slots_at columns rows keys (Min e) = Bests Least (kept_each (kept_best Least) (argument (Min e)) columns rows keys)
 slots_at columns rows keys (Max e) = Bests Greatest (kept_each (kept_best Greatest) (argument (Max e)) columns rows keys)
 
+-- what is kept for it: the same, or how many NULLs another one reads
+abbrev pub kept_as : List ℕ → List Row → List Row → Aggregate → Option Aggregate → Slots
+kept_as columns rows keys a None = slots_at columns rows keys a
+kept_as columns rows keys a (Some lead) = Counts (kept_each kept_nulls (argument lead) columns rows keys)
+
+-- beside the first SUM
+abbrev pub kept_at : List ℕ → List Row → List Row → Option Aggregate → Aggregate → Slots
+kept_at columns rows keys lead a = kept_as columns rows keys a (counted_beside lead a)
+
 -- the table is the one of these rows
 pub record Holds (t : StoredGroups) (rows : List Row) : Type 0 where
   pub count : t.count ≡ length rows
   pub found : t.found ≡ group_keys t.keys rows
-  pub slots : t.slots ≡ map (slots_at (group_columns t.keys) rows t.found) t.aggregates
+  pub slots : t.slots ≡ map (kept_at (group_columns t.keys) rows t.found (first_sum t.aggregates)) t.aggregates
 
 -- the table of any rows becomes the one of these behind them
 abbrev pub HoldsMore : List Row → StoredGroups → StoredGroups → Type 0
@@ -166,20 +171,25 @@ pub record IsTable (keys : Option (List ℕ)) (values count : ℕ) (slots : List
 abbrev pub new_slots : ℕ → List Aggregate → List Slots
 new_slots groups aggregates = map (λ a. grown_slots groups (empty_slots a)) aggregates
 
--- with the rows of a batch added to what is kept for one aggregate
-abbrev pub added_slots : ℕ → List ℕ → List Row → Aggregate → Slots → Slots
-added_slots groups numbers rows a slots = put_slots numbers (map (argument a) rows) (grown_slots groups slots)
+-- with the rows of a batch added to what is kept for one aggregate, or the NULLs that another one reads of them
+abbrev pub added_as : Option Aggregate → ℕ → List ℕ → List Row → Aggregate → Slots → Slots
+added_as None groups numbers rows a slots = put_slots numbers (map (argument a) rows) (grown_slots groups slots)
+added_as (Some lead) groups numbers rows a slots = put_nulls numbers (map (argument lead) rows) (grown_slots groups slots)
+
+-- beside the first SUM
+abbrev pub added_slots : Option Aggregate → ℕ → List ℕ → List Row → Aggregate → Slots → Slots
+added_slots lead groups numbers rows a slots = added_as (counted_beside lead a) groups numbers rows a slots
 
 -- and for each aggregate
-abbrev pub all_added : ℕ → List ℕ → List Row → List Aggregate → List Slots → List Slots
-all_added groups numbers rows [] slots = slots
-all_added groups numbers rows (a ∷ aggregates) [] = []
-all_added groups numbers rows (a ∷ aggregates) (s ∷ slots) = added_slots groups numbers rows a s ∷ all_added groups numbers rows aggregates slots
+abbrev pub all_added : Option Aggregate → ℕ → List ℕ → List Row → List Aggregate → List Slots → List Slots
+all_added lead groups numbers rows [] slots = slots
+all_added lead groups numbers rows (a ∷ aggregates) [] = []
+all_added lead groups numbers rows (a ∷ aggregates) (s ∷ slots) = added_slots lead groups numbers rows a s ∷ all_added lead groups numbers rows aggregates slots
 
 -- the rows of a batch were added to what is kept for one aggregate
-abbrev pub IsAdded : ℕ → List ℕ → List Row → Aggregate → Slots → Slots → Type 0
-IsAdded groups numbers rows a old new = new ≡ added_slots groups numbers rows a old
+abbrev pub IsAdded : Option Aggregate → ℕ → List ℕ → List Row → Aggregate → Slots → Slots → Type 0
+IsAdded lead groups numbers rows a old new = new ≡ added_slots lead groups numbers rows a old
 
 -- and to what is kept for each
 abbrev pub AreAdded : ℕ → List ℕ → List Row → List Aggregate → List Slots → List Slots → Type 0
-AreAdded groups numbers rows aggregates old new = new ≡ all_added groups numbers rows aggregates old
+AreAdded groups numbers rows aggregates old new = new ≡ all_added (first_sum aggregates) groups numbers rows aggregates old

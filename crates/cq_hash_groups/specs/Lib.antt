@@ -1,2 +1,4 @@
+pub mod Arguments
 pub mod Exact
 pub mod Groups
+pub mod Lead

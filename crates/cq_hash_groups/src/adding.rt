@@ -1,15 +1,20 @@
 //! Rows put into what is kept for each aggregate.
 ghost use Rattle.std.specs.List.{AllByRecursion};
-ghost use Rattle.std.specs.Prelude.{◌+◌, ◌≡◌, IfOk, OnOk, length, ℕ};
+ghost use Rattle.std.specs.Prelude.{◌+◌, ◌<◌, ◌≡◌, IfOk, OnOk, length, map, slice_index_or, ℕ};
 ghost use Rattle.cq_hash_groups.specs.Exact.{AreExactOver, IsExactFor};
+ghost use Rattle.cq_hash_groups.specs.Arguments.{argument};
 ghost use Rattle.cq_hash_groups.specs.Groups.{AreAdded, AreAllWithin, IsAdded, StayWithin, new_slots};
 ghost use Rattle.cq_hash_groups_slots.specs.Puts.{AreNumbers, most_before};
-ghost use Rattle.cq_hash_groups_slots.specs.Slots.{AreWithin};
+ghost use Rattle.cq_hash_groups.specs.Lead.{IsLead, first_sum};
+ghost use Rattle.cq_hash_groups_slots.specs.Slots.{AreWithin, grown_slots, put_nulls, put_slots};
+ghost use Rattle.cq_model.specs.declared.query.Aggregate.TheVariants.{CountAll};
 
 use crate::arguments::argument_of;
+use crate::lead::{Lead, is_count_all, lead_over};
 use cq_hash_groups_slots::Slots;
 use cq_model::Aggregate;
 use cq_operators_scans::Scan;
+use cq_vectors::Vector;
 use std::alloc::{AllocError, Global};
 
 /// What is kept of groups that have no rows.
@@ -45,11 +50,15 @@ pub(crate) fn add_all<'a>(
     ensures ok { OnOk result (AreAdded groups numbers.now scan.now aggregates.now slots.old slots.new) }
     ensures within { StayWithin (length numbers.now) slots.old slots.new }
 {
+    let read = lead_over(alloc, aggregates, scan)?;
+    let lead = &read;
     let len = slots.len().min(aggregates.len());
     for place in 0..len {
         add_one(
             alloc,
-            &aggregates[place],
+            aggregates,
+            place,
+            lead,
             scan,
             groups,
             numbers,
@@ -59,8 +68,40 @@ pub(crate) fn add_all<'a>(
     Ok(())
 }
 
-/// Puts what one aggregate reads of the rows into the groups of their numbers.
+/// Puts what one aggregate reads of the rows into the groups of their numbers. What the lead reads is at hand.
 fn add_one<'a>(
+    alloc: Global,
+    aggregates: &'a [Aggregate],
+    place: usize,
+    lead: &Option<Lead<'_, 'a>>,
+    scan: &Scan<'a>,
+    groups: usize,
+    numbers: &[usize],
+    slots: &mut Slots,
+) -> Result<(), AllocError>
+    requires here { place < length aggregates.now }
+    requires lead { IsLead aggregates.now scan.now lead.now }
+    requires exact { AllByRecursion (AreExactOver aggregates.now) scan.now }
+    requires there { AreNumbers groups numbers.now }
+    requires same { length numbers.now ≡ length scan.now }
+    requires room { AreWithin (most_before (length numbers.now)) slots.old }
+    ensures ok { OnOk result (IsAdded (first_sum aggregates.now) groups numbers.now scan.now (slice_index_or aggregates.now place CountAll) slots.old slots.new) }
+    ensures within { (n : ℕ) → AreWithin n slots.old → AreWithin (n + length numbers.now) slots.new }
+{
+    let aggregate = &aggregates[place];
+    let Some(lead) = lead else {
+        return add_read(alloc, aggregate, scan, groups, numbers, slots);
+    };
+    if is_count_all(aggregate) {
+        return add_nulls(groups, numbers, lead.values.vector(), slots);
+    }
+    if lead.place == place {
+        return add_values(alloc, groups, numbers, lead.values.vector(), slots);
+    }
+    add_read(alloc, aggregate, scan, groups, numbers, slots)
+}
+
+fn add_read<'a>(
     alloc: Global,
     aggregate: &'a Aggregate,
     scan: &Scan<'a>,
@@ -72,10 +113,43 @@ fn add_one<'a>(
     requires there { AreNumbers groups numbers.now }
     requires same { length numbers.now ≡ length scan.now }
     requires room { AreWithin (most_before (length numbers.now)) slots.old }
-    ensures ok { OnOk result (IsAdded groups numbers.now scan.now aggregate.now slots.old slots.new) }
+    ensures ok { OnOk result (slots.new ≡ put_slots numbers.now (map (argument aggregate.now) scan.now) (grown_slots groups slots.old)) }
     ensures within { (n : ℕ) → AreWithin n slots.old → AreWithin (n + length numbers.now) slots.new }
 {
     let values = argument_of(alloc, aggregate, scan)?;
+    add_values(alloc, groups, numbers, values.vector(), slots)
+}
+
+fn add_values(
+    alloc: Global,
+    groups: usize,
+    numbers: &[usize],
+    values: &Vector<'_>,
+    slots: &mut Slots,
+) -> Result<(), AllocError>
+    requires there { AreNumbers groups numbers.now }
+    requires same { length numbers.now ≡ length values.now }
+    requires room { AreWithin (most_before (length numbers.now)) slots.old }
+    ensures ok { OnOk result (slots.new ≡ put_slots numbers.now values.now (grown_slots groups slots.old)) }
+    ensures within { (n : ℕ) → AreWithin n slots.old → AreWithin (n + length numbers.now) slots.new }
+{
     slots.grow(groups)?;
-    slots.put(alloc, numbers, values.vector())
+    slots.put(alloc, numbers, values)
+}
+
+fn add_nulls(
+    groups: usize,
+    numbers: &[usize],
+    values: &Vector<'_>,
+    slots: &mut Slots,
+) -> Result<(), AllocError>
+    requires there { AreNumbers groups numbers.now }
+    requires same { length numbers.now ≡ length values.now }
+    requires room { AreWithin (most_before (length numbers.now)) slots.old }
+    ensures ok { OnOk result (slots.new ≡ put_nulls numbers.now values.now (grown_slots groups slots.old)) }
+    ensures within { (n : ℕ) → AreWithin n slots.old → AreWithin (n + length numbers.now) slots.new }
+{
+    slots.grow(groups)?;
+    slots.put_nulls(numbers, values);
+    Ok(())
 }

@@ -4,7 +4,7 @@ ghost use Rattle.std.specs.Prelude.{◌≡◌, ◌≤◌, IfOk, map, pos, replic
 ghost use Rattle.cq_values.specs.declared.value.Value.TheVariants.{Number};
 ghost use Rattle.cq_operators_scans.specs.Operand.{values_in};
 ghost use Rattle.cq_hash_groups.specs.Exact.{IsExactFor};
-ghost use Rattle.cq_hash_groups.specs.Groups.{argument};
+ghost use Rattle.cq_hash_groups.specs.Arguments.{argument};
 
 use cq_model::Aggregate;
 use cq_operators_scans::{Operand, Scan, vector_of};

@@ -13,6 +13,7 @@ ghost use Rattle.cq_hash_groups.specs.Groups.{AreGroups, CanBeShown, Holds, Hold
 use crate::adding::{add_all, first_slots};
 use crate::keys::{first_groups, key_width, number_rows};
 use crate::shown::{put_row, shown_types};
+use crate::told::told_slots;
 use cq_hash_groups_slots::Slots;
 use cq_hash_keys::KeyTable;
 use cq_model::{Aggregate, ShowFault};
@@ -109,10 +110,11 @@ impl<'q> GroupTable<'q> {
     {
         let width = key_width(self.keys);
         let groups = self.found.len();
-        let types = shown_types(alloc, &self.found, width, &self.slots)?;
+        let told = told_slots(alloc, self.aggregates, &self.slots)?;
+        let types = shown_types(alloc, &self.found, width, &told)?;
         let mut filling = Filling::of_types(alloc, types)?;
         for group in 0..groups {
-            put_row(&self.found, width, &self.slots, group, &mut filling)?;
+            put_row(&self.found, width, &told, group, &mut filling)?;
         }
         Ok(filling.finish()?)
     }

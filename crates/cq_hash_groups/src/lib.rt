@@ -8,6 +8,8 @@ mod adding;
 mod arguments;
 mod group_table;
 mod keys;
+mod lead;
 mod shown;
+mod told;
 
 pub use group_table::GroupTable;

@@ -6,7 +6,7 @@ ghost use Rattle.cq_hash_groups.specs.Groups.{AddsShownRow, BeginsKey, IsSlotsFa
 ghost use Rattle.cq_hash_groups_slots.specs.Slots.{CanShow};
 ghost use Rattle.cq_writestore_rows.specs.Filling.{IsReadyFor};
 
-use cq_hash_groups_slots::Slots;
+use crate::told::Told;
 use cq_hash_keys::KeyTable;
 use cq_model::ShowFault;
 use cq_values::{Lent, Ty};
@@ -18,7 +18,7 @@ pub(crate) fn shown_types(
     alloc: Global,
     found: &KeyTable,
     width: usize,
-    slots: &[Slots],
+    slots: &[Told<'_>],
 ) -> Result<Vec<Ty>, AllocError>
     requires { width ≡ found.now.width }
     ensures { IfOk result (λ types. length types.items ≡ width + length slots.now) }
@@ -37,7 +37,7 @@ pub(crate) fn shown_types(
 pub(crate) fn put_row(
     found: &KeyTable,
     width: usize,
-    slots: &[Slots],
+    slots: &[Told<'_>],
     group: usize,
     filling: &mut Filling,
 ) -> Result<(), ShowFault>
@@ -92,7 +92,7 @@ fn key_type(found: &KeyTable, column: usize) -> Ty
 }
 
 /// The type of what groups show of an aggregate.
-fn slots_type(slots: &Slots, groups: usize) -> Ty {
+fn slots_type(slots: &Told<'_>, groups: usize) -> Ty {
     for group in 0..groups {
         if let Ok(value) = slots.lend(group) {
             if let Some(ty) = type_of(&value) {

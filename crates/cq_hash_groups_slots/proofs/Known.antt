@@ -21,3 +21,8 @@ known-constant (suc n) v some (suc place) lt = known-constant n v some place (om
 pub known-next : (most count next : ℕ) (flag : Bool) → next ≡ cond flag count (count + 1) → count ≤ most → next ≤ most + 1
 known-next most count next true e h = omega (arith, e, h)
 known-next most count next false e h = omega (arith, e, h)
+
+-- and where NULL is counted
+pub null-next : (most count next : ℕ) (flag : Bool) → next ≡ cond flag (count + 1) count → count ≤ most → next ≤ most + 1
+null-next most count next true e h = omega (arith, e, h)
+null-next most count next false e h = omega (arith, e, h)

@@ -27,6 +27,10 @@ AreKnown values = (place : ℕ) → place < length values → is_null (slice_ind
 abbrev pub put_count : ℕ → Value → ℕ
 put_count count v = if is_null v then count else count + 1
 
+-- NULL alone is counted
+abbrev pub put_null : ℕ → Value → ℕ
+put_null count v = if is_null v then count + 1 else count
+
 -- values other than NULL are counted, whichever they are
 abbrev pub CountsEach : List ℕ → List ℕ → List ℕ → Type 0
 CountsEach numbers old new =

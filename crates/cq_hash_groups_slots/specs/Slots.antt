@@ -1,5 +1,5 @@
 -- What is kept of all groups for one aggregate.
-use Rattle.std.specs.Prelude.{ℕ, ◌-◌, pos, List, [], ◌++◌, length, replicate, slice_index_or}
+use Rattle.std.specs.Prelude.{ℕ, ◌+◌, ◌-◌, pos, List, [], ◌∷◌, ◌++◌, length, replicate, slice_index_or}
 use Rattle.cq_values.specs.declared.value.Value.{Value}
 use Rattle.cq_values.specs.declared.value.Value.TheVariants.{Null, Number}
 use Rattle.cq_model.specs.declared.query.Aggregate.{Aggregate}
@@ -8,7 +8,8 @@ use Rattle.cq_model.specs.Group.{InRange}
 use Rattle.cq_hash_groups_slots.specs.declared.bests.Extreme.TheVariants.{Least, Greatest}
 use Rattle.cq_hash_groups_slots.specs.declared.slots.Slots.{Slots}
 use Rattle.cq_hash_groups_slots.specs.declared.slots.Slots.TheVariants.{Counts, Sums, Bests}
-use Rattle.cq_hash_groups_slots.specs.Puts.{put_all, put_count, put_sum, put_best, no_sum, shown_sum, AreCountsWithin, AreSumsWithin}
+use Rattle.cq_hash_groups_slots.specs.declared.wide_sums.Sum.{Sum as Summed}
+use Rattle.cq_hash_groups_slots.specs.Puts.{put_all, put_count, put_null, put_sum, put_best, no_sum, shown_sum, AreCountsWithin, AreSumsWithin}
 
 -- what is kept of no groups
 abbrev pub empty_slots : Aggregate → Slots
@@ -43,6 +44,26 @@ abbrev pub put_slots : List ℕ → List Value → Slots → Slots
 put_slots numbers values (Counts counts) = Counts (put_all put_count 0 numbers values counts)
 put_slots numbers values (Sums sums) = Sums (put_all put_sum no_sum numbers values sums)
 put_slots numbers values (Bests which bests) = Bests which (put_all (put_best which) Null numbers values bests)
+
+-- the NULLs counted in the groups of their numbers, where counts are kept
+abbrev pub put_nulls : List ℕ → List Value → Slots → Slots
+put_nulls numbers values (Counts nulls) = Counts (put_all put_null 0 numbers values nulls)
+put_nulls numbers values (Sums sums) = Sums sums
+put_nulls numbers values (Bests which bests) = Bests which bests
+
+-- how many rows each group has: as many as there are values in its sum, and NULLs
+abbrev pub rows_counted : List Summed → List ℕ → List ℕ
+rows_counted [] nulls = nulls
+rows_counted (sum ∷ sums) [] = sum.count ∷ rows_counted sums []
+rows_counted (sum ∷ sums) (n ∷ nulls) = (sum.count + n) ∷ rows_counted sums nulls
+
+-- counts of NULLs beside the sums of the same values are counts of rows
+abbrev pub beside : Slots → Slots → Slots
+beside (Sums sums) (Counts nulls) = Counts (rows_counted sums nulls)
+beside (Sums sums) (Sums own) = Sums own
+beside (Sums sums) (Bests which own) = Bests which own
+beside (Counts counts) own = own
+beside (Bests which values) own = own
 
 -- no group has more values than this
 abbrev pub AreWithin : ℕ → Slots → Type 0

@@ -8,6 +8,7 @@ ghost use Rattle.cq_vectors_stored.specs.LentColumns.{FitAbove};
 ghost use Rattle.cq_vectors_stored.specs.Offsets.{offsets_in};
 ghost use Rattle.cq_hash_groups_slots.specs.NumberColumns.{all_above};
 
+use cq_prims_lanes::Offset;
 use cq_values::Lent;
 use cq_vectors_stored::Offsets;
 
@@ -34,7 +35,24 @@ impl NumberColumn for Plain<'_> {
     }
 }
 
-/// Offsets above a base.
+/// Offsets of one width above a base, so that a loop asks for the width once.
+#[derive(Drop)]
+pub(crate) struct AboveBy<'b, T: Offset> {
+    pub(crate) base: i64,
+    pub(crate) offsets: &'b [T],
+    ghost fit: { FitAbove base (T.numbers offsets.now) },
+}
+
+impl<T: Offset> NumberColumn for AboveBy<'_, T> {
+    ghost numbers = { λ c. all_above c.base (T.numbers c.offsets.now) };
+
+    fn at(&self, place: usize) -> i64 {
+        let (base, offsets) = (self.base, self.offsets);
+        base + i64::from(T::at(offsets, place))
+    }
+}
+
+/// Offsets of whichever width above a base.
 #[derive(Drop)]
 pub(crate) struct Above<'b> {
     pub(crate) base: i64,

@@ -1,9 +1,10 @@
 //! What is kept of groups for one aggregate.
-ghost use Rattle.std.specs.Prelude.{◌+◌, ◌^◌, ◌≡◌, IfErr, IfOk, OnOk, length, ℕ};
+ghost use Rattle.std.specs.Prelude.{◌+◌, ◌-◌, ◌^◌, ◌≡◌, IfErr, IfOk, OnOk, length, pos, slice_index_or, ℕ};
 ghost use Rattle.cq_values.specs.Lent.{owned};
+ghost use Rattle.cq_values.specs.declared.value.Value.TheVariants.{Number};
 ghost use Rattle.cq_model.specs.declared.fault.ShowFault.TheVariants.{SumOutOfRange};
-ghost use Rattle.cq_hash_groups_slots.specs.Puts.{AreNumbers, most_before};
-ghost use Rattle.cq_hash_groups_slots.specs.Slots.{AreWithin, CanShow, empty_slots, groups_in, grown_slots, put_slots, shown_at};
+ghost use Rattle.cq_hash_groups_slots.specs.Puts.{AreNumbers, AreSumsWithin, most_before};
+ghost use Rattle.cq_hash_groups_slots.specs.Slots.{AreWithin, CanShow, beside, empty_slots, groups_in, grown_slots, put_nulls, put_slots, rows_counted, shown_at};
 
 use crate::bests::{Bests, Extreme};
 use crate::counts::Counts;
@@ -69,6 +70,33 @@ impl Slots {
         }
     }
 
+    /// Counts the NULLs in the groups of their numbers, where counts are kept.
+    pub fn put_nulls(&mut self, numbers: &[usize], values: &Vector<'_>)
+        requires there { AreNumbers (groups_in self.old) numbers.now }
+        requires same { length numbers.now ≡ length values.now }
+        requires room { AreWithin (most_before (length numbers.now)) self.old }
+        ensures nulls { self.new ≡ put_nulls numbers.now values.now self.old }
+        ensures within { (n : ℕ) → AreWithin n self.old → AreWithin (n + length numbers.now) self.new }
+    {
+        match self {
+            Slots::Counts(counts) => counts.put_nulls(numbers, values),
+            _ => {}
+        }
+    }
+
+    /// What a group shows of counts that are kept beside others, where it stands.
+    pub fn lend_beside(&self, others: &Slots, group: usize) -> Result<Lent<'_>, ShowFault>
+        requires { AreWithin (2 ^ 64 - 1) others.now }
+        ensures value { IfOk result (λ v. owned v ≡ shown_at group (beside others.now self.now)) }
+        ensures range { OnOk result (CanShow group (beside others.now self.now)) }
+        ensures fault { IfErr result (λ e. e ≡ SumOutOfRange → CanShow group (beside others.now self.now) → ⊥) }
+    {
+        match (others, self) {
+            (Slots::Sums(sums), Slots::Counts(nulls)) => Ok(rows_of(sums, nulls, group)),
+            _ => self.lend(group),
+        }
+    }
+
     /// What a group shows, where it stands.
     pub fn lend(&self, group: usize) -> Result<Lent<'_>, ShowFault>
         ensures value { IfOk result (λ v. owned v ≡ shown_at group self.now) }
@@ -81,4 +109,12 @@ impl Slots {
             Slots::Bests(_, bests) => Ok(bests.lend(group)),
         }
     }
+}
+
+/// How many rows a group has: its values and its NULLs.
+fn rows_of<'s>(sums: &Sums, nulls: &Counts, group: usize) -> Lent<'s>
+    requires { AreSumsWithin (2 ^ 64 - 1) sums.now }
+    ensures { owned result ≡ Number (pos (slice_index_or (rows_counted sums.now nulls.now) group 0)) }
+{
+    Lent::Number(i128::from(sums.count(group)) + i128::from(nulls.count(group)))
 }

@@ -7,13 +7,17 @@ ghost use Rattle.cq_values.specs.Lent.{owned};
 ghost use Rattle.cq_values.specs.declared.value.Value.TheVariants.{Number};
 ghost use Rattle.cq_model.specs.Group.{InRange};
 ghost use Rattle.cq_vectors_stored.specs.Columns.{number_unless};
+ghost use Rattle.cq_vectors_stored.specs.LentColumns.{FitAbove};
+ghost use Rattle.cq_vectors_stored.specs.Offsets.{offsets_in};
+ghost use Rattle.cq_hash_groups_slots.specs.NumberColumns.{all_above};
 ghost use Rattle.cq_hash_groups_slots.specs.Puts.{AreNumbers, AreSumsWithin, IsSumWithin, PutFrom, PutNumbers, most_before, no_sum, put_sum, shown_sum};
 ghost use Rattle.cq_hash_groups_slots.specs.Slots.{grown};
 
-use crate::number_columns::{Above, NumberColumn, Plain};
+use crate::number_columns::{AboveBy, NumberColumn, Plain};
 use cq_values::Lent;
 use cq_vectors::{Form, Vector};
 use cq_vectors_masks::Plane;
+use cq_vectors_stored::Offsets;
 use std::alloc::{AllocError, Global};
 use std::marker::Model;
 
@@ -155,6 +159,16 @@ impl SmallSums {
         self.sums.as_slice()
     }
 
+    /// How many values a group has.
+    pub(crate) fn count(&self, group: usize) -> u64
+        ensures { result ≡ (slice_index_or self.now group no_sum).count }
+    {
+        match self.sums.get(group) {
+            Some(sum) => sum.count,
+            None => 0,
+        }
+    }
+
     /// The total of a group, which is NULL of no values.
     pub(crate) fn lend(&self, group: usize) -> Lent<'_>
         ensures value { owned result ≡ shown_sum (slice_index_or self.now group no_sum) }
@@ -176,7 +190,7 @@ fn put_values(sums: &mut [SmallSum], numbers: &[usize], values: &Vector<'_>) -> 
 {
     if let Form::Narrow(column) = values.form() {
         let (base, offsets) = column.parts();
-        return put_column(sums, numbers, &Above { base, offsets }, column.nulls());
+        return put_above(sums, numbers, base, &offsets, column.nulls());
     }
     match values.numbers() {
         Some(column) => put_column(
@@ -188,6 +202,38 @@ fn put_values(sums: &mut [SmallSum], numbers: &[usize], values: &Vector<'_>) -> 
             column.nulls(),
         ),
         None => put_each(numbers, values, sums),
+    }
+}
+
+/// Puts in the numbers at the offsets above the base, at the places that are not NULL, by a loop for their width.
+fn put_above(
+    sums: &mut [SmallSum],
+    numbers: &[usize],
+    base: i64,
+    offsets: &Offsets<'_>,
+    nulls: &Plane,
+) -> usize
+    requires fit { FitAbove base (offsets_in offsets.now) }
+    requires there { AreNumbers (length sums.old) numbers.now }
+    requires same { length numbers.now ≡ length (offsets_in offsets.now) }
+    requires flags { length nulls.now ≡ length (offsets_in offsets.now) }
+    requires room { AreSumsWithin (most_before (length numbers.now)) sums.old }
+    ensures few { result ≤ length numbers.now }
+    ensures put { PutNumbers 0 result numbers.now (all_above base (offsets_in offsets.now)) nulls.now sums.old sums.new }
+{
+    match offsets {
+        Offsets::One(offsets) => {
+            let offsets = *offsets;
+            put_column(sums, numbers, &AboveBy { base, offsets }, nulls)
+        }
+        Offsets::Two(offsets) => {
+            let offsets = *offsets;
+            put_column(sums, numbers, &AboveBy { base, offsets }, nulls)
+        }
+        Offsets::Four(offsets) => {
+            let offsets = *offsets;
+            put_column(sums, numbers, &AboveBy { base, offsets }, nulls)
+        }
     }
 }
 

@@ -1,7 +1,7 @@
 //! Sums of groups.
 //!
 //! They are kept in 64 bits for as long as these hold each of them, and after that so wide that they hold any total.
-ghost use Rattle.std.specs.Prelude.{◌≡◌, IfErr, IfOk, OnErr, OnOk, [], length, slice_index_or};
+ghost use Rattle.std.specs.Prelude.{◌-◌, ◌^◌, ◌≡◌, IfErr, IfOk, OnErr, OnOk, [], length, slice_index_or};
 ghost use Rattle.cq_values.specs.Lent.{owned};
 ghost use Rattle.cq_model.specs.Group.{InRange};
 ghost use Rattle.cq_hash_groups_slots.specs.Puts.{AreNumbers, AreSumsWithin, IsTotalFault, SumsGrowBy, most_before, no_sum, put_all, put_sum, shown_sum};
@@ -84,6 +84,17 @@ impl Sums {
             Width::Wide(wide) => wide.put(0, numbers, values),
         }
         Ok(())
+    }
+
+    /// How many values a group has.
+    pub(crate) fn count(&self, group: usize) -> u64
+        requires { AreSumsWithin (2 ^ 64 - 1) self.now }
+        ensures { result ≡ (slice_index_or self.now group no_sum).count }
+    {
+        match &self.sums {
+            Width::Small(sums) => sums.count(group),
+            Width::Wide(sums) => sums.count(group) as u64,
+        }
     }
 
     /// The total of a group, which is NULL of no values.

@@ -121,6 +121,16 @@ impl WideSums {
         put_values(&mut self.sums, start, numbers, values);
     }
 
+    /// How many values a group has.
+    pub(crate) fn count(&self, group: usize) -> u128
+        ensures { result ≡ (slice_index_or self.now group no_sum).count }
+    {
+        match self.sums.get(group) {
+            Some(sum) => sum.count,
+            None => 0,
+        }
+    }
+
     /// The total of a group, which is NULL of no values.
     pub(crate) fn lend(&self, group: usize) -> Result<Lent<'_>, ShowFault>
         ensures value { IfOk result (λ v. owned v ≡ shown_sum (slice_index_or self.now group no_sum)) }

@@ -10,7 +10,7 @@ ghost use Rattle.std.specs.Prelude.{IfOk, None, OnOk, Some, [], drop, if◌then�
 ghost use Rattle.cq_values.specs.Lent.{owned};
 ghost use Rattle.cq_values.specs.Value.{column as column_at};
 ghost use Rattle.cq_vectors.specs.Gathered.{column_of};
-ghost use Rattle.cq_hash_keys.specs.Keys.{AddsKeys, AreKeys, AreNumbers, AreNumbersIn, AreWithin, HasLength, key_at, key_rows, places_of, rows_in, values_of};
+ghost use Rattle.cq_hash_keys.specs.Keys.{AddsKeys, AreKeys, AreNumbers, AreNumbersIn, AreWithin, HasLength, HasValues, key_at, key_rows, places_of, rows_in, values_of};
 ghost use Rattle.cq_hash_keys.specs.Stages.{AreNumbersOn, rows_on};
 
 use crate::stage::Stage;
@@ -111,6 +111,14 @@ impl KeyTable {
             Some((stage, _)) => stage.pairs.len(),
             None => self.first.len(),
         }
+    }
+
+    /// How many values each key has.
+    pub fn width(&self) -> usize
+        ensures width { result ≡ self.now.width }
+        ensures wide { AllByRecursion (HasValues self.now.width) self.now.keys }
+    {
+        self.width
     }
 
     /// The value of a column of the key of a number.

@@ -1,6 +1,7 @@
 pub mod Coded
 pub mod Codes
 pub mod Dictionary
+pub mod Kept
 pub mod Met
 pub mod Texts
 pub mod Values

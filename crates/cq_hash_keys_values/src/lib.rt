@@ -6,6 +6,7 @@
 
 mod coded;
 mod dictionary;
+mod kept;
 mod kind;
 mod texts;
 mod values;

@@ -10,8 +10,9 @@ ghost use Rattle.cq_hash_keys_values.specs.Met.{IsNumberIn, TakesFront};
 ghost use Rattle.cq_hash_keys_values.specs.Values.{Meets, TakesIn, Tells, place_in, same_value};
 
 use crate::dictionary::Dictionary;
+use crate::kept::Kept;
 use crate::kind::Kind;
-use cq_values::{Lent, Value};
+use cq_values::Lent;
 use cq_vectors::{Form, Vector};
 use std::alloc::{AllocError, Global};
 use std::marker::Model;
@@ -19,20 +20,21 @@ use std::marker::Model;
 /// Values, each once, as they were first met. The number of each is its place among them.
 #[derive(Drop)]
 pub struct Values {
-    met: Vec<Value>,
+    met: Kept,
     pub(crate) ways: Dictionary,
 }
 
 impl Model for Values {
     ghost use Rattle.std.specs.Prelude.{List};
     ghost use Rattle.cq_values.specs.declared.value.Value.{Value as Datum};
+    ghost use Rattle.cq_hash_keys_values.specs.Kept.{kept_values};
     ghost use Rattle.cq_hash_keys_values.specs.Values.{Finds};
 
     ghost Value = { List Datum };
 
-    ghost view = { λ v. v.met.items };
+    ghost view = { λ v. kept_values v.met };
 
-    ghost invariant = { λ v. Finds v.ways v.met.items };
+    ghost invariant = { λ v. Finds v.ways (kept_values v.met) };
 }
 
 impl Values {
@@ -41,7 +43,7 @@ impl Values {
         ensures { result ≡ [] }
     {
         Values {
-            met: Vec::new(alloc),
+            met: Kept::new(alloc),
             ways: Dictionary::new(alloc),
         }
     }
@@ -57,7 +59,7 @@ impl Values {
         requires { number < length self.now }
         ensures { owned result ≡ slice_index_or self.now number Null }
     {
-        self.met[number].lend()
+        self.met.lend(number)
     }
 
     /// Puts in what is new of a column, and tells the number of each value.
@@ -190,10 +192,13 @@ impl Values {
         ensures err { OnErr result (self.new ≡ self.old) }
     {
         let number = self.met.len();
-        let copy = value.to_value(alloc)?;
-        self.met.reserve(1)?;
-        self.ways.put(alloc, value, number)?;
-        self.met.push_reserved(copy);
-        Ok(number)
+        self.met.push(alloc, value)?;
+        match self.ways.put(alloc, value, number) {
+            Ok(()) => Ok(number),
+            Err(fault) => {
+                self.met.truncate(number);
+                Err(fault)
+            }
+        }
     }
 }

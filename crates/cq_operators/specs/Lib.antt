@@ -9,3 +9,5 @@ pub mod Showing
 pub mod Shown
 pub mod Inputs
 pub mod Taking
+pub mod Batches
+pub mod Opening

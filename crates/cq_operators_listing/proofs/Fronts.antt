@@ -1,20 +1,21 @@
 -- Rows that stand behind as many others as LIMIT allows.
 use Rattle.std.proofs.Common.{◌≡◌, ℕ, zero, suc, ◌-◌, ◌≤◌, ◌<◌, Bool, true, false, List, [], ◌∷◌, ◌++◌, map, filter, take, drop, length, get_or, refl, sym, ◌∙◌, ap, subst, arith, Ordering, Option, Some, None}
 use Rattle.std.specs.Prelude.{IfSome, slice_get}
-use Rattle.std.proofs.lemmas.Option.{get_or_from_slice_get}
 use Rattle.std.specs.List.{AllByRecursion}
 use Rattle.std.specs.Ordering.{is_gt}
 use Rattle.std.specs.Cmp.{IsTotalOrder}
 use Rattle.std.proofs.lemmas.Cmp.{upto, tied_itself}
-use Rattle.std.proofs.lemmas.List.{append_assoc, length-take-le, take-append-drop, take-append-le, take-take}
+use Rattle.std.proofs.lemmas.List.{append_assoc, get_or_default, length-append, length-take-le, take-append-drop, take-append-le, take-take}
 use Rattle.cq_values.specs.Value.{Row}
+use Rattle.cq_values_rows.specs.Columns.{row_or_none}
 use Rattle.cq_model_bags.specs.declared.sort_key.SortKey.{SortKey}
 use Rattle.cq_model_bags.specs.Bag.{Weighted, once_each}
 use Rattle.cq_model_bags.specs.Canonical.{with_row, sorted_by}
 use Rattle.cq_model_bags.specs.Listing.{IsInOrder, IsListing, first_rows, listing_cmp}
 use Rattle.cq_model_bags.proofs.Totals.{by_test}
 use Rattle.cq_model_bags.proofs.Listings.{listing_cmp_total, one_list, one_listing, after_other}
-use Rattle.cq_operators_listing.specs.Stored.{StoredListing, CanList, Suffice, TakesIn, with_rows}
+use Rattle.cq_operators_listing.specs.Stored.{StoredListing, CanList, Suffice, TakesIn, kept_for, with_rows}
+use Rattle.cq_model.specs.declared.query.Order.{Order}
 use Rattle.cq_operators_listing.specs.Front.{IsFront, IsWorst}
 use Rattle.cq_operators_listing.proofs.Sorting.{listed, listed-swap, listed-append, is_listing, lists-sorted_by, can_list, listed_alike}
 use Rattle.cq_model_bags.proofs.Lists.{all-at, all-take}
@@ -175,12 +176,23 @@ is_worst listing count i w n read front =
     get_or-take (r ∷ rows) zero d = refl
     get_or-take (r ∷ rows) (suc i) d = get_or-take rows i d
 
-pub worst_of : (listing : StoredListing) (count : ℕ) (w : Row) → 0 < count → slice_get listing.rows (count - 1) ≡ Some w → IsFront listing count → IsWorst listing w
-worst_of listing count w h at front = is_worst listing count (count - 1) w (omega (arith, h)) (sym (get_or_from_slice_get listing.rows (count - 1) w w at)) front
+pub worst_of : (listing : StoredListing) (count : ℕ) (w : Row) → 0 < count → w ≡ row_or_none listing.rows (count - 1) → IsFront listing count → IsWorst listing w
+worst_of listing count w h at front =
+    is_worst listing count (count - 1) w (omega (arith, h)) (at ∙ get_or_default listing.rows (count - 1) [] w (omega (arith, h, front.enough))) front
 
 -- the rows in front, where so many are told
 pub front_of : (listing : StoredListing) (front : Option ℕ) (count : ℕ) → front ≡ Some count → IfSome front (IsFront listing) → IsFront listing count
 front_of listing front count e h = subst (λ (o : Option ℕ). IfSome o (IsFront listing)) e h
+
+-- rows behind others leave the rows in front as they are
+pub front_behind : (order : Order) (front : Option ℕ) (rows more all : List Row) → all ≡ rows ++ more → IfSome front (IsFront (kept_for order rows)) → IfSome front (IsFront (kept_for order all))
+front_behind order None rows more all e h = tt
+front_behind order (Some n) rows more all e h =
+    subst (λ (rs : List Row). IsFront (kept_for order rs) n) (sym e) (record {
+      limit = h.limit;
+      enough = omega (arith, h.enough, length-append rows more);
+      in_order = subst (IsInOrder (listing_cmp order.keys)) (sym (take-append-le n rows more h.enough)) h.in_order;
+    })
 
 -- and where so many are there
 pub front_where : (listing : StoredListing) (front : Option ℕ) (count len : ℕ) → IfSome front (λ n. (n ≡ count) × (count ≤ len)) → (count ≤ len → IsFront listing count)
@@ -207,8 +219,8 @@ takes_in old mid new kept more k l r s cut all can =
     cut (all ++ more) (subst (λ (m : StoredListing). CanList m (all ++ more)) e (s all can))
 
 -- what is listed of the kept rows is listed of all
-pub lists_kept : (s : StoredListing) (keys : List SortKey) (limit : Option ℕ) (rows first shown : List Row) → keys ≡ s.keys → limit ≡ s.limit → rows ≡ s.rows → shown ≡ first
-    → IsListing keys limit (once_each rows) first → (all : List Row) → CanList s all → IsListing s.keys s.limit (once_each all) shown
-lists_kept s keys limit rows first shown k l r is h all can =
+pub lists_kept : (s : StoredListing) (keys : List SortKey) (limit : Option ℕ) (rows shown : List Row) → keys ≡ s.keys → limit ≡ s.limit → rows ≡ s.rows
+    → IsListing keys limit (once_each rows) shown → (all : List Row) → CanList s all → IsListing s.keys s.limit (once_each all) shown
+lists_kept s keys limit rows shown k l r h all can =
     let e : record s { keys = keys; limit = limit; rows = rows } ≡ s = λ i. record { keys = k i; limit = l i; rows = r i } in
-    (can shown).1 (subst (λ (t : StoredListing). IsListing t.keys t.limit (once_each t.rows) shown) e (subst (IsListing keys limit (once_each rows)) (sym is) h))
+    (can shown).1 (subst (λ (t : StoredListing). IsListing t.keys t.limit (once_each t.rows) shown) e h)

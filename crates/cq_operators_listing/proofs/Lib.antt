@@ -1,3 +1,4 @@
+pub mod ByNumbers
 pub mod Sorting
 pub mod Fronts
 pub mod FirstKeys

@@ -1,6 +1,7 @@
+pub mod ByNumbers
 pub mod InOrder
 pub mod Stored
 pub mod Front
 pub mod Places
 pub mod Ranks
-pub mod Packed
+pub mod Ranked

@@ -1,16 +1,17 @@
 //! Rows put in the order of a listing.
 ghost use Rattle.std.specs.Bool.{IsTrue, OnTrue};
-ghost use Rattle.std.specs.Prelude.{◌↔◌, ◌≡◌, ◌≤◌, [], IfOk, map};
+ghost use Rattle.std.specs.Prelude.{◌↔◌, ◌≡◌, ◌≤◌, IfOk, None, map};
 ghost use Rattle.cq_model_bags.specs.Bag.{once_each};
 ghost use Rattle.cq_model_bags.specs.Listing.{IsListing, Lists};
 ghost use Rattle.cq_operators_listing.specs.InOrder.{EachInOrder};
-ghost use Rattle.cq_operators_listing.specs.Packed.{AreFirst, TakesFirst, packed};
+ghost use Rattle.cq_operators_listing.specs.Ranked.{TakesFirst, ranked_all};
 
+use crate::by_numbers::listed_by_numbers;
 use crate::comparing::cmp_listed;
-use crate::packed::{Packed, cmp_packed};
+use crate::ranked::{Ranked, cmp_ranked};
 use cq_model::Order;
 use cq_model_bags::SortKey;
-use cq_values_rows::{FlatRows, RowList, rows_come_in_turn};
+use cq_values_rows::RowList;
 use std::alloc::{AllocError, Global};
 
 /// Whether the rows are in order. It looks no further than the first pair that is not.
@@ -19,7 +20,7 @@ pub fn is_listed(keys: &[SortKey], rows: &RowList) -> bool
     ensures listed { OnTrue result (Lists keys.now (once_each rows.now) rows.now) }
 {
     for place in 1..rows.len() {
-        if cmp_listed(keys, rows.row(place - 1), rows.row(place)).is_gt() {
+        if cmp_listed(keys, &rows.row(place - 1), &rows.row(place)).is_gt() {
             return false;
         }
     }
@@ -30,53 +31,73 @@ pub fn is_listed(keys: &[SortKey], rows: &RowList) -> bool
 pub fn in_order(alloc: Global, order: &Order, rows: &RowList) -> Result<RowList, AllocError>
     ensures { IfOk result (λ list. IsListing order.now.keys order.now.limit (once_each rows.now) list) }
 {
-    let first = first_rows(alloc, order.keys.as_slice(), order.limit, rows)?;
-    Ok(RowList::flat(first))
+    first_rows(alloc, order.keys.as_slice(), order.limit, rows)
 }
 
-/// The first rows in order, as copies.
+/// The first rows in order, as copies. Only these are copied.
 pub(crate) fn first_rows(
     alloc: Global,
     keys: &[SortKey],
     limit: Option<u128>,
     rows: &RowList,
-) -> Result<FlatRows, AllocError>
-    ensures { IfOk result (λ first. IsListing keys.now limit (once_each rows.now) first.rows) }
+) -> Result<RowList, AllocError>
+    ensures { IfOk result (λ first. IsListing keys.now limit (once_each rows.now) first) }
 {
-    let packs = pack_all(alloc, keys, rows)?;
-    first_listed(alloc, keys, limit, packs)
-}
-
-/// The rows with their ranks, where they stand.
-fn pack_all<'r>(
-    alloc: Global,
-    keys: &[SortKey],
-    rows: &'r RowList,
-) -> Result<Vec<Packed<'r>>, AllocError>
-    ensures { IfOk result (λ packs. packs.items ≡ map (packed keys.now) rows.now) }
-{
-    rows_come_in_turn();
-    let mut packs = Vec::with_capacity(alloc, rows.len())?;
-    for place in 0..rows.len() {
-        packs.push(Packed::new(keys, rows.row(place)))?;
+    match limit {
+        None => all_rows(alloc, keys, rows),
+        Some(_) => first_ranked(alloc, keys, limit, rows),
     }
-    Ok(packs)
 }
 
-/// The rows in order, as many as LIMIT allows. Only these are copied.
-fn first_listed(
+/// All rows in order, by their numbers where these tell it, and else by their ranks.
+fn all_rows(alloc: Global, keys: &[SortKey], rows: &RowList) -> Result<RowList, AllocError>
+    ensures { IfOk result (λ all. IsListing keys.now None (once_each rows.now) all) }
+{
+    match listed_by_numbers(alloc, keys, rows)? {
+        Some(list) => Ok(list),
+        None => first_ranked(alloc, keys, None, rows),
+    }
+}
+
+/// The first rows in order, by the ranks of all rows.
+fn first_ranked(
     alloc: Global,
     keys: &[SortKey],
     limit: Option<u128>,
-    packs: Vec<Packed<'_>>,
-) -> Result<FlatRows, AllocError>
-    ensures { IfOk result (λ first. AreFirst keys.now limit packs.entry first.rows) }
+    rows: &RowList,
+) -> Result<RowList, AllocError>
+    ensures { IfOk result (λ first. IsListing keys.now limit (once_each rows.now) first) }
 {
-    let mut packs = packs;
-    packs.sort_unstable_by(|a, b| cmp_packed(keys, a, b));
-    let count = count_within(limit, packs.len());
-    packs.truncate(count);
-    copies(alloc, packs.as_slice())
+    let mut ranked = rank_all(alloc, keys, rows)?;
+    ranked.sort_unstable_by(|a, b| cmp_ranked(keys, rows, a, b));
+    let count = count_within(limit, ranked.len());
+    ranked.truncate(count);
+    let places = places_of(alloc, ranked.as_slice())?;
+    rows.at_places(alloc, &places)
+}
+
+/// The places of all rows, with their ranks.
+fn rank_all(alloc: Global, keys: &[SortKey], rows: &RowList) -> Result<Vec<Ranked>, AllocError>
+    ensures { IfOk result (λ all. all.items ≡ ranked_all keys.now rows.now) }
+{
+    let mut all = Vec::new(alloc);
+    all.reserve(rows.len())?;
+    for place in 0..rows.len() {
+        all.push_reserved(Ranked::new(keys, rows, place));
+    }
+    Ok(all)
+}
+
+/// The places alone.
+fn places_of(alloc: Global, ranked: &[Ranked]) -> Result<Vec<usize>, AllocError>
+    ensures { IfOk result (λ places. places.items ≡ map (λ one. one.place) ranked.now) }
+{
+    let mut places = Vec::new(alloc);
+    places.reserve(ranked.len())?;
+    for one in ranked {
+        places.push_reserved(one.place);
+    }
+    Ok(places)
 }
 
 /// How many of so many rows LIMIT leaves. A limit may be larger than any list.
@@ -88,20 +109,4 @@ fn count_within(limit: Option<u128>, len: usize) -> usize
         Some(limit) => limit.min(len as u128) as usize,
         None => len,
     }
-}
-
-/// The rows in one list, each made where it is read next.
-fn copies(alloc: Global, packs: &[Packed<'_>]) -> Result<FlatRows, AllocError>
-    ensures { IfOk result (λ flat. flat.rows ≡ map (λ pack. pack.row) packs.now) }
-{
-    let width = match packs.first() {
-        Some(pack) => pack.row().len(),
-        None => 0,
-    };
-    let mut flat = FlatRows::with_capacity(alloc, packs.len(), width)?;
-    for pack in packs {
-        flat.push_copies(alloc, pack.row())?;
-        flat.end_row()?;
-    }
-    Ok(flat)
 }

@@ -5,11 +5,12 @@ ghost use Rattle.cq_values.specs.Value.{column};
 ghost use Rattle.cq_model_bags.specs.Listing.{directed, listing_cmp};
 
 use cq_model_bags::SortKey;
-use cq_values::{Lent, Value, cmp_lent, lend_column};
+use cq_values::{Lent, cmp_lent};
+use cq_values_rows::LentRow;
 use std::cmp::Ordering;
 
 /// Which row stands first: by the keys in turn, and then by all columns.
-pub(crate) fn cmp_listed(keys: &[SortKey], a: &[Value], b: &[Value]) -> Ordering
+pub(crate) fn cmp_listed(keys: &[SortKey], a: &LentRow<'_>, b: &LentRow<'_>) -> Ordering
     ensures { result ≡ listing_cmp keys.now a.now b.now }
 {
     for key in keys {
@@ -21,11 +22,10 @@ pub(crate) fn cmp_listed(keys: &[SortKey], a: &[Value], b: &[Value]) -> Ordering
     a.cmp(b)
 }
 
-fn cmp_by_key(key: SortKey, a: &[Value], b: &[Value]) -> Ordering
+fn cmp_by_key(key: SortKey, a: &LentRow<'_>, b: &LentRow<'_>) -> Ordering
     ensures { result ≡ directed key.descending (column a.now key.column) (column b.now key.column) }
 {
-    let (first, second) = (lend_column(a, key.column), lend_column(b, key.column));
-    cmp_directed(key.descending, &first, &second)
+    cmp_directed(key.descending, &a.lend(key.column), &b.lend(key.column))
 }
 
 /// DESC turns the order round, NULL included.

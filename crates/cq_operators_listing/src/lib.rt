@@ -7,10 +7,11 @@
 #![tactic(auto)]
 
 mod arranging;
+mod by_numbers;
 mod comparing;
 mod listing;
-mod packed;
 mod places;
+mod ranked;
 mod ranks;
 
 pub use arranging::{in_order, is_listed};

@@ -1,8 +1,8 @@
 //! Listings: what ORDER BY and LIMIT show of rows that come in any order.
 //!
 //! `new` names the order, `add` takes the rows of a batch, any number of times, and `rows` gives the one list at the end.
-//! The rows of all batches stand in one list of values, where they are sorted by places; only those that are listed are
-//! copied, into one list again. Without LIMIT all are kept and sorted once. With one of up to 1,000,000 the list is cut
+//! The rows of all batches stand column by column. They are sorted by places; only those that are listed are copied, in
+//! their order, column by column again. Without LIMIT all are kept and sorted once. With one of up to 1,000,000 the list is cut
 //! when it has twice as many rows and 1,024 more, and a place whose first key stands behind the last row that is kept
 //! becomes no row: that is asked of all places of a batch at once. So memory grows with the limit, and a row costs a
 //! comparison or its part of a sort.
@@ -11,15 +11,14 @@ ghost use Rattle.std.specs.Prelude.{[], ◌++◌, ◌≡◌, ◌≤◌, IfSome, 
 ghost use Rattle.cq_values.specs.Value.{Row as Values};
 ghost use Rattle.cq_vectors.specs.Batch.{row_at, rows_of};
 ghost use Rattle.cq_operators_listing.specs.Front.{IsWorst};
-ghost use Rattle.cq_operators_listing.specs.Places.{ArePlaces, first_key as first_of};
+ghost use Rattle.cq_operators_listing.specs.Places.{ArePlaces};
 ghost use Rattle.cq_operators_listing.specs.Stored.{CanList, ListsAll, TakesIn};
 
 use crate::arranging::first_rows;
-use crate::places::{places_before, push_rows};
+use crate::by_numbers::first_key;
+use crate::places::{places_before, rows_at};
 use cq_model::Order;
-use cq_model_bags::SortKey;
-use cq_values::Value;
-use cq_values_rows::{FlatRows, RowList};
+use cq_values_rows::{LentRow, RowList};
 use cq_vectors::{Batch, Vector};
 use cq_vectors_masks::Selection;
 use std::alloc::{AllocError, Global};
@@ -30,7 +29,7 @@ use std::mem::replace;
 #[derive(Drop)]
 pub struct Listing<'q> {
     order: &'q Order,
-    rows: FlatRows,
+    rows: RowList,
     /// How many rows in front are in order, where they are as many as LIMIT allows.
     front: Option<usize>,
 }
@@ -42,9 +41,9 @@ impl<'q> Model for Listing<'q> {
 
     ghost Value = { StoredListing };
 
-    ghost view = { λ l. kept_for l.order.now l.rows.rows };
+    ghost view = { λ l. kept_for l.order.now l.rows };
 
-    ghost invariant = { λ l. IfSome l.front (IsFront (kept_for l.order.now l.rows.rows)) };
+    ghost invariant = { λ l. IfSome l.front (IsFront (kept_for l.order.now l.rows)) };
 }
 
 impl<'q> Listing<'q> {
@@ -55,7 +54,7 @@ impl<'q> Listing<'q> {
     {
         Listing {
             order,
-            rows: FlatRows::new(alloc),
+            rows: RowList::listed(Vec::new(alloc)),
             front: None,
         }
     }
@@ -75,14 +74,12 @@ impl<'q> Listing<'q> {
         ensures { ListsAll self.entry result }
     {
         let Listing { order, rows, .. } = self;
-        let all = RowList::flat(rows);
-        let first = first_rows(alloc, order.keys.as_slice(), order.limit, &all)?;
-        Ok(RowList::flat(first))
+        first_rows(alloc, order.keys.as_slice(), order.limit, &rows)
     }
 
     /// The last of the rows in front, where they are as many as LIMIT allows.
-    fn worst(&self) -> Option<&[Value]>
-        ensures { IfSome result (λ worst. IsWorst self.now worst.now) }
+    fn worst(&self) -> Option<LentRow<'_>>
+        ensures { IfSome result (λ worst. IsWorst self.now worst) }
     {
         match self.front {
             Some(count) if count > 0 && count <= self.rows.len() => Some(self.rows.row(count - 1)),
@@ -99,7 +96,7 @@ impl<'q> Listing<'q> {
         };
         let key = first_key(self.order.keys.as_slice());
         match batch.columns.as_slice().get(key.column) {
-            Some(values) => places_before(key, values, worst, &batch.selection, to),
+            Some(values) => places_before(key, values, &worst, &batch.selection, to),
             None => false,
         }
     }
@@ -131,7 +128,8 @@ impl<'q> Listing<'q> {
     {
         let front = self.front;
         self.front = None;
-        push_rows(alloc, columns, places, &mut self.rows)?;
+        let more = rows_at(alloc, columns, places)?;
+        self.rows.append(alloc, more)?;
         self.front = front;
         Ok(())
     }
@@ -157,7 +155,7 @@ impl<'q> Listing<'q> {
         ensures ok { OnOk result ((all : List Values) → CanList self.old all → CanList self.new all) }
     {
         self.front = None;
-        let all = RowList::flat(replace(&mut self.rows, FlatRows::new(alloc)));
+        let all = replace(&mut self.rows, RowList::listed(Vec::new(alloc)));
         self.rows = first_rows(alloc, self.order.keys.as_slice(), Some(count as u128), &all)?;
         self.front = front_within(count, self.rows.len());
         Ok(())
@@ -179,17 +177,4 @@ fn front_within(count: usize, len: usize) -> Option<usize>
     ensures { IfSome result (λ front. (front ≡ count) × (count ≤ len)) }
 {
     if count <= len { Some(count) } else { None }
-}
-
-/// The key that is compared first. Without ORDER BY it is the first column.
-fn first_key(keys: &[SortKey]) -> SortKey
-    ensures { result ≡ first_of keys.now }
-{
-    match keys.first() {
-        Some(key) => *key,
-        None => SortKey {
-            column: 0,
-            descending: false,
-        },
-    }
 }

@@ -1,7 +1,8 @@
 //! The places of a batch whose rows may be shown, and the rows that are made of them.
 ghost use Rattle.std.specs.Bool.{OnTrue};
 ghost use Rattle.std.specs.List.{All};
-ghost use Rattle.std.specs.Prelude.{◌≡◌, ◌<◌, ◌++◌, ◌∷◌, [], OnOk, map};
+ghost use Rattle.std.specs.Prelude.{◌≡◌, ◌<◌, IfOk, IfSome, map};
+ghost use Rattle.cq_values.specs.declared.value.Value.TheVariants.{Number};
 ghost use Rattle.cq_values.specs.Value.{column};
 ghost use Rattle.cq_vectors.specs.Batch.{row_at as values_at};
 ghost use Rattle.cq_vectors_masks.specs.Selection.{AreRising, where_true};
@@ -9,8 +10,8 @@ ghost use Rattle.cq_operators_listing.specs.Places.{CanTell, TellBefore, places_
 
 use cq_model_bags::SortKey;
 use cq_prims::{compare, is_null};
-use cq_values::{Comparison, Value, lend_column};
-use cq_values_rows::FlatRows;
+use cq_values::Comparison;
+use cq_values_rows::{LentRow, RowList, ValueColumn};
 use cq_vectors::{Form, Vector};
 use cq_vectors_masks::{Selection, TruthMask, keep_true};
 use std::alloc::{AllocError, Global};
@@ -20,7 +21,7 @@ use std::alloc::{AllocError, Global};
 pub(crate) fn places_before(
     key: SortKey,
     values: &Vector<'_>,
-    worst: &[Value],
+    worst: &LentRow<'_>,
     places: &Selection,
     to: &mut Selection,
 ) -> bool
@@ -48,14 +49,14 @@ fn keep_places(truths: &TruthMask, places: &Selection, to: &mut Selection)
 
 /// Whether truths tell which values stand behind the worst one. Past the values no truth is told, and there is NULL,
 /// which stands first in descending order; in the other no value stands behind NULL.
-fn can_tell(key: SortKey, values: &Vector<'_>, worst: &[Value], places: &[u16]) -> bool
+fn can_tell(key: SortKey, values: &Vector<'_>, worst: &LentRow<'_>, places: &[u16]) -> bool
     requires { AreRising places.now }
     ensures { OnTrue result (CanTell key.descending values.now (column worst.now key.column) places.now) }
 {
     if key.descending {
         end_below(places, values.len())
     } else {
-        !lend_column(worst, key.column).is_null()
+        !worst.lend(key.column).is_null()
     }
 }
 
@@ -72,10 +73,10 @@ fn end_below(places: &[u16], len: usize) -> bool
 }
 
 /// Where the value does not stand behind the worst one. NULL stands last, or first in descending order.
-fn set_before(key: SortKey, values: &Vector<'_>, worst: &[Value], to: &mut TruthMask)
+fn set_before(key: SortKey, values: &Vector<'_>, worst: &LentRow<'_>, to: &mut TruthMask)
     ensures { TellBefore key.descending values.now (column worst.now key.column) to.new }
 {
-    let worst = Vector::new(Form::Constant(lend_column(worst, key.column), values.len()));
+    let worst = Vector::new(Form::Constant(worst.lend(key.column), values.len()));
     if key.descending {
         let (mut known, mut nulls) = (TruthMask::new(), TruthMask::new());
         compare(Comparison::LessOrEqual, &worst, values, &mut known);
@@ -86,34 +87,51 @@ fn set_before(key: SortKey, values: &Vector<'_>, worst: &[Value], to: &mut Truth
     }
 }
 
-/// Puts the rows of the places behind the others, as copies.
-pub(crate) fn push_rows(
+/// The rows of the places, as copies, column by column.
+pub(crate) fn rows_at(
     alloc: Global,
     columns: &[Vector<'_>],
     places: &[u16],
-    to: &mut FlatRows,
-) -> Result<(), AllocError>
-    ensures { OnOk result (to.new.rows ≡ to.old.rows ++ map (values_at columns.now) places.now) }
+) -> Result<RowList, AllocError>
+    ensures { IfOk result (λ rows. rows ≡ map (values_at columns.now) places.now) }
 {
-    to.begin_row();
-    for place in places {
-        push_row(alloc, columns, *place as usize, to)?;
+    let mut copies = Vec::with_capacity(alloc, columns.len())?;
+    for values in columns {
+        copies.push(column_at(alloc, values, places)?)?;
     }
-    Ok(())
+    Ok(RowList::of_columns(copies, places.len()))
 }
 
-fn push_row(
-    alloc: Global,
-    columns: &[Vector<'_>],
-    place: usize,
-    to: &mut FlatRows,
-) -> Result<(), AllocError>
-    requires { to.old.begun ≡ [] }
-    ensures rows { OnOk result (to.new.rows ≡ to.old.rows ++ values_at columns.now place ∷ []) }
-    ensures begun { OnOk result (to.new.begun ≡ []) }
+fn column_at(alloc: Global, values: &Vector<'_>, places: &[u16]) -> Result<ValueColumn, AllocError>
+    ensures { IfOk result (λ copies. copies ≡ map (column values.now) places.now) }
 {
-    for column in columns {
-        to.push(column.lend(place).to_value(alloc)?)?;
+    if let Some(numbers) = values.whole_numbers() {
+        if let Some(copies) = numbers_at(alloc, numbers, places)? {
+            return Ok(ValueColumn::numbers(copies));
+        }
     }
-    to.end_row()
+    let mut copies = ValueColumn::new(alloc);
+    for place in places {
+        copies.push(alloc, &values.lend(*place as usize))?;
+    }
+    Ok(copies)
+}
+
+/// The numbers of the places, if each of these is one of a number.
+fn numbers_at(
+    alloc: Global,
+    numbers: &[i64],
+    places: &[u16],
+) -> Result<Option<Vec<i64>>, AllocError>
+    ensures { IfOk result (λ found. IfSome found (λ copies. map Number copies.items ≡ map (column (map Number numbers.now)) places.now)) }
+{
+    let mut copies = Vec::new(alloc);
+    copies.reserve(places.len())?;
+    for place in places {
+        match numbers.get(*place as usize) {
+            Some(number) => copies.push_reserved(*number),
+            None => return Ok(None),
+        }
+    }
+    Ok(Some(copies))
 }

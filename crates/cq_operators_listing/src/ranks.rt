@@ -6,7 +6,8 @@ ghost use Rattle.cq_operators_listing.specs.Ranks.{column_rank as rank_at, direc
 ghost use Rattle.cq_operators_listing.specs.Ranks.{number_rank as rank_of, digit_of, row_ranks as ranks_of, text_rank as read, value_rank as ranked};
 
 use cq_model_bags::SortKey;
-use cq_values::{Lent, Value, lend_column};
+use cq_values::Lent;
+use cq_values_rows::LentRow;
 
 /// A number as far from 0 as this shares its rank with those that are farther.
 const FAR: i128 = 1_152_921_504_606_846_976;
@@ -15,7 +16,7 @@ const FAR: i128 = 1_152_921_504_606_846_976;
 const KIND: u64 = 4_611_686_018_427_387_904;
 
 /// The ranks of what a listing compares first and second, as one number.
-pub(crate) fn row_ranks(keys: &[SortKey], row: &[Value]) -> u128
+pub(crate) fn row_ranks(keys: &[SortKey], row: &LentRow<'_>) -> u128
     ensures { result ≡ ranks_of keys.now row.now }
 {
     match keys {
@@ -37,7 +38,7 @@ fn joined(descending: bool, first: u64, second: u64) -> u128
     }
 }
 
-fn key_rank(key: SortKey, row: &[Value]) -> u64
+fn key_rank(key: SortKey, row: &LentRow<'_>) -> u64
     ensures { result ≡ rank_by key row.now }
 {
     directed_rank(key.descending, first_rank(key, row))
@@ -49,18 +50,19 @@ fn directed_rank(descending: bool, rank: u64) -> u64
     if descending { u64::MAX - rank } else { rank }
 }
 
-fn first_rank(key: SortKey, row: &[Value]) -> u64
+fn first_rank(key: SortKey, row: &LentRow<'_>) -> u64
     ensures { result ≡ ranked (column row.now key.column) }
 {
-    value_rank(&lend_column(row, key.column))
+    value_rank(&row.lend(key.column))
 }
 
-fn column_rank(row: &[Value], at: usize) -> u64
+fn column_rank(row: &LentRow<'_>, at: usize) -> u64
     ensures { result ≡ rank_at row.now at }
 {
-    match row.get(at) {
-        Some(value) => value_rank(&value.lend()),
-        None => 0,
+    if at < row.len() {
+        value_rank(&row.lend(at))
+    } else {
+        0
     }
 }
 

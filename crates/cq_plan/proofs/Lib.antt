@@ -5,3 +5,4 @@ pub mod Exactly
 pub mod Owned
 pub mod OwnTests
 pub mod EachOwn
+pub mod Planned

@@ -5,3 +5,4 @@ pub mod OwnTest
 pub mod Below
 pub mod Laws
 pub mod EachOwn
+pub mod Planned

@@ -1,7 +1,8 @@
 //! Plans of queries: what is worked out of a query before any row is read, and what holds of its joins and conditions.
 //!
-//! A [`Plan`] is of a query on one source that is neither grouped nor distinct. It has the condition, the items and the
-//! columns that each of them reads. To its callers it means what its items show of the rows that its condition keeps.
+//! A [`Plan`] is of a whole query: its sources, each with the parts of WHERE that are asked of its rows before any join,
+//! then what is asked of the joined rows, and behind these the query's groups, HAVING, items, DISTINCT, ORDER BY and
+//! LIMIT. To its callers it means the query: WHERE keeps the same joined rows. An [`own_condition`] is for a view.
 #![tactic(auto)]
 
 mod columns;
@@ -9,7 +10,8 @@ mod each_own;
 mod laws;
 mod own;
 mod own_test;
-mod plan;
+mod planning;
+mod plans;
 
 pub use columns::columns_of_condition;
 pub use each_own::each_is_own;
@@ -19,4 +21,5 @@ pub use laws::{
 };
 pub use own::own_conditions;
 pub use own_test::own_condition;
-pub use plan::Plan;
+pub use planning::plan;
+pub use plans::{Plan, PlannedSource};

@@ -3,4 +3,3 @@ pub mod Shown
 pub mod NullLemmas
 pub mod Beside
 pub mod SideLanes
-pub mod NamedLemmas

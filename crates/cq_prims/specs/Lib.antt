@@ -6,4 +6,3 @@ pub mod Sides
 pub mod Beside
 pub mod OneTruth
 pub mod Turned
-pub mod Named

@@ -14,7 +14,6 @@ mod less_days;
 mod less_numbers;
 mod less_wide;
 mod named;
-mod named_tests;
 mod narrow_compare;
 mod narrow_side;
 mod null_test;

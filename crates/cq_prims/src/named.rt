@@ -1,11 +1,11 @@
 //! Truths of entries, read by the numbers that name them.
 //!
 //! A condition is asked once of each entry, and its truth then stands in each place that names the entry.
-ghost use Rattle.cq_prims.specs.Named.{truth_named};
+ghost use Rattle.cq_prims_texts.specs.Named.{truth_named};
 ghost use Rattle.std.specs.List.{All};
 ghost use Rattle.std.specs.Prelude.{◌<◌, ◌≡◌, ◌≤◌, length, map};
 
-use crate::named_tests::{NamesTrue, NamesUnknown};
+use cq_prims_texts::set_named;
 use cq_values::Truth;
 use cq_vectors_masks::{Plane, TruthMask};
 
@@ -15,9 +15,7 @@ pub fn dict_mask(entries: &[Truth], numbers: &[u64], to: &mut TruthMask)
     requires few { length numbers.now ≤ 1024 }
     ensures { to.new ≡ map (truth_named entries.now) numbers.now }
 {
-    let mut trues = Plane::new();
-    let mut unknowns = Plane::new();
-    trues.set_where(&NamesTrue { entries, numbers }, numbers.len());
-    unknowns.set_where(&NamesUnknown { entries, numbers }, numbers.len());
-    to.set_known(&trues, &unknowns);
+    let mut nulls = Plane::new();
+    nulls.set_all(false, numbers.len());
+    set_named(entries, numbers, &nulls, to);
 }

@@ -6,3 +6,4 @@ pub mod CallLemmas
 pub mod PartLemmas
 pub mod WideLemmas
 pub mod WidenedLemmas
+pub mod ConstantLemmas

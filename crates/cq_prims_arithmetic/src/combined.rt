@@ -5,6 +5,7 @@ ghost use Rattle.std.specs.Simd.Lanes.{zip2};
 ghost use Rattle.cq_values.specs.declared.value.Value.TheVariants.{Number};
 ghost use Rattle.cq_prims_arithmetic.specs.Operation.{AllAddInRange, lifted};
 
+use crate::constants::of_constants;
 use crate::operands::Operands;
 use crate::operation::Operation;
 use crate::places::by_places;
@@ -23,6 +24,9 @@ pub(crate) fn combined<'a, O: Operation>(
 ) -> Result<Vector<'a>, AllocError>
     ensures { IfOk result (λ made. made ≡ zip2 (lifted O.apply) of.now.a.now of.now.b.now) }
 {
+    if let Some(made) = of_constants(of) {
+        return Ok(made);
+    }
     if let Some(made) = give_side(alloc, of.a, of)? {
         return Ok(made);
     }

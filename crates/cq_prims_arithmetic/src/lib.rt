@@ -8,6 +8,7 @@ mod arithmetic;
 mod clear;
 mod columns;
 mod combined;
+mod constants;
 mod in_64_bits;
 mod operands;
 mod operation;

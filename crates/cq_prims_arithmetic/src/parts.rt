@@ -14,6 +14,22 @@ use std::alloc::{AllocError, Global};
 pub fn extract<'a>(alloc: Global, part: DayPart, a: &Vector<'_>) -> Result<Vector<'a>, AllocError>
     ensures { IfOk result (λ made. made ≡ map (extracted part) a.now) }
 {
+    match a.form() {
+        Form::Constant(value, len) => {
+            let value = part_of_value(part, value);
+            Ok(Vector::new(Form::Constant(value, *len)))
+        }
+        _ => parts_by_places(alloc, part, a),
+    }
+}
+
+fn parts_by_places<'a>(
+    alloc: Global,
+    part: DayPart,
+    a: &Vector<'_>,
+) -> Result<Vector<'a>, AllocError>
+    ensures { IfOk result (λ made. made ≡ map (extracted part) a.now) }
+{
     let len = a.len();
     let mut values = Vec::new(alloc);
     let mut nulls = Plane::new();
@@ -24,6 +40,16 @@ pub fn extract<'a>(alloc: Global, part: DayPart, a: &Vector<'_>) -> Result<Vecto
         nulls.push(null);
     }
     Ok(Vector::new(Form::Numbers(Numbers::new(values, nulls))))
+}
+
+/// The part of a value, which is NULL where it is no day.
+fn part_of_value<'a>(part: DayPart, value: &Lent<'_>) -> Lent<'a>
+    ensures { owned result ≡ extracted part (owned value.now) }
+{
+    match value {
+        Lent::Day(day) => Lent::Number(i128::from(part_of_day(part, *day))),
+        _ => Lent::Null,
+    }
 }
 
 /// The part and whether it is NULL. A NULL has the number 0.

@@ -163,15 +163,15 @@ module _ (around : RunAndSigns) (known : IsAround around) (text : List ℕ) (val
       let cut = run_cuts run text known.some known.text valid place at.0 in
       let before = chars (take place text) in
       let behind = chars (drop (place + length run) text) in
-      let front = (like_decides (percent ∷ chars around.front) before).0 (and_left (like (percent ∷ chars around.front) before) _ at.1) in
-      let rest = (like_decides (chars around.rest) behind).0 (and_right (like (percent ∷ chars around.front) before) _ at.1) in
-      let all = fits_joined (percent ∷ chars around.front) (chars run ++ chars around.rest) before (chars run ++ behind) front (front_given (chars run) (chars around.rest) behind known.ordinary rest) in
+      let front = (like_decides (percent ∷ chars around.front.now) before).0 (and_left (like (percent ∷ chars around.front.now) before) _ at.1) in
+      let rest = (like_decides (chars around.rest.now) behind).0 (and_right (like (percent ∷ chars around.front.now) before) _ at.1) in
+      let all = fits_joined (percent ∷ chars around.front.now) (chars run ++ chars around.rest.now) before (chars run ++ behind) front (front_given (chars run) (chars around.rest.now) behind known.ordinary rest) in
       (like_decides (percent ∷ signs_of around) (chars text)).1 (subst (Fits (percent ∷ signs_of around)) (sym cut.signs) all)
 
   pub place_of_fit : like (percent ∷ signs_of around) (chars text) ≡ true → (place : ℕ) × FitsAt around text place
   place_of_fit does =
-      let parts = fits_split (percent ∷ chars around.front) (chars run ++ chars around.rest) (chars text) ((like_decides (percent ∷ signs_of around) (chars text)).0 does) in
-      let found = front_taken (chars run) (chars around.rest) parts.1 known.ordinary parts.4 in
+      let parts = fits_split (percent ∷ chars around.front.now) (chars run ++ chars around.rest.now) (chars text) ((like_decides (percent ∷ signs_of around) (chars text)).0 does) in
+      let found = front_taken (chars run) (chars around.rest.now) parts.1 known.ordinary parts.4 in
       let before = encodes parts.0 in
       let place = length before in
       let bytes : text ≡ before ++ (run ++ encodes found.0) =
@@ -189,8 +189,8 @@ module _ (around : RunAndSigns) (known : IsAround around) (text : List ℕ) (val
       let front : chars (take place text) ≡ parts.0 = encodes_same (chars (take place text)) parts.0 (encodes-chars (take place text) (IsUtf8-take text place valid cut.begins) ∙ first) in
       let rest : chars (drop (place + length run) text) ≡ found.0 =
       encodes_same (chars (drop (place + length run) text)) found.0 (encodes-chars (drop (place + length run) text) (IsUtf8-drop text (place + length run) valid cut.ends) ∙ last) in
-      let front_fits = (like_decides (percent ∷ chars around.front) (chars (take place text))).1 (subst (Fits (percent ∷ chars around.front)) (sym front) parts.3) in
-      let rest_fits = (like_decides (chars around.rest) (chars (drop (place + length run) text))).1 (subst (Fits (chars around.rest)) (sym rest) found.2) in
+      let front_fits = (like_decides (percent ∷ chars around.front.now) (chars (take place text))).1 (subst (Fits (percent ∷ chars around.front.now)) (sym front) parts.3) in
+      let rest_fits = (like_decides (chars around.rest.now) (chars (drop (place + length run) text))).1 (subst (Fits (chars around.rest.now)) (sym rest) found.2) in
       (place, (there, ap₂ (λ (a b : Bool). a && b) front_fits rest_fits))
 
   -- where it fits at no place, the pattern does not fit
@@ -221,14 +221,14 @@ module _ (around : RunAndSigns) (known : IsAround around) (text : List ℕ) (val
 
 -- ---- how the parts are found
 pub is_around_of : (pattern tail : List ℕ) (around : RunAndSigns) → IsUtf8 pattern → IsAround around → pattern ≡ percent ∷ tail
-    → tail ≡ around.front ++ (around.run ++ around.rest) → IsAroundOf around pattern
+    → tail ≡ around.front.now ++ (around.run ++ around.rest.now) → IsAroundOf around pattern
 is_around_of pattern tail around valid known starts split =
     let run = around.run in
-    let front = around.front in
+    let front = around.front.now in
     let first : get_or pattern 0 0 ≡ percent = ap (λ l. get_or l 0 0) starts in
     let long : 0 < length pattern = omega (arith, ap {B = ℕ} length starts) in
     let behind : IsUtf8 tail = subst IsUtf8 (ap (drop 1) starts) (IsUtf8-drop pattern 1 valid (IsCharBoundary-after_ascii pattern 0 valid long (omega (arith, first)))) in
     let before : IsUtf8 front =
-    subst IsUtf8 (ap (take (length front)) split ∙ take-append_seam front (run ++ around.rest)) (IsUtf8-take tail (length front) behind (seam_at run known.some known.text front around.rest tail split)) in
-    let signs : chars tail ≡ signs_of around = ap chars split ∙ chars-append front (run ++ around.rest) before ∙ ap (λ l. chars front ++ l) (chars-append run around.rest known.text) in
+    subst IsUtf8 (ap (take (length front)) split ∙ take-append_seam front (run ++ around.rest.now)) (IsUtf8-take tail (length front) behind (seam_at run known.some known.text front around.rest.now tail split)) in
+    let signs : chars tail ≡ signs_of around = ap chars split ∙ chars-append front (run ++ around.rest.now) before ∙ ap (λ l. chars front ++ l) (chars-append run around.rest.now known.text) in
     (ap chars starts ∙ chars-percent tail ∙ ap (λ l. percent ∷ l) signs, known)

@@ -49,14 +49,14 @@ are_single signs = list_all (λ sign. not (sign == percent)) signs
 
 -- the signs behind the first '%' of a pattern: some before its run, the run, and some behind it
 abbrev pub signs_of : RunAndSigns → List ℕ
-signs_of around = chars around.front ++ (chars around.run ++ chars around.rest)
+signs_of around = chars around.front.now ++ (chars around.run ++ chars around.rest.now)
 
 -- the signs before the run stand for one character each, and those of the run for themselves
 pub record IsAround (around : RunAndSigns) : Type 0 where
   pub some : 0 < length around.run
   pub text : IsUtf8 around.run
   pub ordinary : is_ordinary (chars around.run) ≡ true
-  pub single : are_single (chars around.front) ≡ true
+  pub single : are_single (chars around.front.now) ≡ true
 
 -- the pattern is a '%', and then these signs
 abbrev pub IsAroundOf : RunAndSigns → List ℕ → Type 0
@@ -65,8 +65,8 @@ IsAroundOf around pattern = (chars pattern ≡ percent ∷ signs_of around) × I
 -- the signs before the run fit an end of what stands before the place, and those behind it what stands behind the run
 abbrev pub fits_around : RunAndSigns → List ℕ → ℕ → Bool
 fits_around around text place =
-    like (percent ∷ chars around.front) (chars (take place text))
-    && like (chars around.rest) (chars (drop (place + length around.run) text))
+    like (percent ∷ chars around.front.now) (chars (take place text))
+    && like (chars around.rest.now) (chars (drop (place + length around.run) text))
 
 -- the run stands at this place of the text, and the signs around it fit
 abbrev pub FitsAt : RunAndSigns → List ℕ → ℕ → Type 0
@@ -90,9 +90,9 @@ TellsOfFront front text fits = (pattern : List ℕ) → IsFrontOf front pattern 
 
 -- what the form says of the bytes of its pattern
 abbrev pub IsFormOf : PatternForm → List ℕ → Type 0
-IsFormOf (Whole text) pattern = (pattern ≡ text) × (is_ordinary (chars text) ≡ true)
-IsFormOf (Prefix front) pattern = IsFrontOf front pattern
-IsFormOf (Suffix end) pattern = (pattern ≡ percent ∷ end) × (is_ordinary (chars end) ≡ true)
+IsFormOf (Whole text) pattern = (pattern ≡ text.now) × (is_ordinary (chars text.now) ≡ true)
+IsFormOf (Prefix front) pattern = IsFrontOf front.now pattern
+IsFormOf (Suffix end) pattern = (pattern ≡ percent ∷ end.now) × (is_ordinary (chars end.now) ≡ true)
 IsFormOf (Infix finder) pattern = (pattern ≡ percent ∷ (finder ++ percent ∷ [])) × (is_ordinary (chars finder) ≡ true)
 IsFormOf (Pieces pieces) pattern = ArePiecesOf pieces.items pattern
 IsFormOf (Around around) pattern = IsAroundOf around pattern

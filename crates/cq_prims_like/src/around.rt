@@ -2,47 +2,45 @@
 ghost use Rattle.cq_model.specs.Like.{like, percent};
 ghost use Rattle.cq_prims_like.specs.Patterns.{EndsBy, IsAround, IsAroundOf, are_single, fits_around, signs_of, stands_for};
 ghost use Rattle.memchr.specs.Find.{FindsNeedle, OccursAt};
-ghost use Rattle.std.specs.Prelude.{◌∷◌, ◌≡◌, IfOk, IfSome, MatchOption, Some, [], true};
+ghost use Rattle.std.specs.Prelude.{◌∷◌, ◌≡◌, IfSome, MatchOption, Some, [], true};
 ghost use Rattle.std.specs.Str.{chars};
 
 use crate::pattern::{is_ordinary, longest_run};
 use crate::places::place_from;
-use cq_values::Text;
 use memchr::memmem::Finder;
-use std::alloc::{AllocError, Global};
 
 /// A run of ordinary signs, and the signs around it: each of those between the first `%` and the run stands for one
 /// character. A text that has the run nowhere does not fit.
 #[derive(Drop)]
-pub(crate) struct Around {
-    front: Text,
-    run: Finder<'static>,
-    rest: Text,
+pub(crate) struct Around<'p> {
+    front: &'p str,
+    run: Finder<'p>,
+    rest: &'p str,
 }
 
-impl Around {
+impl<'p> Around<'p> {
     /// The parts of the pattern, if it is a piece between two `%`s with an ordinary sign in it.
-    pub(crate) fn of(alloc: Global, pattern: &str) -> Result<Option<Around>, AllocError>
-        ensures { IfOk result (λ found. IfSome found (λ around. IsAroundOf around pattern.now)) }
+    pub(crate) fn of(pattern: &'p str) -> Option<Around<'p>>
+        ensures { IfSome result (λ around. IsAroundOf around pattern.now) }
     {
         let Some(tail) = pattern.strip_prefix('%') else {
-            return Ok(None);
+            return None;
         };
         let run = longest_run(tail);
         let Some((front, rest)) = tail.split_once(run) else {
-            return Ok(None);
+            return None;
         };
         if run.is_empty() || !is_ordinary(run) || !are_single(front) || !is_last(rest) {
-            return Ok(None);
+            return None;
         }
-        Ok(Some(Around {
-            front: Text::new(alloc, front)?,
-            run: Finder::new(run.as_bytes()).into_owned(alloc)?,
-            rest: Text::new(alloc, rest)?,
-        }))
+        Some(Around {
+            front,
+            run: Finder::new(run.as_bytes()),
+            rest,
+        })
     }
 
-    pub(crate) fn run(&self) -> &Finder<'static>
+    pub(crate) fn run(&self) -> &Finder<'p>
         ensures { result.now ≡ self.now.run }
     {
         &self.run
@@ -71,8 +69,7 @@ impl Around {
         ensures { result ≡ fits_around self.now text.now place }
     {
         let behind = place + self.run.needle().len();
-        fits_end(self.front.as_str(), &text[..place])
-            && fits_whole(self.rest.as_str(), &text[behind..])
+        fits_end(self.front, &text[..place]) && fits_whole(self.rest, &text[behind..])
     }
 }
 

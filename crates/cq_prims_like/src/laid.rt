@@ -11,7 +11,7 @@ use memchr::memmem::Finder;
 const ROOM: usize = 4096;
 
 /// The first place of the run in each of 64 texts, if they are short.
-pub fn first_places(run: &Finder<'static>, texts: &[&str]) -> Option<[Option<usize>; 64]>
+pub fn first_places(run: &Finder<'_>, texts: &[&str]) -> Option<[Option<usize>; 64]>
     requires { length texts.now ≡ 64 }
     ensures { IfSome result (λ places. FindsInEach run.now (texts_of texts.now) places) }
 {
@@ -44,7 +44,7 @@ fn put(text: &[u8], len: usize, room: &mut [u8; ROOM])
 }
 
 /// The first place of the run in each of the texts, which are the bytes one behind the other.
-fn places_in(run: &Finder<'static>, texts: &[&str], bytes: &[u8]) -> [Option<usize>; 64]
+fn places_in(run: &Finder<'_>, texts: &[&str], bytes: &[u8]) -> [Option<usize>; 64]
     requires many { length texts.now ≡ 64 }
     requires laid { bytes.now ≡ concat (texts_of texts.now) }
     requires few { length bytes.now ≤ 4096 }

@@ -11,51 +11,54 @@ ghost use Rattle.std.specs.Str.{chars};
 use crate::around::Around;
 use crate::pieces::{pieces_of, stand_from};
 use crate::sought::Sought;
-use cq_values::Text;
 use memchr::memmem::Finder;
 use std::alloc::{AllocError, Global};
 use std::marker::Model;
 
 /// A pattern, which contracts see as its bytes. `%` stands for any characters, and `_` for one.
 #[derive(Drop)]
-pub struct Pattern {
-    text: Text,
-    form: PatternForm,
+pub struct Pattern<'p> {
+    text: &'p str,
+    form: PatternForm<'p>,
 }
 
 /// What a text has to do with the ordinary signs of the pattern. Between `%`s, with one at each end, they are pieces,
 /// one behind the other. With two `%`s, one at each end, there may be `_` around the longest run. Of any other pattern
 /// the text has at least a run.
 #[derive(Drop)]
-pub(crate) enum PatternForm {
-    Whole(Text),
-    Prefix(Text),
-    Suffix(Text),
-    Infix(Finder<'static>),
-    Pieces(Vec<Finder<'static>>),
-    Around(Around),
-    Having(Finder<'static>),
+pub(crate) enum PatternForm<'p> {
+    Whole(&'p str),
+    Prefix(&'p str),
+    Suffix(&'p str),
+    Infix(Finder<'p>),
+    Pieces(Vec<Finder<'p>>),
+    Around(Around<'p>),
+    Having(Finder<'p>),
     Other,
 }
 
-impl Model for Pattern {
+impl<'p> Model for Pattern<'p> {
     ghost use Rattle.std.specs.Prelude.{List, ℕ};
+    ghost use Rattle.std.specs.Str.{IsUtf8};
     ghost use Rattle.cq_prims_like.specs.Patterns.{IsFormOf};
 
     ghost Value = { List ℕ };
 
-    ghost view = { λ p. p.text };
+    ghost view = { λ p. p.text.now };
 
-    ghost invariant = { λ p. IsFormOf p.form p.text };
+    ghost invariant = { λ p. IsUtf8 p.text.now × IsFormOf p.form p.text.now };
 }
 
-impl Pattern {
-    pub fn new(alloc: Global, pattern: &str) -> Result<Pattern, AllocError>
+impl<'p> Pattern<'p> {
+    /// Lends the pattern: memory is taken for the pieces of one with several alone.
+    pub fn new(alloc: Global, pattern: &'p str) -> Result<Pattern<'p>, AllocError>
         ensures { IfOk result (λ p. p ≡ pattern.now) }
     {
-        let text = Text::new(alloc, pattern)?;
         let form = form_of(alloc, pattern)?;
-        Ok(Pattern { text, form })
+        Ok(Pattern {
+            text: pattern,
+            form,
+        })
     }
 
     /// Whether the pattern fits the text.
@@ -64,7 +67,7 @@ impl Pattern {
     {
         match self.sought() {
             Some(sought) => sought.fits(text, sought.run().find(text.as_bytes())),
-            None => self.form.fits(self.text.as_str(), text),
+            None => self.form.fits(self.text, text),
         }
     }
 
@@ -72,7 +75,7 @@ impl Pattern {
     pub fn sought(&self) -> Option<Sought<'_>>
         ensures { IfSome result (λ sought. sought.pattern ≡ self.now) }
     {
-        Sought::of(self.text.as_str(), &self.form)
+        Sought::of(self.text, &self.form)
     }
 
     /// What a text has to begin with, where that is all that the pattern asks.
@@ -80,15 +83,15 @@ impl Pattern {
         ensures { IfSome result (λ front. IsFrontOf front.now self.now) }
     {
         match &self.form {
-            PatternForm::Prefix(front) => Some(front.as_str()),
+            PatternForm::Prefix(front) => Some(front),
             _ => None,
         }
     }
 }
 
-impl PatternForm {
+impl<'p> PatternForm<'p> {
     /// The run of bytes that a text has to have, if one is sought.
-    pub(crate) fn run(&self) -> Option<&Finder<'static>>
+    pub(crate) fn run(&self) -> Option<&Finder<'p>>
         ensures { option_copied result ≡ run_of self.now }
     {
         match self {
@@ -106,9 +109,9 @@ impl PatternForm {
         ensures { result ≡ like (chars pattern.now) (chars text.now) }
     {
         match self {
-            PatternForm::Whole(whole) => text == whole.as_str(),
-            PatternForm::Prefix(front) => text.starts_with(front.as_str()),
-            PatternForm::Suffix(end) => text.ends_with(end.as_str()),
+            PatternForm::Whole(whole) => text == *whole,
+            PatternForm::Prefix(front) => text.starts_with(*front),
+            PatternForm::Suffix(end) => text.ends_with(*end),
             _ => cq_model_eval::like(pattern, text),
         }
     }
@@ -128,54 +131,53 @@ impl PatternForm {
     }
 }
 
-fn form_of(alloc: Global, pattern: &str) -> Result<PatternForm, AllocError>
+fn form_of<'p>(alloc: Global, pattern: &'p str) -> Result<PatternForm<'p>, AllocError>
     ensures { IfOk result (λ form. IsFormOf form pattern.now) }
 {
     if is_ordinary(pattern) {
-        return Ok(PatternForm::Whole(Text::new(alloc, pattern)?));
+        return Ok(PatternForm::Whole(pattern));
     }
     if let Some(front) = pattern.strip_suffix('%') {
         if is_ordinary(front) {
-            return Ok(PatternForm::Prefix(Text::new(alloc, front)?));
+            return Ok(PatternForm::Prefix(front));
         }
     }
     if let Some(rest) = pattern.strip_prefix('%') {
         if is_ordinary(rest) {
-            return Ok(PatternForm::Suffix(Text::new(alloc, rest)?));
+            return Ok(PatternForm::Suffix(rest));
         }
         if let Some(part) = rest.strip_suffix('%') {
             if is_ordinary(part) {
-                let finder = Finder::new(part.as_bytes());
-                return Ok(PatternForm::Infix(finder.into_owned(alloc)?));
+                return Ok(PatternForm::Infix(Finder::new(part.as_bytes())));
             }
         }
     }
     match pieces_of(alloc, pattern)? {
         Some(pieces) => Ok(PatternForm::Pieces(pieces)),
-        None => form_around(alloc, pattern),
+        None => Ok(form_around(pattern)),
     }
 }
 
 /// The form of a pattern by the signs around its longest run, or else by the run alone.
-fn form_around(alloc: Global, pattern: &str) -> Result<PatternForm, AllocError>
-    ensures { IfOk result (λ form. IsFormOf form pattern.now) }
+fn form_around(pattern: &str) -> PatternForm<'_>
+    ensures { IsFormOf result pattern.now }
 {
-    match Around::of(alloc, pattern)? {
-        Some(around) => Ok(PatternForm::Around(around)),
-        None => form_by_run(alloc, pattern),
+    match Around::of(pattern) {
+        Some(around) => PatternForm::Around(around),
+        None => form_by_run(pattern),
     }
 }
 
 /// The form of a pattern by its longest run of ordinary signs.
-fn form_by_run(alloc: Global, pattern: &str) -> Result<PatternForm, AllocError>
-    ensures { IfOk result (λ form. IsFormOf form pattern.now) }
+fn form_by_run(pattern: &str) -> PatternForm<'_>
+    ensures { IsFormOf result pattern.now }
 {
     let run = longest_run(pattern);
     let finder = Finder::new(run.as_bytes());
     if is_ordinary(run) && finder.find(pattern.as_bytes()).is_some() {
-        return Ok(PatternForm::Having(finder.into_owned(alloc)?));
+        return PatternForm::Having(finder);
     }
-    Ok(PatternForm::Other)
+    PatternForm::Other
 }
 
 /// The longest run of ordinary signs. No answer depends on which it is.

@@ -7,10 +7,10 @@ use memchr::memmem::Finder;
 use std::alloc::{AllocError, Global};
 
 /// The pieces of the pattern, if it has no `_`, and a `%` at each end.
-pub(crate) fn pieces_of(
+pub(crate) fn pieces_of<'p>(
     alloc: Global,
-    pattern: &str,
-) -> Result<Option<Vec<Finder<'static>>>, AllocError>
+    pattern: &'p str,
+) -> Result<Option<Vec<Finder<'p>>>, AllocError>
     ensures { IfOk result (λ found. IfSome found (λ pieces. ArePiecesOf pieces.items pattern.now)) }
 {
     let Some(mut rest) = pattern.strip_prefix('%') else {
@@ -21,7 +21,7 @@ pub(crate) fn pieces_of(
         if !is_ordinary(piece) {
             return Ok(None);
         }
-        pieces.push(Finder::new(piece.as_bytes()).into_owned(alloc)?)?;
+        pieces.push(Finder::new(piece.as_bytes()))?;
         rest = more;
     }
     if rest.is_empty() {
@@ -32,7 +32,7 @@ pub(crate) fn pieces_of(
 }
 
 /// Whether the pieces stand in the text one behind the other, where the first of them has this first place.
-pub(crate) fn stand_from(pieces: &[Finder<'static>], text: &[u8], first: usize) -> bool
+pub(crate) fn stand_from(pieces: &[Finder<'_>], text: &[u8], first: usize) -> bool
     requires { HasFirstPlace (slice_get pieces.now 0) text.now first }
     ensures { IsTrue result ↔ StandIn pieces.now text.now }
 {
@@ -43,7 +43,7 @@ pub(crate) fn stand_from(pieces: &[Finder<'static>], text: &[u8], first: usize) 
 }
 
 /// Whether the pieces stand in the text one behind the other. The first place of a piece leaves the most to the others.
-pub(crate) fn stand_in(pieces: &[Finder<'static>], text: &[u8]) -> bool
+pub(crate) fn stand_in(pieces: &[Finder<'_>], text: &[u8]) -> bool
     ensures { IsTrue result ↔ StandIn pieces.now text.now }
 {
     let mut rest = text;

@@ -7,7 +7,7 @@ ghost use Rattle.std.specs.Prelude.{◌+◌, ◌<◌, ◌^◌, ◌≤◌, IfSome
 use memchr::memmem::Finder;
 
 /// The first place of the run that does not lie before this one.
-pub(crate) fn place_from(run: &Finder<'static>, bytes: &[u8], from: usize) -> Option<usize>
+pub(crate) fn place_from(run: &Finder<'_>, bytes: &[u8], from: usize) -> Option<usize>
     requires { from ≤ length bytes.now }
     ensures { FindsNeedle bytes.now run.now from result }
 {
@@ -17,7 +17,7 @@ pub(crate) fn place_from(run: &Finder<'static>, bytes: &[u8], from: usize) -> Op
 
 /// The first place of the run from the start on, where the first from some place before it is known.
 pub(crate) fn next_from(
-    run: &Finder<'static>,
+    run: &Finder<'_>,
     bytes: &[u8],
     start: usize,
     next: Option<usize>,
@@ -34,7 +34,7 @@ pub(crate) fn next_from(
 
 /// The first place of the run in the text from `start` to `end`, where the first from `start` on is known.
 pub(crate) fn place_within(
-    run: &Finder<'static>,
+    run: &Finder<'_>,
     start: usize,
     end: usize,
     next: Option<usize>,
@@ -51,7 +51,7 @@ pub(crate) fn place_within(
 }
 
 /// Whether the place leaves the run room before the end. By `false` a text that ends there has the run nowhere.
-pub(crate) fn ends_by(run: &Finder<'static>, end: usize, next: Option<usize>) -> bool
+pub(crate) fn ends_by(run: &Finder<'_>, end: usize, next: Option<usize>) -> bool
     requires { IfSome next (λ place. place + length run.now < 2 ^ 64) }
     ensures { OnFalse result (IfSome next (λ place. end < place + length run.now)) }
 {

@@ -16,8 +16,8 @@ use std::marker::Model;
 #[derive(Drop)]
 pub struct Sought<'a> {
     pattern: &'a str,
-    form: &'a PatternForm,
-    run: &'a Finder<'static>,
+    form: &'a PatternForm<'a>,
+    run: &'a Finder<'a>,
 }
 
 impl<'a> Model for Sought<'a> {
@@ -34,7 +34,7 @@ impl<'a> Model for Sought<'a> {
 
 impl<'a> Sought<'a> {
     /// The pattern of this form by its run, if there is one.
-    pub(crate) fn of(pattern: &'a str, form: &'a PatternForm) -> Option<Sought<'a>>
+    pub(crate) fn of(pattern: &'a str, form: &'a PatternForm<'a>) -> Option<Sought<'a>>
         requires { IsFormOf form.now pattern.now }
         ensures { IfSome result (λ sought. sought.pattern ≡ pattern.now) }
     {
@@ -42,7 +42,7 @@ impl<'a> Sought<'a> {
         Some(Sought { pattern, form, run })
     }
 
-    pub fn run(&self) -> &'a Finder<'static>
+    pub fn run(&self) -> &'a Finder<'a>
         ensures { result.now ≡ self.now.run }
     {
         self.run

@@ -2,5 +2,5 @@ pub mod Known
 pub mod Bytes
 pub mod Shown
 pub mod Liked
-pub mod ByEntries
-pub mod Passed
+pub mod RunTruths
+pub mod NamedTruths

@@ -4,4 +4,4 @@ pub mod Kinds
 pub mod Pairs
 pub mod NoText
 pub mod Fits
-pub mod Passed
+pub mod Named

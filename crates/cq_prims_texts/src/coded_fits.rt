@@ -12,7 +12,7 @@ use cq_vectors_masks::{PlaceTest, WordTest, answers};
 #[derive(Drop)]
 pub(crate) struct CodedFits<'a> {
     pub(crate) texts: CodedTexts<'a>,
-    pub(crate) pattern: &'a Pattern,
+    pub(crate) pattern: &'a Pattern<'a>,
 }
 
 impl<'a> PlaceTest for CodedFits<'a> {

@@ -1,58 +1,60 @@
-//! Tests of the entries of texts, each asked once for all places that have the entry.
-ghost use Rattle.cq_prims_texts.specs.Fits.{fits_at};
-ghost use Rattle.cq_prims_texts.specs.Passed.{entry_passes};
-ghost use Rattle.std.specs.Prelude.{length};
+//! Conditions of the entries of texts, each asked once for all places that have the entry.
+ghost use Rattle.cq_model.specs.Condition.{liked};
+ghost use Rattle.cq_values.specs.Comparison.{compared};
+ghost use Rattle.cq_values.specs.declared.truth.Truth.{Truth as Known};
+ghost use Rattle.cq_values.specs.declared.truth.Truth.TheVariants.{Unknown};
+ghost use Rattle.cq_values.specs.declared.value.Value.{Value};
+ghost use Rattle.cq_values.specs.declared.value.Value.TheVariants.{Null, Text};
+ghost use Rattle.std.specs.Prelude.{refl, ◌≡◌};
 
 use cq_model_eval::compare;
 use cq_prims_like::Pattern;
-use cq_values::{Comparison, Lent};
-use cq_vectors_masks::{PlaceTest, WordTest, answers};
-use cq_vectors_stored::TextRun;
+use cq_values::{Comparison, Lent, Truth};
 
-/// Whether the comparison of an entry with the text is True.
+/// A condition of a text.
+pub(crate) trait EntryTest {
+    ghost truth: { Self → Value → Known };
+
+    /// It is not known of NULL.
+    ghost unknown: { (test : Self) → truth test Null ≡ Unknown };
+
+    fn ask(&self, entry: &str) -> Truth
+        ensures { result ≡ truth self.now (Text entry.now) };
+}
+
+/// The comparison with a text.
 #[derive(Drop)]
 pub(crate) struct EntryCompared<'a> {
     pub(crate) comparison: Comparison,
-    pub(crate) entries: &'a TextRun,
     pub(crate) text: &'a str,
 }
 
-impl<'a> PlaceTest for EntryCompared<'a> {
-    ghost places = { λ t. length t.entries.now };
+impl EntryTest for EntryCompared<'_> {
+    ghost truth = { λ t value. compared t.comparison value (Text t.text.now) };
 
-    ghost holds = { λ t. entry_passes t.comparison t.entries.now t.text.now };
+    ghost unknown = { λ t. refl };
 
-    fn at(&self, i: usize) -> bool {
-        let entry = Lent::Text(self.entries.get(i));
-        compare(self.comparison, &entry, &Lent::Text(self.text)).is_true()
+    fn ask(&self, entry: &str) -> Truth {
+        compare(self.comparison, &Lent::Text(entry), &Lent::Text(self.text))
     }
 }
 
-impl<'a> WordTest for EntryCompared<'a> {
-    fn word(&self, from: usize) -> u64 {
-        answers(self, from, 64)
-    }
-}
-
-/// Whether an entry fits the pattern.
+/// Whether a text fits the pattern.
 #[derive(Drop)]
 pub(crate) struct EntryFits<'a> {
-    pub(crate) entries: &'a TextRun,
-    pub(crate) pattern: &'a Pattern,
+    pub(crate) pattern: &'a Pattern<'a>,
 }
 
-impl<'a> PlaceTest for EntryFits<'a> {
-    ghost places = { λ t. length t.entries.now };
+impl EntryTest for EntryFits<'_> {
+    ghost truth = { λ t value. liked value t.pattern.now };
 
-    ghost holds = { λ t. fits_at t.pattern.now t.entries.now };
+    ghost unknown = { λ t. refl };
 
-    fn at(&self, i: usize) -> bool {
-        self.pattern.fits(self.entries.get(i))
-    }
-}
-
-impl<'a> WordTest for EntryFits<'a> {
-    fn word(&self, from: usize) -> u64 {
-        answers(self, from, 64)
+    fn ask(&self, entry: &str) -> Truth {
+        if self.pattern.fits(entry) {
+            Truth::True
+        } else {
+            Truth::False
+        }
     }
 }

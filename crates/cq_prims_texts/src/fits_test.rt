@@ -13,7 +13,7 @@ use cq_vectors_masks::{PlaceTest, WordTest, answers};
 #[derive(Drop)]
 pub(crate) struct FitsTest<'a> {
     pub(crate) a: &'a Vector<'a>,
-    pub(crate) pattern: &'a Pattern,
+    pub(crate) pattern: &'a Pattern<'a>,
 }
 
 impl<'a> PlaceTest for FitsTest<'a> {

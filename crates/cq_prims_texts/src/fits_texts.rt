@@ -12,7 +12,7 @@ use cq_vectors_masks::{PlaceTest, WordTest, answers};
 #[derive(Drop)]
 pub(crate) struct FitsTexts<'a> {
     pub(crate) texts: &'a [&'a str],
-    pub(crate) pattern: &'a Pattern,
+    pub(crate) pattern: &'a Pattern<'a>,
 }
 
 impl<'a> PlaceTest for FitsTexts<'a> {
@@ -58,7 +58,7 @@ impl<'a> FitsTexts<'a> {
 #[derive(Drop)]
 struct BeginsTexts<'a> {
     texts: &'a [&'a str],
-    pattern: &'a Pattern,
+    pattern: &'a Pattern<'a>,
     front: &'a str,
     ghost is: { IsFrontOf front.now pattern.now },
 }

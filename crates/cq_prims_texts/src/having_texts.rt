@@ -9,7 +9,7 @@ use cq_prims_like::{Sought, first_places};
 use cq_vectors_masks::{PlaceTest, answers};
 
 /// The answers for 64 texts, the first in the lowest bit, if they are short.
-pub(crate) fn word_by_run<'a>(sought: &'a Sought<'a>, texts: &'a [&'a str]) -> Option<u64>
+pub(crate) fn word_by_run(sought: &Sought<'_>, texts: &[&str]) -> Option<u64>
     requires { length texts.now ≡ 64 }
     ensures { IfSome result (λ word. word ≡ answers_of sought.now.pattern (texts_of texts.now) 0) }
 {
@@ -24,15 +24,15 @@ pub(crate) fn word_by_run<'a>(sought: &'a Sought<'a>, texts: &'a [&'a str]) -> O
 
 /// Whether the text of a place fits the pattern, where the first place of the run is known in each text.
 #[derive(Drop)]
-struct HavingTexts<'a> {
-    sought: &'a Sought<'a>,
-    texts: &'a [&'a str],
+struct HavingTexts<'s, 'p, 't> {
+    sought: &'s Sought<'p>,
+    texts: &'s [&'t str],
     places: [Option<usize>; 64],
     ghost many: { length texts.now ≡ 64 },
     ghost found: { FindsInEach sought.now.run (texts_of texts.now) places } by { Prim.hlevel props },
 }
 
-impl<'a> PlaceTest for HavingTexts<'a> {
+impl PlaceTest for HavingTexts<'_, '_, '_> {
     ghost places = { λ t. length t.texts.now };
 
     ghost holds = { λ t. fits_at t.sought.now.pattern (texts_of t.texts.now) };

@@ -18,7 +18,7 @@ use cq_vectors_masks::{Plane, TruthMask};
 use cq_vectors_stored::{Codes, RunTexts};
 
 /// Whether the text of each place fits the pattern, and Unknown where there is no text.
-pub fn like(a: &Vector<'_>, pattern: &Pattern, to: &mut TruthMask)
+pub fn like(a: &Vector<'_>, pattern: &Pattern<'_>, to: &mut TruthMask)
     ensures { to.new ≡ map (λ v. liked v pattern.now) a.now }
 {
     match a.form() {
@@ -39,7 +39,7 @@ pub fn like(a: &Vector<'_>, pattern: &Pattern, to: &mut TruthMask)
 }
 
 /// Whether the text fits the pattern, and Unknown where the value is no text.
-fn like_one(value: &Lent<'_>, pattern: &Pattern) -> Truth
+fn like_one(value: &Lent<'_>, pattern: &Pattern<'_>) -> Truth
     ensures { result ≡ liked (owned value.now) pattern.now }
 {
     match value {
@@ -55,7 +55,7 @@ fn like_one(value: &Lent<'_>, pattern: &Pattern) -> Truth
 }
 
 /// The same for the texts of a run.
-fn like_run(part: &RunTexts<'_>, pattern: &Pattern, to: &mut TruthMask)
+fn like_run(part: &RunTexts<'_>, pattern: &Pattern<'_>, to: &mut TruthMask)
     ensures { to.new ≡ map (λ v. liked v pattern.now) part.now }
 {
     let (texts, start) = part.parts();
@@ -74,7 +74,7 @@ fn like_run(part: &RunTexts<'_>, pattern: &Pattern, to: &mut TruthMask)
 }
 
 /// The same for texts by their codes, where the entries are too many to ask each.
-fn like_codes<'a>(texts: &'a Codes<'a>, pattern: &'a Pattern, to: &mut TruthMask)
+fn like_codes<'a>(texts: &'a Codes<'a>, pattern: &'a Pattern<'a>, to: &mut TruthMask)
     ensures { to.new ≡ map (λ v. liked v pattern.now) texts.now }
 {
     let (entries, codes) = texts.parts();
@@ -88,7 +88,7 @@ fn like_codes<'a>(texts: &'a Codes<'a>, pattern: &'a Pattern, to: &mut TruthMask
 }
 
 /// The same for values of any kind, one by one.
-fn like_lent(a: &Vector<'_>, pattern: &Pattern, to: &mut TruthMask)
+fn like_lent(a: &Vector<'_>, pattern: &Pattern<'_>, to: &mut TruthMask)
     ensures { to.new ≡ map (λ v. liked v pattern.now) a.now }
 {
     let mut no_text = Plane::new();

@@ -15,7 +15,7 @@ pub(crate) struct RunFits<'a> {
     pub(crate) texts: &'a TextRun,
     pub(crate) start: usize,
     pub(crate) len: usize,
-    pub(crate) pattern: &'a Pattern,
+    pub(crate) pattern: &'a Pattern<'a>,
     ghost there: { start + len ≤ length texts.now },
     ghost few: { start + len ≤ 65536 },
 }

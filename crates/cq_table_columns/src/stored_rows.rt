@@ -3,17 +3,18 @@
 //! What a scan goes on with: rows of a list, a whole front, or some places of one or of a segment. `gather` gives a column
 //! as a vector, `at` and `at_each` keep the rows at some places, `into_rows` lists them. Of a front a column is read as it
 //! stands, and no call copies a value that it does not give.
-ghost use Rattle.std.specs.Prelude.{◌≡◌, ◌≤◌, IfOk, length};
+ghost use Rattle.std.specs.Prelude.{◌≡◌, ◌≤◌, IfOk, IfSome, length};
 ghost use Rattle.cq_encodings_vectors.specs.Places.{AreBelow, rows_at};
 ghost use Rattle.cq_segments_pieces.specs.Rows.{stored_rows};
 ghost use Rattle.cq_table_columns.specs.Rows.{rows_in};
+ghost use Rattle.cq_table_columns.specs.Stored.{front_rows};
 ghost use Rattle.cq_vectors.specs.Gathered.{column_of};
 
 use crate::chosen::Chosen;
 use crate::front::Front;
 use crate::gathering::gather;
 use crate::placed::Placed;
-use crate::places::{lent_at, lent_each};
+use crate::places::{are_all, lent_at, lent_each};
 use cq_segments_pieces::StoredRow;
 use cq_vectors::Vector;
 use std::alloc::{AllocError, Global};
@@ -52,14 +53,17 @@ impl<'a> StoredRows<'a> {
         }
     }
 
-    /// Those at some places.
+    /// Those at some places. All of a front stay where they are.
     pub fn at(&self, alloc: Global, places: &[u16]) -> Result<StoredRows<'a>, AllocError>
         requires { AreBelow (length (rows_in self.now)) places.now }
         ensures { IfOk result (λ rows. rows_in rows ≡ rows_at (rows_in self.now) places.now) }
     {
         match self {
             StoredRows::Listed(rows) => Ok(StoredRows::Listed(lent_at(alloc, rows, places)?)),
-            StoredRows::Front(front) => Ok(StoredRows::Chosen(Chosen::of(alloc, front, places)?)),
+            StoredRows::Front(front) => match all_of(front, places) {
+                Some(all) => Ok(StoredRows::Front(all)),
+                None => Ok(StoredRows::Chosen(Chosen::of(alloc, front, places)?)),
+            },
             StoredRows::Chosen(chosen) => Ok(StoredRows::Chosen(chosen.at(alloc, places)?)),
             StoredRows::Placed(placed) => Ok(StoredRows::Placed(placed.at(alloc, places)?)),
         }
@@ -110,5 +114,19 @@ impl<'a> StoredRows<'a> {
             StoredRows::Chosen(chosen) => chosen.rows(alloc),
             StoredRows::Placed(placed) => placed.rows(alloc),
         }
+    }
+}
+
+/// The rows of a front at some places, where it stands in columns and these are all of them.
+fn all_of<'a>(front: &Front<'a>, places: &[u16]) -> Option<Front<'a>>
+    ensures { IfSome result (λ all. front_rows all ≡ rows_at (front_rows front.now) places.now) }
+{
+    match front {
+        Front::Columns(columns) => if are_all(places, columns.len()) {
+            Some(Front::Columns(*columns))
+        } else {
+            None
+        },
+        _ => None,
     }
 }

@@ -4,6 +4,7 @@ mod columns;
 mod joins;
 mod kernels;
 mod masks;
+mod named;
 mod parts;
 mod patterns;
 mod plans;

@@ -9,7 +9,7 @@ use cq_model_step::Answer;
 use cq_sql::{parse, split};
 use cq_test_plain::PlainFault;
 use cq_values::Row;
-use cq_values_rows::RowList;
+use cq_values_rows::{LentRow, RowList};
 use std::alloc::Global;
 
 /// How many queries of a script both engines answer alike, or the first statement that sets them apart.
@@ -122,7 +122,7 @@ fn are_meant(rows: &RowList, meant: &[Row]) -> bool {
         return false;
     }
     for (place, row) in meant.iter().enumerate() {
-        if rows.row(place) != row.as_slice() {
+        if rows.row(place).cmp(&LentRow::of(row.as_slice())).is_ne() {
             return false;
         }
     }

@@ -1,2 +1,4 @@
+pub mod Columns
 pub mod Cutting
 pub mod InTurn
+pub mod Lasts

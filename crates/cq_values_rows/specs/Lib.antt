@@ -1,2 +1,4 @@
+pub mod Columns
 pub mod Flat
+pub mod LentRow
 pub mod RowList

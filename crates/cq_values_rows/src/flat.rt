@@ -3,6 +3,7 @@ ghost use Rattle.std.specs.Prelude.{◌++◌, ◌<◌, ◌≤◌, ◌∷◌, ◌
 ghost use Rattle.std.specs.Vec.Iter.{into_iter_items};
 ghost use Rattle.cq_values_rows.specs.Flat.{AreRisingFrom, IsPlaced, last_end, rows_from};
 
+use crate::lent_row::LentRow;
 use cq_values::{Row, Value};
 use std::alloc::{AllocError, Global};
 use std::marker::Model;
@@ -80,6 +81,18 @@ impl FlatRows {
             self.push(value.copy(alloc)?)?;
         }
         Ok(())
+    }
+
+    /// Puts a copy of a row behind the others. After an error some of its values are begun.
+    pub fn push_row(&mut self, alloc: Global, row: &LentRow<'_>) -> Result<(), AllocError>
+        requires { self.old.begun ≡ [] }
+        ensures rows { OnOk result (self.new.rows ≡ self.old.rows ++ row.now ∷ []) }
+        ensures begun { OnOk result (self.new.begun ≡ []) }
+    {
+        for at in 0..row.len() {
+            self.push(row.lend(at).to_value(alloc)?)?;
+        }
+        self.end_row()
     }
 
     /// Ends the row that is begun. The next one begins behind it.

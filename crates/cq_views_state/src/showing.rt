@@ -52,7 +52,7 @@ fn shown_groups(alloc: Global, query: &Query, groups: &Groups) -> Result<RowList
     ensures fault { IfErr result (TellsOutOfRange query.now (AsGroups groups.now)) }
 {
     let rows = all_rows(alloc, query, groups)?;
-    Ok(item_rows(alloc, query.items.as_slice(), RowList::flat(rows))?)
+    Ok(item_rows(alloc, query.items.as_slice(), rows)?)
 }
 
 /// The row of each group that has rows, and without GROUP BY one row always.
@@ -98,21 +98,22 @@ fn value_of_nothing(aggregate: &Aggregate) -> Value
 }
 
 /// The items in each of the rows. Where they are just its columns, the rows are kept as they are.
-fn item_rows(alloc: Global, items: &[Expr], rows: RowList) -> Result<RowList, AllocError>
-    requires { AllByRecursion (AreNarrowAt items.now) rows }
-    ensures { IfOk result (λ shown. shown ≡ map (items_of items.now) rows) }
+fn item_rows(alloc: Global, items: &[Expr], rows: FlatRows) -> Result<RowList, AllocError>
+    requires { AllByRecursion (AreNarrowAt items.now) rows.rows }
+    ensures { IfOk result (λ shown. shown ≡ map (items_of items.now) rows.rows) }
 {
+    let rows = RowList::flat(rows);
     if show_whole_rows(items, &rows) {
         Ok(rows)
     } else {
-        Ok(RowList::listed(worked_out(alloc, items, &rows)?))
+        Ok(RowList::listed(worked_out(alloc, items, &rows.into_flat(alloc)?)?))
     }
 }
 
 /// The items, worked out in each of the rows.
-fn worked_out(alloc: Global, items: &[Expr], rows: &RowList) -> Result<Vec<Row>, AllocError>
-    requires { AllByRecursion (AreNarrowAt items.now) rows.now }
-    ensures { IfOk result (λ shown. shown.items ≡ map (items_of items.now) rows.now) }
+fn worked_out(alloc: Global, items: &[Expr], rows: &FlatRows) -> Result<Vec<Row>, AllocError>
+    requires { AllByRecursion (AreNarrowAt items.now) rows.now.rows }
+    ensures { IfOk result (λ shown. shown.items ≡ map (items_of items.now) rows.now.rows) }
 {
     rows_come_in_turn();
     let mut shown = Vec::with_capacity(alloc, rows.len())?;

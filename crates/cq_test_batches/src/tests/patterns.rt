@@ -52,7 +52,7 @@ const LIKES: &[(usize, &str, &str)] = &[
 fn check_likes(
     rt: &impl Abort,
     alloc: Global,
-    pattern: &Pattern,
+    pattern: &Pattern<'_>,
     kind: char,
     (len, first, last): (usize, &str, &str),
 ) -> Result<(), Fail> {
@@ -69,7 +69,7 @@ fn check_likes(
 }
 
 /// Texts of each length, and numbers, which are like no pattern and not unlike it either.
-fn check_both(rt: &impl Abort, alloc: Global, pattern: &Pattern) -> Result<(), Fail> {
+fn check_both(rt: &impl Abort, alloc: Global, pattern: &Pattern<'_>) -> Result<(), Fail> {
     for case in LIKES {
         check_likes(rt, alloc, pattern, 't', *case)?;
     }

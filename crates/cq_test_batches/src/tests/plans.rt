@@ -1,19 +1,28 @@
-//! Plans over rows of the lengths at which batches end, with NULL in the first row and in the last.
-ghost use Rattle.std.specs.Prelude.{◌≡◌, ◌∷◌, [], IfOk};
+//! Queries that are worked out step by step, over rows of the lengths at which batches end, with NULL at both ends.
+ghost use Rattle.std.specs.Prelude.{◌≡◌, ◌∷◌, [], IfOk, List};
+ghost use Rattle.cq_operators.specs.Selected.{rows_of_all};
+ghost use Rattle.cq_plan.specs.Chain.{HaveValues};
 ghost use Rattle.cq_model.specs.Expr as terms;
+ghost use Rattle.cq_model.specs.declared.query.Shape.TheVariants.{Plain};
 ghost use Rattle.cq_model.specs.Width.{IsNarrowIn};
 ghost use Rattle.cq_values.specs.Value.{Row as Values};
 
 use cq_model::{Cond, CondTree, Expr, ExprTree, Order, Query, Shape, Source};
-use cq_operators::listed_rows;
-use cq_plan::Plan;
+use cq_model_eval::narrow_is_exact;
+use cq_operators::Exec;
+use cq_plan::plan;
 use cq_table_columns::Stored;
-use cq_values::{Row, Seq, Value};
+use cq_values::{Lent, Row, Seq, Value};
+use cq_values_rows::RowList;
+use cq_vectors::Batch;
+use cq_vectors_masks::Selection;
 use std::alloc::{AllocError, Global};
 use std::test::Fail;
 
 /// Rows of two values: the place, which is NULL in the first row and in the last, and the place again.
-fn numbered(alloc: Global, len: usize) -> Result<Vec<Row>, AllocError> {
+fn numbered(alloc: Global, len: usize) -> Result<Vec<Row>, AllocError>
+    ensures { IfOk result (λ rows. HaveValues 2 rows.items) }
+{
     let mut rows = Vec::new(alloc);
     for place in 0..len {
         let number = Value::Number(place as i128);
@@ -30,6 +39,8 @@ fn numbered(alloc: Global, len: usize) -> Result<Vec<Row>, AllocError> {
 fn both_columns(alloc: Global, filter: Option<Cond>) -> Result<Query, AllocError>
     ensures filter { IfOk result (λ q. q.filter ≡ filter) }
     ensures items { IfOk result (λ q. q.items ≡ terms.Column 1 ∷ terms.Column 0 ∷ []) }
+    ensures joins { IfOk result (λ q. q.joins ≡ []) }
+    ensures shape { IfOk result (λ q. q.shape ≡ Plain) }
 {
     match two_items(alloc) {
         Ok(items) => Ok(Query {
@@ -57,46 +68,96 @@ fn two_items(alloc: Global) -> Result<Seq<Expr>, AllocError>
     Ok(items)
 }
 
-/// What both columns show of rows of so many places, where the filter is True.
-fn shown(alloc: Global, filter: Option<Cond>, len: usize) -> Result<Vec<Row>, Fail>
-    requires { (row : Values) → IsNarrowIn filter row }
-{
-    let query = both_columns(alloc, filter)?;
-    let shown = shown_by(alloc, &query, len);
-    drop(query);
-    shown
-}
-
-/// The same by a query that shows both columns.
-fn shown_by(alloc: Global, query: &Query, len: usize) -> Result<Vec<Row>, Fail>
+/// How many rows each of five steps gives of the query on rows of so many places, and what the last of them shows: the
+/// second column, or -1 where no row came.
+fn steps_on(alloc: Global, query: &Query, len: usize) -> Result<(Vec<usize>, i128), Fail>
     requires filter { (row : Values) → IsNarrowIn query.now.filter row }
     requires items { query.now.items ≡ terms.Column 1 ∷ terms.Column 0 ∷ [] }
+    requires joins { query.now.joins ≡ [] }
+    requires shape { query.now.shape ≡ Plain }
 {
     let rows = numbered(alloc, len)?;
-    let plan = match Plan::of(alloc, query) {
-        Ok(plan) => plan,
-        Err(fault) => {
-            drop(rows);
-            return Err(Fail::from(fault));
-        }
-    };
     let order = Order {
         keys: Seq::new(alloc),
         limit: None,
     };
-    let shown = listed_rows(alloc, &plan, &order, Stored::of(&rows));
-    drop(plan);
+    let steps = steps_of(alloc, query, &order, &[Stored::of(&rows)]);
     drop(order);
     drop(rows);
-    Ok(shown?.into_rows(alloc)?)
+    steps
 }
 
-/// Whether the row at a place is this number, and then NULL.
-fn is_end(rows: &[Row], place: usize, number: i128) -> bool {
-    match rows.get(place) {
-        Some(row) => matches!(row.as_slice(), [Value::Number(n), Value::Null] if *n == number),
-        None => false,
+/// The same of rows that are lent.
+fn steps_of(
+    alloc: Global,
+    query: &Query,
+    order: &Order,
+    inputs: &[Stored<'_>],
+) -> Result<(Vec<usize>, i128), Fail>
+    requires filter { (row : Values) → IsNarrowIn query.now.filter row }
+    requires items { query.now.items ≡ terms.Column 1 ∷ terms.Column 0 ∷ [] }
+    requires joins { query.now.joins ≡ [] }
+    requires shape { query.now.shape ≡ Plain }
+    requires inputs { (rows : List Values) × (rows_of_all inputs.now ≡ rows ∷ []) × HaveValues 2 rows }
+{
+    narrow_is_exact();
+    let planned = plan(alloc, query, order, &[2])?;
+    let mut room = RowList::listed(Vec::new(alloc));
+    let mut exec = Exec::open(&planned, inputs, &mut room);
+    Ok(five_steps(alloc, &mut exec)?)
+}
+
+/// The same of a query that is opened.
+fn five_steps<'p>(
+    alloc: Global,
+    exec: &mut Exec<'p, '_, '_>,
+) -> Result<(Vec<usize>, i128), AllocError> {
+    let mut batch = Batch {
+        columns: Vec::new(alloc),
+        selection: Selection::new(),
+    };
+    let mut lengths = Vec::new(alloc);
+    let mut last = -1;
+    for _ in 0..5 {
+        let (length, number) = step(alloc, exec, &mut batch);
+        lengths.push(length)?;
+        last = number.unwrap_or(last);
     }
+    Ok((lengths, last))
+}
+
+/// How many rows the next step gives, and the first column in the last of them, if there are any.
+fn step<'p>(
+    alloc: Global,
+    exec: &mut Exec<'p, '_, '_>,
+    batch: &mut Batch<'p>,
+) -> (usize, Option<i128>) {
+    match exec.next(alloc, batch) {
+        Ok(true) => (batch.selection.len(), Some(last_number(batch))),
+        Ok(false) => (0, None),
+        Err(_) => (9_999, None),
+    }
+}
+
+/// The first column in the last row of a batch, if it has a number there.
+fn last_number(batch: &Batch<'_>) -> i128 {
+    match batch.columns.first() {
+        Some(column) if column.len() > 0 => match column.lend(column.len() - 1) {
+            Lent::Number(number) => number,
+            _ => -2,
+        },
+        _ => -3,
+    }
+}
+
+/// What five steps of a query for both columns give of rows of so many places, where the filter is True.
+fn steps(alloc: Global, filter: Option<Cond>, len: usize) -> Result<(Vec<usize>, i128), Fail>
+    requires { (row : Values) → IsNarrowIn filter row }
+{
+    let query = both_columns(alloc, filter)?;
+    let steps = steps_on(alloc, &query, len);
+    drop(query);
+    steps
 }
 
 /// Whether the first value is NULL.
@@ -107,15 +168,20 @@ fn first_is_null() -> Cond
 }
 
 #[test]
-fn each_row_is_shown_once_in_order(rt: HostRuntime) -> Result<(), Fail> {
-    for len in [0, 1, 1023, 1024, 1025, 2049] {
-        let rows = shown(rt.alloc(), None, len)?;
-        assert!(rt; rows.len() == len, "length {len}");
-        assert!(rt; len == 0 || is_end(&rows, 0, 0), "first of {len}");
-        assert!(rt;
-            len == 0 || is_end(&rows, len - 1, len as i128 - 1),
-            "last of {len}"
-        );
+fn each_row_is_given_once_and_then_none_for_ever(rt: HostRuntime) -> Result<(), Fail> {
+    // the length, what each step gives, and the last row's number
+    let cases = [
+        (0, [0, 0, 0, 0, 0], -1),
+        (1, [1, 0, 0, 0, 0], 0),
+        (1023, [1023, 0, 0, 0, 0], 1022),
+        (1024, [1024, 0, 0, 0, 0], 1023),
+        (1025, [1024, 1, 0, 0, 0], 1024),
+        (2049, [1024, 1024, 1, 0, 0], 2048),
+    ];
+    for (len, lengths, last) in cases {
+        let given = steps(rt.alloc(), None, len)?;
+        assert!(rt; given.0.as_slice() == lengths.as_slice(), "length {len}");
+        assert!(rt; given.1 == last, "last of {len}");
     }
     Ok(())
 }
@@ -131,13 +197,12 @@ fn the_filter_keeps_both_ends(rt: HostRuntime) -> Result<(), Fail> {
         (2049, 2, 2048),
     ];
     for (len, kept, last) in cases {
-        let rows = shown(rt.alloc(), Some(first_is_null()), len)?;
-        assert!(rt; rows.len() == kept, "length {len}");
-        assert!(rt; is_end(&rows, 0, 0), "first of {len}");
+        let given = steps(rt.alloc(), Some(first_is_null()), len)?;
         assert!(rt;
-            is_end(&rows, rows.len().saturating_sub(1), last),
-            "last of {len}"
+            given.0.as_slice() == [kept, 0, 0, 0, 0].as_slice(),
+            "length {len}"
         );
+        assert!(rt; given.1 == last, "last of {len}");
     }
     Ok(())
 }

@@ -4,8 +4,8 @@ use super::engines::{carry_out, engine};
 use cq_binder_rules::Fault;
 use cq_engine::Engine;
 use cq_model_step::Answer;
-use cq_values::Value;
-use cq_values_rows::RowList;
+use cq_values::{Lent, cmp_lent};
+use cq_values_rows::{LentRow, RowList};
 use std::alloc::Global;
 use std::process::Abort;
 use std::test::Fail;
@@ -28,12 +28,12 @@ fn carried_out(
     }
 }
 
-fn is_row(values: &[Value], numbers: &[i128]) -> bool {
-    values.len() == numbers.len()
-        && values
-            .iter()
-            .zip(numbers)
-            .all(|(value, number)| *value == Value::Number(*number))
+fn is_row(row: &LentRow<'_>, numbers: &[i128]) -> bool {
+    row.len() == numbers.len()
+        && numbers.iter().enumerate().all(|(at, number)| cmp_lent(
+            &row.lend(at),
+            &Lent::Number(*number),
+        ).is_eq())
 }
 
 /// Whether these are the rows, in this order.
@@ -42,7 +42,7 @@ fn are_rows(rows: &RowList, wanted: &[&[i128]]) -> bool {
         return false;
     }
     for (place, numbers) in wanted.iter().enumerate() {
-        if !is_row(rows.row(place), numbers) {
+        if !is_row(&rows.row(place), numbers) {
             return false;
         }
     }

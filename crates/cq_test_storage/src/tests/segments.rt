@@ -1,9 +1,11 @@
 //! Segments and the write store, at the lengths at which a piece ends.
 ghost use Rattle.std.specs.Bool.{OnTrue};
-ghost use Rattle.std.specs.Prelude.{IfOk, length, ◌≡◌};
+ghost use Rattle.std.specs.Prelude.{IfOk, length, ◌≡◌, ◌≤◌};
+ghost use Rattle.cq_encodings_vectors.specs.Places.{AreBelow};
 ghost use Rattle.cq_segments_pieces.specs.Columns.{AreWide};
 ghost use Rattle.cq_segments_pieces.specs.Rows.{stored_rows};
 
+use super::columns::are_below;
 use cq_segments::{ColumnTest, Segment};
 use cq_segments_pieces::StoredRow;
 use cq_table_columns::{Chosen, Front};
@@ -95,6 +97,28 @@ fn numbers(alloc: Global, segment: &Segment, column: usize) -> Result<Vec<i128>,
     Ok(numbers)
 }
 
+/// The numbers of a column at some places, and -1 where there is none.
+fn numbers_at(
+    alloc: Global,
+    segment: &Segment,
+    places: &[u16],
+    column: usize,
+) -> Result<Vec<i128>, AllocError>
+    requires few { length places.now ≤ 1024 }
+    requires there { AreBelow (length segment.now) places.now }
+{
+    let values = segment.gather_at(alloc, places, column)?;
+    let mut numbers = Vec::new(alloc);
+    for i in 0..values.len() {
+        let number = match values.lend(i) {
+            Lent::Number(n) => n,
+            _ => -1,
+        };
+        numbers.push(number)?;
+    }
+    Ok(numbers)
+}
+
 fn mark(segment: &mut Segment, place: usize) {
     if place < segment.len() {
         segment.mark(place);
@@ -182,6 +206,29 @@ fn marked_rows_at_the_ends_of_pieces_are_not_seen(rt: HostRuntime) -> Result<(),
             assert_eq!(rt; count, len - 2);
             assert_eq!(rt; found.as_slice(), &firsts[..found.len().min(2)]);
         }
+    }
+    Ok(())
+}
+
+#[test]
+fn rows_of_several_pieces_are_read_at_their_places(rt: HostRuntime) -> Result<(), Fail> {
+    let alloc = rt.alloc();
+    let rows = counted(alloc, 2_050)?;
+    match built(alloc, rows.as_slice(), &[])? {
+        Some(mut segment) => {
+            mark(&mut segment, 1_024);
+            let places: &[u16] = &[2_049, 0, 1_023, 1_024, 1_024];
+            assert!(rt; are_below(segment.len(), places) && places.len() <= 1_024);
+            let found = numbers_at(alloc, &segment, places, 1)?;
+            assert_eq!(rt;
+                found.as_slice(),
+                [2_049, 0, 1_023, 1_024, 1_024].as_slice()
+            );
+            let none = numbers_at(alloc, &segment, places, 2)?;
+            assert_eq!(rt; none.as_slice(), [-1, -1, -1, -1, -1].as_slice());
+            assert!(rt; numbers_at(alloc, &segment, &[], 0)?.is_empty());
+        }
+        None => assert!(rt; false),
     }
     Ok(())
 }

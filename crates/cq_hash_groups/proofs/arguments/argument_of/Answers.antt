@@ -1,7 +1,7 @@
 use Rattle.std.proofs.Common.{ℕ, map, pos, replicate, sym, ◌∙◌, ap}
 use Rattle.cq_values.specs.declared.value.Value.TheVariants.{Number}
 use Rattle.cq_model.specs.declared.query.Aggregate.{Aggregate}
-use Rattle.cq_hash_groups.specs.Groups.{argument}
+use Rattle.cq_hash_groups.specs.Arguments.{argument}
 use Rattle.cq_hash_groups.proofs.Columns.{each-same}
 use Rattle.cq_hash_groups.proofs.arguments.argument_of.Goals as goal
 

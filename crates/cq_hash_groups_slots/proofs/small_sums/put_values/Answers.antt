@@ -13,4 +13,4 @@ returns-in-Narrow-clause-put c =
     let base = c.parts-base.result.0 in
     let kept : to_z w64 (of_z w64 base) ≡ base = search (arith, ints, to_z-of_z) in
     let whole = narrow-read _ base (offsets_in c.parts-base.result.1) c.nulls.result.now c.args.values.now c.in-Narrow.column kept (sym c.form.ensures.values ∙ ap values_in c.in-Narrow.is) c.parts-base.ensures.whole c.nulls.ensures in
-    subst (λ (vs : List Value). PutFrom 0 c.put_column.result c.args.numbers.now vs c.args.sums.now c.put_column.new.sums) whole c.put_column.ensures.put
+    subst (λ (vs : List Value). PutFrom 0 c.put_above.result c.args.numbers.now vs c.args.sums.now c.put_above.new.sums) whole c.put_above.ensures.put

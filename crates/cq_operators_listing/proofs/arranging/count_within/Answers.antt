@@ -1,5 +1,5 @@
 use Rattle.std.proofs.Common.{ℕ, Option, subst, sym}
-use Rattle.cq_operators_listing.specs.Packed.{TakesFirst}
+use Rattle.cq_operators_listing.specs.Ranked.{TakesFirst}
 use Rattle.cq_operators_listing.proofs.Rows.{takes-none}
 use Rattle.cq_operators_listing.proofs.arranging.count_within.Goals as goal
 

@@ -6,14 +6,14 @@ use Rattle.cq_operators_listing.proofs.places.set_before.Goals as goal
 
 pub set_or-requires : goal.set_or-requires
 set_or-requires c =
-    let same = c.new-worst.ensures ∙ ap₂ replicate c.len.ensures.len c.lend_column.ensures in
+    let same = c.new-worst.ensures ∙ ap₂ replicate c.len.ensures.len c.lend.ensures in
     known_long c.args.values.now c.new-worst.result (column c.args.worst.now c.args.key.column) same c.compare.new.to c.is_null.new.to c.compare.ensures c.is_null.ensures
 
 pub returns-then-key : goal.returns-then-key
 returns-then-key c =
     let values = c.args.values.now in
     let worst = column c.args.worst.now c.args.key.column in
-    let same = c.new-worst.ensures ∙ ap₂ replicate c.len.ensures.len c.lend_column.ensures in
+    let same = c.new-worst.ensures ∙ ap₂ replicate c.len.ensures.len c.lend.ensures in
     subst (λ (descending : Bool). TellBefore descending values worst c.set_or.new.self) (sym c.if-key.true)
     (told_down values c.new-worst.result worst same c.compare.new.to c.is_null.new.to c.set_or.new.self c.compare.ensures c.is_null.ensures c.set_or.ensures)
 
@@ -21,6 +21,6 @@ pub returns : goal.returns
 returns c =
     let values = c.args.values.now in
     let worst = column c.args.worst.now c.args.key.column in
-    let same = c.new-worst.ensures ∙ ap₂ replicate c.len.ensures.len c.lend_column.ensures in
+    let same = c.new-worst.ensures ∙ ap₂ replicate c.len.ensures.len c.lend.ensures in
     subst (λ (descending : Bool). TellBefore descending values worst c.compare-else-key.new.to) (sym c.if-key.false)
     (told_up values c.new-worst.result worst same c.compare-else-key.new.to c.compare-else-key.ensures)

@@ -1,10 +1,11 @@
-use Rattle.std.proofs.Common.{◌∙◌, ap₂}
+use Rattle.std.proofs.Common.{◌∙◌, ap, false, length, refl}
 use lib.Lanes.{zip2}
-use Rattle.cq_vectors_masks.specs.TruthMask.{known}
-use Rattle.cq_prims.proofs.NamedLemmas.{by_named}
+use Rattle.std.proofs.lemmas.Simd.{zip2_splat}
+use Rattle.cq_prims_texts.specs.Named.{named_unless}
 use Rattle.cq_prims.proofs.named.dict_mask.Goals as goal
 
--- the two planes say what is known of the truth in each place
+-- where NULL stands nowhere, the truths are those of the entries that are named
 pub returns : goal.returns
 returns c =
-    c.set_known.ensures ∙ ap₂ (zip2 known) c.set_where.ensures c.set_where-2.ensures ∙ by_named c.args.entries.now c.args.numbers.now
+    let numbers = c.args.numbers.now in
+    c.set_named.ensures ∙ ap (zip2 (named_unless c.args.entries.now) numbers) c.set_all.ensures ∙ zip2_splat (named_unless c.args.entries.now) numbers (length numbers) false refl

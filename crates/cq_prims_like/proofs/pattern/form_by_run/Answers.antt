@@ -19,4 +19,4 @@ returns-then-is_some c =
       rest = split.1;
       there = split.2;
     } in
-    subst (λ r. IsRunOf r pattern) (sym c.in_ok-into_owned.ensures) run
+    run

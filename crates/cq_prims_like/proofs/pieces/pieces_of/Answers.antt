@@ -17,8 +17,8 @@ loop-piece-preserved c =
     let parts = rw c.in-Some-split_once.is at (split_parts percent rest c.split_once.result c.split_once.ensures.cases (omega arith)) in
     let split : rest ≡ piece ++ percent ∷ more = parts.0 in
     let valid = parts_valid piece more rest split known.0 in
-    let owned : c.in_ok-into_owned.field-0 ≡ piece = c.in_ok-into_owned.ensures ∙ c.new.ensures ∙ c.as_bytes.ensures.value in
-    let items : c.push.new.self.items ≡ pieces ++ piece ∷ [] = c.in_ok-push.ensures.items ∙ ap (λ (l : List ℕ). pieces ++ l ∷ []) owned in
+    let kept : c.new.result ≡ piece = c.new.ensures ∙ c.as_bytes.ensures.value in
+    let items : c.push.new.self.items ≡ pieces ++ piece ∷ [] = c.in_ok-push.ensures.items ∙ ap (λ (l : List ℕ). pieces ++ l ∷ []) kept in
     let ordinary : is_ordinary (chars piece) ≡ true = sym c.is_ordinary.ensures ∙ c.if-not-is_ordinary.false in
     subst (λ ps. IsUtf8 more × (c.args.pattern.now ≡ percent ∷ (closed ps ++ more)) × All IsPiece ps) (sym items)
     (valid.1, one_piece_more pieces piece more rest c.args.pattern.now known.1 split, All-push IsPiece pieces piece known.2 (valid.0, ordinary))

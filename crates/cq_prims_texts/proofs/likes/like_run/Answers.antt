@@ -2,7 +2,7 @@ use Rattle.std.proofs.Common.{◌∙◌, ◌≡◌, ap, arith, length, map, sym}
 use Rattle.std.proofs.lemmas.List.{length-map}
 use Rattle.cq_model.specs.Condition.{is_null, liked}
 use Rattle.cq_vectors_stored.specs.LentColumns.{texts_from}
-use Rattle.cq_prims_texts.proofs.ByEntries.{liked_part}
+use Rattle.cq_prims_texts.proofs.RunTruths.{liked_part}
 use Rattle.cq_prims_texts.proofs.likes.like_run.Goals as goal
 
 pub set_known_by-requires : goal.set_known_by-requires

@@ -7,6 +7,7 @@ use Rattle.cq_hash_keys.specs.Keys.{key_at}
 use Rattle.cq_model.specs.Group.{key_of}
 use Rattle.cq_hash_groups_slots.specs.declared.slots.Slots.{Slots}
 use Rattle.cq_hash_groups.specs.Groups.{AreAllWithin, Holds, StoredGroups, all_added, group_columns}
+use Rattle.cq_hash_groups.specs.Lead.{first_sum}
 use Rattle.cq_hash_groups_slots.specs.Puts.{AreNumbers}
 use Rattle.cq_hash_groups.proofs.Holding.{slots-hold}
 use Rattle.cq_hash_groups.proofs.KeysMet.{keys-append}
@@ -54,7 +55,7 @@ returns-clause-holds c =
     record {
       count = omega (arith, c.in_ok-count.ensures.wider, h.count, length-append rows scan, c.len.ensures.len);
       found = c.in_ok-number_rows.ensures.keys ∙ ap (λ (fs : List Row). firsts (fs ++ map (key_of columns) scan)) h.found ∙ keys-append keys rows scan;
-      slots = written ∙ e ∙ ap₂ (λ (n : ℕ) (ss : List Slots). all_added n numbers scan asked ss) c.len-groups.ensures (sym before ∙ h.slots)
+      slots = written ∙ e ∙ ap₂ (λ (n : ℕ) (ss : List Slots). all_added (first_sum asked) n numbers scan asked ss) c.len-groups.ensures (sym before ∙ h.slots)
           ∙ slots-hold keys asked rows scan c.self.inside.found.keys next numbers h.found c.in_ok-number_rows.ensures.keys are there;
     })
     c.add_all.ensures.ok

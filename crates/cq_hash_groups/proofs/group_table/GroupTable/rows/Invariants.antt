@@ -8,7 +8,7 @@ use Rattle.cq_hash_groups.proofs.group_table.GroupTable.rows.Given as goal
 -- the groups so far are shown, whichever rows the table is of
 abbrev pub invariant-loop-group : goal.invariant-loop-group
 invariant-loop-group l = record {
-  ready : IsReadyFor (l.width + length l.self.slots) l.filling;
+  ready : IsReadyFor (l.width + length l.told.items) l.filling;
   rows : (of : List Row) → Holds l.self of → l.filling.rows ≡ shown_rows l.self.keys l.self.aggregates of (take l.group l.self.found);
   range : (of : List Row) → Holds l.self of → AreShown l.self.keys l.self.aggregates of (take l.group l.self.found);
 }

@@ -11,21 +11,21 @@ use Rattle.cq_operators_listing.proofs.listing.Listing.cut_to.Goals as goal
 pub invariant_of-self-2 : goal.invariant_of-self-2
 invariant_of-self-2 c =
     let keys = c.self.inside.order.now.keys in
-    let shown = c.in_ok-self-inside.field-0.rows in
-    let first = subst (λ (keys : List SortKey). IsListing keys (Some c.args.count) (once_each c.flat-all.result) shown) c.as_slice.ensures c.in_ok-self-inside.ensures in
+    let shown = c.in_ok-self-inside.field-0 in
+    let first = subst (λ (keys : List SortKey). IsListing keys (Some c.args.count) (once_each c.replace-all.result) shown) c.as_slice.ensures c.in_ok-self-inside.ensures in
     front_where (kept_for c.self.inside.order.now shown) c.front_within-self-inside.result c.args.count c.len.result c.front_within-self-inside.ensures
     (λ there. record {
       limit = ap (λ (s : StoredListing). s.limit) c.self.view_is ∙ c.requires;
       enough = omega (arith, there, c.len.ensures);
-      in_order = in_order-first keys c.args.count (once_each c.flat-all.result) shown first;
+      in_order = in_order-first keys c.args.count (once_each c.replace-all.result) shown first;
     })
 
 pub returns-clause-ok : goal.returns-clause-ok
 returns-clause-ok c all can =
     let old = c.args.self.now in
-    let shown = c.in_ok-self-inside.field-0.rows in
+    let shown = c.in_ok-self-inside.field-0 in
     let keys = ap (λ (s : StoredListing). s.keys) c.self.view_is in
-    let rows : c.flat-all.result ≡ old.rows = c.flat-all.ensures ∙ ap (λ f. f.rows) c.replace.ensures.value ∙ ap (λ (s : StoredListing). s.rows) c.self.view_is in
-    let first = subst (λ (keys : List SortKey). IsListing keys (Some c.args.count) (once_each c.flat-all.result) shown) (c.as_slice.ensures ∙ keys) c.in_ok-self-inside.ensures in
+    let rows : c.replace-all.result ≡ old.rows = c.replace-all.ensures.value ∙ ap (λ (s : StoredListing). s.rows) c.self.view_is in
+    let first = subst (λ (keys : List SortKey). IsListing keys (Some c.args.count) (once_each c.replace-all.result) shown) (c.as_slice.ensures ∙ keys) c.in_ok-self-inside.ensures in
     can_list-cut old (kept_for c.self.inside.order.now shown) c.args.count keys (ap (λ (s : StoredListing). s.limit) c.self.view_is) c.requires
     (subst (λ (all : List Row). IsListing old.keys (Some c.args.count) (once_each all) shown) rows first) all can

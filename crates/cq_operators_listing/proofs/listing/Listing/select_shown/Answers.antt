@@ -14,7 +14,7 @@ pub returns-in-Some-get : goal.returns-in-Some-get
 returns-in-Some-get c =
     let listing = c.args.self.now in
     let key = c.first_key-key.result in
-    let w = c.in-Some.worst.now in
+    let w = c.in-Some.worst in
     let values = c.in-Some-get.values.now in
     let item = c.in-Some-get.ensures.lookup in
     let columns = c.args.batch.now.columns.items in

@@ -1,4 +1,4 @@
-use Rattle.std.proofs.Common.{◌≡◌, ◌∙◌, ◌<◌, ◌∷◌, ◌++◌, sym, subst, ap, ap₂, arith, length, true}
+use Rattle.std.proofs.Common.{◌≡◌, ◌∙◌, ◌<◌, ◌∷◌, ◌++◌, sym, subst, ap, arith, length, true}
 use Rattle.std.specs.Str.{chars, IsUtf8}
 use Rattle.std.proofs.lemmas.Str.Pattern.{strip_prefix_char, split_text_parts}
 use Rattle.cq_model.specs.Like.{percent}
@@ -19,13 +19,13 @@ returns c =
     let some : 0 < length run = grind (arith, c.is_empty.ensures, c.if-is_empty.false) in
     let ordinary : is_ordinary (chars run) ≡ true = sym c.is_ordinary.ensures ∙ c.if-not-is_ordinary.false in
     let single : are_single (chars front) ≡ true = sym c.are_single.ensures ∙ c.if-not-are_single.false in
-    let owned : c.in_ok-into_owned.field-0 ≡ run = c.in_ok-into_owned.ensures ∙ c.new-2.ensures ∙ c.as_bytes.ensures.value in
-    let around : RunAndSigns = record { front = c.in_ok-new.field-0; run = c.in_ok-into_owned.field-0; rest = c.in_ok-new-2.field-0 } in
+    let kept : c.new.result ≡ run = c.new.ensures ∙ c.as_bytes.ensures.value in
+    let around : RunAndSigns = record { front = c.in-Some-split_once.front; run = c.new.result; rest = c.in-Some-split_once.rest } in
     let known : IsAround around = record {
-      some = subst (λ r. 0 < length r) (sym owned) some;
-      text = subst IsUtf8 (sym owned) c.longest_run-run.utf8;
-      ordinary = ap (λ r. is_ordinary (chars r)) owned ∙ ordinary;
-      single = ap (λ f. are_single (chars f)) c.in_ok-new.ensures ∙ single;
+      some = subst (λ r. 0 < length r) (sym kept) some;
+      text = subst IsUtf8 (sym kept) c.longest_run-run.utf8;
+      ordinary = ap (λ r. is_ordinary (chars r)) kept ∙ ordinary;
+      single = single;
     } in
     is_around_of pattern tail around c.utf8.pattern known starts
-    (split ∙ ap₂ (λ f more. f ++ more) (sym c.in_ok-new.ensures) (ap₂ (λ r more. r ++ more) (sym owned) (sym c.in_ok-new-2.ensures)))
+    (split ∙ ap (λ r. front ++ (r ++ rest)) (sym kept))

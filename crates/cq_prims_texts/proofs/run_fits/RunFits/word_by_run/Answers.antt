@@ -3,7 +3,7 @@ use Rattle.std.specs.Simd.Lanes.{mask_l}
 use Rattle.std.specs.Str.{chars}
 use Rattle.cq_model.specs.Like.{like}
 use Rattle.cq_prims_texts.specs.Fits.{run_answers}
-use Rattle.cq_prims_texts.proofs.ByEntries.{places_of_run}
+use Rattle.cq_prims_texts.proofs.RunTruths.{places_of_run}
 use Rattle.cq_prims_texts.proofs.run_fits.RunFits.word_by_run.Goals as goal
 
 pub returns : goal.returns

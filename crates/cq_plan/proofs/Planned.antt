@@ -1,0 +1,132 @@
+-- A plan keeps the joined rows that WHERE keeps.
+use Rattle.std.proofs.Common.{◌≡◌, ◌∙◌, ℕ, ◌+◌, not, Bool, true, false, List, [], ◌∷◌, Option, arith, ap, filter, length, refl, subst, sym, inl, inr}
+use Rattle.std.proofs.lemmas.List.{length-map}
+use Rattle.std.specs.Bool.{OnTrue}
+use Rattle.std.specs.List.{AllByRecursion}
+use Rattle.cq_values.specs.Value.{Row}
+use Rattle.cq_model.proofs.Conditions.{none-kept}
+use Rattle.cq_model.specs.Expr.{Cond}
+use Rattle.cq_model.specs.Meaning.{keeps}
+use Rattle.cq_model.specs.Own.{passes_own}
+use Rattle.cq_model.specs.declared.query.Join.{Join}
+use Rattle.cq_model.specs.declared.query.Query.{Query}
+use Rattle.cq_plan.specs.Below.{AllPass, ArePassing}
+use Rattle.cq_plan.specs.Chain.{ChainedSource, chain_list, joined_lists, links_with}
+use Rattle.cq_plan.specs.EachOwn.{AreEachOwn}
+use Rattle.cq_plan.specs.Own.{conditions_of}
+use Rattle.cq_plan.specs.Plan.{kept_of}
+use Rattle.cq_plan.specs.Planned.{AreAllOwn, AsksWhere, HaveColumns, IsAskedBehind, IsPlanned, asked_behind, asked_below, below_of, is_joined, joined_by, passing_links, passing_of, widths_of}
+use Rattle.cq_plan.specs.declared.plans.PlannedSource.{PlannedSource}
+use Rattle.cq_plan.proofs.Below.{all-below, below-joins}
+use Rattle.cq_plan.proofs.EachOwn.{owned-all}
+
+-- ---- sources that pass
+-- the rows of a planned source that pass are those that pass its own conditions
+passing-planned : (below : Option Cond) (before : ℕ) (s : PlannedSource) (rows : List Row) → IsPlanned below before s → ArePassing below before s.wide rows (passing_of s rows)
+passing-planned below before s rows is = record {
+  conditions = conditions_of s.own.items;
+  own = is.own;
+  all = is.all;
+  are = ap (λ (n : ℕ). filter (passes_own n (conditions_of s.own.items)) rows) is.place;
+}
+
+-- so it is with those that are joined
+links-planned : (below : Option Cond) (before : ℕ) (joins : List Join) (ss : List PlannedSource) (others : List (List Row)) → AreAllOwn below before ss → HaveColumns ss others → length ss ≡ length joins
+    → AllPass below before (widths_of ss) (links_with joins others) (passing_links joins ss others)
+links-planned below before [] [] [] own have same = record { wide = tt; pass = tt }
+links-planned below before (j ∷ js) [] [] own have same = absurd (omega (arith, same))
+links-planned below before [] (s ∷ ss) others own have same = absurd (omega (arith, same))
+links-planned below before joins [] (rows ∷ others) own have same = absurd have
+links-planned below before joins (s ∷ ss) [] own have same = absurd have
+links-planned below before (j ∷ js) (s ∷ ss) (rows ∷ others) own have same =
+    let rest = links-planned below (before + s.wide) js ss others own.1 have.1 (omega (arith, same)) in
+    record {
+      wide = (have.0, rest.wide);
+      pass = (refl, passing-planned below before s rows own.0, rest.pass);
+    }
+
+-- ---- WHERE
+-- it keeps the same rows, whether its own conditions were asked before or none were
+same-kept : (where_is : Option Cond) (below : Bool) (asked rows : List Row) → filter (keeps (asked_below below where_is)) asked ≡ filter (keeps (asked_below below where_is)) rows
+    → filter (keeps where_is) asked ≡ filter (keeps where_is) rows
+same-kept where_is true asked rows same = same
+same-kept where_is false asked rows same = ap (filter (keeps where_is)) (sym (none-kept asked) ∙ same ∙ none-kept rows)
+
+module _ (q : Query) (asks_behind : Bool) (s : PlannedSource) (ss : List PlannedSource) (first : List Row) (others : List (List Row)) (asks : AsksWhere q (s ∷ ss) asks_behind) (have : HaveColumns (s ∷ ss) (first ∷ others)) where
+  abbrev links : List ChainedSource
+  links = links_with q.joins others
+
+  abbrev passed : List ChainedSource
+  passed = passing_links q.joins ss others
+
+  abbrev asked : List Row
+  asked = chain_list (passing_of s first) passed
+
+  abbrev below : Option Cond
+  below = below_of q
+
+  abbrev behind : Option Cond
+  behind = asked_behind asks_behind q.filter
+
+  passing : ArePassing below 0 s.wide first (passing_of s first)
+  passing = passing-planned below 0 s first asks.own.0
+
+  pass : AllPass below s.wide (widths_of ss) links passed
+  pass = links-planned below s.wide q.joins ss others own have.1 (omega (arith, asks.count))
+    where
+      own : AreAllOwn below s.wide ss
+      own = let front : 0 + s.wide ≡ s.wide = omega arith in subst (λ (n : ℕ). AreAllOwn below n ss) front asks.own.1
+
+  -- it keeps the same of the rows that pass, joined
+  same : filter (keeps q.filter) asked ≡ filter (keeps q.filter) (chain_list first links)
+  same = same-kept q.filter (is_joined q) asked (chain_list first links)
+      (below-joins below s.wide (widths_of ss) first (passing_of s first) links passed have.0 pass.wide passing pass.pass)
+
+  -- and so does what is asked behind the joins
+  same-behind : filter (keeps behind) asked ≡ filter (keeps q.filter) asked
+  same-behind = by_case asks.behind
+    where
+      by_case : IsAskedBehind q.filter below (s.wide ∷ widths_of ss) behind → filter (keeps behind) asked ≡ filter (keeps q.filter) asked
+      by_case (inl is) = ap (λ (c : Option Cond). filter (keeps c) asked) is
+      by_case (inr (none, is, each)) =
+          ap (λ (c : Option Cond). filter (keeps c) asked) none ∙ none-kept asked
+          ∙ sym (subst (λ (c : Option Cond). filter (keeps c) asked ≡ asked) is
+          (owned-all below s.wide (widths_of ss) first (passing_of s first) links passed (subst (λ (c : Option Cond). AreEachOwn c (s.wide ∷ widths_of ss)) (sym is) each) have.0 pass.wide passing pass.pass))
+
+  -- what holds of each joined row holds of those
+  all-asked : (P : Row → Type 0) → AllByRecursion P (chain_list first links) → AllByRecursion P asked
+  all-asked P all = all-below P below s.wide (widths_of ss) first (passing_of s first) links passed have.0 pass.wide passing pass.pass all
+
+-- ---- plans
+module _ (q : Query) (ss : List PlannedSource) (asks_behind : Bool) (asks : AsksWhere q ss asks_behind) (sources : List (List Row)) (have : HaveColumns ss sources) where
+  -- they keep what WHERE keeps
+  pub kept-planned : filter (keeps (asked_behind asks_behind q.filter)) (joined_by q.joins ss sources) ≡ kept_of q sources
+  kept-planned = by_sources ss sources asks have
+    where
+      by_sources : (ss : List PlannedSource) (sources : List (List Row)) → AsksWhere q ss asks_behind → HaveColumns ss sources → filter (keeps (asked_behind asks_behind q.filter)) (joined_by q.joins ss sources) ≡ kept_of q sources
+      by_sources [] sources asks have = absurd (omega (arith, asks.count))
+      by_sources (s ∷ ss) [] asks have = absurd have
+      by_sources (s ∷ ss) (first ∷ others) asks have = same-behind q asks_behind s ss first others asks have ∙ same q asks_behind s ss first others asks have
+
+  -- and join no other rows
+  pub all-planned : (P : Row → Type 0) → AllByRecursion P (joined_lists q.joins sources) → AllByRecursion P (joined_by q.joins ss sources)
+  all-planned P = by_sources ss sources asks have
+    where
+      by_sources : (ss : List PlannedSource) (sources : List (List Row)) → AsksWhere q ss asks_behind → HaveColumns ss sources → AllByRecursion P (joined_lists q.joins sources) → AllByRecursion P (joined_by q.joins ss sources)
+      by_sources [] sources asks have all = absurd (omega (arith, asks.count))
+      by_sources (s ∷ ss) [] asks have all = absurd have
+      by_sources (s ∷ ss) (first ∷ others) asks have all = all-asked q asks_behind s ss first others asks have P all
+
+-- ---- making one
+module _ (q : Query) (ss : List PlannedSource) (below each : Bool) (widths : List ℕ) (joined : below ≡ is_joined q) (own : AreAllOwn (asked_below below q.filter) 0 ss) (wide : widths_of ss ≡ widths) (count : length widths ≡ length q.joins + 1) where
+  -- nothing is asked behind the joins only where each part of WHERE was asked below them
+  pub asks-where : OnTrue each (below ≡ true) → OnTrue each (AreEachOwn q.filter widths) → AsksWhere q ss (not each)
+  asks-where is_below is_own = record {
+    count = sym (length-map ss (λ s. s.wide)) ∙ ap length wide ∙ count;
+    own = subst (λ (b : Bool). AreAllOwn (asked_below b q.filter) 0 ss) joined own;
+    behind = by_case each is_below is_own;
+  }
+    where
+      by_case : (e : Bool) → OnTrue e (below ≡ true) → OnTrue e (AreEachOwn q.filter widths) → IsAskedBehind q.filter (below_of q) (widths_of ss) (asked_behind (not e) q.filter)
+      by_case false b o = inl refl
+      by_case true b o = inr (refl, ap (λ (x : Bool). asked_below x q.filter) (sym joined ∙ b), subst (AreEachOwn q.filter) (sym wide) o)
