@@ -58,10 +58,14 @@ module _ (keys : Option (List ℕ)) (aggregates : List Aggregate) (of found : Li
       subst (AreShown keys aggregates of) (sym next-taken)
       (pushed (λ k. AllByRecursion (λ a. SumInRange a (once_each (rows_at (group_columns keys) of k))) aggregates) (take group found) key so_far here)
 
-  -- a group that cannot be shown is one of a query that cannot
-  pub range-fails : found ≡ group_keys keys of → (AllByRecursion (CanShow group) slots → ⊥) → SumsInRange keys aggregates (once_each of) → ⊥
-  range-fails found_is cannot all =
+  -- a group of a query that can be shown can be shown
+  pub range-can : found ≡ group_keys keys of → SumsInRange keys aggregates (once_each of) → AllByRecursion (CanShow group) slots
+  range-can found_is all =
       let P : Row → Type 0 = λ k. AllByRecursion (λ a. SumInRange a (once_each (rows_at (group_columns keys) of k))) aggregates in
       let each = subst (AreShown keys aggregates of) (sym found_is) (grouped-ranges keys aggregates of all) in
       let here : P key = subst P (sym is) (all-at P found group key lt each) in
-      cannot (subst (AllByRecursion (CanShow group)) (sym slots_are) (all-range (group_columns keys) of found group key lt is aggregates here))
+      subst (AllByRecursion (CanShow group)) (sym slots_are) (all-range (group_columns keys) of found group key lt is aggregates here)
+
+  -- so one that cannot is one of a query that cannot
+  pub range-fails : found ≡ group_keys keys of → (AllByRecursion (CanShow group) slots → ⊥) → SumsInRange keys aggregates (once_each of) → ⊥
+  range-fails found_is cannot all = cannot (range-can found_is all)

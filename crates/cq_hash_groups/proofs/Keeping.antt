@@ -12,12 +12,13 @@ use Rattle.cq_model.specs.declared.query.Aggregate.{Aggregate}
 use Rattle.cq_model.specs.declared.query.Aggregate.TheVariants.{CountAll, Count, Sum, Min, Max}
 use Rattle.cq_model.specs.Group.{key_of}
 use Rattle.cq_hash_groups_slots.specs.declared.bests.Extreme.TheVariants.{Least, Greatest}
+use Rattle.cq_hash_groups_slots.specs.declared.slots.Slots.{Slots}
 use Rattle.cq_hash_groups_slots.specs.declared.slots.Slots.TheVariants.{Counts, Sums, Bests}
 use Rattle.cq_hash_groups.specs.Arguments.{argument}
 use Rattle.cq_hash_groups.specs.Lead.{counted_beside}
 use Rattle.cq_hash_groups.specs.Groups.{rows_at, kept_as, kept_at, kept_count, kept_nulls, kept_sum, kept_best, slots_at, added_as, added_slots}
 use Rattle.cq_hash_groups_slots.specs.Puts.{put_all, put_count, put_null, put_sum, put_best, no_sum, AreNumbers}
-use Rattle.cq_hash_groups_slots.specs.Slots.{grown, grown_slots, put_slots}
+use Rattle.cq_hash_groups_slots.specs.Slots.{empty_slots, grown, grown_slots, put_slots}
 use Rattle.cq_hash_groups.proofs.ValuesPut.{count-push, null-push, sum-push, best-push}
 use Rattle.cq_hash_groups.proofs.KeysMet.{AreApart, apart-sym, rows-append}
 use Rattle.cq_model_bags.proofs.Lists.{all-at}
@@ -90,6 +91,34 @@ module _ {S : Type 0} (kept : List Value → S) (put : S → Value → S) (nothi
       → put_all put nothing numbers (map value more) (grown nothing (length (keys ++ new)) (map (of rows) keys)) ≡ map (of (rows ++ more)) (keys ++ new)
   added rows keys new more numbers none apart are there =
       ap (put_all put nothing numbers (map value more)) (grown-keys rows keys new none) ∙ put-rows (keys ++ new) apart rows more numbers are there
+
+-- without rows no key has one
+none-yet : (columns : List ℕ) (keys : List Row) → AllByRecursion (λ k. rows_at columns [] k ≡ []) keys
+none-yet columns [] = tt
+none-yet columns (k ∷ keys) = (refl, none-yet columns keys)
+
+-- what is kept for an aggregate on its own, without rows
+alone-first : (columns : List ℕ) (keys : List Row) (a : Aggregate) → grown_slots (length keys) (empty_slots a) ≡ slots_at columns [] keys a
+alone-first columns keys CountAll = ap Counts (grown-keys kept_count put_count 0 refl count-push (argument CountAll) columns [] [] keys (none-yet columns keys))
+alone-first columns keys (Count e) = ap Counts (grown-keys kept_count put_count 0 refl count-push (argument (Count e)) columns [] [] keys (none-yet columns keys))
+alone-first columns keys (Sum e) = ap Sums (grown-keys kept_sum put_sum no_sum refl sum-push (argument (Sum e)) columns [] [] keys (none-yet columns keys))
+alone-first columns keys (Min e) =
+    ap (Bests Least) (grown-keys (kept_best Least) (put_best Least) Null refl (best-push Least) (argument (Min e)) columns [] [] keys (none-yet columns keys))
+alone-first columns keys (Max e) =
+    ap (Bests Greatest) (grown-keys (kept_best Greatest) (put_best Greatest) Null refl (best-push Greatest) (argument (Max e)) columns [] [] keys (none-yet columns keys))
+
+one-first : (columns : List ℕ) (keys : List Row) (lead : Option Aggregate) (a : Aggregate) → grown_slots (length keys) (empty_slots a) ≡ kept_at columns [] keys lead a
+one-first columns keys None CountAll = alone-first columns keys CountAll
+one-first columns keys (Some lead) CountAll = ap Counts (grown-keys kept_nulls put_null 0 refl null-push (argument lead) columns [] [] keys (none-yet columns keys))
+one-first columns keys lead (Count e) = alone-first columns keys (Count e)
+one-first columns keys lead (Sum e) = alone-first columns keys (Sum e)
+one-first columns keys lead (Min e) = alone-first columns keys (Min e)
+one-first columns keys lead (Max e) = alone-first columns keys (Max e)
+
+-- and for each of several
+pub slots-first : (columns : List ℕ) (keys : List Row) (lead : Option Aggregate) (aggregates : List Aggregate) → map (λ a. grown_slots (length keys) (empty_slots a)) aggregates ≡ map (kept_at columns [] keys lead) aggregates
+slots-first columns keys lead [] = refl
+slots-first columns keys lead (a ∷ aggregates) = ap₂ (λ (s : Slots) (ss : List Slots). s ∷ ss) (one-first columns keys lead a) (slots-first columns keys lead aggregates)
 
 module _ (columns : List ℕ) (rows keys new : List Row) (none : AllByRecursion (λ k. rows_at columns rows k ≡ []) new)
     (more : List Row) (numbers : List ℕ) (apart : AreApart (keys ++ new)) (are : map (key_at (keys ++ new)) numbers ≡ map (key_of columns) more) (there : AreNumbers (length (keys ++ new)) numbers) where

@@ -1,5 +1,7 @@
 pub mod Beside
+pub mod Blocks
 pub mod Columns
+pub mod ColumnsShown
 pub mod Holding
 pub mod Keeping
 pub mod KeysMet

@@ -10,11 +10,11 @@ ghost use Rattle.cq_hash_groups_slots.specs.Slots.{AreWithin, grown_slots, put_n
 ghost use Rattle.cq_model.specs.declared.query.Aggregate.TheVariants.{CountAll};
 
 use crate::arguments::argument_of;
-use crate::lead::{Lead, is_count_all, lead_over};
+use crate::lead::{Lead, is_count_all, lead_over, let_go};
 use cq_hash_groups_slots::Slots;
 use cq_model::Aggregate;
 use cq_operators_scans::Scan;
-use cq_vectors::Vector;
+use cq_vectors::{Buffers, Vector};
 use std::alloc::{AllocError, Global};
 
 /// What is kept of groups that have no rows.
@@ -37,6 +37,7 @@ pub(crate) fn first_slots(
 /// Puts what each aggregate reads of the rows into the groups of their numbers.
 pub(crate) fn add_all<'a>(
     alloc: Global,
+    buffers: &mut Buffers,
     aggregates: &'a [Aggregate],
     scan: &Scan<'a>,
     groups: usize,
@@ -50,12 +51,13 @@ pub(crate) fn add_all<'a>(
     ensures ok { OnOk result (AreAdded groups numbers.now scan.now aggregates.now slots.old slots.new) }
     ensures within { StayWithin (length numbers.now) slots.old slots.new }
 {
-    let read = lead_over(alloc, aggregates, scan)?;
+    let read = lead_over(alloc, buffers, aggregates, scan)?;
     let lead = &read;
     let len = slots.len().min(aggregates.len());
     for place in 0..len {
         add_one(
             alloc,
+            buffers,
             aggregates,
             place,
             lead,
@@ -65,12 +67,14 @@ pub(crate) fn add_all<'a>(
             &mut slots[place],
         )?;
     }
+    let_go(read, buffers);
     Ok(())
 }
 
 /// Puts what one aggregate reads of the rows into the groups of their numbers. What the lead reads is at hand.
 fn add_one<'a>(
     alloc: Global,
+    buffers: &mut Buffers,
     aggregates: &'a [Aggregate],
     place: usize,
     lead: &Option<Lead<'_, 'a>>,
@@ -90,7 +94,7 @@ fn add_one<'a>(
 {
     let aggregate = &aggregates[place];
     let Some(lead) = lead else {
-        return add_read(alloc, aggregate, scan, groups, numbers, slots);
+        return add_read(alloc, buffers, aggregate, scan, groups, numbers, slots);
     };
     if is_count_all(aggregate) {
         return add_nulls(groups, numbers, lead.values.vector(), slots);
@@ -98,11 +102,12 @@ fn add_one<'a>(
     if lead.place == place {
         return add_values(alloc, groups, numbers, lead.values.vector(), slots);
     }
-    add_read(alloc, aggregate, scan, groups, numbers, slots)
+    add_read(alloc, buffers, aggregate, scan, groups, numbers, slots)
 }
 
 fn add_read<'a>(
     alloc: Global,
+    buffers: &mut Buffers,
     aggregate: &'a Aggregate,
     scan: &Scan<'a>,
     groups: usize,
@@ -116,8 +121,10 @@ fn add_read<'a>(
     ensures ok { OnOk result (slots.new ≡ put_slots numbers.now (map (argument aggregate.now) scan.now) (grown_slots groups slots.old)) }
     ensures within { (n : ℕ) → AreWithin n slots.old → AreWithin (n + length numbers.now) slots.new }
 {
-    let values = argument_of(alloc, aggregate, scan)?;
-    add_values(alloc, groups, numbers, values.vector(), slots)
+    let values = argument_of(alloc, buffers, aggregate, scan)?;
+    let added = add_values(alloc, groups, numbers, values.vector(), slots);
+    values.give_back(buffers);
+    added
 }
 
 fn add_values(

@@ -9,12 +9,13 @@ ghost use Rattle.cq_hash_groups.specs.Arguments.{argument};
 use cq_model::Aggregate;
 use cq_operators_scans::{Operand, Scan, vector_of};
 use cq_values::Lent;
-use cq_vectors::{Form, Vector};
+use cq_vectors::{Buffers, Form, Vector};
 use std::alloc::{AllocError, Global};
 
 /// What an aggregate reads of each row. Each row counts for COUNT(*).
 pub(crate) fn argument_of<'s, 'a>(
     alloc: Global,
+    buffers: &mut Buffers,
     aggregate: &'a Aggregate,
     scan: &'s Scan<'a>,
 ) -> Result<Operand<'s, 'a>, AllocError>
@@ -26,7 +27,7 @@ pub(crate) fn argument_of<'s, 'a>(
         Aggregate::Count(expr)
         | Aggregate::Sum(expr)
         | Aggregate::Min(expr)
-        | Aggregate::Max(expr) => vector_of(alloc, expr, scan),
+        | Aggregate::Max(expr) => vector_of(alloc, buffers, expr, scan),
     }
 }
 

@@ -12,7 +12,7 @@ ghost use Rattle.cq_hash_groups.specs.Groups.{AreGroups, CanBeShown, Holds, Hold
 
 use crate::adding::{add_all, first_slots};
 use crate::keys::{first_groups, key_width, number_rows};
-use crate::shown::{put_row, shown_types};
+use crate::shown::{put_row, put_rows, shown_types};
 use crate::told::told_slots;
 use cq_hash_groups_slots::Slots;
 use cq_hash_keys::KeyTable;
@@ -20,6 +20,7 @@ use cq_model::{Aggregate, ShowFault};
 use cq_operators_scans::Scan;
 use cq_segments_pieces::widened;
 use cq_values::Seq;
+use cq_vectors::Buffers;
 use cq_writestore_rows::{Filling, NewRows};
 use std::alloc::{AllocError, Global};
 use std::marker::Model;
@@ -34,6 +35,8 @@ pub struct GroupTable<'q> {
     slots: Vec<Slots>,
     /// The groups of the rows that were added last, for their room.
     numbers: Vec<usize>,
+    /// Memory of what was worked out for the aggregates.
+    buffers: Buffers,
 }
 
 impl<'q> Model for GroupTable<'q> {
@@ -70,6 +73,7 @@ impl<'q> GroupTable<'q> {
                 found,
                 slots,
                 numbers: Vec::new(alloc),
+                buffers: Buffers::new(alloc),
             }),
             Err(fault) => {
                 drop(found);
@@ -93,6 +97,7 @@ impl<'q> GroupTable<'q> {
         self.count = count;
         add_all(
             alloc,
+            &mut self.buffers,
             self.aggregates,
             scan,
             groups,
@@ -113,7 +118,11 @@ impl<'q> GroupTable<'q> {
         let told = told_slots(alloc, self.aggregates, &self.slots)?;
         let types = shown_types(alloc, &self.found, width, &told)?;
         let mut filling = Filling::of_types(alloc, types)?;
-        for group in 0..groups {
+        let whole = groups / 1024;
+        for block in 0..whole {
+            put_rows(alloc, &self.found, width, &told, 1024 * block, &mut filling)?;
+        }
+        for group in 1024 * whole..groups {
             put_row(&self.found, width, &told, group, &mut filling)?;
         }
         Ok(filling.finish()?)

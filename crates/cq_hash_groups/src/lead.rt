@@ -11,6 +11,7 @@ use crate::arguments::argument_of;
 use cq_hash_groups_slots::Slots;
 use cq_model::Aggregate;
 use cq_operators_scans::{Operand, Scan};
+use cq_vectors::Buffers;
 use std::alloc::{AllocError, Global};
 
 /// The first SUM, and what it reads of some rows.
@@ -23,6 +24,7 @@ pub(crate) struct Lead<'s, 'a> {
 /// What the first SUM reads of the rows, if there is one.
 pub(crate) fn lead_over<'s, 'a>(
     alloc: Global,
+    buffers: &mut Buffers,
     aggregates: &'a [Aggregate],
     scan: &'s Scan<'a>,
 ) -> Result<Option<Lead<'s, 'a>>, AllocError>
@@ -31,10 +33,17 @@ pub(crate) fn lead_over<'s, 'a>(
 {
     match sum_place(aggregates) {
         Some(place) => {
-            let values = argument_of(alloc, &aggregates[place], scan)?;
+            let values = argument_of(alloc, buffers, &aggregates[place], scan)?;
             Ok(Some(Lead { place, values }))
         }
         None => Ok(None),
+    }
+}
+
+/// Lets go what it read, and keeps the memory of what was worked out.
+pub(crate) fn let_go(lead: Option<Lead<'_, '_>>, buffers: &mut Buffers) {
+    if let Some(lead) = lead {
+        lead.values.give_back(buffers);
     }
 }
 

@@ -1,12 +1,16 @@
 //! The rows of groups.
 ghost use Rattle.std.specs.List.{AllByRecursion};
-ghost use Rattle.std.specs.Prelude.{[], ◌+◌, ◌<◌, ◌≡◌, ◌≤◌, IfErr, IfOk, OnOk, length};
+ghost use Rattle.std.specs.Prelude.{[], ◌+◌, ◌<◌, ◌≡◌, ◌≤◌, IfErr, IfOk, OnOk, length, map};
+ghost use Rattle.cq_values.specs.Lent.{owned};
 ghost use Rattle.cq_hash_keys.specs.Keys.{key_at};
 ghost use Rattle.cq_hash_groups.specs.Groups.{AddsShownRow, BeginsKey, IsSlotsFault};
+ghost use Rattle.cq_hash_groups.specs.Shown.{AddsShownRows, CanAllShow, IsShownFault, keys_from};
 ghost use Rattle.cq_hash_groups_slots.specs.Slots.{CanShow};
-ghost use Rattle.cq_writestore_rows.specs.Filling.{IsReadyFor};
+ghost use Rattle.cq_writestore_rows.specs.Filling.{IsReadyFor, IsWhole};
 
 use crate::told::Told;
+use cq_encodings::AnyEncoded;
+use cq_encodings_plain::Plain;
 use cq_hash_keys::KeyTable;
 use cq_model::ShowFault;
 use cq_values::{Lent, Ty};
@@ -31,6 +35,57 @@ pub(crate) fn shown_types(
         types.push(slots_type(each, found.len()))?;
     }
     Ok(types)
+}
+
+/// Puts the rows of 1,024 groups from one on behind the others, column by column.
+pub(crate) fn put_rows(
+    alloc: Global,
+    found: &KeyTable,
+    width: usize,
+    slots: &[Told<'_>],
+    start: usize,
+    filling: &mut Filling,
+) -> Result<(), ShowFault>
+    requires groups { start + 1024 ≤ length found.now.keys }
+    requires width { width ≡ found.now.width }
+    requires whole { IsWhole filling.old }
+    ensures rows { OnOk result (AddsShownRows width found.now.keys slots.now start 1024 filling.old filling.new) }
+    ensures range { OnOk result (CanAllShow start 1024 slots.now) }
+    ensures fault { IfErr result (IsShownFault start 1024 slots.now) }
+{
+    let _count = found.len();
+    let mut columns = Vec::new(alloc);
+    for column in 0..width {
+        let values = lend_keys(alloc, found, column, start, 1024)?;
+        columns.push(AnyEncoded::Plain(Plain::of(alloc, &values)?))?;
+    }
+    for each in slots {
+        let values = each.lend_from(alloc, start, 1024)?;
+        columns.push(AnyEncoded::Plain(Plain::of(alloc, &values)?))?;
+    }
+    filling.push_columns(columns)?;
+    Ok(())
+}
+
+/// The values in a column of keys from one on.
+fn lend_keys<'t>(
+    alloc: Global,
+    found: &'t KeyTable,
+    column: usize,
+    start: usize,
+    len: usize,
+) -> Result<Vec<Lent<'t>>, AllocError>
+    requires column { column < found.now.width }
+    requires keys { start + len ≤ length found.now.keys }
+    ensures { IfOk result (λ values. map owned values.items ≡ keys_from found.now.keys column start len) }
+{
+    let _count = found.len();
+    let mut values = Vec::new(alloc);
+    values.reserve(len)?;
+    for place in 0..len {
+        values.push_reserved(found.lend(start + place, column));
+    }
+    Ok(values)
 }
 
 /// Puts the row of a group behind the others: its key of so many values, and then its aggregates.

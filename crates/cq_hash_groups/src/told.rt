@@ -1,9 +1,10 @@
 //! What is kept for each aggregate, as it is told.
-ghost use Rattle.std.specs.Prelude.{◌+◌, ◌-◌, ◌^◌, ◌≡◌, IfErr, IfOk, OnOk};
+ghost use Rattle.std.specs.Prelude.{◌+◌, ◌-◌, ◌<◌, ◌^◌, ◌≡◌, IfErr, IfOk, OnOk, map};
 ghost use Rattle.cq_values.specs.Lent.{owned};
 ghost use Rattle.cq_model.specs.declared.fault.ShowFault.TheVariants.{SumOutOfRange};
 ghost use Rattle.cq_hash_groups.specs.Groups.{AreAllWithin};
 ghost use Rattle.cq_hash_groups.specs.Lead.{lead_at, lead_in, told, told_one};
+ghost use Rattle.cq_hash_groups.specs.Shown.{CanShowFrom, shown_from};
 ghost use Rattle.cq_hash_groups_slots.specs.Slots.{AreWithin, CanShow, shown_at};
 
 use crate::lead::lead_of;
@@ -44,6 +45,29 @@ impl Told<'_> {
             Some(lead) => self.own.lend_beside(lead, group),
             None => self.own.lend(group),
         }
+    }
+
+    /// What so many groups from one on show, where it stands.
+    pub(crate) fn lend_from(
+        &self,
+        alloc: Global,
+        start: usize,
+        len: usize,
+    ) -> Result<Vec<Lent<'_>>, ShowFault>
+        requires { start + len < 2 ^ 64 }
+        ensures values { IfOk result (λ values. map owned values.items ≡ shown_from self.now start len) }
+        ensures range { OnOk result (CanShowFrom start len self.now) }
+        ensures fault { IfErr result (λ e. e ≡ SumOutOfRange → CanShowFrom start len self.now → ⊥) }
+    {
+        let mut values = Vec::new(alloc);
+        values.reserve(len)?;
+        for place in 0..len {
+            match self.lend(start + place) {
+                Ok(value) => values.push_reserved(value),
+                Err(fault) => return Err(fault),
+            }
+        }
+        Ok(values)
     }
 }
 

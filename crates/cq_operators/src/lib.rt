@@ -16,6 +16,7 @@ mod joining;
 mod link;
 mod listed;
 mod listing;
+mod lists;
 mod opening;
 mod pairs;
 mod progress;

@@ -1,8 +1,10 @@
 -- The places of a batch whose rows may be shown, as their first key tells.
-use Rattle.std.specs.Prelude.{◌≡◌, ◌<◌, ℕ, Bool, true, false, not, List, [], ◌∷◌, filter, length, map}
+use Rattle.std.specs.Prelude.{◌≡◌, ◌<◌, ℕ, ℤ, Bool, true, false, not, List, [], ◌∷◌, filter, length, map, Option, IfSome, Vec}
+use Rattle.std.specs.Global.{Global}
 use Rattle.std.specs.List.{All}
 use Rattle.std.specs.Ordering.{is_gt}
 use Rattle.cq_values.specs.declared.value.Value.{Value}
+use Rattle.cq_values.specs.declared.value.Value.TheVariants.{Number}
 use Rattle.cq_values.specs.Value.{column, is_null}
 use Rattle.cq_values.specs.declared.truth.Truth.{Truth}
 use Rattle.cq_model_bags.specs.declared.sort_key.SortKey.{SortKey}
@@ -38,3 +40,7 @@ TellBefore descending values worst truths =
 -- of the batch's rows it suffices to make those at these places
 abbrev pub ArePlaces : StoredListing → Batch → List ℕ → Type 0
 ArePlaces listing batch places = Suffice listing (map (row_at batch.columns.items) places) (rows_of batch)
+
+-- the numbers of a column at places, if each of these is one of a number
+abbrev pub AreNumbersAt : List ℤ → List ℕ → Option (Vec ℤ Global) → Type 0
+AreNumbersAt numbers places found = IfSome found (λ copies. map Number copies.items ≡ map (column (map Number numbers)) places)

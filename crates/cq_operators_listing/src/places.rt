@@ -1,12 +1,11 @@
 //! The places of a batch whose rows may be shown, and the rows that are made of them.
 ghost use Rattle.std.specs.Bool.{OnTrue};
 ghost use Rattle.std.specs.List.{All};
-ghost use Rattle.std.specs.Prelude.{◌≡◌, ◌<◌, IfOk, IfSome, map};
-ghost use Rattle.cq_values.specs.declared.value.Value.TheVariants.{Number};
+ghost use Rattle.std.specs.Prelude.{◌≡◌, ◌<◌, IfOk, map};
 ghost use Rattle.cq_values.specs.Value.{column};
 ghost use Rattle.cq_vectors.specs.Batch.{row_at as values_at};
 ghost use Rattle.cq_vectors_masks.specs.Selection.{AreRising, where_true};
-ghost use Rattle.cq_operators_listing.specs.Places.{CanTell, TellBefore, places_before as before};
+ghost use Rattle.cq_operators_listing.specs.Places.{AreNumbersAt, CanTell, TellBefore, places_before as before};
 
 use cq_model_bags::SortKey;
 use cq_prims::{compare, is_null};
@@ -123,7 +122,7 @@ fn numbers_at(
     numbers: &[i64],
     places: &[u16],
 ) -> Result<Option<Vec<i64>>, AllocError>
-    ensures { IfOk result (λ found. IfSome found (λ copies. map Number copies.items ≡ map (column (map Number numbers.now)) places.now)) }
+    ensures { IfOk result (AreNumbersAt numbers.now places.now) }
 {
     let mut copies = Vec::new(alloc);
     copies.reserve(places.len())?;

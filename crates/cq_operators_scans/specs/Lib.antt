@@ -1,3 +1,4 @@
+pub mod Nodes
 pub mod Operand
 pub mod Scan
 pub mod Kept

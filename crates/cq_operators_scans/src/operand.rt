@@ -5,7 +5,7 @@
 ghost use Rattle.std.specs.Prelude.{◌≡◌, IfOk, map};
 ghost use Rattle.cq_operators_scans.specs.Operand.{values_in};
 
-use cq_vectors::Vector;
+use cq_vectors::{Buffers, Vector};
 use std::alloc::{AllocError, Global};
 
 /// A column that a scan lends, or values that were worked out.
@@ -23,6 +23,13 @@ impl<'s, 'a> Operand<'s, 'a> {
         match self {
             Operand::Lent(vector) => vector,
             Operand::Own(vector) => vector,
+        }
+    }
+
+    /// Lets the values go, and keeps the memory of those that were worked out.
+    pub fn give_back(self, buffers: &mut Buffers) {
+        if let Operand::Own(vector) = self {
+            buffers.take_back(vector);
         }
     }
 }

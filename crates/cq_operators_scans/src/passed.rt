@@ -1,6 +1,8 @@
 //! Rows of one source that pass conditions of their own before they are joined.
 ghost use Rattle.std.specs.List.{AllByRecursion};
-ghost use Rattle.std.specs.Prelude.{◌≡◌, ◌≤◌, IfOk, length};
+ghost use Rattle.std.specs.Bool.{OnTrue};
+ghost use Rattle.std.specs.Prelude.{◌≡◌, ◌≤◌, ◌++◌, IfOk, length};
+ghost use Rattle.cq_writestore.specs.Writes.{FewerLeft};
 ghost use Rattle.cq_model.specs.Trees.{cond_of};
 ghost use Rattle.cq_operators_scans.specs.Paired.{ArePlaces};
 ghost use Rattle.cq_operators_scans.specs.Passing.{ArePassed, ArePassing, CanAllPass, IsExactBehind};
@@ -15,13 +17,13 @@ use crate::skipping::split_missed;
 use crate::truths::truths_of_tree;
 use cq_model::CondTree;
 use cq_model_terms::columns_of;
-use cq_table_columns::{Front, Placed, Stored, StoredRows};
+use cq_table_columns::{Front, Part, Placed, Spreading, Stored, StoredRows};
 use cq_vectors_masks::Selection;
 use std::alloc::{AllocError, Global};
 
 /// The rows that pass all conditions, where they are. In these the values of a row stand behind so many others. It goes
 /// through the rows 1,024 at a time, and past the segments that can have none. Where all stand in one segment it gives
-/// places there, else a list.
+/// places there, positions where they stand in several, and else a list.
 pub fn passing<'a>(
     alloc: Global,
     before: usize,
@@ -37,7 +39,61 @@ pub fn passing<'a>(
             return Ok(StoredRows::Placed(Placed::of(segment, places)));
         }
     }
+    if rows.split_segment().is_some() {
+        return spread_passing(alloc, before, conditions, rows);
+    }
     list_passing(alloc, before, conditions, rows)
+}
+
+/// The same at positions in several segments and behind them, or a list where these are too many.
+fn spread_passing<'a>(
+    alloc: Global,
+    before: usize,
+    conditions: &[&'a CondTree],
+    rows: &Stored<'a>,
+) -> Result<StoredRows<'a>, AllocError>
+    requires { CanAllPass before conditions.now (all_rows rows.now) }
+    ensures { IfOk result (ArePassed before conditions.now (all_rows rows.now)) }
+{
+    let mut passing = Spreading::new(alloc);
+    let mut left = *rows;
+    while !left.is_empty() {
+        if let Some((_, rest)) = split_missed(before, conditions, &left) {
+            left = rest;
+        } else {
+            let (put, rest) = push_passing(alloc, before, conditions, &left, &mut passing)?;
+            if !put {
+                return list_passing(alloc, before, conditions, rows);
+            }
+            left = rest;
+        }
+    }
+    Ok(StoredRows::Spread(passing.into_spread(alloc)?))
+}
+
+/// Puts those of the next segment, or of the next front, behind others, and tells the rows behind it. By `false` there
+/// are too many parts.
+fn push_passing<'a>(
+    alloc: Global,
+    before: usize,
+    conditions: &[&'a CondTree],
+    rows: &Stored<'a>,
+    passing: &mut Spreading<'a>,
+) -> Result<(bool, Stored<'a>), AllocError>
+    requires { CanAllPass before conditions.now (all_rows rows.now) }
+    ensures less { IfOk result (λ r. FewerLeft (all_rows rows.now) (all_rows r.1)) }
+    ensures exact { IfOk result (λ r. CanAllPass before conditions.now (all_rows r.1)) }
+    ensures rows { IfOk result (λ r. OnTrue r.0 (passing.new ++ passing_rows before conditions.now (all_rows r.1) ≡ passing.old ++ passing_rows before conditions.now (all_rows rows.now))) }
+{
+    if let Some((segment, rest)) = rows.split_segment() {
+        let places = segment_passing(alloc, before, conditions, segment)?;
+        let put = passing.push(Part::Segment(segment), places.as_slice())?;
+        return Ok((put, rest));
+    }
+    let (front, rest) = rows.split_front();
+    let passed = pass_all(alloc, before, conditions, &front)?;
+    let put = passing.push_all(alloc, passed.into_rows(alloc)?)?;
+    Ok((put, rest))
 }
 
 /// A list of the rows that pass all conditions.

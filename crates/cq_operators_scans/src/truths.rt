@@ -1,5 +1,5 @@
 //! The truth of a condition in each row of a scan.
-ghost use Rattle.std.specs.Prelude.{◌≡◌, IfOk, length, map};
+ghost use Rattle.std.specs.Prelude.{◌≡◌, IfOk, length, map, true};
 ghost use Rattle.std.specs.List.{AllByRecursion};
 ghost use Rattle.std.specs.Simd.Lanes.{zip2};
 ghost use Rattle.cq_values.specs.Comparison.{compared};
@@ -7,6 +7,7 @@ ghost use Rattle.cq_values.specs.Truth.{and_truth, or_truth};
 ghost use Rattle.cq_model.specs.Condition.{holds, liked};
 ghost use Rattle.cq_model.specs.Exact.{AreExactAt, AreExactIn, IsExactAt};
 ghost use Rattle.cq_model.specs.Trees.{cond_of, expr_of};
+ghost use Rattle.cq_operators_scans.specs.Nodes.{is_connective};
 ghost use Rattle.cq_operators_scans.specs.Truths.{AreCompared, AreTruths, between_at, compared_at, is_liked_at, is_null_at, is_one_at};
 
 use crate::scan::Scan;
@@ -31,6 +32,8 @@ pub(crate) fn truths_of<'a>(
     truths_of_tree(alloc, cond.tree(), scan)
 }
 
+/// The same of a tree of the condition. Tests have none of the locals of what NOT, AND and OR join.
+#[cycle(deciding)]
 pub(crate) fn truths_of_tree<'a>(
     alloc: Global,
     tree: &'a CondTree,
@@ -45,6 +48,24 @@ pub(crate) fn truths_of_tree<'a>(
         CondTree::Between(expr, least, greatest) => between_in(alloc, expr, least, greatest, scan),
         CondTree::In(expr, choices) => one_of_in(alloc, expr, choices, scan),
         CondTree::Like(expr, pattern) => likes_in(alloc, expr, pattern.as_str(), scan),
+        CondTree::Not(..) | CondTree::And(..) | CondTree::Or(..) => connective_in(
+            alloc, tree, scan,
+        ),
+    }
+}
+
+/// The same of NOT, AND and OR.
+#[cycle(deciding)]
+fn connective_in<'a>(
+    alloc: Global,
+    tree: &'a CondTree,
+    scan: &Scan<'a>,
+) -> Result<TruthMask, AllocError>
+    requires connective { is_connective tree.now ≡ true }
+    requires exact { AllByRecursion (AreExactIn (cond_of tree.now)) scan.now }
+    ensures { IfOk result (λ truths. truths ≡ map (holds (cond_of tree.now)) scan.now) }
+{
+    match tree {
         CondTree::Not(part) => {
             let mut truths = TruthMask::new();
             truths.set_not(&truths_of_tree(alloc, part, scan)?);
@@ -64,6 +85,7 @@ pub(crate) fn truths_of_tree<'a>(
             }
             Ok(truths)
         }
+        _ => unreachable!(),
     }
 }
 

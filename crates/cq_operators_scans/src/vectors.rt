@@ -1,45 +1,50 @@
 //! The values of an expression in each row of a scan.
-ghost use Rattle.std.specs.Prelude.{◌≡◌, IfOk, map};
+ghost use Rattle.std.specs.Prelude.{◌≡◌, IfOk, map, true};
 ghost use Rattle.std.specs.List.{AllByRecursion};
 ghost use Rattle.cq_model.specs.Eval.{eval};
 ghost use Rattle.cq_model.specs.Exact.{IsExactAt};
 ghost use Rattle.cq_model.specs.Trees.{expr_of};
 ghost use Rattle.cq_operators_scans.specs.Operand.{WorksOut, values_in};
+ghost use Rattle.cq_operators_scans.specs.Nodes.{is_operation};
 
 use crate::operand::Operand;
 use crate::scan::Scan;
 use crate::worked::Worked;
 use cq_model::{Expr, ExprTree};
-use cq_vectors::{Form, Vector};
+use cq_vectors::{Buffers, Form, Vector};
 use std::alloc::{AllocError, Global};
 
-/// The value of the expression in each row. A column that was gathered is lent.
+/// The value of the expression in each row. A column that was gathered is lent, and results stand in memory of the
+/// buffers.
 pub fn vector_of<'s, 'a>(
     alloc: Global,
+    buffers: &mut Buffers,
     expr: &'a Expr,
     scan: &'s Scan<'a>,
 ) -> Result<Operand<'s, 'a>, AllocError>
     requires { AllByRecursion (IsExactAt expr.now) scan.now }
     ensures { IfOk result (λ values. values_in values ≡ map (eval expr.now) scan.now) }
 {
-    vector_of_tree(alloc, expr.tree(), scan)
+    operand_of(alloc, buffers, expr.tree(), scan)
 }
 
 /// The same, each time made.
 pub fn own_vector_of<'a>(
     alloc: Global,
+    buffers: &mut Buffers,
     expr: &'a Expr,
     scan: &Scan<'a>,
 ) -> Result<Vector<'a>, AllocError>
     requires { AllByRecursion (IsExactAt expr.now) scan.now }
     ensures { IfOk result (λ values. values ≡ map (eval expr.now) scan.now) }
 {
-    match worked_out(alloc, expr.tree(), scan)? {
+    match worked_out(alloc, buffers, expr.tree(), scan)? {
         Worked::Column(place) => scan.gather(alloc, place),
         Worked::Values(values) => Ok(values),
     }
 }
 
+/// The same of an expression that is asked for once: no memory is kept.
 pub(crate) fn vector_of_tree<'s, 'a>(
     alloc: Global,
     tree: &'a ExprTree,
@@ -48,15 +53,31 @@ pub(crate) fn vector_of_tree<'s, 'a>(
     requires { AllByRecursion (IsExactAt (expr_of tree.now)) scan.now }
     ensures { IfOk result (λ values. values_in values ≡ map (eval (expr_of tree.now)) scan.now) }
 {
-    match worked_out(alloc, tree, scan)? {
+    let mut buffers = Buffers::new(alloc);
+    operand_of(alloc, &mut buffers, tree, scan)
+}
+
+fn operand_of<'s, 'a>(
+    alloc: Global,
+    buffers: &mut Buffers,
+    tree: &'a ExprTree,
+    scan: &'s Scan<'a>,
+) -> Result<Operand<'s, 'a>, AllocError>
+    requires { AllByRecursion (IsExactAt (expr_of tree.now)) scan.now }
+    ensures { IfOk result (λ values. values_in values ≡ map (eval (expr_of tree.now)) scan.now) }
+{
+    match worked_out(alloc, buffers, tree, scan)? {
         Worked::Column(place) => scan.column(alloc, place),
         Worked::Values(values) => Ok(Operand::Own(values)),
     }
 }
 
-/// What the expression comes to. No column is gathered that is not worked with.
+/// What the expression comes to. No column is gathered that is not worked with. Columns and literals, which are most, have
+/// none of the locals of what is worked out.
+#[cycle(working)]
 fn worked_out<'a>(
     alloc: Global,
+    buffers: &mut Buffers,
     tree: &'a ExprTree,
     scan: &Scan<'a>,
 ) -> Result<Worked<'a>, AllocError>
@@ -69,37 +90,58 @@ fn worked_out<'a>(
             let values = Vector::new(Form::Constant(value.lend(), scan.len()));
             Ok(Worked::Values(values))
         }
-        ExprTree::Negate(part) => worked_out(alloc, part, scan)?.negated(alloc, scan),
+        ExprTree::Negate(..) | ExprTree::Sum(..) | ExprTree::Product(..) | ExprTree::Extract(..) =>
+            operation_worked_out(alloc, buffers, tree, scan),
+    }
+}
+
+/// The same of an operation.
+#[cycle(working)]
+fn operation_worked_out<'a>(
+    alloc: Global,
+    buffers: &mut Buffers,
+    tree: &'a ExprTree,
+    scan: &Scan<'a>,
+) -> Result<Worked<'a>, AllocError>
+    requires operation { is_operation tree.now ≡ true }
+    requires exact { AllByRecursion (IsExactAt (expr_of tree.now)) scan.now }
+    ensures { IfOk result (WorksOut scan.now (map (eval (expr_of tree.now)) scan.now)) }
+{
+    match tree {
+        ExprTree::Negate(part) => worked_out(alloc, buffers, part, scan)?.negated(
+            alloc, buffers, scan,
+        ),
         ExprTree::Sum(first, rest) => {
-            let mut sum = worked_out(alloc, first, scan)?;
+            let mut sum = worked_out(alloc, buffers, first, scan)?;
             for term in rest {
-                let term = match worked_out(alloc, term, scan) {
+                let term = match worked_out(alloc, buffers, term, scan) {
                     Ok(term) => term,
                     Err(fault) => {
                         drop(sum);
                         return Err(fault);
                     }
                 };
-                sum = sum.plus(alloc, term, scan)?;
+                sum = sum.plus(alloc, buffers, term, scan)?;
             }
             Ok(sum)
         }
         ExprTree::Product(first, rest) => {
-            let mut product = worked_out(alloc, first, scan)?;
+            let mut product = worked_out(alloc, buffers, first, scan)?;
             for factor in rest {
-                let factor = match worked_out(alloc, factor, scan) {
+                let factor = match worked_out(alloc, buffers, factor, scan) {
                     Ok(factor) => factor,
                     Err(fault) => {
                         drop(product);
                         return Err(fault);
                     }
                 };
-                product = product.times(alloc, factor, scan)?;
+                product = product.times(alloc, buffers, factor, scan)?;
             }
             Ok(product)
         }
         ExprTree::Extract(day_part, part) => {
-            worked_out(alloc, part, scan)?.extracted(alloc, *day_part, scan)
+            worked_out(alloc, buffers, part, scan)?.extracted(alloc, buffers, *day_part, scan)
         }
+        _ => unreachable!(),
     }
 }

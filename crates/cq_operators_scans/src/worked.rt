@@ -8,7 +8,7 @@ use crate::operand::Operand;
 use crate::scan::Scan;
 use cq_prims_arithmetic::{add, extract, mul, neg};
 use cq_values::DayPart;
-use cq_vectors::Vector;
+use cq_vectors::{Buffers, Vector};
 use std::alloc::{AllocError, Global};
 
 /// A column of a scan, of which nothing was made yet, or values that were worked out.
@@ -33,10 +33,18 @@ impl<'a> Worked<'a> {
         }
     }
 
+    /// Lets the values go, and keeps their memory.
+    pub(crate) fn give_back(self, buffers: &mut Buffers) {
+        if let Worked::Values(values) = self {
+            buffers.take_back(values);
+        }
+    }
+
     /// The sum with another one in each row.
     pub(crate) fn plus(
         self,
         alloc: Global,
+        buffers: &mut Buffers,
         other: Worked<'a>,
         scan: &Scan<'a>,
     ) -> Result<Worked<'a>, AllocError>
@@ -44,9 +52,9 @@ impl<'a> Worked<'a> {
         requires fits { AllInRange (sums_worked scan.now self other) }
         ensures { IfOk result (WorksOut scan.now (sums_worked scan.now self.entry other.entry)) }
     {
-        let made = sum(alloc, &self, &other, scan);
-        drop(self);
-        drop(other);
+        let made = sum(alloc, buffers, &self, &other, scan);
+        self.give_back(buffers);
+        other.give_back(buffers);
         Ok(Worked::Values(made?))
     }
 
@@ -54,6 +62,7 @@ impl<'a> Worked<'a> {
     pub(crate) fn times(
         self,
         alloc: Global,
+        buffers: &mut Buffers,
         other: Worked<'a>,
         scan: &Scan<'a>,
     ) -> Result<Worked<'a>, AllocError>
@@ -61,19 +70,24 @@ impl<'a> Worked<'a> {
         requires fits { AllInRange (products_worked scan.now self other) }
         ensures { IfOk result (WorksOut scan.now (products_worked scan.now self.entry other.entry)) }
     {
-        let made = product(alloc, &self, &other, scan);
-        drop(self);
-        drop(other);
+        let made = product(alloc, buffers, &self, &other, scan);
+        self.give_back(buffers);
+        other.give_back(buffers);
         Ok(Worked::Values(made?))
     }
 
     /// The numbers with the other sign.
-    pub(crate) fn negated(self, alloc: Global, scan: &Scan<'a>) -> Result<Worked<'a>, AllocError>
+    pub(crate) fn negated(
+        self,
+        alloc: Global,
+        buffers: &mut Buffers,
+        scan: &Scan<'a>,
+    ) -> Result<Worked<'a>, AllocError>
         requires { AllInRange (map negated (values_worked scan.now self)) }
         ensures { IfOk result (WorksOut scan.now (map negated (values_worked scan.now self.entry))) }
     {
-        let made = opposite(alloc, &self, scan);
-        drop(self);
+        let made = opposite(alloc, buffers, &self, scan);
+        self.give_back(buffers);
         Ok(Worked::Values(made?))
     }
 
@@ -81,19 +95,21 @@ impl<'a> Worked<'a> {
     pub(crate) fn extracted(
         self,
         alloc: Global,
+        buffers: &mut Buffers,
         part: DayPart,
         scan: &Scan<'a>,
     ) -> Result<Worked<'a>, AllocError>
         ensures { IfOk result (WorksOut scan.now (parts_worked scan.now part self.entry)) }
     {
-        let made = parts(alloc, part, &self, scan);
-        drop(self);
+        let made = parts(alloc, buffers, part, &self, scan);
+        self.give_back(buffers);
         Ok(Worked::Values(made?))
     }
 }
 
 fn sum<'a>(
     alloc: Global,
+    buffers: &mut Buffers,
     a: &Worked<'a>,
     b: &Worked<'a>,
     scan: &Scan<'a>,
@@ -103,14 +119,15 @@ fn sum<'a>(
     ensures { IfOk result (λ made. made ≡ sums_worked scan.now a.now b.now) }
 {
     let (a, b) = lend_two(alloc, a, b, scan)?;
-    let made = add(alloc, a.vector(), b.vector());
-    drop(b);
-    drop(a);
+    let made = add(alloc, buffers, a.vector(), b.vector());
+    b.give_back(buffers);
+    a.give_back(buffers);
     made
 }
 
 fn product<'a>(
     alloc: Global,
+    buffers: &mut Buffers,
     a: &Worked<'a>,
     b: &Worked<'a>,
     scan: &Scan<'a>,
@@ -120,9 +137,9 @@ fn product<'a>(
     ensures { IfOk result (λ made. made ≡ products_worked scan.now a.now b.now) }
 {
     let (a, b) = lend_two(alloc, a, b, scan)?;
-    let made = mul(alloc, a.vector(), b.vector());
-    drop(b);
-    drop(a);
+    let made = mul(alloc, buffers, a.vector(), b.vector());
+    b.give_back(buffers);
+    a.give_back(buffers);
     made
 }
 
@@ -148,6 +165,7 @@ fn lend_two<'s, 'a>(
 
 fn opposite<'a>(
     alloc: Global,
+    buffers: &mut Buffers,
     numbers: &Worked<'a>,
     scan: &Scan<'a>,
 ) -> Result<Vector<'a>, AllocError>
@@ -155,13 +173,14 @@ fn opposite<'a>(
     ensures { IfOk result (λ made. made ≡ map negated (values_worked scan.now numbers.now)) }
 {
     let numbers = numbers.lend(alloc, scan)?;
-    let made = neg(alloc, numbers.vector());
-    drop(numbers);
+    let made = neg(alloc, buffers, numbers.vector());
+    numbers.give_back(buffers);
     made
 }
 
 fn parts<'a>(
     alloc: Global,
+    buffers: &mut Buffers,
     part: DayPart,
     days: &Worked<'a>,
     scan: &Scan<'a>,
@@ -169,7 +188,7 @@ fn parts<'a>(
     ensures { IfOk result (λ made. made ≡ parts_worked scan.now part days.now) }
 {
     let days = days.lend(alloc, scan)?;
-    let made = extract(alloc, part, days.vector());
-    drop(days);
+    let made = extract(alloc, buffers, part, days.vector());
+    days.give_back(buffers);
     made
 }

@@ -26,6 +26,15 @@ true-both True b h k = k
 true-both False b h k = absurd (cc)
 true-both Unknown b h k = absurd (cc)
 
+-- whether there are trees
+no-trees : (ts : List CondTree) (n : ℕ) → n ≡ length ts → true ≡ (n == 0) → ts ≡ []
+no-trees [] n is none = refl
+no-trees (t ∷ ts) n is none = absurd (grind (arith, nat_tests, is, none))
+
+pub some-trees : (ts : List CondTree) (n : ℕ) → n ≡ length ts → false ≡ (n == 0) → ts ≡ [] → ⊥
+some-trees [] n is some none = grind (arith, nat_tests, is, some)
+some-trees (t ∷ ts) n is some none = absurd cc
+
 module _ (before wide : ℕ) where
   -- conditions of which some stand in front
   front-passes : (row : Row) (cs ds : List Cond) → passes_own before (cs ++ ds) row ≡ true → passes_own before cs row ≡ true
@@ -90,14 +99,6 @@ module _ (before wide : ℕ) where
       }
 
   -- ---- OR
-  no-trees : (ts : List CondTree) (n : ℕ) → n ≡ length ts → true ≡ (n == 0) → ts ≡ []
-  no-trees [] n is none = refl
-  no-trees (t ∷ ts) n is none = absurd (grind (arith, nat_tests, is, none))
-
-  some-trees : (ts : List CondTree) (n : ℕ) → n ≡ length ts → false ≡ (n == 0) → ts ≡ [] → ⊥
-  some-trees [] n is some none = grind (arith, nat_tests, is, some)
-  some-trees (t ∷ ts) n is some none = absurd cc
-
   -- an OR of one part is that part
   pub or-of-one : (tree : CondTree) (first : Box CondTree Global) (rest : Vec CondTree Global) (head : CondTree) → tree ≡ cond_view.Or first rest → head ≡ first.value → true ≡ (vec_len rest == 0)
       → cond_of head ≡ cond_of tree

@@ -1,13 +1,14 @@
 -- WHERE of which each part is one source's own: it keeps each row that is joined of rows which have passed these.
 use Rattle.std.proofs.Common.{◌≡◌, ◌∙◌, ℕ, ◌+◌, ◌⊎◌, inl, inr, Bool, true, false, ◌&&◌, ◌||◌, List, [], ◌∷◌, ◌++◌, map, filter, length, Option, Some, None, refl, sym, subst, ap, arith, Vec, Box, Global}
-use Rattle.std.specs.Bool.{OnTrue}
+use Rattle.std.specs.Prelude.{◌==◌}
 use Rattle.std.specs.List.{AllByRecursion, fold}
+use Rattle.std.specs.Vec.{vec_len}
 use Rattle.std.proofs.lemmas.Bool.{and_parts}
 use Rattle.std.proofs.lemmas.List.{append-nil, append_assoc}
 use Rattle.cq_model_bags.proofs.Lists.{all-append, all-filter, all-weaker}
 use Rattle.cq_model_bags.proofs.Totals.{by_test}
 use Rattle.cq_model.proofs.Conditions.{none-kept}
-use Rattle.cq_model_eval.proofs.Trees.{tree-And}
+use Rattle.cq_model_eval.proofs.Trees.{through, tree-And, tree-Or}
 use Rattle.cq_model_laws.proofs.Names.{holds-same}
 use Rattle.cq_model_laws.proofs.Own.{column-part}
 use Rattle.cq_model.specs.Condition.{holds}
@@ -18,55 +19,39 @@ use Rattle.cq_model.specs.Trees.{cond_of}
 use Rattle.cq_model.specs.declared.expr.CondTree.{CondTree}
 use Rattle.cq_model.specs.declared.expr.CondTree.TheViews as cond_view
 use Rattle.cq_model.specs.declared.query.Equality.{Equality}
-use Rattle.cq_plan.proofs.Asked.{true-both}
+use Rattle.cq_plan.proofs.Asked.{some-trees, true-both}
 use Rattle.cq_plan.proofs.Chains.{joined-values}
 use Rattle.cq_plan.proofs.Owned.{part-through}
 use Rattle.cq_plan.specs.Below.{ArePassing, LinksPass}
 use Rattle.cq_plan.specs.Chain.{AreAsWide, ChainedSource, HaveValues, chain_list, joined_list, pairs_with}
-use Rattle.cq_plan.specs.EachOwn.{AreEachOwn, each_names_one, names_one}
+use Rattle.cq_plan.specs.EachOwn.{AreEachOwn, each_is_of_one, each_names_one, is_of_one, names_one}
 use Rattle.cq_plan.specs.Own.{AskAllOwn}
+use Rattle.cq_plan.specs.declared.plans.PlannedSource.{PlannedSource}
 use Rattle.cq_values.specs.Truth.{is_true}
 use Rattle.cq_values.specs.Value.{Row}
 
 -- ---- which parts name one source
--- where one source alone is named by two conditions together, it is by each
-names-both : (before : ℕ) (widths : List ℕ) (a b : Cond) → names_one before widths (And a b) ≡ true → (names_one before widths a ≡ true) × (names_one before widths b ≡ true)
-names-both before [] a b h = absurd (cc h)
-names-both before (w ∷ ws) a b h = by_test (tests_only before w (And a b))
-    (λ k. let both = and_parts (tests_only before w a) (tests_only before w b) k in (rw both.0 refl, rw both.1 refl))
-    (λ k. let rest = names-both (before + w) ws a b (rw k at h) in (or-right (tests_only before w a) rest.0, or-right (tests_only before w b) rest.1))
+-- a chain of AND does where each of its parts does
+pub each-chain : (sources : List PlannedSource) (tree : CondTree) (first : Box CondTree Global) (rest : Vec CondTree Global) → tree ≡ cond_view.And first rest
+    → each_is_of_one sources (cond_of tree) ≡ fold ◌&&◌ (each_is_of_one sources (cond_of first.value)) (map (λ t. each_is_of_one sources (cond_of t)) rest.items)
+each-chain sources tree first rest is =
+    ap (λ (t : CondTree). each_is_of_one sources (cond_of t)) is ∙ ap (each_is_of_one sources) (tree-And first rest)
+    ∙ through cond_of (each_is_of_one sources) And ◌&&◌ (λ a b. refl) (cond_of first.value) rest.items
+
+-- OR of several is one part
+or-one : (sources : List PlannedSource) (c d : Cond) (ds : List Cond) → each_is_of_one sources (fold Or c (d ∷ ds)) ≡ is_of_one sources (fold Or c (d ∷ ds))
+or-one sources c d [] = refl
+or-one sources c d (e ∷ ds) = or-one sources (Or c d) e ds
+
+pub each-or : (sources : List PlannedSource) (tree : CondTree) (first : Box CondTree Global) (rest : Vec CondTree Global) → tree ≡ cond_view.Or first rest → false ≡ (vec_len rest == 0)
+    → is_of_one sources (cond_of tree) ≡ each_is_of_one sources (cond_of tree)
+each-or sources tree first rest is some =
+    let chain : cond_of tree ≡ fold Or (cond_of first.value) (map cond_of rest.items) = ap cond_of is ∙ tree-Or first rest in
+    subst (λ (c : Cond). is_of_one sources c ≡ each_is_of_one sources c) (sym chain) (by_parts rest.items (some-trees rest.items rest.len rest.ok.0 some))
   where
-    or-right : (x : Bool) {y : Bool} → y ≡ true → (x || y) ≡ true
-    or-right true e = refl
-    or-right false e = e
-
--- and then by each part
-one-each : (widths : List ℕ) (c : Cond) → names_one 0 widths c ≡ true → each_names_one widths c ≡ true
-one-each widths (And a b) h =
-    let both = names-both 0 widths a b h in
-    ap (λ x. x && each_names_one widths b) (one-each widths a both.0) ∙ one-each widths b both.1
-one-each widths (Compare c a b) h = h
-one-each widths (IsNull e) h = h
-one-each widths (Between e a b) h = h
-one-each widths (In e es) h = h
-one-each widths (Like e p) h = h
-one-each widths (Not c) h = h
-one-each widths (Or a b) h = h
-
-pub own-each : (widths : List ℕ) (c : Cond) (own : Bool) → OnTrue own (names_one 0 widths c ≡ true) → OnTrue own (each_names_one widths c ≡ true)
-own-each widths c true h = one-each widths c h
-own-each widths c false h = tt
-
--- a chain of AND of such conditions is one
-each-chain : (widths : List ℕ) (c : Cond) (ts : List CondTree) → each_names_one widths c ≡ true → AllByRecursion (λ t. each_names_one widths (cond_of t) ≡ true) ts
-    → each_names_one widths (fold And c (map cond_of ts)) ≡ true
-each-chain widths c [] one all = one
-each-chain widths c (t ∷ ts) one all = each-chain widths (And c (cond_of t)) ts (ap (λ x. x && each_names_one widths (cond_of t)) one ∙ all.0) all.1
-
-pub each-and : (widths : List ℕ) (tree : CondTree) (first : Box CondTree Global) (rest : Vec CondTree Global) → tree ≡ cond_view.And first rest
-    → each_names_one widths (cond_of first.value) ≡ true → AllByRecursion (λ t. each_names_one widths (cond_of t) ≡ true) rest.items → each_names_one widths (cond_of tree) ≡ true
-each-and widths tree first rest is one all =
-    ap (λ t. each_names_one widths (cond_of t)) is ∙ ap (each_names_one widths) (tree-And first rest) ∙ each-chain widths (cond_of first.value) rest.items one all
+    by_parts : (ts : List CondTree) → (ts ≡ [] → ⊥) → is_of_one sources (fold Or (cond_of first.value) (map cond_of ts)) ≡ each_is_of_one sources (fold Or (cond_of first.value) (map cond_of ts))
+    by_parts [] some = absurd (some refl)
+    by_parts (t ∷ ts) some = sym (or-one sources (cond_of first.value) (cond_of t) (map cond_of ts))
 
 -- ---- what holds of rows that are joined
 -- sources of these widths, of which the last one ends there

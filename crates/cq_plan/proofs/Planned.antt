@@ -1,21 +1,20 @@
 -- A plan keeps the joined rows that WHERE keeps.
-use Rattle.std.proofs.Common.{◌≡◌, ◌∙◌, ℕ, ◌+◌, not, Bool, true, false, List, [], ◌∷◌, Option, arith, ap, filter, length, refl, subst, sym, inl, inr}
+use Rattle.std.proofs.Common.{◌≡◌, ◌∙◌, ℕ, ◌+◌, not, ◌&&◌, ◌||◌, ◌⊎◌, Bool, true, false, List, [], ◌∷◌, Option, Some, None, arith, ap, ap₂, filter, length, refl, subst, sym, inl, inr}
 use Rattle.std.proofs.lemmas.List.{length-map}
-use Rattle.std.specs.Bool.{OnTrue}
 use Rattle.std.specs.List.{AllByRecursion}
 use Rattle.cq_values.specs.Value.{Row}
 use Rattle.cq_model.proofs.Conditions.{none-kept}
-use Rattle.cq_model.specs.Expr.{Cond}
+use Rattle.cq_model.specs.Expr.{Cond, Compare, IsNull, Between, In, Like, Not, And, Or}
 use Rattle.cq_model.specs.Meaning.{keeps}
-use Rattle.cq_model.specs.Own.{passes_own}
+use Rattle.cq_model.specs.Own.{passes_own, tests_only}
 use Rattle.cq_model.specs.declared.query.Join.{Join}
 use Rattle.cq_model.specs.declared.query.Query.{Query}
 use Rattle.cq_plan.specs.Below.{AllPass, ArePassing}
 use Rattle.cq_plan.specs.Chain.{ChainedSource, chain_list, joined_lists, links_with}
-use Rattle.cq_plan.specs.EachOwn.{AreEachOwn}
+use Rattle.cq_plan.specs.EachOwn.{AreEachOwn, each_is_of_one, each_names_one, is_of_one, names_one}
 use Rattle.cq_plan.specs.Own.{conditions_of}
 use Rattle.cq_plan.specs.Plan.{kept_of}
-use Rattle.cq_plan.specs.Planned.{AreAllOwn, AsksWhere, HaveColumns, IsAskedBehind, IsPlanned, asked_behind, asked_below, below_of, is_joined, joined_by, passing_links, passing_of, widths_of}
+use Rattle.cq_plan.specs.Planned.{AreAllOwn, AsksWhere, HaveColumns, IsPlanned, asked_behind, asked_below, below_of, is_asked_behind, is_joined, joined_by, passing_links, passing_of, widths_of}
 use Rattle.cq_plan.specs.declared.plans.PlannedSource.{PlannedSource}
 use Rattle.cq_plan.proofs.Below.{all-below, below-joins}
 use Rattle.cq_plan.proofs.EachOwn.{owned-all}
@@ -44,6 +43,43 @@ links-planned below before (j ∷ js) (s ∷ ss) (rows ∷ others) own have same
       wide = (have.0, rest.wide);
       pass = (refl, passing-planned below before s rows own.0, rest.pass);
     }
+
+-- ---- parts of WHERE
+-- where planned sources stand one behind the other, one is named alone exactly where one of their widths is
+one-named : (below : Option Cond) (before : ℕ) (ss : List PlannedSource) (c : Cond) → AreAllOwn below before ss → is_of_one ss c ≡ names_one before (widths_of ss) c
+one-named below before [] c own = refl
+one-named below before (s ∷ ss) c own =
+    ap₂ ◌||◌ (ap (λ (n : ℕ). tests_only n s.wide c) own.0.place) (one-named below (before + s.wide) ss c own.1)
+
+-- and by each part
+each-named : (below : Option Cond) (ss : List PlannedSource) (c : Cond) → AreAllOwn below 0 ss → each_is_of_one ss c ≡ each_names_one (widths_of ss) c
+each-named below ss (And a b) own = ap₂ ◌&&◌ (each-named below ss a own) (each-named below ss b own)
+each-named below ss (Compare c a b) own = one-named below 0 ss (Compare c a b) own
+each-named below ss (IsNull e) own = one-named below 0 ss (IsNull e) own
+each-named below ss (Between e a b) own = one-named below 0 ss (Between e a b) own
+each-named below ss (In e es) own = one-named below 0 ss (In e es) own
+each-named below ss (Like e p) own = one-named below 0 ss (Like e p) own
+each-named below ss (Not c) own = one-named below 0 ss (Not c) own
+each-named below ss (Or a b) own = one-named below 0 ss (Or a b) own
+
+-- what is asked behind the joins: WHERE, or nothing where each of its parts was asked below them
+abbrev IsLeft : Option Cond → Option Cond → List ℕ → Option Cond → Type 0
+IsLeft where_is below widths behind = (behind ≡ where_is) ⊎ ((behind ≡ None) × (below ≡ where_is) × AreEachOwn where_is widths)
+
+behind-or-each : (q : Query) (asks_behind : Bool) (ss : List PlannedSource) → AsksWhere q ss asks_behind → IsLeft q.filter (below_of q) (widths_of ss) (asked_behind asks_behind q.filter)
+behind-or-each q asks_behind ss asks = by_where q.filter asks_behind (is_joined q) asks.own asks.behind
+  where
+    by_where : (where_is : Option Cond) (asks below : Bool) → AreAllOwn (asked_below below where_is) 0 ss → asks ≡ is_asked_behind where_is below ss
+        → IsLeft where_is (asked_below below where_is) (widths_of ss) (asked_behind asks where_is)
+    by_where None true below own is = inl refl
+    by_where None false below own is = inl refl
+    by_where (Some c) true below own is = inl refl
+    by_where (Some c) false false own is = absurd (cc is)
+    by_where (Some c) false true own is = inr (refl, refl, sym (each-named (Some c) ss c own) ∙ all-own (each_is_of_one ss c) is)
+      where
+        all-own : (x : Bool) → false ≡ not (true && x) → x ≡ true
+        all-own true e = refl
+        all-own false e = absurd (cc e)
 
 -- ---- WHERE
 -- it keeps the same rows, whether its own conditions were asked before or none were
@@ -84,9 +120,9 @@ module _ (q : Query) (asks_behind : Bool) (s : PlannedSource) (ss : List Planned
 
   -- and so does what is asked behind the joins
   same-behind : filter (keeps behind) asked ≡ filter (keeps q.filter) asked
-  same-behind = by_case asks.behind
+  same-behind = by_case (behind-or-each q asks_behind (s ∷ ss) asks)
     where
-      by_case : IsAskedBehind q.filter below (s.wide ∷ widths_of ss) behind → filter (keeps behind) asked ≡ filter (keeps q.filter) asked
+      by_case : IsLeft q.filter below (s.wide ∷ widths_of ss) behind → filter (keeps behind) asked ≡ filter (keeps q.filter) asked
       by_case (inl is) = ap (λ (c : Option Cond). filter (keeps c) asked) is
       by_case (inr (none, is, each)) =
           ap (λ (c : Option Cond). filter (keeps c) asked) none ∙ none-kept asked
@@ -118,15 +154,11 @@ module _ (q : Query) (ss : List PlannedSource) (asks_behind : Bool) (asks : Asks
       by_sources (s ∷ ss) (first ∷ others) asks have all = all-asked q asks_behind s ss first others asks have P all
 
 -- ---- making one
-module _ (q : Query) (ss : List PlannedSource) (below each : Bool) (widths : List ℕ) (joined : below ≡ is_joined q) (own : AreAllOwn (asked_below below q.filter) 0 ss) (wide : widths_of ss ≡ widths) (count : length widths ≡ length q.joins + 1) where
-  -- nothing is asked behind the joins only where each part of WHERE was asked below them
-  pub asks-where : OnTrue each (below ≡ true) → OnTrue each (AreEachOwn q.filter widths) → AsksWhere q ss (not each)
-  asks-where is_below is_own = record {
+module _ (q : Query) (ss : List PlannedSource) (below : Bool) (widths : List ℕ) (joined : below ≡ is_joined q) (own : AreAllOwn (asked_below below q.filter) 0 ss) (wide : widths_of ss ≡ widths) (count : length widths ≡ length q.joins + 1) where
+  -- WHERE is asked of each source, and behind the joins where some part is left
+  pub asks-where : (asks : Bool) → asks ≡ is_asked_behind q.filter below ss → AsksWhere q ss asks
+  asks-where asks is = record {
     count = sym (length-map ss (λ s. s.wide)) ∙ ap length wide ∙ count;
     own = subst (λ (b : Bool). AreAllOwn (asked_below b q.filter) 0 ss) joined own;
-    behind = by_case each is_below is_own;
+    behind = is ∙ ap (λ (b : Bool). is_asked_behind q.filter b ss) joined;
   }
-    where
-      by_case : (e : Bool) → OnTrue e (below ≡ true) → OnTrue e (AreEachOwn q.filter widths) → IsAskedBehind q.filter (below_of q) (widths_of ss) (asked_behind (not e) q.filter)
-      by_case false b o = inl refl
-      by_case true b o = inr (refl, ap (λ (x : Bool). asked_below x q.filter) (sym joined ∙ b), subst (AreEachOwn q.filter) (sym wide) o)

@@ -1,5 +1,5 @@
 -- What of WHERE is asked of the rows of each source, and what of the joined rows.
-use Rattle.std.specs.Prelude.{◌==◌, ◌≡◌, ◌⊎◌, ℕ, ◌+◌, Bool, not, List, [], ◌∷◌, Option, None, if◌then◌else◌, length, map, filter}
+use Rattle.std.specs.Prelude.{◌==◌, ◌≡◌, ◌&&◌, ℕ, ◌+◌, Bool, false, not, List, [], ◌∷◌, Option, Some, None, if◌then◌else◌, length, map, filter}
 use Rattle.std.specs.List.{AllByRecursion}
 use Rattle.cq_values.specs.Value.{Row}
 use Rattle.cq_model.specs.Exact.{AreExactIn}
@@ -8,7 +8,7 @@ use Rattle.cq_model.specs.Own.{in_place, passes_own}
 use Rattle.cq_model.specs.declared.query.Join.{Join}
 use Rattle.cq_model.specs.declared.query.Query.{Query}
 use Rattle.cq_plan.specs.Chain.{ChainedSource, HaveValues, chain_list}
-use Rattle.cq_plan.specs.EachOwn.{AreEachOwn}
+use Rattle.cq_plan.specs.EachOwn.{each_is_of_one}
 use Rattle.cq_plan.specs.Own.{AreOwnOf, AskAllOwnOf, conditions_of}
 use Rattle.cq_plan.specs.declared.plans.PlannedSource.{PlannedSource}
 
@@ -31,9 +31,10 @@ abbrev pub AreAllOwn : Option Cond → ℕ → List PlannedSource → Type 0
 AreAllOwn condition before [] = Unit {0}
 AreAllOwn condition before (s ∷ ss) = IsPlanned condition before s × AreAllOwn condition (before + s.wide) ss
 
--- what is asked behind the joins: WHERE, or nothing where each of its parts was asked below them
-abbrev pub IsAskedBehind : Option Cond → Option Cond → List ℕ → Option Cond → Type 0
-IsAskedBehind where_is below widths behind = (behind ≡ where_is) ⊎ ((behind ≡ None) × (below ≡ where_is) × AreEachOwn where_is widths)
+-- whether WHERE is asked of the joined rows: there is one, and it is asked below no joins or some part is no source's own
+abbrev pub is_asked_behind : Option Cond → Bool → List PlannedSource → Bool
+is_asked_behind None below sources = false
+is_asked_behind (Some c) below sources = not (below && each_is_of_one sources c)
 
 -- the columns of each source
 abbrev pub widths_of : List PlannedSource → List ℕ
@@ -47,12 +48,12 @@ is_joined q = not (length q.joins == 0)
 abbrev pub below_of : Query → Option Cond
 below_of q = asked_below (is_joined q) q.filter
 
--- there is a source for each name in FROM, each is asked all parts of WHERE that are its own before it is joined, and what
--- is left is asked behind the joins
+-- there is a source for each name in FROM, each is asked all parts of WHERE that are its own before it is joined, and WHERE
+-- is asked behind the joins where some part is left
 pub record AsksWhere (q : Query) (sources : List PlannedSource) (asks_behind : Bool) : Type 0 where
   pub count : length sources ≡ length q.joins + 1
   pub own : AreAllOwn (below_of q) 0 sources
-  pub behind : IsAskedBehind q.filter (below_of q) (widths_of sources) (asked_behind asks_behind q.filter)
+  pub behind : asks_behind ≡ is_asked_behind q.filter (is_joined q) sources
 
 -- ---- Rows
 -- the rows of a source that pass what is asked of them

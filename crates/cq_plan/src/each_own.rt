@@ -1,57 +1,47 @@
-//! Whether WHERE has to be asked behind the joins.
-ghost use Rattle.std.specs.Bool.{OnTrue};
-ghost use Rattle.std.specs.Prelude.{◌≡◌, ◌∷◌, true};
+//! Whether each part of WHERE is some source's own.
+ghost use Rattle.std.specs.Prelude.{◌≡◌};
 ghost use Rattle.cq_model.specs.Trees.{cond_of};
-ghost use Rattle.cq_plan.specs.EachOwn.{AreEachOwn, each_names_one, names_one};
+ghost use Rattle.cq_plan.specs.EachOwn.{each_is_of_one, is_of_one};
 
-use cq_model::{Cond, CondTree};
+use crate::plans::PlannedSource;
+use cq_model::CondTree;
 use cq_model_terms::tests_only;
 
-/// Whether each of the parts of WHERE that AND joins names the columns of one source alone. The first source has so many
-/// columns, and so have the others. It takes no memory.
-pub fn each_is_own(filter: &Option<Cond>, first: usize, others: &[usize]) -> bool
-    ensures { OnTrue result (AreEachOwn filter.now (first ∷ others.now)) }
-{
-    match filter {
-        Some(condition) => is_each_own(condition.tree(), first, others),
-        None => true,
-    }
-}
-
-fn is_each_own(tree: &CondTree, first: usize, others: &[usize]) -> bool
-    ensures { OnTrue result (each_names_one (first ∷ others.now) (cond_of tree.now) ≡ true) }
+/// Whether each of the parts that AND joins names the columns of one source alone. It takes no memory.
+pub(crate) fn each_is_own(tree: &CondTree, sources: &[PlannedSource<'_>]) -> bool
+    ensures { result ≡ each_is_of_one sources.now (cond_of tree.now) }
 {
     match tree {
         CondTree::And(part, rest) => {
-            if !is_each_own(part, first, others) {
+            if !each_is_own(part, sources) {
                 return false;
             }
             for part in rest {
-                if !is_each_own(part, first, others) {
+                if !each_is_own(part, sources) {
                     return false;
                 }
             }
             true
         }
-        _ => is_own_of_one(tree, first, others),
+        // An OR of one part is that part.
+        CondTree::Or(part, rest) => {
+            if rest.is_empty() {
+                each_is_own(part, sources)
+            } else {
+                is_own_of_one(tree, sources)
+            }
+        }
+        _ => is_own_of_one(tree, sources),
     }
 }
 
 /// Whether the condition names the columns of one source alone.
-fn is_own_of_one(tree: &CondTree, first: usize, others: &[usize]) -> bool
-    ensures { OnTrue result (names_one 0 (first ∷ others.now) (cond_of tree.now) ≡ true) }
+fn is_own_of_one(tree: &CondTree, sources: &[PlannedSource<'_>]) -> bool
+    ensures { result ≡ is_of_one sources.now (cond_of tree.now) }
 {
-    if tests_only(tree, 0, first) {
-        return true;
-    }
-    let mut before = first;
-    for wide in others {
-        if tests_only(tree, before, *wide) {
+    for source in sources {
+        if tests_only(tree, source.before, source.wide) {
             return true;
-        }
-        match before.checked_add(*wide) {
-            Some(behind) => before = behind,
-            None => return false,
         }
     }
     false

@@ -14,7 +14,6 @@ mod planning;
 mod plans;
 
 pub use columns::columns_of_condition;
-pub use each_own::each_is_own;
 pub use laws::{
     chain_of_lists, chains_in_parts, own_conditions_are_all, own_conditions_are_exact,
     own_conditions_below_joins,

@@ -3,10 +3,8 @@
 //! [`plan`] looks at WHERE and at how many columns each source has. The parts of WHERE that name one source alone are
 //! asked of its rows before any join; WHERE as a whole is asked of the joined rows only where some part is left. Groups,
 //! HAVING, items, DISTINCT, ORDER BY and LIMIT stand in the query and the order, which a [`Plan`] lends.
-ghost use Rattle.std.specs.Bool.{OnTrue};
-ghost use Rattle.std.specs.Prelude.{◌+◌, ◌≡◌, IfOk, length, map, true};
-ghost use Rattle.cq_plan.specs.EachOwn.{AreEachOwn};
-ghost use Rattle.cq_plan.specs.Planned.{AreAllOwn, IsPlanned, asked_below};
+ghost use Rattle.std.specs.Prelude.{◌+◌, ◌≡◌, IfOk, length, map};
+ghost use Rattle.cq_plan.specs.Planned.{AreAllOwn, IsPlanned, asked_below, is_asked_behind};
 ghost use Rattle.cq_plan.specs.Plan.{IsPlanOf, MeansQuery};
 
 use crate::each_own::each_is_own;
@@ -30,7 +28,7 @@ pub fn plan<'q>(
 {
     let below = !query.joins.is_empty();
     let sources = planned_sources(alloc, &query.filter, below, widths)?;
-    let asks_behind = !is_asked_below(&query.filter, below, widths);
+    let asks_behind = is_asked_behind(&query.filter, below, &sources);
     Ok(Plan {
         query,
         order,
@@ -77,13 +75,12 @@ fn planned_source<'q>(
     Ok(PlannedSource { before, wide, own })
 }
 
-/// Whether each part of WHERE is some source's own, where these are asked below the joins.
-fn is_asked_below(filter: &Option<Cond>, below: bool, widths: &[usize]) -> bool
-    ensures below { OnTrue result (below ≡ true) }
-    ensures own { OnTrue result (AreEachOwn filter.now widths.now) }
+/// Whether WHERE is asked of the joined rows: parts of it are not asked below joins, or some part is no source's own.
+fn is_asked_behind(filter: &Option<Cond>, below: bool, sources: &[PlannedSource<'_>]) -> bool
+    ensures { result ≡ is_asked_behind filter.now below sources.now }
 {
-    match widths.split_first() {
-        Some((first, others)) if below => each_is_own(filter, *first, others),
-        _ => false,
+    match filter {
+        Some(condition) => !(below && each_is_own(condition.tree(), sources)),
+        None => false,
     }
 }

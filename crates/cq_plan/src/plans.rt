@@ -17,6 +17,6 @@ pub struct Plan<'q> {
     pub order: &'q Order,
     /// In the order of FROM.
     pub sources: Vec<PlannedSource<'q>>,
-    /// Whether WHERE is asked of the joined rows.
+    /// Whether WHERE is asked of the joined rows: there is one, and no source is joined or some part names none alone.
     pub asks_behind: bool,
 }

@@ -11,7 +11,7 @@ use crate::operands::Operands;
 use crate::operation::Operation;
 use crate::side::Side;
 use crate::taker::{Made, Taker, give_side};
-use cq_vectors::Vector;
+use cq_vectors::{Buffers, Vector};
 use cq_vectors_masks::Plane;
 use std::alloc::Global;
 
@@ -21,13 +21,19 @@ impl<'v, 'x, 'y, O: Operation> Taker for Operands<'v, 'x, 'y, O> {
 
     ghost wanted = { λ t. zip2 (lifted O.apply) t.a.now t.b.now };
 
-    fn take<'a, S: Side>(&self, alloc: Global, side: &S, nulls: &Plane) -> Made<'a> {
+    fn take<'a, S: Side>(
+        &self,
+        alloc: Global,
+        buffers: &mut Buffers,
+        side: &S,
+        nulls: &Plane,
+    ) -> Made<'a> {
         let second = Second {
             of: self,
             left: side,
             left_nulls: nulls,
         };
-        give_side(alloc, self.b, &second)
+        give_side(alloc, buffers, self.b, &second)
     }
 }
 
@@ -45,12 +51,18 @@ impl<'s, 'v, 'x, 'y, O: Operation, A: Side> Taker for Second<'s, 'v, 'x, 'y, O, 
 
     ghost wanted = { λ t. zip2 (lifted O.apply) t.of.now.a.now t.of.now.b.now };
 
-    fn take<'a, S: Side>(&self, alloc: Global, side: &S, nulls: &Plane) -> Made<'a> {
+    fn take<'a, S: Side>(
+        &self,
+        alloc: Global,
+        buffers: &mut Buffers,
+        side: &S,
+        nulls: &Plane,
+    ) -> Made<'a> {
         let (left, left_nulls) = (self.left, self.left_nulls);
         if O::fits_64_bits(left.size(), side.size()) {
             let mut both = Plane::new();
             both.set_or(left_nulls, nulls);
-            Ok(Some(in_64_bits::<O, A, S>(alloc, left, side, both)?))
+            Ok(Some(in_64_bits::<O, A, S>(alloc, buffers, left, side, both)?))
         } else {
             Ok(None)
         }

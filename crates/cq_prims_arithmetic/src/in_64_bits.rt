@@ -8,13 +8,14 @@ ghost use Rattle.cq_vectors_stored.specs.Columns.{AllFit};
 use crate::clear::clear_nulls;
 use crate::operation::Operation;
 use crate::side::Side;
-use cq_vectors::{Form, Numbers, Vector};
+use cq_vectors::{Buffers, Form, Numbers, Vector};
 use cq_vectors_masks::Plane;
 use std::alloc::{AllocError, Global};
 
 /// The results as a vector, NULL in the places that are given.
 pub(crate) fn in_64_bits<'a, O: Operation, A: Side, B: Side>(
     alloc: Global,
+    buffers: &mut Buffers,
     a: &A,
     b: &B,
     nulls: Plane,
@@ -24,13 +25,14 @@ pub(crate) fn in_64_bits<'a, O: Operation, A: Side, B: Side>(
     requires fits { AllFit w64 (zip2 O.apply (A.numbers a.now) (B.numbers b.now)) }
     ensures { IfOk result (λ made. made ≡ results O.apply (A.numbers a.now) (B.numbers b.now) nulls) }
 {
-    let mut values = results_in_64_bits::<O, A, B>(alloc, a, b, nulls.len())?;
+    let mut values = results_in_64_bits::<O, A, B>(alloc, buffers, a, b, nulls.len())?;
     clear_nulls(&mut values, &nulls);
     Ok(Vector::new(Form::Numbers(Numbers::new(values, nulls))))
 }
 
 fn results_in_64_bits<O: Operation, A: Side, B: Side>(
     alloc: Global,
+    buffers: &mut Buffers,
     a: &A,
     b: &B,
     len: usize,
@@ -40,7 +42,7 @@ fn results_in_64_bits<O: Operation, A: Side, B: Side>(
     requires fits { AllFit w64 (zip2 O.apply (A.numbers a.now) (B.numbers b.now)) }
     ensures { IfOk result (λ made. made.items ≡ zip2 O.apply (A.numbers a.now) (B.numbers b.now)) }
 {
-    let mut values = Vec::new(alloc);
+    let mut values = buffers.numbers(alloc);
     values.reserve(len)?;
     for i in 0..len {
         values.push_reserved(O::in_64_bits(a.at(i), b.at(i)));

@@ -6,12 +6,17 @@ ghost use Rattle.cq_model.specs.Group.{addend};
 ghost use Rattle.cq_prims_arithmetic.specs.Operation.{no_number};
 
 use cq_values::{Day, DayPart, Lent};
-use cq_vectors::{Form, Numbers, Vector};
+use cq_vectors::{Buffers, Form, Numbers, Vector};
 use cq_vectors_masks::Plane;
 use std::alloc::{AllocError, Global};
 
 /// The year, the month or the day of the month, place by place.
-pub fn extract<'a>(alloc: Global, part: DayPart, a: &Vector<'_>) -> Result<Vector<'a>, AllocError>
+pub fn extract<'a>(
+    alloc: Global,
+    buffers: &mut Buffers,
+    part: DayPart,
+    a: &Vector<'_>,
+) -> Result<Vector<'a>, AllocError>
     ensures { IfOk result (λ made. made ≡ map (extracted part) a.now) }
 {
     match a.form() {
@@ -19,19 +24,20 @@ pub fn extract<'a>(alloc: Global, part: DayPart, a: &Vector<'_>) -> Result<Vecto
             let value = part_of_value(part, value);
             Ok(Vector::new(Form::Constant(value, *len)))
         }
-        _ => parts_by_places(alloc, part, a),
+        _ => parts_by_places(alloc, buffers, part, a),
     }
 }
 
 fn parts_by_places<'a>(
     alloc: Global,
+    buffers: &mut Buffers,
     part: DayPart,
     a: &Vector<'_>,
 ) -> Result<Vector<'a>, AllocError>
     ensures { IfOk result (λ made. made ≡ map (extracted part) a.now) }
 {
     let len = a.len();
-    let mut values = Vec::new(alloc);
+    let mut values = buffers.numbers(alloc);
     let mut nulls = Plane::new();
     values.reserve(len)?;
     for i in 0..len {

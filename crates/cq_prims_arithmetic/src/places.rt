@@ -10,19 +10,20 @@ ghost use Rattle.cq_model.specs.Group.{addend};
 use crate::operands::Operands;
 use crate::operation::Operation;
 use cq_values::Lent;
-use cq_vectors::{Form, Vector, WideNumbers};
+use cq_vectors::{Buffers, Form, Vector, WideNumbers};
 use cq_vectors_masks::Plane;
 use std::alloc::{AllocError, Global};
 
 pub(crate) fn by_places<'a, O: Operation>(
     alloc: Global,
+    buffers: &mut Buffers,
     of: &Operands<'_, '_, '_, O>,
 ) -> Result<Vector<'a>, AllocError>
     ensures { IfOk result (λ made. made ≡ zip2 (lifted O.apply) of.now.a.now of.now.b.now) }
 {
     let (a, b) = (of.a, of.b);
     let len = a.len();
-    let mut values = Vec::new(alloc);
+    let mut values = buffers.wide(alloc);
     let mut nulls = Plane::new();
     values.reserve(len)?;
     for i in 0..len {

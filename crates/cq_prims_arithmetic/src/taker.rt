@@ -11,7 +11,7 @@ ghost use Rattle.cq_prims_arithmetic.specs.Sides.{AreSide};
 use crate::above::Above;
 use crate::side::{Column, Repeated, Side};
 use cq_values::Lent;
-use cq_vectors::{Form, Vector};
+use cq_vectors::{Buffers, Form, Vector};
 use cq_vectors_masks::Plane;
 use cq_vectors_stored::{Narrow, Offsets};
 use std::alloc::{AllocError, Global};
@@ -27,47 +27,64 @@ pub(crate) trait Taker {
     /// What is made of it.
     ghost wanted: { Self → List Value };
 
-    fn take<'a, S: Side>(&self, alloc: Global, side: &S, nulls: &Plane) -> Made<'a>
+    fn take<'a, S: Side>(
+        &self,
+        alloc: Global,
+        buffers: &mut Buffers,
+        side: &S,
+        nulls: &Plane,
+    ) -> Made<'a>
         requires { AreSide (S.numbers side.now) nulls.now (values self.now) }
         ensures { IfOk result (λ made. IfSome made (λ v. v ≡ wanted self.now)) };
 }
 
 /// Gives the taker the vector as a side.
-pub(crate) fn give_side<'a, K: Taker>(alloc: Global, vector: &Vector<'_>, taker: &K) -> Made<'a>
+pub(crate) fn give_side<'a, K: Taker>(
+    alloc: Global,
+    buffers: &mut Buffers,
+    vector: &Vector<'_>,
+    taker: &K,
+) -> Made<'a>
     requires { vector.now ≡ K.values taker.now }
     ensures { IfOk result (λ made. IfSome made (λ v. v ≡ K.wanted taker.now)) }
 {
     if let Form::Narrow(column) = vector.form() {
-        return give_narrow(alloc, column, taker);
+        return give_narrow(alloc, buffers, column, taker);
     }
     if let Form::Constant(value, len) = vector.form() {
-        return give_constant(alloc, vector, value, *len, taker);
+        return give_constant(alloc, buffers, vector, value, *len, taker);
     }
     match vector.numbers() {
         Some(column) => {
             let values = column.values();
-            taker.take(alloc, &Column { values }, column.nulls())
+            taker.take(alloc, buffers, &Column { values }, column.nulls())
         }
         None => Ok(None),
     }
 }
 
-fn give_narrow<'a, K: Taker>(alloc: Global, column: &Narrow<'_>, taker: &K) -> Made<'a>
+fn give_narrow<'a, K: Taker>(
+    alloc: Global,
+    buffers: &mut Buffers,
+    column: &Narrow<'_>,
+    taker: &K,
+) -> Made<'a>
     requires { K.values taker.now ≡ column.now }
     ensures { IfOk result (λ made. IfSome made (λ v. v ≡ K.wanted taker.now)) }
 {
     let (base, offsets) = column.parts();
     let nulls = column.nulls();
     match offsets {
-        Offsets::One(offsets) => taker.take(alloc, &Above { base, offsets }, nulls),
-        Offsets::Two(offsets) => taker.take(alloc, &Above { base, offsets }, nulls),
-        Offsets::Four(offsets) => taker.take(alloc, &Above { base, offsets }, nulls),
+        Offsets::One(offsets) => taker.take(alloc, buffers, &Above { base, offsets }, nulls),
+        Offsets::Two(offsets) => taker.take(alloc, buffers, &Above { base, offsets }, nulls),
+        Offsets::Four(offsets) => taker.take(alloc, buffers, &Above { base, offsets }, nulls),
     }
 }
 
 /// The same for a constant of which the vector is so many.
 fn give_constant<'a, K: Taker>(
     alloc: Global,
+    buffers: &mut Buffers,
     vector: &Vector<'_>,
     value: &Lent<'_>,
     len: usize,
@@ -80,7 +97,7 @@ fn give_constant<'a, K: Taker>(
     match number_of(value) {
         Some(number) => {
             let nulls = none_of(vector.len());
-            taker.take(alloc, &Repeated { number, len }, &nulls)
+            taker.take(alloc, buffers, &Repeated { number, len }, &nulls)
         }
         None => Ok(None),
     }

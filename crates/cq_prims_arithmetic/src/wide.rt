@@ -9,13 +9,14 @@ ghost use Rattle.cq_prims_arithmetic.specs.Operation.{lifted};
 use crate::operands::Operands;
 use crate::operation::Operation;
 use crate::wide_side::WideSide;
-use cq_vectors::{Form, Vector, WideNumbers};
+use cq_vectors::{Buffers, Form, Vector, WideNumbers};
 use cq_vectors_masks::Plane;
 use std::alloc::{AllocError, Global};
 
 /// The results of two vectors whose numbers are these.
 pub(crate) fn wide<'a, O: Operation, A: WideSide, B: WideSide>(
     alloc: Global,
+    buffers: &mut Buffers,
     of: &Operands<'_, '_, '_, O>,
     a: &A,
     b: &B,
@@ -25,7 +26,7 @@ pub(crate) fn wide<'a, O: Operation, A: WideSide, B: WideSide>(
     ensures { IfOk result (λ made. made ≡ zip2 (lifted O.apply) of.now.a.now of.now.b.now) }
 {
     let len = of.a.len();
-    let values = wide_results::<O, A, B>(alloc, a, b, len)?;
+    let values = wide_results::<O, A, B>(alloc, buffers, a, b, len)?;
     let mut nulls = Plane::new();
     nulls.set_all(false, len);
     Ok(Vector::new(Form::Wide(WideNumbers::new(values, nulls))))
@@ -33,6 +34,7 @@ pub(crate) fn wide<'a, O: Operation, A: WideSide, B: WideSide>(
 
 fn wide_results<O: Operation, A: WideSide, B: WideSide>(
     alloc: Global,
+    buffers: &mut Buffers,
     a: &A,
     b: &B,
     len: usize,
@@ -42,7 +44,7 @@ fn wide_results<O: Operation, A: WideSide, B: WideSide>(
     requires fits { AllFit w128 (zip2 O.apply (A.numbers a.now) (B.numbers b.now)) }
     ensures { IfOk result (λ made. made.items ≡ zip2 O.apply (A.numbers a.now) (B.numbers b.now)) }
 {
-    let mut values = Vec::new(alloc);
+    let mut values = buffers.wide(alloc);
     values.reserve(len)?;
     for i in 0..len {
         values.push_reserved(O::in_128_bits(a.at(i), b.at(i)));

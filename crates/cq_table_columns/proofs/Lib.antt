@@ -1,4 +1,6 @@
 pub mod AtPlaces
 pub mod LiveRows
 pub mod MarkedFronts
+pub mod Offsets
 pub mod Parts
+pub mod SpreadRows

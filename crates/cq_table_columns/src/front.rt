@@ -213,7 +213,7 @@ fn len_below(places: &[u16], end: usize) -> usize
     len
 }
 
-fn first_places(alloc: Global, len: usize) -> Result<Vec<u16>, AllocError>
+pub(crate) fn first_places(alloc: Global, len: usize) -> Result<Vec<u16>, AllocError>
     requires { len ≤ 1024 }
     ensures { IfOk result (λ places. places.items ≡ range_with_len 0 len) }
 {

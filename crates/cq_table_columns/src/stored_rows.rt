@@ -15,6 +15,7 @@ use crate::front::Front;
 use crate::gathering::gather;
 use crate::placed::Placed;
 use crate::places::{are_all, lent_at, lent_each};
+use crate::spread::Spread;
 use cq_segments_pieces::StoredRow;
 use cq_vectors::Vector;
 use std::alloc::{AllocError, Global};
@@ -26,6 +27,7 @@ pub enum StoredRows<'a> {
     Front(Front<'a>),
     Chosen(Chosen<'a>),
     Placed(Placed<'a>),
+    Spread(Spread<'a>),
 }
 
 impl<'a> StoredRows<'a> {
@@ -37,6 +39,7 @@ impl<'a> StoredRows<'a> {
             StoredRows::Front(front) => front.len(),
             StoredRows::Chosen(chosen) => chosen.len(),
             StoredRows::Placed(placed) => placed.len(),
+            StoredRows::Spread(spread) => spread.len(),
         }
     }
 
@@ -50,6 +53,7 @@ impl<'a> StoredRows<'a> {
             StoredRows::Front(front) => front.gather(alloc, column),
             StoredRows::Chosen(chosen) => chosen.gather(alloc, column),
             StoredRows::Placed(placed) => placed.gather(alloc, column),
+            StoredRows::Spread(spread) => spread.gather(alloc, column),
         }
     }
 
@@ -66,6 +70,7 @@ impl<'a> StoredRows<'a> {
             },
             StoredRows::Chosen(chosen) => Ok(StoredRows::Chosen(chosen.at(alloc, places)?)),
             StoredRows::Placed(placed) => Ok(StoredRows::Placed(placed.at(alloc, places)?)),
+            StoredRows::Spread(spread) => Ok(StoredRows::Spread(spread.at(alloc, places)?)),
         }
     }
 
@@ -85,6 +90,7 @@ impl<'a> StoredRows<'a> {
                 Ok(StoredRows::Listed(lent_each(alloc, &rows, places)?))
             }
             StoredRows::Placed(placed) => Ok(StoredRows::Placed(placed.at_each(alloc, places)?)),
+            StoredRows::Spread(spread) => Ok(StoredRows::Spread(spread.at_each(alloc, places)?)),
         }
     }
 
@@ -101,6 +107,7 @@ impl<'a> StoredRows<'a> {
             StoredRows::Front(front) => Ok(StoredRows::Front(*front)),
             StoredRows::Chosen(chosen) => Ok(StoredRows::Chosen(chosen.copy(alloc)?)),
             StoredRows::Placed(placed) => Ok(StoredRows::Placed(placed.copy(alloc)?)),
+            StoredRows::Spread(spread) => Ok(StoredRows::Spread(spread.copy(alloc)?)),
         }
     }
 
@@ -113,6 +120,7 @@ impl<'a> StoredRows<'a> {
             StoredRows::Front(front) => front.rows(alloc),
             StoredRows::Chosen(chosen) => chosen.rows(alloc),
             StoredRows::Placed(placed) => placed.rows(alloc),
+            StoredRows::Spread(spread) => spread.rows(alloc),
         }
     }
 }

@@ -94,6 +94,11 @@ impl Numbers {
         self.values.as_slice()
     }
 
+    /// The list in which the numbers stood, for its memory.
+    pub(crate) fn into_values(self) -> Vec<i64> {
+        self.values
+    }
+
     pub fn nulls(&self) -> &Plane
         ensures { result.now ≡ map is_null self.now }
     {

@@ -98,6 +98,11 @@ impl<'a> Vector<'a> {
         &self.form
     }
 
+    /// The form itself, for its memory.
+    pub(crate) fn into_form(self) -> Form<'a> {
+        self.form
+    }
+
     pub fn len(&self) -> usize
         ensures len { result ≡ length self.now }
         ensures few { result ≤ 1024 }

@@ -91,6 +91,11 @@ impl WideNumbers {
         self.values.as_slice()
     }
 
+    /// The list in which the numbers stood, for its memory.
+    pub(crate) fn into_values(self) -> Vec<i128> {
+        self.values
+    }
+
     pub fn nulls(&self) -> &Plane
         ensures { result.now ≡ map is_null self.now }
     {

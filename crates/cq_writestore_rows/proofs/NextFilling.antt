@@ -11,11 +11,11 @@ use Rattle.cq_segments_pieces.specs.Marked.{MarkedRow, rows_of, unmarked}
 use Rattle.cq_segments_pieces.specs.Pieces.{joined}
 use Rattle.cq_segments_pieces.proofs.Marks.{length-rows_of}
 use Rattle.cq_segments_pieces.proofs.Transposed.{length-rows}
-use Rattle.cq_writestore_rows.specs.Filling.{Filled, IsFilling, with_row, with_value}
+use Rattle.cq_writestore_rows.specs.Filling.{Filled, IsFilling, IsWhole, with_row, with_rows, with_value}
 use Rattle.cq_writestore_rows.specs.NewRows.{AreFresh}
 use Rattle.cq_writestore_rows.specs.TypedColumn.{column_values, values_in}
 use Rattle.cq_writestore_rows.specs.declared.typed_column.TypedColumn.{TypedColumn}
-use Rattle.cq_writestore_rows.proofs.Ended.{begun_length, ended, full_columns, none_begun, rows_ended}
+use Rattle.cq_writestore_rows.proofs.Ended.{begun_length, ended, filling-length, full_columns, none_begun, rows_ended}
 use Rattle.cq_writestore_rows.proofs.Filled.{fresh_more, rows_more}
 use Rattle.cq_writestore_rows.proofs.OneMore.{are_begun, begun_more, rows_kept}
 
@@ -80,6 +80,46 @@ module _ (pieces : List (List MarkedRow)) (width : ℕ) (columns : List (List Va
         ap (λ (l : List (List Value)). filled_of pieces width l (begun + 1) len) made
         ∙ ap₂ (λ (rs : List Row) (b : Row). filled rs b) (rows_kept columns begun len is.are (has_column short) value) (begun_more columns begun len is.are (has_column short) value)
         ∙ ap (λ (f : Filled). with_value value f) view
+
+  -- rows that fill pieces have none behind them
+  module _ (ready : IsWhole now) where
+    none_behind : len ≡ 0
+    none_behind = omega (arith, ready.count, ap (λ (f : Filled). length f.rows) view, filling-length pieces width columns begun len is, is.few)
+
+    -- and a piece of rows more
+    module _ (rows : List Row) (many_more : length rows ≡ 1024) (counted : length now.rows + 1024 < 2 ^ 63) (piece : List MarkedRow) (made : piece ≡ unmarked rows) (later : List (List MarkedRow)) (put : later ≡ pieces ++ piece ∷ []) where
+      fresh_rows : AreFresh pieces rows
+      fresh_rows = record {
+        whole = is.whole;
+        fresh = is.fresh;
+        small = omega (arith, counted, many_more, none_behind, ap (λ (f : Filled). length f.rows) view, length-append (rows_of (joined pieces)) (rows_of_columns columns len), length-rows_of (joined pieces), length-rows columns len);
+      }
+
+      later_fresh : AreFresh later []
+      later_fresh = subst (λ (l : List (List MarkedRow)). AreFresh l []) (sym put) (fresh_more pieces rows fresh_rows many_more piece made)
+
+      pub filling_joined : IsFilling later width columns begun len
+      filling_joined = record {
+        whole = later_fresh.whole;
+        fresh = later_fresh.fresh;
+        small = omega (arith, later_fresh.small, none_behind);
+        wide = is.wide;
+        few = is.few;
+        are = is.are;
+      }
+
+      joined_more : rows_of (joined (pieces ++ piece ∷ [])) ++ rows_of_columns columns len ≡ (rows_of (joined pieces) ++ rows_of_columns columns len) ++ rows
+      joined_more =
+          ap (λ (n : ℕ). rows_of (joined (pieces ++ piece ∷ [])) ++ rows_of_columns columns n) none_behind
+          ∙ rows_more pieces rows fresh_rows many_more piece made
+          ∙ ap (λ (rs : List Row). rs ++ rows) (sym (append-nil (rows_of (joined pieces))))
+          ∙ ap (λ (n : ℕ). (rows_of (joined pieces) ++ rows_of_columns columns n) ++ rows) (sym none_behind)
+
+      abbrev of_rows : List Row → Filled
+      of_rows rs = record { rows = rs; begun = row_at (take begun columns) len; width = width }
+
+      pub filled_joined : filled_of later width columns begun len ≡ with_rows rows now
+      filled_joined = ap (λ (ps : List (List MarkedRow)). filled_of ps width columns begun len) put ∙ ap of_rows joined_more ∙ ap (λ (f : Filled). with_rows rows f) view
 
   module _ (whole : length now.begun ≡ now.width) (counted : length now.rows + 1 < 2 ^ 63) where
     all : begun ≡ length columns

@@ -1,5 +1,5 @@
 -- Rows that come value by value.
-use Rattle.std.specs.Prelude.{◌≡◌, ◌<◌, ◌≤◌, ◌+◌, ◌^◌, ◌++◌, ℕ, List, [], ◌∷◌, length, slice_index_or}
+use Rattle.std.specs.Prelude.{◌≡◌, ◌<◌, ◌≤◌, ◌+◌, ◌*◌, ◌^◌, ◌++◌, ℕ, List, [], ◌∷◌, length, slice_index_or}
 use Rattle.cq_values.specs.Value.{Row}
 use Rattle.cq_values.specs.declared.value.Value.{Value}
 use Rattle.cq_segments_pieces.specs.Marked.{MarkedRow}
@@ -28,6 +28,16 @@ with_value value old = record { rows = old.rows; begun = old.begun ++ value ∷ 
 -- the row that is begun ends
 abbrev pub with_row : Filled → Filled
 with_row old = record { rows = old.rows ++ old.begun ∷ []; begun = []; width = old.width }
+
+-- the rows fill pieces of 1,024, and none is begun
+pub record IsWhole (filled : Filled) : Type 0 where
+  pub pieces : ℕ
+  pub count : length filled.rows ≡ 1024 * pieces
+  pub none : filled.begun ≡ []
+
+-- rows more, all at once
+abbrev pub with_rows : List Row → Filled → Filled
+with_rows rows old = record { rows = old.rows ++ rows; begun = old.begun; width = old.width }
 
 -- columns of so many values, and those before a place have one more
 pub record AreBegun (columns : List (List Value)) (begun len : ℕ) : Type 0 where

@@ -1,13 +1,14 @@
 //! Rows that are put into columns as they come.
 //!
 //! `push` takes the values of a row, from the left, and `end_row` ends it. A value is put where it stays, and 1,024 rows at a
-//! time become a piece. `finish` gives the rows: it makes a row of each that is in no piece. After an error some may be lost.
+//! time become a piece. `push_columns` takes a piece of rows at once, as columns. `finish` gives the rows: it makes a row
+//! of each that is in no piece. After an error some may be lost.
 ghost use Rattle.std.specs.Prelude.{IfOk, OnErr, OnOk, [], length, ◌+◌, ◌<◌, ◌^◌, ◌≡◌, ◌≤◌, replicate};
-ghost use Rattle.cq_segments_pieces.specs.Columns.{AreColumns, rows_of_columns};
+ghost use Rattle.cq_segments_pieces.specs.Columns.{AreColumns, columns_in, encoded_rows, rows_of_columns};
 ghost use Rattle.cq_segments_pieces.specs.Marked.{unmarked};
 ghost use Rattle.cq_values.specs.Lent.{owned};
 ghost use Rattle.cq_values.specs.Value.{Row as Values};
-ghost use Rattle.cq_writestore_rows.specs.Filling.{AreOpen, IsEmpty, with_row, with_value};
+ghost use Rattle.cq_writestore_rows.specs.Filling.{AreOpen, IsEmpty, IsWhole, with_row, with_rows, with_value};
 ghost use Rattle.cq_writestore_rows.specs.TypedColumn.{values_in};
 
 use crate::new_rows::NewRows;
@@ -98,7 +99,7 @@ impl Filling {
         ensures { OnOk result (self.new ≡ with_row self.old) }
     {
         let alloc = *self.pieces.allocator();
-        self.count_one_more(alloc)?;
+        self.count_more(alloc, 1)?;
         if self.len < 1023 {
             self.begun = 0;
             self.len += 1;
@@ -112,6 +113,18 @@ impl Filling {
         Ok(())
     }
 
+    /// Puts 1,024 rows behind the others, whose columns these are.
+    pub fn push_columns(&mut self, columns: Vec<AnyEncoded>) -> Result<(), AllocError>
+        requires whole { IsWhole self.old }
+        requires are { AreColumns (columns_in columns.items) 1024 }
+        ensures { OnOk result (self.new ≡ with_rows (encoded_rows columns.items 1024) self.old) }
+    {
+        let alloc = *self.pieces.allocator();
+        self.count_more(alloc, 1024)?;
+        self.pieces.push(Piece::of_columns(alloc, columns, 1024)?)?;
+        Ok(())
+    }
+
     /// The rows that have ended.
     pub fn finish(self) -> Result<NewRows, AllocError>
         ensures { IfOk result (λ rows. rows ≡ self.rows) }
@@ -121,12 +134,13 @@ impl Filling {
         Ok(NewRows::new(self.pieces, tail))
     }
 
-    /// Refuses a row more than can be counted, and no other.
-    fn count_one_more(&self, alloc: Global) -> Result<(), AllocError>
-        ensures ok { OnOk result (length self.now.rows + 1 < 2 ^ 63) }
-        ensures refused { OnErr result (2 ^ 63 ≤ length self.now.rows + 1) }
+    /// Refuses rows more than can be counted, and no others.
+    fn count_more(&self, alloc: Global, more: usize) -> Result<(), AllocError>
+        requires { more ≤ 1024 }
+        ensures ok { OnOk result (length self.now.rows + more < 2 ^ 63) }
+        ensures refused { OnErr result (2 ^ 63 ≤ length self.now.rows + more) }
     {
-        let count = self.len() + 1;
+        let count = self.len() + more;
         widened(alloc, count, count)?;
         Ok(())
     }

@@ -8,7 +8,7 @@ ghost use Rattle.cq_model.specs.Width.{value_size};
 use super::columns::{counted, is_number};
 use cq_prims_arithmetic::{add, mul, neg};
 use cq_values::{Lent, Row};
-use cq_vectors::Vector;
+use cq_vectors::{Buffers, Vector};
 use std::alloc::{AllocError, Global};
 use std::process::Abort;
 use std::test::Fail;
@@ -45,10 +45,12 @@ fn result_of<'a>(
     requires left { (k : ℕ) → value_size (slice_index_or a.now k Null) ≤ 2 ^ 63 }
     requires right { (k : ℕ) → value_size (slice_index_or b.now k Null) ≤ 2 ^ 63 }
 {
+    let mut buffers = Buffers::new(alloc);
+    let buffers = &mut buffers;
     match sign {
-        '+' => add(alloc, a, b),
-        '*' => mul(alloc, a, b),
-        _ => neg(alloc, a),
+        '+' => add(alloc, buffers, a, b),
+        '*' => mul(alloc, buffers, a, b),
+        _ => neg(alloc, buffers, a),
     }
 }
 

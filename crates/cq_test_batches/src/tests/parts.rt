@@ -4,7 +4,7 @@ ghost use Rattle.std.specs.Prelude.{length, ◌≤◌};
 use super::columns::{is_number, row_within};
 use cq_prims_arithmetic::{extract, largest_size};
 use cq_values::{Day, DayPart, Row, Value};
-use cq_vectors::Vector;
+use cq_vectors::{Buffers, Vector};
 use std::alloc::{AllocError, Global};
 use std::process::Abort;
 use std::test::Fail;
@@ -47,7 +47,8 @@ fn check_months(
     days: &Vector<'_>,
     last: usize,
 ) -> Result<(), Fail> {
-    let months = extract(alloc, DayPart::Month, days)?;
+    let mut buffers = Buffers::new(alloc);
+    let months = extract(alloc, &mut buffers, DayPart::Month, days)?;
     assert!(rt;
         months.lend(0).is_null() && months.lend(last).is_null(),
         "to {last}"

@@ -7,16 +7,16 @@ use Rattle.cq_writestore_rows.proofs.NextFilling.{filled_emptied, filled_ended, 
 use Rattle.cq_writestore_rows.proofs.filling.Filling.end_row.Goals as goal
 
 pub invariant_of-self : goal.invariant_of-self
-invariant_of-self c = filling_ended _ _ _ _ _ c.self.invariant _ c.self.view_is c.requires c.in_ok-count_one_more.ensures.ok c.if-self-lt1023.true
+invariant_of-self c = filling_ended _ _ _ _ _ c.self.invariant _ c.self.view_is c.requires c.in_ok-count_more.ensures.ok c.if-self-lt1023.true
 
 pub returns-then-self-lt1023 : goal.returns-then-self-lt1023
-returns-then-self-lt1023 c = filled_ended _ _ _ _ _ c.self.invariant _ c.self.view_is c.requires c.in_ok-count_one_more.ensures.ok
+returns-then-self-lt1023 c = filled_ended _ _ _ _ _ c.self.invariant _ c.self.view_is c.requires c.in_ok-count_more.ensures.ok
 
 pub piece_of-requires : goal.piece_of-requires
 piece_of-requires c =
     let same : values_in c.replace-full.result.items ≡ values_in c.self.inside.columns.items = search rules in
     let full : c.self.inside.len ≡ 1023 = omega (arith, c.self.invariant.few, c.if-self-lt1023.false) in
-    subst (λ l. AreColumns l 1024) (sym same) (filling_full _ _ _ _ _ c.self.invariant _ c.self.view_is c.requires c.in_ok-count_one_more.ensures.ok full)
+    subst (λ l. AreColumns l 1024) (sym same) (filling_full _ _ _ _ _ c.self.invariant _ c.self.view_is c.requires c.in_ok-count_more.ensures.ok full)
 
 pub invariant_of-self-in_err-push : goal.invariant_of-self-in_err-push
 invariant_of-self-in_err-push c =
@@ -29,7 +29,7 @@ invariant_of-self-2 c =
     let full : c.self.inside.len ≡ 1023 = omega (arith, c.self.invariant.few, c.if-self-lt1023.false) in
     let same : values_in c.replace-full.result.items ≡ values_in c.self.inside.columns.items = search rules in
     let made = c.in_ok-piece_of.ensures ∙ ap (λ (l : List (List Value)). unmarked (rows_of_columns l 1024)) same in
-    filling_emptied _ _ _ _ _ c.self.invariant _ c.self.view_is c.requires c.in_ok-count_one_more.ensures.ok full _ made _ c.in_ok-push.ensures.items _ none
+    filling_emptied _ _ _ _ _ c.self.invariant _ c.self.view_is c.requires c.in_ok-count_more.ensures.ok full _ made _ c.in_ok-push.ensures.items _ none
 
 pub returns : goal.returns
 returns c =
@@ -37,4 +37,4 @@ returns c =
     let full : c.self.inside.len ≡ 1023 = omega (arith, c.self.invariant.few, c.if-self-lt1023.false) in
     let same : values_in c.replace-full.result.items ≡ values_in c.self.inside.columns.items = search rules in
     let made = c.in_ok-piece_of.ensures ∙ ap (λ (l : List (List Value)). unmarked (rows_of_columns l 1024)) same in
-    filled_emptied _ _ _ _ _ c.self.invariant _ c.self.view_is c.requires c.in_ok-count_one_more.ensures.ok full _ made _ c.in_ok-push.ensures.items _ none
+    filled_emptied _ _ _ _ _ c.self.invariant _ c.self.view_is c.requires c.in_ok-count_more.ensures.ok full _ made _ c.in_ok-push.ensures.items _ none
