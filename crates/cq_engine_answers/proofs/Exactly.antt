@@ -216,7 +216,7 @@ module _ (law : ChainOfLists) (lents : List StoredSource) (q : Query) where
           (subst (λ (p : Query). IsConditionSized all_sizes (below_of p)) (sym is.query) (sized-below all_sizes q.filter (is_joined q) can.filter))
 
   -- ---- the list
-  module _ (order : Order) (e : Remaining) (opened : IsOpened q order (kept_of q all_sources) e) where
+  module _ (order : Order) (e : Remaining) (opened : IsOpened q order all_sources e) where
     ranged : IsInRange e → MeaningInRange q (stored_bags lents)
     ranged range =
         subst (ShapeInRange q.shape) kept
@@ -246,8 +246,8 @@ module _ (law : ChainOfLists) (lents : List StoredSource) (q : Query) where
 
   -- what is opened by a plan of the query
   pub opened-of : (order : Order) (widths : List ℕ) (plan : Plan) → IsPlanOf q order widths plan → (sources : List (List Row)) → sources ≡ all_sources → (e : Remaining)
-      → IsOpened plan.query.now plan.order.now (kept_of plan.query.now sources) e → IsOpened q order (kept_of q all_sources) e
+      → IsOpened plan.query.now plan.order.now sources e → IsOpened q order all_sources e
   opened-of order widths plan is sources are e opened =
-      subst (λ (ss : List (List Row)). IsOpened q order (kept_of q ss) e) are
-      (subst (λ (o : Order). IsOpened q o (kept_of q sources) e) is.order
-      (subst (λ (p : Query). IsOpened p plan.order.now (kept_of p sources) e) is.query opened))
+      subst (λ (ss : List (List Row)). IsOpened q order ss e) are
+      (subst (λ (o : Order). IsOpened q o sources e) is.order
+      (subst (λ (p : Query). IsOpened p plan.order.now sources e) is.query opened))

@@ -186,9 +186,10 @@ all_added lead groups numbers rows [] slots = slots
 all_added lead groups numbers rows (a ∷ aggregates) [] = []
 all_added lead groups numbers rows (a ∷ aggregates) (s ∷ slots) = added_slots lead groups numbers rows a s ∷ all_added lead groups numbers rows aggregates slots
 
--- the rows of a batch were added to what is kept for one aggregate
-abbrev pub IsAdded : Option Aggregate → ℕ → List ℕ → List Row → Aggregate → Slots → Slots → Type 0
-IsAdded lead groups numbers rows a old new = new ≡ added_slots lead groups numbers rows a old
+-- the rows of a batch were added to what is kept for the aggregate at a place
+abbrev pub IsAdded : List Aggregate → ℕ → ℕ → List ℕ → List Row → Slots → Slots → Type 0
+IsAdded aggregates place groups numbers rows old new =
+    new ≡ added_slots (first_sum aggregates) groups numbers rows (slice_index_or aggregates place CountAll) old
 
 -- and to what is kept for each
 abbrev pub AreAdded : ℕ → List ℕ → List Row → List Aggregate → List Slots → List Slots → Type 0

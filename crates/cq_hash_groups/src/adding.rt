@@ -1,9 +1,9 @@
 //! Rows put into what is kept for each aggregate.
 ghost use Rattle.std.specs.List.{AllByRecursion};
-ghost use Rattle.std.specs.Prelude.{◌+◌, ◌<◌, ◌≡◌, IfOk, OnOk, length, map, slice_index_or, ℕ};
+ghost use Rattle.std.specs.Prelude.{◌+◌, ◌<◌, ◌≡◌, IfOk, None, OnOk, length, map, slice_index_or, ℕ};
 ghost use Rattle.cq_hash_groups.specs.Exact.{AreExactOver, IsExactFor};
 ghost use Rattle.cq_hash_groups.specs.Arguments.{argument};
-ghost use Rattle.cq_hash_groups.specs.Groups.{AreAdded, AreAllWithin, IsAdded, StayWithin, new_slots};
+ghost use Rattle.cq_hash_groups.specs.Groups.{AreAdded, AreAllWithin, IsAdded, StayWithin, added_as, new_slots};
 ghost use Rattle.cq_hash_groups_slots.specs.Puts.{AreNumbers, most_before};
 ghost use Rattle.cq_hash_groups.specs.Lead.{IsLead, first_sum};
 ghost use Rattle.cq_hash_groups_slots.specs.Slots.{AreWithin, grown_slots, put_nulls, put_slots};
@@ -89,7 +89,7 @@ fn add_one<'a>(
     requires there { AreNumbers groups numbers.now }
     requires same { length numbers.now ≡ length scan.now }
     requires room { AreWithin (most_before (length numbers.now)) slots.old }
-    ensures ok { OnOk result (IsAdded (first_sum aggregates.now) groups numbers.now scan.now (slice_index_or aggregates.now place CountAll) slots.old slots.new) }
+    ensures ok { OnOk result (IsAdded aggregates.now place groups numbers.now scan.now slots.old slots.new) }
     ensures within { (n : ℕ) → AreWithin n slots.old → AreWithin (n + length numbers.now) slots.new }
 {
     let aggregate = &aggregates[place];
@@ -118,7 +118,7 @@ fn add_read<'a>(
     requires there { AreNumbers groups numbers.now }
     requires same { length numbers.now ≡ length scan.now }
     requires room { AreWithin (most_before (length numbers.now)) slots.old }
-    ensures ok { OnOk result (slots.new ≡ put_slots numbers.now (map (argument aggregate.now) scan.now) (grown_slots groups slots.old)) }
+    ensures ok { OnOk result (slots.new ≡ added_as None groups numbers.now scan.now aggregate.now slots.old) }
     ensures within { (n : ℕ) → AreWithin n slots.old → AreWithin (n + length numbers.now) slots.new }
 {
     let values = argument_of(alloc, buffers, aggregate, scan)?;

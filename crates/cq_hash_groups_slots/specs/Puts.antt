@@ -10,7 +10,7 @@ use Rattle.cq_model.specs.declared.fault.ShowFault.TheVariants.{SumOutOfRange}
 use Rattle.cq_hash_groups_slots.specs.declared.bests.Extreme.{Extreme}
 use Rattle.cq_hash_groups_slots.specs.declared.bests.Extreme.TheVariants.{Least, Greatest}
 use Rattle.cq_hash_groups_slots.specs.declared.wide_sums.Sum.{Sum}
-use Rattle.cq_hash_groups_slots.specs.NumberColumns.{with_nulls}
+use Rattle.cq_hash_groups_slots.specs.NumberColumns.{all_above, with_nulls}
 
 -- the values put into the groups of their numbers, one after the other, where a group that is not there has nothing
 abbrev pub put_all : {S : Type 0} → (S → Value → S) → S → List ℕ → List Value → List S → List S
@@ -108,6 +108,10 @@ pub record PutFrom (start place : ℕ) (numbers : List ℕ) (values : List Value
 -- the same where the values are numbers, and NULL where a flag says so
 abbrev pub PutNumbers : ℕ → ℕ → List ℕ → List ℤ → List Bool → List Sum → List Sum → Type 0
 PutNumbers start place numbers column nulls old new = PutFrom start place numbers (with_nulls column nulls) old new
+
+-- those of the first places are numbers at offsets above a base
+abbrev pub PutsAbove : ℕ → List ℕ → ℤ → List ℕ → List Bool → List Sum → List Sum → Type 0
+PutsAbove place numbers base offsets nulls old new = PutNumbers 0 place numbers (all_above base offsets) nulls old new
 
 -- and all from one place on
 abbrev pub PutColumn : ℕ → List ℕ → List ℤ → List Bool → List Sum → List Sum → Type 0

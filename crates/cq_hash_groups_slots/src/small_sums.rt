@@ -10,7 +10,7 @@ ghost use Rattle.cq_vectors_stored.specs.Columns.{number_unless};
 ghost use Rattle.cq_vectors_stored.specs.LentColumns.{FitAbove};
 ghost use Rattle.cq_vectors_stored.specs.Offsets.{offsets_in};
 ghost use Rattle.cq_hash_groups_slots.specs.NumberColumns.{all_above};
-ghost use Rattle.cq_hash_groups_slots.specs.Puts.{AreNumbers, AreSumsWithin, IsSumWithin, PutFrom, PutNumbers, most_before, no_sum, put_sum, shown_sum};
+ghost use Rattle.cq_hash_groups_slots.specs.Puts.{AreNumbers, AreSumsWithin, IsSumWithin, PutFrom, PutNumbers, PutsAbove, most_before, no_sum, put_sum, shown_sum};
 ghost use Rattle.cq_hash_groups_slots.specs.Slots.{grown};
 
 use crate::number_columns::{AboveBy, NumberColumn, Plain};
@@ -219,7 +219,7 @@ fn put_above(
     requires flags { length nulls.now ≡ length (offsets_in offsets.now) }
     requires room { AreSumsWithin (most_before (length numbers.now)) sums.old }
     ensures few { result ≤ length numbers.now }
-    ensures put { PutNumbers 0 result numbers.now (all_above base (offsets_in offsets.now)) nulls.now sums.old sums.new }
+    ensures put { PutsAbove result numbers.now base (offsets_in offsets.now) nulls.now sums.old sums.new }
 {
     match offsets {
         Offsets::One(offsets) => {

@@ -34,12 +34,12 @@ pub record Remaining : Type 0 where
 abbrev pub IsInRange : Remaining → Type 0
 IsInRange e = ShapeInRange e.query.shape (once_each e.kept)
 
--- of the query's list on these rows nothing was given
-pub record IsOpened (q : Query) (asked : Order) (rows : List Row) (e : Remaining) : Type 0 where
+-- of the query's list on the rows of its sources nothing was given
+pub record IsOpened (q : Query) (asked : Order) (sources : List (List Row)) (e : Remaining) : Type 0 where
   pub query : e.query ≡ q
   pub order : e.order ≡ asked
-  pub kept : e.kept ≡ rows
-  pub whole : IsListing asked.keys asked.limit (bag_shown q rows) e.left
+  pub kept : e.kept ≡ kept_of q sources
+  pub whole : IsListing asked.keys asked.limit (bag_shown q (kept_of q sources)) e.left
   pub unbroken : e.fault ≡ None
 
 -- ---- A step

@@ -1,13 +1,12 @@
 //! Rows of one source that pass conditions of their own before they are joined.
 ghost use Rattle.std.specs.List.{AllByRecursion};
-ghost use Rattle.std.specs.Bool.{OnTrue};
 ghost use Rattle.std.specs.Prelude.{◌≡◌, ◌≤◌, ◌++◌, IfOk, length};
 ghost use Rattle.cq_writestore.specs.Writes.{FewerLeft};
 ghost use Rattle.cq_model.specs.Trees.{cond_of};
 ghost use Rattle.cq_operators_scans.specs.Paired.{ArePlaces};
-ghost use Rattle.cq_operators_scans.specs.Passing.{ArePassed, ArePassing, CanAllPass, IsExactBehind};
+ghost use Rattle.cq_operators_scans.specs.Passing.{ArePassed, ArePassing, CanAllPass, IsExactBehind, PutsPassing};
 ghost use Rattle.cq_operators_scans.specs.Passing.{passing_one, passing_rows};
-ghost use Rattle.cq_table_columns.specs.Rows.{rows_in};
+ghost use Rattle.cq_table_positions.specs.Rows.{rows_in};
 ghost use Rattle.cq_table_columns.specs.Stored.{all_rows, front_rows};
 
 use crate::lent::lend_all;
@@ -17,7 +16,9 @@ use crate::skipping::split_missed;
 use crate::truths::truths_of_tree;
 use cq_model::CondTree;
 use cq_model_terms::columns_of;
-use cq_table_columns::{Front, Part, Placed, Spreading, Stored, StoredRows};
+use cq_prims::KnownFits;
+use cq_table_columns::{Front, Stored};
+use cq_table_positions::{Part, Placed, Spread, StoredRows};
 use cq_vectors_masks::Selection;
 use std::alloc::{AllocError, Global};
 
@@ -33,16 +34,17 @@ pub fn passing<'a>(
     requires { CanAllPass before conditions.now (all_rows rows.now) }
     ensures { IfOk result (ArePassed before conditions.now (all_rows rows.now)) }
 {
+    let mut known = KnownFits::new(alloc);
     if let Some(segment) = rows.only_segment() {
         if split_missed(before, conditions, rows).is_none() {
-            let places = segment_passing(alloc, before, conditions, segment)?;
+            let places = segment_passing(alloc, before, conditions, segment, &mut known)?;
             return Ok(StoredRows::Placed(Placed::of(segment, places)));
         }
     }
     if rows.split_segment().is_some() {
-        return spread_passing(alloc, before, conditions, rows);
+        return spread_passing(alloc, before, conditions, rows, &mut known);
     }
-    list_passing(alloc, before, conditions, rows)
+    list_passing(alloc, before, conditions, rows, &mut known)
 }
 
 /// The same at positions in several segments and behind them, or a list where these are too many.
@@ -51,24 +53,25 @@ fn spread_passing<'a>(
     before: usize,
     conditions: &[&'a CondTree],
     rows: &Stored<'a>,
+    known: &mut KnownFits<'a>,
 ) -> Result<StoredRows<'a>, AllocError>
     requires { CanAllPass before conditions.now (all_rows rows.now) }
     ensures { IfOk result (ArePassed before conditions.now (all_rows rows.now)) }
 {
-    let mut passing = Spreading::new(alloc);
+    let mut passing = Spread::new(alloc);
     let mut left = *rows;
     while !left.is_empty() {
         if let Some((_, rest)) = split_missed(before, conditions, &left) {
             left = rest;
         } else {
-            let (put, rest) = push_passing(alloc, before, conditions, &left, &mut passing)?;
+            let (put, rest) = push_passing(alloc, before, conditions, &left, known, &mut passing)?;
             if !put {
-                return list_passing(alloc, before, conditions, rows);
+                return list_passing(alloc, before, conditions, rows, known);
             }
             left = rest;
         }
     }
-    Ok(StoredRows::Spread(passing.into_spread(alloc)?))
+    Ok(StoredRows::Spread(passing))
 }
 
 /// Puts those of the next segment, or of the next front, behind others, and tells the rows behind it. By `false` there
@@ -78,21 +81,22 @@ fn push_passing<'a>(
     before: usize,
     conditions: &[&'a CondTree],
     rows: &Stored<'a>,
-    passing: &mut Spreading<'a>,
+    known: &mut KnownFits<'a>,
+    passing: &mut Spread<'a>,
 ) -> Result<(bool, Stored<'a>), AllocError>
     requires { CanAllPass before conditions.now (all_rows rows.now) }
     ensures less { IfOk result (λ r. FewerLeft (all_rows rows.now) (all_rows r.1)) }
     ensures exact { IfOk result (λ r. CanAllPass before conditions.now (all_rows r.1)) }
-    ensures rows { IfOk result (λ r. OnTrue r.0 (passing.new ++ passing_rows before conditions.now (all_rows r.1) ≡ passing.old ++ passing_rows before conditions.now (all_rows rows.now))) }
+    ensures rows { IfOk result (PutsPassing before conditions.now (all_rows rows.now) passing.old passing.new) }
 {
     if let Some((segment, rest)) = rows.split_segment() {
-        let places = segment_passing(alloc, before, conditions, segment)?;
+        let places = segment_passing(alloc, before, conditions, segment, known)?;
         let put = passing.push(Part::Segment(segment), places.as_slice())?;
         return Ok((put, rest));
     }
     let (front, rest) = rows.split_front();
-    let passed = pass_all(alloc, before, conditions, &front)?;
-    let put = passing.push_all(alloc, passed.into_rows(alloc)?)?;
+    let passed = pass_all(alloc, before, conditions, &front, known)?;
+    let put = passing.push_front(alloc, &passed)?;
     Ok((put, rest))
 }
 
@@ -102,6 +106,7 @@ fn list_passing<'a>(
     before: usize,
     conditions: &[&'a CondTree],
     rows: &Stored<'a>,
+    known: &mut KnownFits<'a>,
 ) -> Result<StoredRows<'a>, AllocError>
     requires { CanAllPass before conditions.now (all_rows rows.now) }
     ensures { IfOk result (ArePassed before conditions.now (all_rows rows.now)) }
@@ -116,7 +121,7 @@ fn list_passing<'a>(
             left = rest;
         } else {
             let (front, rest) = left.split_front();
-            let passed = pass_all(alloc, before, conditions, &front)?;
+            let passed = pass_all(alloc, before, conditions, &front, known)?;
             passing.append(&mut passed.into_rows(alloc)?)?;
             left = rest;
         }
@@ -124,18 +129,20 @@ fn list_passing<'a>(
     Ok(StoredRows::Listed(passing))
 }
 
-/// The same as a scan, of which these columns are gathered: the rows stay places of the front.
+/// The same as a scan, of which these columns are gathered: the rows stay places of the front. What is known of texts
+/// that fit patterns is kept for the next front.
 pub fn scan_passing<'a>(
     alloc: Global,
     conditions: &[&'a CondTree],
     front: &Front<'a>,
+    known: &mut KnownFits<'a>,
     columns: &[usize],
 ) -> Result<Scan<'a>, AllocError>
     requires few { length (front_rows front.now) ≤ 1024 }
     requires exact { CanAllPass 0 conditions.now (front_rows front.now) }
     ensures { IfOk result (λ scan. scan ≡ passing_rows 0 conditions.now (front_rows front.now)) }
 {
-    let passed = pass_all(alloc, 0, conditions, front)?;
+    let passed = pass_all(alloc, 0, conditions, front, known)?;
     Scan::open_stored(alloc, passed, columns)
 }
 
@@ -144,6 +151,7 @@ fn pass_all<'a>(
     before: usize,
     conditions: &[&'a CondTree],
     front: &Front<'a>,
+    known: &mut KnownFits<'a>,
 ) -> Result<StoredRows<'a>, AllocError>
     requires few { length (front_rows front.now) ≤ 1024 }
     requires exact { CanAllPass before conditions.now (front_rows front.now) }
@@ -151,7 +159,7 @@ fn pass_all<'a>(
 {
     let mut passed = StoredRows::Front(*front);
     for condition in conditions {
-        passed = pass_one(alloc, before, condition, &passed)?;
+        passed = pass_one(alloc, before, condition, &passed, known)?;
     }
     Ok(passed)
 }
@@ -161,12 +169,13 @@ fn pass_one<'a>(
     before: usize,
     condition: &'a CondTree,
     rows: &StoredRows<'a>,
+    known: &mut KnownFits<'a>,
 ) -> Result<StoredRows<'a>, AllocError>
     requires few { length (rows_in rows.now) ≤ 1024 }
     requires exact { AllByRecursion (IsExactBehind before (cond_of condition.now)) (rows_in rows.now) }
     ensures { IfOk result (λ p. rows_in p ≡ passing_one before condition.now (rows_in rows.now)) }
 {
-    let kept = passing_places(alloc, before, condition, rows)?;
+    let kept = passing_places(alloc, before, condition, rows, known)?;
     rows.at(alloc, kept.places())
 }
 
@@ -176,6 +185,7 @@ pub(crate) fn passing_places<'a>(
     before: usize,
     condition: &'a CondTree,
     rows: &StoredRows<'a>,
+    known: &mut KnownFits<'a>,
 ) -> Result<Selection, AllocError>
     requires few { length (rows_in rows.now) ≤ 1024 }
     requires exact { AllByRecursion (IsExactBehind before (cond_of condition.now)) (rows_in rows.now) }
@@ -185,7 +195,7 @@ pub(crate) fn passing_places<'a>(
     let columns = columns_of(alloc, condition)?;
     let read = rows.copy(alloc)?;
     let scan = Scan::open_behind(alloc, before, read, &columns)?;
-    let truths = truths_of_tree(alloc, condition, &scan)?;
+    let truths = truths_of_tree(alloc, condition, &scan, known)?;
     let mut kept = Selection::new();
     kept.set_true(&truths);
     Ok(kept)

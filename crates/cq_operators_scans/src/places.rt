@@ -7,9 +7,11 @@ ghost use Rattle.cq_segments_pieces.specs.Marked.{live};
 use crate::passed::passing_places;
 use cq_encodings_vectors::copies_at;
 use cq_model::CondTree;
+use cq_prims::KnownFits;
 use cq_segments::Segment;
 use cq_segments_pieces::Piece;
-use cq_table_columns::{Front, StoredRows};
+use cq_table_columns::Front;
+use cq_table_positions::StoredRows;
 use std::alloc::{AllocError, Global};
 
 /// The places of the rows without a mark that pass all conditions, rising. In these the values of a row stand behind so
@@ -19,6 +21,7 @@ pub(crate) fn segment_passing<'a>(
     before: usize,
     conditions: &[&'a CondTree],
     segment: &'a Segment,
+    known: &mut KnownFits<'a>,
 ) -> Result<Vec<u16>, AllocError>
     requires { CanAllPass before conditions.now (live segment.now) }
     ensures there { IfOk result (λ p. AreBelow (length segment.now) p.items) }
@@ -28,7 +31,7 @@ pub(crate) fn segment_passing<'a>(
     let mut passing: Vec<u16> = Vec::new(alloc);
     let mut start = 0;
     for piece in segment.pieces() {
-        let places = piece_passing(alloc, before, conditions, piece)?;
+        let places = piece_passing(alloc, before, conditions, piece, known)?;
         append_from(start, places.as_slice(), &mut passing)?;
         start += piece.len();
     }
@@ -41,6 +44,7 @@ fn piece_passing<'a>(
     before: usize,
     conditions: &[&'a CondTree],
     piece: &'a Piece,
+    known: &mut KnownFits<'a>,
 ) -> Result<Vec<u16>, AllocError>
     requires { CanAllPass before conditions.now (live piece.now) }
     ensures there { IfOk result (λ p. AreBelow (length piece.now) p.items) }
@@ -49,7 +53,7 @@ fn piece_passing<'a>(
     let mut passed = StoredRows::Front(Front::of_piece(piece));
     let mut places = piece.live_places(alloc)?;
     for condition in conditions {
-        let kept = passing_places(alloc, before, *condition, &passed)?;
+        let kept = passing_places(alloc, before, *condition, &passed, known)?;
         passed = passed.at(alloc, kept.places())?;
         places = copies_at(alloc, places.as_slice(), kept.places())?;
     }

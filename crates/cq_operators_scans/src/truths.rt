@@ -13,23 +13,23 @@ ghost use Rattle.cq_operators_scans.specs.Truths.{AreCompared, AreTruths, betwee
 use crate::scan::Scan;
 use crate::vectors::vector_of_tree;
 use cq_model::{Cond, CondTree, ExprTree};
-use cq_prims::{compare, is_null, like};
-use cq_prims_like::Pattern;
+use cq_prims::{KnownFits, compare, is_null, like_known};
 use cq_values::{Comparison, Truth};
 use cq_vectors::Vector;
 use cq_vectors_masks::TruthMask;
 use std::alloc::{AllocError, Global};
 
-/// The truth of the condition in each row.
+/// The truth of the condition in each row. What is known of texts that fit patterns is kept for the next scan.
 pub(crate) fn truths_of<'a>(
     alloc: Global,
     cond: &'a Cond,
     scan: &Scan<'a>,
+    known: &mut KnownFits<'a>,
 ) -> Result<TruthMask, AllocError>
     requires { AllByRecursion (AreExactIn cond.now) scan.now }
     ensures { IfOk result (λ truths. truths ≡ map (holds cond.now) scan.now) }
 {
-    truths_of_tree(alloc, cond.tree(), scan)
+    truths_of_tree(alloc, cond.tree(), scan, known)
 }
 
 /// The same of a tree of the condition. Tests have none of the locals of what NOT, AND and OR join.
@@ -38,6 +38,7 @@ pub(crate) fn truths_of_tree<'a>(
     alloc: Global,
     tree: &'a CondTree,
     scan: &Scan<'a>,
+    known: &mut KnownFits<'a>,
 ) -> Result<TruthMask, AllocError>
     requires { AllByRecursion (AreExactIn (cond_of tree.now)) scan.now }
     ensures { IfOk result (λ truths. truths ≡ map (holds (cond_of tree.now)) scan.now) }
@@ -47,9 +48,9 @@ pub(crate) fn truths_of_tree<'a>(
         CondTree::IsNull(expr) => nulls_in(alloc, expr, scan),
         CondTree::Between(expr, least, greatest) => between_in(alloc, expr, least, greatest, scan),
         CondTree::In(expr, choices) => one_of_in(alloc, expr, choices, scan),
-        CondTree::Like(expr, pattern) => likes_in(alloc, expr, pattern.as_str(), scan),
+        CondTree::Like(expr, pattern) => likes_in(alloc, expr, pattern.as_str(), scan, known),
         CondTree::Not(..) | CondTree::And(..) | CondTree::Or(..) => connective_in(
-            alloc, tree, scan,
+            alloc, tree, scan, known,
         ),
     }
 }
@@ -60,6 +61,7 @@ fn connective_in<'a>(
     alloc: Global,
     tree: &'a CondTree,
     scan: &Scan<'a>,
+    known: &mut KnownFits<'a>,
 ) -> Result<TruthMask, AllocError>
     requires connective { is_connective tree.now ≡ true }
     requires exact { AllByRecursion (AreExactIn (cond_of tree.now)) scan.now }
@@ -68,20 +70,20 @@ fn connective_in<'a>(
     match tree {
         CondTree::Not(part) => {
             let mut truths = TruthMask::new();
-            truths.set_not(&truths_of_tree(alloc, part, scan)?);
+            truths.set_not(&truths_of_tree(alloc, part, scan, known)?);
             Ok(truths)
         }
         CondTree::And(first, rest) => {
-            let mut truths = truths_of_tree(alloc, first, scan)?;
+            let mut truths = truths_of_tree(alloc, first, scan, known)?;
             for part in rest {
-                truths = both(&truths, &truths_of_tree(alloc, part, scan)?);
+                truths = both(&truths, &truths_of_tree(alloc, part, scan, known)?);
             }
             Ok(truths)
         }
         CondTree::Or(first, rest) => {
-            let mut truths = truths_of_tree(alloc, first, scan)?;
+            let mut truths = truths_of_tree(alloc, first, scan, known)?;
             for choice in rest {
-                truths = either(&truths, &truths_of_tree(alloc, choice, scan)?);
+                truths = either(&truths, &truths_of_tree(alloc, choice, scan, known)?);
             }
             Ok(truths)
         }
@@ -120,14 +122,15 @@ fn nulls_in<'a>(alloc: Global, expr: &'a ExprTree, scan: &Scan<'a>) -> Result<Tr
 fn likes_in<'a>(
     alloc: Global,
     expr: &'a ExprTree,
-    pattern: &str,
+    pattern: &'a str,
     scan: &Scan<'a>,
+    known: &mut KnownFits<'a>,
 ) -> Result<TruthMask, AllocError>
     requires { AllByRecursion (IsExactAt (expr_of expr.now)) scan.now }
     ensures { IfOk result (AreTruths (is_liked_at expr.now pattern.now) scan.now) }
 {
     let values = vector_of_tree(alloc, expr, scan)?;
-    let truths = liked(alloc, values.vector(), pattern);
+    let truths = liked(alloc, values.vector(), pattern, known);
     drop(values);
     truths
 }
@@ -200,12 +203,16 @@ fn compared_with<'a>(
 }
 
 /// Which of these values are like the pattern.
-fn liked(alloc: Global, values: &Vector<'_>, pattern: &str) -> Result<TruthMask, AllocError>
+fn liked<'a>(
+    alloc: Global,
+    values: &Vector<'a>,
+    pattern: &'a str,
+    known: &mut KnownFits<'a>,
+) -> Result<TruthMask, AllocError>
     ensures { IfOk result (λ truths. truths ≡ map (λ v. liked v pattern.now) values.now) }
 {
-    let pattern = Pattern::new(alloc, pattern)?;
     let mut truths = TruthMask::new();
-    like(values, &pattern, &mut truths);
+    like_known(alloc, values, pattern, known, &mut truths)?;
     Ok(truths)
 }
 

@@ -4,3 +4,4 @@ pub mod Shown
 pub mod Liked
 pub mod RunTruths
 pub mod NamedTruths
+pub mod SameTexts

@@ -6,7 +6,7 @@ use Rattle.cq_values.specs.declared.truth.Truth.TheVariants.{True, False, Unknow
 use Rattle.cq_values.specs.declared.value.Value.{Value}
 use Rattle.cq_values.specs.declared.value.Value.TheVariants.{Text}
 use Rattle.cq_prims_texts.specs.declared.by_codes.Trues.{Trues}
-use Rattle.cq_prims_texts.specs.declared.by_codes.Trues.TheVariants.{AtMostOne, Others}
+use Rattle.cq_prims_texts.specs.declared.by_codes.Trues.TheVariants.{AtMostOne, Known, Others}
 
 -- the truth of the entry that the number names
 abbrev pub truth_named : List Truth → ℕ → Truth
@@ -43,6 +43,7 @@ AreFalseBut one count entries = (i : ℕ) → i < count → truth_named entries 
 -- what is told of all entries
 abbrev pub IsTold : List Truth → Trues → Type 0
 IsTold entries (AtMostOne one) = AreFalseBut one (length entries) entries
+IsTold entries Known = HasNoUnknown entries
 IsTold entries Others = Unit {0}
 
 -- the truths of a condition of texts

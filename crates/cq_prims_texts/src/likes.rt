@@ -39,7 +39,7 @@ pub fn like(a: &Vector<'_>, pattern: &Pattern<'_>, to: &mut TruthMask)
 }
 
 /// Whether the text fits the pattern, and Unknown where the value is no text.
-fn like_one(value: &Lent<'_>, pattern: &Pattern<'_>) -> Truth
+pub(crate) fn like_one(value: &Lent<'_>, pattern: &Pattern<'_>) -> Truth
     ensures { result ≡ liked (owned value.now) pattern.now }
 {
     match value {

@@ -59,10 +59,10 @@ pub fn set_named<N: Naming>(entries: &[Truth], numbers: &[N], nulls: &Plane, to:
     requires same { length nulls.now ≡ length (N.numbers numbers.now) }
     ensures { to.new ≡ zip2 (named_unless entries.now) (N.numbers numbers.now) nulls.now }
 {
-    let trues = NamesTrue { entries, numbers };
     if !has_unknown(entries) {
-        return set_known_by(&trues, nulls, to);
+        return set_named_known(entries, numbers, nulls, to);
     }
+    let trues = NamesTrue { entries, numbers };
     let mut unknowns = Plane::new();
     let mut not_known = Plane::new();
     unknowns.set_where(&NamesUnknown { entries, numbers }, nulls.len());
@@ -70,7 +70,22 @@ pub fn set_named<N: Naming>(entries: &[Truth], numbers: &[N], nulls: &Plane, to:
     set_known_by(&trues, &not_known, to)
 }
 
-fn has_unknown(entries: &[Truth]) -> bool
+/// The same, where none of the entries is Unknown.
+pub(crate) fn set_named_known<N: Naming>(
+    entries: &[Truth],
+    numbers: &[N],
+    nulls: &Plane,
+    to: &mut TruthMask,
+)
+    requires none { HasNoUnknown entries.now }
+    requires known { All (λ n. n < length entries.now) (N.numbers numbers.now) }
+    requires same { length nulls.now ≡ length (N.numbers numbers.now) }
+    ensures { to.new ≡ zip2 (named_unless entries.now) (N.numbers numbers.now) nulls.now }
+{
+    set_known_by(&NamesTrue { entries, numbers }, nulls, to)
+}
+
+pub(crate) fn has_unknown(entries: &[Truth]) -> bool
     ensures { OnFalse result (HasNoUnknown entries.now) }
 {
     for entry in entries {

@@ -6,14 +6,13 @@
 ghost use Rattle.std.specs.List.{range_with_len};
 ghost use Rattle.std.specs.Prelude.{◌<◌, ◌≡◌, ◌≤◌, IfOk, [], length, slice_index_or, take};
 ghost use Rattle.cq_segments_pieces.specs.Marked.{live, live_from, rows_of};
-ghost use Rattle.cq_encodings_vectors.specs.Places.{AreBelow};
+ghost use Rattle.cq_encodings_vectors.specs.Places.{AreBelow, rows_at};
 ghost use Rattle.cq_segments_pieces.specs.Rows.{row_of, stored_rows};
 ghost use Rattle.cq_table_columns.specs.Stored.{StandAt, front_rows, marked_rows};
 ghost use Rattle.cq_vectors.specs.Gathered.{column_of};
 ghost use Rattle.cq_writestore.specs.Writes.{tail_rows};
 
 use crate::gathering::gather;
-use crate::places::{copied, front_at};
 use cq_encodings_vectors::copies_at;
 use cq_segments_pieces::{Columns, Piece, StoredRow};
 use cq_values::Row;
@@ -122,13 +121,26 @@ impl<'a> Front<'a> {
             Front::Columns(columns) => lend_columns(alloc, *columns),
             Front::Marked(piece) => {
                 let places = piece.live_places(alloc)?;
-                front_at(alloc, &Front::Columns(piece.columns()), &places)
+                Front::Columns(piece.columns()).rows_at(alloc, &places)
             }
             Front::Written(written) => {
                 let places = written.live_places(alloc)?;
-                front_at(alloc, &Front::Rows(written.rows()), &places)
+                Front::Rows(written.rows()).rows_at(alloc, &places)
             }
         }
+    }
+
+    /// The rows at some places.
+    pub fn rows_at(&self, alloc: Global, places: &[u16]) -> Result<Vec<StoredRow<'a>>, AllocError>
+        requires { AreBelow (length (front_rows self.now)) places.now }
+        ensures { IfOk result (λ f. stored_rows f.items ≡ rows_at (front_rows self.now) places.now) }
+    {
+        let mut found: Vec<StoredRow<'a>> = Vec::new(alloc);
+        found.reserve(places.len())?;
+        for place in places {
+            found.push_reserved(self.row(usize::from(*place)));
+        }
+        Ok(found)
     }
 
     /// Those of the rows that are among so many that stand there first, with a mark or without.
@@ -142,7 +154,7 @@ impl<'a> Front<'a> {
     {
         let places = self.live_places(alloc)?;
         let len = len_below(&places, count);
-        front_at(alloc, &self.with_all(), &places[..len])
+        self.with_all().rows_at(alloc, &places[..len])
     }
 
     /// The values of a column, where a row that is too short has NULL.
@@ -165,7 +177,7 @@ impl<'a> Front<'a> {
     }
 
     /// The rows that stand there, as if none had a mark.
-    pub(crate) fn with_all(&self) -> Front<'a>
+    pub fn with_all(&self) -> Front<'a>
         ensures { front_rows result ≡ rows_of (marked_rows self.now) }
     {
         match self {
@@ -177,14 +189,14 @@ impl<'a> Front<'a> {
     }
 
     /// Where the live rows at these places stand among all that stand there.
-    pub(crate) fn places_at(&self, alloc: Global, places: &[u16]) -> Result<Vec<u16>, AllocError>
+    pub fn places_at(&self, alloc: Global, places: &[u16]) -> Result<Vec<u16>, AllocError>
         requires { AreBelow (length (front_rows self.now)) places.now }
         ensures rows { IfOk result (λ p. StandAt self.now places.now p.items) }
         ensures there { IfOk result (λ p. AreBelow (length (marked_rows self.now)) p.items) }
     {
         match self {
-            Front::Rows(_) => copied(alloc, places),
-            Front::Columns(_) => copied(alloc, places),
+            Front::Rows(_) => places.to_vec(alloc),
+            Front::Columns(_) => places.to_vec(alloc),
             Front::Marked(piece) => {
                 let live = piece.live_places(alloc)?;
                 copies_at(alloc, &live, places)
@@ -213,7 +225,7 @@ fn len_below(places: &[u16], end: usize) -> usize
     len
 }
 
-pub(crate) fn first_places(alloc: Global, len: usize) -> Result<Vec<u16>, AllocError>
+fn first_places(alloc: Global, len: usize) -> Result<Vec<u16>, AllocError>
     requires { len ≤ 1024 }
     ensures { IfOk result (λ places. places.items ≡ range_with_len 0 len) }
 {

@@ -1,6 +1,9 @@
 -- Rows that are kept column by column.
 use Rattle.std.specs.Prelude.{ℕ, ◌≡◌, ◌<◌, ◌++◌, List, [], map, length, slice_index_or}
+use Rattle.std.specs.Global.{Global}
 use Rattle.std.specs.List.{AllByRecursion, range_with_len}
+use Rattle.std.specs.Vec.Iter.{into_iter_items}
+use Rattle.std.specs.declared.vec.IntoIter.{IntoIter}
 use Rattle.std.specs.Simd.Lanes.{zip2}
 use Rattle.cq_values.specs.declared.value.Value.{Value}
 use Rattle.cq_values.specs.declared.value.Value.TheVariants.{Number}
@@ -28,6 +31,10 @@ column_of rows at = map (λ row. column row at) rows
 -- columns with the values of others behind their own
 abbrev pub longer : List (List Value) → List (List Value) → List (List Value)
 longer columns more = zip2 (λ values others. values ++ others) columns more
+
+-- the first of the columns that are left
+abbrev pub first_in : IntoIter (List Value) Global → List Value
+first_in left = slice_index_or (into_iter_items left) 0 []
 
 -- each column has so many values
 abbrev pub AreLong : ℕ → List (List Value) → Type 0

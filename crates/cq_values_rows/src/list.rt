@@ -5,7 +5,7 @@
 ghost use Rattle.std.specs.Prelude.{◌+◌, ◌++◌, ◌<◌, ◌≡◌, [], IfOk, IfSome, OnOk, drop, length, map, slice_index_or};
 ghost use Rattle.std.specs.Vec.Iter.{into_iter_items};
 ghost use Rattle.cq_values.specs.declared.value.Value.TheVariants.{Number};
-ghost use Rattle.cq_values_rows.specs.Columns.{AreBelow, AreLong, column_of, longer as longer_by, row_at, row_or_none, rows_at, rows_of_columns};
+ghost use Rattle.cq_values_rows.specs.Columns.{AreBelow, AreLong, column_of, first_in, longer as longer_by, row_at, row_or_none, rows_at, rows_of_columns};
 ghost use Rattle.cq_values_rows.specs.RowList.{AreWhole, rows_in};
 
 use crate::flat::FlatRows;
@@ -248,7 +248,7 @@ fn next_longer(
 ) -> Result<ValueColumn, AllocError>
     requires left { 0 < length (into_iter_items left.old) }
     requires behind { 0 < length (into_iter_items behind.old) }
-    ensures column { IfOk result (λ column. column ≡ slice_index_or (into_iter_items left.old) 0 [] ++ slice_index_or (into_iter_items behind.old) 0 []) }
+    ensures column { IfOk result (λ column. column ≡ first_in left.old ++ first_in behind.old) }
     ensures left { OnOk result (into_iter_items left.new ≡ drop 1 (into_iter_items left.old)) }
     ensures behind { OnOk result (into_iter_items behind.new ≡ drop 1 (into_iter_items behind.old)) }
 {

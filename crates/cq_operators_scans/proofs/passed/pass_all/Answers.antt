@@ -1,5 +1,5 @@
 use Rattle.std.proofs.Common.{arith}
-use Rattle.cq_table_columns.specs.Rows.{rows_in}
+use Rattle.cq_table_positions.specs.Rows.{rows_in}
 use Rattle.cq_table_columns.specs.Stored.{front_rows}
 use Rattle.cq_operators_scans.proofs.Asking.{all-asked, asked-next, exact-next}
 use Rattle.cq_operators_scans.proofs.passed.pass_all.Goals as goal

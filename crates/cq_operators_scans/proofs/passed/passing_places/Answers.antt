@@ -3,7 +3,7 @@ use Rattle.cq_model.specs.Own.{in_place}
 use Rattle.cq_model.specs.Condition.{holds}
 use Rattle.cq_model.specs.Trees.{cond_of}
 use Rattle.cq_values.specs.Value.{Row}
-use Rattle.cq_table_columns.specs.Rows.{rows_in}
+use Rattle.cq_table_positions.specs.Rows.{rows_in}
 use Rattle.cq_operators_scans.proofs.Asking.{exact-behind, truths-behind}
 use Rattle.cq_operators_scans.proofs.KeptPlaces.{kept-at, kept-places}
 use Rattle.cq_operators_scans.proofs.passed.passing_places.Goals as goal

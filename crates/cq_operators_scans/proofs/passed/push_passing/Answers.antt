@@ -1,9 +1,7 @@
 use Rattle.std.proofs.Common.{◌∙◌, ◌++◌, ap, arith, length, false, refl, subst, true, Bool, List}
 use Rattle.std.specs.Bool.{OnTrue}
 use Rattle.std.specs.List.{AllByRecursion}
-use Rattle.std.proofs.lemmas.List.{length-map}
 use Rattle.cq_segments_pieces.specs.Marked.{live}
-use Rattle.cq_segments_pieces.specs.Rows.{row_of}
 use Rattle.cq_table_columns.specs.Stored.{all_rows, front_rows}
 use Rattle.cq_model.specs.Own.{passes_own}
 use Rattle.cq_model_bags.proofs.Lists.{all-front, fewer}
@@ -27,12 +25,11 @@ pass_all-requires-clause-exact c =
     let can = CanPass c.args.before (conditions_in c.args.conditions.now) in
     all-front can (front_rows c.split_front.result.0) (all_rows c.split_front.result.1) (subst (AllByRecursion can) c.split_front.ensures.parts c.requires)
 
-pub push_all-requires : goal.push_all-requires
-push_all-requires c =
+pub push_front-requires : goal.push_front-requires
+push_front-requires c =
     omega (
       arith,
-      ap length (c.in_ok-into_rows.ensures ∙ c.in_ok-passed.ensures),
-      length-map c.in_ok-into_rows.field-0.items row_of,
+      ap length c.in_ok-passed.ensures,
       fewer (passes_own c.args.before (conditions_in c.args.conditions.now)) (front_rows c.split_front.result.0),
       c.split_front.ensures.few,
     )
@@ -45,5 +42,5 @@ pub returns-clause-rows : goal.returns-clause-rows
 returns-clause-rows c =
     on_true c.in_ok-put-2.put
     (λ h. front-kept (passes_own c.args.before (conditions_in c.args.conditions.now)) (all_rows c.args.rows.now) (front_rows c.split_front.result.0) (all_rows c.split_front.result.1) c.split_front.ensures.parts
-    c.args.passing.now _ _ (h ∙ ap (λ (rows : List Row). c.args.passing.now ++ rows) (c.in_ok-into_rows.ensures ∙ c.in_ok-passed.ensures)) refl)
+    c.args.passing.now _ _ (h ∙ ap (λ (rows : List Row). c.args.passing.now ++ rows) c.in_ok-passed.ensures) refl)
     c.in_ok-put-2.ensures

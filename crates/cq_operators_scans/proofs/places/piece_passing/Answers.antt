@@ -1,7 +1,7 @@
 use Rattle.std.proofs.Common.{◌∙◌, ap, ap₂, arith, length, subst, sym}
 use Rattle.cq_encodings_vectors.specs.Places.{AreBelow, places_at, rows_at}
 use Rattle.cq_segments_pieces.specs.Marked.{live}
-use Rattle.cq_table_columns.specs.Rows.{rows_in}
+use Rattle.cq_table_positions.specs.Rows.{rows_in}
 use Rattle.cq_operators_scans.proofs.Asking.{all-asked, asked-next, exact-next}
 use Rattle.cq_operators_scans.proofs.Standing.{all-left, all-stand, kept-below, stands-kept}
 use Rattle.cq_operators_scans.proofs.places.piece_passing.Goals as goal

@@ -1,6 +1,6 @@
 use Rattle.std.proofs.Common.{drop}
 use Rattle.cq_segments_pieces.specs.Marked.{live}
-use Rattle.cq_table_columns.specs.Rows.{rows_in}
+use Rattle.cq_table_positions.specs.Rows.{rows_in}
 use Rattle.cq_operators_scans.proofs.Asking.{LeftToPass}
 use Rattle.cq_operators_scans.proofs.Standing.{StandsAt}
 use Rattle.cq_operators_scans.proofs.places.piece_passing.Given as goal

@@ -5,21 +5,16 @@ use Rattle.std.proofs.lemmas.Simd.{length-zip2}
 use lib.Lanes.{zip2}
 use Rattle.cq_vectors_masks.specs.Plane.{either}
 use Rattle.cq_prims_texts.specs.Named.{is_unknown, truth_named}
-use Rattle.cq_prims_texts.proofs.NamedTruths.{named_known, named_or}
+use Rattle.cq_prims_texts.proofs.NamedTruths.{named_or}
 use Rattle.cq_prims_texts.proofs.named.set_named.Goals as goal
-
-pub returns-then-not-has_unknown : goal.returns-then-not-has_unknown
-returns-then-not-has_unknown g c =
-    let numbers = g.N.Naming.numbers c.args.numbers.now in
-    c.set_known_by.ensures ∙ named_known c.args.entries.now numbers c.args.nulls.now c.requires.known c.if-not-has_unknown.ensures c.requires.same
 
 pub set_or-requires : goal.set_or-requires
 set_or-requires g c =
     let unknown = λ (i : ℕ). is_unknown (truth_named c.args.entries.now (get_or (g.N.Naming.numbers c.args.numbers.now) i 0)) in
     ap length c.set_where.ensures ∙ length-map-range_with_len unknown 0 c.len.result ∙ c.len.ensures.len
 
-pub set_known_by-requires-2 : goal.set_known_by-requires-2
-set_known_by-requires-2 g c =
+pub set_known_by-requires : goal.set_known_by-requires
+set_known_by-requires g c =
     let unknown = λ (i : ℕ). is_unknown (truth_named c.args.entries.now (get_or (g.N.Naming.numbers c.args.numbers.now) i 0)) in
     let long = ap length c.set_where.ensures ∙ length-map-range_with_len unknown 0 c.len.result ∙ c.len.ensures.len in
     omega (arith, ap length c.set_or.ensures, length-zip2 either c.set_where.new.self c.args.nulls.now long, long, c.requires.same)
@@ -32,4 +27,4 @@ returns g c =
     let unknowns : c.set_where.new.self ≡ map unknown (range_with_len 0 (length flags)) = c.set_where.ensures ∙ ap (λ (n : ℕ). map unknown (range_with_len 0 n)) c.len.ensures.len in
     let long = ap length unknowns ∙ length-map-range_with_len unknown 0 (length flags) in
     let same = ap length c.set_or.ensures ∙ length-zip2 either c.set_where.new.self flags long ∙ long in
-    c.set_known_by-2.ensures ∙ named_or c.args.entries.now numbers flags c.requires.known c.set_or.new.self c.requires.same (c.set_or.ensures ∙ ap (λ (l : List Bool). zip2 either l flags) unknowns) same
+    c.set_known_by.ensures ∙ named_or c.args.entries.now numbers flags c.requires.known c.set_or.new.self c.requires.same (c.set_or.ensures ∙ ap (λ (l : List Bool). zip2 either l flags) unknowns) same

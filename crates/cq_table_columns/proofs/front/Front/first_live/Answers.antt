@@ -7,8 +7,8 @@ use Rattle.cq_table_columns.specs.Stored.{marked_rows}
 use Rattle.cq_table_columns.proofs.LiveRows.{EndsAt, live_below, rows_first}
 use Rattle.cq_table_columns.proofs.front.Front.first_live.Goals as goal
 
-pub front_at-requires : goal.front_at-requires
-front_at-requires c =
+pub rows_at-requires : goal.rows_at-requires
+rows_at-requires c =
     let stored = marked_rows c.args.self.now in
     let len = c.len_below-len.result in
     let places = c.deref-2.ensures.value ∙ c.in_ok-places.ensures in
@@ -22,4 +22,4 @@ returns c =
     let places = c.deref-2.ensures.value ∙ c.in_ok-places.ensures in
     let ends = subst (EndsAt c.args.count len) (c.deref.ensures.value ∙ c.in_ok-places.ensures) (c.len_below-len.ensures.below, c.len_below-len.ensures.next) in
     let all = ap₂ rows_at c.with_all.ensures (ap (take len) places) ∙ rows_first stored c.args.count len ends in
-    IfOk-weaker c.front_at.result _ _ (λ rows is. is ∙ all) c.front_at.ensures
+    IfOk-weaker c.rows_at.result _ _ (λ rows is. is ∙ all) c.rows_at.ensures

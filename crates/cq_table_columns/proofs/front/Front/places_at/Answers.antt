@@ -11,11 +11,11 @@ pub copies_at-requires-in-Written : goal.copies_at-requires-in-Written
 copies_at-requires-in-Written c = listed_long c.args.self.now _ (ap marked_rows c.in-Written.is) (ap front_rows c.in-Written.is) _ c.requires _ (c.deref-in-Written.ensures.value ∙ c.in_ok-live-in-Written.ensures)
 
 pub returns-in-Rows-clause-rows : goal.returns-in-Rows-clause-rows
-returns-in-Rows-clause-rows c = IfOk-weaker c.copied.result _ _ (λ p. unmarked_stand c.args.self.now _ (ap marked_rows c.in-Rows.is) (ap front_rows c.in-Rows.is) _ p.items) c.copied.ensures
+returns-in-Rows-clause-rows c = IfOk-weaker c.to_vec.result _ _ (λ p is. unmarked_stand c.args.self.now _ (ap marked_rows c.in-Rows.is) (ap front_rows c.in-Rows.is) _ p.items (is (λ x y same. same))) c.to_vec.ensures.items_if_clones_equal
 
 pub returns-in-Columns-clause-rows : goal.returns-in-Columns-clause-rows
 returns-in-Columns-clause-rows c =
-    IfOk-weaker c.copied-in-Columns.result _ _ (λ p. unmarked_stand c.args.self.now _ (ap marked_rows c.in-Columns.is) (ap front_rows c.in-Columns.is) _ p.items) c.copied-in-Columns.ensures
+    IfOk-weaker c.to_vec-in-Columns.result _ _ (λ p is. unmarked_stand c.args.self.now _ (ap marked_rows c.in-Columns.is) (ap front_rows c.in-Columns.is) _ p.items (is (λ x y same. same))) c.to_vec-in-Columns.ensures.items_if_clones_equal
 
 pub returns-in_ok-live-in-Marked-clause-rows : goal.returns-in_ok-live-in-Marked-clause-rows
 returns-in_ok-live-in-Marked-clause-rows c =

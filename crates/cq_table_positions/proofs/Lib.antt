@@ -1,0 +1,3 @@
+pub mod AllPlaces
+pub mod Offsets
+pub mod SpreadRows

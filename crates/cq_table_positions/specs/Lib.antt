@@ -1,0 +1,4 @@
+pub mod Apart
+pub mod Rows
+pub mod Spread
+pub mod WholeNumbers
