@@ -1,18 +1,18 @@
 -- What each command does with tables and views that it was bound to, or else is refused.
-use Rattle.std.specs.Prelude.{◌≡◌, ◌⊎◌, ◌<◌, ◌≤◌, ℕ, false, List, length, Option, None, Result, Ok, Err}
+use Rattle.std.specs.Prelude.{◌≡◌, ◌⊎◌, ◌<◌, ◌≤◌, ℕ, false, if◌then◌else◌, List, length, Option, None, Some, is_some, Result, Ok, Err}
 use Rattle.std.specs.List.{AllByRecursion}
 use Rattle.cq_values.specs.declared.column.ColumnDef.{ColumnDef}
 use Rattle.cq_binder_rules.specs.declared.bound.Bound.{Bound}
 use Rattle.cq_binder_rules.specs.declared.bound.Bound.TheVariants as commands
 use Rattle.cq_model.specs.declared.query.Query.{Query}
 use Rattle.cq_model_step.specs.declared.answer.Answer.{Answer}
-use Rattle.cq_model_step.specs.declared.answer.Answer.TheVariants.{Rows}
+use Rattle.cq_model_step.specs.declared.answer.Answer.TheVariants.{Done, Rows}
 use Rattle.cq_binder_rules.specs.declared.fault.Fault.{Fault}
-use Rattle.cq_binder_rules.specs.declared.fault.Fault.TheVariants.{SumOutOfRange}
+use Rattle.cq_binder_rules.specs.declared.fault.Fault.TheVariants.{SumOutOfRange, UnknownTable}
 use Rattle.cq_binder_rules.specs.Checks.{MayRefuse}
 use Rattle.cq_binder_rules.specs.Refusal.{is_used, reads_source}
 use Rattle.cq_model_state.specs.Fitting.{AreFitting, AreLimited, FitsColumns}
-use Rattle.cq_model_state.specs.State.{AreNumbered, TableOf, ViewOf, State, columns_in, first_state, rows_in}
+use Rattle.cq_model_state.specs.State.{AreNumbered, TableOf, ViewOf, State, columns_in, first_state, rows_in, view_place}
 use Rattle.cq_model_step.specs.Next.{Trims, at_present}
 use Rattle.cq_model_step.specs.Step.{Accepts, IsTooLarge}
 use Rattle.cq_model.specs.Views.{sources_of}
@@ -84,6 +84,16 @@ IsRefused s command f = MayRefuse (room s command) f ⊎ ((f ≡ SumOutOfRange) 
 abbrev pub CarriesOut : State → Bound → Result Answer Fault → State → Type 0
 CarriesOut old command (Ok answer) new = (room old command ≡ None) × IsDone old command answer new
 CarriesOut old command (Err f) new = IsRefused old command f × (new ≡ old)
+
+-- 11, where no view has the name
+abbrev pub unknown_view : List ℕ → List ViewOf → Option Fault
+unknown_view name views = if is_some (view_place name views) then None else Some UnknownTable
+
+-- the view of a name is taken on by so many changes, or there is none
+abbrev pub Refreshes : State → List ℕ → ℕ → Result (Unit {0}) Fault → State → Type 0
+Refreshes old name changes (Ok done) new =
+    (place : ℕ) × (view_place name old.views ≡ Some place) × IsDone old (commands.Refresh place changes) Done new
+Refreshes old name changes (Err f) new = MayRefuse (unknown_view name old.views) f × (new ≡ old)
 
 -- an answer of rows changes nothing
 abbrev pub OnlyShows : State → Result Answer Fault → State → Type 0

@@ -4,6 +4,7 @@
 //! costs what its rows do and what it changes in each view on its table.
 ghost use Rattle.std.specs.Prelude.{◌<◌, ◌-◌, ◌^◌, Ok};
 ghost use Rattle.cq_binder_rules.specs.declared.bound.Bound.TheVariants as commands;
+ghost use Rattle.cq_model_step.specs.declared.answer.Answer.TheVariants.{Done};
 ghost use Rattle.cq_engine.specs.Commands.{OnlyShows};
 ghost use Rattle.cq_engine.specs.Held.{CanDo, Does, StoresBy};
 
@@ -55,7 +56,10 @@ impl Engine {
             } => self.select(header, query, order),
             Bound::Move { table, rows } => self.move_rows(table, rows),
             Bound::Merge(table) => self.merge(table),
-            Bound::Refresh { view, changes } => Ok(self.refresh(view, changes)),
+            Bound::Refresh { view, changes } => {
+                self.refresh_at(view, changes);
+                Ok(Answer::Done)
+            }
         }
     }
 
@@ -222,12 +226,11 @@ impl Engine {
     }
 
     /// Each view has taken in each write, so that none has to be taken on.
-    fn refresh(&self, _view: usize, _changes: u128) -> Answer
-        ensures done { Does self.now (commands.Refresh _view _changes) (Ok result) self.now }
-        ensures stores { StoresBy self.now (commands.Refresh _view _changes) (Ok result) self.now }
+    pub(crate) fn refresh_at(&self, _view: usize, _changes: u128)
+        ensures done { Does self.now (commands.Refresh _view _changes) (Ok Done) self.now }
+        ensures stores { StoresBy self.now (commands.Refresh _view _changes) (Ok Done) self.now }
     {
         let _views = &self.views;
-        Answer::Done
     }
 
     fn select(&self, header: Seq<Text>, query: Query, order: Order) -> Result<Answer, Fault>

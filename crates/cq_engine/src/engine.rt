@@ -10,7 +10,7 @@ ghost use Rattle.cq_model_step.specs.Output.{source_failures};
 ghost use Rattle.cq_model_step.specs.Step.{StepFrom};
 ghost use Rattle.cq_engine_tables.specs.Views.{AreRight, views_of};
 ghost use Rattle.cq_engine.specs.declared.answer_source.AnswerSource.TheVariants.{Tables};
-ghost use Rattle.cq_engine.specs.Commands.{OnlyShows, reads_after};
+ghost use Rattle.cq_engine.specs.Commands.{OnlyShows, Refreshes, reads_after};
 ghost use Rattle.cq_engine.specs.Held.{StoresFrom, lengths_named};
 ghost use Rattle.cq_engine.specs.Views.{stored_named, work_named};
 
@@ -140,6 +140,21 @@ impl Engine {
         ensures { result ≡ Tables }
     {
         AnswerSource::Tables
+    }
+
+    /// Takes the view of a name on by so many writes, or to the present where fewer are left: 11 where there is none. Each
+    /// view takes a write in as soon as it is made, so that none is ever left. It takes no memory.
+    pub fn refresh(&mut self, view: &str, changes: u128) -> Result<(), Fault>
+        ensures refreshes { Refreshes self.old.state view.now changes result self.new.state }
+        ensures same { self.new ≡ self.old }
+    {
+        match view_place(&self.views, view) {
+            Some(place) => {
+                self.refresh_at(place, changes);
+                Ok(())
+            }
+            None => Err(Fault::UnknownTable),
+        }
     }
 
     /// Carries out one statement, or refuses it and leaves every table and view as it was. A result leaves them too. COPY

@@ -13,7 +13,7 @@ use Rattle.cq_hash_groups.specs.Exact.{AreExactOver, IsExactFor}
 use Rattle.cq_model.specs.declared.fault.ShowFault.{ShowFault}
 use Rattle.cq_model.specs.declared.fault.ShowFault.TheVariants.{Memory, SumOutOfRange}
 use Rattle.cq_operators.specs.Exec.{GivesRest, IsInRange, IsOpened, Remaining}
-use Rattle.cq_operators.specs.Linked.{IsExactBy}
+use Rattle.cq_operators_joins.specs.Linked.{IsExactBy}
 use Rattle.cq_model_laws.specs.Sizes.{GroupsKeepSizes, HasSizes, JoinedHaveSizes, JoinedRowsKeepSizes, KeepsColumns, grouped_sizes}
 use Rattle.cq_model_laws.proofs.Columns.{listed-columns}
 use Rattle.cq_model_laws.proofs.Positives.{once_each-bag}

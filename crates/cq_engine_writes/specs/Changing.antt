@@ -33,9 +33,9 @@ pub record AreReadyAt (n : ℕ) (dxs : Weighted) (old new : List NamedView) (pen
 abbrev pub AreReadyForRows : ℕ → List Row → List Row → Vec NamedView → Vec NamedView → Vec (Option Pending) → Type 0
 AreReadyForRows n gone come old new pendings = AreReadyAt n (exchanged gone come) old.items new.items pendings.items
 
--- so it is where the rows that go are lent as they are stored
-abbrev pub AreReadyForStored : ℕ → List StoredRow → List Row → Vec NamedView → Vec NamedView → Vec (Option Pending) → Type 0
-AreReadyForStored n gone come old new pendings = AreReadyForRows n (stored_rows gone) come old new pendings
+-- so it is where the rows are lent as they are stored
+abbrev pub AreReadyForStored : ℕ → List StoredRow → List StoredRow → Vec NamedView → Vec NamedView → Vec (Option Pending) → Type 0
+AreReadyForStored n gone come old new pendings = AreReadyForRows n (stored_rows gone) (stored_rows come) old new pendings
 
 -- views that can be kept stand for tables of stored rows, few enough in each
 pub record AreStanding (views : List NamedView) : Type 0 where

@@ -1,6 +1,6 @@
 //! What a write changes in the views.
 ghost use Rattle.std.specs.List.{AllByRecursion};
-ghost use Rattle.std.specs.Prelude.{◌+◌, ◌≤◌, ◌^◌, [], IfOk, length};
+ghost use Rattle.std.specs.Prelude.{◌+◌, ◌≡◌, ◌≤◌, ◌^◌, [], IfOk, length};
 ghost use Rattle.cq_model.specs.Sizes.{IsStored};
 ghost use Rattle.cq_engine_tables.specs.Taking.{AreSame, CanAllTake};
 ghost use Rattle.cq_engine_writes.specs.Changing.{AreReadyForRows, AreReadyForStored, AreStanding};
@@ -8,10 +8,11 @@ ghost use Rattle.cq_segments_pieces.specs.Rows.{stored_rows};
 
 use cq_engine_tables::{View, is_used, prepare_all};
 use cq_segments_pieces::StoredRow;
-use cq_table_columns::Front;
+use cq_table_columns::{Front, Stored};
 use cq_values::Row;
 use cq_views::TableChange;
 use cq_views_state::Pending;
+use cq_writestore::Written;
 use cq_writestore_rows::NewRows;
 use std::alloc::{AllocError, Global};
 
@@ -22,11 +23,11 @@ pub(crate) fn prepare_views(
     views: &mut Vec<View>,
     table: u64,
     gone: &[StoredRow],
-    come: &[Row],
+    come: &[StoredRow],
 ) -> Result<Vec<Option<Pending>>, AllocError>
     requires stand { AreStanding views.old.items }
     requires gone { AllByRecursion IsStored (stored_rows gone.now) }
-    requires come { AllByRecursion IsStored come.now }
+    requires come { AllByRecursion IsStored (stored_rows come.now) }
     requires few { length gone.now + length come.now ≤ 2 ^ 25 }
     ensures same { AreSame views.old.items views.new.items }
     ensures ready { IfOk result (AreReadyForStored table gone.now come.now views.old views.new) }
@@ -36,7 +37,7 @@ pub(crate) fn prepare_views(
     prepare_all(alloc, views, &change)
 }
 
-/// Makes them ready for rows that come to the table. Those that stand in columns are made rows only where a view reads it.
+/// Makes them ready for rows that come to the table. They are listed only where a view reads it.
 pub(crate) fn prepare_come(
     alloc: Global,
     views: &mut Vec<View>,
@@ -50,17 +51,22 @@ pub(crate) fn prepare_come(
     ensures ready { IfOk result (AreReadyForRows table [] rows.now views.old views.new) }
     ensures can { IfOk result (λ ps. CanAllTake views.new.items ps.items) }
 {
-    if let Some(come) = rows.as_rows() {
-        return prepare_views(alloc, views, table, &[], come);
-    }
     if !is_used(views, table) {
         return prepare_views(alloc, views, table, &[], &[]);
     }
-    let come = rows.copies(alloc)?;
+    let come = lent_rows(alloc, rows)?;
     prepare_views(alloc, views, table, &[], &come)
 }
 
-/// Makes them ready where the rows that leave are copies.
+/// Rows on their way, where they stand.
+fn lent_rows(alloc: Global, rows: &NewRows) -> Result<Vec<StoredRow<'_>>, AllocError>
+    ensures { IfOk result (λ lent. stored_rows lent.items ≡ rows.now) }
+{
+    let count = rows.len();
+    Stored::new(&[], Written::of_new(rows), count).first_live(alloc, count)
+}
+
+/// Makes them ready where the rows are copies.
 pub(crate) fn prepare_copied(
     alloc: Global,
     views: &mut Vec<View>,
@@ -76,6 +82,7 @@ pub(crate) fn prepare_copied(
     ensures ready { IfOk result (AreReadyForRows table gone.now come.now views.old views.new) }
     ensures can { IfOk result (λ ps. CanAllTake views.new.items ps.items) }
 {
-    let lent = Front::Rows(gone).rows(alloc)?;
-    prepare_views(alloc, views, table, &lent, come)
+    let gone = Front::Rows(gone).rows(alloc)?;
+    let come = Front::Rows(come).rows(alloc)?;
+    prepare_views(alloc, views, table, &gone, &come)
 }

@@ -16,13 +16,6 @@ alone lead (Sum e) is = refl
 alone lead (Min e) is = refl
 alone lead (Max e) is = refl
 
-none : (a : Aggregate) → counted_beside None a ≡ None
-none CountAll = refl
-none (Count e) = refl
-none (Sum e) = refl
-none (Min e) = refl
-none (Max e) = refl
-
 beside-lead : (lead : Option Aggregate) (a : Aggregate) → is_count_all a ≡ true → counted_beside lead a ≡ lead
 beside-lead lead CountAll is = refl
 beside-lead lead (Count e) is = absurd (cc is)
@@ -37,9 +30,6 @@ module _ (aggregates : List Aggregate) (groups : ℕ) (numbers : List ℕ) (rows
 
   pub other-added : is_count_all a ≡ false → put_slots numbers (map (argument a) rows) (grown_slots groups old) ≡ added_slots (first_sum aggregates) groups numbers rows a old
   other-added is = read-added (alone (first_sum aggregates) a is)
-
-  pub lone-added : sum_place aggregates ≡ None → put_slots numbers (map (argument a) rows) (grown_slots groups old) ≡ added_slots (first_sum aggregates) groups numbers rows a old
-  lone-added is = read-added (ap (λ (place : Option ℕ). counted_beside (at_place aggregates place) a) is ∙ none a)
 
   -- the NULLs of the first SUM are counted for COUNT(*)
   pub nulls-added : (place : ℕ) → sum_place aggregates ≡ Some place → is_count_all a ≡ true

@@ -115,10 +115,6 @@ sums-more most more sums le all g = sum-more most more (get_or sums g no_sum) le
 pub sum-at : (most : ℕ) (sums : List Sum) (n : ℕ) (d : Sum) → n < length sums → AreSumsWithin most sums → IsSumWithin most (get_or sums n d)
 sum-at most sums n d h all = subst (IsSumWithin most) (get_or_default sums n no_sum d h) (all n)
 
--- nothing is put in yet
-pub put_from-none : (start : ℕ) (numbers : List ℕ) (values : List Value) (sums : List Sum) → PutFrom start start numbers values sums sums
-put_from-none start numbers values sums = record { rest = refl; within = λ m all. all; same = refl }
-
 module _ {start place : ℕ} {numbers : List ℕ} {values : List Value} {old now : List Sum} (so_far : PutFrom start place numbers values old now) where
   -- the next value is put into the group of its number
   pub put_from-next : (n : ℕ) (v : Value) (sum : Sum) → place < length numbers → length numbers ≡ length values → n ≡ get_or numbers place n → v ≡ get_or values place Null

@@ -1,9 +1,8 @@
 -- Keys, each once, as they were first met; the number of each is its place among them.
-use Rattle.std.specs.Prelude.{ℕ, ℤ, ◌≡◌, ◌<◌, List, [], ◌∷◌, ◌++◌, map, length, position, slice_index_or, Option}
+use Rattle.std.specs.Prelude.{ℕ, ◌≡◌, ◌<◌, List, [], ◌∷◌, ◌++◌, map, length, position, slice_index_or, Option}
 use Rattle.std.specs.Borrow.{Bor}
 use Rattle.std.specs.List.{AllByRecursion, IsDistinct, range_with_len}
 use Rattle.cq_values.specs.declared.value.Value.{Value}
-use Rattle.cq_values.specs.declared.value.Value.TheVariants.{Number}
 use Rattle.cq_values.specs.Value.{Row}
 use Rattle.cq_values.specs.Order.{same_row}
 use Rattle.cq_model_bags.specs.Bag.{firsts}
@@ -47,10 +46,6 @@ rows_in len columns = key_rows len (values_of columns)
 abbrev pub AddsKeys : List Row → List Row → List Row → Type 0
 AddsKeys old keys new = new ≡ firsts (old ++ keys)
 
--- the key of each number
-abbrev pub rows_of_numbers : List ℤ → List Row
-rows_of_numbers numbers = key_rows (length numbers) (map Number numbers ∷ [])
-
 -- the key of a number
 abbrev pub key_at : List Row → ℕ → Row
 key_at keys number = slice_index_or keys number []
@@ -74,7 +69,3 @@ places_of known keys = map (place_of known) keys
 -- each number is that of a key
 abbrev pub AreWithin : List Row → List ℕ → Type 0
 AreWithin keys numbers = AllByRecursion (λ number. number < length keys) numbers
-
--- the number is that of the key
-abbrev pub IsNumberOf : List Row → Row → ℕ → Type 0
-IsNumberOf keys key number = (number < length keys) × (key_at keys number ≡ key)

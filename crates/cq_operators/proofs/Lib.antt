@@ -1,16 +1,7 @@
 pub mod Below
 pub mod Between
 pub mod Collected
-pub mod Collecting
-pub mod Going
-pub mod Kept
-pub mod Keyed
 pub mod Linking
-pub mod Moving
 pub mod Opened
-pub mod Pairing
-pub mod Passing
 pub mod Selecting
-pub mod ShownRows
-pub mod Widths
 pub mod Worked

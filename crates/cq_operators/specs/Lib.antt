@@ -1,13 +1,6 @@
-pub mod Added
-pub mod Collected
 pub mod Exec
-pub mod Linked
-pub mod Listed
-pub mod Pairs
 pub mod Selected
 pub mod Showing
-pub mod Shown
 pub mod Inputs
-pub mod Taking
 pub mod Batches
 pub mod Opening

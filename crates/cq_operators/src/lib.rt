@@ -7,20 +7,11 @@
 #![tactic(auto)]
 
 mod batches;
-mod collector;
-mod distinct;
 mod exec;
 mod inputs;
-mod items;
-mod joining;
-mod link;
-mod listed;
 mod listing;
-mod lists;
 mod opening;
-mod pairs;
 mod progress;
-mod rows;
 mod selected;
 
 pub use exec::Exec;

@@ -1,6 +1,6 @@
 //! The listing of rows that are made.
 ghost use Rattle.std.specs.Prelude.{IfOk};
-ghost use Rattle.cq_operators.specs.Listed.{IsListingOf};
+ghost use Rattle.cq_operators_joins.specs.Listed.{IsListingOf};
 
 use cq_model::Order;
 use cq_operators_listing::in_order;

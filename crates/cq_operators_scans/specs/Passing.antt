@@ -1,12 +1,9 @@
 -- Rows of one source that pass conditions of their own, with NULL in the columns of the sources before it.
-use Rattle.std.specs.Prelude.{◌≡◌, ◌++◌, ℕ, Bool, List, map}
-use Rattle.std.specs.Bool.{OnTrue}
+use Rattle.std.specs.Prelude.{◌≡◌, ℕ, Bool, List, map}
 use Rattle.std.specs.Borrow.{Bor}
 use Rattle.std.specs.List.{AllByRecursion, filter}
 use Rattle.cq_encodings_vectors.specs.Places.{rows_at}
 use Rattle.cq_segments_pieces.specs.Marked.{MarkedRow, live, rows_of}
-use Rattle.cq_table_columns.specs.Stored.{all_rows}
-use Rattle.cq_table_columns.specs.declared.stored.Stored.{Stored}
 use Rattle.cq_table_positions.specs.Rows.{rows_in}
 use Rattle.cq_table_positions.specs.declared.stored_rows.StoredRows.{StoredRows}
 use Rattle.cq_values.specs.Truth.{is_true}
@@ -49,10 +46,6 @@ CanAllPass before conditions rows = AllByRecursion (CanPass before (conditions_i
 -- these are the rows that pass them all
 abbrev pub ArePassed : ℕ → List (Bor CondTree) → List Row → StoredRows → Type 0
 ArePassed before conditions rows passed = rows_in passed ≡ passing_rows before conditions rows
-
--- by yes, what passes of the rows that are left stands behind what passed so far, as what passes of all did before
-abbrev pub PutsPassing : ℕ → List (Bor CondTree) → List Row → List Row → List Row → Bool × Stored → Type 0
-PutsPassing before conditions rows old new r = OnTrue r.0 (new ++ passing_rows before conditions (all_rows r.1) ≡ old ++ passing_rows before conditions rows)
 
 -- at these places stand the rows that pass one of them
 abbrev pub ArePassing : ℕ → CondTree → List Row → List ℕ → Type 0

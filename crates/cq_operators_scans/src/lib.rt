@@ -20,6 +20,7 @@ mod worked;
 pub use keeping::kept_places;
 pub use operand::{Operand, lend_vectors};
 pub use passed::{passing, scan_passing};
+pub use places::{append_from, scan_piece};
 pub use scan::Scan;
 pub use skipping::{split_missed, split_unkept};
 pub use vectors::{own_vector_of, vector_of};

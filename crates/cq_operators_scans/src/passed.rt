@@ -1,11 +1,9 @@
 //! Rows of one source that pass conditions of their own before they are joined.
 ghost use Rattle.std.specs.List.{AllByRecursion};
-ghost use Rattle.std.specs.Prelude.{◌≡◌, ◌≤◌, ◌++◌, IfOk, length};
-ghost use Rattle.cq_writestore.specs.Writes.{FewerLeft};
+ghost use Rattle.std.specs.Prelude.{◌≡◌, ◌≤◌, IfOk, length};
 ghost use Rattle.cq_model.specs.Trees.{cond_of};
 ghost use Rattle.cq_operators_scans.specs.Paired.{ArePlaces};
-ghost use Rattle.cq_operators_scans.specs.Passing.{ArePassed, ArePassing, CanAllPass, IsExactBehind, PutsPassing};
-ghost use Rattle.cq_operators_scans.specs.Passing.{passing_one, passing_rows};
+ghost use Rattle.cq_operators_scans.specs.Passing.{ArePassed, ArePassing, CanAllPass, IsExactBehind, passing_one, passing_rows};
 ghost use Rattle.cq_table_positions.specs.Rows.{rows_in};
 ghost use Rattle.cq_table_columns.specs.Stored.{all_rows, front_rows};
 
@@ -18,13 +16,13 @@ use cq_model::CondTree;
 use cq_model_terms::columns_of;
 use cq_prims::KnownFits;
 use cq_table_columns::{Front, Stored};
-use cq_table_positions::{Part, Placed, Spread, StoredRows};
+use cq_table_positions::{Placed, StoredRows};
 use cq_vectors_masks::Selection;
 use std::alloc::{AllocError, Global};
 
 /// The rows that pass all conditions, where they are. In these the values of a row stand behind so many others. It goes
 /// through the rows 1,024 at a time, and past the segments that can have none. Where all stand in one segment it gives
-/// places there, positions where they stand in several, and else a list.
+/// places there, and else a list.
 pub fn passing<'a>(
     alloc: Global,
     before: usize,
@@ -41,63 +39,7 @@ pub fn passing<'a>(
             return Ok(StoredRows::Placed(Placed::of(segment, places)));
         }
     }
-    if rows.split_segment().is_some() {
-        return spread_passing(alloc, before, conditions, rows, &mut known);
-    }
     list_passing(alloc, before, conditions, rows, &mut known)
-}
-
-/// The same at positions in several segments and behind them, or a list where these are too many.
-fn spread_passing<'a>(
-    alloc: Global,
-    before: usize,
-    conditions: &[&'a CondTree],
-    rows: &Stored<'a>,
-    known: &mut KnownFits<'a>,
-) -> Result<StoredRows<'a>, AllocError>
-    requires { CanAllPass before conditions.now (all_rows rows.now) }
-    ensures { IfOk result (ArePassed before conditions.now (all_rows rows.now)) }
-{
-    let mut passing = Spread::new(alloc);
-    let mut left = *rows;
-    while !left.is_empty() {
-        if let Some((_, rest)) = split_missed(before, conditions, &left) {
-            left = rest;
-        } else {
-            let (put, rest) = push_passing(alloc, before, conditions, &left, known, &mut passing)?;
-            if !put {
-                return list_passing(alloc, before, conditions, rows, known);
-            }
-            left = rest;
-        }
-    }
-    Ok(StoredRows::Spread(passing))
-}
-
-/// Puts those of the next segment, or of the next front, behind others, and tells the rows behind it. By `false` there
-/// are too many parts.
-fn push_passing<'a>(
-    alloc: Global,
-    before: usize,
-    conditions: &[&'a CondTree],
-    rows: &Stored<'a>,
-    known: &mut KnownFits<'a>,
-    passing: &mut Spread<'a>,
-) -> Result<(bool, Stored<'a>), AllocError>
-    requires { CanAllPass before conditions.now (all_rows rows.now) }
-    ensures less { IfOk result (λ r. FewerLeft (all_rows rows.now) (all_rows r.1)) }
-    ensures exact { IfOk result (λ r. CanAllPass before conditions.now (all_rows r.1)) }
-    ensures rows { IfOk result (PutsPassing before conditions.now (all_rows rows.now) passing.old passing.new) }
-{
-    if let Some((segment, rest)) = rows.split_segment() {
-        let places = segment_passing(alloc, before, conditions, segment, known)?;
-        let put = passing.push(Part::Segment(segment), places.as_slice())?;
-        return Ok((put, rest));
-    }
-    let (front, rest) = rows.split_front();
-    let passed = pass_all(alloc, before, conditions, &front, known)?;
-    let put = passing.push_front(alloc, &passed)?;
-    Ok((put, rest))
 }
 
 /// A list of the rows that pass all conditions.

@@ -1,10 +1,11 @@
 //! Where the rows of a segment stand that pass conditions of their own.
 ghost use Rattle.std.specs.Prelude.{◌≡◌, ◌-◌, ◌++◌, ◌+◌, IfOk, OnOk, length, map};
 ghost use Rattle.cq_encodings_vectors.specs.Places.{AreBelow};
-ghost use Rattle.cq_operators_scans.specs.Passing.{ArePassedAt, CanAllPass};
+ghost use Rattle.cq_operators_scans.specs.Passing.{ArePassed, ArePassedAt, CanAllPass, passing_rows};
 ghost use Rattle.cq_segments_pieces.specs.Marked.{live};
 
 use crate::passed::passing_places;
+use crate::scan::Scan;
 use cq_encodings_vectors::copies_at;
 use cq_model::CondTree;
 use cq_prims::KnownFits;
@@ -31,24 +32,45 @@ pub(crate) fn segment_passing<'a>(
     let mut passing: Vec<u16> = Vec::new(alloc);
     let mut start = 0;
     for piece in segment.pieces() {
-        let places = piece_passing(alloc, before, conditions, piece, known)?;
+        let (_, places) = piece_passing(alloc, before, conditions, piece, known)?;
         append_from(start, places.as_slice(), &mut passing)?;
         start += piece.len();
     }
     Ok(passing)
 }
 
-/// The same of a piece: each condition is asked of the rows that the ones before it left.
+/// The rows of a piece that pass all conditions as a scan, and where they stand in the piece, rising. What is known of
+/// texts that fit patterns is kept for the next piece.
+pub fn scan_piece<'a>(
+    alloc: Global,
+    conditions: &[&'a CondTree],
+    piece: &'a Piece,
+    known: &mut KnownFits<'a>,
+) -> Result<(Scan<'a>, Vec<u16>), AllocError>
+    requires { CanAllPass 0 conditions.now (live piece.now) }
+    ensures scan { IfOk result (λ r. r.0 ≡ passing_rows 0 conditions.now (live piece.now)) }
+    ensures there { IfOk result (λ r. AreBelow (length piece.now) r.1.items) }
+    ensures passed { IfOk result (λ r. ArePassedAt 0 conditions.now piece.now r.1.items) }
+{
+    let _len = piece.len();
+    let (passed, places) = piece_passing(alloc, 0, conditions, piece, known)?;
+    let scan = Scan::open_stored(alloc, passed, &[])?;
+    Ok((scan, places))
+}
+
+/// The rows of a piece that pass all conditions, and where they stand there: each condition is asked of the rows that
+/// the ones before it left.
 fn piece_passing<'a>(
     alloc: Global,
     before: usize,
     conditions: &[&'a CondTree],
     piece: &'a Piece,
     known: &mut KnownFits<'a>,
-) -> Result<Vec<u16>, AllocError>
+) -> Result<(StoredRows<'a>, Vec<u16>), AllocError>
     requires { CanAllPass before conditions.now (live piece.now) }
-    ensures there { IfOk result (λ p. AreBelow (length piece.now) p.items) }
-    ensures passed { IfOk result (λ p. ArePassedAt before conditions.now piece.now p.items) }
+    ensures rows { IfOk result (λ r. ArePassed before conditions.now (live piece.now) r.0) }
+    ensures there { IfOk result (λ r. AreBelow (length piece.now) r.1.items) }
+    ensures passed { IfOk result (λ r. ArePassedAt before conditions.now piece.now r.1.items) }
 {
     let mut passed = StoredRows::Front(Front::of_piece(piece));
     let mut places = piece.live_places(alloc)?;
@@ -57,11 +79,11 @@ fn piece_passing<'a>(
         passed = passed.at(alloc, kept.places())?;
         places = copies_at(alloc, places.as_slice(), kept.places())?;
     }
-    Ok(places)
+    Ok((passed, places))
 }
 
 /// Places that are counted from a start on, behind others.
-fn append_from(start: usize, places: &[u16], all: &mut Vec<u16>) -> Result<(), AllocError>
+pub fn append_from(start: usize, places: &[u16], all: &mut Vec<u16>) -> Result<(), AllocError>
     requires { AreBelow (65536 - start) places.now }
     ensures { OnOk result (all.new.items ≡ all.old.items ++ map (λ p. start + p) places.now) }
 {

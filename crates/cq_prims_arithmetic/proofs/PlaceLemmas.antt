@@ -83,21 +83,12 @@ whole_results f vs ws same i past = take_all i (zip2 f vs ws) (omega (arith, pas
 pub all_made : (values : List Value) (i : ℕ) (numbers : List ℤ) (flags : List Bool) → take i values ≡ values → numbers ≡ map addend (take i values) → flags ≡ map no_number (take i values) → AreNumbers values → zip2 number_unless numbers flags ≡ values
 all_made values i numbers flags whole ns fs are = ap₂ (zip2 number_unless) (ns ∙ ap (map addend) whole) (fs ∙ ap (map no_number) whole) ∙ numbers_again values are
 
--- values are in range exactly where what they add is
-adds_in_range : (v : Value) → ValueInRange v → InRange (addend v)
-adds_in_range (Number n) h = h
-adds_in_range (Day d) h = record { low = search arith; high = search arith }
-adds_in_range (Text t) h = record { low = search arith; high = search arith }
-adds_in_range Null h = record { low = search arith; high = search arith }
-
+-- values are in range where what they add is
 value_in_range : (v : Value) → InRange (addend v) → ValueInRange v
 value_in_range (Number n) h = h
 value_in_range (Day d) h = tt
 value_in_range (Text t) h = tt
 value_in_range Null h = tt
-
-pub all_add_in_range : (values : List Value) → AllInRange values → AllAddInRange values
-all_add_in_range values h k = adds_in_range (get_or values k Null) (h k)
 
 pub all_in_range : (values : List Value) → AllAddInRange values → AllInRange values
 all_in_range values h k = value_in_range (get_or values k Null) (h k)

@@ -1,3 +1,2 @@
 pub mod AllPlaces
 pub mod Offsets
-pub mod SpreadRows

@@ -1,4 +1,2 @@
-pub mod Apart
 pub mod Rows
-pub mod Spread
 pub mod WholeNumbers

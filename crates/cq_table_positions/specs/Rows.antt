@@ -1,4 +1,4 @@
--- Rows of a list, of a front, at places of a front or of a segment, or at positions in several.
+-- Rows of a list, of a front, or at places of a front or of a segment.
 use Rattle.std.specs.Prelude.{List}
 use Rattle.cq_segments_pieces.specs.Rows.{stored_rows}
 use Rattle.cq_values.specs.Value.{Row}
@@ -12,4 +12,3 @@ rows_in (stored.Listed list) = stored_rows list.items
 rows_in (stored.Front front) = front_rows front
 rows_in (stored.Chosen chosen) = chosen
 rows_in (stored.Placed placed) = placed
-rows_in (stored.Spread spread) = spread

@@ -82,14 +82,6 @@ impl<'a> Chosen<'a> {
         self.front.rows_at(alloc, &self.places)
     }
 
-    /// The front, with marked rows as if they had none, and the places of these rows there.
-    pub(crate) fn stand(&self) -> (Front<'a>, &[u16])
-        ensures there { AreBelow (length (front_rows result.0)) result.1.now }
-        ensures rows { rows_at (front_rows result.0) result.1.now ≡ self.now }
-    {
-        (self.front, self.places.as_slice())
-    }
-
     fn new(front: Front<'a>, places: Vec<u16>) -> Chosen<'a>
         requires { AreBelow (length (front_rows front)) places.items }
         ensures { result ≡ rows_at (front_rows front.entry) places.items }
@@ -99,7 +91,7 @@ impl<'a> Chosen<'a> {
 }
 
 /// The values of a column in the rows at some places of a front.
-pub(crate) fn gather_chosen<'a>(
+fn gather_chosen<'a>(
     alloc: Global,
     front: &Front<'a>,
     places: &[u16],

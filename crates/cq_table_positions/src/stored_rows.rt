@@ -1,8 +1,8 @@
 //! Rows where they are stored.
 //!
 //! What a scan goes on with: rows of a list, a whole front, or some places of one or of a segment. `gather` gives a column
-//! as a vector, `at` and `at_each` keep the rows at some places, `into_rows` lists them. Of a front a column is read as it
-//! stands, and no call copies a value that it does not give.
+//! as a vector, `at` keeps the rows at some places, and `into_rows` lists them. Of a front a column is read as it stands,
+//! and no call copies a value that it does not give.
 ghost use Rattle.std.specs.Prelude.{◌≡◌, ◌≤◌, IfOk, IfSome, length};
 ghost use Rattle.cq_encodings_vectors.specs.Places.{AreBelow, rows_at};
 ghost use Rattle.cq_segments_pieces.specs.Rows.{stored_rows};
@@ -12,8 +12,7 @@ ghost use Rattle.cq_vectors.specs.Gathered.{column_of};
 
 use crate::chosen::Chosen;
 use crate::placed::Placed;
-use crate::places::{are_all, lent_at, lent_each};
-use crate::spread::Spread;
+use crate::places::{are_all, lent_at};
 use cq_segments_pieces::StoredRow;
 use cq_table_columns::{Front, gather};
 use cq_vectors::Vector;
@@ -26,7 +25,6 @@ pub enum StoredRows<'a> {
     Front(Front<'a>),
     Chosen(Chosen<'a>),
     Placed(Placed<'a>),
-    Spread(Spread<'a>),
 }
 
 impl<'a> StoredRows<'a> {
@@ -38,7 +36,6 @@ impl<'a> StoredRows<'a> {
             StoredRows::Front(front) => front.len(),
             StoredRows::Chosen(chosen) => chosen.len(),
             StoredRows::Placed(placed) => placed.len(),
-            StoredRows::Spread(spread) => spread.len(),
         }
     }
 
@@ -52,7 +49,6 @@ impl<'a> StoredRows<'a> {
             StoredRows::Front(front) => front.gather(alloc, column),
             StoredRows::Chosen(chosen) => chosen.gather(alloc, column),
             StoredRows::Placed(placed) => placed.gather(alloc, column),
-            StoredRows::Spread(spread) => spread.gather(alloc, column),
         }
     }
 
@@ -69,27 +65,6 @@ impl<'a> StoredRows<'a> {
             },
             StoredRows::Chosen(chosen) => Ok(StoredRows::Chosen(chosen.at(alloc, places)?)),
             StoredRows::Placed(placed) => Ok(StoredRows::Placed(placed.at(alloc, places)?)),
-            StoredRows::Spread(spread) => Ok(StoredRows::Spread(spread.at(alloc, places)?)),
-        }
-    }
-
-    /// Those at some places, where one may come again. Of a front they are listed.
-    pub fn at_each(&self, alloc: Global, places: &[usize]) -> Result<StoredRows<'a>, AllocError>
-        requires { AreBelow (length (rows_in self.now)) places.now }
-        ensures { IfOk result (λ rows. rows_in rows ≡ rows_at (rows_in self.now) places.now) }
-    {
-        match self {
-            StoredRows::Listed(rows) => Ok(StoredRows::Listed(lent_each(alloc, rows, places)?)),
-            StoredRows::Front(front) => {
-                let rows = front.rows(alloc)?;
-                Ok(StoredRows::Listed(lent_each(alloc, &rows, places)?))
-            }
-            StoredRows::Chosen(chosen) => {
-                let rows = chosen.rows(alloc)?;
-                Ok(StoredRows::Listed(lent_each(alloc, &rows, places)?))
-            }
-            StoredRows::Placed(placed) => Ok(StoredRows::Placed(placed.at_each(alloc, places)?)),
-            StoredRows::Spread(spread) => Ok(StoredRows::Spread(spread.at_each(alloc, places)?)),
         }
     }
 
@@ -106,7 +81,6 @@ impl<'a> StoredRows<'a> {
             StoredRows::Front(front) => Ok(StoredRows::Front(*front)),
             StoredRows::Chosen(chosen) => Ok(StoredRows::Chosen(chosen.copy(alloc)?)),
             StoredRows::Placed(placed) => Ok(StoredRows::Placed(placed.copy(alloc)?)),
-            StoredRows::Spread(spread) => Ok(StoredRows::Spread(spread.copy(alloc)?)),
         }
     }
 
@@ -119,7 +93,6 @@ impl<'a> StoredRows<'a> {
             StoredRows::Front(front) => front.rows(alloc),
             StoredRows::Chosen(chosen) => chosen.rows(alloc),
             StoredRows::Placed(placed) => placed.rows(alloc),
-            StoredRows::Spread(spread) => spread.rows(alloc),
         }
     }
 }

@@ -7,6 +7,5 @@ mod masks;
 mod named;
 mod parts;
 mod patterns;
-mod plans;
 mod totals;
 mod vectors;

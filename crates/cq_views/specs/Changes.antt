@@ -18,7 +18,7 @@ exchanged gone come = weighed gone (neg_ℤ (pos 1)) ++ once_each come
 
 -- the changes of all tables, where these rows of one table go and come
 abbrev pub changes_of : TableChange → Tables
-changes_of change = only (FromTable change.table) (exchanged (stored_rows change.gone.now) change.come.now)
+changes_of change = only (FromTable change.table) (exchanged (stored_rows change.gone.now) (stored_rows change.come.now))
 
 -- no weight leaves 127 bits and a sign while so many rows come or go
 abbrev pub StaysInRange : ℕ → Weighted → Type 0

@@ -1,5 +1,5 @@
 -- Rows that are cut to the columns that a query reads of its sources.
-use Rattle.std.specs.Prelude.{◌≡◌, ◌++◌, ℕ, pos, neg_ℤ, if◌then◌else◌, List, [], ◌∷◌, length, map, Option, Some, None}
+use Rattle.std.specs.Prelude.{◌≡◌, ◌++◌, ℕ, ℤ, if◌then◌else◌, List, [], ◌∷◌, length, map, Option, Some, None}
 use Rattle.cq_values.specs.Value.{Row}
 use Rattle.cq_model_bags.specs.Bag.{SameBag, Weighted, once_each, projected}
 use Rattle.cq_model_bags.specs.Size.{IsClean}
@@ -58,13 +58,9 @@ pub record AreCut (columns : List SourceColumns) (changes cut : Tables) : Type 0
   pub same : SameTables cut (cut_bags columns changes)
   pub clean : (source : Source) → IsClean (cut source)
 
--- each of these rows comes once more, cut to columns
-abbrev pub AddsCut : List ℕ → List Row → Held → Held → Type 0
-AddsCut columns rows old new = SameBag new.entries (old.entries ++ weighed (map (key_of columns) rows) (pos 1))
-
--- and each of these goes once
-abbrev pub TakesCut : List ℕ → List Row → Held → Held → Type 0
-TakesCut columns rows old new = SameBag new.entries (old.entries ++ weighed (map (key_of columns) rows) (neg_ℤ (pos 1)))
+-- each of these rows is put in with a weight, cut to columns
+abbrev pub PutsCut : List ℕ → ℤ → List Row → Held → Held → Type 0
+PutsCut columns weight rows old new = SameBag new.entries (old.entries ++ weighed (map (key_of columns) rows) weight)
 
 -- ---- rows of tables, where they are stored
 -- the rows of one table, each of them once

@@ -2,32 +2,30 @@
 //!
 //! A [`TableChange`] lends the rows that leave a table and those that come to it. It is made once for a write and shown to
 //! each view; a view that reads the table copies the columns of them that it reads, and no other view pays for it.
-ghost use Rattle.std.specs.Prelude.{IfOk, OnOk, length};
+ghost use Rattle.std.specs.Prelude.{◌≡◌, IfOk, OnOk, length, nat_abs};
 ghost use Rattle.cq_deltas_joins.specs.Sources.{rows_at};
 ghost use Rattle.cq_segments_pieces.specs.Rows.{stored_rows};
 ghost use Rattle.cq_views.specs.Changes.{StaysInRange, changes_of, exchanged};
-ghost use Rattle.cq_views.specs.Cut.{AddsCut, AreCut, IsCut, TakesCut};
+ghost use Rattle.cq_views.specs.Cut.{AreCut, IsCut, PutsCut};
 
 use crate::cutting::entry_of;
 use cq_deltas_joins::SourceRows;
 use cq_model::Source;
-use cq_model_eval::key_of;
 use cq_segments_pieces::StoredRow;
 use cq_sides_weights::Weights;
-use cq_values::Row;
 use cq_views_columns::SourceColumns;
 use std::alloc::{AllocError, Global};
 
 /// For how many rows room is made at once.
 const ROOM: usize = 1_024;
 
-/// What a write changes in the table of a number: the rows that leave it, where they are stored, and those that come to
-/// it. They are lent, and each view copies the columns of them that it reads.
+/// What a write changes in the table of a number: the rows that leave it and those that come to it, where they are stored.
+/// They are lent, and each view copies the columns of them that it reads.
 #[derive(Clone, Copy)]
 pub struct TableChange<'a> {
     pub table: u64,
     pub gone: &'a [StoredRow<'a>],
-    pub come: &'a [Row],
+    pub come: &'a [StoredRow<'a>],
 }
 
 /// The change of the table, cut to the columns of its entry. Where it has no entry, nothing changes.
@@ -55,46 +53,32 @@ fn cut_rows(
     alloc: Global,
     columns: &[usize],
     gone: &[StoredRow],
-    come: &[Row],
+    come: &[StoredRow],
 ) -> Result<Weights, AllocError>
-    ensures { IfOk result (IsCut columns.now (exchanged (stored_rows gone.now) come.now)) }
+    ensures { IfOk result (IsCut columns.now (exchanged (stored_rows gone.now) (stored_rows come.now))) }
 {
     let mut cut = Weights::new(alloc);
     cut.reserve(gone.len().saturating_add(come.len()).min(ROOM))?;
-    take_away(alloc, columns, gone, &mut cut)?;
-    add_to(alloc, columns, come, &mut cut)?;
+    put_cut(alloc, columns, gone, -1, &mut cut)?;
+    put_cut(alloc, columns, come, 1, &mut cut)?;
     let _len = cut.len();
     Ok(cut)
 }
 
-/// Each of the rows one time less, cut to columns.
-fn take_away(
+/// Each of the rows with a weight of one, cut to columns: one time more, or one time less.
+fn put_cut(
     alloc: Global,
     columns: &[usize],
-    gone: &[StoredRow],
+    rows: &[StoredRow],
+    weight: i128,
     cut: &mut Weights,
 ) -> Result<(), AllocError>
-    requires { StaysInRange (length gone.now) cut.old.entries }
-    ensures { OnOk result (TakesCut columns.now (stored_rows gone.now) cut.old cut.new) }
+    requires one { nat_abs weight ≡ 1 }
+    requires range { StaysInRange (length rows.now) cut.old.entries }
+    ensures { OnOk result (PutsCut columns.now weight (stored_rows rows.now) cut.old cut.new) }
 {
-    for row in gone {
-        cut.add(row.cut(alloc, columns)?, -1)?;
-    }
-    Ok(())
-}
-
-/// Each of the rows one time more, cut to columns.
-fn add_to(
-    alloc: Global,
-    columns: &[usize],
-    come: &[Row],
-    cut: &mut Weights,
-) -> Result<(), AllocError>
-    requires { StaysInRange (length come.now) cut.old.entries }
-    ensures { OnOk result (AddsCut columns.now come.now cut.old cut.new) }
-{
-    for row in come {
-        cut.add(key_of(alloc, columns, row.as_slice())?, 1)?;
+    for row in rows {
+        cut.add(row.cut(alloc, columns)?, weight)?;
     }
     Ok(())
 }

@@ -1,6 +1,7 @@
 //! What an engine tells beside its answers.
 use super::engines::{carry_out, engine};
 use cq_binder::Catalog;
+use cq_binder_rules::Fault;
 use cq_engine::Engine;
 use cq_model::{Query, Shape, Source};
 use std::alloc::Global;
@@ -42,6 +43,51 @@ fn a_view_is_at_the_present(rt: HostRuntime) -> Result<(), Fail> {
     let stayed = stay_at_the_present(&rt, rt.alloc(), &mut engine);
     drop(engine);
     stayed
+}
+
+/// Behind each of these statements a view of a name is taken on by so many writes: its epoch then, or the refusal.
+const REFRESHES: &[(&str, &str, u128, Result<u64, Fault>)] = &[
+    (
+        "CREATE TABLE t(k INTEGER)",
+        "v",
+        1,
+        Err(Fault::UnknownTable),
+    ),
+    (
+        "CREATE VIEW v AS SELECT COUNT(*) AS n FROM t",
+        "v",
+        0,
+        Ok(0),
+    ),
+    ("INSERT INTO t VALUES (1)", "v", 2, Ok(1)),
+    ("INSERT INTO t VALUES (2)", "x", 1, Err(Fault::UnknownTable)),
+    (
+        "DELETE FROM t WHERE k = 1",
+        "t",
+        1,
+        Err(Fault::UnknownTable),
+    ),
+    ("DELETE FROM t WHERE k = 1", "v", u128::MAX, Ok(4)),
+];
+
+fn refresh_each(rt: &impl Abort, alloc: Global, engine: &mut Engine) -> Result<(), Fail> {
+    for (statement, view, changes, told) in REFRESHES {
+        drop(carry_out(rt, alloc, engine, statement)?);
+        let epoch = match engine.refresh(view, *changes) {
+            Ok(()) => Ok(engine.view_epoch(view).ok_or("no view")?),
+            Err(fault) => Err(fault),
+        };
+        assert!(rt; epoch == *told, "{statement}");
+    }
+    Ok(())
+}
+
+#[test]
+fn a_view_is_refreshed_by_its_name_alone(rt: HostRuntime) -> Result<(), Fail> {
+    let mut engine = engine(rt.alloc())?;
+    let refreshed = refresh_each(&rt, rt.alloc(), &mut engine);
+    drop(engine);
+    refreshed
 }
 
 /// A table, and a view on it.

@@ -10,9 +10,9 @@ pub returns-then-not-is_used-clause-ready : goal.returns-then-not-is_used-clause
 returns-then-not-is_used-clause-ready c =
     let views = c.args.views.now.items in
     let none : is_used c.args.table (views_of views) ≡ false = search rules in
-    IfOk-weaker c.prepare_views-then-not-is_used.result _ _
-    (λ ps ready. unread c.args.table c.args.rows.now views c.prepare_views-then-not-is_used.new.views.items ps.items none c.prepare_views-then-not-is_used.ensures.same ready)
-    c.prepare_views-then-not-is_used.ensures.ready
+    IfOk-weaker c.prepare_views.result _ _
+    (λ ps ready. unread c.args.table c.args.rows.now views c.prepare_views.new.views.items ps.items none c.prepare_views.ensures.same ready)
+    c.prepare_views.ensures.ready
 
 pub returns-in_err-come-clause-same : goal.returns-in_err-come-clause-same
 returns-in_err-come-clause-same c = all_same c.args.views.now.items

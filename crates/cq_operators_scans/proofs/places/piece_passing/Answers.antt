@@ -39,3 +39,7 @@ pub returns-clause-passed : goal.returns-clause-passed
 returns-clause-passed c =
     c.loop-condition.invariant.stands.rows
     ∙ all-asked c.args.before c.args.conditions.now c.loop-condition.condition-index (omega (arith, c.loop-condition-test.false)) (rows_in c.loop-condition.passed) (live c.args.piece.now) c.loop-condition.invariant.asked
+
+pub returns-clause-rows : goal.returns-clause-rows
+returns-clause-rows c =
+    all-asked c.args.before c.args.conditions.now c.loop-condition.condition-index (omega (arith, c.loop-condition-test.false)) (rows_in c.loop-condition.passed) (live c.args.piece.now) c.loop-condition.invariant.asked

@@ -8,11 +8,11 @@ use Rattle.cq_views.proofs.changes.cut_change.Goals as goal
 pub returns-in-None : goal.returns-in-None
 returns-in-None c =
     let change = c.args.change.now in
-    rw c.new.ensures.items (no-entry c.args.columns.now (Table change.table) (exchanged (stored_rows change.gone.now) change.come.now) (sym c.in-None.ensures))
+    rw c.new.ensures.items (no-entry c.args.columns.now (Table change.table) (exchanged (stored_rows change.gone.now) (stored_rows change.come.now)) (sym c.in-None.ensures))
 
 pub returns-in_ok-push-in-Some : goal.returns-in_ok-push-in-Some
 returns-in_ok-push-in-Some c =
     let change = c.args.change.now in
     let rows = c.in_ok-rows-in-Some in
     rw (c.in_ok-push-in-Some.ensures.items, c.new-all.ensures.items)
-    (own-entry c.args.columns.now (Table change.table) (exchanged (stored_rows change.gone.now) change.come.now) c.in-Some.entry.now (sym c.in-Some.ensures) rows.rows (rw c.as_slice.ensures at rows.ensures))
+    (own-entry c.args.columns.now (Table change.table) (exchanged (stored_rows change.gone.now) (stored_rows change.come.now)) c.in-Some.entry.now (sym c.in-Some.ensures) rows.rows (rw c.as_slice.ensures at rows.ensures))
