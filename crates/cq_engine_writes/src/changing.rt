@@ -1,18 +1,18 @@
 //! What a write changes in the views.
 ghost use Rattle.std.specs.List.{AllByRecursion};
-ghost use Rattle.std.specs.Prelude.{◌+◌, ◌≡◌, ◌≤◌, ◌^◌, [], IfOk, length};
+ghost use Rattle.std.specs.Prelude.{◌+◌, ◌≤◌, ◌^◌, [], IfOk, length};
 ghost use Rattle.cq_model.specs.Sizes.{IsStored};
 ghost use Rattle.cq_engine_tables.specs.Taking.{AreSame, CanAllTake};
 ghost use Rattle.cq_engine_writes.specs.Changing.{AreReadyForRows, AreReadyForStored, AreStanding};
 ghost use Rattle.cq_segments_pieces.specs.Rows.{stored_rows};
 
+use cq_engine_queue::lent_rows;
 use cq_engine_tables::{View, is_used, prepare_all};
 use cq_segments_pieces::StoredRow;
-use cq_table_columns::{Front, Stored};
+use cq_table_columns::Front;
 use cq_values::Row;
 use cq_views::TableChange;
 use cq_views_state::Pending;
-use cq_writestore::Written;
 use cq_writestore_rows::NewRows;
 use std::alloc::{AllocError, Global};
 
@@ -56,14 +56,6 @@ pub(crate) fn prepare_come(
     }
     let come = lent_rows(alloc, rows)?;
     prepare_views(alloc, views, table, &[], &come)
-}
-
-/// Rows on their way, where they stand.
-fn lent_rows(alloc: Global, rows: &NewRows) -> Result<Vec<StoredRow<'_>>, AllocError>
-    ensures { IfOk result (λ lent. stored_rows lent.items ≡ rows.now) }
-{
-    let count = rows.len();
-    Stored::new(&[], Written::of_new(rows), count).first_live(alloc, count)
 }
 
 /// Makes them ready where the rows are copies.

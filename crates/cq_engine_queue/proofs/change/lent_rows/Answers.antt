@@ -5,7 +5,7 @@ use Rattle.cq_segments_pieces.specs.Marked.{MarkedRow, live, unmarked}
 use Rattle.cq_values.specs.Value.{Row}
 use Rattle.cq_segments_pieces.proofs.Marks.{live-unmarked}
 use Rattle.cq_table_columns.specs.Stored.{stored_marked}
-use Rattle.cq_engine_writes.proofs.changing.lent_rows.Goals as goal
+use Rattle.cq_engine_queue.proofs.change.lent_rows.Goals as goal
 
 pub new-requires : goal.new-requires
 new-requires c = c.len-count.ensures.len ∙ sym (ap (λ rows. length (live rows)) c.of_new.ensures ∙ ap length (live-unmarked c.args.rows.now))

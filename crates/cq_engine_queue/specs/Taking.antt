@@ -1,0 +1,40 @@
+-- A view that takes a change in.
+use Rattle.std.specs.Prelude.{◌+◌, ◌≤◌, ◌<◌, ◌^◌}
+use Rattle.cq_deltas_joins.specs.Steps.{AreStored}
+use Rattle.cq_model.specs.Meaning.{Tables}
+use Rattle.cq_model.specs.declared.query.Source.{Source}
+use Rattle.cq_model.specs.declared.query.Source.TheVariants.{Table}
+use Rattle.cq_model_state.specs.Fitting.{rows_limit}
+use Rattle.cq_model_state.specs.State.{ChangeOf}
+use Rattle.cq_sides_weights.specs.Held.{sizes}
+use Rattle.cq_views.specs.Filling.{only}
+use Rattle.cq_views.specs.State.{StandsFor}
+use Rattle.cq_views_model.specs.Delta.{changed}
+use Rattle.cq_views_state.specs.State.{AreBags}
+use Rattle.cq_engine_tables.specs.Taking.{IsLed}
+use Rattle.cq_engine_tables.specs.Views.{Fits, NamedView}
+
+-- the changes of all tables, where one was written
+abbrev pub changes_by : ChangeOf → Tables
+changes_by c = only (Table c.table) c.rows
+
+-- tables of stored rows, few enough in each
+pub record AreHeld (tables : Tables) : Type 0 where
+  pub stored : (source : Source) → AreStored (tables source)
+  pub few : (source : Source) → sizes (tables source) ≤ rows_limit
+  pub bags : AreBags tables
+
+-- the view can be kept, and stands for tables that are held before the change and behind it; few stored rows change
+pub record CanTakeIn (v : NamedView) (c : ChangeOf) : Type 0 where
+  pub fits : Fits v.kept.query
+  pub tables : Tables
+  pub stands : StandsFor v.kept tables
+  pub held : AreHeld tables
+  pub stored : AreStored c.rows
+  pub few : sizes c.rows ≤ 2 ^ 25
+  pub epoch : v.kept.state.epoch + 1 < 2 ^ 64
+
+-- it is one epoch further, and whatever tables it stood for, it stands for the changed ones
+pub record TakesChange (c : ChangeOf) (old new : NamedView) : Type 0 where
+  pub led : IsLed (old.kept.state.epoch + 1) old new
+  pub stands : (tables : Tables) → StandsFor old.kept tables → AreBags (changed tables (changes_by c)) → StandsFor new.kept (changed tables (changes_by c))
