@@ -34,7 +34,7 @@ module _ (tables changes : Tables) (each : (source : Source) → span (tables so
   more_spans source sources m h = mul-le (span (tables source) (changes source)) (spans tables changes sources) (2 ^ 26) m (each source) h
 
   -- at most four sources of few rows are few
-  spans_few : (sources : List Source) → length sources ≤ 4 → spans tables changes sources ≤ 2 ^ 122
+  pub spans_few : (sources : List Source) → length sources ≤ 4 → spans tables changes sources ≤ 2 ^ 122
   spans_few [] h = omega arith
   spans_few (a ∷ []) h = omega (arith, more_spans a [] 1 (omega arith))
   spans_few (a ∷ b ∷ []) h = omega (arith, more_spans a (b ∷ []) (2 ^ 26) (omega (arith, more_spans b [] 1 (omega arith))))
@@ -71,7 +71,7 @@ pub same_itself : (v : NamedView) → IsSame v v
 same_itself v = (all_same (v ∷ [])).0
 
 -- a view is led from where nothing of it had changed
-led_from : (epoch : ℕ) (v w x : NamedView) → IsSame v w → IsLed epoch w x → IsLed epoch v x
+pub led_from : (epoch : ℕ) (v w x : NamedView) → IsSame v w → IsLed epoch w x → IsLed epoch v x
 led_from epoch v w x s led = record {
   name = led.name ∙ s.name;
   columns = led.columns ∙ s.columns;

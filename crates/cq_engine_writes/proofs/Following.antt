@@ -28,20 +28,10 @@ use Rattle.cq_engine_tables.proofs.Rows.{unread}
 use Rattle.cq_engine_tables.proofs.Wide.{KeepWidths, all-still-wide}
 use Rattle.cq_engine_tables.specs.Taking.{AllStandFor, AreReady, AreSame, HasTaken, HaveTaken, IsLed, IsReady, IsSame}
 use Rattle.cq_engine_tables.specs.Views.{AreRight, AreWide, Fits, IsRight, NamedView, bags_in, view_of}
+use Rattle.cq_engine_queue.proofs.Following.{led_from}
 use Rattle.cq_engine_writes.specs.Changing.{AreReadyAt}
 use Rattle.cq_engine_writes.specs.Following.{Follow, Follows, Moved}
 use Rattle.cq_model_bags.proofs.Positives.{bag-same}
-
--- a view is led from where nothing of it had changed
-led_from : (epoch : ℕ) (v w x : NamedView) → IsSame v w → IsLed epoch w x → IsLed epoch v x
-led_from epoch v w x s led = record {
-  name = led.name ∙ s.name;
-  columns = led.columns ∙ s.columns;
-  query = led.query ∙ s.kept.query;
-  widths = led.widths ∙ s.kept.widths;
-  built = led.built ∙ s.kept.state.built;
-  epoch = led.epoch;
-}
 
 -- ---- Views that took in what waited
 module _ (law : StandingDependsOnSources) (epoch n : ℕ) (tables changes : Tables) (others : (source : Source) → is_table n source ≡ false → changes source ≡ []) (bags : AreBags (changed tables changes)) where

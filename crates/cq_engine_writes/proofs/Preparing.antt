@@ -1,9 +1,8 @@
 -- What a write changes, and views that can be made ready for it.
-use Rattle.std.proofs.Common.{◌≡◌, ◌∙◌, ◌+◌, ◌*◌, ◌≤◌, ◌^◌, ℕ, ℤ, pos, neg_ℤ, false, List, [], ◌∷◌, length, Option, Some, None, refl, sym, ap, ap₂, arith}
+use Rattle.std.proofs.Common.{◌≡◌, ◌∙◌, ◌+◌, ◌≤◌, ◌^◌, ℕ, ℤ, pos, neg_ℤ, false, List, [], ◌∷◌, length, Option, Some, None, refl, sym, ap, ap₂, arith}
 use Rattle.std.specs.Prelude.{◌||◌}
 use Rattle.std.specs.List.{AllByRecursion, list_any}
 use Rattle.std.proofs.lemmas.Bool.{eq-eqb, eqb-false, ne_eqb}
-use Rattle.std.proofs.lemmas.Nat.{mul-le}
 use Rattle.cq_values.specs.Value.{Row}
 use Rattle.cq_model_bags.proofs.Bags.{same-refl}
 use Rattle.cq_binder_rules.specs.Refusal.{is_used}
@@ -15,13 +14,13 @@ use Rattle.cq_model.specs.Views.{is_table, sources_of}
 use Rattle.cq_sides_weights.proofs.RowByRow.{sizes-append}
 use Rattle.cq_sides_weights.specs.Held.{sizes}
 use Rattle.cq_deltas_joins.proofs.Storing.{stored-append}
-use Rattle.cq_deltas_joins.specs.Chains.{spans}
 use Rattle.cq_deltas_joins.specs.Steps.{AreStored, span}
 use Rattle.cq_views_model.specs.Query.{reads}
 use Rattle.cq_views_state.specs.declared.state.Pending.{Pending}
 use Rattle.cq_engine_tables.specs.Taking.{AllStandFor, AreReady, AreReadyFor, AreSame, CanAllPrepare, CanAllTake}
 use Rattle.cq_engine_tables.specs.Views.{Fits, NamedView, views_of}
 use Rattle.cq_engine_tables.proofs.Named.{used_by}
+use Rattle.cq_engine_queue.proofs.Following.{spans_few}
 use Rattle.cq_views.proofs.Exchanges.{sizes-weighed}
 use Rattle.cq_views.proofs.Taking.{only-have}
 use Rattle.cq_views.specs.Changes.{exchanged, weighed}
@@ -66,26 +65,6 @@ module _ (n : ℕ) (gone come : List Row) where
       )) (omega arith)
 
 -- ---- Views that can be made ready
-module _ (tables changes : Tables) (each : (source : Source) → span (tables source) (changes source) ≤ 2 ^ 26) where
-  more_spans : (source : Source) (sources : List Source) (m : ℕ) → spans tables changes sources ≤ m → spans tables changes (source ∷ sources) ≤ 2 ^ 26 * m
-  more_spans source sources m h = mul-le (span (tables source) (changes source)) (spans tables changes sources) (2 ^ 26) m (each source) h
-
-  -- at most four sources of few rows are few
-  spans_few : (sources : List Source) → length sources ≤ 4 → spans tables changes sources ≤ 2 ^ 122
-  spans_few [] h = omega arith
-  spans_few (a ∷ []) h = omega (arith, more_spans a [] 1 (omega arith))
-  spans_few (a ∷ b ∷ []) h = omega (arith, more_spans a (b ∷ []) (2 ^ 26) (omega (arith, more_spans b [] 1 (omega arith))))
-  spans_few (a ∷ b ∷ c ∷ []) h =
-      let last : spans tables changes (c ∷ []) ≤ 2 ^ 26 = omega (arith, more_spans c [] 1 (omega arith)) in
-      let two : spans tables changes (b ∷ c ∷ []) ≤ 2 ^ 52 = omega (arith, more_spans b (c ∷ []) (2 ^ 26) last) in
-      omega (arith, more_spans a (b ∷ c ∷ []) (2 ^ 52) two)
-  spans_few (a ∷ b ∷ c ∷ d ∷ []) h =
-      let last : spans tables changes (d ∷ []) ≤ 2 ^ 26 = omega (arith, more_spans d [] 1 (omega arith)) in
-      let two : spans tables changes (c ∷ d ∷ []) ≤ 2 ^ 52 = omega (arith, more_spans c (d ∷ []) (2 ^ 26) last) in
-      let three : spans tables changes (b ∷ c ∷ d ∷ []) ≤ 2 ^ 78 = omega (arith, more_spans b (c ∷ d ∷ []) (2 ^ 52) two) in
-      omega (arith, more_spans a (b ∷ c ∷ d ∷ []) (2 ^ 78) three)
-  spans_few (a ∷ b ∷ c ∷ d ∷ e ∷ sources) h = absurd (omega (arith, h))
-
 -- views that stand can be made ready for few stored changes
 pub can_all_prepare : (changes : Tables) → ((source : Source) → AreStored (changes source)) → ((source : Source) → sizes (changes source) ≤ 2 ^ 25) → (views : List NamedView) → AreStanding views
     → CanAllPrepare changes views
