@@ -11,7 +11,7 @@ use crate::truths::truths_of;
 use cq_model::Cond;
 use cq_model_eval::narrow_is_exact;
 use cq_model_terms::columns_of;
-use cq_prims::KnownFits;
+use cq_prims::KnownTruths;
 use cq_table_columns::Front;
 use cq_vectors_masks::Selection;
 use std::alloc::{AllocError, Global};
@@ -46,7 +46,7 @@ fn true_places(alloc: Global, condition: &Cond, front: &Front<'_>) -> Result<Sel
 {
     let columns = columns_of(alloc, condition.tree())?;
     let scan = Scan::open_front(alloc, *front, &columns)?;
-    let truths = truths_of(alloc, condition, &scan, &mut KnownFits::forgotten(alloc))?;
+    let truths = truths_of(alloc, condition, &scan, &mut KnownTruths::forgotten(alloc))?;
     let mut kept = Selection::new();
     kept.set_true(&truths);
     Ok(kept)

@@ -14,7 +14,7 @@ use crate::skipping::split_missed;
 use crate::truths::truths_of_tree;
 use cq_model::CondTree;
 use cq_model_terms::columns_of;
-use cq_prims::KnownFits;
+use cq_prims::KnownTruths;
 use cq_table_columns::{Front, Stored};
 use cq_table_positions::{Placed, StoredRows};
 use cq_vectors_masks::Selection;
@@ -32,7 +32,7 @@ pub fn passing<'a>(
     requires { CanAllPass before conditions.now (all_rows rows.now) }
     ensures { IfOk result (ArePassed before conditions.now (all_rows rows.now)) }
 {
-    let mut known = KnownFits::new(alloc);
+    let mut known = KnownTruths::new(alloc);
     if let Some(segment) = rows.only_segment() {
         if split_missed(before, conditions, rows).is_none() {
             let places = segment_passing(alloc, before, conditions, segment, &mut known)?;
@@ -48,7 +48,7 @@ fn list_passing<'a>(
     before: usize,
     conditions: &[&'a CondTree],
     rows: &Stored<'a>,
-    known: &mut KnownFits<'a>,
+    known: &mut KnownTruths<'a>,
 ) -> Result<StoredRows<'a>, AllocError>
     requires { CanAllPass before conditions.now (all_rows rows.now) }
     ensures { IfOk result (ArePassed before conditions.now (all_rows rows.now)) }
@@ -77,7 +77,7 @@ pub fn scan_passing<'a>(
     alloc: Global,
     conditions: &[&'a CondTree],
     front: &Front<'a>,
-    known: &mut KnownFits<'a>,
+    known: &mut KnownTruths<'a>,
     columns: &[usize],
 ) -> Result<Scan<'a>, AllocError>
     requires few { length (front_rows front.now) ≤ 1024 }
@@ -93,7 +93,7 @@ fn pass_all<'a>(
     before: usize,
     conditions: &[&'a CondTree],
     front: &Front<'a>,
-    known: &mut KnownFits<'a>,
+    known: &mut KnownTruths<'a>,
 ) -> Result<StoredRows<'a>, AllocError>
     requires few { length (front_rows front.now) ≤ 1024 }
     requires exact { CanAllPass before conditions.now (front_rows front.now) }
@@ -111,7 +111,7 @@ fn pass_one<'a>(
     before: usize,
     condition: &'a CondTree,
     rows: &StoredRows<'a>,
-    known: &mut KnownFits<'a>,
+    known: &mut KnownTruths<'a>,
 ) -> Result<StoredRows<'a>, AllocError>
     requires few { length (rows_in rows.now) ≤ 1024 }
     requires exact { AllByRecursion (IsExactBehind before (cond_of condition.now)) (rows_in rows.now) }
@@ -127,7 +127,7 @@ pub(crate) fn passing_places<'a>(
     before: usize,
     condition: &'a CondTree,
     rows: &StoredRows<'a>,
-    known: &mut KnownFits<'a>,
+    known: &mut KnownTruths<'a>,
 ) -> Result<Selection, AllocError>
     requires few { length (rows_in rows.now) ≤ 1024 }
     requires exact { AllByRecursion (IsExactBehind before (cond_of condition.now)) (rows_in rows.now) }

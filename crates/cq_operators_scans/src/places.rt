@@ -8,7 +8,7 @@ use crate::passed::passing_places;
 use crate::scan::Scan;
 use cq_encodings_vectors::copies_at;
 use cq_model::CondTree;
-use cq_prims::KnownFits;
+use cq_prims::KnownTruths;
 use cq_segments::Segment;
 use cq_segments_pieces::Piece;
 use cq_table_columns::Front;
@@ -22,7 +22,7 @@ pub(crate) fn segment_passing<'a>(
     before: usize,
     conditions: &[&'a CondTree],
     segment: &'a Segment,
-    known: &mut KnownFits<'a>,
+    known: &mut KnownTruths<'a>,
 ) -> Result<Vec<u16>, AllocError>
     requires { CanAllPass before conditions.now (live segment.now) }
     ensures there { IfOk result (λ p. AreBelow (length segment.now) p.items) }
@@ -45,7 +45,7 @@ pub fn scan_piece<'a>(
     alloc: Global,
     conditions: &[&'a CondTree],
     piece: &'a Piece,
-    known: &mut KnownFits<'a>,
+    known: &mut KnownTruths<'a>,
 ) -> Result<(Scan<'a>, Vec<u16>), AllocError>
     requires { CanAllPass 0 conditions.now (live piece.now) }
     ensures scan { IfOk result (λ r. r.0 ≡ passing_rows 0 conditions.now (live piece.now)) }
@@ -65,7 +65,7 @@ fn piece_passing<'a>(
     before: usize,
     conditions: &[&'a CondTree],
     piece: &'a Piece,
-    known: &mut KnownFits<'a>,
+    known: &mut KnownTruths<'a>,
 ) -> Result<(StoredRows<'a>, Vec<u16>), AllocError>
     requires { CanAllPass before conditions.now (live piece.now) }
     ensures rows { IfOk result (λ r. ArePassed before conditions.now (live piece.now) r.0) }

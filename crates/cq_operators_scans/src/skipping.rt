@@ -167,7 +167,7 @@ fn may_pass(segment: &Segment, before: usize, expr: &ExprTree, test: &ValueTest<
 }
 
 /// The value of an expression that has the same one in every row, if it is a literal or the negative of a number.
-fn constant_of(expr: &ExprTree) -> Option<Lent<'_>>
+pub(crate) fn constant_of(expr: &ExprTree) -> Option<Lent<'_>>
     ensures { IfSome result (HasValue (expr_of expr.now)) }
 {
     match expr {

@@ -1,9 +1,10 @@
 //! The truth of a condition in each row of a scan.
-ghost use Rattle.std.specs.Prelude.{◌≡◌, IfOk, length, map, true};
+ghost use Rattle.std.specs.Prelude.{◌≡◌, IfOk, IfSome, length, map, true};
 ghost use Rattle.std.specs.List.{AllByRecursion};
 ghost use Rattle.std.specs.Simd.Lanes.{zip2};
 ghost use Rattle.cq_values.specs.Comparison.{compared};
 ghost use Rattle.cq_values.specs.Truth.{and_truth, or_truth};
+ghost use Rattle.cq_values.specs.declared.value.Value.TheVariants.{Text};
 ghost use Rattle.cq_model.specs.Condition.{holds, liked};
 ghost use Rattle.cq_model.specs.Exact.{AreExactAt, AreExactIn, IsExactAt};
 ghost use Rattle.cq_model.specs.Trees.{cond_of, expr_of};
@@ -11,10 +12,11 @@ ghost use Rattle.cq_operators_scans.specs.Nodes.{is_connective};
 ghost use Rattle.cq_operators_scans.specs.Truths.{AreCompared, AreTruths, between_at, compared_at, is_liked_at, is_null_at, is_one_at};
 
 use crate::scan::Scan;
+use crate::skipping::constant_of;
 use crate::vectors::vector_of_tree;
 use cq_model::{Cond, CondTree, ExprTree};
-use cq_prims::{KnownFits, compare, is_null, like_known};
-use cq_values::{Comparison, Truth};
+use cq_prims::{KnownTruths, compare, compare_known, is_null, like_known};
+use cq_values::{Comparison, Lent, Truth};
 use cq_vectors::Vector;
 use cq_vectors_masks::TruthMask;
 use std::alloc::{AllocError, Global};
@@ -24,7 +26,7 @@ pub(crate) fn truths_of<'a>(
     alloc: Global,
     cond: &'a Cond,
     scan: &Scan<'a>,
-    known: &mut KnownFits<'a>,
+    known: &mut KnownTruths<'a>,
 ) -> Result<TruthMask, AllocError>
     requires { AllByRecursion (AreExactIn cond.now) scan.now }
     ensures { IfOk result (λ truths. truths ≡ map (holds cond.now) scan.now) }
@@ -38,16 +40,18 @@ pub(crate) fn truths_of_tree<'a>(
     alloc: Global,
     tree: &'a CondTree,
     scan: &Scan<'a>,
-    known: &mut KnownFits<'a>,
+    known: &mut KnownTruths<'a>,
 ) -> Result<TruthMask, AllocError>
     requires { AllByRecursion (AreExactIn (cond_of tree.now)) scan.now }
     ensures { IfOk result (λ truths. truths ≡ map (holds (cond_of tree.now)) scan.now) }
 {
     match tree {
-        CondTree::Compare(comparison, a, b) => compared_in(alloc, *comparison, a, b, scan),
+        CondTree::Compare(comparison, a, b) => compared_in(alloc, *comparison, a, b, scan, known),
         CondTree::IsNull(expr) => nulls_in(alloc, expr, scan),
-        CondTree::Between(expr, least, greatest) => between_in(alloc, expr, least, greatest, scan),
-        CondTree::In(expr, choices) => one_of_in(alloc, expr, choices, scan),
+        CondTree::Between(expr, least, greatest) => {
+            between_in(alloc, expr, least, greatest, scan, known)
+        }
+        CondTree::In(expr, choices) => one_of_in(alloc, expr, choices, scan, known),
         CondTree::Like(expr, pattern) => likes_in(alloc, expr, pattern.as_str(), scan, known),
         CondTree::Not(..) | CondTree::And(..) | CondTree::Or(..) => connective_in(
             alloc, tree, scan, known,
@@ -61,7 +65,7 @@ fn connective_in<'a>(
     alloc: Global,
     tree: &'a CondTree,
     scan: &Scan<'a>,
-    known: &mut KnownFits<'a>,
+    known: &mut KnownTruths<'a>,
 ) -> Result<TruthMask, AllocError>
     requires connective { is_connective tree.now ≡ true }
     requires exact { AllByRecursion (AreExactIn (cond_of tree.now)) scan.now }
@@ -97,13 +101,14 @@ fn compared_in<'a>(
     a: &'a ExprTree,
     b: &'a ExprTree,
     scan: &Scan<'a>,
+    known: &mut KnownTruths<'a>,
 ) -> Result<TruthMask, AllocError>
     requires a { AllByRecursion (IsExactAt (expr_of a.now)) scan.now }
     requires b { AllByRecursion (IsExactAt (expr_of b.now)) scan.now }
     ensures { IfOk result (AreTruths (compared_at comparison a.now b.now) scan.now) }
 {
     let a = vector_of_tree(alloc, a, scan)?;
-    let truths = compared_with(alloc, comparison, a.vector(), b, scan);
+    let truths = compared_with(alloc, comparison, a.vector(), b, scan, known);
     drop(a);
     truths
 }
@@ -124,7 +129,7 @@ fn likes_in<'a>(
     expr: &'a ExprTree,
     pattern: &'a str,
     scan: &Scan<'a>,
-    known: &mut KnownFits<'a>,
+    known: &mut KnownTruths<'a>,
 ) -> Result<TruthMask, AllocError>
     requires { AllByRecursion (IsExactAt (expr_of expr.now)) scan.now }
     ensures { IfOk result (AreTruths (is_liked_at expr.now pattern.now) scan.now) }
@@ -141,6 +146,7 @@ fn between_in<'a>(
     least: &'a ExprTree,
     greatest: &'a ExprTree,
     scan: &Scan<'a>,
+    known: &mut KnownTruths<'a>,
 ) -> Result<TruthMask, AllocError>
     requires value { AllByRecursion (IsExactAt (expr_of expr.now)) scan.now }
     requires least { AllByRecursion (IsExactAt (expr_of least.now)) scan.now }
@@ -149,8 +155,8 @@ fn between_in<'a>(
 {
     let value = vector_of_tree(alloc, expr, scan)?;
     let (from, to) = (Comparison::GreaterOrEqual, Comparison::LessOrEqual);
-    let from_least = compared_with(alloc, from, value.vector(), least, scan);
-    let to_greatest = compared_with(alloc, to, value.vector(), greatest, scan);
+    let from_least = compared_with(alloc, from, value.vector(), least, scan, known);
+    let to_greatest = compared_with(alloc, to, value.vector(), greatest, scan, known);
     drop(value);
     let from_least = from_least?;
     let to_greatest = to_greatest?;
@@ -163,6 +169,7 @@ fn one_of_in<'a>(
     expr: &'a ExprTree,
     choices: &'a [ExprTree],
     scan: &Scan<'a>,
+    known: &mut KnownTruths<'a>,
 ) -> Result<TruthMask, AllocError>
     requires value { AllByRecursion (IsExactAt (expr_of expr.now)) scan.now }
     requires choices { AllByRecursion (AreExactAt (map expr_of choices.now)) scan.now }
@@ -172,7 +179,14 @@ fn one_of_in<'a>(
     let mut truths = TruthMask::new();
     truths.set_all(Truth::False, scan.len());
     for choice in choices {
-        match compared_with(alloc, Comparison::Equal, value.vector(), choice, scan) {
+        match compared_with(
+            alloc,
+            Comparison::Equal,
+            value.vector(),
+            choice,
+            scan,
+            known,
+        ) {
             Ok(equal) => truths = either(&truths, &equal),
             Err(fault) => {
                 drop(value);
@@ -184,22 +198,46 @@ fn one_of_in<'a>(
     Ok(truths)
 }
 
-/// These values, compared with the expression's.
+/// These values, compared with the expression's: with a text by what is known of their entries.
 fn compared_with<'a>(
     alloc: Global,
     comparison: Comparison,
-    values: &Vector<'_>,
+    values: &Vector<'a>,
     expr: &'a ExprTree,
     scan: &Scan<'a>,
+    known: &mut KnownTruths<'a>,
 ) -> Result<TruthMask, AllocError>
     requires exact { AllByRecursion (IsExactAt (expr_of expr.now)) scan.now }
     requires same { length values.now ≡ length scan.now }
     ensures { IfOk result (AreCompared comparison values.now expr.now scan.now) }
 {
+    if let Some(Lent::Text(text)) = constant_of(expr) {
+        if let Some(truths) = compared_known(alloc, comparison, values, text, known)? {
+            return Ok(truths);
+        }
+    }
     let others = vector_of_tree(alloc, expr, scan)?;
     let truths = compared(comparison, values, others.vector());
     drop(others);
     Ok(truths)
+}
+
+/// These values, compared with a text: None where nothing is known of their entries.
+fn compared_known<'a>(
+    alloc: Global,
+    comparison: Comparison,
+    values: &Vector<'a>,
+    text: &'a str,
+    known: &mut KnownTruths<'a>,
+) -> Result<Option<TruthMask>, AllocError>
+    ensures { IfOk result (λ found. IfSome found (λ truths. truths ≡ map (λ v. compared comparison v (Text text.now)) values.now)) }
+{
+    let mut truths = TruthMask::new();
+    if compare_known(alloc, comparison, values, text, known, &mut truths)? {
+        Ok(Some(truths))
+    } else {
+        Ok(None)
+    }
 }
 
 /// Which of these values are like the pattern.
@@ -207,7 +245,7 @@ fn liked<'a>(
     alloc: Global,
     values: &Vector<'a>,
     pattern: &'a str,
-    known: &mut KnownFits<'a>,
+    known: &mut KnownTruths<'a>,
 ) -> Result<TruthMask, AllocError>
     ensures { IfOk result (λ truths. truths ≡ map (λ v. liked v pattern.now) values.now) }
 {

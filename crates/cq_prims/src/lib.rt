@@ -23,6 +23,6 @@ mod sides;
 mod wide_side;
 
 pub use comparisons::{compare, turned};
-pub use cq_prims_texts::{KnownFits, like, like_known};
+pub use cq_prims_texts::{KnownTruths, compare_known, like, like_known};
 pub use named::dict_mask;
 pub use nulls::is_null;

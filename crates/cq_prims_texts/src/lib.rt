@@ -13,7 +13,7 @@ mod equal_texts;
 mod fits_test;
 mod fits_texts;
 mod having_texts;
-mod known_fits;
+mod known_truths;
 mod less_texts;
 mod likes;
 mod named;
@@ -26,7 +26,7 @@ mod told_truths;
 
 pub use by_entries::compare_entries;
 pub use equal_texts::EqualTexts;
-pub use known_fits::{KnownFits, like_known};
+pub use known_truths::{KnownTruths, compare_known, like_known};
 pub use less_texts::LessTexts;
 pub use likes::like;
 pub use named::{Naming, set_named};

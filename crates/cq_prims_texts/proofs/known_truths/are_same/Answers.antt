@@ -1,7 +1,7 @@
 use Rattle.std.proofs.Common.{◌≡◌, ◌∙◌, length, sym, arith, rules}
 use Rattle.std.proofs.lemmas.Bool.{OnTrue_from}
 use Rattle.cq_prims_texts.proofs.SameTexts.{all_texts, same_texts}
-use Rattle.cq_prims_texts.proofs.known_fits.are_same.Goals as goal
+use Rattle.cq_prims_texts.proofs.known_truths.are_same.Goals as goal
 
 pub loop-i-init : goal.loop-i-init
 loop-i-init c said =

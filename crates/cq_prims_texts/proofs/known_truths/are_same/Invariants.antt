@@ -1,6 +1,6 @@
 use Rattle.std.proofs.Common.{◌≡◌, ◌<◌, ◌+◌, ℕ, length, take, true}
 use Rattle.std.specs.List.{concat}
-use Rattle.cq_prims_texts.proofs.known_fits.are_same.Given as goal
+use Rattle.cq_prims_texts.proofs.known_truths.are_same.Given as goal
 
 -- the bytes are the same and the texts so far end at the same places, if it is said
 abbrev pub invariant-loop-i : goal.invariant-loop-i
