@@ -57,8 +57,7 @@ refuses_draws files old new s f (too_large command free bound large is gives) = 
 
 -- a step counts at most one statement more
 step_draws : (files : Files) (old new : State) (s : Statement) (o : Result Answer Fault) → Step files old s o new → new.drawn ≤ old.drawn + 1
-step_draws files old new s (Ok answer) d =
-    within new.drawn d.on_the_way.drawn (old.drawn + 1) (ap next d.trims.state) (does_draws files old d.on_the_way s answer d.does)
+step_draws files old new s (Ok answer) d = does_draws files old new s answer d
 step_draws files old new s (Err f) r = refuses_draws files old new s f r
 
 -- where it is asked whether there is one more, what stays is within it, and so is what is at most one more

@@ -1,17 +1,17 @@
 -- What is printed for a piece is the text of an outcome that the piece may have.
 use Rattle.std.proofs.Common.{◌≡◌, ℕ, ◌+◌, Bool, true, false, List, [], ◌∷◌, Option, Result, Ok, Err, IfOk, refl}
-use Rattle.cq_values.specs.Value.{Row}
 use Rattle.cq_sql_language.specs.Pieces.{PieceOf}
+use Rattle.cq_sql_language.specs.Sentence.{IsSentence}
+use Rattle.cq_sql_language.specs.declared.statement.Statement.{Statement}
 use Rattle.cq_model_step.specs.declared.answer.Answer.{Answer}
 use Rattle.cq_model_step.specs.declared.answer.Answer.TheVariants.{Done, Count, Rows}
 use Rattle.cq_binder_rules.specs.declared.fault.Fault.{Fault}
 use Rattle.cq_binder_rules.specs.declared.fault.Fault.TheVariants as faults
 use Rattle.cq_binder_rules.specs.Records.{Files}
 use Rattle.cq_model_state.specs.State.{State}
-use Rattle.cq_model_step.specs.Step.{for_memory}
 use Rattle.cq_model_step.specs.Output.{Serves, rest_without_semicolon, sentence, no_sentence, past_limits, out_of_memory}
 use Rattle.cq_model_step.specs.Output.{outcome_text, source_failures}
-use Rattle.cq_engine.specs.Commands.{OnlyShows}
+use Rattle.cq_engine.specs.Commands.{MayBeRefused}
 use Rattle.cq_cli.specs.declared.printing.Printed.{Printed}
 use Rattle.cq_cli.specs.declared.printing.Printed.TheVariants as prints
 use Rattle.cq_cli.specs.declared.endings.Status.{Status}
@@ -19,23 +19,22 @@ use Rattle.cq_cli.specs.declared.endings.RunFault.{RunFault}
 use Rattle.cq_cli.specs.declared.sink.Sink.{Ghosts as Sink}
 use Rattle.cq_cli.specs.Writing.{Wrote}
 use Rattle.cq_cli.specs.Printing.{Shows, Tells, printed_status, printed_text}
-use Rattle.cq_cli.specs.Running.{status_of}
+use Rattle.cq_cli.specs.Running.{MayLackMemory, status_of}
 
--- a result whose text finds no memory is refused for it
-pub memory_instead : (source : Option Files) (old new : State) (p : PieceOf) (header : List (List ℕ)) (rows : List Row) → Serves source old p (Ok (Rows header rows)) new → new ≡ old → Serves source old p (Err faults.Memory) new
-memory_instead source old new p header rows (rest_without_semicolon unclosed is same) stays = absurd cc
-memory_instead source old new p header rows (sentence closed s is step) stays = sentence closed s is (step.0, step.1, for_memory refl stays)
-memory_instead source old new p header rows (no_sentence closed none is same) stays = absurd cc
-memory_instead source old new p header rows (past_limits closed past is same) stays = absurd cc
-memory_instead source old new p header rows (out_of_memory closed is same) stays = absurd cc
+-- what a statement may have been refused for, what stands there may have been refused for too
+pub piece-memory : (told : Option Files) (old new : State) (p : PieceOf) (s : Statement) (o : Result Answer Fault) → p.closed ≡ true → IsSentence p.text s → MayBeRefused told old s o new → MayLackMemory told old p o new
+piece-memory told old new p s (Ok (Rows header rows)) closed is step = sentence closed s is step
+piece-memory told old new p s (Ok Done) closed is step = tt
+piece-memory told old new p s (Ok (Count n)) closed is step = tt
+piece-memory told old new p s (Err f) closed is step = tt
 
 -- what is shown for an outcome is the text and the status of an outcome of the same piece
-pub shown_serves : (source : Option Files) (old new : State) (p : PieceOf) (o : Result Answer Fault) (shown : Printed) → Serves source old p o new → OnlyShows old o new → Shows o shown
+pub shown_serves : (source : Option Files) (old new : State) (p : PieceOf) (o : Result Answer Fault) (shown : Printed) → Serves source old p o new → MayLackMemory source old p o new → Shows o shown
     → (told : Result Answer Fault) × Serves source old p told new × (printed_text shown ≡ outcome_text told) × (printed_status shown ≡ status_of (told ∷ [])) × (source_failures (o ∷ []) ≡ source_failures (told ∷ []))
 shown_serves source old new p (Ok Done) prints.Done h k s = (Ok Done, h, refl, refl, refl)
 shown_serves source old new p (Ok (Count n)) (prints.Count m) h k s = (Ok (Count n), h, rw s refl, refl, refl)
 shown_serves source old new p (Ok (Rows header rows)) (prints.Rows text) h k s = (Ok (Rows header rows), h, s, refl, refl)
-shown_serves source old new p (Ok (Rows header rows)) (prints.Refused faults.Memory) h k s = (Err faults.Memory, memory_instead source old new p header rows h k, refl, refl, refl)
+shown_serves source old new p (Ok (Rows header rows)) (prints.Refused faults.Memory) h k s = (Err faults.Memory, k, refl, refl, refl)
 shown_serves source old new p (Err f) (prints.Refused g) h k s = (Err f, h, rw s refl, refl, refl)
 shown_serves source old new p o shown h k s = absurd s
 
@@ -49,7 +48,7 @@ pub record ServesPiece (source : Option Files) (state : State) (piece : PieceOf)
 
 -- what a piece was answered with was told, and so it was served
 pub serves_piece : {K : Type 0} (source : Option Files) (sink : Sink K) (state : State) (piece : PieceOf) (next : State) (old new : K) (asked failed : ℕ) (outcome : Result Answer Fault) (result : Result Status RunFault)
-    → Serves source state piece outcome next → OnlyShows state outcome next → failed ≡ asked + source_failures (outcome ∷ []) → Tells outcome sink old new result
+    → Serves source state piece outcome next → MayLackMemory source state piece outcome next → failed ≡ asked + source_failures (outcome ∷ []) → Tells outcome sink old new result
     → ServesPiece source state piece next (sink.contents old) (sink.contents new) (sink.failures old) (sink.failures new) asked failed result
 serves_piece source sink state piece next old new asked failed outcome result served rows counted tells =
     let told = shown_serves source state next piece outcome tells.printed served rows tells.shows in

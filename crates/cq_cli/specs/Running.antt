@@ -2,9 +2,13 @@
 use Rattle.std.specs.Prelude.{◌≡◌, ◌≤◌, ℕ, ◌+◌, Bool, true, false, if◌then◌else◌, List, ◌++◌, length, Option, Result, Ok, Err, IfOk}
 use Rattle.std.specs.Io.KnownBytes.{Appends}
 use Rattle.std.specs.List.{list_all}
+use Rattle.cq_model_state.specs.State.{State}
 use Rattle.cq_model_step.specs.declared.answer.Answer.{Answer}
+use Rattle.cq_model_step.specs.declared.answer.Answer.TheVariants.{Rows}
+use Rattle.cq_sql_language.specs.Pieces.{PieceOf}
 use Rattle.cq_binder_rules.specs.Records.{Files}
 use Rattle.cq_binder_rules.specs.declared.fault.Fault.{Fault}
+use Rattle.cq_binder_rules.specs.declared.fault.Fault.TheVariants.{Memory}
 use Rattle.cq_model_step.specs.Output.{HasOutcomes, Serves, output_of, source_failures}
 use Rattle.cq_sql_tokens.specs.Piece.{piece_of}
 use Rattle.cq_sql_tokens.specs.declared.pieces.Piece.{Piece}
@@ -35,6 +39,15 @@ both SomeRefused other = SomeRefused
 -- an engine answered a piece of a script, over these files
 abbrev pub AnswersPiece : Option Files → Held → Piece → Result Answer Fault → Held → Type 0
 AnswersPiece files old piece outcome new = Serves files old.state (piece_of piece) outcome new.state
+
+-- where the text of rows finds no memory, what stands there may as well have been refused for it
+abbrev pub MayLackMemory : Option Files → State → PieceOf → Result Answer Fault → State → Type 0
+MayLackMemory told old p (Ok (Rows header rows)) new = Serves told old p (Err Memory) new
+MayLackMemory told old p outcome new = Unit {0}
+
+-- so it is with a piece that an engine answered
+abbrev pub PieceMayLackMemory : Option Files → Held → Piece → Result Answer Fault → Held → Type 0
+PieceMayLackMemory files old piece outcome new = MayLackMemory files old.state (piece_of piece) outcome new.state
 
 -- the sources' count grew by one for each statement that tells so: of the whole script, or of those that were answered
 -- before the sink failed

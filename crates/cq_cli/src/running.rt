@@ -1,9 +1,8 @@
 //! Scripts from bytes to bytes.
 ghost use Rattle.std.specs.Prelude.{◌≡◌, ◌<◌, ◌+◌, ◌-◌, ◌^◌, ◌∷◌, [], OnOk, length, true};
 ghost use Rattle.cq_model_step.specs.Output.{source_failures};
-ghost use Rattle.cq_engine.specs.Commands.{OnlyShows};
 ghost use Rattle.cq_cli.specs.Printing.{Tells};
-ghost use Rattle.cq_cli.specs.Running.{Answers, AnswersPiece};
+ghost use Rattle.cq_cli.specs.Running.{Answers, AnswersPiece, PieceMayLackMemory};
 ghost use Rattle.cq_cli.specs.Writing.{flushes_after};
 
 use crate::endings::{RunFault, Status};
@@ -26,7 +25,7 @@ fn answer<S: Sources>(
     requires drawn { piece.now.closed ≡ true → engine.old.state.drawn < 2 ^ 64 - 1 }
     requires failures { piece.now.closed ≡ true → S.failures sources.old < 2 ^ 64 - 1 }
     ensures served { AnswersPiece (S.files sources.old) engine.old piece.now result engine.new }
-    ensures rows { OnlyShows engine.old.state result engine.new.state }
+    ensures memory { PieceMayLackMemory (S.files sources.old) engine.old piece.now result engine.new }
     ensures files { S.files sources.new ≡ S.files sources.old }
     ensures failures { S.failures sources.new ≡ S.failures sources.old + source_failures (result ∷ []) }
 {

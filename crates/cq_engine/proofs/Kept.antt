@@ -1,128 +1,197 @@
--- Lists of views: what stays the same of them, and where they are right.
-use Rattle.std.proofs.Common.{◌≡◌, ℕ, false, List, [], ◌∷◌, ◌++◌, length, Option, Some, None, refl, sym, ap, ap₂, ◌∙◌, subst}
-use Rattle.std.specs.Prelude.{is_some}
-use Rattle.std.specs.List.{AllByRecursion}
-use Rattle.cq_model_bags.specs.Bag.{SameBag, once_each}
-use Rattle.cq_model_bags.proofs.Bags.{same-refl}
+-- An engine stays in order: what is known of its tables and views behind each command.
+use Rattle.std.proofs.Common.{◌≡◌, ◌⊎◌, ◌+◌, ◌<◌, ◌≤◌, ◌^◌, ℕ, Bool, true, false, not, List, [], ◌∷◌, ◌++◌, length, inl, inr, Option, Some, None, Ok, refl, sym, ap, ◌∙◌, subst, arith}
+use Rattle.std.specs.Prelude.{◌==◌, IfSome, is_some}
+use Rattle.std.specs.List.{AllByRecursion, remove}
+use Rattle.std.proofs.lemmas.Bool.{ne_eqb}
+use Rattle.cq_values.specs.Value.{Row}
+use Rattle.cq_values.specs.declared.column.ColumnDef.{ColumnDef}
 use Rattle.cq_binder_rules.specs.Refusal.{is_used}
+use Rattle.cq_binder_rules.specs.declared.bound.Bound.{Bound}
+use Rattle.cq_binder_rules.specs.declared.bound.Bound.TheVariants as commands
 use Rattle.cq_binder_queries.proofs.Found.{has_place}
+use Rattle.cq_model.specs.Views.{sources_of}
+use Rattle.cq_model.specs.declared.query.Order.{Order}
 use Rattle.cq_model.specs.declared.query.Query.{Query}
-use Rattle.cq_model.specs.declared.query.Source.{Source}
-use Rattle.cq_model.specs.declared.query.Source.TheVariants.{Table, View}
-use Rattle.cq_model.specs.Meaning.{Tables}
-use Rattle.cq_model.specs.Views.{is_table, sources_of}
-use Rattle.cq_model_state.specs.State.{TableOf, ViewOf, view_named, view_place, rows_in}
+use Rattle.cq_model_bags.proofs.Lists.{all-drop, all-push}
+use Rattle.cq_model_state.specs.Fitting.{AreFitting, AreLimited, IsFitting, rows_limit}
+use Rattle.cq_model_state.specs.State.{ChangeOf, State, TableOf, ViewOf, empty_table, rows_in, view_named, view_place, with_rows}
+use Rattle.cq_model_step.specs.Next.{Writes, created, new_view, reach, taken_on, with_all_views, with_tables, written}
+use Rattle.cq_model_step.specs.Step.{Accepts, Leads}
+use Rattle.cq_model_step.specs.declared.answer.Answer.{Answer}
+use Rattle.cq_model_step.specs.declared.answer.Answer.TheVariants.{Done, Rows}
+use Rattle.cq_model_step_laws.proofs.Follows.{Follows, follows-accepts, follows-itself, follows-trims, follows-views, new-empty}
+use Rattle.cq_model_step_laws.proofs.Numbers.{there-dropped, there-old_or_new, there-with_rows}
+use Rattle.cq_model_step_laws.specs.Sound.{Fits, IsInTime, IsThere}
 use Rattle.cq_views.specs.Laws.{StandingDependsOnSources}
-use Rattle.cq_views.specs.State.{StandsFor}
 use Rattle.cq_views_model.specs.Query.{reads}
-use Rattle.cq_engine_tables.specs.Taking.{IsSame, AreSame}
-use Rattle.cq_engine_tables.specs.Views.{NamedView, view_of, views_of, AreWide, IsRight, AreRight, Fits, bags_in}
+use Rattle.cq_engine_answers.specs.Selects.{Selects}
+use Rattle.cq_engine_queue.proofs.Later.{IsNew, all-right-later, history-later}
+use Rattle.cq_engine_queue.specs.History.{IsSmall}
+use Rattle.cq_engine_queue.specs.Queued.{AreWithin, IsSameQueue, IsTrimmed, Notes, Queued}
 use Rattle.cq_engine_tables.proofs.Numbers.{others}
-use Rattle.cq_engine_tables.proofs.Pairs.{pointwise_all, pointwise_map}
-use Rattle.cq_engine_tables.proofs.Rows.{rows_left, unread, unused}
-use Rattle.cq_engine_tables.proofs.Wide.{KeepWidths, all-still-wide, wide-left}
-use Rattle.cq_engine.specs.Commands.{AreInOrder, present}
-use Rattle.cq_engine.proofs.Steps.{AreAt}
+use Rattle.cq_engine_tables.proofs.Rows.{all_left, bounded_more, unread, unused}
+use Rattle.cq_engine_tables.proofs.Wide.{KeepWidths, all-still-wide, keep-behind, keep-with_rows, wide-left}
+use Rattle.cq_engine_tables.specs.Views.{AreRight, AreWide, IsRight, NamedView, views_of}
+use Rattle.cq_engine_writes.specs.Changing.{Tells}
+use Rattle.cq_engine.proofs.Steps.{IsNoted, noted, some-dropped, unwritten, unwritten-trimmed, with_queue, write-accepted}
+use Rattle.cq_engine.specs.Commands.{IsInOrder, state_of}
 
--- ---- The same views
--- a view of which nothing is changed is the same view
-same_view : (v w : NamedView) → IsSame v w → view_of w ≡ view_of v
-same_view v w s = λ i. record { name = s.name i; columns = s.columns i; query = s.kept.query i; epoch = s.kept.state.epoch i; built = s.kept.state.built i }
+-- ---- Views that are right
+-- they have a column for each item of their queries
+pub all_shown : (s : State) (vs : List NamedView) → AreRight s vs → AllByRecursion (λ v. length v.columns ≡ length v.query.items) (views_of vs)
+all_shown s [] r = tt
+all_shown s (v ∷ vs) r = (r.0.shown, all_shown s vs r.1)
 
-pub same_views : (vs ws : List NamedView) → AreSame vs ws → views_of ws ≡ views_of vs
-same_views vs ws s = pointwise_map IsSame view_of view_of same_view vs ws s
+-- and stand at epochs that can be told
+pub all-times : (s : State) (vs : List NamedView) → AreRight s vs → AllByRecursion (IsInTime s.passed s.now) (views_of vs)
+all-times s [] r = tt
+all-times s (v ∷ vs) r = (r.0.time, all-times s vs r.1)
 
--- a write that is refused changes nothing that is seen
-pub unchanged : (tables left : List TableOf) (vs ws : List NamedView) (now drawn max_rows : ℕ) → left ≡ tables → AreSame vs ws → present left (views_of ws) now drawn max_rows ≡ present tables (views_of vs) now drawn max_rows
-unchanged tables left vs ws now drawn max_rows same views = ap₂ (λ (ts : List TableOf) (xs : List ViewOf). present ts xs now drawn max_rows) same (same_views vs ws views)
-
--- it is right where it was
-right_same : (tables : List TableOf) (now : ℕ) (v w : NamedView) → IsSame v w → IsRight tables now v → IsRight tables now w
-right_same tables now v w s r = record {
-  shown = ap length s.columns ∙ r.shown ∙ sym (ap (λ (d : Query). length d.items) s.kept.query);
-  fits = subst Fits (sym s.kept.query) r.fits;
-  epoch = s.kept.state.epoch ∙ r.epoch;
-  wide = subst (λ (q : Query). AreWide tables q w.kept.widths) (sym s.kept.query) (subst (λ (ns : List ℕ). AreWide tables v.kept.query ns) (sym s.kept.widths) r.wide);
-  stands = s.kept.stands (bags_in tables) r.stands;
-}
-
-pub all_right_same : (tables : List TableOf) (now : ℕ) (vs ws : List NamedView) → AreSame vs ws → AreRight tables now vs → AreRight tables now ws
-all_right_same tables now vs ws s r = pointwise_all IsSame (IsRight tables now) (IsRight tables now) (right_same tables now) vs ws s r
-
--- so an engine stays in order where a write is refused
-pub order_kept : (now drawn max_rows : ℕ) (tables left : List TableOf) (vs ws : List NamedView) → left ≡ tables → AreSame vs ws → AreInOrder now drawn max_rows tables vs → AreInOrder now drawn max_rows left ws
-order_kept now drawn max_rows tables left vs ws same views order = (
-  order.0,
-  rw same order.1,
-  rw same order.2,
-  rw same (all_right_same tables now vs ws views order.3),
-  rw same order.4,
+-- which are those of the queue
+pub all-within : (s : State) (q : Queued) → q.passed ≡ s.passed → q.changes ≡ s.queue → s.passed + length s.queue ≡ s.now → (vs : List NamedView) → AreRight s vs → AreWithin q vs
+all-within s q passed changes whole [] r = tt
+all-within s q passed changes whole (v ∷ vs) r = (
+  (omega (arith, r.0.time.kept, passed), omega (arith, r.0.time.reached, whole, passed, ap length changes)),
+  all-within s q passed changes whole vs r.1,
 )
 
--- ---- Views of other tables, and other views
--- views that are right are at the present
-pub all_at : (tables : List TableOf) (now : ℕ) (vs : List NamedView) → AreRight tables now vs → AreAt now (views_of vs)
-all_at tables now [] r = tt
-all_at tables now (v ∷ vs) r = (r.0.epoch, all_at tables now vs r.1)
+pub right-behind : (s : State) (vs : List NamedView) (v : NamedView) → AreRight s vs → IsRight s v → AreRight s (vs ++ v ∷ [])
+right-behind s [] v r one = (one, tt)
+right-behind s (w ∷ ws) v r one = (r.0, right-behind s ws v r.1 one)
 
--- and they have a column for each item of their queries
-pub all_shown : (tables : List TableOf) (now : ℕ) (vs : List NamedView) → AreRight tables now vs → AllByRecursion (λ v. length v.columns ≡ length v.query.items) (views_of vs)
-all_shown tables now [] r = tt
-all_shown tables now (v ∷ vs) r = (r.0.shown, all_shown tables now vs r.1)
+-- a state with other views is none the worse for these
+pub right-views : (s : State) (views : List ViewOf) (vs : List NamedView) → AreRight s vs → AreRight (record s { views = views }) vs
+right-views s views [] r = tt
+right-views s views (v ∷ vs) r = (record { shown = r.0.shown; fits = r.0.fits; wide = r.0.wide; time = r.0.time; stands = r.0.stands }, right-views s views vs r.1)
 
-pub right_behind : (tables : List TableOf) (now : ℕ) (vs : List NamedView) (v : NamedView) → AreRight tables now vs → IsRight tables now v → AreRight tables now (vs ++ v ∷ [])
-right_behind tables now [] v r one = (one, tt)
-right_behind tables now (w ∷ ws) v r one = (r.0, right_behind tables now ws v r.1 one)
+-- ---- How wide their tables are
+pub all-wide : (s : State) (new : List TableOf) → KeepWidths s.tables new → (vs : List NamedView) → AreRight s vs → AllByRecursion (λ v. AreWide new v.kept.query v.kept.widths) vs
+all-wide s new keep [] r = tt
+all-wide s new keep (v ∷ vs) r = (all-still-wide s.tables new keep (sources_of v.kept.query) v.kept.widths r.0.wide, all-wide s new keep vs r.1)
 
--- a view that stands for the bags of other tables is right for them
-right_for : (old new : List TableOf) (now : ℕ) (v : NamedView) → AreWide new v.kept.query v.kept.widths → StandsFor v.kept (bags_in new)
-    → IsRight old now v → IsRight new now v
-right_for old new now v wide stands r = record { shown = r.shown; fits = r.fits; epoch = r.epoch; wide = wide; stands = stands }
+-- also without a table that none of them reads
+pub all-wide-left : (s : State) (n : ℕ) (vs : List NamedView) → is_used n (views_of vs) ≡ false → AreRight s vs → AllByRecursion (λ v. AreWide (others n s.tables) v.kept.query v.kept.widths) vs
+all-wide-left s n vs free r = left vs (unused n vs free) r
+  where
+    left : (ws : List NamedView) → AllByRecursion (λ v. reads n v.kept.query ≡ false) ws → AreRight s ws → AllByRecursion (λ v. AreWide (others n s.tables) v.kept.query v.kept.widths) ws
+    left [] free r = tt
+    left (v ∷ ws) free r = (wide-left n s.tables (sources_of v.kept.query) v.kept.widths (unread n (sources_of v.kept.query) free.0) r.0.wide, left ws free.1 r.1)
 
--- they are right wherever each number has its rows, and each table is as wide
-module _ (old new : List TableOf) (now : ℕ) (same : (n : ℕ) → rows_in new n ≡ rows_in old n) (keep : KeepWidths old new) where
-  bag_same : (source : Source) → bags_in new source ≡ bags_in old source
-  bag_same (Table n) = ap once_each (same n)
-  bag_same (View place) = refl
+-- ---- The order
+-- an engine is in order in a later state
+module _ (law : StandingDependsOnSources) (old new : State) (vs ws : List NamedView) (f : Follows old new) (order : IsInOrder old vs) (one : new.now ≤ old.now + 1) (most : new.max_rows ≤ rows_limit) where
+  pub order-later : (known : (n : ℕ) → IsThere n new.tables → IsThere n old.tables ⊎ IsNew new n) → AreFitting new.tables → AreLimited new.max_rows new.tables → AllByRecursion IsSmall new.queue → new.now < 2 ^ 64
+      → new.views ≡ views_of ws → AreRight old ws → AllByRecursion (λ v. AreWide new.tables v.kept.query v.kept.widths) ws → IsInOrder new ws
+  order-later known fitting limited small range are right wide = record {
+    history = history-later old new f one order.history fitting (bounded_more new.max_rows rows_limit new.tables most limited) known small range;
+    fitting = fitting;
+    limited = limited;
+    right = all-right-later old new f one law ws right (subst (λ (views : List ViewOf). AllByRecursion (IsInTime new.passed new.now) views) are f.sound.epochs) wide;
+  }
 
-  bags_same : bags_in new ≡ bags_in old
-  bags_same = λ i source. bag_same source i
+-- the state of the same tables and changes is the same
+pub same-state : (tables left : List TableOf) (views : List ViewOf) (now drawn max_rows : ℕ) (old new : Queued) → left ≡ tables → IsSameQueue old new → state_of left views now drawn new max_rows ≡ state_of tables views now drawn old max_rows
+same-state tables left views now drawn max_rows old new same queue = λ i. record { tables = same i; views = views; now = now; drawn = drawn; passed = queue.passed i; queue = queue.changes i; max_rows = max_rows }
 
-  pub right_everywhere : (vs : List NamedView) → AreRight old now vs → AreRight new now vs
-  right_everywhere [] r = tt
-  right_everywhere (v ∷ vs) r = (
-    right_for old new now v (all-still-wide old new keep (sources_of v.kept.query) v.kept.widths r.0.wide) (subst (λ (tables : Tables). StandsFor v.kept tables) (sym bags_same) r.0.stands) r.0,
-    right_everywhere vs r.1,
-  )
+-- a change is told where there are views
+pub none-asked : (vs : List NamedView) (len : ℕ) (asked : Bool) (told : Option ChangeOf) → len ≡ length vs → asked ≡ not (len == 0) → is_some told ≡ asked → told ≡ None → vs ≡ []
+none-asked [] len asked told long is there none = refl
+none-asked (v ∷ vs) len asked told long is there none =
+    let some : (len == 0) ≡ false = ne_eqb len 0 (λ e. absurd (omega (arith, e, long))) in
+    let yes : asked ≡ true = is ∙ ap (λ (b : Bool). not b) some in
+    absurd (cc (sym yes ∙ sym there ∙ ap is_some none))
 
--- and without a table that none of them reads
-module _ (law : StandingDependsOnSources) (n : ℕ) (tables : List TableOf) (now : ℕ) where
-  bag_left : (source : Source) → is_table n source ≡ false
-      → SameBag (bags_in tables source) (bags_in (others n tables) source)
-  bag_left (Table m) other = rw (rows_left n tables m other) (same-refl (once_each (rows_in tables m)))
-  bag_left (View place) other = same-refl []
+-- and there is room for it
+pub room-told : (told : Option ChangeOf) (room : ℕ) → 0 < room → IfSome told (λ c. 0 < room)
+room-told None room more = tt
+room-told (Some c) room more = more
 
-  bags_left : (sources : List Source) → AllByRecursion (λ s. is_table n s ≡ false) sources
-      → AllByRecursion (λ s. SameBag (bags_in tables s) (bags_in (others n tables) s)) sources
-  bags_left [] other = tt
-  bags_left (s ∷ sources) other = (bag_left s other.0, bags_left sources other.1)
+-- behind a write
+module _ (law : StandingDependsOnSources) (s : State) (vs : List NamedView) (order : IsInOrder s vs) (are : s.views ≡ views_of vs) (n : ℕ) (rows : List Row) (asked : Bool) (told : Option ChangeOf) (before after : Queued)
+    (passed : before.passed ≡ s.passed) (changes : before.changes ≡ s.queue) (none : told ≡ None → vs ≡ []) (tells : Tells asked n (rows_in s.tables n) rows told) (notes : Notes vs told before after) where
+  pub note : IsNoted s vs n rows after
+  note = noted s vs n rows asked told before after passed changes order.history.small none tells notes
 
-  stands_left : (v : NamedView) → reads n v.kept.query ≡ false → StandsFor v.kept (bags_in tables)
-      → StandsFor v.kept (bags_in (others n tables))
-  stands_left v free stands =
-      let sources = sources_of v.kept.query in
-      law v.kept (bags_in tables) (bags_in (others n tables)) (bags_left sources (unread n sources free)) stands
+  -- the state behind it
+  abbrev pub behind : State
+  behind = with_queue after (written n rows note.change.rows s)
 
-  right_left : (vs : List NamedView) → AllByRecursion (λ v. reads n v.kept.query ≡ false) vs → AreRight tables now vs
-      → AreRight (others n tables) now vs
-  right_left [] free r = tt
-  right_left (v ∷ vs) free r =
-      let sources = sources_of v.kept.query in
-      let wide = wide-left n tables sources v.kept.widths (unread n sources free.0) r.0.wide in
-      (right_for tables (others n tables) now v wide (stands_left v free.0 r.0.stands) r.0, right_left vs free.1 r.1)
+  pub behind-accepted : (command : Bound) (answer : Answer) → (Writes s n rows (written n rows note.change.rows s) → Leads s command answer (written n rows note.change.rows s)) → Accepts s command answer behind
+  behind-accepted command answer leads = write-accepted s vs are n rows after note command answer leads
 
-  pub right_dropped : (vs : List NamedView) → is_used n (views_of vs) ≡ false → AreRight tables now vs → AreRight (others n tables) now vs
-  right_dropped vs free r = right_left vs (unused n vs free) r
+  pub behind-order : (command : Bound) (answer : Answer) → IsThere n s.tables → Fits s command → Accepts s command answer behind → s.max_rows ≤ rows_limit → s.now + 1 < 2 ^ 64 → AreFitting (with_rows n rows s.tables) → AreLimited s.max_rows (with_rows n rows s.tables)
+      → IsInOrder behind vs
+  behind-order command answer there fits accepted most range fitting limited =
+      order-later law s behind vs vs (follows-accepts s behind command answer order.history.sound fits accepted) order (omega arith) most
+      (λ m at. inl (there-with_rows n rows s.tables m at)) fitting limited note.small range are order.right (all-wide s (with_rows n rows s.tables) (keep-with_rows n rows s.tables) vs order.right)
+
+-- ---- Each command
+module _ (law : StandingDependsOnSources) (s : State) (vs : List NamedView) (order : IsInOrder s vs) (are : s.views ≡ views_of vs) (most : s.max_rows ≤ rows_limit) where
+  -- changes that each view has passed may go
+  pub trimmed-order : (q : Queued) → IsTrimmed vs s.passed s.queue q → IsInOrder (with_queue q s) vs
+  trimmed-order q trimmed =
+      let sound = order.history.sound in
+      order-later law s (with_queue q s) vs vs (follows-trims s s (with_queue q s) (some-dropped s vs q are trimmed) (follows-itself s sound)) order (omega arith) most (λ n at. inl at) order.fitting order.limited
+      (subst (λ (cs : List ChangeOf). AllByRecursion IsSmall cs) (sym trimmed.changes) (all-drop IsSmall trimmed.count s.queue order.history.small)) order.history.range are order.right
+      (all-wide s s.tables (λ n wide is. is) vs order.right)
+
+  -- a new table
+  module _ (name : List ℕ) (columns : List ColumnDef) (sort : List ℕ) where
+    pub created-accepted : Accepts s (commands.CreateTable name columns sort) Done (created name columns sort s)
+    created-accepted = unwritten s (created name columns sort s) (commands.CreateTable name columns sort) Done order.history.sound.epochs (refl, refl)
+
+    known-created : (n : ℕ) → IsThere n s.tables ⊎ (n ≡ s.drawn) → IsThere n s.tables ⊎ IsNew (created name columns sort s) n
+    known-created n (inl old) = inl old
+    known-created n (inr e) = inr (subst (IsNew (created name columns sort s)) (sym e) (new-empty s (created name columns sort s) name columns sort Done order.history.sound created-accepted).empty)
+
+    pub created-order : IsInOrder (created name columns sort s) vs
+    created-order =
+        let made = empty_table s.drawn name columns sort in
+        order-later law s (created name columns sort s) vs vs (follows-accepts s (created name columns sort s) (commands.CreateTable name columns sort) Done order.history.sound tt created-accepted) order (omega arith) most
+        (λ n at. known-created n (there-old_or_new s.tables s.drawn name columns sort n at)) (all-push IsFitting s.tables made order.fitting tt) (all-push (λ t. length t.rows ≤ s.max_rows) s.tables made order.limited (omega arith))
+        order.history.small order.history.range are order.right (all-wide s (s.tables ++ made ∷ []) (keep-behind s.tables made) vs order.right)
+
+  -- a table that no view reads goes
+  module _ (n : ℕ) (there : IsThere n s.tables) where
+    abbrev pub dropped : State
+    dropped = with_tables (others n s.tables) s
+
+    pub dropped-accepted : Accepts s (commands.DropTable n) Done dropped
+    dropped-accepted = unwritten s dropped (commands.DropTable n) Done order.history.sound.epochs (refl, refl)
+
+    pub dropped-order : is_used n (views_of vs) ≡ false → IsInOrder dropped vs
+    dropped-order free =
+        order-later law s dropped vs vs (follows-accepts s dropped (commands.DropTable n) Done order.history.sound there dropped-accepted) order (omega arith) most (λ m at. inl (there-dropped n s.tables m at).1)
+        (all_left n IsFitting s.tables order.fitting) (all_left n (λ t. length t.rows ≤ s.max_rows) s.tables order.limited) order.history.small order.history.range are order.right (all-wide-left s n vs free order.right)
+
+  -- other views that are right
+  module _ (ws : List NamedView) (right : AreRight s ws) where
+    abbrev pub viewed : State
+    viewed = with_all_views (views_of ws) s
+
+    pub viewed-order : IsInOrder viewed ws
+    viewed-order = record {
+      history = record { sound = (follows-views s (views_of ws) order.history.sound (all-times s ws right)).sound; held = order.history.held; small = order.history.small; range = order.history.range };
+      fitting = order.fitting;
+      limited = order.limited;
+      right = right-views s (views_of ws) ws right;
+    }
+
+    pub viewed-accepted : (name : List ℕ) (columns : List ColumnDef) (q : Query) → views_of ws ≡ s.views ++ new_view name columns q s.now ∷ [] → Accepts s (commands.CreateView name columns q) Done viewed
+    viewed-accepted name columns q added = unwritten s viewed (commands.CreateView name columns q) Done (all-times s ws right) (refl, ap (λ (views : List ViewOf). with_all_views views s) added)
+
+    module _ (q : Queued) (trimmed : IsTrimmed ws s.passed s.queue q) where
+      pub unviewed-accepted : (place : ℕ) → views_of ws ≡ remove s.views place → Accepts s (commands.DropView place) Done (with_queue q viewed)
+      unviewed-accepted place gone = unwritten-trimmed s viewed (commands.DropView place) Done ws q refl trimmed (refl, ap (λ (views : List ViewOf). with_all_views views s) gone)
+
+      pub refreshed-accepted : (place changes : ℕ) → views_of ws ≡ taken_on (reach s (commands.Refresh place changes)) 0 s.views → Accepts s (commands.Refresh place changes) Done (with_queue q viewed)
+      refreshed-accepted place changes taken = unwritten-trimmed s viewed (commands.Refresh place changes) Done ws q refl trimmed (refl, ap (λ (views : List ViewOf). with_all_views views s) taken)
+
+    pub selected-accepted : (header : List (List ℕ)) (q : Query) (order : Order) (rows : List Row) → views_of ws ≡ taken_on (reach s (commands.Select header q order)) 0 s.views → Selects s.tables s.views q order (Ok rows)
+        → Accepts s (commands.Select header q order) (Rows header rows) viewed
+    selected-accepted header q order rows taken selects =
+        unwritten s viewed (commands.Select header q order) (Rows header rows) (all-times s ws right)
+        (record { rows = rows; answered = refl; listed = selects.0; in_range = selects.1 }, ap (λ (views : List ViewOf). with_all_views views s) taken)
 
 -- ---- Views that are not there
 -- no view has a name that has no place

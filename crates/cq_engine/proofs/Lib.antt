@@ -15,3 +15,4 @@ pub mod Counting
 pub mod FoundByName
 pub mod BoundCommands
 pub mod Binding
+pub mod Selecting

@@ -1,179 +1,138 @@
 -- What the engine does with its tables and views is what the command says.
-use Rattle.std.proofs.Common.{◌≡◌, ℕ, ◌+◌, ◌≤◌, not, List, [], ◌∷◌, ◌++◌, map, length, Option, None, refl, sym, ap, ◌∙◌, inl, inr, arith, subst}
-use Rattle.std.specs.Prelude.{◌==◌, Bool, Err, Ok, filter, if◌then◌else◌, min}
-use Rattle.std.specs.List.{AllByRecursion, list_any, remove}
+use Rattle.std.proofs.Common.{◌≡◌, ℕ, ◌+◌, ◌≤◌, List, [], ◌∷◌, ◌++◌, length, Option, Some, None, Err, refl, sym, ap, ◌∙◌, inl, inr, arith, subst}
+use Rattle.std.specs.Prelude.{Bool}
+use Rattle.std.specs.List.{AllByRecursion}
 use Rattle.std.proofs.Math.Nat.{add-zero}
+use Rattle.std.proofs.lemmas.List.{drop_all, length-append}
 use Rattle.cq_values.specs.Value.{Row}
-use Rattle.cq_model_bags.specs.Bag.{Weighted, once_each, difference}
-use Rattle.cq_model_bags.proofs.Bags.{same-refl}
-use Rattle.cq_model_bags.proofs.Totals.{by_test}
+use Rattle.cq_model_bags.specs.Bag.{SameBag, difference, once_each}
+use Rattle.cq_model_bags.proofs.Bags.{same-equal}
+use Rattle.cq_model_bags.proofs.Lists.{all-drop, all-push, all-weaker}
+use Rattle.cq_binder_rules.specs.Checks.{MayRefuse}
 use Rattle.cq_binder_rules.specs.declared.bound.Bound.{Bound}
 use Rattle.cq_binder_rules.specs.declared.bound.Bound.TheVariants as commands
-use Rattle.cq_model.specs.declared.assignment.Assignment.{Assignment}
-use Rattle.cq_model.specs.Expr.{Cond}
+use Rattle.cq_binder_rules.specs.declared.fault.Fault.{Fault}
 use Rattle.cq_model.specs.declared.query.Order.{Order}
 use Rattle.cq_model.specs.declared.query.Query.{Query}
-use Rattle.cq_values.specs.declared.column.ColumnDef.{ColumnDef}
-use Rattle.cq_model.specs.Views.{is_view, sources_of}
-use Rattle.cq_model.specs.Write.{chosen, left_by, updated}
+use Rattle.cq_model_state.specs.State.{ChangeOf, State, ViewOf, rows_in}
+use Rattle.cq_model_step.specs.Next.{Trims, Writes, reach, with_all_views, written}
+use Rattle.cq_model_step.specs.Step.{Accepts, AreBetween, GivesUp, Leads}
 use Rattle.cq_model_step.specs.declared.answer.Answer.{Answer}
-use Rattle.cq_model_step.specs.declared.answer.Answer.TheVariants.{Done, Count, Rows}
-use Rattle.cq_binder_rules.specs.declared.fault.Fault.{Fault}
-use Rattle.cq_binder_rules.specs.Checks.{MayRefuse}
-use Rattle.cq_model_state.specs.State.{TableOf, ViewOf, State, rows_in, empty_table, with_rows, tables_now}
-use Rattle.cq_model_step.specs.Next.{at_epoch, new_view, reach, taken_on, written, Writes}
-use Rattle.cq_model_step.specs.Step.{AreBetween, Leads}
-use Rattle.cq_engine.specs.Commands.{present, IsDone, IsRefused}
+use Rattle.cq_model_step_laws.specs.Sound.{IsInTime}
 use Rattle.cq_engine_answers.specs.Selects.{Selects}
+use Rattle.cq_engine_queue.specs.History.{IsSmall}
+use Rattle.cq_engine_queue.specs.Queued.{IsTrimmed, Notes, Queued}
+use Rattle.cq_engine_tables.specs.Views.{NamedView, views_of}
+use Rattle.cq_engine_writes.specs.Changing.{Tells}
+use Rattle.cq_engine.specs.Commands.{CarriesOut, IsRefused, room}
 
--- ---- Views at one epoch
-abbrev pub AreAt : ℕ → List ViewOf → Type 0
-AreAt n views = AllByRecursion (λ v. v.epoch ≡ n) views
+-- ---- Changes that leave the queue
+-- views that stand in time have passed what was dropped
+passed-none : (first last : ℕ) (views : List ViewOf) → AllByRecursion (IsInTime first last) views → AllByRecursion (λ v. first + 0 ≤ v.epoch) views
+passed-none first last views times = all-weaker (IsInTime first last) (λ v. first + 0 ≤ v.epoch) (λ v time. omega (arith, time.kept)) views times
 
--- a view at an epoch is not taken on to it
-stays : (n : ℕ) (v : ViewOf) → v.epoch ≡ n → at_epoch n v ≡ v
-stays n v e = ap (λ (m : ℕ). at_epoch m v) (sym e)
+-- nothing is dropped
+pub none-dropped : (s : State) → AllByRecursion (IsInTime s.passed s.now) s.views → Trims s s
+none-dropped s times = record { count = 0; there = omega arith; passed = passed-none s.passed s.now s.views times; state = rw (add-zero s.passed) refl }
 
-all_stay : (n : ℕ) (views : List ViewOf) → AreAt n views → map (at_epoch n) views ≡ views
-all_stay n [] h = refl
-all_stay n (v ∷ vs) h = λ i. stays n v h.0 i ∷ all_stay n vs h.1 i
+passed-views : (bound : ℕ) (vs : List NamedView) → AllByRecursion (λ v. bound ≤ v.kept.state.epoch) vs → AllByRecursion (λ v. bound ≤ v.epoch) (views_of vs)
+passed-views bound [] all = tt
+passed-views bound (v ∷ vs) all = (all.0, passed-views bound vs all.1)
 
--- what was dropped from the queue they have passed
-have_passed : (n : ℕ) (views : List ViewOf) → AreAt n views → AllByRecursion (λ v. n + 0 ≤ v.epoch) views
-have_passed n [] h = tt
-have_passed n (v ∷ vs) h = (omega (arith, h.0), have_passed n vs h.1)
+-- the state with another queue
+abbrev pub with_queue : Queued → State → State
+with_queue q s = record s { passed = q.passed; queue = q.changes }
 
--- the changes of one write more they have passed
-have_passed_one : (n : ℕ) (views : List ViewOf) → AllByRecursion (λ v. n + 1 ≤ v.epoch) (map (at_epoch (n + 1)) views)
-have_passed_one n [] = tt
-have_passed_one n (v ∷ vs) = (omega arith, have_passed_one n vs)
+-- what each view has passed is dropped
+pub some-dropped : (s : State) (vs : List NamedView) (q : Queued) → s.views ≡ views_of vs → IsTrimmed vs s.passed s.queue q → Trims s (with_queue q s)
+some-dropped s vs q are trimmed = record {
+  count = trimmed.count;
+  there = trimmed.there;
+  passed = subst (λ (views : List ViewOf). AllByRecursion (λ v. s.passed + trimmed.count ≤ v.epoch) views) (sym are) (passed-views (s.passed + trimmed.count) vs trimmed.behind);
+  state = λ i. record { tables = s.tables; views = s.views; now = s.now; drawn = s.drawn; passed = trimmed.passed i; queue = trimmed.changes i; max_rows = s.max_rows };
+}
 
--- a view behind the others
-pub at_behind : (n : ℕ) (views : List ViewOf) (v : ViewOf) → AreAt n views → v.epoch ≡ n → AreAt n (views ++ v ∷ [])
-at_behind n [] v h e = (e, tt)
-at_behind n (w ∷ ws) v h e = (h.0, at_behind n ws v h.1 e)
+-- ---- Commands that write nothing
+-- a command leads to a state, and nothing is dropped
+pub unwritten : (old new : State) (command : Bound) (answer : Answer) → AllByRecursion (IsInTime new.passed new.now) new.views → Leads old command answer new → Accepts old command answer new
+unwritten old new command answer times leads = record { whole = new; leads = leads; trims = none-dropped new times }
 
--- ---- From a state in which every view is at the present
-module _ (tables : List TableOf) (views : List ViewOf) (now drawn max_rows : ℕ) (here : AreAt now views) where
-  abbrev old : State
-  old = present tables views now drawn max_rows
+-- or some changes are
+pub unwritten-trimmed : (old whole : State) (command : Bound) (answer : Answer) (vs : List NamedView) (q : Queued) → whole.views ≡ views_of vs → IsTrimmed vs whole.passed whole.queue q → Leads old command answer whole
+    → Accepts old command answer (with_queue q whole)
+unwritten-trimmed old whole command answer vs q are trimmed leads = record { whole = whole; leads = leads; trims = some-dropped whole vs q are trimmed }
 
-  -- a command that writes nothing, and after which no view has to be taken on
-  unwritten : (command : Bound) (answer : Answer) (new : List TableOf) (others : List ViewOf) (later : ℕ) → AreAt now others → Leads old command answer (present new others now later max_rows)
-      → IsDone old command answer (present new others now later max_rows)
-  unwritten command answer new others later at leads = record {
-    on_the_way = present new others now later max_rows;
-    accepts = record {
-      whole = present new others now later max_rows;
-      leads = leads;
-      trims = record { count = 0; there = omega arith; passed = have_passed now others at; state = rw (add-zero now) refl };
-    };
-    trims = record { count = 0; there = omega arith; passed = rw (all_stay now others at) (have_passed now others at); state = rw (add-zero now, all_stay now others at) refl };
+-- ---- Writes
+-- what a write told is a change that was put behind the others
+pub record IsNoted (s : State) (vs : List NamedView) (n : ℕ) (rows : List Row) (q : Queued) : Type 0 where
+  pub change : ChangeOf
+  pub table : change.table ≡ n
+  pub is : SameBag change.rows (difference (once_each rows) (once_each (rows_in s.tables n)))
+  pub trimmed : IsTrimmed vs s.passed (s.queue ++ change ∷ []) q
+  pub small : AllByRecursion IsSmall q.changes
+
+-- it is told where there are views
+pub noted : (s : State) (vs : List NamedView) (n : ℕ) (rows : List Row) (asked : Bool) (told : Option ChangeOf) (old new : Queued) → old.passed ≡ s.passed → old.changes ≡ s.queue
+    → AllByRecursion IsSmall s.queue → (told ≡ None → vs ≡ []) → Tells asked n (rows_in s.tables n) rows told → Notes vs told old new → IsNoted s vs n rows new
+noted s vs n rows asked (Some c) old new passed changes small none tells notes = record {
+  change = c;
+  table = tells.is.table;
+  is = tells.is.rows;
+  trimmed = trimmed;
+  small = subst (λ (cs : List ChangeOf). AllByRecursion IsSmall cs) (sym trimmed.changes) (all-drop IsSmall trimmed.count (s.queue ++ c ∷ []) (all-push IsSmall s.queue c small tells.is.small));
+}
+  where
+    trimmed : IsTrimmed vs s.passed (s.queue ++ c ∷ []) new
+    trimmed = subst (λ (k : ℕ). IsTrimmed vs k (s.queue ++ c ∷ []) new) passed (subst (λ (cs : List ChangeOf). IsTrimmed vs old.passed (cs ++ c ∷ []) new) changes notes)
+noted s vs n rows asked None old new passed changes small none tells notes =
+    let d = difference (once_each rows) (once_each (rows_in s.tables n)) in
+    let c : ChangeOf = record { table = n; rows = d } in
+    let gone : vs ≡ [] = none refl in
+    let long : length (s.queue ++ c ∷ []) ≡ length old.changes + 1 = length-append s.queue (c ∷ []) ∙ ap (λ (cs : List ChangeOf). length cs + 1) (sym changes) in
+    record {
+      change = c;
+      table = refl;
+      is = same-equal d d refl;
+      trimmed = record {
+        count = length (s.queue ++ c ∷ []);
+        there = omega arith;
+        behind = subst (λ (ws : List NamedView). AllByRecursion (λ v. s.passed + length (s.queue ++ c ∷ []) ≤ v.kept.state.epoch) ws) (sym gone) tt;
+        passed = omega (arith, notes.0, passed, long);
+        changes = notes.1 ∙ sym (drop_all (length (s.queue ++ c ∷ [])) (s.queue ++ c ∷ []) (omega arith));
+      };
+      small = subst (λ (cs : List ChangeOf). AllByRecursion IsSmall cs) (sym notes.1) tt;
+    }
+
+module _ (s : State) (vs : List NamedView) (are : s.views ≡ views_of vs) (n : ℕ) (rows : List Row) (q : Queued) (note : IsNoted s vs n rows q) where
+  -- the state behind a write, with all its changes
+  abbrev pub whole : State
+  whole = written n rows note.change.rows s
+
+  writes : Writes s n rows whole
+  writes = record { change = note.change.rows; is_difference = note.is; state = refl }
+
+  same-change : note.change ≡ record { table = n; rows = note.change.rows }
+  same-change = λ i. record { table = note.table i; rows = note.change.rows }
+
+  -- a command that writes so is accepted
+  pub write-accepted : (command : Bound) (answer : Answer) → (Writes s n rows whole → Leads s command answer whole) → Accepts s command answer (with_queue q whole)
+  write-accepted command answer leads = record {
+    whole = whole;
+    leads = leads writes;
+    trims = some-dropped whole vs q are (subst (λ (c : ChangeOf). IsTrimmed vs s.passed (s.queue ++ c ∷ []) q) same-change note.trimmed);
   }
 
-  -- a command that writes the table of a number; its change leaves the queue once the views have taken it in
-  module _ (n : ℕ) (rows : List Row) where
-    abbrev change : Weighted
-    change = difference (once_each rows) (tables_now old n)
+-- ---- Refusals
+-- a command that is refused for want of room or memory changes nothing
+pub refused : (s t : State) (command : Bound) (f : Fault) → MayRefuse (room s command) f → t ≡ s → CarriesOut s command (Err f) t
+refused s t command f may same = inl (may, same)
 
-    abbrev whole : State
-    whole = written n rows change old
-
-    write_done : (command : Bound) (answer : Answer) (new : List TableOf) (others : List ViewOf) → (Writes old n rows whole → Leads old command answer whole) → new ≡ with_rows n rows tables
-        → others ≡ map (at_epoch (now + 1)) views → IsDone old command answer (present new others (now + 1) (drawn + 1) max_rows)
-    write_done command answer new others leads wrote moved = rw moved (record {
-      on_the_way = whole;
-      accepts = record {
-        whole = whole;
-        leads = leads (record { change = change; is_difference = same-refl change; state = refl });
-        trims = record { count = 0; there = omega arith; passed = have_passed now views here; state = rw (add-zero now) refl };
-      };
-      trims = record { count = 1; there = omega arith; passed = have_passed_one now views; state = rw wrote refl };
-    })
-
-  -- CREATE TABLE under the number that is drawn
-  pub create_done : (name : List ℕ) (columns : List ColumnDef) (sort : List ℕ) (new : List TableOf) → new ≡ tables ++ empty_table drawn name columns sort ∷ []
-      → IsDone old (commands.CreateTable name columns sort) Done (present new views now (drawn + 1) max_rows)
-  create_done name columns sort new is = rw is (unwritten (commands.CreateTable name columns sort) Done (tables ++ empty_table drawn name columns sort ∷ []) views (drawn + 1) here (refl, refl))
-
-  -- DROP TABLE
-  pub drop_done : (n : ℕ) (new : List TableOf) → new ≡ filter (λ t. not (t.number == n)) tables → IsDone old (commands.DropTable n) Done (present new views now drawn max_rows)
-  drop_done n new is = rw is (unwritten (commands.DropTable n) Done (filter (λ t. not (t.number == n)) tables) views drawn here (refl, refl))
-
-  -- CREATE VIEW
-  pub create_view_done : (name : List ℕ) (columns : List ColumnDef) (q : Query) (new : List ViewOf) → new ≡ views ++ new_view name columns q now ∷ [] → IsDone old (commands.CreateView name columns q) Done (present tables new now drawn max_rows)
-  create_view_done name columns q new is =
-      let v = new_view name columns q now in
-      rw is (unwritten (commands.CreateView name columns q) Done tables (views ++ v ∷ []) drawn (at_behind now views v here refl) (refl, refl))
-
-  -- DROP VIEW
-  pub drop_view_done : (place : ℕ) (new : List ViewOf) → AreAt now new → new ≡ remove views place → IsDone old (commands.DropView place) Done (present tables new now drawn max_rows)
-  drop_view_done place new at is = unwritten (commands.DropView place) Done tables new drawn at (refl, ap (λ (vs : List ViewOf). present tables vs now drawn max_rows) is)
-
-  -- INSERT
-  pub insert_done : (n : ℕ) (rows : List Row) (new : List TableOf) (others : List ViewOf) → new ≡ with_rows n (rows_in tables n ++ rows) tables → others ≡ map (at_epoch (now + 1)) views
-      → IsDone old (commands.Insert n rows) (Count (length rows)) (present new others (now + 1) (drawn + 1) max_rows)
-  insert_done n rows new others is moved = write_done n (rows_in tables n ++ rows) (commands.Insert n rows) (Count (length rows)) new others (λ w. (refl, w)) is moved
-
-  -- DELETE
-  pub delete_done : (n : ℕ) (c : Option Cond) (new : List TableOf) (others : List ViewOf) (count : ℕ) → count ≡ length (chosen c (rows_in tables n)) → new ≡ with_rows n (left_by c (rows_in tables n)) tables
-      → others ≡ map (at_epoch (now + 1)) views → IsDone old (commands.Delete n c) (Count count) (present new others (now + 1) (drawn + 1) max_rows)
-  delete_done n c new others count counted is moved = write_done n (left_by c (rows_in tables n)) (commands.Delete n c) (Count count) new others (λ w. (ap Count counted, w)) is moved
-
-  -- UPDATE
-  pub update_done : (n : ℕ) (assignments : List Assignment) (c : Option Cond) (new : List TableOf) (others : List ViewOf) (count : ℕ) → count ≡ length (chosen c (rows_in tables n)) → new ≡ with_rows n (updated assignments c (rows_in tables n)) tables
-      → others ≡ map (at_epoch (now + 1)) views → IsDone old (commands.Update n assignments c) (Count count) (present new others (now + 1) (drawn + 1) max_rows)
-  update_done n assignments c new others count counted is moved =
-      write_done n (updated assignments c (rows_in tables n)) (commands.Update n assignments c) (Count count) new others (λ w. (ap Count counted, w)) is moved
-
-  -- views at the present stay where they are, as long as nothing takes them beyond it
-  none_taken : (to : ℕ → ViewOf → ℕ) → ((place : ℕ) (v : ViewOf) → v.epoch ≡ now → to place v ≡ now) → (place : ℕ) (vs : List ViewOf) → AreAt now vs → taken_on to place vs ≡ vs
-  none_taken to present_stays place [] h = refl
-  none_taken to present_stays place (v ∷ vs) h =
-      λ i. (ap (λ (n : ℕ). at_epoch n v) (present_stays place v h.0) ∙ stays now v h.0) i ∷ none_taken to present_stays (place + 1) vs h.1 i
-
-  -- MOVE and MERGE
-  pub move_done : (n rows : ℕ) → IsDone old (commands.Move n rows) Done old
-  move_done n rows = unwritten (commands.Move n rows) Done tables views drawn here (refl, refl)
-
-  pub merge_done : (n : ℕ) → IsDone old (commands.Merge n) Done old
-  merge_done n = unwritten (commands.Merge n) Done tables views drawn here (refl, refl)
-
-  -- a view that is at the present has no change to be taken on by
-  none_left : (changes : ℕ) (b : Bool) (v : ViewOf) → v.epoch ≡ now → (if b then min (v.epoch + changes) now else v.epoch) ≡ now
-  none_left changes b v e = by_test b (λ k. rw k (omega (arith, e))) (λ k. rw k e)
-
-  -- REFRESH
-  pub refresh_done : (place changes : ℕ) → IsDone old (commands.Refresh place changes) Done old
-  refresh_done place changes =
-      let command = commands.Refresh place changes in
-      unwritten command Done tables views drawn here
-      (refl, ap (λ (vs : List ViewOf). present tables vs now drawn max_rows) (sym (none_taken (reach old command) (λ p v e. none_left changes (place == p) v e) 0 views here)))
-
-  -- a view that is at the present is not taken on by a SELECT
-  reaches : (b : Bool) (v : ViewOf) → v.epoch ≡ now → (if b then now else v.epoch) ≡ now
-  reaches b v e = by_test b (λ k. rw k refl) (λ k. rw k e)
-
-  module _ (header : List (List ℕ)) (q : Query) (order : Order) where
-    abbrev command : Bound
-    command = commands.Select header q order
-
-    -- SELECT, which leaves everything as it was
-    pub select_done : (rows : List Row) → Selects tables views q order (Ok rows) → IsDone old command (Rows header rows) old
-    select_done rows s =
-        unwritten command (Rows header rows) tables views drawn here
-        (record { rows = rows; answered = refl; listed = s.0; in_range = s.1 }, ap (λ (vs : List ViewOf). present tables vs now drawn max_rows) (sym (none_taken (reach old command) (λ place v e. reaches (list_any (is_view place) (sources_of q)) v e) 0 views here)))
-
-    -- a view stands where it is on its way to
-    on_its_way : (b : Bool) (v : ViewOf) → v.epoch ≡ now → v.epoch ≤ (if b then now else v.epoch)
-    on_its_way b v e = by_test b (λ k. rw k (omega (arith, e))) (λ k. rw k (omega arith))
-
-    pub all_between : (place : ℕ) (vs : List ViewOf) → AreAt now vs → AreBetween (reach old command) place vs vs
-    all_between place [] h = tt
-    all_between place (v ∷ vs) h = ((v.epoch, omega arith, on_its_way (list_any (is_view place) (sources_of q)) v h.0, refl), all_between (place + 1) vs h.1)
+-- the state in which views have gone on
+pub gave-up : (s : State) (command : Bound) (views : List ViewOf) → AreBetween (reach s command) 0 s.views views → GivesUp s command (with_all_views views s)
+gave-up s command views between = record { views = between; state = refl }
 
 -- why a SELECT is refused
-module _ (tables : List TableOf) (views : List ViewOf) (now drawn max_rows : ℕ) where
-  pub select_refused : (header : List (List ℕ)) (q : Query) (order : Order) (f : Fault) → Selects tables views q order (Err f) → IsRefused (present tables views now drawn max_rows) (commands.Select header q order) f
-  select_refused header q order f (inl m) = inl (subst (λ (g : Fault). MayRefuse None g) (sym m) tt)
-  select_refused header q order f (inr w) = inr w
+pub select-refused : (s : State) (header : List (List ℕ)) (q : Query) (order : Order) (f : Fault) (views : List ViewOf) → Selects s.tables s.views q order (Err f) → AreBetween (reach s (commands.Select header q order)) 0 s.views views
+    → IsRefused s (commands.Select header q order) f (with_all_views views s)
+select-refused s header q order f views (inl m) between = inr (refl, inl m, gave-up s (commands.Select header q order) views between)
+select-refused s header q order f views (inr w) between = inr (refl, inr w, gave-up s (commands.Select header q order) views between)

@@ -1,5 +1,5 @@
 -- What each command does with tables and views that it was bound to, or else is refused.
-use Rattle.std.specs.Prelude.{◌≡◌, ◌⊎◌, ◌<◌, ◌≤◌, ℕ, false, if◌then◌else◌, List, length, Option, None, Some, is_some, Result, Ok, Err}
+use Rattle.std.specs.Prelude.{◌≡◌, ◌⊎◌, ◌<◌, ℕ, false, List, length, Option, None, Some, Result, Ok, Err}
 use Rattle.std.specs.List.{AllByRecursion}
 use Rattle.cq_values.specs.declared.column.ColumnDef.{ColumnDef}
 use Rattle.cq_binder_rules.specs.declared.bound.Bound.{Bound}
@@ -8,38 +8,43 @@ use Rattle.cq_model.specs.declared.query.Query.{Query}
 use Rattle.cq_model_step.specs.declared.answer.Answer.{Answer}
 use Rattle.cq_model_step.specs.declared.answer.Answer.TheVariants.{Done, Rows}
 use Rattle.cq_binder_rules.specs.declared.fault.Fault.{Fault}
-use Rattle.cq_binder_rules.specs.declared.fault.Fault.TheVariants.{SumOutOfRange, UnknownTable}
+use Rattle.cq_binder_rules.specs.declared.fault.Fault.TheVariants.{Memory, SumOutOfRange, UnknownTable}
 use Rattle.cq_binder_rules.specs.Checks.{MayRefuse}
+use Rattle.cq_binder_rules.specs.Records.{Files}
 use Rattle.cq_binder_rules.specs.Refusal.{is_used, reads_source}
 use Rattle.cq_model_state.specs.Fitting.{AreFitting, AreLimited, FitsColumns}
-use Rattle.cq_model_state.specs.State.{AreNumbered, TableOf, ViewOf, State, columns_in, first_state, rows_in, view_place}
-use Rattle.cq_model_step.specs.Next.{Trims, at_present}
-use Rattle.cq_model_step.specs.Step.{Accepts, IsTooLarge}
+use Rattle.cq_model_state.specs.State.{TableOf, ViewOf, State, columns_in, rows_in, view_place}
+use Rattle.cq_model_step.specs.Step.{Accepts, GivesUp, IsTooLarge, StepFrom}
 use Rattle.cq_model.specs.Views.{sources_of}
 use Rattle.cq_model.specs.Width.{IsNarrowIn}
+use Rattle.cq_engine_queue.specs.History.{IsHistory}
+use Rattle.cq_engine_queue.specs.Queued.{Queued}
 use Rattle.cq_engine_writes.specs.Updates.{CanUpdateIn, value_fault_in}
 use Rattle.cq_engine_tables.specs.HeldTables.{HeldTable, tables_of}
 use Rattle.cq_engine_tables.specs.Tables.{IsThere}
-use Rattle.cq_engine_tables.specs.Views.{AreRight, Fits, NamedView}
+use Rattle.cq_engine_tables.specs.Views.{AreRight, Fits, NamedView, views_of}
 use Rattle.cq_engine_answers.specs.Reading.{CanRead, IsSourceThere}
 use Rattle.cq_engine_writes.specs.Writing.{room_for}
 use Rattle.cq_sql_language.specs.declared.statement.Statement.{Statement}
 use Rattle.cq_binder_rules.specs.Sources.{reads_behind}
 use Rattle.cq_engine.specs.declared.limits.Limits.{Limits}
 
--- a state in which no change waits
-abbrev pub present : List TableOf → List ViewOf → ℕ → ℕ → ℕ → State
-present tables views now drawn max_rows =
-    record (first_state max_rows) { tables = tables; views = views; now = now; drawn = drawn; passed = now }
+-- the state that an engine with this queue stands for
+abbrev pub state_of : List TableOf → List ViewOf → ℕ → ℕ → Queued → ℕ → State
+state_of tables views now drawn queue max_rows =
+    record { tables = tables; views = views; now = now; drawn = drawn; passed = queue.passed; queue = queue.changes; max_rows = max_rows }
 
--- numbered tables with rows that fit and are not too many, and views that are right for them
-abbrev pub AreInOrder : ℕ → ℕ → ℕ → List TableOf → List NamedView → Type 0
-AreInOrder now drawn max_rows tables views =
-    (now ≤ drawn) × AreNumbered tables drawn × AreFitting tables × AreRight tables now views × AreLimited max_rows tables
+-- rows that fit and are not too many, a history of them, and views that are right in it
+pub record IsInOrder (s : State) (stored : List NamedView) : Type 0 where
+  pub history : IsHistory s
+  pub fitting : AreFitting s.tables
+  pub limited : AreLimited s.max_rows s.tables
+  pub right : AreRight s stored
 
 -- so it is with the tables as they are held, where as many rows are allowed as these limits say
-abbrev pub StandInOrder : ℕ → ℕ → Limits → List HeldTable → List NamedView → Type 0
-StandInOrder now drawn limits tables views = AreInOrder now drawn limits.max_rows (tables_of tables) views
+abbrev pub StandInOrder : ℕ → ℕ → Limits → Queued → List HeldTable → List NamedView → Type 0
+StandInOrder now drawn limits queue tables views =
+    IsInOrder (state_of (tables_of tables) (views_of views) now drawn queue limits.max_rows) views
 
 -- ---- Commands that were bound
 -- a query that a view with these columns can be built and kept for
@@ -69,36 +74,40 @@ room s (commands.Insert n rows) = room_for s.max_rows s.tables n rows
 room s (commands.Update n assignments c) = value_fault_in s.tables n assignments c
 room s command = None
 
--- a command is done, after which each view is taken to the present
-pub record IsDone (old : State) (command : Bound) (answer : Answer) (new : State) : Type 0 where
-  pub on_the_way : State
-  pub accepts : Accepts old command answer on_the_way
-  pub trims : Trims (at_present on_the_way) new
-
--- why a command is not carried out: there is no room, a value may not be stored, a total cannot be shown, or
--- memory is wanting
-abbrev pub IsRefused : State → Bound → Fault → Type 0
-IsRefused s command f = MayRefuse (room s command) f ⊎ ((f ≡ SumOutOfRange) × IsTooLarge s command)
+-- why a command is not carried out: there is no room, or a value may not be stored, and nothing has changed; or else memory is
+-- wanting, or a total cannot be shown, and views that it names may have taken some changes in
+abbrev pub IsRefused : State → Bound → Fault → State → Type 0
+IsRefused s command f new =
+    (MayRefuse (room s command) f × (new ≡ s))
+    ⊎ ((room s command ≡ None) × ((f ≡ Memory) ⊎ ((f ≡ SumOutOfRange) × IsTooLarge s command)) × GivesUp s command new)
 
 -- from old, the command may answer this and leave new
 abbrev pub CarriesOut : State → Bound → Result Answer Fault → State → Type 0
-CarriesOut old command (Ok answer) new = (room old command ≡ None) × IsDone old command answer new
-CarriesOut old command (Err f) new = IsRefused old command f × (new ≡ old)
+CarriesOut old command (Ok answer) new = (room old command ≡ None) × Accepts old command answer new
+CarriesOut old command (Err f) new = IsRefused old command f new
 
--- 11, where no view has the name
-abbrev pub unknown_view : List ℕ → List ViewOf → Option Fault
-unknown_view name views = if is_some (view_place name views) then None else Some UnknownTable
+-- a command that answers rows may as well have been refused for memory
+abbrev pub MayGiveUp : State → Bound → Result Answer Fault → State → Type 0
+MayGiveUp old command (Ok (Rows header rows)) new = IsRefused old command Memory new
+MayGiveUp old command outcome new = Unit {0}
 
--- the view of a name is taken on by so many changes, or there is none
+-- so it is with a statement, whose files a source tells
+abbrev pub MayBeRefused : Option Files → State → Statement → Result Answer Fault → State → Type 0
+MayBeRefused told old statement (Ok (Rows header rows)) new = StepFrom told old statement (Err Memory) new
+MayBeRefused told old statement outcome new = Unit {0}
+
+-- a view is not taken on: no view has the name, and nothing has changed, or memory is wanting, and it may have taken some
+-- changes in
+abbrev pub IsNotRefreshed : State → List ℕ → ℕ → Fault → State → Type 0
+IsNotRefreshed old name changes f new =
+    ((view_place name old.views ≡ None) × (f ≡ UnknownTable) × (new ≡ old))
+    ⊎ ((place : ℕ) × (view_place name old.views ≡ Some place) × (f ≡ Memory) × GivesUp old (commands.Refresh place changes) new)
+
+-- the view of a name is taken on by so many changes, or that is refused
 abbrev pub Refreshes : State → List ℕ → ℕ → Result (Unit {0}) Fault → State → Type 0
 Refreshes old name changes (Ok done) new =
-    (place : ℕ) × (view_place name old.views ≡ Some place) × IsDone old (commands.Refresh place changes) Done new
-Refreshes old name changes (Err f) new = MayRefuse (unknown_view name old.views) f × (new ≡ old)
-
--- an answer of rows changes nothing
-abbrev pub OnlyShows : State → Result Answer Fault → State → Type 0
-OnlyShows old (Ok (Rows header rows)) new = new ≡ old
-OnlyShows old outcome new = Unit {0}
+    (place : ℕ) × (view_place name old.views ≡ Some place) × Accepts old (commands.Refresh place changes) Done new
+Refreshes old name changes (Err f) new = IsNotRefreshed old name changes f new
 
 -- how often sources were read once a statement was carried out
 abbrev pub reads_after : State → Statement → ℕ → ℕ

@@ -3,3 +3,4 @@ pub mod Gathering
 pub mod TableWidths
 pub mod Commands
 pub mod Held
+pub mod Reading

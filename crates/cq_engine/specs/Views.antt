@@ -4,6 +4,7 @@ use Rattle.std.specs.Global.{Vec}
 use Rattle.std.specs.List.{find}
 use Rattle.cq_values.specs.Texts.{is_text}
 use Rattle.cq_model.specs.declared.query.Query.{Query}
+use Rattle.cq_values.specs.declared.column.ColumnDef.{ColumnDef}
 use Rattle.cq_model_state.specs.State.{TableOf, ViewOf, view_named}
 use Rattle.cq_views.specs.State.{StandsFor}
 use Rattle.cq_views.specs.declared.kept_view.KeptView.{KeptView}
@@ -34,3 +35,10 @@ pub record IsBuilt (tables : List TableOf) (q : Query) (now : ℕ) (v : KeptView
   pub built : v.state.built ≡ now
   pub wide : AreWide tables v.query v.widths
   pub stands : StandsFor v (bags_in tables)
+
+-- behind the others stands a view with these columns that was built so
+pub record IsBuiltBehind (tables : List TableOf) (columns : List ColumnDef) (q : Query) (now : ℕ) (old new : Vec NamedView) : Type 0 where
+  pub view : NamedView
+  pub behind : new.items ≡ old.items ++ view ∷ []
+  pub columns_are : view.columns ≡ columns
+  pub built : IsBuilt tables q now view.kept

@@ -1,17 +1,20 @@
 //! Commands that the engine carries out.
 //!
 //! A command was bound to the tables and views that are there, and is carried out at once, whole or not at all. A write
-//! costs what its rows do and what it changes in each view on its table.
-ghost use Rattle.std.specs.Prelude.{◌<◌, ◌-◌, ◌^◌, Ok};
+//! does nothing for views: its change waits for them in the queue. SELECT and REFRESH take changes in.
+ghost use Rattle.std.specs.Prelude.{◌<◌, ◌≡◌, ◌-◌, ◌^◌, IfErr, OnErr, Ok};
 ghost use Rattle.cq_binder_rules.specs.declared.bound.Bound.TheVariants as commands;
+ghost use Rattle.cq_binder_rules.specs.declared.fault.Fault.TheVariants.{Memory};
+ghost use Rattle.cq_model_step.specs.Step.{GivesUp};
 ghost use Rattle.cq_model_step.specs.declared.answer.Answer.TheVariants.{Done};
-ghost use Rattle.cq_engine.specs.Commands.{OnlyShows};
+ghost use Rattle.cq_engine.specs.Commands.{MayGiveUp};
 ghost use Rattle.cq_engine.specs.Held.{CanDo, Does, StoresBy};
 
 use crate::creation::create_view_in;
 use crate::engine::Engine;
+use crate::reading::select_at_present;
 use cq_binder_rules::{Bound, Fault};
-use cq_engine_answers::select_from;
+use cq_engine_queue::{Goal, note, take_all_on, trim};
 use cq_engine_tables::{NamedTable, drop_in, drop_view_at, merge_in, move_in};
 use cq_engine_writes::{delete_in, insert_in, update_in};
 use cq_model::{Assignment, Cond, Order, Query};
@@ -26,7 +29,7 @@ impl Engine {
         requires drawn { self.old.state.drawn < 2 ^ 64 - 1 }
         requires bound { CanDo self.old command }
         ensures done { Does self.old command result self.new }
-        ensures rows { OnlyShows self.old.state result self.new.state }
+        ensures rows { MayGiveUp self.old.state command result self.new.state }
         ensures stores { StoresBy self.old command result self.new }
     {
         match command {
@@ -56,10 +59,7 @@ impl Engine {
             } => self.select(header, query, order),
             Bound::Move { table, rows } => self.move_rows(table, rows),
             Bound::Merge(table) => self.merge(table),
-            Bound::Refresh { view, changes } => {
-                self.refresh_at(view, changes);
-                Ok(Answer::Done)
-            }
+            Bound::Refresh { view, changes } => self.refresh_at(view, changes),
         }
     }
 
@@ -71,7 +71,6 @@ impl Engine {
     ) -> Result<Answer, Fault>
         requires { self.old.state.drawn < 2 ^ 64 - 1 }
         ensures done { Does self.old (commands.CreateTable name columns sort) result self.new }
-        ensures rows { OnlyShows self.old.state result self.new.state }
         ensures stores { StoresBy self.old (commands.CreateTable name columns sort) result self.new }
     {
         let max_rows = self.limits.max_rows;
@@ -84,7 +83,6 @@ impl Engine {
     fn drop_table(&mut self, number: u64) -> Answer
         requires { CanDo self.old (commands.DropTable number) }
         ensures done { Does self.old (commands.DropTable number) (Ok result) self.new }
-        ensures rows { OnlyShows self.old.state (Ok result) self.new.state }
         ensures stores { StoresBy self.old (commands.DropTable number) (Ok result) self.new }
     {
         drop_in(&mut self.tables, number);
@@ -100,7 +98,6 @@ impl Engine {
     ) -> Result<Answer, Fault>
         requires { CanDo self.old (commands.CreateView name columns query) }
         ensures done { Does self.old (commands.CreateView name columns query) result self.new }
-        ensures rows { OnlyShows self.old.state result self.new.state }
         ensures stores { StoresBy self.old (commands.CreateView name columns query) result self.new }
     {
         let now = self.writes;
@@ -119,10 +116,10 @@ impl Engine {
     fn drop_view(&mut self, place: usize) -> Answer
         requires { CanDo self.old (commands.DropView place) }
         ensures done { Does self.old (commands.DropView place) (Ok result) self.new }
-        ensures rows { OnlyShows self.old.state (Ok result) self.new.state }
         ensures stores { StoresBy self.old (commands.DropView place) (Ok result) self.new }
     {
         drop_view_at(&mut self.views, place);
+        trim(&mut self.queue, &self.views);
         Answer::Done
     }
 
@@ -130,22 +127,22 @@ impl Engine {
         requires drawn { self.old.state.drawn < 2 ^ 64 - 1 }
         requires bound { CanDo self.old (commands.Insert table rows) }
         ensures done { Does self.old (commands.Insert table rows) result self.new }
-        ensures rows { OnlyShows self.old.state result self.new.state }
         ensures stores { StoresBy self.old (commands.Insert table rows) result self.new }
     {
         let max_rows = self.limits.max_rows;
-        let epoch = self.writes + 1;
+        let asked = !self.views.is_empty();
         let count = rows.len() as u64;
-        insert_in(
+        let change = insert_in(
             self.alloc,
             max_rows,
             &mut self.tables,
-            &mut self.views,
+            &mut self.queue,
             table,
             rows,
-            epoch,
+            asked,
         )?;
-        self.writes = epoch;
+        note(&mut self.queue, &self.views, change);
+        self.writes += 1;
         self.drawn += 1;
         Ok(Answer::Count(count))
     }
@@ -154,21 +151,21 @@ impl Engine {
         requires drawn { self.old.state.drawn < 2 ^ 64 - 1 }
         requires bound { CanDo self.old (commands.Delete table condition) }
         ensures done { Does self.old (commands.Delete table condition) result self.new }
-        ensures rows { OnlyShows self.old.state result self.new.state }
         ensures stores { StoresBy self.old (commands.Delete table condition) result self.new }
     {
-        let epoch = self.writes + 1;
+        let asked = !self.views.is_empty();
         let deleted = delete_in(
             self.alloc,
             &mut self.tables,
-            &mut self.views,
+            &mut self.queue,
             table,
             &condition,
-            epoch,
+            asked,
         );
         drop(condition);
-        let rows = deleted?;
-        self.writes = epoch;
+        let (rows, change) = deleted?;
+        note(&mut self.queue, &self.views, change);
+        self.writes += 1;
         self.drawn += 1;
         Ok(Answer::Count(rows as u64))
     }
@@ -182,23 +179,23 @@ impl Engine {
         requires drawn { self.old.state.drawn < 2 ^ 64 - 1 }
         requires bound { CanDo self.old (commands.Update table assignments filter) }
         ensures done { Does self.old (commands.Update table assignments filter) result self.new }
-        ensures rows { OnlyShows self.old.state result self.new.state }
         ensures stores { StoresBy self.old (commands.Update table assignments filter) result self.new }
     {
-        let epoch = self.writes + 1;
+        let asked = !self.views.is_empty();
         let updated = update_in(
             self.alloc,
             &mut self.tables,
-            &mut self.views,
+            &mut self.queue,
             table,
             assignments.as_slice(),
             &filter,
-            epoch,
+            asked,
         );
         drop(assignments);
         drop(filter);
-        let count = updated?;
-        self.writes = epoch;
+        let (count, change) = updated?;
+        note(&mut self.queue, &self.views, change);
+        self.writes += 1;
         self.drawn += 1;
         Ok(Answer::Count(count as u64))
     }
@@ -207,7 +204,6 @@ impl Engine {
     fn move_rows(&mut self, table: u64, rows: u128) -> Result<Answer, Fault>
         requires { CanDo self.old (commands.Move table rows) }
         ensures done { Does self.old (commands.Move table rows) result self.new }
-        ensures rows { OnlyShows self.old.state result self.new.state }
         ensures stores { StoresBy self.old (commands.Move table rows) result self.new }
     {
         move_in(self.alloc, &mut self.tables, table, rows)?;
@@ -218,27 +214,42 @@ impl Engine {
     fn merge(&mut self, table: u64) -> Result<Answer, Fault>
         requires { CanDo self.old (commands.Merge table) }
         ensures done { Does self.old (commands.Merge table) result self.new }
-        ensures rows { OnlyShows self.old.state result self.new.state }
         ensures stores { StoresBy self.old (commands.Merge table) result self.new }
     {
         merge_in(self.alloc, &mut self.tables, table)?;
         Ok(Answer::Done)
     }
 
-    /// Each view has taken in each write, so that none has to be taken on.
-    pub(crate) fn refresh_at(&self, _view: usize, _changes: u128)
-        ensures done { Does self.now (commands.Refresh _view _changes) (Ok Done) self.now }
-        ensures stores { StoresBy self.now (commands.Refresh _view _changes) (Ok Done) self.now }
+    /// Takes the view at a place on by so many changes, or to the present where fewer are left.
+    pub(crate) fn refresh_at(&mut self, view: usize, changes: u128) -> Result<Answer, Fault>
+        requires { CanDo self.old (commands.Refresh view changes) }
+        ensures done { Does self.old (commands.Refresh view changes) result self.new }
+        ensures stores { StoresBy self.old (commands.Refresh view changes) result self.new }
+        ensures tables { self.new.tables ≡ self.old.tables }
+        ensures refused { IfErr result (λ f. f ≡ Memory) }
+        ensures way { OnErr result (GivesUp self.old.state (commands.Refresh view changes) self.new.state) }
     {
-        let _views = &self.views;
+        let goal = Goal::By(view, changes);
+        take_all_on(self.alloc, &mut self.views, &self.queue, &goal, self.writes)?;
+        trim(&mut self.queue, &self.views);
+        Ok(Answer::Done)
     }
 
-    fn select(&self, header: Seq<Text>, query: Query, order: Order) -> Result<Answer, Fault>
-        requires { CanDo self.now (commands.Select header query order) }
-        ensures done { Does self.now (commands.Select header query order) result self.now }
-        ensures stores { StoresBy self.now (commands.Select header query order) result self.now }
+    fn select(&mut self, header: Seq<Text>, query: Query, order: Order) -> Result<Answer, Fault>
+        requires { CanDo self.old (commands.Select header query order) }
+        ensures done { Does self.old (commands.Select header query order) result self.new }
+        ensures rows { MayGiveUp self.old.state (commands.Select header query order) result self.new.state }
+        ensures stores { StoresBy self.old (commands.Select header query order) result self.new }
     {
-        let selected = select_from(self.alloc, &self.tables, &self.views, &query, &order);
+        let selected = select_at_present(
+            self.alloc,
+            &self.tables,
+            &mut self.views,
+            &self.queue,
+            &query,
+            &order,
+            self.writes,
+        );
         drop(query);
         drop(order);
         let rows = selected?;

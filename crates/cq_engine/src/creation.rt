@@ -7,8 +7,8 @@ ghost use Rattle.cq_model_step.specs.Next.{new_view};
 ghost use Rattle.cq_engine_answers.specs.Reading.{AreTablesThere};
 ghost use Rattle.cq_engine.specs.Commands.{CanBuild};
 ghost use Rattle.cq_engine_tables.specs.HeldTables.{tables_of};
-ghost use Rattle.cq_engine_tables.specs.Views.{AreRight, Fits, views_of};
-ghost use Rattle.cq_engine.specs.Views.{IsAdded, IsBuilt};
+ghost use Rattle.cq_engine_tables.specs.Views.{Fits, views_of};
+ghost use Rattle.cq_engine.specs.Views.{IsAdded, IsBuilt, IsBuiltBehind};
 
 use crate::gathering::gathered_rows;
 use crate::table_widths::widths_of;
@@ -31,10 +31,9 @@ pub(crate) fn create_view_in(
     requires numbered { (next : ℕ) × AreNumbered (tables_of tables.now) next }
     requires fitting { AreFitting (tables_of tables.now) }
     requires limited { AreLimited rows_limit (tables_of tables.now) }
-    requires right { AreRight (tables_of tables.now) now views.old.items }
     requires can_build { CanBuild (tables_of tables.now) (views_of views.old.items) columns query }
     ensures created { OnOk result (IsAdded (new_view name columns query now) views.old views.new) }
-    ensures right { AreRight (tables_of tables.now) now views.new.items }
+    ensures built { OnOk result (IsBuiltBehind (tables_of tables.now) columns query now views.old views.new) }
     ensures err { OnErr result (views.new.items ≡ views.old.items) }
 {
     let state = built_state(alloc, tables, query, now)?;

@@ -1,16 +1,17 @@
 //! The engine, and one step of it.
 //!
 //! An [`Engine`] is made empty and moved by `step`, one statement at a time: the statement is bound to the tables and views
-//! that are there, or refused, and then carried out whole or not at all. Between steps its views stand for its tables. A
-//! step costs what its statement's rows do; a write, also what it changes in each view on its table.
-ghost use Rattle.std.specs.Prelude.{◌≡◌, ◌<◌, ◌+◌, ◌-◌, ◌^◌, ◌∷◌, [], option_map};
+//! that are there, or refused, and then carried out whole or not at all. A write puts its change into the queue, and each
+//! view stands for the tables at its epoch until it is read or refreshed: then it takes the changes in that it lacks. A
+//! step costs what its statement's rows do; a SELECT, also what those changes bring to each view that it names.
+ghost use Rattle.std.specs.Prelude.{◌≡◌, ◌<◌, ◌+◌, ◌-◌, ◌^◌, ◌∷◌, [], OnErr, option_map};
 ghost use Rattle.cq_model_state.specs.Fitting.{AreFitting, AreLimited};
 ghost use Rattle.cq_model_state.specs.State.{first_state, view_named};
 ghost use Rattle.cq_model_step.specs.Output.{source_failures};
 ghost use Rattle.cq_model_step.specs.Step.{StepFrom};
 ghost use Rattle.cq_engine_tables.specs.Views.{AreRight, views_of};
 ghost use Rattle.cq_engine.specs.declared.answer_source.AnswerSource.TheVariants.{Tables};
-ghost use Rattle.cq_engine.specs.Commands.{OnlyShows, Refreshes, reads_after};
+ghost use Rattle.cq_engine.specs.Commands.{MayBeRefused, Refreshes, reads_after};
 ghost use Rattle.cq_engine.specs.Held.{StoresFrom, lengths_named};
 ghost use Rattle.cq_engine.specs.Views.{stored_named, work_named};
 
@@ -19,6 +20,7 @@ use crate::catalog::EngineCatalog;
 use crate::limits::Limits;
 use cq_binder::bind;
 use cq_binder_rules::{Bound, Fault, Sources};
+use cq_engine_queue::Queue;
 use cq_engine_tables::{NamedTable, View, place_of, view_place};
 use cq_model_step::Answer;
 use cq_sql_language::Statement;
@@ -34,6 +36,8 @@ pub struct Engine {
     pub(crate) alloc: Global,
     pub(crate) tables: Vec<NamedTable>,
     pub(crate) views: Vec<View>,
+    /// The changes of the last writes, which views may still have to take in.
+    pub(crate) queue: Queue,
     pub(crate) writes: u64,
     pub(crate) drawn: u64,
     pub(crate) limits: Limits,
@@ -46,7 +50,7 @@ impl Model for Engine {
     ghost use Rattle.cq_views.specs.contracts.kept_view.KeptView as kept_view;
     ghost use Rattle.cq_engine_tables.specs.HeldTables.{tables_of};
     ghost use Rattle.cq_engine_tables.specs.Views.{views_of};
-    ghost use Rattle.cq_engine.specs.Commands.{StandInOrder, present};
+    ghost use Rattle.cq_engine.specs.Commands.{StandInOrder, state_of};
     ghost use Rattle.cq_engine.specs.Held.{Held};
 
     ghost Value = { Held };
@@ -54,12 +58,12 @@ impl Model for Engine {
     ghost coded = { Prim.hlevel (codes, expr.the_row.coded, cond.the_row.coded, kept_view.the_row.coded) };
 
     ghost view = { λ e. record {
-      state = present (tables_of e.tables.items) (views_of e.views.items) e.writes e.drawn e.limits.max_rows;
+      state = state_of (tables_of e.tables.items) (views_of e.views.items) e.writes e.drawn e.queue e.limits.max_rows;
       stored = e.views.items;
       tables = e.tables.items;
     } };
 
-    ghost invariant = { λ e. StandInOrder e.writes e.drawn e.limits e.tables.items e.views.items };
+    ghost invariant = { λ e. StandInOrder e.writes e.drawn e.limits e.queue e.tables.items e.views.items };
 }
 
 impl Engine {
@@ -70,6 +74,7 @@ impl Engine {
             alloc,
             tables: Vec::new(alloc),
             views: Vec::new(alloc),
+            queue: Queue::new(alloc, 0),
             writes: 0,
             drawn: 0,
             limits,
@@ -102,7 +107,7 @@ impl Engine {
     pub fn view_state(&self, name: &str) -> Option<&View>
         ensures told { option_map (λ v. v.now) result ≡ stored_named name.now self.now.stored }
         ensures beside { views_of self.now.stored ≡ self.now.state.views }
-        ensures right { AreRight self.now.state.tables self.now.state.now self.now.stored }
+        ensures right { AreRight self.now.state self.now.stored }
     {
         let place = view_place(&self.views, name)?;
         Some(&self.views[place])
@@ -142,28 +147,26 @@ impl Engine {
         AnswerSource::Tables
     }
 
-    /// Takes the view of a name on by so many writes, or to the present where fewer are left: 11 where there is none. Each
-    /// view takes a write in as soon as it is made, so that none is ever left. It takes no memory.
+    /// Takes the view of a name on by so many changes, or to the present where fewer are left: 11 where there is none.
+    /// Where memory is wanting it stays at an epoch between.
     pub fn refresh(&mut self, view: &str, changes: u128) -> Result<(), Fault>
         ensures refreshes { Refreshes self.old.state view.now changes result self.new.state }
-        ensures same { self.new ≡ self.old }
+        ensures tables { self.new.tables ≡ self.old.tables }
     {
-        match view_place(&self.views, view) {
-            Some(place) => {
-                self.refresh_at(place, changes);
-                Ok(())
-            }
-            None => Err(Fault::UnknownTable),
-        }
+        let Some(place) = view_place(&self.views, view) else {
+            return Err(Fault::UnknownTable);
+        };
+        self.refresh_at(place, changes)?;
+        Ok(())
     }
 
-    /// Carries out one statement, or refuses it and leaves every table and view as it was. A result leaves them too. COPY
-    /// reads its source once, where its names have no fault.
+    /// Carries out one statement, or refuses it and leaves every table as it was, and each view what its query means at its
+    /// epoch. COPY reads its source once, where its names have no fault.
     pub fn step<S: Sources>(&mut self, command: &Command, sources: &mut S) -> Result<Answer, Fault>
         requires drawn { self.old.state.drawn < 2 ^ 64 - 1 }
         requires failures { S.failures sources.old < 2 ^ 64 - 1 }
         ensures step { StepFrom (S.files sources.old) self.old.state command.now result self.new.state }
-        ensures rows { OnlyShows self.old.state result self.new.state }
+        ensures rows { MayBeRefused (S.files sources.old) self.old.state command.now result self.new.state }
         ensures stores { StoresFrom (S.files sources.old) self.old command.now result self.new }
         ensures files { S.files sources.new ≡ S.files sources.old }
         ensures failures { S.failures sources.new ≡ S.failures sources.old + source_failures (result ∷ []) }

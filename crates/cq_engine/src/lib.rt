@@ -1,8 +1,8 @@
 //! The engine: tables in memory, and one statement after the other.
 //!
 //! The binder makes a command of a statement, or refuses it; the engine carries the command out. A refused statement
-//! leaves every table as it was. To its callers an [`Engine`] is the state that [`Engine::step`]
-//! moves by the relation `Step`, and beside it what is stored of each view.
+//! leaves every table as it was. To its callers an [`Engine`] is the state that [`Engine::step`] moves by the relation `Step`,
+//! and beside it what is stored of each view.
 #![tactic(auto)]
 
 mod answer_source;
@@ -12,6 +12,7 @@ mod creation;
 mod engine;
 mod gathering;
 mod limits;
+mod reading;
 mod table_widths;
 
 pub use answer_source::AnswerSource;

@@ -24,11 +24,11 @@ use Rattle.cq_binder_queries.specs.Catalog.{alone}
 use Rattle.cq_views.specs.Shown.{AreRowsOf, IsShown}
 use Rattle.cq_engine_answers.specs.declared.gathered.Gathered.{Gathered}
 use Rattle.cq_engine_answers.specs.Lent.{CanAnswer}
-use Rattle.cq_engine_answers.specs.Reading.{CanRead}
+use Rattle.cq_engine_answers.specs.Reading.{AreReadable, CanRead, IsReadable}
 use Rattle.cq_engine_answers.specs.Gathered.{AreGathered, AreLent, AreRowsThere, AreShownBy, HaveColumnsOf, IsGatherFault, IsGathered, IsHidden, IsLent}
 use Rattle.cq_engine_answers.specs.Narrow.{source_sizes, source_widths}
 use Rattle.cq_engine_answers.specs.Selects.{Selects, SelectsLent, sources_in}
-use Rattle.cq_engine_tables.specs.Views.{AreRight, NamedView, views_of}
+use Rattle.cq_engine_tables.specs.Views.{IsPresent, NamedView, views_of}
 use Rattle.cq_engine_answers.proofs.Lents.{AreFor, sources-have}
 use Rattle.cq_engine_tables.proofs.Pairs.{pointwise_all}
 use Rattle.cq_engine_answers.proofs.Readings.{bases, query_there, rows_same, sizes_there, stored_sized, suits_for}
@@ -50,25 +50,26 @@ module _ (tables : List TableOf) (views : List NamedView) where
     pub sized : AllByRecursion (HasSizes (source_sizes tables (views_of views) source)) rows
     pub range : SourceInRange (tables_now here) (queries_of here) source
 
-  module _ (now : ℕ) (right : AreRight tables now views) (fitting : AreFitting tables) where
+  module _ (fitting : AreFitting tables) where
     -- a view that cannot be shown
-    hidden_out : (s : Source) → IsHidden views s → SourceInRange (tables_now here) (queries_of here) s → ⊥
-    hidden_out (Table n) hidden range = hidden
-    hidden_out (View place) hidden range =
-        hidden.2 (bases tables views) (suits_for tables views now place hidden.0 right hidden.1 fitting)
-        (subst (λ (o : Option Query). ViewInRange (tables_now here) o) (query_there tables views now place hidden.0 right hidden.1) range)
+    hidden_out : (s : Source) → IsReadable tables views s → IsHidden views s → SourceInRange (tables_now here) (queries_of here) s → ⊥
+    hidden_out (Table n) readable hidden range = hidden
+    hidden_out (View place) readable hidden range =
+        hidden.2 (bases tables views) (suits_for tables views hidden.0 fitting (readable hidden.0 hidden.1))
+        (subst (λ (o : Option Query). ViewInRange (tables_now here) o) (query_there tables views place hidden.0 hidden.1) range)
 
     -- refuses SELECT wherever FROM names it
-    pub gather_refused : (q : Query) (order : Order) (f : Fault) → IsGatherFault views (sources_of q) f → Selects tables (views_of views) q order (Err f)
-    gather_refused q order f (inl m) = inl m
-    gather_refused q order f (inr w) = inr (
+    pub gather_refused : (q : Query) → AreReadable tables views q → (order : Order) (f : Fault) → IsGatherFault views (sources_of q) f → Selects tables (views_of views) q order (Err f)
+    gather_refused q all order f (inl m) = inl m
+    gather_refused q all order f (inr w) = inr (
       w.0,
       λ range.
           let named = all-at (SourceInRange (tables_now here) (queries_of here)) (sources_of q) w.1.0 w.1.1 w.1.2 range.named in
-          hidden_out w.1.1 w.1.4 (subst (SourceInRange (tables_now here) (queries_of here)) w.1.3 named),
+          let readable = all-at (IsReadable tables views) (sources_of q) w.1.0 w.1.1 w.1.2 all in
+          hidden_out w.1.1 (subst (IsReadable tables views) w.1.3 readable) w.1.4 (subst (SourceInRange (tables_now here) (queries_of here)) w.1.3 named),
     )
 
-  module _ (now : ℕ) (right : AreRight tables now views) (fitting : AreFitting tables) where
+    -- ---- The rows that are read
     -- of a table
     stored_are : (n : ℕ) (rows : List Row) → bag_of rows ≡ rows_in tables n → AreOf (Table n) rows
     stored_are n rows is = record {
@@ -78,17 +79,17 @@ module _ (tables : List TableOf) (views : List NamedView) where
     }
 
     -- of a view
-    shown_are : (place : ℕ) (v : NamedView) (rows : List Row) → slice_get views place ≡ Some v → AreRowsOf v.kept rows
+    shown_are : (place : ℕ) (v : NamedView) (rows : List Row) → IsPresent tables v → slice_get views place ≡ Some v → AreRowsOf v.kept rows
         → HaveColumnsOf v.kept rows → IsShown v.kept → AreOf (View place) rows
-    shown_are place v rows at bag sized range =
-        let there = query_there tables views now place v right at in
-        let suit = suits_for tables views now place v right at fitting in
+    shown_are place v rows present at bag sized range =
+        let there = query_there tables views place v at in
+        let suit = suits_for tables views v fitting present in
         record {
           same =
               subst (λ (o : Option Query). SameBag (once_each rows) (view_bag (tables_now here) o)) (sym there)
               (bag (bases tables views) suit);
           sized =
-              subst (λ ns. AllByRecursion (HasSizes ns) rows) (sym (sizes_there tables views now place v right at))
+              subst (λ ns. AllByRecursion (HasSizes ns) rows) (sym (sizes_there tables views place v at))
               sized;
           range =
               subst (λ (o : Option Query). ViewInRange (tables_now here) o) (sym there)
@@ -96,28 +97,28 @@ module _ (tables : List TableOf) (views : List NamedView) where
         }
 
     -- of what was gathered and lent
-    lent_are : (s : Source) (shown rows : List Row) → AreShownBy views s shown → AreRowsThere tables s shown rows → AreOf s rows
-    lent_are (Table n) shown rows by there = stored_are n rows there
-    lent_are (View place) shown rows by there =
-        subst (AreOf (View place)) (sym there) (shown_are place by.0 shown by.1 by.2 by.3 by.4)
+    lent_are : (s : Source) (shown rows : List Row) → IsReadable tables views s → AreShownBy views s shown → AreRowsThere tables s shown rows → AreOf s rows
+    lent_are (Table n) shown rows readable by there = stored_are n rows there
+    lent_are (View place) shown rows readable by there =
+        subst (AreOf (View place)) (sym there) (shown_are place by.0 shown (readable by.0 by.1) by.1 by.2 by.3 by.4)
 
-    entry_is : (s : Source) (g : Gathered) (l : StoredSource) → IsGathered views s g → IsLent tables g l → AreOf l.source (all_rows l.rows)
-    entry_is s g l gathered lent =
+    entry_is : (s : Source) (g : Gathered) (l : StoredSource) → IsReadable tables views s → IsGathered views s g → IsLent tables g l → AreOf l.source (all_rows l.rows)
+    entry_is s g l readable gathered lent =
         let there = subst (λ (t : Source). AreRowsThere tables t g.shown (all_rows l.rows)) gathered.same lent.rows in
-        subst (λ (t : Source). AreOf t (all_rows l.rows)) (sym (lent.source ∙ gathered.same)) (lent_are s g.shown (all_rows l.rows) gathered.shown there)
+        subst (λ (t : Source). AreOf t (all_rows l.rows)) (sym (lent.source ∙ gathered.same)) (lent_are s g.shown (all_rows l.rows) readable gathered.shown there)
 
-    entries_are : (sources : List Source) (gs : List Gathered) (lents : List StoredSource) → AreGathered views sources gs → AreLent tables gs lents → AreFor sources lents × AllByRecursion (λ l. AreOf l.source (all_rows l.rows)) lents
-    entries_are [] [] [] g l = (tt, tt)
-    entries_are [] [] (x ∷ lents) g l = absurd l
-    entries_are [] (x ∷ gs) lents g l = absurd g
-    entries_are (s ∷ sources) [] lents g l = absurd g
-    entries_are (s ∷ sources) (x ∷ gs) [] g l = absurd l
-    entries_are (s ∷ sources) (x ∷ gs) (y ∷ lents) g l =
-        let rest = entries_are sources gs lents g.1 l.1 in
-        ((l.0.source ∙ g.0.same, rest.0), (entry_is s x y g.0 l.0, rest.1))
+    entries_are : (sources : List Source) (gs : List Gathered) (lents : List StoredSource) → AllByRecursion (IsReadable tables views) sources → AreGathered views sources gs → AreLent tables gs lents → AreFor sources lents × AllByRecursion (λ l. AreOf l.source (all_rows l.rows)) lents
+    entries_are [] [] [] all g l = (tt, tt)
+    entries_are [] [] (x ∷ lents) all g l = absurd l
+    entries_are [] (x ∷ gs) lents all g l = absurd g
+    entries_are (s ∷ sources) [] lents all g l = absurd g
+    entries_are (s ∷ sources) (x ∷ gs) [] all g l = absurd l
+    entries_are (s ∷ sources) (x ∷ gs) (y ∷ lents) all g l =
+        let rest = entries_are sources gs lents all.1 g.1 l.1 in
+        ((l.0.source ∙ g.0.same, rest.0), (entry_is s x y all.0 g.0 l.0, rest.1))
 
     -- ---- The query on them
-    module _ (q : Query) (can : CanRead tables (views_of views) q) where
+    module _ (q : Query) (readable : AreReadable tables views q) (can : CanRead tables (views_of views) q) where
       abbrev Sizes : Source → List ℕ
       Sizes = source_sizes tables (views_of views)
 
@@ -125,7 +126,7 @@ module _ (tables : List TableOf) (views : List NamedView) where
         -- what all entries have, the sources have
         have : (P : Source → List Row → Type 0) → ((s : Source) (rows : List Row) → AreOf s rows → P s rows) → AllByRecursion (λ s. P s (rows_or lents s [])) (sources_of q)
         have P each =
-            let entries = entries_are (sources_of q) gs lents gathered lent in
+            let entries = entries_are (sources_of q) gs lents readable gathered lent in
             sources-have P (sources_of q) lents entries.0 (all_each lents entries.1)
           where
             all_each : (ls : List StoredSource) → AllByRecursion (λ l. AreOf l.source (all_rows l.rows)) ls → AllByRecursion (λ l. P l.source (all_rows l.rows)) ls

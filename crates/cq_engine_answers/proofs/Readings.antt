@@ -1,6 +1,6 @@
 -- What SELECT reads: the rows of a table, or those that a view keeps, are the bag that its name in FROM stands for.
-use Rattle.std.proofs.Common.{◌≡◌, ℕ, zero, suc, ◌<◌, List, [], ◌∷◌, length, Option, Some, refl, sym, ap, ◌∙◌, inl, inr, arith, subst, Result, Ok, Err}
-use Rattle.std.specs.Prelude.{◌⊎◌, ◌==◌, filter, option_map, slice_get}
+use Rattle.std.proofs.Common.{◌≡◌, ℕ, ◌<◌, List, length, Option, Some, sym, ap, ◌∙◌, inl, inr, arith, subst, Result, Ok, Err}
+use Rattle.std.specs.Prelude.{◌⊎◌, option_map, slice_get}
 use Rattle.std.specs.List.{AllByRecursion}
 use Rattle.std.proofs.lemmas.List.{length-map}
 use Rattle.std.proofs.lemmas.Option.{slice_get-map}
@@ -13,7 +13,7 @@ use Rattle.cq_model.specs.declared.query.Order.{Order}
 use Rattle.cq_model.specs.declared.query.Query.{Query}
 use Rattle.cq_model.specs.declared.query.Source.{Source}
 use Rattle.cq_model.specs.declared.query.Source.TheVariants.{View}
-use Rattle.cq_model.specs.Meaning.{Tables, MeaningInRange, keeps, meaning}
+use Rattle.cq_model.specs.Meaning.{Tables, MeaningInRange, meaning}
 use Rattle.cq_model.specs.Sizes.{column_sizes, stored_sizes}
 use Rattle.cq_model.specs.Views.{tables_alone, view_bag, ViewInRange}
 use Rattle.cq_binder_rules.specs.declared.fault.Fault.{Fault}
@@ -24,26 +24,14 @@ use Rattle.cq_model_laws.specs.Sizes.{HasSizes}
 use Rattle.cq_binder_queries.specs.Catalog.{alone}
 use Rattle.cq_views.specs.Shown.{AreRowsOf, IsNotShown, IsShown, Suits}
 use Rattle.cq_engine_answers.specs.Narrow.{source_sizes, view_sizes}
-use Rattle.cq_engine_answers.specs.Reading.{IsSourceThere, plain}
+use Rattle.cq_engine_answers.specs.Reading.{IsReadable, IsSourceThere, plain}
 use Rattle.cq_engine_answers.specs.Selects.{AreListed, Selects, IsInRange, sources_in}
-use Rattle.cq_engine_tables.specs.Views.{NamedView, IsRight, AreRight, view_of, views_of}
-use Rattle.cq_engine_answers.specs.Gathered.{AreShownBy, HaveColumnsOf, IsBacked, IsHidden, IsReadFault, IsShowFault}
+use Rattle.cq_engine_tables.specs.Views.{IsPresent, NamedView, view_of, views_of}
+use Rattle.cq_engine_answers.specs.Gathered.{AreShownBy, HaveColumnsOf, IsBacked, IsBackedAt, IsHidden, IsReadFault, IsShowFault}
 use Rattle.cq_engine_tables.proofs.Rows.{fitting_in}
 use Rattle.cq_engine_tables.proofs.Wide.{suits}
 use Rattle.cq_table.proofs.RowLists.{all_of_rows}
 use Rattle.cq_engine_tables.proofs.Stored.{rows_sized}
-
--- what all have, the one at a place has
-right_there : (tables : List TableOf) (now : ℕ) (views : List NamedView) (place : ℕ) (v : NamedView) → AreRight tables now views → slice_get views place ≡ Some v → IsRight tables now v
-right_there tables now [] place v right at = absurd cc
-right_there tables now (w ∷ ws) zero v right at = let same : w ≡ v = cc in subst (IsRight tables now) same right.0
-right_there tables now (w ∷ ws) (suc place) v right at = right_there tables now ws place v right.1 at
-
--- where all views are backed, the one at a place is
-pub backed_there : (views : List NamedView) (place : ℕ) (v : NamedView) → AllByRecursion IsBacked views → slice_get views place ≡ Some v → IsBacked v
-backed_there [] place v all at = absurd cc
-backed_there (w ∷ ws) zero v all at = let same : w ≡ v = cc in subst IsBacked same all.0
-backed_there (w ∷ ws) (suc place) v all at = backed_there ws place v all.1 at
 
 -- as many views are seen as are kept
 pub place_there : (views : List NamedView) (place : ℕ) → place < length (views_of views) → place < length views
@@ -57,6 +45,14 @@ view_inside tables views s place is there =
     place_there views place (subst (IsSourceThere tables (views_of views)) is there)
 
 module _ (views : List NamedView) (s : Source) (place : ℕ) (v : NamedView) (is : s ≡ View place) (at : slice_get views place ≡ Some v) where
+  -- it is at the present where the source can be read
+  pub present_there : (tables : List TableOf) → IsReadable tables views s → IsPresent tables v
+  present_there tables readable = subst (IsReadable tables views) is readable v at
+
+  -- and backed where the source is
+  pub backed_there : IsBackedAt views s → IsBacked v
+  backed_there backed = subst (IsBackedAt views) is backed v at
+
   -- where it is not shown, nor is the source
   pub read_fault : (f : Fault) → IsShowFault v.kept f → IsReadFault views s f
   read_fault f (inl m) = inl m
@@ -85,7 +81,7 @@ module _ (tables : List TableOf) (views : List NamedView) where
       (subst (λ (rs : List Row). AllByRecursion (HasSizes (stored_sizes columns)) rs) (sym rows) (rows_sized columns (rows_in tables n) (fitting_in n tables fitting)))
 
   -- a view at its place
-  module _ (now place : ℕ) (v : NamedView) (right : AreRight tables now views) (at : slice_get views place ≡ Some v) where
+  module _ (place : ℕ) (v : NamedView) (at : slice_get views place ≡ Some v) where
     view_there : slice_get (views_of views) place ≡ Some (view_of v)
     view_there = slice_get-map view_of views place ∙ ap (option_map view_of) at
 
@@ -97,9 +93,9 @@ module _ (tables : List TableOf) (views : List NamedView) where
     pub sizes_there : source_sizes tables (views_of views) (View place) ≡ column_sizes v.kept.query
     sizes_there = ap view_sizes view_there
 
-    -- the tables suit it
-    pub suits_for : AreFitting tables → Suits v.kept bases
-    suits_for fitting = suits tables now v fitting (right_there tables now views place v right at)
+  -- the tables suit a view at the present
+  pub suits_for : (v : NamedView) → AreFitting tables → IsPresent tables v → Suits v.kept bases
+  suits_for = suits tables
 
 -- ---- SELECT from one view
 -- SELECT from what a view keeps, which is the bag of the view's query on each tables that suit it
@@ -113,7 +109,7 @@ module _ (tables : List TableOf) (views : List NamedView) (q : Query) (order : O
   Answered list p = AreListed order (meaning p (sources_in tables (views_of views))) list × IsInRange tables (views_of views) p
 
   -- from a view at its place
-  module _ (now place : ℕ) (v : NamedView) (right : AreRight tables now views) (at : slice_get views place ≡ Some v) (fitting : AreFitting tables) where
+  module _ (place : ℕ) (v : NamedView) (present : IsPresent tables v) (at : slice_get views place ≡ Some v) (fitting : AreFitting tables) where
     pub from_kept : (result : Result (List Row) Fault) → q ≡ plain q.first q.filter q.items → q.first ≡ View place → SelectsKept q order v result → Selects tables (views_of views) q order result
     from_kept (Ok list) is first w = subst (Answered list) (sym shape) (
       subst (λ (o : Option Query). AreListed order (meaning (plain q.first q.filter q.items) (λ source. view_bag (tables_now here) o)) list) (sym there) told.0,
@@ -124,18 +120,18 @@ module _ (tables : List TableOf) (views : List NamedView) (q : Query) (order : O
         here = alone tables (views_of views)
 
         there : queries_of here place ≡ Some v.kept.query
-        there = query_there tables views now place v right at
+        there = query_there tables views place v at
 
         shape : q ≡ plain (View place) q.filter q.items
         shape = is ∙ ap (λ (source : Source). plain source q.filter q.items) first
 
         told : AreListed order (meaning (plain q.first q.filter q.items) (λ source. meaning v.kept.query (bases tables views))) list × MeaningInRange v.kept.query (bases tables views)
-        told = w (bases tables views) (suits_for tables views now place v right at fitting)
+        told = w (bases tables views) (suits_for tables views v fitting present)
     from_kept (Err f) is first (inl m) = inl m
     from_kept (Err f) is first (inr w) = inr (
       w.0,
-      λ range. w.1 (bases tables views) (suits_for tables views now place v right at fitting)
-          (subst (λ (o : Option Query). ViewInRange (tables_now (alone tables (views_of views))) o) (query_there tables views now place v right at) (subst (IsInRange tables (views_of views)) shape range).named.0),
+      λ range. w.1 (bases tables views) (suits_for tables views v fitting present)
+          (subst (λ (o : Option Query). ViewInRange (tables_now (alone tables (views_of views))) o) (query_there tables views place v at) (subst (IsInRange tables (views_of views)) shape range).named.0),
     )
       where
         shape : q ≡ plain (View place) q.filter q.items

@@ -24,6 +24,11 @@ use Rattle.cq_engine_tables.specs.Views.{NamedView}
 abbrev pub IsBacked : NamedView → Type 0
 IsBacked v = CanShow v.kept
 
+-- so does a view that a name in FROM stands for
+abbrev pub IsBackedAt : List NamedView → Source → Type 0
+IsBackedAt views (Table n) = Unit {0}
+IsBackedAt views (View place) = (v : NamedView) → slice_get views place ≡ Some v → IsBacked v
+
 -- the rows have the sizes of the view's columns
 abbrev pub HaveColumnsOf : KeptView → List Row → Type 0
 HaveColumnsOf v rows = AllByRecursion (HasSizes (column_sizes v.query)) rows

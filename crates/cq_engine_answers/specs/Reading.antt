@@ -1,5 +1,5 @@
 -- Queries that can be read from the tables and views that they name.
-use Rattle.std.specs.Prelude.{◌<◌, ◌≡◌, false, List, [], length, Option, None}
+use Rattle.std.specs.Prelude.{◌<◌, ◌≡◌, false, List, [], length, Option, None, Some, slice_get}
 use Rattle.std.specs.List.{AllByRecursion}
 use Rattle.cq_model.specs.Expr.{Cond, Expr}
 use Rattle.cq_model.specs.declared.query.Query.{Query}
@@ -9,6 +9,7 @@ use Rattle.cq_model.specs.declared.query.Source.TheVariants.{Table, View}
 use Rattle.cq_model.specs.Views.{sources_of}
 use Rattle.cq_model_state.specs.State.{TableOf, ViewOf}
 use Rattle.cq_engine_tables.specs.Tables.{IsThere}
+use Rattle.cq_engine_tables.specs.Views.{IsPresent, NamedView}
 use Rattle.cq_engine_answers.specs.Narrow.{IsConditionSized, IsShapeSized, joined_sizes}
 
 -- what items show of the rows of one source that WHERE keeps
@@ -37,3 +38,12 @@ pub record CanRead (tables : List TableOf) (views : List ViewOf) (q : Query) : T
   pub there : AllByRecursion (IsSourceThere tables views) (sources_of q)
   pub filter : IsConditionSized (joined_sizes tables views q) q.filter
   pub shown : IsShapeSized (joined_sizes tables views q) q.shape q.items
+
+-- a view that a name in FROM stands for is at the present
+abbrev pub IsReadable : List TableOf → List NamedView → Source → Type 0
+IsReadable tables views (Table n) = Unit {0}
+IsReadable tables views (View place) = (v : NamedView) → slice_get views place ≡ Some v → IsPresent tables v
+
+-- so it is with each view that a query names
+abbrev pub AreReadable : List TableOf → List NamedView → Query → Type 0
+AreReadable tables views q = AllByRecursion (IsReadable tables views) (sources_of q)

@@ -8,7 +8,7 @@ ghost use Rattle.cq_table_columns.specs.Stored.{all_rows};
 ghost use Rattle.cq_model_state.specs.State.{AreNumbered, TableOf, ViewOf};
 ghost use Rattle.cq_views.specs.Shown.{AreRowsOf, IsShown};
 ghost use Rattle.cq_engine_answers.specs.Reading.{AreViewsThere, IsSourceThere};
-ghost use Rattle.cq_engine_answers.specs.Gathered.{AreGathered, AreLent, AreRowsThere, CanLend, HaveColumnsOf, IsBacked, IsGatherFault, IsGathered, IsReadFault, IsShowFault};
+ghost use Rattle.cq_engine_answers.specs.Gathered.{AreGathered, AreLent, AreRowsThere, CanLend, HaveColumnsOf, IsBacked, IsBackedAt, IsGatherFault, IsGathered, IsReadFault, IsShowFault};
 ghost use Rattle.cq_engine_answers.specs.Selects.{shown_as};
 ghost use Rattle.cq_engine_tables.specs.HeldTables.{tables_of};
 ghost use Rattle.cq_engine_tables.specs.Views.{views_of};
@@ -34,7 +34,7 @@ pub(crate) fn gather(
     views: &[View],
     sources: &[Source],
 ) -> Result<Vec<Gathered>, Fault>
-    requires backed { AllByRecursion IsBacked views.now }
+    requires backed { AllByRecursion (IsBackedAt views.now) sources.now }
     requires there { AreViewsThere (views_of views.now) sources.now }
     ensures ok { IfOk result (λ gathered. AreGathered views.now sources.now gathered.items) }
     ensures fault { IfErr result (IsGatherFault views.now sources.now) }
@@ -47,7 +47,7 @@ pub(crate) fn gather(
 }
 
 fn gather_one(alloc: Global, views: &[View], source: Source) -> Result<Gathered, Fault>
-    requires backed { AllByRecursion IsBacked views.now }
+    requires backed { IsBackedAt views.now source }
     requires there { (ts : List TableOf) × IsSourceThere ts (views_of views.now) source }
     ensures ok { IfOk result (IsGathered views.now source) }
     ensures fault { IfErr result (IsReadFault views.now source) }

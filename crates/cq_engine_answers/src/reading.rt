@@ -10,11 +10,11 @@ ghost use Rattle.cq_model_state.specs.Fitting.{AreLimited, AreFitting, rows_limi
 ghost use Rattle.cq_model_state.specs.State.{AreNumbered};
 ghost use Rattle.cq_engine_answers.specs.Gathered.{AreGathered, made_for};
 ghost use Rattle.cq_engine_answers.specs.Lent.{AreInputs, CanAnswer};
-ghost use Rattle.cq_engine_answers.specs.Reading.{CanRead, ShowsEachRow};
+ghost use Rattle.cq_engine_answers.specs.Reading.{AreReadable, CanRead, ShowsEachRow};
 ghost use Rattle.cq_engine_answers.specs.Selects.{Selects, SelectsLent};
 ghost use Rattle.cq_model.specs.Views.{sources_of as named_in};
 ghost use Rattle.cq_engine_tables.specs.HeldTables.{tables_of};
-ghost use Rattle.cq_engine_tables.specs.Views.{AreRight, views_of};
+ghost use Rattle.cq_engine_tables.specs.Views.{views_of};
 
 use crate::gathered::{Gathered, gather, lend_all, rows_shown, show_fault};
 use crate::selection::list_whole;
@@ -44,7 +44,7 @@ pub fn select_from(
     requires numbered { (next : ℕ) × AreNumbered (tables_of tables.now) next }
     requires fitting { AreFitting (tables_of tables.now) }
     requires few { AreLimited rows_limit (tables_of tables.now) }
-    requires right { (now : ℕ) × AreRight (tables_of tables.now) now views.now }
+    requires readable { AreReadable (tables_of tables.now) views.now query.now }
     requires can_read { CanRead (tables_of tables.now) (views_of views.now) query.now }
     ensures { Selects (tables_of tables.now) (views_of views.now) query.now order.now result }
 {
@@ -82,7 +82,7 @@ fn select_view(
     requires numbered { (next : ℕ) × AreNumbered (tables_of tables.now) next }
     requires fitting { AreFitting (tables_of tables.now) }
     requires few { AreLimited rows_limit (tables_of tables.now) }
-    requires right { (now : ℕ) × AreRight (tables_of tables.now) now views.now }
+    requires readable { AreReadable (tables_of tables.now) views.now query.now }
     requires can_read { CanRead (tables_of tables.now) (views_of views.now) query.now }
     requires first { query.now.first ≡ at_view place }
     requires each { ShowsEachRow query.now }
@@ -117,7 +117,7 @@ fn select_gathered(
 ) -> Result<RowList, Fault>
     requires numbered { (next : ℕ) × AreNumbered (tables_of tables.now) next }
     requires fitting { AreFitting (tables_of tables.now) }
-    requires right { (now : ℕ) × AreRight (tables_of tables.now) now views.now }
+    requires readable { AreReadable (tables_of tables.now) views.now query.now }
     requires can_read { CanRead (tables_of tables.now) (views_of views.now) query.now }
     requires gathered { AreGathered views.now (named_in query.now) gathered.now }
     ensures { Selects (tables_of tables.now) (views_of views.now) query.now order.now result }

@@ -1,5 +1,5 @@
 -- A view that is made ready for a change, and follows it.
-use Rattle.std.proofs.Common.{◌≡◌, ◌∙◌, ◌+◌, ◌*◌, ◌≤◌, ◌^◌, ℕ, false, List, [], ◌∷◌, length, Option, Some, None, refl, sym, ap, arith}
+use Rattle.std.proofs.Common.{◌≡◌, ◌∙◌, ◌+◌, ◌*◌, ◌≤◌, ◌^◌, ℕ, true, false, List, [], ◌∷◌, length, Option, Some, None, refl, sym, ap, arith}
 use Rattle.std.specs.List.{AllByRecursion}
 use Rattle.std.proofs.lemmas.Bool.{eqb-false, ne_eqb}
 use Rattle.std.proofs.lemmas.List.{append-nil}
@@ -23,7 +23,6 @@ use Rattle.cq_views_model.specs.Delta.{changed}
 use Rattle.cq_views_model.specs.Query.{reads}
 use Rattle.cq_views_state.specs.declared.state.Pending.{Pending}
 use Rattle.cq_engine_tables.proofs.Rows.{unread}
-use Rattle.cq_engine_tables.proofs.Turns.{all_same}
 use Rattle.cq_engine_tables.specs.Taking.{HasTaken, IsLed, IsReady, IsSame}
 use Rattle.cq_engine_tables.specs.Views.{NamedView}
 use Rattle.cq_engine_queue.specs.Taking.{CanTakeIn, TakesChange, changes_by}
@@ -66,10 +65,6 @@ can-prepare v c can = record {
     small source = omega (arith, can.held.few source, only-have (λ xs. sizes xs ≤ 2 ^ 25) (Table c.table) c.rows can.few (omega arith) source)
 
 -- ---- A view that took in what waited
--- the same view
-pub same_itself : (v : NamedView) → IsSame v v
-same_itself v = (all_same (v ∷ [])).0
-
 -- a view is led from where nothing of it had changed
 pub led_from : (epoch : ℕ) (v w x : NamedView) → IsSame v w → IsLed epoch w x → IsLed epoch v x
 led_from epoch v w x s led = record {
@@ -102,5 +97,7 @@ module _ (law : StandingDependsOnSources) (c : ChangeOf) where
   }
   takes epoch v w x (Some p) next s ready taken = record {
     led = rw (← next) (led_from epoch v w x s taken.led);
-    stands = λ tables stands bags. taken.goes tables (changes_by c) (s.kept.stands tables stands) (ready tables stands).1 bags;
+    stands = λ tables stands bags.
+        let is : reads c.table v.kept.query ≡ true = ap (λ (q : Query). reads c.table q) (sym s.kept.query) ∙ (ready tables stands).0 in
+        taken.goes tables (changes_by c) (s.kept.stands tables stands) (ready tables stands).1 (bags is);
   }

@@ -1,3 +1,4 @@
 pub mod Following
-pub mod History
+pub mod Later
 pub mod Reaching
+pub mod Ways

@@ -1,3 +1,4 @@
 pub mod Queued
 pub mod Taking
-pub mod Reaching
+pub mod History
+pub mod Goal

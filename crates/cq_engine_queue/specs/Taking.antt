@@ -1,5 +1,5 @@
 -- A view that takes a change in.
-use Rattle.std.specs.Prelude.{◌+◌, ◌≤◌, ◌<◌, ◌^◌}
+use Rattle.std.specs.Prelude.{◌≡◌, ◌+◌, ◌≤◌, ◌<◌, ◌^◌, true}
 use Rattle.cq_deltas_joins.specs.Steps.{AreStored}
 use Rattle.cq_model.specs.Meaning.{Tables}
 use Rattle.cq_model.specs.declared.query.Source.{Source}
@@ -10,6 +10,7 @@ use Rattle.cq_sides_weights.specs.Held.{sizes}
 use Rattle.cq_views.specs.Filling.{only}
 use Rattle.cq_views.specs.State.{StandsFor}
 use Rattle.cq_views_model.specs.Delta.{changed}
+use Rattle.cq_views_model.specs.Query.{reads}
 use Rattle.cq_views_state.specs.State.{AreBags}
 use Rattle.cq_engine_tables.specs.Taking.{IsLed}
 use Rattle.cq_engine_tables.specs.Views.{Fits, NamedView}
@@ -34,7 +35,11 @@ pub record CanTakeIn (v : NamedView) (c : ChangeOf) : Type 0 where
   pub few : sizes c.rows ≤ 2 ^ 25
   pub epoch : v.kept.state.epoch + 1 < 2 ^ 64
 
+-- the changed tables are bags, if the view reads the one that changes
+abbrev pub AreBagsFor : NamedView → Tables → ChangeOf → Type 0
+AreBagsFor v tables c = reads c.table v.kept.query ≡ true → AreBags (changed tables (changes_by c))
+
 -- it is one epoch further, and whatever tables it stood for, it stands for the changed ones
 pub record TakesChange (c : ChangeOf) (old new : NamedView) : Type 0 where
   pub led : IsLed (old.kept.state.epoch + 1) old new
-  pub stands : (tables : Tables) → StandsFor old.kept tables → AreBags (changed tables (changes_by c)) → StandsFor new.kept (changed tables (changes_by c))
+  pub stands : (tables : Tables) → StandsFor old.kept tables → AreBagsFor old tables c → StandsFor new.kept (changed tables (changes_by c))

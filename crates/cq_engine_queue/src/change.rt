@@ -58,7 +58,7 @@ impl Change {
 }
 
 /// Rows on their way, where they stand.
-pub fn lent_rows(alloc: Global, rows: &NewRows) -> Result<Vec<StoredRow<'_>>, AllocError>
+fn lent_rows(alloc: Global, rows: &NewRows) -> Result<Vec<StoredRow<'_>>, AllocError>
     ensures { IfOk result (λ lent. stored_rows lent.items ≡ rows.now) }
 {
     let count = rows.len();

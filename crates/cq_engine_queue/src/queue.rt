@@ -2,7 +2,8 @@
 //!
 //! A queue knows how many writes were accepted before those that it has the changes of. To put a change in costs what a
 //! list costs; to drop one, its rows.
-ghost use Rattle.std.specs.Prelude.{◌+◌, ◌++◌, ◌<◌, ◌∷◌, ◌≡◌, ◌≤◌, ◌^◌, [], OnErr, OnOk, drop, length, slice_index_or};
+ghost use Rattle.std.specs.Prelude.{◌+◌, ◌++◌, ◌<◌, ◌∷◌, ◌≡◌, ◌≤◌, ◌^◌, [], OnOk, drop, length, slice_index_or};
+ghost use Rattle.cq_engine_queue.specs.Queued.{IsSameQueue};
 
 use crate::change::Change;
 use std::alloc::{AllocError, Global};
@@ -66,8 +67,7 @@ impl Queue {
     /// Makes room for one more change.
     pub fn reserve(&mut self) -> Result<(), AllocError>
         ensures ok { OnOk result (0 < self.new.room) }
-        ensures passed { self.new.passed ≡ self.old.passed }
-        ensures same { self.new.changes ≡ self.old.changes }
+        ensures same { IsSameQueue self.old self.new }
     {
         self.changes.reserve(1)
     }
@@ -81,8 +81,18 @@ impl Queue {
         self.changes.push_back_reserved(change);
     }
 
+    /// Counts one write more, of which no change is kept, and drops all others.
+    pub(crate) fn pass_all(&mut self)
+        requires { self.old.passed + length self.old.changes + 1 < 2 ^ 64 }
+        ensures passed { self.new.passed ≡ self.old.passed + length self.old.changes + 1 }
+        ensures none { self.new.changes ≡ [] }
+    {
+        self.passed += self.changes.len() as u64 + 1;
+        self.changes.truncate(0);
+    }
+
     /// Drops so many changes from the front.
-    pub fn trim(&mut self, count: usize)
+    pub(crate) fn trim(&mut self, count: usize)
         requires there { count ≤ length self.old.changes }
         requires range { self.old.passed + count < 2 ^ 64 }
         ensures passed { self.new.passed ≡ self.old.passed + count }

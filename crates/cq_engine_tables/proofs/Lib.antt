@@ -5,7 +5,7 @@ pub mod Numbers
 pub mod Stored
 pub mod Rows
 pub mod Bags
-pub mod Turns
+pub mod Unchanged
 pub mod Wide
 pub mod HeldTables
 pub mod Named

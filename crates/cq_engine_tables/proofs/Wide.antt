@@ -1,5 +1,5 @@
 -- How wide the tables are that a query names, where one of them is written, made or taken away.
-use Rattle.std.proofs.Common.{◌≡◌, ◌∙◌, ℕ, zero, suc, false, List, [], ◌∷◌, ◌++◌, length, map, get_or, set, Some, refl, sym}
+use Rattle.std.proofs.Common.{◌≡◌, ◌∙◌, ℕ, zero, false, List, [], ◌∷◌, ◌++◌, length, map, Some, refl, sym}
 use Rattle.std.specs.Prelude.{◌==◌, if◌then◌else◌}
 use Rattle.std.specs.List.{AllByRecursion, AllZip}
 use Rattle.std.proofs.lemmas.Bool.{eqb-false, eqb-true, ne_eqb}
@@ -13,8 +13,9 @@ use Rattle.cq_model.specs.Views.{is_table, sources_of}
 use Rattle.cq_model.specs.declared.query.Source.{Source}
 use Rattle.cq_model.specs.declared.query.Source.TheVariants.{Table, View}
 use Rattle.cq_model_state.specs.Fitting.{AreFitting, FitsColumn, FitsColumns}
-use Rattle.cq_model_state.specs.State.{TableOf, columns_in, rows_in}
-use Rattle.cq_engine_tables.specs.Views.{IsRight, IsWide, NamedView, bags_in, width_at}
+use Rattle.cq_model_state.specs.State.{TableOf, columns_in, rows_in, with_rows}
+use Rattle.cq_engine_tables.specs.Tables.{IsThere}
+use Rattle.cq_engine_tables.specs.Views.{IsPresent, IsWide, NamedView, bags_in, width_at}
 use Rattle.cq_engine_tables.proofs.Bags.{bags_are}
 use Rattle.cq_engine_tables.proofs.Numbers.{others}
 use Rattle.cq_engine_tables.proofs.Rows.{fitting_in}
@@ -38,17 +39,19 @@ module _ (old new : List TableOf) (keep : KeepWidths old new) where
   all-still-wide (s ∷ sources) [] all = absurd all
   all-still-wide (s ∷ sources) (w ∷ widths) all = (still-wide s w all.0, all-still-wide sources widths all.1)
 
--- a table in the place of one of its number and columns
-module _ (u d : TableOf) where
-  widths-set : (ts : List TableOf) (i : ℕ) → u.number ≡ (get_or ts i d).number → u.columns ≡ (get_or ts i d).columns → (n : ℕ) → width_at (set ts i u) n ≡ width_at ts n
-  widths-set [] i number columns n = refl
-  widths-set (x ∷ xs) zero number columns n = λ j. if number j == n then Some (length (columns j)) else width_at xs n
-  widths-set (x ∷ xs) (suc i) number columns n = by_test (x.number == n)
-      (λ k. rw k refl)
-      (λ k. rw k (widths-set xs i number columns n))
+-- tables of which one has other rows
+pub keep-with_rows : (n : ℕ) (rows : List Row) (ts : List TableOf) → KeepWidths ts (with_rows n rows ts)
+keep-with_rows n rows [] m wide is = is
+keep-with_rows n rows (x ∷ xs) m wide is = by_test (x.number == n)
+    (λ k. rw k (by_test (x.number == m) (λ j. rw j (rw j at is)) (λ j. rw j (keep-with_rows n rows xs m wide (rw j at is)))))
+    (λ k. rw k (by_test (x.number == m) (λ j. rw j (rw j at is)) (λ j. rw j (keep-with_rows n rows xs m wide (rw j at is)))))
 
-  pub keep-set : (ts : List TableOf) (i : ℕ) → u.number ≡ (get_or ts i d).number → u.columns ≡ (get_or ts i d).columns → KeepWidths ts (set ts i u)
-  keep-set ts i number columns n wide is = rw (widths-set ts i number columns n) is
+-- a table that is so wide is there
+pub wide-there : (ts : List TableOf) (n wide : ℕ) → width_at ts n ≡ Some wide → IsThere n ts
+wide-there [] n wide is = absurd (cc is)
+wide-there (x ∷ xs) n wide is = by_test (x.number == n)
+    (λ k. rw k refl)
+    (λ k. rw k (wide-there xs n wide (rw k at is)))
 
 -- a table behind the others
 pub keep-behind : (ts : List TableOf) (t : TableOf) → KeepWidths ts (ts ++ t ∷ [])
@@ -111,9 +114,9 @@ module _ (tables : List TableOf) where
   bags-wide fitting (Table n) = rows-wide (columns_in tables n) (rows_in tables n) (fitting_in n tables fitting)
   bags-wide fitting (View place) = tt
 
-  -- a view that is right for tables suits them where their rows fit
-  pub suits : (now : ℕ) (v : NamedView) → AreFitting tables → IsRight tables now v → Suits v.kept (bags_in tables)
-  suits now v fitting right = record {
+  -- tables whose rows fit suit a view that stands for them
+  pub suits : (v : NamedView) → AreFitting tables → IsPresent tables v → Suits v.kept (bags_in tables)
+  suits v fitting right = record {
     stands = right.stands;
     columns = record {
       width = width_of;

@@ -13,7 +13,8 @@ use Rattle.cq_model.specs.declared.query.Source.{Source}
 use Rattle.cq_model.specs.declared.query.Source.TheVariants.{Table, View}
 use Rattle.cq_model.specs.Meaning.{Tables}
 use Rattle.cq_model.specs.Views.{sources_of, tables_alone}
-use Rattle.cq_model_state.specs.State.{TableOf, ViewOf, rows_in}
+use Rattle.cq_model_state.specs.State.{State, TableOf, ViewOf, rows_in, tables_at}
+use Rattle.cq_model_step_laws.specs.Sound.{IsInTime}
 use Rattle.cq_views_model.specs.Query.{CanBeKept}
 
 -- a view under its name, with its columns
@@ -58,14 +59,21 @@ IsWide tables (View place) wide = ⊥
 abbrev pub AreWide : List TableOf → Query → List ℕ → Type 0
 AreWide tables q widths = AllZip (IsWide tables) (sources_of q) widths
 
--- the view has a column for each item, it is at the epoch, it knows how wide its tables are, and it stands for them
-pub record IsRight (tables : List TableOf) (now : ℕ) (v : NamedView) : Type 0 where
-  pub shown : length v.columns ≡ length v.kept.query.items
+-- the view can be kept, knows how wide its tables are, and stands for them as they are at present
+pub record IsPresent (tables : List TableOf) (v : NamedView) : Type 0 where
   pub fits : Fits v.kept.query
-  pub epoch : v.kept.state.epoch ≡ now
   pub wide : AreWide tables v.kept.query v.kept.widths
   pub stands : StandsFor v.kept (bags_in tables)
 
+-- the view has a column for each item, can be kept, knows how wide its tables are, and stands at an epoch that can be
+-- told, for the tables as they were then
+pub record IsRight (s : State) (v : NamedView) : Type 0 where
+  pub shown : length v.columns ≡ length v.kept.query.items
+  pub fits : Fits v.kept.query
+  pub wide : AreWide s.tables v.kept.query v.kept.widths
+  pub time : IsInTime s.passed s.now (view_of v)
+  pub stands : StandsFor v.kept (tables_alone (tables_at s v.kept.state.epoch))
+
 -- so it is with each view
-abbrev pub AreRight : List TableOf → ℕ → List NamedView → Type 0
-AreRight tables epoch views = AllByRecursion (IsRight tables epoch) views
+abbrev pub AreRight : State → List NamedView → Type 0
+AreRight s views = AllByRecursion (IsRight s) views

@@ -13,4 +13,4 @@ mod views;
 pub use named_table::NamedTable;
 pub use tables::{drop_in, merge_in, move_in, place_numbered, place_of};
 pub use view::View;
-pub use views::{commit_all, drop_view_at, is_used, prepare_all, view_place};
+pub use views::{drop_view_at, is_used, view_place};

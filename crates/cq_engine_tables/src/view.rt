@@ -1,6 +1,6 @@
 //! A view under its name.
 //!
-//! A [`View`] is a kept view that statements find, with the columns that it shows. Each write is made known to each view:
+//! A [`View`] is a kept view that statements find, with the columns that it shows. A change of a table is made known to it:
 //! first `prepare`, which may fail and gives what waits, or nothing where the view does not read the table, and then
 //! `commit` with that, which cannot. `rows` costs what the view holds; all else is the kept view's cost.
 ghost use Rattle.std.specs.Prelude.{◌≡◌, IfErr, IfOk, OnOk};

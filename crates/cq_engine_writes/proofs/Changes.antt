@@ -1,15 +1,15 @@
--- The bag of a table behind a write is the one before it with the change.
+-- The bag of a table behind a write is the one before it with the change, which is the difference of the two.
 use Rattle.std.proofs.Common.{◌≡◌, pos, ◌+ℤ◌, neg_ℤ, Bool, not, List, [], ◌∷◌, ◌++◌, sym, arith, subst}
 use Rattle.std.specs.Prelude.{filter}
 use Rattle.std.proofs.lemmas.Int.{ints}
 use Rattle.std.proofs.lemmas.List.{map-append}
 use Rattle.cq_values.specs.Order.{same_row}
 use Rattle.cq_values.specs.Value.{Row}
-use Rattle.cq_model_bags.specs.Bag.{Weighted, SameBag, weight_of, once_each}
+use Rattle.cq_model_bags.specs.Bag.{Weighted, SameBag, difference, negative, weight_of, once_each}
 use Rattle.cq_model_bags.specs.Canonical.{bag_of}
 use Rattle.cq_model_bags.proofs.Bags.{same-sym, same-trans}
 use Rattle.cq_model_bags.proofs.Canonicals.{same-bag_of}
-use Rattle.cq_model_bags.proofs.Totals.{by_test, weight_of-append}
+use Rattle.cq_model_bags.proofs.Totals.{by_test, weight_of-append, weight_of-negative}
 use Rattle.cq_views.specs.Changes.{weighed}
 
 -- rows that come
@@ -44,3 +44,17 @@ with_fewer keep rows gone same = same-trans (once_each (bag_of left)) (once_each
 
     weights : (r : Row) → weight_of (once_each left) r ≡ weight_of (once_each rows ++ weighed gone (neg_ℤ (pos 1))) r
     weights r = omega (arith, ints, weight_of-append (once_each rows) (weighed gone (neg_ℤ (pos 1))) r, weight_gone gone r, weight_split keep rows r, gone_same.at r)
+
+-- what takes the old bag to the new one is the new one less the old one
+pub taken_to : (old new : List Row) (dxs : Weighted) → SameBag (once_each (bag_of new)) (once_each old ++ dxs) → SameBag dxs (difference (once_each new) (once_each old))
+taken_to old new dxs is = record {
+  at = λ r. omega (
+    arith,
+    ints,
+    is.at r,
+    (same-bag_of new).at r,
+    weight_of-append (once_each old) dxs r,
+    weight_of-append (once_each new) (negative (once_each old)) r,
+    weight_of-negative (once_each old) r,
+  );
+}

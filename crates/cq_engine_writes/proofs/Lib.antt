@@ -1,8 +1,7 @@
 pub mod Checks
 pub mod Changes
-pub mod Preparing
 pub mod Exchanged
-pub mod Following
+pub mod Telling
 pub mod Written
 pub mod Setting
 pub mod Updates

@@ -1,5 +1,5 @@
 -- UPDATE on the rows of a table: what is known of those that go and of those that come.
-use Rattle.std.proofs.Common.{◌≡◌, ◌<◌, ◌≤◌, ℕ, get_or, set, Result, Ok, Err, Bool, List, [], ◌∷◌, ◌++◌, map, length, Option, None, sym, ap, ◌∙◌, arith, subst}
+use Rattle.std.proofs.Common.{◌≡◌, ◌<◌, ◌≤◌, ◌^◌, ℕ, get_or, set, Result, Ok, Err, Bool, List, [], ◌∷◌, ◌++◌, map, length, Option, None, sym, ap, ◌∙◌, arith, subst}
 use Rattle.std.specs.Prelude.{filter, if◌then◌else◌}
 use Rattle.std.specs.Result.{OnOk}
 use Rattle.std.specs.List.{AllByRecursion}
@@ -15,12 +15,11 @@ use Rattle.cq_model.specs.Write.{chosen, image_of, left_by, updated}
 use Rattle.cq_binder_rules.specs.Checks.{MayRefuse}
 use Rattle.cq_binder_rules.specs.declared.fault.Fault.{Fault}
 use Rattle.cq_model_state.specs.Fitting.{AreFitting, AreLimited, FitsColumns, IsFitting}
-use Rattle.cq_model_state.specs.State.{AreNumbered, TableOf, columns_in, holding, rows_in}
-use Rattle.cq_views_state.specs.declared.state.Pending.{Pending}
+use Rattle.cq_model_state.specs.State.{AreNumbered, ChangeOf, TableOf, columns_in, holding, rows_in}
+use Rattle.cq_engine_writes.specs.Changing.{IsChangeAt}
 use Rattle.cq_engine_writes.specs.Updates.{CanSetAll, CanUpdate, IsPrepared, Updates, UpdatesRows, updated_in, value_fault_in}
 use Rattle.cq_engine_tables.specs.Chosen.{stored_of}
 use Rattle.cq_engine_tables.specs.HeldTables.{HeldTable}
-use Rattle.cq_engine_tables.specs.Views.{NamedView}
 use Rattle.cq_table.specs.Found.{found_rows}
 use Rattle.cq_table.specs.Checks.{AreNarrowSets, value_fault, values_fault}
 use Rattle.cq_table.specs.Table.{SameRows}
@@ -31,6 +30,7 @@ use Rattle.cq_engine_tables.proofs.Rows.{bounded-with_rows, columns_numbered, fi
 use Rattle.cq_engine_writes.proofs.Setting.{checked_fit}
 use Rattle.cq_table.proofs.RowLists.{gone_all}
 use Rattle.cq_engine_tables.proofs.Stored.{rows_stored}
+use Rattle.cq_engine_writes.proofs.Telling.{change_by, updated_change}
 use Rattle.cq_engine_writes.proofs.Written.{written_here}
 use Rattle.cq_model_bags.proofs.Lists.{all-filter, all-map}
 
@@ -56,18 +56,22 @@ module _ (t : TableOf) (assignments : List Assignment) (c : Option Cond) (can : 
     fits_gone : AllByRecursion (FitsColumns t.columns) gone
     fits_gone = gone_all (keeps c) t.rows gone is_chosen (FitsColumns t.columns) (all-filter (FitsColumns t.columns) (keeps c) t.rows fitting)
 
-    pub stored_gone : AllByRecursion IsStored gone
-    stored_gone = rows_stored t.columns gone fits_gone
-
     -- the images fit where their values have no fault
     pub come_fit : values_fault t.columns assignments gone ≡ None → AllByRecursion (FitsColumns t.columns) (map (image_of assignments) gone)
     come_fit free = all-map (λ r. FitsColumns t.columns (image_of assignments r)) (FitsColumns t.columns) (image_of assignments) (λ r fits. fits) gone (checked_fit t.columns assignments gone fits_gone sets_gone free)
 
-    pub stored_come : values_fault t.columns assignments gone ≡ None → AllByRecursion IsStored (map (image_of assignments) gone)
+    stored_come : values_fault t.columns assignments gone ≡ None → AllByRecursion IsStored (map (image_of assignments) gone)
     stored_come free = rows_stored t.columns (map (image_of assignments) gone) (come_fit free)
 
-module _ (held : HeldTable) (assignments : List Assignment) (c : Option Cond) (can : CanUpdate held.is.columns assignments c held.is.rows) (vs ws : List NamedView) (places : List ℕ) (come : List Row) (ps : List (Option Pending))
-    (p : IsPrepared held assignments c vs ws places come ps) where
+    -- then the change takes the table to the images
+    pub exchange_at : length t.rows ≤ 2 ^ 24 → values_fault t.columns assignments gone ≡ None → (come : List Row) → come ≡ map (image_of assignments) gone
+        → IsChangeAt t.number t.rows (updated assignments c t.rows) (change_by t.number gone come)
+    exchange_at few free come are =
+        updated_change (keeps c) t.rows gone is_chosen t.number (rows_stored t.columns t.rows fitting) few (image_of assignments) come are
+        (subst (λ (rs : List Row). AllByRecursion IsStored rs) (sym are) (stored_come free))
+
+module _ (asked : Bool) (held : HeldTable) (assignments : List Assignment) (c : Option Cond) (can : CanUpdate held.is.columns assignments c held.is.rows) (places : List ℕ) (come : List Row) (change : Option ChangeOf)
+    (p : IsPrepared asked held assignments c places come change) where
   abbrev t : TableOf
   t = held.is
 
@@ -92,8 +96,8 @@ module _ (held : HeldTable) (assignments : List Assignment) (c : Option Cond) (c
       subst (λ (rs : List Row). AllByRecursion (FitsColumns t.columns) rs) (sym p.images) (come_fit t assignments c can gone_rows p.found.picks fitting free)
 
 -- ---- The table of a number
-pub updates_rows : (assignments : List Assignment) (c : Option Cond) (t u : TableOf) (result : Result ℕ Fault) → UpdatesRows assignments c t result u → OnOk result (u ≡ holding (updated assignments c t.rows) t)
-updates_rows assignments c t u (Ok count) w = w.2
+pub updates_rows : {X : Type 0} (assignments : List Assignment) (c : Option Cond) (t u : TableOf) (result : Result (ℕ × X) Fault) → UpdatesRows assignments c t result u → OnOk result (u ≡ holding (updated assignments c t.rows) t)
+updates_rows assignments c t u (Ok done) w = w.2
 updates_rows assignments c t u (Err f) w = tt
 
 module _ (next : ℕ) (tables : List TableOf) (i : ℕ) (t : TableOf) (numbered : AreNumbered tables next) (within : i < length tables) (is : t ≡ get_or tables i t) (n : ℕ) (number : (get_or tables i t).number ≡ n) (assignments : List Assignment) (c : Option Cond) where
@@ -111,8 +115,8 @@ module _ (next : ℕ) (tables : List TableOf) (i : ℕ) (t : TableOf) (numbered 
   same_fault = λ j. value_fault (its_columns j) assignments c (its_rows j)
 
   -- and what was done there was done with the table of the number
-  pub updates_here : (u : TableOf) (result : Result ℕ Fault) → UpdatesRows assignments c t result u → Updates n assignments c tables result (set tables i u)
-  updates_here u (Ok count) w = (
+  pub updates_here : {X : Type 0} (u : TableOf) (result : Result (ℕ × X) Fault) → UpdatesRows assignments c t result u → Updates n assignments c tables result (set tables i u)
+  updates_here u (Ok done) w = (
     same_fault ∙ w.0,
     w.1 ∙ ap (λ (rs : List Row). length (chosen c rs)) (sym its_rows),
     written_here next tables i t numbered within is n number u (updated assignments c) w.2,

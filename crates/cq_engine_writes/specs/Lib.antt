@@ -1,4 +1,3 @@
 pub mod Changing
-pub mod Following
 pub mod Updates
 pub mod Writing

@@ -1,5 +1,5 @@
 -- UPDATE on rows that it was bound to: what is known of it, and what it leaves.
-use Rattle.std.specs.Prelude.{◌≡◌, ℕ, List, length, map, slice_index_or, Option, None, Result, Ok, Err, Vec}
+use Rattle.std.specs.Prelude.{◌≡◌, ℕ, Bool, List, length, map, slice_index_or, Option, None, Result, Ok, Err, Vec}
 use Rattle.std.specs.Global.{Global}
 use Rattle.std.specs.List.{AllByRecursion}
 use Rattle.cq_values.specs.declared.column.ColumnDef.{ColumnDef}
@@ -14,12 +14,8 @@ use Rattle.cq_model.specs.Write.{chosen, image_of, updated}
 use Rattle.cq_binder_rules.specs.declared.fault.Fault.{Fault}
 use Rattle.cq_binder_rules.specs.Checks.{MayRefuse}
 use Rattle.cq_binder_expressions.specs.Types.{IsOf}
-use Rattle.cq_model_state.specs.State.{TableOf, columns_in, holding, rows_in, with_rows}
-use Rattle.cq_views.specs.Changes.{exchanged}
-use Rattle.cq_views_state.specs.declared.state.Pending.{Pending}
-use Rattle.cq_engine_tables.specs.Taking.{CanAllTake}
-use Rattle.cq_engine_tables.specs.Views.{NamedView}
-use Rattle.cq_engine_writes.specs.Changing.{AreReadyAt}
+use Rattle.cq_model_state.specs.State.{ChangeOf, TableOf, columns_in, holding, rows_in, with_rows}
+use Rattle.cq_engine_writes.specs.Changing.{Tells}
 use Rattle.cq_table.specs.Checks.{value_fault}
 use Rattle.cq_table.specs.Found.{found_rows}
 use Rattle.cq_engine_tables.specs.Chosen.{IsChosen, stored_of}
@@ -49,9 +45,9 @@ abbrev pub CanUpdateIn : List TableOf → ℕ → List Assignment → Option Con
 CanUpdateIn tables n assignments condition = CanUpdate (columns_in tables n) assignments condition (rows_in tables n)
 
 -- each row that WHERE chooses is replaced by its image, where the images may be stored, and the chosen ones are counted
-abbrev pub UpdatesRows : List Assignment → Option Cond → TableOf → Result ℕ Fault → TableOf → Type 0
-UpdatesRows assignments condition old (Ok count) new =
-    (value_fault_of old assignments condition ≡ None) × (count ≡ length (chosen condition old.rows))
+abbrev pub UpdatesRows : {X : Type 0} → List Assignment → Option Cond → TableOf → Result (ℕ × X) Fault → TableOf → Type 0
+UpdatesRows assignments condition old (Ok done) new =
+    (value_fault_of old assignments condition ≡ None) × (done.0 ≡ length (chosen condition old.rows))
     × (new ≡ holding (updated assignments condition old.rows) old)
 UpdatesRows assignments condition old (Err f) new = MayRefuse (value_fault_of old assignments condition) f
 
@@ -64,28 +60,31 @@ abbrev pub value_fault_in : List TableOf → ℕ → List Assignment → Option 
 value_fault_in tables n assignments condition = value_fault (columns_in tables n) assignments condition (rows_in tables n)
 
 -- the rows of the table of a number are updated
-abbrev pub Updates : ℕ → List Assignment → Option Cond → List TableOf → Result ℕ Fault → List TableOf → Type 0
-Updates n assignments condition old (Ok count) new =
-    (value_fault_in old n assignments condition ≡ None) × (count ≡ length (chosen condition (rows_in old n)))
+abbrev pub Updates : {X : Type 0} → ℕ → List Assignment → Option Cond → List TableOf → Result (ℕ × X) Fault → List TableOf → Type 0
+Updates n assignments condition old (Ok done) new =
+    (value_fault_in old n assignments condition ≡ None) × (done.0 ≡ length (chosen condition (rows_in old n)))
     × (new ≡ updated_in n assignments condition old)
 Updates n assignments condition old (Err f) new = MayRefuse (value_fault_in old n assignments condition) f
 
--- the chosen rows are found, their images are worked out and may be stored, and the views are ready for the exchange
-pub record IsPrepared (t : HeldTable) (assignments : List Assignment) (condition : Option Cond) (old new : List NamedView) (places : List ℕ) (come : List Row) (pendings : List (Option Pending)) : Type 0 where
+-- the change of an UPDATE of a table is told where it is asked for
+abbrev pub TellsImages : Bool → List Assignment → Option Cond → TableOf → Option ChangeOf → Type 0
+TellsImages asked assignments condition t told = Tells asked t.number t.rows (updated assignments condition t.rows) told
+
+-- the chosen rows are found, their images are worked out and may be stored, and the change is told where it is asked for
+pub record IsPrepared (asked : Bool) (t : HeldTable) (assignments : List Assignment) (condition : Option Cond) (places : List ℕ) (come : List Row) (change : Option ChangeOf) : Type 0 where
   pub free : value_fault_of t.is assignments condition ≡ None
   pub found : IsChosen condition t places
   pub images : come ≡ map (image_of assignments) (found_rows (stored_of t) places)
-  pub ready : AreReadyAt t.is.number (exchanged (found_rows (stored_of t) places) come) old new pendings
-  pub can : CanAllTake new pendings
+  pub tells : TellsImages asked assignments condition t.is change
 
--- the places, the images and what waits, as they are kept until then
-abbrev pub Prepares : HeldTable → List Assignment → Option Cond → Vec NamedView Global → Vec NamedView Global → (List ℕ × Vec Row Global × Vec (Option Pending) Global) → Type 0
-Prepares t assignments condition old new prepared = IsPrepared t assignments condition old.items new.items prepared.0 prepared.1.items prepared.2.items
+-- the places, the images and the change, as they are kept until then
+abbrev pub Prepares : Bool → HeldTable → List Assignment → Option Cond → (List ℕ × Vec Row Global × Option ChangeOf) → Type 0
+Prepares asked t assignments condition prepared = IsPrepared asked t assignments condition prepared.0 prepared.1.items prepared.2
 
 -- the update of a table may be refused with this fault
 abbrev pub RefusesUpdate : HeldTable → List Assignment → Option Cond → Fault → Type 0
 RefusesUpdate t assignments condition f = MayRefuse (value_fault_of t.is assignments condition) f
 
 -- the rows of the table of a number are updated where it is held
-abbrev pub UpdatesHeld : ℕ → List Assignment → Option Cond → Vec HeldTable Global → Result ℕ Fault → Vec HeldTable Global → Type 0
+abbrev pub UpdatesHeld : {X : Type 0} → ℕ → List Assignment → Option Cond → Vec HeldTable Global → Result (ℕ × X) Fault → Vec HeldTable Global → Type 0
 UpdatesHeld n assignments condition old result new = Updates n assignments condition (tables_of old.items) result (tables_of new.items)

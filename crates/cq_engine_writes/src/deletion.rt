@@ -1,46 +1,60 @@
 //! The rows that a DELETE takes.
 ghost use Rattle.std.specs.List.{AllByRecursion};
 ghost use Rattle.std.specs.Prelude.{◌≡◌, ◌≤◌, IfOk, OnErr, OnOk, length};
+ghost use Rattle.cq_model.specs.Width.{IsNarrowIn};
 ghost use Rattle.cq_model.specs.Write.{chosen};
 ghost use Rattle.cq_model_state.specs.Fitting.{IsFitting, rows_limit};
-ghost use Rattle.cq_model.specs.Width.{IsNarrowIn};
+ghost use Rattle.cq_engine_tables.specs.Chosen.{stored_of};
 ghost use Rattle.cq_engine_tables.specs.HeldTables.{MarkIn, lengths_of};
-ghost use Rattle.cq_engine_tables.specs.Taking.{AreSame};
-ghost use Rattle.cq_engine_writes.specs.Changing.{AreStanding};
-ghost use Rattle.cq_engine_writes.specs.Following.{FollowHeld};
-ghost use Rattle.cq_engine_writes.specs.Writing.{DeletesRows};
+ghost use Rattle.cq_engine_writes.specs.Writing.{DeletesRows, TellsChosen, TellsLeft};
+ghost use Rattle.cq_table.specs.Found.{AreThere};
 
-use crate::changing::prepare_views;
-use cq_engine_tables::{NamedTable, View, commit_all};
+use cq_engine_queue::Change;
+use cq_engine_tables::NamedTable;
 use cq_model::Cond;
-use cq_views::standing_depends_on_sources;
+use cq_table::{Found, copies};
+use cq_writestore_rows::NewRows;
 use std::alloc::{AllocError, Global};
 
-/// Takes the rows that WHERE keeps from this table, and tells how many they were. The views on the table follow.
+/// Takes the rows that WHERE keeps from this table, and tells how many they were, and the change where it is asked for.
 pub(crate) fn delete_from(
     alloc: Global,
     table: &mut NamedTable,
-    views: &mut Vec<View>,
     condition: &Option<Cond>,
-    epoch: u64,
-) -> Result<usize, AllocError>
+    asked: bool,
+) -> Result<(usize, Option<Change>), AllocError>
     requires fitting { IsFitting table.old.is }
     requires few { length table.old.is.rows ≤ rows_limit }
-    requires stand { AreStanding views.old.items }
     requires narrow { AllByRecursion (IsNarrowIn condition.now) table.old.is.rows }
-    ensures count { IfOk result (λ count. count ≡ length (chosen condition.now table.old.is.rows)) }
+    ensures count { IfOk result (λ done. done.0 ≡ length (chosen condition.now table.old.is.rows)) }
     ensures left { OnOk result (DeletesRows condition.now table.old.is table.new.is) }
     ensures lengths { OnOk result (MarkIn (lengths_of table.old) (lengths_of table.new)) }
-    ensures follow { OnOk result (FollowHeld epoch table.old table.new views.old views.new) }
-    ensures err { OnErr result ((table.new ≡ table.old) × AreSame views.old.items views.new.items) }
+    ensures change { IfOk result (λ done. TellsLeft asked condition.now table.old.is done.1) }
+    ensures err { OnErr result (table.new ≡ table.old) }
 {
     let found = table.find(alloc, condition)?;
-    let pendings = {
-        let gone = table.chosen(alloc, &found)?;
-        prepare_views(alloc, views, table.number(), &gone, &[])?
-    };
+    let change = change_without(alloc, table, &found, asked)?;
     table.delete(&found);
-    commit_all(views, pendings, epoch);
-    standing_depends_on_sources();
-    Ok(found.len())
+    Ok((found.len(), change))
+}
+
+/// The change of this table that the rows leave which were found, where it is asked for. They are copied.
+fn change_without(
+    alloc: Global,
+    table: &NamedTable,
+    found: &Found,
+    asked: bool,
+) -> Result<Option<Change>, AllocError>
+    requires fitting { IsFitting table.now.is }
+    requires few { length table.now.is.rows ≤ rows_limit }
+    requires there { AreThere found.now (stored_of table.now) }
+    ensures { IfOk result (TellsChosen asked found.now table.now) }
+{
+    if !asked {
+        return Ok(None);
+    }
+    let gone = table.chosen(alloc, found)?;
+    let gone = NewRows::of(copies(alloc, &gone)?);
+    let come = NewRows::of(Vec::new(alloc));
+    Ok(Some(Change::new(table.number(), gone, come)))
 }

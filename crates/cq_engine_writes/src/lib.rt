@@ -1,8 +1,8 @@
-//! Writes: what INSERT, DELETE and UPDATE do to a table, and to the views that stand on it.
+//! Writes: what INSERT, DELETE and UPDATE do to a table.
 //!
-//! Each write is made ready first, in the views too, and then carried out: in the table by a call that may fail and then
-//! leaves it as it was, and behind that in the views by calls that cannot. So a write that is refused leaves its table
-//! and every view as it was, and behind one that is accepted each view stands for the tables as they are then.
+//! Each write is made ready first, and then carried out by a call that may fail and then leaves the table as it was. So
+//! a write that is refused leaves its table as it was. What an accepted one changed is told where that is asked for, for
+//! the queue of changes.
 #![tactic(auto)]
 
 mod changing;

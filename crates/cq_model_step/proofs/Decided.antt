@@ -17,7 +17,7 @@ use Rattle.cq_binder_rules.specs.Refusal.{refusal}
 use Rattle.cq_model_step.specs.Step.{Step, Does, Accepts, IsTooLarge, Refuses, by_walk, for_memory, source_failed, memory_on_the_way, too_large}
 use Rattle.cq_model_step.specs.Output.{Serves, rest_without_semicolon, sentence, no_sentence, past_limits, out_of_memory, Runs, statements_among, not_utf8, answered, outside, HasOutcomes, RefusalsDecide}
 use Rattle.cq_model_step.proofs.Alike.{Alike, alike_same, alike_turned, alike_then, refusal-alike, bound-alike}
-use Rattle.cq_model_step.proofs.SameAnswers.{gives-up-alike, SameAnswer, accepts-alike, not-too-large, present-alike}
+use Rattle.cq_model_step.proofs.SameAnswers.{gives-up-alike, SameAnswer, accepts-alike, not-too-large}
 
 abbrev Outcome : Type 0
 Outcome = Result Answer Fault
@@ -89,15 +89,10 @@ module _ (files : Files) where
     -- a statement has one answer, but for what comes from outside
     pub step_same : (x y : State) (s : Statement) (o p : Outcome) (v w : State) → Alike x y → Step files x s o v → Step files y s p w → outside o ≡ outside p → Same o p v w
     step_same x y s (Ok a) (Ok b) v w same h k e =
-        let answers = does_same x y s a b h.on_the_way k.on_the_way same h.does k.does in
-        record {
-          outcome = ap (λ (z : Answer). Ok z) answers.answer;
-          states =
-              alike_then v h.on_the_way w (present-alike h.on_the_way v h.trims)
-              (alike_then h.on_the_way k.on_the_way w answers.states (alike_turned w k.on_the_way (present-alike k.on_the_way w k.trims)));
-        }
-    step_same x y s (Ok a) (Err f) v w same h k e = absurd (accepted_or_refused x y s a h.on_the_way f same h.does (why y s f w k (sym e)))
-    step_same x y s (Err f) (Ok b) v w same h k e = absurd (accepted_or_refused y x s b k.on_the_way f (alike_turned x y same) k.does (why x s f v h e))
+        let answers = does_same x y s a b v w same h k in
+        record { outcome = ap (λ (z : Answer). Ok z) answers.answer; states = answers.states }
+    step_same x y s (Ok a) (Err f) v w same h k e = absurd (accepted_or_refused x y s a v f same h (why y s f w k (sym e)))
+    step_same x y s (Err f) (Ok b) v w same h k e = absurd (accepted_or_refused y x s b w f (alike_turned x y same) k (why x s f v h e))
     step_same x y s (Err f) (Err g) v w same h k e = record {
       outcome = ap (λ (z : Fault). Err z) (both_refused x y s f g v w (outside (Err g)) (refusal-alike files x y s same) h k e refl);
       states = alike_then v x w (refused-alike x s f v h) (alike_then x y w same (alike_turned w y (refused-alike y s g w k)));

@@ -18,12 +18,12 @@ use Rattle.cq_model.specs.Write.{chosen, left_by, updated}
 use Rattle.cq_model_step.specs.declared.answer.Answer.{Answer}
 use Rattle.cq_model_step.specs.declared.answer.Answer.TheVariants.{Count, Rows}
 use Rattle.cq_model_state.specs.State.{TableOf, ViewOf, State, empty_table, rows_in, with_rows, tables_now, queries_of}
-use Rattle.cq_model_step.specs.Next.{with_all_views, created, new_view, Writes, at_epoch, taken_on, reach, refreshed, Trims, at_present}
+use Rattle.cq_model_step.specs.Next.{with_all_views, created, new_view, Writes, at_epoch, taken_on, reach, refreshed, Trims}
 use Rattle.cq_model_step.specs.Step.{Shows, Leads, Accepts, AreBetween, GivesUp, IsTooLarge}
 use Rattle.cq_model_step.proofs.Alike.{Alike, alike_same, alike_then, alike_turned, timeless}
 
 -- the queries of views have no epoch
-queries_timeless : (vs : List ViewOf) → map (λ v. v.query) (map timeless vs) ≡ map (λ v. v.query) vs
+pub queries_timeless : (vs : List ViewOf) → map (λ v. v.query) (map timeless vs) ≡ map (λ v. v.query) vs
 queries_timeless [] = refl
 queries_timeless (v ∷ vs) = ap (λ (qs : List Query). v.query ∷ qs) (queries_timeless vs)
 
@@ -206,17 +206,3 @@ not-too-large x y (commands.Update n assignments c) a v s p large = large
 not-too-large x y (commands.Move n rows) a v s p large = large
 not-too-large x y (commands.Merge n) a v s p large = large
 not-too-large x y (commands.Refresh place changes) a v s p large = large
-
--- taking every view to the present shows nothing
-present-timeless : (n : ℕ) (vs : List ViewOf) → map timeless (map (at_epoch n) vs) ≡ map timeless vs
-present-timeless n [] = refl
-present-timeless n (v ∷ vs) = ap (λ (ws : List ViewOf). timeless v ∷ ws) (present-timeless n vs)
-
-pub present-alike : (x y : State) → Trims (at_present x) y → Alike y x
-present-alike x y t = record {
-  tables = ap (λ (s : State). s.tables) t.state;
-  views = ap (λ (s : State). map timeless s.views) t.state ∙ present-timeless x.now x.views;
-  now = ap (λ (s : State). s.now) t.state;
-  drawn = ap (λ (s : State). s.drawn) t.state;
-  max_rows = ap (λ (s : State). s.max_rows) t.state;
-}

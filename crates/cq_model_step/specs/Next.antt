@@ -1,5 +1,5 @@
 -- How commands lead from a state to the next (ISO 9075-2, 11.3, 14.9, 14.11 and 14.14; docs/ARCHITECTURE.md, Epochs).
-use Rattle.std.specs.Prelude.{◌≡◌, ℕ, ◌+◌, ◌≤◌, ◌==◌, min, if◌then◌else◌, List, [], ◌∷◌, ◌++◌, length, drop, map}
+use Rattle.std.specs.Prelude.{◌≡◌, ℕ, ◌+◌, ◌≤◌, ◌==◌, min, if◌then◌else◌, List, [], ◌∷◌, ◌++◌, length, drop}
 use Rattle.std.specs.List.{AllByRecursion, list_any}
 use Rattle.cq_values.specs.Value.{Row}
 use Rattle.cq_model_bags.specs.Bag.{Weighted, SameBag, once_each, difference}
@@ -70,7 +70,3 @@ pub record Trims (whole new : State) : Type 0 where
   pub there : count ≤ length whole.queue
   pub passed : AllByRecursion (λ v. whole.passed + count ≤ v.epoch) whole.views
   pub state : new ≡ without_front count whole
-
--- the state with each view at the present
-abbrev pub at_present : State → State
-at_present s = with_all_views (map (at_epoch s.now) s.views) s

@@ -22,7 +22,7 @@ use Rattle.cq_binder_rules.specs.Records.{Files}
 use Rattle.cq_binder_rules.specs.Refusal.{reads_source, refusal}
 use Rattle.cq_binder_rules.specs.Sources.{AreTold}
 use Rattle.cq_model_state.specs.State.{ViewOf, State, rows_in, tables_now, queries_of}
-use Rattle.cq_model_step.specs.Next.{with_tables, with_all_views, created, new_view, Writes, reach, at_epoch, refreshed, Trims, at_present}
+use Rattle.cq_model_step.specs.Next.{with_tables, with_all_views, created, new_view, Writes, reach, at_epoch, refreshed, Trims}
 
 -- a SELECT's answer: the listing of the bag that the query means on the tables at present, if its totals can be shown
 pub record Shows (s : State) (header : List (List ℕ)) (q : Query) (order : Order) (answer : Answer) : Type 0 where
@@ -89,20 +89,9 @@ pub record Does (files : Files) (old : State) (statement : Statement) (answer : 
   pub is_bound : bound files old statement ≡ Some command
   pub accepts : Accepts old command answer new
 
--- from old, the statement may answer this and leave new, while views take changes in when they are asked for
-abbrev pub LazyStep : Files → State → Statement → Result Answer Fault → State → Type 0
-LazyStep files old statement (Ok answer) new = Does files old statement answer new
-LazyStep files old statement (Err f) new = Refuses files old statement f new
-
--- an accepted statement, after which each view is taken to the present
-pub record DoesAtOnce (files : Files) (old : State) (statement : Statement) (answer : Answer) (new : State) : Type 0 where
-  pub on_the_way : State
-  pub does : Does files old statement answer on_the_way
-  pub trims : Trims (at_present on_the_way) new
-
--- from old, the statement may answer this and leave new: views take each change in at once
+-- from old, the statement may answer this and leave new: views take changes in when they are asked for
 abbrev pub Step : Files → State → Statement → Result Answer Fault → State → Type 0
-Step files old statement (Ok answer) new = DoesAtOnce files old statement answer new
+Step files old statement (Ok answer) new = Does files old statement answer new
 Step files old statement (Err f) new = Refuses files old statement f new
 
 -- such a step over the files that a source tells, or over any where it tells none

@@ -15,12 +15,12 @@ use Rattle.cq_binder_rules.specs.From.{From, from_walk, view_walk}
 use Rattle.cq_binder_rules.specs.Bound.{row_of, bound_select, bound_update, bound, bound_view, standing, rows_read}
 use Rattle.cq_binder_rules.specs.Records.{Files}
 use Rattle.cq_model_state.specs.State.{TableOf, State, table_named, view_place, first_state}
-use Rattle.cq_model_step.specs.Next.{reach, at_epoch, at_present, Trims}
+use Rattle.cq_model_step.specs.Next.{reach}
 use Rattle.cq_model_step.specs.Step.{Does, GivesUp, Refuses, by_walk, for_memory, source_failed, memory_on_the_way, too_large, Step}
 use Rattle.cq_model_step_laws.specs.Sound.{IsThere, Fits, IsSound}
 use Rattle.cq_model_step_laws.proofs.Numbers.{there-behind}
-use Rattle.cq_model_step_laws.proofs.Times.{reach-in_time, between-in_time, present-in_time}
-use Rattle.cq_model_step_laws.proofs.Follows.{follows-views, follows-trims, follows-accepts}
+use Rattle.cq_model_step_laws.proofs.Times.{reach-in_time, between-in_time}
+use Rattle.cq_model_step_laws.proofs.Follows.{follows-views, follows-accepts}
 
 -- a table that is found by its name is there by its number
 there-named : (name : List ℕ) (tables : List TableOf) (t : TableOf) → table_named name tables ≡ Some t → IsThere t.number tables
@@ -100,13 +100,7 @@ sound-refuses files old new statement f sound (too_large command r b l q g) = so
 does-sound : (files : Files) (old new : State) (statement : Statement) (answer : Answer) → IsSound old → Does files old statement answer new → IsSound new
 does-sound files old new statement answer sound d = (follows-accepts old new d.command answer sound (bound-fits files old statement d.command d.is_bound) d.accepts).sound
 
--- so does taking each view to the present
-sound-trims : (s new : State) → IsSound s → Trims (at_present s) new → IsSound new
-sound-trims s new sound t =
-    let present = follows-views s (map (at_epoch s.now) s.views) sound (present-in_time s.passed s.now s.views sound.epochs) in
-    (follows-trims s (at_present s) new t present).sound
-
 -- so every step leaves a sound state
 pub step-sound : (files : Files) (old new : State) (statement : Statement) (outcome : Result Answer Fault) → IsSound old → Step files old statement outcome new → IsSound new
-step-sound files old new statement (Ok answer) sound d = sound-trims d.on_the_way new (does-sound files old d.on_the_way statement answer sound d.does) d.trims
+step-sound files old new statement (Ok answer) sound d = does-sound files old new statement answer sound d
 step-sound files old new statement (Err f) sound r = sound-refuses files old new statement f sound r

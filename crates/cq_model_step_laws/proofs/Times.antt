@@ -1,5 +1,5 @@
 -- The epochs of views: a command takes each of them on, and not beyond the present.
-use Rattle.std.proofs.Common.{ℕ, ◌+◌, ◌≤◌, List, [], ◌∷◌, map, sym, subst, arith}
+use Rattle.std.proofs.Common.{ℕ, ◌+◌, ◌≤◌, List, [], ◌∷◌, sym, subst, arith}
 use Rattle.std.specs.List.{AllByRecursion, list_any}
 use Rattle.std.proofs.lemmas.Bool.Decides.{nat_tests}
 use Rattle.cq_model_bags.proofs.Totals.{by_test}
@@ -51,8 +51,3 @@ module _ (first last : ℕ) (to : ℕ → ViewOf → ℕ) (stays : StaysInTime f
         subst (IsInTime first last) (sym b.0.3) (at_epoch-in_time first last b.0.0 v a.0 b.0.1 (omega arith)),
         between-in_time (place + 1) vs ws a.1 b.1,
       )
-
--- views that are taken to the present stay in time
-pub present-in_time : (first last : ℕ) (views : List ViewOf) → AllByRecursion (IsInTime first last) views → AllByRecursion (IsInTime first last) (map (at_epoch last) views)
-present-in_time first last [] a = tt
-present-in_time first last (v ∷ vs) a = (at_epoch-in_time first last last v a.0 a.0.reached (omega arith), present-in_time first last vs a.1)

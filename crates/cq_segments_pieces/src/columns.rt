@@ -2,7 +2,8 @@
 //!
 //! They are at most 1,024 rows that stand side by side in encoded columns. All pieces of a segment share these, so columns
 //! take no memory of their own. `gather` and `gather_at` give a column as a vector, and `lend` one value where it stands.
-//! `cut_front` drops rows at the front, where the encoded ones stay: then `gather` reads the others place by place.
+//! `cut_front` drops rows at the front, where the encoded ones stay: then `gather` reads the others place by place. `share`
+//! gives the same rows once more, and copies none.
 ghost use Rattle.std.specs.List.{All};
 ghost use Rattle.std.specs.Option.{IfNone};
 ghost use Rattle.std.specs.Prelude.{IfOk, IfSome, [], drop, length, replicate, slice_index_or, ◌*◌, ◌<◌, ◌≡◌, ◌≤◌};
@@ -64,6 +65,18 @@ impl Columns {
             from: 0,
             count,
         }
+    }
+
+    /// The same rows, which share the encoded columns. An error comes where no more can share them.
+    pub fn share(&self) -> Result<Columns, AllocError>
+        ensures { IfOk result (λ columns. columns ≡ self.now) }
+    {
+        Ok(Columns {
+            encoded: self.encoded.clone()?,
+            part: self.part,
+            from: self.from,
+            count: self.count,
+        })
     }
 
     /// How many rows there are.

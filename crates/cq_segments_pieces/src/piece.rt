@@ -62,6 +62,20 @@ impl Piece {
         Ok(Piece::of(columns))
     }
 
+    /// The same rows with the same marks. Both share the columns, and neither the marks of the other.
+    pub fn share(&self) -> Result<Piece, AllocError>
+        ensures { IfOk result (λ p. p ≡ self.now) }
+    {
+        let columns = self.columns.share()?;
+        let mut marks = Plane::new();
+        marks.set_copy(&self.marks);
+        Ok(Piece {
+            columns,
+            marks,
+            marked: self.marked,
+        })
+    }
+
     /// All of its rows, with a mark or without.
     pub fn columns(&self) -> &Columns
         ensures { result.now ≡ rows_of self.now }

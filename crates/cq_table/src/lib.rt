@@ -19,5 +19,6 @@ mod whole;
 
 pub use fault::TableFault;
 pub use found::Found;
+pub use images::copies;
 pub use table::{Layout, Table, check_room};
 pub use updating::Exchange;

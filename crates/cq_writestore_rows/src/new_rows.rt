@@ -1,7 +1,8 @@
 //! Rows that a statement brings.
 //!
 //! `of` takes rows as they are. `as_rows` lends them where all stand as rows, `copies` and `into_rows` make rows of all;
-//! `as_parts` lends and `into_parts` hands over what they are made of. Only `copies` and `into_rows` take memory.
+//! `as_parts` lends and `into_parts` hands over what they are made of. `share` gives the same rows once more. Only it,
+//! `copies` and `into_rows` take memory.
 ghost use Rattle.std.specs.Prelude.{IfOk, IfSome, length, ◌++◌, ◌+◌, ◌<◌, ◌^◌, ◌≡◌};
 ghost use Rattle.cq_segments_pieces.specs.Marked.{rows_of};
 ghost use Rattle.cq_segments_pieces.specs.Pieces.{joined};
@@ -70,6 +71,15 @@ impl NewRows {
         }
     }
 
+    /// The same rows once more: those in pieces share their columns, and the others are copied.
+    pub fn share(&self, alloc: Global) -> Result<NewRows, AllocError>
+        ensures { IfOk result (λ rows. rows ≡ self.now) }
+    {
+        let pieces = shared(alloc, &self.pieces)?;
+        let tail = copied(alloc, &self.tail)?;
+        Ok(NewRows { pieces, tail })
+    }
+
     /// Copies of all rows.
     pub fn copies(&self, alloc: Global) -> Result<Vec<Row>, AllocError>
         ensures { IfOk result (λ rows. rows.items ≡ self.now) }
@@ -115,4 +125,26 @@ impl NewRows {
     {
         (self.pieces, self.tail)
     }
+}
+
+/// The same pieces once more, which share their columns.
+fn shared(alloc: Global, pieces: &[Piece]) -> Result<Vec<Piece>, AllocError>
+    ensures { IfOk result (λ shared. shared.items ≡ pieces.now) }
+{
+    let mut shared = Vec::with_capacity(alloc, pieces.len())?;
+    for piece in pieces {
+        shared.push(piece.share()?)?;
+    }
+    Ok(shared)
+}
+
+/// Copies of the rows.
+fn copied(alloc: Global, rows: &[Row]) -> Result<Vec<Row>, AllocError>
+    ensures { IfOk result (λ copies. copies.items ≡ rows.now) }
+{
+    let mut copies = Vec::with_capacity(alloc, rows.len())?;
+    for row in rows {
+        copies.push(copy_row(alloc, row.as_slice())?)?;
+    }
+    Ok(copies)
 }

@@ -17,15 +17,17 @@ const STATEMENTS: &[(&str, u64, Option<u64>)] = &[
         1,
         Some(1),
     ),
-    ("INSERT INTO t VALUES (1,7)", 2, Some(2)),
-    ("DELETE FROM t WHERE k = 2", 3, Some(3)),
+    ("INSERT INTO t VALUES (1,7)", 2, Some(1)),
+    ("DELETE FROM t WHERE k = 2", 3, Some(1)),
+    ("SELECT k, a FROM t", 3, Some(1)),
     ("SELECT k, n, s FROM v", 3, Some(3)),
     ("CREATE TABLE u(k INTEGER)", 3, Some(3)),
-    ("DELETE FROM u", 4, Some(4)),
+    ("DELETE FROM u", 4, Some(3)),
+    ("REFRESH v 1", 4, Some(4)),
     ("DROP VIEW v", 4, None),
 ];
 
-fn stay_at_the_present(rt: &impl Abort, alloc: Global, engine: &mut Engine) -> Result<(), Fail> {
+fn take_in_what_waits(rt: &impl Abort, alloc: Global, engine: &mut Engine) -> Result<(), Fail> {
     for (statement, now, epoch) in STATEMENTS {
         drop(carry_out(rt, alloc, engine, statement)?);
         assert!(rt;
@@ -38,11 +40,11 @@ fn stay_at_the_present(rt: &impl Abort, alloc: Global, engine: &mut Engine) -> R
 }
 
 #[test]
-fn a_view_is_at_the_present(rt: HostRuntime) -> Result<(), Fail> {
+fn a_view_takes_in_what_waits_where_it_is_read(rt: HostRuntime) -> Result<(), Fail> {
     let mut engine = engine(rt.alloc())?;
-    let stayed = stay_at_the_present(&rt, rt.alloc(), &mut engine);
+    let taken = take_in_what_waits(&rt, rt.alloc(), &mut engine);
     drop(engine);
-    stayed
+    taken
 }
 
 /// Behind each of these statements a view of a name is taken on by so many writes: its epoch then, or the refusal.
@@ -59,14 +61,11 @@ const REFRESHES: &[(&str, &str, u128, Result<u64, Fault>)] = &[
         0,
         Ok(0),
     ),
-    ("INSERT INTO t VALUES (1)", "v", 2, Ok(1)),
-    ("INSERT INTO t VALUES (2)", "x", 1, Err(Fault::UnknownTable)),
-    (
-        "DELETE FROM t WHERE k = 1",
-        "t",
-        1,
-        Err(Fault::UnknownTable),
-    ),
+    ("INSERT INTO t VALUES (1)", "x", 1, Err(Fault::UnknownTable)),
+    ("INSERT INTO t VALUES (2)", "t", 1, Err(Fault::UnknownTable)),
+    ("DELETE FROM t WHERE k = 1", "v", 2, Ok(2)),
+    ("MOVE t 1", "v", 0, Ok(2)),
+    ("MERGE t", "v", 9, Ok(3)),
     ("DELETE FROM t WHERE k = 1", "v", u128::MAX, Ok(4)),
 ];
 
@@ -165,6 +164,8 @@ fn work_rises(rt: &impl Abort, alloc: Global, engine: &mut Engine) -> Result<(),
     assert!(rt; before == 0);
     for (statement, changes) in WRITES {
         drop(carry_out(rt, alloc, engine, statement)?);
+        assert!(rt; engine.view_work("v") == Some(before), "{statement}");
+        engine.refresh("v", 1)?;
         let work = engine.view_work("v").ok_or("no view")?;
         assert!(rt;
             if *changes {
@@ -193,6 +194,51 @@ fn count_work(rt: &impl Abort, alloc: Global, engine: &mut Engine) -> Result<(),
     }
     work_rises(rt, alloc, engine)?;
     tells_what_is_stored(rt, engine)
+}
+
+/// Statements, of which the first make views on a table of two rows of one key, and a write; by how much at most the work of
+/// the view `pairs` rises for it, which joins the table with itself, and that of `counts`.
+const COUNTED: &[(&[&str], u128, u128)] = &[
+    (
+        &[
+            "CREATE TABLE t(k INTEGER, a INTEGER)",
+            "INSERT INTO t VALUES (1,5), (1,6)",
+            "CREATE VIEW pairs AS SELECT COUNT(*) AS n FROM t x JOIN t y ON x.k = y.k",
+            "CREATE VIEW counts AS SELECT k, COUNT(*) AS n FROM t GROUP BY k",
+            "INSERT INTO t VALUES (1,7)",
+        ],
+        7,
+        2,
+    ),
+    (&["UPDATE t SET k = k, a = a"], 0, 0),
+    (&["DELETE FROM t WHERE k = 9"], 0, 0),
+];
+
+/// Takes a view on by one write, and tells by how much its work has risen.
+fn work_for_one(engine: &mut Engine, view: &str) -> Result<u128, Fail> {
+    let before = engine.view_work(view).ok_or("no view")?;
+    engine.refresh(view, 1)?;
+    let after = engine.view_work(view).ok_or("no view")?;
+    Ok(after.saturating_sub(before))
+}
+
+fn bound_work(rt: &impl Abort, alloc: Global, engine: &mut Engine) -> Result<(), Fail> {
+    for (statements, pairs, counts) in COUNTED {
+        for statement in *statements {
+            drop(carry_out(rt, alloc, engine, statement)?);
+        }
+        assert!(rt; work_for_one(engine, "pairs")? <= *pairs);
+        assert!(rt; work_for_one(engine, "counts")? <= *counts);
+    }
+    Ok(())
+}
+
+#[test]
+fn a_write_is_little_work_for_a_view(rt: HostRuntime) -> Result<(), Fail> {
+    let mut engine = engine(rt.alloc())?;
+    let bounded = bound_work(&rt, rt.alloc(), &mut engine);
+    drop(engine);
+    bounded
 }
 
 #[test]

@@ -10,18 +10,25 @@ use std::alloc::Global;
 use std::process::Abort;
 use std::test::Fail;
 
-/// Carries a statement out, once more where memory was wanting; what was refused has changed nothing.
+/// How many writes the view has taken in.
+fn taken_in(engine: &Engine) -> u64 {
+    engine.view_epoch("v").unwrap_or(0)
+}
+
+/// Carries a statement out, once more where memory was wanting; what was refused has written nothing, and brought no view
+/// back.
 fn carried_out(
     rt: &impl Abort,
     alloc: Global,
     engine: &mut Engine,
     text: &str,
 ) -> Result<Answer, Fault> {
-    let before = (engine.now(), engine.drawn(), engine.view_epoch("v"));
+    let before = (engine.now(), engine.drawn());
+    let taken = taken_in(engine);
     match carry_out(rt, alloc, engine, text) {
         Err(Fault::Memory) => {
-            let after = (engine.now(), engine.drawn(), engine.view_epoch("v"));
-            assert!(rt; before == after, "{text}");
+            let after = (engine.now(), engine.drawn());
+            assert!(rt; before == after && taken <= taken_in(engine), "{text}");
             carry_out(rt, alloc, engine, text)
         }
         first => first,

@@ -4,9 +4,18 @@ use Rattle.std.proofs.lemmas.Result.{err_from_is_err_and}
 use Rattle.cq_values.specs.Value.{Row}
 use Rattle.cq_model.specs.declared.query.Source.{Source}
 use Rattle.cq_engine_answers.specs.Gathered.{AreShownBy}
-use Rattle.cq_engine_answers.proofs.Readings.{read_fault, shown_by, view_inside}
+use Rattle.cq_engine_answers.proofs.Readings.{backed_there, read_fault, shown_by, view_inside}
 use Rattle.cq_engine_answers.proofs.gathered.gather_one.Goals.{in-Table, in-View+in_ok-rows-in-View+in_ok-into_rows-in-View}
 use Rattle.cq_engine_answers.proofs.gathered.gather_one.Goals as goal
+
+-- the view that the source is is backed
+pub rows_shown-requires : goal.rows_shown-requires
+rows_shown-requires c =
+    let views = c.args.views.now in
+    let v = c.index-views-place.result in
+    let inside = view_inside c.requires.there.0 views c.args.source c.in-View.place c.in-View.is c.requires.there.1 in
+    let at = slice_get_read views (length views) c.in-View.place v refl inside c.index-views-place.is in
+    backed_there views c.args.source c.in-View.place v c.in-View.is at c.requires.backed
 
 -- a view that cannot be shown
 pub returns-in_err-rows-in-View-clause-fault : goal.returns-in_err-rows-in-View-clause-fault

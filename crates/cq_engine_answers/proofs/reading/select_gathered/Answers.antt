@@ -24,12 +24,12 @@ list_answer-requires c =
     let tables = tables_of c.args.tables.now in
     let wide = c.in_ok-widths.ensures ∙ ap (source_widths tables (views_of c.args.views.now)) (c.deref.ensures.value ∙ c.in_ok-sources.ensures) in
     rw (c.deref-2.ensures.value, c.deref-3.ensures.value)
-    (can_answer tables c.args.views.now c.requires.right.0 c.requires.right.1 c.requires.fitting c.args.query.now c.requires.can_read
+    (can_answer tables c.args.views.now c.requires.fitting c.args.query.now c.requires.readable c.requires.can_read
     c.args.gathered.now c.in_ok-lent.lent.items c.requires.gathered c.in_ok-lent.ensures c.in_ok-widths.widths.items wide)
 
 -- the listing on them is that of SELECT
 pub returns : goal.returns
 returns c =
     let listed = rw c.deref-2.ensures.value at c.list_answer.ensures in
-    selects_joined (tables_of c.args.tables.now) c.args.views.now c.requires.right.0 c.requires.right.1 c.requires.fitting c.args.query.now c.requires.can_read
+    selects_joined (tables_of c.args.tables.now) c.args.views.now c.requires.fitting c.args.query.now c.requires.readable c.requires.can_read
     c.args.gathered.now c.in_ok-lent.lent.items c.requires.gathered c.in_ok-lent.ensures c.args.order.now c.meaning_depends_on_sources.ensures c.list_answer.result listed

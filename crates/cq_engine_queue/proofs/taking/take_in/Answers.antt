@@ -7,7 +7,8 @@ use Rattle.cq_views.specs.State.{CanPrepare}
 use Rattle.cq_views_model.specs.Query.{reads}
 use Rattle.cq_engine_tables.specs.Taking.{IsReadyFor}
 use Rattle.cq_engine_queue.specs.Taking.{changes_by}
-use Rattle.cq_engine_queue.proofs.Following.{can-prepare, same_itself, takes}
+use Rattle.cq_engine_tables.proofs.Unchanged.{same_itself}
+use Rattle.cq_engine_queue.proofs.Following.{can-prepare, takes}
 use Rattle.cq_engine_queue.proofs.taking.take_in.Goals as goal
 
 refused : {X E : Type 0} {P : Type 0} (result : Result X E) → P → OnErr result P

@@ -1,4 +1,4 @@
-use Rattle.std.proofs.Common.{◌≡◌, List, length, subst, sym, ◌≤◌, ◌^◌}
+use Rattle.std.proofs.Common.{◌≡◌, ℕ, List, length, subst, sym, ◌≤◌, ◌^◌}
 use Rattle.std.specs.Prelude.{IfOk}
 use Rattle.std.specs.List.{AllByRecursion}
 use Rattle.cq_values.specs.Value.{Row}
@@ -7,11 +7,12 @@ use Rattle.cq_model.specs.Width.{IsNarrowIn}
 use Rattle.cq_model_state.specs.Fitting.{IsFitting}
 use Rattle.cq_model_state.specs.State.{TableOf}
 use Rattle.cq_engine_tables.proofs.Rows.{rows_numbered}
-use Rattle.cq_engine_writes.proofs.Written.{standing, written-moved, written-number}
+use Rattle.cq_engine_writes.proofs.Written.{so_numbered, written-number}
 use Rattle.cq_engine_tables.specs.HeldTables.{MarkIn, tables_of}
 use Rattle.cq_engine_tables.proofs.HeldTables.{at_number, change-written, tables_set}
-use Rattle.cq_engine_writes.proofs.writing.delete_in.Goals as goal
+use Rattle.cq_engine_writes.specs.Changing.{Tells}
 use Rattle.cq_model_bags.proofs.Lists.{all-at}
+use Rattle.cq_engine_writes.proofs.writing.delete_in.Goals as goal
 
 pub delete_from-requires-clause-few : goal.delete_from-requires-clause-few
 delete_from-requires-clause-few c =
@@ -19,9 +20,6 @@ delete_from-requires-clause-few c =
     let at = rw c.deref.ensures.value at c.place_numbered-place.ensures in
     let here = at_number c.args.tables.now.items c.place_numbered-place.result c.index_mut.result.now c.args.number at.within c.index_mut.ensures.value (at.numbered c.index_mut.result.now) in
     subst (λ (x : TableOf). length x.rows ≤ 2 ^ 24) (sym here.1) (all-at (λ x. length x.rows ≤ 2 ^ 24) (tables_of c.args.tables.now.items) c.place_numbered-place.result t here.0 c.requires.limited)
-
-pub delete_from-requires-clause-stand : goal.delete_from-requires-clause-stand
-delete_from-requires-clause-stand c = standing (tables_of c.args.tables.now.items) c.requires.right.0 c.args.views.now.items c.requires.fitting c.requires.limited c.requires.right.1
 
 pub delete_from-requires-clause-narrow : goal.delete_from-requires-clause-narrow
 delete_from-requires-clause-narrow c =
@@ -37,7 +35,7 @@ returns-clause-count c =
     let at = rw c.deref.ensures.value at c.place_numbered-place.ensures in
     let here = at_number c.args.tables.now.items c.place_numbered-place.result c.index_mut.result.now c.args.number at.within c.index_mut.ensures.value (at.numbered c.index_mut.result.now) in
     let rows = rows_numbered (tables_of c.args.tables.now.items) c.place_numbered-place.result t c.requires.numbered.0 c.args.number c.requires.numbered.1 here.0 here.1 here.2 in
-    subst (λ (rs : List Row). IfOk c.delete_from.result (λ count. count ≡ length (chosen c.args.condition.now rs))) (sym rows) c.delete_from.ensures.count
+    subst (λ (rs : List Row). IfOk c.delete_from.result (λ done. done.0 ≡ length (chosen c.args.condition.now rs))) (sym rows) c.delete_from.ensures.count
 
 pub returns-clause-left : goal.returns-clause-left
 returns-clause-left c =
@@ -47,16 +45,6 @@ returns-clause-left c =
     rw (tables_set c.args.tables.now.items c.place_numbered-place.result c.delete_from.new.table)
     (written-number c.requires.numbered.0 (tables_of c.args.tables.now.items) c.place_numbered-place.result t c.requires.numbered.1 here.0 here.1 c.args.number here.2
     c.delete_from.new.table.is (left_by c.args.condition.now) c.delete_from.result c.delete_from.ensures.left)
-
-pub returns-clause-moved : goal.returns-clause-moved
-returns-clause-moved c =
-    let t = c.index_mut.result.now.is in
-    let at = rw c.deref.ensures.value at c.place_numbered-place.ensures in
-    let here = at_number c.args.tables.now.items c.place_numbered-place.result c.index_mut.result.now c.args.number at.within c.index_mut.ensures.value (at.numbered c.index_mut.result.now) in
-    rw (tables_set c.args.tables.now.items c.place_numbered-place.result c.delete_from.new.table)
-    (written-moved c.standing_depends_on_sources.ensures c.requires.right.0 c.requires.numbered.0 (tables_of c.args.tables.now.items) c.place_numbered-place.result t c.args.views.now.items
-    c.requires.numbered.1 here.0 here.1 c.requires.right.1 c.args.epoch c.delete_from.new.table.is c.delete_from.new.views.items (left_by c.args.condition.now t.rows) c.delete_from.result
-    c.delete_from.ensures.left c.delete_from.ensures.follow)
 
 pub delete_from-requires-clause-fitting : goal.delete_from-requires-clause-fitting
 delete_from-requires-clause-fitting c =
@@ -69,3 +57,10 @@ returns-clause-lengths c =
     let at = rw c.deref.ensures.value at c.place_numbered-place.ensures in
     change-written (λ _. MarkIn) c.args.number c.args.tables.now.items c.place_numbered-place.result c.requires.numbered.0 c.index_mut.result.now c.delete_from.new.table c.requires.numbered.1 at.within c.index_mut.ensures.value
     (at.numbered c.index_mut.result.now) (left_by c.args.condition.now c.index_mut.result.now.is.rows) c.delete_from.result c.delete_from.ensures.left c.delete_from.ensures.lengths
+
+pub returns-clause-change : goal.returns-clause-change
+returns-clause-change c =
+    let at = rw c.deref.ensures.value at c.place_numbered-place.ensures in
+    let here = at_number c.args.tables.now.items c.place_numbered-place.result c.index_mut.result.now c.args.number at.within c.index_mut.ensures.value (at.numbered c.index_mut.result.now) in
+    so_numbered c.requires.numbered.0 (tables_of c.args.tables.now.items) c.place_numbered-place.result c.index_mut.result.now.is c.requires.numbered.1 here.0 here.1 c.args.number here.2
+    (λ (m : ℕ) (rs : List Row). IfOk c.delete_from.result (λ done. Tells c.args.asked m rs (left_by c.args.condition.now rs) done.1)) c.delete_from.ensures.change

@@ -1,21 +1,20 @@
 use Rattle.std.proofs.Common.{refl}
-use Rattle.cq_engine_tables.specs.Views.{views_of}
-use Rattle.cq_engine.proofs.Kept.{all_at}
-use Rattle.cq_engine.proofs.Steps.{move_done}
-use Rattle.cq_engine_tables.specs.HeldTables.{tables_of}
 use Rattle.std.proofs.lemmas.Result.{err_from_is_err_and}
+use Rattle.cq_binder_rules.specs.declared.bound.Bound.TheVariants as commands
+use Rattle.cq_model_step.specs.declared.answer.Answer.TheVariants.{Done}
+use Rattle.cq_engine_tables.specs.HeldTables.{tables_of}
+use Rattle.cq_engine_tables.specs.Views.{views_of}
 use Rattle.cq_engine.proofs.Lengths.{same-lengths}
+use Rattle.cq_engine.proofs.Steps.{unwritten}
+use Rattle.cq_engine.specs.Commands.{state_of}
 use Rattle.cq_engine.proofs.engine.Engine.move_rows.Goals as goal
 
 pub returns-clause-done : goal.returns-clause-done
 returns-clause-done c =
-    let tables = tables_of c.self.inside.tables.items in
-    let views = c.self.inside.views.items in
-    let now = c.self.inside.writes in
-    rw (← c.self.view_is, c.in_ok-move_in.ensures.same) (
-      refl,
-      move_done tables (views_of views) now c.self.inside.drawn c.self.inside.limits.max_rows (all_at tables now views c.self.invariant.3) c.args.table c.args.rows,
-    )
+    let e = c.self.inside in
+    let tables = tables_of e.tables.items in
+    let s = state_of tables (views_of e.views.items) e.writes e.drawn e.queue e.limits.max_rows in
+    rw (← c.self.view_is, c.in_ok-move_in.ensures.same) (refl, unwritten s s (commands.Move c.args.table c.args.rows) Done c.self.invariant.history.sound.epochs (refl, refl))
 
 pub returns-in_err-move_in-clause-stores : goal.returns-in_err-move_in-clause-stores
 returns-in_err-move_in-clause-stores c =

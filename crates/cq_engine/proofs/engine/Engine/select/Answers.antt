@@ -1,28 +1,76 @@
-use Rattle.std.proofs.Common.{◌^◌, refl}
+use Rattle.std.proofs.Common.{◌^◌, inl, inr, refl}
 use Rattle.std.proofs.lemmas.Result.{err_from_is_err_and}
-use Rattle.cq_engine_tables.specs.Views.{views_of}
-use Rattle.cq_engine.proofs.Kept.{all_at}
+use Rattle.cq_binder_rules.specs.declared.bound.Bound.TheVariants as commands
+use Rattle.cq_views.proofs.Standing.{standing-by_bags}
 use Rattle.cq_engine_tables.proofs.Rows.{bounded_more}
-use Rattle.cq_engine.proofs.Steps.{select_done, select_refused}
 use Rattle.cq_engine_tables.specs.HeldTables.{tables_of}
+use Rattle.cq_engine_tables.specs.Views.{views_of}
+use Rattle.cq_engine.proofs.Kept.{selected-accepted, viewed-order}
+use Rattle.cq_engine.proofs.Steps.{gave-up, select-refused}
+use Rattle.cq_engine.specs.Commands.{state_of}
 use Rattle.cq_engine.proofs.engine.Engine.select.Goals as goal
 
-pub select_from-selected-requires-clause-right : goal.select_from-selected-requires-clause-right
-select_from-selected-requires-clause-right c = (c.self.inside.writes, rw (c.deref.ensures.value, c.deref-2.ensures.value) c.self.invariant.3)
+pub select_at_present-selected-requires : goal.select_at_present-selected-requires
+select_at_present-selected-requires c =
+    let e = c.self.inside in
+    let tables = tables_of e.tables.items in
+    let vs = e.views.items in
+    let s = state_of tables (views_of vs) e.writes e.drawn e.queue e.limits.max_rows in
+    rw c.deref.ensures.value (record {
+      state = s;
+      tables_are = refl;
+      queue_is = record { passed = refl; changes = refl };
+      now_is = refl;
+      history = c.self.invariant.history;
+      right = c.self.invariant.right;
+      fitting = c.self.invariant.fitting;
+      limited = bounded_more e.limits.max_rows (2 ^ 24) tables e.limits.in_range.1 c.self.invariant.limited;
+      can = rw (← c.self.view_is) at c.requires;
+    })
 
-pub select_from-selected-requires-clause-few : goal.select_from-selected-requires-clause-few
-select_from-selected-requires-clause-few c = rw c.deref.ensures.value (bounded_more c.self.inside.limits.max_rows (2 ^ 24) (tables_of c.self.inside.tables.items) c.self.inside.limits.in_range.1 c.self.invariant.4)
+pub invariant_of-self : goal.invariant_of-self
+invariant_of-self c =
+    let e = c.self.inside in
+    let tables = tables_of e.tables.items in
+    let vs = e.views.items in
+    let s = state_of tables (views_of vs) e.writes e.drawn e.queue e.limits.max_rows in
+    viewed-order standing-by_bags s vs c.self.invariant refl e.limits.in_range.1 c.select_at_present-selected.new.views.items (c.select_at_present-selected.ensures.right s (record { passed = refl; changes = refl }) c.self.invariant.history c.self.invariant.right)
+
+pub invariant_of-self-2 : goal.invariant_of-self-2
+invariant_of-self-2 c =
+    let e = c.self.inside in
+    let tables = tables_of e.tables.items in
+    let vs = e.views.items in
+    let s = state_of tables (views_of vs) e.writes e.drawn e.queue e.limits.max_rows in
+    viewed-order standing-by_bags s vs c.self.invariant refl e.limits.in_range.1 c.select_at_present-selected.new.views.items (c.select_at_present-selected.ensures.right s (record { passed = refl; changes = refl }) c.self.invariant.history c.self.invariant.right)
 
 pub returns-in_err-rows-clause-done : goal.returns-in_err-rows-clause-done
 returns-in_err-rows-clause-done c =
     let p = err_from_is_err_and c.from_residual.result c.from_residual.ensures.1 in
-    let refused = rw (c.deref.ensures.value, c.deref-2.ensures.value) at c.in_err-rows.ensures in
-    rw (p.1, p.2, ← c.self.view_is) (select_refused (tables_of c.self.inside.tables.items) (views_of c.self.inside.views.items) c.self.inside.writes c.self.inside.drawn c.self.inside.limits.max_rows c.args.header c.args.query c.args.order c.in_err-rows.field-0.0 refused, refl)
+    let e = c.self.inside in
+    let tables = tables_of e.tables.items in
+    let vs = e.views.items in
+    let s = state_of tables (views_of vs) e.writes e.drawn e.queue e.limits.max_rows in
+    let refused = rw c.deref.ensures.value at c.in_err-rows.ensures.selects in
+    rw (p.1, p.2, ← c.self.view_is) (select-refused s c.args.header c.args.query c.args.order c.in_err-rows.field-0.0 (views_of c.select_at_present-selected.new.views.items) refused c.select_at_present-selected.ensures.way)
 
 pub returns-clause-done : goal.returns-clause-done
 returns-clause-done c =
-    let walk = rw (c.deref.ensures.value, c.deref-2.ensures.value) at c.in_ok-rows.ensures in
-    let tables = tables_of c.self.inside.tables.items in
-    let views = c.self.inside.views.items in
+    let e = c.self.inside in
+    let tables = tables_of e.tables.items in
+    let vs = e.views.items in
+    let s = state_of tables (views_of vs) e.writes e.drawn e.queue e.limits.max_rows in
+    let selects = rw c.deref.ensures.value at c.in_ok-rows.ensures.selects in
+    let ws = c.select_at_present-selected.new.views.items in
+    let right = c.select_at_present-selected.ensures.right s (record { passed = refl; changes = refl }) c.self.invariant.history c.self.invariant.right in
     rw (← c.self.view_is)
-    (refl, select_done tables (views_of views) c.self.inside.writes c.self.inside.drawn c.self.inside.limits.max_rows (all_at tables c.self.inside.writes views c.self.invariant.3) c.args.header c.args.query c.args.order c.in_ok-rows.rows walk)
+    (refl, selected-accepted standing-by_bags s vs c.self.invariant refl e.limits.in_range.1 ws right c.args.header c.args.query c.args.order c.in_ok-rows.rows c.in_ok-rows.ensures.ok selects)
+
+-- without memory for their text it might as well have been refused
+pub returns-clause-rows : goal.returns-clause-rows
+returns-clause-rows c =
+    let e = c.self.inside in
+    let tables = tables_of e.tables.items in
+    let vs = e.views.items in
+    let s = state_of tables (views_of vs) e.writes e.drawn e.queue e.limits.max_rows in
+    rw (← c.self.view_is) (inr (refl, inl refl, gave-up s (commands.Select c.args.header c.args.query c.args.order) (views_of c.select_at_present-selected.new.views.items) c.select_at_present-selected.ensures.way))

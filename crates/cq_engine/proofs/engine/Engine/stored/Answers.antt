@@ -15,4 +15,4 @@ returns c =
     let found = rw c.deref.ensures.value at c.in_ok-place.ensures in
     rw (← c.self.view_is)
     (ap Some c.lengths-write_len.ensures
-    ∙ sym (lengths-found c.self.inside.tables.items c.args.table.now c.in_ok-place.place c.self.inside.drawn c.index.result.now c.self.invariant.1 found.within c.index.ensures found.found))
+    ∙ sym (lengths-found c.self.inside.tables.items c.args.table.now c.in_ok-place.place c.self.inside.drawn c.index.result.now c.self.invariant.history.sound.numbered found.within c.index.ensures found.found))

@@ -1,65 +1,98 @@
-use Rattle.std.proofs.Common.{ap, ◌+◌, ◌^◌, arith, inl}
+use Rattle.std.proofs.Common.{◌^◌, Bool, not, ap, arith, inl, length, refl, subst, sym}
 use Rattle.std.proofs.lemmas.Result.{err_from_is_err_and}
+use Rattle.cq_binder_rules.specs.declared.bound.Bound.TheVariants as commands
 use Rattle.cq_model.specs.Write.{updated}
-use Rattle.cq_model_state.specs.State.{rows_in}
-use Rattle.cq_engine_tables.specs.Views.{views_of}
-use Rattle.cq_engine.proofs.Kept.{all_at, order_kept, unchanged}
-use Rattle.cq_engine_tables.proofs.Rows.{bounded_more}
-use Rattle.cq_engine.proofs.Steps.{update_done}
 use Rattle.cq_engine_writes.proofs.Updates.{updated_bounded, updated_fit}
+use Rattle.cq_model_state.specs.State.{State, rows_in}
+use Rattle.cq_model_step.specs.declared.answer.Answer.TheVariants.{Count}
+use Rattle.cq_views.proofs.Standing.{standing-by_bags}
+use Rattle.cq_engine_tables.proofs.Rows.{bounded_more}
 use Rattle.cq_engine_tables.specs.HeldTables.{tables_of}
+use Rattle.cq_engine_tables.specs.Views.{views_of}
+use Rattle.cq_engine.proofs.Kept.{all-within, behind-accepted, behind-order, none-asked, room-told, same-state}
 use Rattle.cq_engine.proofs.Lengths.{same-lengths}
+use Rattle.cq_engine.specs.Commands.{IsInOrder, state_of}
 use Rattle.cq_engine.proofs.engine.Engine.update.Goals as goal
-use Rattle.cq_model_state.proofs.Numbered.{numbered-weaker, numbered-with_rows}
 
 pub update_in-updated-requires-clause-limited : goal.update_in-updated-requires-clause-limited
-update_in-updated-requires-clause-limited c =
-    bounded_more c.self.inside.limits.max_rows (2 ^ 24) (tables_of c.self.inside.tables.items) c.self.inside.limits.in_range.1
-    c.self.invariant.4
+update_in-updated-requires-clause-limited c = bounded_more c.self.inside.limits.max_rows (2 ^ 24) (tables_of c.self.inside.tables.items) c.self.inside.limits.in_range.1 c.self.invariant.limited
 
+-- a write that is refused changes nothing
 pub invariant_of-self : goal.invariant_of-self
 invariant_of-self c =
-    let same = c.in_err-count.ensures.err in
     let e = c.self.inside in
-    order_kept e.writes e.drawn e.limits.max_rows (tables_of e.tables.items) (tables_of c.update_in-updated.new.tables.items) e.views.items c.update_in-updated.new.views.items (ap tables_of same.0) same.1 c.self.invariant
+    let tables = tables_of e.tables.items in
+    let vs = e.views.items in
+    let s = state_of tables (views_of vs) e.writes e.drawn e.queue e.limits.max_rows in
+    let same = same-state tables (tables_of c.update_in-updated.new.tables.items) (views_of vs) e.writes e.drawn e.limits.max_rows e.queue c.update_in-updated.new.queue (ap tables_of c.in_err-count.ensures.err) c.update_in-updated.ensures.queue in
+    subst (λ (t : State). IsInOrder t vs) (sym same) c.self.invariant
 
 pub returns-in_err-count-clause-done : goal.returns-in_err-count-clause-done
 returns-in_err-count-clause-done c =
     let p = err_from_is_err_and c.from_residual.result c.from_residual.ensures.1 in
-    let walk = rw c.as_slice.ensures at c.in_err-count.ensures.updates in
-    let same = c.in_err-count.ensures.err in
-    let tables = tables_of c.self.inside.tables.items in
-    let views = c.self.inside.views.items in
-    rw (← c.self.view_is, p.1, p.2)
-    (inl walk, unchanged tables (tables_of c.update_in-updated.new.tables.items) views c.update_in-updated.new.views.items c.self.inside.writes c.self.inside.drawn c.self.inside.limits.max_rows (ap tables_of same.0) same.1)
+    let e = c.self.inside in
+    let tables = tables_of e.tables.items in
+    let vs = e.views.items in
+    let s = state_of tables (views_of vs) e.writes e.drawn e.queue e.limits.max_rows in
+    let same = same-state tables (tables_of c.update_in-updated.new.tables.items) (views_of vs) e.writes e.drawn e.limits.max_rows e.queue c.update_in-updated.new.queue (ap tables_of c.in_err-count.ensures.err) c.update_in-updated.ensures.queue in
+    rw (← c.self.view_is, p.1, p.2) (inl (rw c.as_slice.ensures at c.in_err-count.ensures.updates, same))
+
+-- each view is at an epoch of the queue, and where there are views, the change is told
+pub note-requires-clause-within : goal.note-requires-clause-within
+note-requires-clause-within c =
+    let e = c.self.inside in
+    let tables = tables_of e.tables.items in
+    let vs = e.views.items in
+    let s = state_of tables (views_of vs) e.writes e.drawn e.queue e.limits.max_rows in
+    rw c.deref.ensures.value (all-within s c.update_in-updated.new.queue c.update_in-updated.ensures.queue.passed c.update_in-updated.ensures.queue.changes c.self.invariant.history.sound.whole vs c.self.invariant.right)
+
+pub note-requires-clause-room : goal.note-requires-clause-room
+note-requires-clause-room c = room-told c.in_ok-count.change c.update_in-updated.new.queue.room c.in_ok-count.ensures.room
+
+pub note-requires-clause-told : goal.note-requires-clause-told
+note-requires-clause-told c = rw c.deref.ensures.value (none-asked c.self.inside.views.items _ _ c.in_ok-count.change c.self.inside.views.ok.0 (ap (λ (b : Bool). not b) c.is_empty-asked.ensures) c.in_ok-count.ensures.change.there)
+
+pub note-requires-clause-range : goal.note-requires-clause-range
+note-requires-clause-range c =
+    let drawn = rw (← c.self.view_is) at c.requires.drawn in
+    omega (arith, drawn, c.update_in-updated.ensures.queue.passed, ap length c.update_in-updated.ensures.queue.changes, c.self.invariant.history.sound.whole, c.self.invariant.history.sound.drawn)
 
 pub invariant_of-self-2 : goal.invariant_of-self-2
 invariant_of-self-2 c =
+    let e = c.self.inside in
+    let tables = tables_of e.tables.items in
+    let vs = e.views.items in
+    let s = state_of tables (views_of vs) e.writes e.drawn e.queue e.limits.max_rows in
+    let told = c.in_ok-count.change in
     let walk = rw c.as_slice.ensures at c.in_ok-count.ensures.updates in
-    let tables = tables_of c.self.inside.tables.items in
-    let drawn = c.self.inside.drawn in (
-      omega (arith, c.self.invariant.0),
-      rw walk.2 (numbered-weaker _ drawn (drawn + 1) (omega arith) (numbered-with_rows c.args.table (updated c.args.assignments c.args.filter (rows_in tables c.args.table)) tables drawn c.self.invariant.1)),
-      rw walk.2 (updated_fit c.args.table c.args.assignments c.args.filter tables drawn c.self.invariant.1 c.self.invariant.2 (rw (← c.self.view_is) at c.requires.bound).1 walk.0),
-      c.in_ok-count.ensures.moved.right,
-      rw walk.2 (updated_bounded c.args.table c.args.assignments c.args.filter tables c.self.inside.limits.max_rows c.self.invariant.4),
-    )
+    let bound = rw (← c.self.view_is) at c.requires.bound in
+    let drawn = rw (← c.self.view_is) at c.requires.drawn in
+    let none = none-asked vs _ _ told e.views.ok.0 (ap (λ (b : Bool). not b) c.is_empty-asked.ensures) c.in_ok-count.ensures.change.there in
+    let notes = rw c.deref.ensures.value at c.note.ensures in
+    let rows = updated c.args.assignments c.args.filter (rows_in tables c.args.table) in
+    let command = commands.Update c.args.table c.args.assignments c.args.filter in
+    let accepted = behind-accepted standing-by_bags s vs c.self.invariant refl c.args.table rows _ told c.update_in-updated.new.queue c.note.new.queue c.update_in-updated.ensures.queue.passed c.update_in-updated.ensures.queue.changes none (rw c.as_slice.ensures at c.in_ok-count.ensures.change) notes command (Count c.in_ok-count.count) (λ w. (ap Count walk.1, w)) in
+    rw walk.2 (behind-order standing-by_bags s vs c.self.invariant refl c.args.table rows _ told c.update_in-updated.new.queue c.note.new.queue c.update_in-updated.ensures.queue.passed c.update_in-updated.ensures.queue.changes none (rw c.as_slice.ensures at c.in_ok-count.ensures.change) notes command (Count c.in_ok-count.count) bound.0 bound.0 accepted e.limits.in_range.1
+    (omega (arith, drawn, c.self.invariant.history.sound.drawn)) (updated_fit c.args.table c.args.assignments c.args.filter tables e.drawn c.self.invariant.history.sound.numbered c.self.invariant.fitting bound.1 walk.0) (updated_bounded c.args.table c.args.assignments c.args.filter tables e.limits.max_rows c.self.invariant.limited))
 
 pub returns-clause-done : goal.returns-clause-done
 returns-clause-done c =
+    let e = c.self.inside in
+    let tables = tables_of e.tables.items in
+    let vs = e.views.items in
+    let s = state_of tables (views_of vs) e.writes e.drawn e.queue e.limits.max_rows in
+    let told = c.in_ok-count.change in
     let walk = rw c.as_slice.ensures at c.in_ok-count.ensures.updates in
-    let tables = tables_of c.self.inside.tables.items in
-    let views = c.self.inside.views.items in
-    rw (← c.self.view_is) (
-      walk.0,
-      update_done tables (views_of views) c.self.inside.writes c.self.inside.drawn c.self.inside.limits.max_rows (all_at tables c.self.inside.writes views c.self.invariant.3)
-          c.args.table c.args.assignments c.args.filter (tables_of c.update_in-updated.new.tables.items) (views_of c.update_in-updated.new.views.items) c.in_ok-count.count walk.1 walk.2 c.in_ok-count.ensures.moved.views,
-    )
+    let none = none-asked vs _ _ told e.views.ok.0 (ap (λ (b : Bool). not b) c.is_empty-asked.ensures) c.in_ok-count.ensures.change.there in
+    let notes = rw c.deref.ensures.value at c.note.ensures in
+    let rows = updated c.args.assignments c.args.filter (rows_in tables c.args.table) in
+    let command = commands.Update c.args.table c.args.assignments c.args.filter in
+    rw (← c.self.view_is, walk.2) (walk.0, behind-accepted standing-by_bags s vs c.self.invariant refl c.args.table rows _ told c.update_in-updated.new.queue c.note.new.queue c.update_in-updated.ensures.queue.passed c.update_in-updated.ensures.queue.changes none (rw c.as_slice.ensures at c.in_ok-count.ensures.change) notes command (Count c.in_ok-count.count) (λ w. (ap Count walk.1, w)))
 
 pub returns-in_err-count-clause-stores : goal.returns-in_err-count-clause-stores
 returns-in_err-count-clause-stores c =
     let p = err_from_is_err_and c.from_residual.result c.from_residual.ensures.1 in
-    rw (← c.self.view_is, p.1) (same-lengths c.self.inside.tables.items c.update_in-updated.new.tables.items c.in_err-count.ensures.err.0)
+    rw (← c.self.view_is, p.1) (same-lengths c.self.inside.tables.items c.update_in-updated.new.tables.items c.in_err-count.ensures.err)
 
 pub returns-clause-stores : goal.returns-clause-stores
 returns-clause-stores c = rw (← c.self.view_is) c.in_ok-count.ensures.lengths

@@ -1,4 +1,4 @@
-use Rattle.cq_engine_tables.proofs.Turns.{same_itself}
+use Rattle.cq_engine_tables.proofs.Unchanged.{same_itself}
 use Rattle.cq_engine_tables.proofs.view.View.prepare.Goals as goal
 
 pub returns-then-not-is_on-clause-same : goal.returns-then-not-is_on-clause-same
