@@ -11,7 +11,7 @@ use std::io::{BufWriter, Write};
 use std::process::ExitCode;
 use std::{fs, io};
 
-const SCRIPTS: [&str; 8] = [
+const SCRIPTS: [&str; 9] = [
     "conditions.sql",
     "groups.sql",
     "joins.sql",
@@ -20,6 +20,7 @@ const SCRIPTS: [&str; 8] = [
     "movers.sql",
     "self-joined-views.sql",
     "views.sql",
+    "waiting-views.sql",
 ];
 
 fn main(rt: HostRuntime) -> ExitCode {
