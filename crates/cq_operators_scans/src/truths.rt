@@ -1,11 +1,10 @@
 //! The truth of a condition in each row of a scan.
-ghost use Rattle.std.specs.Prelude.{◌≡◌, IfOk, IfSome, length, map, true};
+ghost use Rattle.std.specs.Prelude.{◌≡◌, IfOk, length, map, true};
 ghost use Rattle.std.specs.List.{AllByRecursion};
 ghost use Rattle.std.specs.Simd.Lanes.{zip2};
 ghost use Rattle.cq_values.specs.Comparison.{compared};
 ghost use Rattle.cq_values.specs.Truth.{and_truth, or_truth};
-ghost use Rattle.cq_values.specs.declared.value.Value.TheVariants.{Text};
-ghost use Rattle.cq_model.specs.Condition.{holds, liked};
+ghost use Rattle.cq_model.specs.Condition.{holds};
 ghost use Rattle.cq_model.specs.Exact.{AreExactAt, AreExactIn, IsExactAt};
 ghost use Rattle.cq_model.specs.Trees.{cond_of, expr_of};
 ghost use Rattle.cq_operators_scans.specs.Nodes.{is_connective};
@@ -135,9 +134,11 @@ fn likes_in<'a>(
     ensures { IfOk result (AreTruths (is_liked_at expr.now pattern.now) scan.now) }
 {
     let values = vector_of_tree(alloc, expr, scan)?;
-    let truths = liked(alloc, values.vector(), pattern, known);
+    let mut truths = TruthMask::new();
+    let asked = like_known(alloc, values.vector(), pattern, known, &mut truths);
     drop(values);
-    truths
+    asked?;
+    Ok(truths)
 }
 
 fn between_in<'a>(
@@ -212,45 +213,15 @@ fn compared_with<'a>(
     ensures { IfOk result (AreCompared comparison values.now expr.now scan.now) }
 {
     if let Some(Lent::Text(text)) = constant_of(expr) {
-        if let Some(truths) = compared_known(alloc, comparison, values, text, known)? {
+        let mut truths = TruthMask::new();
+        let is_known = compare_known(alloc, comparison, values, text, known, &mut truths)?;
+        if is_known {
             return Ok(truths);
         }
     }
     let others = vector_of_tree(alloc, expr, scan)?;
     let truths = compared(comparison, values, others.vector());
     drop(others);
-    Ok(truths)
-}
-
-/// These values, compared with a text: None where nothing is known of their entries.
-fn compared_known<'a>(
-    alloc: Global,
-    comparison: Comparison,
-    values: &Vector<'a>,
-    text: &'a str,
-    known: &mut KnownTruths<'a>,
-) -> Result<Option<TruthMask>, AllocError>
-    ensures { IfOk result (λ found. IfSome found (λ truths. truths ≡ map (λ v. compared comparison v (Text text.now)) values.now)) }
-{
-    let mut truths = TruthMask::new();
-    if compare_known(alloc, comparison, values, text, known, &mut truths)? {
-        Ok(Some(truths))
-    } else {
-        Ok(None)
-    }
-}
-
-/// Which of these values are like the pattern.
-fn liked<'a>(
-    alloc: Global,
-    values: &Vector<'a>,
-    pattern: &'a str,
-    known: &mut KnownTruths<'a>,
-) -> Result<TruthMask, AllocError>
-    ensures { IfOk result (λ truths. truths ≡ map (λ v. liked v pattern.now) values.now) }
-{
-    let mut truths = TruthMask::new();
-    like_known(alloc, values, pattern, known, &mut truths)?;
     Ok(truths)
 }
 

@@ -3,11 +3,8 @@
 //! All vectors of a segment's column have the same entries. So each entry is asked once, when the first of them comes, and
 //! again where a vector has other entries, as that of the next segment has. To see that they are the same takes a
 //! comparison of their bytes, so what has many bytes is not kept. A few lists of entries are kept, and then all are forgotten.
-ghost use Rattle.cq_model.specs.Condition.{liked};
-ghost use Rattle.cq_prims_texts.specs.Asked.{truth_asked};
+ghost use Rattle.cq_prims_texts.specs.Asked.{compared_by, liked_by, truth_asked};
 ghost use Rattle.cq_prims_texts.specs.Named.{truths_of_texts};
-ghost use Rattle.cq_values.specs.Comparison.{compared};
-ghost use Rattle.cq_values.specs.declared.value.Value.TheVariants.{Text};
 ghost use Rattle.std.specs.Bool.{OnTrue};
 ghost use Rattle.std.specs.Prelude.{◌≡◌, IfOk, OnOk, map};
 
@@ -40,7 +37,6 @@ pub(crate) enum Asked<'a> {
 #[derive(Drop)]
 pub struct KnownTruths<'a> {
     lists: Vec<Known<'a>>,
-    most: usize,
 }
 
 /// What the entries of a list answered.
@@ -90,15 +86,6 @@ impl<'a> KnownTruths<'a> {
     pub fn new(alloc: Global) -> KnownTruths<'a> {
         KnownTruths {
             lists: Vec::new(alloc),
-            most: MOST_LISTS,
-        }
-    }
-
-    /// Nothing is known, nor will be: for who asks of one vector alone.
-    pub fn forgotten(alloc: Global) -> KnownTruths<'a> {
-        KnownTruths {
-            lists: Vec::new(alloc),
-            most: 0,
         }
     }
 
@@ -116,7 +103,7 @@ impl<'a> KnownTruths<'a> {
 
     /// Keeps what the entries of a list answered. Where there are as many lists as may be, those before are forgotten.
     fn keep(&mut self, known: Known<'a>) -> Result<(), AllocError> {
-        if self.lists.len() >= self.most {
+        if self.lists.len() >= MOST_LISTS {
             self.lists.clear();
         }
         self.lists.push(known)?;
@@ -157,7 +144,7 @@ pub fn like_known<'a>(
     known: &mut KnownTruths<'a>,
     to: &mut TruthMask,
 ) -> Result<(), AllocError>
-    ensures { OnOk result (to.new ≡ map (λ value. liked value pattern.now) values.now) }
+    ensures { OnOk result (to.new ≡ map (liked_by pattern.now) values.now) }
 {
     if let Form::Codes(texts) = values.form() {
         if ask_codes(alloc, texts, Asked::Like(pattern), known, to)? {
@@ -179,7 +166,7 @@ pub fn compare_known<'a>(
     known: &mut KnownTruths<'a>,
     to: &mut TruthMask,
 ) -> Result<bool, AllocError>
-    ensures { IfOk result (λ set. OnTrue set (to.new ≡ map (λ value. compared comparison value (Text text.now)) values.now)) }
+    ensures { IfOk result (λ set. OnTrue set (to.new ≡ map (compared_by comparison text.now) values.now)) }
 {
     match values.form() {
         Form::Codes(texts) => {
@@ -189,8 +176,7 @@ pub fn compare_known<'a>(
     }
 }
 
-/// The truth of the text of each place, or an answer that there are too many entries for so few codes, or that nothing is
-/// kept.
+/// The truth of the text of each place, or an answer that there are too many entries for so few codes, or bytes to compare.
 fn ask_codes<'a>(
     alloc: Global,
     texts: &Codes<'a>,
@@ -201,7 +187,7 @@ fn ask_codes<'a>(
     ensures { IfOk result (λ set. OnTrue set (to.new ≡ map (truth_asked asked.entry) texts.now)) }
 {
     let (entries, codes) = texts.parts();
-    if known.most == 0 || entries.len() / 8 > codes.len() || has_many_bytes(entries) {
+    if entries.len() / 8 > codes.len() || has_many_bytes(entries) {
         return Ok(false);
     }
     if known.set(&asked, texts, to) {
@@ -219,7 +205,7 @@ fn truths_of_fits(
     pattern: &Pattern<'_>,
     texts: &TextRun,
 ) -> Result<Vec<Truth>, AllocError>
-    ensures { IfOk result (λ truths. truths.items ≡ truths_of_texts (λ value. liked value pattern.now) texts.now) }
+    ensures { IfOk result (λ truths. truths.items ≡ truths_of_texts (liked_by pattern.now) texts.now) }
 {
     truths_by(alloc, &EntryFits { pattern }, texts)
 }

@@ -3,7 +3,7 @@ use Rattle.cq_values.specs.Value.{Row}
 use Rattle.cq_values.specs.declared.truth.Truth.{Truth}
 use Rattle.cq_values.specs.declared.value.Value.{Value}
 use Rattle.cq_values.specs.declared.value.Value.TheVariants.{Text}
-use Rattle.std.specs.Prelude.{IfSome}
+use Rattle.std.specs.Bool.{OnTrue}
 use Rattle.std.proofs.lemmas.List.{length-map}
 use Rattle.std.specs.Simd.Lanes.{zip2}
 use Rattle.cq_values.specs.Comparison.{compared}
@@ -30,13 +30,13 @@ compared-truths-requires c = c.requires.same ∙ sym (ap length (c.vector.ensure
 pub returns : goal.returns
 returns c = c.compared-truths.ensures ∙ ap (zip2 (compared c.args.comparison) c.args.values.now) (c.vector.ensures ∙ c.in_ok-others.ensures)
 
-pub returns-in-Some : goal.returns-in-Some
-returns-in-Some c =
+pub returns-then-is_known : goal.returns-then-is_known
+returns-then-is_known c =
     let by = compared c.args.comparison in
     let vs = c.args.values.now in
     let rows = c.args.scan.now in
     let text : Value = Text c.in-Some-Text.text.now in
-    let found : c.in-Some.truths ≡ map (λ v. by v text) vs = subst (λ o. IfSome o (λ truths. truths ≡ map (λ v. by v text) vs)) c.in-Some.is c.in_ok-truths.ensures in
+    let found : c.compare_known.new.to ≡ map (λ v. by v text) vs = subst (λ known. OnTrue known (c.compare_known.new.to ≡ map (λ v. by v text) vs)) c.if-is_known.true c.in_ok-is_known.ensures in
     let each : HasValue (expr_of c.args.expr.now) c.in-Some-Text.field-0 = c.in-Some-Text.ensures in
     let all : map (eval (expr_of c.args.expr.now)) rows ≡ map (λ row. text) rows = one-value (eval (expr_of c.args.expr.now)) text (λ row. each row ∙ search rules) rows in
     found ∙ zip2-constant by vs rows text c.requires.same ∙ ap (zip2 by vs) (sym all)

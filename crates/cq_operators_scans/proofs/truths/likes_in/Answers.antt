@@ -1,5 +1,4 @@
 use Rattle.std.proofs.Common.{◌∙◌, ap, map}
-use Rattle.std.proofs.lemmas.Result.{IfOk-weaker}
 use Rattle.cq_model.specs.Condition.{liked}
 use Rattle.cq_model.specs.Eval.{eval}
 use Rattle.cq_model.specs.Trees.{expr_of}
@@ -8,5 +7,4 @@ use Rattle.cq_operators_scans.proofs.truths.likes_in.Goals as goal
 
 pub returns : goal.returns
 returns c =
-    IfOk-weaker c.liked-truths.result _ _
-    (λ truths are. are ∙ ap (map (λ v. liked v c.args.pattern.now)) (c.vector.ensures ∙ c.in_ok-values.ensures) ∙ map-map (eval (expr_of c.args.expr.now)) (λ v. liked v c.args.pattern.now) c.args.scan.now) c.liked-truths.ensures
+    c.in_ok-asked.ensures ∙ ap (map (λ v. liked v c.args.pattern.now)) (c.vector.ensures ∙ c.in_ok-values.ensures) ∙ map-map (eval (expr_of c.args.expr.now)) (λ v. liked v c.args.pattern.now) c.args.scan.now
