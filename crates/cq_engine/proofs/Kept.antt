@@ -1,6 +1,7 @@
 -- An engine stays in order: what is known of its tables and views behind each command.
 use Rattle.std.proofs.Common.{◌≡◌, ◌⊎◌, ◌+◌, ◌<◌, ◌≤◌, ◌^◌, ℕ, Bool, true, false, not, List, [], ◌∷◌, ◌++◌, length, inl, inr, Option, Some, None, Ok, refl, sym, ap, ◌∙◌, subst, arith}
 use Rattle.std.specs.Prelude.{◌==◌, IfSome, is_some}
+use Rattle.std.specs.Bool.{OnTrue}
 use Rattle.std.specs.List.{AllByRecursion, remove}
 use Rattle.std.proofs.lemmas.Bool.{ne_eqb}
 use Rattle.cq_values.specs.Value.{Row}
@@ -20,18 +21,17 @@ use Rattle.cq_model_step.specs.Step.{Accepts, Leads}
 use Rattle.cq_model_step.specs.declared.answer.Answer.{Answer}
 use Rattle.cq_model_step.specs.declared.answer.Answer.TheVariants.{Done, Rows}
 use Rattle.cq_model_step_laws.proofs.Follows.{Follows, follows-accepts, follows-itself, follows-trims, follows-views, new-empty}
-use Rattle.cq_model_step_laws.proofs.Numbers.{there-dropped, there-old_or_new, there-with_rows}
 use Rattle.cq_model_step_laws.specs.Sound.{Fits, IsInTime, IsThere}
 use Rattle.cq_views.specs.Laws.{StandingDependsOnSources}
 use Rattle.cq_views_model.specs.Query.{reads}
 use Rattle.cq_engine_answers.specs.Selects.{Selects}
-use Rattle.cq_engine_queue.proofs.Later.{IsNew, all-right-later, history-later}
+use Rattle.cq_engine_queue.proofs.Later.{AreKnown, IsNew, all-right-later, history-later}
 use Rattle.cq_engine_queue.specs.History.{IsSmall}
 use Rattle.cq_engine_queue.specs.Queued.{AreWithin, IsSameQueue, IsTrimmed, Notes, Queued}
 use Rattle.cq_engine_tables.proofs.Numbers.{others}
 use Rattle.cq_engine_tables.proofs.Rows.{all_left, bounded_more, unread, unused}
-use Rattle.cq_engine_tables.proofs.Wide.{KeepWidths, all-still-wide, keep-behind, keep-with_rows, wide-left}
-use Rattle.cq_engine_tables.specs.Views.{AreRight, AreWide, IsRight, NamedView, views_of}
+use Rattle.cq_engine_tables.proofs.Wide.{KeepWidths, all-still-wide, keep-behind, keep-with_rows, was-behind, was-left, was-with_rows, wide-left}
+use Rattle.cq_engine_tables.specs.Views.{AreRight, AreWide, IsRight, NamedView, views_of, width_at}
 use Rattle.cq_engine_writes.specs.Changing.{Tells}
 use Rattle.cq_engine.proofs.Steps.{IsNoted, noted, some-dropped, unwritten, unwritten-trimmed, with_queue, write-accepted}
 use Rattle.cq_engine.specs.Commands.{IsInOrder, state_of}
@@ -80,7 +80,7 @@ all-wide-left s n vs free r = left vs (unused n vs free) r
 -- ---- The order
 -- an engine is in order in a later state
 module _ (law : StandingDependsOnSources) (old new : State) (vs ws : List NamedView) (f : Follows old new) (order : IsInOrder old vs) (one : new.now ≤ old.now + 1) (most : new.max_rows ≤ rows_limit) where
-  pub order-later : (known : (n : ℕ) → IsThere n new.tables → IsThere n old.tables ⊎ IsNew new n) → AreFitting new.tables → AreLimited new.max_rows new.tables → AllByRecursion IsSmall new.queue → new.now < 2 ^ 64
+  pub order-later : AreKnown old new → AreFitting new.tables → AreLimited new.max_rows new.tables → AllByRecursion IsSmall new.queue → new.now < 2 ^ 64
       → new.views ≡ views_of ws → AreRight old ws → AllByRecursion (λ v. AreWide new.tables v.kept.query v.kept.widths) ws → IsInOrder new ws
   order-later known fitting limited small range are right wide = record {
     history = history-later old new f one order.history fitting (bounded_more new.max_rows rows_limit new.tables most limited) known small range;
@@ -102,9 +102,9 @@ none-asked (v ∷ vs) len asked told long is there none =
     absurd (cc (sym yes ∙ sym there ∙ ap is_some none))
 
 -- and there is room for it
-pub room-told : (told : Option ChangeOf) (room : ℕ) → 0 < room → IfSome told (λ c. 0 < room)
-room-told None room more = tt
-room-told (Some c) room more = more
+pub room-told : (told : Option ChangeOf) (asked : Bool) (room : ℕ) → is_some told ≡ asked → OnTrue asked (0 < room) → IfSome told (λ c. 0 < room)
+room-told None asked room there more = tt
+room-told (Some c) asked room there more = subst (λ (b : Bool). OnTrue b (0 < room)) (sym there) more
 
 -- behind a write
 module _ (law : StandingDependsOnSources) (s : State) (vs : List NamedView) (order : IsInOrder s vs) (are : s.views ≡ views_of vs) (n : ℕ) (rows : List Row) (asked : Bool) (told : Option ChangeOf) (before after : Queued)
@@ -123,7 +123,7 @@ module _ (law : StandingDependsOnSources) (s : State) (vs : List NamedView) (ord
       → IsInOrder behind vs
   behind-order command answer there fits accepted most range fitting limited =
       order-later law s behind vs vs (follows-accepts s behind command answer order.history.sound fits accepted) order (omega arith) most
-      (λ m at. inl (there-with_rows n rows s.tables m at)) fitting limited note.small range are order.right (all-wide s (with_rows n rows s.tables) (keep-with_rows n rows s.tables) vs order.right)
+      (λ m wide is. inl (was-with_rows n rows s.tables m wide is)) fitting limited note.small range are order.right (all-wide s (with_rows n rows s.tables) (keep-with_rows n rows s.tables) vs order.right)
 
 -- ---- Each command
 module _ (law : StandingDependsOnSources) (s : State) (vs : List NamedView) (order : IsInOrder s vs) (are : s.views ≡ views_of vs) (most : s.max_rows ≤ rows_limit) where
@@ -131,7 +131,7 @@ module _ (law : StandingDependsOnSources) (s : State) (vs : List NamedView) (ord
   pub trimmed-order : (q : Queued) → IsTrimmed vs s.passed s.queue q → IsInOrder (with_queue q s) vs
   trimmed-order q trimmed =
       let sound = order.history.sound in
-      order-later law s (with_queue q s) vs vs (follows-trims s s (with_queue q s) (some-dropped s vs q are trimmed) (follows-itself s sound)) order (omega arith) most (λ n at. inl at) order.fitting order.limited
+      order-later law s (with_queue q s) vs vs (follows-trims s s (with_queue q s) (some-dropped s vs q are trimmed) (follows-itself s sound)) order (omega arith) most (λ n wide is. inl is) order.fitting order.limited
       (subst (λ (cs : List ChangeOf). AllByRecursion IsSmall cs) (sym trimmed.changes) (all-drop IsSmall trimmed.count s.queue order.history.small)) order.history.range are order.right
       (all-wide s s.tables (λ n wide is. is) vs order.right)
 
@@ -140,15 +140,15 @@ module _ (law : StandingDependsOnSources) (s : State) (vs : List NamedView) (ord
     pub created-accepted : Accepts s (commands.CreateTable name columns sort) Done (created name columns sort s)
     created-accepted = unwritten s (created name columns sort s) (commands.CreateTable name columns sort) Done order.history.sound.epochs (refl, refl)
 
-    known-created : (n : ℕ) → IsThere n s.tables ⊎ (n ≡ s.drawn) → IsThere n s.tables ⊎ IsNew (created name columns sort s) n
-    known-created n (inl old) = inl old
-    known-created n (inr e) = inr (subst (IsNew (created name columns sort s)) (sym e) (new-empty s (created name columns sort s) name columns sort Done order.history.sound created-accepted).empty)
+    known-created : (n wide : ℕ) → (width_at s.tables n ≡ Some wide) ⊎ (n ≡ s.drawn) → (width_at s.tables n ≡ Some wide) ⊎ IsNew (created name columns sort s) n
+    known-created n wide (inl old) = inl old
+    known-created n wide (inr e) = inr (subst (IsNew (created name columns sort s)) (sym e) (new-empty s (created name columns sort s) name columns sort Done order.history.sound created-accepted).empty)
 
     pub created-order : IsInOrder (created name columns sort s) vs
     created-order =
         let made = empty_table s.drawn name columns sort in
         order-later law s (created name columns sort s) vs vs (follows-accepts s (created name columns sort s) (commands.CreateTable name columns sort) Done order.history.sound tt created-accepted) order (omega arith) most
-        (λ n at. known-created n (there-old_or_new s.tables s.drawn name columns sort n at)) (all-push IsFitting s.tables made order.fitting tt) (all-push (λ t. length t.rows ≤ s.max_rows) s.tables made order.limited (omega arith))
+        (λ n wide is. known-created n wide (was-behind s.tables made n wide is)) (all-push IsFitting s.tables made order.fitting tt) (all-push (λ t. length t.rows ≤ s.max_rows) s.tables made order.limited (omega arith))
         order.history.small order.history.range are order.right (all-wide s (s.tables ++ made ∷ []) (keep-behind s.tables made) vs order.right)
 
   -- a table that no view reads goes
@@ -161,7 +161,7 @@ module _ (law : StandingDependsOnSources) (s : State) (vs : List NamedView) (ord
 
     pub dropped-order : is_used n (views_of vs) ≡ false → IsInOrder dropped vs
     dropped-order free =
-        order-later law s dropped vs vs (follows-accepts s dropped (commands.DropTable n) Done order.history.sound there dropped-accepted) order (omega arith) most (λ m at. inl (there-dropped n s.tables m at).1)
+        order-later law s dropped vs vs (follows-accepts s dropped (commands.DropTable n) Done order.history.sound there dropped-accepted) order (omega arith) most (λ m wide is. inl (was-left n s.tables m wide is))
         (all_left n IsFitting s.tables order.fitting) (all_left n (λ t. length t.rows ≤ s.max_rows) s.tables order.limited) order.history.small order.history.range are order.right (all-wide-left s n vs free order.right)
 
   -- other views that are right

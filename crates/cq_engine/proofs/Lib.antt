@@ -12,6 +12,7 @@ pub mod Creating
 pub mod Assigned
 pub mod Sourced
 pub mod Counting
+pub mod Counted
 pub mod FoundByName
 pub mod BoundCommands
 pub mod Binding

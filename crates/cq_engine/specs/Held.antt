@@ -1,5 +1,6 @@
 -- What an engine holds: the state that statements move, and beside it what is stored of its views and its tables.
-use Rattle.std.specs.Prelude.{◌≡◌, ℕ, List, Option, option_map, Some, Result, Ok, Err}
+use Rattle.std.specs.Prelude.{◌≡◌, ◌⊎◌, ℕ, List, [], ◌∷◌, ◌++◌, Option, option_map, Some, Result, Ok, Err}
+use Rattle.std.specs.List.{remove}
 use Rattle.cq_binder_rules.specs.Bound.{bound}
 use Rattle.cq_binder_rules.specs.Records.{Files}
 use Rattle.cq_binder_rules.specs.Sources.{AreTold}
@@ -8,10 +9,14 @@ use Rattle.cq_binder_rules.specs.declared.bound.Bound.TheVariants as commands
 use Rattle.cq_binder_rules.specs.declared.fault.Fault.{Fault}
 use Rattle.cq_model_step.specs.declared.answer.Answer.{Answer}
 use Rattle.cq_model_step.specs.declared.answer.Answer.TheVariants.{Count}
-use Rattle.cq_model_state.specs.State.{State, table_named}
+use Rattle.cq_model_state.specs.State.{State, table_named, view_place}
 use Rattle.cq_sql_language.specs.declared.statement.Statement.{Statement}
 use Rattle.cq_engine_tables.specs.HeldTables.{ChangeAt, HeldTable, ExchangeBy, GrowBy, LengthsStay, MarkIn, MergeTo, MoveBy, StoreNothing, lengths_in}
 use Rattle.cq_engine_tables.specs.Views.{NamedView}
+use Rattle.cq_engine_queue.specs.Counts.{HaveCounted, MayBegin}
+use Rattle.cq_model_step.specs.Next.{reach}
+use Rattle.cq_binder_rules.specs.declared.fault.Fault.TheVariants.{Memory}
+use Rattle.cq_views_state.specs.Work.{work_of}
 use Rattle.cq_engine.specs.Commands.{CanCarryOut, CarriesOut}
 
 -- the state, what is stored of its views, and its tables as they are held, each in their order
@@ -61,3 +66,37 @@ abbrev pub StoresFrom : Option Files → Held → Statement → Result Answer Fa
 StoresFrom told old statement (Ok answer) new =
     (files : Files) × AreTold told files × (command : Bound) × (bound files old.state statement ≡ Some command) × Stores old command answer new
 StoresFrom told old statement (Err f) new = LengthsStay old.tables new.tables
+
+-- ---- What views counted
+-- what an accepted command makes views count: one that is new nothing yet, and the others for the changes that they took in
+abbrev pub Counts : Held → Bound → Held → Type 0
+Counts old (commands.CreateView name columns q) new =
+    (view : NamedView) × (new.stored ≡ old.stored ++ view ∷ []) × (work_of view.kept.state ≡ 0)
+Counts old (commands.DropView place) new = new.stored ≡ remove old.stored place
+Counts old command new = HaveCounted old.state old.stored new.stored
+
+-- memory is wanting, and a view that the command takes on may have begun with a change
+abbrev pub CountsLess : Held → Bound → Fault → Held → Type 0
+CountsLess old command f new = (f ≡ Memory) × MayBegin (reach old.state command) old.state 0 old.stored new.stored
+
+-- a refused one makes them count for what they took in, or memory is wanting
+abbrev pub CountsBy : Held → Bound → Result Answer Fault → Held → Type 0
+CountsBy old command (Ok answer) new = Counts old command new
+CountsBy old command (Err f) new = HaveCounted old.state old.stored new.stored ⊎ CountsLess old command f new
+
+-- the statement is bound to this command over the files that a source tells, or over any
+abbrev pub IsBoundTo : Option Files → Held → Statement → Bound → Type 0
+IsBoundTo told old statement command = (files : Files) × AreTold told files × (bound files old.state statement ≡ Some command)
+
+-- so it is with a statement
+abbrev pub CountsFrom : Option Files → Held → Statement → Result Answer Fault → Held → Type 0
+CountsFrom told old statement (Ok answer) new = (command : Bound) × IsBoundTo told old statement command × Counts old command new
+CountsFrom told old statement (Err f) new =
+    HaveCounted old.state old.stored new.stored ⊎ ((command : Bound) × IsBoundTo told old statement command × CountsLess old command f new)
+
+-- and with a view that is taken on under its name
+abbrev pub ViewsCount : Held → List ℕ → ℕ → Result (Unit {0}) Fault → Held → Type 0
+ViewsCount old name changes (Ok done) new = HaveCounted old.state old.stored new.stored
+ViewsCount old name changes (Err f) new =
+    HaveCounted old.state old.stored new.stored
+    ⊎ ((place : ℕ) × (view_place name old.state.views ≡ Some place) × CountsLess old (commands.Refresh place changes) f new)

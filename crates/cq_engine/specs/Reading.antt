@@ -1,9 +1,11 @@
 -- SELECT from views that are taken on to the present first.
-use Rattle.std.specs.Prelude.{◌≡◌, ℕ, List, Result, if◌then◌else◌}
+use Rattle.std.specs.Prelude.{◌≡◌, ◌⊎◌, ℕ, List, Result, Ok, Err, if◌then◌else◌}
 use Rattle.std.specs.Global.{Vec}
 use Rattle.std.specs.List.{list_any}
 use Rattle.cq_values.specs.Value.{Row}
 use Rattle.cq_binder_rules.specs.declared.fault.Fault.{Fault}
+use Rattle.cq_binder_rules.specs.declared.fault.Fault.TheVariants.{Memory}
+use Rattle.cq_engine_queue.specs.Counts.{AllCount, AllMayBegin}
 use Rattle.cq_model.specs.Views.{is_view, sources_of}
 use Rattle.cq_model.specs.declared.query.Order.{Order}
 use Rattle.cq_model.specs.declared.query.Query.{Query}
@@ -45,3 +47,9 @@ AreNamedTaken q now old new = AreBetween (named_to q now) 0 (views_of old.items)
 -- the answer is that of the query on the tables and the views that they were
 abbrev pub SelectsAs : List HeldTable → List NamedView → Query → Order → Result (List Row) Fault → Type 0
 SelectsAs tables views q order result = Selects (tables_of tables) (views_of views) q order result
+
+-- the views counted for the changes that they took in, or memory is wanting, and one that the query names may have begun
+abbrev pub CountsNamed : Query → ℕ → Queued → Vec NamedView → Vec NamedView → Result (List Row) Fault → Type 0
+CountsNamed q now queue old new (Ok rows) = AllCount queue old.items new.items
+CountsNamed q now queue old new (Err f) =
+    AllCount queue old.items new.items ⊎ ((f ≡ Memory) × AllMayBegin (named_to q now) queue old.items new.items)

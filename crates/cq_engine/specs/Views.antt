@@ -28,13 +28,14 @@ work_named name views = option_map (λ v. counted 0 (work_of v.kept.state)) (sto
 abbrev pub IsAdded : ViewOf → Vec NamedView → Vec NamedView → Type 0
 IsAdded v old new = views_of new.items ≡ views_of old.items ++ v ∷ []
 
--- what is kept of a view that was built from its tables as they are at the epoch
+-- what is kept of a view that was built from its tables as they are at the epoch, and counted nothing
 pub record IsBuilt (tables : List TableOf) (q : Query) (now : ℕ) (v : KeptView) : Type 0 where
   pub is_of : v.query ≡ q
   pub epoch : v.state.epoch ≡ now
   pub built : v.state.built ≡ now
   pub wide : AreWide tables v.query v.widths
   pub stands : StandsFor v (bags_in tables)
+  pub uncounted : work_of v.state ≡ 0
 
 -- behind the others stands a view with these columns that was built so
 pub record IsBuiltBehind (tables : List TableOf) (columns : List ColumnDef) (q : Query) (now : ℕ) (old new : Vec NamedView) : Type 0 where

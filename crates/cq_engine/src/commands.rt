@@ -8,7 +8,7 @@ ghost use Rattle.cq_binder_rules.specs.declared.fault.Fault.TheVariants.{Memory}
 ghost use Rattle.cq_model_step.specs.Step.{GivesUp};
 ghost use Rattle.cq_model_step.specs.declared.answer.Answer.TheVariants.{Done};
 ghost use Rattle.cq_engine.specs.Commands.{MayGiveUp};
-ghost use Rattle.cq_engine.specs.Held.{CanDo, Does, StoresBy};
+ghost use Rattle.cq_engine.specs.Held.{CanDo, CountsBy, Does, StoresBy};
 
 use crate::creation::create_view_in;
 use crate::engine::Engine;
@@ -31,6 +31,7 @@ impl Engine {
         ensures done { Does self.old command result self.new }
         ensures rows { MayGiveUp self.old.state command result self.new.state }
         ensures stores { StoresBy self.old command result self.new }
+        ensures counts { CountsBy self.old command result self.new }
     {
         match command {
             Bound::CreateTable {
@@ -72,6 +73,7 @@ impl Engine {
         requires { self.old.state.drawn < 2 ^ 64 - 1 }
         ensures done { Does self.old (commands.CreateTable name columns sort) result self.new }
         ensures stores { StoresBy self.old (commands.CreateTable name columns sort) result self.new }
+        ensures counts { CountsBy self.old (commands.CreateTable name columns sort) result self.new }
     {
         let max_rows = self.limits.max_rows;
         let table = NamedTable::new(self.alloc, self.drawn, name, columns, sort, max_rows);
@@ -84,6 +86,7 @@ impl Engine {
         requires { CanDo self.old (commands.DropTable number) }
         ensures done { Does self.old (commands.DropTable number) (Ok result) self.new }
         ensures stores { StoresBy self.old (commands.DropTable number) (Ok result) self.new }
+        ensures counts { CountsBy self.old (commands.DropTable number) (Ok result) self.new }
     {
         drop_in(&mut self.tables, number);
         standing_depends_on_sources();
@@ -99,6 +102,7 @@ impl Engine {
         requires { CanDo self.old (commands.CreateView name columns query) }
         ensures done { Does self.old (commands.CreateView name columns query) result self.new }
         ensures stores { StoresBy self.old (commands.CreateView name columns query) result self.new }
+        ensures counts { CountsBy self.old (commands.CreateView name columns query) result self.new }
     {
         let now = self.writes;
         create_view_in(
@@ -117,6 +121,7 @@ impl Engine {
         requires { CanDo self.old (commands.DropView place) }
         ensures done { Does self.old (commands.DropView place) (Ok result) self.new }
         ensures stores { StoresBy self.old (commands.DropView place) (Ok result) self.new }
+        ensures counts { CountsBy self.old (commands.DropView place) (Ok result) self.new }
     {
         drop_view_at(&mut self.views, place);
         trim(&mut self.queue, &self.views);
@@ -128,6 +133,7 @@ impl Engine {
         requires bound { CanDo self.old (commands.Insert table rows) }
         ensures done { Does self.old (commands.Insert table rows) result self.new }
         ensures stores { StoresBy self.old (commands.Insert table rows) result self.new }
+        ensures counts { CountsBy self.old (commands.Insert table rows) result self.new }
     {
         let max_rows = self.limits.max_rows;
         let asked = !self.views.is_empty();
@@ -152,6 +158,7 @@ impl Engine {
         requires bound { CanDo self.old (commands.Delete table condition) }
         ensures done { Does self.old (commands.Delete table condition) result self.new }
         ensures stores { StoresBy self.old (commands.Delete table condition) result self.new }
+        ensures counts { CountsBy self.old (commands.Delete table condition) result self.new }
     {
         let asked = !self.views.is_empty();
         let deleted = delete_in(
@@ -180,6 +187,7 @@ impl Engine {
         requires bound { CanDo self.old (commands.Update table assignments filter) }
         ensures done { Does self.old (commands.Update table assignments filter) result self.new }
         ensures stores { StoresBy self.old (commands.Update table assignments filter) result self.new }
+        ensures counts { CountsBy self.old (commands.Update table assignments filter) result self.new }
     {
         let asked = !self.views.is_empty();
         let updated = update_in(
@@ -205,6 +213,7 @@ impl Engine {
         requires { CanDo self.old (commands.Move table rows) }
         ensures done { Does self.old (commands.Move table rows) result self.new }
         ensures stores { StoresBy self.old (commands.Move table rows) result self.new }
+        ensures counts { CountsBy self.old (commands.Move table rows) result self.new }
     {
         move_in(self.alloc, &mut self.tables, table, rows)?;
         Ok(Answer::Done)
@@ -215,6 +224,7 @@ impl Engine {
         requires { CanDo self.old (commands.Merge table) }
         ensures done { Does self.old (commands.Merge table) result self.new }
         ensures stores { StoresBy self.old (commands.Merge table) result self.new }
+        ensures counts { CountsBy self.old (commands.Merge table) result self.new }
     {
         merge_in(self.alloc, &mut self.tables, table)?;
         Ok(Answer::Done)
@@ -225,6 +235,7 @@ impl Engine {
         requires { CanDo self.old (commands.Refresh view changes) }
         ensures done { Does self.old (commands.Refresh view changes) result self.new }
         ensures stores { StoresBy self.old (commands.Refresh view changes) result self.new }
+        ensures counts { CountsBy self.old (commands.Refresh view changes) result self.new }
         ensures tables { self.new.tables ≡ self.old.tables }
         ensures refused { IfErr result (λ f. f ≡ Memory) }
         ensures way { OnErr result (GivesUp self.old.state (commands.Refresh view changes) self.new.state) }
@@ -240,6 +251,7 @@ impl Engine {
         ensures done { Does self.old (commands.Select header query order) result self.new }
         ensures rows { MayGiveUp self.old.state (commands.Select header query order) result self.new.state }
         ensures stores { StoresBy self.old (commands.Select header query order) result self.new }
+        ensures counts { CountsBy self.old (commands.Select header query order) result self.new }
     {
         let selected = select_at_present(
             self.alloc,

@@ -12,7 +12,7 @@ ghost use Rattle.cq_model_step.specs.Step.{StepFrom};
 ghost use Rattle.cq_engine_tables.specs.Views.{AreRight, views_of};
 ghost use Rattle.cq_engine.specs.declared.answer_source.AnswerSource.TheVariants.{Tables};
 ghost use Rattle.cq_engine.specs.Commands.{MayBeRefused, Refreshes, reads_after};
-ghost use Rattle.cq_engine.specs.Held.{StoresFrom, lengths_named};
+ghost use Rattle.cq_engine.specs.Held.{CountsFrom, StoresFrom, ViewsCount, lengths_named};
 ghost use Rattle.cq_engine.specs.Views.{stored_named, work_named};
 
 use crate::answer_source::AnswerSource;
@@ -152,6 +152,7 @@ impl Engine {
     pub fn refresh(&mut self, view: &str, changes: u128) -> Result<(), Fault>
         ensures refreshes { Refreshes self.old.state view.now changes result self.new.state }
         ensures tables { self.new.tables ≡ self.old.tables }
+        ensures counts { ViewsCount self.old view.now changes result self.new }
     {
         let Some(place) = view_place(&self.views, view) else {
             return Err(Fault::UnknownTable);
@@ -168,6 +169,7 @@ impl Engine {
         ensures step { StepFrom (S.files sources.old) self.old.state command.now result self.new.state }
         ensures rows { MayBeRefused (S.files sources.old) self.old.state command.now result self.new.state }
         ensures stores { StoresFrom (S.files sources.old) self.old command.now result self.new }
+        ensures counts { CountsFrom (S.files sources.old) self.old command.now result self.new }
         ensures files { S.files sources.new ≡ S.files sources.old }
         ensures failures { S.failures sources.new ≡ S.failures sources.old + source_failures (result ∷ []) }
         ensures reads { S.reads sources.new ≡ reads_after self.old.state command.now (S.reads sources.old) }

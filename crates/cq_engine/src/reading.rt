@@ -1,7 +1,7 @@
 //! SELECT at the present.
 ghost use Rattle.std.specs.Prelude.{◌⊎◌, ◌≡◌, ℕ, IfErr, OnErr, OnOk};
 ghost use Rattle.cq_binder_rules.specs.declared.fault.Fault.TheVariants.{Memory};
-ghost use Rattle.cq_engine.specs.Reading.{AreNamedTaken, AreNamedThere, CanSelect, SelectsAs};
+ghost use Rattle.cq_engine.specs.Reading.{AreNamedTaken, AreNamedThere, CanSelect, CountsNamed, SelectsAs};
 ghost use Rattle.cq_engine_queue.specs.History.{StayRight};
 
 use cq_binder_rules::Fault;
@@ -28,6 +28,7 @@ pub(crate) fn select_at_present(
     ensures ok { OnOk result (AreNamedThere query.now now views.old views.new) }
     ensures way { AreNamedTaken query.now now views.old views.new }
     ensures right { StayRight queue.now views.old.items views.new.items }
+    ensures counts { CountsNamed query.now now queue.now views.old views.new result }
 {
     standing_depends_on_sources();
     take_all_on(alloc, views, queue, &Goal::Present(query), now)?;

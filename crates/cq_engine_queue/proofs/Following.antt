@@ -1,7 +1,6 @@
 -- A view that is made ready for a change, and follows it.
 use Rattle.std.proofs.Common.{◌≡◌, ◌∙◌, ◌+◌, ◌*◌, ◌≤◌, ◌^◌, ℕ, true, false, List, [], ◌∷◌, length, Option, Some, None, refl, sym, ap, arith}
 use Rattle.std.specs.List.{AllByRecursion}
-use Rattle.std.proofs.lemmas.Bool.{eqb-false, ne_eqb}
 use Rattle.std.proofs.lemmas.List.{append-nil}
 use Rattle.std.proofs.lemmas.Nat.{mul-le}
 use Rattle.cq_model_bags.specs.Bag.{SameBag}
@@ -11,20 +10,22 @@ use Rattle.cq_deltas_joins.specs.Chains.{spans}
 use Rattle.cq_deltas_joins.specs.Steps.{AreStored, span}
 use Rattle.cq_model.specs.declared.query.Query.{Query}
 use Rattle.cq_model.specs.declared.query.Source.{Source}
-use Rattle.cq_model.specs.declared.query.Source.TheVariants.{Table, View}
+use Rattle.cq_model.specs.declared.query.Source.TheVariants.{Table}
 use Rattle.cq_model.specs.Meaning.{Tables}
 use Rattle.cq_model.specs.Views.{is_table, sources_of}
 use Rattle.cq_model_state.specs.State.{ChangeOf}
 use Rattle.cq_sides_weights.specs.Held.{sizes}
-use Rattle.cq_views.specs.Laws.{StandingDependsOnSources}
+use Rattle.cq_views.specs.Laws.{CountsWithinWork, RisesWhereChanged, StandingDependsOnSources}
 use Rattle.cq_views.specs.State.{CanPrepare, StandsFor}
 use Rattle.cq_views.proofs.Taking.{only-have}
 use Rattle.cq_views_model.specs.Delta.{changed}
 use Rattle.cq_views_model.specs.Query.{reads}
 use Rattle.cq_views_state.specs.declared.state.Pending.{Pending}
 use Rattle.cq_engine_tables.proofs.Rows.{unread}
-use Rattle.cq_engine_tables.specs.Taking.{HasTaken, IsLed, IsReady, IsSame}
+use Rattle.cq_engine_tables.specs.Taking.{CountsReady, HasTaken, IsLed, IsReady, IsSame}
 use Rattle.cq_engine_tables.specs.Views.{NamedView}
+use Rattle.cq_engine_queue.proofs.Counting.{counts-change}
+use Rattle.cq_engine_queue.proofs.Unread.{others}
 use Rattle.cq_engine_queue.specs.Taking.{CanTakeIn, TakesChange, changes_by}
 
 -- ---- Views that can be made ready
@@ -76,28 +77,25 @@ led_from epoch v w x s led = record {
   epoch = led.epoch;
 }
 
-module _ (law : StandingDependsOnSources) (c : ChangeOf) where
-  -- no other table changes
-  others : (source : Source) → is_table c.table source ≡ false → changes_by c source ≡ []
-  others (Table m) other = rw (ne_eqb c.table m (λ e. eqb-false m c.table other (sym e))) refl
-  others (View place) other = refl
-
+module _ (law : StandingDependsOnSources) (within : CountsWithinWork) (rises : RisesWhereChanged) (c : ChangeOf) where
   unchanged_all : (tables : Tables) (sources : List Source) → AllByRecursion (λ s. is_table c.table s ≡ false) sources → AllByRecursion (λ s. SameBag (tables s) (changed tables (changes_by c) s)) sources
   unchanged_all tables [] other = tt
-  unchanged_all tables (s ∷ sources) other = (rw (others s other.0, append-nil (tables s)) (same-refl (tables s)), unchanged_all tables sources other.1)
+  unchanged_all tables (s ∷ sources) other = (rw (others c s other.0, append-nil (tables s)) (same-refl (tables s)), unchanged_all tables sources other.1)
 
   -- a view that is ready stands for the changed tables once it has taken in what waited
-  pub takes : (epoch : ℕ) (v w x : NamedView) (p : Option Pending) → epoch ≡ v.kept.state.epoch + 1 → IsSame v w → ((tables : Tables) → StandsFor v.kept tables → IsReady c.table tables (changes_by c) w p) → HasTaken epoch w p x
+  pub takes : (epoch : ℕ) (v w x : NamedView) (p : Option Pending) → epoch ≡ v.kept.state.epoch + 1 → IsSame v w → ((tables : Tables) → StandsFor v.kept tables → IsReady c.table tables (changes_by c) w p) → CountsReady (changes_by c) v w p → HasTaken epoch w p x
       → TakesChange c v x
-  takes epoch v w x None next s ready taken = record {
+  takes epoch v w x None next s ready counted taken = record {
     led = rw (← next) (led_from epoch v w x s taken.led);
     stands = λ tables stands bags.
         let free : reads c.table x.kept.query ≡ false = ap (λ (q : Query). reads c.table q) taken.led.query ∙ ready tables stands in
         law x.kept tables (changed tables (changes_by c)) (unchanged_all tables (sources_of x.kept.query) (unread c.table (sources_of x.kept.query) free)) (taken.goes tables (s.kept.stands tables stands));
+    counts = counts-change within rises c epoch v w x None s ready counted taken;
   }
-  takes epoch v w x (Some p) next s ready taken = record {
+  takes epoch v w x (Some p) next s ready counted taken = record {
     led = rw (← next) (led_from epoch v w x s taken.led);
     stands = λ tables stands bags.
         let is : reads c.table v.kept.query ≡ true = ap (λ (q : Query). reads c.table q) (sym s.kept.query) ∙ (ready tables stands).0 in
         taken.goes tables (changes_by c) (s.kept.stands tables stands) (ready tables stands).1 (bags is);
+    counts = counts-change within rises c epoch v w x (Some p) s ready counted taken;
   }

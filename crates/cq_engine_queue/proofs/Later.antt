@@ -1,5 +1,5 @@
 -- What is right in a state is right in a later one.
-use Rattle.std.proofs.Common.{◌≡◌, ◌⊎◌, ◌+◌, ◌<◌, ◌≤◌, ◌^◌, ℕ, List, [], ◌∷◌, inl, inr, length, refl, sym, subst, arith}
+use Rattle.std.proofs.Common.{◌≡◌, ◌⊎◌, ◌+◌, ◌<◌, ◌≤◌, ◌^◌, ℕ, List, [], ◌∷◌, Some, inl, inr, length, refl, sym, subst, arith}
 use Rattle.std.specs.Prelude.{nat_lt}
 use Rattle.std.specs.List.{AllByRecursion}
 use Rattle.std.proofs.lemmas.Bool.{ltb-false, ltb-true}
@@ -17,40 +17,46 @@ use Rattle.cq_views.specs.Laws.{StandingDependsOnSources}
 use Rattle.cq_views.specs.State.{StandsFor}
 use Rattle.cq_engine_tables.proofs.Rows.{rows_have}
 use Rattle.cq_engine_tables.proofs.Stored.{tables_stored}
-use Rattle.cq_engine_tables.specs.Views.{AreRight, AreWide, IsPresent, IsRight, NamedView, bags_in, view_of, views_of}
+use Rattle.cq_engine_tables.proofs.Wide.{rows-wide_in, wide-there}
+use Rattle.cq_engine_tables.specs.Views.{AreRight, AreWide, IsPresent, IsRight, NamedView, bags_in, view_of, views_of, width_at}
 use Rattle.cq_engine_queue.proofs.Reaching.{sources-there}
 use Rattle.cq_engine_queue.specs.History.{AreFew, IsHistory, IsSmall}
 
--- the table of a number has few stored rows, where rows fit and are not too many
-few-now : (s : State) → AreFitting s.tables → AreLimited rows_limit s.tables → (n : ℕ) → AreFew (tables_now s n)
-few-now s fitting limited n = record {
+-- the table of a number has few stored rows of its columns, where rows fit and are not too many
+few-now : (s : State) → AreFitting s.tables → AreLimited rows_limit s.tables → (n wide : ℕ) → width_at s.tables n ≡ Some wide → AreFew wide (tables_now s n)
+few-now s fitting limited n wide is = record {
   rows = rows_in s.tables n;
   are = same-equal (once_each (rows_in s.tables n)) (tables_now s n) refl;
   stored = rows_have (λ rs. AllByRecursion IsStored rs) tt s.tables n (tables_stored s.tables fitting);
+  widths = rows-wide_in s.tables n wide fitting is;
   few = rows_have (λ rs. length rs ≤ rows_limit) (omega arith) s.tables n limited;
 }
 
-few-over : (xs ys : Weighted) → SameBag xs ys → AreFew ys → AreFew xs
-few-over xs ys same few = record { rows = few.rows; are = same-trans (once_each few.rows) ys xs few.are (same-sym xs ys same); stored = few.stored; few = few.few }
+few-over : (wide : ℕ) (xs ys : Weighted) → SameBag xs ys → AreFew wide ys → AreFew wide xs
+few-over wide xs ys same few = record { rows = few.rows; are = same-trans (once_each few.rows) ys xs few.are (same-sym xs ys same); stored = few.stored; widths = few.widths; few = few.few }
 
 -- the table of a number has no row at any epoch that can be told
 abbrev pub IsNew : State → ℕ → Type 0
 IsNew s n = (epoch : ℕ) → s.passed ≤ epoch → epoch ≤ s.now → SameBag (tables_at s epoch n) []
 
-module _ (old new : State) (f : Follows old new) (one : new.now ≤ old.now + 1) where
-  module _ (history : IsHistory old) (fitting : AreFitting new.tables) (limited : AreLimited rows_limit new.tables) (known : (n : ℕ) → IsThere n new.tables → IsThere n old.tables ⊎ IsNew new n) where
-    held-before : (epoch n : ℕ) → new.passed ≤ epoch → epoch ≤ old.now → epoch ≤ new.now → IsThere n new.tables → IsThere n old.tables ⊎ IsNew new n → AreFew (tables_at new epoch n)
-    held-before epoch n low past high at (inl was) = few-over (tables_at new epoch n) (tables_at old epoch n) (f.stays epoch n low past at) (history.held epoch n (omega (arith, f.kept, low)) past was)
-    held-before epoch n low past high at (inr none) = few-over (tables_at new epoch n) [] (none epoch low high) (record { rows = []; are = same-equal [] [] refl; stored = tt; few = omega arith })
+-- each table was there with its columns, or is new
+abbrev pub AreKnown : State → State → Type 0
+AreKnown old new = (n wide : ℕ) → width_at new.tables n ≡ Some wide → (width_at old.tables n ≡ Some wide) ⊎ IsNew new n
 
-    held-later : (epoch n : ℕ) → new.passed ≤ epoch → epoch ≤ new.now → IsThere n new.tables → AreFew (tables_at new epoch n)
-    held-later epoch n low high at = by_test (nat_lt epoch new.now)
+module _ (old new : State) (f : Follows old new) (one : new.now ≤ old.now + 1) where
+  module _ (history : IsHistory old) (fitting : AreFitting new.tables) (limited : AreLimited rows_limit new.tables) (known : AreKnown old new) where
+    held-before : (epoch n wide : ℕ) → new.passed ≤ epoch → epoch ≤ old.now → epoch ≤ new.now → IsThere n new.tables → (width_at old.tables n ≡ Some wide) ⊎ IsNew new n → AreFew wide (tables_at new epoch n)
+    held-before epoch n wide low past high at (inl was) = few-over wide (tables_at new epoch n) (tables_at old epoch n) (f.stays epoch n low past at) (history.held epoch n wide (omega (arith, f.kept, low)) past was)
+    held-before epoch n wide low past high at (inr none) = few-over wide (tables_at new epoch n) [] (none epoch low high) (record { rows = []; are = same-equal [] [] refl; stored = tt; widths = tt; few = omega arith })
+
+    held-later : (epoch n wide : ℕ) → new.passed ≤ epoch → epoch ≤ new.now → width_at new.tables n ≡ Some wide → AreFew wide (tables_at new epoch n)
+    held-later epoch n wide low high is = by_test (nat_lt epoch new.now)
         (λ k.
         let before : epoch < new.now = ltb-true epoch new.now k in
-        held-before epoch n low (omega (arith, before, one)) high at (known n at))
+        held-before epoch n wide low (omega (arith, before, one)) high (wide-there new.tables n wide is) (known n wide is))
         (λ k.
         let last : epoch ≡ new.now = omega (arith, high, ltb-false epoch new.now k) in
-        rw (last, at-present new f.sound.whole n) (few-now new fitting limited n))
+        rw (last, at-present new f.sound.whole n) (few-now new fitting limited n wide is))
 
     -- a history goes on
     pub history-later : AllByRecursion IsSmall new.queue → new.now < 2 ^ 64 → IsHistory new

@@ -1,3 +1,5 @@
+pub mod Unread
+pub mod Counting
 pub mod Following
 pub mod Later
 pub mod Reaching

@@ -1,5 +1,5 @@
 -- Views on their way, one after the other.
-use Rattle.std.proofs.Common.{◌≡◌, ◌∙◌, ◌+◌, ◌<◌, ◌≤◌, ◌==◌, ℕ, zero, suc, Bool, List, [], ◌∷◌, get_or, length, min, set, refl, sym, ap, subst, arith}
+use Rattle.std.proofs.Common.{◌≡◌, ◌∙◌, ◌+◌, ◌<◌, ◌≤◌, ◌==◌, ℕ, zero, suc, Bool, List, [], ◌∷◌, get_or, inl, length, min, set, refl, sym, ap, subst, arith}
 use Rattle.std.specs.Prelude.{if◌then◌else◌, nat_lt}
 use Rattle.std.specs.List.{AllByRecursion, list_any}
 use Rattle.std.proofs.lemmas.Bool.{ltb-false, ltb-true}
@@ -11,11 +11,13 @@ use Rattle.cq_model_state.specs.State.{State, ViewOf}
 use Rattle.cq_model_step.specs.Next.{taken_on}
 use Rattle.cq_model_step.specs.Step.{AreBetween}
 use Rattle.cq_engine_tables.specs.Views.{AreRight, NamedView, view_of, views_of}
+use Rattle.cq_engine_queue.specs.Counts.{AllCount, CountsIn, MayBegin, MayBeginIn}
 use Rattle.cq_engine_queue.specs.Goal.{goal_of}
-use Rattle.cq_engine_queue.specs.History.{IsTakenOn, StayRight, StaysRight}
+use Rattle.cq_engine_queue.specs.History.{IsHistory, IsQueueOf, IsTakenOn, StayRight, StaysRight}
 use Rattle.cq_engine_queue.specs.Queued.{Queued}
 use Rattle.cq_engine_queue.specs.declared.goal.Goal.{Goal}
 use Rattle.cq_engine_queue.specs.declared.goal.Goal.TheVariants.{By, Present}
+use Rattle.cq_engine_queue.proofs.Counting.{counted-itself}
 use Rattle.cq_engine_queue.proofs.Reaching.{not-taken}
 
 -- ---- Lists of views that are related place by place
@@ -89,11 +91,13 @@ module _ (goal : Goal) (now : ℕ) (q : Queued) where
   pub record IsOnWay (place : ℕ) (v w : NamedView) : Type 0 where
     pub on : IsTakenOn (goal_of goal now place (view_of v)) v w
     pub right : StaysRight q v w
+    pub counts : MayBeginIn q (goal_of goal now place (view_of v)) v w
 
   -- and one that is there
   pub record IsThere (place : ℕ) (v w : NamedView) : Type 0 where
     pub way : IsOnWay place v w
     pub epoch : w.kept.state.epoch ≡ goal_of goal now place (view_of v)
+    pub counts : CountsIn q v w
 
   -- those before a place are there, and the others where they were
   pub record IsGone (end place : ℕ) (v w : NamedView) : Type 0 where
@@ -113,6 +117,7 @@ module _ (goal : Goal) (now : ℕ) (q : Queued) where
       (λ k. subst (λ (x : NamedView). IsOnWay place v x) (sym (gone.behind (ltb-false place end k))) (record {
         on = not-taken (goal_of goal now place (view_of v)) v (goal-between goal now place (view_of v) at).0;
         right = stays-right v;
+        counts = λ s of history right. inl (counted-itself s v);
       }))
 
   -- one more is there
@@ -149,14 +154,15 @@ module _ (goal : Goal) (now : ℕ) (q : Queued) where
       first-place : i ≡ 0 + i
       first-place = omega arith
 
-      pub on-way-here : IsTakenOn to w x → StaysRight q w x → IsOnWay (0 + i) (get_or vs i w) x
-      on-way-here on right =
+      pub on-way-here : IsTakenOn to w x → StaysRight q w x → MayBeginIn q to w x → IsOnWay (0 + i) (get_or vs i w) x
+      on-way-here on right counts =
           subst (λ (u : NamedView). IsOnWay (0 + i) u x) (sym (still-here w that))
-          (subst (λ (p : ℕ). IsOnWay p w x) first-place (record { on = subst (λ (k : ℕ). IsTakenOn k w x) own-goal on; right = right }))
+          (subst (λ (p : ℕ). IsOnWay p w x) first-place (record { on = subst (λ (k : ℕ). IsTakenOn k w x) own-goal on; right = right; counts = subst (λ (k : ℕ). MayBeginIn q k w x) own-goal counts }))
 
-      pub there-here : IsTakenOn to w x → StaysRight q w x → x.kept.state.epoch ≡ to → IsThere (0 + i) (get_or vs i w) x
-      there-here on right at = record {
-        way = on-way-here on right;
+      pub there-here : IsTakenOn to w x → StaysRight q w x → x.kept.state.epoch ≡ to → CountsIn q w x → IsThere (0 + i) (get_or vs i w) x
+      there-here on right at counts = record {
+        way = on-way-here on right (λ s of history right. inl (counts s of history right));
+        counts = subst (λ (u : NamedView). CountsIn q u x) (sym (still-here w that)) counts;
         epoch =
             subst (λ (u : NamedView). x.kept.state.epoch ≡ goal_of goal now (0 + i) (view_of u)) (sym (still-here w that))
             (subst (λ (p : ℕ). x.kept.state.epoch ≡ goal_of goal now p (view_of w)) first-place (at ∙ own-goal));
@@ -212,6 +218,20 @@ module _ (goal : Goal) (now : ℕ) (q : Queued) where
   way-right place [] (w ∷ ws) all s of history right = absurd all
   way-right place (v ∷ vs) [] all s of history right = absurd all
   way-right place (v ∷ vs) (w ∷ ws) all s of history right = (all.0.right s of history right.0, way-right (suc place) vs ws all.1 s of history right.1)
+
+  -- ---- What they count
+  pub way-begun : (s : State) (place : ℕ) (vs ws : List NamedView) → IsQueueOf s q → IsHistory s → AreRight s vs → Placed IsOnWay place vs ws → MayBegin (goal_of goal now) s place vs ws
+  way-begun s place [] [] of history right all = tt
+  way-begun s place [] (w ∷ ws) of history right all = absurd all
+  way-begun s place (v ∷ vs) [] of history right all = absurd all
+  way-begun s place (v ∷ vs) (w ∷ ws) of history right all =
+      (all.0.counts s of history right.0, subst (λ (p : ℕ). MayBegin (goal_of goal now) s p vs ws) (same-next place) (way-begun s (suc place) vs ws of history right.1 all.1))
+
+  pub there-counted : (place : ℕ) (vs ws : List NamedView) → Placed IsThere place vs ws → AllCount q vs ws
+  there-counted place [] [] all s of history right = tt
+  there-counted place [] (w ∷ ws) all s of history right = absurd all
+  there-counted place (v ∷ vs) [] all s of history right = absurd all
+  there-counted place (v ∷ vs) (w ∷ ws) all s of history right = (all.0.counts s of history right.0, there-counted (suc place) vs ws all.1 s of history right.1)
 
 -- views that are right stand at no epoch beyond the present
 pub right-epochs : (s : State) (vs : List NamedView) → AreRight s vs → AllByRecursion (λ v. v.kept.state.epoch ≤ s.now) vs

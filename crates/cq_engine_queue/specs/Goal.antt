@@ -1,11 +1,13 @@
 -- The epochs to which views are to be taken on (docs/ARCHITECTURE.md, Epochs).
-use Rattle.std.specs.Prelude.{◌≡◌, ◌+◌, ◌==◌, ℕ, if◌then◌else◌, min}
+use Rattle.std.specs.Prelude.{◌≡◌, ◌+◌, ◌==◌, ℕ, if◌then◌else◌, List, min}
 use Rattle.std.specs.Global.{Vec}
 use Rattle.std.specs.List.{list_any}
 use Rattle.cq_model.specs.Views.{is_view, sources_of}
 use Rattle.cq_model_state.specs.State.{ViewOf}
 use Rattle.cq_model_step.specs.Next.{taken_on}
 use Rattle.cq_model_step.specs.Step.{AreBetween}
+use Rattle.cq_engine_queue.specs.Counts.{AllMayBegin}
+use Rattle.cq_engine_queue.specs.Queued.{Queued}
 use Rattle.cq_engine_queue.specs.declared.goal.Goal.{Goal}
 use Rattle.cq_engine_queue.specs.declared.goal.Goal.TheVariants.{By, Present}
 use Rattle.cq_engine_tables.specs.Views.{NamedView, views_of}
@@ -22,3 +24,7 @@ AreOnTheWay goal now old new = AreBetween (goal_of goal now) 0 (views_of old.ite
 -- each view is where it was to go
 abbrev pub AreThere : Goal → ℕ → Vec NamedView → Vec NamedView → Type 0
 AreThere goal now old new = views_of new.items ≡ taken_on (goal_of goal now) 0 (views_of old.items)
+
+-- each counted for the changes that it took in, or has begun with one before it was there
+abbrev pub MayBeginBefore : Goal → ℕ → Queued → List NamedView → List NamedView → Type 0
+MayBeginBefore goal now q old new = AllMayBegin (goal_of goal now) q old new

@@ -1,22 +1,23 @@
 -- Tables at epochs that can be told, and views that stand for them (docs/ARCHITECTURE.md, Epochs).
-use Rattle.std.specs.Prelude.{◌≡◌, ◌+◌, ◌<◌, ◌≤◌, ◌^◌, ℕ, List, length}
+use Rattle.std.specs.Prelude.{◌≡◌, ◌+◌, ◌<◌, ◌≤◌, ◌^◌, ℕ, List, Some, length}
 use Rattle.std.specs.List.{AllByRecursion}
 use Rattle.cq_deltas_joins.specs.Steps.{AreStored}
 use Rattle.cq_model.specs.Sizes.{IsStored}
 use Rattle.cq_model_bags.specs.Bag.{SameBag, Weighted, once_each}
 use Rattle.cq_model_state.specs.Fitting.{rows_limit}
 use Rattle.cq_model_state.specs.State.{ChangeOf, State, tables_at}
-use Rattle.cq_model_step_laws.specs.Sound.{IsSound, IsThere}
+use Rattle.cq_model_step_laws.specs.Sound.{IsSound}
 use Rattle.cq_sides_weights.specs.Held.{sizes}
 use Rattle.cq_values.specs.Value.{Row}
-use Rattle.cq_engine_tables.specs.Views.{AreRight, IsRight, NamedView}
+use Rattle.cq_engine_tables.specs.Views.{AreRight, IsRight, NamedView, width_at}
 use Rattle.cq_engine_queue.specs.Queued.{Queued}
 
--- the bag is that of few stored rows
-pub record AreFew (xs : Weighted) : Type 0 where
+-- the bag is that of few stored rows with so many columns
+pub record AreFew (wide : ℕ) (xs : Weighted) : Type 0 where
   pub rows : List Row
   pub are : SameBag (once_each rows) xs
   pub stored : AllByRecursion IsStored rows
+  pub widths : AllByRecursion (λ r. length r ≡ wide) rows
   pub few : length rows ≤ rows_limit
 
 -- few stored rows change
@@ -24,10 +25,11 @@ pub record IsSmall (c : ChangeOf) : Type 0 where
   pub stored : AreStored c.rows
   pub few : sizes c.rows ≤ 2 ^ 25
 
--- a sound state, in which each table has few stored rows at each epoch that can be told, and each change is small
+-- a sound state, in which each table has few stored rows of its columns at each epoch that can be told, and each change
+-- is small
 pub record IsHistory (s : State) : Type 0 where
   pub sound : IsSound s
-  pub held : (epoch n : ℕ) → s.passed ≤ epoch → epoch ≤ s.now → IsThere n s.tables → AreFew (tables_at s epoch n)
+  pub held : (epoch n wide : ℕ) → s.passed ≤ epoch → epoch ≤ s.now → width_at s.tables n ≡ Some wide → AreFew wide (tables_at s epoch n)
   pub small : AllByRecursion IsSmall s.queue
   pub range : s.now < 2 ^ 64
 

@@ -1,4 +1,5 @@
 pub mod Queued
 pub mod Taking
 pub mod History
+pub mod Counts
 pub mod Goal

@@ -1,15 +1,19 @@
 //! Views that take changes in.
 ghost use Rattle.std.specs.Prelude.{◌≡◌, ◌≤◌, OnErr, OnOk};
-ghost use Rattle.cq_engine_queue.specs.Goal.{AreOnTheWay, AreThere};
+ghost use Rattle.cq_engine_queue.specs.Counts.{AllCount, CountsIn, MayBeginIn};
+ghost use Rattle.cq_engine_queue.specs.Goal.{AreOnTheWay, AreThere, MayBeginBefore};
 ghost use Rattle.cq_engine_queue.specs.History.{CanAllTakeOn, CanTakeOn, IsTakenOn, StayRight, StaysRight};
-ghost use Rattle.cq_engine_queue.specs.Taking.{CanTakeIn, TakesChange};
+ghost use Rattle.cq_engine_queue.specs.Taking.{CanTakeIn, StaysWithin, TakesChange};
 ghost use Rattle.cq_engine_tables.specs.Taking.{IsSame};
 
 use crate::change::Change;
 use crate::goal::Goal;
 use crate::queue::Queue;
 use cq_engine_tables::View;
-use cq_views::{TableChange, standing_depends_on_sources};
+use cq_views::{
+    TableChange, counts_are_within_work, counts_rise_where_changed, standing_depends_on_sources,
+    work_depends_on_sources,
+};
 use std::alloc::{AllocError, Global};
 
 /// Takes each view on to where it is to go, of which one is the present. Where memory is wanting each stays somewhere on
@@ -25,6 +29,8 @@ pub fn take_all_on(
     ensures ok { OnOk result (AreThere goal.now now views.old views.new) }
     ensures way { AreOnTheWay goal.now now views.old views.new }
     ensures right { StayRight queue.now views.old.items views.new.items }
+    ensures counts { OnOk result (AllCount queue.now views.old.items views.new.items) }
+    ensures begun { MayBeginBefore goal.now now queue.now views.old.items views.new.items }
 {
     for place in 0..views.len() {
         let to = goal.of(&views[place], place, now);
@@ -40,8 +46,11 @@ fn take_on(alloc: Global, view: &mut View, queue: &Queue, to: u64) -> Result<(),
     ensures ok { OnOk result (view.new.kept.state.epoch ≡ to) }
     ensures on { IsTakenOn to view.old view.new }
     ensures right { StaysRight queue.now view.old view.new }
+    ensures counts { OnOk result (CountsIn queue.now view.old view.new) }
+    ensures begun { MayBeginIn queue.now to view.old view.new }
 {
     standing_depends_on_sources();
+    work_depends_on_sources();
     while view.epoch() < to {
         let place = view.epoch() - queue.passed();
         take_in(alloc, view, queue.get(place as usize))?;
@@ -55,8 +64,11 @@ fn take_in(alloc: Global, view: &mut View, change: &Change) -> Result<(), AllocE
     requires { CanTakeIn view.old change.now }
     ensures ok { OnOk result (TakesChange change.now view.old view.new) }
     ensures err { OnErr result (IsSame view.old view.new) }
+    ensures within { OnErr result (StaysWithin change.now view.old view.new) }
 {
     standing_depends_on_sources();
+    counts_are_within_work();
+    counts_rise_where_changed();
     let epoch = view.epoch() + 1;
     if !view.is_on(change.table()) {
         view.commit(None, epoch);

@@ -1,5 +1,5 @@
 -- How wide the tables are that a query names, where one of them is written, made or taken away.
-use Rattle.std.proofs.Common.{◌≡◌, ◌∙◌, ℕ, zero, false, List, [], ◌∷◌, ◌++◌, length, map, Some, refl, sym}
+use Rattle.std.proofs.Common.{◌≡◌, ◌⊎◌, ◌∙◌, ℕ, zero, false, List, [], ◌∷◌, ◌++◌, inl, inr, length, map, None, Some, refl, sym, subst}
 use Rattle.std.specs.Prelude.{◌==◌, if◌then◌else◌}
 use Rattle.std.specs.List.{AllByRecursion, AllZip}
 use Rattle.std.proofs.lemmas.Bool.{eqb-false, eqb-true, ne_eqb}
@@ -53,6 +53,27 @@ wide-there (x ∷ xs) n wide is = by_test (x.number == n)
     (λ k. rw k refl)
     (λ k. rw k (wide-there xs n wide (rw k at is)))
 
+-- one of which the rows were written was as wide
+pub was-with_rows : (n : ℕ) (rows : List Row) (ts : List TableOf) (m wide : ℕ) → width_at (with_rows n rows ts) m ≡ Some wide → width_at ts m ≡ Some wide
+was-with_rows n rows [] m wide is = is
+was-with_rows n rows (x ∷ xs) m wide is = by_test (x.number == n)
+    (λ k. by_test (x.number == m) (λ j. rw j (rw (k, j) at is)) (λ j. rw j (was-with_rows n rows xs m wide (rw (k, j) at is))))
+    (λ k. by_test (x.number == m) (λ j. rw j (rw (k, j) at is)) (λ j. rw j (was-with_rows n rows xs m wide (rw (k, j) at is))))
+
+-- one among others and a last one was there, or is that one
+pub was-behind : (ts : List TableOf) (t : TableOf) (n wide : ℕ) → width_at (ts ++ t ∷ []) n ≡ Some wide → (width_at ts n ≡ Some wide) ⊎ (n ≡ t.number)
+was-behind [] t n wide is = by_test (t.number == n) (λ k. inr (sym (eqb-true t.number n k))) (λ k. absurd (cc (rw k at is)))
+was-behind (x ∷ xs) t n wide is = by_test (x.number == n)
+    (λ k. inl (rw k (rw k at is)))
+    (λ k. rw k (was-behind xs t n wide (rw k at is)))
+
+-- and one that is there is so wide
+pub there-wide : (ts : List TableOf) (n : ℕ) → IsThere n ts → width_at ts n ≡ None → ⊥
+there-wide [] n there none = absurd (cc there)
+there-wide (x ∷ xs) n there none = by_test (x.number == n)
+    (λ k. absurd (cc (rw k at none)))
+    (λ k. there-wide xs n (rw k at there) (rw k at none))
+
 -- a table behind the others
 pub keep-behind : (ts : List TableOf) (t : TableOf) → KeepWidths ts (ts ++ t ∷ [])
 keep-behind [] t n wide is = absurd (cc is)
@@ -70,6 +91,19 @@ module _ (n : ℕ) where
       rw (k, first) (widths-left xs m other))
       (λ k. rw k (by_test (x.number == m) (λ j. rw j refl) (λ j. rw j (widths-left xs m other))))
 
+  -- the one that went is not left
+  none-left : (ts : List TableOf) (m wide : ℕ) → m ≡ n → width_at (others n ts) m ≡ Some wide → ⊥
+  none-left [] m wide gone is = absurd (cc is)
+  none-left (x ∷ xs) m wide gone is = by_test (x.number == n)
+      (λ k. none-left xs m wide gone (rw k at is))
+      (λ k. none-left xs m wide gone (rw (k, ne_eqb x.number m (λ e. eqb-false x.number n k (e ∙ gone))) at is))
+
+  -- one that is left was there
+  pub was-left : (ts : List TableOf) (m wide : ℕ) → width_at (others n ts) m ≡ Some wide → width_at ts m ≡ Some wide
+  was-left ts m wide is = by_test (m == n)
+      (λ j. absurd (none-left ts m wide (eqb-true m n j) is))
+      (λ j. sym (widths-left ts m j) ∙ is)
+
   one-left : (ts : List TableOf) (s : Source) (wide : ℕ) → is_table n s ≡ false → IsWide ts s wide → IsWide (others n ts) s wide
   one-left ts (Table m) wide other is = rw (widths-left ts m other) is
   one-left ts (View place) wide other is = is
@@ -83,10 +117,18 @@ module _ (n : ℕ) where
   wide-left ts (s ∷ sources) (w ∷ widths) free all = (one-left ts s w free.0 all.0, wide-left ts sources widths free.1 all.1)
 
 -- ---- Rows that are as wide
+-- rows of one width that stand once each have it
+pub once-wide : (n : ℕ) (rows : List Row) → AllByRecursion (λ r. length r ≡ n) rows → HasWidth n (once_each rows)
+once-wide n [] wide = tt
+once-wide n (r ∷ rows) wide = (wide.0, once-wide n rows wide.1)
+
 -- rows that fit columns are as many values wide
+each-wide : (columns : List ColumnDef) (rows : List Row) → AllByRecursion (FitsColumns columns) rows → AllByRecursion (λ r. length r ≡ length columns) rows
+each-wide columns [] fit = tt
+each-wide columns (r ∷ rows) fit = (pointwise_length FitsColumn columns r fit.0, each-wide columns rows fit.1)
+
 rows-wide : (columns : List ColumnDef) (rows : List Row) → AllByRecursion (FitsColumns columns) rows → HasWidth (length columns) (once_each rows)
-rows-wide columns [] fit = tt
-rows-wide columns (r ∷ rows) fit = (pointwise_length FitsColumn columns r fit.0, rows-wide columns rows fit.1)
+rows-wide columns rows fit = once-wide (length columns) rows (each-wide columns rows fit)
 
 module _ (tables : List TableOf) where
   -- how many columns the rows of a source have
@@ -94,13 +136,13 @@ module _ (tables : List TableOf) where
   width_of (Table n) = length (columns_in tables n)
   width_of (View place) = zero
 
-  columns-wide : (ts : List TableOf) (n wide : ℕ) → width_at ts n ≡ Some wide → length (columns_in ts n) ≡ wide
+  pub columns-wide : (ts : List TableOf) (n wide : ℕ) → width_at ts n ≡ Some wide → length (columns_in ts n) ≡ wide
   columns-wide [] n wide is = absurd (cc is)
   columns-wide (x ∷ xs) n wide is = by_test (x.number == n)
       (λ k. rw k (same_Some (length x.columns) wide (rw k at is)))
       (λ k. rw k (columns-wide xs n wide (rw k at is)))
 
-  all-widths : (sources : List Source) (widths : List ℕ) → AllZip (IsWide tables) sources widths → map width_of sources ≡ widths
+  pub all-widths : (sources : List Source) (widths : List ℕ) → AllZip (IsWide tables) sources widths → map width_of sources ≡ widths
   all-widths [] [] all = refl
   all-widths [] (w ∷ widths) all = absurd all
   all-widths (s ∷ sources) [] all = absurd all
@@ -109,6 +151,10 @@ module _ (tables : List TableOf) where
       let rest = all-widths sources widths all.1 in
       λ i. own i ∷ rest i
   all-widths (View place ∷ sources) (w ∷ widths) all = absurd all.0
+
+  -- so are the rows of a table
+  pub rows-wide_in : (n wide : ℕ) → AreFitting tables → width_at tables n ≡ Some wide → AllByRecursion (λ r. length r ≡ wide) (rows_in tables n)
+  rows-wide_in n wide fitting is = subst (λ (k : ℕ). AllByRecursion (λ r. length r ≡ k) (rows_in tables n)) (columns-wide tables n wide is) (each-wide (columns_in tables n) (rows_in tables n) (fitting_in n tables fitting))
 
   bags-wide : AreFitting tables → (s : Source) → HasWidth (width_of s) (bags_in tables s)
   bags-wide fitting (Table n) = rows-wide (columns_in tables n) (rows_in tables n) (fitting_in n tables fitting)

@@ -4,7 +4,8 @@ use Rattle.cq_model.specs.Meaning.{Tables}
 use Rattle.cq_views_model.specs.Query.{reads}
 use Rattle.cq_views.specs.Changes.{changes_of}
 use Rattle.cq_views.specs.declared.changes.TableChange.{TableChange}
-use Rattle.cq_views.specs.State.{CanCommit, SameView, StandsFor, StaysStanding, TakesIn, WaitsFor}
+use Rattle.cq_views.specs.State.{CanCommit, CountsPairs, SameView, StandsFor, StaysStanding, TakesIn, WaitsFor}
+use Rattle.cq_views_state.specs.Work.{CountsPut, work_of}
 use Rattle.cq_views_state.specs.declared.state.Pending.{Pending}
 use Rattle.cq_views.specs.declared.kept_view.KeptView.{KeptView}
 use Rattle.cq_engine_tables.specs.Views.{NamedView}
@@ -28,6 +29,15 @@ IsReadyFor table changes old new pending = (tables : Tables) → StandsFor old.k
 abbrev pub IsReadyForChange : TableChange → NamedView → NamedView → Option Pending → Type 0
 IsReadyForChange change old new pending = IsReadyFor change.table (changes_of change) old new pending
 
+-- a view counted the pairs of the changes that wait for it, and where nothing waits, nothing
+abbrev pub CountsReady : Tables → NamedView → NamedView → Option Pending → Type 0
+CountsReady changes old new None = work_of new.kept.state ≡ work_of old.kept.state
+CountsReady changes old new (Some pending) = CountsPairs old.kept changes new.kept pending
+
+-- so it is for the change of a table
+abbrev pub CountsForChange : TableChange → NamedView → NamedView → Option Pending → Type 0
+CountsForChange change old new pending = CountsReady (changes_of change) old new pending
+
 -- a view has room for what waits, and stays in range
 abbrev pub CanTake : NamedView → Option Pending → Type 0
 CanTake v pending = IfSome pending (λ p. CanCommit v.kept p)
@@ -36,6 +46,11 @@ CanTake v pending = IfSome pending (λ p. CanCommit v.kept p)
 abbrev pub GoesOn : Option Pending → KeptView → KeptView → Type 0
 GoesOn None old new = StaysStanding old new
 GoesOn (Some pending) old new = TakesIn old pending new
+
+-- a view counted the entries of what waited, where something did
+abbrev pub CountsTaken : Option Pending → KeptView → KeptView → Type 0
+CountsTaken None old new = work_of new.state ≡ work_of old.state
+CountsTaken (Some pending) old new = CountsPut old.state pending new.state
 
 -- a view was led to the epoch: it is the view that it was, whatever it stands for
 pub record IsLed (now : ℕ) (old new : NamedView) : Type 0 where
@@ -50,3 +65,4 @@ pub record IsLed (now : ℕ) (old new : NamedView) : Type 0 where
 pub record HasTaken (now : ℕ) (old : NamedView) (pending : Option Pending) (new : NamedView) : Type 0 where
   pub led : IsLed now old new
   pub goes : GoesOn pending old.kept new.kept
+  pub counts : CountsTaken pending old.kept new.kept

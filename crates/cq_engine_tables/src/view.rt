@@ -13,8 +13,9 @@ ghost use Rattle.cq_sides.specs.Ticks.{counted};
 ghost use Rattle.cq_views.specs.Changes.{changes_of};
 ghost use Rattle.cq_views.specs.Shown.{AreRowsOf, CanShow, IsNotShown, IsShown};
 ghost use Rattle.cq_views.specs.State.{CanPrepare};
+ghost use Rattle.cq_views.specs.Work.{CountsWithin};
 ghost use Rattle.cq_engine_tables.specs.Views.{AreSized};
-ghost use Rattle.cq_engine_tables.specs.Taking.{CanTake, HasTaken, IsReadyForChange, IsSame};
+ghost use Rattle.cq_engine_tables.specs.Taking.{CanTake, CountsForChange, HasTaken, IsReadyForChange, IsSame};
 
 use cq_model::{Query, ShowFault};
 use cq_values::{ColumnDef, Seq, Text};
@@ -143,6 +144,8 @@ impl View {
         requires { CanPrepare self.old.kept (changes_of change.now) }
         ensures same { IsSame self.old self.new }
         ensures ready { IfOk result (IsReadyForChange change.now self.old self.new) }
+        ensures counts { IfOk result (CountsForChange change.now self.old self.new) }
+        ensures within { CountsWithin self.old.kept (changes_of change.now) self.new.kept }
     {
         if !self.state.is_on(change.table) {
             return Ok(None);

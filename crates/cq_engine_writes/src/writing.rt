@@ -1,4 +1,6 @@
-//! Writes of the table of a number, which is one of several. Each makes room in the queue for its change first.
+//! Writes of the table of a number, which is one of several. Each makes room in the queue first, where its change is
+//! asked for.
+ghost use Rattle.std.specs.Bool.{OnTrue};
 ghost use Rattle.std.specs.Prelude.{◌<◌, ◌≡◌, ◌≤◌, ℕ, IfOk, OnErr, OnOk, length};
 ghost use Rattle.cq_model_state.specs.Fitting.{AreFitting, AreLimited, rows_limit};
 ghost use Rattle.cq_model_state.specs.State.{AreNumbered};
@@ -36,11 +38,11 @@ pub fn insert_in(
     ensures inserts { InsertsHeld max_rows number rows tables.old result tables.new }
     ensures lengths { OnOk result (GrowsAt number (length rows) tables.old tables.new) }
     ensures change { IfOk result (TellsInserted asked number rows tables.old) }
-    ensures room { OnOk result (0 < queue.new.room) }
+    ensures room { OnOk result (OnTrue asked (0 < queue.new.room)) }
     ensures queue { IsSameQueue queue.old queue.new }
     ensures err { OnErr result (tables.new.items ≡ tables.old.items) }
 {
-    queue.reserve()?;
+    make_room(queue, asked)?;
     let place = place_numbered(tables, number);
     insert_into(alloc, max_rows, &mut tables[place], rows, asked)
 }
@@ -64,11 +66,11 @@ pub fn delete_in(
     ensures left { OnOk result (DeletesFrom number condition.now tables.old tables.new) }
     ensures lengths { OnOk result (ChangeAt number MarkIn tables.old.items tables.new.items) }
     ensures change { IfOk result (λ done. TellsDeleted asked number condition.now tables.old done.1) }
-    ensures room { OnOk result (0 < queue.new.room) }
+    ensures room { OnOk result (OnTrue asked (0 < queue.new.room)) }
     ensures queue { IsSameQueue queue.old queue.new }
     ensures err { OnErr result (tables.new.items ≡ tables.old.items) }
 {
-    queue.reserve()?;
+    make_room(queue, asked)?;
     let place = place_numbered(tables, number);
     delete_from(alloc, &mut tables[place], condition, asked)
 }
@@ -92,11 +94,19 @@ pub fn update_in(
     ensures updates { UpdatesHeld number assignments.now condition.now tables.old result tables.new }
     ensures lengths { IfOk result (λ done. ExchangesAt number done.0 tables.old tables.new) }
     ensures change { IfOk result (λ done. TellsUpdated asked number assignments.now condition.now tables.old done.1) }
-    ensures room { OnOk result (0 < queue.new.room) }
+    ensures room { OnOk result (OnTrue asked (0 < queue.new.room)) }
     ensures queue { IsSameQueue queue.old queue.new }
     ensures err { OnErr result (tables.new.items ≡ tables.old.items) }
 {
-    queue.reserve()?;
+    make_room(queue, asked)?;
     let place = place_numbered(tables, number);
     update_rows(alloc, &mut tables[place], assignments, condition, asked)
+}
+
+/// Makes room in the queue for a change that is asked for.
+fn make_room(queue: &mut Queue, asked: bool) -> Result<(), AllocError>
+    ensures room { OnOk result (OnTrue asked (0 < queue.new.room)) }
+    ensures same { IsSameQueue queue.old queue.new }
+{
+    if asked { queue.reserve() } else { Ok(()) }
 }

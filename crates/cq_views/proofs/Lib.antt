@@ -7,3 +7,5 @@ pub mod Standing
 pub mod Showing
 pub mod Rising
 pub mod Told
+pub mod Works
+pub mod Working

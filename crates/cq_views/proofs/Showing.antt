@@ -1,5 +1,5 @@
 -- A view shows its query's bag on tables whose rows have the columns that it was told.
-use Rattle.std.proofs.Common.{◌≡◌, ◌∙◌, ◌≤◌, List, [], ◌∷◌, map, sym, ap, subst, arith}
+use Rattle.std.proofs.Common.{◌≡◌, ◌∙◌, ℕ, ◌≤◌, List, [], ◌∷◌, map, sym, ap, subst, arith}
 use Rattle.std.proofs.lemmas.Nat.{mul-le}
 use Rattle.std.specs.List.{AllByRecursion}
 use Rattle.cq_values.specs.Value.{Row}
@@ -54,27 +54,28 @@ module _ (v : KeptView) where
   pub same-sizes : CanShow v → column_sizes v.state.query ≡ column_sizes v.query
   same-sizes can = can.stands.narrow.sizes
 
-  module _ (narrow : IsNarrowOf v.query v.widths (narrow_query v)) (tables : Tables) (columns : HaveColumns v.query v.widths tables) where
+  module _ (narrow : IsNarrowOf v.query v.widths (narrow_query v)) (width : Source → ℕ) (from : map width (sources_of v.query) ≡ v.widths) (tables : Tables) where
     -- rows that are cut are those with the columns alone that the query reads
     alike : AllByRecursion (λ s. SameBag (cut_bags v.columns tables s) (narrowed_bags v.columns tables s)) (sources_of v.query)
     alike =
         let q = v.query in
         let narrowed = narrowed_bags v.columns tables in
-        let width = columns.width in
         let read : v.columns ≡ sources_read q v.widths (sources_of q) (map width (sources_of q)) =
-        narrow.columns ∙ ap (sources_read q v.widths (sources_of q)) (sym columns.from) in
+        narrow.columns ∙ ap (sources_read q v.widths (sources_of q)) (sym from) in
         let same = subst (λ (cs : List SourceColumns). AllByRecursion (λ s. cut_bags cs tables s ≡ narrowed_bags cs tables s) (sources_of q)) (sym read) (entries-read q v.widths width (sources_of q) tables) in
         all-weaker (λ s. cut_bags v.columns tables s ≡ narrowed s) (λ s. SameBag (cut_bags v.columns tables s) (narrowed s))
         (λ s h. subst (λ (xs : Weighted). SameBag (cut_bags v.columns tables s) xs) h (same-refl (cut_bags v.columns tables s))) (sources_of q) same
 
-    alike-inside : AllByRecursion (λ s. SameBag (cut_bags v.columns tables s) (narrowed_bags v.columns tables s)) (sources_of v.state.query)
+    -- so they are for each source of the query over them
+    pub alike-inside : AllByRecursion (λ s. SameBag (cut_bags v.columns tables s) (narrowed_bags v.columns tables s)) (sources_of v.state.query)
     alike-inside = subst (λ (ss : List Source). AllByRecursion (λ s. SameBag (cut_bags v.columns tables s) (narrowed_bags v.columns tables s)) ss) (sym narrow.sources) alike
 
-    -- so the query over them has the bag of the view's
-    pub cut-means : SameBag (meaning v.state.query (cut_bags v.columns tables)) (meaning v.query tables)
-    cut-means =
-        subst (λ (xs : Weighted). SameBag (meaning v.state.query (cut_bags v.columns tables)) xs) (narrow.bag tables columns)
-        (meaning-same v.state.query (cut_bags v.columns tables) (narrowed_bags v.columns tables) alike-inside)
+  -- so the query over them has the bag of the view's
+  pub cut-means : IsNarrowOf v.query v.widths (narrow_query v) → (tables : Tables) → HaveColumns v.query v.widths tables
+      → SameBag (meaning v.state.query (cut_bags v.columns tables)) (meaning v.query tables)
+  cut-means narrow tables columns =
+      subst (λ (xs : Weighted). SameBag (meaning v.state.query (cut_bags v.columns tables)) xs) (narrow.bag tables columns)
+      (meaning-same v.state.query (cut_bags v.columns tables) (narrowed_bags v.columns tables) (alike-inside narrow columns.width columns.from tables))
 
   module _ (tables : Tables) (suits : Suits v tables) where
     abbrev narrowed : Tables
@@ -83,7 +84,7 @@ module _ (v : KeptView) where
     -- so the state stands for these
     stands-narrow : StandsFor v.state narrowed
     stands-narrow =
-        standing-by_sources v.state (cut_bags v.columns tables) narrowed (alike-inside suits.stands.narrow tables suits.columns) suits.stands.rows
+        standing-by_sources v.state (cut_bags v.columns tables) narrowed (alike-inside suits.stands.narrow suits.columns.width suits.columns.from tables) suits.stands.rows
 
     narrow-bags : AreBags narrowed
     narrow-bags s = (are-narrow v.columns s).bag tables (suits.columns.bags s)

@@ -12,7 +12,7 @@ use Rattle.cq_deltas_joins.specs.Steps.{AreStored, span}
 use Rattle.cq_views_model.specs.Delta.{changed}
 use Rattle.cq_views.proofs.Bags.{cut-bags, cut-changed, cut-same, cut-sizes, cut-stored}
 use Rattle.cq_views.specs.Cut.{AreCut, cut_bags, cut_widths, entry_of}
-use Rattle.cq_views.specs.Laws.{CountsWithinWork, StandingDependsOnSources}
+use Rattle.cq_views.specs.Laws.{StandingDependsOnSources}
 use Rattle.cq_views.specs.State.{CanPrepare, CountsPairs, IsWaiting, SameView, TakesIn, narrow_query}
 use Rattle.cq_views.specs.declared.kept_view.KeptView.{KeptView}
 use Rattle.cq_model.specs.Meaning.{Tables}
@@ -24,8 +24,7 @@ use Rattle.cq_deltas_joins.proofs.Sizes.{sizes-least}
 use Rattle.cq_views.proofs.Taking.{spans-less}
 use Rattle.cq_views.proofs.Told.{all-wide, changes-wide}
 use Rattle.cq_views_state.proofs.SameBags.{standing-by_sources}
-use Rattle.cq_views_state.proofs.Working.{counts-within_work}
-use Rattle.cq_views_state.specs.Work.{CountsRows}
+use Rattle.cq_views_state.specs.Work.{CountsRows, work_of}
 use Rattle.cq_views_state.specs.State.{AreBags}
 use Rattle.cq_views_state.specs.State as inner
 use Rattle.cq_views_state.specs.declared.state.Pending.{Pending}
@@ -58,6 +57,20 @@ module _ (v : KeptView) (w : ViewState) (same : w.query ≡ v.state.query) (told
         widths = widths-still stands.widths;
         rows = standing-by_sources w (changed old waits.cut) now (all-of (λ s. SameBag (changed old waits.cut s) (now s)) alike (sources_of w.query)) (takes old waits.cut stands.rows waits.waits all);
       }
+
+-- where nothing changed that is seen of the state, nothing did that is seen of the view
+pub same-view : (v : KeptView) (w : ViewState) → inner.SameView v.state w → SameView v (record v { state = w })
+same-view v w same = record {
+  query = refl;
+  widths = refl;
+  columns = refl;
+  state = same;
+  stands = λ tables stands. record {
+    narrow = narrow-still v w same.query same.widths stands.narrow;
+    widths = widths-still v w same.query same.widths stands.widths;
+    rows = same.stands (cut_bags v.columns tables) stands.rows;
+  };
+}
 
 -- what follows of a value and of what holds beside it
 pub ok-both : {T E Q : Type 0} {P R : T → Type 0} (r : Result T E) → ((x : T) → P x → Q → R x) → IfOk r P → OnOk r Q → IfOk r R
@@ -112,8 +125,8 @@ module _ (v : KeptView) (changes : Tables) (can : CanPrepare v changes) where
       }
 
       -- and what the state counted was for them
-      pub cut-counts : chains.CountsPairs v.state.chain cut w.chain → CountsRows v.state cut w → CountsPairs v changes (record v { state = w }) pending
-      cut-counts counts rows = record { cut = cut; same = are.same; wide = changes-wide v.columns changes cut are; waits = waits; counts = counts; rows = rows }
+      pub cut-counts : chains.CountsPairs v.state.chain cut w.chain → CountsRows v.state cut w → work_of v.state ≤ work_of w → CountsPairs v changes (record v { state = w }) pending
+      cut-counts counts rows more = record { cut = cut; same = are.same; wide = changes-wide v.columns changes cut are; waits = waits; counts = counts; rows = rows; more = more }
 
 -- ---- laws
 pub standing-by_bags : StandingDependsOnSources
@@ -126,9 +139,3 @@ standing-by_bags v tables others same stands =
           standing-by_sources v.state (cut_bags v.columns tables) (cut_bags v.columns others)
           (subst (λ (ss : List Source). AllByRecursion (λ s. SameBag (cut_bags v.columns tables s) (cut_bags v.columns others s)) ss) (sym stands.narrow.sources) cuts) stands.rows;
     }
-
-pub counts-within : CountsWithinWork
-counts-within tables changes old ready new pending stands same waiting put =
-    let wide = all-wide old tables waiting.cut stands.widths waiting.wide in
-    counts-within_work (cut_bags old.columns tables) waiting.cut old.state ready.state new.state pending stands.rows wide same.state waiting.counts waiting.rows
-    (waiting.waits (cut_bags old.columns tables) stands.rows wide) put

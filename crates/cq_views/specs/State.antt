@@ -69,7 +69,7 @@ abbrev pub IsWaiting : KeptView → Tables → KeptView → Pending → Type 0
 IsWaiting old changes new pending = (tables : Tables) → StandsFor old tables → WaitsFor tables changes new pending
 
 -- changes wait as rows that are cut, and the counts rose by at most the pairs that these rows meet, and by one for each row
--- that they add behind the joins
+-- that they add behind the joins; they did not fall
 pub record CountsPairs (old : KeptView) (changes : Tables) (new : KeptView) (pending : Pending) : Type 0 where
   pub cut : Tables
   pub same : SameTables cut (cut_bags old.columns changes)
@@ -77,6 +77,7 @@ pub record CountsPairs (old : KeptView) (changes : Tables) (new : KeptView) (pen
   pub waits : inner.IsWaiting old.state cut new.state pending
   pub counts : chains.CountsPairs old.state.chain cut new.state.chain
   pub rows : CountsRows old.state cut new.state
+  pub more : work_of old.state ≤ work_of new.state
 
 -- there is room for what waits, and no number leaves its range
 abbrev pub CanCommit : KeptView → Pending → Type 0

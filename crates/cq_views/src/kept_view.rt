@@ -5,11 +5,12 @@
 //! a write of another table by `advance` alone. A write costs its own rows and the pairs that they meet in the joins, and
 //! `rows` what the view holds behind them.
 ghost use Rattle.std.specs.List.{AllByRecursion};
-ghost use Rattle.std.specs.Prelude.{◌<◌, ◌≡◌, ◌≤◌, ◌^◌, IfErr, IfOk, OnOk, sum};
+ghost use Rattle.std.specs.Prelude.{◌<◌, ◌≡◌, ◌^◌, IfErr, IfOk, OnOk, sum};
 ghost use Rattle.cq_model.specs.declared.fault.ShowFault.TheVariants.{SumOutOfRange};
 ghost use Rattle.cq_views.specs.Changes.{changes_of};
 ghost use Rattle.cq_views.specs.Shown.{AreRowsOf, CanShow, IsNotShown, IsShown};
 ghost use Rattle.cq_views.specs.State.{CanCommit, CanPrepare, CountsPairs, IsOver, IsWaiting, SameView, StandsFor, StaysStanding, TakesIn};
+ghost use Rattle.cq_views.specs.Work.{CountsWithin};
 ghost use Rattle.cq_model_laws.specs.Sizes.{HasSizes};
 ghost use Rattle.cq_model.specs.Sizes.{column_sizes};
 ghost use Rattle.cq_sides.specs.Ticks.{counted};
@@ -123,7 +124,7 @@ impl KeptView {
         ensures waiting { IfOk result (IsWaiting self.old (changes_of change.now) self.new) }
         ensures ready { IfOk result (CanCommit self.new) }
         ensures counts { IfOk result (CountsPairs self.old (changes_of change.now) self.new) }
-        ensures more { work_of self.old.state ≤ work_of self.new.state }
+        ensures within { CountsWithin self.old (changes_of change.now) self.new }
     {
         let cut = cut_change(alloc, self.columns.as_slice(), change)?;
         self.state.prepare(alloc, cut)

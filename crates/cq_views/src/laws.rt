@@ -1,13 +1,13 @@
 //! What holds of kept views.
-ghost use Rattle.cq_views.specs.Laws.{CountsWithinWork, RisesWhereChanged, StandingDependsOnSources};
+ghost use Rattle.cq_views.specs.Laws.{CountsWithinWork, RisesWhereChanged, StandingDependsOnSources, WorkDependsOnSources};
 
 /// A view that stands for the bags of the tables that FROM names stands for them however they are listed.
 pub fn standing_depends_on_sources()
     ensures { StandingDependsOnSources }
 {}
 
-/// What [`crate::KeptView::prepare`] and [`crate::KeptView::commit`] count is within the work of the joins over rows
-/// that are cut to the columns that the query reads.
+/// What [`crate::KeptView::prepare`] and [`crate::KeptView::commit`] count is within the work of the view's query for the
+/// changes, over its tables' whole rows.
 pub fn counts_are_within_work()
     ensures { CountsWithinWork }
 {}
@@ -15,4 +15,9 @@ pub fn counts_are_within_work()
 /// They count at least one where the bag of the view's query changes.
 pub fn counts_rise_where_changed()
     ensures { RisesWhereChanged }
+{}
+
+/// The work of a view's query depends on the bags of the tables that FROM names alone.
+pub fn work_depends_on_sources()
+    ensures { WorkDependsOnSources }
 {}

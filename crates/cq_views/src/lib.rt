@@ -13,4 +13,7 @@ mod laws;
 
 pub use changes::TableChange;
 pub use kept_view::KeptView;
-pub use laws::{counts_are_within_work, counts_rise_where_changed, standing_depends_on_sources};
+pub use laws::{
+    counts_are_within_work, counts_rise_where_changed, standing_depends_on_sources,
+    work_depends_on_sources,
+};

@@ -120,6 +120,18 @@ module _ (read : ℕ → Bool) (columns : Source → List ℕ) (width : Source �
       ap (λ (ks : List ℕ). is_one_of ks i) (more-places front n j js c.0.within)
       ∙ has_read-all (n + width j.source) (front ++ behind n (columns j.source)) js (has_read-more n j.source front h c.0) c.2 i low k
 
+  -- narrower rows meet in one join where the rows do
+  pub meets-narrow : (kept front more : List ℕ) (n : ℕ) (j : Join) → kept ≡ front ++ more → HasRead n front → AllByRecursion (IsCovered j.source) j.on → (r s : Row) → length r ≡ n → length s ≡ width j.source
+      → meets (renamed_join (place_in kept) columns j).on (key_of front r) (key_of (columns j.source) s) ≡ meets j.on r s
+  meets-narrow kept front more n j are h on r s e d =
+      let own = columns j.source in
+      ap (λ (ks : List ℕ). meets (renamed_on (place_in ks) own j.on) (key_of front r) (key_of own s)) are
+      ∙ meets-kept front more own r s j.on (kept-on j.on on)
+    where
+      kept-on : (es : List Equality) → AllByRecursion (IsCovered j.source) es → AllByRecursion (ReadsKept front more (columns j.source) r s) es
+      kept-on [] c = tt
+      kept-on (q ∷ es) c = ((λ k. h q.left (grind (arith, nat_tests, k, e)) c.0.0, λ k. c.0.1 (grind (arith, nat_tests, k, d))), kept-on es c.1)
+
   module _ (tables : Tables) (wide : HaveWidths width tables) where
     -- the joined rows have all columns
     pub chain-wide : (n : ℕ) (xs : Weighted) (js : List Join) → HasWidth n xs → HasWidth (columns_behind n js) (chain tables xs js)
@@ -127,22 +139,16 @@ module _ (read : ℕ → Bool) (columns : Source → List ℕ) (width : Source �
     chain-wide n xs (j ∷ js) w = chain-wide (n + width j.source) (joined (meets j.on) xs (tables j.source)) js (joined-width (meets j.on) n (width j.source) xs (tables j.source) w (wide j.source))
 
     -- one join of narrower rows
-    next-narrow : (kept front more : List ℕ) (n : ℕ) (xs : Weighted) (j : Join) → kept ≡ front ++ more → HasWidth n xs → AllByRecursion (λ c. c < n) front → HasRead n front → AllByRecursion (IsCovered j.source) j.on
+    pub next-narrow : (kept front more : List ℕ) (n : ℕ) (xs : Weighted) (j : Join) → kept ≡ front ++ more → HasWidth n xs → AllByRecursion (λ c. c < n) front → HasRead n front → AllByRecursion (IsCovered j.source) j.on
         → joined (meets (renamed_join (place_in kept) columns j).on) (projected (key_of front) xs) (projected (key_of (columns j.source)) (tables j.source))
         ≡ projected (key_of (front ++ behind n (columns j.source))) (joined (meets j.on) xs (tables j.source))
     next-narrow kept front more n xs j are w below h on =
         let own = columns j.source in
-        let narrower : List ℕ → List Equality = λ ks. renamed_on (place_in ks) own j.on in
-        ap (λ (ks : List ℕ). joined (meets (narrower ks)) (projected (key_of front) xs) (projected (key_of own) (tables j.source))) are
-        ∙ joined-through (meets (narrower (front ++ more))) (meets j.on) (key_of front) (key_of own) (key_of (front ++ behind n own)) xs (tables j.source)
-        (both-wide (GoTogether (meets (narrower (front ++ more))) (meets j.on) (key_of front) (key_of own) (key_of (front ++ behind n own))) n (width j.source)
-        (λ r s e d. (meets-kept front more own r s j.on (kept-on r s e d j.on on), sym (key-joined front own n r s e below)))
+        let narrower = meets (renamed_join (place_in kept) columns j).on in
+        joined-through narrower (meets j.on) (key_of front) (key_of own) (key_of (front ++ behind n own)) xs (tables j.source)
+        (both-wide (GoTogether narrower (meets j.on) (key_of front) (key_of own) (key_of (front ++ behind n own))) n (width j.source)
+        (λ r s e d. (meets-narrow kept front more n j are h on r s e d, sym (key-joined front own n r s e below)))
         xs (tables j.source) w (wide j.source))
-      where
-        kept-on : (r s : Row) → length r ≡ n → length s ≡ width j.source → (es : List Equality) → AllByRecursion (IsCovered j.source) es
-            → AllByRecursion (ReadsKept front more (columns j.source) r s) es
-        kept-on r s e d [] c = tt
-        kept-on r s e d (q ∷ es) c = ((λ k. h q.left (grind (arith, nat_tests, k, e)) c.0.0, λ k. c.0.1 (grind (arith, nat_tests, k, d))), kept-on r s e d es c.1)
 
     -- a chain of them
     pub chain-narrow : (kept front : List ℕ) (n : ℕ) (xs : Weighted) (js : List Join) → kept ≡ all_places front n js → HasWidth n xs → AllByRecursion (λ c. c < n) front → HasRead n front → AreCovered n js

@@ -3,6 +3,8 @@ pub mod Rows
 pub mod Joined
 pub mod Grouped
 pub mod Covered
+pub mod Fewer
+pub mod Works
 pub mod RenamedCanBeKept
 pub mod Meanings
 pub mod Bags

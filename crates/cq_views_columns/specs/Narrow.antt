@@ -1,5 +1,5 @@
 -- A query over rows that have the columns alone which it reads.
-use Rattle.std.specs.Prelude.{◌≡◌, ◌↔◌, ℕ, if◌then◌else◌, List, [], ◌∷◌, map, filter, Option}
+use Rattle.std.specs.Prelude.{◌≡◌, ◌↔◌, ℕ, ◌≤◌, if◌then◌else◌, List, [], ◌∷◌, map, filter, Option}
 use Rattle.std.specs.List.{range_with_len}
 use Rattle.std.specs.Option.{option_map}
 use Rattle.cq_model_bags.specs.Bag.{IsBag, projected}
@@ -15,6 +15,7 @@ use Rattle.cq_model.specs.declared.query.Join.{Join}
 use Rattle.cq_model.specs.declared.query.Query.{Query}
 use Rattle.cq_model.specs.declared.query.Source.{Source}
 use Rattle.cq_views_model.specs.Query.{CanBeKept}
+use Rattle.cq_views_state.specs.Laws.{joins_work}
 use Rattle.cq_model_terms.specs.Places.{place_in}
 use Rattle.cq_views_columns.specs.Places.{places_from}
 use Rattle.cq_views_columns.specs.Reads.{is_read}
@@ -89,7 +90,19 @@ pub record HaveColumns (q : Query) (widths : List ℕ) (tables : Tables) : Type 
 abbrev pub IsInRangeAlike : Query → NarrowQuery → Tables → Type 0
 IsInRangeAlike query new tables = MeaningInRange new.query (narrowed_bags new.columns tables) ↔ MeaningInRange query tables
 
--- it reads the same columns alone, has the same bag over the narrower rows, and is kept and shown wherever the query is
+-- tables and changes whose rows have as many columns as these widths say, source by source of FROM
+pub record HaveColumnsAlike (q : Query) (widths : List ℕ) (tables changes : Tables) : Type 0 where
+  pub width : Source → ℕ
+  pub from : map width (sources_of q) ≡ widths
+  pub rows : HaveWidths width tables
+  pub more : HaveWidths width changes
+
+-- the work of the joins of a query for changes of its sources is no less over the whole rows
+abbrev pub IsLessWork : Query → NarrowQuery → Tables → Tables → Type 0
+IsLessWork query new tables changes =
+    joins_work new.query (narrowed_bags new.columns tables) (narrowed_bags new.columns changes) ≤ joins_work query tables changes
+
+-- it reads the same columns alone, has the same bag over the narrower rows with no more work, and is kept and shown wherever the query is
 pub record IsNarrowOf (query : Query) (widths : List ℕ) (new : NarrowQuery) : Type 0 where
   pub columns : new.columns ≡ sources_read query widths (sources_of query) widths
   pub bag : (tables : Tables) → HaveColumns query widths tables → meaning new.query (narrowed_bags new.columns tables) ≡ meaning query tables
@@ -98,3 +111,4 @@ pub record IsNarrowOf (query : Query) (widths : List ℕ) (new : NarrowQuery) : 
   pub distinct : new.query.distinct ≡ query.distinct
   pub sizes : column_sizes new.query ≡ column_sizes query
   pub kept : CanBeKept query → CanBeKept new.query
+  pub work : (tables changes : Tables) → HaveColumnsAlike query widths tables changes → IsLessWork query new tables changes

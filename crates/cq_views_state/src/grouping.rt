@@ -1,5 +1,5 @@
 //! What changes of the joined rows add to groups.
-ghost use Rattle.std.specs.Prelude.{◌≤◌, IfOk, OnOk};
+ghost use Rattle.std.specs.Prelude.{◌≡◌, ◌≤◌, IfOk, OnErr, OnOk};
 ghost use Rattle.cq_deltas_joins.specs.Chains.{CanChange};
 ghost use Rattle.cq_deltas_joins.specs.WaitingChanges.{AreReady};
 ghost use Rattle.cq_deltas_joins.specs.Sources.{rows_at};
@@ -81,6 +81,7 @@ pub(crate) fn stream_groups(
     ensures kept { OnlyCounts chain.old (rows_at changes.items) chain.new }
     ensures same { GroupsStay query.now groups.old groups.new }
     ensures more { ticks.old ≤ ticks.new }
+    ensures failed { OnErr result (ticks.new ≡ ticks.old) }
 {
     let mut taker = GroupTaker {
         query,
@@ -96,7 +97,7 @@ pub(crate) fn stream_groups(
         ticks: counted,
     } = taker;
     *groups = back;
-    *ticks = counted;
     let (change, waiting) = both(change, streamed)?;
+    *ticks = counted;
     Ok((waiting, change))
 }

@@ -1,5 +1,5 @@
 //! What changes of the joined rows add to images.
-ghost use Rattle.std.specs.Prelude.{◌<◌, ◌≡◌, ◌≤◌, ◌^◌, IfOk, OnOk, length};
+ghost use Rattle.std.specs.Prelude.{◌<◌, ◌≡◌, ◌≤◌, ◌^◌, IfOk, OnErr, OnOk, length};
 ghost use Rattle.cq_deltas_joins.specs.Chains.{CanChange};
 ghost use Rattle.cq_deltas_joins.specs.WaitingChanges.{AreReady};
 ghost use Rattle.cq_deltas_joins.specs.Sources.{rows_at};
@@ -78,6 +78,7 @@ pub(crate) fn stream_images(
     ensures kept { OnlyCounts chain.old (rows_at changes.items) chain.new }
     ensures same { images.new.entries ≡ images.old.entries }
     ensures more { ticks.old ≤ ticks.new }
+    ensures failed { OnErr result (ticks.new ≡ ticks.old) }
 {
     let mut taker = ImageTaker {
         query,
@@ -90,9 +91,10 @@ pub(crate) fn stream_images(
         images: more,
         ticks: counted,
     } = taker;
-    *ticks = counted;
     let (more, waiting) = both(more, streamed)?;
-    both(waiting, ready_images(alloc, more, images))
+    let ready = both(waiting, ready_images(alloc, more, images))?;
+    *ticks = counted;
+    Ok(ready)
 }
 
 /// Images with their weights, those of one row as one, and room for them.

@@ -5,7 +5,7 @@
 //! other tables alone, and `restart` ends a build. A change costs its own rows and the pairs that they meet, `rows` what is
 //! held behind the joins, and all else the same whatever is held.
 ghost use Rattle.std.specs.List.{AllByRecursion};
-ghost use Rattle.std.specs.Prelude.{◌≡◌, ◌≤◌, IfErr, IfOk, OnOk, length};
+ghost use Rattle.std.specs.Prelude.{◌≡◌, ◌≤◌, IfErr, IfOk, OnErr, OnOk, length};
 ghost use Rattle.cq_deltas_joins.specs.Chains.{nothing};
 ghost use Rattle.cq_deltas_joins.specs.Sources.{rows_at};
 ghost use Rattle.cq_deltas_joins.specs.Work.{CountsPairs};
@@ -135,6 +135,7 @@ impl ViewState {
         ensures counts { CountsPairs self.old.chain (rows_at changes.items) self.new.chain }
         ensures rows { OnOk result (CountsRows self.old (rows_at changes.items) self.new) }
         ensures more { work_of self.old ≤ work_of self.new }
+        ensures failed { OnErr result (self.new.ticks ≡ self.old.ticks) }
     {
         let (query, chain) = (&self.query, &mut self.chain);
         let ticks = &mut self.ticks;

@@ -34,4 +34,5 @@ returns c =
       stands =
           stands_for_tables (tables_of c.args.tables.now) c.args.query c.in_ok-sources.sources.items c.in_ok-sources.ensures
           c.standing_depends_on_sources.ensures v state.query stands;
+      uncounted = state.uncounted;
     }

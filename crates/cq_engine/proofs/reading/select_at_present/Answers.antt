@@ -1,9 +1,11 @@
-use Rattle.std.proofs.Common.{List, subst, sym}
+use Rattle.std.proofs.Common.{List, inr, refl, subst, sym}
+use Rattle.std.proofs.lemmas.Result.{err_from_is_err_and}
 use Rattle.cq_model_state.specs.State.{AreNumbered, TableOf}
 use Rattle.cq_views.proofs.Standing.{standing-by_bags}
 use Rattle.cq_engine_answers.specs.Reading.{AreReadable}
 use Rattle.cq_engine_tables.specs.HeldTables.{tables_of}
 use Rattle.cq_engine_tables.specs.Views.{NamedView, views_of}
+use Rattle.cq_engine.proofs.Counted.{counted-anyway}
 use Rattle.cq_engine.proofs.Selecting.{are-readable, between-epochs, read-epochs, selects-epochs}
 use Rattle.cq_engine.specs.Reading.{named_to}
 use Rattle.cq_engine.proofs.reading.select_at_present.Goals as goal
@@ -38,3 +40,12 @@ returns-clause-selects c =
     let news = views_of c.take_all_on.new.views.items in
     let selects = rw c.deref.ensures.value at c.select_from.ensures in
     selects-epochs (tables_of c.args.tables.now) olds news (between-epochs (named_to q c.args.now) 0 olds news c.take_all_on.ensures.way) q c.args.order.now c.select_from.result selects
+
+pub returns-in_err-take_all_on-clause-counts : goal.returns-in_err-take_all_on-clause-counts
+returns-in_err-take_all_on-clause-counts c =
+    let p = err_from_is_err_and c.from_residual.result c.from_residual.ensures.1 in
+    rw (p.1, p.2) (inr (refl, c.take_all_on.ensures.begun))
+
+pub returns-clause-counts : goal.returns-clause-counts
+returns-clause-counts c =
+    counted-anyway c.args.query.now c.args.now c.args.queue.now c.args.views.now c.take_all_on.new.views c.select_from.result c.in_ok-take_all_on.ensures.counts

@@ -1,7 +1,7 @@
 use Rattle.std.proofs.Common.{◌<◌, ◌≤◌, ℕ, length, subst, arith}
 use Rattle.std.specs.List.{AllByRecursion}
 use Rattle.cq_engine_tables.specs.Views.{IsRight}
-use Rattle.cq_engine_queue.proofs.Ways.{IsGone, all-there, goes-on, holds-here, none-gone, on-way-here, one-gone, placed-length, right-epochs, some-way, stopped-way, there-here, there-taken, way-between, way-right}
+use Rattle.cq_engine_queue.proofs.Ways.{IsGone, all-there, goes-on, holds-here, none-gone, on-way-here, one-gone, placed-length, right-epochs, some-way, stopped-way, there-counted, there-here, there-taken, way-begun, way-between, way-right}
 use Rattle.cq_engine_queue.proofs.taking.take_all_on.Goals as goal
 
 pub loop-place-init : goal.loop-place-init
@@ -57,7 +57,7 @@ returns-in_err-take_on-clause-way c =
     let epochs = subst (λ (n : ℕ). AllByRecursion (λ v. v.kept.state.epoch ≤ n) vs) c.requires.now (right-epochs c.requires.state vs c.requires.right) in
     let w = c.index_mut.result.now in
     let x = c.take_on.new.view in
-    let on = on-way-here c.args.goal.now c.args.now c.args.queue.now vs ws i h c.loop-place.invariant c.index.result.now w x c.index.ensures c.index_mut.ensures.value c.of-to.result c.of-to.ensures c.take_on.ensures.on c.take_on.ensures.right in
+    let on = on-way-here c.args.goal.now c.args.now c.args.queue.now vs ws i h c.loop-place.invariant c.index.result.now w x c.index.ensures c.index_mut.ensures.value c.of-to.result c.of-to.ensures c.take_on.ensures.on c.take_on.ensures.right c.take_on.ensures.begun in
     way-between c.args.goal.now c.args.now c.args.queue.now 0 vs _ (stopped-way c.args.goal.now c.args.now c.args.queue.now vs epochs ws i w x h c.loop-place.invariant on)
 
 pub returns-in_err-take_on-clause-right : goal.returns-in_err-take_on-clause-right
@@ -69,8 +69,20 @@ returns-in_err-take_on-clause-right c =
     let epochs = subst (λ (n : ℕ). AllByRecursion (λ v. v.kept.state.epoch ≤ n) vs) c.requires.now (right-epochs c.requires.state vs c.requires.right) in
     let w = c.index_mut.result.now in
     let x = c.take_on.new.view in
-    let on = on-way-here c.args.goal.now c.args.now c.args.queue.now vs ws i h c.loop-place.invariant c.index.result.now w x c.index.ensures c.index_mut.ensures.value c.of-to.result c.of-to.ensures c.take_on.ensures.on c.take_on.ensures.right in
+    let on = on-way-here c.args.goal.now c.args.now c.args.queue.now vs ws i h c.loop-place.invariant c.index.result.now w x c.index.ensures c.index_mut.ensures.value c.of-to.result c.of-to.ensures c.take_on.ensures.on c.take_on.ensures.right c.take_on.ensures.begun in
     way-right c.args.goal.now c.args.now c.args.queue.now 0 vs _ (stopped-way c.args.goal.now c.args.now c.args.queue.now vs epochs ws i w x h c.loop-place.invariant on)
+
+pub returns-in_err-take_on-clause-begun : goal.returns-in_err-take_on-clause-begun
+returns-in_err-take_on-clause-begun c =
+    let vs = c.args.views.now.items in
+    let ws = c.loop-place.views.items in
+    let i = c.loop-place.place in
+    let h : i < length ws = omega (arith, c.loop-place-test.true, c.len-place-end.ensures, c.args.views.now.ok.0, placed-length (IsGone c.args.goal.now c.args.now c.args.queue.now i) 0 vs ws c.loop-place.invariant) in
+    let epochs = subst (λ (n : ℕ). AllByRecursion (λ v. v.kept.state.epoch ≤ n) vs) c.requires.now (right-epochs c.requires.state vs c.requires.right) in
+    let w = c.index_mut.result.now in
+    let x = c.take_on.new.view in
+    let on = on-way-here c.args.goal.now c.args.now c.args.queue.now vs ws i h c.loop-place.invariant c.index.result.now w x c.index.ensures c.index_mut.ensures.value c.of-to.result c.of-to.ensures c.take_on.ensures.on c.take_on.ensures.right c.take_on.ensures.begun in
+    λ s of history right. way-begun c.args.goal.now c.args.now c.args.queue.now s 0 vs _ of history right (stopped-way c.args.goal.now c.args.now c.args.queue.now vs epochs ws i w x h c.loop-place.invariant on)
 
 -- else it is where it was to go
 pub loop-place-preserved : goal.loop-place-preserved
@@ -81,7 +93,7 @@ loop-place-preserved c =
     let h : i < length ws = omega (arith, c.loop-place-test.true, c.len-place-end.ensures, c.args.views.now.ok.0, placed-length (IsGone c.args.goal.now c.args.now c.args.queue.now i) 0 vs ws c.loop-place.invariant) in
     let w = c.index_mut.result.now in
     let x = c.take_on.new.view in
-    let one = there-here c.args.goal.now c.args.now c.args.queue.now vs ws i h c.loop-place.invariant c.index.result.now w x c.index.ensures c.index_mut.ensures.value c.of-to.result c.of-to.ensures c.take_on.ensures.on c.take_on.ensures.right c.in_ok-take_on.ensures.ok in
+    let one = there-here c.args.goal.now c.args.now c.args.queue.now vs ws i h c.loop-place.invariant c.index.result.now w x c.index.ensures c.index_mut.ensures.value c.of-to.result c.of-to.ensures c.take_on.ensures.on c.take_on.ensures.right c.in_ok-take_on.ensures.ok c.in_ok-take_on.ensures.counts in
     one-gone c.args.goal.now c.args.now c.args.queue.now vs ws i w x h c.loop-place.invariant one
 
 -- so all are
@@ -104,3 +116,17 @@ returns-clause-right c =
     let vs = c.args.views.now.items in
     let epochs = subst (λ (n : ℕ). AllByRecursion (λ v. v.kept.state.epoch ≤ n) vs) c.requires.now (right-epochs c.requires.state vs c.requires.right) in
     way-right c.args.goal.now c.args.now c.args.queue.now 0 vs c.loop-place.views.items (some-way c.args.goal.now c.args.now c.args.queue.now vs epochs c.loop-place.place c.loop-place.views.items c.loop-place.invariant)
+
+pub returns-clause-begun : goal.returns-clause-begun
+returns-clause-begun c =
+    let vs = c.args.views.now.items in
+    let epochs = subst (λ (n : ℕ). AllByRecursion (λ v. v.kept.state.epoch ≤ n) vs) c.requires.now (right-epochs c.requires.state vs c.requires.right) in
+    λ s of history right. way-begun c.args.goal.now c.args.now c.args.queue.now s 0 vs c.loop-place.views.items of history right (some-way c.args.goal.now c.args.now c.args.queue.now vs epochs c.loop-place.place c.loop-place.views.items c.loop-place.invariant)
+
+pub returns-clause-counts : goal.returns-clause-counts
+returns-clause-counts c =
+    let vs = c.args.views.now.items in
+    let ws = c.loop-place.views.items in
+    let i = c.loop-place.place in
+    let all : length vs ≤ i = omega (arith, c.loop-place-test.false, c.len-place-end.ensures, c.args.views.now.ok.0) in
+    there-counted c.args.goal.now c.args.now c.args.queue.now 0 vs ws (all-there c.args.goal.now c.args.now c.args.queue.now vs ws i all c.loop-place.invariant)

@@ -1,4 +1,4 @@
-use Rattle.cq_views.proofs.Standing.{counts-within}
+use Rattle.cq_views.proofs.Working.{counts-within}
 use Rattle.cq_views.proofs.laws.counts_are_within_work.Goals as goal
 
 pub returns : goal.returns

@@ -4,6 +4,7 @@ use Rattle.cq_engine_tables.specs.HeldTables.{tables_of}
 use Rattle.cq_engine_tables.specs.Views.{views_of}
 use Rattle.cq_engine.proofs.Kept.{dropped-accepted, dropped-order}
 use Rattle.cq_engine.specs.Commands.{state_of}
+use Rattle.cq_engine.proofs.Counted.{counted-all}
 use Rattle.cq_engine.proofs.engine.Engine.drop_table.Goals as goal
 
 pub invariant_of-self : goal.invariant_of-self
@@ -26,3 +27,10 @@ returns-clause-done c =
 
 pub returns-clause-stores : goal.returns-clause-stores
 returns-clause-stores c = rw (← c.self.view_is) c.drop_in.ensures.lengths
+
+pub returns-clause-counts : goal.returns-clause-counts
+returns-clause-counts c =
+    let e = c.self.inside in
+    let vs = e.views.items in
+    let s = state_of (tables_of e.tables.items) (views_of vs) e.writes e.drawn e.queue e.limits.max_rows in
+    rw (← c.self.view_is) (counted-all s vs)

@@ -40,3 +40,6 @@ returns-clause-done c =
     let trimmed = rw c.deref.ensures.value at c.trim.ensures in
     rw (← c.self.view_is)
     (refl, unviewed-accepted standing-by_bags s vs c.self.invariant refl e.limits.in_range.1 left right c.trim.new.queue trimmed c.args.place (ap views_of c.drop_view_at.ensures ∙ sym (remove-map view_of vs c.args.place)))
+
+pub returns-clause-counts : goal.returns-clause-counts
+returns-clause-counts c = rw (← c.self.view_is) c.drop_view_at.ensures

@@ -10,6 +10,7 @@ use Rattle.cq_engine_tables.specs.Views.{views_of}
 use Rattle.cq_engine.proofs.Kept.{all-within, behind-accepted, behind-order, none-asked, room-told, same-state}
 use Rattle.cq_engine.proofs.Lengths.{same-lengths}
 use Rattle.cq_engine.specs.Commands.{IsInOrder, state_of}
+use Rattle.cq_engine.proofs.Counted.{counted-all}
 use Rattle.cq_engine.proofs.engine.Engine.insert.Goals as goal
 
 -- a write that is refused changes nothing
@@ -42,7 +43,7 @@ note-requires-clause-within c =
     rw c.deref.ensures.value (all-within s c.insert_in.new.queue c.insert_in.ensures.queue.passed c.insert_in.ensures.queue.changes c.self.invariant.history.sound.whole vs c.self.invariant.right)
 
 pub note-requires-clause-room : goal.note-requires-clause-room
-note-requires-clause-room c = room-told c.in_ok-change.change c.insert_in.new.queue.room c.in_ok-change.ensures.room
+note-requires-clause-room c = room-told c.in_ok-change.change _ c.insert_in.new.queue.room c.in_ok-change.ensures.change.there c.in_ok-change.ensures.room
 
 pub note-requires-clause-told : goal.note-requires-clause-told
 note-requires-clause-told c = rw c.deref.ensures.value (none-asked c.self.inside.views.items _ _ c.in_ok-change.change c.self.inside.views.ok.0 (ap (λ (b : Bool). not b) c.is_empty-asked.ensures) c.in_ok-change.ensures.change.there)
@@ -89,3 +90,18 @@ returns-in_err-change-clause-stores c =
 
 pub returns-clause-stores : goal.returns-clause-stores
 returns-clause-stores c = rw (← c.self.view_is, c.len-count.ensures.len) c.in_ok-change.ensures.lengths
+
+pub returns-in_err-change-clause-counts : goal.returns-in_err-change-clause-counts
+returns-in_err-change-clause-counts c =
+    let p = err_from_is_err_and c.from_residual.result c.from_residual.ensures.1 in
+    let e = c.self.inside in
+    let vs = e.views.items in
+    let s = state_of (tables_of e.tables.items) (views_of vs) e.writes e.drawn e.queue e.limits.max_rows in
+    rw (← c.self.view_is, p.1) (inl (counted-all s vs))
+
+pub returns-clause-counts : goal.returns-clause-counts
+returns-clause-counts c =
+    let e = c.self.inside in
+    let vs = e.views.items in
+    let s = state_of (tables_of e.tables.items) (views_of vs) e.writes e.drawn e.queue e.limits.max_rows in
+    rw (← c.self.view_is) (counted-all s vs)

@@ -72,3 +72,18 @@ returns-clause-done c =
     let right = c.take_all_on.ensures.right s (record { passed = refl; changes = refl }) c.self.invariant.history c.self.invariant.right in
     let trimmed = rw c.deref.ensures.value at c.trim.ensures in
     rw (← c.self.view_is) (refl, refreshed-accepted standing-by_bags s vs c.self.invariant refl e.limits.in_range.1 ws right c.trim.new.queue trimmed c.args.view c.args.changes c.in_ok-take_all_on.ensures.ok)
+
+pub returns-in_err-take_all_on-clause-counts : goal.returns-in_err-take_all_on-clause-counts
+returns-in_err-take_all_on-clause-counts c =
+    let p = err_from_is_err_and c.from_residual.result c.from_residual.ensures.1 in
+    let e = c.self.inside in
+    let vs = e.views.items in
+    let s = state_of (tables_of e.tables.items) (views_of vs) e.writes e.drawn e.queue e.limits.max_rows in
+    rw (← c.self.view_is, p.1, p.2) (inr (refl, c.take_all_on.ensures.begun s (record { passed = refl; changes = refl }) c.self.invariant.history c.self.invariant.right))
+
+pub returns-clause-counts : goal.returns-clause-counts
+returns-clause-counts c =
+    let e = c.self.inside in
+    let vs = e.views.items in
+    let s = state_of (tables_of e.tables.items) (views_of vs) e.writes e.drawn e.queue e.limits.max_rows in
+    rw (← c.self.view_is) (c.in_ok-take_all_on.ensures.counts s (record { passed = refl; changes = refl }) c.self.invariant.history c.self.invariant.right)

@@ -8,6 +8,7 @@ use Rattle.cq_engine_tables.specs.Views.{views_of}
 use Rattle.cq_engine.proofs.Kept.{selected-accepted, viewed-order}
 use Rattle.cq_engine.proofs.Steps.{gave-up, select-refused}
 use Rattle.cq_engine.specs.Commands.{state_of}
+use Rattle.cq_engine.proofs.Counted.{counts-refused}
 use Rattle.cq_engine.proofs.engine.Engine.select.Goals as goal
 
 pub select_at_present-selected-requires : goal.select_at_present-selected-requires
@@ -74,3 +75,19 @@ returns-clause-rows c =
     let vs = e.views.items in
     let s = state_of tables (views_of vs) e.writes e.drawn e.queue e.limits.max_rows in
     rw (← c.self.view_is) (inr (refl, inl refl, gave-up s (commands.Select c.args.header c.args.query c.args.order) (views_of c.select_at_present-selected.new.views.items) c.select_at_present-selected.ensures.way))
+
+pub returns-in_err-rows-clause-counts : goal.returns-in_err-rows-clause-counts
+returns-in_err-rows-clause-counts c =
+    let p = err_from_is_err_and c.from_residual.result c.from_residual.ensures.1 in
+    let e = c.self.inside in
+    let vs = e.views.items in
+    let s = state_of (tables_of e.tables.items) (views_of vs) e.writes e.drawn e.queue e.limits.max_rows in
+    rw (p.1, p.2, ← c.self.view_is)
+    (counts-refused s c.args.header c.args.query c.args.order e.queue e.views c.select_at_present-selected.new.views c.in_err-rows.field-0.0 (record { passed = refl; changes = refl }) c.self.invariant.history c.self.invariant.right c.in_err-rows.ensures.counts)
+
+pub returns-clause-counts : goal.returns-clause-counts
+returns-clause-counts c =
+    let e = c.self.inside in
+    let vs = e.views.items in
+    let s = state_of (tables_of e.tables.items) (views_of vs) e.writes e.drawn e.queue e.limits.max_rows in
+    rw (← c.self.view_is) (c.in_ok-rows.ensures.counts s (record { passed = refl; changes = refl }) c.self.invariant.history c.self.invariant.right)

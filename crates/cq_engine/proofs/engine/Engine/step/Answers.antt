@@ -1,3 +1,4 @@
+use Rattle.std.proofs.Common.{inl}
 use Rattle.std.proofs.lemmas.Result.{err_from_is_err_and}
 use Rattle.cq_binder_queries.specs.Catalog.{alone}
 use Rattle.cq_engine_tables.specs.Views.{views_of}
@@ -8,6 +9,7 @@ use Rattle.cq_engine.proofs.Kept.{all_shown}
 use Rattle.cq_engine.proofs.Lengths.{stores-bound}
 use Rattle.cq_engine_tables.specs.HeldTables.{tables_of}
 use Rattle.cq_engine.specs.Commands.{state_of}
+use Rattle.cq_engine.proofs.Counted.{counted-all, counts-bound}
 use Rattle.cq_engine.proofs.engine.Engine.step.Goals as goal
 
 pub returns-in_err-bound-clause-step : goal.returns-in_err-bound-clause-step
@@ -98,3 +100,22 @@ returns-clause-stores g c =
     let bound = passed_over over.0 (alone tables (views_of views)) c.args.command.now _ _ c.in_ok-bound.bound over.2 in
     let here = bound_here over.0 s c.self.invariant.history.sound.numbered c.args.command.now c.in_ok-bound.bound bound.1 bound.2 in
     stores-bound _ over.0 c.args.self.now c.carry_out.new.self c.args.command.now c.in_ok-bound.bound c.carry_out.result over.1 (rw (← c.self.view_is) here) c.carry_out.ensures.stores
+
+pub returns-in_err-bound-clause-counts : goal.returns-in_err-bound-clause-counts
+returns-in_err-bound-clause-counts g c =
+    let p = err_from_is_err_and c.from_residual.result c.from_residual.ensures.1 in
+    let e = c.self.inside in
+    let vs = e.views.items in
+    let s = state_of (tables_of e.tables.items) (views_of vs) e.writes e.drawn e.queue e.limits.max_rows in
+    rw (p.1, ← c.self.view_is) (inl (counted-all s vs))
+
+pub returns-clause-counts : goal.returns-clause-counts
+returns-clause-counts g c =
+    let e = c.self.inside in
+    let tables = tables_of e.tables.items in
+    let views = e.views.items in
+    let s = state_of tables (views_of views) e.writes e.drawn e.queue e.limits.max_rows in
+    let over = bound_over _ (alone tables (views_of views)) c.args.command.now _ _ _ (rw (c.catalog.ensures.told, ← c.self.view_is) at c.in_ok-bound.ensures.bound) in
+    let bound = passed_over over.0 (alone tables (views_of views)) c.args.command.now _ _ c.in_ok-bound.bound over.2 in
+    let here = bound_here over.0 s c.self.invariant.history.sound.numbered c.args.command.now c.in_ok-bound.bound bound.1 bound.2 in
+    counts-bound _ over.0 c.args.self.now c.carry_out.new.self c.args.command.now c.in_ok-bound.bound c.carry_out.result over.1 (rw (← c.self.view_is) here) c.carry_out.ensures.counts

@@ -12,6 +12,7 @@ use Rattle.cq_engine_tables.specs.Views.{views_of}
 use Rattle.cq_engine.proofs.Kept.{all-within, behind-accepted, behind-order, none-asked, room-told, same-state}
 use Rattle.cq_engine.proofs.Lengths.{same-lengths}
 use Rattle.cq_engine.specs.Commands.{IsInOrder, state_of}
+use Rattle.cq_engine.proofs.Counted.{counted-all}
 use Rattle.cq_engine.proofs.engine.Engine.update.Goals as goal
 
 pub update_in-updated-requires-clause-limited : goal.update_in-updated-requires-clause-limited
@@ -47,7 +48,7 @@ note-requires-clause-within c =
     rw c.deref.ensures.value (all-within s c.update_in-updated.new.queue c.update_in-updated.ensures.queue.passed c.update_in-updated.ensures.queue.changes c.self.invariant.history.sound.whole vs c.self.invariant.right)
 
 pub note-requires-clause-room : goal.note-requires-clause-room
-note-requires-clause-room c = room-told c.in_ok-count.change c.update_in-updated.new.queue.room c.in_ok-count.ensures.room
+note-requires-clause-room c = room-told c.in_ok-count.change _ c.update_in-updated.new.queue.room c.in_ok-count.ensures.change.there c.in_ok-count.ensures.room
 
 pub note-requires-clause-told : goal.note-requires-clause-told
 note-requires-clause-told c = rw c.deref.ensures.value (none-asked c.self.inside.views.items _ _ c.in_ok-count.change c.self.inside.views.ok.0 (ap (λ (b : Bool). not b) c.is_empty-asked.ensures) c.in_ok-count.ensures.change.there)
@@ -96,3 +97,18 @@ returns-in_err-count-clause-stores c =
 
 pub returns-clause-stores : goal.returns-clause-stores
 returns-clause-stores c = rw (← c.self.view_is) c.in_ok-count.ensures.lengths
+
+pub returns-in_err-count-clause-counts : goal.returns-in_err-count-clause-counts
+returns-in_err-count-clause-counts c =
+    let p = err_from_is_err_and c.from_residual.result c.from_residual.ensures.1 in
+    let e = c.self.inside in
+    let vs = e.views.items in
+    let s = state_of (tables_of e.tables.items) (views_of vs) e.writes e.drawn e.queue e.limits.max_rows in
+    rw (← c.self.view_is, p.1) (inl (counted-all s vs))
+
+pub returns-clause-counts : goal.returns-clause-counts
+returns-clause-counts c =
+    let e = c.self.inside in
+    let vs = e.views.items in
+    let s = state_of (tables_of e.tables.items) (views_of vs) e.writes e.drawn e.queue e.limits.max_rows in
+    rw (← c.self.view_is) (counted-all s vs)

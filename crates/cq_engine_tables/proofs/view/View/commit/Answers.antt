@@ -7,4 +7,5 @@ returns-in-Some c =
     (record {
       led = record { name = refl; columns = refl; query = c.commit.ensures.query; widths = c.commit.ensures.widths; built = c.commit.ensures.built; epoch = c.commit.ensures.epoch };
       goes = c.commit.ensures.takes;
+      counts = c.commit.ensures.counts;
     })
