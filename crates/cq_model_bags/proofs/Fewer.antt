@@ -1,14 +1,11 @@
--- A filter leaves no more entries, pairs and images than there were.
-use Rattle.std.proofs.Common.{◌≡◌, ℕ, ◌≤◌, pos, Bool, true, false, cond, List, [], ◌∷◌, filter, length, refl, sym, ◌∙◌, ap, arith}
+-- A filter leaves no more entries and pairs than there were.
+use Rattle.std.proofs.Common.{ℕ, ◌≤◌, Bool, true, false, cond, List, [], ◌∷◌, filter, length, arith}
 use Rattle.std.specs.List.{sum_by}
-use Rattle.std.proofs.lemmas.Int.{ints}
-use Rattle.std.proofs.lemmas.List.Sums.{sum_by-cons, length-filter, count_by-le-length}
+use Rattle.std.proofs.lemmas.List.Sums.{sum_by-cons, length-filter}
 use Rattle.cq_values.specs.Value.{Row}
-use Rattle.cq_model_bags.specs.Bag.{Weighted, weight_of, SameBag, once_each, filtered, firsts}
+use Rattle.cq_model_bags.specs.Bag.{Weighted, filtered}
 use Rattle.cq_model_bags.specs.Size.{entries, size, pairs_met}
-use Rattle.cq_model_bags.proofs.Totals.{by_test, total-respects, weight_of-filtered}
-use Rattle.cq_model_bags.proofs.Distincts.{is_among, once_each-filter, weight_of-firsts}
-use Rattle.cq_model_bags.proofs.Sizes.{total-ones, sum-ones, entry_sum-filtered}
+use Rattle.cq_model_bags.proofs.Sizes.{sum-ones, entry_sum-filtered}
 
 -- a sum of smaller terms is no larger
 pub sum-fewer : (f g : Row → ℕ) → ((r : Row) → f r ≤ g r) → (rows : List Row) → sum_by f rows ≤ sum_by g rows
@@ -36,19 +33,3 @@ partners-fewer on p ys =
 -- no more pairs
 pub pairs-fewer : (on : Row → Row → Bool) (p q : Row → Bool) (xs ys : Weighted) → pairs_met on (filtered p xs) (filtered q ys) ≤ pairs_met on xs ys
 pairs-fewer on p q xs ys = entry_sum-fewer (λ r. length (filter (on r) (entries (filtered q ys)))) (λ r. length (filter (on r) (entries ys))) (λ r. partners-fewer (on r) q ys) p xs
-
--- rows that are all among others have no more first ones
-pub firsts-fewer : (rows others : List Row) → ((r : Row) → is_among r rows ≡ true → is_among r others ≡ true) → length (firsts rows) ≤ length (firsts others)
-firsts-fewer rows others h =
-    let listed : Row → Bool = λ r. is_among r rows in
-    let chosen = filter listed (firsts others) in
-    let same : SameBag (once_each (firsts rows)) (once_each chosen) = record {
-      at = λ r.
-          weight_of-firsts rows r
-          ∙ by_test (listed r) (λ k. rw (k, h r k) refl) (λ k. rw k refl)
-          ∙ ap (λ w. cond (listed r) w (pos 0)) (sym (weight_of-firsts others r))
-          ∙ sym (weight_of-filtered listed (once_each (firsts others)) r) ∙ ap (λ xs. weight_of xs r) (sym (once_each-filter listed (firsts others)));
-    } in
-    let e : pos (sum_by (λ r. 1) (firsts rows)) ≡ pos (sum_by (λ r. 1) chosen) =
-    sym (total-ones (λ r. 1) (firsts rows)) ∙ total-respects (λ r. pos 1) (once_each (firsts rows)) (once_each chosen) same ∙ total-ones (λ r. 1) chosen in
-    omega (arith, ints, e, sum-ones (firsts rows), sum-ones chosen, length-filter listed (firsts others), count_by-le-length listed (firsts others))

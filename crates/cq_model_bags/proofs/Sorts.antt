@@ -1,6 +1,6 @@
 -- What a sort ensures, as a list in order with the same rows.
 use Rattle.std.proofs.Common.{◌≡◌, ℕ, suc, ◌+◌, ◌≤◌, ◌<◌, false, cond, List, [], ◌∷◌, length, get_or, refl, sym, ◌∙◌, ap, arith, Ordering, Less, Equal, Greater, pos}
-use Rattle.std.specs.List.{AllByRecursion, sum_by}
+use Rattle.std.specs.List.{sum_by}
 use Rattle.std.specs.List.Sorted.{IsPermutation, IsSortedBy}
 use Rattle.std.specs.Ordering.{is_gt, is_lt, ordering_reverse}
 use Rattle.std.specs.Cmp.{IsTotalOrder}

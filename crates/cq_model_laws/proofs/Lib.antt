@@ -4,13 +4,11 @@ pub mod Counted
 pub mod Meanings
 pub mod Pushed
 pub mod Keeps
-pub mod Standings
 pub mod Names
 pub mod Own
 pub mod Positives
 pub mod Ranges
 pub mod Works
-pub mod Lessened
 pub mod Shown
 pub mod Fits
 pub mod Columns

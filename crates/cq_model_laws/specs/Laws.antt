@@ -1,5 +1,5 @@
 -- What holds of queries and of the states that views keep. Each statement is the contract of a function in laws.rt.
-use Rattle.std.specs.Prelude.{◌≡◌, ◌↔◌, ◌≤◌, ℕ, List, ◌++◌, Option, Some}
+use Rattle.std.specs.Prelude.{◌≡◌, ◌↔◌, ℕ, List, ◌++◌, Option, Some}
 use Rattle.std.specs.List.{AllByRecursion}
 use Rattle.cq_values.specs.Value.{Row}
 use Rattle.cq_model_bags.specs.Bag.{Weighted, SameBag, IsBag}
@@ -17,7 +17,6 @@ use Rattle.cq_model.specs.Pushed.{Pushed, pushed_rows, HaveWidths, IsImplied, Ar
 use Rattle.cq_model.specs.Own.{passes_own, AreOwn}
 use Rattle.cq_views_model.specs.Kept.{Kept, IsKept, kept_value, Group, GroupStands, Last, LastStands, shown_row}
 use Rattle.cq_views_model.specs.Shown.{shown_rows, ListsKeys}
-use Rattle.cq_views_model.specs.Standing.{Stored, Stands, built, stored_change, stored_after, stored_work}
 
 -- the chain over changed sources is the old chain with its change
 abbrev pub ChainLaw : Type 0
@@ -113,21 +112,3 @@ abbrev pub WorkDependsOnBags : Type 0
 WorkDependsOnBags =
     (q : Query) (tables others changes other_changes : Tables) → SameTables tables others → SameTables changes other_changes
     → view_work q tables changes ≡ view_work q others other_changes
-
--- a stored state that is worked out from the sources stands for them
-abbrev pub BuiltStands : Type 0
-BuiltStands =
-    (width : Source → ℕ) (q : Query) (p : Pushed) (tables : Tables) → HaveWidths width tables → AreBelow width q p
-    → Stands q p tables (built q p tables)
-
--- a stored state gives the joined rows' change, goes on, and keeps within the work
-pub record GoesOn (q : Query) (p : Pushed) (tables changes : Tables) (stored : Stored) : Type 0 where
-  pub given : SameBag (joined_rows q (changed tables changes)) (joined_rows q tables ++ stored_change q p changes stored)
-  pub stands : Stands q p (changed tables changes) (stored_after q p changes stored)
-  pub work : stored_work q p changes stored ≤ view_work q tables changes
-
--- a state that stands for its sources goes on with each change of them
-abbrev pub StandingGoesOn : Type 0
-StandingGoesOn =
-    (width : Source → ℕ) (q : Query) (p : Pushed) (tables changes : Tables) (stored : Stored)
-    → HaveWidths width tables → HaveWidths width changes → AreBelow width q p → Stands q p tables stored → GoesOn q p tables changes stored

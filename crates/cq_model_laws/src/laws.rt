@@ -1,5 +1,5 @@
 //! What holds of queries and of the states that views keep.
-ghost use Rattle.cq_model_laws.specs.Laws.{BuiltStands, ChainLaw, ConditionBelowJoins, ExtremesAreCounted, GroupShows, GroupsDependOnBag, JoinedRowsGoOn, KeptShows, LastShows, MeaningDependsOnBags, MeaningDependsOnSources, MeaningIsBag, OwnConditionsAreImplied, StandingGoesOn, ViewsDependOnBags, WorkDependsOnBags};
+ghost use Rattle.cq_model_laws.specs.Laws.{ChainLaw, ConditionBelowJoins, ExtremesAreCounted, GroupShows, GroupsDependOnBag, JoinedRowsGoOn, KeptShows, LastShows, MeaningDependsOnBags, MeaningDependsOnSources, MeaningIsBag, OwnConditionsAreImplied, ViewsDependOnBags, WorkDependsOnBags};
 ghost use Rattle.cq_model_laws.specs.Sizes.{GroupsKeepSizes, JoinedRowsKeepSizes};
 
 /// A chain of joins over changed sources is the old chain and what the changes add.
@@ -70,16 +70,6 @@ pub fn group_shows()
 /// What a view keeps behind its joins, and a list of its keys, are enough to show the rows of its query.
 pub fn last_shows()
     ensures { LastShows }
-{}
-
-/// A state that is built from its sources stands for them.
-pub fn built_stands()
-    ensures { BuiltStands }
-{}
-
-/// A stored state goes on by a change of its sources, also where its sides lack rows that WHERE drops.
-pub fn standing_goes_on()
-    ensures { StandingGoesOn }
 {}
 
 /// Joined rows have the columns of each source, one behind the other, with their sizes.

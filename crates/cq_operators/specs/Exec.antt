@@ -112,6 +112,10 @@ fault_of (Broken f) = Some f
 abbrev pub remaining : Query → Order → List Row → Progress → Remaining
 remaining q asked kept progress = record { query = q; order = asked; kept = kept; listed = is_listed progress; left = left_of progress (list_of q asked kept); fault = fault_of progress }
 
+-- the same of a plan on the rows of its sources
+abbrev pub remaining_of : Plan → List (List Row) → Progress → Remaining
+remaining_of plan sources progress = remaining plan.query.now plan.order.now (kept_of plan.query.now sources) progress
+
 -- the list that was worked out has a value for each item, and what was told is so
 abbrev pub IsReached : Query → List Row → Progress → Type 0
 IsReached q kept Opened = Unit {0}

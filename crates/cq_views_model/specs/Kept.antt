@@ -1,5 +1,5 @@
 -- What a view keeps behind its joins: groups with counts, exact totals and counted values, or images of rows.
-use Rattle.std.specs.Prelude.{◌≡◌, ℤ, pos, ◌+ℤ◌, if◌then◌else◌, List, [], ◌∷◌, ◌++◌, map, unwrap_or}
+use Rattle.std.specs.Prelude.{◌≡◌, ℤ, pos, if◌then◌else◌, List, [], ◌∷◌, ◌++◌, map, unwrap_or}
 use Rattle.std.specs.Ordering.{int_eq}
 use Rattle.cq_values.specs.declared.value.Value.{Value}
 use Rattle.cq_values.specs.declared.value.Value.TheVariants.{Null, Number}
@@ -90,29 +90,3 @@ group_of aggregates xs = record { count = count_all xs; kept = map (kept_of xs) 
 abbrev pub built_last : Query → Shape → Weighted → Last
 built_last q Plain xs = Images (projected (items_of q.items) xs)
 built_last q (Grouped keys aggregates having) xs = Groups (λ k. group_of aggregates (rows_of_key (unwrap_or keys []) k xs))
-
--- what is kept of an aggregate, with a change of the group's rows put in
-abbrev pub kept_after : Aggregate → Weighted → Kept → Kept
-kept_after CountAll dxs (Counted n) = Counted (n +ℤ count_all dxs)
-kept_after (Count e) dxs (Counted n) = Counted (n +ℤ count_values e dxs)
-kept_after (Sum e) dxs (Totalled n total) = Totalled (n +ℤ count_values e dxs) (total +ℤ sum_values e dxs)
-kept_after (Min e) dxs (Listed values) = Listed (values ++ value_bag e dxs)
-kept_after (Max e) dxs (Listed values) = Listed (values ++ value_bag e dxs)
-kept_after a dxs kept = kept
-
--- the same of each aggregate in turn
-abbrev pub all_kept_after : List Aggregate → Weighted → List Kept → List Kept
-all_kept_after (a ∷ aggregates) dxs (k ∷ kept) = kept_after a dxs k ∷ all_kept_after aggregates dxs kept
-all_kept_after aggregates dxs kept = []
-
--- a group with a change of its rows put in
-abbrev pub group_after : List Aggregate → Weighted → Group → Group
-group_after aggregates dxs group =
-    record { count = group.count +ℤ count_all dxs; kept = all_kept_after aggregates dxs group.kept }
-
--- what stands behind the joins, with a change of the rows put in
-abbrev pub last_after : Query → Shape → Weighted → Last → Last
-last_after q Plain dxs (Images rows) = Images (rows ++ projected (items_of q.items) dxs)
-last_after q (Grouped keys aggregates having) dxs (Groups group) =
-    Groups (λ k. group_after aggregates (rows_of_key (unwrap_or keys []) k dxs) (group k))
-last_after q shape dxs last = last

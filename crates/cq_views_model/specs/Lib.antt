@@ -2,4 +2,3 @@ pub mod Delta
 pub mod Kept
 pub mod Query
 pub mod Shown
-pub mod Standing
