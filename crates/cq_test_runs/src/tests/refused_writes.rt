@@ -1,6 +1,6 @@
 //! One growth of a write that is refused, wherever it comes, under three views over joined tables: each table and each view
-//! answers as before, and the write goes well when it is given once more. tools/fail-alloc runs this with each growth
-//! refused in turn.
+//! answers as before, and the write goes well when it is given once more. And one of a REFRESH over writes that wait.
+//! tools/fail-alloc runs this with each growth refused in turn.
 use super::engines::{carry_out, engine};
 use super::refused_growths::{Step, carry_all};
 use cq_binder_rules::Fault;
@@ -169,4 +169,30 @@ fn one_refused_growth_of_a_write_changes_no_table_and_no_view(rt: HostRuntime) -
     let written = write_all(&rt, rt.alloc(), &mut engine);
     drop(engine);
     written
+}
+
+/// Writes that wait, and views that are taken on by one, by two and by all of them.
+const WAITING: &[Step] = &[
+    ("INSERT INTO l VALUES (2, 11, 3), (3, 12, 5)", None),
+    ("UPDATE l SET q = q + 1 WHERE o = 2", None),
+    ("DELETE FROM l WHERE o = 1", None),
+    ("REFRESH turnover 1", None),
+    ("REFRESH pairs 2", None),
+    ("REFRESH bounds 3", None),
+];
+
+fn wait_and_refresh(rt: &impl Abort, alloc: Global, engine: &mut Engine) -> Result<(), Fail> {
+    carry_all(rt, alloc, engine, TABLES_AND_VIEWS)?;
+    carry_all(rt, alloc, engine, WAITING)?;
+    let behind = [Some(4), Some(5), Some(6)];
+    assert!(rt; epochs(engine) == (6, behind));
+    carry_all(rt, alloc, engine, DELETED)
+}
+
+#[test]
+fn one_refused_growth_of_a_refresh_takes_no_view_too_far(rt: HostRuntime) -> Result<(), Fail> {
+    let mut engine = engine(rt.alloc())?;
+    let refreshed = wait_and_refresh(&rt, rt.alloc(), &mut engine);
+    drop(engine);
+    refreshed
 }
