@@ -8,8 +8,8 @@ static u64 now(void){struct timespec t;clock_gettime(CLOCK_MONOTONIC,&t);return 
 #define BENCH(name,n,e) for(int rep_=0;rep_<9;rep_++){u64 s_=now();u64 c_=(u64)(e);u64 t_=now()-s_;printf("%s %lld %llu %llu\n",name,(long long)(n),(unsigned long long)t_,(unsigned long long)c_);}
 #define EACH(r,e) ({u64 z_=0;for(int i=0;i<(r);i++){asm volatile(""::: "memory");z_+=(u64)(e);}z_;})
 typedef struct{u64 t[16];size_t tn;u64 f[16];size_t fn;}mask;
-K u64 and_(const mask*a,const mask*b,mask*restrict o){for(int k=0;k<16;k++)o->t[k]=a->t[k]&b->t[k];o->tn=a->tn;for(int k=0;k<16;k++)o->f[k]=a->f[k]|b->f[k];o->fn=a->fn;return o->tn;}
-K u64 or_(const mask*a,const mask*b,mask*restrict o){for(int k=0;k<16;k++)o->t[k]=a->t[k]|b->t[k];o->tn=a->tn;for(int k=0;k<16;k++)o->f[k]=a->f[k]&b->f[k];o->fn=a->fn;return o->tn;}
+K u64 and_(const mask*restrict a,mask*restrict o){for(int k=0;k<16;k++)o->t[k]&=a->t[k];for(int k=0;k<16;k++)o->f[k]|=a->f[k];return o->tn;}
+K u64 or_(const mask*restrict a,mask*restrict o){for(int k=0;k<16;k++)o->t[k]|=a->t[k];for(int k=0;k<16;k++)o->f[k]&=a->f[k];return o->tn;}
 K u64 not_(const mask*a,mask*restrict o){for(int k=0;k<16;k++)o->t[k]=a->f[k];o->tn=a->fn;for(int k=0;k<16;k++)o->f[k]=a->t[k];o->fn=a->tn;return o->tn;}
 K u64 places(const mask*a,uint16_t*restrict o){size_t n=0;for(int k=0;k<16;k++)for(u64 r=a->t[k];r;r&=r-1)o[n++]=64*k+__builtin_ctzll(r);return n;}
 K u64 keep(const mask*a,const uint16_t*restrict p,size_t m,uint16_t*restrict o){size_t n=0;for(size_t i=0;i<m;i++){o[n]=p[i];n+=a->t[p[i]/64]>>(p[i]%64)&1;}return n;}
@@ -19,10 +19,10 @@ static mask A,B,C;static uint16_t P[1024],Q[1024],R[1024];
 #define HIDDEN(x) asm volatile("":"+r"(x)::"memory")
 int main(void){
  void*read[]={&A,&B,&C,P,Q,R};for(int i=0;i<6;i++)HIDDEN(read[i]);
- known(88172645463325252ull,5555555,&A);known(1234567,7777777,&B);
+ known(88172645463325252ull,5555555,&A);known(1234567,7777777,&B);C=B;
  int r=20000;u64 n=r*1024ull;
- BENCH("and",n,EACH(r,and_(&A,&B,&C)));
- BENCH("or",n,EACH(r,or_(&A,&B,&C)));
+ BENCH("and",n,EACH(r,and_(&A,&C)));
+ BENCH("or",n,EACH(r,or_(&A,&C)));
  BENCH("not",n,EACH(r,not_(&A,&C)));
  r=500;n=r*1024ull;u64 some=places(&A,P);for(int i=0;i<1024;i++)R[i]=i;
  BENCH("set_true",n,EACH(r,places(&B,Q)));

@@ -77,10 +77,10 @@ fn set_before(key: SortKey, values: &Vector<'_>, worst: &LentRow<'_>, to: &mut T
 {
     let worst = Vector::new(Form::Constant(worst.lend(key.column), values.len()));
     if key.descending {
-        let (mut known, mut nulls) = (TruthMask::new(), TruthMask::new());
-        compare(Comparison::LessOrEqual, &worst, values, &mut known);
+        let mut nulls = TruthMask::new();
+        compare(Comparison::LessOrEqual, &worst, values, to);
         is_null(values, &mut nulls);
-        to.set_or(&known, &nulls);
+        to.or_with(&nulls);
     } else {
         compare(Comparison::LessOrEqual, values, &worst, to);
     }

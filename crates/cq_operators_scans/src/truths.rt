@@ -3,7 +3,6 @@ ghost use Rattle.std.specs.Prelude.{◌≡◌, IfOk, length, map, true};
 ghost use Rattle.std.specs.List.{AllByRecursion};
 ghost use Rattle.std.specs.Simd.Lanes.{zip2};
 ghost use Rattle.cq_values.specs.Comparison.{compared};
-ghost use Rattle.cq_values.specs.Truth.{and_truth, or_truth};
 ghost use Rattle.cq_model.specs.Condition.{holds};
 ghost use Rattle.cq_model.specs.Exact.{AreExactAt, AreExactIn, IsExactAt};
 ghost use Rattle.cq_model.specs.Trees.{cond_of, expr_of};
@@ -72,21 +71,21 @@ fn connective_in<'a>(
 {
     match tree {
         CondTree::Not(part) => {
-            let mut truths = TruthMask::new();
-            truths.set_not(&truths_of_tree(alloc, part, scan, known)?);
+            let mut truths = truths_of_tree(alloc, part, scan, known)?;
+            truths.negate();
             Ok(truths)
         }
         CondTree::And(first, rest) => {
             let mut truths = truths_of_tree(alloc, first, scan, known)?;
             for part in rest {
-                truths = both(&truths, &truths_of_tree(alloc, part, scan, known)?);
+                truths.and_with(&truths_of_tree(alloc, part, scan, known)?);
             }
             Ok(truths)
         }
         CondTree::Or(first, rest) => {
             let mut truths = truths_of_tree(alloc, first, scan, known)?;
             for choice in rest {
-                truths = either(&truths, &truths_of_tree(alloc, choice, scan, known)?);
+                truths.or_with(&truths_of_tree(alloc, choice, scan, known)?);
             }
             Ok(truths)
         }
@@ -159,9 +158,9 @@ fn between_in<'a>(
     let from_least = compared_with(alloc, from, value.vector(), least, scan, known);
     let to_greatest = compared_with(alloc, to, value.vector(), greatest, scan, known);
     drop(value);
-    let from_least = from_least?;
-    let to_greatest = to_greatest?;
-    Ok(both(&from_least, &to_greatest))
+    let mut truths = from_least?;
+    truths.and_with(&to_greatest?);
+    Ok(truths)
 }
 
 /// Whether the value equals one of the choices.
@@ -188,7 +187,7 @@ fn one_of_in<'a>(
             scan,
             known,
         ) {
-            Ok(equal) => truths = either(&truths, &equal),
+            Ok(equal) => truths.or_with(&equal),
             Err(fault) => {
                 drop(value);
                 return Err(fault);
@@ -231,23 +230,5 @@ fn compared(comparison: Comparison, a: &Vector<'_>, b: &Vector<'_>) -> TruthMask
 {
     let mut truths = TruthMask::new();
     compare(comparison, a, b, &mut truths);
-    truths
-}
-
-fn both(a: &TruthMask, b: &TruthMask) -> TruthMask
-    requires { length a.now ≡ length b.now }
-    ensures { result ≡ zip2 and_truth a.now b.now }
-{
-    let mut truths = TruthMask::new();
-    truths.set_and(a, b);
-    truths
-}
-
-fn either(a: &TruthMask, b: &TruthMask) -> TruthMask
-    requires { length a.now ≡ length b.now }
-    ensures { result ≡ zip2 or_truth a.now b.now }
-{
-    let mut truths = TruthMask::new();
-    truths.set_or(a, b);
     truths
 }

@@ -78,22 +78,21 @@ fn compare_sides(comparison: Comparison, a: &Vector<'_>, b: &Vector<'_>, to: &mu
     requires { length a.now ≡ length b.now }
     ensures { to.new ≡ zip2 (compared comparison) a.now b.now }
 {
-    let mut opposite = TruthMask::new();
     match comparison {
         Comparison::Equal => set_equal(a, b, to),
         Comparison::Less => set_less(a, b, to),
         Comparison::Greater => set_less(b, a, to),
         Comparison::NotEqual => {
-            set_equal(a, b, &mut opposite);
-            to.set_not(&opposite);
+            set_equal(a, b, to);
+            to.negate();
         }
         Comparison::LessOrEqual => {
-            set_less(b, a, &mut opposite);
-            to.set_not(&opposite);
+            set_less(b, a, to);
+            to.negate();
         }
         Comparison::GreaterOrEqual => {
-            set_less(a, b, &mut opposite);
-            to.set_not(&opposite);
+            set_less(a, b, to);
+            to.negate();
         }
     }
 }

@@ -70,19 +70,16 @@ impl<'a> NarrowSide<'a> {
             Comparison::LessOrEqual => self.set_up_to(self.last_up_to(), to),
             Comparison::Equal => self.set_equal(to),
             Comparison::NotEqual => {
-                let mut opposite = TruthMask::new();
-                self.set_equal(&mut opposite);
-                to.set_not(&opposite);
+                self.set_equal(to);
+                to.negate();
             }
             Comparison::Greater => {
-                let mut opposite = TruthMask::new();
-                self.set_up_to(self.last_up_to(), &mut opposite);
-                to.set_not(&opposite);
+                self.set_up_to(self.last_up_to(), to);
+                to.negate();
             }
             Comparison::GreaterOrEqual => {
-                let mut opposite = TruthMask::new();
-                self.set_up_to(self.last_below(), &mut opposite);
-                to.set_not(&opposite);
+                self.set_up_to(self.last_below(), to);
+                to.negate();
             }
         }
     }

@@ -1,8 +1,8 @@
 //! The truth of a condition in each of at most 1,024 places.
 //!
-//! A mask is made once for a condition and set by the `set_` calls, each from planes or from other masks: AND, OR and
-//! NOT work on 64 places at a time. `get` reads one place; a [`crate::Selection`] is set from the places that are True.
-//! No call takes memory, and each costs the words of 1,024 bits.
+//! A mask is made once for a test and set by the `set_` calls, each from planes or from another mask. AND, OR and NOT
+//! change a mask where it stands, 64 places at a time. `get` reads one place; a [`crate::Selection`] is set from the
+//! places that are True. No call takes memory, and each costs the words of 1,024 bits.
 ghost use Rattle.std.specs.Prelude.{[], length, map, replicate, slice_index, slice_index_or, take, ℕ, ◌<◌, ◌≡◌, ◌≤◌};
 ghost use Rattle.std.specs.Simd.Lanes.{zip2};
 ghost use Rattle.cq_values.specs.Truth.{and_truth, not_truth, or_truth, truth_of};
@@ -15,6 +15,7 @@ use crate::plane::Plane;
 use crate::walk::keep_set;
 use cq_values::Truth;
 use std::marker::Model;
+use std::mem::swap;
 
 /// Two planes: where a condition is True, and where it is False. Both are clear where it is Unknown.
 #[derive(Drop)]
@@ -71,27 +72,29 @@ impl TruthMask {
         self.falses.set_copy(&a.falses);
     }
 
-    pub fn set_and(&mut self, a: &TruthMask, b: &TruthMask)
-        requires { length a.now ≡ length b.now }
-        ensures { self.new ≡ zip2 and_truth a.now b.now }
+    /// AND with another mask, in each place.
+    pub fn and_with(&mut self, other: &TruthMask)
+        requires { length self.old ≡ length other.now }
+        ensures { self.new ≡ zip2 and_truth self.old other.now }
     {
-        self.trues.set_and(&a.trues, &b.trues);
-        self.falses.set_or(&a.falses, &b.falses);
+        self.trues.and_with(&other.trues);
+        self.falses.or_with(&other.falses);
     }
 
-    pub fn set_or(&mut self, a: &TruthMask, b: &TruthMask)
-        requires { length a.now ≡ length b.now }
-        ensures { self.new ≡ zip2 or_truth a.now b.now }
+    /// OR with another mask, in each place.
+    pub fn or_with(&mut self, other: &TruthMask)
+        requires { length self.old ≡ length other.now }
+        ensures { self.new ≡ zip2 or_truth self.old other.now }
     {
-        self.trues.set_or(&a.trues, &b.trues);
-        self.falses.set_and(&a.falses, &b.falses);
+        self.trues.or_with(&other.trues);
+        self.falses.and_with(&other.falses);
     }
 
-    pub fn set_not(&mut self, a: &TruthMask)
-        ensures { self.new ≡ map not_truth a.now }
+    /// NOT in each place.
+    pub fn negate(&mut self)
+        ensures { self.new ≡ map not_truth self.old }
     {
-        self.trues.set_copy(&a.falses);
-        self.falses.set_copy(&a.trues);
+        swap(&mut self.trues, &mut self.falses);
     }
 
     /// The answers of a test, and Unknown where a value is NULL.

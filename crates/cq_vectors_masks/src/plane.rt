@@ -91,21 +91,28 @@ impl Plane {
     }
 
     /// Where both are set.
-    pub fn set_and(&mut self, a: &Plane, b: &Plane)
-        requires { length a.now ≡ length b.now }
-        ensures { self.new ≡ zip2 both a.now b.now }
+    pub fn and_with(&mut self, other: &Plane)
+        requires { length self.old ≡ length other.now }
+        ensures { self.new ≡ zip2 both self.old other.now }
     {
-        and_words(&a.words, &b.words, &mut self.words);
-        self.len = a.len;
+        and_words(&mut self.words, &other.words);
     }
 
     /// Where one is set.
+    pub fn or_with(&mut self, other: &Plane)
+        requires { length self.old ≡ length other.now }
+        ensures { self.new ≡ zip2 either self.old other.now }
+    {
+        or_words(&mut self.words, &other.words);
+    }
+
+    /// Where one of two others is set.
     pub fn set_or(&mut self, a: &Plane, b: &Plane)
         requires { length a.now ≡ length b.now }
         ensures { self.new ≡ zip2 either a.now b.now }
     {
-        or_words(&a.words, &b.words, &mut self.words);
-        self.len = a.len;
+        self.set_copy(a);
+        self.or_with(b);
     }
 
     /// Where the first is set and the second is not.
@@ -157,22 +164,22 @@ fn push_bit(words: &mut [u64; 16], place: usize, flag: bool)
 
 // Words are made in an array of their own and copied at the end: then the compiler makes several of them at once.
 
-fn and_words(a: &[u64; 16], b: &[u64; 16], to: &mut [u64; 16])
-    ensures { Makes both a.now b.now to.new }
+fn and_words(to: &mut [u64; 16], other: &[u64; 16])
+    ensures { Makes both to.old other.now to.new }
 {
     let mut words = [0; 16];
     for k in 0..16 {
-        words[k] = a[k] & b[k];
+        words[k] = to[k] & other[k];
     }
     *to = words;
 }
 
-fn or_words(a: &[u64; 16], b: &[u64; 16], to: &mut [u64; 16])
-    ensures { Makes either a.now b.now to.new }
+fn or_words(to: &mut [u64; 16], other: &[u64; 16])
+    ensures { Makes either to.old other.now to.new }
 {
     let mut words = [0; 16];
     for k in 0..16 {
-        words[k] = a[k] | b[k];
+        words[k] = to[k] | other[k];
     }
     *to = words;
 }

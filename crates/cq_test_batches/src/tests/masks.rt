@@ -51,12 +51,11 @@ fn unknown_everywhere_selects_nothing(rt: HostRuntime) {
         assert!(rt; len <= 1024);
         let mut mask = TruthMask::new();
         mask.set_all(Truth::Unknown, len);
-        let mut opposite = TruthMask::new();
-        opposite.set_not(&mask);
+        mask.negate();
         let mut selection = Selection::new();
-        selection.set_true(&opposite);
+        selection.set_true(&mask);
         assert!(rt;
-            opposite.len() == len && selection.len() == 0,
+            mask.len() == len && selection.len() == 0,
             "length {len}"
         );
     }

@@ -62,7 +62,7 @@ connective_in-truths_of_tree-requires-in-loop-part t c =
 pub connective_in-loop-part-preserved : goal.connective_in-loop-part-preserved
 connective_in-loop-part-preserved t c =
     next and_truth part_holds c.args.scan.now c.deref-part-items.result.now c.loop-part.part-index c.loop-part.truths (holds (cond_of c.args.tree.now)) c.part-item.result c.loop-part-test.true c.part-item.is
-    c.in_ok-truths_of_tree-in-And.field-0 c.both-truths.result c.in_ok-truths_of_tree-in-And.ensures c.both-truths.ensures c.loop-part.invariant
+    c.in_ok-truths_of_tree-in-And.field-0 c.and_with.new.self c.in_ok-truths_of_tree-in-And.ensures c.and_with.ensures c.loop-part.invariant
 
 pub connective_in-truths_of_tree-requires-in-Or : goal.connective_in-truths_of_tree-requires-in-Or
 connective_in-truths_of_tree-requires-in-Or t c =
@@ -79,8 +79,8 @@ connective_in-truths_of_tree-requires-in-loop-choice t c =
 pub connective_in-loop-choice-preserved : goal.connective_in-loop-choice-preserved
 connective_in-loop-choice-preserved t c =
     next or_truth part_holds c.args.scan.now c.deref-choice-items.result.now c.loop-choice.choice-index c.loop-choice.truths (holds (cond_of c.args.tree.now)) c.choice-item.result c.loop-choice-test.true c.choice-item.is
-    c.in_ok-truths_of_tree-in-Or.field-0 c.either-truths.result c.in_ok-truths_of_tree-in-Or.ensures c.either-truths.ensures c.loop-choice.invariant
+    c.in_ok-truths_of_tree-in-Or.field-0 c.or_with.new.self c.in_ok-truths_of_tree-in-Or.ensures c.or_with.ensures c.loop-choice.invariant
 
-pub connective_in-returns-in_ok-truths_of_tree-in-Not : goal.connective_in-returns-in_ok-truths_of_tree-in-Not
-connective_in-returns-in_ok-truths_of_tree-in-Not t c =
-    not-truths c.args.scan.now c.args.tree.now c.in-Not.part c.deref.result.now c.set_not.new.self c.in_ok-truths_of_tree-in-Not.field-0 c.in-Not.is c.deref.ensures c.in_ok-truths_of_tree-in-Not.ensures c.set_not.ensures
+pub connective_in-returns-in_ok-truths-in-Not : goal.connective_in-returns-in_ok-truths-in-Not
+connective_in-returns-in_ok-truths-in-Not t c =
+    not-truths c.args.scan.now c.args.tree.now c.in-Not.part c.deref.result.now c.negate.new.self c.in_ok-truths-in-Not.truths c.in-Not.is c.deref.ensures c.in_ok-truths-in-Not.ensures c.negate.ensures

@@ -23,8 +23,8 @@ compared_with-requires-clause-exact c =
 pub compared_with-requires-clause-same : goal.compared_with-requires-clause-same
 compared_with-requires-clause-same c = ap length (c.vector.ensures ∙ c.in_ok-value.ensures) ∙ length-map c.args.scan.now (eval (expr_of c.args.expr.now))
 
-pub either-truths-requires : goal.either-truths-requires
-either-truths-requires c =
+pub or_with-requires : goal.or_with-requires
+or_with-requires c =
     let e = expr_of c.args.expr.now in
     let is = c.in-Ok.ensures ∙ zip2_of_maps (compared Equal) (eval e) (eval (expr_of c.choice-item.result)) c.args.scan.now (c.vector.ensures ∙ c.in_ok-value.ensures) refl in
     same-length c.loop-choice.invariant.front (choice_equals e c.choice-item.result) c.args.scan.now c.loop-choice.truths c.in-Ok.equal c.loop-choice.invariant.are is
@@ -34,4 +34,4 @@ loop-choice-preserved c =
     let e = expr_of c.args.expr.now in
     let is = c.in-Ok.ensures ∙ zip2_of_maps (compared Equal) (eval e) (eval (expr_of c.choice-item.result)) c.args.scan.now (c.vector.ensures ∙ c.in_ok-value.ensures) refl in
     next or_truth (choice_equals e) c.args.scan.now c.args.choices.now c.loop-choice.choice-index c.loop-choice.truths (one_equals e c.args.choices.now) c.choice-item.result c.loop-choice-test.true c.choice-item.is
-    c.in-Ok.equal c.either-truths.result is c.either-truths.ensures c.loop-choice.invariant
+    c.in-Ok.equal c.or_with.new.self is c.or_with.ensures c.loop-choice.invariant

@@ -14,21 +14,21 @@ returns-in-Greater c =
 
 pub returns-in-NotEqual : goal.returns-in-NotEqual
 returns-in-NotEqual c =
-    c.set_not.ensures
+    c.negate.ensures
     ∙ ap (map not_truth) c.set_equal-in-NotEqual.ensures
     ∙ zip2-opposite Equal NotEqual not_equal c.args.a.now c.args.b.now
     ∙ ap (λ k. zip2 (compared k) c.args.a.now c.args.b.now) (sym c.in-NotEqual.is)
 
 pub returns-in-LessOrEqual : goal.returns-in-LessOrEqual
 returns-in-LessOrEqual c =
-    c.set_not-in-LessOrEqual.ensures
+    c.negate-in-LessOrEqual.ensures
     ∙ ap (map not_truth) (c.set_less-in-LessOrEqual.ensures ∙ zip2-turned (compared Less) (compared Greater) compared-turned c.args.a.now c.args.b.now)
     ∙ zip2-opposite Greater LessOrEqual not_greater c.args.a.now c.args.b.now
     ∙ ap (λ k. zip2 (compared k) c.args.a.now c.args.b.now) (sym c.in-LessOrEqual.is)
 
 pub returns-in-GreaterOrEqual : goal.returns-in-GreaterOrEqual
 returns-in-GreaterOrEqual c =
-    c.set_not-in-GreaterOrEqual.ensures
+    c.negate-in-GreaterOrEqual.ensures
     ∙ ap (map not_truth) c.set_less-in-GreaterOrEqual.ensures
     ∙ zip2-opposite Less GreaterOrEqual not_less c.args.a.now c.args.b.now
     ∙ ap (λ k. zip2 (compared k) c.args.a.now c.args.b.now) (sym c.in-GreaterOrEqual.is)

@@ -4,4 +4,4 @@ use Rattle.cq_vectors_masks.proofs.plane.and_words.Given as goal
 
 -- the words below k are made
 abbrev pub invariant-loop-k : goal.invariant-loop-k
-invariant-loop-k l = (length l.words ≡ 16) × ((j : ℕ) → j < l.k → (get_or l.b j 0 < 2 ^ 64) × (get_or l.words j 0 ≡ bit_and (get_or l.a j 0) (get_or l.b j 0)))
+invariant-loop-k l = (length l.words ≡ 16) × ((j : ℕ) → j < l.k → (get_or l.other j 0 < 2 ^ 64) × (get_or l.words j 0 ≡ bit_and (get_or l.to j 0) (get_or l.other j 0)))

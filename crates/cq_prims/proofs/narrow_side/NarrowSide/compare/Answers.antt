@@ -31,16 +31,16 @@ pub returns-in-NotEqual : goal.returns-in-NotEqual
 returns-in-NotEqual c vs ws beside =
     let side = c.args.self.now in
     let turned = by_opposite Equal int_eq equal_agrees NotEqual not_equal side vs ws side.same beside (λ (o : ℕ). int_eq (side.base +ℤ pos o) side.value) (λ o. refl) in
-    c.set_not.ensures ∙ ap (map not_truth) c.set_equal-in-NotEqual.ensures ∙ turned ∙ ap (λ k. zip2 (compared k) vs ws) (sym c.in-NotEqual.is)
+    c.negate.ensures ∙ ap (map not_truth) c.set_equal-in-NotEqual.ensures ∙ turned ∙ ap (λ k. zip2 (compared k) vs ws) (sym c.in-NotEqual.is)
 
 pub returns-in-Greater : goal.returns-in-Greater
 returns-in-Greater c vs ws beside =
     let last = c.last_up_to-in-Greater in
     let turned = by_opposite LessOrEqual (λ m n. not (int_lt n m)) at_most_agrees Greater not_at_most c.args.self.now vs ws c.args.self.now.same beside (is_up_to last.result) last.ensures in
-    c.set_not-in-Greater.ensures ∙ ap (map not_truth) c.set_up_to-in-Greater.ensures ∙ turned ∙ ap (λ k. zip2 (compared k) vs ws) (sym c.in-Greater.is)
+    c.negate-in-Greater.ensures ∙ ap (map not_truth) c.set_up_to-in-Greater.ensures ∙ turned ∙ ap (λ k. zip2 (compared k) vs ws) (sym c.in-Greater.is)
 
 pub returns-in-GreaterOrEqual : goal.returns-in-GreaterOrEqual
 returns-in-GreaterOrEqual c vs ws beside =
     let last = c.last_below-in-GreaterOrEqual in
     let turned = by_opposite Less int_lt less_agrees GreaterOrEqual not_less c.args.self.now vs ws c.args.self.now.same beside (is_up_to last.result) last.ensures in
-    c.set_not-in-GreaterOrEqual.ensures ∙ ap (map not_truth) c.set_up_to-in-GreaterOrEqual.ensures ∙ turned ∙ ap (λ k. zip2 (compared k) vs ws) (sym c.in-GreaterOrEqual.is)
+    c.negate-in-GreaterOrEqual.ensures ∙ ap (map not_truth) c.set_up_to-in-GreaterOrEqual.ensures ∙ turned ∙ ap (λ k. zip2 (compared k) vs ws) (sym c.in-GreaterOrEqual.is)
