@@ -3,15 +3,16 @@ ghost use Rattle.std.specs.Prelude.{◌≡◌, IfOk, IfSome, is_some};
 ghost use Rattle.cq_engine_writes.specs.Changing.{IsExchange};
 
 use cq_engine_queue::Change;
-use cq_values::Row;
+use cq_values::{ColumnDef, Row};
 use cq_writestore_rows::NewRows;
 use std::alloc::{AllocError, Global};
 
-/// The change of the table of a number that the first rows leave and the others come to, where it is asked for. Those
-/// that come are shared.
+/// The change of the table of a number and of these columns that the first rows leave and the others come to, where it is
+/// asked for. Those that come are shared. Many rows stand in columns there, since they may stay for long.
 pub(crate) fn change_of(
     alloc: Global,
     table: u64,
+    columns: &[ColumnDef],
     gone: Vec<Row>,
     come: &NewRows,
     asked: bool,
@@ -22,6 +23,7 @@ pub(crate) fn change_of(
     if !asked {
         return Ok(None);
     }
-    let come = come.share(alloc)?;
-    Ok(Some(Change::new(table, NewRows::of(gone), come)))
+    let gone = NewRows::of(gone).in_columns(alloc, columns)?;
+    let come = come.share_in(alloc, columns)?;
+    Ok(Some(Change::new(table, gone, come)))
 }

@@ -12,7 +12,7 @@ ghost use Rattle.cq_table.specs.Found.{AreThere};
 use cq_engine_queue::Change;
 use cq_engine_tables::NamedTable;
 use cq_model::Cond;
-use cq_table::{Found, copies};
+use cq_table::Found;
 use cq_writestore_rows::NewRows;
 use std::alloc::{AllocError, Global};
 
@@ -54,7 +54,7 @@ fn change_without(
         return Ok(None);
     }
     let gone = table.chosen(alloc, found)?;
-    let gone = NewRows::of(copies(alloc, &gone)?);
+    let gone = NewRows::of_stored(alloc, table.table().columns(), &gone)?;
     let come = NewRows::of(Vec::new(alloc));
     Ok(Some(Change::new(table.number(), gone, come)))
 }

@@ -32,7 +32,9 @@ pub(crate) fn insert_into(
     ensures err { OnErr result (table.new ≡ table.old) }
 {
     check_room(max_rows, table.table().len(), rows.len())?;
-    let change = change_of(alloc, table.number(), Vec::new(alloc), &rows, asked)?;
+    let columns = table.table().columns();
+    let gone = Vec::new(alloc);
+    let change = change_of(alloc, table.number(), columns, gone, &rows, asked)?;
     table.insert(alloc, max_rows, rows)?;
     Ok(change)
 }

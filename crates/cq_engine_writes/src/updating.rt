@@ -57,7 +57,8 @@ fn prepared(
     let found = table.find(alloc, condition)?;
     let (gone, images) = table.images(alloc, assignments, &found)?;
     let come = NewRows::of(images);
-    let change = change_of(alloc, table.number(), gone, &come, asked)?;
+    let columns = table.table().columns();
+    let change = change_of(alloc, table.number(), columns, gone, &come, asked)?;
     let images = come.into_rows(alloc)?;
     Ok((found, images, change))
 }

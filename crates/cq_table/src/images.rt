@@ -1,7 +1,6 @@
 //! The images of rows under SET, and whether they may be stored.
 ghost use Rattle.std.specs.List.{AllByRecursion, list_any};
 ghost use Rattle.std.specs.Prelude.{◌≡◌, ◌<◌, IfOk, length, map};
-ghost use Rattle.cq_segments_pieces.specs.Rows.{stored_rows};
 ghost use Rattle.cq_values.specs.Lent.{owned};
 ghost use Rattle.cq_values.specs.Value.{column};
 ghost use Rattle.cq_model.specs.Eval.{eval};
@@ -13,7 +12,6 @@ ghost use Rattle.cq_table.specs.Checks.{AreNarrowSets, IsChecked, one_fault, val
 use crate::fault::TableFault;
 use cq_model::{Assignment, Expr};
 use cq_model_eval::{eval_row, narrow_is_exact};
-use cq_segments_pieces::StoredRow;
 use cq_values::{ColumnDef, Lent, Row, Value, lend_column};
 use std::alloc::{AllocError, Global};
 
@@ -98,17 +96,6 @@ fn is_outside(value: &Lent<'_>) -> bool
 
 /// The least number that is too large to be stored.
 const STORED_LIMIT: i128 = 1 << 63;
-
-/// Copies of the rows.
-pub fn copies(alloc: Global, rows: &[StoredRow<'_>]) -> Result<Vec<Row>, AllocError>
-    ensures { IfOk result (λ copies. copies.items ≡ stored_rows rows.now) }
-{
-    let mut copies = Vec::with_capacity(alloc, rows.len())?;
-    for row in rows {
-        copies.push(row.to_row(alloc)?)?;
-    }
-    Ok(copies)
-}
 
 /// The images of the rows. Each expression reads the old row.
 pub fn images(

@@ -19,6 +19,5 @@ mod whole;
 
 pub use fault::TableFault;
 pub use found::Found;
-pub use images::copies;
 pub use table::{Layout, Table, check_room};
 pub use updating::Exchange;

@@ -13,12 +13,12 @@ ghost use Rattle.cq_table.specs.Table.{stored_in, table_rows};
 
 use crate::fault::TableFault;
 use crate::found::Found;
-use crate::images::{check_values, copies, images};
+use crate::images::{check_values, images};
 use crate::placing::mark_all;
 use crate::table::Table;
 use cq_model::{Assignment, Cond};
 use cq_values::Row;
-use cq_writestore_rows::NewRows;
+use cq_writestore_rows::{NewRows, copies};
 use std::alloc::{AllocError, Global};
 
 /// Copies of the rows that an UPDATE takes, and the rows that come in their places.

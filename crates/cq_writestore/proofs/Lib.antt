@@ -1,4 +1,3 @@
-pub mod Adding
 pub mod Flagged
 pub mod MarkedLists
 pub mod SpotLists

@@ -1,3 +1,2 @@
-pub mod Refilled
 pub mod Spots
 pub mod Writes

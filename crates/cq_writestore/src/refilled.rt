@@ -1,12 +1,11 @@
 //! Rows that are put into columns anew, and become pieces there.
 //!
 //! Each value goes from where it stands to where it stays: a row is made of the last ones alone, which fill no piece.
-ghost use Rattle.std.specs.Prelude.{IfOk, OnOk, [], length, ◌++◌, ◌≡◌, ◌∷◌};
+ghost use Rattle.std.specs.Prelude.{IfOk, OnOk, length, ◌++◌, ◌≡◌};
 ghost use Rattle.cq_segments_pieces.specs.Columns.{AreWide};
 ghost use Rattle.cq_segments_pieces.specs.Marked.{rows_of};
 ghost use Rattle.cq_segments_pieces.specs.Pieces.{joined};
-ghost use Rattle.cq_segments_pieces.specs.Rows.{row_of};
-ghost use Rattle.cq_writestore.specs.Refilled.{Adds, CanTake};
+ghost use Rattle.cq_writestore_rows.specs.Filling.{Adds, CanTake};
 
 use cq_segments_pieces::{Columns, Piece, StoredRow};
 use cq_values::{ColumnDef, Row};
@@ -40,7 +39,7 @@ fn put_rows(filling: &mut Filling, rows: &[Row]) -> Result<(), AllocError>
     ensures { OnOk result (Adds rows.now filling.old filling.new) }
 {
     for row in rows {
-        put_row(filling, &StoredRow::Alone(row))?;
+        filling.push_row(&StoredRow::Alone(row))?;
     }
     Ok(())
 }
@@ -62,18 +61,7 @@ fn put_columns(filling: &mut Filling, columns: &Columns) -> Result<(), AllocErro
     ensures { OnOk result (Adds columns.now filling.old filling.new) }
 {
     for place in 0..columns.len() {
-        put_row(filling, &columns.row(place))?;
+        filling.push_row(&columns.row(place))?;
     }
     Ok(())
-}
-
-/// Puts a row behind the others.
-fn put_row(filling: &mut Filling, row: &StoredRow<'_>) -> Result<(), AllocError>
-    requires { CanTake (row_of row.now ∷ []) filling.old }
-    ensures { OnOk result (Adds (row_of row.now ∷ []) filling.old filling.new) }
-{
-    for column in 0..row.len() {
-        filling.push(&row.lend(column))?;
-    }
-    filling.end_row()
 }

@@ -1,3 +1,5 @@
+pub mod Adding
+pub mod Copied
 pub mod Ended
 pub mod Filled
 pub mod NextFilling

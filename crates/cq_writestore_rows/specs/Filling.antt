@@ -2,6 +2,7 @@
 use Rattle.std.specs.Prelude.{◌≡◌, ◌<◌, ◌≤◌, ◌+◌, ◌*◌, ◌^◌, ◌++◌, ℕ, List, [], ◌∷◌, length, slice_index_or}
 use Rattle.cq_values.specs.Value.{Row}
 use Rattle.cq_values.specs.declared.value.Value.{Value}
+use Rattle.cq_segments_pieces.specs.Columns.{AreWide}
 use Rattle.cq_segments_pieces.specs.Marked.{MarkedRow}
 use Rattle.cq_segments_pieces.specs.Pieces.{joined}
 use Rattle.cq_writestore_rows.specs.NewRows.{AreWhole, NoneMarked}
@@ -28,6 +29,17 @@ with_value value old = record { rows = old.rows; begun = old.begun ++ value ∷ 
 -- the row that is begun ends
 abbrev pub with_row : Filled → Filled
 with_row old = record { rows = old.rows ++ old.begun ∷ []; begun = []; width = old.width }
+
+-- the next row can begin, and these are as wide as each is to be
+pub record CanTake (rows : List Row) (filled : Filled) : Type 0 where
+  pub none : filled.begun ≡ []
+  pub wide : AreWide filled.width rows
+
+-- these rows have come behind the others, and the next one can begin
+pub record Adds (rows : List Row) (old new : Filled) : Type 0 where
+  pub put : new.rows ≡ old.rows ++ rows
+  pub none : new.begun ≡ []
+  pub wide : new.width ≡ old.width
 
 -- the rows fill pieces of 1,024, and none is begun
 pub record IsWhole (filled : Filled) : Type 0 where

@@ -1,20 +1,21 @@
 //! Rows that are put into columns as they come.
 //!
-//! `push` takes the values of a row, from the left, and `end_row` ends it. A value is put where it stays, and 1,024 rows at a
-//! time become a piece. `push_columns` takes a piece of rows at once, as columns. `finish` gives the rows: it makes a row
-//! of each that is in no piece. After an error some may be lost.
-ghost use Rattle.std.specs.Prelude.{IfOk, OnErr, OnOk, [], length, ◌+◌, ◌<◌, ◌^◌, ◌≡◌, ◌≤◌, replicate};
+//! `push` takes the values of a row, from the left, and `end_row` ends it; `push_row` copies a row. A value is put where it
+//! stays, and 1,024 rows at a time become a piece. `push_columns` takes a piece of rows at once, as columns. `finish` gives
+//! the rows: it makes a row of each that is in no piece. After an error some may be lost.
+ghost use Rattle.std.specs.Prelude.{IfOk, OnErr, OnOk, [], length, ◌+◌, ◌<◌, ◌^◌, ◌≡◌, ◌≤◌, ◌∷◌, replicate};
 ghost use Rattle.cq_segments_pieces.specs.Columns.{AreColumns, columns_in, encoded_rows, rows_of_columns};
 ghost use Rattle.cq_segments_pieces.specs.Marked.{unmarked};
+ghost use Rattle.cq_segments_pieces.specs.Rows.{row_of};
 ghost use Rattle.cq_values.specs.Lent.{owned};
 ghost use Rattle.cq_values.specs.Value.{Row as Values};
-ghost use Rattle.cq_writestore_rows.specs.Filling.{AreOpen, IsEmpty, IsWhole, with_row, with_rows, with_value};
+ghost use Rattle.cq_writestore_rows.specs.Filling.{Adds, AreOpen, CanTake, IsEmpty, IsWhole, with_row, with_rows, with_value};
 ghost use Rattle.cq_writestore_rows.specs.TypedColumn.{values_in};
 
 use crate::new_rows::NewRows;
 use crate::typed_column::TypedColumn;
 use cq_encodings::AnyEncoded;
-use cq_segments_pieces::{Piece, widened};
+use cq_segments_pieces::{Piece, StoredRow, widened};
 use cq_values::{ColumnDef, Lent, Row, Ty};
 use std::alloc::{AllocError, Global};
 use std::marker::Model;
@@ -111,6 +112,17 @@ impl Filling {
         self.len = 0;
         self.pieces.push(piece_of(alloc, full)?)?;
         Ok(())
+    }
+
+    /// Puts a copy of a row behind the others.
+    pub fn push_row(&mut self, row: &StoredRow<'_>) -> Result<(), AllocError>
+        requires { CanTake (row_of row.now ∷ []) self.old }
+        ensures { OnOk result (Adds (row_of row.now ∷ []) self.old self.new) }
+    {
+        for column in 0..row.len() {
+            self.push(&row.lend(column))?;
+        }
+        self.end_row()
     }
 
     /// Puts 1,024 rows behind the others, whose columns these are.

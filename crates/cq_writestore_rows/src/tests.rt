@@ -100,3 +100,31 @@ fn rows_stand_in_their_order_in_pieces_and_behind_them(rt: HostRuntime) -> Resul
     }
     Ok(())
 }
+
+#[test]
+fn many_rows_are_copied_into_columns(rt: HostRuntime) -> Result<(), Fail> {
+    // how many rows there are; how many pieces their copies have, and how many rows behind them
+    let cases = [(1023, 0, 1023), (1024, 1, 0), (1025, 1, 1)];
+    let columns = columns(rt.alloc())?;
+    for (len, pieces, behind) in cases {
+        let rows = NewRows::of(filled(rt.alloc(), len)?.into_rows(rt.alloc())?);
+        let shared = rows.share_in(rt.alloc(), columns.as_slice())?;
+        let copies = shared.copies(rt.alloc())?;
+        assert_eq!(rt; strangers(copies.as_slice()), 0, "of {len} rows");
+        let (made, tail) = shared.into_parts();
+        assert_eq!(rt; made.len(), pieces, "of {len} rows");
+        assert_eq!(rt; tail.len(), behind, "of {len} rows");
+    }
+    Ok(())
+}
+
+#[test]
+fn rows_of_another_width_stay_rows(rt: HostRuntime) -> Result<(), Fail> {
+    let columns = columns(rt.alloc())?;
+    let rows = NewRows::of(filled(rt.alloc(), 1024)?.into_rows(rt.alloc())?);
+    let same = rows.in_columns(rt.alloc(), &columns[..2])?;
+    let (made, tail) = same.into_parts();
+    assert_eq!(rt; made.len(), 0);
+    assert_eq!(rt; strangers(tail.as_slice()), 0);
+    Ok(())
+}

@@ -15,9 +15,9 @@ pub returns : goal.returns
 returns c = λ condition chosen.
     let t = c.args.table.now.is in
     let asked : c.args.asked ≡ true = search rules in
-    let gone = c.of-gone.result in
-    let copied = rw c.deref.ensures.value at c.in_ok-copies.ensures in
-    let picks = ap bag_of (c.of-gone.ensures ∙ copied ∙ c.in_ok-gone.ensures) ∙ chosen.picks in
+    let gone = c.in_ok-gone-2.gone in
+    let copied = rw c.deref.ensures.value at c.in_ok-gone-2.ensures in
+    let picks = ap bag_of (copied ∙ c.in_ok-gone.ensures) ∙ chosen.picks in
     let told : c.new-2.result ≡ change_by t.number gone [] = rw (c.number.ensures, c.of-come.ensures, c.new.ensures.items) at c.new-2.ensures in
     record {
       there = sym asked;

@@ -16,4 +16,4 @@ returns-clause-change c =
     let rows = c.args.rows in
     let few : length rows ≤ 2 ^ 25 = omega (arith, few-enough c.args.max_rows (c.len.result + c.len-2.result) c.in_ok-check_room.ensures, c.len-2.ensures.len, c.requires.limited) in
     tells c.args.asked t.number t.rows (t.rows ++ rows) (change_by t.number [] rows) (inserted_change t.number t.rows rows (rows_stored t.columns rows c.requires.rows) few)
-    c.in_ok-change.change c.in_ok-change.ensures.there (rw (c.number.ensures, c.new.ensures.items) at c.in_ok-change.ensures.is)
+    c.in_ok-change.change c.in_ok-change.ensures.there (rw (c.number.ensures, c.new-gone.ensures.items) at c.in_ok-change.ensures.is)

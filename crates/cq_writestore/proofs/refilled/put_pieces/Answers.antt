@@ -3,8 +3,8 @@ use Rattle.cq_values.specs.Value.{Row}
 use Rattle.cq_segments_pieces.specs.Marked.{rows_of}
 use Rattle.cq_segments_pieces.specs.Pieces.{joined}
 use Rattle.cq_segments_pieces.proofs.Marks.{rows_of-append}
-use Rattle.cq_writestore.specs.Refilled.{CanTake}
-use Rattle.cq_writestore.proofs.Adding.{can-front, left-can, left-rows}
+use Rattle.cq_writestore_rows.specs.Filling.{CanTake}
+use Rattle.cq_writestore_rows.proofs.Adding.{can-front, left-can, left-rows}
 use Rattle.cq_writestore.proofs.refilled.put_pieces.Goals as goal
 
 pub put_columns-requires : goal.put_columns-requires

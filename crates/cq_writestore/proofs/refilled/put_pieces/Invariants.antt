@@ -1,7 +1,7 @@
 use Rattle.std.proofs.Common.{◌≡◌, ◌++◌}
 use Rattle.cq_segments_pieces.specs.Marked.{rows_of}
 use Rattle.cq_segments_pieces.specs.Pieces.{joined}
-use Rattle.cq_writestore.specs.Refilled.{CanTake}
+use Rattle.cq_writestore_rows.specs.Filling.{CanTake}
 use Rattle.cq_writestore.proofs.refilled.put_pieces.Given as goal
 
 -- with those of the pieces that are left the rows are all, and these can come next

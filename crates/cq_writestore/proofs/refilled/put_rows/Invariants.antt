@@ -1,5 +1,5 @@
 use Rattle.std.proofs.Common.{take}
-use Rattle.cq_writestore.specs.Refilled.{Adds}
+use Rattle.cq_writestore_rows.specs.Filling.{Adds}
 use Rattle.cq_writestore.proofs.refilled.put_rows.Given as goal
 
 -- the rows so far are there

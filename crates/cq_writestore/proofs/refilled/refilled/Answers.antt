@@ -3,7 +3,7 @@ use Rattle.cq_values.specs.Value.{Row}
 use Rattle.cq_segments_pieces.specs.Columns.{AreWide}
 use Rattle.cq_segments_pieces.specs.Marked.{rows_of}
 use Rattle.cq_segments_pieces.specs.Pieces.{joined}
-use Rattle.cq_writestore.proofs.Adding.{can-front, is_ready, left-can}
+use Rattle.cq_writestore_rows.proofs.Adding.{can-front, is_ready, left-can}
 use Rattle.cq_writestore.proofs.refilled.refilled.Goals as goal
 
 pub put_rows-requires : goal.put_rows-requires

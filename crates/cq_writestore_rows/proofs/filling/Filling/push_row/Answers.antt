@@ -6,7 +6,7 @@ use Rattle.cq_values.specs.Lent.{owned}
 use Rattle.cq_values.specs.declared.value.Value.{Value}
 use Rattle.cq_values.specs.declared.value.Value.TheVariants.{Null}
 use Rattle.cq_writestore_rows.specs.Filling.{Filled}
-use Rattle.cq_writestore.proofs.refilled.put_row.Goals as goal
+use Rattle.cq_writestore_rows.proofs.filling.Filling.push_row.Goals as goal
 
 pub push-requires : goal.push-requires
 push-requires c =
@@ -44,7 +44,7 @@ returns c =
     let begun = inv.begun ∙ take_all i row (omega (arith, c.loop-column-test.false, c.len-column-end.ensures)) in
     on_ok_weaker c.end_row.result
     (λ is. record {
-      put = ap (λ (f : Filled). f.rows) is ∙ ap (λ l. l ++ c.loop-column.filling.begun ∷ []) inv.rows ∙ ap (λ r. c.args.filling.now.rows ++ r ∷ []) begun;
+      put = ap (λ (f : Filled). f.rows) is ∙ ap (λ l. l ++ c.loop-column.self.begun ∷ []) inv.rows ∙ ap (λ r. c.args.self.now.rows ++ r ∷ []) begun;
       none = ap (λ (f : Filled). f.begun) is;
       wide = ap (λ (f : Filled). f.width) is ∙ inv.wide;
     })

@@ -4,8 +4,7 @@ use Rattle.std.proofs.lemmas.List.{append-nil, append_assoc, take_more}
 use Rattle.cq_model_bags.proofs.Lists.{all-at, all-back, all-front}
 use Rattle.cq_values.specs.Value.{Row}
 use Rattle.cq_segments_pieces.specs.Columns.{AreWide}
-use Rattle.cq_writestore_rows.specs.Filling.{Filled, IsEmpty}
-use Rattle.cq_writestore.specs.Refilled.{Adds, CanTake}
+use Rattle.cq_writestore_rows.specs.Filling.{Adds, CanTake, Filled, IsEmpty}
 
 -- rows as wide as the columns can come first
 pub is_ready : (rows : List Row) (width : ℕ) (filled : Filled) → IsEmpty width filled → AreWide width rows → CanTake rows filled
