@@ -97,6 +97,7 @@ noted s vs n rows asked None old new passed changes small none tells notes =
         count = length (s.queue ++ c ∷ []);
         there = omega arith;
         behind = subst (λ (ws : List NamedView). AllByRecursion (λ v. s.passed + length (s.queue ++ c ∷ []) ≤ v.kept.state.epoch) ws) (sym gone) tt;
+        most = λ n few all. few;
         passed = omega (arith, notes.0, passed, long);
         changes = notes.1 ∙ sym (drop_all (length (s.queue ++ c ∷ [])) (s.queue ++ c ∷ []) (omega arith));
       };

@@ -4,11 +4,12 @@
 //! that are there, or refused, and then carried out whole or not at all. A write puts its change into the queue, and each
 //! view stands for the tables at its epoch until it is read or refreshed: then it takes the changes in that it lacks. A
 //! step costs what its statement's rows do; a SELECT, also what those changes bring to each view that it names.
-ghost use Rattle.std.specs.Prelude.{◌≡◌, ◌<◌, ◌+◌, ◌-◌, ◌^◌, ◌∷◌, [], OnErr, option_map};
+ghost use Rattle.std.specs.Prelude.{◌≡◌, ◌<◌, ◌+◌, ◌-◌, ◌^◌, ◌∷◌, [], IfSome, OnErr, option_map};
 ghost use Rattle.cq_model_state.specs.Fitting.{AreFitting, AreLimited};
 ghost use Rattle.cq_model_state.specs.State.{first_state, view_named};
 ghost use Rattle.cq_model_step.specs.Output.{source_failures};
 ghost use Rattle.cq_model_step.specs.Step.{StepFrom};
+ghost use Rattle.cq_engine_queue.specs.Shown.{ShowsEpoch};
 ghost use Rattle.cq_engine_tables.specs.Views.{AreRight, views_of};
 ghost use Rattle.cq_engine.specs.declared.answer_source.AnswerSource.TheVariants.{Tables};
 ghost use Rattle.cq_engine.specs.Commands.{MayBeRefused, Refreshes, reads_after};
@@ -108,6 +109,7 @@ impl Engine {
         ensures told { option_map (λ v. v.now) result ≡ stored_named name.now self.now.stored }
         ensures beside { views_of self.now.stored ≡ self.now.state.views }
         ensures right { AreRight self.now.state self.now.stored }
+        ensures shows { IfSome result (λ v. ShowsEpoch self.now.state v.now) }
     {
         let place = view_place(&self.views, name)?;
         Some(&self.views[place])

@@ -99,9 +99,9 @@ module _ (within : CountsWithinWork) (rises : RisesWhereChanged) (c : ChangeOf) 
       )
 
   -- what a view counts that took in what waited
-  pub counts-change : (epoch : ℕ) (v w x : NamedView) (p : Option Pending) → IsSame v w → ((tables : Tables) → StandsFor v.kept tables → IsReady c.table tables (changes_by c) w p) → CountsReady (changes_by c) v w p → HasTaken epoch w p x
+  pub counts-change : (v w x : NamedView) (p : Option Pending) → IsSame v w → ((tables : Tables) → StandsFor v.kept tables → IsReady c.table tables (changes_by c) w p) → CountsReady (changes_by c) v w p → HasTaken w p x
       → (tables changes : Tables) → CanCount c v tables changes → CountsFor v.kept.query tables changes (work_of v.kept.state) (work_of x.kept.state)
-  counts-change epoch v w x None s ready counted taken tables changes can =
+  counts-change v w x None s ready counted taken tables changes can =
       let q = v.kept.query in
       let free : reads c.table q ≡ false = ap (λ (d : Query). reads c.table d) (sym s.kept.query) ∙ ready tables can.suits.stands in
       let same : work_of x.kept.state ≡ work_of v.kept.state = taken.counts ∙ counted in
@@ -110,7 +110,7 @@ module _ (within : CountsWithinWork) (rises : RisesWhereChanged) (c : ChangeOf) 
         most = omega (arith, same);
         rises = λ differs. absurd (differs (meaning-same q (changed tables changes) tables (stay-bags tables changes (sources_of q) can.same (unread c.table (sources_of q) free))));
       }
-  counts-change epoch v w x (Some p) s ready counted taken tables changes can =
+  counts-change v w x (Some p) s ready counted taken tables changes can =
       let pairs = pairs-same v.kept w.kept (changes_by c) changes p can.suits.stands.narrow can.same counted in
       let most = within changes v.kept w.kept x.kept p s.kept pairs taken.counts in
       record {
@@ -128,7 +128,7 @@ module _ (within : CountsWithinWork) (rises : RisesWhereChanged) (c : ChangeOf) 
 pub counted-itself : (s : State) (v : NamedView) → HasCounted s v v
 counted-itself s v =
     let none : v.kept.state.epoch - v.kept.state.epoch ≡ 0 = omega arith in
-    rw none refl
+    record { counts = rw none refl; ahead = omega arith }
 
 -- one change more
 pub counts-more : (q : Query) (s : State) (n epoch before between after : ℕ) → CountsChanges q s epoch n before between → CountsFor q (bags_at s (epoch + n)) (changes_at s (epoch + n)) between after

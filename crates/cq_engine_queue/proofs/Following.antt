@@ -67,14 +67,14 @@ can-prepare v c can = record {
 
 -- ---- A view that took in what waited
 -- a view is led from where nothing of it had changed
-pub led_from : (epoch : ℕ) (v w x : NamedView) → IsSame v w → IsLed epoch w x → IsLed epoch v x
-led_from epoch v w x s led = record {
+pub led_from : (v w x : NamedView) → IsSame v w → IsLed w x → IsLed v x
+led_from v w x s led = record {
   name = led.name ∙ s.name;
   columns = led.columns ∙ s.columns;
   query = led.query ∙ s.kept.query;
   widths = led.widths ∙ s.kept.widths;
   built = led.built ∙ s.kept.state.built;
-  epoch = led.epoch;
+  epoch = led.epoch ∙ ap (λ (e : ℕ). e + 1) s.kept.state.epoch;
 }
 
 module _ (law : StandingDependsOnSources) (within : CountsWithinWork) (rises : RisesWhereChanged) (c : ChangeOf) where
@@ -83,19 +83,19 @@ module _ (law : StandingDependsOnSources) (within : CountsWithinWork) (rises : R
   unchanged_all tables (s ∷ sources) other = (rw (others c s other.0, append-nil (tables s)) (same-refl (tables s)), unchanged_all tables sources other.1)
 
   -- a view that is ready stands for the changed tables once it has taken in what waited
-  pub takes : (epoch : ℕ) (v w x : NamedView) (p : Option Pending) → epoch ≡ v.kept.state.epoch + 1 → IsSame v w → ((tables : Tables) → StandsFor v.kept tables → IsReady c.table tables (changes_by c) w p) → CountsReady (changes_by c) v w p → HasTaken epoch w p x
+  pub takes : (v w x : NamedView) (p : Option Pending) → IsSame v w → ((tables : Tables) → StandsFor v.kept tables → IsReady c.table tables (changes_by c) w p) → CountsReady (changes_by c) v w p → HasTaken w p x
       → TakesChange c v x
-  takes epoch v w x None next s ready counted taken = record {
-    led = rw (← next) (led_from epoch v w x s taken.led);
+  takes v w x None s ready counted taken = record {
+    led = led_from v w x s taken.led;
     stands = λ tables stands bags.
         let free : reads c.table x.kept.query ≡ false = ap (λ (q : Query). reads c.table q) taken.led.query ∙ ready tables stands in
         law x.kept tables (changed tables (changes_by c)) (unchanged_all tables (sources_of x.kept.query) (unread c.table (sources_of x.kept.query) free)) (taken.goes tables (s.kept.stands tables stands));
-    counts = counts-change within rises c epoch v w x None s ready counted taken;
+    counts = counts-change within rises c v w x None s ready counted taken;
   }
-  takes epoch v w x (Some p) next s ready counted taken = record {
-    led = rw (← next) (led_from epoch v w x s taken.led);
+  takes v w x (Some p) s ready counted taken = record {
+    led = led_from v w x s taken.led;
     stands = λ tables stands bags.
         let is : reads c.table v.kept.query ≡ true = ap (λ (q : Query). reads c.table q) (sym s.kept.query) ∙ (ready tables stands).0 in
         taken.goes tables (changes_by c) (s.kept.stands tables stands) (ready tables stands).1 (bags is);
-    counts = counts-change within rises c epoch v w x (Some p) s ready counted taken;
+    counts = counts-change within rises c v w x (Some p) s ready counted taken;
   }

@@ -355,7 +355,10 @@ counted-next s to u v w c on takes counted one =
     let own : CountsFor u.kept.query (bags_at s (first + n)) (changes_at s (first + n)) (work_of v.kept.state) (work_of w.kept.state) =
     subst (λ (e : ℕ). CountsFor u.kept.query (bags_at s e) (changes_at s e) (work_of v.kept.state) (work_of w.kept.state)) (sym here)
     (subst (λ (d : Query). CountsFor d (bags_at s v.kept.state.epoch) (changes_at s v.kept.state.epoch) (work_of v.kept.state) (work_of w.kept.state)) on.query one) in
-    rw next (counts-more u.kept.query s n first (work_of u.kept.state) (work_of v.kept.state) (work_of w.kept.state) counted own)
+    record {
+      counts = rw next (counts-more u.kept.query s n first (work_of u.kept.state) (work_of v.kept.state) (work_of w.kept.state) counted.counts own);
+      ahead = omega (arith, takes.led.epoch, on.from);
+    }
 
 -- for one that was begun
 pub begun-next : (s : State) (to : ℕ) (u v w : NamedView) (c : ChangeOf) → IsTakenOn to u v → IsSame v w → v.kept.state.epoch < to → HasCounted s u v → StaysWithin c v w
@@ -364,7 +367,7 @@ begun-next s to u v w c on same next counted stays most =
     let at : w.kept.state.epoch ≡ v.kept.state.epoch = same.kept.state.epoch in
     record {
       between = work_of v.kept.state;
-      counts = rw at counted;
+      counts = rw at counted.counts;
       ahead = omega (arith, at, on.from);
       next = omega (arith, at, next);
       more = stays.more;

@@ -38,8 +38,9 @@ abbrev pub CountsTo : State → NamedView → ℕ → ℕ → Type 0
 CountsTo s v epoch after = CountsChanges v.kept.query s v.kept.state.epoch (epoch - v.kept.state.epoch) (work_of v.kept.state) after
 
 -- a view was taken on, and counted for the changes that it took in
-abbrev pub HasCounted : State → NamedView → NamedView → Type 0
-HasCounted s old new = CountsTo s old new.kept.state.epoch (work_of new.kept.state)
+pub record HasCounted (s : State) (old new : NamedView) : Type 0 where
+  pub counts : CountsTo s old new.kept.state.epoch (work_of new.kept.state)
+  pub ahead : old.kept.state.epoch ≤ new.kept.state.epoch
 
 -- or also some of the work of the next change, before the epoch to which it was to go
 pub record HasBegun (s : State) (to : ℕ) (old new : NamedView) : Type 0 where

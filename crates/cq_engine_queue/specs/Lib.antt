@@ -3,3 +3,4 @@ pub mod Taking
 pub mod History
 pub mod Counts
 pub mod Goal
+pub mod Shown

@@ -23,11 +23,12 @@ pub record IsSameQueue (old new : Queued) : Type 0 where
 abbrev pub AreExchanged : ChangeOf → Vec StoredRow × Vec StoredRow → Type 0
 AreExchanged change rows = change.rows ≡ exchanged (stored_rows rows.0.items) (stored_rows rows.1.items)
 
--- of changes of the writes numbered above passed, the queue has all but some at the front, which each view has passed
+-- of changes of the writes numbered above passed, the queue has all but those at the front that each view has passed
 pub record IsTrimmed (views : List NamedView) (before : ℕ) (all : List ChangeOf) (new : Queued) : Type 0 where
   pub count : ℕ
   pub there : count ≤ length all
   pub behind : AllByRecursion (λ v. before + count ≤ v.kept.state.epoch) views
+  pub most : (n : ℕ) → n ≤ length all → AllByRecursion (λ v. before + n ≤ v.kept.state.epoch) views → n ≤ count
   pub passed : new.passed ≡ before + count
   pub changes : new.changes ≡ drop count all
 

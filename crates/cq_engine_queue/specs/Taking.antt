@@ -62,7 +62,7 @@ pub record StaysWithin (c : ChangeOf) (old new : NamedView) : Type 0 where
 
 -- it is one epoch further, and whatever tables it stood for, it stands for the changed ones, and counted for the changes
 pub record TakesChange (c : ChangeOf) (old new : NamedView) : Type 0 where
-  pub led : IsLed (old.kept.state.epoch + 1) old new
+  pub led : IsLed old new
   pub stands : (tables : Tables) → StandsFor old.kept tables → AreBagsFor old tables c → StandsFor new.kept (changed tables (changes_by c))
   pub counts : (tables changes : Tables) → CanCount c old tables changes
       → CountsFor old.kept.query tables changes (work_of old.kept.state) (work_of new.kept.state)

@@ -69,9 +69,8 @@ fn take_in(alloc: Global, view: &mut View, change: &Change) -> Result<(), AllocE
     standing_depends_on_sources();
     counts_are_within_work();
     counts_rise_where_changed();
-    let epoch = view.epoch() + 1;
     if !view.is_on(change.table()) {
-        view.commit(None, epoch);
+        view.commit(None);
         return Ok(());
     }
     let (gone, come) = change.rows(alloc)?;
@@ -81,6 +80,6 @@ fn take_in(alloc: Global, view: &mut View, change: &Change) -> Result<(), AllocE
         come: &come,
     };
     let pending = view.prepare(alloc, &lent)?;
-    view.commit(pending, epoch);
+    view.commit(pending);
     Ok(())
 }

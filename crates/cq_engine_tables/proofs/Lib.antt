@@ -5,6 +5,7 @@ pub mod Numbers
 pub mod Stored
 pub mod Rows
 pub mod Bags
+pub mod Crossed
 pub mod Unchanged
 pub mod Wide
 pub mod HeldTables

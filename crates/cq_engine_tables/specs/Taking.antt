@@ -1,5 +1,5 @@
 -- What changes of tables do to views.
-use Rattle.std.specs.Prelude.{◌≡◌, ℕ, true, false, Option, Some, None, IfSome}
+use Rattle.std.specs.Prelude.{◌≡◌, ◌+◌, ℕ, true, false, Option, Some, None, IfSome}
 use Rattle.cq_model.specs.Meaning.{Tables}
 use Rattle.cq_views_model.specs.Query.{reads}
 use Rattle.cq_views.specs.Changes.{changes_of}
@@ -52,17 +52,17 @@ abbrev pub CountsTaken : Option Pending → KeptView → KeptView → Type 0
 CountsTaken None old new = work_of new.state ≡ work_of old.state
 CountsTaken (Some pending) old new = CountsPut old.state pending new.state
 
--- a view was led to the epoch: it is the view that it was, whatever it stands for
-pub record IsLed (now : ℕ) (old new : NamedView) : Type 0 where
+-- a view was led one epoch on: it is the view that it was, whatever it stands for
+pub record IsLed (old new : NamedView) : Type 0 where
   pub name : new.name ≡ old.name
   pub columns : new.columns ≡ old.columns
   pub query : new.kept.query ≡ old.kept.query
   pub widths : new.kept.widths ≡ old.kept.widths
   pub built : new.kept.state.built ≡ old.kept.state.built
-  pub epoch : new.kept.state.epoch ≡ now
+  pub epoch : new.kept.state.epoch ≡ old.kept.state.epoch + 1
 
--- a view has taken in what waited, and is at the epoch
-pub record HasTaken (now : ℕ) (old : NamedView) (pending : Option Pending) (new : NamedView) : Type 0 where
-  pub led : IsLed now old new
+-- a view has taken in what waited, and is one epoch further
+pub record HasTaken (old : NamedView) (pending : Option Pending) (new : NamedView) : Type 0 where
+  pub led : IsLed old new
   pub goes : GoesOn pending old.kept new.kept
   pub counts : CountsTaken pending old.kept new.kept

@@ -3,7 +3,7 @@
 //! A [`View`] is a kept view that statements find, with the columns that it shows. A change of a table is made known to it:
 //! first `prepare`, which may fail and gives what waits, or nothing where the view does not read the table, and then
 //! `commit` with that, which cannot. `rows` costs what the view holds; all else is the kept view's cost.
-ghost use Rattle.std.specs.Prelude.{◌≡◌, IfErr, IfOk, OnOk};
+ghost use Rattle.std.specs.Prelude.{◌-◌, ◌<◌, ◌≡◌, ◌^◌, IfErr, IfOk, OnOk};
 ghost use Rattle.cq_model.specs.declared.fault.ShowFault.TheVariants.{SumOutOfRange};
 ghost use Rattle.cq_model.specs.Sizes.{column_sizes};
 ghost use Rattle.cq_values.specs.Texts.{is_text};
@@ -101,7 +101,7 @@ impl View {
         self.state.query()
     }
 
-    /// How many writes the view has taken in.
+    /// The epoch at which the view stands: it shows the tables as they were after so many writes.
     pub fn epoch(&self) -> u64
         ensures { result ≡ self.now.kept.state.epoch }
     {
@@ -155,14 +155,15 @@ impl View {
     }
 
     /// Takes in the write that the view was made ready for, which is one of a table that it does not read where nothing
-    /// waits. It cannot fail, and takes no memory.
-    pub fn commit(&mut self, pending: Option<Pending>, epoch: u64)
-        requires { CanTake self.old pending }
-        ensures { HasTaken epoch self.old pending self.new }
+    /// waits, and goes one epoch on. It cannot fail, and takes no memory.
+    pub fn commit(&mut self, pending: Option<Pending>)
+        requires can { CanTake self.old pending }
+        requires range { self.old.kept.state.epoch < 2 ^ 64 - 1 }
+        ensures { HasTaken self.old pending self.new }
     {
         match pending {
-            Some(pending) => self.state.commit(pending, epoch),
-            None => self.state.advance(epoch),
+            Some(pending) => self.state.commit(pending),
+            None => self.state.advance(),
         }
     }
 }

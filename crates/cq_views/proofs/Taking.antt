@@ -29,8 +29,8 @@ use Rattle.cq_deltas_joins.specs.Steps.{AreStored, span}
 use Rattle.cq_table_columns.specs.declared.stored_source.StoredSource.{StoredSource}
 use Rattle.cq_views_state.proofs.SameBags.{standing-by_sources}
 use Rattle.cq_views_model.specs.Query.{CanBeKept}
-use Rattle.cq_views_state.specs.State.{AreBags, AreAsTold, CanPrepare, HoldStored, IsWaiting, SameView, StandsFor, TakesIn}
-use Rattle.cq_views_state.specs.declared.state.Pending.{Pending}
+use Rattle.cq_views_state.specs.Build.{Gains}
+use Rattle.cq_views_state.specs.State.{AreBags, AreAsTold, CanPrepare, HoldStored, StandsFor}
 use Rattle.cq_views_state.specs.declared.state.ViewState.{ViewState}
 use Rattle.cq_model_bags.proofs.Lists.{all-both, all-of}
 
@@ -229,16 +229,15 @@ module _ (v : ViewState) (source : Source) (rows : List Row) (once : Weighted) (
       stored : (s : Source) → AreStored (only source (once_each rows) s) → AreStored (only source once s)
       stored s all = by_test (same_source source s) (λ k. rw k (stored-merged once (once_each rows) clean same (rw k at all))) (λ k. rw k tt)
 
-  -- what was prepared of them and put in are they
-  pub copies-filled : (w x : ViewState) (pending : Pending) → SameView v w → IsWaiting v (only source once) w pending → TakesIn w pending x → x.query ≡ w.query → x.widths ≡ w.widths → x.epoch ≡ v.epoch → x.built ≡ w.built
-      → Fills (only source (once_each rows)) v x
-  copies-filled w x pending still waits takes query widths epoch built =
-      fills-same v x (only source once) (only source (once_each rows)) (record { at = alike }) copies-wide (record {
-        query = query ∙ still.query;
-        widths = widths ∙ still.widths;
-        epoch = epoch;
-        built = built ∙ still.built;
-        stands = λ tables stands bags wide. takes tables (only source once) (still.stands tables stands) (waits tables stands wide) (bags-changed tables (only source once) bags copies-bags);
+  -- where the copies were taken in, they are
+  pub copies-filled : (w : ViewState) → Gains (only source once) v w → Fills (only source (once_each rows)) v w
+  copies-filled w gains =
+      fills-same v w (only source once) (only source (once_each rows)) (record { at = alike }) copies-wide (record {
+        query = gains.query;
+        widths = gains.widths;
+        epoch = gains.epoch;
+        built = gains.built;
+        stands = λ tables stands bags wide. gains.stands tables stands wide (bags-changed tables (only source once) bags copies-bags);
       })
     where
       copies-bags : AreBags (only source once)

@@ -1,7 +1,7 @@
 //! What a write changes in a table, cut to the columns that a query reads.
 //!
-//! A [`TableChange`] lends the rows that leave a table and those that come to it. It is made once for a write and shown to
-//! each view; a view that reads the table copies the columns of them that it reads, and no other view pays for it.
+//! A [`TableChange`] lends the rows that leave a table and those that come to it. It is made anew for each view that takes
+//! the write in and reads the table; the view copies the columns of them that it reads. For no other view is it made.
 ghost use Rattle.std.specs.Prelude.{◌≡◌, IfOk, OnOk, length, nat_abs};
 ghost use Rattle.cq_deltas_joins.specs.Sources.{rows_at};
 ghost use Rattle.cq_segments_pieces.specs.Rows.{stored_rows};

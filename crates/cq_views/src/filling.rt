@@ -12,7 +12,7 @@ use cq_model::{Query, Source};
 use cq_table_columns::{Front, Stored, StoredSource};
 use cq_values::both;
 use cq_views_columns::SourceColumns;
-use cq_views_state::ViewState;
+use cq_views_state::{ViewBuild, ViewState};
 use std::alloc::{AllocError, Global};
 
 /// The state of a query over the rows of tables that are cut to its columns. It counts no work.
@@ -28,10 +28,7 @@ pub(crate) fn filled(
 {
     let mut view = empty(alloc, query, columns, epoch)?;
     match fill(alloc, &mut view, columns, tables) {
-        Ok(()) => {
-            view.restart();
-            Ok(view)
-        }
+        Ok(()) => Ok(view.finish(alloc)),
         Err(fault) => {
             drop(view);
             Err(fault)
@@ -39,13 +36,13 @@ pub(crate) fn filled(
     }
 }
 
-/// The state of a query over no rows, which are to be cut to its columns.
+/// What builds the state of a query, over no rows, which are to be cut to its columns.
 fn empty(
     alloc: Global,
     query: Query,
     columns: &[SourceColumns],
     epoch: u64,
-) -> Result<ViewState, AllocError>
+) -> Result<ViewBuild, AllocError>
     ensures query { IfOk result (λ v. v.query ≡ query) }
     ensures widths { IfOk result (λ v. v.widths ≡ cut_widths columns.now query) }
     ensures epoch { IfOk result (λ v. v.epoch ≡ epoch) }
@@ -54,14 +51,14 @@ fn empty(
 {
     let widths = cut_widths(alloc, columns, &query);
     let (query, widths) = both(query, widths)?;
-    ViewState::empty(alloc, query, widths, epoch)
+    ViewBuild::empty(alloc, query, widths, epoch)
 }
 
 /// Takes in the rows of tables, those of the last one first. The first one is mostly the largest: its rows come when the
 /// others are there, so that no step adds many joined rows.
 fn fill(
     alloc: Global,
-    view: &mut ViewState,
+    view: &mut ViewBuild,
     columns: &[SourceColumns],
     tables: &[StoredSource],
 ) -> Result<(), AllocError>
@@ -80,7 +77,7 @@ fn fill(
 /// Takes in the rows of one table.
 fn fill_own(
     alloc: Global,
-    view: &mut ViewState,
+    view: &mut ViewBuild,
     columns: &[SourceColumns],
     table: &StoredSource,
 ) -> Result<(), AllocError>
@@ -102,7 +99,7 @@ fn fill_own(
 /// Takes in the rows of a source, some at a time.
 fn fill_from(
     alloc: Global,
-    view: &mut ViewState,
+    view: &mut ViewBuild,
     source: Source,
     columns: &[usize],
     rows: &Stored,
@@ -122,7 +119,7 @@ fn fill_from(
 /// Takes in rows of a source, no more of them than are copied at once.
 fn fill_with(
     alloc: Global,
-    view: &mut ViewState,
+    view: &mut ViewBuild,
     source: Source,
     columns: &[usize],
     front: &Front,
@@ -134,8 +131,5 @@ fn fill_with(
     let rows = cut_once(alloc, columns, front)?;
     let mut changes = Vec::new(alloc);
     changes.push(SourceRows { source, rows })?;
-    let pending = view.prepare(alloc, changes)?;
-    let epoch = view.epoch();
-    view.commit(pending, epoch);
-    Ok(())
+    view.take_in(alloc, changes)
 }

@@ -5,7 +5,7 @@
 //! a write of another table by `advance` alone. A write costs its own rows and the pairs that they meet in the joins, and
 //! `rows` what the view holds behind them.
 ghost use Rattle.std.specs.List.{AllByRecursion};
-ghost use Rattle.std.specs.Prelude.{◌<◌, ◌≡◌, ◌^◌, IfErr, IfOk, OnOk, sum};
+ghost use Rattle.std.specs.Prelude.{◌+◌, ◌-◌, ◌<◌, ◌≡◌, ◌^◌, IfErr, IfOk, OnOk, sum};
 ghost use Rattle.cq_model.specs.declared.fault.ShowFault.TheVariants.{SumOutOfRange};
 ghost use Rattle.cq_views.specs.Changes.{changes_of};
 ghost use Rattle.cq_views.specs.Shown.{AreRowsOf, CanShow, IsNotShown, IsShown};
@@ -16,7 +16,7 @@ ghost use Rattle.cq_model.specs.Sizes.{column_sizes};
 ghost use Rattle.cq_sides.specs.Ticks.{counted};
 ghost use Rattle.cq_views.specs.Filling.{bags_at};
 ghost use Rattle.cq_views_model.specs.Query.{CanBeKept, reads};
-ghost use Rattle.cq_views_state.specs.State.{CanStart};
+ghost use Rattle.cq_views_state.specs.State.{CanStart, further};
 ghost use Rattle.cq_views_state.specs.Work.{CountsPut, work_of};
 
 use crate::changes::{TableChange, cut_change};
@@ -75,7 +75,7 @@ impl KeptView {
         &self.query
     }
 
-    /// How many writes there were when the view last took one in.
+    /// The epoch at which the view stands: it shows the tables as they were after so many writes.
     pub fn epoch(&self) -> u64
         ensures { result ≡ self.now.state.epoch }
     {
@@ -130,25 +130,27 @@ impl KeptView {
         self.state.prepare(alloc, cut)
     }
 
-    /// Puts changes in that wait. It takes no memory, and cannot fail.
-    pub fn commit(&mut self, pending: Pending, epoch: u64)
-        requires { CanCommit self.old pending }
+    /// Puts changes in that wait, and goes one epoch on. It takes no memory, and cannot fail.
+    pub fn commit(&mut self, pending: Pending)
+        requires can { CanCommit self.old pending }
+        requires range { self.old.state.epoch < 2 ^ 64 - 1 }
         ensures query { self.new.query ≡ self.old.query }
         ensures widths { self.new.widths ≡ self.old.widths }
-        ensures epoch { self.new.state.epoch ≡ epoch }
+        ensures epoch { self.new.state.epoch ≡ self.old.state.epoch + 1 }
         ensures built { self.new.state.built ≡ self.old.state.built }
         ensures takes { TakesIn self.old pending self.new }
         ensures counts { CountsPut self.old.state pending self.new.state }
     {
-        self.state.commit(pending, epoch);
+        self.state.commit(pending);
     }
 
-    /// Takes in writes of other tables.
-    pub fn advance(&mut self, epoch: u64)
-        ensures epoch { self.new ≡ record self.old { state = record self.old.state { epoch = epoch } } }
+    /// Takes in a write of another table.
+    pub fn advance(&mut self)
+        requires { self.old.state.epoch < 2 ^ 64 - 1 }
+        ensures epoch { self.new ≡ record self.old { state = further self.old.state } }
         ensures stands { StaysStanding self.old self.new }
     {
-        self.state.advance(epoch);
+        self.state.advance();
     }
 
     /// The rows of the view, in no order that is promised. It costs what the view holds, and no table is read.

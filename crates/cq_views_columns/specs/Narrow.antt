@@ -102,7 +102,7 @@ abbrev pub IsLessWork : Query → NarrowQuery → Tables → Tables → Type 0
 IsLessWork query new tables changes =
     joins_work new.query (narrowed_bags new.columns tables) (narrowed_bags new.columns changes) ≤ joins_work query tables changes
 
--- it reads the same columns alone, has the same bag over the narrower rows with no more work, and is kept and shown wherever the query is
+-- it reads the same columns alone, has the same bag over the narrower rows, where its joins do no more work, and is kept and shown wherever the query is
 pub record IsNarrowOf (query : Query) (widths : List ℕ) (new : NarrowQuery) : Type 0 where
   pub columns : new.columns ≡ sources_read query widths (sources_of query) widths
   pub bag : (tables : Tables) → HaveColumns query widths tables → meaning new.query (narrowed_bags new.columns tables) ≡ meaning query tables

@@ -20,9 +20,10 @@ use Rattle.cq_views_state.proofs.Behind.{seen-stands}
 use Rattle.cq_views_state.proofs.Joining.{all-sources, chain-kept, chain-narrow, chain-sources, same-chain}
 use Rattle.cq_views_state.proofs.Filtering.{given-filtered, passes}
 use Rattle.cq_views_state.proofs.Limits.{rows-few, rows-stored}
+use Rattle.cq_views_state.specs.Build.{Gains}
 use Rattle.cq_views_state.specs.Last.{CanTakeIn, GoesOn, IsChangeOf, kept_rows, seen}
 use Rattle.cq_views_model.specs.Query.{aggregates_of}
-use Rattle.cq_views_state.specs.State.{AreAsTold, CanPrepare, IsWaiting, SameView, StandsFor, TakesIn}
+use Rattle.cq_views_state.specs.State.{AreAsTold, CanPrepare, IsWaiting, SameView, StandsFor, TakesIn, further}
 use Rattle.cq_views_state.specs.declared.last.Last.{Last as Stored}
 use Rattle.cq_views_state.specs.declared.last.LastChange.{LastChange}
 use Rattle.cq_views_state.specs.declared.state.Pending.{Pending}
@@ -120,12 +121,29 @@ module _ (v : ViewState) (c : Chain) (l : Stored) where
   }
 
   -- with what waited put in, the view stands for the changed tables
-  pub all-taken : (pending : Pending) (epoch : ℕ) → Takes v.chain pending.waiting.joins.items c → GoesOn v.last pending.change l
-      → TakesIn v pending (record v { epoch = epoch; chain = c; last = l })
-  all-taken pending epoch takes on = λ tables changes stands waits bags. record {
+  pub all-taken : (pending : Pending) → Takes v.chain pending.waiting.joins.items c → GoesOn v.last pending.change l
+      → TakesIn v pending (record v { chain = c; last = l })
+  all-taken pending takes on = λ tables changes stands waits bags. record {
     is_of = same-chain v.query v.widths v.chain c takes.first takes.condition takes.joins stands.is_of;
     sides = takes.stands tables changes stands.sides waits.sides;
     last =
         on v.query (joined_rows v.query tables) waits.rows (joined_rows v.query (changed tables changes)) waits.last waits.given
         (joined_rows-bag v.query (changed tables changes) bags) stands.last;
   }
+
+-- so it does one epoch on
+pub taken-further : (v w : ViewState) (pending : Pending) → TakesIn v pending w → TakesIn v pending (further w)
+taken-further v w pending takes tables changes stands waits bags =
+    let all = takes tables changes stands waits bags in
+    record { is_of = all.is_of; sides = all.sides; last = all.last }
+
+-- what was prepared of changes and then put in is gained
+pub gained : (v : ViewState) (changes : Tables) (w x : ViewState) (pending : Pending) → SameView v w → IsWaiting v changes w pending → TakesIn w pending x
+    → x.query ≡ w.query → x.widths ≡ w.widths → x.epoch ≡ v.epoch → x.built ≡ w.built → Gains changes v x
+gained v changes w x pending still waits takes query widths epoch built = record {
+  query = query ∙ still.query;
+  widths = widths ∙ still.widths;
+  epoch = epoch;
+  built = built ∙ still.built;
+  stands = λ tables stands wide bags. takes tables changes (still.stands tables stands) (waits tables stands wide) bags;
+}

@@ -1,3 +1,4 @@
+pub mod Build
 pub mod Counting
 pub mod GroupLaws
 pub mod Grouping

@@ -1,5 +1,5 @@
 -- A view as it is kept, the tables that it stands for, and what changes of them do.
-use Rattle.std.specs.Prelude.{◌≡◌, ◌≤◌, ◌*◌, ◌^◌, ℕ, List, [], ◌∷◌, ◌++◌, map}
+use Rattle.std.specs.Prelude.{◌≡◌, ◌≤◌, ◌+◌, ◌*◌, ◌^◌, ℕ, List, [], ◌∷◌, ◌++◌, map}
 use Rattle.std.specs.List.{AllByRecursion, AllZip}
 use Rattle.cq_model_bags.specs.Bag.{Weighted, SameBag, IsBag}
 use Rattle.cq_views_model.specs.Delta.{changed}
@@ -63,6 +63,10 @@ pub record CanPrepare (v : ViewState) (changes : Tables) : Type 0 where
   pub wide : AreAsTold v tables changes
   pub few : spans tables changes (sources_of v.query) ≤ 2 ^ 122
   pub stored : HoldStored v.query tables × HoldStored v.query changes
+
+-- the view one epoch on
+abbrev pub further : ViewState → ViewState
+further v = record v { epoch = v.epoch + 1 }
 
 -- a view stands for what it stood for
 abbrev pub StaysStanding : ViewState → ViewState → Type 0

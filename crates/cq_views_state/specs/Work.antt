@@ -20,7 +20,7 @@ pub record CountsRows (old : ViewState) (changes : Tables) (new : ViewState) : T
   pub once : IsClean rows
   pub counts : new.ticks ≡ counted old.ticks (length rows)
 
--- where changes were put in that waited, each entry that the sides took counted one, and nothing else
+-- where changes were put in that waited, the sides counted the entries that they took, and no row was counted behind the joins
 pub record CountsPut (ready : ViewState) (pending : Pending) (new : ViewState) : Type 0 where
   pub entries : CountsEntries ready.chain pending.waiting.joins.items new.chain
   pub more : all_ticks ready.chain.steps.items ≤ all_ticks new.chain.steps.items

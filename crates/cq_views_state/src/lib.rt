@@ -5,11 +5,11 @@
 //! side holds a row that fails it. Changes of the tables go in by two steps: [`ViewState::prepare`] works out what
 //! they change, from the stored sides and the changes alone, and makes all growth; [`ViewState::commit`] puts it in,
 //! takes no memory and cannot fail. Then the view stands for the changed tables, and [`ViewState::rows`] shows its
-//! query's bag, in rows whose numbers are within [`column_sizes`]. A view starts without rows, as
-//! [`ViewState::empty`] makes it; those of its tables go in by the same two steps, and then [`ViewState::restart`] counts
-//! no work of them.
+//! query's bag, in rows whose numbers are within [`column_sizes`]. A view starts as a [`ViewBuild`] without rows, which
+//! takes those of its tables in; [`ViewBuild::finish`] gives the view, and counts no work of them.
 #![tactic(auto)]
 
+mod build;
 mod columns;
 mod grouping;
 mod imaging;
@@ -21,6 +21,7 @@ mod showing;
 mod state;
 mod whole_rows;
 
+pub use build::ViewBuild;
 pub use columns::column_sizes;
 pub use laws::{counts_are_within_work, counts_rise_where_changed, standing_depends_on_sources};
 pub use query::reads;

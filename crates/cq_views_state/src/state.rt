@@ -1,11 +1,11 @@
 //! The state that is kept of a view's query: the sides of its joins, and what stands behind them.
 //!
-//! Made by `empty`, it stands for no rows. Changes of its tables go in by `prepare`, which makes all growth and may fail,
-//! and `commit` with what that gave, which cannot; between the two nothing is shown of them. `advance` counts a write of
-//! other tables alone, and `restart` ends a build. A change costs its own rows and the pairs that they meet, `rows` what is
-//! held behind the joins, and all else the same whatever is held.
+//! Changes of its tables go in by `prepare`, which makes all growth and may fail, and `commit` with what that gave, which
+//! cannot; between the two nothing is shown of them. `advance` counts a write of other tables alone. No public call lowers
+//! a count. A change costs its own rows and the pairs that they meet, `rows` what is held behind the joins, and all else the
+//! same whatever is held.
 ghost use Rattle.std.specs.List.{AllByRecursion};
-ghost use Rattle.std.specs.Prelude.{◌≡◌, ◌≤◌, IfErr, IfOk, OnErr, OnOk, length};
+ghost use Rattle.std.specs.Prelude.{◌+◌, ◌-◌, ◌<◌, ◌≡◌, ◌≤◌, ◌^◌, IfErr, IfOk, OnErr, OnOk, length};
 ghost use Rattle.cq_deltas_joins.specs.Chains.{nothing};
 ghost use Rattle.cq_deltas_joins.specs.Sources.{rows_at};
 ghost use Rattle.cq_deltas_joins.specs.Work.{CountsPairs};
@@ -16,7 +16,7 @@ ghost use Rattle.cq_model.specs.Views.{sources_of};
 ghost use Rattle.cq_sides.specs.Ticks.{counted};
 ghost use Rattle.cq_views_state.specs.Shown.{AreRowsOf, CanShow, IsNotShown, IsShown};
 ghost use Rattle.cq_views_state.specs.Work.{CountsPut, CountsRows, work_of};
-ghost use Rattle.cq_views_state.specs.State.{CanCommit, CanPrepare, IsWaiting, SameView, StandsFor, StaysStanding, TakesIn};
+ghost use Rattle.cq_views_state.specs.State.{CanCommit, CanPrepare, IsWaiting, SameView, StandsFor, StaysStanding, TakesIn, further};
 
 use crate::grouping::stream_groups;
 use crate::imaging::stream_images;
@@ -53,7 +53,7 @@ pub struct Pending {
 impl ViewState {
     /// The view of this query over tables without rows. The rows of what FROM names will have so many columns, in its
     /// order.
-    pub fn empty(
+    pub(crate) fn empty(
         alloc: Global,
         query: Query,
         widths: Seq<usize>,
@@ -87,7 +87,7 @@ impl ViewState {
         }
     }
 
-    /// How many writes there were when the view last took one in.
+    /// The epoch at which the view stands: it shows the tables as they were after so many writes.
     pub fn epoch(&self) -> u64
         ensures { result ≡ self.now.epoch }
     {
@@ -107,18 +107,6 @@ impl ViewState {
         ensures { result ≡ counted 0 (work_of self.now) }
     {
         self.chain.ticks().saturating_add(self.ticks)
-    }
-
-    /// Ends a build. What the view took in so far counts as no work, since it is none of its changes, and groups are put
-    /// in order, in which most of them stay.
-    pub fn restart(&mut self)
-        ensures same { SameView self.old self.new }
-        ensures uncounted { work_of self.new ≡ 0 }
-    {
-        self.chain.restart();
-        self.ticks = 0;
-        // The order is no promise: where memory is short, the groups stay as they are.
-        let _ = self.last.sort();
     }
 
     /// Works out what changes of the tables change, from the stored sides and the changes alone, and makes all growth
@@ -153,12 +141,27 @@ impl ViewState {
         }
     }
 
-    /// Puts changes in that wait. It takes no memory, and cannot fail.
-    pub fn commit(&mut self, pending: Pending, epoch: u64)
+    /// Puts changes in that wait, and goes one epoch on. It takes no memory, and cannot fail.
+    pub fn commit(&mut self, pending: Pending)
+        requires can { CanCommit self.old pending }
+        requires range { self.old.epoch < 2 ^ 64 - 1 }
+        ensures query { self.new.query ≡ self.old.query }
+        ensures widths { self.new.widths ≡ self.old.widths }
+        ensures epoch { self.new.epoch ≡ self.old.epoch + 1 }
+        ensures built { self.new.built ≡ self.old.built }
+        ensures takes { TakesIn self.old pending self.new }
+        ensures counts { CountsPut self.old pending self.new }
+    {
+        self.put(pending);
+        self.epoch += 1;
+    }
+
+    /// Puts changes in that wait, at the same epoch.
+    pub(crate) fn put(&mut self, pending: Pending)
         requires { CanCommit self.old pending }
         ensures query { self.new.query ≡ self.old.query }
         ensures widths { self.new.widths ≡ self.old.widths }
-        ensures epoch { self.new.epoch ≡ epoch }
+        ensures epoch { self.new.epoch ≡ self.old.epoch }
         ensures built { self.new.built ≡ self.old.built }
         ensures takes { TakesIn self.old pending self.new }
         ensures counts { CountsPut self.old pending self.new }
@@ -166,15 +169,15 @@ impl ViewState {
         let Pending { waiting, change } = pending;
         self.chain.take(waiting);
         self.last.commit(change);
-        self.epoch = epoch;
     }
 
-    /// Takes in writes of other tables.
-    pub fn advance(&mut self, epoch: u64)
-        ensures epoch { self.new ≡ record self.old { epoch = epoch } }
+    /// Takes in a write of another table.
+    pub fn advance(&mut self)
+        requires { self.old.epoch < 2 ^ 64 - 1 }
+        ensures epoch { self.new ≡ further self.old }
         ensures stands { StaysStanding self.old self.new }
     {
-        self.epoch = epoch;
+        self.epoch += 1;
     }
 
     /// The rows of the view, in no order that is promised. It costs what the view holds, and no table is read.
@@ -186,5 +189,33 @@ impl ViewState {
         ensures fault { IfErr result (λ e. e ≡ SumOutOfRange → IsNotShown self.now) }
     {
         shown_rows(alloc, &self.query, &self.last)
+    }
+
+    /// The same view with no work counted, and with groups in order, in which most of them stay.
+    pub(crate) fn uncounted(self, alloc: Global) -> ViewState
+        ensures same { SameView self result }
+        ensures uncounted { work_of result ≡ 0 }
+    {
+        let ViewState {
+            query,
+            widths,
+            epoch,
+            built,
+            chain,
+            last,
+            ticks: _,
+        } = self;
+        let mut last = last;
+        // The order is no promise: where memory is short, the groups stay as they are.
+        let _ = last.sort();
+        ViewState {
+            query,
+            widths,
+            epoch,
+            built,
+            chain: chain.uncounted(alloc),
+            last,
+            ticks: 0,
+        }
     }
 }

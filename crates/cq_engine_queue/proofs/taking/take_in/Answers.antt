@@ -21,8 +21,8 @@ returns-then-not-is_on-clause-ok c =
     let v = c.args.view.now in
     let change = c.args.change.now in
     let none : reads change.table v.kept.query ≡ false = search rules in
-    takes c.standing_depends_on_sources.ensures c.counts_are_within_work.ensures c.counts_rise_where_changed.ensures change (v.kept.state.epoch + 1) v v c.commit.new.self None refl (same_itself v) (λ tables stands. none) refl
-    (rw c.epoch-epoch.ensures at c.commit.ensures)
+    takes c.standing_depends_on_sources.ensures c.counts_are_within_work.ensures c.counts_rise_where_changed.ensures change v v c.commit.new.self None (same_itself v) (λ tables stands. none) refl
+    c.commit.ensures
 
 pub returns-in_err-gone-clause-err : goal.returns-in_err-gone-clause-err
 returns-in_err-gone-clause-err c = refused c.from_residual.result (same_itself c.args.view.now)
@@ -60,5 +60,5 @@ returns-clause-ok c =
     let own : IsReadyFor change.table (changes_by change) v w p =
     subst (λ (rows : Weighted). IsReadyFor change.table (only (Table change.table) rows) v w p) (sym c.in_ok-gone.ensures) ready in
     let counts : CountsReady (changes_by change) v w p = subst (λ (rows : Weighted). CountsReady (only (Table change.table) rows) v w p) (sym c.in_ok-gone.ensures) counted in
-    takes c.standing_depends_on_sources.ensures c.counts_are_within_work.ensures c.counts_rise_where_changed.ensures change (v.kept.state.epoch + 1) v w c.commit-2.new.self p refl c.in_ok-pending.ensures.same own counts
-    (rw c.epoch-epoch.ensures at c.commit-2.ensures)
+    takes c.standing_depends_on_sources.ensures c.counts_are_within_work.ensures c.counts_rise_where_changed.ensures change v w c.commit-2.new.self p c.in_ok-pending.ensures.same own counts
+    c.commit-2.ensures

@@ -1,5 +1,5 @@
-use Rattle.cq_views_state.proofs.Standing.{all-taken}
+use Rattle.cq_views_state.proofs.Standing.{taken-further}
 use Rattle.cq_views_state.proofs.state.ViewState.commit.Goals as goal
 
 pub returns-clause-takes : goal.returns-clause-takes
-returns-clause-takes c = all-taken c.args.self.now c.take.new.self c.commit.new.self c.args.pending c.args.epoch c.take.ensures.takes c.commit.ensures
+returns-clause-takes c = taken-further c.args.self.now c.put.new.self c.args.pending c.put.ensures.takes

@@ -1,7 +1,0 @@
-use Rattle.cq_views_state.proofs.Standing.{same-view}
-use Rattle.cq_views_model.specs.Query.{aggregates_of}
-use Rattle.cq_views_state.proofs.state.ViewState.restart.Goals as goal
-
-pub returns-clause-same : goal.returns-clause-same
-returns-clause-same c =
-    same-view c.args.self.now c.restart.new.self c.sort.new.self c.restart.ensures.still (c.sort.ensures (aggregates_of c.args.self.now.query)) 0
