@@ -1,19 +1,19 @@
 //! Scripts on two engines.
+use crate::answers::check_alike;
+use crate::counts::Counts;
 use crate::difference::Difference;
 use crate::plain_engine::PlainEngine;
+use crate::standing::compare_views;
 use cq_binder::bind;
 use cq_binder_rules::{Bound, Fault};
 use cq_cli::NoSources;
 use cq_engine::{Engine, Limits};
 use cq_model_step::Answer;
 use cq_sql::{parse, split};
-use cq_test_plain::PlainFault;
-use cq_values::Row;
-use cq_values_rows::{LentRow, RowList};
 use std::alloc::Global;
 
-/// How many queries of a script both engines answer alike, or the first statement that sets them apart.
-pub(crate) fn compare(alloc: Global, script: &str) -> Result<u64, (&str, Difference)> {
+/// What of a script was compared and is alike on both engines, or the first statement that sets them apart.
+pub(crate) fn compare(alloc: Global, script: &str) -> Result<Counts, (&str, Difference)> {
     let limits = Limits {
         max_rows: Limits::MAX_ROWS,
     };
@@ -31,21 +31,35 @@ fn compare_on<'s>(
     engine: &mut Engine,
     plain: &mut PlainEngine,
     script: &'s str,
-) -> Result<u64, (&'s str, Difference)> {
-    let mut queries = 0u64;
+) -> Result<Counts, (&'s str, Difference)> {
+    let mut counts = Counts::new();
     for piece in split(script) {
         if !piece.blank {
-            match carry_out(alloc, engine, plain, piece.text) {
-                Ok(true) => queries = queries.saturating_add(1),
-                Ok(false) => {}
+            match compare_at(alloc, engine, plain, piece.text, &mut counts) {
+                Ok(()) => {}
                 Err(difference) => return Err((piece.text, difference)),
             }
         }
     }
-    Ok(queries)
+    Ok(counts)
 }
 
-/// Carries a statement out on both, and tells whether it is a query. A table is created under the number that is drawn.
+/// Carries a statement out on both, and compares what they answer and the views behind it.
+fn compare_at(
+    alloc: Global,
+    engine: &mut Engine,
+    plain: &mut PlainEngine,
+    text: &str,
+    counts: &mut Counts,
+) -> Result<(), Difference> {
+    if carry_out(alloc, engine, plain, text)? {
+        counts.add_query();
+    }
+    compare_views(alloc, engine, plain, counts)
+}
+
+/// Carries a statement out on both, and tells whether it is a query, which both answer alike. A table is created under
+/// the number that is drawn.
 fn carry_out(
     alloc: Global,
     engine: &mut Engine,
@@ -83,7 +97,8 @@ fn follow(
         drop(answer);
         drop(meant);
         drop(bound);
-        return compared;
+        compared?;
+        return Ok(true);
     }
     match answer.err() {
         None => {
@@ -95,36 +110,4 @@ fn follow(
             Err(Difference::Refused(fault))
         }
     }
-}
-
-/// Whether both answer the same rows, or both refuse a total; else that they do not.
-fn check_alike(
-    answer: &Result<Answer, Fault>,
-    meant: &Result<Vec<Row>, PlainFault>,
-) -> Result<bool, Difference> {
-    match (answer, meant) {
-        (Err(Fault::SumOutOfRange), Err(PlainFault::SumOutOfRange)) => Ok(true),
-        (Ok(Answer::Rows { rows, .. }), Ok(meant)) => {
-            if are_meant(rows, meant) {
-                Ok(true)
-            } else {
-                Err(Difference::Answer)
-            }
-        }
-        (Err(fault), _) => Err(Difference::Refused(*fault)),
-        (_, Err(fault)) => Err(Difference::NotWorkedOut(*fault)),
-        _ => Err(Difference::Answer),
-    }
-}
-
-fn are_meant(rows: &RowList, meant: &[Row]) -> bool {
-    if rows.len() != meant.len() {
-        return false;
-    }
-    for (place, row) in meant.iter().enumerate() {
-        if rows.row(place).cmp(&LentRow::of(row.as_slice())).is_ne() {
-            return false;
-        }
-    }
-    true
 }

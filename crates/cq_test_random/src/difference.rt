@@ -18,6 +18,12 @@ pub(crate) enum Difference {
     NotWorkedOut(PlainFault),
     #[error("answered otherwise")]
     Answer,
+    #[error("other writes are counted")]
+    Writes,
+    #[error("view {0} stands at another epoch")]
+    Epoch(u64),
+    #[error("view {0} is not its query at its epoch")]
+    View(u64),
 }
 
 impl From<AllocError> for Difference {

@@ -1,17 +1,24 @@
 //! Carries scripts out on an engine and, beside it, by the plain evaluator over lists of rows, and tells for each how many
-//! queries both answered alike. Views are kept by the engine and worked out anew beside it.
+//! queries both answered alike. Views are kept by the engine and worked out anew beside it: behind each statement every
+//! view is compared with its query on the tables as they were at the epoch that it stands at. How many such epochs views
+//! came to is told, and how many of them were below the present.
 #![tactic(auto)]
 
+mod answers;
 mod compared;
+mod counts;
 mod difference;
 mod plain_engine;
+mod plain_table;
+mod plain_view;
+mod standing;
 
 use compared::compare;
 use std::io::{BufWriter, Write};
 use std::process::ExitCode;
 use std::{fs, io};
 
-const SCRIPTS: [&str; 9] = [
+const SCRIPTS: [&str; 10] = [
     "conditions.sql",
     "groups.sql",
     "joins.sql",
@@ -19,6 +26,7 @@ const SCRIPTS: [&str; 9] = [
     "long-tables.sql",
     "movers.sql",
     "self-joined-views.sql",
+    "standing-views.sql",
     "views.sql",
     "waiting-views.sql",
 ];
@@ -41,7 +49,11 @@ fn compare_all(rt: &HostRuntime) -> io::Result<bool> {
     for name in &SCRIPTS {
         let script = fs::read_to_string(rt, name)?;
         match compare(rt.alloc(), script.as_str()) {
-            Ok(count) => writeln!(out, "{name}: {count} queries answered alike")?,
+            Ok(counts) => writeln!(
+                out,
+                "{name}: {} queries answered alike, views at {} epochs, {} of these below the present",
+                counts.queries, counts.epochs, counts.earlier
+            )?,
             Err((statement, difference)) => {
                 is_alike = false;
                 writeln!(out, "{name}: {difference}: {}", statement.trim())?;

@@ -1,63 +1,97 @@
 //! Tables as lists of rows, and views that are worked out anew, by the plain evaluator.
 //!
-//! A [`PlainEngine`] is given each command that the engine has carried out, in the same order, and each query after it. A
-//! query of a view costs what the view's query costs over whole tables.
+//! A [`PlainEngine`] is given each command that the engine has carried out, in the same order, and each query after it. It
+//! knows at which epoch each view stands, and keeps what tables were there. A view costs what its query costs over whole
+//! tables, once for each epoch that it comes to.
+use crate::plain_table::{PlainTable, lent_at};
+use crate::plain_view::PlainView;
 use cq_binder_rules::Bound;
-use cq_model::{Assignment, Cond, Order, Query, Source};
-use cq_test_plain::{Lent, PlainFault, answer_on, left_by, listing, updated};
-use cq_values::Row;
-use cq_writestore_rows::NewRows;
+use cq_model::{Order, Query, Source};
+use cq_test_plain::{Lent, PlainFault, answer_on, listing};
+use cq_values::{Row, Text};
 use std::alloc::{AllocError, Global};
 
-/// The rows of each table under its number, and the commands that created the views, in the order of their places.
+/// How many writes there were, the tables, and the views in the order of their places.
 #[derive(Drop)]
 pub(crate) struct PlainEngine {
     alloc: Global,
-    tables: Vec<(u64, Vec<Row>)>,
-    views: Vec<Bound>,
+    writes: u64,
+    tables: Vec<PlainTable>,
+    views: Vec<PlainView>,
 }
 
 impl PlainEngine {
     pub(crate) fn new(alloc: Global) -> PlainEngine {
         PlainEngine {
             alloc,
+            writes: 0,
             tables: Vec::new(alloc),
             views: Vec::new(alloc),
         }
     }
 
-    /// Carries out a command that is no query. A table is created under this number.
-    pub(crate) fn carry_out(&mut self, command: Bound, number: u64) -> Result<(), PlainFault> {
-        if let Bound::CreateView { .. } = &command {
-            self.views.push(command)?;
-            return Ok(());
-        }
-        let done = self.write(&command, number);
-        drop(command);
-        done
+    pub(crate) fn writes(&self) -> u64 {
+        self.writes
     }
 
-    fn write(&mut self, command: &Bound, number: u64) -> Result<(), PlainFault> {
+    pub(crate) fn views_mut(&mut self) -> &mut Vec<PlainView> {
+        &mut self.views
+    }
+
+    /// Carries out a command that is no query. A table is created under this number.
+    pub(crate) fn carry_out(&mut self, command: Bound, number: u64) -> Result<(), PlainFault> {
+        match command {
+            Bound::CreateView {
+                name,
+                columns,
+                query,
+            } => {
+                drop(columns);
+                Ok(self.create_view(name, query)?)
+            }
+            other => {
+                let done = self.change(&other, number);
+                drop(other);
+                done
+            }
+        }
+    }
+
+    fn create_view(&mut self, name: Text, query: Query) -> Result<(), AllocError> {
+        let view = PlainView::new(self.alloc, &self.tables, name, query, self.writes);
+        self.views.push(view)?;
+        Ok(())
+    }
+
+    fn change(&mut self, command: &Bound, number: u64) -> Result<(), PlainFault> {
         match command {
             Bound::CreateTable { .. } => Ok(self.create_table(number)?),
+            Bound::DropTable(table) => {
+                self.drop_table(*table);
+                Ok(())
+            }
             Bound::DropView(place) => {
                 self.drop_view(*place);
                 Ok(())
             }
-            Bound::Insert { table, rows } => Ok(self.insert(*table, rows)?),
-            Bound::Delete { table, condition } => self.delete(*table, condition),
-            Bound::Update {
-                table,
-                assignments,
-                condition,
-            } => self.update(*table, assignments.as_slice(), condition),
+            Bound::Refresh { view, changes } => {
+                self.refresh(*view, *changes);
+                Ok(())
+            }
+            Bound::Insert { table, .. } => self.write(*table, command),
+            Bound::Delete { table, .. } => self.write(*table, command),
+            Bound::Update { table, .. } => self.write(*table, command),
             _ => Ok(()),
         }
     }
 
     fn create_table(&mut self, number: u64) -> Result<(), AllocError> {
-        self.tables.push((number, Vec::new(self.alloc)))?;
+        self.tables.push(PlainTable::new(self.alloc, number))?;
         Ok(())
+    }
+
+    fn drop_table(&mut self, number: u64) {
+        self.tables.retain(|table| !table.is_numbered(number));
     }
 
     fn drop_view(&mut self, place: usize) {
@@ -66,94 +100,71 @@ impl PlainEngine {
         }
     }
 
-    fn insert(&mut self, number: u64, rows: &NewRows) -> Result<(), AllocError> {
+    /// Takes the view at a place on by so many writes, or to the present.
+    fn refresh(&mut self, place: usize, changes: u128) {
+        let now = self.writes;
+        if place < self.views.len() {
+            let view = &mut self.views[place];
+            let to = further(view.epoch(), changes, now);
+            view.take_on(self.alloc, &self.tables, to);
+        }
+    }
+
+    /// Carries a write of a table out. Where there are views, the rows before it are kept for them.
+    fn write(&mut self, number: u64, command: &Bound) -> Result<(), PlainFault> {
         let alloc = self.alloc;
-        if let Some(held) = self.rows_of(number) {
-            let mut made = rows.copies(alloc)?;
-            held.append(&mut made)?;
+        let before = self.writes;
+        let is_kept = !self.views.is_empty();
+        self.writes = before.saturating_add(1);
+        if let Some(table) = self.table(number) {
+            if is_kept {
+                table.keep(alloc, before)?;
+            }
+            table.write(alloc, command)?;
         }
         Ok(())
     }
 
-    fn delete(&mut self, number: u64, filter: &Option<Cond>) -> Result<(), PlainFault> {
-        let alloc = self.alloc;
-        if let Some(held) = self.rows_of(number) {
-            *held = left_by(alloc, held, filter)?;
+    fn table(&mut self, number: u64) -> Option<&mut PlainTable> {
+        for place in 0..self.tables.len() {
+            if self.tables[place].is_numbered(number) {
+                return Some(&mut self.tables[place]);
+            }
         }
-        Ok(())
+        None
     }
 
-    fn update(
-        &mut self,
-        number: u64,
-        assignments: &[Assignment],
-        filter: &Option<Cond>,
-    ) -> Result<(), PlainFault> {
-        let alloc = self.alloc;
-        if let Some(held) = self.rows_of(number) {
-            *held = updated(alloc, held, assignments, filter)?;
-        }
-        Ok(())
-    }
-
-    /// The answer to a query.
-    pub(crate) fn answer(&self, query: &Query, order: &Order) -> Result<Vec<Row>, PlainFault> {
-        let shown = self.shown(query)?;
-        let answered = self.answer_over(&shown, query, order);
-        drop(shown);
-        answered
-    }
-
-    /// The answer to a query over the tables and these rows of the views.
-    fn answer_over(
-        &self,
-        shown: &[Vec<Row>],
-        query: &Query,
-        order: &Order,
-    ) -> Result<Vec<Row>, PlainFault> {
-        let mut sources = self.lent_tables()?;
-        for place in 0..shown.len() {
-            sources.push(Lent {
-                source: Source::View(place as u64),
-                rows: &shown[place],
-            })?;
+    /// The answer to a query, for which each view that it names is taken on to the present.
+    pub(crate) fn answer(&mut self, query: &Query, order: &Order) -> Result<Vec<Row>, PlainFault> {
+        self.take_on_named(query);
+        let mut sources = lent_at(self.alloc, &self.tables, self.writes)?;
+        for (place, view) in self.views.iter().enumerate() {
+            let source = Source::View(place as u64);
+            if is_named(query, source) {
+                let rows = view.rows()?;
+                sources.push(Lent { source, rows })?;
+            }
         }
         let rows = answer_on(self.alloc, &sources, query)?;
         Ok(listing(rows, order)?)
     }
 
-    /// The rows of each view that the query names, worked out from the tables, and none of the others.
-    fn shown(&self, query: &Query) -> Result<Vec<Vec<Row>>, PlainFault> {
-        let tables = self.lent_tables()?;
-        let mut shown = Vec::new(self.alloc);
-        for (place, view) in self.views.iter().enumerate() {
+    fn take_on_named(&mut self, query: &Query) {
+        let now = self.writes;
+        for (place, view) in self.views.iter_mut().enumerate() {
             if is_named(query, Source::View(place as u64)) {
-                shown.push(rows_of_view(self.alloc, &tables, view)?)?;
-            } else {
-                shown.push(Vec::new(self.alloc))?;
+                view.take_on(self.alloc, &self.tables, now);
             }
         }
-        Ok(shown)
     }
+}
 
-    fn lent_tables(&self) -> Result<Vec<Lent<'_>>, AllocError> {
-        let mut lent = Vec::new(self.alloc);
-        for (number, rows) in &self.tables {
-            lent.push(Lent {
-                source: Source::Table(*number),
-                rows,
-            })?;
-        }
-        Ok(lent)
-    }
-
-    fn rows_of(&mut self, number: u64) -> Option<&mut Vec<Row>> {
-        for place in 0..self.tables.len() {
-            if self.tables[place].0 == number {
-                return Some(&mut self.tables[place].1);
-            }
-        }
-        None
+/// So many epochs further, but not beyond the present.
+fn further(epoch: u64, changes: u128, now: u64) -> u64 {
+    if changes < u128::from(now.saturating_sub(epoch)) {
+        epoch.saturating_add(changes as u64)
+    } else {
+        now
     }
 }
 
@@ -165,16 +176,4 @@ fn is_named(query: &Query, source: Source) -> bool {
             .as_slice()
             .iter()
             .any(|join| join.source == source)
-}
-
-/// The rows of the view that this command created, worked out from the tables.
-fn rows_of_view(
-    alloc: Global,
-    tables: &[Lent<'_>],
-    command: &Bound,
-) -> Result<Vec<Row>, PlainFault> {
-    match command {
-        Bound::CreateView { query, .. } => answer_on(alloc, tables, query),
-        _ => Ok(Vec::new(alloc)),
-    }
 }

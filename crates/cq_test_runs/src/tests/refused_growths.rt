@@ -15,12 +15,12 @@ fn taken_in(engine: &Engine) -> u64 {
     engine.view_epoch("v").unwrap_or(0)
 }
 
-/// How many it may have taken in behind a statement that is refused: SELECT takes it to the present at most, a REFRESH of
-/// the script below one write further, and no other statement moves it.
+/// How many it may have taken in behind a statement that is refused: SELECT takes it to the present at most, its REFRESH
+/// one write further, and no other statement moves it.
 fn may_take_in(engine: &Engine, text: &str) -> u64 {
     if text.starts_with("SELECT") {
         engine.now()
-    } else if text.starts_with("REFRESH") {
+    } else if text.starts_with("REFRESH v 1") {
         taken_in(engine).saturating_add(1)
     } else {
         taken_in(engine)

@@ -171,19 +171,40 @@ fn one_refused_growth_of_a_write_changes_no_table_and_no_view(rt: HostRuntime) -
     written
 }
 
-/// Writes that wait, and views that are taken on by one, by two and by all of them.
+/// Writes that wait.
 const WAITING: &[Step] = &[
     ("INSERT INTO l VALUES (2, 11, 3), (3, 12, 5)", None),
     ("UPDATE l SET q = q + 1 WHERE o = 2", None),
     ("DELETE FROM l WHERE o = 1", None),
-    ("REFRESH turnover 1", None),
-    ("REFRESH pairs 2", None),
-    ("REFRESH bounds 3", None),
 ];
+
+/// To which epoch each view is taken on: by one of these writes, by two and by all of them.
+const GOALS: [(&str, u64); 3] = [("turnover", 4), ("pairs", 5), ("bounds", 6)];
+
+fn stands_at(engine: &Engine, view: &str) -> u64 {
+    engine.view_epoch(view).unwrap_or(0)
+}
+
+/// Takes a view on to an epoch, once more from where it stands where memory was wanting. It never goes back or beyond.
+fn take_on(rt: &impl Abort, engine: &mut Engine, view: &str, goal: u64) -> Result<(), Fail> {
+    let before = stands_at(engine, view);
+    match engine.refresh(view, u128::from(goal.saturating_sub(before))) {
+        Err(Fault::Memory) => {
+            let now = stands_at(engine, view);
+            assert!(rt; before <= now && now <= goal, "{view}");
+            engine.refresh(view, u128::from(goal.saturating_sub(now)))?;
+        }
+        first => first?,
+    }
+    Ok(())
+}
 
 fn wait_and_refresh(rt: &impl Abort, alloc: Global, engine: &mut Engine) -> Result<(), Fail> {
     carry_all(rt, alloc, engine, TABLES_AND_VIEWS)?;
     carry_all(rt, alloc, engine, WAITING)?;
+    for (view, goal) in GOALS {
+        take_on(rt, engine, view, goal)?;
+    }
     let behind = [Some(4), Some(5), Some(6)];
     assert!(rt; epochs(engine) == (6, behind));
     carry_all(rt, alloc, engine, DELETED)
