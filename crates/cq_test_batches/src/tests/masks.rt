@@ -54,10 +54,7 @@ fn unknown_everywhere_selects_nothing(rt: HostRuntime) {
         mask.negate();
         let mut selection = Selection::new();
         selection.set_true(&mask);
-        assert!(rt;
-            mask.len() == len && selection.len() == 0,
-            "length {len}"
-        );
+        assert!(rt; mask.len() == len && selection.len() == 0, "length {len}");
     }
 }
 
