@@ -137,6 +137,18 @@ impl PlainEngine {
     /// The answer to a query, for which each view that it names is taken on to the present.
     pub(crate) fn answer(&mut self, query: &Query, order: &Order) -> Result<Vec<Row>, PlainFault> {
         self.take_on_named(query);
+        self.answer_over(query, order)
+    }
+
+    /// The same, over the views where they stand.
+    fn answer_over(&self, query: &Query, order: &Order) -> Result<Vec<Row>, PlainFault> {
+        let sources = self.sources(query)?;
+        let rows = answer_on(self.alloc, &sources, query)?;
+        Ok(listing(rows, order)?)
+    }
+
+    /// The tables at the present, and the views that the query names where they stand.
+    fn sources(&self, query: &Query) -> Result<Vec<Lent<'_>>, PlainFault> {
         let mut sources = lent_at(self.alloc, &self.tables, self.writes)?;
         for (place, view) in self.views.iter().enumerate() {
             let source = Source::View(place as u64);
@@ -145,8 +157,7 @@ impl PlainEngine {
                 sources.push(Lent { source, rows })?;
             }
         }
-        let rows = answer_on(self.alloc, &sources, query)?;
-        Ok(listing(rows, order)?)
+        Ok(sources)
     }
 
     fn take_on_named(&mut self, query: &Query) {
