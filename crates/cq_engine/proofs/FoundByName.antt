@@ -12,10 +12,9 @@ use Rattle.cq_binder_rules.specs.declared.fault.Fault.{Fault}
 use Rattle.cq_binder_rules.specs.Bound.{rows_read, standing}
 use Rattle.cq_binder_rules.specs.Records.{file_rows}
 use Rattle.cq_model_state.specs.Fitting.{FitsColumns, AreFitting, IsFitting}
-use Rattle.cq_model_state.specs.State.{TableOf, ViewOf, columns_in, rows_in, table_named, view_named, view_place, AreNumbered}
+use Rattle.cq_model_state.specs.State.{IsThere, TableOf, ViewOf, columns_in, rows_in, table_named, view_named, view_place, AreNumbered}
 use Rattle.cq_csvio_read.proofs.Fits.{rows_fit as file_rows_fit}
 use Rattle.cq_binder_queries.proofs.Found.{has_place}
-use Rattle.cq_engine_tables.specs.Tables.{IsThere}
 use Rattle.cq_engine_tables.proofs.Numbers.{Above}
 use Rattle.cq_engine_tables.proofs.Places.{found_there}
 use Rattle.cq_engine_tables.proofs.Stored.{rows_stored}

@@ -15,13 +15,13 @@ use Rattle.cq_model.specs.declared.query.Order.{Order}
 use Rattle.cq_model.specs.declared.query.Query.{Query}
 use Rattle.cq_model_bags.proofs.Lists.{all-drop, all-push}
 use Rattle.cq_model_state.specs.Fitting.{AreFitting, AreLimited, IsFitting, rows_limit}
-use Rattle.cq_model_state.specs.State.{ChangeOf, State, TableOf, ViewOf, empty_table, rows_in, view_named, view_place, with_rows}
+use Rattle.cq_model_state.specs.State.{IsThere, ChangeOf, State, TableOf, ViewOf, empty_table, rows_in, view_named, view_place, with_rows}
 use Rattle.cq_model_step.specs.Next.{Writes, created, new_view, reach, taken_on, with_all_views, with_tables, written}
 use Rattle.cq_model_step.specs.Step.{Accepts, Leads}
 use Rattle.cq_model_step.specs.declared.answer.Answer.{Answer}
 use Rattle.cq_model_step.specs.declared.answer.Answer.TheVariants.{Done, Rows}
 use Rattle.cq_model_step_laws.proofs.Follows.{Follows, follows-accepts, follows-itself, follows-trims, follows-views, new-empty}
-use Rattle.cq_model_step_laws.specs.Sound.{Fits, IsInTime, IsThere}
+use Rattle.cq_model_step_laws.specs.Sound.{Fits, IsInTime}
 use Rattle.cq_views.specs.Laws.{StandingDependsOnSources}
 use Rattle.cq_views_model.specs.Query.{reads}
 use Rattle.cq_engine_answers.specs.Selects.{Selects}

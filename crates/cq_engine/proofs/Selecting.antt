@@ -26,7 +26,7 @@ use Rattle.cq_engine_answers.specs.Reading.{CanRead, IsReadable, IsSourceThere}
 use Rattle.cq_engine_answers.specs.Selects.{AreListed, Selects}
 use Rattle.cq_engine_queue.proofs.Later.{present-right}
 use Rattle.cq_engine_tables.specs.Views.{AreRight, IsPresent, IsRight, NamedView, view_of, views_of}
-use Rattle.cq_engine.specs.Reading.{named_to}
+use Rattle.cq_engine_queue.specs.Goal.{named_to}
 
 -- ---- Views that differ in their epochs alone
 abbrev SameButEpochs : List ViewOf → List ViewOf → Type 0

@@ -13,7 +13,7 @@ use Rattle.cq_binder_rules.specs.Checks.{MayRefuse}
 use Rattle.cq_binder_rules.specs.Records.{Files}
 use Rattle.cq_binder_rules.specs.Refusal.{is_used, reads_source}
 use Rattle.cq_model_state.specs.Fitting.{AreFitting, AreLimited, FitsColumns}
-use Rattle.cq_model_state.specs.State.{TableOf, ViewOf, State, columns_in, rows_in, view_place}
+use Rattle.cq_model_state.specs.State.{IsThere, TableOf, ViewOf, State, columns_in, rows_in, view_place}
 use Rattle.cq_model_step.specs.Step.{Accepts, GivesUp, IsTooLarge, StepFrom}
 use Rattle.cq_model.specs.Views.{sources_of}
 use Rattle.cq_model.specs.Width.{IsNarrowIn}
@@ -21,7 +21,6 @@ use Rattle.cq_engine_queue.specs.History.{IsHistory}
 use Rattle.cq_engine_queue.specs.Queued.{Queued}
 use Rattle.cq_engine_writes.specs.Updates.{CanUpdateIn, value_fault_in}
 use Rattle.cq_engine_tables.specs.HeldTables.{HeldTable, tables_of}
-use Rattle.cq_engine_tables.specs.Tables.{IsThere}
 use Rattle.cq_engine_tables.specs.Views.{AreRight, Fits, NamedView, views_of}
 use Rattle.cq_engine_answers.specs.Reading.{CanRead, IsSourceThere}
 use Rattle.cq_engine_writes.specs.Writing.{room_for}

@@ -1,16 +1,15 @@
 -- SELECT from views that are taken on to the present first.
-use Rattle.std.specs.Prelude.{◌≡◌, ◌⊎◌, ℕ, List, Result, Ok, Err, if◌then◌else◌}
+use Rattle.std.specs.Prelude.{◌≡◌, ◌⊎◌, ℕ, List, Result, Ok, Err}
 use Rattle.std.specs.Global.{Vec}
-use Rattle.std.specs.List.{list_any}
 use Rattle.cq_values.specs.Value.{Row}
 use Rattle.cq_binder_rules.specs.declared.fault.Fault.{Fault}
 use Rattle.cq_binder_rules.specs.declared.fault.Fault.TheVariants.{Memory}
 use Rattle.cq_engine_queue.specs.Counts.{AllCount, AllMayBegin}
-use Rattle.cq_model.specs.Views.{is_view, sources_of}
+use Rattle.cq_engine_queue.specs.Goal.{named_to}
 use Rattle.cq_model.specs.declared.query.Order.{Order}
 use Rattle.cq_model.specs.declared.query.Query.{Query}
 use Rattle.cq_model_state.specs.Fitting.{AreFitting, AreLimited, rows_limit}
-use Rattle.cq_model_state.specs.State.{State, ViewOf}
+use Rattle.cq_model_state.specs.State.{State}
 use Rattle.cq_model_step.specs.Next.{taken_on}
 use Rattle.cq_model_step.specs.Step.{AreBetween}
 use Rattle.cq_engine_answers.specs.Reading.{CanRead}
@@ -31,10 +30,6 @@ pub record CanSelect (tables : List HeldTable) (views : List NamedView) (queue :
   pub fitting : AreFitting (tables_of tables)
   pub limited : AreLimited rows_limit (tables_of tables)
   pub can : CanRead (tables_of tables) (views_of views) q
-
--- to where a view at a place is taken on
-abbrev pub named_to : Query → ℕ → ℕ → ViewOf → ℕ
-named_to q now place v = if list_any (is_view place) (sources_of q) then now else v.epoch
 
 -- each view that the query names is at the present, and the others are where they were
 abbrev pub AreNamedThere : Query → ℕ → Vec NamedView → Vec NamedView → Type 0

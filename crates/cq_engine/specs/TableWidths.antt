@@ -1,8 +1,7 @@
 -- Tables that a query names.
 use Rattle.cq_model.specs.declared.query.Source.{Source}
 use Rattle.cq_model.specs.declared.query.Source.TheVariants.{Table, View}
-use Rattle.cq_model_state.specs.State.{TableOf}
-use Rattle.cq_engine_tables.specs.Tables.{IsThere}
+use Rattle.cq_model_state.specs.State.{IsThere, TableOf}
 use Rattle.std.specs.Prelude.{List}
 
 -- the source is a table that is there

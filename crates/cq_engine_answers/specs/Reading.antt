@@ -7,8 +7,7 @@ use Rattle.cq_model.specs.declared.query.Shape.TheVariants.{Plain}
 use Rattle.cq_model.specs.declared.query.Source.{Source}
 use Rattle.cq_model.specs.declared.query.Source.TheVariants.{Table, View}
 use Rattle.cq_model.specs.Views.{sources_of}
-use Rattle.cq_model_state.specs.State.{TableOf, ViewOf}
-use Rattle.cq_engine_tables.specs.Tables.{IsThere}
+use Rattle.cq_model_state.specs.State.{IsThere, TableOf, ViewOf}
 use Rattle.cq_engine_tables.specs.Views.{IsPresent, NamedView}
 use Rattle.cq_engine_answers.specs.Narrow.{IsConditionSized, IsShapeSized, joined_sizes}
 

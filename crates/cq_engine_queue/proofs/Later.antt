@@ -9,10 +9,10 @@ use Rattle.cq_model_bags.proofs.Totals.{by_test}
 use Rattle.cq_model.specs.Sizes.{IsStored}
 use Rattle.cq_model.specs.Views.{sources_of, tables_alone}
 use Rattle.cq_model_state.specs.Fitting.{AreFitting, AreLimited, rows_limit}
-use Rattle.cq_model_state.specs.State.{State, rows_in, tables_at, tables_now}
+use Rattle.cq_model_state.specs.State.{IsThere, State, rows_in, tables_at, tables_now}
 use Rattle.cq_model_step_laws.proofs.Follows.{Follows}
 use Rattle.cq_model_step_laws.proofs.Pasts.{at-present}
-use Rattle.cq_model_step_laws.specs.Sound.{IsInTime, IsThere}
+use Rattle.cq_model_step_laws.specs.Sound.{IsInTime}
 use Rattle.cq_views.specs.Laws.{StandingDependsOnSources}
 use Rattle.cq_views.specs.State.{StandsFor}
 use Rattle.cq_engine_tables.proofs.Rows.{rows_have}

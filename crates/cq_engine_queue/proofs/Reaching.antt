@@ -22,9 +22,8 @@ use Rattle.cq_model.specs.declared.query.Query.{Query}
 use Rattle.cq_model.specs.declared.query.Source.{Source}
 use Rattle.cq_model.specs.declared.query.Source.TheVariants.{Table, View}
 use Rattle.cq_model_state.specs.Fitting.{rows_limit}
-use Rattle.cq_model_state.specs.State.{ChangeOf, State, above, change_of, tables_at}
+use Rattle.cq_model_state.specs.State.{IsThere, ChangeOf, State, above, change_of, tables_at}
 use Rattle.cq_model_step_laws.proofs.Pasts.{at-next}
-use Rattle.cq_model_step_laws.specs.Sound.{IsThere}
 use Rattle.cq_sides_weights.specs.Held.{sizes}
 use Rattle.cq_deltas_joins.specs.Steps.{AreStored}
 use Rattle.cq_views.proofs.Taking.{sizes-once_each}

@@ -9,7 +9,6 @@ use Rattle.cq_values.specs.Value.{Row}
 use Rattle.cq_model_bags.proofs.Totals.{by_test}
 use Rattle.cq_model_state.specs.State.{TableOf, AreNumbered, holding}
 use Rattle.cq_engine_tables.specs.HeldTables.{ChangeAt, HeldTable, Lengths, LengthsStay, StoreNothing, lengths_in, lengths_of, nothing, tables_of}
-use Rattle.cq_engine_tables.specs.Tables.{IsThere}
 use Rattle.cq_engine_tables.proofs.Images.{position-map, remove-map}
 use Rattle.cq_engine_tables.proofs.Numbers.{Above, above_at, others, remove-number}
 

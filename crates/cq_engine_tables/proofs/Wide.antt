@@ -13,8 +13,7 @@ use Rattle.cq_model.specs.Views.{is_table, sources_of}
 use Rattle.cq_model.specs.declared.query.Source.{Source}
 use Rattle.cq_model.specs.declared.query.Source.TheVariants.{Table, View}
 use Rattle.cq_model_state.specs.Fitting.{AreFitting, FitsColumn, FitsColumns}
-use Rattle.cq_model_state.specs.State.{TableOf, columns_in, rows_in, with_rows}
-use Rattle.cq_engine_tables.specs.Tables.{IsThere}
+use Rattle.cq_model_state.specs.State.{IsThere, TableOf, columns_in, rows_in, with_rows}
 use Rattle.cq_engine_tables.specs.Views.{IsPresent, IsWide, NamedView, bags_in, width_at}
 use Rattle.cq_engine_tables.proofs.Bags.{bags_are}
 use Rattle.cq_engine_tables.proofs.Numbers.{others}

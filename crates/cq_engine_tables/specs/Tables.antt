@@ -1,6 +1,5 @@
 -- Tables by their numbers, and the rows that they hold.
-use Rattle.std.specs.Prelude.{◌≡◌, ◌+◌, ℕ, List, ◌==◌, true, length, Option, slice_get}
-use Rattle.std.specs.List.{list_any}
+use Rattle.std.specs.Prelude.{◌≡◌, ◌+◌, ℕ, List, length, Option, slice_get}
 use Rattle.cq_values.specs.Value.{Row}
 use Rattle.cq_model.specs.declared.assignment.Assignment.{Assignment}
 use Rattle.cq_model.specs.Expr.{Cond}
@@ -8,10 +7,6 @@ use Rattle.cq_binder_rules.specs.declared.fault.Fault.{Fault}
 use Rattle.cq_model_state.specs.State.{TableOf, table_named}
 use Rattle.cq_table.specs.Checks.{too_many, value_fault}
 use Rattle.cq_table.specs.Table.{StoredTable, table_rows}
-
--- a table has the number
-abbrev pub IsThere : ℕ → List TableOf → Type 0
-IsThere n tables = list_any (λ t. t.number == n) tables ≡ true
 
 -- the table of a name stands at the place
 abbrev pub IsPlaceNamed : List ℕ → List TableOf → ℕ → Type 0

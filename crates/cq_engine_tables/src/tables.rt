@@ -1,9 +1,9 @@
 //! Tables under their names and numbers.
 ghost use Rattle.std.specs.Prelude.{◌≡◌, ◌<◌, ◌==◌, ℕ, IfSome, OnErr, OnOk, get_or, is_some, length, position};
 ghost use Rattle.cq_values.specs.Texts.{is_text};
-ghost use Rattle.cq_model_state.specs.State.{AreNumbered, table_named};
+ghost use Rattle.cq_model_state.specs.State.{IsThere, AreNumbered, table_named};
 ghost use Rattle.cq_engine_tables.specs.HeldTables.{ChangeAt, Drops, HeldTable, MergeTo, MoveBy, StoreNothing, tables_of};
-ghost use Rattle.cq_engine_tables.specs.Tables.{IsPlaceNamed, IsThere};
+ghost use Rattle.cq_engine_tables.specs.Tables.{IsPlaceNamed};
 
 use crate::named_table::NamedTable;
 use std::alloc::{AllocError, Global};

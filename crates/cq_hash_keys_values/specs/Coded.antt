@@ -4,10 +4,10 @@ use Rattle.std.specs.Prelude.{◌≡◌, ℕ, zero, suc, ◌+◌, ◌<◌, ◌�
 use Rattle.std.specs.Simd.Lanes.{zip2}
 use Rattle.cq_values.specs.declared.value.Value.{Value}
 use Rattle.cq_values.specs.declared.value.Value.TheVariants.{Null, Text}
-use Rattle.cq_vectors_stored.specs.LentColumns.{AreCodes}
+use Rattle.cq_vectors_stored.specs.LentColumns.{AreCodes, entries_at}
 use Rattle.cq_hash_keys_values.specs.Codes.{code_or}
 use Rattle.cq_hash_keys_values.specs.Met.{IsNumberIn, IsRun}
-use Rattle.cq_hash_keys_values.specs.Values.{place_in}
+use Rattle.cq_hash_keys_values.specs.Values.{Tells, place_in}
 
 -- the value of a slot: NULL of the first, and each entry of the slot behind its own place
 abbrev pub slot_value : List (List ℕ) → ℕ → Value
@@ -45,3 +45,7 @@ AreNoted entries met slots = (slot : ℕ) → (slice_index_or slots slot 0 ≡ 0
 -- each slot up to that of the last entry has what is found of its value
 abbrev pub AreLookedUp : List (List ℕ) → List Value → List (Option ℕ) → Type 0
 AreLookedUp entries met found = (slot : ℕ) → slot ≤ length entries → slice_index_or found slot None ≡ place_in met (slot_value entries slot)
+
+-- each number is that of the text that a code names
+abbrev pub TellsTexts : List (List ℕ) → List ℕ → List Bool → List Value → List ℕ → Type 0
+TellsTexts entries codes flags met numbers = Tells met (entries_at entries codes flags) numbers

@@ -6,7 +6,7 @@ ghost use Rattle.std.specs.List.{All};
 ghost use Rattle.std.specs.Prelude.{IfOk, None, OnErr, OnOk, if◌then◌else◌, length, map, slice_index_or, ◌+◌, ◌<◌, ◌≡◌, ◌≤◌};
 ghost use Rattle.cq_values.specs.Lent.{owned};
 ghost use Rattle.cq_values.specs.declared.value.Value.TheVariants.{Null};
-ghost use Rattle.cq_hash_keys_values.specs.Coded.{AreLookedUp, AreNoted, AreTexts, HaveSlots, IsNotedRun, noted_in, slot_for, slot_value};
+ghost use Rattle.cq_hash_keys_values.specs.Coded.{AreLookedUp, AreNoted, AreTexts, HaveSlots, IsNotedRun, TellsTexts, noted_in, slot_for, slot_value};
 ghost use Rattle.cq_vectors_stored.specs.LentColumns.{entries_at};
 ghost use Rattle.cq_vectors_stored.specs.Offsets.{offsets_in};
 ghost use Rattle.cq_hash_keys_values.specs.Met.{IsNumberIn, IsRun, TakesFront};
@@ -64,7 +64,7 @@ impl Values {
         requires few { length entries.now ≤ 1024 }
         requires same { length numbers.old ≡ length (offsets_in codes.now) }
         ensures values { OnOk result (TakesIn self.old (entries_at entries.now (offsets_in codes.now) nulls.now) self.new) }
-        ensures numbers { OnOk result (Tells self.new (entries_at entries.now (offsets_in codes.now) nulls.now) numbers.new) }
+        ensures numbers { OnOk result (TellsTexts entries.now (offsets_in codes.now) nulls.now self.new numbers.new) }
         ensures front { TakesFront same_value self.old (entries_at entries.now (offsets_in codes.now) nulls.now) self.new }
         ensures same { length numbers.new ≡ length numbers.old }
     {

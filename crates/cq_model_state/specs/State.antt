@@ -1,7 +1,7 @@
 -- What the engine stands for: tables and views under their names, how much was written, and the changes that views may
 -- still have to take in (ISO 9075-2, 11.3 and 11.32; docs/ARCHITECTURE.md, Epochs).
-use Rattle.std.specs.Prelude.{ℕ, ◌-◌, ◌<◌, ◌==◌, Bool, ◌||◌, if◌then◌else◌, List, [], ◌∷◌, ◌++◌, map, filter, drop, Option, is_some, position, slice_get}
-use Rattle.std.specs.List.{AllByRecursion, find, flat_map}
+use Rattle.std.specs.Prelude.{ℕ, ◌-◌, ◌<◌, ◌==◌, Bool, true, ◌||◌, ◌≡◌, if◌then◌else◌, List, [], ◌∷◌, ◌++◌, map, filter, drop, Option, is_some, position, slice_get}
+use Rattle.std.specs.List.{AllByRecursion, find, flat_map, list_any}
 use Rattle.cq_values.specs.Texts.{is_text}
 use Rattle.cq_values.specs.Value.{Row}
 use Rattle.cq_model_bags.specs.Bag.{Weighted, once_each, negative}
@@ -84,6 +84,10 @@ abbrev pub AreNumbered : List TableOf → ℕ → Type 0
 AreNumbered [] next = Unit {0}
 AreNumbered (t ∷ ts) next = (t.number < next) × AllByRecursion (λ u. t.number < u.number) ts × AreNumbered ts next
 
+-- there is a table of this number
+abbrev pub IsThere : ℕ → List TableOf → Type 0
+IsThere n tables = list_any (λ t. t.number == n) tables ≡ true
+
 -- the bags of the tables, by their numbers
 abbrev pub tables_now : State → ℕ → Weighted
 tables_now s n = once_each (rows_in s.tables n)
@@ -96,11 +100,11 @@ queries_of s place = slice_get (map (λ v. v.query) s.views) place
 abbrev pub change_of : List ChangeOf → ℕ → Weighted
 change_of cs n = flat_map (λ c. c.rows) (filter (λ c. c.table == n) cs)
 
--- the changes of the writes above an epoch
+-- the changes of the writes above an epoch, from passed on
 abbrev pub above : State → ℕ → List ChangeOf
 above s epoch = drop (epoch - s.passed) s.queue
 
--- the bags of the tables at an epoch: the present ones, with their changes above it taken back
+-- the bags of the tables at an epoch, from passed on: the present ones, with their changes above it taken back
 abbrev pub tables_at : State → ℕ → ℕ → Weighted
 tables_at s epoch n = tables_now s n ++ negative (change_of (above s epoch) n)
 

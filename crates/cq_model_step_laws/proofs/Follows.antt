@@ -13,10 +13,10 @@ use Rattle.cq_binder_rules.specs.declared.bound.Bound.TheVariants as commands
 use Rattle.cq_values.specs.declared.column.ColumnDef.{ColumnDef}
 use Rattle.cq_model.specs.Write.{left_by, updated}
 use Rattle.cq_model_step.specs.declared.answer.Answer.{Answer}
-use Rattle.cq_model_state.specs.State.{ViewOf, State, rows_in, with_rows, tables_now, change_of, above, tables_at}
+use Rattle.cq_model_state.specs.State.{IsThere, ViewOf, State, rows_in, with_rows, tables_now, change_of, above, tables_at}
 use Rattle.cq_model_step.specs.Next.{with_tables, with_all_views, created, new_view, written, Writes, reach, taken_on, refreshed, without_front, Trims}
 use Rattle.cq_model_step.specs.Step.{Leads, Accepts}
-use Rattle.cq_model_step_laws.specs.Sound.{IsThere, Fits, IsInTime, IsSound}
+use Rattle.cq_model_step_laws.specs.Sound.{Fits, IsInTime, IsSound}
 use Rattle.cq_model_step_laws.specs.Laws.{IsNewTable}
 use Rattle.cq_model_step_laws.proofs.Numbers.{rows_in-absent, there-with_rows, rows_in-created, there-created, there-old_or_new, rows_in-dropped, there-dropped, numbered-below, numbered-created, numbered-dropped}
 use Rattle.cq_model_step_laws.proofs.Pasts.{change_of-below, at-present, at-same, at-without_front, at-written}

@@ -5,8 +5,7 @@ use Rattle.cq_values.specs.Value.{Row}
 use Rattle.cq_model_bags.specs.Canonical.{bag_of}
 use Rattle.cq_model_bags.proofs.Totals.{by_test}
 use Rattle.cq_values.specs.declared.column.ColumnDef.{ColumnDef}
-use Rattle.cq_model_state.specs.State.{TableOf, rows_in, empty_table, with_rows, AreNumbered}
-use Rattle.cq_model_step_laws.specs.Sound.{IsThere}
+use Rattle.cq_model_state.specs.State.{IsThere, TableOf, rows_in, empty_table, with_rows, AreNumbered}
 use Rattle.cq_model_bags.proofs.Lists.{all-append, all-filter}
 
 -- a table that is among the later ones is there

@@ -15,9 +15,9 @@ use Rattle.cq_views_model.specs.Delta.{SameTables, changed, joined_change}
 use Rattle.cq_model.specs.Meaning.{joined_rows}
 use Rattle.cq_model.specs.Views.{tables_alone}
 use Rattle.cq_model_laws.proofs.Meanings.{joined_rows-respects, joined_rows-changed}
-use Rattle.cq_model_state.specs.State.{ChangeOf, State, rows_in, tables_now, change_of, above, tables_at}
+use Rattle.cq_model_state.specs.State.{IsThere, ChangeOf, State, rows_in, tables_now, change_of, above, tables_at}
 use Rattle.cq_model_step.specs.Next.{written, Writes, without_front}
-use Rattle.cq_model_step_laws.specs.Sound.{IsThere, IsSound}
+use Rattle.cq_model_step_laws.specs.Sound.{IsSound}
 use Rattle.cq_model_step_laws.specs.Laws.{LeadsOn, IsNext, GoesOneOn}
 use Rattle.cq_model_step_laws.proofs.Numbers.{rows_in-with_rows, rows_in-others}
 

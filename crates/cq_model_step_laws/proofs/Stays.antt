@@ -14,10 +14,10 @@ use Rattle.cq_binder_rules.specs.Sets.{bound_where}
 use Rattle.cq_binder_rules.specs.From.{From, from_walk, view_walk}
 use Rattle.cq_binder_rules.specs.Bound.{row_of, bound_select, bound_update, bound, bound_view, standing, rows_read}
 use Rattle.cq_binder_rules.specs.Records.{Files}
-use Rattle.cq_model_state.specs.State.{TableOf, State, table_named, view_place, first_state}
+use Rattle.cq_model_state.specs.State.{IsThere, TableOf, State, table_named, view_place, first_state}
 use Rattle.cq_model_step.specs.Next.{reach}
 use Rattle.cq_model_step.specs.Step.{Does, GivesUp, Refuses, by_walk, for_memory, source_failed, memory_on_the_way, too_large, Step}
-use Rattle.cq_model_step_laws.specs.Sound.{IsThere, Fits, IsSound}
+use Rattle.cq_model_step_laws.specs.Sound.{Fits, IsSound}
 use Rattle.cq_model_step_laws.proofs.Numbers.{there-behind}
 use Rattle.cq_model_step_laws.proofs.Times.{reach-in_time, between-in_time}
 use Rattle.cq_model_step_laws.proofs.Follows.{follows-views, follows-accepts}

@@ -13,10 +13,10 @@ use Rattle.cq_model.specs.Views.{tables_alone}
 use Rattle.cq_model_step.specs.declared.answer.Answer.{Answer}
 use Rattle.cq_binder_rules.specs.declared.fault.Fault.{Fault}
 use Rattle.cq_binder_rules.specs.Records.{Files}
-use Rattle.cq_model_state.specs.State.{ChangeOf, State, rows_in, tables_now, change_of, tables_at, first_state}
+use Rattle.cq_model_state.specs.State.{IsThere, ChangeOf, State, rows_in, tables_now, change_of, tables_at, first_state}
 use Rattle.cq_model_step.specs.Next.{Writes}
 use Rattle.cq_model_step.specs.Step.{Accepts, Step}
-use Rattle.cq_model_step_laws.specs.Sound.{IsThere, Fits, IsSound}
+use Rattle.cq_model_step_laws.specs.Sound.{Fits, IsSound}
 
 -- the table of a number has the change in its bag, and each other one the rows that it had
 pub record LeadsOn (old : State) (n : ℕ) (change : Weighted) (new : State) : Type 0 where

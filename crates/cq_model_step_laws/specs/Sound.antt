@@ -1,14 +1,10 @@
 -- When a state is sound: its numbers, its epochs and its bags go together (docs/ARCHITECTURE.md, Epochs).
-use Rattle.std.specs.Prelude.{◌≡◌, ℕ, ◌+◌, ◌≤◌, ◌<◌, ◌==◌, true, List, length}
-use Rattle.std.specs.List.{AllByRecursion, list_any}
+use Rattle.std.specs.Prelude.{◌≡◌, ℕ, ◌+◌, ◌≤◌, ◌<◌, length}
+use Rattle.std.specs.List.{AllByRecursion}
 use Rattle.cq_model_bags.specs.Bag.{IsBag}
 use Rattle.cq_binder_rules.specs.declared.bound.Bound.{Bound}
 use Rattle.cq_binder_rules.specs.declared.bound.Bound.TheVariants as commands
-use Rattle.cq_model_state.specs.State.{TableOf, ViewOf, State, AreNumbered, tables_at}
-
--- a table of this number is there
-abbrev pub IsThere : ℕ → List TableOf → Type 0
-IsThere n tables = list_any (λ t. t.number == n) tables ≡ true
+use Rattle.cq_model_state.specs.State.{ViewOf, State, AreNumbered, IsThere, tables_at}
 
 -- the table that a command changes is there
 abbrev pub Fits : State → Bound → Type 0

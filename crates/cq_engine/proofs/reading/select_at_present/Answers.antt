@@ -7,7 +7,7 @@ use Rattle.cq_engine_tables.specs.HeldTables.{tables_of}
 use Rattle.cq_engine_tables.specs.Views.{NamedView, views_of}
 use Rattle.cq_engine.proofs.Counted.{counted-anyway}
 use Rattle.cq_engine.proofs.Selecting.{are-readable, between-epochs, read-epochs, selects-epochs}
-use Rattle.cq_engine.specs.Reading.{named_to}
+use Rattle.cq_engine_queue.specs.Goal.{named_to}
 use Rattle.cq_engine.proofs.reading.select_at_present.Goals as goal
 
 pub take_all_on-requires : goal.take_all_on-requires
