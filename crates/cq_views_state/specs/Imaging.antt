@@ -1,9 +1,8 @@
 -- Changed joined rows that a view's images take one after the other.
-use Rattle.std.specs.Prelude.{◌≡◌, ◌≤◌, ◌++◌, length}
+use Rattle.std.specs.Prelude.{◌≡◌, ◌≤◌, ◌++◌}
 use Rattle.std.specs.Global.{Vec}
 use Rattle.cq_values.specs.Value.{Row}
 use Rattle.cq_model_bags.specs.Bag.{Weighted, projected}
-use Rattle.cq_model_bags.specs.Size.{IsClean}
 use Rattle.cq_deltas_joins.specs.Sources.{rows_at}
 use Rattle.cq_deltas_joins.specs.Streaming.{IsFewChange}
 use Rattle.cq_deltas_joins.specs.Taking.{TakesMerged}
@@ -39,11 +38,6 @@ pub record Takes (old : ImageTaker) (xs : Weighted) (new : ImageTaker) : Type 0 
 pub record Keeps (old new : ImageTaker) : Type 0 where
   pub query : new.query.now ≡ old.query.now
   pub more : old.ticks ≤ new.ticks
-
--- there is room for merged images
-pub record HaveRoom (images more : Held) : Type 0 where
-  pub room : length more.entries ≤ images.room
-  pub clean : IsClean more.entries
 
 -- these are the images of what the changes add behind the joins
 abbrev pub AddsImages : Query → Chain → Tables → Held → Type 0

@@ -10,7 +10,7 @@ ghost use Rattle.cq_views_state.specs.Last.{GroupsStay};
 ghost use Rattle.cq_views_model.specs.Query.{CanBeKept};
 
 use crate::query::{aggregates_of, key_columns};
-use cq_deltas::{GroupChange, Grouping, Groups};
+use cq_deltas::{GroupChange, Grouping, OpenGroups};
 use cq_deltas_joins::{Chain, SourceRows, Takes, Waiting};
 use cq_model::Query;
 use cq_model_eval::keeps;
@@ -19,11 +19,11 @@ use std::alloc::{AllocError, Global};
 use std::mem::replace;
 
 /// A view's groups while they take changed joined rows: they get room for what those add that WHERE keeps, and none
-/// changes. Each row counts one tick.
+/// changes. Each row counts one tick. No call reads them here.
 #[derive(Drop)]
 pub(crate) struct GroupTaker<'a> {
     query: &'a Query,
-    groups: Groups,
+    groups: OpenGroups,
     change: GroupChange,
     ticks: u128,
 }
@@ -70,7 +70,7 @@ pub(crate) fn stream_groups(
     query: &Query,
     chain: &mut Chain,
     changes: Vec<SourceRows>,
-    groups: &mut Groups,
+    groups: &mut OpenGroups,
     ticks: &mut u128,
 ) -> Result<(Waiting, GroupChange), AllocError>
     requires can { CanBeKept query.now }
@@ -85,7 +85,7 @@ pub(crate) fn stream_groups(
 {
     let mut taker = GroupTaker {
         query,
-        groups: replace(groups, Groups::new(alloc)),
+        groups: replace(groups, OpenGroups::new(alloc)),
         change: GroupChange::new(alloc),
         ticks: *ticks,
     };

@@ -1,15 +1,12 @@
 //! What changes of the joined rows add to images.
-ghost use Rattle.std.specs.Prelude.{◌<◌, ◌≡◌, ◌≤◌, ◌^◌, IfOk, OnErr, OnOk, length};
+ghost use Rattle.std.specs.Prelude.{◌≡◌, ◌≤◌, IfOk};
 ghost use Rattle.cq_deltas_joins.specs.Chains.{CanChange};
 ghost use Rattle.cq_deltas_joins.specs.WaitingChanges.{AreReady};
 ghost use Rattle.cq_deltas_joins.specs.Sources.{rows_at};
 ghost use Rattle.cq_deltas_joins.specs.Work.{OnlyCounts};
 ghost use Rattle.cq_model.specs.declared.query.Shape.TheVariants.{Plain};
-ghost use Rattle.cq_model_bags.specs.Bag.{SameBag};
-ghost use Rattle.cq_model_bags.specs.Size.{IsClean};
-ghost use Rattle.cq_sides_weights.specs.Held.{sizes};
 ghost use Rattle.cq_views_state.specs.Counting.{CountsChange};
-ghost use Rattle.cq_views_state.specs.Imaging.{AddsImagesBy, HaveRoom};
+ghost use Rattle.cq_views_state.specs.Imaging.{AddsImagesBy};
 ghost use Rattle.cq_views_model.specs.Query.{CanBeKept};
 
 use cq_deltas_joins::{Chain, SourceRows, Takes, Waiting};
@@ -59,31 +56,27 @@ impl<'a> Takes for ImageTaker<'a> {
     ghost fits_still = { fits-still };
 }
 
-/// Works out what changes add to a view's images, and makes all growth for it.
+/// Works out what changes add to a view's images, and how high that counts. The images themselves are not handed in.
 pub(crate) fn stream_images(
     alloc: Global,
     query: &Query,
     chain: &mut Chain,
     changes: Vec<SourceRows>,
-    images: &mut Weights,
-    ticks: &mut u128,
-) -> Result<(Waiting, Weights), AllocError>
+    ticks: u128,
+) -> Result<(Waiting, Weights, u128), AllocError>
     requires can { CanBeKept query.now }
     requires plain { query.now.shape ≡ Plain }
     requires change { CanChange chain.old (rows_at changes.items) }
     ensures adds { IfOk result (λ r. AddsImagesBy query.now chain.old changes r.1) }
-    ensures room { IfOk result (λ r. HaveRoom images.new r.1) }
-    ensures rows { OnOk result (CountsChange chain.old (rows_at changes.items) ticks.old ticks.new) }
+    ensures rows { IfOk result (λ r. CountsChange chain.old (rows_at changes.items) ticks r.2) }
     ensures ready { IfOk result (λ r. AreReady chain.old (rows_at changes.items) chain.new r.0) }
     ensures kept { OnlyCounts chain.old (rows_at changes.items) chain.new }
-    ensures same { images.new.entries ≡ images.old.entries }
-    ensures more { ticks.old ≤ ticks.new }
-    ensures failed { OnErr result (ticks.new ≡ ticks.old) }
+    ensures more { IfOk result (λ r. ticks ≤ r.2) }
 {
     let mut taker = ImageTaker {
         query,
         images: Vec::new(alloc),
-        ticks: *ticks,
+        ticks,
     };
     let streamed = chain.stream(alloc, changes, &mut taker);
     let ImageTaker {
@@ -92,23 +85,6 @@ pub(crate) fn stream_images(
         ticks: counted,
     } = taker;
     let (more, waiting) = both(more, streamed)?;
-    let ready = both(waiting, ready_images(alloc, more, images))?;
-    *ticks = counted;
-    Ok(ready)
-}
-
-/// Images with their weights, those of one row as one, and room for them.
-fn ready_images(
-    alloc: Global,
-    more: Vec<Entry>,
-    images: &mut Weights,
-) -> Result<Weights, AllocError>
-    requires { sizes more.items < 2 ^ 127 }
-    ensures bag { IfOk result (λ w. SameBag w.entries more.items) }
-    ensures room { IfOk result (HaveRoom images.new) }
-    ensures same { images.new.entries ≡ images.old.entries }
-{
-    let change = Weights::merged(alloc, more)?;
-    images.reserve(change.len())?;
-    Ok(change)
+    let (waiting, change) = both(waiting, Weights::merged(alloc, more))?;
+    Ok((waiting, change, counted))
 }

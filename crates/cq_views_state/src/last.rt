@@ -40,7 +40,7 @@ impl Last {
     {
         match self {
             Last::Groups(groups) => match change {
-                LastChange::Groups(change) => groups.take(change),
+                LastChange::Groups(change) => groups.open().take(change),
                 LastChange::Images(_) => unreachable!(),
             },
             Last::Images(images) => match change {
@@ -55,7 +55,7 @@ impl Last {
         ensures { (aggregates : List Aggregate) → seen aggregates self.new ≡ seen aggregates self.old }
     {
         match self {
-            Last::Groups(groups) => groups.sort(),
+            Last::Groups(groups) => groups.open().sort(),
             Last::Images(_) => Ok(()),
         }
     }

@@ -110,7 +110,7 @@ impl ViewState {
     }
 
     /// Works out what changes of the tables change, from the stored sides and the changes alone, and makes all growth
-    /// for it. Nothing that is shown changes.
+    /// for it. Nothing that is shown changes. What works them out is handed no groups that can be read, and no images.
     pub fn prepare(
         &mut self,
         alloc: Global,
@@ -129,12 +129,16 @@ impl ViewState {
         let ticks = &mut self.ticks;
         match &mut self.last {
             Last::Groups(groups) => {
-                let (waiting, change) = stream_groups(alloc, query, chain, changes, groups, ticks)?;
+                let open = groups.open();
+                let (waiting, change) = stream_groups(alloc, query, chain, changes, open, ticks)?;
                 let change = LastChange::Groups(change);
                 Ok(Pending { waiting, change })
             }
             Last::Images(images) => {
-                let (waiting, change) = stream_images(alloc, query, chain, changes, images, ticks)?;
+                let streamed = stream_images(alloc, query, chain, changes, *ticks)?;
+                let (waiting, change, counted) = streamed;
+                images.reserve(change.len())?;
+                *ticks = counted;
                 let change = LastChange::Images(change);
                 Ok(Pending { waiting, change })
             }

@@ -23,7 +23,7 @@ fn shown_alone(
     requires small { AreSmall [] (additions_at groups change) }
 {
     let mut groups = groups;
-    groups.take(change);
+    groups.open().take(change);
     groups.shown_rows(alloc, aggregates)
 }
 
@@ -41,8 +41,9 @@ fn under_null(alloc: Global) -> Result<FlatRows, ShowFault> {
     };
     let mut groups = Groups::new(alloc);
     let mut change = GroupChange::new(alloc);
-    groups.ready(alloc, by, &five, 2, &mut change)?;
-    groups.ready(alloc, by, &null, 1, &mut change)?;
+    let open = groups.open();
+    open.ready(alloc, by, &five, 2, &mut change)?;
+    open.ready(alloc, by, &null, 1, &mut change)?;
     shown_alone(alloc, &aggregates, groups, change)
 }
 
@@ -65,8 +66,9 @@ fn total(alloc: Global, weight: i8) -> Result<FlatRows, ShowFault> {
     };
     let mut groups = Groups::new(alloc);
     let mut change = GroupChange::new(alloc);
-    groups.ready(alloc, by, &greatest, i128::from(weight), &mut change)?;
-    groups.ready(alloc, by, &zero, 4, &mut change)?;
+    let open = groups.open();
+    open.ready(alloc, by, &greatest, i128::from(weight), &mut change)?;
+    open.ready(alloc, by, &zero, 4, &mut change)?;
     shown_alone(alloc, &aggregates, groups, change)
 }
 
@@ -97,10 +99,11 @@ fn ends(alloc: Global, fives: i8, threes: i8) -> Result<FlatRows, ShowFault> {
     let (fives, threes) = (i128::from(fives), i128::from(threes));
     let mut groups = Groups::new(alloc);
     let mut change = GroupChange::new(alloc);
-    groups.ready(alloc, by, &five, 2, &mut change)?;
-    groups.ready(alloc, by, &three, threes, &mut change)?;
-    groups.ready(alloc, by, &null, 1, &mut change)?;
-    groups.ready(alloc, by, &five, fives, &mut change)?;
+    let open = groups.open();
+    open.ready(alloc, by, &five, 2, &mut change)?;
+    open.ready(alloc, by, &three, threes, &mut change)?;
+    open.ready(alloc, by, &null, 1, &mut change)?;
+    open.ready(alloc, by, &five, fives, &mut change)?;
     shown_alone(alloc, &aggregates, groups, change)
 }
 

@@ -11,8 +11,8 @@ use Rattle.cq_deltas.proofs.groups.Groups.shown_rows.Goals as goal
 
 pub returns-in_err-push_shown-in-Some-clause-fault : goal.returns-in_err-push_shown-in-Some-clause-fault
 returns-in_err-push_shown-in-Some-clause-fault c =
-    let entry : Some (c.in-Some.key.now, c.in-Some.group.now) ≡ slice_get c.args.self.now c.loop-place.place = rw c.self.view_is at c.in-Some.ensures.entry in
-    let distinct : IsDistinct same_row (keys_of c.args.self.now) = rw c.self.view_is at c.len-place-end.ensures.unique in
+    let entry : Some (c.in-Some.key.now, c.in-Some.group.now) ≡ slice_get c.args.self.now c.loop-place.place = rw (c.entries-groups.ensures ∙ c.self.view_is) at c.in-Some.ensures.entry in
+    let distinct : IsDistinct same_row (keys_of c.args.self.now) = rw (c.entries-groups.ensures ∙ c.self.view_is) at c.len-place-end.ensures.unique in
     let fault : c.in_err-push_shown-in-Some.field-0.0 ≡ SumOutOfRange → GroupsCanBeShown c.args.aggregates.now c.args.self.now → ⊥ =
     λ is all. c.in_err-push_shown-in-Some.ensures.fault is (place-range c.args.aggregates.now c.args.self.now c.loop-place.place (c.in-Some.key.now, c.in-Some.group.now) entry distinct all) in
     search rules
@@ -20,7 +20,7 @@ returns-in_err-push_shown-in-Some-clause-fault c =
 pub loop-place-preserved : goal.loop-place-preserved
 loop-place-preserved c =
     let e : Row × StoredGroup = (c.in-Some.key.now, c.in-Some.group.now) in
-    let entry : Some e ≡ slice_get c.args.self.now c.loop-place.place = rw c.self.view_is at c.in-Some.ensures.entry in
+    let entry : Some e ≡ slice_get c.args.self.now c.loop-place.place = rw (c.entries-groups.ensures ∙ c.self.view_is) at c.in-Some.ensures.entry in
     record {
       rows = c.in_ok-push_shown-in-Some.ensures.rows ∙ rows-more c.args.aggregates.now c.args.self.now c.loop-place.place e entry c.loop-place.rows.rows c.loop-place.invariant.rows;
       begun = c.in_ok-push_shown-in-Some.ensures.begun;
@@ -30,18 +30,18 @@ loop-place-preserved c =
 pub returns-clause-rows : goal.returns-clause-rows
 returns-clause-rows c =
     let end : c.loop-place.place ≡ length c.args.self.now = search rules in
-    rows-done c.args.aggregates.now c.args.self.now c.loop-place.place (rw c.self.view_is at c.len-place-end.ensures.unique) end c.loop-place.rows.rows c.loop-place.invariant.rows
+    rows-done c.args.aggregates.now c.args.self.now c.loop-place.place (rw (c.entries-groups.ensures ∙ c.self.view_is) at c.len-place-end.ensures.unique) end c.loop-place.rows.rows c.loop-place.invariant.rows
 
 pub returns-in_err-rows-clause-keys : goal.returns-in_err-rows-clause-keys
-returns-in_err-rows-clause-keys c = lists-keys c.args.aggregates.now c.args.self.now (rw c.self.view_is at c.len.ensures.unique)
+returns-in_err-rows-clause-keys c = lists-keys c.args.aggregates.now c.args.self.now (rw (c.entries-groups.ensures ∙ c.self.view_is) at c.len.ensures.unique)
 
 pub returns-in_err-push_shown-in-Some-clause-keys : goal.returns-in_err-push_shown-in-Some-clause-keys
-returns-in_err-push_shown-in-Some-clause-keys c = lists-keys c.args.aggregates.now c.args.self.now (rw c.self.view_is at c.len-place-end.ensures.unique)
+returns-in_err-push_shown-in-Some-clause-keys c = lists-keys c.args.aggregates.now c.args.self.now (rw (c.entries-groups.ensures ∙ c.self.view_is) at c.len-place-end.ensures.unique)
 
 pub returns-clause-keys : goal.returns-clause-keys
-returns-clause-keys c = lists-keys c.args.aggregates.now c.args.self.now (rw c.self.view_is at c.len-place-end.ensures.unique)
+returns-clause-keys c = lists-keys c.args.aggregates.now c.args.self.now (rw (c.entries-groups.ensures ∙ c.self.view_is) at c.len-place-end.ensures.unique)
 
 pub returns-clause-range : goal.returns-clause-range
 returns-clause-range c =
     let end : c.loop-place.place ≡ length c.args.self.now = search rules in
-    range-done c.args.aggregates.now c.args.self.now c.loop-place.place (rw c.self.view_is at c.len-place-end.ensures.unique) end c.loop-place.invariant.range
+    range-done c.args.aggregates.now c.args.self.now c.loop-place.place (rw (c.entries-groups.ensures ∙ c.self.view_is) at c.len-place-end.ensures.unique) end c.loop-place.invariant.range

@@ -5,7 +5,7 @@ use Rattle.cq_views_state.proofs.last.Last.commit.Goals as goal
 pub returns-in-Groups-change : goal.returns-in-Groups-change
 returns-in-Groups-change c =
     taken-as _ _ _ _ (Groups c.take.new.self) c.in-Groups.is c.in-Groups-change.is
-    (groups-go_on c.in-Groups.groups c.take.new.self c.in-Groups-change.change c.take.ensures.goes_on)
+    (groups-go_on c.in-Groups.groups c.take.new.self c.in-Groups-change.change (rw c.open.ensures.same at c.take.ensures.goes_on))
 
 pub returns-in-Images-change-2 : goal.returns-in-Images-change-2
 returns-in-Images-change-2 c =

@@ -2,7 +2,7 @@ use Rattle.std.proofs.Common.{◌≡◌, ◌∙◌, Some, sym, refl, slice_get}
 use Rattle.cq_deltas.specs.Keyed.{key_at}
 use Rattle.cq_deltas.proofs.AtKeys.{drop-settles, settled-already}
 use Rattle.cq_deltas.proofs.Places.{key-place, without_rows-at}
-use Rattle.cq_deltas.proofs.groups.Groups.drop_if_empty.Goals as goal
+use Rattle.cq_deltas.proofs.open_groups.OpenGroups.drop_if_empty.Goals as goal
 
 pub returns-then-is_empty-clause-settled : goal.returns-then-is_empty-clause-settled
 returns-then-is_empty-clause-settled c =

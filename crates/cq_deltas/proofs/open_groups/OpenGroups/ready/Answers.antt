@@ -9,7 +9,7 @@ use Rattle.cq_deltas.specs.Additions.{addition}
 use Rattle.cq_deltas.specs.Keyed.{AddsBehind, IsReadyAt, addition_at, key_at}
 use Rattle.cq_deltas.specs.Placed.{Placed, placed_at, row_read}
 use Rattle.cq_deltas.proofs.Places.{adds-more, keep-trans, key-there, last-row}
-use Rattle.cq_deltas.proofs.groups.Groups.ready.Goals as goal
+use Rattle.cq_deltas.proofs.open_groups.OpenGroups.ready.Goals as goal
 
 pub returns-clause-adds : goal.returns-clause-adds
 returns-clause-adds c =

@@ -3,7 +3,7 @@ use Rattle.std.specs.Map.{values_of}
 use Rattle.std.proofs.lemmas.Result.{on_ok_weaker}
 use Rattle.cq_deltas.proofs.AtKeys.{over-same}
 use Rattle.cq_deltas.proofs.Places.{held-there, over-keep, over-room, writes}
-use Rattle.cq_deltas.proofs.groups.Groups.make_room.Goals as goal
+use Rattle.cq_deltas.proofs.open_groups.OpenGroups.make_room.Goals as goal
 
 pub returns-clause-same : goal.returns-clause-same
 returns-clause-same c =

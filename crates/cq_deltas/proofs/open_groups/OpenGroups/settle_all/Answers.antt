@@ -7,7 +7,7 @@ use Rattle.cq_deltas.specs.Keyed.{AreSettled, addition_at, additions_at, is_met,
 use Rattle.cq_deltas.specs.Placed.{row_read}
 use Rattle.cq_deltas.proofs.MetKeys.{settled-more}
 use Rattle.cq_deltas.proofs.Places.{addition-is, addition-within, all-additions}
-use Rattle.cq_deltas.proofs.groups.Groups.settle_all.Goals as goal
+use Rattle.cq_deltas.proofs.open_groups.OpenGroups.settle_all.Goals as goal
 
 pub loop-index-preserved : goal.loop-index-preserved
 loop-index-preserved c =

@@ -5,7 +5,7 @@ use Rattle.cq_deltas.specs.Placed.{row_read}
 use Rattle.cq_deltas.proofs.MetKeys.{put-none}
 use Rattle.cq_deltas.proofs.NextRow.{holds-next, put-next}
 use Rattle.cq_deltas.proofs.Places.{all-additions, keep-refl, keep-trans, next-ready}
-use Rattle.cq_deltas.proofs.groups.Groups.put_all.Goals as goal
+use Rattle.cq_deltas.proofs.open_groups.OpenGroups.put_all.Goals as goal
 
 pub loop-index-init : goal.loop-index-init
 loop-index-init c = record { put = put-none c.args.self.now; keep = keep-refl c.args.self.now }

@@ -1,6 +1,6 @@
 use Rattle.std.proofs.Common.{take}
 use Rattle.cq_deltas.specs.Keyed.{ArePut, KeepPlaces, additions_at}
-use Rattle.cq_deltas.proofs.groups.Groups.put_all.Given as goal
+use Rattle.cq_deltas.proofs.open_groups.OpenGroups.put_all.Given as goal
 
 -- the rows so far are in their groups, and the groups stand where they stood
 abbrev pub invariant-loop-index : goal.invariant-loop-index

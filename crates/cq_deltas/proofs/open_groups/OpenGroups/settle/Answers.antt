@@ -3,7 +3,7 @@ use Rattle.std.specs.Map.{values_of}
 use Rattle.cq_views_model.specs.Kept.{Group as Seen}
 use Rattle.cq_deltas.proofs.AtKeys.{is_without_rows, over-same, settled-already}
 use Rattle.cq_deltas.proofs.Places.{held-there, over-keys, writes}
-use Rattle.cq_deltas.proofs.groups.Groups.settle.Goals as goal
+use Rattle.cq_deltas.proofs.open_groups.OpenGroups.settle.Goals as goal
 
 pub returns : goal.returns
 returns c =

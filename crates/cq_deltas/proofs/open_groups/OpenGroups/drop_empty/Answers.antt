@@ -2,8 +2,8 @@ use Rattle.std.proofs.Common.{◌∙◌, ◌+◌, ap, subst, sym, ℕ, length, a
 use Rattle.cq_deltas.specs.Keyed.{KeyedGroups}
 use Rattle.cq_deltas.specs.Placed.{row_read}
 use Rattle.cq_deltas.proofs.Leaving.{Leaves, leave-again, leave-all, leave-next, leave-none, stands-now}
-use Rattle.cq_deltas.proofs.groups.Groups.drop_empty.Goals as goal
-use Rattle.cq_deltas.proofs.groups.Groups.drop_empty.Goals.{then-row-end, else-row-end}
+use Rattle.cq_deltas.proofs.open_groups.OpenGroups.drop_empty.Goals as goal
+use Rattle.cq_deltas.proofs.open_groups.OpenGroups.drop_empty.Goals.{then-row-end, else-row-end}
 
 pub loop-index-init : goal.loop-index-init
 loop-index-init c =

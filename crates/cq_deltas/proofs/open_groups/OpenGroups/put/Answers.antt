@@ -8,7 +8,7 @@ use Rattle.cq_deltas.specs.Keyed.{addition_at}
 use Rattle.cq_deltas.specs.Placed.{row_read}
 use Rattle.cq_deltas.proofs.AtKeys.{put-everywhere}
 use Rattle.cq_deltas.proofs.Places.{held-there, over-keep, writes}
-use Rattle.cq_deltas.proofs.groups.Groups.put.Goals as goal
+use Rattle.cq_deltas.proofs.open_groups.OpenGroups.put.Goals as goal
 
 pub add-requires-clause-holds : goal.add-requires-clause-holds
 add-requires-clause-holds c =

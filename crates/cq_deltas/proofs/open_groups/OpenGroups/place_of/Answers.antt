@@ -4,7 +4,7 @@ use Rattle.cq_values.specs.Order.{same_row}
 use Rattle.cq_deltas.specs.Keyed.{KeepPlaces, held_at}
 use Rattle.cq_deltas.proofs.AtKeys.{made-same}
 use Rattle.cq_deltas.proofs.Places.{behind-keep, behind-key, place-found}
-use Rattle.cq_deltas.proofs.groups.Groups.place_of.Goals as goal
+use Rattle.cq_deltas.proofs.open_groups.OpenGroups.place_of.Goals as goal
 
 pub returns-in-Some-clause-place : goal.returns-in-Some-clause-place
 returns-in-Some-clause-place c = rw (← c.self.view_is) (place-found c.self.inside.groups.entries c.args.key c.in-Some.place (sym c.in-Some.ensures.index))

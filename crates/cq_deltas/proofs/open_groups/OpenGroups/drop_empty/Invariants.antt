@@ -1,5 +1,5 @@
 use Rattle.cq_deltas.proofs.Leaving.{Leaves}
-use Rattle.cq_deltas.proofs.groups.Groups.drop_empty.Given as goal
+use Rattle.cq_deltas.proofs.open_groups.OpenGroups.drop_empty.Given as goal
 
 -- the groups of the rows so far are gone if they have no rows
 abbrev pub invariant-loop-index : goal.invariant-loop-index

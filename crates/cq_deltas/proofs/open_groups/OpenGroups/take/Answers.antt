@@ -2,7 +2,7 @@ use Rattle.cq_deltas.specs.Keyed.{AreSettled, Takes, additions_at, is_met}
 use Rattle.cq_deltas.proofs.GoesOn.{groups-go-on}
 use Rattle.cq_deltas.proofs.Leaving.{all-taken, moved-settled, moved-there}
 use Rattle.cq_deltas.proofs.Places.{kept-keys}
-use Rattle.cq_deltas.proofs.groups.Groups.take.Goals as goal
+use Rattle.cq_deltas.proofs.open_groups.OpenGroups.take.Goals as goal
 
 pub settle_all-requires : goal.settle_all-requires
 settle_all-requires c = kept-keys c.args.self.now c.put_all.new.self c.put_all.ensures.keep c.args.change c.requires.keys
