@@ -11,6 +11,7 @@ use Rattle.cq_model_bags.proofs.Lists.{all-filter, fewer}
 use Rattle.cq_model.specs.Sizes.{IsStored}
 use Rattle.cq_model_state.specs.State.{ChangeOf}
 use Rattle.cq_sides_weights.proofs.RowByRow.{sizes-append}
+use Rattle.cq_sides_weights.specs.Held.{sizes}
 use Rattle.cq_deltas_joins.proofs.Storing.{stored-append}
 use Rattle.cq_deltas_joins.specs.Steps.{AreStored}
 use Rattle.cq_table.proofs.Replaced.{images_replace}
@@ -19,7 +20,7 @@ use Rattle.cq_views.proofs.Exchanges.{sizes-weighed}
 use Rattle.cq_views.specs.Changes.{exchanged, weighed}
 use Rattle.cq_engine_writes.proofs.Changes.{taken_to, with_fewer, with_more}
 use Rattle.cq_engine_writes.proofs.Exchanged.{with_exchanged}
-use Rattle.cq_engine_writes.specs.Changing.{IsChangeAt, Tells}
+use Rattle.cq_engine_writes.specs.Changing.{IsChangeAt, Tells, TellsAtMost}
 
 -- ---- The change of one table
 -- stored rows that all come, or all go
@@ -31,6 +32,16 @@ stored-weighed w (r ∷ rows) stored = (stored.0, stored-weighed w rows stored.1
 abbrev pub change_by : ℕ → List Row → List Row → ChangeOf
 change_by n gone come = record { table = n; rows = exchanged gone come }
 
+-- its weights come to one for each row
+sizes-exchanged : (gone come : List Row) → sizes (exchanged gone come) ≡ length gone + length come
+sizes-exchanged gone come =
+    omega (arith, sizes-append (weighed gone (neg_ℤ (pos 1))) (weighed come (pos 1)), sizes-weighed (neg_ℤ (pos 1)) refl gone, sizes-weighed (pos 1) refl come)
+
+-- which is what is told
+pub at_most : (n most : ℕ) (gone come : List Row) → length gone + length come ≤ most → (told : Option ChangeOf) → IfSome told (λ d. d ≡ change_by n gone come) → TellsAtMost most told
+at_most n most gone come few None same = tt
+at_most n most gone come few (Some d) same = omega (arith, ap (λ (e : ChangeOf). sizes e.rows) same, sizes-exchanged gone come, few)
+
 module _ (n : ℕ) (old new gone come : List Row) where
   -- it takes the table to its new rows, and is small where few stored rows go and come
   pub change_at : SameBag (once_each (bag_of new)) (once_each old ++ exchanged gone come) → AllByRecursion IsStored gone → AllByRecursion IsStored come → length gone + length come ≤ 2 ^ 25 → IsChangeAt n old new (change_by n gone come)
@@ -39,13 +50,7 @@ module _ (n : ℕ) (old new gone come : List Row) where
     rows = taken_to old new (exchanged gone come) is;
     small = record {
       stored = stored-append (weighed gone (neg_ℤ (pos 1))) (weighed come (pos 1)) (stored-weighed (neg_ℤ (pos 1)) gone first) (stored-weighed (pos 1) come second);
-      few = omega (
-        arith,
-        sizes-append (weighed gone (neg_ℤ (pos 1))) (weighed come (pos 1)),
-        sizes-weighed (neg_ℤ (pos 1)) refl gone,
-        sizes-weighed (pos 1) refl come,
-        few,
-      );
+      few = omega (arith, sizes-exchanged gone come, few);
     };
   }
 

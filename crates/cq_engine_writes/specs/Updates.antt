@@ -1,5 +1,5 @@
 -- UPDATE on rows that it was bound to: what is known of it, and what it leaves.
-use Rattle.std.specs.Prelude.{◌≡◌, ℕ, Bool, List, length, map, slice_index_or, Option, None, Result, Ok, Err, Vec}
+use Rattle.std.specs.Prelude.{◌≡◌, ◌*◌, ℕ, Bool, List, length, map, slice_index_or, Option, None, Result, Ok, Err, Vec}
 use Rattle.std.specs.Global.{Global}
 use Rattle.std.specs.List.{AllByRecursion}
 use Rattle.cq_values.specs.declared.column.ColumnDef.{ColumnDef}
@@ -15,7 +15,7 @@ use Rattle.cq_binder_rules.specs.declared.fault.Fault.{Fault}
 use Rattle.cq_binder_rules.specs.Checks.{MayRefuse}
 use Rattle.cq_binder_expressions.specs.Types.{IsOf}
 use Rattle.cq_model_state.specs.State.{ChangeOf, TableOf, columns_in, holding, rows_in, with_rows}
-use Rattle.cq_engine_writes.specs.Changing.{Tells}
+use Rattle.cq_engine_writes.specs.Changing.{Tells, TellsAtMost}
 use Rattle.cq_table.specs.Checks.{value_fault}
 use Rattle.cq_table.specs.Found.{found_rows}
 use Rattle.cq_engine_tables.specs.Chosen.{IsChosen, stored_of}
@@ -76,6 +76,7 @@ pub record IsPrepared (asked : Bool) (t : HeldTable) (assignments : List Assignm
   pub found : IsChosen condition t places
   pub images : come ≡ map (image_of assignments) (found_rows (stored_of t) places)
   pub tells : TellsImages asked assignments condition t.is change
+  pub few : TellsAtMost (2 * length places) change
 
 -- the places, the images and the change, as they are kept until then
 abbrev pub Prepares : Bool → HeldTable → List Assignment → Option Cond → (List ℕ × Vec Row Global × Option ChangeOf) → Type 0

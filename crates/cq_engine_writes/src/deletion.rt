@@ -6,6 +6,7 @@ ghost use Rattle.cq_model.specs.Write.{chosen};
 ghost use Rattle.cq_model_state.specs.Fitting.{IsFitting, rows_limit};
 ghost use Rattle.cq_engine_tables.specs.Chosen.{stored_of};
 ghost use Rattle.cq_engine_tables.specs.HeldTables.{MarkIn, lengths_of};
+ghost use Rattle.cq_engine_writes.specs.Changing.{TellsAtMost};
 ghost use Rattle.cq_engine_writes.specs.Writing.{DeletesRows, TellsChosen, TellsLeft};
 ghost use Rattle.cq_table.specs.Found.{AreThere};
 
@@ -30,6 +31,7 @@ pub(crate) fn delete_from(
     ensures left { OnOk result (DeletesRows condition.now table.old.is table.new.is) }
     ensures lengths { OnOk result (MarkIn (lengths_of table.old) (lengths_of table.new)) }
     ensures change { IfOk result (λ done. TellsLeft asked condition.now table.old.is done.1) }
+    ensures most { IfOk result (λ done. TellsAtMost done.0 done.1) }
     ensures err { OnErr result (table.new ≡ table.old) }
 {
     let found = table.find(alloc, condition)?;
@@ -48,7 +50,8 @@ fn change_without(
     requires fitting { IsFitting table.now.is }
     requires few { length table.now.is.rows ≤ rows_limit }
     requires there { AreThere found.now (stored_of table.now) }
-    ensures { IfOk result (TellsChosen asked found.now table.now) }
+    ensures told { IfOk result (TellsChosen asked found.now table.now) }
+    ensures most { IfOk result (TellsAtMost (length found.now)) }
 {
     if !asked {
         return Ok(None);

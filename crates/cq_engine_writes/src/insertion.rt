@@ -3,7 +3,7 @@ ghost use Rattle.std.specs.Prelude.{◌++◌, ◌≡◌, ◌≤◌, IfOk, OnErr,
 ghost use Rattle.std.specs.List.{AllByRecursion};
 ghost use Rattle.cq_model_state.specs.Fitting.{FitsColumns, IsFitting, rows_limit};
 ghost use Rattle.cq_engine_tables.specs.HeldTables.{Grows};
-ghost use Rattle.cq_engine_writes.specs.Changing.{Tells};
+ghost use Rattle.cq_engine_writes.specs.Changing.{Tells, TellsAtMost};
 ghost use Rattle.cq_engine_writes.specs.Writing.{InsertsRows};
 
 use crate::changing::change_of;
@@ -29,6 +29,7 @@ pub(crate) fn insert_into(
     ensures inserts { InsertsRows max_rows rows table.old.is result table.new.is }
     ensures lengths { OnOk result (Grows (length rows) table.old table.new) }
     ensures change { IfOk result (Tells asked table.old.is.number table.old.is.rows (table.old.is.rows ++ rows)) }
+    ensures most { IfOk result (TellsAtMost (length rows)) }
     ensures err { OnErr result (table.new ≡ table.old) }
 {
     check_room(max_rows, table.table().len(), rows.len())?;

@@ -1,7 +1,8 @@
 //! The rows that an UPDATE replaces.
-ghost use Rattle.std.specs.Prelude.{◌≡◌, ◌≤◌, IfErr, IfOk, OnErr, length};
+ghost use Rattle.std.specs.Prelude.{◌*◌, ◌≡◌, ◌≤◌, IfErr, IfOk, OnErr, length};
 ghost use Rattle.cq_model_state.specs.Fitting.{IsFitting, rows_limit};
 ghost use Rattle.cq_engine_tables.specs.HeldTables.{Exchanges};
+ghost use Rattle.cq_engine_writes.specs.Changing.{TellsAtMost};
 ghost use Rattle.cq_engine_writes.specs.Updates.{CanUpdate, Prepares, RefusesUpdate, TellsImages, UpdatesRows};
 
 use crate::changing::change_of;
@@ -32,6 +33,7 @@ pub(crate) fn update_rows(
     ensures updates { UpdatesRows assignments.now condition.now table.old.is result table.new.is }
     ensures lengths { IfOk result (λ done. Exchanges done.0 table.old table.new) }
     ensures change { IfOk result (λ done. TellsImages asked assignments.now condition.now table.old.is done.1) }
+    ensures most { IfOk result (λ done. TellsAtMost (2 * done.0) done.1) }
     ensures err { OnErr result (table.new ≡ table.old) }
 {
     let (found, images, change) = prepared(alloc, table, assignments, condition, asked)?;

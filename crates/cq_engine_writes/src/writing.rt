@@ -1,12 +1,12 @@
 //! Writes of the table of a number, which is one of several. Each makes room in the queue first, where its change is
 //! asked for.
 ghost use Rattle.std.specs.Bool.{OnTrue};
-ghost use Rattle.std.specs.Prelude.{◌<◌, ◌≡◌, ◌≤◌, ℕ, IfOk, OnErr, OnOk, length};
+ghost use Rattle.std.specs.Prelude.{◌*◌, ◌<◌, ◌≡◌, ◌≤◌, ℕ, IfOk, OnErr, OnOk, length};
 ghost use Rattle.cq_model_state.specs.Fitting.{AreFitting, AreLimited, rows_limit};
-ghost use Rattle.cq_model_state.specs.State.{AreNumbered};
+ghost use Rattle.cq_model_state.specs.State.{IsThere, AreNumbered};
 ghost use Rattle.cq_engine_tables.specs.HeldTables.{ChangeAt, ExchangesAt, GrowsAt, MarkIn, tables_of};
-ghost use Rattle.cq_engine_tables.specs.Tables.{IsThere};
 ghost use Rattle.cq_engine_queue.specs.Queued.{IsSameQueue};
+ghost use Rattle.cq_engine_writes.specs.Changing.{TellsAtMost};
 ghost use Rattle.cq_engine_writes.specs.Updates.{CanUpdateIn, UpdatesHeld};
 ghost use Rattle.cq_engine_writes.specs.Writing.{DeletesFrom, FitTable, InsertsHeld, IsNarrowFor, TellsDeleted, TellsInserted, TellsUpdated, chosen_count};
 
@@ -38,6 +38,7 @@ pub fn insert_in(
     ensures inserts { InsertsHeld max_rows number rows tables.old result tables.new }
     ensures lengths { OnOk result (GrowsAt number (length rows) tables.old tables.new) }
     ensures change { IfOk result (TellsInserted asked number rows tables.old) }
+    ensures most { IfOk result (TellsAtMost (length rows)) }
     ensures room { OnOk result (OnTrue asked (0 < queue.new.room)) }
     ensures queue { IsSameQueue queue.old queue.new }
     ensures err { OnErr result (tables.new.items ≡ tables.old.items) }
@@ -66,6 +67,7 @@ pub fn delete_in(
     ensures left { OnOk result (DeletesFrom number condition.now tables.old tables.new) }
     ensures lengths { OnOk result (ChangeAt number MarkIn tables.old.items tables.new.items) }
     ensures change { IfOk result (λ done. TellsDeleted asked number condition.now tables.old done.1) }
+    ensures most { IfOk result (λ done. TellsAtMost done.0 done.1) }
     ensures room { OnOk result (OnTrue asked (0 < queue.new.room)) }
     ensures queue { IsSameQueue queue.old queue.new }
     ensures err { OnErr result (tables.new.items ≡ tables.old.items) }
@@ -94,6 +96,7 @@ pub fn update_in(
     ensures updates { UpdatesHeld number assignments.now condition.now tables.old result tables.new }
     ensures lengths { IfOk result (λ done. ExchangesAt number done.0 tables.old tables.new) }
     ensures change { IfOk result (λ done. TellsUpdated asked number assignments.now condition.now tables.old done.1) }
+    ensures most { IfOk result (λ done. TellsAtMost (2 * done.0) done.1) }
     ensures room { OnOk result (OnTrue asked (0 < queue.new.room)) }
     ensures queue { IsSameQueue queue.old queue.new }
     ensures err { OnErr result (tables.new.items ≡ tables.old.items) }

@@ -1,4 +1,5 @@
-use Rattle.std.proofs.Common.{◌∙◌}
+use Rattle.std.proofs.Common.{◌∙◌, ℕ, subst, sym}
+use Rattle.cq_engine_writes.specs.Changing.{TellsAtMost}
 use Rattle.cq_engine_writes.proofs.Written.{left_alone}
 use Rattle.cq_engine_writes.proofs.deletion.delete_from.Goals as goal
 
@@ -15,4 +16,7 @@ pub returns-clause-count : goal.returns-clause-count
 returns-clause-count c = c.len.ensures ∙ c.in_ok-found.ensures.count
 
 pub returns-clause-change : goal.returns-clause-change
-returns-clause-change c = c.in_ok-change.ensures c.args.condition.now c.in_ok-found.ensures
+returns-clause-change c = c.in_ok-change.ensures.told c.args.condition.now c.in_ok-found.ensures
+
+pub returns-clause-most : goal.returns-clause-most
+returns-clause-most c = subst (λ (n : ℕ). TellsAtMost n c.in_ok-change.change) (sym c.len.ensures) c.in_ok-change.ensures.most

@@ -1,9 +1,12 @@
-use Rattle.std.proofs.Common.{◌≡◌, ◌∙◌, None, ap, map, sym}
+use Rattle.std.proofs.Common.{◌≡◌, ◌∙◌, ◌*◌, [], None, ap, arith, length, map, slice_index_or, sym}
+use Rattle.std.proofs.lemmas.List.{length-map}
 use Rattle.cq_model.specs.Write.{image_of, updated}
 use Rattle.cq_model_bags.specs.Canonical.{bag_of}
 use Rattle.cq_table.proofs.Checked.{fault_same}
 use Rattle.cq_table.specs.Checks.{values_fault}
-use Rattle.cq_engine_writes.proofs.Telling.{change_by, tells}
+use Rattle.cq_segments_pieces.specs.Marked.{rows_of}
+use Rattle.cq_engine_tables.specs.Chosen.{stored_of}
+use Rattle.cq_engine_writes.proofs.Telling.{at_most, change_by, tells}
 use Rattle.cq_engine_writes.proofs.Updates.{all_narrow_sets, exchange_at}
 use Rattle.cq_engine_writes.proofs.updating.prepared.Goals as goal
 
@@ -31,6 +34,7 @@ returns-clause-ready c =
     let picks = ap bag_of exchange.gone ∙ found.picks in
     let free : values_fault t.columns sets gone ≡ None = fault_same sets condition t.rows gone picks t.columns ∙ checked in
     let are : come ≡ map (image_of sets) gone = c.of-come.ensures ∙ exchange.images ∙ ap (map (image_of sets)) (sym exchange.gone) in
+    let many : length gone ≡ length c.in_ok-found.found = ap length exchange.gone ∙ length-map c.in_ok-found.found (λ place. slice_index_or (rows_of (stored_of c.args.table.now)) place []) in
     record {
       free = checked;
       found = found;
@@ -38,4 +42,7 @@ returns-clause-ready c =
       tells =
           tells c.args.asked t.number t.rows (updated sets condition t.rows) (change_by t.number gone come) (exchange_at t sets condition c.requires.can gone picks c.requires.fitting c.requires.few free come are)
           c.in_ok-change.change c.in_ok-change.ensures.there (rw c.number.ensures at c.in_ok-change.ensures.is);
+      few =
+          at_most t.number (2 * length c.in_ok-found.found) gone come (omega (arith, many, ap length are, length-map gone (image_of sets)))
+          c.in_ok-change.change (rw c.number.ensures at c.in_ok-change.ensures.is);
     }

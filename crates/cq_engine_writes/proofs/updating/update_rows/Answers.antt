@@ -1,4 +1,5 @@
-use Rattle.std.proofs.Common.{◌∙◌, arith}
+use Rattle.std.proofs.Common.{◌∙◌, ◌*◌, ℕ, arith, subst, sym}
+use Rattle.cq_engine_writes.specs.Changing.{TellsAtMost}
 use Rattle.cq_engine_writes.proofs.Updates.{images_fitting, length_come, replaced_table}
 use Rattle.cq_engine_writes.proofs.updating.update_rows.Goals as goal
 
@@ -31,3 +32,6 @@ returns-clause-lengths c = record {
 
 pub returns-clause-change : goal.returns-clause-change
 returns-clause-change c = c.in_ok-found.ensures.ready.tells
+
+pub returns-clause-most : goal.returns-clause-most
+returns-clause-most c = subst (λ (n : ℕ). TellsAtMost (2 * n) c.in_ok-found.change) (sym c.len.ensures) c.in_ok-found.ensures.ready.few
