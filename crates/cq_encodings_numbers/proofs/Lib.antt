@@ -1,3 +1,4 @@
 pub mod Above
 pub mod NumbersAbove
+pub mod PartEnds
 pub mod Walking

@@ -1,3 +1,4 @@
 pub mod Deltas
+pub mod Ends
 pub mod Packed
 pub mod Steps

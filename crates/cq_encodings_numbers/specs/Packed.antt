@@ -10,6 +10,7 @@ use Rattle.cq_encodings_plain.specs.Nulls.{NothingWhere}
 use Rattle.cq_encodings_plain.specs.PackedNumbers.{numbers_in}
 use Rattle.cq_encodings_plain.specs.declared.packed_numbers.Widths.{Widths}
 use Rattle.cq_encodings_plain.specs.Parts.{IsNoneNull, nulls_of}
+use Rattle.cq_encodings_numbers.specs.Ends.{HaveEnds}
 
 -- the numbers that lie so far above a least one
 abbrev pub above : ℤ → List ℕ → List ℤ
@@ -24,6 +25,11 @@ pub record AreOffsets (kind : Kind) (least : ℤ) (offsets : List ℕ) (nulls : 
   pub long : length nulls ≡ length offsets
   pub clear : NothingWhere 0 nulls offsets
   pub fit : FitAbove kind least offsets
+
+-- they have the ends of each 1,024
+pub record IsPacked (kind : Kind) (least : ℤ) (offsets : List ℕ) (nulls : List Bool) (ends : List (ℕ × ℕ)) : Type 0 where
+  pub are : AreOffsets kind least offsets nulls
+  pub have : HaveEnds ends offsets
 
 -- the number so far above the least stands for the value
 pub record IsOffset (kind : Kind) (least : ℤ) (value : Lent) (offset : ℕ) : Type 0 where

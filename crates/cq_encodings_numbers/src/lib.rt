@@ -7,6 +7,7 @@
 mod bounds;
 mod deltas;
 mod distances;
+mod ends;
 mod offsets;
 mod packed;
 mod steps;

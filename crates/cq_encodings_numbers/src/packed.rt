@@ -1,16 +1,19 @@
 //! Numbers or days that lie close together.
 ghost use Rattle.std.specs.List.{AllByRecursion};
-ghost use Rattle.std.specs.Prelude.{IfOk, IfSome, map, pos, ◌+ℤ◌, ◌≡◌};
+ghost use Rattle.std.specs.Prelude.{IfOk, IfSome, drop, map, pos, take, ◌*◌, ◌+ℤ◌, ◌≡◌};
 ghost use Rattle.std.specs.Simd.Lanes.{zip2};
 ghost use Rattle.cq_encodings_plain.specs.Kind.{IsOf, datum, number_values};
+ghost use Rattle.cq_encodings_plain.specs.PackedNumbers.{numbers_in};
+ghost use Rattle.cq_encodings_numbers.specs.Ends.{AreWithin};
 ghost use Rattle.cq_encodings_numbers.specs.Packed.{AreOffsets, above};
 ghost use Rattle.cq_values.specs.Lent.{owned};
 
 use crate::bounds::{bounds_of, ends_of};
 use crate::distances::distances_at;
+use crate::ends::ends_of_parts;
 use crate::offsets::offsets_at;
 use cq_encodings_plain::{
-    Encoded, Kind, Nulls, PackedNumbers, is_of, kind_of, lend_number, width_up_to,
+    Encoded, Kind, Nulls, PackedNumbers, Widths, is_of, kind_of, lend_number, width_up_to,
 };
 use cq_values::Lent;
 use std::alloc::{AllocError, Global};
@@ -23,20 +26,22 @@ pub struct Packed {
     least: i64,
     offsets: PackedNumbers,
     nulls: Nulls,
+    /// The least and the greatest offset of each 1,024.
+    ends: Vec<(u64, u64)>,
 }
 
 impl Model for Packed {
     ghost use Rattle.std.specs.Prelude.{List};
     ghost use Rattle.std.specs.Simd.Lanes.{zip2};
     ghost use Rattle.cq_encodings_plain.specs.Kind.{datum};
-    ghost use Rattle.cq_encodings_numbers.specs.Packed.{AreOffsets, above};
+    ghost use Rattle.cq_encodings_numbers.specs.Packed.{IsPacked, above};
     ghost use Rattle.cq_values.specs.declared.value.Value.{Value as Datum};
 
     ghost Value = { List Datum };
 
     ghost view = { λ p. zip2 (datum p.kind) (above p.least p.offsets) p.nulls };
 
-    ghost invariant = { λ p. AreOffsets p.kind p.least p.offsets p.nulls };
+    ghost invariant = { λ p. IsPacked p.kind p.least p.offsets p.nulls p.ends.items };
 }
 
 impl Packed {
@@ -86,12 +91,40 @@ impl Packed {
         let Some(widths) = distances_at(alloc, least, numbers, width)? else {
             return Ok(None);
         };
-        Ok(Some(Packed {
+        let nulls = Nulls::clear(alloc, numbers.len())?;
+        Ok(Some(Packed::with_ends(alloc, kind, least, widths, nulls)?))
+    }
+
+    /// Offsets above a least number.
+    fn with_ends(
+        alloc: Global,
+        kind: Kind,
+        least: i64,
+        widths: Widths,
+        nulls: Nulls,
+    ) -> Result<Packed, AllocError>
+        requires { AreOffsets kind least (numbers_in widths) nulls }
+        ensures { IfOk result (λ packed. packed ≡ zip2 (datum kind) (above least (numbers_in widths)) nulls) }
+    {
+        let offsets = PackedNumbers::from_widths(widths);
+        let ends = ends_of_parts(alloc, &offsets)?;
+        Ok(Packed {
             kind,
             least,
-            offsets: PackedNumbers::from_widths(widths),
-            nulls: Nulls::clear(alloc, numbers.len())?,
-        }))
+            offsets,
+            nulls,
+            ends,
+        })
+    }
+
+    /// The least and the greatest number of a part of 1,024 values, if there is such a part. NULL may stand there too.
+    pub fn part_ends(&self, part: usize) -> Option<(Lent<'_>, Lent<'_>)>
+        ensures { IfSome result (λ e. AreWithin (owned e.0) (owned e.1) (take 1024 (drop (1024 * part) self.now))) }
+    {
+        let ends = self.ends.get(part)?;
+        let least = lend_number(self.kind, raised(self.least, ends.0));
+        let greatest = lend_number(self.kind, raised(self.least, ends.1));
+        Some((least, greatest))
     }
 
     /// The kind, the least number, the offsets and the flags, for loops: the offset is 0 where NULL stands.
@@ -149,10 +182,5 @@ fn packed_between(
         return Ok(None);
     };
     let nulls = Nulls::where_any(alloc, values, any_null)?;
-    Ok(Some(Packed {
-        kind,
-        least,
-        offsets: PackedNumbers::from_widths(widths),
-        nulls,
-    }))
+    Ok(Some(Packed::with_ends(alloc, kind, least, widths, nulls)?))
 }

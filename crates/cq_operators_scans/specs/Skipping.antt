@@ -1,4 +1,4 @@
--- Rows of a segment of which none can pass.
+-- Rows of which none can pass.
 use Rattle.std.specs.Prelude.{◌≡◌, ℕ, false, List, map}
 use Rattle.std.specs.List.{AllByRecursion}
 use Rattle.cq_values.specs.Lent.{owned}
@@ -12,8 +12,16 @@ use Rattle.cq_model.specs.Expr.{Cond, Expr, Negate, Compare, IsNull, Between, In
 use Rattle.cq_model.specs.Own.{in_place}
 use Rattle.cq_model.specs.Trees.{expr_of}
 use Rattle.cq_model.specs.declared.expr.ExprTree.{ExprTree}
+use Rattle.cq_segments_pieces.specs.Marked.{rows_of}
+use Rattle.cq_operators_scans.specs.declared.skipping.Bounded.{Bounded}
+use Rattle.cq_operators_scans.specs.declared.skipping.Bounded.TheVariants as bounded
 use Rattle.cq_operators_scans.specs.declared.skipping.ValueTest.{ValueTest}
 use Rattle.cq_operators_scans.specs.declared.skipping.ValueTest.TheVariants as test
+
+-- the rows, deleted or not
+abbrev pub bounded_rows : Bounded → List Row
+bounded_rows (bounded.Segment segment) = rows_of segment.now
+bounded_rows (bounded.Part columns) = columns.now
 
 -- the condition is True in none of the rows, whose values stand behind so many others
 abbrev pub NoneHolds : ℕ → Cond → List Row → Type 0

@@ -22,5 +22,5 @@ pub use operand::{Operand, lend_vectors};
 pub use passed::{passing, scan_passing};
 pub use places::{append_from, scan_piece};
 pub use scan::Scan;
-pub use skipping::{split_missed, split_unkept};
+pub use skipping::{is_unkept, split_missed, split_unkept};
 pub use vectors::{own_vector_of, vector_of};

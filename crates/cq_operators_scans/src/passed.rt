@@ -10,7 +10,7 @@ ghost use Rattle.cq_table_columns.specs.Stored.{all_rows, front_rows};
 use crate::lent::lend_all;
 use crate::places::segment_passing;
 use crate::scan::Scan;
-use crate::skipping::split_missed;
+use crate::skipping::{is_missed, split_missed};
 use crate::truths::truths_of_tree;
 use cq_model::CondTree;
 use cq_model_terms::columns_of;
@@ -99,6 +99,9 @@ fn pass_all<'a>(
     requires exact { CanAllPass before conditions.now (front_rows front.now) }
     ensures { IfOk result (λ p. rows_in p ≡ passing_rows before conditions.now (front_rows front.now)) }
 {
+    if is_missed(before, conditions, front) {
+        return Ok(StoredRows::Listed(Vec::new(alloc)));
+    }
     let mut passed = StoredRows::Front(*front);
     for condition in conditions {
         passed = pass_one(alloc, before, condition, &passed, known)?;

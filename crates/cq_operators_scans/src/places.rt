@@ -6,6 +6,7 @@ ghost use Rattle.cq_segments_pieces.specs.Marked.{live};
 
 use crate::passed::passing_places;
 use crate::scan::Scan;
+use crate::skipping::is_missed;
 use cq_encodings_vectors::copies_at;
 use cq_model::CondTree;
 use cq_prims::KnownTruths;
@@ -72,7 +73,11 @@ fn piece_passing<'a>(
     ensures there { IfOk result (λ r. AreBelow (length piece.now) r.1.items) }
     ensures passed { IfOk result (λ r. ArePassedAt before conditions.now piece.now r.1.items) }
 {
-    let mut passed = StoredRows::Front(Front::of_piece(piece));
+    let front = Front::of_piece(piece);
+    if is_missed(before, conditions, &front) {
+        return Ok((StoredRows::Listed(Vec::new(alloc)), Vec::new(alloc)));
+    }
+    let mut passed = StoredRows::Front(front);
     let mut places = piece.live_places(alloc)?;
     for condition in conditions {
         let kept = passing_places(alloc, before, *condition, &passed, known)?;

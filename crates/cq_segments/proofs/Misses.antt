@@ -20,7 +20,9 @@ use Rattle.cq_values.specs.declared.value.Value.{Value}
 use Rattle.cq_values.specs.declared.value.Value.TheVariants.{Null, Number, Text, Day}
 use Rattle.cq_model.proofs.Conditions.{truth-told}
 use Rattle.cq_model.proofs.Extremes.{IsUpTo}
+use Rattle.cq_model_bags.proofs.Lists.{all-weaker}
 use Rattle.cq_model_bags.proofs.Totals.{by_test}
+use Rattle.cq_encodings_numbers.specs.Ends.{AreWithin, IsWithin}
 use Rattle.cq_vectors.specs.Gathered.{column_of}
 use Rattle.cq_segments.specs.Bounds.{AreBounds, Ends, IsBounded}
 use Rattle.cq_segments.specs.ColumnTest.{NoneBetween, NoneMatches, NonePasses}
@@ -161,3 +163,15 @@ module _ (at : ℕ) (has_null : Bool) (ends : Ends) where
     -- where there is no least value, no row has one
     pub none_known : ends ≡ None → NoneMatches (asked.IsNotNull at) rows
     none_known is = only_null rows (subst (λ e. AllByRecursion (IsBounded has_null e) (column_of rows at)) is bounds.all)
+
+-- a value within the ends is bounded by them, where NULL may be there
+within-bounded : (least greatest v : Value) → IsWithin least greatest v → IsBounded true (Some (least, greatest)) v
+within-bounded least greatest v (inl null) = inl (null, refl)
+within-bounded least greatest v (inr between) = inr between
+
+-- where no value within the ends passes a comparison, no row does
+pub none_within : (at : ℕ) (least greatest : Value) (rows : List Row) → AreWithin least greatest (column_of rows at) → (c : Comparison) (k : Lent) (may : Bool)
+    → OnFalse may (NonePasses c (owned k) (Some (least, greatest))) → OnFalse may (NoneMatches (asked.Compare at c k) rows)
+none_within at least greatest rows all c k may passes =
+    let bounded = all-weaker (IsWithin least greatest) (IsBounded true (Some (least, greatest))) (within-bounded least greatest) (column_of rows at) all in
+    by_test may (λ h. rw h tt) (λ h. rw h (none_in at true (Some (least, greatest)) c k (rw h at passes) rows bounded))

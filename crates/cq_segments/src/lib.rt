@@ -19,5 +19,5 @@ mod sorting;
 mod text_bounds;
 
 pub use bounds::Bounds;
-pub use column_test::ColumnTest;
+pub use column_test::{ColumnTest, may_match};
 pub use segment::Segment;

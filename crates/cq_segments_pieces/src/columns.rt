@@ -8,6 +8,7 @@ ghost use Rattle.std.specs.List.{All};
 ghost use Rattle.std.specs.Option.{IfNone};
 ghost use Rattle.std.specs.Prelude.{IfOk, IfSome, [], drop, length, replicate, slice_index_or, ◌*◌, ◌<◌, ◌≡◌, ◌≤◌};
 ghost use Rattle.cq_encodings.specs.AnyEncoded.{encoded_values};
+ghost use Rattle.cq_encodings_numbers.specs.Ends.{AreWithin};
 ghost use Rattle.cq_encodings_vectors.specs.Places.{AreBelow, rows_at};
 ghost use Rattle.cq_segments_pieces.specs.Columns.{AreColumns, parts_of, rows_of_columns, values_from};
 ghost use Rattle.cq_segments_pieces.specs.Rows.{row_of};
@@ -150,6 +151,17 @@ impl Columns {
                 vector_at(alloc, encoded, part, places.as_slice())
             }
             None => Ok(Vector::new(Form::Constant(Lent::Null, places.len()))),
+        }
+    }
+
+    /// The least and the greatest value of a column, where they are known. NULL may stand there too.
+    pub fn ends(&self, at: usize) -> Option<(Lent<'_>, Lent<'_>)>
+        ensures { IfSome result (λ e. AreWithin (owned e.0) (owned e.1) (column_of self.now at)) }
+    {
+        let (encoded, part, _from) = self.column(at)?;
+        match encoded {
+            AnyEncoded::Packed(packed) => packed.part_ends(part),
+            _ => None,
         }
     }
 

@@ -7,7 +7,7 @@ ghost use Rattle.cq_table_columns.specs.Stored.{all_rows, front_rows, marked_row
 
 use cq_model::Cond;
 use cq_model_terms::columns_of;
-use cq_operators_scans::{kept_places, split_unkept};
+use cq_operators_scans::{is_unkept, kept_places, split_unkept};
 use cq_prims::KnownTruths;
 use cq_table_columns::{Front, Stored};
 use std::alloc::{AllocError, Global};
@@ -54,6 +54,27 @@ fn columns_read(alloc: Global, condition: &Option<Cond>) -> Result<Vec<usize>, A
 
 /// Adds the places of those that it keeps of at most 1,024 rows, behind so many others.
 fn find_in<'a>(
+    alloc: Global,
+    condition: &'a Option<Cond>,
+    columns: &[usize],
+    before: usize,
+    front: &Front<'a>,
+    known: &mut KnownTruths<'a>,
+    found: &mut Vec<usize>,
+) -> Result<(), AllocError>
+    requires narrow { AllByRecursion (IsNarrowIn condition.now) (front_rows front.now) }
+    requires few { length (marked_rows front.now) ≤ 1024 }
+    requires counted { before + length (marked_rows front.now) < 2 ^ 64 }
+    ensures { OnOk result (PutsPlaces before condition.now front.now found.old found.new) }
+{
+    if is_unkept(condition, front) {
+        return Ok(());
+    }
+    find_kept(alloc, condition, columns, before, front, known, found)
+}
+
+/// The same, where the front is read.
+fn find_kept<'a>(
     alloc: Global,
     condition: &'a Option<Cond>,
     columns: &[usize],

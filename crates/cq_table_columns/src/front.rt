@@ -4,7 +4,7 @@
 //! column of them as a vector. Where a row has a mark, `live_places` tells where the others stand, and `span` how many
 //! stand there with it. To find one live row costs a step a row before it, all of them one step each.
 ghost use Rattle.std.specs.List.{range_with_len};
-ghost use Rattle.std.specs.Prelude.{◌<◌, ◌≡◌, ◌≤◌, IfOk, [], length, slice_index_or, take};
+ghost use Rattle.std.specs.Prelude.{◌<◌, ◌≡◌, ◌≤◌, IfOk, IfSome, [], length, slice_index_or, take};
 ghost use Rattle.cq_segments_pieces.specs.Marked.{live, live_from, rows_of};
 ghost use Rattle.cq_encodings_vectors.specs.Places.{AreBelow, rows_at};
 ghost use Rattle.cq_segments_pieces.specs.Rows.{row_of, stored_rows};
@@ -185,6 +185,17 @@ impl<'a> Front<'a> {
             Front::Columns(columns) => Front::Columns(*columns),
             Front::Marked(piece) => Front::Columns(piece.columns()),
             Front::Written(written) => Front::Rows(written.rows()),
+        }
+    }
+
+    /// The columns in which the rows stand, with a mark or without, where they stand in columns.
+    pub fn columns(&self) -> Option<&'a Columns>
+        ensures { IfSome result (λ c. c.now ≡ rows_of (marked_rows self.now)) }
+    {
+        match self {
+            Front::Columns(columns) => Some(*columns),
+            Front::Marked(piece) => Some(piece.columns()),
+            Front::Rows(_) | Front::Written(_) => None,
         }
     }
 

@@ -8,8 +8,8 @@ use Rattle.cq_operators_scans.proofs.places.piece_passing.Goals as goal
 
 pub loop-condition-init : goal.loop-condition-init
 loop-condition-init c = record {
-  asked = all-left c.args.piece.now _ c.of_piece.ensures.rows c.args.before c.args.conditions.now c.of_piece.ensures.few c.requires;
-  stands = all-stand c.args.piece.now _ c.of_piece.ensures.rows c.in_ok-places.places.items c.in_ok-places.ensures;
+  asked = all-left c.args.piece.now _ c.of_piece-front.ensures.rows c.args.before c.args.conditions.now c.of_piece-front.ensures.few c.requires;
+  stands = all-stand c.args.piece.now _ c.of_piece-front.ensures.rows c.in_ok-places.places.items c.in_ok-places.ensures;
 }
 
 pub passing_places-requires-clause-exact : goal.passing_places-requires-clause-exact

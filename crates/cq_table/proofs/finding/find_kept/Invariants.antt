@@ -1,6 +1,6 @@
 use Rattle.std.proofs.Common.{◌≡◌, ◌+◌, ◌++◌, map, take}
 use Rattle.std.specs.Prelude.{slice_index_or}
-use Rattle.cq_table.proofs.finding.find_in.Given as goal
+use Rattle.cq_table.proofs.finding.find_kept.Given as goal
 
 -- the places so far stand behind those that were found before
 abbrev pub invariant-loop-place : goal.invariant-loop-place
