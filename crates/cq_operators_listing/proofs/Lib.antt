@@ -6,3 +6,4 @@ pub mod Tellings
 pub mod Digits
 pub mod Rows
 pub mod Truths
+pub mod Merges

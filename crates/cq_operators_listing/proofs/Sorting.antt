@@ -15,7 +15,7 @@ use Rattle.cq_operators_listing.specs.Stored.{StoredListing, CanList}
 
 -- ---- the rows in order
 -- two lists that have each row as often are one bag
-same_bag : (xs ys : List Row) → ((r : Row) → times_in r xs ≡ times_in r ys) → SameBag (once_each xs) (once_each ys)
+pub same_bag : (xs ys : List Row) → ((r : Row) → times_in r xs ≡ times_in r ys) → SameBag (once_each xs) (once_each ys)
 same_bag xs ys t = record { at = λ r. weight_of-once_each xs r ∙ ap pos (t r) ∙ sym (weight_of-once_each ys r) }
 
 -- rows that were put in order are the list of their bag

@@ -5,3 +5,4 @@ pub mod Front
 pub mod Places
 pub mod Ranks
 pub mod Ranked
+pub mod Merging

@@ -1,6 +1,5 @@
 -- Places of rows with the ranks of what their listing compares first.
-use Rattle.std.specs.Prelude.{◌≡◌, ℕ, List, length, map, take, Option}
-use Rattle.std.specs.List.{range_with_len}
+use Rattle.std.specs.Prelude.{◌≡◌, ℕ, List, length, take, Option}
 use Rattle.std.specs.declared.cmp.Ordering.{Ordering}
 use Rattle.std.specs.Ordering.{nat_cmp, ordering_then}
 use Rattle.cq_values.specs.Value.{Row}
@@ -13,10 +12,6 @@ use Rattle.cq_operators_listing.specs.declared.ranked.Ranked.{Ranked}
 -- the place of a row with the row's ranks
 abbrev pub ranked : List SortKey → List Row → ℕ → Ranked
 ranked keys rows place = record { ranks = row_ranks keys (row_or_none rows place); place = place }
-
--- the places of all rows with their ranks
-abbrev pub ranked_all : List SortKey → List Row → List Ranked
-ranked_all keys rows = map (ranked keys rows) (range_with_len 0 (length rows))
 
 -- by the ranks, and where they are equal by the rows
 abbrev pub cmp_ranked : List SortKey → List Row → Ranked → Ranked → Ordering

@@ -1,14 +1,14 @@
 //! Rows put in the order of a listing.
 ghost use Rattle.std.specs.Bool.{IsTrue, OnTrue};
-ghost use Rattle.std.specs.Prelude.{◌↔◌, ◌≡◌, ◌≤◌, IfOk, None, map};
+ghost use Rattle.std.specs.Prelude.{◌↔◌, ◌≡◌, ◌≤◌, IfOk, None};
 ghost use Rattle.cq_model_bags.specs.Bag.{once_each};
 ghost use Rattle.cq_model_bags.specs.Listing.{IsListing, Lists};
 ghost use Rattle.cq_operators_listing.specs.InOrder.{EachInOrder};
-ghost use Rattle.cq_operators_listing.specs.Ranked.{TakesFirst, ranked_all};
+ghost use Rattle.cq_operators_listing.specs.Ranked.{TakesFirst};
 
 use crate::by_numbers::listed_by_numbers;
 use crate::comparing::cmp_listed;
-use crate::ranked::{Ranked, cmp_ranked};
+use crate::merging::first_places;
 use cq_model::Order;
 use cq_model_bags::SortKey;
 use cq_values_rows::RowList;
@@ -68,36 +68,9 @@ fn first_ranked(
 ) -> Result<RowList, AllocError>
     ensures { IfOk result (λ first. IsListing keys.now limit (once_each rows.now) first) }
 {
-    let mut ranked = rank_all(alloc, keys, rows)?;
-    ranked.sort_unstable_by(|a, b| cmp_ranked(keys, rows, a, b));
-    let count = count_within(limit, ranked.len());
-    ranked.truncate(count);
-    let places = places_of(alloc, ranked.as_slice())?;
+    let count = count_within(limit, rows.len());
+    let places = first_places(alloc, keys, rows, count)?;
     rows.at_places(alloc, &places)
-}
-
-/// The places of all rows, with their ranks.
-fn rank_all(alloc: Global, keys: &[SortKey], rows: &RowList) -> Result<Vec<Ranked>, AllocError>
-    ensures { IfOk result (λ all. all.items ≡ ranked_all keys.now rows.now) }
-{
-    let mut all = Vec::new(alloc);
-    all.reserve(rows.len())?;
-    for place in 0..rows.len() {
-        all.push_reserved(Ranked::new(keys, rows, place));
-    }
-    Ok(all)
-}
-
-/// The places alone.
-fn places_of(alloc: Global, ranked: &[Ranked]) -> Result<Vec<usize>, AllocError>
-    ensures { IfOk result (λ places. places.items ≡ map (λ one. one.place) ranked.now) }
-{
-    let mut places = Vec::new(alloc);
-    places.reserve(ranked.len())?;
-    for one in ranked {
-        places.push_reserved(one.place);
-    }
-    Ok(places)
 }
 
 /// How many of so many rows LIMIT leaves. A limit may be larger than any list.

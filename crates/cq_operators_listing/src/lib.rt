@@ -10,6 +10,7 @@ mod arranging;
 mod by_numbers;
 mod comparing;
 mod listing;
+mod merging;
 mod places;
 mod ranked;
 mod ranks;

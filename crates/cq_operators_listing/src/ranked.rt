@@ -1,4 +1,5 @@
 //! Places of rows with the ranks of what their listing compares first.
+ghost use Rattle.std.specs.Ordering.{is_lt};
 ghost use Rattle.std.specs.Prelude.{◌≡◌};
 ghost use Rattle.cq_model_bags.specs.Listing.{listing_cmp};
 ghost use Rattle.cq_operators_listing.specs.Ranked.{cmp_ranked as by_ranks, ranked};
@@ -36,6 +37,14 @@ pub(crate) fn cmp_ranked(keys: &[SortKey], rows: &RowList, a: &Ranked, b: &Ranke
         Ordering::Equal => cmp_rows(keys, rows, a.place, b.place),
         ordering => ordering,
     }
+}
+
+/// Whether the first one stands before the other.
+#[inline]
+pub(crate) fn comes_first(keys: &[SortKey], rows: &RowList, a: &Ranked, b: &Ranked) -> bool
+    ensures { result ≡ is_lt (by_ranks keys.now rows.now a.now b.now) }
+{
+    cmp_ranked(keys, rows, a, b).is_lt()
 }
 
 #[cold]
