@@ -1,4 +1,4 @@
-use Rattle.std.proofs.Common.{◌≡◌, None, refl, subst}
+use Rattle.std.proofs.Common.{None, refl, subst}
 use Rattle.std.specs.Option.{IfSome}
 use Rattle.cq_model_bags.specs.Bag.{once_each}
 use Rattle.cq_model_bags.specs.Listing.{Lists}

@@ -1,5 +1,4 @@
-use Rattle.std.proofs.Common.{◌-◌, ◌∙◌, List, ap, subst}
-use Rattle.cq_values.specs.Value.{Row}
+use Rattle.std.proofs.Common.{◌-◌, ◌∙◌, ap, subst}
 use Rattle.cq_values_rows.specs.Columns.{row_or_none}
 use Rattle.cq_operators_listing.specs.Front.{IsFront}
 use Rattle.cq_operators_listing.specs.Stored.{StoredListing}
