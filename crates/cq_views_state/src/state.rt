@@ -18,6 +18,9 @@ ghost use Rattle.cq_views_state.specs.Shown.{AreRowsOf, CanShow, IsNotShown, IsS
 ghost use Rattle.cq_views_state.specs.Work.{CountsPut, CountsRows, work_of};
 ghost use Rattle.cq_views_state.specs.State.{CanCommit, CanPrepare, IsWaiting, SameView, StandsFor, StaysStanding, TakesIn, further};
 
+#[cfg(test)]
+mod tests;
+
 use crate::grouping::stream_groups;
 use crate::imaging::stream_images;
 use crate::joins::joined;
