@@ -40,7 +40,6 @@ impl Values {
         if entries.len() > MOST {
             return self.add_each(alloc, column, numbers);
         }
-        numbers.clear();
         numbers.resize(codes.len(), 0)?;
         self.number_coded(
             alloc,

@@ -58,7 +58,6 @@ impl Values {
         ensures numbers { OnOk result (Tells self.new (whole_values kind values.now) numbers.new.items) }
         ensures front { TakesFront same_value self.old (whole_values kind values.now) self.new }
     {
-        numbers.clear();
         numbers.resize(values.len(), 0)?;
         self.number_whole(alloc, column, kind, values, numbers.as_mut_slice())
     }
@@ -106,7 +105,6 @@ impl Values {
     ) -> Result<(), AllocError>
         ensures { OnOk result (numbers.new.items ≡ map (place_in self.now) (whole_values kind values.now)) }
     {
-        numbers.clear();
         numbers.resize(values.len(), None)?;
         self.find_all(kind, values, numbers.as_mut_slice());
         Ok(())
