@@ -1,3 +1,4 @@
 pub mod Known
 pub mod Numbered
+pub mod OneGroup
 pub mod Putting

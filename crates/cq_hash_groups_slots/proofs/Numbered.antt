@@ -1,5 +1,6 @@
 -- Columns of numbers with their NULLs.
-use Rattle.std.proofs.Common.{◌≡◌, ℕ, zero, suc, ◌<◌, ℤ, pos, Bool, false, List, [], ◌∷◌, map, length, get_or, refl, sym, ◌∙◌, ap, ap₂, arith}
+use Rattle.std.proofs.Common.{◌≡◌, ℕ, zero, suc, ◌+◌, ◌^◌, ◌<◌, ◌≤◌, ℤ, pos, nat_abs, Bool, false, List, [], ◌∷◌, map, length, get_or, refl, sym, ◌∙◌, ap, ap₂, arith}
+use Rattle.std.proofs.lemmas.Int.{ints}
 use lib.Lanes.{zip2}
 use Rattle.std.proofs.lemmas.Simd.{length-zip2}
 use Rattle.cq_model.specs.Condition.{is_null}
@@ -42,3 +43,9 @@ pub narrow-read : (read base : ℤ) (offsets : List ℕ) (nulls : List Bool) (va
     → nulls ≡ map is_null column → with_nulls (all_above read offsets) nulls ≡ values
 narrow-read read base offsets nulls values column kept is whole are =
     ap (λ (b : ℤ). with_nulls (all_above b offsets) nulls) kept ∙ narrow-is base offsets nulls values column is whole are
+
+-- small offsets above a small base are small numbers
+pub small-above : (base : ℤ) (offsets : List ℕ) (place : ℕ) → nat_abs base ≤ 2 ^ 52 → ((k : ℕ) → get_or offsets k 0 ≤ 2 ^ 32) → nat_abs (get_or (all_above base offsets) place (pos 0)) ≤ 2 ^ 52 + 2 ^ 32
+small-above base [] place near few = omega arith
+small-above base (o ∷ offsets) zero near few = let h : o ≤ 2 ^ 32 = few 0 in first_of (omega (arith, ints, near, h), search (arith, ints, near, h))
+small-above base (o ∷ offsets) (suc place) near few = small-above base offsets place near (λ k. few (suc k))

@@ -121,6 +121,10 @@ PutColumn start numbers column nulls old new = PutNumbers start (length numbers)
 abbrev pub AreNumbers : ℕ → List ℕ → Type 0
 AreNumbers groups numbers = AllByRecursion (λ number. number < groups) numbers
 
+-- each is that of this one group
+abbrev pub AreOfOne : ℕ → List ℕ → Type 0
+AreOfOne group numbers = (place : ℕ) → place < length numbers → slice_index_or numbers place 0 ≡ group
+
 -- a fault is told for a total only where it cannot be shown
 abbrev pub IsTotalFault : Sum → ShowFault → Type 0
 IsTotalFault sum e = e ≡ SumOutOfRange → InRange sum.total → ⊥

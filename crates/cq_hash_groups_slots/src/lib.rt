@@ -4,6 +4,7 @@
 //! has, their exact total, or the best of them.
 #![tactic(auto)]
 
+mod at_hand;
 mod bests;
 mod counts;
 mod number_columns;

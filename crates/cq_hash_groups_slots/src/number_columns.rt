@@ -1,12 +1,13 @@
 //! Columns of numbers of 64 bits, read where they stand.
 //!
 //! A column has a number in each place, also where NULL stands: a plane tells these places, and nobody may use the number.
+ghost use Rattle.std.specs.Bool.{OnTrue};
 ghost use Rattle.std.specs.Prelude.{length, pos, slice_index_or, List, ℤ, ◌<◌, ◌≡◌};
 ghost use Rattle.cq_values.specs.Lent.{owned};
 ghost use Rattle.cq_vectors_stored.specs.Columns.{number_unless};
 ghost use Rattle.cq_vectors_stored.specs.LentColumns.{FitAbove};
 ghost use Rattle.cq_vectors_stored.specs.Offsets.{offsets_in};
-ghost use Rattle.cq_hash_groups_slots.specs.NumberColumns.{all_above};
+ghost use Rattle.cq_hash_groups_slots.specs.NumberColumns.{AreSmall, all_above};
 
 use cq_prims_lanes::Offset;
 use cq_values::Lent;
@@ -19,6 +20,10 @@ pub(crate) trait NumberColumn {
     fn at(&self, place: usize) -> i64
         requires { place < length (numbers self.now) }
         ensures { result ≡ slice_index_or (numbers self.now) place (pos 0) };
+
+    /// Whether it is plain, without a look at them, that the numbers are small.
+    fn are_small(&self) -> bool
+        ensures { OnTrue result (AreSmall (numbers self.now)) };
 }
 
 /// Numbers as they are.
@@ -32,6 +37,10 @@ impl NumberColumn for Plain<'_> {
 
     fn at(&self, place: usize) -> i64 {
         self.values[place]
+    }
+
+    fn are_small(&self) -> bool {
+        false
     }
 }
 
@@ -50,6 +59,12 @@ impl<T: Offset> NumberColumn for AboveBy<'_, T> {
         let (base, offsets) = (self.base, self.offsets);
         base + i64::from(T::at(offsets, place))
     }
+
+    fn are_small(&self) -> bool {
+        let (base, offsets) = (self.base, self.offsets);
+        let _most = T::greatest_of(offsets);
+        base.unsigned_abs() <= 4_503_599_627_370_496
+    }
 }
 
 /// Offsets of whichever width above a base.
@@ -65,6 +80,10 @@ impl NumberColumn for Above<'_> {
 
     fn at(&self, place: usize) -> i64 {
         self.base + i64::from(self.offsets.at(place))
+    }
+
+    fn are_small(&self) -> bool {
+        false
     }
 }
 

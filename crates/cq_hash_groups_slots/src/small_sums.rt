@@ -2,7 +2,7 @@
 //!
 //! `put` puts values in up to the first whose sum 64 bits do not hold, and tells its place: from there on the sums have to
 //! be wide. It costs one read and one write of 16 bytes for a value, and takes no memory.
-ghost use Rattle.std.specs.Prelude.{◌++◌, replicate, ℕ, ◌+◌, ◌≡◌, ◌≤◌, IfSome, OnErr, OnOk, [], length, map, slice_index_or};
+ghost use Rattle.std.specs.Prelude.{◌++◌, replicate, ℕ, ◌+◌, ◌+ℤ◌, ◌^◌, ◌≡◌, ◌≤◌, IfSome, nat_abs, OnErr, OnOk, [], length, map, slice_index_or};
 ghost use Rattle.cq_values.specs.Lent.{owned};
 ghost use Rattle.cq_values.specs.declared.value.Value.TheVariants.{Number};
 ghost use Rattle.cq_model.specs.Group.{InRange};
@@ -10,9 +10,10 @@ ghost use Rattle.cq_vectors_stored.specs.Columns.{number_unless};
 ghost use Rattle.cq_vectors_stored.specs.LentColumns.{FitAbove};
 ghost use Rattle.cq_vectors_stored.specs.Offsets.{offsets_in};
 ghost use Rattle.cq_hash_groups_slots.specs.NumberColumns.{all_above};
-ghost use Rattle.cq_hash_groups_slots.specs.Puts.{AreNumbers, AreSumsWithin, IsSumWithin, PutFrom, PutNumbers, PutsAbove, most_before, no_sum, put_sum, shown_sum};
+ghost use Rattle.cq_hash_groups_slots.specs.Puts.{AreNumbers, AreSumsWithin, IsSumWithin, PutFrom, PutNumbers, PutsAbove, most_before, no_sum, put_sum, shown_sum, summed};
 ghost use Rattle.cq_hash_groups_slots.specs.Slots.{grown};
 
+use crate::at_hand::{one_group, put_at_hand};
 use crate::number_columns::{AboveBy, NumberColumn, Plain};
 use cq_values::Lent;
 use cq_vectors::{Form, Vector};
@@ -39,7 +40,7 @@ impl Model for SmallSum {
 
 impl SmallSum {
     /// With a number more, where 64 bits hold the total.
-    fn with_number(&self, n: i64) -> Option<SmallSum>
+    pub(crate) fn with_number(&self, n: i64) -> Option<SmallSum>
         requires { IsSumWithin (most_before 1) self.now }
         ensures sum { IfSome result (λ sum. sum ≡ put_sum self.now (Number n)) }
         ensures within { IfSome result (λ sum. (m : ℕ) → IsSumWithin m self.now → IsSumWithin (m + 1) sum) }
@@ -54,7 +55,7 @@ impl SmallSum {
     }
 
     /// With a number more, where 64 bits hold the total. What stands under a NULL adds nothing.
-    fn with_number_unless(&self, n: i64, is_null: bool) -> Option<SmallSum>
+    pub(crate) fn with_number_unless(&self, n: i64, is_null: bool) -> Option<SmallSum>
         requires { IsSumWithin (most_before 1) self.now }
         ensures sum { IfSome result (λ sum. sum ≡ put_sum self.now (number_unless n is_null)) }
         ensures within { IfSome result (λ sum. (m : ℕ) → IsSumWithin m self.now → IsSumWithin (m + 1) sum) }
@@ -66,8 +67,23 @@ impl SmallSum {
         }
     }
 
+    /// With so many values more, where 64 bits hold the total together with theirs.
+    pub(crate) fn with_total(&self, many: usize, total: i64) -> Option<SmallSum>
+        requires { IsSumWithin (most_before many) self.now }
+        ensures sum { IfSome result (λ sum. sum ≡ summed (self.now.count + many) (self.now.total +ℤ total)) }
+        ensures small { IfSome result (λ sum. nat_abs sum.total ≤ 2 ^ 63) }
+    {
+        match self.total.checked_add(total) {
+            Some(total) => Some(SmallSum {
+                count: self.count + many as u64,
+                total,
+            }),
+            None => None,
+        }
+    }
+
     /// The same sum.
-    fn again(&self) -> SmallSum
+    pub(crate) fn again(&self) -> SmallSum
         ensures { result ≡ self.now }
     {
         SmallSum {
@@ -251,6 +267,9 @@ fn put_column<C: NumberColumn>(
     ensures few { result ≤ length numbers.now }
     ensures put { PutNumbers 0 result numbers.now (C.numbers column.now) nulls.now sums.old sums.new }
 {
+    if let Some(group) = one_group(sums.len(), numbers) {
+        return put_at_hand(sums, group, numbers, column, nulls);
+    }
     if nulls.is_clear() {
         return put_numbers(sums, numbers, column);
     }

@@ -29,5 +29,5 @@ loop-place-preserved g c =
     let lt : c.loop-place.place < length column = omega (arith, c.loop-place-test.true, c.requires.flags, c.len-place-end.ensures.len) in
     let read : to_z w64 (of_z w64 c.at-number.result) ≡ get_or column c.loop-place.place (pos 0) = search (arith, ints, to_z-of_z, c.at-number.ensures) in
     let value = read-at column nulls c.requires.flags c.loop-place.place _ _ lt read c.get.ensures in
-    put_from-step c.loop-place.invariant c.index-sums-group.result (omega (arith, lt, c.requires.same)) c.requires.there (get_or (with_nulls column nulls) c.loop-place.place Null) c.in-Some.sum
-    (c.requires.same ∙ with_nulls-long column nulls c.requires.flags) refl (c.in-Some.ensures.sum ∙ ap (put_sum _) value) c.in-Some.ensures.within
+    put_from-step c.loop-place.invariant c.index-sums-group.result (omega (arith, lt, c.requires.same)) c.requires.there (get_or (with_nulls column nulls) c.loop-place.place Null) c.in-Some-with_number_unless.sum
+    (c.requires.same ∙ with_nulls-long column nulls c.requires.flags) refl (c.in-Some-with_number_unless.ensures.sum ∙ ap (put_sum _) value) c.in-Some-with_number_unless.ensures.within
