@@ -6,7 +6,7 @@
 //! kept as these numbers and never as a row; `keys` makes rows of them, and `column` a vector of one column. A key that
 //! is known costs a look-up a value and one a pair. After an `Err` of `add` some keys may be in, each with its number.
 ghost use Rattle.std.specs.List.{AllByRecursion};
-ghost use Rattle.std.specs.Prelude.{IfOk, None, OnOk, Some, [], drop, if◌then◌else◌, length, take, ◌+◌, ◌<◌, ◌≡◌, ◌≤◌};
+ghost use Rattle.std.specs.Prelude.{IfOk, None, OnOk, Some, [], drop, if◌then◌else◌, length, replicate, take, ◌+◌, ◌<◌, ◌≡◌, ◌≤◌};
 ghost use Rattle.cq_values.specs.Lent.{owned};
 ghost use Rattle.cq_values.specs.Value.{column as column_at};
 ghost use Rattle.cq_vectors.specs.Gathered.{column_of};
@@ -196,8 +196,7 @@ impl KeyTable {
         ensures width { self.new.width ≡ self.old.width }
     {
         let _width = self.width;
-        numbers.clear();
-        numbers.resize(len, 0)?;
+        lay_zeros(numbers, len)?;
         if 0 < len {
             self.is_met = true;
         }
@@ -270,6 +269,18 @@ impl KeyTable {
             numbers,
         )
     }
+}
+
+/// So many zeros in place of what stood in a list. One that is as long already is not filled number by number.
+fn lay_zeros(numbers: &mut Vec<usize>, len: usize) -> Result<(), AllocError>
+    ensures { OnOk result (numbers.new.items ≡ replicate len 0) }
+{
+    if numbers.len() == len {
+        numbers.as_mut_slice().fill(0);
+        return Ok(());
+    }
+    numbers.clear();
+    numbers.resize(len, 0)
 }
 
 /// The number of the key of no values, None where it was never met.

@@ -72,7 +72,6 @@ impl Pairs {
         ensures numbers { OnOk result (ArePairNumbers self.new firsts.now seconds.now numbers.new.items) }
         ensures front { TakesFront same_pair self.old (zip firsts.now seconds.now) self.new }
     {
-        numbers.clear();
         numbers.resize(firsts.len(), 0)?;
         self.number_all(firsts, seconds, numbers.as_mut_slice())
     }

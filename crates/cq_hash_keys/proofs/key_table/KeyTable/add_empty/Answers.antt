@@ -19,7 +19,7 @@ pub returns-then-len-gt0-clause-numbers : goal.returns-then-len-gt0-clause-numbe
 returns-then-len-gt0-clause-numbers c =
     let table = c.self.inside in
     let none : table.width ≡ 0 = ap (λ (t : StoredKeys). t.width) c.self.view_is ∙ c.requires in
-    let all : replicate c.args.len 0 ≡ c.resize.new.self.items = first_of (search rules, grind (arith, common_steps)) in
+    let all : replicate c.args.len 0 ≡ c.lay_zeros.new.numbers.items = first_of (search rules, grind (arith, common_steps)) in
     subst (AreNumbers (keys_in table.width true table.first table.stages.items) c.args.len []) all
     (subst (λ (ks : List Row). AreNumbers ks c.args.len [] (replicate c.args.len 0)) (sym (keys-none table.width true table.first table.stages.items none)) (empty-told c.args.len).named)
 
@@ -27,6 +27,6 @@ pub returns-then-len-gt0-clause-within : goal.returns-then-len-gt0-clause-within
 returns-then-len-gt0-clause-within c =
     let table = c.self.inside in
     let none : table.width ≡ 0 = ap (λ (t : StoredKeys). t.width) c.self.view_is ∙ c.requires in
-    let all : replicate c.args.len 0 ≡ c.resize.new.self.items = first_of (search rules, grind (arith, common_steps)) in
+    let all : replicate c.args.len 0 ≡ c.lay_zeros.new.numbers.items = first_of (search rules, grind (arith, common_steps)) in
     subst (AreWithin (keys_in table.width true table.first table.stages.items)) all
     (subst (λ (ks : List Row). AreWithin ks (replicate c.args.len 0)) (sym (keys-none table.width true table.first table.stages.items none)) (empty-told c.args.len).within)
