@@ -1,3 +1,4 @@
 pub mod ColumnLemmas
+pub mod SizeLemmas
 pub mod LentLemmas
 pub mod TextRunLemmas

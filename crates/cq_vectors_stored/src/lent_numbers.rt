@@ -1,8 +1,9 @@
 //! Numbers of 64 bits that are lent.
 //!
 //! A column is made of a slice of numbers and a plane of NULLs that a segment keeps, and does not change. Kernels read
-//! `values` and `nulls` as they stand, or `whole` where no place may be NULL; `lend` gives the value of one place. No
-//! call takes memory.
+//! `values` and `nulls` as they stand, or `whole` where no place may be NULL; `lend` gives the value of one place. `sized`
+//! tells the column how far its numbers are from zero, and `size` tells kernels, so that none has to look at all of them.
+//! No call takes memory.
 ghost use Rattle.std.specs.Int.{w64};
 ghost use Rattle.std.specs.Prelude.{IfSome, length, map, slice_index_or, ◌≡◌, ◌≤◌};
 ghost use Rattle.std.specs.Simd.Lanes.{zip2};
@@ -11,6 +12,7 @@ ghost use Rattle.cq_values.specs.Lent.{owned};
 ghost use Rattle.cq_values.specs.Order.{number};
 ghost use Rattle.cq_values.specs.declared.value.Value.TheVariants.{Null, Number};
 ghost use Rattle.cq_vectors_stored.specs.Columns.{AllFit, ZeroWhere, number_unless};
+ghost use Rattle.cq_vectors_stored.specs.Sizes.{AreUpTo};
 
 use cq_values::Lent;
 use cq_vectors_masks::Plane;
@@ -21,23 +23,26 @@ use std::marker::Model;
 pub struct LentNumbers<'a> {
     values: &'a [i64],
     nulls: &'a Plane,
+    /// No number is farther from zero.
+    size: u64,
 }
 
 impl<'a> Model for LentNumbers<'a> {
-    ghost use Rattle.std.specs.Int.{w64};
     ghost use Rattle.std.specs.Prelude.{List};
     ghost use Rattle.std.specs.Simd.Lanes.{zip2};
     ghost use Rattle.cq_values.specs.declared.value.Value.{Value as Datum};
-    ghost use Rattle.cq_vectors_stored.specs.Columns.{AreNumbers, number_unless};
+    ghost use Rattle.cq_vectors_stored.specs.Columns.{number_unless};
+    ghost use Rattle.cq_vectors_stored.specs.Sizes.{AreSized};
 
     ghost Value = { List Datum };
 
     ghost view = { λ c. zip2 number_unless c.values.now c.nulls.now };
 
-    ghost invariant = { λ c. AreNumbers w64 c.values.now c.nulls.now };
+    ghost invariant = { λ c. AreSized c.size c.values.now c.nulls.now };
 }
 
 impl<'a> LentNumbers<'a> {
+    /// Of the size, no more is known than that each number has 64 bits.
     pub fn new(values: &'a [i64], nulls: &'a Plane) -> LentNumbers<'a>
         requires few { length values.now ≤ 1024 }
         requires same { length nulls.now ≡ length values.now }
@@ -45,7 +50,23 @@ impl<'a> LentNumbers<'a> {
         requires fit { AllFit w64 values.now }
         ensures { result ≡ zip2 number_unless values.now nulls.now }
     {
-        LentNumbers { values, nulls }
+        LentNumbers {
+            values,
+            nulls,
+            size: 1 << 63,
+        }
+    }
+
+    /// The same column, of which it is known that no number is farther from zero than the size.
+    pub fn sized(self, size: u64) -> LentNumbers<'a>
+        requires { AreUpTo size (map number self) }
+        ensures { result ≡ self.entry }
+    {
+        LentNumbers {
+            values: self.values,
+            nulls: self.nulls,
+            size,
+        }
     }
 
     /// The same column, lent again.
@@ -55,6 +76,7 @@ impl<'a> LentNumbers<'a> {
         LentNumbers {
             values: self.values,
             nulls: self.nulls,
+            size: self.size,
         }
     }
 
@@ -73,6 +95,13 @@ impl<'a> LentNumbers<'a> {
         ensures whole { self.now ≡ zip2 number_unless result.now (map is_null self.now) }
     {
         self.values
+    }
+
+    /// A size of all the numbers, for kernels to choose their width by: none is farther from zero.
+    pub fn size(&self) -> u64
+        ensures { AreUpTo result (map number self.now) }
+    {
+        self.size
     }
 
     pub fn nulls(&self) -> &'a Plane
