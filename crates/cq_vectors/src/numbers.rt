@@ -1,8 +1,9 @@
 //! Numbers of 64 bits.
 //!
 //! A column of numbers is made whole, by `new` or by `gather`, and does not change. Kernels read `values` and `nulls`
-//! as they stand, or `whole` where no place may be NULL; `lend` gives the value of one place. Readers take no memory,
-//! and `whole` looks at 16 words.
+//! as they stand, or `whole` where no place may be NULL; `lend` gives the value of one place. `sized` tells the column how
+//! far its numbers are from zero, which whoever worked them out may know. Readers take no memory, and `whole` looks at
+//! 16 words.
 ghost use Rattle.std.specs.Int.{w64};
 ghost use Rattle.std.specs.Prelude.{IfOk, IfSome, length, map, slice_index_or, ◌≡◌, ◌≤◌};
 ghost use Rattle.std.specs.Simd.Lanes.{zip2};
@@ -12,6 +13,7 @@ ghost use Rattle.cq_values.specs.declared.value.Value.TheVariants.{Null, Number}
 ghost use Rattle.cq_model.specs.Condition.{is_null};
 ghost use Rattle.cq_values.specs.Value.{column as column_at};
 ghost use Rattle.cq_vectors_stored.specs.Columns.{AllFit, ZeroWhere, number_unless};
+ghost use Rattle.cq_vectors_stored.specs.Sizes.{AreUpTo};
 ghost use Rattle.cq_vectors.specs.Gathered.{IsNumber, column_of, lent_rows};
 
 use cq_values::{Lent, Row, Value};
@@ -25,24 +27,26 @@ use std::marker::Model;
 pub struct Numbers {
     values: Vec<i64>,
     nulls: Plane,
+    /// No number is farther from zero.
+    size: u64,
 }
 
 impl Model for Numbers {
-    ghost use Rattle.std.specs.Int.{w64};
     ghost use Rattle.std.specs.Prelude.{List};
     ghost use Rattle.std.specs.Simd.Lanes.{zip2};
     ghost use Rattle.cq_values.specs.declared.value.Value.{Value as Datum};
-    ghost use Rattle.cq_vectors_stored.specs.Columns.{AreNumbers, number_unless};
+    ghost use Rattle.cq_vectors_stored.specs.Columns.{number_unless};
+    ghost use Rattle.cq_vectors_stored.specs.Sizes.{AreSized};
 
     ghost Value = { List Datum };
 
     ghost view = { λ c. zip2 number_unless c.values.items c.nulls };
 
-    ghost invariant = { λ c. AreNumbers w64 c.values.items c.nulls };
+    ghost invariant = { λ c. AreSized c.size c.values.items c.nulls };
 }
 
 impl Numbers {
-    /// Takes no memory.
+    /// Of the size, no more is known than that each number has 64 bits. Takes no memory.
     pub fn new(values: Vec<i64>, nulls: Plane) -> Numbers
         requires few { length values.items ≤ 1024 }
         requires same { length nulls ≡ length values.items }
@@ -50,7 +54,23 @@ impl Numbers {
         requires fit { AllFit w64 values.items }
         ensures { result ≡ zip2 number_unless values.items nulls }
     {
-        Numbers { values, nulls }
+        Numbers {
+            values,
+            nulls,
+            size: 1 << 63,
+        }
+    }
+
+    /// The same column, of which it is known that no number is farther from zero than the size.
+    pub fn sized(self, size: u64) -> Numbers
+        requires { AreUpTo size (map number self) }
+        ensures { result ≡ self }
+    {
+        Numbers {
+            values: self.values,
+            nulls: self.nulls,
+            size,
+        }
     }
 
     /// The numbers of a column, or None where a value is no number of 64 bits.
@@ -99,6 +119,13 @@ impl Numbers {
         self.values
     }
 
+    /// A size of all the numbers, for kernels to choose their width by: none is farther from zero.
+    pub fn size(&self) -> u64
+        ensures { AreUpTo result (map number self.now) }
+    {
+        self.size
+    }
+
     pub fn nulls(&self) -> &Plane
         ensures { result.now ≡ map is_null self.now }
     {
@@ -109,7 +136,7 @@ impl Numbers {
     pub fn lend_all(&self) -> LentNumbers<'_>
         ensures { result ≡ self.now }
     {
-        LentNumbers::new(self.values(), self.nulls())
+        LentNumbers::new(self.values(), self.nulls()).sized(self.size())
     }
 
     /// The numbers, if no place is NULL.
