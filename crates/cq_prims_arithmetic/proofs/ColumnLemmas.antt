@@ -1,12 +1,14 @@
 -- Numbers and NULLs of columns that an operation goes over.
-use Rattle.std.proofs.Common.{◌≡◌, ℕ, zero, suc, ◌+◌, ◌<◌, ◌≤◌, ℤ, pos, Bool, true, false, List, [], ◌∷◌, ◌++◌, take, length, replicate, get_or, nat_abs, refl, sym, ap, ◌∙◌, arith, FitsSigned}
+use Rattle.std.proofs.Common.{◌≡◌, ℕ, zero, suc, ◌+◌, ◌<◌, ◌≤◌, ℤ, pos, Bool, true, false, List, [], ◌∷◌, ◌++◌, map, take, length, replicate, get_or, nat_abs, ◌^◌, refl, sym, ap, ◌∙◌, arith, FitsSigned}
 use Rattle.std.specs.Int.{w64}
 use lib.Lanes.{zip2}
 use Rattle.std.proofs.lemmas.Simd.{length-zip2, get_or-zip2}
 use Rattle.std.proofs.lemmas.List.{ext_get_or, take_more}
 use Rattle.cq_values.specs.declared.value.Value.TheVariants.{Number}
+use Rattle.cq_values.specs.Order.{number}
 use Rattle.cq_vectors_masks.specs.Plane.{either}
 use Rattle.cq_vectors_stored.specs.Columns.{AllFit, ZeroWhere, number_unless}
+use Rattle.cq_vectors_stored.specs.Sizes.{AreUpTo}
 use Rattle.cq_prims_arithmetic.specs.Operation.{lifted, zero_if}
 
 -- nothing is to be cleared where no flag is set
@@ -63,13 +65,27 @@ pub results_more : (f : ℤ → ℤ → ℤ) (ms ns : List ℤ) (i n : ℕ) → 
 results_more f ms ns i n left right lt =
     take_more (zip2 f ms ns) i (pos 0) (omega (arith, lt, left, length-zip2 f ms ns (left ∙ sym right))) ∙ ap (λ x. take i (zip2 f ms ns) ++ x ∷ []) (number_at f ms ns i n left right lt)
 
--- results fit where numbers of these sizes have results that do
-pub fit_by_sizes : (f : ℤ → ℤ → ℤ) (a b : ℕ) → ((m n : ℤ) → nat_abs m ≤ a → nat_abs n ≤ b → FitsSigned w64 (f m n)) → (ms ns : List ℤ)
-    → ((k : ℕ) → nat_abs (get_or ms k (pos 0)) ≤ a) → ((k : ℕ) → nat_abs (get_or ns k (pos 0)) ≤ b) → AllFit w64 (zip2 f ms ns)
-fit_by_sizes f a b fits [] ns left right k = zero_fits
-fit_by_sizes f a b fits (m ∷ ms) [] left right k = zero_fits
-fit_by_sizes f a b fits (m ∷ ms) (n ∷ ns) left right zero = fits m n (left 0) (right 0)
-fit_by_sizes f a b fits (m ∷ ms) (n ∷ ns) left right (suc k) = fit_by_sizes f a b fits ms ns (λ j. left (suc j)) (λ j. right (suc j)) k
+-- results are within a size where numbers of these sizes have results that are
+pub within_sizes : (f : ℤ → ℤ → ℤ) (a b size : ℕ) → ((m n : ℤ) → nat_abs m ≤ a → nat_abs n ≤ b → nat_abs (f m n) ≤ size) → (ms ns : List ℤ) → AreUpTo a ms → AreUpTo b ns → AreUpTo size (zip2 f ms ns)
+within_sizes f a b size within [] ns left right k = search arith
+within_sizes f a b size within (m ∷ ms) [] left right k = search arith
+within_sizes f a b size within (m ∷ ms) (n ∷ ns) left right zero = within m n (left 0) (right 0)
+within_sizes f a b size within (m ∷ ms) (n ∷ ns) left right (suc k) = within_sizes f a b size within ms ns (λ j. left (suc j)) (λ j. right (suc j)) k
+
+below_63 : (n : ℤ) (size : ℕ) → size < 2 ^ 63 → nat_abs n ≤ size → FitsSigned w64 n
+below_63 n size small within = search arith
+
+-- numbers within a size that 63 bits hold fit 64
+pub fit_within : (size : ℕ) (ns : List ℤ) → size < 2 ^ 63 → AreUpTo size ns → AllFit w64 ns
+fit_within size ns small within k = below_63 (get_or ns k (pos 0)) size small (within k)
+
+-- and so are those that are not NULL, with 0 in place of NULL
+pub within_values : (size : ℕ) (ns : List ℤ) (fs : List Bool) → AreUpTo size ns → AreUpTo size (map number (zip2 number_unless ns fs))
+within_values size [] fs within k = search arith
+within_values size (n ∷ ns) [] within k = search arith
+within_values size (n ∷ ns) (true ∷ fs) within zero = search arith
+within_values size (n ∷ ns) (false ∷ fs) within zero = within 0
+within_values size (n ∷ ns) (f ∷ fs) within (suc k) = within_values size ns fs (λ j. within (suc j)) k
 
 -- one number in each place has its size
 pub size_of_one : (len : ℕ) (n : ℤ) (a : ℕ) → nat_abs n ≤ a → (k : ℕ) → nat_abs (get_or (replicate len n) k (pos 0)) ≤ a

@@ -1,5 +1,5 @@
 -- The numbers and NULLs of one side of an operation.
-use Rattle.std.specs.Prelude.{ℕ, ℤ, pos, ◌+ℤ◌, ◌≡◌, ◌≤◌, Bool, List, length, map, nat_abs, slice_index_or}
+use Rattle.std.specs.Prelude.{ℕ, ℤ, pos, ◌+ℤ◌, ◌≡◌, Bool, List, length, map}
 use Rattle.std.specs.Simd.Lanes.{zip2}
 use Rattle.cq_values.specs.declared.value.Value.{Value}
 use Rattle.cq_vectors_stored.specs.Columns.{number_unless}
@@ -16,7 +16,3 @@ all_above base offsets = map (above base) offsets
 pub record AreSide (numbers : List ℤ) (nulls : List Bool) (values : List Value) : Type 0 where
   pub same : length nulls ≡ length numbers
   pub made : values ≡ zip2 number_unless numbers nulls
-
--- none of the numbers is farther from zero
-abbrev pub AreUpTo : ℕ → List ℤ → Type 0
-AreUpTo most numbers = (k : ℕ) → nat_abs (slice_index_or numbers k (pos 0)) ≤ most

@@ -1,6 +1,7 @@
 //! Numbers above a base as a side of an operation, in the width in which they stand.
 ghost use Rattle.cq_vectors_stored.specs.LentColumns.{FitAbove};
-ghost use Rattle.cq_prims_arithmetic.specs.Sides.{AreUpTo, all_above};
+ghost use Rattle.cq_vectors_stored.specs.Sizes.{AreUpTo};
+ghost use Rattle.cq_prims_arithmetic.specs.Sides.{all_above};
 
 use crate::side::Side;
 use cq_prims_lanes::Offset;
@@ -22,6 +23,10 @@ impl<T: Offset> Side for Above<'_, T> {
     }
 
     fn size(&self) -> u64 {
+        size_above(self.base, self.offsets)
+    }
+
+    fn seen_size(&self) -> u64 {
         size_above(self.base, self.offsets)
     }
 }

@@ -39,6 +39,20 @@ pub fn mul<'a>(
     worked(alloc, buffers, Times, a, b)
 }
 
+/// The numbers of the first column less those of the second, place by place.
+pub fn sub<'a>(
+    alloc: Global,
+    buffers: &mut Buffers,
+    a: &Vector<'_>,
+    b: &Vector<'_>,
+) -> Result<Vector<'a>, AllocError>
+    requires same { length a.now ≡ length b.now }
+    requires fits { AllInRange (zip2 plus a.now (map negated b.now)) }
+    ensures { IfOk result (λ made. made ≡ zip2 plus a.now (map negated b.now)) }
+{
+    worked(alloc, buffers, Minus, a, b)
+}
+
 /// Each number with the other sign.
 pub fn neg<'a>(
     alloc: Global,

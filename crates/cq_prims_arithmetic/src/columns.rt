@@ -1,8 +1,10 @@
 //! An operation in 64 bits, where the numbers of both sides stand in columns or are one number.
 //!
 //! The form of the first vector is looked at, then that of the second. None is answered where 64 bits may not be
-//! enough, or a form has no loop.
+//! enough, or a form has no loop. The results know how far from zero they are at most.
+ghost use Rattle.std.specs.Prelude.{IfSome, ◌<◌, ◌^◌};
 ghost use Rattle.std.specs.Simd.Lanes.{zip2};
+ghost use Rattle.cq_vectors_stored.specs.Sizes.{AreUpTo};
 ghost use Rattle.cq_prims_arithmetic.specs.Operation.{lifted};
 ghost use Rattle.cq_prims_arithmetic.specs.Sides.{AreSide};
 
@@ -59,12 +61,26 @@ impl<'s, 'v, 'x, 'y, O: Operation, A: Side> Taker for Second<'s, 'v, 'x, 'y, O, 
         nulls: &Plane,
     ) -> Made<'a> {
         let (left, left_nulls) = (self.left, self.left_nulls);
-        if O::fits_64_bits(left.size(), side.size()) {
-            let mut both = Plane::new();
-            both.set_or(left_nulls, nulls);
-            Ok(Some(in_64_bits::<O, A, S>(alloc, buffers, left, side, both)?))
-        } else {
-            Ok(None)
+        match size_of_results::<O, A, S>(left, side) {
+            Some(size) => {
+                let mut both = Plane::new();
+                both.set_or(left_nulls, nulls);
+                let made = in_64_bits::<O, A, S>(alloc, buffers, left, side, both, size)?;
+                Ok(Some(made))
+            }
+            None => Ok(None),
         }
+    }
+}
+
+/// How far from zero the results are at most, if that fits 64 bits. Numbers are looked at only where what is known of
+/// their sizes does not tell.
+fn size_of_results<O: Operation, A: Side, B: Side>(a: &A, b: &B) -> Option<u64>
+    ensures within { IfSome result (λ size. AreUpTo size (zip2 O.apply (A.numbers a.now) (B.numbers b.now))) }
+    ensures fits { IfSome result (λ size. size < 2 ^ 63) }
+{
+    match O::size(a.size(), b.size()) {
+        Some(size) => Some(size),
+        None => O::size(a.seen_size(), b.seen_size()),
     }
 }

@@ -9,11 +9,10 @@ use crate::constants::of_constants;
 use crate::operands::Operands;
 use crate::operation::Operation;
 use crate::places::by_places;
-use crate::side::Column;
 use crate::taker::give_side;
 use crate::unbroken::{Unbroken, numbers_in};
 use crate::wide::wide;
-use crate::wide_side::{WideColumn, WideRepeated, WideSide};
+use crate::wide_side::{ShortColumn, WideColumn, WideRepeated, WideSide};
 use crate::widened::widened;
 use cq_vectors::{Buffers, Form, Vector};
 use std::alloc::{AllocError, Global};
@@ -111,7 +110,7 @@ fn in_128_bits<'a, O: Operation>(
     ensures { IfOk result (λ made. made ≡ zip2 (lifted O.apply) of.now.a.now of.now.b.now) }
 {
     match numbers_in(of.a) {
-        Unbroken::Numbers(values) => with_left(alloc, buffers, of, &Column { values }),
+        Unbroken::Numbers(values) => with_left(alloc, buffers, of, &ShortColumn { values }),
         Unbroken::Wide(values) => with_left(alloc, buffers, of, &WideColumn { values }),
         Unbroken::One(number, len) => with_left(alloc, buffers, of, &WideRepeated { number, len }),
         Unbroken::Broken => by_places(alloc, buffers, of),
@@ -129,7 +128,7 @@ fn with_left<'a, O: Operation, A: WideSide>(
     ensures { IfOk result (λ made. made ≡ zip2 (lifted O.apply) of.now.a.now of.now.b.now) }
 {
     match numbers_in(of.b) {
-        Unbroken::Numbers(values) => wide(alloc, buffers, of, left, &Column { values }),
+        Unbroken::Numbers(values) => wide(alloc, buffers, of, left, &ShortColumn { values }),
         Unbroken::Wide(values) => wide(alloc, buffers, of, left, &WideColumn { values }),
         Unbroken::One(number, len) => wide(alloc, buffers, of, left, &WideRepeated { number, len }),
         Unbroken::Broken => by_places(alloc, buffers, of),

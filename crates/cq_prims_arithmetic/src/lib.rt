@@ -23,7 +23,7 @@ mod wide;
 mod wide_side;
 mod widened;
 
-pub use arithmetic::{add, mul, neg};
+pub use arithmetic::{add, mul, neg, sub};
 pub use parts::extract;
 pub use sizes::largest_size;
 pub use sums::sum_into;

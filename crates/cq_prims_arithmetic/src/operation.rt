@@ -1,6 +1,6 @@
 //! Sums, differences and products of two numbers.
 ghost use Rattle.std.specs.Int.{w64, w128};
-ghost use Rattle.std.specs.Prelude.{FitsSigned, IsTrue, nat_abs, ℕ, ℤ, ◌*ℤ◌, ◌+ℤ◌, ◌≡◌, ◌≤◌};
+ghost use Rattle.std.specs.Prelude.{FitsSigned, IfSome, Some, nat_abs, ℤ, ◌*ℤ◌, ◌+ℤ◌, ◌<◌, ◌^◌, ◌≡◌, ◌≤◌};
 ghost use Rattle.cq_prims_arithmetic.specs.Operation.{minus};
 
 /// What is done with the two numbers of a place.
@@ -17,9 +17,10 @@ pub(crate) trait Operation: Copy {
         requires { FitsSigned w64 (apply m n) }
         ensures { result ≡ apply m n };
 
-    /// Whether 64 bits are enough for numbers of these sizes.
-    fn fits_64_bits(a: u64, b: u64) -> bool
-        ensures { IsTrue result → (m n : ℤ) → nat_abs m ≤ a → nat_abs n ≤ b → FitsSigned w64 (apply m n) };
+    /// How far from zero the result of numbers of these sizes is at most, if that fits 64 bits.
+    fn size(a: u64, b: u64) -> Option<u64>
+        ensures within { IfSome result (λ size. (m n : ℤ) → nat_abs m ≤ a → nat_abs n ≤ b → nat_abs (apply m n) ≤ size) }
+        ensures fits { IfSome result (λ size. size < 2 ^ 63) };
 }
 
 #[derive(Clone, Copy)]
@@ -36,8 +37,8 @@ impl Operation for Plus {
         m + n
     }
 
-    fn fits_64_bits(a: u64, b: u64) -> bool {
-        a < 1 << 62 && b < 1 << 62
+    fn size(a: u64, b: u64) -> Option<u64> {
+        in_63_bits(a.checked_add(b))
     }
 }
 
@@ -55,8 +56,8 @@ impl Operation for Minus {
         m - n
     }
 
-    fn fits_64_bits(a: u64, b: u64) -> bool {
-        a < 1 << 62 && b < 1 << 62
+    fn size(a: u64, b: u64) -> Option<u64> {
+        Plus::size(a, b)
     }
 }
 
@@ -74,10 +75,18 @@ impl Operation for Times {
         m * n
     }
 
-    fn fits_64_bits(a: u64, b: u64) -> bool {
-        match a.checked_mul(b) {
-            Some(size) => size < 1 << 63,
-            None => false,
-        }
+    fn size(a: u64, b: u64) -> Option<u64> {
+        in_63_bits(a.checked_mul(b))
+    }
+}
+
+/// The size, if there is one and a number of 64 bits can have it on both sides of zero.
+fn in_63_bits(size: Option<u64>) -> Option<u64>
+    ensures same { IfSome result (λ n. size ≡ Some n) }
+    ensures small { IfSome result (λ n. n < 2 ^ 63) }
+{
+    match size {
+        Some(size) if size < 1 << 63 => Some(size),
+        _ => None,
     }
 }

@@ -1,5 +1,6 @@
 //! The two sides of an operation in 64 bits.
-ghost use Rattle.std.specs.Prelude.{length, nat_abs, pos, replicate, slice_index_or, List, ℕ, ℤ, ◌<◌, ◌≡◌, ◌≤◌};
+ghost use Rattle.std.specs.Prelude.{length, pos, replicate, slice_index_or, List, ℤ, ◌<◌, ◌≡◌};
+ghost use Rattle.cq_vectors_stored.specs.Sizes.{AreUpTo};
 
 use crate::sizes::largest_size;
 
@@ -11,14 +12,21 @@ pub(crate) trait Side {
         requires { i < length (numbers self.now) }
         ensures { result ≡ slice_index_or (numbers self.now) i (pos 0) };
 
-    /// No number is farther from zero. Only numbers that stand in no bounds are looked at.
+    /// No number is farther from zero, as far as is known of the side. No number of a column is looked at.
     fn size(&self) -> u64
-        ensures { (k : ℕ) → nat_abs (slice_index_or (numbers self.now) k (pos 0)) ≤ result };
+        ensures { AreUpTo result (numbers self.now) };
+
+    /// The same after a look at the numbers of a column.
+    fn seen_size(&self) -> u64
+        ensures { AreUpTo result (numbers self.now) };
 }
 
+/// Numbers, none of which is farther from zero than the size.
 #[derive(Drop)]
 pub(crate) struct Column<'b> {
     pub(crate) values: &'b [i64],
+    pub(crate) size: u64,
+    ghost within: { AreUpTo size values.now },
 }
 
 impl Side for Column<'_> {
@@ -29,6 +37,10 @@ impl Side for Column<'_> {
     }
 
     fn size(&self) -> u64 {
+        self.size
+    }
+
+    fn seen_size(&self) -> u64 {
         largest_size(self.values)
     }
 }
@@ -48,6 +60,10 @@ impl Side for Repeated {
     }
 
     fn size(&self) -> u64 {
+        self.number.unsigned_abs()
+    }
+
+    fn seen_size(&self) -> u64 {
         self.number.unsigned_abs()
     }
 }

@@ -1,9 +1,10 @@
 //! How far numbers are from zero.
-ghost use Rattle.std.specs.Prelude.{nat_abs, pos, slice_index_or, ℕ, ◌≤◌};
+ghost use Rattle.std.specs.Prelude.{◌≤◌};
+ghost use Rattle.cq_vectors_stored.specs.Sizes.{AreUpTo};
 
 /// The greatest distance from zero, by which a kernel is chosen.
 pub fn largest_size(values: &[i64]) -> u64
-    ensures { (k : ℕ) → nat_abs (slice_index_or values.now k (pos 0)) ≤ result }
+    ensures { AreUpTo result values.now }
 {
     let mut largest = 0;
     for i in 0..values.len() {

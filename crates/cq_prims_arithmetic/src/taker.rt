@@ -56,8 +56,8 @@ pub(crate) fn give_side<'a, K: Taker>(
     }
     match vector.numbers() {
         Some(column) => {
-            let values = column.values();
-            taker.take(alloc, buffers, &Column { values }, column.nulls())
+            let (values, size) = (column.values(), column.size());
+            taker.take(alloc, buffers, &Column { values, size }, column.nulls())
         }
         None => Ok(None),
     }

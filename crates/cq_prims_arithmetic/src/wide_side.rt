@@ -1,8 +1,6 @@
 //! The two sides of an operation in 128 bits.
 ghost use Rattle.std.specs.Prelude.{length, pos, replicate, slice_index_or, List, ℤ, ◌<◌, ◌≡◌};
 
-use crate::side::Column;
-
 /// Numbers of 128 bits, one for each place.
 pub(crate) trait WideSide {
     ghost numbers: { Self → List ℤ };
@@ -12,7 +10,13 @@ pub(crate) trait WideSide {
         ensures { result ≡ slice_index_or (numbers self.now) i (pos 0) };
 }
 
-impl WideSide for Column<'_> {
+/// Numbers of 64 bits, which are read in 128.
+#[derive(Drop)]
+pub(crate) struct ShortColumn<'b> {
+    pub(crate) values: &'b [i64],
+}
+
+impl WideSide for ShortColumn<'_> {
     ghost numbers = { λ c. c.values.now };
 
     fn at(&self, i: usize) -> i128 {

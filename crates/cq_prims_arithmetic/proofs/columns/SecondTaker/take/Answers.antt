@@ -4,7 +4,7 @@ use Rattle.std.proofs.lemmas.Simd.{length-zip2}
 use Rattle.cq_vectors_masks.specs.Plane.{either}
 use Rattle.cq_vectors_stored.specs.Columns.{number_unless}
 use Rattle.cq_prims_arithmetic.specs.Operation.{lifted}
-use Rattle.cq_prims_arithmetic.proofs.ColumnLemmas.{fit_by_sizes, of_columns}
+use Rattle.cq_prims_arithmetic.proofs.ColumnLemmas.{of_columns}
 use Rattle.cq_prims_arithmetic.proofs.SideLemmas.{nulls-long, nulls-same, numbers-long}
 use Rattle.cq_prims_arithmetic.proofs.columns.SecondTaker.take.Goals as goal
 
@@ -24,14 +24,10 @@ in_64_bits-requires-clause-right g c =
     numbers-long (g.S.Side.numbers c.args.side.now) c.args.nulls.now c.args.self.now.of.now.b.now c.requires ∙ sym c.args.self.now.of.now.same
     ∙ sym (ap length c.set_or.ensures ∙ length-zip2 either c.args.self.now.left_nulls.now c.args.nulls.now flags ∙ nulls-long (g.A.Side.numbers c.args.self.now.left.now) c.args.self.now.left_nulls.now c.args.self.now.of.now.a.now c.args.self.now.is_left)
 
-pub in_64_bits-requires-clause-fits : goal.in_64_bits-requires-clause-fits
-in_64_bits-requires-clause-fits g c =
-    fit_by_sizes g.O.Operation.apply c.size.result c.size-2.result (c.fits_64_bits.ensures c.if-fits_64_bits.true) (g.A.Side.numbers c.args.self.now.left.now) (g.S.Side.numbers c.args.side.now) c.size.ensures c.size-2.ensures
-
-pub returns-in_ok-in_64_bits : goal.returns-in_ok-in_64_bits
-returns-in_ok-in_64_bits g c =
+pub returns-in_ok-made-in-Some : goal.returns-in_ok-made-in-Some
+returns-in_ok-made-in-Some g c =
     let ms = g.A.Side.numbers c.args.self.now.left.now in
     let ns = g.S.Side.numbers c.args.side.now in
-    c.in_ok-in_64_bits.ensures ∙ ap (zip2 number_unless (zip2 g.O.Operation.apply ms ns)) c.set_or.ensures
+    c.in_ok-made-in-Some.ensures ∙ ap (zip2 number_unless (zip2 g.O.Operation.apply ms ns)) c.set_or.ensures
     ∙ of_columns g.O.Operation.apply ms ns c.args.self.now.left_nulls.now c.args.nulls.now
     ∙ ap₂ (zip2 (lifted g.O.Operation.apply)) (sym c.args.self.now.is_left.made) (sym c.requires.made)
