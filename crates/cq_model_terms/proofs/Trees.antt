@@ -1,5 +1,6 @@
 -- What a tree stands for with its parts renamed, and what is told of a chain by its parts.
-use Rattle.std.proofs.Common.{◌≡◌, ℕ, Bool, true, false, ◌&&◌, ◌||◌, ◌⊎◌, inl, inr, List, [], ◌∷◌, map, Option, Some, None, refl, sym, ◌∙◌, ap, ap₂, Box, Vec, Global}
+use Rattle.std.proofs.Common.{◌≡◌, ℕ, Bool, true, false, ◌&&◌, ◌||◌, ◌⊎◌, inl, inr, List, [], ◌∷◌, map, length, Option, Some, None, refl, sym, ◌∙◌, ap, ap₂, Box, Vec, Global}
+use Rattle.std.specs.Prelude.{◌==◌}
 use Rattle.std.specs.List.{fold, list_all, list_any}
 use Rattle.std.specs.Option.{option_map}
 use Rattle.cq_model_eval.proofs.Trees.{through, tree-And, tree-Or, tree-Product, tree-Sum}
@@ -13,7 +14,7 @@ use Rattle.cq_model.specs.declared.expr.ExprTree.TheViews as view
 use Rattle.cq_model.specs.Expr.{Expr, Column, Literal, Negate, Plus, Times, Extract, Cond, Compare, IsNull, Between, In, Like, Not, And, Or}
 use Rattle.cq_model.specs.Own.{names_only, tests_only}
 use Rattle.cq_model.specs.Trees.{cond_of, cond_step, expr_of}
-use Rattle.cq_model_terms.specs.Reads.{reads, reads_in}
+use Rattle.cq_model_terms.specs.Reads.{only_reads, only_reads_in, reads, reads_in}
 use Rattle.cq_model_terms.specs.Renamed.{renamed, renamed_cond}
 
 -- ---- what is renamed
@@ -71,6 +72,27 @@ named-chain before wide = chain-through (names_only before wide) ◌&&◌ (λ a 
 pub tested-parts : (before wide : ℕ) (tree : CondTree) (first : Box CondTree Global) (rest : Vec CondTree Global) → (tree ≡ cond_view.And first rest) ⊎ (tree ≡ cond_view.Or first rest)
     → tests_only before wide (cond_of tree) ≡ fold ◌&&◌ (tests_only before wide (cond_of first.value)) (map (λ t. tests_only before wide (cond_of t)) rest.items)
 tested-parts before wide = parts-through (tests_only before wide) ◌&&◌ (λ a b. refl) (λ a b. refl)
+
+pub read-parts : (tree : CondTree) (first : Box CondTree Global) (rest : Vec CondTree Global) → (tree ≡ cond_view.And first rest) ⊎ (tree ≡ cond_view.Or first rest)
+    → only_reads_in (cond_of tree) ≡ fold ◌&&◌ (only_reads_in (cond_of first.value)) (map (λ t. only_reads_in (cond_of t)) rest.items)
+read-parts = parts-through only_reads_in ◌&&◌ (λ a b. refl) (λ a b. refl)
+
+-- a chain of several parts is worked out
+abbrev worked : Bool → Bool → Bool
+worked a b = false
+
+all-worked : (bs : List Bool) → false ≡ fold worked false bs
+all-worked [] = refl
+all-worked (b ∷ bs) = all-worked bs
+
+several-worked : {X : Type 0} (f : X → Bool) (b : Bool) (xs : List X) → (length xs == 0) ≡ false → false ≡ fold worked b (map f xs)
+several-worked f b [] e = absurd (cc e)
+several-worked f b (x ∷ xs) e = all-worked (map f xs)
+
+pub worked-chain : (tree : ExprTree) (first : Box ExprTree Global) (rest : Vec ExprTree Global) → (tree ≡ view.Sum first rest) ⊎ (tree ≡ view.Product first rest)
+    → (length rest.items == 0) ≡ false → false ≡ only_reads (expr_of tree)
+worked-chain tree first rest is e =
+    several-worked (λ t. only_reads (expr_of t)) (only_reads (expr_of first.value)) rest.items e ∙ sym (chain-through only_reads worked (λ a b. refl) (λ a b. refl) tree first rest is)
 
 any-from : {X : Type 0} (f : X → Bool) (b : Bool) (xs : List X) → fold ◌||◌ b (map f xs) ≡ b || list_any f xs
 any-from f true [] = refl

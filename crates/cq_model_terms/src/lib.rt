@@ -7,6 +7,7 @@
 #![tactic(auto)]
 
 mod columns;
+mod exact;
 mod laws;
 mod named;
 mod naming;
@@ -15,6 +16,7 @@ mod renamed;
 mod sources;
 
 pub use columns::{add_columns, columns_of};
+pub use exact::is_always_exact;
 pub use laws::{named_columns_are_read, renamed_terms_are_as_wide, renamed_terms_mean_same};
 pub use named::tests_only;
 pub use naming::{Naming, place_in};

@@ -1,2 +1,3 @@
 pub mod AllPlaces
 pub mod Offsets
+pub mod LiveTrue
