@@ -1,5 +1,6 @@
 -- Rows that are kept by their places.
 use Rattle.std.proofs.Common.{◌≡◌, ℕ, zero, suc, ◌+◌, ◌<◌, ◌≤◌, Bool, true, false, cond, List, [], ◌∷◌, ◌++◌, map, length, get_or, refl, sym, ◌∙◌, ap, ap₂, subst, arith}
+use Rattle.std.specs.Prelude.{if◌then◌else◌}
 use Rattle.std.specs.List.{AllByRecursion, filter, range_with_len}
 use Rattle.std.proofs.lemmas.List.{length-map}
 use Rattle.cq_values.specs.Truth.{is_true}
@@ -7,6 +8,8 @@ use Rattle.cq_values.specs.Value.{Row}
 use Rattle.cq_values.specs.declared.truth.Truth.{Truth}
 use Rattle.cq_vectors_masks.specs.Selection.{is_true_at, where_true}
 use Rattle.cq_encodings_vectors.specs.Places.{rows_at}
+use Rattle.cq_segments_pieces.specs.Marked.{MarkedRow, live, rows_of}
+use Rattle.cq_table_positions.specs.Live.{live_true, unless_marked}
 use Rattle.cq_operators_scans.specs.Paired.{ArePlaces}
 use Rattle.cq_operators_scans.proofs.RowBehind.{next-is, next-long, row-here, told-here}
 use Rattle.cq_model_bags.proofs.Lists.{all-filter}
@@ -46,3 +49,15 @@ module _ (test : Row → Truth) (rows : List Row) (truths : List Truth) (are : t
   kept-places =
       subst (ArePlaces rows) (sym is)
       (all-filter (λ (place : ℕ). place < length rows) (is_true_at truths) (range_with_len 0 (length truths)) (below (length rows) 0 (length truths) (omega (arith, long))))
+
+-- a row is kept where the test is True and it has no mark
+one-live : (test : Row → Truth) (marked : Bool) (row : Row) (rows : List Row)
+    → (if is_true (unless_marked (test row) marked) then row ∷ filter (λ r. is_true (test r)) rows else filter (λ r. is_true (test r)) rows) ≡ filter (λ r. is_true (test r)) (if marked then rows else row ∷ rows)
+one-live test true row rows = refl
+one-live test false row rows = refl
+
+-- those without a mark of which the test is True are the ones without a mark that pass it
+pub kept-live : (test : Row → Truth) (stored : List MarkedRow) → live_true (map test (rows_of stored)) stored ≡ filter (λ row. is_true (test row)) (live stored)
+kept-live test [] = refl
+kept-live test (m ∷ stored) =
+    ap (λ (rows : List Row). if is_true (unless_marked (test m.row) m.marked) then m.row ∷ rows else rows) (kept-live test stored) ∙ one-live test m.marked m.row (live stored)

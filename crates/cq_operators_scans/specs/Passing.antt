@@ -8,6 +8,7 @@ use Rattle.cq_table_positions.specs.Rows.{rows_in}
 use Rattle.cq_table_positions.specs.declared.stored_rows.StoredRows.{StoredRows}
 use Rattle.cq_values.specs.Truth.{is_true}
 use Rattle.cq_values.specs.Value.{Row}
+use Rattle.cq_values.specs.declared.truth.Truth.{Truth}
 use Rattle.cq_model.specs.Own.{in_place, passes_own}
 use Rattle.cq_model.specs.Condition.{holds}
 use Rattle.cq_model.specs.Exact.{AreExactIn}
@@ -54,3 +55,7 @@ ArePassing before tree rows places = rows_at rows places ≡ passing_one before 
 -- at these places of stored rows stand those without a mark that pass them all
 abbrev pub ArePassedAt : ℕ → List (Bor CondTree) → List MarkedRow → List ℕ → Type 0
 ArePassedAt before conditions stored places = rows_at (rows_of stored) places ≡ passing_rows before conditions (live stored)
+
+-- these are the truths of one of them in rows
+abbrev pub AreTruthsBehind : ℕ → CondTree → List Row → List Truth → Type 0
+AreTruthsBehind before tree rows truths = truths ≡ map (λ row. holds (cond_of tree) (in_place before row)) rows

@@ -3,7 +3,8 @@ ghost use Rattle.std.specs.List.{AllByRecursion};
 ghost use Rattle.std.specs.Prelude.{◌≡◌, ◌≤◌, IfOk, length};
 ghost use Rattle.cq_model.specs.Trees.{cond_of};
 ghost use Rattle.cq_operators_scans.specs.Paired.{ArePlaces};
-ghost use Rattle.cq_operators_scans.specs.Passing.{ArePassed, ArePassing, CanAllPass, IsExactBehind, passing_one, passing_rows};
+ghost use Rattle.cq_operators_scans.specs.Passing.{ArePassed, ArePassing, AreTruthsBehind, CanAllPass, IsExactBehind, passing_one, passing_rows};
+ghost use Rattle.cq_segments_pieces.specs.Marked.{live};
 ghost use Rattle.cq_table_positions.specs.Rows.{rows_in};
 ghost use Rattle.cq_table_columns.specs.Stored.{all_rows, front_rows};
 
@@ -13,11 +14,12 @@ use crate::scan::Scan;
 use crate::skipping::{is_missed, split_missed};
 use crate::truths::truths_of_tree;
 use cq_model::CondTree;
-use cq_model_terms::columns_of;
+use cq_model_terms::{columns_of, is_always_exact};
 use cq_prims::KnownTruths;
+use cq_segments_pieces::Piece;
 use cq_table_columns::{Front, Stored};
-use cq_table_positions::{Placed, StoredRows};
-use cq_vectors_masks::Selection;
+use cq_table_positions::{Placed, StoredRows, live_rows, live_true, marked_piece};
+use cq_vectors_masks::{Selection, TruthMask};
 use std::alloc::{AllocError, Global};
 
 /// The rows that pass all conditions, where they are. In these the values of a row stand behind so many others. It goes
@@ -71,8 +73,8 @@ fn list_passing<'a>(
     Ok(StoredRows::Listed(passing))
 }
 
-/// The same as a scan, of which these columns are gathered: the rows stay places of the front. What is known of texts
-/// that fit patterns is kept for the next front.
+/// The same as a scan: the rows stay places of the front. These columns are gathered, but of a piece with marks, where the
+/// condition that reads them may be asked of all rows. What is known of texts that fit patterns is kept for the next front.
 pub fn scan_passing<'a>(
     alloc: Global,
     conditions: &[&'a CondTree],
@@ -85,6 +87,12 @@ pub fn scan_passing<'a>(
     ensures { IfOk result (λ scan. scan ≡ passing_rows 0 conditions.now (front_rows front.now)) }
 {
     let passed = pass_all(alloc, 0, conditions, front, known)?;
+    if let Some(piece) = marked_piece(&passed) {
+        if columns.is_empty() {
+            return Scan::open_stored(alloc, live_rows(alloc, piece)?, &[]);
+        }
+        return Scan::open_stored(alloc, passed, &[]);
+    }
     Scan::open_stored(alloc, passed, columns)
 }
 
@@ -120,6 +128,9 @@ fn pass_one<'a>(
     requires exact { AllByRecursion (IsExactBehind before (cond_of condition.now)) (rows_in rows.now) }
     ensures { IfOk result (λ p. rows_in p ≡ passing_one before condition.now (rows_in rows.now)) }
 {
+    if let Some(piece) = marked_piece(rows) {
+        return pass_marked(alloc, before, condition, piece, known);
+    }
     let kept = passing_places(alloc, before, condition, rows, known)?;
     rows.at(alloc, kept.places())
 }
@@ -137,11 +148,47 @@ pub(crate) fn passing_places<'a>(
     ensures there { IfOk result (ArePlaces (rows_in rows.now)) }
     ensures rows { IfOk result (ArePassing before condition.now (rows_in rows.now)) }
 {
-    let columns = columns_of(alloc, condition)?;
-    let read = rows.copy(alloc)?;
-    let scan = Scan::open_behind(alloc, before, read, &columns)?;
-    let truths = truths_of_tree(alloc, condition, &scan, known)?;
+    let truths = truths_behind(alloc, before, condition, rows, known)?;
     let mut kept = Selection::new();
     kept.set_true(&truths);
     Ok(kept)
+}
+
+fn truths_behind<'a>(
+    alloc: Global,
+    before: usize,
+    condition: &'a CondTree,
+    rows: &StoredRows<'a>,
+    known: &mut KnownTruths<'a>,
+) -> Result<TruthMask, AllocError>
+    requires few { length (rows_in rows.now) ≤ 1024 }
+    requires exact { AllByRecursion (IsExactBehind before (cond_of condition.now)) (rows_in rows.now) }
+    ensures { IfOk result (AreTruthsBehind before condition.now (rows_in rows.now)) }
+{
+    let columns = columns_of(alloc, condition)?;
+    let read = rows.copy(alloc)?;
+    let scan = Scan::open_behind(alloc, before, read, &columns)?;
+    truths_of_tree(alloc, condition, &scan, known)
+}
+
+/// The rows of a piece without a mark that pass a condition. Those with one are asked too where it is always exact.
+pub(crate) fn pass_marked<'a>(
+    alloc: Global,
+    before: usize,
+    condition: &'a CondTree,
+    piece: &'a Piece,
+    known: &mut KnownTruths<'a>,
+) -> Result<StoredRows<'a>, AllocError>
+    requires { AllByRecursion (IsExactBehind before (cond_of condition.now)) (live piece.now) }
+    ensures { IfOk result (λ p. rows_in p ≡ passing_one before condition.now (live piece.now)) }
+{
+    let _len = piece.len();
+    if is_always_exact(condition) {
+        let all = StoredRows::Front(Front::Columns(piece.columns()));
+        let truths = truths_behind(alloc, before, condition, &all, known)?;
+        return live_true(alloc, truths, piece);
+    }
+    let rows = live_rows(alloc, piece)?;
+    let kept = passing_places(alloc, before, condition, &rows, known)?;
+    rows.at(alloc, kept.places())
 }

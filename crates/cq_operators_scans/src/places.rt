@@ -13,7 +13,7 @@ use cq_prims::KnownTruths;
 use cq_segments::Segment;
 use cq_segments_pieces::Piece;
 use cq_table_columns::Front;
-use cq_table_positions::StoredRows;
+use cq_table_positions::{StoredRows, live_rows};
 use std::alloc::{AllocError, Global};
 
 /// The places of the rows without a mark that pass all conditions, rising. In these the values of a row stand behind so
@@ -77,7 +77,7 @@ fn piece_passing<'a>(
     if is_missed(before, conditions, &front) {
         return Ok((StoredRows::Listed(Vec::new(alloc)), Vec::new(alloc)));
     }
-    let mut passed = StoredRows::Front(front);
+    let mut passed = live_rows(alloc, piece)?;
     let mut places = piece.live_places(alloc)?;
     for condition in conditions {
         let kept = passing_places(alloc, before, *condition, &passed, known)?;

@@ -8,8 +8,8 @@ use Rattle.cq_operators_scans.proofs.places.piece_passing.Goals as goal
 
 pub loop-condition-init : goal.loop-condition-init
 loop-condition-init c = record {
-  asked = all-left c.args.piece.now _ c.of_piece-front.ensures.rows c.args.before c.args.conditions.now c.of_piece-front.ensures.few c.requires;
-  stands = all-stand c.args.piece.now _ c.of_piece-front.ensures.rows c.in_ok-places.places.items c.in_ok-places.ensures;
+  asked = all-left c.args.piece.now _ c.in_ok-passed.ensures c.args.before c.args.conditions.now c.of_piece-front.ensures.few c.requires;
+  stands = all-stand c.args.piece.now _ c.in_ok-passed.ensures c.in_ok-places.places.items c.in_ok-places.ensures;
 }
 
 pub passing_places-requires-clause-exact : goal.passing_places-requires-clause-exact
@@ -27,12 +27,12 @@ copies_at-requires c =
 pub loop-condition-preserved : goal.loop-condition-preserved
 loop-condition-preserved c =
     let passed = rows_in c.loop-condition.passed in
-    let kept = c.in_ok-passed.ensures ∙ ap (rows_at passed) c.places.ensures.places in
+    let kept = c.in_ok-passed-2.ensures ∙ ap (rows_at passed) c.places.ensures.places in
     let news = c.in_ok-places-2.ensures 0 in record {
       asked = asked-next c.args.before c.args.conditions.now c.loop-condition.condition-index c.condition-item.result c.loop-condition-test.true c.condition-item.is
-          passed (live c.args.piece.now) c.loop-condition.invariant.asked (rows_in c.in_ok-passed.passed) (kept ∙ c.in_ok-kept.ensures.rows);
+          passed (live c.args.piece.now) c.loop-condition.invariant.asked (rows_in c.in_ok-passed-2.passed) (kept ∙ c.in_ok-kept.ensures.rows);
       stands = stands-kept c.args.piece.now passed c.loop-condition.places.items c.in_ok-kept.kept c.loop-condition.invariant.stands c.in_ok-kept.ensures.there
-          (rows_in c.in_ok-passed.passed) kept c.in_ok-places-2.places.items (news ∙ ap₂ places_at c.as_slice.ensures.value c.places-in-loop-condition.ensures.places);
+          (rows_in c.in_ok-passed-2.passed) kept c.in_ok-places-2.places.items (news ∙ ap₂ places_at c.as_slice.ensures.value c.places-in-loop-condition.ensures.places);
     }
 
 pub returns-clause-passed : goal.returns-clause-passed
