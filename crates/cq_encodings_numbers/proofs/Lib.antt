@@ -1,4 +1,5 @@
 pub mod Above
+pub mod Datums
 pub mod NumbersAbove
 pub mod PartEnds
 pub mod Walking

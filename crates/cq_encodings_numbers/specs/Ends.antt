@@ -1,29 +1,51 @@
--- The least and the greatest of parts of 1,024.
-use Rattle.std.specs.Prelude.{◌≡◌, ◌⊎◌, ◌<◌, ◌≤◌, ◌+◌, ◌*◌, ℕ, true, false, List, length, slice_index_or}
-use Rattle.std.specs.List.{AllByRecursion}
-use Rattle.std.specs.Ordering.{is_gt}
-use Rattle.cq_values.specs.Order.{value_cmp}
-use Rattle.cq_values.specs.Value.{is_null}
-use Rattle.cq_values.specs.declared.value.Value.{Value}
+-- The least and the greatest of parts of 1,024 offsets.
+use Rattle.std.specs.Prelude.{◌≡◌, ◌<◌, ◌≤◌, ◌+◌, ◌*◌, ℕ, ℤ, pos, ◌+ℤ◌, min, max, Bool, true, false, List, Option, Some, None, IfSome, length, slice_index_or}
+use Rattle.std.specs.Option.{option_map}
+use Rattle.cq_encodings_numbers.specs.Bounds.{Ends}
+use Rattle.cq_encodings_plain.specs.declared.kind.Kind.{Kind}
+use Rattle.cq_encodings_plain.specs.Kind.{datum}
+use Rattle.cq_encodings_numbers.specs.declared.ends.PartEnds.{PartEnds}
 
--- the number stands at some place, or it is 0
-abbrev pub IsThere : List ℕ → ℕ → Type 0
-IsThere numbers n = (k : ℕ) × (slice_index_or numbers k 0 ≡ n)
+-- the place is one of those from a first up to another one, and there is an offset and this flag
+pub record IsPlace (start end : ℕ) (offsets : List ℕ) (nulls : List Bool) (flag : Bool) (place : ℕ) : Type 0 where
+  pub from : start ≤ place
+  pub below : place < end
+  pub there : place < length offsets
+  pub is : slice_index_or nulls place false ≡ flag
 
--- the numbers from a place up to another one lie between two that are there
-pub record AreEnds (start end : ℕ) (numbers : List ℕ) (ends : ℕ × ℕ) : Type 0 where
-  pub all : (k : ℕ) → start ≤ k → k < end → k < length numbers → (ends.0 ≤ slice_index_or numbers k 0) × (slice_index_or numbers k 0 ≤ ends.1)
-  pub least : IsThere numbers ends.0
-  pub greatest : IsThere numbers ends.1
+-- the offset stands there at some place that is not NULL
+abbrev pub IsThere : ℕ → ℕ → List ℕ → List Bool → ℕ → Type 0
+IsThere start end offsets nulls offset = (place : ℕ) × IsPlace start end offsets nulls false place × (slice_index_or offsets place 0 ≡ offset)
 
--- pair k has the ends of the numbers from 1,024 * k on, at most 1,024
-abbrev pub HaveEnds : List (ℕ × ℕ) → List ℕ → Type 0
-HaveEnds ends numbers = (k : ℕ) (e : ℕ × ℕ) → k < length ends → AreEnds (1024 * k) (1024 * k + 1024) numbers (slice_index_or ends k e)
+-- there are ends, and the offset lies between them, both included
+abbrev pub IsBetween : Option (ℕ × ℕ) → ℕ → Type 0
+IsBetween None offset = ⊥
+IsBetween (Some ends) offset = (ends.0 ≤ offset) × (offset ≤ ends.1)
 
--- NULL, or a value between two others, both included
-abbrev pub IsWithin : Value → Value → Value → Type 0
-IsWithin least greatest value = (is_null value ≡ true) ⊎ (is_gt (value_cmp least value) ≡ false) × (is_gt (value_cmp value greatest) ≡ false)
+-- the ends of the offsets from a place up to another one that are not NULL's, and whether NULL is there
+pub record AreEnds (start end : ℕ) (offsets : List ℕ) (nulls : List Bool) (known : PartEnds) : Type 0 where
+  pub between : (place : ℕ) → IsPlace start end offsets nulls false place → IsBetween known.ends (slice_index_or offsets place 0)
+  pub there : IfSome known.ends (λ e. IsThere start end offsets nulls e.0 × IsThere start end offsets nulls e.1)
+  pub null : (place : ℕ) → IsPlace start end offsets nulls true place → known.has_null ≡ true
+  pub some_null : known.has_null ≡ true → (place : ℕ) × IsPlace start end offsets nulls true place
 
--- each value is
-abbrev pub AreWithin : Value → Value → List Value → Type 0
-AreWithin least greatest values = AllByRecursion (IsWithin least greatest) values
+-- nothing is there
+abbrev pub no_ends : PartEnds
+no_ends = record { has_null = false; ends = None }
+
+-- item k has the ends of the offsets from 1,024 * k on, at most 1,024
+abbrev pub HaveEnds : List PartEnds → List ℕ → List Bool → Type 0
+HaveEnds ends offsets nulls = (k : ℕ) → AreEnds (1024 * k) (1024 * k + 1024) offsets nulls (slice_index_or ends k no_ends)
+
+-- none of the flags from a place up to another one is set
+abbrev pub AreClear : ℕ → ℕ → List Bool → Type 0
+AreClear start end nulls = (place : ℕ) → start ≤ place → place < end → slice_index_or nulls place false ≡ false
+
+-- the ends with one offset more
+abbrev pub with_offset : Option (ℕ × ℕ) → ℕ → ℕ × ℕ
+with_offset None offset = (offset, offset)
+with_offset (Some ends) offset = (min ends.0 offset, max ends.1 offset)
+
+-- the values so far above the least
+abbrev pub ends_above : Kind → ℤ → Option (ℕ × ℕ) → Ends
+ends_above kind least ends = option_map (λ e. (datum kind (least +ℤ pos e.0) false, datum kind (least +ℤ pos e.1) false)) ends

@@ -1,3 +1,4 @@
+pub mod Bounds
 pub mod Deltas
 pub mod Ends
 pub mod Packed

@@ -11,6 +11,7 @@ use Rattle.cq_encodings_plain.specs.PackedNumbers.{numbers_in}
 use Rattle.cq_encodings_plain.specs.declared.packed_numbers.Widths.{Widths}
 use Rattle.cq_encodings_plain.specs.Parts.{IsNoneNull, nulls_of}
 use Rattle.cq_encodings_numbers.specs.Ends.{HaveEnds}
+use Rattle.cq_encodings_numbers.specs.declared.ends.PartEnds.{PartEnds}
 
 -- the numbers that lie so far above a least one
 abbrev pub above : ℤ → List ℕ → List ℤ
@@ -27,9 +28,9 @@ pub record AreOffsets (kind : Kind) (least : ℤ) (offsets : List ℕ) (nulls : 
   pub fit : FitAbove kind least offsets
 
 -- they have the ends of each 1,024
-pub record IsPacked (kind : Kind) (least : ℤ) (offsets : List ℕ) (nulls : List Bool) (ends : List (ℕ × ℕ)) : Type 0 where
+pub record IsPacked (kind : Kind) (least : ℤ) (offsets : List ℕ) (nulls : List Bool) (ends : List PartEnds) : Type 0 where
   pub are : AreOffsets kind least offsets nulls
-  pub have : HaveEnds ends offsets
+  pub have : HaveEnds ends offsets nulls
 
 -- the number so far above the least stands for the value
 pub record IsOffset (kind : Kind) (least : ℤ) (value : Lent) (offset : ℕ) : Type 0 where

@@ -2,15 +2,16 @@
 ghost use Rattle.std.specs.List.{AllByRecursion};
 ghost use Rattle.std.specs.Prelude.{IfOk, IfSome, drop, map, pos, take, ◌*◌, ◌+ℤ◌, ◌≡◌};
 ghost use Rattle.std.specs.Simd.Lanes.{zip2};
+ghost use Rattle.cq_encodings_numbers.specs.Bounds.{AreBoundsOf, owned_ends};
 ghost use Rattle.cq_encodings_plain.specs.Kind.{IsOf, datum, number_values};
 ghost use Rattle.cq_encodings_plain.specs.PackedNumbers.{numbers_in};
-ghost use Rattle.cq_encodings_numbers.specs.Ends.{AreWithin};
+ghost use Rattle.cq_encodings_numbers.specs.Ends.{ends_above};
 ghost use Rattle.cq_encodings_numbers.specs.Packed.{AreOffsets, above};
 ghost use Rattle.cq_values.specs.Lent.{owned};
 
-use crate::bounds::{bounds_of, ends_of};
+use crate::bounds::{Bounds, bounds_of, ends_of};
 use crate::distances::distances_at;
-use crate::ends::ends_of_parts;
+use crate::ends::{PartEnds, ends_of_parts};
 use crate::offsets::offsets_at;
 use cq_encodings_plain::{
     Encoded, Kind, Nulls, PackedNumbers, Widths, is_of, kind_of, lend_number, width_up_to,
@@ -26,8 +27,8 @@ pub struct Packed {
     least: i64,
     offsets: PackedNumbers,
     nulls: Nulls,
-    /// The least and the greatest offset of each 1,024.
-    ends: Vec<(u64, u64)>,
+    /// What is known of each 1,024 offsets.
+    ends: Vec<PartEnds>,
 }
 
 impl Model for Packed {
@@ -107,7 +108,7 @@ impl Packed {
         ensures { IfOk result (λ packed. packed ≡ zip2 (datum kind) (above least (numbers_in widths)) nulls) }
     {
         let offsets = PackedNumbers::from_widths(widths);
-        let ends = ends_of_parts(alloc, &offsets)?;
+        let ends = ends_of_parts(alloc, &offsets, &nulls)?;
         Ok(Packed {
             kind,
             least,
@@ -117,14 +118,20 @@ impl Packed {
         })
     }
 
-    /// The least and the greatest number of a part of 1,024 values, if there is such a part. NULL may stand there too.
-    pub fn part_ends(&self, part: usize) -> Option<(Lent<'_>, Lent<'_>)>
-        ensures { IfSome result (λ e. AreWithin (owned e.0) (owned e.1) (take 1024 (drop (1024 * part) self.now))) }
+    /// The bounds of a part of 1,024 values. Past the end there are no values.
+    pub fn part_bounds(&self, part: usize) -> Bounds<'_>
+        ensures { AreBoundsOf result (take 1024 (drop (1024 * part) self.now)) }
     {
-        let ends = self.ends.get(part)?;
-        let least = lend_number(self.kind, raised(self.least, ends.0));
-        let greatest = lend_number(self.kind, raised(self.least, ends.1));
-        Some((least, greatest))
+        match self.ends.get(part) {
+            Some(known) => Bounds {
+                has_null: known.has_null,
+                ends: lend_ends(self.kind, self.least, known.ends),
+            },
+            None => Bounds {
+                has_null: false,
+                ends: None,
+            },
+        }
     }
 
     /// The kind, the least number, the offsets and the flags, for loops: the offset is 0 where NULL stands.
@@ -155,6 +162,19 @@ impl Encoded for Packed {
 /// Whether numbers lie less than 2^32 apart.
 fn are_close(least: i64, greatest: i64) -> bool {
     i128::from(greatest) - i128::from(least) < 1 << 32
+}
+
+/// The ends that lie so far above the least number.
+fn lend_ends<'a>(kind: Kind, least: i64, ends: Option<(u64, u64)>) -> Option<(Lent<'a>, Lent<'a>)>
+    ensures { owned_ends result ≡ ends_above kind least ends }
+{
+    match ends {
+        Some((low, high)) => {
+            let first = lend_number(kind, raised(least, low));
+            Some((first, lend_number(kind, raised(least, high))))
+        }
+        None => None,
+    }
 }
 
 /// The number that lies so far above the least one.

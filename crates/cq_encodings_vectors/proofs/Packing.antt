@@ -8,10 +8,11 @@ use Rattle.cq_values.specs.Days.{IsDay}
 use Rattle.cq_values.specs.declared.value.Value.{Value}
 use Rattle.cq_vectors_stored.specs.Columns.{day_unless, number_unless}
 use Rattle.cq_vectors_stored.specs.LentColumns.{day_above, days_above, number_above, numbers_above}
-use Rattle.cq_encodings_plain.specs.Kind.{IsOf, datum, is_day}
+use Rattle.cq_encodings_plain.specs.Kind.{IsOf, datum}
 use Rattle.cq_encodings_plain.specs.Nulls.{NothingWhere}
 use Rattle.cq_encodings_plain.specs.declared.kind.Kind.{Kind}
 use Rattle.cq_encodings_plain.specs.declared.kind.Kind.TheVariants.{Numbers, Days}
+use Rattle.cq_encodings_numbers.proofs.Datums.{day_is}
 use Rattle.cq_encodings_numbers.specs.Packed.{AreOffsets, FitAbove, above}
 use Rattle.cq_encodings_vectors.specs.Parts.{items_of}
 use Rattle.cq_encodings_vectors.proofs.PartsLemmas.{clear-shown, facts-part, few-part, length-made, same-part, zip2-made, zip2-part, zip2-same}
@@ -20,9 +21,6 @@ use Rattle.cq_encodings_vectors.proofs.PartsLemmas.{clear-shown, facts-part, few
 pub number_datum : (n : ℤ) (b : Bool) → number_unless n b ≡ datum Numbers n b
 number_datum n true = refl
 number_datum n false = refl
-
-day_is : (n : ℤ) → IsDay n → is_day n ≡ true
-day_is n day = grind (arith, ints, day.0, day.1)
 
 -- and that of a day in a column of days
 day_datum : (n : ℤ) → IsDay n → (b : Bool) → day_unless n b ≡ datum Days n b

@@ -17,3 +17,4 @@ pub mod FoundByName
 pub mod BoundCommands
 pub mod Binding
 pub mod Selecting
+pub mod CorePlaces

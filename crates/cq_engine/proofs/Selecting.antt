@@ -26,7 +26,7 @@ use Rattle.cq_engine_answers.specs.Reading.{CanRead, IsReadable, IsSourceThere}
 use Rattle.cq_engine_answers.specs.Selects.{AreListed, Selects}
 use Rattle.cq_engine_queue.proofs.Later.{present-right}
 use Rattle.cq_engine_tables.specs.Views.{AreRight, IsPresent, IsRight, NamedView, view_of, views_of}
-use Rattle.cq_engine_queue.specs.Goal.{named_to}
+use Rattle.cq_engine_queue.specs.Goal.{sources_to}
 
 -- ---- Views that differ in their epochs alone
 abbrev SameButEpochs : List ViewOf → List ViewOf → Type 0
@@ -99,19 +99,19 @@ taken-at to place (v ∷ vs) (suc i) w at =
     let next : place + 1 + i ≡ place + suc i = omega arith in
     (rest.0, rest.1 ∙ ap (λ (p : ℕ). to p rest.0) next)
 
-right-at : (s : State) (vs : List NamedView) (place : ℕ) (v : NamedView) → AreRight s vs → slice_get vs place ≡ Some v → IsRight s v
+pub right-at : (s : State) (vs : List NamedView) (place : ℕ) (v : NamedView) → AreRight s vs → slice_get vs place ≡ Some v → IsRight s v
 right-at s [] place v right at = absurd (cc at)
 right-at s (w ∷ ws) zero v right at = subst (IsRight s) (same_Some w v at) right.0
 right-at s (w ∷ ws) (suc place) v right at = right-at s ws place v right.1 at
 
-module _ (law : StandingDependsOnSources) (s : State) (whole : s.passed + length s.queue ≡ s.now) (q : Query) (now : ℕ) (is_now : s.now ≡ now) (olds : List ViewOf) (vs : List NamedView) (right : AreRight s vs) (taken : views_of vs ≡ taken_on (named_to q now) 0 olds) where
+module _ (law : StandingDependsOnSources) (s : State) (whole : s.passed + length s.queue ≡ s.now) (q : Query) (now : ℕ) (is_now : s.now ≡ now) (olds : List ViewOf) (vs : List NamedView) (right : AreRight s vs) (taken : views_of vs ≡ taken_on (sources_to q now) 0 olds) where
   view-present : (place : ℕ) → list_any (is_view place) (sources_of q) ≡ true → (v : NamedView) → slice_get vs place ≡ Some v → IsPresent s.tables v
   view-present place named v at =
-      let there : slice_get (taken_on (named_to q now) 0 olds) place ≡ Some (view_of v) =
+      let there : slice_get (taken_on (sources_to q now) 0 olds) place ≡ Some (view_of v) =
       ap (λ (us : List ViewOf). slice_get us place) (sym taken) ∙ slice_get-map view_of vs place ∙ ap (option_map view_of) at in
-      let on = taken-at (named_to q now) 0 olds place (view_of v) there in
+      let on = taken-at (sources_to q now) 0 olds place (view_of v) there in
       let here : 0 + place ≡ place = omega arith in
-      let epoch : v.kept.state.epoch ≡ now = on.1 ∙ ap (λ (p : ℕ). named_to q now p on.0) here ∙ ap (λ (b : Bool). if b then now else on.0.epoch) named in
+      let epoch : v.kept.state.epoch ≡ now = on.1 ∙ ap (λ (p : ℕ). sources_to q now p on.0) here ∙ ap (λ (b : Bool). if b then now else on.0.epoch) named in
       present-right law s whole v (right-at s vs place v right at) (epoch ∙ sym is_now)
 
   all-readable : (sources : List Source) → ((place : ℕ) → list_any (is_view place) sources ≡ true → (v : NamedView) → slice_get vs place ≡ Some v → IsPresent s.tables v) → AllByRecursion (IsReadable s.tables vs) sources

@@ -4,3 +4,4 @@ pub mod TableWidths
 pub mod Commands
 pub mod Held
 pub mod Reading
+pub mod Sources

@@ -1,15 +1,15 @@
 -- SELECT from views that are taken on to the present first.
-use Rattle.std.specs.Prelude.{◌≡◌, ◌⊎◌, ℕ, List, Result, Ok, Err}
+use Rattle.std.specs.Prelude.{◌≡◌, ◌⊎◌, ℕ, if◌then◌else◌, List, Result, Ok, Err}
 use Rattle.std.specs.Global.{Vec}
 use Rattle.cq_values.specs.Value.{Row}
 use Rattle.cq_binder_rules.specs.declared.fault.Fault.{Fault}
 use Rattle.cq_binder_rules.specs.declared.fault.Fault.TheVariants.{Memory}
 use Rattle.cq_engine_queue.specs.Counts.{AllCount, AllMayBegin}
-use Rattle.cq_engine_queue.specs.Goal.{named_to}
 use Rattle.cq_model.specs.declared.query.Order.{Order}
 use Rattle.cq_model.specs.declared.query.Query.{Query}
 use Rattle.cq_model_state.specs.Fitting.{AreFitting, AreLimited, rows_limit}
-use Rattle.cq_model_state.specs.State.{State}
+use Rattle.cq_model_state.specs.State.{State, ViewOf}
+use Rattle.cq_model_step.specs.Named.{is_named}
 use Rattle.cq_model_step.specs.Next.{taken_on}
 use Rattle.cq_model_step.specs.Step.{AreBetween}
 use Rattle.cq_engine_answers.specs.Reading.{CanRead}
@@ -31,13 +31,17 @@ pub record CanSelect (tables : List HeldTable) (views : List NamedView) (queue :
   pub limited : AreLimited rows_limit (tables_of tables)
   pub can : CanRead (tables_of tables) (views_of views) q
 
+-- each view that a query names is to be at the present, and the others where they are
+abbrev pub named_to : List ViewOf → Query → ℕ → ℕ → ViewOf → ℕ
+named_to views q now place v = if is_named views q place then now else v.epoch
+
 -- each view that the query names is at the present, and the others are where they were
 abbrev pub AreNamedThere : Query → ℕ → Vec NamedView → Vec NamedView → Type 0
-AreNamedThere q now old new = views_of new.items ≡ taken_on (named_to q now) 0 (views_of old.items)
+AreNamedThere q now old new = views_of new.items ≡ taken_on (named_to (views_of old.items) q now) 0 (views_of old.items)
 
 -- or somewhere on its way there
 abbrev pub AreNamedTaken : Query → ℕ → Vec NamedView → Vec NamedView → Type 0
-AreNamedTaken q now old new = AreBetween (named_to q now) 0 (views_of old.items) (views_of new.items)
+AreNamedTaken q now old new = AreBetween (named_to (views_of old.items) q now) 0 (views_of old.items) (views_of new.items)
 
 -- the answer is that of the query on the tables and the views that they were
 abbrev pub SelectsAs : List HeldTable → List NamedView → Query → Order → Result (List Row) Fault → Type 0
@@ -47,4 +51,4 @@ SelectsAs tables views q order result = Selects (tables_of tables) (views_of vie
 abbrev pub CountsNamed : Query → ℕ → Queued → Vec NamedView → Vec NamedView → Result (List Row) Fault → Type 0
 CountsNamed q now queue old new (Ok rows) = AllCount queue old.items new.items
 CountsNamed q now queue old new (Err f) =
-    AllCount queue old.items new.items ⊎ ((f ≡ Memory) × AllMayBegin (named_to q now) queue old.items new.items)
+    AllCount queue old.items new.items ⊎ ((f ≡ Memory) × AllMayBegin (named_to (views_of old.items) q now) queue old.items new.items)

@@ -5,6 +5,6 @@
 pub enum AnswerSource<'a> {
     /// What the query's FROM names.
     Tables,
-    /// The rows of a view that has the query's groups at hand.
+    /// The rows of the view of this name, which has the core of the query.
     View(&'a str),
 }

@@ -11,13 +11,14 @@ ghost use Rattle.cq_model_step.specs.Output.{source_failures};
 ghost use Rattle.cq_model_step.specs.Step.{StepFrom};
 ghost use Rattle.cq_engine_queue.specs.Shown.{ShowsEpoch};
 ghost use Rattle.cq_engine_tables.specs.Views.{AreRight, views_of};
-ghost use Rattle.cq_engine.specs.declared.answer_source.AnswerSource.TheVariants.{Tables};
 ghost use Rattle.cq_engine.specs.Commands.{MayBeRefused, Refreshes, reads_after};
 ghost use Rattle.cq_engine.specs.Held.{CountsFrom, StoresFrom, ViewsCount, lengths_named};
+ghost use Rattle.cq_engine.specs.Sources.{core_named, view_in};
 ghost use Rattle.cq_engine.specs.Views.{stored_named, work_named};
 
 use crate::answer_source::AnswerSource;
 use crate::catalog::EngineCatalog;
+use crate::cores::source_of;
 use crate::limits::Limits;
 use cq_binder::bind;
 use cq_binder_rules::{Bound, Fault, Sources};
@@ -142,11 +143,15 @@ impl Engine {
         EngineCatalog::new(&self.tables, &self.views)
     }
 
-    /// Where the answer to a query comes from that was bound by the catalog: always from what its FROM names.
-    pub fn answer_source(&self, _command: &Bound) -> AnswerSource<'_>
-        ensures { result ≡ Tables }
+    /// Where the answer to a query comes from that was bound by the catalog: from the first created view whose core it has,
+    /// or else from what its FROM names. It takes no memory.
+    pub fn answer_source(&self, command: &Bound) -> AnswerSource<'_>
+        ensures { view_in result ≡ core_named command.now self.now.state.views }
     {
-        AnswerSource::Tables
+        match command {
+            Bound::Select { query, .. } => source_of(&self.views, query),
+            _ => AnswerSource::Tables,
+        }
     }
 
     /// Takes the view of a name on by so many changes, or to the present where fewer are left: 11 where there is none.

@@ -8,6 +8,7 @@
 mod answer_source;
 mod catalog;
 mod commands;
+mod cores;
 mod creation;
 mod engine;
 mod gathering;

@@ -13,7 +13,6 @@ use Rattle.cq_hash_groups.specs.Exact.{AreExactOver, IsExactFor}
 use Rattle.cq_model.specs.declared.fault.ShowFault.{ShowFault}
 use Rattle.cq_model.specs.declared.fault.ShowFault.TheVariants.{Memory, SumOutOfRange}
 use Rattle.cq_operators.specs.Exec.{GivesRest, IsInRange, IsOpened, Remaining}
-use Rattle.cq_operators_joins.specs.Linked.{IsExactBy}
 use Rattle.cq_model_laws.specs.Sizes.{GroupsKeepSizes, HasSizes, JoinedHaveSizes, JoinedRowsKeepSizes, KeepsColumns, grouped_sizes}
 use Rattle.cq_model_laws.proofs.Columns.{listed-columns}
 use Rattle.cq_model_laws.proofs.Positives.{once_each-bag}
@@ -34,7 +33,7 @@ use Rattle.cq_model.specs.Meaning.{MeaningInRange, ShapeInRange, chain, joined_r
 use Rattle.cq_model.specs.Own.{in_place}
 use Rattle.cq_model.specs.Views.{sources_of}
 use Rattle.cq_model.specs.Width.{IsNarrowIn, sizes_of}
-use Rattle.cq_operators.specs.Selected.{AreCounted, CanSelect, CanShape, CanShow, kept_rows, rows_in}
+use Rattle.cq_operators.specs.Selected.{AreCounted, CanSelect, CanShape, CanShow, IsExactBy, kept_rows, rows_in}
 use Rattle.cq_plan.specs.Chain.{AreOf, ChainedSource, joined_lists, links_with}
 use Rattle.cq_plan.specs.Own.{AreOwnOf, conditions_of}
 use Rattle.cq_plan.specs.Plan.{IsPlanOf, kept_of}

@@ -4,3 +4,4 @@ pub mod Readings
 pub mod Lents
 pub mod Joined
 pub mod Exactly
+pub mod AtHand

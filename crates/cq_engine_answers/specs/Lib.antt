@@ -3,3 +3,4 @@ pub mod Reading
 pub mod Gathered
 pub mod Selects
 pub mod Lent
+pub mod AtHand

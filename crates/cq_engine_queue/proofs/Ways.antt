@@ -16,7 +16,7 @@ use Rattle.cq_engine_queue.specs.Goal.{goal_of}
 use Rattle.cq_engine_queue.specs.History.{IsHistory, IsQueueOf, IsTakenOn, StayRight, StaysRight}
 use Rattle.cq_engine_queue.specs.Queued.{Queued}
 use Rattle.cq_engine_queue.specs.declared.goal.Goal.{Goal}
-use Rattle.cq_engine_queue.specs.declared.goal.Goal.TheVariants.{By, Present}
+use Rattle.cq_engine_queue.specs.declared.goal.Goal.TheVariants.{At, By, Present}
 use Rattle.cq_engine_queue.proofs.Counting.{counted-itself}
 use Rattle.cq_engine_queue.proofs.Reaching.{not-taken}
 
@@ -84,6 +84,7 @@ ahead-if now b epoch further low high at = by_test b (λ k. rw k (low, high)) (�
 -- not back, and not beyond the present
 pub goal-between : (goal : Goal) (now place : ℕ) (v : ViewOf) → v.epoch ≤ now → (v.epoch ≤ goal_of goal now place v) × (goal_of goal now place v ≤ now)
 goal-between (Present query) now place v at = ahead-if now (list_any (is_view place) (sources_of query.now)) v.epoch now at (omega arith) at
+goal-between (At view) now place v at = ahead-if now (view == place) v.epoch now at (omega arith) at
 goal-between (By view changes) now place v at = ahead-if now (view == place) v.epoch (min (v.epoch + changes) now) (omega (arith, at)) (omega arith) at
 
 module _ (goal : Goal) (now : ℕ) (q : Queued) where

@@ -10,16 +10,18 @@ use Rattle.cq_model_step.specs.Step.{AreBetween}
 use Rattle.cq_engine_queue.specs.Counts.{AllMayBegin}
 use Rattle.cq_engine_queue.specs.Queued.{Queued}
 use Rattle.cq_engine_queue.specs.declared.goal.Goal.{Goal}
-use Rattle.cq_engine_queue.specs.declared.goal.Goal.TheVariants.{By, Present}
+use Rattle.cq_engine_queue.specs.declared.goal.Goal.TheVariants.{At, By, Present}
 use Rattle.cq_engine_tables.specs.Views.{NamedView, views_of}
 
--- each view that a query names is to be at the present, and the others where they are
-abbrev pub named_to : Query → ℕ → ℕ → ViewOf → ℕ
-named_to q now place v = if list_any (is_view place) (sources_of q) then now else v.epoch
+-- each view that FROM names is to be at the present, and the others where they are
+abbrev pub sources_to : Query → ℕ → ℕ → ViewOf → ℕ
+sources_to q now place v = if list_any (is_view place) (sources_of q) then now else v.epoch
 
--- each view that the query names is to be at the present, or the one at a place so many changes further, if as many wait
+-- each view that FROM names is to be at the present, or the one at a place, or that one so many changes further, if as
+-- many wait
 abbrev pub goal_of : Goal → ℕ → ℕ → ViewOf → ℕ
-goal_of (Present query) now place v = named_to query.now now place v
+goal_of (Present query) now place v = sources_to query.now now place v
+goal_of (At view) now place v = if view == place then now else v.epoch
 goal_of (By view changes) now place v = if view == place then min (v.epoch + changes) now else v.epoch
 
 -- each view is somewhere on its way

@@ -11,8 +11,10 @@ use cq_model::{Join, Query, Source};
 /// Which views are to be taken on, and how far.
 #[derive(Clone, Copy)]
 pub enum Goal<'a> {
-    /// Each view that the query names, to the present.
+    /// Each view that FROM names, to the present.
     Present(&'a Query),
+    /// The view at a place, to the present.
+    At(usize),
     /// The view at a place, by so many changes, or to the present where fewer are left.
     By(usize, u128),
 }
@@ -29,6 +31,7 @@ impl Goal<'_> {
             } else {
                 view.epoch()
             },
+            Goal::At(at) => if *at == place { now } else { view.epoch() },
             Goal::By(at, changes) => if *at == place {
                 taken_by(view.epoch(), *changes, now)
             } else {

@@ -3,15 +3,13 @@ use Rattle.std.specs.Prelude.{◌≡◌, ℕ, List, ◌++◌, length, Option, Re
 use Rattle.cq_values.specs.Value.{Row}
 use Rattle.cq_model.specs.declared.assignment.Assignment.{Assignment}
 use Rattle.cq_model.specs.Expr.{Cond}
-use Rattle.cq_model.specs.Meaning.{keeps}
 use Rattle.cq_model.specs.Write.{chosen, left_by}
 use Rattle.cq_model_state.specs.State.{holding}
-use Rattle.cq_operators_scans.specs.Kept.{places_where}
 use Rattle.cq_segments_pieces.specs.Marked.{MarkedRow}
 use Rattle.cq_segments_pieces.specs.Pieces.{joined}
 use Rattle.cq_table.specs.Checks.{IsChecked}
 use Rattle.cq_table.specs.declared.fault.TableFault.{TableFault}
-use Rattle.cq_table.specs.Found.{AreLiveAt, AreThere, found_rows, passes}
+use Rattle.cq_table.specs.Found.{AreLiveAt, AreThere, found_rows, where_places}
 use Rattle.cq_table.specs.Table.{SameRows}
 use Rattle.cq_engine_tables.specs.HeldTables.{HeldTable}
 use Rattle.cq_engine_tables.specs.Tables.{value_fault_of}
@@ -26,7 +24,7 @@ rows_chosen t places = found_rows (stored_of t) places
 
 -- the places of all live rows that WHERE keeps, among all stored rows
 pub record IsChosen (condition : Option Cond) (t : HeldTable) (places : List ℕ) : Type 0 where
-  pub found : places ≡ places_where 0 (passes (keeps condition)) (stored_of t)
+  pub found : places ≡ where_places 0 condition (stored_of t)
   pub live : AreLiveAt places (stored_of t)
   pub there : AreThere places (stored_of t)
   pub picks : SameRows (found_rows (stored_of t) places) (chosen condition t.is.rows)

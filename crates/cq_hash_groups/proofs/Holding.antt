@@ -10,7 +10,7 @@ use Rattle.cq_model.specs.Group.{SumInRange, SumsInRange, group_row, key_of}
 use Rattle.cq_hash_groups_slots.specs.declared.slots.Slots.{Slots}
 use Rattle.cq_hash_groups.specs.Groups.{all_added, first_keys, group_columns, group_keys, kept_at, rows_at, slots_at}
 use Rattle.cq_hash_groups.specs.Lead.{first_sum}
-use Rattle.cq_hash_groups_slots.specs.Puts.{AreNumbers}
+use Rattle.cq_hash_groups_sums.specs.Puts.{AreNumbers}
 use Rattle.cq_hash_groups_slots.specs.Slots.{CanShow, shown_at}
 use Rattle.cq_hash_groups.proofs.Keeping.{slots-added}
 use Rattle.cq_hash_groups.proofs.KeysMet.{AreApart, apart-firsts, keys-more}

@@ -17,8 +17,9 @@ use Rattle.cq_hash_groups_slots.specs.declared.slots.Slots.TheVariants.{Counts, 
 use Rattle.cq_hash_groups.specs.Arguments.{argument}
 use Rattle.cq_hash_groups.specs.Lead.{counted_beside}
 use Rattle.cq_hash_groups.specs.Groups.{rows_at, kept_as, kept_at, kept_count, kept_nulls, kept_sum, kept_best, slots_at, added_as, added_slots}
-use Rattle.cq_hash_groups_slots.specs.Puts.{put_all, put_count, put_null, put_sum, put_best, no_sum, AreNumbers}
-use Rattle.cq_hash_groups_slots.specs.Slots.{empty_slots, grown, grown_slots, put_slots}
+use Rattle.cq_hash_groups_sums.specs.Puts.{put_all, put_sum, no_sum, AreNumbers, grown}
+use Rattle.cq_hash_groups_slots.specs.Puts.{put_count, put_null, put_best}
+use Rattle.cq_hash_groups_slots.specs.Slots.{empty_slots, grown_slots, put_slots}
 use Rattle.cq_hash_groups.proofs.ValuesPut.{count-push, null-push, sum-push, best-push}
 use Rattle.cq_hash_groups.proofs.KeysMet.{AreApart, apart-sym, rows-append}
 use Rattle.cq_model_bags.proofs.Lists.{all-at}

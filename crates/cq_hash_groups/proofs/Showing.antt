@@ -18,8 +18,8 @@ use Rattle.cq_model.specs.Group.{InRange, SumInRange, SumsInRange, aggregate, gr
 use Rattle.cq_hash_groups_slots.specs.declared.bests.Extreme.TheVariants.{Least, Greatest}
 use Rattle.cq_hash_groups.specs.Arguments.{argument}
 use Rattle.cq_hash_groups.specs.Groups.{group_columns, group_keys, kept_best, kept_count, kept_each, kept_sum, known, rows_at, slots_at}
-use Rattle.cq_hash_groups_slots.specs.declared.wide_sums.Sum.{Sum as Summed}
-use Rattle.cq_hash_groups_slots.specs.Puts.{no_sum, shown_sum}
+use Rattle.cq_hash_groups_sums.specs.declared.wide_sums.Sum.{Sum as Summed}
+use Rattle.cq_hash_groups_sums.specs.Puts.{no_sum, shown_sum}
 use Rattle.cq_hash_groups_slots.specs.Slots.{CanShow, shown_at}
 use Rattle.cq_model_bags.proofs.Lists.{all-weaker}
 use Rattle.cq_model_bags.proofs.Once.{distinct-once}

@@ -8,9 +8,9 @@ use Rattle.cq_model.specs.declared.query.Aggregate.TheVariants.{CountAll, Count,
 use Rattle.cq_hash_groups_slots.specs.declared.slots.Slots.{Slots}
 use Rattle.cq_hash_groups.specs.Groups.{AreAllWithin, added_slots, all_added}
 use Rattle.cq_hash_groups_slots.specs.declared.slots.Slots.TheVariants.{Counts, Sums, Bests}
-use Rattle.cq_hash_groups_slots.specs.Puts.{IsSumWithin, no_sum}
+use Rattle.cq_hash_groups_sums.specs.Puts.{IsSumWithin, no_sum}
 use Rattle.cq_hash_groups_slots.specs.Slots.{AreWithin, empty_slots, groups_in, grown_slots, no_slots}
-use Rattle.cq_hash_groups_slots.proofs.Putting.{at-grown, sums-more}
+use Rattle.cq_hash_groups_sums.proofs.Putting.{at-grown, sums-more}
 
 module _ (lead : Option Aggregate) (groups : ℕ) (numbers : List ℕ) (rows : List Row) where
   -- a turn leaves what comes after it

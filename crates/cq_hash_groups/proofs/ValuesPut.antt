@@ -9,7 +9,8 @@ use Rattle.cq_model.specs.Group.{extreme}
 use Rattle.cq_hash_groups_slots.specs.declared.bests.Extreme.{Extreme}
 use Rattle.cq_hash_groups_slots.specs.declared.bests.Extreme.TheVariants.{Least, Greatest}
 use Rattle.cq_hash_groups.specs.Groups.{known, kept_count, kept_nulls, kept_sum, kept_best}
-use Rattle.cq_hash_groups_slots.specs.Puts.{best_of, put_best, put_count, put_null, put_sum, summed}
+use Rattle.cq_hash_groups_sums.specs.Puts.{put_sum, summed}
+use Rattle.cq_hash_groups_slots.specs.Puts.{best_of, put_best, put_count, put_null}
 use Rattle.cq_model.proofs.Extremes.{IsChoice, IsOne, extreme-best, extreme-one, higher-choice, lower-choice}
 use Rattle.cq_model.specs.Totals.{total_of}
 use Rattle.cq_model.proofs.ListedValues.{total-push}

@@ -17,8 +17,9 @@ use Rattle.cq_hash_groups_slots.specs.declared.bests.Extreme.{Extreme}
 use Rattle.cq_hash_groups_slots.specs.declared.bests.Extreme.TheVariants.{Least, Greatest}
 use Rattle.cq_hash_groups_slots.specs.declared.slots.Slots.{Slots}
 use Rattle.cq_hash_groups_slots.specs.declared.slots.Slots.TheVariants.{Counts, Sums, Bests}
-use Rattle.cq_hash_groups_slots.specs.declared.wide_sums.Sum.{Sum as Summed}
-use Rattle.cq_hash_groups_slots.specs.Puts.{best_of, summed}
+use Rattle.cq_hash_groups_sums.specs.declared.wide_sums.Sum.{Sum as Summed}
+use Rattle.cq_hash_groups_sums.specs.Puts.{summed}
+use Rattle.cq_hash_groups_slots.specs.Puts.{best_of}
 use Rattle.cq_hash_groups_slots.specs.Slots.{AreWithin, CanShow, empty_slots, grown_slots, no_slots, put_nulls, put_slots, shown_at}
 use Rattle.cq_hash_groups.specs.Arguments.{argument}
 use Rattle.cq_hash_groups.specs.Lead.{counted_beside, first_sum}

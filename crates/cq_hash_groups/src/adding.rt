@@ -4,7 +4,7 @@ ghost use Rattle.std.specs.Prelude.{◌+◌, ◌<◌, ◌≡◌, IfOk, None, OnO
 ghost use Rattle.cq_hash_groups.specs.Exact.{AreExactOver, IsExactFor};
 ghost use Rattle.cq_hash_groups.specs.Arguments.{argument};
 ghost use Rattle.cq_hash_groups.specs.Groups.{AreAdded, AreAllWithin, IsAdded, StayWithin, added_as, new_slots};
-ghost use Rattle.cq_hash_groups_slots.specs.Puts.{AreNumbers, most_before};
+ghost use Rattle.cq_hash_groups_sums.specs.Puts.{AreNumbers, most_before};
 ghost use Rattle.cq_hash_groups.specs.Lead.{IsLead, first_sum};
 ghost use Rattle.cq_hash_groups_slots.specs.Slots.{AreWithin, grown_slots, put_nulls, put_slots};
 ghost use Rattle.cq_model.specs.declared.query.Aggregate.TheVariants.{CountAll};

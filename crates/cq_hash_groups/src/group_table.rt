@@ -12,6 +12,7 @@ ghost use Rattle.cq_hash_groups.specs.Groups.{AreGroups, CanBeShown, Holds, Hold
 
 use crate::adding::{add_all, first_slots};
 use crate::keys::{first_groups, key_width, number_rows};
+use crate::reading::read_again;
 use crate::shown::{put_row, put_rows, shown_types};
 use crate::told::told_slots;
 use cq_hash_groups_slots::Slots;
@@ -37,6 +38,8 @@ pub struct GroupTable<'q> {
     numbers: Vec<usize>,
     /// Memory of what was worked out for the aggregates.
     buffers: Buffers,
+    /// The columns that are read more than once of each row.
+    again: Vec<usize>,
 }
 
 impl<'q> Model for GroupTable<'q> {
@@ -64,6 +67,7 @@ impl<'q> GroupTable<'q> {
         ensures keys { IfOk result (λ table. table.keys ≡ keys.now) }
         ensures aggregates { IfOk result (λ table. table.aggregates ≡ aggregates.now) }
     {
+        let again = read_again(alloc, keys, aggregates)?;
         let found = first_groups(alloc, keys)?;
         match first_slots(alloc, aggregates, found.len()) {
             Ok(slots) => Ok(GroupTable {
@@ -74,12 +78,18 @@ impl<'q> GroupTable<'q> {
                 slots,
                 numbers: Vec::new(alloc),
                 buffers: Buffers::new(alloc),
+                again,
             }),
             Err(fault) => {
                 drop(found);
                 Err(fault)
             }
         }
+    }
+
+    /// The columns of rows that are read more than once, and so had better be gathered before. No answer depends on them.
+    pub fn read_again(&self) -> &[usize] {
+        self.again.as_slice()
     }
 
     /// Adds rows to their groups. After an `Err` the table stands for no rows that one could name. More than 2^64 rows are

@@ -3,7 +3,7 @@ ghost use Rattle.std.specs.Prelude.{◌++◌, ◌≡◌, IfOk, OnOk, [], length,
 ghost use Rattle.cq_model_bags.specs.Bag.{firsts};
 ghost use Rattle.cq_operators_scans.specs.Operand.{values_in};
 ghost use Rattle.cq_hash_groups.specs.Groups.{TellKeys, columns_in, group_columns, group_keys, keys_in};
-ghost use Rattle.cq_hash_groups_slots.specs.Puts.{AreNumbers};
+ghost use Rattle.cq_hash_groups_sums.specs.Puts.{AreNumbers};
 
 use cq_hash_keys::KeyTable;
 use cq_operators_scans::{Operand, Scan, lend_vectors};

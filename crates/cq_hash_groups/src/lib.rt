@@ -9,6 +9,7 @@ mod arguments;
 mod group_table;
 mod keys;
 mod lead;
+mod reading;
 mod shown;
 mod told;
 

@@ -1,4 +1,3 @@
 pub mod Known
-pub mod Numbered
 pub mod OneGroup
 pub mod Putting

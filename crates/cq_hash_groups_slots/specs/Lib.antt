@@ -1,4 +1,2 @@
-pub mod NumberColumns
 pub mod Puts
 pub mod Slots
-pub mod Width

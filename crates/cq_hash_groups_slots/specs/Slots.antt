@@ -1,5 +1,5 @@
 -- What is kept of all groups for one aggregate.
-use Rattle.std.specs.Prelude.{ℕ, ◌+◌, ◌-◌, pos, List, [], ◌∷◌, ◌++◌, length, replicate, slice_index_or}
+use Rattle.std.specs.Prelude.{ℕ, ◌+◌, pos, List, [], ◌∷◌, length, slice_index_or}
 use Rattle.cq_values.specs.declared.value.Value.{Value}
 use Rattle.cq_values.specs.declared.value.Value.TheVariants.{Null, Number}
 use Rattle.cq_model.specs.declared.query.Aggregate.{Aggregate}
@@ -8,8 +8,9 @@ use Rattle.cq_model.specs.Group.{InRange}
 use Rattle.cq_hash_groups_slots.specs.declared.bests.Extreme.TheVariants.{Least, Greatest}
 use Rattle.cq_hash_groups_slots.specs.declared.slots.Slots.{Slots}
 use Rattle.cq_hash_groups_slots.specs.declared.slots.Slots.TheVariants.{Counts, Sums, Bests}
-use Rattle.cq_hash_groups_slots.specs.declared.wide_sums.Sum.{Sum as Summed}
-use Rattle.cq_hash_groups_slots.specs.Puts.{put_all, put_count, put_null, put_sum, put_best, no_sum, shown_sum, AreCountsWithin, AreSumsWithin}
+use Rattle.cq_hash_groups_sums.specs.declared.wide_sums.Sum.{Sum as Summed}
+use Rattle.cq_hash_groups_sums.specs.Puts.{grown, put_all, put_sum, no_sum, shown_sum, AreSumsWithin}
+use Rattle.cq_hash_groups_slots.specs.Puts.{put_count, put_null, put_best, AreCountsWithin}
 
 -- what is kept of no groups
 abbrev pub empty_slots : Aggregate → Slots
@@ -28,10 +29,6 @@ abbrev pub groups_in : Slots → ℕ
 groups_in (Counts counts) = length counts
 groups_in (Sums sums) = length sums
 groups_in (Bests which values) = length values
-
--- as many as there are groups, where a new group has nothing
-abbrev pub grown : {S : Type 0} → S → ℕ → List S → List S
-grown nothing groups slots = slots ++ replicate (groups - length slots) nothing
 
 -- a new group has no values
 abbrev pub grown_slots : ℕ → Slots → Slots

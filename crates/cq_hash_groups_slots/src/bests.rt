@@ -5,10 +5,10 @@ ghost use Rattle.cq_values.specs.Order.{value_cmp};
 ghost use Rattle.cq_values.specs.declared.value.Value.{Value as Datum};
 ghost use Rattle.cq_values.specs.declared.value.Value.TheVariants.{Null, Number};
 ghost use Rattle.cq_vectors_stored.specs.Columns.{number_unless};
-ghost use Rattle.cq_hash_groups_slots.specs.Puts.{AreNumbers, IsSecondBetter, IsTaken, PutsBests, PutsNumbers, put_best};
-ghost use Rattle.cq_hash_groups_slots.specs.Slots.{grown};
+ghost use Rattle.cq_hash_groups_sums.specs.Puts.{AreNumbers, grown};
+ghost use Rattle.cq_hash_groups_slots.specs.Puts.{IsSecondBetter, IsTaken, PutsBests, PutsNumbers, put_best};
 
-use crate::number_columns::{Above, NumberColumn, Plain};
+use cq_hash_groups_sums::{Above, NumberColumn, Plain};
 use cq_values::{Lent, Value, cmp_lent};
 use cq_vectors::{Form, Vector};
 use cq_vectors_masks::Plane;

@@ -4,13 +4,8 @@
 //! has, their exact total, or the best of them.
 #![tactic(auto)]
 
-mod at_hand;
 mod bests;
 mod counts;
-mod number_columns;
 mod slots;
-mod small_sums;
-mod sums;
-mod wide_sums;
 
 pub use slots::Slots;

@@ -3,12 +3,12 @@ ghost use Rattle.std.specs.Prelude.{◌+◌, ◌-◌, ◌^◌, ◌≡◌, IfErr,
 ghost use Rattle.cq_values.specs.Lent.{owned};
 ghost use Rattle.cq_values.specs.declared.value.Value.TheVariants.{Number};
 ghost use Rattle.cq_model.specs.declared.fault.ShowFault.TheVariants.{SumOutOfRange};
-ghost use Rattle.cq_hash_groups_slots.specs.Puts.{AreNumbers, AreSumsWithin, most_before};
+ghost use Rattle.cq_hash_groups_sums.specs.Puts.{AreNumbers, AreSumsWithin, most_before};
 ghost use Rattle.cq_hash_groups_slots.specs.Slots.{AreWithin, CanShow, beside, empty_slots, groups_in, grown_slots, put_nulls, put_slots, rows_counted, shown_at};
 
 use crate::bests::{Bests, Extreme};
 use crate::counts::Counts;
-use crate::sums::Sums;
+use cq_hash_groups_sums::Sums;
 use cq_model::{Aggregate, ShowFault};
 use cq_values::Lent;
 use cq_vectors::Vector;

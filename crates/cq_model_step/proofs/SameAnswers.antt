@@ -18,7 +18,7 @@ use Rattle.cq_model.specs.Write.{chosen, left_by, updated}
 use Rattle.cq_model_step.specs.declared.answer.Answer.{Answer}
 use Rattle.cq_model_step.specs.declared.answer.Answer.TheVariants.{Count, Rows}
 use Rattle.cq_model_state.specs.State.{TableOf, ViewOf, State, empty_table, rows_in, with_rows, tables_now, queries_of}
-use Rattle.cq_model_step.specs.Next.{with_all_views, created, new_view, Writes, at_epoch, taken_on, reach, refreshed, Trims}
+use Rattle.cq_model_step.specs.Next.{with_all_views, created, new_view, Writes, taken_on, reach, refreshed, Trims}
 use Rattle.cq_model_step.specs.Step.{Shows, Leads, Accepts, AreBetween, GivesUp, IsTooLarge}
 use Rattle.cq_model_step.proofs.Alike.{Alike, alike_same, alike_then, alike_turned, timeless}
 

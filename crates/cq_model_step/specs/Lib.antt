@@ -1,3 +1,4 @@
+pub mod Named
 pub mod Next
 pub mod Step
 pub mod Output

@@ -1,14 +1,14 @@
 -- How commands lead from a state to the next (ISO 9075-2, 11.3, 14.9, 14.11 and 14.14; docs/ARCHITECTURE.md, Epochs).
 use Rattle.std.specs.Prelude.{◌≡◌, ℕ, ◌+◌, ◌≤◌, ◌==◌, min, if◌then◌else◌, List, [], ◌∷◌, ◌++◌, length, drop}
-use Rattle.std.specs.List.{AllByRecursion, list_any}
+use Rattle.std.specs.List.{AllByRecursion}
 use Rattle.cq_values.specs.Value.{Row}
 use Rattle.cq_model_bags.specs.Bag.{Weighted, SameBag, once_each, difference}
 use Rattle.cq_binder_rules.specs.declared.bound.Bound.{Bound}
 use Rattle.cq_binder_rules.specs.declared.bound.Bound.TheVariants as commands
 use Rattle.cq_model.specs.declared.query.Query.{Query}
 use Rattle.cq_values.specs.declared.column.ColumnDef.{ColumnDef}
-use Rattle.cq_model.specs.Views.{sources_of, is_view}
 use Rattle.cq_model_state.specs.State.{TableOf, ViewOf, State, empty_table, with_rows, tables_now}
+use Rattle.cq_model_step.specs.Named.{is_named}
 
 -- the state with these tables in place of its own
 abbrev pub with_tables : List TableOf → State → State
@@ -43,7 +43,7 @@ pub record Writes (old : State) (n : ℕ) (rows : List Row) (new : State) : Type
 
 -- the epoch to which a command takes the view at a place
 abbrev pub reach : State → Bound → ℕ → ViewOf → ℕ
-reach s (commands.Select header q order) place v = if list_any (is_view place) (sources_of q) then s.now else v.epoch
+reach s (commands.Select header q order) place v = if is_named s.views q place then s.now else v.epoch
 reach s (commands.Refresh view changes) place v = if view == place then min (v.epoch + changes) s.now else v.epoch
 reach s command place v = v.epoch
 

@@ -1,12 +1,12 @@
 -- The epochs of views: a command takes each of them on, and not beyond the present.
 use Rattle.std.proofs.Common.{ℕ, ◌+◌, ◌≤◌, List, [], ◌∷◌, sym, subst, arith}
-use Rattle.std.specs.List.{AllByRecursion, list_any}
+use Rattle.std.specs.List.{AllByRecursion}
 use Rattle.std.proofs.lemmas.Bool.Decides.{nat_tests}
 use Rattle.cq_model_bags.proofs.Totals.{by_test}
 use Rattle.cq_binder_rules.specs.declared.bound.Bound.{Bound}
 use Rattle.cq_binder_rules.specs.declared.bound.Bound.TheVariants as commands
-use Rattle.cq_model.specs.Views.{sources_of, is_view}
 use Rattle.cq_model_state.specs.State.{ViewOf, State}
+use Rattle.cq_model_step.specs.Named.{is_named}
 use Rattle.cq_model_step.specs.Next.{reach, at_epoch, taken_on}
 use Rattle.cq_model_step.specs.Step.{AreBetween}
 use Rattle.cq_model_step_laws.specs.Sound.{IsInTime}
@@ -19,7 +19,7 @@ StaysInTime first last to = (place : ℕ) (v : ViewOf) → IsInTime first last v
 pub reach-in_time : (s : State) (command : Bound) → StaysInTime s.passed s.now (reach s command)
 reach-in_time s (commands.Select header q order) place v t =
     let high = t.reached in
-    by_test (list_any (is_view place) (sources_of q)) (λ k. rw k (omega arith, omega arith)) (λ k. rw k (omega arith, omega arith))
+    by_test (is_named s.views q place) (λ k. rw k (omega arith, omega arith)) (λ k. rw k (omega arith, omega arith))
 reach-in_time s (commands.Refresh view changes) place v t =
     let high = t.reached in
     (grind (arith, nat_tests), grind (arith, nat_tests))

@@ -2,12 +2,8 @@ pub mod Lists
 pub mod Valuing
 pub mod Deciding
 pub mod Nodes
-pub mod Fronts
 pub mod Joining
 pub mod KeptPlaces
 pub mod Behind
-pub mod Asking
-pub mod PlacesWhere
+pub mod TruthsBehind
 pub mod RowBehind
-pub mod Skipped
-pub mod Standing

@@ -1,12 +1,7 @@
--- What holds of each row, and what is worked out in each row.
-use Rattle.std.proofs.Common.{◌≡◌, List, [], ◌∷◌, ◌++◌, map, length, refl, sym, ◌∙◌, ap, subst}
+-- What is worked out in each row.
+use Rattle.std.proofs.Common.{◌≡◌, List, [], ◌∷◌, map, length, refl, sym, ◌∙◌, ap}
 use Rattle.std.proofs.lemmas.List.{length-map}
 use Rattle.std.specs.Prelude.{replicate}
-use Rattle.std.specs.List.{AllByRecursion}
-use Rattle.cq_model_bags.proofs.Lists.{all-back}
-
-pub all-behind : {X : Type 0} (P : X → Type 0) (whole front rest : List X) → whole ≡ front ++ rest → AllByRecursion P whole → AllByRecursion P rest
-all-behind P whole front rest parts all = all-back P front rest (subst (AllByRecursion P) parts all)
 
 -- what is made of the same rows is as long
 pub same-length : {X Y Z : Type 0} (f : X → Y) (g : X → Z) (xs : List X) (ys : List Y) (zs : List Z) → ys ≡ map f xs → zs ≡ map g xs → length ys ≡ length zs

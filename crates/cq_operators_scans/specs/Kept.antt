@@ -1,11 +1,10 @@
--- Rows that a condition keeps, and their places.
-use Rattle.std.specs.Prelude.{if◌then◌else◌, ℕ, suc, Bool, List, [], ◌∷◌, Option}
+-- Rows that a condition keeps.
+use Rattle.std.specs.Prelude.{Bool, List}
 use Rattle.std.specs.List.{filter}
 use Rattle.cq_values.specs.Truth.{is_true}
 use Rattle.cq_values.specs.Value.{Row}
 use Rattle.cq_model.specs.Condition.{holds}
 use Rattle.cq_model.specs.Expr.{Cond}
-use Rattle.cq_model.specs.Meaning.{keeps}
 
 -- whether a condition is True in a row, neither False nor Unknown
 abbrev pub keeps_true : Cond → Row → Bool
@@ -14,16 +13,3 @@ keeps_true c row = is_true (holds c row)
 -- the rows in which it is True
 abbrev pub kept_of : Cond → List Row → List Row
 kept_of c rows = filter (keeps_true c) rows
-
--- the places, counted from here, of what passes a test
-abbrev pub places_where : {X : Type 0} → ℕ → (X → Bool) → List X → List ℕ
-places_where place test [] = []
-places_where place test (x ∷ xs) = if test x then place ∷ places_where (suc place) test xs else places_where (suc place) test xs
-
--- the places of the rows that WHERE keeps
-abbrev pub kept_at : Option Cond → List Row → List ℕ
-kept_at condition rows = places_where 0 (keeps condition) rows
-
--- the places of the rows in which a condition is True
-abbrev pub true_at : Cond → List Row → List ℕ
-true_at c rows = places_where 0 (keeps_true c) rows

@@ -2,8 +2,8 @@ pub mod Nodes
 pub mod Operand
 pub mod Scan
 pub mod Kept
+pub mod Constant
 pub mod Truths
 pub mod Paired
 pub mod Parts
-pub mod Passing
-pub mod Skipping
+pub mod Asked

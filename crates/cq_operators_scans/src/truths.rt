@@ -9,8 +9,8 @@ ghost use Rattle.cq_model.specs.Trees.{cond_of, expr_of};
 ghost use Rattle.cq_operators_scans.specs.Nodes.{is_connective};
 ghost use Rattle.cq_operators_scans.specs.Truths.{AreCompared, AreTruths, between_at, compared_at, is_liked_at, is_null_at, is_one_at};
 
+use crate::constant::constant_of;
 use crate::scan::Scan;
-use crate::skipping::constant_of;
 use crate::vectors::vector_of_tree;
 use cq_model::{Cond, CondTree, ExprTree};
 use cq_prims::{KnownTruths, compare, compare_known, is_null, like_known};
@@ -20,7 +20,7 @@ use cq_vectors_masks::TruthMask;
 use std::alloc::{AllocError, Global};
 
 /// The truth of the condition in each row. What is known of texts that fit patterns is kept for the next scan.
-pub(crate) fn truths_of<'a>(
+pub fn truths_of<'a>(
     alloc: Global,
     cond: &'a Cond,
     scan: &Scan<'a>,

@@ -4,12 +4,12 @@ ghost use Rattle.std.specs.List.{AllByRecursion};
 ghost use Rattle.cq_model.specs.Eval.{eval};
 ghost use Rattle.cq_model.specs.Exact.{IsExactAt};
 ghost use Rattle.cq_model.specs.Trees.{expr_of};
-ghost use Rattle.cq_operators_scans.specs.Operand.{WorksOut, values_in};
+ghost use Rattle.cq_operators_scans.specs.Operand.{WorksOut, values_in, values_signed};
 ghost use Rattle.cq_operators_scans.specs.Nodes.{is_operation};
 
 use crate::operand::Operand;
 use crate::scan::Scan;
-use crate::worked::Worked;
+use crate::worked::{Signed, Worked};
 use cq_model::{Expr, ExprTree};
 use cq_vectors::{Buffers, Form, Vector};
 use std::alloc::{AllocError, Global};
@@ -95,6 +95,32 @@ fn worked_out<'a>(
     }
 }
 
+/// The same of a term of a sum. Of a negative one no numbers with the other sign are made.
+#[cycle(working)]
+fn term_worked_out<'a>(
+    alloc: Global,
+    buffers: &mut Buffers,
+    tree: &'a ExprTree,
+    scan: &Scan<'a>,
+) -> Result<Signed<'a>, AllocError>
+    requires { AllByRecursion (IsExactAt (expr_of tree.now)) scan.now }
+    ensures { IfOk result (λ term. values_signed scan.now term ≡ map (eval (expr_of tree.now)) scan.now) }
+{
+    if let ExprTree::Negate(part) = tree {
+        let worked = worked_out(alloc, buffers, part, scan)?;
+        Ok(Signed {
+            worked,
+            is_negative: true,
+        })
+    } else {
+        let worked = worked_out(alloc, buffers, tree, scan)?;
+        Ok(Signed {
+            worked,
+            is_negative: false,
+        })
+    }
+}
+
 /// The same of an operation.
 #[cycle(working)]
 fn operation_worked_out<'a>(
@@ -114,7 +140,7 @@ fn operation_worked_out<'a>(
         ExprTree::Sum(first, rest) => {
             let mut sum = worked_out(alloc, buffers, first, scan)?;
             for term in rest {
-                let term = match worked_out(alloc, buffers, term, scan) {
+                let term = match term_worked_out(alloc, buffers, term, scan) {
                     Ok(term) => term,
                     Err(fault) => {
                         drop(sum);

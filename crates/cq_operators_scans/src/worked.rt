@@ -2,11 +2,11 @@
 ghost use Rattle.std.specs.Prelude.{◌≡◌, IfOk, length, map};
 ghost use Rattle.cq_prims_arithmetic.specs.Operation.{AllInRange};
 ghost use Rattle.cq_model.specs.Eval.{negated};
-ghost use Rattle.cq_operators_scans.specs.Operand.{WorksOut, parts_worked, products_worked, sums_worked, values_in, values_worked};
+ghost use Rattle.cq_operators_scans.specs.Operand.{WorksOut, differences_worked, parts_worked, products_worked, sums_signed, sums_worked, values_in, values_signed, values_worked};
 
 use crate::operand::Operand;
 use crate::scan::Scan;
-use cq_prims_arithmetic::{add, extract, mul, neg};
+use cq_prims_arithmetic::{add, extract, mul, neg, sub};
 use cq_values::DayPart;
 use cq_vectors::{Buffers, Vector};
 use std::alloc::{AllocError, Global};
@@ -16,6 +16,13 @@ use std::alloc::{AllocError, Global};
 pub(crate) enum Worked<'a> {
     Column(usize),
     Values(Vector<'a>),
+}
+
+/// A term of a sum: these values, or the numbers with the other sign.
+#[derive(Drop)]
+pub(crate) struct Signed<'a> {
+    pub(crate) worked: Worked<'a>,
+    pub(crate) is_negative: bool,
 }
 
 impl<'a> Worked<'a> {
@@ -40,21 +47,29 @@ impl<'a> Worked<'a> {
         }
     }
 
-    /// The sum with another one in each row.
+    /// The sum with another one in each row, or with its negative.
     pub(crate) fn plus(
         self,
         alloc: Global,
         buffers: &mut Buffers,
-        other: Worked<'a>,
+        other: Signed<'a>,
         scan: &Scan<'a>,
     ) -> Result<Worked<'a>, AllocError>
-        requires same { length (values_worked scan.now self) ≡ length (values_worked scan.now other) }
-        requires fits { AllInRange (sums_worked scan.now self other) }
-        ensures { IfOk result (WorksOut scan.now (sums_worked scan.now self.entry other.entry)) }
+        requires same { length (values_worked scan.now self) ≡ length (values_signed scan.now other) }
+        requires fits { AllInRange (sums_signed scan.now self other) }
+        ensures { IfOk result (WorksOut scan.now (sums_signed scan.now self.entry other.entry)) }
     {
-        let made = sum(alloc, buffers, &self, &other, scan);
+        let Signed {
+            worked,
+            is_negative,
+        } = other;
+        let made = if is_negative {
+            difference(alloc, buffers, &self, &worked, scan)
+        } else {
+            sum(alloc, buffers, &self, &worked, scan)
+        };
         self.give_back(buffers);
-        other.give_back(buffers);
+        worked.give_back(buffers);
         Ok(Worked::Values(made?))
     }
 
@@ -120,6 +135,24 @@ fn sum<'a>(
 {
     let (a, b) = lend_two(alloc, a, b, scan)?;
     let made = add(alloc, buffers, a.vector(), b.vector());
+    b.give_back(buffers);
+    a.give_back(buffers);
+    made
+}
+
+fn difference<'a>(
+    alloc: Global,
+    buffers: &mut Buffers,
+    a: &Worked<'a>,
+    b: &Worked<'a>,
+    scan: &Scan<'a>,
+) -> Result<Vector<'a>, AllocError>
+    requires same { length (values_worked scan.now a.now) ≡ length (values_worked scan.now b.now) }
+    requires fits { AllInRange (differences_worked scan.now a.now b.now) }
+    ensures { IfOk result (λ made. made ≡ differences_worked scan.now a.now b.now) }
+{
+    let (a, b) = lend_two(alloc, a, b, scan)?;
+    let made = sub(alloc, buffers, a.vector(), b.vector());
     b.give_back(buffers);
     a.give_back(buffers);
     made

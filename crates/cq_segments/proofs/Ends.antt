@@ -10,7 +10,8 @@ use Rattle.cq_model_bags.proofs.Lists.{all-next, all-weaker}
 use Rattle.cq_values.specs.Value.{is_null}
 use Rattle.cq_values.specs.declared.value.Value.{Value}
 use Rattle.cq_values.specs.declared.value.Value.TheVariants.{Null}
-use Rattle.cq_segments.specs.Bounds.{AreBounds, Ends, IsAmong, IsBounded, wider_ends}
+use Rattle.cq_encodings_numbers.specs.Bounds.{AreBounds, Ends, IsAmong, IsBounded}
+use Rattle.cq_segments.specs.Bounds.{wider_ends}
 
 or_false : (b : Bool) → (b || (false || false)) ≡ b
 or_false false = refl

@@ -5,7 +5,7 @@ use Rattle.std.specs.Bool.{OnFalse}
 use Rattle.std.specs.Ordering.{is_eq, is_ge, is_gt, is_le, is_lt, ordering_reverse}
 use Rattle.std.specs.declared.cmp.Ordering.{Ordering}
 use Rattle.std.specs.declared.cmp.Ordering.TheVariants.{Less, Equal, Greater}
-use Rattle.std.proofs.lemmas.Bool.{not-false, or_parts}
+use Rattle.std.proofs.lemmas.Bool.{OnFalse_at, not-false, or_parts}
 use Rattle.std.proofs.lemmas.Cmp.{upto}
 use Rattle.cq_values.specs.Comparison.{compared, passes}
 use Rattle.cq_values.specs.Keys.{value_cmp_total}
@@ -20,12 +20,12 @@ use Rattle.cq_values.specs.declared.value.Value.{Value}
 use Rattle.cq_values.specs.declared.value.Value.TheVariants.{Null, Number, Text, Day}
 use Rattle.cq_model.proofs.Conditions.{truth-told}
 use Rattle.cq_model.proofs.Extremes.{IsUpTo}
-use Rattle.cq_model_bags.proofs.Lists.{all-weaker}
 use Rattle.cq_model_bags.proofs.Totals.{by_test}
-use Rattle.cq_encodings_numbers.specs.Ends.{AreWithin, IsWithin}
 use Rattle.cq_vectors.specs.Gathered.{column_of}
-use Rattle.cq_segments.specs.Bounds.{AreBounds, Ends, IsBounded}
-use Rattle.cq_segments.specs.ColumnTest.{NoneBetween, NoneMatches, NonePasses}
+use Rattle.cq_encodings_numbers.specs.Bounds.{AreBounds, AreBoundsOf, Ends, IsBounded}
+use Rattle.cq_encodings_numbers.specs.declared.bounds.Bounds.{Bounds}
+use Rattle.cq_segments.specs.ColumnTest.{NoneBetween, NoneMatches, NonePasses, RulesOut, asked_column}
+use Rattle.cq_segments.specs.declared.column_test.ColumnTest.{ColumnTest}
 use Rattle.cq_segments.specs.declared.column_test.ColumnTest.TheVariants as asked
 
 -- a comparison that the order of the values fails is not True
@@ -124,6 +124,10 @@ ruled_out least greatest c k may is = by_test may (λ h. rw h tt) (λ h. rw h (n
 
 -- ---- rows of a column with bounds
 
+on_false : (P : Type 0) (b : Bool) → (b ≡ false → P) → OnFalse b P
+on_false P true at = tt
+on_false P false at = at refl
+
 known_fails : (c : Bool) → c ≡ true → is_true (truth_of (not c)) ≡ false
 known_fails true e = refl
 known_fails false e = absurd (cc e)
@@ -151,27 +155,22 @@ module _ (at : ℕ) (has_null : Bool) (ends : Ends) where
   only_null [] all = tt
   only_null (row ∷ rows) all = (known_fails (is_null (column row at)) all.0.0, only_null rows all.1)
 
-  module _ (rows : List Row) (bounds : AreBounds has_null ends (column_of rows at)) where
-    -- where no value within the bounds passes a comparison, no row does
-    pub none_compared : (c : Comparison) (k : Lent) (may : Bool) → OnFalse may (NonePasses c (owned k) ends) → OnFalse may (NoneMatches (asked.Compare at c k) rows)
-    none_compared c k may passes = by_test may (λ h. rw h tt) (λ h. rw h (none_in c k (rw h at passes) rows bounds.all))
+  abbrev Bounded : List Row → Type 0
+  Bounded rows = AreBounds has_null ends (column_of rows at)
 
-    -- where NULL is not there, no row has it
-    pub none_null : OnFalse has_null (NoneMatches (asked.IsNull at) rows)
-    none_null = by_test has_null (λ h. rw h tt) (λ h. rw h (null_in rows (sym bounds.null ∙ h)))
+  -- where no value within the bounds passes a comparison, no row does
+  pub none_compared : (c : Comparison) (k : Lent) (may : Bool) → OnFalse may (NonePasses c (owned k) ends) → OnFalse may ((rows : List Row) → Bounded rows → NoneMatches (asked.Compare at c k) rows)
+  none_compared c k may passes = on_false ((rows : List Row) → Bounded rows → NoneMatches (asked.Compare at c k) rows) may (λ h rows bounds. none_in c k (OnFalse_at h passes) rows bounds.all)
 
-    -- where there is no least value, no row has one
-    pub none_known : ends ≡ None → NoneMatches (asked.IsNotNull at) rows
-    none_known is = only_null rows (subst (λ e. AllByRecursion (IsBounded has_null e) (column_of rows at)) is bounds.all)
+  -- where NULL is not there, no row has it
+  pub none_null : OnFalse has_null ((rows : List Row) → Bounded rows → NoneMatches (asked.IsNull at) rows)
+  none_null = on_false ((rows : List Row) → Bounded rows → NoneMatches (asked.IsNull at) rows) has_null (λ h rows bounds. null_in rows (sym bounds.null ∙ h))
 
--- a value within the ends is bounded by them, where NULL may be there
-within-bounded : (least greatest v : Value) → IsWithin least greatest v → IsBounded true (Some (least, greatest)) v
-within-bounded least greatest v (inl null) = inl (null, refl)
-within-bounded least greatest v (inr between) = inr between
+  -- where there is no least value, no row has one
+  pub none_known : ends ≡ None → (rows : List Row) → Bounded rows → NoneMatches (asked.IsNotNull at) rows
+  none_known is rows bounds = only_null rows (subst (λ e. AllByRecursion (IsBounded has_null e) (column_of rows at)) is bounds.all)
 
--- where no value within the ends passes a comparison, no row does
-pub none_within : (at : ℕ) (least greatest : Value) (rows : List Row) → AreWithin least greatest (column_of rows at) → (c : Comparison) (k : Lent) (may : Bool)
-    → OnFalse may (NonePasses c (owned k) (Some (least, greatest))) → OnFalse may (NoneMatches (asked.Compare at c k) rows)
-none_within at least greatest rows all c k may passes =
-    let bounded = all-weaker (IsWithin least greatest) (IsBounded true (Some (least, greatest))) (within-bounded least greatest) (column_of rows at) all in
-    by_test may (λ h. rw h tt) (λ h. rw h (none_in at true (Some (least, greatest)) c k (rw h at passes) rows bounded))
+-- what the bounds of a column rule out is True in none of the rows that have them
+pub none_ruled_out : (bounds : Bounds) (test : ColumnTest) (rows : List Row) (at : ℕ) → at ≡ asked_column test → AreBoundsOf bounds (column_of rows at) → (may : Bool) → OnFalse may (RulesOut bounds test) → OnFalse may (NoneMatches test rows)
+none_ruled_out bounds test rows at is have may rules =
+    on_false (NoneMatches test rows) may (λ h. (OnFalse_at h rules) rows (subst (λ (column : ℕ). AreBoundsOf bounds (column_of rows column)) is have))

@@ -1,33 +1,19 @@
 -- The ends of numbers of a kind.
 use Rattle.std.proofs.Common.{◌≡◌, ◌⊎◌, ◌∙◌, ℕ, ◌+◌, ◌<◌, ℤ, pos, true, false, List, [], ◌∷◌, ◌++◌, None, Some, get_or, length, take, inl, inr, refl, sym, ap, ap₂, subst, arith}
 use Rattle.std.specs.List.{AllByRecursion}
-use Rattle.std.proofs.lemmas.Int.{ints}
 use Rattle.std.proofs.lemmas.List.{get_or-map, get_or_default, length-map, map-append}
 use Rattle.cq_model.specs.Group.{higher, lower}
 use Rattle.cq_model.proofs.Extremes.{higher-choice, lower-choice}
 use Rattle.cq_model_bags.proofs.Lists.{all-at, all-push}
-use Rattle.cq_values.specs.Days.{IsDay}
-use Rattle.cq_values.specs.Value.{is_null}
 use Rattle.cq_values.specs.declared.value.Value.{Value}
 use Rattle.cq_values.specs.declared.value.Value.TheVariants.{Day, Number}
 use Rattle.cq_encodings_plain.specs.declared.kind.Kind.{Kind}
 use Rattle.cq_encodings_plain.specs.declared.kind.Kind.TheVariants.{Days, Numbers}
-use Rattle.cq_encodings_plain.specs.Kind.{IsOf, StandsFor, datum, is_day, number_values}
-use Rattle.cq_segments.specs.Bounds.{AreBounds, Ends}
+use Rattle.cq_encodings_plain.specs.Kind.{IsOf, StandsFor, datum, number_values}
+use Rattle.cq_encodings_numbers.proofs.Datums.{day_datum, number_known}
+use Rattle.cq_encodings_numbers.specs.Bounds.{AreBounds, Ends}
 use Rattle.cq_segments.specs.Numbers.{AreEnds, AreNumbers}
 use Rattle.cq_segments.proofs.Ends.{with_value}
-
-day_is : (n : ℤ) → IsDay n → is_day n ≡ true
-day_is n day = grind (arith, ints, day.0, day.1)
-
--- a day's number stands for the day
-day_datum : (n : ℤ) → IsDay n → datum Days n false ≡ Day n
-day_datum n day = rw (day_is n day) refl
-
--- and no number of a kind for NULL
-pub number_known : (kind : Kind) (n : ℤ) → IsOf kind n → is_null (datum kind n false) ≡ false
-number_known Numbers n of = refl
-number_known Days n day = ap is_null (day_datum n day)
 
 abbrev number_in : Value → ℤ
 number_in (Number n) = n

@@ -6,7 +6,7 @@ use Rattle.std.proofs.lemmas.List.{get_or_append_left, get_or_default, length-dr
 use Rattle.std.proofs.lemmas.List.Elements.{recursion_from_All}
 use Rattle.cq_values.specs.Value.{Row}
 use Rattle.cq_vectors.specs.Gathered.{column_of}
-use Rattle.cq_segments.specs.Bounds.{AreBounds}
+use Rattle.cq_encodings_numbers.specs.Bounds.{AreBounds}
 use Rattle.cq_segments_pieces.specs.Marked.{MarkedRow, unmarked}
 use Rattle.cq_segments_pieces.specs.Pieces.{AreFull, joined}
 use Rattle.cq_segments.specs.Segment.{HaveBounds}

@@ -10,7 +10,7 @@ use Rattle.cq_values.specs.Value.{Row, is_null}
 use Rattle.cq_values.specs.declared.value.Value.TheVariants.{Null}
 use Rattle.cq_encodings.specs.declared.any_encoded.AnyEncoded.{AnyEncoded}
 use Rattle.cq_vectors.specs.Gathered.{column_of}
-use Rattle.cq_segments.specs.Bounds.{AreBounds, IsBounded}
+use Rattle.cq_encodings_numbers.specs.Bounds.{AreBounds, IsBounded}
 use Rattle.cq_segments_pieces.specs.Columns.{AreWide, columns_in, columns_of}
 use Rattle.cq_segments_pieces.specs.Marked.{MarkedRow, live, marks_of, rows_of, unmarked, with_mark}
 use Rattle.cq_segments_pieces.specs.Pieces.{AreFull, joined}

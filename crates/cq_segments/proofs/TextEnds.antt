@@ -13,7 +13,7 @@ use Rattle.cq_values.specs.Value.{is_null}
 use Rattle.cq_values.specs.declared.value.Value.{Value}
 use Rattle.cq_values.specs.declared.value.Value.TheVariants.{Day, Null, Number, Text}
 use Rattle.cq_vectors_stored.specs.Columns.{text_unless}
-use Rattle.cq_segments.specs.Bounds.{AreBounds, Ends, IsAmong, IsBounded}
+use Rattle.cq_encodings_numbers.specs.Bounds.{AreBounds, Ends, IsAmong, IsBounded}
 use Rattle.cq_segments.specs.Texts.{AreTextEnds}
 use Rattle.cq_segments.proofs.Ends.{ends_among, with_value}
 

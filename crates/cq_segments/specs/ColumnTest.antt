@@ -1,5 +1,5 @@
 -- What a test of one column says of rows.
-use Rattle.std.specs.Prelude.{◌≡◌, true, false, not, List, Some}
+use Rattle.std.specs.Prelude.{◌≡◌, ℕ, true, false, not, List, Some}
 use Rattle.std.specs.List.{AllByRecursion}
 use Rattle.cq_values.specs.Comparison.{compared}
 use Rattle.cq_values.specs.Lent.{owned}
@@ -8,7 +8,9 @@ use Rattle.cq_values.specs.Value.{Row, column, is_null}
 use Rattle.cq_values.specs.declared.comparison.Comparison.{Comparison}
 use Rattle.cq_values.specs.declared.truth.Truth.{Truth}
 use Rattle.cq_values.specs.declared.value.Value.{Value}
-use Rattle.cq_segments.specs.Bounds.{Ends, IsBounded}
+use Rattle.cq_vectors.specs.Gathered.{column_of}
+use Rattle.cq_encodings_numbers.specs.Bounds.{AreBoundsOf, Ends, IsBounded}
+use Rattle.cq_encodings_numbers.specs.declared.bounds.Bounds.{Bounds}
 use Rattle.cq_segments.specs.declared.column_test.ColumnTest.{ColumnTest}
 use Rattle.cq_segments.specs.declared.column_test.ColumnTest.TheVariants as test
 
@@ -17,6 +19,12 @@ abbrev pub tested : ColumnTest → Row → Truth
 tested (test.Compare at comparison constant) row = compared comparison (column row at) (owned constant)
 tested (test.IsNull at) row = truth_of (is_null (column row at))
 tested (test.IsNotNull at) row = truth_of (not (is_null (column row at)))
+
+-- the place of the column that is asked
+abbrev pub asked_column : ColumnTest → ℕ
+asked_column (test.Compare at comparison constant) = at
+asked_column (test.IsNull at) = at
+asked_column (test.IsNotNull at) = at
 
 -- no row makes the test True
 abbrev pub NoneMatches : ColumnTest → List Row → Type 0
@@ -29,3 +37,7 @@ NonePasses comparison constant ends = (value : Value) → IsBounded true ends va
 -- the same of a least and a greatest value
 abbrev pub NoneBetween : Value → Value → Comparison → Value → Type 0
 NoneBetween least greatest comparison constant = NonePasses comparison constant (Some (least, greatest))
+
+-- no row whose column has these bounds makes the test True
+abbrev pub RulesOut : Bounds → ColumnTest → Type 0
+RulesOut bounds test = (rows : List Row) → AreBoundsOf bounds (column_of rows (asked_column test)) → NoneMatches test rows

@@ -6,7 +6,7 @@ use Rattle.cq_values.specs.Value.{Row}
 use Rattle.cq_values.specs.declared.value.Value.{Value}
 use Rattle.cq_encodings_plain.specs.declared.kind.Kind.{Kind}
 use Rattle.cq_encodings_plain.specs.Kind.{IsOf, datum, number_values}
-use Rattle.cq_segments.specs.Bounds.{AreBounds}
+use Rattle.cq_encodings_numbers.specs.Bounds.{AreBounds}
 use Rattle.cq_segments_pieces.specs.Marked.{MarkedRow, rows_of}
 use Rattle.cq_segments_pieces.specs.Pieces.{joined}
 use Rattle.cq_vectors.specs.Gathered.{column_of}

@@ -3,7 +3,7 @@ use Rattle.std.specs.Prelude.{◌<◌, ◌≡◌, ◌≤◌, ℕ, List, length, 
 use Rattle.cq_values.specs.Value.{Row}
 use Rattle.cq_encodings.specs.declared.any_encoded.AnyEncoded.{AnyEncoded}
 use Rattle.cq_vectors.specs.Gathered.{column_of}
-use Rattle.cq_segments.specs.Bounds.{AreBounds}
+use Rattle.cq_encodings_numbers.specs.Bounds.{AreBounds}
 use Rattle.cq_segments_pieces.specs.Columns.{AreWide, columns_in, columns_of}
 use Rattle.cq_segments_pieces.specs.Marked.{MarkedRow, rows_of}
 use Rattle.cq_segments_pieces.specs.Pieces.{AreFull, joined}

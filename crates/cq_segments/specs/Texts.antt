@@ -5,7 +5,7 @@ use Rattle.std.specs.Option.{option_map}
 use Rattle.cq_encodings.specs.Texts.{text_values}
 use Rattle.cq_values.specs.Value.{Row}
 use Rattle.cq_values.specs.declared.value.Value.TheVariants.{Text}
-use Rattle.cq_segments.specs.Bounds.{AreBounds, Ends}
+use Rattle.cq_encodings_numbers.specs.Bounds.{AreBounds, Ends}
 use Rattle.cq_vectors.specs.Gathered.{column_of}
 use Rattle.cq_vectors_stored.specs.Columns.{texts_of}
 

@@ -1,7 +1,7 @@
 //! What a segment is built of.
 ghost use Rattle.std.specs.Prelude.{IfOk, length, ◌≡◌, ◌≤◌};
 ghost use Rattle.cq_encodings.specs.AnyEncoded.{encoded_values};
-ghost use Rattle.cq_segments.specs.Bounds.{AreBounds};
+ghost use Rattle.cq_encodings_numbers.specs.Bounds.{AreBounds};
 ghost use Rattle.cq_segments_pieces.specs.Columns.{AreLong, columns_in, columns_of, encoded_rows};
 ghost use Rattle.cq_segments.specs.InOrder.{rows_in_order};
 ghost use Rattle.cq_segments_pieces.specs.Marked.{unmarked};

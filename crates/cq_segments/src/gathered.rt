@@ -1,7 +1,7 @@
 //! The values of one column of a segment that is built, as they are gathered: as numbers or as texts where all are such.
 ghost use Rattle.std.specs.Prelude.{IfOk, ◌≡◌};
 ghost use Rattle.cq_encodings.specs.AnyEncoded.{encoded_values};
-ghost use Rattle.cq_segments.specs.Bounds.{AreBounds};
+ghost use Rattle.cq_encodings_numbers.specs.Bounds.{AreBounds};
 ghost use Rattle.cq_segments.specs.Gathered.{AreOfKind, gathered_values};
 
 use crate::held_bounds::HeldBounds;

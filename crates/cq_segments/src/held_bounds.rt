@@ -4,10 +4,11 @@
 //! copies in all.
 ghost use Rattle.std.specs.Prelude.{IfOk, Some, length, map, ◌<◌, ◌≡◌};
 ghost use Rattle.cq_model.specs.Group.{higher, lower};
-ghost use Rattle.cq_segments.specs.Bounds.{AreBounds, AreWidened, AreWithin, ends_at, ends_of, lent_ends, value_at};
+ghost use Rattle.cq_encodings_numbers.specs.Bounds.{AreBounds, ends_of};
+ghost use Rattle.cq_segments.specs.Bounds.{AreWidened, AreWithin, ends_at, lent_ends, value_at};
 ghost use Rattle.cq_values.specs.Lent.{owned};
 
-use crate::bounds::Bounds;
+use cq_encodings_numbers::Bounds;
 use cq_values::{Lent, Value, cmp_lent};
 use std::alloc::{AllocError, Global};
 

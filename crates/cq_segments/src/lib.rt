@@ -4,7 +4,6 @@
 //! 1,024. It is built of rows where they stand. To its callers a segment is the list of its rows with their marks.
 #![tactic(auto)]
 
-mod bounds;
 mod building;
 mod column_test;
 mod gathered;
@@ -18,6 +17,5 @@ mod segment;
 mod sorting;
 mod text_bounds;
 
-pub use bounds::Bounds;
 pub use column_test::{ColumnTest, may_match};
 pub use segment::Segment;

@@ -4,7 +4,7 @@ ghost use Rattle.std.specs.Option.{IfNone};
 ghost use Rattle.std.specs.Prelude.{IfOk, IfSome, Some, [], false, ◌≡◌};
 ghost use Rattle.cq_encodings_plain.specs.Kind.{IsOf, datum, number_values};
 ghost use Rattle.cq_model.specs.Group.{higher, lower};
-ghost use Rattle.cq_segments.specs.Bounds.{AreBounds};
+ghost use Rattle.cq_encodings_numbers.specs.Bounds.{AreBounds};
 ghost use Rattle.cq_segments.specs.Numbers.{AreEnds};
 ghost use Rattle.cq_values.specs.declared.value.Value.TheVariants.{Day, Number};
 

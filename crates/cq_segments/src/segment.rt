@@ -8,7 +8,7 @@ ghost use Rattle.std.specs.Bool.{OnFalse};
 ghost use Rattle.std.specs.Prelude.{IfOk, [], false, length, slice_index_or, ◌<◌, ◌≡◌, ◌≤◌};
 ghost use Rattle.std.specs.List.{All};
 ghost use Rattle.cq_encodings_vectors.specs.Places.{AreBelow, rows_at};
-ghost use Rattle.cq_segments.specs.Bounds.{AreBounds, ends_of};
+ghost use Rattle.cq_encodings_numbers.specs.Bounds.{AreBoundsOf};
 ghost use Rattle.cq_segments.specs.ColumnTest.{NoneMatches};
 ghost use Rattle.cq_segments_pieces.specs.Columns.{AreWide};
 ghost use Rattle.cq_segments.specs.InOrder.{rows_in_order};
@@ -20,13 +20,13 @@ ghost use Rattle.cq_values.specs.Lent.{owned};
 ghost use Rattle.cq_values.specs.Value.{column as value_of};
 ghost use Rattle.cq_vectors.specs.Gathered.{column_of};
 
-use crate::bounds::Bounds;
 use crate::building::{encode_columns, make_pieces};
 use crate::column_test::ColumnTest;
 use crate::held_bounds::HeldBounds;
 use crate::in_order::InOrder;
 use crate::sorting::sorted;
 use cq_encodings::AnyEncoded;
+use cq_encodings_numbers::Bounds;
 use cq_encodings_vectors::column_at;
 use cq_segments_pieces::{Columns, Piece, StoredRow};
 use cq_values::Lent;
@@ -211,7 +211,7 @@ impl Segment {
 
     /// The bounds of a column, over marked rows too.
     pub fn bounds(&self, column: usize) -> Bounds<'_>
-        ensures { AreBounds result.has_null (ends_of result) (column_of (rows_of self.now) column) }
+        ensures { AreBoundsOf result (column_of (rows_of self.now) column) }
     {
         match self.bounds.get(column) {
             Some(bounds) => bounds.lend(),
@@ -226,15 +226,7 @@ impl Segment {
     pub fn may_match(&self, test: &ColumnTest<'_>) -> bool
         ensures skips_no_match { OnFalse result (NoneMatches test.now (rows_of self.now)) }
     {
-        match test {
-            ColumnTest::Compare(column, comparison, constant) => {
-                self.bounds(*column).may_pass(*comparison, constant)
-            }
-            ColumnTest::IsNull(column) => self.bounds(*column).has_null,
-            ColumnTest::IsNotNull(column) => match self.bounds(*column).ends {
-                Some(_) => true,
-                None => false,
-            },
-        }
+        let Bounds { has_null, ends } = self.bounds(test.column());
+        test.may_hold(&Bounds { has_null, ends })
     }
 }

@@ -5,7 +5,7 @@ ghost use Rattle.std.specs.Prelude.{IfOk, false, ◌≡◌};
 ghost use Rattle.cq_encodings.specs.AnyEncoded.{encoded_values};
 ghost use Rattle.cq_encodings.specs.Texts.{text_values};
 ghost use Rattle.cq_model.specs.Group.{higher, lower};
-ghost use Rattle.cq_segments.specs.Bounds.{AreBounds};
+ghost use Rattle.cq_encodings_numbers.specs.Bounds.{AreBounds};
 ghost use Rattle.cq_segments.specs.Texts.{AreTextEnds, text_ends};
 ghost use Rattle.cq_values.specs.declared.value.Value.TheVariants.{Text};
 ghost use Rattle.cq_vectors_stored.specs.Columns.{texts_of};

@@ -8,7 +8,7 @@ ghost use Rattle.std.specs.List.{All};
 ghost use Rattle.std.specs.Option.{IfNone};
 ghost use Rattle.std.specs.Prelude.{IfOk, IfSome, [], drop, length, replicate, slice_index_or, ◌*◌, ◌<◌, ◌≡◌, ◌≤◌};
 ghost use Rattle.cq_encodings.specs.AnyEncoded.{encoded_values};
-ghost use Rattle.cq_encodings_numbers.specs.Ends.{AreWithin};
+ghost use Rattle.cq_encodings_numbers.specs.Bounds.{AreBoundsOf};
 ghost use Rattle.cq_encodings_vectors.specs.Places.{AreBelow, rows_at};
 ghost use Rattle.cq_segments_pieces.specs.Columns.{AreColumns, parts_of, rows_of_columns, values_from};
 ghost use Rattle.cq_segments_pieces.specs.Rows.{row_of};
@@ -20,6 +20,7 @@ ghost use Rattle.cq_vectors.specs.Gathered.{column_of};
 use crate::places_from::{places_behind, places_from};
 use crate::stored_row::StoredRow;
 use cq_encodings::AnyEncoded;
+use cq_encodings_numbers::Bounds;
 use cq_encodings_plain::Encoded;
 use cq_encodings_vectors::{vector_at, vector_of};
 use cq_values::Lent;
@@ -154,13 +155,16 @@ impl Columns {
         }
     }
 
-    /// The least and the greatest value of a column, where they are known. NULL may stand there too.
-    pub fn ends(&self, at: usize) -> Option<(Lent<'_>, Lent<'_>)>
-        ensures { IfSome result (λ e. AreWithin (owned e.0) (owned e.1) (column_of self.now at)) }
+    /// The bounds of a column, where they are known.
+    pub fn bounds(&self, at: usize) -> Option<Bounds<'_>>
+        ensures { IfSome result (λ b. AreBoundsOf b (column_of self.now at)) }
     {
-        let (encoded, part, _from) = self.column(at)?;
+        let (encoded, part, from) = self.column(at)?;
+        if from > 0 {
+            return None;
+        }
         match encoded {
-            AnyEncoded::Packed(packed) => packed.part_ends(part),
+            AnyEncoded::Packed(packed) => Some(packed.part_bounds(part)),
             _ => None,
         }
     }

@@ -7,7 +7,7 @@ use Rattle.std.proofs.lemmas.List.{append-nil, append_assoc, map-append, length-
 use Rattle.cq_model_bags.proofs.Lists.{all-at, all-back}
 use Rattle.cq_model_bags.proofs.Totals.{by_test}
 use Rattle.cq_values.specs.Value.{Row}
-use Rattle.cq_operators_scans.specs.Kept.{places_where}
+use Rattle.cq_operators_conditions.specs.Kept.{places_where}
 use Rattle.cq_segments_pieces.specs.Marked.{MarkedRow, live, live_from, rows_of, with_mark, with_marks}
 use Rattle.cq_table.specs.Found.{AreLiveAt, AreThere, found_rows, is_live_at, passes}
 use Rattle.cq_segments_pieces.proofs.Marks.{length-live_from, length-mark, live-unmarked, mark-behind, rows_of-mark}

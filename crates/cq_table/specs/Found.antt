@@ -4,7 +4,7 @@ use Rattle.std.specs.Global.{Vec}
 use Rattle.cq_values.specs.Value.{Row}
 use Rattle.cq_model.specs.Expr.{Cond}
 use Rattle.cq_model.specs.Meaning.{keeps}
-use Rattle.cq_operators_scans.specs.Kept.{places_where}
+use Rattle.cq_operators_conditions.specs.Kept.{places_where}
 use Rattle.cq_segments_pieces.specs.Marked.{MarkedRow, rows_of, with_mark}
 use Rattle.cq_encodings_vectors.specs.Places.{AreBelow, rows_at}
 use Rattle.cq_model.specs.Write.{chosen}

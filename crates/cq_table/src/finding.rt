@@ -7,7 +7,7 @@ ghost use Rattle.cq_table_columns.specs.Stored.{all_rows, front_rows, marked_row
 
 use cq_model::Cond;
 use cq_model_terms::columns_of;
-use cq_operators_scans::{is_unkept, kept_places, split_unkept};
+use cq_operators_conditions::{is_unkept, kept_places, split_unkept};
 use cq_prims::KnownTruths;
 use cq_table_columns::{Front, Stored};
 use std::alloc::{AllocError, Global};

@@ -1,13 +1,14 @@
 //! Scripts on two engines.
 use crate::answers::check_alike;
-use crate::counts::Counts;
+use crate::counts::{Answered, Counts};
 use crate::difference::Difference;
 use crate::plain_engine::PlainEngine;
 use crate::standing::compare_views;
 use cq_binder::bind;
 use cq_binder_rules::{Bound, Fault};
 use cq_cli::NoSources;
-use cq_engine::{Engine, Limits};
+use cq_engine::{AnswerSource, Engine, Limits};
+use cq_model::{Order, Query};
 use cq_model_step::Answer;
 use cq_sql::{parse, split};
 use std::alloc::Global;
@@ -52,20 +53,18 @@ fn compare_at(
     text: &str,
     counts: &mut Counts,
 ) -> Result<(), Difference> {
-    if carry_out(alloc, engine, plain, text)? {
-        counts.add_query();
-    }
+    counts.add(carry_out(alloc, engine, plain, text)?);
     compare_views(alloc, engine, plain, counts)
 }
 
-/// Carries a statement out on both, and tells whether it is a query, which both answer alike. A table is created under
-/// the number that is drawn.
+/// Carries a statement out on both, and tells where the answer comes from, which is the same if it is a query. A table is
+/// created under the number that is drawn.
 fn carry_out(
     alloc: Global,
     engine: &mut Engine,
     plain: &mut PlainEngine,
     text: &str,
-) -> Result<bool, Difference> {
+) -> Result<Answered, Difference> {
     let statement = parse(alloc, text)?;
     let bound = bind(alloc, &statement, &engine.catalog(), &mut NoSources::new());
     let number = engine.drawn();
@@ -76,7 +75,7 @@ fn carry_out(
     };
     drop(statement);
     match bound {
-        Ok(bound) => follow(plain, bound, number, answer),
+        Ok(bound) => follow(engine, plain, bound, number, answer),
         Err(fault) => {
             drop(answer);
             Err(Difference::from(fault))
@@ -86,28 +85,46 @@ fn carry_out(
 
 /// The same on the plain engine.
 fn follow(
+    engine: &Engine,
     plain: &mut PlainEngine,
     bound: Bound,
     number: u64,
     answer: Result<Answer, Fault>,
-) -> Result<bool, Difference> {
+) -> Result<Answered, Difference> {
     if let Bound::Select { query, order, .. } = &bound {
-        let meant = plain.answer(query, order);
-        let compared = check_alike(&answer, &meant);
+        let told = engine.answer_source(&bound);
+        let answered = compare_query(plain, query, order, told, &answer);
         drop(answer);
-        drop(meant);
         drop(bound);
-        compared?;
-        return Ok(true);
+        return answered;
     }
     match answer.err() {
         None => {
             plain.carry_out(bound, number)?;
-            Ok(false)
+            Ok(Answered::Command)
         }
         Some(fault) => {
             drop(bound);
             Err(Difference::Refused(fault))
         }
+    }
+}
+
+/// Compares where the answer to a query comes from, and then the answer.
+fn compare_query(
+    plain: &mut PlainEngine,
+    query: &Query,
+    order: &Order,
+    told: AnswerSource<'_>,
+    answer: &Result<Answer, Fault>,
+) -> Result<Answered, Difference> {
+    if plain.answer_source(query)? != told {
+        return Err(Difference::Source);
+    }
+    let meant = plain.answer(query, order);
+    check_alike(answer, &meant)?;
+    match told {
+        AnswerSource::Tables => Ok(Answered::FromTables),
+        AnswerSource::View(_) => Ok(Answered::FromView),
     }
 }

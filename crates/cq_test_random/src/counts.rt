@@ -1,9 +1,20 @@
 //! How much was compared.
 
-/// Queries, epochs that views came to, and how many of these epochs were below the present.
+/// Where the answer to a statement comes from.
+#[derive(Clone, Copy)]
+pub(crate) enum Answered {
+    /// It is no query.
+    Command,
+    FromTables,
+    FromView,
+}
+
+/// Queries, how many of them were answered from a view with their core, epochs that views came to, and how many of these
+/// epochs were below the present.
 #[derive(Clone, Copy)]
 pub(crate) struct Counts {
     pub(crate) queries: u64,
+    pub(crate) from_views: u64,
     pub(crate) epochs: u64,
     pub(crate) earlier: u64,
 }
@@ -12,13 +23,22 @@ impl Counts {
     pub(crate) fn new() -> Counts {
         Counts {
             queries: 0,
+            from_views: 0,
             epochs: 0,
             earlier: 0,
         }
     }
 
-    pub(crate) fn add_query(&mut self) {
-        self.queries = self.queries.saturating_add(1);
+    /// Counts a statement if it is a query.
+    pub(crate) fn add(&mut self, answered: Answered) {
+        match answered {
+            Answered::Command => {}
+            Answered::FromTables => self.queries = self.queries.saturating_add(1),
+            Answered::FromView => {
+                self.queries = self.queries.saturating_add(1);
+                self.from_views = self.from_views.saturating_add(1);
+            }
+        }
     }
 
     /// Counts an epoch that a view came to.

@@ -18,6 +18,8 @@ pub(crate) enum Difference {
     NotWorkedOut(PlainFault),
     #[error("answered otherwise")]
     Answer,
+    #[error("answered from another source")]
+    Source,
     #[error("other writes are counted")]
     Writes,
     #[error("view {0} stands at another epoch")]

@@ -1,11 +1,13 @@
 //! Carries scripts out on an engine and, beside it, by the plain evaluator over lists of rows, and tells for each how many
-//! queries both answered alike. Views are kept by the engine and worked out anew beside it: behind each statement every
-//! view is compared with its query on the tables as they were at the epoch that it stands at. How many such epochs views
-//! came to is told, and how many of them were below the present.
+//! queries both answered alike, and how many of them the engine answered from a view with their core, as it should. Views
+//! are kept by the engine and worked out anew beside it: behind each statement every view is compared with its query on the
+//! tables as they were at the epoch that it stands at. How many such epochs views came to is told, and how many of them
+//! were below the present.
 #![tactic(auto)]
 
 mod answers;
 mod compared;
+mod core_text;
 mod counts;
 mod difference;
 mod plain_engine;
@@ -18,8 +20,9 @@ use std::io::{BufWriter, Write};
 use std::process::ExitCode;
 use std::{fs, io};
 
-const SCRIPTS: [&str; 10] = [
+const SCRIPTS: [&str; 11] = [
     "conditions.sql",
+    "cores.sql",
     "groups.sql",
     "joins.sql",
     "joined-views.sql",
@@ -51,8 +54,8 @@ fn compare_all(rt: &HostRuntime) -> io::Result<bool> {
         match compare(rt.alloc(), script.as_str()) {
             Ok(counts) => writeln!(
                 out,
-                "{name}: {} queries answered alike, views at {} epochs, {} of these below the present",
-                counts.queries, counts.epochs, counts.earlier
+                "{name}: {} queries answered alike, {} of them from views, views at {} epochs, {} of these below the present",
+                counts.queries, counts.from_views, counts.epochs, counts.earlier
             )?,
             Err((statement, difference)) => {
                 is_alike = false;

@@ -2,10 +2,12 @@
 //!
 //! A [`PlainEngine`] is given each command that the engine has carried out, in the same order, and each query after it. It
 //! knows at which epoch each view stands, and keeps what tables were there. A view costs what its query costs over whole
-//! tables, once for each epoch that it comes to.
+//! tables, once for each epoch that it comes to. A query is worked out on tables also where its answer comes from a view.
+use crate::core_text::core_text;
 use crate::plain_table::{PlainTable, lent_at};
 use crate::plain_view::PlainView;
 use cq_binder_rules::Bound;
+use cq_engine::AnswerSource;
 use cq_model::{Order, Query, Source};
 use cq_test_plain::{Lent, PlainFault, answer_on, listing};
 use cq_values::{Row, Text};
@@ -134,9 +136,33 @@ impl PlainEngine {
         None
     }
 
-    /// The answer to a query, for which each view that it names is taken on to the present.
+    /// Where the answer to a query comes from.
+    pub(crate) fn answer_source(&self, query: &Query) -> Result<AnswerSource<'_>, AllocError> {
+        match self.core_place(query)? {
+            Some(place) if place < self.views.len() => {
+                Ok(AnswerSource::View(self.views[place].name()))
+            }
+            _ => Ok(AnswerSource::Tables),
+        }
+    }
+
+    /// Where the first created view stands that asks for what the query does.
+    fn core_place(&self, query: &Query) -> Result<Option<usize>, AllocError> {
+        let core = core_text(self.alloc, query)?;
+        for (place, view) in self.views.iter().enumerate() {
+            if core_text(self.alloc, view.query())?.as_str() == core.as_str() {
+                return Ok(Some(place));
+            }
+        }
+        Ok(None)
+    }
+
+    /// The answer to a query. The view that it comes from is taken on to the present, or else each view that it names.
     pub(crate) fn answer(&mut self, query: &Query, order: &Order) -> Result<Vec<Row>, PlainFault> {
-        self.take_on_named(query);
+        match self.core_place(query)? {
+            Some(place) => self.refresh(place, u128::MAX),
+            None => self.take_on_named(query),
+        }
         self.answer_over(query, order)
     }
 

@@ -39,6 +39,10 @@ impl PlainView {
         self.name.as_str()
     }
 
+    pub(crate) fn query(&self) -> &Query {
+        &self.query
+    }
+
     pub(crate) fn epoch(&self) -> u64 {
         self.epoch
     }

@@ -1,5 +1,6 @@
 //! What a script cannot say: each prefix of one, sinks and sources of the test, calls of the engine, and growths that are
 //! refused.
+mod answer_sources;
 mod endings;
 mod engine_calls;
 mod engines;

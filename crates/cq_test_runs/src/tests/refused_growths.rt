@@ -1,5 +1,5 @@
 //! One growth that is refused, wherever it comes: the statement is refused and changes nothing, and goes well when it is
-//! given once more. tools/fail-alloc runs this with each growth refused in turn.
+//! given once more. `rt try --test --fail-alloc N` refuses the N-th; tools/fail-each does so to whole scripts.
 use super::engines::{carry_out, engine};
 use cq_binder_rules::Fault;
 use cq_engine::Engine;

@@ -1,6 +1,6 @@
 //! One growth of a write that is refused, wherever it comes, under three views over joined tables: each table and each view
 //! answers as before, and the write goes well when it is given once more. And one of a REFRESH over writes that wait.
-//! tools/fail-alloc runs this with each growth refused in turn.
+//! `rt try --test --fail-alloc N` refuses the N-th; tools/fail-each does so to whole scripts.
 use super::engines::{carry_out, engine};
 use super::refused_growths::{Step, carry_all};
 use cq_binder_rules::Fault;

@@ -10,23 +10,47 @@ const SCRIPT: &str =
     "CREATE TABLE t(a INTEGER); COPY u FROM 'f'; COPY t FROM 'f'; COPY t FROM 'f'; \
     COPY t FROM 'f'; SELECT COUNT(*) AS n, SUM(a) AS s FROM t;";
 
+/// Which read fails, how many do, and what the script is answered with.
+const FAILED_READS: &[(u64, u64, &str)] = &[
+    (
+        0,
+        1,
+        "ok\nerror 11 unknown table or view\nerror 3 source failed\nok 2\nok 2\nrows 1\nn,s\n4,6\n",
+    ),
+    (
+        1,
+        1,
+        "ok\nerror 11 unknown table or view\nok 2\nerror 3 source failed\nok 2\nrows 1\nn,s\n4,6\n",
+    ),
+    (
+        2,
+        1,
+        "ok\nerror 11 unknown table or view\nok 2\nok 2\nerror 3 source failed\nrows 1\nn,s\n4,6\n",
+    ),
+    (
+        3,
+        0,
+        "ok\nerror 11 unknown table or view\nok 2\nok 2\nok 2\nrows 1\nn,s\n6,9\n",
+    ),
+];
+
 #[test]
 fn copy_reads_its_source_once_and_counts_its_failure(rt: HostRuntime) -> Result<(), Fail> {
-    let mut source = TestSource::new("1\n2\n", 1);
-    let mut sink = TestSink::new(rt.alloc(), Plan::TakesAll);
-    let limits = Limits { max_rows: 4 };
-    let _ended = run(
-        rt.alloc(),
-        SCRIPT.as_bytes(),
-        limits,
-        &mut source,
-        &mut sink,
-    );
-    let output =
-        "ok\nerror 11 unknown table or view\nok 2\nerror 3 source failed\nok 2\nrows 1\nn,s\n4,6\n";
-    assert_eq!(rt; sink.taken(), output.as_bytes());
-    assert_eq!(rt; source.reads(), 3);
-    assert_eq!(rt; source.failures(), 1);
+    for (fails_at, failures, output) in FAILED_READS {
+        let mut source = TestSource::new("1\n2\n", *fails_at);
+        let mut sink = TestSink::new(rt.alloc(), Plan::TakesAll);
+        let limits = Limits { max_rows: 6 };
+        let _ended = run(
+            rt.alloc(),
+            SCRIPT.as_bytes(),
+            limits,
+            &mut source,
+            &mut sink,
+        );
+        assert_eq!(rt; sink.taken(), output.as_bytes());
+        assert_eq!(rt; source.reads(), 3);
+        assert_eq!(rt; source.failures(), *failures);
+    }
     Ok(())
 }
 

@@ -3,7 +3,7 @@ ghost use Rattle.std.specs.Prelude.{◌∷◌, ◌≡◌, IfOk, [], pos};
 ghost use Rattle.cq_values.specs.declared.value.Value.TheVariants.{Number};
 
 use cq_model::{Cond, CondTree, ExprTree};
-use cq_operators_scans::split_unkept;
+use cq_operators_conditions::split_unkept;
 use cq_table::{Layout, Table, TableFault};
 use cq_values::{ColumnDef, Comparison, Row, Seq, Text, Ty, Value};
 use cq_writestore_rows::NewRows;

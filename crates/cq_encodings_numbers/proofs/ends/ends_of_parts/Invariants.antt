@@ -1,15 +1,11 @@
-use Rattle.std.proofs.Common.{◌≡◌, ◌<◌, ◌≤◌, ◌*◌, ◌-◌, length}
-use Rattle.cq_encodings_numbers.specs.Ends.{HaveEnds}
+use Rattle.std.proofs.Common.{length, vec_capacity, vec_len, ◌+◌, ◌-◌, ◌≡◌, ◌≤◌}
+use Rattle.cq_encodings_numbers.proofs.PartEnds.{Parts}
 use Rattle.cq_encodings_numbers.proofs.ends.ends_of_parts.Given as goal
 
--- each part so far has its ends, and is full where a number is left
-abbrev pub invariant-loop-start : goal.invariant-loop-start
-invariant-loop-start l = record {
-  have : HaveEnds l.ends.items l.numbers;
-  full : l.start < length l.numbers → l.start ≡ 1024 * length l.ends.items;
-  within : l.start ≤ length l.numbers;
+-- the parts so far have their ends
+abbrev pub invariant-loop-part : goal.invariant-loop-part
+invariant-loop-part l = record {
+  made : Parts l.offsets l.nulls l.ends.items;
+  long : length l.ends.items ≡ l.part;
+  room : vec_len l.ends + (l.count - l.part) ≤ vec_capacity l.ends;
 }
-
--- fewer numbers are left
-abbrev pub decreases-loop-start : goal.decreases-loop-start
-decreases-loop-start l = length l.numbers - l.start

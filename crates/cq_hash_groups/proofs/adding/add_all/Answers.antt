@@ -1,8 +1,8 @@
 use Rattle.std.proofs.Common.{ℕ, ◌+◌, length, get_or, rules, arith}
 use Rattle.cq_hash_groups_slots.specs.declared.slots.Slots.{Slots}
-use Rattle.cq_hash_groups_slots.specs.Puts.{most_before}
+use Rattle.cq_hash_groups_sums.specs.Puts.{most_before}
 use Rattle.cq_hash_groups_slots.specs.Slots.{AreWithin, no_slots}
-use Rattle.cq_hash_groups_slots.proofs.Putting.{set-each}
+use Rattle.cq_hash_groups_sums.proofs.Putting.{set-each}
 use Rattle.cq_model.specs.declared.query.Aggregate.TheVariants.{CountAll}
 use Rattle.cq_hash_groups.specs.Lead.{first_sum}
 use Rattle.cq_hash_groups.proofs.Turns.{room-at, same-length, turn, turns-done}

@@ -1,8 +1,8 @@
 use Rattle.std.proofs.Common.{◌+◌, length, arith, sym, subst}
 use Rattle.cq_hash_groups_slots.specs.declared.slots.Slots.{Slots}
-use Rattle.cq_hash_groups_slots.specs.Puts.{AreNumbers, most_before}
+use Rattle.cq_hash_groups_sums.specs.Puts.{AreNumbers, most_before}
 use Rattle.cq_hash_groups_slots.specs.Slots.{grown_slots, groups_in}
-use Rattle.cq_hash_groups_slots.proofs.Putting.{numbers-of_more}
+use Rattle.cq_hash_groups_sums.proofs.Putting.{numbers-of_more}
 use Rattle.cq_hash_groups.proofs.Turns.{groups-grown, within-more}
 use Rattle.cq_hash_groups.proofs.adding.add_nulls.Goals as goal
 

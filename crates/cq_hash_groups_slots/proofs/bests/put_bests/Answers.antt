@@ -5,8 +5,9 @@ use Rattle.cq_values.specs.declared.value.Value.{Value}
 use Rattle.cq_values.specs.declared.value.Value.TheVariants.{Null}
 use Rattle.cq_vectors.specs.Form.{values_in}
 use Rattle.cq_vectors_stored.specs.Offsets.{offsets_in}
-use Rattle.cq_hash_groups_slots.specs.Puts.{put_all, put_best}
-use Rattle.cq_hash_groups_slots.proofs.Numbered.{narrow-read}
+use Rattle.cq_hash_groups_sums.specs.Puts.{put_all}
+use Rattle.cq_hash_groups_slots.specs.Puts.{put_best}
+use Rattle.cq_hash_groups_sums.proofs.Numbered.{narrow-read}
 use Rattle.cq_hash_groups_slots.proofs.bests.put_bests.Goals as goal
 
 pub returns-in-Narrow : goal.returns-in-Narrow

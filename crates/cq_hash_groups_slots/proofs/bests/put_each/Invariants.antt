@@ -1,6 +1,7 @@
 use Rattle.std.proofs.Common.{◌≡◌, drop, length}
 use Rattle.cq_values.specs.declared.value.Value.TheVariants.{Null}
-use Rattle.cq_hash_groups_slots.specs.Puts.{put_all, put_best}
+use Rattle.cq_hash_groups_sums.specs.Puts.{put_all}
+use Rattle.cq_hash_groups_slots.specs.Puts.{put_best}
 use Rattle.cq_hash_groups_slots.proofs.bests.put_each.Given as goal
 
 -- what remains, put into the bests so far, makes what is to come

@@ -6,10 +6,11 @@ use Rattle.std.proofs.lemmas.Int.{ints, to_z-of_z}
 use Rattle.cq_values.specs.declared.value.Value.{Value}
 use Rattle.cq_values.specs.declared.value.Value.TheVariants.{Null}
 use Rattle.cq_vectors_stored.specs.Columns.{number_unless}
-use Rattle.cq_hash_groups_slots.specs.NumberColumns.{with_nulls}
-use Rattle.cq_hash_groups_slots.specs.Puts.{put_all, put_best}
-use Rattle.cq_hash_groups_slots.proofs.Numbered.{value-at}
-use Rattle.cq_hash_groups_slots.proofs.Putting.{put-done, put-next}
+use Rattle.cq_hash_groups_sums.specs.NumberColumns.{with_nulls}
+use Rattle.cq_hash_groups_sums.specs.Puts.{put_all}
+use Rattle.cq_hash_groups_slots.specs.Puts.{put_best}
+use Rattle.cq_hash_groups_sums.proofs.Numbered.{value-at}
+use Rattle.cq_hash_groups_sums.proofs.Putting.{put-done, put-next}
 use Rattle.cq_hash_groups_slots.proofs.bests.put_numbers.Goals as goal
 use Rattle.cq_model_bags.proofs.Lists.{all-at}
 

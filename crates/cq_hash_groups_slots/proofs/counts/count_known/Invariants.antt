@@ -1,7 +1,8 @@
 use Rattle.std.proofs.Common.{◌≡◌, ◌+◌, List, drop, length, map}
 use Rattle.cq_model.specs.Condition.{is_null}
 use Rattle.cq_values.specs.declared.value.Value.{Value}
-use Rattle.cq_hash_groups_slots.specs.Puts.{AreCountsWithin, most_before, put_all, put_count}
+use Rattle.cq_hash_groups_sums.specs.Puts.{most_before, put_all}
+use Rattle.cq_hash_groups_slots.specs.Puts.{AreCountsWithin, put_count}
 use Rattle.cq_hash_groups_slots.proofs.counts.count_known.Given as goal
 
 -- what remains, put into the counts so far, makes what is to come, whichever the values are; no count is large

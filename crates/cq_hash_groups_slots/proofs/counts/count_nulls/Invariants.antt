@@ -1,5 +1,6 @@
 use Rattle.std.proofs.Common.{◌≡◌, ◌+◌, drop, length}
-use Rattle.cq_hash_groups_slots.specs.Puts.{AreCountsWithin, most_before, put_all, put_null}
+use Rattle.cq_hash_groups_sums.specs.Puts.{most_before, put_all}
+use Rattle.cq_hash_groups_slots.specs.Puts.{AreCountsWithin, put_null}
 use Rattle.cq_hash_groups_slots.proofs.counts.count_nulls.Given as goal
 
 -- what remains, put into the counts so far, makes what is to come; no count is large

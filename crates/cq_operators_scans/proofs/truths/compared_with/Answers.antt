@@ -9,7 +9,7 @@ use Rattle.std.specs.Simd.Lanes.{zip2}
 use Rattle.cq_values.specs.Comparison.{compared}
 use Rattle.cq_model.specs.Eval.{eval}
 use Rattle.cq_model.specs.Trees.{expr_of}
-use Rattle.cq_operators_scans.specs.Skipping.{HasValue}
+use Rattle.cq_operators_scans.specs.Constant.{HasValue}
 use Rattle.cq_operators_scans.proofs.truths.compared_with.Goals as goal
 
 -- a constant on the right

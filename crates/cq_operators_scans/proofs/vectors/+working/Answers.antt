@@ -1,12 +1,12 @@
-use Rattle.std.proofs.Common.{rules}
+use Rattle.std.proofs.Common.{map, refl, rules}
 use Rattle.std.proofs.lemmas.Result.{IfOk-weaker}
 use Rattle.cq_model.specs.declared.expr.ExprTree.TheViews.{the_lemmas}
 use Rattle.cq_model.specs.Expr.{Plus, Times}
-use Rattle.cq_model.specs.Eval.{eval, plus, times}
+use Rattle.cq_model.specs.Eval.{eval, negated, plus, times}
 use Rattle.cq_model.specs.Trees.{expr_of}
 use Rattle.cq_model_eval.proofs.Chains.{products, sums}
 use Rattle.cq_values.specs.Lent.{owned}
-use Rattle.cq_operators_scans.specs.Operand.{values_worked}
+use Rattle.cq_operators_scans.specs.Operand.{values_signed, values_worked}
 use Rattle.cq_operators_scans.proofs.Lists.{same-length}
 use Rattle.cq_operators_scans.proofs.Valuing.{extract-exact, extracted-values, factor-exact, fits, fits-at, literal-values, negated-fits, negated-values, next, part-exact, term-exact}
 use Rattle.cq_operators_scans.proofs.vectors.+working.Goals as goal
@@ -19,18 +19,18 @@ pub operation_worked_out-worked_out-requires-in-Sum : goal.operation_worked_out-
 operation_worked_out-worked_out-requires-in-Sum t c =
     (search (rules, the_lemmas), term-exact c.args.scan.now c.args.tree.now c.in-Sum.first c.in-Sum.rest c.deref-in-Sum.result.now c.deref-in-Sum.ensures c.in-Sum.is c.requires.exact)
 
-pub operation_worked_out-worked_out-requires-in-loop-term : goal.operation_worked_out-worked_out-requires-in-loop-term
-operation_worked_out-worked_out-requires-in-loop-term t c =
+pub operation_worked_out-term_worked_out-requires : goal.operation_worked_out-term_worked_out-requires
+operation_worked_out-term_worked_out-requires t c =
     (search (rules, the_lemmas), part-exact Plus plus sums c.args.scan.now (expr_of c.args.tree.now) c.deref-term-items.result.now c.loop-term.term-index c.term-item.result (values_worked c.args.scan.now c.loop-term.sum) c.loop-term-test.true c.term-item.is c.loop-term.invariant c.requires.exact)
 
 pub operation_worked_out-plus-requires-clause-same : goal.operation_worked_out-plus-requires-clause-same
 operation_worked_out-plus-requires-clause-same t c =
-    same-length (eval c.loop-term.invariant.front) (eval (expr_of c.term-item.result)) c.args.scan.now (values_worked c.args.scan.now c.loop-term.sum) (values_worked c.args.scan.now c.in-Ok.term) c.loop-term.invariant.are c.in-Ok.ensures
+    same-length (eval c.loop-term.invariant.front) (eval (expr_of c.term-item.result)) c.args.scan.now (values_worked c.args.scan.now c.loop-term.sum) (values_signed c.args.scan.now c.in-Ok.term) c.loop-term.invariant.are c.in-Ok.ensures
 
 pub operation_worked_out-plus-requires-clause-fits : goal.operation_worked_out-plus-requires-clause-fits
 operation_worked_out-plus-requires-clause-fits t c =
     fits-at _ (fits Plus plus sums c.args.scan.now (expr_of c.args.tree.now) c.deref-term-items.result.now c.loop-term.term-index c.term-item.result (values_worked c.args.scan.now c.loop-term.sum) c.loop-term-test.true c.term-item.is
-    (values_worked c.args.scan.now c.in-Ok.term) c.in-Ok.ensures c.loop-term.invariant c.requires.exact)
+    (values_signed c.args.scan.now c.in-Ok.term) c.in-Ok.ensures c.loop-term.invariant c.requires.exact)
 
 pub operation_worked_out-worked_out-requires-in-Product : goal.operation_worked_out-worked_out-requires-in-Product
 operation_worked_out-worked_out-requires-in-Product t c =
@@ -56,7 +56,7 @@ operation_worked_out-worked_out-requires-in-Extract t c =
 pub operation_worked_out-loop-term-preserved : goal.operation_worked_out-loop-term-preserved
 operation_worked_out-loop-term-preserved t c =
     next Plus plus sums c.args.scan.now (expr_of c.args.tree.now) c.deref-term-items.result.now c.loop-term.term-index c.term-item.result (values_worked c.args.scan.now c.loop-term.sum) c.loop-term-test.true c.term-item.is
-    (values_worked c.args.scan.now c.in-Ok.term) c.in-Ok.ensures (values_worked c.args.scan.now c.in_ok-sum-in-Sum-2.sum) c.in_ok-sum-in-Sum-2.ensures c.loop-term.invariant
+    (values_signed c.args.scan.now c.in-Ok.term) c.in-Ok.ensures (values_worked c.args.scan.now c.in_ok-sum-in-Sum-2.sum) c.in_ok-sum-in-Sum-2.ensures c.loop-term.invariant
 
 pub operation_worked_out-loop-factor-preserved : goal.operation_worked_out-loop-factor-preserved
 operation_worked_out-loop-factor-preserved t c =
@@ -66,6 +66,11 @@ operation_worked_out-loop-factor-preserved t c =
 pub worked_out-returns-in-Literal : goal.worked_out-returns-in-Literal
 worked_out-returns-in-Literal t c =
     literal-values c.args.scan.now c.args.tree.now c.in-Literal.value (owned c.lend.result) c.len.result c.new-values.result c.in-Literal.is c.lend.ensures c.len.ensures.len c.new-values.ensures
+
+pub term_worked_out-returns-in_ok-worked : goal.term_worked_out-returns-in_ok-worked
+term_worked_out-returns-in_ok-worked t c =
+    negated-values c.args.scan.now c.args.tree.now (map negated (values_worked c.args.scan.now c.in_ok-worked.worked)) (values_worked c.args.scan.now c.in_ok-worked.worked) c.deref.result.now c.in_ok-worked.ensures
+    c.in-Negate.part c.in-Negate.is c.deref.ensures refl
 
 pub operation_worked_out-returns-in_ok-worked_out-in-Negate : goal.operation_worked_out-returns-in_ok-worked_out-in-Negate
 operation_worked_out-returns-in_ok-worked_out-in-Negate t c =

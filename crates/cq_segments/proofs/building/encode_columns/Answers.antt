@@ -3,7 +3,7 @@ use Rattle.std.proofs.lemmas.List.{map-append}
 use Rattle.std.proofs.lemmas.List.FromFn.{map-range_with_len_more}
 use Rattle.cq_encodings.specs.AnyEncoded.{encoded_values}
 use Rattle.cq_vectors.specs.Gathered.{column_of}
-use Rattle.cq_segments.specs.Bounds.{AreBounds}
+use Rattle.cq_encodings_numbers.specs.Bounds.{AreBounds}
 use Rattle.cq_segments_pieces.specs.Columns.{columns_in}
 use Rattle.cq_segments.specs.InOrder.{rows_in_order}
 use Rattle.cq_segments.specs.Segment.{HaveBounds}

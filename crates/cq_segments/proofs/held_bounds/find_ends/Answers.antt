@@ -2,7 +2,8 @@ use Rattle.std.proofs.Common.{◌≡◌, ◌∙◌, ◌+◌, ◌<◌, ap, arith,
 use Rattle.std.proofs.lemmas.List.{get_or-map, get_or_default, length-map}
 use Rattle.cq_values.specs.Lent.{owned}
 use Rattle.cq_values.specs.declared.value.Value.TheVariants.{Null}
-use Rattle.cq_segments.specs.Bounds.{AreBounds, ends_at, value_at, wider_ends}
+use Rattle.cq_encodings_numbers.specs.Bounds.{AreBounds}
+use Rattle.cq_segments.specs.Bounds.{ends_at, value_at, wider_ends}
 use Rattle.cq_segments.proofs.Ends.{with_null, with_value}
 use Rattle.cq_segments.proofs.held_bounds.find_ends.Goals.{then-is_null, else-is_null}
 use Rattle.cq_segments.proofs.held_bounds.find_ends.Goals as goal

@@ -1,6 +1,7 @@
 use Rattle.std.proofs.Common.{length, map, take}
 use Rattle.cq_values.specs.Lent.{owned}
-use Rattle.cq_segments.specs.Bounds.{AreBounds, AreWithin, ends_at}
+use Rattle.cq_encodings_numbers.specs.Bounds.{AreBounds}
+use Rattle.cq_segments.specs.Bounds.{AreWithin, ends_at}
 use Rattle.cq_segments.proofs.held_bounds.find_ends.Given as goal
 
 -- the bounds of the values so far

@@ -3,7 +3,7 @@ use mir.Val.{SFits}
 use Rattle.std.proofs.lemmas.Int.{to_z-of_z}
 use Rattle.cq_values.specs.declared.value.Value.{Value}
 use Rattle.cq_encodings_plain.specs.Kind.{datum, number_values}
-use Rattle.cq_segments.specs.Bounds.{AreBounds, Ends}
+use Rattle.cq_encodings_numbers.specs.Bounds.{AreBounds, Ends}
 use Rattle.cq_segments.proofs.number_bounds.bounds_of_numbers.Goals as goal
 
 pub returns : goal.returns

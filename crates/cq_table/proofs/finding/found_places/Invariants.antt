@@ -2,7 +2,7 @@ use Rattle.std.proofs.Common.{◌≡◌, ◌+◌, ◌++◌, length}
 use Rattle.std.specs.List.{AllByRecursion}
 use Rattle.cq_model.specs.Meaning.{keeps}
 use Rattle.cq_model.specs.Width.{IsNarrowIn}
-use Rattle.cq_operators_scans.specs.Kept.{places_where}
+use Rattle.cq_operators_conditions.specs.Kept.{places_where}
 use Rattle.cq_table_columns.specs.Stored.{all_rows, stored_marked}
 use Rattle.cq_table.specs.Found.{passes}
 use Rattle.cq_table.proofs.finding.found_places.Given as goal

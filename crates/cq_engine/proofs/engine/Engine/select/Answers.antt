@@ -83,7 +83,7 @@ returns-in_err-rows-clause-counts c =
     let vs = e.views.items in
     let s = state_of (tables_of e.tables.items) (views_of vs) e.writes e.drawn e.queue e.limits.max_rows in
     rw (p.1, p.2, ← c.self.view_is)
-    (counts-refused s c.args.header c.args.query c.args.order e.queue e.views c.select_at_present-selected.new.views c.in_err-rows.field-0.0 (record { passed = refl; changes = refl }) c.self.invariant.history c.self.invariant.right c.in_err-rows.ensures.counts)
+    (counts-refused s c.args.header c.args.query c.args.order e.queue e.views c.select_at_present-selected.new.views c.in_err-rows.field-0.0 (record { passed = refl; changes = refl }) c.self.invariant.history c.self.invariant.right refl c.in_err-rows.ensures.counts)
 
 pub returns-clause-counts : goal.returns-clause-counts
 returns-clause-counts c =

@@ -8,7 +8,7 @@ use Rattle.cq_model.specs.Group.{key_of}
 use Rattle.cq_hash_groups_slots.specs.declared.slots.Slots.{Slots}
 use Rattle.cq_hash_groups.specs.Groups.{AreAllWithin, Holds, StoredGroups, all_added, group_columns}
 use Rattle.cq_hash_groups.specs.Lead.{first_sum}
-use Rattle.cq_hash_groups_slots.specs.Puts.{AreNumbers}
+use Rattle.cq_hash_groups_sums.specs.Puts.{AreNumbers}
 use Rattle.cq_hash_groups.proofs.Holding.{slots-hold}
 use Rattle.cq_hash_groups.proofs.KeysMet.{keys-append}
 use Rattle.cq_hash_groups.proofs.group_table.GroupTable.add.Goals as goal

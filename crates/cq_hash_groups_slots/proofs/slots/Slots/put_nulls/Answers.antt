@@ -1,5 +1,6 @@
 use Rattle.std.proofs.Common.{◌≡◌, ◌+◌, length, rules, arith, sym, subst}
-use Rattle.cq_hash_groups_slots.specs.Puts.{AreCountsWithin, put_all, put_null}
+use Rattle.cq_hash_groups_sums.specs.Puts.{put_all}
+use Rattle.cq_hash_groups_slots.specs.Puts.{AreCountsWithin, put_null}
 use Rattle.cq_hash_groups_slots.specs.Slots.{AreWithin}
 use Rattle.cq_hash_groups_slots.proofs.Putting.{nulls-put}
 use Rattle.cq_hash_groups_slots.proofs.slots.Slots.put_nulls.Goals as goal

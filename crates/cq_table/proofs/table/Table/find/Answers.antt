@@ -1,7 +1,7 @@
 use Rattle.std.proofs.Common.{◌∙◌, ap}
 use Rattle.cq_model.specs.Meaning.{keeps}
 use Rattle.cq_model.specs.Width.{IsNarrowIn}
-use Rattle.cq_operators_scans.specs.Kept.{places_where}
+use Rattle.cq_operators_conditions.specs.Kept.{places_where}
 use Rattle.cq_table.specs.Found.{passes}
 use Rattle.cq_table.specs.Table.{live_rows, stored_in}
 use Rattle.cq_table.proofs.Founds.{live-places, live_there}

@@ -1,6 +1,0 @@
-use Rattle.cq_hash_groups_slots.specs.Puts.{PutFrom}
-use Rattle.cq_hash_groups_slots.proofs.small_sums.put_each.Given as goal
-
--- the values so far are put in
-abbrev pub invariant-loop-place : goal.invariant-loop-place
-invariant-loop-place l = PutFrom 0 l.place l.numbers l.values l.fn.sums l.sums

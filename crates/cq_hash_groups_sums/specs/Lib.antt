@@ -1,0 +1,3 @@
+pub mod NumberColumns
+pub mod Puts
+pub mod Width

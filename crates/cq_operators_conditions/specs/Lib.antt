@@ -1,0 +1,4 @@
+pub mod Kept
+pub mod Lent
+pub mod Passing
+pub mod Skipping

@@ -1,0 +1,62 @@
+use Rattle.std.proofs.Common.{◌≡◌, ◌∙◌, ◌-◌, ◌<◌, ℕ, suc, true, false, get_or, length, map, ap, sym, subst, arith}
+use Rattle.std.proofs.lemmas.List.{get_or-map, length-map}
+use Rattle.cq_model.specs.Expr.{IsNull, Column}
+use Rattle.cq_model.specs.Trees.{cond_of}
+use Rattle.cq_model_core.specs.Same.{same_cond}
+use Rattle.cq_plan_core.specs.Joined.{is_left, node, prefix_of}
+use Rattle.cq_plan_core.proofs.Chains.{Left, all-left, less-left, none-left, other-left}
+use Rattle.cq_plan_core.proofs.Parts.{cond-pairs}
+use Rattle.cq_plan_core.proofs.conds.+prefixes.Goals as goal
+
+pub without-loop-place-init : goal.without-loop-place-init
+without-loop-place-init t c =
+    let xs = map cond_of c.args.parts.now in
+    all-left same_cond (node c.args.all) xs (prefix_of c.args.prefix) (length c.args.parts.now) (omega (arith, length-map c.args.parts.now cond_of))
+
+-- the prefix does not end with such a part
+pub without-returns-in_err-before : goal.without-returns-in_err-before
+without-returns-in_err-before t c =
+    let parts = c.args.parts.now in
+    let xs = map cond_of parts in
+    let n = c.loop-place.place - 1 in
+    let there : c.loop-place.place ≡ suc n = omega (arith, c.loop-place-test.true) in
+    let inside : n < length xs = omega (arith, c.loop-place-test.true, c.loop-place.auto.place, length-map parts cond_of) in
+    let w = prefix_of c.loop-place.left in
+    let left = subst (λ (m : ℕ). Left same_cond (node c.args.all) xs (prefix_of c.args.prefix) m w) there c.loop-place.invariant in
+    λ e.
+    none-left same_cond (node c.args.all) xs (prefix_of c.args.prefix) (cond-pairs c.args.all) n w inside left (IsNull (Column 0)) c.in_err-before.ensures e
+    ∙ ap (is_left e) (sym c.from_residual.ensures)
+
+-- or with another one
+pub without-returns-then-not-is_prefix : goal.without-returns-then-not-is_prefix
+without-returns-then-not-is_prefix t c =
+    let parts = c.args.parts.now in
+    let xs = map cond_of parts in
+    let n = c.loop-place.place - 1 in
+    let there : c.loop-place.place ≡ suc n = omega (arith, c.loop-place-test.true) in
+    let short : n < length parts = omega (arith, c.loop-place-test.true, c.loop-place.auto.place) in
+    let inside : n < length xs = omega (arith, short, length-map parts cond_of) in
+    let w = prefix_of c.loop-place.left in
+    let left = subst (λ (m : ℕ). Left same_cond (node c.args.all) xs (prefix_of c.args.prefix) m w) there c.loop-place.invariant in
+    let part = c.index-parts-place.result in
+    let is : cond_of part ≡ get_or xs n (cond_of part) = ap cond_of c.index-parts-place.is ∙ sym (get_or-map cond_of parts n part (cond_of part) short) in
+    let other : same_cond (cond_of part) (cond_of c.in_ok-before.last.now) ≡ false = sym (c.is_prefix.ensures ∙ ap (same_cond (cond_of part)) c.whole.ensures) ∙ c.if-not-is_prefix.true in
+    other-left same_cond (node c.args.all) xs (prefix_of c.args.prefix) (cond-pairs c.args.all) n w inside left
+    (cond_of part) (prefix_of c.in_ok-before.before) (cond_of c.in_ok-before.last.now) is c.in_ok-before.ensures other
+
+-- or with this one, and the others are left
+pub without-loop-place-preserved : goal.without-loop-place-preserved
+without-loop-place-preserved t c =
+    let parts = c.args.parts.now in
+    let xs = map cond_of parts in
+    let n = c.loop-place.place - 1 in
+    let there : c.loop-place.place ≡ suc n = omega (arith, c.loop-place-test.true) in
+    let short : n < length parts = omega (arith, c.loop-place-test.true, c.loop-place.auto.place) in
+    let inside : n < length xs = omega (arith, short, length-map parts cond_of) in
+    let w = prefix_of c.loop-place.left in
+    let left = subst (λ (m : ℕ). Left same_cond (node c.args.all) xs (prefix_of c.args.prefix) m w) there c.loop-place.invariant in
+    let part = c.index-parts-place.result in
+    let is : cond_of part ≡ get_or xs n (cond_of part) = ap cond_of c.index-parts-place.is ∙ sym (get_or-map cond_of parts n part (cond_of part) short) in
+    let one : same_cond (cond_of part) (cond_of c.in_ok-before.last.now) ≡ true = sym (c.is_prefix.ensures ∙ ap (same_cond (cond_of part)) c.whole.ensures) ∙ c.if-not-is_prefix.false in
+    less-left same_cond (node c.args.all) xs (prefix_of c.args.prefix) (cond-pairs c.args.all) n w inside left
+    (cond_of part) (prefix_of c.in_ok-before.before) (cond_of c.in_ok-before.last.now) is c.in_ok-before.ensures one

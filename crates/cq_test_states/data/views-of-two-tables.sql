@@ -1,0 +1,25 @@
+-- Queries that views answer, writes that wait, and views that REFRESH takes on.
+CREATE TABLE t(k INTEGER, a INTEGER);
+CREATE TABLE u(k INTEGER, b TEXT);
+COPY u FROM 'towns.csv';
+CREATE VIEW least AS SELECT k, MIN(a) AS m FROM t GROUP BY k;
+CREATE VIEW named AS SELECT u.b, SUM(t.a) AS s FROM t JOIN u ON t.k = u.k GROUP BY u.b;
+INSERT INTO t VALUES (1,5), (1,5), (2,9);
+MOVE t 2;
+SELECT x.k, MIN(x.a) FROM t x GROUP BY x.k ORDER BY 2 DESC;
+DELETE FROM t WHERE a = 5;
+UPDATE t SET k = 1, a = a + 1;
+REFRESH named 1;
+REFRESH least 2;
+SELECT k, MIN(a) FROM t WHERE a > 0 GROUP BY k;
+SELECT u.b, SUM(t.a) FROM t JOIN u ON u.k = t.k GROUP BY b;
+CREATE VIEW again AS SELECT k, MIN(a) AS m FROM t GROUP BY k;
+DROP VIEW least;
+INSERT INTO t VALUES (NULL,7);
+COPY u FROM 'none.csv';
+SELECT DISTINCT k, MIN(a) FROM t GROUP BY k LIMIT 1;
+MERGE t;
+DROP TABLE u;
+DROP VIEW named;
+DROP TABLE u;
+SELECT k, m FROM again;
