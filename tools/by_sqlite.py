@@ -49,7 +49,7 @@ def listed(rows, keys, limit):
 
 def said(text):
     """A statement as SQLite takes it. Totals of a column g are of any width."""
-    text = re.sub(r"EXTRACT\((\w+) FROM ([\w.]+)\)", lambda it: f"CAST(substr({it[2]}, {PARTS[it[1]]}) AS INTEGER)", text)
+    text = re.sub(r"EXTRACT\((\w+) FROM ([\w.]+|\w+\([\w.]+\))\)", lambda it: f"CAST(substr({it[2]}, {PARTS[it[1]]}) AS INTEGER)", text)
     return re.sub(r"SUM\((\w+\.g)\)", r"wide_sum(\1)", text.replace("DATE '", "'"))
 
 
