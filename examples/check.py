@@ -1,12 +1,13 @@
 #!/usr/bin/env python3
-"""Answers report.sql by sqlite over the same files, and compares the answers with report.out, line by line."""
+"""check.py NAME: answers examples/NAME/NAME.sql by sqlite over the same files, and compares the answers with NAME.out."""
 import csv
 import re
 import sqlite3
 import sys
 from pathlib import Path
 
-HERE = Path(__file__).parent
+NAME = sys.argv[1]
+HERE = Path(__file__).parent / NAME
 db = sqlite3.connect(":memory:")
 db.execute("PRAGMA case_sensitive_like = ON")
 
@@ -52,16 +53,18 @@ def answer(statement):
     statement = re.sub(r"EXTRACT\(MONTH FROM (\w+)\)", r"CAST(strftime('%m', \1) AS INTEGER)", statement)
     if words[0] == "SELECT":
         return select(statement)
-    count = db.execute(statement).rowcount
-    return [f"ok {count}" if words[0] in ("UPDATE", "DELETE") else "ok"]
+    if words[0] == "MOVE":
+        return ["ok"]
+    count = db.execute(statement.partition(" SORT BY ")[0]).rowcount
+    return [f"ok {count}" if words[0] in ("INSERT", "UPDATE", "DELETE") else "ok"]
 
 
-script = re.sub(r"--.*", "", (HERE / "report.sql").read_text("utf-8"))
+script = re.sub(r"--.*", "", (HERE / f"{NAME}.sql").read_text("utf-8"))
 lines = [line for piece in script.split(";") if piece.strip() for line in answer(" ".join(piece.split()))]
-told = (HERE / "report.out").read_text("utf-8").splitlines()
+told = (HERE / f"{NAME}.out").read_text("utf-8").splitlines()
 for number, (mine, theirs) in enumerate(zip(lines, told), 1):
     if mine != theirs:
-        print(f"line {number}: sqlite says {mine!r}, report.out {theirs!r}")
+        print(f"line {number}: sqlite says {mine!r}, {NAME}.out {theirs!r}")
 if lines != told:
-    sys.exit(f"sqlite gives {len(lines)} lines, report.out has {len(told)}: they differ")
+    sys.exit(f"sqlite gives {len(lines)} lines, {NAME}.out has {len(told)}: they differ")
 print(f"{len(lines)} lines, the same by sqlite")
