@@ -1,4 +1,5 @@
-"""Hostile files: each record in turn a bad one, fields without an end, very large files, and files that are none."""
+"""Hostile files: each record in turn a bad one, fields without an end, very large files, and files that are none; and more
+rows than are sorted at once."""
 import os
 import random
 import shutil
@@ -203,6 +204,23 @@ def random_files(count):
         yield Case(f"random file {number}, {file!r}, {columns}", script(columns), None, {"f.csv": file})
 
 
+def sorted_rows(count):
+    """Rows in any order, of which more are sorted than stand in one sorted vector, in front of a LIMIT and without one."""
+    of = random.Random("rows")
+    rows = [(of.randrange(1000), of.choice((None, of.randrange(10**6)))) for _ in range(count)]
+    file = "".join(f"{a},{told(b)}\n" for a, b in rows)
+    right = sorted(rows, key=lambda row: (-row[0], row[1] is None, row[1] or 0))
+    for most in (count - 1, count):
+        text = "".join(f"{a},{told(b)}\n" for a, b in right[:most])
+        limit = f" LIMIT {most}" if most < count else ""
+        query = f"CREATE TABLE t(a INTEGER, b INTEGER); COPY t FROM 'f.csv'; SELECT a, b FROM t ORDER BY a DESC, b{limit};"
+        yield Case(f"{most} of {count} rows sorted", query, f"ok\nok {count}\nrows {most}\na,b\n{text}", {"f.csv": file}, seconds=300)
+
+
+def told(value):
+    return "\\N" if value is None else str(value)
+
+
 def cases(is_few):
     for end in (b"\n", b"\r\n", b"\r"):
         yield from bad_records(end)
@@ -212,5 +230,6 @@ def cases(is_few):
     yield Unreadable("a file that nobody may read", script("a INTEGER"), refused(3), {"f.csv": closed})
     yield from random_files(100 if is_few else 2000)
     yield from large(GIGABYTE // 100 if is_few else GIGABYTE)
+    yield from sorted_rows(10_000 if is_few else 1_100_000)
     for cut in (0.001, 0.01, 0.02, 0.05, 0.1):
         yield Shrinking(f"a file that shrinks behind {cut} s", GIGABYTE // (100 if is_few else 5), cut)
