@@ -1,5 +1,4 @@
 pub mod AtKeys
-pub mod Different
 pub mod Ends
 pub mod GoesOn
 pub mod Leaving

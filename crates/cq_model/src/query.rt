@@ -28,13 +28,11 @@ pub struct Join {
     pub on: Seq<Equality>,
 }
 
-/// What a group shows of its rows. But for `CountAll` only values other than NULL count, and for `CountDistinct` each of
-/// them once.
+/// What a group shows of its rows. But for `CountAll` only values other than NULL count.
 #[derive(Debug, Drop)]
 pub enum Aggregate {
     CountAll,
     Count(Expr),
-    CountDistinct(Expr),
     Sum(Expr),
     Min(Expr),
     Max(Expr),

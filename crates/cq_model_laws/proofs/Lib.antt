@@ -1,5 +1,4 @@
 pub mod Chains
-pub mod DistinctValues
 pub mod Groups
 pub mod Counted
 pub mod Meanings

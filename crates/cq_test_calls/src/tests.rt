@@ -1,5 +1,4 @@
 //! A module for each thing that is called.
-mod aggregates;
 mod command_lines;
 mod conditions;
 mod dates;
@@ -14,4 +13,3 @@ mod records;
 mod results;
 mod statements;
 mod tokens;
-mod totals;

@@ -20,10 +20,9 @@ use std::io::{BufWriter, Write};
 use std::process::ExitCode;
 use std::{fs, io};
 
-const SCRIPTS: [&str; 12] = [
+const SCRIPTS: [&str; 11] = [
     "conditions.sql",
     "cores.sql",
-    "distinct-counts.sql",
     "groups.sql",
     "joins.sql",
     "joined-views.sql",

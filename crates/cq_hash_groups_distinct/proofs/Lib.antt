@@ -1,4 +1,0 @@
-pub mod ColumnPairs
-pub mod Counted
-pub mod KeyOf
-pub mod SetsPut
