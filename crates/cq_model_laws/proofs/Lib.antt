@@ -1,10 +1,4 @@
-pub mod Nulls
-pub mod Turns
-pub mod Costs
-pub mod JoinWorks
-pub mod JoinKinds
 pub mod Chains
-pub mod DistinctValues
 pub mod Groups
 pub mod Counted
 pub mod Meanings

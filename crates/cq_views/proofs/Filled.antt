@@ -1,7 +1,7 @@
 -- A state of a query that takes rows of tables in which are cut to its columns.
 use Rattle.std.proofs.Common.{◌≡◌, ◌∙◌, ◌<◌, ◌≤◌, Bool, IsTrue, false, ◌^◌, ℕ, List, [], ◌∷◌, ◌++◌, length, map, Option, Some, None, refl, sym, ap, subst, arith}
 use Rattle.std.proofs.lemmas.List.{map-append}
-use Rattle.std.specs.List.{AllByRecursion, AllZip}
+use Rattle.std.specs.List.{AllByRecursion}
 use Rattle.cq_values.specs.Value.{Row}
 use Rattle.cq_model_bags.proofs.Distincts.{once_each-map}
 use Rattle.cq_model_bags.proofs.Totals.{by_test}
@@ -13,18 +13,16 @@ use Rattle.cq_views_model.specs.Delta.{changed}
 use Rattle.cq_views.proofs.Bags.{cut-append, cut-bags, cut-none, cut-sizes, cut-stored}
 use Rattle.cq_views.proofs.Told.{start-wide}
 use Rattle.cq_views.proofs.Taking.{bags_at-bags, can-first, can-second, can-swapped, fills-none, fills-swapped, only-bags, spans-less}
-use Rattle.cq_views.specs.Cut.{IsFilled, cut_bags, cut_only, cut_table, cut_to, cut_widths, entry_of, width_at}
+use Rattle.cq_views.specs.Cut.{IsFilled, cut_bags, cut_only, cut_table, cut_to, cut_widths, entry_of}
 use Rattle.cq_views.specs.Filling.{CanFill, Fills, bags_at, only}
 use Rattle.cq_model_laws.proofs.Positives.{once_each-bag}
 use Rattle.cq_model.specs.Sources.{same_source}
 use Rattle.cq_model.specs.Group.{key_of}
-use Rattle.cq_model.specs.Meaning.{IsAsWide, Tables}
+use Rattle.cq_model.specs.Meaning.{Tables}
 use Rattle.cq_model.specs.Views.{sources_of}
-use Rattle.cq_model.specs.declared.query.Join.{Join}
 use Rattle.cq_model.specs.declared.query.Query.{Query}
 use Rattle.cq_model.specs.declared.query.Source.{Source}
-use Rattle.cq_plan.specs.Planned.{JoinsFit}
-use Rattle.cq_views_columns.specs.Narrow.{IsNarrowOf, JoinsAreWide, columns_at}
+use Rattle.cq_views_columns.specs.Narrow.{IsNarrowOf}
 use Rattle.cq_views_columns.specs.declared.columns.SourceColumns.{SourceColumns}
 use Rattle.cq_views_columns.specs.declared.narrow_query.NarrowQuery.{NarrowQuery}
 use Rattle.cq_table_columns.specs.declared.stored_source.StoredSource.{StoredSource}
@@ -152,16 +150,3 @@ module _ (query : Query) (widths : List ℕ) (narrow : NarrowQuery) (is : IsNarr
         few = subst (λ (ss : List Source). spans nothing (cut_bags columns tables) ss ≤ 2 ^ 122) (sym is.sources) few;
         stored = cut-hold tables start.stored;
       }
-
--- ---- rows with the columns alone that a query reads are as wide as its left joins say
-narrow-wide : (columns : List SourceColumns) (s : Source) → width_at columns s ≡ length (columns_at columns s)
-narrow-wide [] s = refl
-narrow-wide (x ∷ columns) s = by_test (same_source x.source s) (λ k. rw k refl) (λ k. rw k (narrow-wide columns s))
-
-narrow-joins : (columns : List SourceColumns) (js : List Join) → JoinsAreWide (λ s. length (columns_at columns s)) js
-    → AllZip (λ j wide. IsAsWide j.kind wide) js (map (width_at columns) (map (λ (j : Join). j.source) js))
-narrow-joins columns [] all = tt
-narrow-joins columns (j ∷ js) all = (subst (IsAsWide j.kind) (sym (narrow-wide columns j.source)) all.0, narrow-joins columns js all.1)
-
-pub narrow-fit : (columns : List SourceColumns) (q : Query) → JoinsAreWide (λ s. length (columns_at columns s)) q.joins → JoinsFit q.joins (cut_widths columns q)
-narrow-fit columns q all = narrow-joins columns q.joins all

@@ -1,13 +1,12 @@
 -- A view shows its query's bag on tables whose rows have the columns that it was told.
-use Rattle.std.proofs.Common.{◌≡◌, ◌∙◌, ℕ, ◌≤◌, List, [], ◌∷◌, map, max, sym, ap, subst, arith}
+use Rattle.std.proofs.Common.{◌≡◌, ◌∙◌, ℕ, ◌≤◌, List, [], ◌∷◌, map, sym, ap, subst, arith}
 use Rattle.std.proofs.lemmas.Nat.{mul-le}
 use Rattle.std.specs.List.{AllByRecursion}
 use Rattle.cq_values.specs.Value.{Row}
 use Rattle.cq_model_bags.proofs.Bags.{same-refl}
 use Rattle.cq_model_bags.specs.Bag.{SameBag, Weighted, once_each}
-use Rattle.cq_deltas_joins.specs.LeftLimits.{ArePositive}
 use Rattle.cq_deltas_joins.specs.Steps.{AreStored}
-use Rattle.cq_views.proofs.Bags.{cut-bags, cut-positive, cut-sizes, cut-stored}
+use Rattle.cq_views.proofs.Bags.{cut-bags, cut-sizes, cut-stored}
 use Rattle.cq_views.proofs.Sources.{entries-read}
 use Rattle.cq_views.specs.Cut.{cut_bags, entry_of}
 use Rattle.cq_views.specs.Shown.{AreRowsOf, CanShow, IsNotShown, IsShown, Suits}
@@ -31,7 +30,7 @@ use Rattle.cq_model_bags.proofs.Lists.{all-weaker}
 crossed-less : (tables others : Tables) → ((s : Source) → sizes (tables s) ≤ sizes (others s)) → (sources : List Source) → crossed tables sources ≤ crossed others sources
 crossed-less tables others less [] = omega arith
 crossed-less tables others less (s ∷ sources) =
-    mul-le (max 1 (sizes (tables s))) (crossed tables sources) (max 1 (sizes (others s))) (crossed others sources) (omega (arith, less s)) (crossed-less tables others less sources)
+    mul-le (sizes (tables s)) (crossed tables sources) (sizes (others s)) (crossed others sources) (less s) (crossed-less tables others less sources)
 
 module _ (v : KeptView) where
   -- the state shows what the view can show
@@ -42,12 +41,10 @@ module _ (v : KeptView) where
       let less = crossed-less cut can.tables (λ s. cut-sizes (entry_of v.columns s) (can.tables s)) (sources_of v.query) in
       let few : crossed cut (sources_of v.query) ≤ count_size = omega (arith, less, can.few) in
       let stored = all-weaker (λ s. AreStored (can.tables s)) (λ s. AreStored (cut s)) (λ s h. cut-stored (entry_of v.columns s) (can.tables s) h) (sources_of v.query) can.stored in
-      let positive = all-weaker (λ s. ArePositive (can.tables s)) (λ s. ArePositive (cut s)) (λ s h. cut-positive (entry_of v.columns s) (can.tables s) h) (sources_of v.query) can.positive in
       record {
         can = is.kept can.can;
         tables = cut;
         stands = can.stands.rows;
-        positive = subst (λ (ss : List Source). AllByRecursion (λ s. ArePositive (cut s)) ss) (sym is.sources) positive;
         few = subst (λ (ss : List Source). crossed cut ss ≤ count_size) (sym is.sources) few;
         stored = subst (λ (ss : List Source). AllByRecursion (λ s. AreStored (cut s)) ss) (sym is.sources) stored;
         bags = cut-bags v.columns can.tables can.bags;

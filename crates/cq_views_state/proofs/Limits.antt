@@ -1,24 +1,21 @@
 -- Joined rows and what changes add to them are few where the sources are, and stored.
-use Rattle.std.proofs.Common.{ℕ, ◌+◌, ◌*◌, ◌≤◌, ◌^◌, max, Bool, List, [], ◌∷◌, map, arith}
+use Rattle.std.proofs.Common.{ℕ, ◌+◌, ◌*◌, ◌≤◌, ◌^◌, Bool, List, [], ◌∷◌, map, arith}
 use Rattle.std.proofs.Math.Nat.{mul_assoc}
 use Rattle.std.proofs.lemmas.Nat.{mul-le}
 use Rattle.std.specs.List.{AllByRecursion}
 use Rattle.cq_values.specs.Value.{Row}
-use Rattle.cq_model_bags.specs.Bag.{Weighted, SameBag, filtered}
+use Rattle.cq_model_bags.specs.Bag.{Weighted, SameBag, filtered, joined}
+use Rattle.cq_model_bags.specs.Join.{join_change}
 use Rattle.cq_model_bags.specs.Size.{IsClean}
-use Rattle.cq_views_model.specs.Delta.{chain_change, change_by}
-use Rattle.cq_model.specs.Meaning.{Tables, chain, joined_by, joined_rows, keeps, meets}
+use Rattle.cq_views_model.specs.Delta.{chain_change}
+use Rattle.cq_model.specs.Meaning.{Tables, chain, joined_rows, keeps, meets}
 use Rattle.cq_model.specs.Views.{sources_of}
 use Rattle.cq_model.specs.declared.query.Join.{Join}
-use Rattle.cq_model.specs.declared.query.JoinKind.{JoinKind}
-use Rattle.cq_model.specs.declared.query.JoinKind.TheVariants.{Inner, Left}
 use Rattle.cq_model.specs.declared.query.Query.{Query}
-use Rattle.cq_deltas_joins.proofs.LeftSizes.{left_join-within}
 use Rattle.cq_deltas_joins.proofs.Limits.{join_within-product}
-use Rattle.cq_deltas_joins.specs.LeftLimits.{ArePositive}
 use Rattle.cq_sides_weights.specs.Held.{sizes}
-use Rattle.cq_deltas_joins.proofs.Spans.{kind-span, sizes-filtered, sizes-passing}
-use Rattle.cq_deltas_joins.proofs.Storing.{kind-stored, stored-filtered}
+use Rattle.cq_deltas_joins.proofs.Spans.{join-span, sizes-filtered, sizes-passing}
+use Rattle.cq_deltas_joins.proofs.Storing.{stored-filtered, stored-joined}
 use Rattle.cq_deltas_joins.specs.Chains.{spans}
 use Rattle.cq_deltas_joins.specs.Steps.{AreStored, span}
 use Rattle.cq_views_state.specs.State.{HoldStored, crossed}
@@ -32,37 +29,29 @@ chain-span tables changes xs dxs (j ∷ js) =
     let ys = tables j.source in
     let dys = changes j.source in
     let n = spans tables changes (map (λ j. j.source) js) in
-    let next = joined_by j.kind on xs ys in
-    let add = change_by j.kind on xs dxs ys dys in
-    let rest = chain-span tables changes next add js in
-    let here = kind-span j.kind on xs dxs ys dys in
+    let rest = chain-span tables changes (joined on xs ys) (join_change on xs dxs ys dys) js in
+    let here = join-span on xs dxs ys dys in
     let whole = mul_assoc (span xs dxs) (span ys dys) n in
-    omega (arith, rest, whole, mul-le (span next add) n (span xs dxs * span ys dys) n here (omega arith))
+    omega (arith, rest, whole, mul-le (span (joined on xs ys) (join_change on xs dxs ys dys)) n (span xs dxs * span ys dys) n here (omega arith))
 
--- a join is within the product of both sides, of which the right one counts as one row at least
-kind-crossed : (kind : JoinKind) (on : Row → Row → Bool) (xs ys : Weighted) → ArePositive ys → sizes (joined_by kind on xs ys) ≤ sizes xs * max 1 (sizes ys)
-kind-crossed Inner on xs ys p = omega (arith, join_within-product on xs ys, mul-le (sizes xs) (sizes ys) (sizes xs) (max 1 (sizes ys)) (omega arith) (omega arith))
-kind-crossed (Left width) on xs ys p = left_join-within on width xs ys p
-
--- so is a chain
-chain-crossed : (tables : Tables) (xs : Weighted) (js : List Join) → AllByRecursion (λ s. ArePositive (tables s)) (map (λ j. j.source) js)
+-- a chain is within the product of the sizes
+chain-crossed : (tables : Tables) (xs : Weighted) (js : List Join)
     → sizes (chain tables xs js) ≤ sizes xs * crossed tables (map (λ j. j.source) js)
-chain-crossed tables xs [] positive = omega arith
-chain-crossed tables xs (j ∷ js) positive =
+chain-crossed tables xs [] = omega arith
+chain-crossed tables xs (j ∷ js) =
     let on = meets j.on in
     let ys = tables j.source in
     let n = crossed tables (map (λ j. j.source) js) in
-    let next = joined_by j.kind on xs ys in
-    let rest = chain-crossed tables next js positive.1 in
-    let whole = mul_assoc (sizes xs) (max 1 (sizes ys)) n in
-    omega (arith, rest, whole, mul-le (sizes next) n (sizes xs * max 1 (sizes ys)) n (kind-crossed j.kind on xs ys positive.0) (omega arith))
+    let rest = chain-crossed tables (joined on xs ys) js in
+    let whole = mul_assoc (sizes xs) (sizes ys) n in
+    omega (arith, rest, whole, mul-le (sizes (joined on xs ys)) n (sizes xs * sizes ys) n (join_within-product on xs ys) (omega arith))
 
 -- a chain of stored rows is stored
 stored-chain : (tables : Tables) (xs : Weighted) (js : List Join) → AreStored xs → AllByRecursion (λ s. AreStored (tables s)) (map (λ j. j.source) js)
     → AreStored (chain tables xs js)
 stored-chain tables xs [] stored all = stored
 stored-chain tables xs (j ∷ js) stored all =
-    stored-chain tables (joined_by j.kind (meets j.on) xs (tables j.source)) js (kind-stored j.kind (meets j.on) xs (tables j.source) stored all.0) all.1
+    stored-chain tables (joined (meets j.on) xs (tables j.source)) js (stored-joined (meets j.on) xs (tables j.source) stored all.0) all.1
 
 module _ (query : Query) where
   -- the joined rows, before WHERE
@@ -70,17 +59,9 @@ module _ (query : Query) where
   all_rows tables = chain tables (tables query.first) query.joins
 
   -- those that WHERE keeps are no more than the sources' rows, multiplied
-  pub rows-crossed : (tables : Tables) (most : ℕ) → AllByRecursion (λ s. ArePositive (tables s)) (sources_of query) → crossed tables (sources_of query) ≤ most → sizes (joined_rows query tables) ≤ most
-  rows-crossed tables most positive few =
-      let n = crossed tables (map (λ j. j.source) query.joins) in
-      let first = tables query.first in
-      omega (
-        arith,
-        few,
-        sizes-filtered (keeps query.filter) (all_rows tables),
-        chain-crossed tables first query.joins positive.1,
-        mul-le (sizes first) n (max 1 (sizes first)) n (omega arith) (omega arith),
-      )
+  pub rows-crossed : (tables : Tables) (most : ℕ) → crossed tables (sources_of query) ≤ most → sizes (joined_rows query tables) ≤ most
+  rows-crossed tables most few =
+      omega (arith, few, sizes-filtered (keeps query.filter) (all_rows tables), chain-crossed tables (tables query.first) query.joins)
 
   -- and stored where these are
   pub rows-stored : (tables : Tables) → HoldStored query tables → AreStored (joined_rows query tables)

@@ -91,7 +91,7 @@ module _ (v : ViewState) (can : CanShow v) where
   on-stored = record {
     xs = joined_rows v.query can.tables;
     stands = can.stands.last;
-    few = rows-crossed v.query can.tables count_size can.positive can.few;
+    few = rows-crossed v.query can.tables count_size can.few;
     stored = rows-stored v.query can.tables can.stored;
     bag = joined_rows-bag v.query can.tables can.bags;
   }

@@ -1,6 +1,5 @@
 -- What a view shows: the bag of its query, or that a total is too large to show.
 use Rattle.std.specs.Prelude.{◌≡◌, ◌≤◌, Bool, true, false, if◌then◌else◌, ℤ, List, [], ◌∷◌, ◌++◌, None, Some}
-use Rattle.std.specs.List.{AllByRecursion}
 use Rattle.cq_values.specs.Value.{Row}
 use Rattle.cq_model_bags.specs.Bag.{SameBag, Weighted, IsBag, once_each}
 use Rattle.cq_model.specs.Group.{group_row}
@@ -12,7 +11,6 @@ use Rattle.cq_model.specs.declared.query.Query.{Query}
 use Rattle.cq_model.specs.declared.query.Shape.{Shape}
 use Rattle.cq_model.specs.declared.query.Shape.TheVariants.{Plain, Grouped}
 use Rattle.cq_sides_weights.specs.Held.{sizes}
-use Rattle.cq_deltas_joins.specs.LeftLimits.{ArePositive}
 use Rattle.cq_deltas_joins.specs.Steps.{AreStored}
 use Rattle.cq_deltas.specs.Keyed.{KeyedGroups, group_at}
 use Rattle.cq_model.specs.declared.fault.ShowFault.{ShowFault}
@@ -89,7 +87,6 @@ pub record CanShowBags (query : Query) (standing : Tables → Type 0) : Type 0 w
   pub can : CanBeKept query
   pub tables : Tables
   pub stands : standing tables
-  pub positive : AllByRecursion (λ s. ArePositive (tables s)) (sources_of query)
   pub few : crossed tables (sources_of query) ≤ count_size
   pub stored : HoldStored query tables
   pub bags : AreBags tables

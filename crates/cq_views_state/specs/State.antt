@@ -1,5 +1,5 @@
 -- A view as it is kept, the tables that it stands for, and what changes of them do.
-use Rattle.std.specs.Prelude.{◌≡◌, ◌≤◌, ◌+◌, ◌*◌, ◌^◌, max, ℕ, List, [], ◌∷◌, ◌++◌, map}
+use Rattle.std.specs.Prelude.{◌≡◌, ◌≤◌, ◌+◌, ◌*◌, ◌^◌, ℕ, List, [], ◌∷◌, ◌++◌, map}
 use Rattle.std.specs.List.{AllByRecursion, AllZip}
 use Rattle.cq_model_bags.specs.Bag.{Weighted, SameBag, IsBag}
 use Rattle.cq_views_model.specs.Delta.{changed}
@@ -44,10 +44,10 @@ AreBags tables = (source : Source) → IsBag (tables source)
 abbrev pub HoldStored : Query → Tables → Type 0
 HoldStored query tables = AllByRecursion (λ s. AreStored (tables s)) (sources_of query)
 
--- the sizes of the sources' rows, each counted as one row at least, multiplied: a join of them has no more rows
+-- the sizes of the sources' rows, multiplied: a join of them has no more rows
 abbrev pub crossed : Tables → List Source → ℕ
 crossed tables [] = 1
-crossed tables (source ∷ sources) = max 1 (sizes (tables source)) * crossed tables sources
+crossed tables (source ∷ sources) = sizes (tables source) * crossed tables sources
 
 -- a query that is kept, over stored rows, not too many of them
 pub record CanStart (query : Query) (tables : Tables) : Type 0 where

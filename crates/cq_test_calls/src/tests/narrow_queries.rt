@@ -1,7 +1,5 @@
 //! A query on narrower rows: which columns are left, and where its own are then.
-use cq_model::{
-    Aggregate, Cond, CondTree, Equality, Expr, ExprTree, Join, JoinKind, Query, Shape, Source,
-};
+use cq_model::{Aggregate, Cond, CondTree, Equality, Expr, ExprTree, Join, Query, Shape, Source};
 use cq_values::Seq;
 use cq_views_columns::NarrowQuery;
 use std::alloc::{AllocError, Global};
@@ -10,11 +8,7 @@ use std::test::Fail;
 fn join(alloc: Global, source: Source, left: usize, right: usize) -> Result<Join, AllocError> {
     let mut on = Seq::new(alloc);
     on.push(Equality { left, right })?;
-    Ok(Join {
-        kind: JoinKind::Inner,
-        source,
-        on,
-    })
+    Ok(Join { source, on })
 }
 
 /// Table 0 as `a` and as `b`, and table 1 as `c`, by `a.2 = b.0` and `a.0 = c.1`.

@@ -7,9 +7,7 @@ ghost use Rattle.cq_hash_groups.specs.Exact.{IsExactFor};
 ghost use Rattle.cq_plan.specs.Chain.{HaveValues};
 ghost use Rattle.cq_test_queries.specs.Opened.{IsOpenTo};
 
-use cq_model::{
-    Aggregate, Cond, CondTree, Equality, Expr, ExprTree, Join, JoinKind, Query, Shape, Source,
-};
+use cq_model::{Aggregate, Cond, CondTree, Equality, Expr, ExprTree, Join, Query, Shape, Source};
 use cq_values::{Comparison, Row, Seq, Value, both};
 use std::alloc::{AllocError, Global};
 
@@ -96,7 +94,6 @@ fn join_by_the_first(alloc: Global) -> Result<Seq<Join>, AllocError>
     on.push(Equality { left: 0, right: 0 })?;
     let mut joins = Seq::new(alloc);
     joins.push(Join {
-        kind: JoinKind::Inner,
         source: Source::Table(1),
         on,
     })?;
