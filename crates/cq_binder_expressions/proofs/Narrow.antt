@@ -205,6 +205,7 @@ module _ (s : Scope) (sizes : ℕ → ℕ) (full : List Shown) (kept : KeepShown
   -- and what it tells is no larger than its typing says
   aggregate_within : (function : AggregateFunction) (a : Written) (x y : Typing) → typed (rows_in s) a ≡ Ok x → aggregated function x ≡ Ok y → aggregate_size (size_at s.columns) (aggregate_of function (placed_expr (rows_in s) [] a)) ≤ y.size
   aggregate_within functions.Count a x y e k = omega (arith, ap {B = ℕ} (λ (z : Typing). z.size) (unless_ok (is_value x.kind) TypeMismatch counted y k).1)
+  aggregate_within functions.CountDistinct a x y e k = omega (arith, ap {B = ℕ} (λ (z : Typing). z.size) (unless_ok (is_value x.kind) TypeMismatch counted y k).1)
   aggregate_within functions.Sum a x y e k = omega (arith, ap {B = ℕ} (λ (z : Typing). z.size) (unless_ok (is_of types.Integer x.kind) TypeMismatch (value_of types.Integer (2 ^ 127)) y k).1)
   aggregate_within functions.Min a x y e k =
       omega (arith, (narrow_over_rows s.columns [] a x (size_at s.columns) e (rows_keep s.columns)).size, ap {B = ℕ} (λ (z : Typing). z.size) (unless_ok (is_value x.kind) TypeMismatch x y k).1)
@@ -228,6 +229,7 @@ typed_is_narrow s before more w t sizes e kept shown_kept =
 -- ---- Arguments
 argument_narrow : (function : AggregateFunction) (sizes : ℕ → ℕ) (e : Expr) → widest sizes e < 2 ^ 127 → IsArgumentNarrow sizes (aggregate_of function e)
 argument_narrow functions.Count sizes e narrow = narrow
+argument_narrow functions.CountDistinct sizes e narrow = narrow
 argument_narrow functions.Sum sizes e narrow = narrow
 argument_narrow functions.Min sizes e narrow = narrow
 argument_narrow functions.Max sizes e narrow = narrow

@@ -261,6 +261,7 @@ fn aggregate_of(function: AggregateFunction, argument: Expr) -> Aggregate
 {
     match function {
         AggregateFunction::Count => Aggregate::Count(argument),
+        AggregateFunction::CountDistinct => Aggregate::CountDistinct(argument),
         AggregateFunction::Sum => Aggregate::Sum(argument),
         AggregateFunction::Min => Aggregate::Min(argument),
         AggregateFunction::Max => Aggregate::Max(argument),

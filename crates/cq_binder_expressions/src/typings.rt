@@ -116,21 +116,23 @@ pub fn counted() -> Typing
     value_of(Ty::Integer, COUNT_SIZE)
 }
 
-/// An aggregate of an argument: COUNT asks for a value, and SUM for a number; MIN and MAX give a value of the rows.
+/// An aggregate of an argument: COUNT asks for a value, with DISTINCT or without, and SUM for a number; MIN and MAX give
+/// a value of the rows.
 pub fn aggregated(function: AggregateFunction, x: Typing) -> Result<Typing, Fault>
     ensures { result ≡ aggregated function x }
 {
     let fits = match function {
         AggregateFunction::Sum => is_of(Ty::Integer, x.kind),
-        AggregateFunction::Count | AggregateFunction::Min | AggregateFunction::Max => {
-            is_value(x.kind)
-        }
+        AggregateFunction::Count
+        | AggregateFunction::CountDistinct
+        | AggregateFunction::Min
+        | AggregateFunction::Max => is_value(x.kind),
     };
     if !fits {
         return Err(Fault::TypeMismatch);
     }
     Ok(match function {
-        AggregateFunction::Count => counted(),
+        AggregateFunction::Count | AggregateFunction::CountDistinct => counted(),
         AggregateFunction::Sum => value_of(Ty::Integer, TOO_WIDE),
         AggregateFunction::Min | AggregateFunction::Max => x,
     })

@@ -75,6 +75,7 @@ arithmetic_clean x y size = branch_clean _ (number_of size) (Err faults.TypeMism
 
 aggregated_clean : (function : AggregateFunction) (x : Typing) → fails_by_source (aggregated function x) ≡ false
 aggregated_clean functions.Count x = unless_clean _ faults.TypeMismatch _ refl
+aggregated_clean functions.CountDistinct x = unless_clean _ faults.TypeMismatch _ refl
 aggregated_clean functions.Sum x = unless_clean _ faults.TypeMismatch _ refl
 aggregated_clean functions.Min x = unless_clean _ faults.TypeMismatch _ refl
 aggregated_clean functions.Max x = unless_clean _ faults.TypeMismatch _ refl

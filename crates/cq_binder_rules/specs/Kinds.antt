@@ -114,9 +114,10 @@ connected x y = unless (is_condition x.kind && is_condition y.kind) TypeMismatch
 abbrev pub counted : Typing
 counted = value_of types.Integer count_size
 
--- COUNT asks for a value, and SUM for a number; MIN and MAX give a value of the rows
+-- COUNT, also with DISTINCT, asks for a value, and SUM for a number; MIN and MAX give a value of the rows
 abbrev pub aggregated : AggregateFunction → Typing → Result Typing Fault
 aggregated functions.Count x = unless (is_value x.kind) TypeMismatch counted
+aggregated functions.CountDistinct x = unless (is_value x.kind) TypeMismatch counted
 aggregated functions.Sum x = unless (is_of types.Integer x.kind) TypeMismatch (value_of types.Integer number_limit)
 aggregated functions.Min x = unless (is_value x.kind) TypeMismatch x
 aggregated functions.Max x = unless (is_value x.kind) TypeMismatch x

@@ -26,6 +26,7 @@ written_number n = if nat_lt n number_limit then values.Number (pos n) else valu
 -- an aggregate of an argument's values
 abbrev pub aggregate_of : AggregateFunction → Expr → Shown
 aggregate_of functions.Count e = shown.Count e
+aggregate_of functions.CountDistinct e = shown.CountDistinct e
 aggregate_of functions.Sum e = shown.Sum e
 aggregate_of functions.Min e = shown.Min e
 aggregate_of functions.Max e = shown.Max e

@@ -2,9 +2,9 @@
 use Rattle.std.specs.Prelude.{◌≡◌, ◌≤◌, ℕ, List, ◌++◌, codes}
 use Rattle.std.specs.Str.Parse.{IsNumeral, digits_value}
 
--- digits alone, and their number is from 1 to 16,777,216
+-- digits alone, and their number is from 1 to 1,073,741,824
 abbrev pub IsLimit : List ℕ → Type 0
-IsLimit text = IsNumeral 10 text × (1 ≤ digits_value 10 text) × (digits_value 10 text ≤ 16777216)
+IsLimit text = IsNumeral 10 text × (1 ≤ digits_value 10 text) × (digits_value 10 text ≤ 1073741824)
 
 -- the text is a limit, and this is its number
 abbrev pub IsLimitOf : List ℕ → ℕ → Type 0

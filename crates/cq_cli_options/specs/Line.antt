@@ -19,12 +19,12 @@ dir = record (new_rule (codes "DIR")) {
   parser = Some NonEmptyString;
 }
 
--- the option `--max-rows N`, a number in range, and by default the greatest
+-- the option `--max-rows N`, a number in range, and by default 16,777,216
 abbrev pub max_rows : Rule
 max_rows = record (new_rule (codes "N")) {
   long = Some (codes "max-rows");
   defaults = codes "16777216" ∷ [];
-  parser = Some (Unsigned 1 16777216);
+  parser = Some (Unsigned 1 1073741824);
 }
 
 -- the subcommand `run`

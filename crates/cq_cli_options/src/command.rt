@@ -16,14 +16,14 @@ const SCRIPT: &str = "The file of the script: statements, each ended by ';'";
 
 const DIR: &str = "The folder of the files that the script reads";
 
-const N: &str = "The most rows that a table may have, from 1 to 16777216";
+const N: &str = "The most rows that a table may have, from 1 to 1073741824";
 
 const EXAMPLE: &str = "Example:\n  colview run orders.sql --dir data --max-rows 1000";
 
 const RUN_IN_SHORT: &str = "Arguments of run:
   <SCRIPT>        The file of the script: statements, each ended by ';'
   --dir <DIR>     The folder of the files that the script reads [default: .]
-  --max-rows <N>  The most rows that a table may have, from 1 to 16777216 [default: 16777216]
+  --max-rows <N>  The most rows that a table may have, from 1 to 1073741824 [default: 16777216]
 
 Example:
   colview run orders.sql --dir data --max-rows 1000";

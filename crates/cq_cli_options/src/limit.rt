@@ -6,8 +6,8 @@ ghost use Rattle.cq_cli_options.specs.Limit.{IsLimit, limit_refusal};
 
 use std::alloc::{AllocError, Global};
 
-/// The most that N may be, and what it is where it is not given.
-pub(crate) const MOST: u64 = 16_777_216;
+/// The most that N may be.
+pub(crate) const MOST: u64 = 1_073_741_824;
 
 /// The number that these digits stand for, where it is a limit.
 pub(crate) fn limit_of(text: &str) -> Option<u64>

@@ -1,4 +1,5 @@
 pub mod AtKeys
+pub mod Different
 pub mod Ends
 pub mod GoesOn
 pub mod Leaving

@@ -10,7 +10,7 @@ use Rattle.cq_model_bags.proofs.Totals.{is_row, total-same}
 use Rattle.cq_model_bags.proofs.Linears.{weight_of-projected}
 use Rattle.cq_model_bags.proofs.Entries.{weighed, bag-entries, image-there}
 use Rattle.cq_model.specs.declared.query.Aggregate.{Aggregate}
-use Rattle.cq_model.specs.declared.query.Aggregate.TheVariants.{CountAll, Count, Sum, Min, Max}
+use Rattle.cq_model.specs.declared.query.Aggregate.TheVariants.{CountAll, Count, CountDistinct, Sum, Min, Max}
 use Rattle.cq_model.specs.Eval.{eval}
 use Rattle.cq_model.specs.Group.{count_all}
 use Rattle.cq_views_model.specs.Kept.{AreKept, GroupStands, group_of, kept_of}
@@ -34,6 +34,7 @@ all_kept-empty [] xs s = tt
 all_kept-empty (CountAll ∷ aggregates) xs s = (count_all-respects [] xs s, all_kept-empty aggregates xs s)
 all_kept-empty (Count e ∷ aggregates) xs s = (count-respects e [] xs s, all_kept-empty aggregates xs s)
 all_kept-empty (Sum e ∷ aggregates) xs s = ((count-respects e [] xs s, sum-respects e [] xs s), all_kept-empty aggregates xs s)
+all_kept-empty (CountDistinct e ∷ aggregates) xs s = (projected-respects (λ r. eval e r ∷ []) [] xs s, all_kept-empty aggregates xs s)
 all_kept-empty (Min e ∷ aggregates) xs s = (projected-respects (λ r. eval e r ∷ []) [] xs s, all_kept-empty aggregates xs s)
 all_kept-empty (Max e ∷ aggregates) xs s = (projected-respects (λ r. eval e r ∷ []) [] xs s, all_kept-empty aggregates xs s)
 

@@ -13,7 +13,7 @@ use Rattle.cq_model_bags.proofs.Linears.{filtered-append, projected-append}
 use Rattle.cq_model_bags.proofs.Totals.{by_test, total-append}
 use Rattle.cq_model.specs.Expr.{Expr}
 use Rattle.cq_model.specs.declared.query.Aggregate.{Aggregate}
-use Rattle.cq_model.specs.declared.query.Aggregate.TheVariants.{CountAll, Count, Sum, Min, Max}
+use Rattle.cq_model.specs.declared.query.Aggregate.TheVariants.{CountAll, Count, CountDistinct, Sum, Min, Max}
 use Rattle.cq_model.specs.Condition.{is_null}
 use Rattle.cq_model.specs.Eval.{eval}
 use Rattle.cq_model.specs.Group.{addend, count_all, count_values, sum_values, value_bag, key_of, rows_of_key}
@@ -86,6 +86,7 @@ module _ (r : Row) (w : ℤ) (xs : Weighted) where
       one = omega (arith, ints)
   kept-one (Count e) (Counted n) h = counted-one e n h
   kept-one (Sum e) (Totalled n total) h = totalled-one e n total h.0 h.1
+  kept-one (CountDistinct e) (Listed values) h = listed-one e values h
   kept-one (Min e) (Listed values) h = listed-one e values h
   kept-one (Max e) (Listed values) h = listed-one e values h
   kept-one CountAll (Totalled n total) h = absurd h
@@ -94,6 +95,8 @@ module _ (r : Row) (w : ℤ) (xs : Weighted) where
   kept-one (Count e) (Listed values) h = absurd h
   kept-one (Sum e) (Counted n) h = absurd h
   kept-one (Sum e) (Listed values) h = absurd h
+  kept-one (CountDistinct e) (Counted n) h = absurd h
+  kept-one (CountDistinct e) (Totalled n total) h = absurd h
   kept-one (Min e) (Counted n) h = absurd h
   kept-one (Min e) (Totalled n total) h = absurd h
   kept-one (Max e) (Counted n) h = absurd h

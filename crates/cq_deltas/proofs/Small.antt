@@ -5,7 +5,7 @@ use Rattle.std.proofs.lemmas.Int.{ints}
 use Rattle.cq_values.specs.Value.{Row}
 use Rattle.cq_model_bags.specs.Bag.{Weighted}
 use Rattle.cq_model.specs.declared.query.Aggregate.{Aggregate}
-use Rattle.cq_model.specs.declared.query.Aggregate.TheVariants.{CountAll, Count, Sum, Min, Max}
+use Rattle.cq_model.specs.declared.query.Aggregate.TheVariants.{CountAll, Count, CountDistinct, Sum, Min, Max}
 use Rattle.cq_model.specs.Group.{rows_of_key, InRange, SumInRange}
 use Rattle.cq_views_model.specs.Kept.{Kept, Counted, Totalled, Listed, IsKept, AreKept, Group, GroupStands, group_of, kept_of}
 use Rattle.cq_deltas.specs.Additions.{Addition}
@@ -24,6 +24,7 @@ alike-holds : (counts totals : ℕ) (a : Aggregate) (xs : Weighted) (k l : Kept)
 alike-holds counts totals CountAll xs (Counted n) (Counted m) g h holds = rw (h ∙ sym g) holds
 alike-holds counts totals (Count e) xs (Counted n) (Counted m) g h holds = rw (h ∙ sym g) holds
 alike-holds counts totals (Sum e) xs (Totalled n t) (Totalled m s) g h holds = (rw (h.0 ∙ sym g.0) holds.0, rw (h.1 ∙ sym g.1) holds.1)
+alike-holds counts totals (CountDistinct e) xs (Listed vs) (Listed ws) g h holds = λ v. rw (h.at (alone v) ∙ sym (g.at (alone v))) (holds v)
 alike-holds counts totals (Min e) xs (Listed vs) (Listed ws) g h holds = λ v. rw (h.at (alone v) ∙ sym (g.at (alone v))) (holds v)
 alike-holds counts totals (Max e) xs (Listed vs) (Listed ws) g h holds = λ v. rw (h.at (alone v) ∙ sym (g.at (alone v))) (holds v)
 alike-holds counts totals CountAll xs (Counted n) (Totalled m s) g h holds = absurd h
@@ -38,6 +39,10 @@ alike-holds counts totals (Sum e) xs (Totalled n t) (Counted m) g h holds = absu
 alike-holds counts totals (Sum e) xs (Totalled n t) (Listed ws) g h holds = absurd h
 alike-holds counts totals (Sum e) xs (Counted n) l g h holds = absurd g
 alike-holds counts totals (Sum e) xs (Listed vs) l g h holds = absurd g
+alike-holds counts totals (CountDistinct e) xs (Listed vs) (Counted m) g h holds = absurd h
+alike-holds counts totals (CountDistinct e) xs (Listed vs) (Totalled m s) g h holds = absurd h
+alike-holds counts totals (CountDistinct e) xs (Counted n) l g h holds = absurd g
+alike-holds counts totals (CountDistinct e) xs (Totalled n t) l g h holds = absurd g
 alike-holds counts totals (Min e) xs (Listed vs) (Counted m) g h holds = absurd h
 alike-holds counts totals (Min e) xs (Listed vs) (Totalled m s) g h holds = absurd h
 alike-holds counts totals (Min e) xs (Counted n) l g h holds = absurd g
@@ -68,6 +73,7 @@ nothing-holds counts totals [] x y = tt
 nothing-holds counts totals (CountAll ∷ aggregates) x y = (omega (arith, ints, x), nothing-holds counts totals aggregates x y)
 nothing-holds counts totals (Count e ∷ aggregates) x y = (omega (arith, ints, x), nothing-holds counts totals aggregates x y)
 nothing-holds counts totals (Sum e ∷ aggregates) x y = ((omega (arith, ints, x), omega (arith, ints, y)), nothing-holds counts totals aggregates x y)
+nothing-holds counts totals (CountDistinct e ∷ aggregates) x y = (λ v. omega (arith, ints, x), nothing-holds counts totals aggregates x y)
 nothing-holds counts totals (Min e ∷ aggregates) x y = (λ v. omega (arith, ints, x), nothing-holds counts totals aggregates x y)
 nothing-holds counts totals (Max e ∷ aggregates) x y = (λ v. omega (arith, ints, x), nothing-holds counts totals aggregates x y)
 
@@ -93,6 +99,7 @@ range-shown (Sum e) xs (Counted n) h = absurd h
 range-shown (Sum e) xs (Listed values) h = absurd h
 range-shown CountAll xs k h = (λ can. tt, λ can. tt)
 range-shown (Count e) xs k h = (λ can. tt, λ can. tt)
+range-shown (CountDistinct e) xs k h = (λ can. tt, λ can. tt)
 range-shown (Min e) xs k h = (λ can. tt, λ can. tt)
 range-shown (Max e) xs k h = (λ can. tt, λ can. tt)
 

@@ -24,7 +24,7 @@ use Rattle.cq_deltas.specs.Extremes.{AreCounts, HasRoom, Held, IsAdded, IsGone, 
 use Rattle.cq_deltas.proofs.Lookups.{Entries, listed, null-weight, value-weight, is_value, alone_cmp, same_alone, value-same, value-itself, null-last, null-after, some-none, at-first, at-rest, first-count, all-looked_up, zero-weight, found-room, room-found, no-entry}
 use Rattle.cq_model.proofs.Conditions.{null-value}
 
-by_order : {P : Type 0} (o : Ordering) → (o ≡ Less → P) → (o ≡ Equal → P) → (o ≡ Greater → P) → P
+pub by_order : {P : Type 0} (o : Ordering) → (o ≡ Less → P) → (o ≡ Equal → P) → (o ≡ Greater → P) → P
 by_order Less f g h = f refl
 by_order Equal f g h = g refl
 by_order Greater f g h = h refl
@@ -81,7 +81,7 @@ before-nonzero P [] h = h
 before-nonzero P (x ∷ xs) h = by_test (int_eq x.1 (pos 0)) (λ z. rw z (before-nonzero P xs h.1)) (λ z. rw z (h.0, before-nonzero P xs h.1))
 
 -- a value before all others comes before NULL, too
-before-listed : (v : Value) (es : Entries) (n : ℤ) → is_null v ≡ false → AllByRecursion (λ y. value_cmp v y ≡ Less) (keys_of es) → AllByRecursion (λ x. row_cmp (alone v) x.0 ≡ Less) (listed es n)
+pub before-listed : (v : Value) (es : Entries) (n : ℤ) → is_null v ≡ false → AllByRecursion (λ y. value_cmp v y ≡ Less) (keys_of es) → AllByRecursion (λ x. row_cmp (alone v) x.0 ≡ Less) (listed es n)
 before-listed v [] n known h = (alone_cmp v Null ∙ null-last v known, tt)
 before-listed v (x ∷ es) n known h = (alone_cmp v x.0 ∙ h.0, before-listed v es n known h.1)
 

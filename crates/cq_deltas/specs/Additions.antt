@@ -4,7 +4,7 @@ use Rattle.cq_values.specs.declared.value.Value.{Value}
 use Rattle.cq_values.specs.Value.{Row}
 use Rattle.cq_model_bags.specs.Bag.{Weighted}
 use Rattle.cq_model.specs.declared.query.Aggregate.{Aggregate}
-use Rattle.cq_model.specs.declared.query.Aggregate.TheVariants.{CountAll, Count, Sum, Min, Max}
+use Rattle.cq_model.specs.declared.query.Aggregate.TheVariants.{CountAll, Count, CountDistinct, Sum, Min, Max}
 use Rattle.cq_model.specs.Condition.{is_null}
 use Rattle.cq_model.specs.Eval.{eval}
 use Rattle.cq_model.specs.Group.{addend, key_of}
@@ -21,6 +21,7 @@ abbrev pub addend_of : Row → Aggregate → Option Addend
 addend_of r CountAll = Some (Number (pos 0))
 addend_of r (Count e) = counted_addend (eval e r)
 addend_of r (Sum e) = counted_addend (eval e r)
+addend_of r (CountDistinct e) = Some (Listed (eval e r))
 addend_of r (Min e) = Some (Listed (eval e r))
 addend_of r (Max e) = Some (Listed (eval e r))
 
@@ -46,6 +47,7 @@ additions columns aggregates dxs = map (addition columns aggregates) dxs
 abbrev pub IsNarrow : Row → Aggregate → Type 0
 IsNarrow r CountAll = Unit {0}
 IsNarrow r (Count e) = IsNarrowAt e r
+IsNarrow r (CountDistinct e) = IsNarrowAt e r
 IsNarrow r (Sum e) = IsNarrowAt e r
 IsNarrow r (Min e) = IsNarrowAt e r
 IsNarrow r (Max e) = IsNarrowAt e r

@@ -1,8 +1,8 @@
 -- Values with their counts, as a bag of rows of one column.
-use Rattle.std.specs.Prelude.{◌≡◌, ℤ, pos, ◌+ℤ◌, true, false, not, if◌then◌else◌, List, [], ◌∷◌, ◌++◌, map, filter, Option, None, IfSome, unwrap_or}
+use Rattle.std.specs.Prelude.{◌≡◌, ℕ, ℤ, pos, ◌+ℤ◌, int_lt, Bool, true, false, not, if◌then◌else◌, List, [], ◌∷◌, ◌++◌, map, filter, Option, None, IfSome, unwrap_or}
 use Rattle.std.specs.Ordering.{int_eq, match_ordering}
 use Rattle.std.specs.BTreeMap.{is_at}
-use Rattle.std.specs.List.{list_any}
+use Rattle.std.specs.List.{count_by, list_any}
 use Rattle.std.specs.List.Sorted.{IsStrictlySortedBy}
 use Rattle.std.specs.Map.{lookup}
 use Rattle.cq_values.specs.declared.value.Value.{Value}
@@ -41,6 +41,19 @@ held_of counts nulls = record {
 pub record AreCounts (counts : List (Value × ℤ)) : Type 0 where
   pub ordered : IsStrictlySortedBy value_cmp (map (λ e. e.0) counts)
   pub known : lookup (is_at (value_cmp Null)) counts ≡ None
+
+-- a value is counted
+abbrev pub is_counted : Value × ℤ → Bool
+is_counted entry = int_lt (pos 0) entry.1
+
+-- so many values are
+abbrev pub counted_entries : List (Value × ℤ) → ℕ
+counted_entries counts = count_by is_counted counts
+
+-- counts of values, so many of which are counted
+pub record IsCounted (counts : List (Value × ℤ)) (n : ℕ) : Type 0 where
+  pub are : AreCounts counts
+  pub different : n ≡ counted_entries counts
 
 -- a row in front of others, if its weight is not zero
 abbrev pub in_front : Row → ℤ → Weighted → Weighted

@@ -20,7 +20,7 @@ use std::marker::Model;
 pub(crate) enum Addend {
     /// A number, to a total. A count only asks whether there is one.
     Number(i128),
-    /// A value, to those of which MIN and MAX are the ends.
+    /// A value, to those of which MIN and MAX are the ends, and which COUNT(DISTINCT ..) counts once each.
     Listed(Value),
 }
 
@@ -159,8 +159,8 @@ fn addend_of(
         Aggregate::Count(argument) | Aggregate::Sum(argument) => {
             Ok(counted_addend(&eval_row(argument, row)))
         }
-        Aggregate::Min(argument) | Aggregate::Max(argument) => {
-            let value = eval_row(argument, row).to_value(alloc)?;
+        Aggregate::CountDistinct(listed) | Aggregate::Min(listed) | Aggregate::Max(listed) => {
+            let value = eval_row(listed, row).to_value(alloc)?;
             Ok(Some(Addend::Listed(value)))
         }
     }

@@ -1,12 +1,12 @@
-//! Values with their counts, in order: what MIN and MAX need of a group's rows.
+//! Values with their counts, in order: what MIN, MAX and COUNT(DISTINCT ..) need of a group's rows.
 //!
 //! [`Extremes::ready`] makes room for a value, [`Extremes::put`] counts it, and [`Extremes::settle`] lets it go where it
 //! is counted no longer. These cost the logarithm of how many values there are, and so do [`Extremes::least`] and
-//! [`Extremes::greatest`], but for values that wait with count zero.
+//! [`Extremes::greatest`], but for values that wait with count zero. How many different values there are is at hand.
 ghost use Rattle.std.specs.Option.{option_copied};
-ghost use Rattle.std.specs.Prelude.{nat_abs, pos, ◌+◌, ◌<◌, ◌≡◌, ◌↔◌, ◌^◌, IsTrue, OnOk, []};
+ghost use Rattle.std.specs.Prelude.{nat_abs, pos, int_lt, if◌then◌else◌, ◌+◌, ◌<◌, ◌≡◌, ◌↔◌, ◌^◌, IsTrue, OnOk, [], length};
 ghost use Rattle.cq_model_bags.specs.Bag.{weight_of};
-ghost use Rattle.cq_model.specs.Group.{higher, lower};
+ghost use Rattle.cq_model.specs.Group.{distinct_values, higher, lower};
 ghost use Rattle.cq_deltas.specs.Extremes.{HasRoom, IsAdded, IsExtreme, IsGone, KeepsOtherRoom, KeepsRoom, alone};
 
 use cq_values::Value;
@@ -19,16 +19,18 @@ use std::marker::Model;
 pub(crate) struct Extremes {
     counts: BTreeMap<Value, i128>,
     nulls: i128,
+    /// How many of the values have a count above zero.
+    different: usize,
 }
 
 impl Model for Extremes {
-    ghost use Rattle.cq_deltas.specs.Extremes.{AreCounts, Held, held_of};
+    ghost use Rattle.cq_deltas.specs.Extremes.{Held, IsCounted, held_of};
 
     ghost Value = { Held };
 
     ghost view = { λ e. held_of e.counts.entries e.nulls };
 
-    ghost invariant = { λ e. AreCounts e.counts.entries };
+    ghost invariant = { λ e. IsCounted e.counts.entries e.different };
 }
 
 impl Extremes {
@@ -38,6 +40,7 @@ impl Extremes {
         Extremes {
             counts: BTreeMap::new(alloc),
             nulls: 0,
+            different: 0,
         }
     }
 
@@ -55,6 +58,13 @@ impl Extremes {
     {
         let (value, _) = self.counts.iter().rev().find(|(_, count)| **count > 0)?;
         Some(value)
+    }
+
+    /// How many different values there are. NULL is none.
+    pub(crate) fn different(&self) -> usize
+        ensures { result ≡ length (distinct_values self.now.values) }
+    {
+        self.different
     }
 
     /// Makes room for a value, and leaves the values as they are. NULL needs no room.
@@ -83,8 +93,14 @@ impl Extremes {
             self.nulls += weight;
             return;
         }
+        let entries = self.counts.len();
         match self.counts.get_mut(value) {
-            Some(count) => *count += weight,
+            Some(count) => {
+                let others = self.different - one_if_counted(*count);
+                *count += weight;
+                prove!(others < entries);
+                self.different = others + one_if_counted(*count);
+            }
             None => unreachable!(),
         }
     }
@@ -109,6 +125,13 @@ impl Extremes {
             None => false,
         }
     }
+}
+
+/// One for a value that is counted, and none for one that waits.
+fn one_if_counted(count: i128) -> usize
+    ensures { result ≡ (if int_lt (pos 0) count then 1 else 0) }
+{
+    if count > 0 { 1 } else { 0 }
 }
 
 fn is_zero(count: i128) -> bool

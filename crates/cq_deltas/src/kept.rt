@@ -1,5 +1,5 @@
-//! What is kept of an aggregate: a count, for a SUM also the exact total, and for MIN and MAX all values with
-//! counts.
+//! What is kept of an aggregate: a count, for a SUM also the exact total, and for MIN, MAX and COUNT(DISTINCT ..) all
+//! values with counts.
 //!
 //! The order of calls is that of a group. A count and a total take no memory, so [`Kept::ready`] grows only where
 //! values are listed. Whether a total can be shown, [`Kept::value`] tells.
@@ -18,8 +18,8 @@ use cq_model::{Aggregate, ShowFault};
 use cq_values::{Total, Value};
 use std::alloc::{AllocError, Global};
 
-/// What is kept of an aggregate: how many rows or values there are, for a SUM their exact total beside, and for MIN
-/// and MAX the values with their counts, in order.
+/// What is kept of an aggregate: how many rows or values there are, for a SUM their exact total beside, and for MIN,
+/// MAX and COUNT(DISTINCT ..) the values with their counts, in order.
 #[derive(Debug, Drop)]
 pub(crate) enum Kept {
     Counted(i128),
@@ -45,7 +45,9 @@ impl Kept {
                 values: 0,
                 total: Total::new(),
             }),
-            Aggregate::Min(_) | Aggregate::Max(_) => Kept::Listed(Extremes::new(alloc)),
+            Aggregate::CountDistinct(_) | Aggregate::Min(_) | Aggregate::Max(_) => {
+                Kept::Listed(Extremes::new(alloc))
+            }
         }
     }
 
@@ -95,6 +97,9 @@ impl Kept {
         match (aggregate, self) {
             (Aggregate::CountAll | Aggregate::Count(_), Kept::Counted(count)) => {
                 Ok(Value::Number(*count))
+            }
+            (Aggregate::CountDistinct(_), Kept::Listed(values)) => {
+                Ok(Value::Number(values.different() as i128))
             }
             (Aggregate::Sum(_), Kept::Totalled(total)) => match total.value() {
                 Some(value) => Ok(value),

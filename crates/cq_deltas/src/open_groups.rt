@@ -4,8 +4,9 @@
 //! puts what the row adds behind the rest of a [`GroupChange`]; until then nothing that is shown changes.
 //! [`OpenGroups::take`] puts the whole change in, cannot fail, and drops groups that are left without rows.
 //!
-//! A row costs one hash of its key and one step for each aggregate, MIN and MAX the logarithm of their values. No public
-//! call here reads a group, and none makes [`crate::Groups`] of these: who is handed them reaches groups by changes alone.
+//! A row costs one hash of its key and one step for each aggregate, MIN, MAX and COUNT(DISTINCT ..) the logarithm of
+//! their values. No public call here reads a group, and none makes [`crate::Groups`] of these: who is handed them reaches
+//! groups by changes alone.
 ghost use Rattle.std.specs.List.{AllByRecursion};
 ghost use Rattle.std.specs.List.Sorted.{IsSortedBy};
 ghost use Rattle.std.specs.Map.{keys_of};

@@ -1,5 +1,5 @@
 -- The rows that are gathered to build a view from: they are those of its tables, stored and few enough.
-use Rattle.std.proofs.Common.{◌≡◌, ◌*◌, ◌≤◌, ◌^◌, ℕ, pos, true, false, List, [], ◌∷◌, ◌++◌, length, refl, sym, ap, ◌∙◌, arith, subst}
+use Rattle.std.proofs.Common.{◌≡◌, ◌*◌, ◌<◌, ◌≤◌, ◌^◌, ℕ, pos, true, false, List, [], ◌∷◌, ◌++◌, length, refl, sym, ap, ◌∙◌, arith, subst}
 use Rattle.std.specs.Prelude.{if◌then◌else◌}
 use Rattle.std.specs.List.{AllByRecursion, flat_map}
 use Rattle.std.proofs.lemmas.List.{append-nil, map-append}
@@ -23,7 +23,7 @@ use Rattle.cq_model.specs.Views.{sources_of}
 use Rattle.cq_sides_weights.specs.Held.{sizes}
 use Rattle.cq_deltas_joins.specs.Chains.{nothing, spans}
 use Rattle.cq_deltas_joins.specs.Steps.{AreStored, span}
-use Rattle.cq_model_state.specs.Fitting.{AreFitting, AreLimited}
+use Rattle.cq_model_state.specs.Fitting.{AreFitting, AreLimited, rows_limit}
 use Rattle.cq_model_state.specs.State.{TableOf, rows_in}
 use Rattle.cq_views.proofs.Taking.{sizes-once_each}
 use Rattle.cq_views.specs.Filling.{bags_at, only}
@@ -33,6 +33,7 @@ use Rattle.cq_views.specs.declared.kept_view.KeptView.{KeptView}
 use Rattle.cq_views_state.specs.State.{CanStart}
 use Rattle.cq_engine_tables.specs.Views.{Fits, bags_in}
 use Rattle.cq_engine_tables.proofs.Bags.{bags_few, stored-once_each}
+use Rattle.cq_engine_tables.proofs.Crossed.{crossed_few}
 use Rattle.cq_engine_tables.proofs.Rows.{rows_have}
 use Rattle.cq_engine_tables.proofs.Stored.{tables_stored}
 use Rattle.cq_engine_answers.specs.Gathered.{AreRowsThere}
@@ -150,8 +151,8 @@ same_length xs ys same = sym (length-bag_of xs) ∙ ap length (bag_of-weights xs
 
 -- rows with the bag of a table are few and stored where its rows are
 module _ (tables : List TableOf) where
-  few_as : AreLimited (2 ^ 24) tables → (rows : List Row) (s : Source) → SameBag (once_each rows) (bags_in tables s)
-      → sizes (once_each rows) ≤ 2 ^ 24
+  few_as : AreLimited rows_limit tables → (rows : List Row) (s : Source) → SameBag (once_each rows) (bags_in tables s)
+      → sizes (once_each rows) ≤ rows_limit
   few_as limited rows (Table n) same =
       let here = rows_in tables n in
       omega (arith, sizes-once_each rows, sizes-once_each here, same_length rows here same, bags_few tables limited (Table n))
@@ -167,30 +168,30 @@ module _ (tables : List TableOf) where
   stored_as fitting (r ∷ rows) (View place) same = absurd (omega (arith, same_length (r ∷ rows) [] same))
 
 -- up to four sources of few rows are few
-module _ (tables : Tables) (few : (source : Source) → sizes (tables source) ≤ 2 ^ 24) where
+module _ (tables : Tables) (few : (source : Source) → sizes (tables source) ≤ rows_limit) where
   abbrev wide : List Source → ℕ
   wide sources = spans nothing tables sources
 
   spans_more : (source : Source) (sources : List Source) (n : ℕ) → wide sources ≤ n
-      → wide (source ∷ sources) ≤ 2 ^ 25 * n
+      → wide (source ∷ sources) ≤ 2 ^ 31 * n
   spans_more source sources n h =
-      mul-le (span [] (tables source)) (wide sources) (2 ^ 25) n (omega (arith, few source)) h
+      mul-le (span [] (tables source)) (wide sources) (2 ^ 31) n (omega (arith, few source)) h
 
-  spans_one : (a : Source) → wide (a ∷ []) ≤ 2 ^ 25
+  spans_one : (a : Source) → wide (a ∷ []) ≤ 2 ^ 31
   spans_one a = omega (arith, spans_more a [] 1 (omega arith))
 
-  spans_two : (a b : Source) → wide (a ∷ b ∷ []) ≤ 2 ^ 50
-  spans_two a b = omega (arith, spans_more a (b ∷ []) (2 ^ 25) (spans_one b))
+  spans_two : (a b : Source) → wide (a ∷ b ∷ []) ≤ 2 ^ 62
+  spans_two a b = omega (arith, spans_more a (b ∷ []) (2 ^ 31) (spans_one b))
 
-  spans_three : (a b c : Source) → wide (a ∷ b ∷ c ∷ []) ≤ 2 ^ 75
-  spans_three a b c = omega (arith, spans_more a (b ∷ c ∷ []) (2 ^ 50) (spans_two b c))
+  spans_three : (a b c : Source) → wide (a ∷ b ∷ c ∷ []) ≤ 2 ^ 93
+  spans_three a b c = omega (arith, spans_more a (b ∷ c ∷ []) (2 ^ 62) (spans_two b c))
 
-  spans_few : (sources : List Source) → length sources ≤ 4 → wide sources ≤ 2 ^ 122
+  spans_few : (sources : List Source) → length sources ≤ 4 → wide sources < 2 ^ 127
   spans_few [] h = omega arith
   spans_few (a ∷ []) h = omega (arith, spans_one a)
   spans_few (a ∷ b ∷ []) h = omega (arith, spans_two a b)
   spans_few (a ∷ b ∷ c ∷ []) h = omega (arith, spans_three a b c)
-  spans_few (a ∷ b ∷ c ∷ d ∷ []) h = omega (arith, spans_more a (b ∷ c ∷ d ∷ []) (2 ^ 75) (spans_three b c d))
+  spans_few (a ∷ b ∷ c ∷ d ∷ []) h = omega (arith, spans_more a (b ∷ c ∷ d ∷ []) (2 ^ 93) (spans_three b c d))
   spans_few (a ∷ b ∷ c ∷ d ∷ e ∷ sources) h = absurd (omega (arith, h))
 
 -- ---- A view of these rows
@@ -208,16 +209,17 @@ module _ (tables : List TableOf) (query : Query) (gathered : List StoredSource) 
           (each (rows_for gathered s) s (subst (λ (xs : Weighted). SameBag xs (bags_in tables s)) listed (are.bags s k)))
 
   -- it can be built
-  pub can_start : AreFitting tables → AreLimited (2 ^ 24) tables → Fits query → CanStart query (bags_at gathered)
-  can_start fitting limited fits = record {
-    can = fits.can;
-    few =
-        spans_few (bags_at gathered) (have (λ xs. sizes xs ≤ 2 ^ 24) (omega arith) (few_as tables limited))
-        (sources_of query) fits.few;
-    stored =
-        all-of (λ s. AreStored (bags_at gathered s)) (have AreStored tt (stored_as tables fitting))
-        (sources_of query);
-  }
+  pub can_start : AreFitting tables → AreLimited rows_limit tables → Fits query → CanStart query (bags_at gathered)
+  can_start fitting limited fits =
+      let few = have (λ xs. sizes xs ≤ rows_limit) (omega arith) (few_as tables limited) in
+      record {
+        can = fits.can;
+        few = spans_few (bags_at gathered) few (sources_of query) fits.few;
+        countable = crossed_few (bags_at gathered) few (sources_of query) fits.few;
+        stored =
+            all-of (λ s. AreStored (bags_at gathered s)) (have AreStored tt (stored_as tables fitting))
+            (sources_of query);
+      }
 
   -- the sources that it names have the bags of their tables
   all_same : (sources : List Source) → AllByRecursion (λ s. is_gathered gathered s ≡ true) sources

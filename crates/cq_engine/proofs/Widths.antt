@@ -84,6 +84,7 @@ module _ (columns : List ScopeColumn) (f g : ℕ → ℕ) (same : (place : ℕ) 
   pub same_told : (function : AggregateFunction) (a : Written) (t : Typing) → typed s a ≡ Ok t
       → aggregate_size f (told_of function a) ≡ aggregate_size g (told_of function a)
   same_told functions.Count a t e = refl
+  same_told functions.CountDistinct a t e = refl
   same_told functions.Sum a t e = refl
   same_told functions.Min a t e = ap (λ (x : Extent). x.size) (same_width [] a t e)
   same_told functions.Max a t e = ap (λ (x : Extent). x.size) (same_width [] a t e)

@@ -13,7 +13,7 @@ pub struct Limits {
 
 impl Limits {
     /// The most that can be allowed.
-    pub const MAX_ROWS: u64 = 16_777_216;
+    pub const MAX_ROWS: u64 = 1_073_741_824;
 
     /// None where the limit is not from 1 to [`Limits::MAX_ROWS`].
     pub fn new(max_rows: u64) -> Option<Limits>

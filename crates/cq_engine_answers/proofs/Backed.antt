@@ -1,11 +1,11 @@
 -- Views at the present are backed: their tables are bags of stored rows, of which a join has not too many.
-use Rattle.std.proofs.Common.{◌^◌, List}
+use Rattle.std.proofs.Common.{List}
 use Rattle.std.specs.List.{AllByRecursion}
 use Rattle.cq_deltas_joins.specs.Steps.{AreStored}
 use Rattle.cq_model.specs.Views.{sources_of}
 use Rattle.cq_model.specs.declared.query.Source.{Source}
 use Rattle.cq_model.specs.declared.query.Source.TheVariants.{Table, View}
-use Rattle.cq_model_state.specs.Fitting.{AreFitting, AreLimited}
+use Rattle.cq_model_state.specs.Fitting.{AreFitting, AreLimited, rows_limit}
 use Rattle.cq_model_state.specs.State.{TableOf}
 use Rattle.cq_engine_tables.specs.Views.{IsPresent, NamedView, bags_in}
 use Rattle.cq_engine_tables.proofs.Bags.{bags_are, bags_few, bags_stored}
@@ -15,7 +15,7 @@ use Rattle.cq_engine_answers.specs.Reading.{IsReadable}
 use Rattle.cq_model_bags.proofs.Lists.{all-of, all-weaker}
 
 -- ---- Views at the present
-module _ (tables : List TableOf) (fitting : AreFitting tables) (few : AreLimited (2 ^ 24) tables) where
+module _ (tables : List TableOf) (fitting : AreFitting tables) (few : AreLimited rows_limit tables) where
   -- one is backed by its tables
   pub backed : (v : NamedView) → IsPresent tables v → IsBacked v
   backed v present =

@@ -21,7 +21,7 @@ use Rattle.cq_table_columns.specs.declared.stored_source.StoredSource.{StoredSou
 use Rattle.cq_model.specs.Exact.{AreExactAt, AreExactIn}
 use Rattle.cq_model.specs.Expr.{Cond, Expr}
 use Rattle.cq_model.specs.declared.query.Aggregate.{Aggregate}
-use Rattle.cq_model.specs.declared.query.Aggregate.TheVariants.{CountAll, Count, Sum, Min, Max}
+use Rattle.cq_model.specs.declared.query.Aggregate.TheVariants.{CountAll, Count, CountDistinct, Sum, Min, Max}
 use Rattle.cq_model.specs.declared.query.Join.{Join}
 use Rattle.cq_model.specs.declared.query.Order.{Order}
 use Rattle.cq_model.specs.declared.query.Query.{Query}
@@ -74,6 +74,7 @@ module _ (at : NarrowIsExact) (within : NarrowIsExactIn) where
       one : (row : Row) (a : Aggregate) → IsArgumentNarrow (sizes_of row) a → IsExactFor a row
       one row CountAll narrow = tt
       one row (Count e) narrow = at e row narrow
+      one row (CountDistinct e) narrow = at e row narrow
       one row (Sum e) narrow = at e row narrow
       one row (Min e) narrow = at e row narrow
       one row (Max e) narrow = at e row narrow

@@ -183,6 +183,24 @@ module _ (law : StandingDependsOnSources) (q : Queued) (s : State) (of : IsQueue
   small : IsSmall c
   small = subst IsSmall (sym taken) (all-at IsSmall s.queue (epoch - s.passed) c within history.small)
 
+  -- the change leads each table that is there to the next epoch
+  next-same : (n : ℕ) → IsThere n s.tables → SameBag (changed old (changes_by c) (Table n)) (new (Table n))
+  next-same n at =
+      let own : SameBag (changes_by c (Table n)) (change_of (c ∷ []) n) = subst (λ (xs : Weighted). SameBag (changes_by c (Table n)) xs) (own-change c n) (same-refl (changes_by c (Table n))) in
+      same-trans (changed old (changes_by c) (Table n)) (tables_at s epoch n ++ change_of (c ∷ []) n) (new (Table n))
+      (same-append (old (Table n)) (tables_at s epoch n) (changes_by c (Table n)) (change_of (c ∷ []) n) (held_same s history epoch right.time.kept right.time.reached n at) own)
+      (same-sym (new (Table n)) (tables_at s epoch n ++ change_of (c ∷ []) n) (step n))
+
+  -- which its rows there are the bag of
+  abbrev next : Tables
+  next = held s history (epoch + 1) (omega (arith, right.time.kept)) (omega (arith, before))
+
+  next-held : (n : ℕ) → IsThere n s.tables → SameBag (next (Table n)) (changed old (changes_by c) (Table n))
+  next-held n at =
+      same-trans (next (Table n)) (new (Table n)) (changed old (changes_by c) (Table n))
+      (held_same s history (epoch + 1) (omega (arith, right.time.kept)) (omega (arith, before)) n at)
+      (same-sym (changed old (changes_by c) (Table n)) (new (Table n)) (next-same n at))
+
   -- the view can take it in
   pub can-take : CanTakeIn v c
   can-take = record {
@@ -192,16 +210,11 @@ module _ (law : StandingDependsOnSources) (q : Queued) (s : State) (of : IsQueue
     held = are_held s history epoch right.time.kept right.time.reached;
     stored = small.stored;
     few = small.few;
+    behind = next;
+    same = sources-there s (λ x. SameBag (next x) (changed old (changes_by c) x)) next-held (sources_of v.kept.query) v.kept.widths right.wide;
+    few_behind = (are_held s history (epoch + 1) (omega (arith, right.time.kept)) (omega (arith, before))).few;
     epoch = omega (arith, before, history.range);
   }
-
-  -- the change leads each table that is there to the next epoch
-  next-same : (n : ℕ) → IsThere n s.tables → SameBag (changed old (changes_by c) (Table n)) (new (Table n))
-  next-same n at =
-      let own : SameBag (changes_by c (Table n)) (change_of (c ∷ []) n) = subst (λ (xs : Weighted). SameBag (changes_by c (Table n)) xs) (own-change c n) (same-refl (changes_by c (Table n))) in
-      same-trans (changed old (changes_by c) (Table n)) (tables_at s epoch n ++ change_of (c ∷ []) n) (new (Table n))
-      (same-append (old (Table n)) (tables_at s epoch n) (changes_by c (Table n)) (change_of (c ∷ []) n) (held_same s history epoch right.time.kept right.time.reached n at) own)
-      (same-sym (new (Table n)) (tables_at s epoch n ++ change_of (c ∷ []) n) (step n))
 
   bags-next : AreBagsFor v old c
   bags-next reading (Table n) = by_test (c.table == n) on off
@@ -216,9 +229,6 @@ module _ (law : StandingDependsOnSources) (q : Queued) (s : State) (of : IsQueue
   bags-next reading (View place) = once_each-bag []
 
   -- ---- What the change did, as rows that are there
-  abbrev next : Tables
-  next = held s history (epoch + 1) (omega (arith, right.time.kept)) (omega (arith, before))
-
   abbrev moved : Tables
   moved = changes_by (record { table = c.table; rows = difference (next (Table c.table)) (old (Table c.table)) })
 
@@ -227,10 +237,7 @@ module _ (law : StandingDependsOnSources) (q : Queued) (s : State) (of : IsQueue
   own n at = by_test (c.table == n)
       (λ k.
       let is : c.table ≡ n = eqb-true c.table n k in
-      let led : SameBag (next (Table n)) (changed old (changes_by c) (Table n)) =
-      same-trans (next (Table n)) (new (Table n)) (changed old (changes_by c) (Table n)) (held_same s history (epoch + 1) (omega (arith, right.time.kept)) (omega (arith, before)) n at)
-      (same-sym (changed old (changes_by c) (Table n)) (new (Table n)) (next-same n at)) in
-      let made : SameBag (changes_by c (Table n)) (difference (next (Table n)) (old (Table n))) = taken_off (next (Table n)) (old (Table n)) (changes_by c (Table n)) led in
+      let made : SameBag (changes_by c (Table n)) (difference (next (Table n)) (old (Table n))) = taken_off (next (Table n)) (old (Table n)) (changes_by c (Table n)) (next-held n at) in
       subst (λ (xs : Weighted). SameBag (changes_by c (Table n)) xs) (sym (moved-own n k)) made)
       (λ k. rw k (same-refl []))
     where

@@ -1,5 +1,5 @@
 -- Tables at epochs that can be told, and views that stand for them (docs/ARCHITECTURE.md, Epochs).
-use Rattle.std.specs.Prelude.{◌≡◌, ◌+◌, ◌<◌, ◌≤◌, ◌^◌, ℕ, List, Some, length}
+use Rattle.std.specs.Prelude.{◌≡◌, ◌+◌, ◌*◌, ◌<◌, ◌≤◌, ◌^◌, ℕ, List, Some, length}
 use Rattle.std.specs.List.{AllByRecursion}
 use Rattle.cq_deltas_joins.specs.Steps.{AreStored}
 use Rattle.cq_model.specs.Sizes.{IsStored}
@@ -23,7 +23,7 @@ pub record AreFew (wide : ℕ) (xs : Weighted) : Type 0 where
 -- few stored rows change
 pub record IsSmall (c : ChangeOf) : Type 0 where
   pub stored : AreStored c.rows
-  pub few : sizes c.rows ≤ 2 ^ 25
+  pub few : sizes c.rows ≤ 2 * rows_limit
 
 -- a sound state, in which each table has few stored rows of its columns at each epoch that can be told, and each change
 -- is small

@@ -1,5 +1,5 @@
 -- A view that takes a change in.
-use Rattle.std.specs.Prelude.{◌≡◌, ◌+◌, ◌≤◌, ◌<◌, ◌^◌, true}
+use Rattle.std.specs.Prelude.{◌≡◌, ◌+◌, ◌*◌, ◌≤◌, ◌<◌, ◌^◌, true}
 use Rattle.std.specs.List.{AllByRecursion}
 use Rattle.cq_deltas_joins.specs.Steps.{AreStored}
 use Rattle.cq_model_bags.specs.Bag.{SameBag}
@@ -40,7 +40,10 @@ pub record CanTakeIn (v : NamedView) (c : ChangeOf) : Type 0 where
   pub stands : StandsFor v.kept tables
   pub held : AreHeld tables
   pub stored : AreStored c.rows
-  pub few : sizes c.rows ≤ 2 ^ 25
+  pub few : sizes c.rows ≤ 2 * rows_limit
+  pub behind : Tables
+  pub same : AllByRecursion (λ s. SameBag (behind s) (changed tables (changes_by c) s)) (sources_of v.kept.query)
+  pub few_behind : (source : Source) → sizes (behind source) ≤ rows_limit
   pub epoch : v.kept.state.epoch + 1 < 2 ^ 64
 
 -- the changed tables are bags, if the view reads the one that changes

@@ -1,5 +1,5 @@
 -- The bags of tables: stored rows, few enough, none of them less than never.
-use Rattle.std.proofs.Common.{◌≤◌, ◌^◌, List, [], ◌∷◌, length, arith}
+use Rattle.std.proofs.Common.{◌≤◌, List, [], ◌∷◌, length, arith}
 use Rattle.std.specs.List.{AllByRecursion}
 use Rattle.cq_values.specs.Value.{Row}
 use Rattle.cq_model_bags.specs.Bag.{once_each}
@@ -7,7 +7,7 @@ use Rattle.cq_model_laws.proofs.Positives.{once_each-bag}
 use Rattle.cq_model.specs.Sizes.{IsStored}
 use Rattle.cq_model.specs.declared.query.Source.{Source}
 use Rattle.cq_model.specs.declared.query.Source.TheVariants.{Table, View}
-use Rattle.cq_model_state.specs.Fitting.{AreFitting, AreLimited}
+use Rattle.cq_model_state.specs.Fitting.{AreFitting, AreLimited, rows_limit}
 use Rattle.cq_model_state.specs.State.{TableOf}
 use Rattle.cq_sides_weights.specs.Held.{sizes}
 use Rattle.cq_deltas_joins.specs.Steps.{AreStored}
@@ -31,9 +31,9 @@ module _ (tables : List TableOf) where
   bags_stored fitting (Table n) = stored-once_each _ (rows_have (λ rs. AllByRecursion IsStored rs) tt tables n (tables_stored tables fitting))
   bags_stored fitting (View place) = tt
 
-  pub bags_few : AreLimited (2 ^ 24) tables → (source : Source) → sizes (bags_in tables source) ≤ 2 ^ 24
-  bags_few few (Table n) = few_once _ (rows_have (λ rs. length rs ≤ 2 ^ 24) (omega arith) tables n few)
+  pub bags_few : AreLimited rows_limit tables → (source : Source) → sizes (bags_in tables source) ≤ rows_limit
+  bags_few few (Table n) = few_once _ (rows_have (λ rs. length rs ≤ rows_limit) (omega arith) tables n few)
     where
-      few_once : (rows : List Row) → length rows ≤ 2 ^ 24 → sizes (once_each rows) ≤ 2 ^ 24
+      few_once : (rows : List Row) → length rows ≤ rows_limit → sizes (once_each rows) ≤ rows_limit
       few_once rows h = omega (arith, sizes-once_each rows, h)
   bags_few few (View place) = omega arith

@@ -1,5 +1,5 @@
 -- Changes that writes tell: what they take a table to, and that they are small.
-use Rattle.std.proofs.Common.{◌≡◌, ◌∙◌, ◌+◌, ◌≤◌, ◌^◌, ℕ, ℤ, pos, neg_ℤ, Bool, not, List, [], ◌∷◌, ◌++◌, length, map, Option, Some, None, refl, sym, ap, subst, arith}
+use Rattle.std.proofs.Common.{◌≡◌, ◌∙◌, ◌+◌, ◌*◌, ◌≤◌, ℕ, ℤ, pos, neg_ℤ, Bool, not, List, [], ◌∷◌, ◌++◌, length, map, Option, Some, None, refl, sym, ap, subst, arith}
 use Rattle.std.specs.Prelude.{filter, if◌then◌else◌, IfSome, is_some}
 use Rattle.std.specs.List.{AllByRecursion}
 use Rattle.std.proofs.lemmas.List.{append-nil, length-map}
@@ -10,6 +10,7 @@ use Rattle.cq_model_bags.proofs.Canonicals.{length-bag_of}
 use Rattle.cq_model_bags.proofs.Lists.{all-filter, fewer}
 use Rattle.cq_model.specs.Sizes.{IsStored}
 use Rattle.cq_model_state.specs.State.{ChangeOf}
+use Rattle.cq_model_state.specs.Fitting.{rows_limit}
 use Rattle.cq_sides_weights.proofs.RowByRow.{sizes-append}
 use Rattle.cq_sides_weights.specs.Held.{sizes}
 use Rattle.cq_deltas_joins.proofs.Storing.{stored-append}
@@ -44,7 +45,7 @@ at_most n most gone come few (Some d) same = omega (arith, ap (λ (e : ChangeOf)
 
 module _ (n : ℕ) (old new gone come : List Row) where
   -- it takes the table to its new rows, and is small where few stored rows go and come
-  pub change_at : SameBag (once_each (bag_of new)) (once_each old ++ exchanged gone come) → AllByRecursion IsStored gone → AllByRecursion IsStored come → length gone + length come ≤ 2 ^ 25 → IsChangeAt n old new (change_by n gone come)
+  pub change_at : SameBag (once_each (bag_of new)) (once_each old ++ exchanged gone come) → AllByRecursion IsStored gone → AllByRecursion IsStored come → length gone + length come ≤ 2 * rows_limit → IsChangeAt n old new (change_by n gone come)
   change_at is first second few = record {
     table = refl;
     rows = taken_to old new (exchanged gone come) is;
@@ -60,7 +61,7 @@ tells asked n old new c is None there same = record { there = there; is = tt }
 tells asked n old new c is (Some d) there same = record { there = there; is = subst (λ (e : ChangeOf). IsChangeAt n old new e) (sym same) is }
 
 -- ---- The rows of an INSERT
-pub inserted_change : (n : ℕ) (old rows : List Row) → AllByRecursion IsStored rows → length rows ≤ 2 ^ 25 → IsChangeAt n old (old ++ rows) (change_by n [] rows)
+pub inserted_change : (n : ℕ) (old rows : List Row) → AllByRecursion IsStored rows → length rows ≤ 2 * rows_limit → IsChangeAt n old (old ++ rows) (change_by n [] rows)
 inserted_change n old rows stored few = change_at n old (old ++ rows) [] rows (with_more old rows) tt stored (omega (arith, few))
 
 -- ---- The rows that a DELETE or an UPDATE takes
@@ -75,7 +76,7 @@ module _ (keep : Row → Bool) (rows gone : List Row) (chosen : bag_of gone ≡ 
       let same : length gone ≡ length (filter keep rows) = sym (length-bag_of gone) ∙ ap length chosen ∙ length-bag_of (filter keep rows) in
       omega (arith, same, fewer keep rows)
 
-  module _ (n : ℕ) (stored : AllByRecursion IsStored rows) (few : length rows ≤ 2 ^ 24) where
+  module _ (n : ℕ) (stored : AllByRecursion IsStored rows) (few : length rows ≤ rows_limit) where
     -- those of a DELETE leave the others
     pub deleted_change : IsChangeAt n rows (filter (λ row. not (keep row)) rows) (change_by n gone [])
     deleted_change =

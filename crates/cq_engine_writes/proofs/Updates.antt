@@ -1,5 +1,5 @@
 -- UPDATE on the rows of a table: what is known of those that go and of those that come.
-use Rattle.std.proofs.Common.{◌≡◌, ◌<◌, ◌≤◌, ◌^◌, ℕ, get_or, set, Result, Ok, Err, Bool, List, [], ◌∷◌, ◌++◌, map, length, Option, None, sym, ap, ◌∙◌, arith, subst}
+use Rattle.std.proofs.Common.{◌≡◌, ◌<◌, ◌≤◌, ℕ, get_or, set, Result, Ok, Err, Bool, List, [], ◌∷◌, ◌++◌, map, length, Option, None, sym, ap, ◌∙◌, arith, subst}
 use Rattle.std.specs.Prelude.{filter, if◌then◌else◌}
 use Rattle.std.specs.Result.{OnOk}
 use Rattle.std.specs.List.{AllByRecursion}
@@ -14,7 +14,7 @@ use Rattle.cq_model.specs.Meaning.{keeps}
 use Rattle.cq_model.specs.Write.{chosen, image_of, left_by, updated}
 use Rattle.cq_binder_rules.specs.Checks.{MayRefuse}
 use Rattle.cq_binder_rules.specs.declared.fault.Fault.{Fault}
-use Rattle.cq_model_state.specs.Fitting.{AreFitting, AreLimited, FitsColumns, IsFitting}
+use Rattle.cq_model_state.specs.Fitting.{AreFitting, AreLimited, FitsColumns, IsFitting, rows_limit}
 use Rattle.cq_model_state.specs.State.{AreNumbered, ChangeOf, TableOf, columns_in, holding, rows_in}
 use Rattle.cq_engine_writes.specs.Changing.{IsChangeAt}
 use Rattle.cq_engine_writes.specs.Updates.{CanSetAll, CanUpdate, IsPrepared, Updates, UpdatesRows, updated_in, value_fault_in}
@@ -64,7 +64,7 @@ module _ (t : TableOf) (assignments : List Assignment) (c : Option Cond) (can : 
     stored_come free = rows_stored t.columns (map (image_of assignments) gone) (come_fit free)
 
     -- then the change takes the table to the images
-    pub exchange_at : length t.rows ≤ 2 ^ 24 → values_fault t.columns assignments gone ≡ None → (come : List Row) → come ≡ map (image_of assignments) gone
+    pub exchange_at : length t.rows ≤ rows_limit → values_fault t.columns assignments gone ≡ None → (come : List Row) → come ≡ map (image_of assignments) gone
         → IsChangeAt t.number t.rows (updated assignments c t.rows) (change_by t.number gone come)
     exchange_at few free come are =
         updated_change (keeps c) t.rows gone is_chosen t.number (rows_stored t.columns t.rows fitting) few (image_of assignments) come are

@@ -2,7 +2,7 @@
 use Rattle.std.proofs.Common.{◌≡◌, ℕ, true, false, List, get_or, map, refl, sym, ◌∙◌, ap, Option, Some, None}
 use Rattle.cq_values.specs.Value.{Row}
 use Rattle.cq_model.specs.declared.query.Aggregate.{Aggregate}
-use Rattle.cq_model.specs.declared.query.Aggregate.TheVariants.{CountAll, Count, Sum, Min, Max}
+use Rattle.cq_model.specs.declared.query.Aggregate.TheVariants.{CountAll, Count, CountDistinct, Sum, Min, Max}
 use Rattle.cq_hash_groups.specs.Arguments.{argument}
 use Rattle.cq_hash_groups.specs.Groups.{added_as, added_slots}
 use Rattle.cq_hash_groups.specs.Lead.{at_place, counted_beside, first_sum, is_count_all, sum_place}
@@ -12,6 +12,7 @@ use Rattle.cq_hash_groups_slots.specs.Slots.{grown_slots, put_nulls, put_slots}
 alone : (lead : Option Aggregate) (a : Aggregate) → is_count_all a ≡ false → counted_beside lead a ≡ None
 alone lead CountAll is = absurd (cc is)
 alone lead (Count e) is = refl
+alone lead (CountDistinct e) is = refl
 alone lead (Sum e) is = refl
 alone lead (Min e) is = refl
 alone lead (Max e) is = refl
@@ -19,6 +20,7 @@ alone lead (Max e) is = refl
 beside-lead : (lead : Option Aggregate) (a : Aggregate) → is_count_all a ≡ true → counted_beside lead a ≡ lead
 beside-lead lead CountAll is = refl
 beside-lead lead (Count e) is = absurd (cc is)
+beside-lead lead (CountDistinct e) is = absurd (cc is)
 beside-lead lead (Sum e) is = absurd (cc is)
 beside-lead lead (Min e) is = absurd (cc is)
 beside-lead lead (Max e) is = absurd (cc is)

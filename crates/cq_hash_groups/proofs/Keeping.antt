@@ -9,18 +9,19 @@ use Rattle.cq_values.specs.Order.{same_row}
 use Rattle.cq_values.specs.Keys.{same_row-refl}
 use Rattle.cq_hash_keys.specs.Keys.{key_at}
 use Rattle.cq_model.specs.declared.query.Aggregate.{Aggregate}
-use Rattle.cq_model.specs.declared.query.Aggregate.TheVariants.{CountAll, Count, Sum, Min, Max}
+use Rattle.cq_model.specs.declared.query.Aggregate.TheVariants.{CountAll, Count, CountDistinct, Sum, Min, Max}
 use Rattle.cq_model.specs.Group.{key_of}
 use Rattle.cq_hash_groups_slots.specs.declared.bests.Extreme.TheVariants.{Least, Greatest}
 use Rattle.cq_hash_groups_slots.specs.declared.slots.Slots.{Slots}
-use Rattle.cq_hash_groups_slots.specs.declared.slots.Slots.TheVariants.{Counts, Sums, Bests}
+use Rattle.cq_hash_groups_slots.specs.declared.slots.Slots.TheVariants.{Counts, Sums, Bests, Sets}
 use Rattle.cq_hash_groups.specs.Arguments.{argument}
 use Rattle.cq_hash_groups.specs.Lead.{counted_beside}
-use Rattle.cq_hash_groups.specs.Groups.{rows_at, kept_as, kept_at, kept_count, kept_nulls, kept_sum, kept_best, slots_at, added_as, added_slots}
+use Rattle.cq_hash_groups.specs.Groups.{rows_at, kept_as, kept_at, kept_count, kept_nulls, kept_set, kept_sum, kept_best, slots_at, added_as, added_slots}
 use Rattle.cq_hash_groups_sums.specs.Puts.{put_all, put_sum, no_sum, AreNumbers, grown}
+use Rattle.cq_hash_groups_distinct.specs.Sets.{put_value}
 use Rattle.cq_hash_groups_slots.specs.Puts.{put_count, put_null, put_best}
 use Rattle.cq_hash_groups_slots.specs.Slots.{empty_slots, grown_slots, put_slots}
-use Rattle.cq_hash_groups.proofs.ValuesPut.{count-push, null-push, sum-push, best-push}
+use Rattle.cq_hash_groups.proofs.ValuesPut.{count-push, null-push, set-push, sum-push, best-push}
 use Rattle.cq_hash_groups.proofs.KeysMet.{AreApart, apart-sym, rows-append}
 use Rattle.cq_model_bags.proofs.Lists.{all-at}
 
@@ -102,6 +103,7 @@ none-yet columns (k ∷ keys) = (refl, none-yet columns keys)
 alone-first : (columns : List ℕ) (keys : List Row) (a : Aggregate) → grown_slots (length keys) (empty_slots a) ≡ slots_at columns [] keys a
 alone-first columns keys CountAll = ap Counts (grown-keys kept_count put_count 0 refl count-push (argument CountAll) columns [] [] keys (none-yet columns keys))
 alone-first columns keys (Count e) = ap Counts (grown-keys kept_count put_count 0 refl count-push (argument (Count e)) columns [] [] keys (none-yet columns keys))
+alone-first columns keys (CountDistinct e) = ap Sets (grown-keys kept_set put_value [] refl set-push (argument (CountDistinct e)) columns [] [] keys (none-yet columns keys))
 alone-first columns keys (Sum e) = ap Sums (grown-keys kept_sum put_sum no_sum refl sum-push (argument (Sum e)) columns [] [] keys (none-yet columns keys))
 alone-first columns keys (Min e) =
     ap (Bests Least) (grown-keys (kept_best Least) (put_best Least) Null refl (best-push Least) (argument (Min e)) columns [] [] keys (none-yet columns keys))
@@ -112,6 +114,7 @@ one-first : (columns : List ℕ) (keys : List Row) (lead : Option Aggregate) (a 
 one-first columns keys None CountAll = alone-first columns keys CountAll
 one-first columns keys (Some lead) CountAll = ap Counts (grown-keys kept_nulls put_null 0 refl null-push (argument lead) columns [] [] keys (none-yet columns keys))
 one-first columns keys lead (Count e) = alone-first columns keys (Count e)
+one-first columns keys lead (CountDistinct e) = alone-first columns keys (CountDistinct e)
 one-first columns keys lead (Sum e) = alone-first columns keys (Sum e)
 one-first columns keys lead (Min e) = alone-first columns keys (Min e)
 one-first columns keys lead (Max e) = alone-first columns keys (Max e)
@@ -127,6 +130,7 @@ module _ (columns : List ℕ) (rows keys new : List Row) (none : AllByRecursion 
   alone-added : (a : Aggregate) → put_slots numbers (map (argument a) more) (grown_slots (length (keys ++ new)) (slots_at columns rows keys a)) ≡ slots_at columns (rows ++ more) (keys ++ new) a
   alone-added CountAll = ap Counts (added kept_count put_count 0 refl count-push (argument CountAll) columns rows keys new more numbers none apart are there)
   alone-added (Count e) = ap Counts (added kept_count put_count 0 refl count-push (argument (Count e)) columns rows keys new more numbers none apart are there)
+  alone-added (CountDistinct e) = ap Sets (added kept_set put_value [] refl set-push (argument (CountDistinct e)) columns rows keys new more numbers none apart are there)
   alone-added (Sum e) = ap Sums (added kept_sum put_sum no_sum refl sum-push (argument (Sum e)) columns rows keys new more numbers none apart are there)
   alone-added (Min e) =
       ap (Bests Least) (added (kept_best Least) (put_best Least) Null refl (best-push Least) (argument (Min e)) columns rows keys new more numbers none apart are there)

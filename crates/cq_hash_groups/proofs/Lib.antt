@@ -2,6 +2,7 @@ pub mod Beside
 pub mod Blocks
 pub mod Columns
 pub mod ColumnsShown
+pub mod Different
 pub mod Holding
 pub mod Keeping
 pub mod KeysMet

@@ -12,18 +12,19 @@ use Rattle.cq_model_bags.specs.Bag.{Weighted, once_each, firsts, distinct_rows}
 use Rattle.cq_model_bags.proofs.Totals.{by_test}
 use Rattle.cq_model_bags.proofs.Distincts.{once_each-filter, once_each-map}
 use Rattle.cq_model.specs.declared.query.Aggregate.{Aggregate}
-use Rattle.cq_model.specs.declared.query.Aggregate.TheVariants.{CountAll, Count, Sum, Min, Max}
+use Rattle.cq_model.specs.declared.query.Aggregate.TheVariants.{CountAll, Count, CountDistinct, Sum, Min, Max}
 use Rattle.cq_model.specs.Eval.{eval}
 use Rattle.cq_model.specs.Group.{InRange, SumInRange, SumsInRange, aggregate, group_row, grouped, key_of, keys_of, rows_of_key}
 use Rattle.cq_hash_groups_slots.specs.declared.bests.Extreme.TheVariants.{Least, Greatest}
 use Rattle.cq_hash_groups.specs.Arguments.{argument}
-use Rattle.cq_hash_groups.specs.Groups.{group_columns, group_keys, kept_best, kept_count, kept_each, kept_sum, known, rows_at, slots_at}
+use Rattle.cq_hash_groups.specs.Groups.{group_columns, group_keys, kept_best, kept_count, kept_each, kept_set, kept_sum, known, rows_at, slots_at}
 use Rattle.cq_hash_groups_sums.specs.declared.wide_sums.Sum.{Sum as Summed}
 use Rattle.cq_hash_groups_sums.specs.Puts.{no_sum, shown_sum}
 use Rattle.cq_hash_groups_slots.specs.Slots.{CanShow, shown_at}
 use Rattle.cq_model_bags.proofs.Lists.{all-weaker}
 use Rattle.cq_model_bags.proofs.Once.{distinct-once}
 use Rattle.cq_model.specs.Totals.{shown_total, total_of}
+use Rattle.cq_hash_groups.proofs.Different.{distinct-of}
 use Rattle.cq_model.proofs.ListedValues.{count-of, count_all-of, max-of, min-of, sum-in_range, sum-of, sum-shows}
 
 -- each row counts
@@ -45,6 +46,7 @@ module _ (columns : List ℕ) (rows keys : List Row) (group : ℕ) (key : Row) (
   shown-one : (a : Aggregate) → shown_at group (slots_at columns rows keys a) ≡ aggregate a (once_each (rows_at columns rows key))
   shown-one CountAll = ap (λ (n : ℕ). Number (pos n)) (at-group kept_count 0 (argument CountAll) ∙ count-rows (rows_at columns rows key)) ∙ count_all-of (rows_at columns rows key)
   shown-one (Count e) = ap (λ (n : ℕ). Number (pos n)) (at-group kept_count 0 (eval e)) ∙ count-of e (rows_at columns rows key)
+  shown-one (CountDistinct e) = ap (λ (vs : List Value). Number (pos (length vs))) (at-group kept_set [] (eval e)) ∙ distinct-of e (rows_at columns rows key)
   shown-one (Sum e) = ap shown_sum (at-group kept_sum no_sum (eval e)) ∙ shown-sum (known (map (eval e) (rows_at columns rows key))) ∙ sum-of e (rows_at columns rows key)
   shown-one (Min e) = at-group (kept_best Least) Null (eval e) ∙ min-of e (rows_at columns rows key)
   shown-one (Max e) = at-group (kept_best Greatest) Null (eval e) ∙ max-of e (rows_at columns rows key)
@@ -56,6 +58,7 @@ module _ (columns : List ℕ) (rows keys : List Row) (group : ℕ) (key : Row) (
   range-one : (a : Aggregate) → CanShow group (slots_at columns rows keys a) → SumInRange a (once_each (rows_at columns rows key))
   range-one CountAll h = tt
   range-one (Count e) h = tt
+  range-one (CountDistinct e) h = tt
   range-one (Sum e) h = sum-in_range e (rows_at columns rows key) (subst (λ (s : Summed). InRange s.total) (at-group kept_sum no_sum (eval e)) h)
   range-one (Min e) h = tt
   range-one (Max e) h = tt
@@ -63,6 +66,7 @@ module _ (columns : List ℕ) (rows keys : List Row) (group : ℕ) (key : Row) (
   one-range : (a : Aggregate) → SumInRange a (once_each (rows_at columns rows key)) → CanShow group (slots_at columns rows keys a)
   one-range CountAll h = tt
   one-range (Count e) h = tt
+  one-range (CountDistinct e) h = tt
   one-range (Sum e) h = subst (λ (s : Summed). InRange s.total) (sym (at-group kept_sum no_sum (eval e))) (sum-shows e (rows_at columns rows key) h)
   one-range (Min e) h = tt
   one-range (Max e) h = tt

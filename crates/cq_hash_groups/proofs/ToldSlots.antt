@@ -8,7 +8,7 @@ use Rattle.cq_model_bags.proofs.Totals.{by_test}
 use Rattle.cq_model.specs.Condition.{is_null}
 use Rattle.cq_model.specs.Expr.{Expr}
 use Rattle.cq_model.specs.declared.query.Aggregate.{Aggregate}
-use Rattle.cq_model.specs.declared.query.Aggregate.TheVariants.{CountAll, Count, Sum, Min, Max}
+use Rattle.cq_model.specs.declared.query.Aggregate.TheVariants.{CountAll, Count, CountDistinct, Sum, Min, Max}
 use Rattle.cq_hash_groups.specs.Arguments.{argument}
 use Rattle.cq_hash_groups.specs.Groups.{kept_at, kept_count, kept_each, kept_nulls, kept_sum, known, rows_at, slots_at}
 use Rattle.cq_hash_groups.specs.Lead.{at_place, first_sum, is_sum, lead_at, slots_of, sum_place, told, told_one}
@@ -37,6 +37,7 @@ module _ (columns : List ℕ) (rows keys : List Row) where
   told-alone [] = refl
   told-alone (CountAll ∷ aggregates) = ap (λ (ss : List Slots). slots_at columns rows keys CountAll ∷ ss) (told-alone aggregates)
   told-alone (Count e ∷ aggregates) = ap (λ (ss : List Slots). slots_at columns rows keys (Count e) ∷ ss) (told-alone aggregates)
+  told-alone (CountDistinct e ∷ aggregates) = ap (λ (ss : List Slots). slots_at columns rows keys (CountDistinct e) ∷ ss) (told-alone aggregates)
   told-alone (Sum e ∷ aggregates) = ap (λ (ss : List Slots). slots_at columns rows keys (Sum e) ∷ ss) (told-alone aggregates)
   told-alone (Min e ∷ aggregates) = ap (λ (ss : List Slots). slots_at columns rows keys (Min e) ∷ ss) (told-alone aggregates)
   told-alone (Max e ∷ aggregates) = ap (λ (ss : List Slots). slots_at columns rows keys (Max e) ∷ ss) (told-alone aggregates)
@@ -46,6 +47,7 @@ module _ (columns : List ℕ) (rows keys : List Row) where
   told-beside e [] = refl
   told-beside e (CountAll ∷ aggregates) = ap₂ (λ (s : Slots) (ss : List Slots). s ∷ ss) (ap Counts (rows-kept (argument (Sum e)) keys)) (told-beside e aggregates)
   told-beside e (Count f ∷ aggregates) = ap (λ (ss : List Slots). slots_at columns rows keys (Count f) ∷ ss) (told-beside e aggregates)
+  told-beside e (CountDistinct f ∷ aggregates) = ap (λ (ss : List Slots). slots_at columns rows keys (CountDistinct f) ∷ ss) (told-beside e aggregates)
   told-beside e (Sum f ∷ aggregates) = ap (λ (ss : List Slots). slots_at columns rows keys (Sum f) ∷ ss) (told-beside e aggregates)
   told-beside e (Min f ∷ aggregates) = ap (λ (ss : List Slots). slots_at columns rows keys (Min f) ∷ ss) (told-beside e aggregates)
   told-beside e (Max f ∷ aggregates) = ap (λ (ss : List Slots). slots_at columns rows keys (Max f) ∷ ss) (told-beside e aggregates)
@@ -54,6 +56,7 @@ module _ (columns : List ℕ) (rows keys : List Row) where
   told-sum : (aggregates : List Aggregate) (lead : Aggregate) → is_sum lead ≡ true → told (kept_at columns rows keys (Some lead) lead) aggregates (map (kept_at columns rows keys (Some lead)) aggregates) ≡ map (slots_at columns rows keys) aggregates
   told-sum aggregates CountAll is = absurd (cc is)
   told-sum aggregates (Count e) is = absurd (cc is)
+  told-sum aggregates (CountDistinct e) is = absurd (cc is)
   told-sum aggregates (Sum e) is = told-beside e aggregates
   told-sum aggregates (Min e) is = absurd (cc is)
   told-sum aggregates (Max e) is = absurd (cc is)

@@ -1,13 +1,14 @@
 -- What is kept for each aggregate, one after the other.
 use Rattle.std.proofs.Common.{◌≡◌, ℕ, zero, suc, ◌+◌, ◌-◌, ◌<◌, ◌≤◌, List, [], ◌∷◌, map, take, replicate, length, get_or, set, refl, sym, ◌∙◌, ap, ap₂, min, add-one, arith, subst, Option}
 use Rattle.std.proofs.lemmas.List.{get_or_default, length-append, length-replicate}
+use Rattle.cq_values.specs.declared.value.Value.{Value}
 use Rattle.cq_values.specs.declared.value.Value.TheVariants.{Null}
 use Rattle.cq_values.specs.Value.{Row}
 use Rattle.cq_model.specs.declared.query.Aggregate.{Aggregate}
-use Rattle.cq_model.specs.declared.query.Aggregate.TheVariants.{CountAll, Count, Sum, Min, Max}
+use Rattle.cq_model.specs.declared.query.Aggregate.TheVariants.{CountAll, Count, CountDistinct, Sum, Min, Max}
 use Rattle.cq_hash_groups_slots.specs.declared.slots.Slots.{Slots}
 use Rattle.cq_hash_groups.specs.Groups.{AreAllWithin, added_slots, all_added}
-use Rattle.cq_hash_groups_slots.specs.declared.slots.Slots.TheVariants.{Counts, Sums, Bests}
+use Rattle.cq_hash_groups_slots.specs.declared.slots.Slots.TheVariants.{Counts, Sums, Bests, Sets}
 use Rattle.cq_hash_groups_sums.specs.Puts.{IsSumWithin, no_sum}
 use Rattle.cq_hash_groups_slots.specs.Slots.{AreWithin, empty_slots, groups_in, grown_slots, no_slots}
 use Rattle.cq_hash_groups_sums.proofs.Putting.{at-grown, sums-more}
@@ -74,10 +75,12 @@ within-grown : (n groups : ℕ) (s : Slots) → AreWithin n s → AreWithin n (g
 within-grown n groups (Counts counts) all = at-grown (λ c. c ≤ n) counts (groups - length counts) 0 (omega arith) all
 within-grown n groups (Sums sums) all = at-grown (IsSumWithin n) sums (groups - length sums) no_sum (record { count = omega arith; total = omega arith }) all
 within-grown n groups (Bests which values) all = tt
+within-grown n groups (Sets sets) all = tt
 
 within-empty : (n : ℕ) (a : Aggregate) → AreWithin n (empty_slots a)
 within-empty n CountAll = λ g. omega arith
 within-empty n (Count e) = λ g. omega arith
+within-empty n (CountDistinct e) = tt
 within-empty n (Sum e) = λ g. record { count = omega arith; total = omega arith }
 within-empty n (Min e) = tt
 within-empty n (Max e) = tt
@@ -91,9 +94,11 @@ pub within-more : (few many : ℕ) (s : Slots) → few ≤ many → AreWithin fe
 within-more few many (Counts counts) le all = λ g. omega (arith, le, all g)
 within-more few many (Sums sums) le all = sums-more few many sums le all
 within-more few many (Bests which values) le all = tt
+within-more few many (Sets sets) le all = tt
 
 -- there are as many groups as there are to be
 pub groups-grown : (groups : ℕ) (s : Slots) → groups ≤ groups_in (grown_slots groups s)
 groups-grown groups (Counts counts) = omega (arith, length-append counts (replicate (groups - length counts) 0), length-replicate {A = ℕ} (groups - length counts) 0)
 groups-grown groups (Sums sums) = omega (arith, length-append sums (replicate (groups - length sums) no_sum), length-replicate (groups - length sums) no_sum)
 groups-grown groups (Bests which values) = omega (arith, length-append values (replicate (groups - length values) Null), length-replicate (groups - length values) Null)
+groups-grown groups (Sets sets) = omega (arith, length-append sets (replicate {A = List Value} (groups - length sets) []), length-replicate {A = List Value} (groups - length sets) [])

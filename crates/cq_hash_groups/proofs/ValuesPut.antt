@@ -2,13 +2,18 @@
 use Rattle.std.proofs.Common.{◌≡◌, false, cond, List, [], ◌∷◌, ◌++◌, filter, length, refl, sym, ◌∙◌, ap, ap₂, subst, ◌⊎◌, inl, inr}
 use Rattle.std.specs.List.{AllByRecursion}
 use Rattle.std.proofs.lemmas.List.{length-append}
+use Rattle.std.proofs.lemmas.List.Sums.{fold_push}
+use Rattle.indexmap.specs.IndexSet.{insert_key}
 use Rattle.cq_values.specs.declared.value.Value.{Value}
 use Rattle.cq_model_bags.proofs.Totals.{by_test}
 use Rattle.cq_model.specs.Condition.{is_null}
 use Rattle.cq_model.specs.Group.{extreme}
 use Rattle.cq_hash_groups_slots.specs.declared.bests.Extreme.{Extreme}
 use Rattle.cq_hash_groups_slots.specs.declared.bests.Extreme.TheVariants.{Least, Greatest}
-use Rattle.cq_hash_groups.specs.Groups.{known, kept_count, kept_nulls, kept_sum, kept_best}
+use Rattle.cq_hash_groups.specs.Groups.{known, kept_count, kept_nulls, kept_set, kept_sum, kept_best}
+use Rattle.cq_hash_keys_values.specs.Met.{with_new}
+use Rattle.cq_hash_keys_values.specs.Values.{same_value}
+use Rattle.cq_hash_groups_distinct.specs.Sets.{put_value}
 use Rattle.cq_hash_groups_sums.specs.Puts.{put_sum, summed}
 use Rattle.cq_hash_groups_slots.specs.Puts.{best_of, put_best, put_count, put_null}
 use Rattle.cq_model.proofs.Extremes.{IsChoice, IsOne, extreme-best, extreme-one, higher-choice, lower-choice}
@@ -16,7 +21,7 @@ use Rattle.cq_model.specs.Totals.{total_of}
 use Rattle.cq_model.proofs.ListedValues.{total-push}
 
 -- NULL is not known
-known-push : (vs : List Value) (v : Value) → known (vs ++ v ∷ []) ≡ cond (is_null v) (known vs) (known vs ++ v ∷ [])
+pub known-push : (vs : List Value) (v : Value) → known (vs ++ v ∷ []) ≡ cond (is_null v) (known vs) (known vs ++ v ∷ [])
 known-push [] v = by_test (is_null v) (λ k. rw k refl) (λ k. rw k refl)
 known-push (w ∷ vs) v = by_test (is_null w)
     (λ k. rw k (known-push vs v))
@@ -37,6 +42,11 @@ pub null-push : (vs : List Value) (v : Value) → kept_nulls (vs ++ v ∷ []) �
 null-push vs v = ap length (nulls-push vs v) ∙ by_test (is_null v)
     (λ k. rw k (length-append (filter is_null vs) (v ∷ []) ∙ refl))
     (λ k. rw k refl)
+
+pub set-push : (vs : List Value) (v : Value) → kept_set (vs ++ v ∷ []) ≡ put_value (kept_set vs) v
+set-push vs v = ap (with_new same_value []) (known-push vs v) ∙ by_test (is_null v)
+    (λ k. rw k refl)
+    (λ k. rw k (fold_push (insert_key same_value) [] (known vs) v))
 
 pub sum-push : (vs : List Value) (v : Value) → kept_sum (vs ++ v ∷ []) ≡ put_sum (kept_sum vs) v
 sum-push vs v = ap (λ (ws : List Value). summed (length ws) (total_of ws)) (known-push vs v) ∙ by_test (is_null v)

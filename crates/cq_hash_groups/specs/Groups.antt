@@ -8,15 +8,17 @@ use Rattle.cq_model_bags.specs.Bag.{firsts, once_each}
 use Rattle.cq_model.specs.Condition.{is_null}
 use Rattle.cq_model.specs.Group.{SumsInRange, extreme, grouped, key_of}
 use Rattle.cq_model.specs.declared.query.Aggregate.{Aggregate}
-use Rattle.cq_model.specs.declared.query.Aggregate.TheVariants.{CountAll, Count, Sum, Min, Max}
+use Rattle.cq_model.specs.declared.query.Aggregate.TheVariants.{CountAll, Count, CountDistinct, Sum, Min, Max}
 use Rattle.cq_vectors.specs.Gathered.{column_of}
 use Rattle.cq_model.specs.declared.fault.ShowFault.{ShowFault}
 use Rattle.cq_model.specs.declared.fault.ShowFault.TheVariants.{SumOutOfRange}
+use Rattle.cq_hash_keys_values.specs.Met.{with_new}
+use Rattle.cq_hash_keys_values.specs.Values.{same_value}
 use Rattle.cq_hash_keys.specs.Keys.{HasValues, key_at}
 use Rattle.cq_hash_groups_slots.specs.declared.bests.Extreme.{Extreme}
 use Rattle.cq_hash_groups_slots.specs.declared.bests.Extreme.TheVariants.{Least, Greatest}
 use Rattle.cq_hash_groups_slots.specs.declared.slots.Slots.{Slots}
-use Rattle.cq_hash_groups_slots.specs.declared.slots.Slots.TheVariants.{Counts, Sums, Bests}
+use Rattle.cq_hash_groups_slots.specs.declared.slots.Slots.TheVariants.{Counts, Sums, Bests, Sets}
 use Rattle.cq_hash_groups_sums.specs.declared.wide_sums.Sum.{Sum as Summed}
 use Rattle.cq_hash_groups_sums.specs.Puts.{summed}
 use Rattle.cq_hash_groups_slots.specs.Puts.{best_of}
@@ -75,6 +77,10 @@ known values = filter (λ v. not (is_null v)) values
 abbrev pub kept_count : List Value → ℕ
 kept_count values = length (known values)
 
+-- each of them once, as they were first met
+abbrev pub kept_set : List Value → List Value
+kept_set values = with_new same_value [] (known values)
+
 -- their exact total
 abbrev pub kept_sum : List Value → Summed
 kept_sum values = summed (length (known values)) (total_of (known values))
@@ -95,6 +101,7 @@ kept_each kept value columns rows keys = map (λ key. kept (map value (rows_at c
 abbrev pub slots_at : List ℕ → List Row → List Row → Aggregate → Slots
 slots_at columns rows keys CountAll = Counts (kept_each kept_count (argument CountAll) columns rows keys)
 slots_at columns rows keys (Count e) = Counts (kept_each kept_count (argument (Count e)) columns rows keys)
+slots_at columns rows keys (CountDistinct e) = Sets (kept_each kept_set (argument (CountDistinct e)) columns rows keys)
 slots_at columns rows keys (Sum e) = Sums (kept_each kept_sum (argument (Sum e)) columns rows keys)
 slots_at columns rows keys (Min e) = Bests Least (kept_each (kept_best Least) (argument (Min e)) columns rows keys)
 slots_at columns rows keys (Max e) = Bests Greatest (kept_each (kept_best Greatest) (argument (Max e)) columns rows keys)

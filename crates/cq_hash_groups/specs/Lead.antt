@@ -3,7 +3,7 @@ use Rattle.std.specs.Prelude.{◌≡◌, ◌<◌, ℕ, Bool, true, false, List, 
 use Rattle.std.specs.Borrow.{Bor}
 use Rattle.cq_values.specs.Value.{Row}
 use Rattle.cq_model.specs.declared.query.Aggregate.{Aggregate}
-use Rattle.cq_model.specs.declared.query.Aggregate.TheVariants.{CountAll, Count, Sum, Min, Max}
+use Rattle.cq_model.specs.declared.query.Aggregate.TheVariants.{CountAll, Count, CountDistinct, Sum, Min, Max}
 use Rattle.cq_operators_scans.specs.Operand.{values_in}
 use Rattle.cq_hash_groups.specs.Arguments.{argument}
 use Rattle.cq_hash_groups.specs.declared.lead.Lead.{Lead}
@@ -14,6 +14,7 @@ use Rattle.cq_hash_groups_slots.specs.Slots.{beside, no_slots}
 abbrev pub is_sum : Aggregate → Bool
 is_sum CountAll = false
 is_sum (Count e) = false
+is_sum (CountDistinct e) = false
 is_sum (Sum e) = true
 is_sum (Min e) = false
 is_sum (Max e) = false
@@ -22,6 +23,7 @@ is_sum (Max e) = false
 abbrev pub is_count_all : Aggregate → Bool
 is_count_all CountAll = true
 is_count_all (Count e) = false
+is_count_all (CountDistinct e) = false
 is_count_all (Sum e) = false
 is_count_all (Min e) = false
 is_count_all (Max e) = false
@@ -52,6 +54,7 @@ lead_at aggregates slots = slots_of slots (sum_place aggregates)
 abbrev pub counted_beside : Option Aggregate → Aggregate → Option Aggregate
 counted_beside lead CountAll = lead
 counted_beside lead (Count e) = None
+counted_beside lead (CountDistinct e) = None
 counted_beside lead (Sum e) = None
 counted_beside lead (Min e) = None
 counted_beside lead (Max e) = None
@@ -71,6 +74,7 @@ lead_in (Some slots) = slots.now
 abbrev pub told_one : Slots → Aggregate → Slots → Slots
 told_one lead CountAll own = beside lead own
 told_one lead (Count e) own = own
+told_one lead (CountDistinct e) own = own
 told_one lead (Sum e) own = own
 told_one lead (Min e) own = own
 told_one lead (Max e) own = own

@@ -25,6 +25,7 @@ pub(crate) fn argument_of<'s, 'a>(
     match aggregate {
         Aggregate::CountAll => Ok(Operand::Own(ones(scan.len()))),
         Aggregate::Count(expr)
+        | Aggregate::CountDistinct(expr)
         | Aggregate::Sum(expr)
         | Aggregate::Min(expr)
         | Aggregate::Max(expr) => vector_of(alloc, buffers, expr, scan),

@@ -51,6 +51,7 @@ pub(crate) fn read_again(
         match aggregate {
             Aggregate::CountAll => {}
             Aggregate::Count(expr)
+            | Aggregate::CountDistinct(expr)
             | Aggregate::Sum(expr)
             | Aggregate::Min(expr)
             | Aggregate::Max(expr) => met.meet_in(alloc, expr.tree())?,

@@ -1,5 +1,5 @@
 //! What is kept of groups for one aggregate.
-ghost use Rattle.std.specs.Prelude.{◌+◌, ◌-◌, ◌^◌, ◌≡◌, IfErr, IfOk, OnOk, length, pos, slice_index_or, ℕ};
+ghost use Rattle.std.specs.Prelude.{[], ◌+◌, ◌-◌, ◌^◌, ◌≡◌, IfErr, IfOk, OnOk, length, pos, slice_index_or, ℕ};
 ghost use Rattle.cq_values.specs.Lent.{owned};
 ghost use Rattle.cq_values.specs.declared.value.Value.TheVariants.{Number};
 ghost use Rattle.cq_model.specs.declared.fault.ShowFault.TheVariants.{SumOutOfRange};
@@ -8,6 +8,7 @@ ghost use Rattle.cq_hash_groups_slots.specs.Slots.{AreWithin, CanShow, beside, e
 
 use crate::bests::{Bests, Extreme};
 use crate::counts::Counts;
+use cq_hash_groups_distinct::ValueSets;
 use cq_hash_groups_sums::Sums;
 use cq_model::{Aggregate, ShowFault};
 use cq_values::Lent;
@@ -20,6 +21,7 @@ pub enum Slots {
     Counts(Counts),
     Sums(Sums),
     Bests(Extreme, Bests),
+    Sets(ValueSets),
 }
 
 impl Slots {
@@ -29,6 +31,7 @@ impl Slots {
     {
         match aggregate {
             Aggregate::CountAll | Aggregate::Count(_) => Slots::Counts(Counts::new(alloc)),
+            Aggregate::CountDistinct(_) => Slots::Sets(ValueSets::new(alloc)),
             Aggregate::Sum(_) => Slots::Sums(Sums::new(alloc)),
             Aggregate::Min(_) => Slots::Bests(Extreme::Least, Bests::new(alloc)),
             Aggregate::Max(_) => Slots::Bests(Extreme::Greatest, Bests::new(alloc)),
@@ -44,6 +47,7 @@ impl Slots {
             Slots::Counts(counts) => counts.grow(groups),
             Slots::Sums(sums) => sums.grow(groups),
             Slots::Bests(_, bests) => bests.grow(groups),
+            Slots::Sets(sets) => sets.grow(groups),
         }
     }
 
@@ -67,6 +71,7 @@ impl Slots {
             }
             Slots::Sums(sums) => sums.put(alloc, numbers, values),
             Slots::Bests(which, bests) => bests.put(alloc, *which, numbers, values),
+            Slots::Sets(sets) => sets.put(alloc, numbers, values),
         }
     }
 
@@ -107,6 +112,7 @@ impl Slots {
             Slots::Counts(counts) => Ok(counts.lend(group)),
             Slots::Sums(sums) => sums.lend(group),
             Slots::Bests(_, bests) => Ok(bests.lend(group)),
+            Slots::Sets(sets) => Ok(size_of(sets, group)),
         }
     }
 }
@@ -117,4 +123,11 @@ fn rows_of<'s>(sums: &Sums, nulls: &Counts, group: usize) -> Lent<'s>
     ensures { owned result ≡ Number (pos (slice_index_or (rows_counted sums.now nulls.now) group 0)) }
 {
     Lent::Number(i128::from(sums.count(group)) + i128::from(nulls.count(group)))
+}
+
+/// How many different values a group has.
+fn size_of<'s>(sets: &ValueSets, group: usize) -> Lent<'s>
+    ensures { owned result ≡ Number (pos (length (slice_index_or sets.now group []))) }
+{
+    Lent::Number(i128::from(sets.count(group)))
 }

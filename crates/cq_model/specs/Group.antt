@@ -1,5 +1,5 @@
 -- What a group of rows gives (ISO 9075-2, 10.9), and how rows fall into groups (7.13).
-use Rattle.std.specs.Prelude.{ℕ, ℤ, pos, neg_ℤ, ◌≤ℤ◌, ◌<ℤ◌, not, if◌then◌else◌, List, [], ◌∷◌, ◌++◌, map, filter, Option, Some, None}
+use Rattle.std.specs.Prelude.{ℕ, ℤ, pos, neg_ℤ, ◌≤ℤ◌, ◌<ℤ◌, not, if◌then◌else◌, List, [], ◌∷◌, ◌++◌, map, filter, length, Option, Some, None}
 use Rattle.std.specs.Ordering.{int_eq, is_gt}
 use Rattle.std.specs.List.{AllByRecursion}
 use Rattle.cq_values.specs.declared.value.Value.{Value}
@@ -9,7 +9,7 @@ use Rattle.cq_values.specs.Order.{value_cmp, same_row}
 use Rattle.cq_model_bags.specs.Bag.{Weighted, total, filtered, projected, distinct_rows, once_each}
 use Rattle.cq_model.specs.Expr.{Expr}
 use Rattle.cq_model.specs.declared.query.Aggregate.{Aggregate}
-use Rattle.cq_model.specs.declared.query.Aggregate.TheVariants.{CountAll, Count, Sum, Min, Max}
+use Rattle.cq_model.specs.declared.query.Aggregate.TheVariants.{CountAll, Count, CountDistinct, Sum, Min, Max}
 use Rattle.cq_model.specs.Condition.{is_null}
 use Rattle.cq_model.specs.Eval.{eval}
 use Rattle.cq_model.specs.Width.{number_limit}
@@ -43,6 +43,18 @@ lower v w = if is_gt (value_cmp v w) then w else v
 abbrev pub higher : Value → Value → Value
 higher v w = if is_gt (value_cmp v w) then v else w
 
+-- the bag of an argument's values, each as a row of one column
+abbrev pub value_bag : Expr → Weighted → Weighted
+value_bag e xs = projected (λ r. eval e r ∷ []) xs
+
+-- the values of such a bag, each once, NULL left out
+abbrev pub distinct_values : Weighted → List Value
+distinct_values values = filter (λ v. not (is_null v)) (map (λ r. column r 0) (distinct_rows values))
+
+-- how many different values other than NULL the rows have
+abbrev pub count_distinct : Expr → Weighted → ℤ
+count_distinct e xs = pos (length (distinct_values (value_bag e xs)))
+
 -- the extreme of several values, and NULL where there is none
 abbrev pub extreme : (Value → Value → Value) → List Value → Value
 extreme best [] = Null
@@ -53,17 +65,14 @@ extreme best (v ∷ w ∷ vs) = best v (extreme best (w ∷ vs))
 abbrev pub aggregate : Aggregate → Weighted → Value
 aggregate CountAll xs = Number (count_all xs)
 aggregate (Count e) xs = Number (count_values e xs)
+aggregate (CountDistinct e) xs = Number (count_distinct e xs)
 aggregate (Sum e) xs = if int_eq (count_values e xs) (pos 0) then Null else Number (sum_values e xs)
 aggregate (Min e) xs = extreme lower (values_of e xs)
 aggregate (Max e) xs = extreme higher (values_of e xs)
 
--- the bag of an argument's values, each as a row of one column
-abbrev pub value_bag : Expr → Weighted → Weighted
-value_bag e xs = projected (λ r. eval e r ∷ []) xs
-
 -- the extreme of a bag of values, NULL left out
 abbrev pub extreme_of : (Value → Value → Value) → Weighted → Value
-extreme_of best values = extreme best (filter (λ v. not (is_null v)) (map (λ r. column r 0) (distinct_rows values)))
+extreme_of best values = extreme best (distinct_values values)
 
 -- the key of a row: its values in the columns of GROUP BY
 abbrev pub key_of : List ℕ → Row → Row

@@ -2,7 +2,7 @@
 use Rattle.std.specs.Prelude.{ℕ, ◌<◌, ◌≤◌, ◌^◌, List, ◌++◌, map, slice_index_or, unwrap_or, [], Option}
 use Rattle.cq_model.specs.Expr.{Cond}
 use Rattle.cq_model.specs.declared.query.Aggregate.{Aggregate}
-use Rattle.cq_model.specs.declared.query.Aggregate.TheVariants.{CountAll, Count, Sum, Min, Max}
+use Rattle.cq_model.specs.declared.query.Aggregate.TheVariants.{CountAll, Count, CountDistinct, Sum, Min, Max}
 use Rattle.cq_model.specs.declared.query.Query.{Query}
 use Rattle.cq_model.specs.declared.query.Shape.{Shape}
 use Rattle.cq_model.specs.declared.query.Shape.TheVariants.{Plain, Grouped}
@@ -32,7 +32,7 @@ text_limit = 4096
 
 -- a count is at most so large, as more rows than this have no place in memory
 abbrev pub count_size : ℕ
-count_size = 2 ^ 96
+count_size = 2 ^ 120
 
 -- the columns of a table
 abbrev pub stored_sizes : List ColumnDef → List ℕ
@@ -42,6 +42,7 @@ stored_sizes columns = map (λ c. stored_size) columns
 abbrev pub aggregate_size : (ℕ → ℕ) → Aggregate → ℕ
 aggregate_size sizes CountAll = count_size
 aggregate_size sizes (Count e) = count_size
+aggregate_size sizes (CountDistinct e) = count_size
 aggregate_size sizes (Sum e) = number_limit
 aggregate_size sizes (Min e) = (width e sizes).size
 aggregate_size sizes (Max e) = (width e sizes).size
@@ -50,6 +51,7 @@ aggregate_size sizes (Max e) = (width e sizes).size
 abbrev pub IsArgumentNarrow : (ℕ → ℕ) → Aggregate → Type 0
 IsArgumentNarrow sizes CountAll = Unit {0}
 IsArgumentNarrow sizes (Count e) = widest sizes e < number_limit
+IsArgumentNarrow sizes (CountDistinct e) = widest sizes e < number_limit
 IsArgumentNarrow sizes (Sum e) = widest sizes e < number_limit
 IsArgumentNarrow sizes (Min e) = widest sizes e < number_limit
 IsArgumentNarrow sizes (Max e) = widest sizes e < number_limit

@@ -4,7 +4,7 @@
 pub const STORED_SIZE: u128 = 1 << 63;
 
 /// A count is at most so large.
-pub const COUNT_SIZE: u128 = 1 << 96;
+pub const COUNT_SIZE: u128 = 1 << 120;
 
 /// The least size that is too wide for a number that is written or worked out.
 pub const TOO_WIDE: u128 = 1 << 127;

@@ -28,11 +28,13 @@ pub struct Join {
     pub on: Seq<Equality>,
 }
 
-/// What a group shows of its rows. But for `CountAll` only values other than NULL count.
+/// What a group shows of its rows. But for `CountAll` only values other than NULL count, and for `CountDistinct` each of
+/// them once.
 #[derive(Debug, Drop)]
 pub enum Aggregate {
     CountAll,
     Count(Expr),
+    CountDistinct(Expr),
     Sum(Expr),
     Min(Expr),
     Max(Expr),

@@ -17,7 +17,7 @@ use Rattle.cq_values.specs.declared.value.Value.{Value}
 use Rattle.cq_model.specs.Expr.{Expr, Column, Literal, Negate, Plus, Times, Extract, Cond, Compare, IsNull, Between, In, Like, Not, And, Or}
 use Rattle.cq_model.specs.Sources.{same_source}
 use Rattle.cq_model.specs.declared.query.Aggregate.{Aggregate}
-use Rattle.cq_model.specs.declared.query.Aggregate.TheVariants.{CountAll, Count, Sum, Min, Max}
+use Rattle.cq_model.specs.declared.query.Aggregate.TheVariants.{CountAll, Count, CountDistinct, Sum, Min, Max}
 use Rattle.cq_model.specs.declared.query.Equality.{Equality}
 use Rattle.cq_model.specs.declared.query.Join.{Join}
 use Rattle.cq_model.specs.declared.query.Source.{Source}
@@ -132,6 +132,7 @@ cond_itself (Or a b) = ap₂ (λ s t. s && t) (cond_itself a) (cond_itself b)
 aggregate_is : (a b : Aggregate) → same_aggregate a b ≡ true → a ≡ b
 aggregate_is CountAll CountAll h = refl
 aggregate_is (Count a) (Count b) h = ap Count (expr_is a b h)
+aggregate_is (CountDistinct a) (CountDistinct b) h = ap CountDistinct (expr_is a b h)
 aggregate_is (Sum a) (Sum b) h = ap Sum (expr_is a b h)
 aggregate_is (Min a) (Min b) h = ap Min (expr_is a b h)
 aggregate_is (Max a) (Max b) h = ap Max (expr_is a b h)
@@ -140,6 +141,7 @@ aggregate_is a b h = absurd (cc h)
 aggregate_itself : (a : Aggregate) → same_aggregate a a ≡ true
 aggregate_itself CountAll = refl
 aggregate_itself (Count a) = expr_itself a
+aggregate_itself (CountDistinct a) = expr_itself a
 aggregate_itself (Sum a) = expr_itself a
 aggregate_itself (Min a) = expr_itself a
 aggregate_itself (Max a) = expr_itself a

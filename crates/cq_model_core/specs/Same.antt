@@ -11,7 +11,7 @@ use Rattle.cq_values.specs.declared.day_part.DayPart.TheVariants as part
 use Rattle.cq_values.specs.declared.value.Value.{Value}
 use Rattle.cq_model.specs.Expr.{Expr, Column, Literal, Negate, Plus, Times, Extract, Cond, Compare, IsNull, Between, In, Like, Not, And, Or}
 use Rattle.cq_model.specs.declared.query.Aggregate.{Aggregate}
-use Rattle.cq_model.specs.declared.query.Aggregate.TheVariants.{CountAll, Count, Sum, Min, Max}
+use Rattle.cq_model.specs.declared.query.Aggregate.TheVariants.{CountAll, Count, CountDistinct, Sum, Min, Max}
 
 -- two values
 abbrev pub same_value : Value → Value → Bool
@@ -60,6 +60,7 @@ same_cond a b = false
 abbrev pub same_aggregate : Aggregate → Aggregate → Bool
 same_aggregate CountAll CountAll = true
 same_aggregate (Count a) (Count b) = same_expr a b
+same_aggregate (CountDistinct a) (CountDistinct b) = same_expr a b
 same_aggregate (Sum a) (Sum b) = same_expr a b
 same_aggregate (Min a) (Min b) = same_expr a b
 same_aggregate (Max a) (Max b) = same_expr a b

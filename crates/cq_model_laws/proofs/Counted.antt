@@ -1,4 +1,4 @@
--- MIN and MAX are extremes of the bag of the argument's values.
+-- MIN and MAX are extremes of the bag of the argument's values, and what is kept of an aggregate shows it.
 use Rattle.std.proofs.Common.{◌≡◌, Bool, true, not, ◌||◌, List, [], ◌∷◌, ◌++◌, map, refl, sym, ◌∙◌, ap, subst, inl, inr}
 use Rattle.std.specs.List.{list_any}
 use Rattle.cq_values.specs.declared.value.Value.{Value}
@@ -11,13 +11,14 @@ use Rattle.cq_model.specs.Condition.{is_null}
 use Rattle.cq_model.specs.Eval.{eval}
 use Rattle.cq_model_bags.specs.Bag.{Weighted, SameBag, IsBag, distinct_rows}
 use Rattle.cq_model.specs.declared.query.Aggregate.{Aggregate}
-use Rattle.cq_model.specs.declared.query.Aggregate.TheVariants.{CountAll, Count, Sum, Min, Max}
+use Rattle.cq_model.specs.declared.query.Aggregate.TheVariants.{CountAll, Count, CountDistinct, Sum, Min, Max}
 use Rattle.cq_model.specs.Group.{values_of, value_bag, extreme_of, extreme, lower, higher, aggregate, group_row}
 use Rattle.cq_views_model.specs.Kept.{Kept, Counted, Totalled, Listed, IsKept, kept_value, shown_values, AreKept, Group, GroupStands, shown_row}
 use Rattle.cq_model_bags.proofs.Totals.{by_test}
 use Rattle.cq_model_bags.proofs.Bags.{same-sym}
 use Rattle.cq_model_bags.proofs.Distincts.{is_among-distinct}
 use Rattle.cq_model_bags.proofs.Entries.{image-there}
+use Rattle.cq_model_laws.proofs.DistinctValues.{distinct_values-respect}
 use Rattle.cq_model_laws.proofs.Groups.{kept_values-respect}
 use Rattle.cq_model.proofs.Occurring.{IsRowOf, kept_values, row-from-test, row-to-test, value-from-rows, value-to-rows}
 use Rattle.cq_model.proofs.Extremes.{IsChoice, IsDownTo, IsOne, IsUpTo, extreme-same, higher-choice, lower-choice}
@@ -79,6 +80,7 @@ extreme_of-respects best R c xs ys s =
 pub kept-shows : (a : Aggregate) (xs : Weighted) (k : Kept) → IsBag xs → IsKept a xs k → kept_value a k ≡ aggregate a xs
 kept-shows CountAll xs (Counted n) b h = ap Number h
 kept-shows (Count e) xs (Counted n) b h = ap Number h
+kept-shows (CountDistinct e) xs (Listed values) b h = ap Number (distinct_values-respect values (value_bag e xs) h)
 kept-shows (Sum e) xs (Totalled n total) b h = rw (h.0, h.1) refl
 kept-shows (Min e) xs (Listed values) b h = extreme_of-respects lower IsUpTo lower-choice values (value_bag e xs) h ∙ sym (extreme-counted e xs b lower IsUpTo lower-choice)
 kept-shows (Max e) xs (Listed values) b h = extreme_of-respects higher IsDownTo higher-choice values (value_bag e xs) h ∙ sym (extreme-counted e xs b higher IsDownTo higher-choice)
@@ -86,6 +88,8 @@ kept-shows CountAll xs (Totalled n t) b h = absurd h
 kept-shows CountAll xs (Listed v) b h = absurd h
 kept-shows (Count e) xs (Totalled n t) b h = absurd h
 kept-shows (Count e) xs (Listed v) b h = absurd h
+kept-shows (CountDistinct e) xs (Counted n) b h = absurd h
+kept-shows (CountDistinct e) xs (Totalled n t) b h = absurd h
 kept-shows (Sum e) xs (Counted n) b h = absurd h
 kept-shows (Sum e) xs (Listed v) b h = absurd h
 kept-shows (Min e) xs (Counted n) b h = absurd h

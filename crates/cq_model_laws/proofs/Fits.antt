@@ -12,6 +12,7 @@ use Rattle.cq_model_bags.specs.Bag.{SameBag, once_each}
 use Rattle.cq_model_bags.proofs.Listings.{times_in, same_times}
 use Rattle.cq_model_bags.proofs.Totals.{by_test}
 use Rattle.cq_model.specs.Group.{InRange}
+use Rattle.cq_model.specs.Sizes.{count_size}
 use Rattle.cq_model.specs.Width.{value_size}
 use Rattle.cq_model_laws.proofs.Ranges.{all-at, all-from}
 use Rattle.cq_model.proofs.Occurring.{IsRowOf}
@@ -75,7 +76,7 @@ test-within true = (omega (arith, ints), omega (arith, ints))
 test-within false = (omega (arith, ints), omega (arith, ints))
 
 -- a count is of its size
-pub count-fits : (n : ℤ) (m : ℕ) → IsCount n m → m ≤ 2 ^ 96 → Fits (Number n) (2 ^ 96)
+pub count-fits : (n : ℤ) (m : ℕ) → IsCount n m → m ≤ count_size → Fits (Number n) count_size
 count-fits n m h few = omega (arith, ints, h.0, h.1, few)
 
 -- and so is a total that can be shown

@@ -7,23 +7,24 @@ use Rattle.std.specs.Prelude.{Some, None}
 use Rattle.cq_values.specs.declared.value.Value.{Value}
 use Rattle.cq_values.specs.Keys.{same_row-same}
 use Rattle.cq_values.specs.Order.{same_row, value_cmp}
-use Rattle.cq_values.specs.Value.{Row}
+use Rattle.cq_values.specs.Value.{Row, column}
 use Rattle.cq_model_bags.specs.Bag.{IsBag, Weighted, distinct_rows, projected, total, weight_of}
 use Rattle.cq_model_bags.proofs.Entries.{distinct_rows-positive}
 use Rattle.cq_model_bags.proofs.Linears.{weight_of-projected}
-use Rattle.cq_model_bags.proofs.Positives.{filtered-bag, total-positive}
-use Rattle.cq_model_bags.proofs.Totals.{by_test, is_row, total-filtered, total-plus, total-same}
+use Rattle.cq_model_bags.proofs.Positives.{filtered-bag, projected-bag, total-positive}
+use Rattle.cq_model_bags.proofs.Totals.{by_test, is_row, total-filtered, total-plus, total-projected, total-same}
 use Rattle.cq_model.specs.Expr.{Expr}
 use Rattle.cq_model.specs.declared.query.Aggregate.{Aggregate}
-use Rattle.cq_model.specs.declared.query.Aggregate.TheVariants.{CountAll, Count, Sum, Min, Max}
+use Rattle.cq_model.specs.declared.query.Aggregate.TheVariants.{CountAll, Count, CountDistinct, Sum, Min, Max}
 use Rattle.cq_model.specs.Condition.{is_null}
 use Rattle.cq_model.specs.Eval.{eval}
-use Rattle.cq_model.specs.Group.{SumInRange, aggregate, count_all, count_values, extreme, group_row, higher, key_of, keys_of, lower, rows_of_key, sum_values, values_of}
+use Rattle.cq_model.specs.Group.{SumInRange, aggregate, count_all, count_distinct, count_values, extreme, group_row, higher, key_of, keys_of, lower, rows_of_key, sum_values, value_bag, values_of}
 use Rattle.cq_model.specs.Width.{limits_of, width}
-use Rattle.cq_model.specs.Sizes.{aggregate_size}
+use Rattle.cq_model.specs.Sizes.{aggregate_size, count_size}
 use Rattle.cq_model_laws.specs.Sizes.{GroupsKeepSizes, HasSizes, KeepsColumns, grouped_sizes}
 use Rattle.cq_model.proofs.Extents.{value-within}
 use Rattle.cq_model_laws.proofs.Columns.{bag-term, filtered-columns, listed-columns, sizes-beside}
+use Rattle.cq_model_laws.proofs.DistinctValues.{distinct-fewer, one_unless_null}
 use Rattle.cq_model_laws.proofs.Fits.{FitBeside, Fits, IsCount, beside-append, count-fits, null-fits, sum-fits, test-within}
 use Rattle.cq_model_laws.proofs.Ranges.{all-at, all-from}
 use Rattle.cq_model_bags.proofs.Lists.{all-map}
@@ -56,6 +57,15 @@ fewer-kept keep m xs b few =
     kept-within true = (omega (arith, ints), omega (arith, ints))
     kept-within false = (omega (arith, ints), omega (arith, ints))
 
+-- different values are no more than the rows
+pub distinct-within : (e : Expr) (m : ℕ) (xs : Weighted) → IsBag xs → count_all xs ≤ℤ pos m → IsCount (count_distinct e xs) m
+distinct-within e m xs b few =
+    let values = value_bag e xs in
+    let bag = projected-bag (λ r. eval e r ∷ []) xs b in
+    let rows = total-projected (λ r. pos 1) (λ r. eval e r ∷ []) xs in
+    let most = count-within one_unless_null (λ r. test-within (is_null (column r 0))) m values bag (subst (λ n. n ≤ℤ pos m) (sym rows) few) in
+    (omega (arith, ints), omega (arith, ints, most.1, distinct-fewer values bag))
+
 -- ---- extremes
 module _ (n : ℕ) where
   pub lower-fits : (v w : Value) → Fits v n → Fits w n → Fits (lower v w) n
@@ -76,7 +86,7 @@ module _ (n : ℕ) where
   values-fit e (r ∷ rows) all = by_test (not (is_null (eval e r))) (λ k. rw k (all.0, values-fit e rows all.1)) (λ k. rw k (values-fit e rows all.1))
 
 -- ---- what is shown of rows
-module _ (sizes : List ℕ) (xs : Weighted) (bag : IsBag xs) (columns : KeepsColumns sizes xs) (few : count_all xs ≤ℤ pos (2 ^ 96)) where
+module _ (sizes : List ℕ) (xs : Weighted) (bag : IsBag xs) (columns : KeepsColumns sizes xs) (few : count_all xs ≤ℤ pos count_size) where
   -- an argument fits in each row that is there
   argument-fits : (e : Expr) → AllByRecursion (λ r. Fits (eval e r) (width e (limits_of sizes)).size) (distinct_rows xs)
   argument-fits e = all-from (λ r. Fits (eval e r) (width e (limits_of sizes)).size) (distinct_rows xs) (λ r among.
@@ -84,9 +94,10 @@ module _ (sizes : List ℕ) (xs : Weighted) (bag : IsBag xs) (columns : KeepsCol
       value-within r (limits_of sizes) (columns r (omega (arith, ints, there))).sized e)
 
   shown-fits : (a : Aggregate) → SumInRange a xs → Fits (aggregate a xs) (aggregate_size (limits_of sizes) a)
-  shown-fits CountAll s = count-fits _ (2 ^ 96) (count-within (λ r. pos 1) (λ r. test-within false) (2 ^ 96) xs bag few) (omega arith)
+  shown-fits CountAll s = count-fits _ count_size (count-within (λ r. pos 1) (λ r. test-within false) count_size xs bag few) (omega arith)
   shown-fits (Count e) s =
-      count-fits _ (2 ^ 96) (count-within (λ r. cond (is_null (eval e r)) (pos 0) (pos 1)) (λ r. test-within (is_null (eval e r))) (2 ^ 96) xs bag few) (omega arith)
+      count-fits _ count_size (count-within (λ r. cond (is_null (eval e r)) (pos 0) (pos 1)) (λ r. test-within (is_null (eval e r))) count_size xs bag few) (omega arith)
+  shown-fits (CountDistinct e) s = count-fits _ count_size (distinct-within e count_size xs bag few) (omega arith)
   shown-fits (Sum e) s = by_test (int_eq (count_values e xs) (pos 0))
       (λ t. rw t (null-fits (2 ^ 127)))
       (λ t. rw t (sum-fits (sum_values e xs) s))
@@ -139,5 +150,5 @@ groups-keep-sizes sizes (Some keys) aggregates xs bag columns few sums =
         let keep : Row → Bool = λ r. same_row (key_of keys r) k in
         let own = rows_of_key keys k xs in
         let of_key = all-at (λ g. AllByRecursion (λ a. SumInRange a (rows_of_key keys g xs)) aggregates) (keys_of keys xs) sums k among in
-        let shown = all-shown-fit sizes own (filtered-bag keep xs bag) (filtered-columns keep sizes xs columns) (fewer-kept keep (2 ^ 96) xs bag few) aggregates of_key in
+        let shown = all-shown-fit sizes own (filtered-bag keep xs bag) (filtered-columns keep sizes xs columns) (fewer-kept keep count_size xs bag few) aggregates of_key in
         sizes-beside (group_of k) all (beside-append k (map (limits_of sizes) keys) (map (λ a. aggregate a own) aggregates) (map (aggregate_size (limits_of sizes)) aggregates) (key-fits sizes keys xs bag columns k among) shown)

@@ -6,7 +6,7 @@ use Rattle.cq_values.specs.Value.{Row}
 use Rattle.cq_values.specs.Order.{same_row}
 use Rattle.cq_model.specs.Expr.{Expr}
 use Rattle.cq_model.specs.declared.query.Aggregate.{Aggregate}
-use Rattle.cq_model.specs.declared.query.Aggregate.TheVariants.{CountAll, Count, Sum, Min, Max}
+use Rattle.cq_model.specs.declared.query.Aggregate.TheVariants.{CountAll, Count, CountDistinct, Sum, Min, Max}
 use Rattle.cq_model.specs.Condition.{is_null}
 use Rattle.cq_model.specs.Eval.{eval}
 use Rattle.cq_model_bags.specs.Bag.{Weighted, SameBag, projected, distinct_rows, distinct}
@@ -16,6 +16,7 @@ use Rattle.cq_model_bags.proofs.Bags.{filtered-respects, projected-respects, sam
 use Rattle.cq_model_bags.proofs.Distincts.{once_each-map, distinct-respects, is_among-distinct}
 use Rattle.cq_model.proofs.Occurring.{IsRowOf, kept_values, row-from-test, row-to-test, value-from-rows, value-to-rows}
 use Rattle.cq_model.proofs.Extremes.{IsOne, extreme-same, higher-choice, lower-choice}
+use Rattle.cq_model_laws.proofs.DistinctValues.{count_distinct-respects}
 
 -- ---- counts and sums of a change add up
 pub count-append : (e : Expr) (xs dxs : Weighted) → count_values e (xs ++ dxs) ≡ count_values e xs +ℤ count_values e dxs
@@ -57,6 +58,7 @@ sum-respects e = total-respects (λ r. addend (eval e r))
 pub aggregate-respects : (a : Aggregate) (xs ys : Weighted) → SameBag xs ys → aggregate a xs ≡ aggregate a ys
 aggregate-respects CountAll xs ys s = ap Number (count_all-respects xs ys s)
 aggregate-respects (Count e) xs ys s = ap Number (count-respects e xs ys s)
+aggregate-respects (CountDistinct e) xs ys s = ap Number (count_distinct-respects e xs ys s)
 aggregate-respects (Sum e) xs ys s = rw (count-respects e xs ys s, sum-respects e xs ys s) refl
 aggregate-respects (Min e) xs ys s = extreme-same lower-choice (values_of e xs) (values_of e ys) (values-respect e xs ys s) (values-respect e ys xs (same-sym xs ys s))
 aggregate-respects (Max e) xs ys s = extreme-same higher-choice (values_of e xs) (values_of e ys) (values-respect e xs ys s) (values-respect e ys xs (same-sym xs ys s))

@@ -5,7 +5,7 @@ use Rattle.cq_model_bags.specs.Bag.{Weighted, SameBag, projected}
 use Rattle.cq_model_bags.proofs.Bags.{same-refl, same-trans, filtered-respects, projected-respects}
 use Rattle.cq_model.specs.Expr.{Expr}
 use Rattle.cq_model.specs.declared.query.Aggregate.{Aggregate}
-use Rattle.cq_model.specs.declared.query.Aggregate.TheVariants.{CountAll, Count, Sum, Min, Max}
+use Rattle.cq_model.specs.declared.query.Aggregate.TheVariants.{CountAll, Count, CountDistinct, Sum, Min, Max}
 use Rattle.cq_model.specs.declared.query.Query.{Query}
 use Rattle.cq_model.specs.declared.query.Shape.{Shape}
 use Rattle.cq_model.specs.declared.query.Shape.TheVariants.{Plain, Grouped}
@@ -19,6 +19,7 @@ use Rattle.cq_model_laws.proofs.Groups.{count_all-respects, count-respects, sum-
 kept-respects : (a : Aggregate) (xs ys : Weighted) → SameBag xs ys → (k : Kept) → IsKept a xs k → IsKept a ys k
 kept-respects CountAll xs ys s (Counted n) h = h ∙ count_all-respects xs ys s
 kept-respects (Count e) xs ys s (Counted n) h = h ∙ count-respects e xs ys s
+kept-respects (CountDistinct e) xs ys s (Listed v) h = same-trans v (value_bag e xs) (value_bag e ys) h (projected-respects (λ r. eval e r ∷ []) xs ys s)
 kept-respects (Sum e) xs ys s (Totalled n t) h = (
   h.0 ∙ count-respects e xs ys s,
   h.1 ∙ sum-respects e xs ys s,
@@ -29,6 +30,8 @@ kept-respects CountAll xs ys s (Totalled n t) h = absurd h
 kept-respects CountAll xs ys s (Listed v) h = absurd h
 kept-respects (Count e) xs ys s (Totalled n t) h = absurd h
 kept-respects (Count e) xs ys s (Listed v) h = absurd h
+kept-respects (CountDistinct e) xs ys s (Counted n) h = absurd h
+kept-respects (CountDistinct e) xs ys s (Totalled n t) h = absurd h
 kept-respects (Sum e) xs ys s (Counted n) h = absurd h
 kept-respects (Sum e) xs ys s (Listed v) h = absurd h
 kept-respects (Min e) xs ys s (Counted n) h = absurd h
@@ -61,6 +64,7 @@ last-respects q (Grouped keys aggregates having) xs ys s (Groups group) h = λ k
 kept_of-is : (a : Aggregate) (xs : Weighted) → IsKept a xs (kept_of xs a)
 kept_of-is CountAll xs = refl
 kept_of-is (Count e) xs = refl
+kept_of-is (CountDistinct e) xs = same-refl (value_bag e xs)
 kept_of-is (Sum e) xs = (refl, refl)
 kept_of-is (Min e) xs = same-refl (value_bag e xs)
 kept_of-is (Max e) xs = same-refl (value_bag e xs)

@@ -1,4 +1,5 @@
 pub mod Chains
+pub mod DistinctValues
 pub mod Groups
 pub mod Counted
 pub mod Meanings

@@ -9,7 +9,7 @@ use Rattle.cq_model_bags.proofs.Bags.{same-refl, same-sym, filtered-respects, pr
 use Rattle.cq_model_bags.proofs.Distincts.{is_among-distinct}
 use Rattle.cq_model_bags.proofs.Linears.{weight_of-projected}
 use Rattle.cq_model.specs.declared.query.Aggregate.{Aggregate}
-use Rattle.cq_model.specs.declared.query.Aggregate.TheVariants.{CountAll, Count, Sum, Min, Max}
+use Rattle.cq_model.specs.declared.query.Aggregate.TheVariants.{CountAll, Count, CountDistinct, Sum, Min, Max}
 use Rattle.cq_model.specs.declared.query.Query.{Query}
 use Rattle.cq_model.specs.declared.query.Shape.{Shape}
 use Rattle.cq_model.specs.declared.query.Shape.TheVariants.{Plain, Grouped}
@@ -40,6 +40,7 @@ range_of_sum-respects : (a : Aggregate) (xs ys : Weighted) → SameBag xs ys →
 range_of_sum-respects (Sum e) xs ys s h = subst InRange (sum-respects e xs ys s) h
 range_of_sum-respects CountAll xs ys s h = tt
 range_of_sum-respects (Count e) xs ys s h = tt
+range_of_sum-respects (CountDistinct e) xs ys s h = tt
 range_of_sum-respects (Min e) xs ys s h = tt
 range_of_sum-respects (Max e) xs ys s h = tt
 

@@ -31,7 +31,7 @@ AreFitting tables = AllByRecursion IsFitting tables
 
 -- no table may ever have more rows than this
 abbrev pub rows_limit : ℕ
-rows_limit = 2 ^ 24
+rows_limit = 2 ^ 30
 
 -- no table has more rows than it may
 abbrev pub AreLimited : ℕ → List TableOf → Type 0

@@ -59,6 +59,7 @@ fn same_aggregate(a: &Aggregate, b: &Aggregate) -> bool
     match (a, b) {
         (Aggregate::CountAll, Aggregate::CountAll) => true,
         (Aggregate::Count(a), Aggregate::Count(b))
+        | (Aggregate::CountDistinct(a), Aggregate::CountDistinct(b))
         | (Aggregate::Sum(a), Aggregate::Sum(b))
         | (Aggregate::Min(a), Aggregate::Min(b))
         | (Aggregate::Max(a), Aggregate::Max(b)) => same_expr(a.tree(), b.tree()),

@@ -10,11 +10,11 @@ use Rattle.cq_sql_language.specs.declared.token.Token.TheVariants as tokens
 use Rattle.cq_sql_language.specs.declared.written.AggregateFunction.{AggregateFunction}
 use Rattle.cq_sql_language.specs.declared.written.AggregateFunction.TheVariants as functions
 use Rattle.cq_sql_language.specs.Written.{Written, Number, Text, Date, Null, Column, Extract, CountAll, Aggregate, Parens, Times, Plus, Minus, Compare, IsNull, Between, In, Like, And, Or}
-use Rattle.cq_sql_language.specs.Spelling.{spelled, column_tokens, part_word, function_word}
+use Rattle.cq_sql_language.specs.Spelling.{spelled, column_tokens, part_word, function_word, quantifier_tokens}
 use Rattle.cq_sql_expressions.specs.declared.atoms.Opening.{Opening}
 use Rattle.cq_sql_expressions.specs.declared.atoms.Opening.TheVariants as openings
 use Rattle.cq_sql_expressions.specs.Read.{done, behind, after_symbol}
-use Rattle.cq_sql_expressions.specs.Atoms.{atom_at, day_part_of, aggregate_at, extract_at, called_at, opening_at}
+use Rattle.cq_sql_expressions.specs.Atoms.{atom_at, day_part_of, aggregate_at, count_at, extract_at, called_at, opening_at}
 use Rattle.cq_sql_expressions.specs.Chains.{enclosed}
 use Rattle.cq_sql_expressions.specs.Expressions.{Inside, content_of, atom_or_content, primary_of}
 use Rattle.cq_sql_expressions.proofs.Exact.{bind_some, symbol_takes}
@@ -30,7 +30,7 @@ pub record ReadsInside (size : ℕ) (inside : Inside) : Type 0 where
 abbrev opening_tokens : Opening → List Token
 opening_tokens openings.Parens = tokens.Symbol symbols.Open ∷ []
 opening_tokens (openings.Extract part) = tokens.Keyword keywords.Extract ∷ tokens.Symbol symbols.Open ∷ tokens.Keyword (part_word part) ∷ tokens.Keyword keywords.From ∷ []
-opening_tokens (openings.Aggregate function) = tokens.Keyword (function_word function) ∷ tokens.Symbol symbols.Open ∷ []
+opening_tokens (openings.Aggregate function) = tokens.Keyword (function_word function) ∷ tokens.Symbol symbols.Open ∷ quantifier_tokens function
 
 -- how tight the content behind an opening has to be
 abbrev content_level : Opening → ℕ
@@ -55,52 +55,69 @@ part_only keywords.Month part e = let same : parts.Month ≡ part = cc in ap par
 part_only keywords.Day part e = let same : parts.Day ≡ part = cc in ap part_word same
 part_only word part e = absurd cc
 
--- whether a star stands in front
-abbrev star_in : List Token → Bool
-star_in (tokens.Symbol symbols.Star ∷ ts) = true
-star_in ts = false
+-- whether a star or DISTINCT stands in front
+abbrev star_or_distinct_in : List Token → Bool
+star_or_distinct_in (tokens.Symbol symbols.Star ∷ ts) = true
+star_or_distinct_in (tokens.Keyword keywords.Distinct ∷ ts) = true
+star_or_distinct_in ts = false
 
--- where no star stands in front of tokens, it does not stand in front of more of them either
-no_star_in : (front more : List Token) → ((rest : List Token) → star_in (front ++ rest) ≡ false) → (rest : List Token) → star_in ((front ++ more) ++ rest) ≡ false
-no_star_in front more none rest = ap star_in (append_assoc front more rest) ∙ none (more ++ rest)
+-- where neither stands in front of tokens, neither stands in front of more of them
+neither_in : (front more : List Token) → ((rest : List Token) → star_or_distinct_in (front ++ rest) ≡ false) → (rest : List Token) → star_or_distinct_in ((front ++ more) ++ rest) ≡ false
+neither_in front more none rest = ap star_or_distinct_in (append_assoc front more rest) ∙ none (more ++ rest)
 
--- no column begins with a star
-column_starts : (source : Option (List ℕ)) (name : List ℕ) (rest : List Token) → star_in (column_tokens source name ++ rest) ≡ false
+-- no column begins so
+column_starts : (source : Option (List ℕ)) (name : List ℕ) (rest : List Token) → star_or_distinct_in (column_tokens source name ++ rest) ≡ false
 column_starts (Some source) name rest = refl
 column_starts None name rest = refl
 
--- no expression begins with a star
-starts : (w : Written) (rest : List Token) → star_in (spelled w ++ rest) ≡ false
+-- no aggregate begins so
+function_starts : (function : AggregateFunction) (rest : List Token) → star_or_distinct_in (tokens.Keyword (function_word function) ∷ rest) ≡ false
+function_starts functions.Count rest = refl
+function_starts functions.CountDistinct rest = refl
+function_starts functions.Sum rest = refl
+function_starts functions.Min rest = refl
+function_starts functions.Max rest = refl
+
+-- no expression begins with a star or with DISTINCT
+starts : (w : Written) (rest : List Token) → star_or_distinct_in (spelled w ++ rest) ≡ false
 starts (Column c) rest = column_starts c.source c.name rest
-starts (Times a b) rest = no_star_in _ _ (starts a) rest
-starts (Plus a b) rest = no_star_in _ _ (starts a) rest
-starts (Minus a b) rest = no_star_in _ _ (starts a) rest
-starts (Compare c a b) rest = no_star_in _ _ (starts a) rest
-starts (IsNull negated a) rest = no_star_in _ _ (no_star_in _ _ (starts a)) rest
-starts (Between negated a least greatest) rest = no_star_in _ _ (no_star_in _ _ (no_star_in _ _ (starts a))) rest
-starts (In negated a bs) rest = no_star_in _ _ (no_star_in _ _ (no_star_in _ _ (starts a))) rest
-starts (Like negated a pattern) rest = no_star_in _ _ (no_star_in _ _ (starts a)) rest
-starts (And a b) rest = no_star_in _ _ (starts a) rest
-starts (Or a b) rest = no_star_in _ _ (starts a) rest
+starts (Aggregate function a) rest = function_starts function _
+starts (Times a b) rest = neither_in _ _ (starts a) rest
+starts (Plus a b) rest = neither_in _ _ (starts a) rest
+starts (Minus a b) rest = neither_in _ _ (starts a) rest
+starts (Compare c a b) rest = neither_in _ _ (starts a) rest
+starts (IsNull negated a) rest = neither_in _ _ (neither_in _ _ (starts a)) rest
+starts (Between negated a least greatest) rest = neither_in _ _ (neither_in _ _ (neither_in _ _ (starts a))) rest
+starts (In negated a bs) rest = neither_in _ _ (neither_in _ _ (neither_in _ _ (starts a))) rest
+starts (Like negated a pattern) rest = neither_in _ _ (neither_in _ _ (starts a)) rest
+starts (And a b) rest = neither_in _ _ (starts a) rest
+starts (Or a b) rest = neither_in _ _ (starts a) rest
 starts w rest = refl
 
--- an aggregate opens where no star follows
-aggregate_found : (function : AggregateFunction) (us : List Token) → star_in us ≡ false → aggregate_at function (tokens.Symbol symbols.Open ∷ us) ≡ Some (openings.Aggregate function, us)
+-- an aggregate opens where no star follows, and its function is the one of its word
+aggregate_found : (function : AggregateFunction) (us : List Token) → star_or_distinct_in us ≡ false → aggregate_at function (tokens.Symbol symbols.Open ∷ us) ≡ Some (openings.Aggregate function, us)
 aggregate_found function (tokens.Symbol symbols.Star ∷ us) none = absurd cc
 aggregate_found function us none = refl
 
--- the word of an aggregate calls it
-called_found : (function : AggregateFunction) (us : List Token) → called_at (function_word function) us ≡ aggregate_at function us
-called_found functions.Count us = refl
-called_found functions.Sum us = refl
-called_found functions.Min us = refl
-called_found functions.Max us = refl
+-- COUNT opens without DISTINCT where none follows
+count_found : (us : List Token) → star_or_distinct_in us ≡ false → count_at (tokens.Symbol symbols.Open ∷ us) ≡ Some (openings.Aggregate functions.Count, us)
+count_found (tokens.Keyword keywords.Distinct ∷ us) none = absurd cc
+count_found us none = aggregate_found functions.Count us none
 
--- an opening is read from its tokens, where no star follows
-opening_found : (opening : Opening) (us : List Token) → star_in us ≡ false → opening_at (opening_tokens opening ++ us) ≡ Some (opening, us)
+-- an aggregate is read from its word, its opening sign and its DISTINCT
+called_found : (function : AggregateFunction) (us : List Token) → star_or_distinct_in us ≡ false
+    → called_at (function_word function) (tokens.Symbol symbols.Open ∷ quantifier_tokens function ++ us) ≡ Some (openings.Aggregate function, us)
+called_found functions.Count us none = count_found us none
+called_found functions.CountDistinct us none = refl
+called_found functions.Sum us none = aggregate_found functions.Sum us none
+called_found functions.Min us none = aggregate_found functions.Min us none
+called_found functions.Max us none = aggregate_found functions.Max us none
+
+-- an opening is read from its tokens, where no star and no DISTINCT follows
+opening_found : (opening : Opening) (us : List Token) → star_or_distinct_in us ≡ false → opening_at (opening_tokens opening ++ us) ≡ Some (opening, us)
 opening_found openings.Parens us none = refl
 opening_found (openings.Extract part) us none = rw (part_found part) refl
-opening_found (openings.Aggregate function) us none = called_found function (tokens.Symbol symbols.Open ∷ us) ∙ aggregate_found function us none
+opening_found (openings.Aggregate function) us none = called_found function us none
 
 -- what is read behind EXTRACT are its tokens
 extract_only : (ts : List Token) (opening : Opening) (us : List Token) → extract_at ts ≡ Some (opening, us) → tokens.Keyword keywords.Extract ∷ ts ≡ opening_tokens opening ++ us
@@ -110,21 +127,33 @@ extract_only (tokens.Symbol symbols.Open ∷ tokens.Keyword word ∷ tokens.Keyw
     subst (λ (o : Opening). tokens.Keyword keywords.Extract ∷ tokens.Symbol symbols.Open ∷ tokens.Keyword word ∷ tokens.Keyword keywords.From ∷ ts ≡ opening_tokens o ++ us) p.0 (ap₂ (λ (k : Keyword) (vs : List Token). tokens.Keyword keywords.Extract ∷ tokens.Symbol symbols.Open ∷ tokens.Keyword k ∷ tokens.Keyword keywords.From ∷ vs) (part_only word b.0 b.1) p.1)
 extract_only ts opening us e = absurd cc
 
--- what is read behind the word of an aggregate are its tokens
-aggregate_only : (function : AggregateFunction) (ts : List Token) (opening : Opening) (us : List Token) → aggregate_at function ts ≡ Some (opening, us) → tokens.Keyword (function_word function) ∷ ts ≡ opening_tokens opening ++ us
-aggregate_only function (tokens.Symbol symbols.Open ∷ tokens.Symbol symbols.Star ∷ ts) opening us e = absurd cc
-aggregate_only function (tokens.Symbol symbols.Open ∷ ts) opening us e =
+-- an opening that is its word, its sign and perhaps DISTINCT, and what is left behind it
+aggregate_left : (function : AggregateFunction) (ts : List Token) (opening : Opening) (us : List Token) → ◌≡◌ {A = Option (Opening × List Token)} (Some (openings.Aggregate function, ts)) (Some (opening, us))
+    → tokens.Keyword (function_word function) ∷ tokens.Symbol symbols.Open ∷ quantifier_tokens function ++ ts ≡ opening_tokens opening ++ us
+aggregate_left function ts opening us e =
     let p = some_pair_parts (openings.Aggregate function) opening ts us e in
-    subst (λ (o : Opening). tokens.Keyword (function_word function) ∷ tokens.Symbol symbols.Open ∷ ts ≡ opening_tokens o ++ us) p.0 (ap (λ (vs : List Token). tokens.Keyword (function_word function) ∷ tokens.Symbol symbols.Open ∷ vs) p.1)
-aggregate_only function ts opening us e = absurd cc
+    ap₂ (λ (o : Opening) (vs : List Token). opening_tokens o ++ vs) p.0 p.1
+
+-- what is read behind the word of an aggregate without DISTINCT are its tokens
+aggregate_only : (function : AggregateFunction) (ts : List Token) (opening : Opening) (us : List Token) → quantifier_tokens function ≡ [] → aggregate_at function ts ≡ Some (opening, us)
+    → tokens.Keyword (function_word function) ∷ ts ≡ opening_tokens opening ++ us
+aggregate_only function (tokens.Symbol symbols.Open ∷ tokens.Symbol symbols.Star ∷ ts) opening us plain e = absurd cc
+aggregate_only function (tokens.Symbol symbols.Open ∷ ts) opening us plain e =
+    ap (λ (q : List Token). tokens.Keyword (function_word function) ∷ tokens.Symbol symbols.Open ∷ q ++ ts) (sym plain) ∙ aggregate_left function ts opening us e
+aggregate_only function ts opening us plain e = absurd cc
+
+-- what is read behind COUNT are its tokens
+count_only : (ts : List Token) (opening : Opening) (us : List Token) → count_at ts ≡ Some (opening, us) → tokens.Keyword keywords.Count ∷ ts ≡ opening_tokens opening ++ us
+count_only (tokens.Symbol symbols.Open ∷ tokens.Keyword keywords.Distinct ∷ ts) opening us e = aggregate_left functions.CountDistinct ts opening us e
+count_only ts opening us e = aggregate_only functions.Count ts opening us refl e
 
 -- what is read behind a word as an opening are its tokens
 called_only : (word : Keyword) (ts : List Token) (opening : Opening) (us : List Token) → called_at word ts ≡ Some (opening, us) → tokens.Keyword word ∷ ts ≡ opening_tokens opening ++ us
 called_only keywords.Extract ts opening us e = extract_only ts opening us e
-called_only keywords.Count ts opening us e = aggregate_only functions.Count ts opening us e
-called_only keywords.Sum ts opening us e = aggregate_only functions.Sum ts opening us e
-called_only keywords.Min ts opening us e = aggregate_only functions.Min ts opening us e
-called_only keywords.Max ts opening us e = aggregate_only functions.Max ts opening us e
+called_only keywords.Count ts opening us e = count_only ts opening us e
+called_only keywords.Sum ts opening us e = aggregate_only functions.Sum ts opening us refl e
+called_only keywords.Min ts opening us e = aggregate_only functions.Min ts opening us refl e
+called_only keywords.Max ts opening us e = aggregate_only functions.Max ts opening us refl e
 called_only word ts opening us e = absurd cc
 
 -- what is read as an opening are its tokens
@@ -139,7 +168,8 @@ opening_only ts opening us e = absurd cc
 enclosed_spelled : (opening : Opening) (w : Written) → spelled (enclosed opening w) ≡ opening_tokens opening ++ (spelled w ++ close ∷ [])
 enclosed_spelled openings.Parens w = refl
 enclosed_spelled (openings.Extract part) w = refl
-enclosed_spelled (openings.Aggregate function) w = refl
+enclosed_spelled (openings.Aggregate function) w =
+    ap (λ (ts : List Token). tokens.Keyword (function_word function) ∷ tokens.Symbol symbols.Open ∷ ts) (append_assoc (quantifier_tokens function) (spelled w) (close ∷ []))
 
 -- a pair of parentheses round a content that is tight enough stands for itself
 enclosed_fits : (opening : Opening) (w : Written) → Fits (content_level opening) w → Fits 7 (enclosed opening w)
@@ -151,7 +181,9 @@ enclosed_fits (openings.Aggregate function) w fit = (omega arith, to_fits 4 w fi
 enclosed_size : (opening : Opening) (w : Written) → length (spelled w) < length (spelled (enclosed opening w))
 enclosed_size openings.Parens w = omega (arith, length-append (spelled w) (close ∷ []))
 enclosed_size (openings.Extract part) w = omega (arith, length-append (spelled w) (close ∷ []))
-enclosed_size (openings.Aggregate function) w = omega (arith, length-append (spelled w) (close ∷ []))
+enclosed_size (openings.Aggregate function) w =
+    let quantified = quantifier_tokens function ++ spelled w in
+    omega (arith, length-append quantified (close ∷ []), length-append (quantifier_tokens function) (spelled w))
 
 -- a column is read, where no dot follows
 column_found : (source : Option (List ℕ)) (name : List ℕ) (rest : List Token) → joint_in rest ≤ 7 → atom_at (column_tokens source name ++ rest) ≡ Some (Column (record { source = source; name = name }), rest)

@@ -47,10 +47,15 @@ aggregate_at function (tokens.Symbol symbols.Open ∷ tokens.Symbol symbols.Star
 aggregate_at function (tokens.Symbol symbols.Open ∷ ts) = Some (openings.Aggregate function, ts)
 aggregate_at function ts = None
 
+-- takes what follows COUNT, up to its content, with DISTINCT or without
+abbrev pub count_at : Reader Opening
+count_at (tokens.Symbol symbols.Open ∷ tokens.Keyword keywords.Distinct ∷ ts) = Some (openings.Aggregate functions.CountDistinct, ts)
+count_at ts = aggregate_at functions.Count ts
+
 -- takes what follows the word in front of a pair of parentheses, up to their content
 abbrev pub called_at : Keyword → Reader Opening
 called_at keywords.Extract ts = extract_at ts
-called_at keywords.Count ts = aggregate_at functions.Count ts
+called_at keywords.Count ts = count_at ts
 called_at keywords.Sum ts = aggregate_at functions.Sum ts
 called_at keywords.Min ts = aggregate_at functions.Min ts
 called_at keywords.Max ts = aggregate_at functions.Max ts

@@ -2,7 +2,7 @@
 ghost use Rattle.std.specs.Prelude.{◌≡◌};
 ghost use Rattle.std.specs.Option.{option_map};
 ghost use Rattle.cq_sql_language.specs.Written.{written};
-ghost use Rattle.cq_sql_expressions.specs.Atoms.{aggregate_at, atom_at, called_at, day_part_of, extract_at, opening_at, text_at};
+ghost use Rattle.cq_sql_expressions.specs.Atoms.{aggregate_at, atom_at, called_at, count_at, day_part_of, extract_at, opening_at, text_at};
 ghost use Rattle.cq_sql_expressions.specs.Gives.{Gives};
 
 use crate::fault::SqlFault;
@@ -104,13 +104,27 @@ fn aggregate_at(function: AggregateFunction, tokens: &[Token]) -> Option<(Openin
     }
 }
 
+/// What opens a pair of parentheses behind COUNT, with DISTINCT or without.
+fn count_at(tokens: &[Token]) -> Option<(Opening, &[Token])>
+    ensures { option_map (λ x. (x.0, x.1.now)) result ≡ count_at tokens.now }
+{
+    match tokens {
+        [
+            Token::Symbol(Symbol::Open),
+            Token::Keyword(Keyword::Distinct),
+            rest @ ..,
+        ] => Some((Opening::Aggregate(AggregateFunction::CountDistinct), rest)),
+        _ => aggregate_at(AggregateFunction::Count, tokens),
+    }
+}
+
 /// What opens a pair of parentheses behind this word.
 fn called_at(word: Keyword, tokens: &[Token]) -> Option<(Opening, &[Token])>
     ensures { option_map (λ x. (x.0, x.1.now)) result ≡ called_at word tokens.now }
 {
     match word {
         Keyword::Extract => extract_at(tokens),
-        Keyword::Count => aggregate_at(AggregateFunction::Count, tokens),
+        Keyword::Count => count_at(tokens),
         Keyword::Sum => aggregate_at(AggregateFunction::Sum, tokens),
         Keyword::Min => aggregate_at(AggregateFunction::Min, tokens),
         Keyword::Max => aggregate_at(AggregateFunction::Max, tokens),

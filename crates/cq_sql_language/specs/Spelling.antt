@@ -29,9 +29,15 @@ part_word parts.Day = keywords.Day
 -- COUNT, SUM, MIN or MAX
 abbrev pub function_word : AggregateFunction → Keyword
 function_word functions.Count = keywords.Count
+function_word functions.CountDistinct = keywords.Count
 function_word functions.Sum = keywords.Sum
 function_word functions.Min = keywords.Min
 function_word functions.Max = keywords.Max
+
+-- [DISTINCT] before the argument
+abbrev pub quantifier_tokens : AggregateFunction → List Token
+quantifier_tokens functions.CountDistinct = tokens.Keyword keywords.Distinct ∷ []
+quantifier_tokens function = []
 
 -- the sign of a comparison
 abbrev pub comparison_sign : Comparison → Symbol
@@ -60,7 +66,7 @@ abbrev mutual
   spelled CountAll =
       tokens.Keyword keywords.Count ∷ tokens.Symbol symbols.Open ∷ tokens.Symbol symbols.Star ∷ tokens.Symbol symbols.Close ∷ []
   spelled (Aggregate function a) =
-      tokens.Keyword (function_word function) ∷ tokens.Symbol symbols.Open ∷ spelled a ++ tokens.Symbol symbols.Close ∷ []
+      tokens.Keyword (function_word function) ∷ tokens.Symbol symbols.Open ∷ quantifier_tokens function ++ spelled a ++ tokens.Symbol symbols.Close ∷ []
   spelled (Parens a) = tokens.Symbol symbols.Open ∷ spelled a ++ tokens.Symbol symbols.Close ∷ []
   spelled (Negative a) = tokens.Symbol symbols.Minus ∷ spelled a
   spelled (Times a b) = spelled a ++ tokens.Symbol symbols.Star ∷ spelled b

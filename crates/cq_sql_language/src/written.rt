@@ -20,6 +20,8 @@ pub struct ColumnName {
 #[derive(Clone, Copy, Debug, PartialEq, Eq)]
 pub enum AggregateFunction {
     Count,
+    /// COUNT(DISTINCT ..).
+    CountDistinct,
     Sum,
     Min,
     Max,

@@ -1,4 +1,5 @@
 //! A module for each thing that is called.
+mod aggregates;
 mod command_lines;
 mod conditions;
 mod dates;
@@ -13,3 +14,4 @@ mod records;
 mod results;
 mod statements;
 mod tokens;
+mod totals;

@@ -5,7 +5,7 @@ use Rattle.cq_values.specs.Value.{Row}
 use Rattle.cq_values.specs.Order.{same_row}
 use Rattle.cq_model_bags.specs.Bag.{Weighted, filtered}
 use Rattle.cq_model.specs.declared.query.Aggregate.{Aggregate}
-use Rattle.cq_model.specs.declared.query.Aggregate.TheVariants.{CountAll, Count, Sum, Min, Max}
+use Rattle.cq_model.specs.declared.query.Aggregate.TheVariants.{CountAll, Count, CountDistinct, Sum, Min, Max}
 use Rattle.cq_model.specs.Group.{SumInRange, SumsInRange, key_of, keys_of, rows_of_key}
 use Rattle.cq_test_plain.specs.Wide.{AtSomeRow, IsWideAt, IsWideOver}
 use Rattle.cq_test_plain.proofs.Exits.{any_more}
@@ -19,6 +19,7 @@ at_passing P keep xs h = (h.0, kept-there keep xs h.0 h.1, h.2)
 wide_over_passing : (keep : Row → Bool) (xs : Weighted) (a : Aggregate) → IsWideOver (filtered keep xs) a → IsWideOver xs a
 wide_over_passing keep xs CountAll h = h
 wide_over_passing keep xs (Count e) h = at_passing (IsWideAt e) keep xs h
+wide_over_passing keep xs (CountDistinct e) h = at_passing (IsWideAt e) keep xs h
 wide_over_passing keep xs (Sum e) h = at_passing (IsWideAt e) keep xs h
 wide_over_passing keep xs (Min e) h = at_passing (IsWideAt e) keep xs h
 wide_over_passing keep xs (Max e) h = at_passing (IsWideAt e) keep xs h

@@ -1,8 +1,8 @@
 -- What is told of groups, and of the rows of one.
-use Rattle.std.specs.Prelude.{ℕ, List, Option, filter, map, not}
+use Rattle.std.specs.Prelude.{ℕ, List, [], ◌∷◌, Option, filter, map, not}
 use Rattle.std.specs.List.{AllByRecursion}
 use Rattle.cq_values.specs.declared.value.Value.{Value}
-use Rattle.cq_values.specs.Value.{Row}
+use Rattle.cq_values.specs.Value.{Row, column}
 use Rattle.cq_model_bags.specs.Bag.{Weighted, once_each}
 use Rattle.cq_model.specs.declared.query.Aggregate.{Aggregate}
 use Rattle.cq_model.specs.Condition.{is_null}
@@ -13,6 +13,14 @@ use Rattle.cq_model.specs.Group.{SumInRange, SumsInRange, group_row, grouped, ro
 -- the values of an expression in the rows, one by one, without NULL
 abbrev pub known_values : Expr → List Row → List Value
 known_values e rows = filter (λ v. not (is_null v)) (map (eval e) rows)
+
+-- the value of an expression in each row, as a row of one column
+abbrev pub value_rows : Expr → List Row → List Row
+value_rows e rows = map (λ r. eval e r ∷ []) rows
+
+-- the first values of rows, one by one, without NULL
+abbrev pub first_values : List Row → List Value
+first_values rows = filter (λ v. not (is_null v)) (map (λ r. column r 0) rows)
 
 -- the totals over the rows of a group can be shown
 abbrev pub GroupInRange : List Aggregate → Weighted → Type 0

@@ -5,7 +5,7 @@ use Rattle.cq_values.specs.Value.{Row}
 use Rattle.cq_model_bags.specs.Bag.{Weighted, weight_of}
 use Rattle.cq_model.specs.Expr.{Expr, Cond}
 use Rattle.cq_model.specs.declared.query.Aggregate.{Aggregate}
-use Rattle.cq_model.specs.declared.query.Aggregate.TheVariants.{CountAll, Count, Sum, Min, Max}
+use Rattle.cq_model.specs.declared.query.Aggregate.TheVariants.{CountAll, Count, CountDistinct, Sum, Min, Max}
 use Rattle.cq_model.specs.declared.query.Query.{Query}
 use Rattle.cq_model.specs.declared.query.Shape.{Shape}
 use Rattle.cq_model.specs.declared.query.Shape.TheVariants.{Plain, Grouped}
@@ -43,6 +43,7 @@ IsItemWide items xs = Any (λ e. AtSomeRow (IsWideAt e) xs) items
 abbrev pub IsWideOver : Weighted → Aggregate → Type 0
 IsWideOver xs CountAll = ⊥
 IsWideOver xs (Count e) = AtSomeRow (IsWideAt e) xs
+IsWideOver xs (CountDistinct e) = AtSomeRow (IsWideAt e) xs
 IsWideOver xs (Sum e) = AtSomeRow (IsWideAt e) xs
 IsWideOver xs (Min e) = AtSomeRow (IsWideAt e) xs
 IsWideOver xs (Max e) = AtSomeRow (IsWideAt e) xs

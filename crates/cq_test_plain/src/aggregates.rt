@@ -1,19 +1,20 @@
 //! What is told of a group's rows.
-ghost use Rattle.std.specs.Prelude.{◌+ℤ◌, ◌+◌, ◌^◌, ◌≡◌, ◌≤◌, IfErr, IfOk, OnOk, length, nat_abs, pos};
+ghost use Rattle.std.specs.Prelude.{[], ◌∷◌, ◌+ℤ◌, ◌+◌, ◌^◌, ◌≡◌, ◌≤◌, IfErr, IfOk, OnOk, length, nat_abs, pos};
 ghost use Rattle.cq_model_bags.specs.Bag.{once_each};
-ghost use Rattle.cq_model.specs.Group.{InRange, SumInRange, addend, aggregate, extreme, higher, lower};
+ghost use Rattle.cq_model.specs.Group.{InRange, SumInRange, addend, aggregate, count_distinct, extreme, higher, lower};
 ghost use Rattle.cq_test_plain.specs.Ends.{better};
 ghost use Rattle.cq_test_plain.specs.Faults.{Tells};
 ghost use Rattle.cq_test_plain.specs.FaultsOf.{IsAggregateFault};
-ghost use Rattle.cq_test_plain.specs.OfGroups.{known_values};
+ghost use Rattle.cq_test_plain.specs.OfGroups.{first_values, known_values, value_rows};
 ghost use Rattle.cq_model.specs.Totals.{shown_total, total_of};
 ghost use Rattle.cq_test_plain.specs.Wide.{AtSomeRow, IsWideAt};
 ghost use Rattle.cq_model.specs.Width.{number_limit};
 
 use crate::evaluation::value_at;
 use crate::fault::PlainFault;
+use crate::repeats::firsts;
 use cq_model::{Aggregate, Expr};
-use cq_values::{Row, Total, Value};
+use cq_values::{Lent, Row, Total, Value};
 use std::alloc::{AllocError, Global};
 
 /// Which end of the total order is asked for.
@@ -32,6 +33,7 @@ pub(crate) fn aggregate(alloc: Global, kind: &Aggregate, rows: &[Row]) -> Result
     match kind {
         Aggregate::CountAll => Ok(count(rows)),
         Aggregate::Count(expr) => Ok(count(&values_of(alloc, expr, rows)?)),
+        Aggregate::CountDistinct(expr) => count_distinct(alloc, expr, rows),
         Aggregate::Sum(expr) => sum(&values_of(alloc, expr, rows)?),
         Aggregate::Min(expr) => Ok(extreme(alloc, &values_of(alloc, expr, rows)?, End::Least)?),
         Aggregate::Max(expr) => Ok(extreme(alloc, &values_of(alloc, expr, rows)?, End::Greatest)?),
@@ -57,6 +59,50 @@ fn count<T>(items: &[T]) -> Value
     ensures { result ≡ Value.Number (pos (length items.now)) }
 {
     Value::Number(items.len() as i128)
+}
+
+/// How many different values other than NULL the expression has in the rows.
+fn count_distinct(alloc: Global, expr: &Expr, rows: &[Row]) -> Result<Value, PlainFault>
+    ensures ok { IfOk result (λ v. v ≡ Value.Number (count_distinct expr.now (once_each rows.now))) }
+    ensures fault { IfErr result (Tells (AtSomeRow (IsWideAt expr.now) (once_each rows.now)) ⊥) }
+{
+    let values = value_rows(alloc, expr, rows)?;
+    let different = firsts(alloc, &values)?;
+    Ok(count_known(&different))
+}
+
+/// The value of the expression in each row, as a row of one column.
+fn value_rows(alloc: Global, expr: &Expr, rows: &[Row]) -> Result<Vec<Row>, PlainFault>
+    ensures ok { IfOk result (λ values. values.items ≡ value_rows expr.now rows.now) }
+    ensures fault { IfErr result (Tells (AtSomeRow (IsWideAt expr.now) (once_each rows.now)) ⊥) }
+{
+    let mut values = Vec::new(alloc);
+    for row in rows {
+        let value = value_at(alloc, expr, row.as_slice())?;
+        values.push(row_of(alloc, value)?)?;
+    }
+    Ok(values)
+}
+
+fn row_of(alloc: Global, value: Value) -> Result<Row, AllocError>
+    ensures { IfOk result (λ row. row ≡ value ∷ []) }
+{
+    let mut row = Row::new(alloc);
+    row.push(value)?;
+    Ok(row)
+}
+
+/// How many of the rows have a first value other than NULL.
+fn count_known(rows: &[Row]) -> Value
+    ensures { result ≡ Value.Number (pos (length (first_values rows.now))) }
+{
+    let mut count: usize = 0;
+    for row in rows {
+        if !matches!(row.lend(0), Lent::Null) {
+            count += 1;
+        }
+    }
+    Value::Number(count as i128)
 }
 
 /// The exact total, of values without NULL.

@@ -48,6 +48,7 @@ fn write_aggregate(out: &mut String, aggregate: &Aggregate) -> Result<(), AllocE
     match aggregate {
         Aggregate::CountAll => out.push_str("all "),
         Aggregate::Count(expr) => write_of(out, expr.tree(), "count "),
+        Aggregate::CountDistinct(expr) => write_of(out, expr.tree(), "distinct "),
         Aggregate::Sum(expr) => write_of(out, expr.tree(), "sum "),
         Aggregate::Min(expr) => write_of(out, expr.tree(), "min "),
         Aggregate::Max(expr) => write_of(out, expr.tree(), "max "),

@@ -20,9 +20,10 @@ use std::io::{BufWriter, Write};
 use std::process::ExitCode;
 use std::{fs, io};
 
-const SCRIPTS: [&str; 11] = [
+const SCRIPTS: [&str; 12] = [
     "conditions.sql",
     "cores.sql",
+    "distinct-counts.sql",
     "groups.sql",
     "joins.sql",
     "joined-views.sql",

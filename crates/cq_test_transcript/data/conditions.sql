@@ -154,11 +154,11 @@ DELETE FROM t WHERE a = b = 1;
 -- a total and a count of a view
 SELECT b FROM v WHERE s > 1 AND v.n = 1;
 
--- a count times a number of 31 bits
-SELECT b FROM v WHERE n * 2147483647 > 0 AND b < 'k';
+-- a count times 127
+SELECT b FROM v WHERE n * 127 > 0 AND b < 'k';
 
--- a count times a number of 32 bits
-SELECT b FROM v WHERE n * 2147483648 > 0;
+-- a count times 128
+SELECT b FROM v WHERE n * 128 > 0;
 
 -- a total and a number
 SELECT b FROM v WHERE s + 0 > 1;

@@ -3,16 +3,17 @@ use Rattle.std.proofs.Common.{◌≡◌, ◌∙◌, ◌<◌, ◌≤◌, Bool, Is
 use Rattle.std.proofs.lemmas.List.{map-append}
 use Rattle.std.specs.List.{AllByRecursion}
 use Rattle.cq_values.specs.Value.{Row}
+use Rattle.cq_model_bags.proofs.Bags.{same-refl}
 use Rattle.cq_model_bags.proofs.Distincts.{once_each-map}
 use Rattle.cq_model_bags.proofs.Totals.{by_test}
-use Rattle.cq_model_bags.specs.Bag.{Weighted, once_each}
+use Rattle.cq_model_bags.specs.Bag.{SameBag, Weighted, once_each}
 use Rattle.cq_deltas_joins.specs.Chains.{nothing, spans}
 use Rattle.cq_deltas_joins.specs.Steps.{AreStored}
 use Rattle.cq_table_columns.specs.Stored.{all_rows}
 use Rattle.cq_views_model.specs.Delta.{changed}
 use Rattle.cq_views.proofs.Bags.{cut-append, cut-bags, cut-none, cut-sizes, cut-stored}
 use Rattle.cq_views.proofs.Told.{start-wide}
-use Rattle.cq_views.proofs.Taking.{bags_at-bags, can-first, can-second, can-swapped, fills-none, fills-swapped, only-bags, spans-less}
+use Rattle.cq_views.proofs.Taking.{bags_at-bags, can-first, can-second, can-swapped, crossed-less, fills-none, fills-swapped, only-bags, spans-less}
 use Rattle.cq_views.specs.Cut.{IsFilled, cut_bags, cut_only, cut_table, cut_to, cut_widths, entry_of}
 use Rattle.cq_views.specs.Filling.{CanFill, Fills, bags_at, only}
 use Rattle.cq_model_laws.proofs.Positives.{once_each-bag}
@@ -26,7 +27,7 @@ use Rattle.cq_views_columns.specs.Narrow.{IsNarrowOf}
 use Rattle.cq_views_columns.specs.declared.columns.SourceColumns.{SourceColumns}
 use Rattle.cq_views_columns.specs.declared.narrow_query.NarrowQuery.{NarrowQuery}
 use Rattle.cq_table_columns.specs.declared.stored_source.StoredSource.{StoredSource}
-use Rattle.cq_views_state.specs.State.{AreAsTold, AreBags, CanStart, HoldStored, SameView, StandsFor}
+use Rattle.cq_views_state.specs.State.{AreAsTold, AreBags, AreCountable, CanStart, HoldStored, SameView, StandsFor}
 use Rattle.cq_views_state.specs.Work.{work_of}
 use Rattle.cq_views_state.specs.declared.state.ViewState.{ViewState}
 use Rattle.cq_model_bags.proofs.Lists.{all-of, all-weaker}
@@ -114,9 +115,11 @@ start-can v query more is start bags stands wide =
         stands = stands;
         wide = wide;
         few = own.few;
+        countable = record { before = omega arith; behind = more; same = all-of (λ s. SameBag (more s) (more s)) (λ s. same-refl (more s)) (sources_of v.query); after = own.countable };
         stored = (all-of (λ s. AreStored (nothing s)) (λ s. tt) (sources_of v.query), own.stored);
       };
       bags = (λ s. once_each-bag [], bags);
+      countable = own.countable;
     }
 
 -- and once it has taken them in, and counts no work of them, the state is theirs
@@ -144,9 +147,12 @@ module _ (query : Query) (widths : List ℕ) (narrow : NarrowQuery) (is : IsNarr
   cut-start tables start =
       let columns = narrow.columns in
       let less = spans-less nothing (cut_bags columns tables) nothing tables (λ s. omega (arith, cut-sizes (entry_of columns s) (tables s))) (sources_of query) in
-      let few : spans nothing (cut_bags columns tables) (sources_of query) ≤ 2 ^ 122 = omega (arith, less, start.few) in
+      let few : spans nothing (cut_bags columns tables) (sources_of query) < 2 ^ 127 = omega (arith, less, start.few) in
+      let fewer = crossed-less (cut_bags columns tables) tables (λ s. cut-sizes (entry_of columns s) (tables s)) (sources_of query) in
+      let countable : AreCountable (sources_of query) (cut_bags columns tables) = omega (arith, fewer, start.countable) in
       record {
         can = is.kept start.can;
-        few = subst (λ (ss : List Source). spans nothing (cut_bags columns tables) ss ≤ 2 ^ 122) (sym is.sources) few;
+        few = subst (λ (ss : List Source). spans nothing (cut_bags columns tables) ss < 2 ^ 127) (sym is.sources) few;
+        countable = subst (λ (ss : List Source). AreCountable ss (cut_bags columns tables)) (sym is.sources) countable;
         stored = cut-hold tables start.stored;
       }

@@ -1,6 +1,5 @@
 -- A view shows its query's bag on tables whose rows have the columns that it was told.
 use Rattle.std.proofs.Common.{◌≡◌, ◌∙◌, ℕ, ◌≤◌, List, [], ◌∷◌, map, sym, ap, subst, arith}
-use Rattle.std.proofs.lemmas.Nat.{mul-le}
 use Rattle.std.specs.List.{AllByRecursion}
 use Rattle.cq_values.specs.Value.{Row}
 use Rattle.cq_model_bags.proofs.Bags.{same-refl}
@@ -8,6 +7,7 @@ use Rattle.cq_model_bags.specs.Bag.{SameBag, Weighted, once_each}
 use Rattle.cq_deltas_joins.specs.Steps.{AreStored}
 use Rattle.cq_views.proofs.Bags.{cut-bags, cut-sizes, cut-stored}
 use Rattle.cq_views.proofs.Sources.{entries-read}
+use Rattle.cq_views.proofs.Taking.{crossed-less}
 use Rattle.cq_views.specs.Cut.{cut_bags, entry_of}
 use Rattle.cq_views.specs.Shown.{AreRowsOf, CanShow, IsNotShown, IsShown, Suits}
 use Rattle.cq_views.specs.declared.kept_view.KeptView.{KeptView}
@@ -20,17 +20,10 @@ use Rattle.cq_views.specs.State.{narrow_query}
 use Rattle.cq_model_laws.proofs.Meanings.{meaning-same}
 use Rattle.cq_views_columns.specs.Narrow.{HaveColumns, IsNarrowOf, narrowed_bags, sources_read}
 use Rattle.cq_views_columns.specs.declared.columns.SourceColumns.{SourceColumns}
-use Rattle.cq_sides_weights.specs.Held.{sizes}
 use Rattle.cq_views_state.proofs.SameBags.{standing-by_sources}
 use Rattle.cq_views_state.specs.Shown as inner
 use Rattle.cq_views_state.specs.State.{AreBags, StandsFor, crossed}
 use Rattle.cq_model_bags.proofs.Lists.{all-weaker}
-
--- smaller rows of each source are fewer in all joins
-crossed-less : (tables others : Tables) → ((s : Source) → sizes (tables s) ≤ sizes (others s)) → (sources : List Source) → crossed tables sources ≤ crossed others sources
-crossed-less tables others less [] = omega arith
-crossed-less tables others less (s ∷ sources) =
-    mul-le (sizes (tables s)) (crossed tables sources) (sizes (others s)) (crossed others sources) (less s) (crossed-less tables others less sources)
 
 module _ (v : KeptView) where
   -- the state shows what the view can show

@@ -1,8 +1,8 @@
 -- A view that stands for its tables, while changes wait for it and are put in.
-use Rattle.std.proofs.Common.{◌≡◌, ◌∙◌, ◌≤◌, ◌^◌, List, refl, sym, ap, subst, arith}
+use Rattle.std.proofs.Common.{◌≡◌, ◌∙◌, ◌<◌, ◌≤◌, ◌^◌, List, ◌++◌, refl, sym, ap, subst, arith}
 use Rattle.std.specs.List.{AllByRecursion}
 use Rattle.std.specs.Prelude.{IfOk, OnOk, Ok, Err, Result}
-use Rattle.cq_model_bags.proofs.Bags.{same-append, same-refl}
+use Rattle.cq_model_bags.proofs.Bags.{same-append, same-refl, same-sym, same-trans}
 use Rattle.cq_model_bags.specs.Bag.{SameBag}
 use Rattle.cq_deltas_joins.proofs.Storing.{stored-merged}
 use Rattle.cq_deltas_joins.proofs.WholeChains.{still-itself}
@@ -21,11 +21,11 @@ use Rattle.cq_model.specs.declared.query.Query.{Query}
 use Rattle.cq_model.specs.declared.query.Source.{Source}
 use Rattle.cq_views_columns.specs.Narrow.{IsNarrowOf}
 use Rattle.cq_deltas_joins.proofs.Sizes.{sizes-least}
-use Rattle.cq_views.proofs.Taking.{spans-less}
+use Rattle.cq_views.proofs.Taking.{crossed-less, spans-less}
 use Rattle.cq_views.proofs.Told.{all-wide, changes-wide}
 use Rattle.cq_views_state.proofs.SameBags.{standing-by_sources}
 use Rattle.cq_views_state.specs.Work.{CountsRows, work_of}
-use Rattle.cq_views_state.specs.State.{AreBags}
+use Rattle.cq_views_state.specs.State.{AreBags, AreCountable, StayCountable}
 use Rattle.cq_views_state.specs.State as inner
 use Rattle.cq_views_state.specs.declared.state.Pending.{Pending}
 use Rattle.cq_views_state.specs.declared.state.ViewState.{ViewState}
@@ -95,8 +95,30 @@ module _ (v : KeptView) (changes : Tables) (can : CanPrepare v changes) where
         let x = entry_of v.columns s in
         omega (arith, cut-sizes x (can.tables s), cut-sizes x (changes s), sizes-least (cut s) (cut_bags v.columns changes s) (are.clean s) (are.same.at s))
 
-    few : spans (cut_bags v.columns can.tables) cut (sources_of v.query) ≤ 2 ^ 122
+    few : spans (cut_bags v.columns can.tables) cut (sources_of v.query) < 2 ^ 127
     few = omega (arith, can.few, spans-less (cut_bags v.columns can.tables) cut can.tables changes less (sources_of v.query))
+
+    -- rows that are cut are no more, whatever is joined
+    cut-countable : (tables : Tables) → AreCountable (sources_of v.query) tables → AreCountable (sources_of v.query) (cut_bags v.columns tables)
+    cut-countable tables h = omega (arith, h, crossed-less (cut_bags v.columns tables) tables (λ s. cut-sizes (entry_of v.columns s) (tables s)) (sources_of v.query))
+
+    -- and tables with the bags of the changed ones have those of the changed ones that are cut
+    cut-behind : (s : Source) → SameBag (can.countable.behind s) (changed can.tables changes s) → SameBag (cut_bags v.columns can.countable.behind s) (changed (cut_bags v.columns can.tables) cut s)
+    cut-behind s same =
+        let old = cut_bags v.columns can.tables s in
+        let more = cut_bags v.columns changes s in
+        same-trans (cut_bags v.columns can.countable.behind s) (old ++ more) (old ++ cut s)
+        (subst (λ (ts : Tables). SameBag (cut_bags v.columns can.countable.behind s) (ts s)) (cut-changed v.columns can.tables changes)
+        (cut-same (entry_of v.columns s) (can.countable.behind s) (changed can.tables changes s) same))
+        (same-append old old more (cut s) (same-refl old) (same-sym (cut s) more (are.same.at s)))
+
+    countable : StayCountable (sources_of v.query) (cut_bags v.columns can.tables) cut
+    countable = record {
+      before = cut-countable can.tables can.countable.before;
+      behind = cut_bags v.columns can.countable.behind;
+      same = all-weaker (λ s. SameBag (can.countable.behind s) (changed can.tables changes s)) (λ s. SameBag (cut_bags v.columns can.countable.behind s) (changed (cut_bags v.columns can.tables) cut s)) cut-behind (sources_of v.query) can.countable.same;
+      after = cut-countable can.countable.behind can.countable.after;
+    }
 
     -- and the state can be made ready for them
     pub can-prepare : inner.CanPrepare v.state cut
@@ -110,7 +132,8 @@ module _ (v : KeptView) (changes : Tables) (can : CanPrepare v changes) where
           tables = cut_bags v.columns can.tables;
           stands = can.stands.rows;
           wide = all-wide v can.tables cut can.stands.widths (changes-wide v.columns changes cut are);
-          few = subst (λ (ss : List Source). spans (cut_bags v.columns can.tables) cut ss ≤ 2 ^ 122) (sym is.sources) few;
+          few = subst (λ (ss : List Source). spans (cut_bags v.columns can.tables) cut ss < 2 ^ 127) (sym is.sources) few;
+          countable = subst (λ (ss : List Source). StayCountable ss (cut_bags v.columns can.tables) cut) (sym is.sources) countable;
           stored =
               subst (λ (ss : List Source). AllByRecursion (λ s. AreStored (cut_bags v.columns can.tables s)) ss × AllByRecursion (λ s. AreStored (cut s)) ss) (sym is.sources) (before, after);
         }

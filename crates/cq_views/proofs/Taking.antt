@@ -1,10 +1,10 @@
 -- A state that takes rows in stands for them beside those that it had.
-use Rattle.std.proofs.Common.{◌≡◌, ◌∙◌, ◌+◌, ◌≤◌, ◌^◌, pos, List, [], ◌∷◌, ◌++◌, length, refl, sym, ap, subst, arith, append_assoc}
+use Rattle.std.proofs.Common.{◌≡◌, ◌∙◌, ◌+◌, ◌<◌, ◌≤◌, ◌^◌, pos, List, [], ◌∷◌, ◌++◌, length, refl, sym, ap, subst, arith, append_assoc}
 use Rattle.std.proofs.lemmas.Int.{ints}
 use Rattle.std.proofs.lemmas.List.{append-nil, map-append}
 use Rattle.std.proofs.lemmas.Nat.{mul-le}
 use Rattle.cq_values.specs.Value.{Row}
-use Rattle.cq_model_bags.proofs.Bags.{same-append, same-refl}
+use Rattle.cq_model_bags.proofs.Bags.{same-append, same-refl, same-sym}
 use Rattle.cq_model_bags.proofs.Totals.{by_test, weight_of-append}
 use Rattle.cq_model_bags.specs.Bag.{Weighted, SameBag, IsBag, once_each}
 use Rattle.cq_model_bags.specs.Join.{HasWidth}
@@ -30,7 +30,7 @@ use Rattle.cq_table_columns.specs.declared.stored_source.StoredSource.{StoredSou
 use Rattle.cq_views_state.proofs.SameBags.{standing-by_sources}
 use Rattle.cq_views_model.specs.Query.{CanBeKept}
 use Rattle.cq_views_state.specs.Build.{Gains}
-use Rattle.cq_views_state.specs.State.{AreBags, AreAsTold, CanPrepare, HoldStored, StandsFor}
+use Rattle.cq_views_state.specs.State.{AreBags, AreAsTold, AreCountable, CanPrepare, HoldStored, StandsFor, StayCountable, crossed}
 use Rattle.cq_views_state.specs.declared.state.ViewState.{ViewState}
 use Rattle.cq_model_bags.proofs.Lists.{all-both, all-of}
 
@@ -47,6 +47,21 @@ pub spans-less : (tables changes others more : Tables) → ((s : Source) → spa
 spans-less tables changes others more less [] = omega arith
 spans-less tables changes others more less (s ∷ sources) =
     mul-le (span (tables s) (changes s)) (spans tables changes sources) (span (others s) (more s)) (spans others more sources) (less s) (spans-less tables changes others more less sources)
+
+-- and smaller rows of each source are fewer in all joins
+pub crossed-less : (tables others : Tables) → ((s : Source) → sizes (tables s) ≤ sizes (others s)) → (sources : List Source) → crossed tables sources ≤ crossed others sources
+crossed-less tables others less [] = omega arith
+crossed-less tables others less (s ∷ sources) =
+    mul-le (sizes (tables s)) (crossed tables sources) (sizes (others s)) (crossed others sources) (less s) (crossed-less tables others less sources)
+
+-- a join that has no more rows than can be counted, and none with all that changes add, stays so
+changed-countable : (sources : List Source) (tables changes : Tables) → AreCountable sources tables → AreCountable sources (changed tables changes) → StayCountable sources tables changes
+changed-countable sources tables changes before after = record {
+  before = before;
+  behind = changed tables changes;
+  same = all-of (λ s. SameBag (changed tables changes s) (changed tables changes s)) (λ s. same-refl (changed tables changes s)) sources;
+  after = after;
+}
 
 -- ---- Rows beside others
 stored-front : (xs ys : Weighted) → AreStored (xs ++ ys) → AreStored xs
@@ -94,6 +109,9 @@ module _ (v : ViewState) (a b : Tables) (first : AreBags a) (second : AreBags b)
   can-as c can bags wide no_larger stored =
       let tables = can.can.tables in
       let less = spans-less tables c tables (changed a b) (λ s. omega (arith, sizes-append (a s) (b s), no_larger s)) (sources_of v.query) in
+      let fewer = crossed-less (changed tables c) (changed tables (changed a b))
+      (λ s. omega (arith, sizes-append (tables s) (c s), sizes-append (tables s) (a s ++ b s), sizes-append (a s) (b s), no_larger s)) (sources_of v.query) in
+      let countable : AreCountable (sources_of v.query) (changed tables c) = omega (arith, can.countable, fewer) in
       let whole = can.can.stored.1 in
       record {
         can = record {
@@ -102,9 +120,11 @@ module _ (v : ViewState) (a b : Tables) (first : AreBags a) (second : AreBags b)
           stands = can.can.stands;
           wide = wide;
           few = omega (arith, can.can.few, less);
+          countable = changed-countable (sources_of v.query) tables c can.can.countable.before countable;
           stored = (can.can.stored.0, all-both (λ s. AreStored (a s ++ b s)) (λ s. AreStored (a s ++ b s)) (λ s. AreStored (c s)) (λ s all same. stored s all) (sources_of v.query) whole whole);
         };
         bags = (can.bags.0, bags);
+        countable = countable;
       }
 
   -- rows that can be taken in with others can be taken in alone
@@ -122,7 +142,13 @@ module _ (v : ViewState) (a b : Tables) (first : AreBags a) (second : AreBags b)
   can-second w can fills =
       let tables = can.can.tables in
       let less = spans-less (changed tables a) b tables (changed a b) (λ s. omega (arith, sizes-append (tables s) (a s), sizes-append (a s) (b s))) (sources_of v.query) in
-      let few : spans (changed tables a) b (sources_of v.query) ≤ 2 ^ 122 = omega (arith, can.can.few, less) in
+      let few : spans (changed tables a) b (sources_of v.query) < 2 ^ 127 = omega (arith, can.can.few, less) in
+      let fewer = crossed-less (changed tables a) (changed tables (changed a b))
+      (λ s. omega (arith, sizes-append (tables s) (a s), sizes-append (tables s) (a s ++ b s), sizes-append (a s) (b s))) (sources_of v.query) in
+      let same = crossed-less (changed (changed tables a) b) (changed tables (changed a b))
+      (λ s. omega (arith, sizes-append (tables s ++ a s) (b s), sizes-append (tables s) (a s), sizes-append (tables s) (a s ++ b s), sizes-append (a s) (b s))) (sources_of v.query) in
+      let countable : AreCountable (sources_of v.query) (changed (changed tables a) b) = omega (arith, can.countable, same) in
+      let stays : StayCountable (sources_of v.query) (changed tables a) b = changed-countable (sources_of v.query) (changed tables a) b (omega (arith, can.countable, fewer)) countable in
       let whole = can.can.stored.1 in
       let before = all-both (λ s. AreStored (tables s)) (λ s. AreStored (a s ++ b s)) (λ s. AreStored (tables s ++ a s))
       (λ s old all. stored-append (tables s) (a s) old (stored-front (a s) (b s) all)) (sources_of v.query) can.can.stored.0 whole in
@@ -133,10 +159,12 @@ module _ (v : ViewState) (a b : Tables) (first : AreBags a) (second : AreBags b)
           tables = changed tables a;
           stands = fills.stands tables can.can.stands can.bags.0 (wide-first v tables a b can.can.wide);
           wide = wide-second v tables a b can.can.wide w fills.query fills.widths;
-          few = subst (λ (q : Query). spans (changed tables a) b (sources_of q) ≤ 2 ^ 122) (sym fills.query) few;
+          few = subst (λ (q : Query). spans (changed tables a) b (sources_of q) < 2 ^ 127) (sym fills.query) few;
+          countable = subst (λ (q : Query). StayCountable (sources_of q) (changed tables a) b) (sym fills.query) stays;
           stored = subst (λ (q : Query). HoldStored q (changed tables a) × HoldStored q b) (sym fills.query) (before, after);
         };
         bags = (bags-changed tables a can.bags.0 first, second);
+        countable = subst (λ (q : Query). AreCountable (sources_of q) (changed (changed tables a) b)) (sym fills.query) countable;
       }
 
   -- a view that takes in both, one after the other, takes in all
@@ -216,6 +244,12 @@ module _ (v : ViewState) (source : Source) (rows : List Row) (once : Weighted) (
         stands = can.can.stands;
         wide = copies-wide tables can.can.wide;
         few = omega (arith, can.can.few, spans-less tables (only source once) tables (only source (once_each rows)) less (sources_of v.query));
+        countable = record {
+          before = can.can.countable.before;
+          behind = changed tables (only source (once_each rows));
+          same = all-of (λ s. SameBag (tables s ++ only source (once_each rows) s) (tables s ++ only source once s)) alike (sources_of v.query);
+          after = can.countable;
+        };
         stored = (
           can.can.stored.0,
           all-both (λ s. AreStored (only source (once_each rows) s)) (λ s. AreStored (only source (once_each rows) s)) (λ s. AreStored (only source once s))
@@ -225,6 +259,13 @@ module _ (v : ViewState) (source : Source) (rows : List Row) (once : Weighted) (
     where
       less : (s : Source) → span (can.can.tables s) (only source once s) ≤ span (can.can.tables s) (only source (once_each rows) s)
       less s = by_test (same_source source s) (λ k. rw k (omega (arith, sizes-least once (once_each rows) clean same))) (λ k. rw k (omega arith))
+
+      copied : (s : Source) → SameBag (only source (once_each rows) s) (only source once s)
+      copied s = by_test (same_source source s) (λ k. rw k (same-sym once (once_each rows) same)) (λ k. rw k (same-refl []))
+
+      alike : (s : Source) → SameBag (can.can.tables s ++ only source (once_each rows) s) (can.can.tables s ++ only source once s)
+      alike s =
+          same-append (can.can.tables s) (can.can.tables s) (only source (once_each rows) s) (only source once s) (same-refl (can.can.tables s)) (copied s)
 
       stored : (s : Source) → AreStored (only source (once_each rows) s) → AreStored (only source once s)
       stored s all = by_test (same_source source s) (λ k. rw k (stored-merged once (once_each rows) clean same (rw k at all))) (λ k. rw k tt)

@@ -6,9 +6,10 @@ use Rattle.cq_table_columns.specs.Stored.{all_rows}
 use Rattle.cq_views_model.specs.Delta.{changed}
 use Rattle.cq_model.specs.Sources.{same_source}
 use Rattle.cq_model.specs.Meaning.{Tables}
+use Rattle.cq_model.specs.Views.{sources_of}
 use Rattle.cq_model.specs.declared.query.Source.{Source}
 use Rattle.cq_table_columns.specs.declared.stored_source.StoredSource.{StoredSource}
-use Rattle.cq_views_state.specs.State.{AreBags, AreAsTold, CanPrepare, StandsFor}
+use Rattle.cq_views_state.specs.State.{AreBags, AreAsTold, AreCountable, CanPrepare, StandsFor}
 use Rattle.cq_views_state.specs.declared.state.ViewState.{ViewState}
 
 -- a source with these rows, and the others with none
@@ -23,6 +24,7 @@ bags_at tables source = flat_map (λ t. only t.source (once_each (all_rows t.row
 pub record CanFill (v : ViewState) (more : Tables) : Type 0 where
   pub can : CanPrepare v more
   pub bags : AreBags can.tables × AreBags more
+  pub countable : AreCountable (sources_of v.query) (changed can.tables more)
 
 -- a state of the same query at the same epochs stands for the rows with these put in
 pub record Fills (more : Tables) (old new : ViewState) : Type 0 where

@@ -1,5 +1,5 @@
 -- A view as it is kept, the tables that it stands for, and what changes of them do.
-use Rattle.std.specs.Prelude.{◌≡◌, ◌≤◌, ◌^◌, ℕ, List}
+use Rattle.std.specs.Prelude.{◌≡◌, ◌<◌, ◌≤◌, ◌^◌, ℕ, List}
 use Rattle.cq_deltas_joins.specs.Chains.{spans}
 use Rattle.cq_deltas_joins.specs.Work as chains
 use Rattle.cq_views_model.specs.Delta.{SameTables, changed}
@@ -13,7 +13,7 @@ use Rattle.cq_views_columns.specs.Narrow.{IsNarrowOf}
 use Rattle.cq_views_columns.specs.declared.columns.SourceColumns.{SourceColumns}
 use Rattle.cq_views_columns.specs.declared.narrow_query.NarrowQuery.{NarrowQuery}
 use Rattle.cq_views_model.specs.Query.{CanBeKept}
-use Rattle.cq_views_state.specs.State.{AreBags, HoldStored}
+use Rattle.cq_views_state.specs.State.{AreBags, HoldStored, StayCountable}
 use Rattle.cq_views_state.specs.State as inner
 use Rattle.cq_views_state.specs.Work.{CountsRows, work_of}
 use Rattle.cq_views_state.specs.declared.state.Pending.{Pending}
@@ -43,7 +43,8 @@ pub record CanPrepare (v : KeptView) (changes : Tables) : Type 0 where
   pub can : CanBeKept v.query
   pub tables : Tables
   pub stands : StandsFor v tables
-  pub few : spans tables changes (sources_of v.query) ≤ 2 ^ 122
+  pub few : spans tables changes (sources_of v.query) < 2 ^ 127
+  pub countable : StayCountable (sources_of v.query) tables changes
   pub stored : HoldStored v.query tables × HoldStored v.query changes
 
 -- a view stands for what it stood for

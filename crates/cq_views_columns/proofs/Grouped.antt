@@ -18,10 +18,10 @@ use Rattle.cq_model_laws.proofs.Counted.{extreme-counted}
 use Rattle.cq_model.specs.Condition.{is_null}
 use Rattle.cq_model.specs.Eval.{eval}
 use Rattle.cq_model.specs.Expr.{Cond, Expr}
-use Rattle.cq_model.specs.Group.{InRange, SumInRange, addend, aggregate, count_values, extreme_of, group_row, grouped, higher, key_of, keys_of, lower, rows_of_key, sum_values, value_bag}
+use Rattle.cq_model.specs.Group.{InRange, SumInRange, addend, aggregate, count_values, distinct_values, extreme_of, group_row, grouped, higher, key_of, keys_of, lower, rows_of_key, sum_values, value_bag}
 use Rattle.cq_model.specs.Meaning.{ShapeInRange, items_of, keeps, shaped}
 use Rattle.cq_model.specs.declared.query.Aggregate.{Aggregate}
-use Rattle.cq_model.specs.declared.query.Aggregate.TheVariants.{CountAll, Count, Sum, Min, Max}
+use Rattle.cq_model.specs.declared.query.Aggregate.TheVariants.{CountAll, Count, CountDistinct, Sum, Min, Max}
 use Rattle.cq_model.specs.declared.query.Shape.{Shape}
 use Rattle.cq_model.specs.declared.query.Shape.TheVariants.{Plain, Grouped}
 use Rattle.cq_model_terms.specs.Places.{is_one_of}
@@ -124,6 +124,7 @@ module _ (f : Row → Row) (to : ℕ → ℕ) (n : ℕ) (read : ℕ → Bool) (g
   aggregate-narrow CountAll w xs wide b =
       ap Number (total-through (λ row. pos 1) (λ row. pos 1) f xs (all-wide (λ row. pos 1 ≡ pos 1) n (λ row l. refl) xs wide))
   aggregate-narrow (Count e) w xs wide b = ap Number (counts-narrow e w xs wide)
+  aggregate-narrow (CountDistinct e) w xs wide b = ap (λ (values : Weighted). Number (pos (length (distinct_values values)))) (values-narrow e w xs wide)
   aggregate-narrow (Sum e) w xs wide b =
       let counts = counts-narrow e w xs wide in
       let sums = sums-narrow e w xs wide in
@@ -183,6 +184,7 @@ module _ (f : Row → Row) (to : ℕ → ℕ) (n : ℕ) (read : ℕ → Bool) (g
   sum-range : (a : Aggregate) → AreRead (λ i. reads_argument i a) → (xs : Weighted) → HasWidth n xs → SumInRange (renamed_aggregate to a) (projected f xs) ↔ SumInRange a xs
   sum-range CountAll w xs wide = (λ h. tt, λ h. tt)
   sum-range (Count e) w xs wide = (λ h. tt, λ h. tt)
+  sum-range (CountDistinct e) w xs wide = (λ h. tt, λ h. tt)
   sum-range (Sum e) w xs wide = (subst InRange (sums-narrow e w xs wide), subst InRange (sym (sums-narrow e w xs wide)))
   sum-range (Min e) w xs wide = (λ h. tt, λ h. tt)
   sum-range (Max e) w xs wide = (λ h. tt, λ h. tt)

@@ -11,7 +11,7 @@ use Rattle.cq_model.specs.Expr.{Expr, Column, Literal, Negate, Plus, Times, Extr
 use Rattle.cq_model.specs.Views.{sources_of}
 use Rattle.cq_model.specs.Width.{Extent, number_limit, sizes_of, value_size, widest, widest_in, width}
 use Rattle.cq_model.specs.declared.query.Aggregate.{Aggregate}
-use Rattle.cq_model.specs.declared.query.Aggregate.TheVariants.{CountAll, Count, Sum, Min, Max}
+use Rattle.cq_model.specs.declared.query.Aggregate.TheVariants.{CountAll, Count, CountDistinct, Sum, Min, Max}
 use Rattle.cq_model.specs.declared.query.Join.{Join}
 use Rattle.cq_model.specs.declared.query.Query.{Query}
 use Rattle.cq_model.specs.declared.query.Shape.{Shape}
@@ -110,6 +110,7 @@ module _ (to : ℕ → ℕ) where
   shown-stored : (a : Aggregate) → shown_size (renamed_aggregate to a) ≡ shown_size a
   shown-stored CountAll = refl
   shown-stored (Count e) = refl
+  shown-stored (CountDistinct e) = refl
   shown-stored (Sum e) = refl
   shown-stored (Min e) = ap (λ (x : Extent). x.size) (width-stored e)
   shown-stored (Max e) = ap (λ (x : Extent). x.size) (width-stored e)
@@ -158,6 +159,7 @@ module _ (to : ℕ → ℕ) where
   argument-narrow : (a : Aggregate) → IsArgumentNarrow (λ i. stored_size) a → IsArgumentNarrow (λ i. stored_size) (renamed_aggregate to a)
   argument-narrow CountAll h = tt
   argument-narrow (Count e) h = subst (λ (x : Extent). x.widest < number_limit) (sym (width-stored e)) h
+  argument-narrow (CountDistinct e) h = subst (λ (x : Extent). x.widest < number_limit) (sym (width-stored e)) h
   argument-narrow (Sum e) h = subst (λ (x : Extent). x.widest < number_limit) (sym (width-stored e)) h
   argument-narrow (Min e) h = subst (λ (x : Extent). x.widest < number_limit) (sym (width-stored e)) h
   argument-narrow (Max e) h = subst (λ (x : Extent). x.widest < number_limit) (sym (width-stored e)) h

@@ -5,7 +5,7 @@ use Rattle.cq_model.specs.Sources.{same_source}
 use Rattle.cq_model.specs.Expr.{Cond, Expr}
 use Rattle.cq_model.specs.Views.{sources_of}
 use Rattle.cq_model.specs.declared.query.Aggregate.{Aggregate}
-use Rattle.cq_model.specs.declared.query.Aggregate.TheVariants.{CountAll, Count, Sum, Min, Max}
+use Rattle.cq_model.specs.declared.query.Aggregate.TheVariants.{CountAll, Count, CountDistinct, Sum, Min, Max}
 use Rattle.cq_model.specs.declared.query.Join.{Join}
 use Rattle.cq_model.specs.declared.query.Query.{Query}
 use Rattle.cq_model.specs.declared.query.Shape.{Shape}
@@ -23,6 +23,7 @@ reads_filter place (Some c) = reads_in place c
 abbrev pub reads_argument : ℕ → Aggregate → Bool
 reads_argument place CountAll = false
 reads_argument place (Count e) = reads place e
+reads_argument place (CountDistinct e) = reads place e
 reads_argument place (Sum e) = reads place e
 reads_argument place (Min e) = reads place e
 reads_argument place (Max e) = reads place e

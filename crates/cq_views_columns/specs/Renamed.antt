@@ -3,7 +3,7 @@ use Rattle.std.specs.Prelude.{ℕ, List, map, Option}
 use Rattle.std.specs.Option.{option_map}
 use Rattle.cq_model.specs.Expr.{Cond, Expr}
 use Rattle.cq_model.specs.declared.query.Aggregate.{Aggregate}
-use Rattle.cq_model.specs.declared.query.Aggregate.TheVariants.{CountAll, Count, Sum, Min, Max}
+use Rattle.cq_model.specs.declared.query.Aggregate.TheVariants.{CountAll, Count, CountDistinct, Sum, Min, Max}
 use Rattle.cq_model.specs.declared.query.Shape.{Shape}
 use Rattle.cq_model.specs.declared.query.Shape.TheVariants.{Plain, Grouped}
 use Rattle.cq_model_terms.specs.Places.{place_in}
@@ -13,6 +13,7 @@ use Rattle.cq_model_terms.specs.Renamed.{renamed}
 abbrev pub renamed_aggregate : (ℕ → ℕ) → Aggregate → Aggregate
 renamed_aggregate to CountAll = CountAll
 renamed_aggregate to (Count e) = Count (renamed to e)
+renamed_aggregate to (CountDistinct e) = CountDistinct (renamed to e)
 renamed_aggregate to (Sum e) = Sum (renamed to e)
 renamed_aggregate to (Min e) = Min (renamed to e)
 renamed_aggregate to (Max e) = Max (renamed to e)

@@ -137,6 +137,7 @@ fn reads_argument(aggregate: &Aggregate, place: usize) -> bool
     match aggregate {
         Aggregate::CountAll => false,
         Aggregate::Count(argument) => reads(argument.tree(), place),
+        Aggregate::CountDistinct(argument) => reads(argument.tree(), place),
         Aggregate::Sum(argument) => reads(argument.tree(), place),
         Aggregate::Min(argument) => reads(argument.tree(), place),
         Aggregate::Max(argument) => reads(argument.tree(), place),

@@ -210,6 +210,9 @@ fn renamed_aggregate(
     match aggregate {
         Aggregate::CountAll => Ok(Aggregate::CountAll),
         Aggregate::Count(argument) => Ok(Aggregate::Count(renamed(alloc, argument, places)?)),
+        Aggregate::CountDistinct(argument) => {
+            Ok(Aggregate::CountDistinct(renamed(alloc, argument, places)?))
+        }
         Aggregate::Sum(argument) => Ok(Aggregate::Sum(renamed(alloc, argument, places)?)),
         Aggregate::Min(argument) => Ok(Aggregate::Min(renamed(alloc, argument, places)?)),
         Aggregate::Max(argument) => Ok(Aggregate::Max(renamed(alloc, argument, places)?)),

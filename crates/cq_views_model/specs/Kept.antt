@@ -1,16 +1,16 @@
 -- What a view keeps behind its joins: groups with counts, exact totals and counted values, or images of rows.
-use Rattle.std.specs.Prelude.{◌≡◌, ℤ, pos, if◌then◌else◌, List, [], ◌∷◌, ◌++◌, map, unwrap_or}
+use Rattle.std.specs.Prelude.{◌≡◌, ℤ, pos, if◌then◌else◌, List, [], ◌∷◌, ◌++◌, map, length, unwrap_or}
 use Rattle.std.specs.Ordering.{int_eq}
 use Rattle.cq_values.specs.declared.value.Value.{Value}
 use Rattle.cq_values.specs.declared.value.Value.TheVariants.{Null, Number}
 use Rattle.cq_values.specs.Value.{Row}
 use Rattle.cq_model_bags.specs.Bag.{Weighted, SameBag, projected}
 use Rattle.cq_model.specs.declared.query.Aggregate.{Aggregate}
-use Rattle.cq_model.specs.declared.query.Aggregate.TheVariants.{CountAll, Count, Sum, Min, Max}
+use Rattle.cq_model.specs.declared.query.Aggregate.TheVariants.{CountAll, Count, CountDistinct, Sum, Min, Max}
 use Rattle.cq_model.specs.declared.query.Query.{Query}
 use Rattle.cq_model.specs.declared.query.Shape.{Shape}
 use Rattle.cq_model.specs.declared.query.Shape.TheVariants.{Plain, Grouped}
-use Rattle.cq_model.specs.Group.{count_all, count_values, sum_values, value_bag, extreme_of, lower, higher, rows_of_key}
+use Rattle.cq_model.specs.Group.{count_all, count_values, sum_values, value_bag, distinct_values, extreme_of, lower, higher, rows_of_key}
 use Rattle.cq_model.specs.Meaning.{items_of}
 
 -- what is kept of an aggregate: a count, with a total, or counted values
@@ -23,6 +23,7 @@ pub data Kept : Type 0 where
 abbrev pub IsKept : Aggregate → Weighted → Kept → Type 0
 IsKept CountAll xs (Counted n) = n ≡ count_all xs
 IsKept (Count e) xs (Counted n) = n ≡ count_values e xs
+IsKept (CountDistinct e) xs (Listed values) = SameBag values (value_bag e xs)
 IsKept (Sum e) xs (Totalled n total) = (n ≡ count_values e xs) × (total ≡ sum_values e xs)
 IsKept (Min e) xs (Listed values) = SameBag values (value_bag e xs)
 IsKept (Max e) xs (Listed values) = SameBag values (value_bag e xs)
@@ -32,6 +33,7 @@ IsKept a xs kept = ⊥
 abbrev pub kept_value : Aggregate → Kept → Value
 kept_value CountAll (Counted n) = Number n
 kept_value (Count e) (Counted n) = Number n
+kept_value (CountDistinct e) (Listed values) = Number (pos (length (distinct_values values)))
 kept_value (Sum e) (Totalled n total) = if int_eq n (pos 0) then Null else Number total
 kept_value (Min e) (Listed values) = extreme_of lower values
 kept_value (Max e) (Listed values) = extreme_of higher values
@@ -78,6 +80,7 @@ shown_row aggregates k kept = k ++ shown_values aggregates kept
 abbrev pub kept_of : Weighted → Aggregate → Kept
 kept_of xs CountAll = Counted (count_all xs)
 kept_of xs (Count e) = Counted (count_values e xs)
+kept_of xs (CountDistinct e) = Listed (value_bag e xs)
 kept_of xs (Sum e) = Totalled (count_values e xs) (sum_values e xs)
 kept_of xs (Min e) = Listed (value_bag e xs)
 kept_of xs (Max e) = Listed (value_bag e xs)

@@ -11,7 +11,7 @@ use Rattle.cq_model_bags.proofs.Listings.{weight_of-once_each}
 use Rattle.cq_model_bags.proofs.Positives.{filtered-bag, total-positive}
 use Rattle.cq_model_bags.proofs.Totals.{by_test}
 use Rattle.cq_model.specs.declared.query.Aggregate.{Aggregate}
-use Rattle.cq_model.specs.declared.query.Aggregate.TheVariants.{CountAll, Count, Sum, Min, Max}
+use Rattle.cq_model.specs.declared.query.Aggregate.TheVariants.{CountAll, Count, CountDistinct, Sum, Min, Max}
 use Rattle.cq_model.specs.Group.{InRange, SumInRange, SumsInRange, count_all, group_row, key_of, keys_of, rows_of_key, sum_values}
 use Rattle.cq_views_model.specs.Kept.{Group, GroupStands, Groups, shown_row}
 use Rattle.cq_views_model.specs.Shown.{ListsKeys}
@@ -75,6 +75,7 @@ none-in-range xs none (Count e ∷ aggregates) = (tt, none-in-range xs none aggr
 none-in-range xs none (Sum e ∷ aggregates) =
     let is : pos 0 ≡ sum_values e xs = sum-respects e [] xs none in
     (subst InRange is (record { low = omega (arith, ints); high = omega (arith, ints) }), none-in-range xs none aggregates)
+none-in-range xs none (CountDistinct e ∷ aggregates) = (tt, none-in-range xs none aggregates)
 none-in-range xs none (Min e ∷ aggregates) = (tt, none-in-range xs none aggregates)
 none-in-range xs none (Max e ∷ aggregates) = (tt, none-in-range xs none aggregates)
 

@@ -14,7 +14,7 @@ use Rattle.cq_model.specs.Eval.{eval}
 use Rattle.cq_model.specs.Expr.{Expr, Column, Literal, Negate, Plus, Times, Extract}
 use Rattle.cq_model.specs.Width.{IsNarrowAt, part_limit, sizes_of, value_size, width}
 use Rattle.cq_model.specs.declared.query.Aggregate.{Aggregate}
-use Rattle.cq_model.specs.declared.query.Aggregate.TheVariants.{CountAll, Count, Sum, Min, Max}
+use Rattle.cq_model.specs.declared.query.Aggregate.TheVariants.{CountAll, Count, CountDistinct, Sum, Min, Max}
 use Rattle.cq_values.specs.declared.day_part.DayPart.{DayPart}
 use Rattle.cq_values.specs.declared.day_part.DayPart.TheVariants as parts
 use Rattle.cq_sides_weights.proofs.RowByRow.{sizes-cons}
@@ -55,6 +55,7 @@ module _ (row : Row) (stored : IsStored row) where
   addend-small CountAll narrow = omega arith
   addend-small (Count e) narrow = argument-small e narrow
   addend-small (Sum e) narrow = argument-small e narrow
+  addend-small (CountDistinct e) narrow = tt
   addend-small (Min e) narrow = tt
   addend-small (Max e) narrow = tt
 

@@ -1,5 +1,5 @@
 -- The rows that a view shows are within the sizes of its columns, and no item works out what is too wide on the way.
-use Rattle.std.proofs.Common.{◌≡◌, ℕ, ◌≤◌, ◌^◌, Bool, true, pos, int_lt, List, [], ◌∷◌, ◌++◌, map, None, Some, sym, ◌∙◌, ap, subst, arith}
+use Rattle.std.proofs.Common.{◌≡◌, ℕ, ◌≤◌, Bool, true, pos, int_lt, List, [], ◌∷◌, ◌++◌, map, None, Some, sym, ◌∙◌, ap, subst, arith}
 use Rattle.std.specs.List.{AllByRecursion}
 use Rattle.cq_values.specs.Order.{same_row}
 use Rattle.cq_values.specs.Value.{Row}
@@ -13,7 +13,7 @@ use Rattle.cq_model_laws.proofs.Counted.{group-shows}
 use Rattle.cq_model_laws.proofs.Fits.{FitBeside, beside-append, beside-at}
 use Rattle.cq_model_laws.proofs.Ranges.{all-at, all-from}
 use Rattle.cq_model_laws.specs.Sizes.{HasSizes}
-use Rattle.cq_model.specs.Sizes.{IsSized, IsStored, column_sizes, row_size, shown_size, stored_size}
+use Rattle.cq_model.specs.Sizes.{IsSized, IsStored, column_sizes, count_size, row_size, shown_size, stored_size}
 use Rattle.cq_model.specs.Group.{SumInRange, aggregate, group_row, key_of, keys_of, rows_of_key}
 use Rattle.cq_model.specs.Meaning.{items_of}
 use Rattle.cq_model.specs.Width.{AreNarrowAt}
@@ -61,15 +61,15 @@ occurs-fits columns xs stored k among =
 
 -- ---- groups
 -- rows that a condition keeps are no more than all
-fewer : (keep : Row → Bool) (xs : Weighted) → sizes xs ≤ 2 ^ 96 → sizes (filtered keep xs) ≤ 2 ^ 96
+fewer : (keep : Row → Bool) (xs : Weighted) → sizes xs ≤ count_size → sizes (filtered keep xs) ≤ count_size
 fewer keep xs few = omega (arith, few, sizes-filtered keep xs)
 
-module _ (aggregates : List Aggregate) (groups : KeyedGroups) (xs : Weighted) (bag : IsBag xs) (stored : AreStored xs) (few : sizes xs ≤ 2 ^ 96)
+module _ (aggregates : List Aggregate) (groups : KeyedGroups) (xs : Weighted) (bag : IsBag xs) (stored : AreStored xs) (few : sizes xs ≤ count_size)
     (lists : ListsKeys (counted_keys groups) (Groups (group_at aggregates groups))) (can : GroupsCanBeShown aggregates groups) where
   -- the row of all rows fits
   one-fits : ((k : Row) → GroupStands aggregates (rows_of_key [] k xs) (group_at aggregates groups k))
       → FitBeside (group_row aggregates [] xs) (map shown_size aggregates)
-  one-fits stands = all-shown-fit xs stored few aggregates (one-in-range aggregates groups xs bag lists stands can)
+  one-fits stands = all-shown-fit xs bag stored few aggregates (one-in-range aggregates groups xs bag lists stands can)
 
   module _ (columns : List ℕ) (stands : (k : Row) → GroupStands aggregates (rows_of_key columns k xs) (group_at aggregates groups k)) where
     -- and the row of each key
@@ -81,7 +81,7 @@ module _ (aggregates : List Aggregate) (groups : KeyedGroups) (xs : Weighted) (b
         let there = occurs columns aggregates groups xs lists stands k among in
         let sums = all-at (λ q. AllByRecursion (λ a. SumInRange a (rows_of_key columns q xs)) aggregates) (keys_of columns xs)
         (in-range columns aggregates groups xs lists stands can) k there in
-        let shown = all-shown-fit own (stored-filtered keep xs stored) (fewer keep xs few) aggregates sums in
+        let shown = all-shown-fit own (filtered-bag keep xs bag) (stored-filtered keep xs stored) (fewer keep xs few) aggregates sums in
         let is : shown_row aggregates k (group_at aggregates groups k).kept ≡ group_row aggregates k own =
         group-shows aggregates k own (group_at aggregates groups k) (filtered-bag keep xs bag) (stands k) in
         subst (λ (row : Row). FitBeside row (map (λ c. stored_size) columns ++ map shown_size aggregates)) (sym is)
@@ -94,7 +94,7 @@ module _ (query : Query) (groups : KeyedGroups) where
   AllSized shape = AllByRecursion (IsSized (row_size shape)) (all_rows shape groups)
 
   sized-by_shape : (shape : Shape) → ListsKeys (counted_keys groups) (Groups (group_at (aggregates_in shape) groups))
-      → GroupsCanBeShown (aggregates_in shape) groups → (xs : Weighted) → IsBag xs → AreStored xs → sizes xs ≤ 2 ^ 96
+      → GroupsCanBeShown (aggregates_in shape) groups → (xs : Weighted) → IsBag xs → AreStored xs → sizes xs ≤ count_size
       → LastStands query shape xs (Groups (group_at (aggregates_in shape) groups)) → AllSized shape
   sized-by_shape Plain lists can xs bag stored few stand = absurd stand
   sized-by_shape (Grouped None aggregates having) lists can xs bag stored few stand =

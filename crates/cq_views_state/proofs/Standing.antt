@@ -1,5 +1,5 @@
 -- A view that stands for its tables, while changes wait for it and are put in.
-use Rattle.std.proofs.Common.{◌≡◌, ◌∙◌, ℕ, ◌*◌, ◌≤◌, ◌^◌, List, ◌++◌, map, refl, sym, ap, subst, arith}
+use Rattle.std.proofs.Common.{◌≡◌, ◌∙◌, ℕ, ◌*◌, ◌<◌, ◌^◌, List, ◌++◌, map, refl, sym, ap, subst, arith}
 use Rattle.std.specs.List.{AllByRecursion}
 use Rattle.cq_model_bags.proofs.Bags.{filtered-respects}
 use Rattle.cq_model_bags.proofs.Linears.{filtered-append}
@@ -57,10 +57,10 @@ module _ (v : ViewState) (changes : Tables) (can : CanPrepare v changes) where
       let is = can.stands.is_of in
       let tables = can.tables in
       let same = chain-sources v.query v.widths v.chain is in
-      let few : span (tables v.query.first) (changes v.query.first) * spans tables changes (map (λ j. j.source) v.query.joins) ≤ 2 ^ 122 = can.few in
-      let here : span (tables v.chain.first) (changes v.chain.first) * spans tables changes sources ≤ 2 ^ 122 =
-      subst (λ (s : Source). span (tables s) (changes s) * spans tables changes sources ≤ 2 ^ 122) (sym is.first)
-      (subst (λ (ss : List Source). span (tables v.query.first) (changes v.query.first) * spans tables changes ss ≤ 2 ^ 122) (sym same) few) in
+      let few : span (tables v.query.first) (changes v.query.first) * spans tables changes (map (λ j. j.source) v.query.joins) < 2 ^ 127 = can.few in
+      let here : span (tables v.chain.first) (changes v.chain.first) * spans tables changes sources < 2 ^ 127 =
+      subst (λ (s : Source). span (tables s) (changes s) * spans tables changes sources < 2 ^ 127) (sym is.first)
+      (subst (λ (ss : List Source). span (tables v.query.first) (changes v.query.first) * spans tables changes ss < 2 ^ 127) (sym same) few) in
       let at : (all : Tables) → AllByRecursion (λ s. AreStored (all s)) (map (λ j. j.source) v.query.joins) → AllByRecursion (λ s. AreStored (all s.source)) v.chain.steps.items =
       λ all stored. all-sources (λ s. AreStored (all s)) (λ (s : Step). s.source) v.chain.steps.items (subst (λ (ss : List Source). AllByRecursion (λ s. AreStored (all s)) ss) (sym same) stored) in
       record {
@@ -89,7 +89,7 @@ module _ (v : ViewState) (changes : Tables) (can : CanPrepare v changes) where
       record {
         xs = joined_rows v.query tables;
         stands = can.stands.last;
-        few = rows-few v.query tables changes passes given clean whole can.few;
+        few = rows-few v.query tables changes passes given clean whole can.countable;
         rows = (rows-stored v.query tables can.stored.0, few.stored);
       }
 

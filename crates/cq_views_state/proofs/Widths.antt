@@ -8,7 +8,7 @@ use Rattle.cq_model.specs.Meaning.{items_of}
 use Rattle.cq_model.specs.Sizes.{IsArgumentNarrow, IsSized, IsStored, row_size, shown_size, stored_size}
 use Rattle.cq_model.specs.Width.{AreNarrowAt, IsNarrowAt, limits_of, sizes_of, widest, width}
 use Rattle.cq_model.specs.declared.query.Aggregate.{Aggregate}
-use Rattle.cq_model.specs.declared.query.Aggregate.TheVariants.{CountAll, Count, Sum, Min, Max}
+use Rattle.cq_model.specs.declared.query.Aggregate.TheVariants.{CountAll, Count, CountDistinct, Sum, Min, Max}
 use Rattle.cq_model.specs.declared.query.Query.{Query}
 use Rattle.cq_model.specs.declared.query.Shape.{Shape}
 use Rattle.cq_model.specs.declared.query.Shape.TheVariants.{Grouped}
@@ -42,6 +42,7 @@ module _ (row : Row) (stored : IsStored row) where
   argument-narrow : (a : Aggregate) → IsArgumentNarrow (λ i. stored_size) a → IsNarrow row a
   argument-narrow CountAll narrow = tt
   argument-narrow (Count e) narrow = expr-narrow (λ i. stored_size) row stored e narrow
+  argument-narrow (CountDistinct e) narrow = expr-narrow (λ i. stored_size) row stored e narrow
   argument-narrow (Sum e) narrow = expr-narrow (λ i. stored_size) row stored e narrow
   argument-narrow (Min e) narrow = expr-narrow (λ i. stored_size) row stored e narrow
   argument-narrow (Max e) narrow = expr-narrow (λ i. stored_size) row stored e narrow

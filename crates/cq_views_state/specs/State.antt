@@ -1,10 +1,11 @@
 -- A view as it is kept, the tables that it stands for, and what changes of them do.
-use Rattle.std.specs.Prelude.{◌≡◌, ◌≤◌, ◌+◌, ◌*◌, ◌^◌, ℕ, List, [], ◌∷◌, ◌++◌, map}
+use Rattle.std.specs.Prelude.{◌≡◌, ◌<◌, ◌≤◌, ◌+◌, ◌*◌, ◌^◌, ℕ, List, [], ◌∷◌, ◌++◌, map}
 use Rattle.std.specs.List.{AllByRecursion, AllZip}
 use Rattle.cq_model_bags.specs.Bag.{Weighted, SameBag, IsBag}
 use Rattle.cq_views_model.specs.Delta.{changed}
 use Rattle.cq_model.specs.Pushed.{HaveWidths}
 use Rattle.cq_model.specs.Meaning.{Tables, joined_rows}
+use Rattle.cq_model.specs.Sizes.{count_size}
 use Rattle.cq_model.specs.Views.{sources_of}
 use Rattle.cq_model.specs.declared.query.Query.{Query}
 use Rattle.cq_model.specs.declared.query.Source.{Source}
@@ -49,10 +50,22 @@ abbrev pub crossed : Tables → List Source → ℕ
 crossed tables [] = 1
 crossed tables (source ∷ sources) = sizes (tables source) * crossed tables sources
 
+-- a join of the sources has no more rows than can be counted
+abbrev pub AreCountable : List Source → Tables → Type 0
+AreCountable sources tables = crossed tables sources ≤ count_size
+
+-- so it is before changes, and with tables of the same bags as those that they lead to
+pub record StayCountable (sources : List Source) (tables changes : Tables) : Type 0 where
+  pub before : AreCountable sources tables
+  pub behind : Tables
+  pub same : AllByRecursion (λ s. SameBag (behind s) (changed tables changes s)) sources
+  pub after : AreCountable sources behind
+
 -- a query that is kept, over stored rows, not too many of them
 pub record CanStart (query : Query) (tables : Tables) : Type 0 where
   pub can : CanBeKept query
-  pub few : spans nothing tables (sources_of query) ≤ 2 ^ 122
+  pub few : spans nothing tables (sources_of query) < 2 ^ 127
+  pub countable : AreCountable (sources_of query) tables
   pub stored : HoldStored query tables
 
 -- the view stands for stored rows, and they and the changes are as wide as it was told, and few enough
@@ -61,7 +74,8 @@ pub record CanPrepare (v : ViewState) (changes : Tables) : Type 0 where
   pub tables : Tables
   pub stands : StandsFor v tables
   pub wide : AreAsTold v tables changes
-  pub few : spans tables changes (sources_of v.query) ≤ 2 ^ 122
+  pub few : spans tables changes (sources_of v.query) < 2 ^ 127
+  pub countable : StayCountable (sources_of v.query) tables changes
   pub stored : HoldStored v.query tables × HoldStored v.query changes
 
 -- the view one epoch on

@@ -68,7 +68,7 @@ fn shown_size(alloc: Global, aggregate: &Aggregate) -> Result<u128, AllocError>
     ensures { IfOk result (λ size. size ≡ shown_size aggregate.now) }
 {
     match aggregate {
-        Aggregate::CountAll | Aggregate::Count(_) => Ok(COUNT_SIZE),
+        Aggregate::CountAll | Aggregate::Count(_) | Aggregate::CountDistinct(_) => Ok(COUNT_SIZE),
         Aggregate::Sum(_) => Ok(TOO_WIDE),
         Aggregate::Min(argument) => size_over_rows(alloc, argument),
         Aggregate::Max(argument) => size_over_rows(alloc, argument),

@@ -92,7 +92,7 @@ fn value_of_nothing(aggregate: &Aggregate) -> Value
     ensures { result ≡ shown_of aggregate.now [] }
 {
     match aggregate {
-        Aggregate::CountAll | Aggregate::Count(_) => Value::Number(0),
+        Aggregate::CountAll | Aggregate::Count(_) | Aggregate::CountDistinct(_) => Value::Number(0),
         Aggregate::Sum(_) | Aggregate::Min(_) | Aggregate::Max(_) => Value::Null,
     }
 }

@@ -37,10 +37,16 @@ const ASKED: &[(&[&str], &str, &str, u64)] = &[
         16_777_216,
     ),
     (
-        &["colview", "run", "s.sql", "--max-rows=16777216"],
+        &["colview", "run", "s.sql", "--max-rows=16777217"],
         "s.sql",
         ".",
-        16_777_216,
+        16_777_217,
+    ),
+    (
+        &["colview", "run", "s.sql", "--max-rows", "1073741824"],
+        "s.sql",
+        ".",
+        1_073_741_824,
     ),
     (
         &["colview", "run", "s.sql", "--max-rows", "0012"],
@@ -126,11 +132,11 @@ fn a_word_too_many_ends_with_2(rt: HostRuntime) {
 }
 
 #[test]
-fn n_is_digits_alone_and_from_1_to_16777216(rt: HostRuntime) {
+fn n_is_digits_alone_and_from_1_to_1073741824(rt: HostRuntime) {
     let refused_n = [
         "0",
         "000",
-        "16777217",
+        "1073741825",
         "18446744073709551617",
         "+5",
         "-1",
@@ -162,8 +168,8 @@ fn told<'a>(alloc: Global, words: &'a [&'a str]) -> Result<(u8, String), AllocEr
 #[test]
 fn a_refused_n_is_told_with_the_reason(rt: HostRuntime) -> Result<(), Fail> {
     let reasons = [
-        ("0", "0 is not in 1..=16777216"),
-        ("16777217", "16777217 is not in 1..=16777216"),
+        ("0", "0 is not in 1..=1073741824"),
+        ("1073741825", "1073741825 is not in 1..=1073741824"),
         ("x", "invalid digit found in string"),
         ("+5", "write it in digits alone"),
     ];
@@ -230,7 +236,7 @@ Options:
 Arguments of run:
   <SCRIPT>        The file of the script: statements, each ended by ';'
   --dir <DIR>     The folder of the files that the script reads [default: .]
-  --max-rows <N>  The most rows that a table may have, from 1 to 16777216 [default: 16777216]
+  --max-rows <N>  The most rows that a table may have, from 1 to 1073741824 [default: 16777216]
 
 Example:
   colview run orders.sql --dir data --max-rows 1000
@@ -246,7 +252,7 @@ Arguments:
 
 Options:
       --dir <DIR>     The folder of the files that the script reads [default: .]
-      --max-rows <N>  The most rows that a table may have, from 1 to 16777216 [default: 16777216]
+      --max-rows <N>  The most rows that a table may have, from 1 to 1073741824 [default: 16777216]
   -h, --help          Print help
 
 Example:

@@ -42,6 +42,17 @@ fn summed(alloc: Global, rows: &[Row], above: i128, is_shown: bool) -> Result<Gi
     given
 }
 
+/// What groups give with how many different values each has, where there are more than some.
+fn different(alloc: Global, rows: &[Row], more: i128) -> Result<Given, Fail>
+    requires { HaveValues 2 rows.now }
+{
+    let count = Aggregate::CountDistinct(Expr::column(1));
+    let query = groups_of(alloc, count, is_above(1, more), 1)?;
+    let given = given_of(alloc, &query, rows);
+    drop(query);
+    given
+}
+
 /// A total that cannot be shown, for ever.
 const TOO_LARGE: [Step; 5] = [Step::Fault(ShowFault::SumOutOfRange); 5];
 
@@ -55,6 +66,29 @@ fn having_keeps_groups_by_what_they_show(rt: HostRuntime) -> Result<(), Fail> {
     let steps = [Step::Rows(2), Step::End, Step::End, Step::End, Step::End];
     assert!(rt; given.steps.as_slice() == steps.as_slice());
     assert_eq!(rt; given.numbers.as_slice(), [1, 2, 3, 3].as_slice());
+    Ok(())
+}
+
+#[test]
+fn a_value_of_two_groups_counts_once_in_each(rt: HostRuntime) -> Result<(), Fail> {
+    let rows = rows_of(
+        rt.alloc(),
+        &[(3, 1), (1, 1), (3, 1), (3, 4), (1, 1), (2, 6), (3, 4)],
+    )?;
+    let given = different(rt.alloc(), &rows, 0)?;
+    let steps = [Step::Rows(3), Step::End, Step::End, Step::End, Step::End];
+    assert!(rt; given.steps.as_slice() == steps.as_slice());
+    assert_eq!(rt; given.numbers.as_slice(), [3, 2, 1, 1, 2, 1].as_slice());
+    Ok(())
+}
+
+#[test]
+fn having_keeps_groups_by_their_different_values(rt: HostRuntime) -> Result<(), Fail> {
+    let rows = rows_of(rt.alloc(), &[(3, 1), (1, 2), (3, 1), (1, 5), (3, 1)])?;
+    let given = different(rt.alloc(), &rows, 1)?;
+    let steps = [Step::Rows(1), Step::End, Step::End, Step::End, Step::End];
+    assert!(rt; given.steps.as_slice() == steps.as_slice());
+    assert_eq!(rt; given.numbers.as_slice(), [1, 2].as_slice());
     Ok(())
 }
 

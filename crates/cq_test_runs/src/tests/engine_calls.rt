@@ -2,11 +2,26 @@
 use super::engines::{carry_out, engine};
 use cq_binder::Catalog;
 use cq_binder_rules::Fault;
-use cq_engine::Engine;
+use cq_engine::{Engine, Limits};
 use cq_model::{Query, Shape, Source};
 use std::alloc::Global;
 use std::process::Abort;
 use std::test::Fail;
+
+#[test]
+fn a_table_may_be_limited_to_1_up_to_1073741824_rows(rt: HostRuntime) {
+    let limits = [
+        (0, false),
+        (1, true),
+        (16_777_217, true),
+        (1_073_741_824, true),
+        (1_073_741_825, false),
+        (u64::MAX, false),
+    ];
+    for (max_rows, is_one) in limits {
+        assert_eq!(rt; Limits::new(max_rows).is_some(), is_one, "{max_rows}");
+    }
+}
 
 /// A statement, how many writes were accepted behind it, and how many of them the view has taken in.
 const STATEMENTS: &[(&str, u64, Option<u64>)] = &[
@@ -121,7 +136,7 @@ fn tells_the_view(rt: &impl Abort, alloc: Global, engine: &Engine) -> Result<(),
     let catalog = engine.catalog();
     let view = catalog.view(alloc, "v")?.ok_or("no view")?;
     assert!(rt; view.place == 0 && view.columns.len() == 1);
-    assert!(rt; view.sizes.as_slice() == [1u128 << 96].as_slice());
+    assert!(rt; view.sizes.as_slice() == [1u128 << 120].as_slice());
     let query = catalog.query("v").ok_or("no query")?;
     assert!(rt; query.first == Source::Table(0));
     assert!(rt; key_columns(query) == Some([1].as_slice()));

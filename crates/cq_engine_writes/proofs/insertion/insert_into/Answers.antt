@@ -1,4 +1,5 @@
-use Rattle.std.proofs.Common.{◌≤◌, ◌+◌, ◌++◌, ◌^◌, [], ap, arith, length}
+use Rattle.std.proofs.Common.{◌≤◌, ◌+◌, ◌*◌, ◌++◌, [], ap, arith, length}
+use Rattle.cq_model_state.specs.Fitting.{rows_limit}
 use Rattle.cq_engine_tables.proofs.Held.{rows-held}
 use Rattle.cq_engine_tables.proofs.Stored.{rows_stored}
 use Rattle.cq_engine_writes.proofs.Checks.{few-enough}
@@ -14,7 +15,7 @@ pub returns-clause-change : goal.returns-clause-change
 returns-clause-change c =
     let t = c.args.table.now.is in
     let rows = c.args.rows in
-    let few : length rows ≤ 2 ^ 25 = omega (arith, few-enough c.args.max_rows (c.len.result + c.len-2.result) c.in_ok-check_room.ensures, c.len-2.ensures.len, c.requires.limited) in
+    let few : length rows ≤ 2 * rows_limit = omega (arith, few-enough c.args.max_rows (c.len.result + c.len-2.result) c.in_ok-check_room.ensures, c.len-2.ensures.len, c.requires.limited) in
     tells c.args.asked t.number t.rows (t.rows ++ rows) (change_by t.number [] rows) (inserted_change t.number t.rows rows (rows_stored t.columns rows c.requires.rows) few)
     c.in_ok-change.change c.in_ok-change.ensures.there (rw (c.number.ensures, c.new-gone.ensures.items) at c.in_ok-change.ensures.is)
 

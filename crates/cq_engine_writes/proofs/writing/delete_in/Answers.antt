@@ -1,10 +1,10 @@
-use Rattle.std.proofs.Common.{◌≡◌, ℕ, List, length, subst, sym, ◌≤◌, ◌^◌}
+use Rattle.std.proofs.Common.{◌≡◌, ℕ, List, length, subst, sym, ◌≤◌}
 use Rattle.std.specs.Prelude.{IfOk}
 use Rattle.std.specs.List.{AllByRecursion}
 use Rattle.cq_values.specs.Value.{Row}
 use Rattle.cq_model.specs.Write.{chosen, left_by}
 use Rattle.cq_model.specs.Width.{IsNarrowIn}
-use Rattle.cq_model_state.specs.Fitting.{IsFitting}
+use Rattle.cq_model_state.specs.Fitting.{IsFitting, rows_limit}
 use Rattle.cq_model_state.specs.State.{TableOf}
 use Rattle.cq_engine_tables.proofs.Rows.{rows_numbered}
 use Rattle.cq_engine_writes.proofs.Written.{so_numbered, written-number}
@@ -19,7 +19,7 @@ delete_from-requires-clause-few c =
     let t = c.index_mut.result.now.is in
     let at = rw c.deref.ensures.value at c.place_numbered-place.ensures in
     let here = at_number c.args.tables.now.items c.place_numbered-place.result c.index_mut.result.now c.args.number at.within c.index_mut.ensures.value (at.numbered c.index_mut.result.now) in
-    subst (λ (x : TableOf). length x.rows ≤ 2 ^ 24) (sym here.1) (all-at (λ x. length x.rows ≤ 2 ^ 24) (tables_of c.args.tables.now.items) c.place_numbered-place.result t here.0 c.requires.limited)
+    subst (λ (x : TableOf). length x.rows ≤ rows_limit) (sym here.1) (all-at (λ x. length x.rows ≤ rows_limit) (tables_of c.args.tables.now.items) c.place_numbered-place.result t here.0 c.requires.limited)
 
 pub delete_from-requires-clause-narrow : goal.delete_from-requires-clause-narrow
 delete_from-requires-clause-narrow c =

@@ -1,8 +1,8 @@
-use Rattle.std.proofs.Common.{ℕ, List, Option, ◌^◌, length, subst, ◌≤◌, sym}
+use Rattle.std.proofs.Common.{ℕ, List, Option, length, subst, ◌≤◌, sym}
 use Rattle.std.specs.Prelude.{IfOk}
 use Rattle.cq_values.specs.Value.{Row}
 use Rattle.cq_model.specs.Write.{updated}
-use Rattle.cq_model_state.specs.Fitting.{IsFitting}
+use Rattle.cq_model_state.specs.Fitting.{IsFitting, rows_limit}
 use Rattle.cq_model_state.specs.State.{ChangeOf, TableOf}
 use Rattle.cq_engine_writes.proofs.Updates.{can_here, updates_here, updates_rows}
 use Rattle.cq_engine_writes.proofs.Written.{so_numbered}
@@ -17,7 +17,7 @@ update_rows-requires-clause-few c =
     let t = c.index_mut.result.now.is in
     let at = rw c.deref.ensures.value at c.place_numbered-place.ensures in
     let here = at_number c.args.tables.now.items c.place_numbered-place.result c.index_mut.result.now c.args.number at.within c.index_mut.ensures.value (at.numbered c.index_mut.result.now) in
-    subst (λ (x : TableOf). length x.rows ≤ 2 ^ 24) (sym here.1) (all-at (λ x. length x.rows ≤ 2 ^ 24) (tables_of c.args.tables.now.items) c.place_numbered-place.result t here.0 c.requires.limited)
+    subst (λ (x : TableOf). length x.rows ≤ rows_limit) (sym here.1) (all-at (λ x. length x.rows ≤ rows_limit) (tables_of c.args.tables.now.items) c.place_numbered-place.result t here.0 c.requires.limited)
 
 pub update_rows-requires-clause-can : goal.update_rows-requires-clause-can
 update_rows-requires-clause-can c =

@@ -15,6 +15,10 @@ pub returns-in_ok-values_of-in-Count-clause-ok : goal.returns-in_ok-values_of-in
 returns-in_ok-values_of-in-Count-clause-ok c =
     c.count-in-Count.ensures ∙ counted c.args.kind.now c.in-Count.expr c.args.rows.now c.deref.result.now (c.deref.ensures.value ∙ c.in_ok-values_of-in-Count.ensures.ok) c.in-Count.is
 
+pub returns-in-CountDistinct-clause-ok : goal.returns-in-CountDistinct-clause-ok
+returns-in-CountDistinct-clause-ok c =
+    IfOk-weaker c.count_distinct.result _ _ (λ v e. e ∙ ap (λ (kind : Aggregate). aggregate kind (once_each c.args.rows.now)) (sym c.in-CountDistinct.is)) c.count_distinct.ensures.ok
+
 pub returns-in_ok-values_of-in-Sum-clause-ok : goal.returns-in_ok-values_of-in-Sum-clause-ok
 returns-in_ok-values_of-in-Sum-clause-ok c =
     IfOk-weaker c.sum.result _ _ (λ v e. e ∙ summed c.args.kind.now c.in-Sum.expr c.args.rows.now c.deref-in-Sum.result.now (c.deref-in-Sum.ensures.value ∙ c.in_ok-values_of-in-Sum.ensures.ok) c.in-Sum.is) c.sum.ensures.ok

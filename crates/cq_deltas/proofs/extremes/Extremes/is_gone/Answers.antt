@@ -10,8 +10,8 @@ returns-in-Some c =
     let zero = simp to_z-of_z at c.is_zero.ensures in
     let found = sym c.in-Some.ensures.value in
     rw (← c.self.view_is) (
-      λ yes. is-gone c.self.inside.counts.entries c.self.inside.nulls c.args.value.now c.in-Some.count.now c.self.invariant found (zero.0 yes),
-      λ gone. zero.1 (not-gone c.self.inside.counts.entries c.self.inside.nulls c.args.value.now c.in-Some.count.now c.self.invariant found gone),
+      λ yes. is-gone c.self.inside.counts.entries c.self.inside.nulls c.args.value.now c.in-Some.count.now c.self.invariant.are found (zero.0 yes),
+      λ gone. zero.1 (not-gone c.self.inside.counts.entries c.self.inside.nulls c.args.value.now c.in-Some.count.now c.self.invariant.are found gone),
     )
 
 pub returns-in-None : goal.returns-in-None

@@ -13,7 +13,7 @@ returns c =
     let found : option_map deref_pair c.find.result ≡ find is_there c.self.inside.counts.entries =
     find_from_yields_List is_there _ _ c.find.result c.find.ensures.ran (YieldsList-from_rest c.self.inside.counts.entries c.iter.ensures.rest) (λ x b q k. search (rules, tests)) in
     rw (← c.self.view_is)
-    (least-found c.self.inside.counts.entries c.self.inside.nulls (Some (c.in_ok-value.value.now, c.in_ok-value.field-0-1.now)) c.self.invariant
+    (least-found c.self.inside.counts.entries c.self.inside.nulls (Some (c.in_ok-value.value.now, c.in_ok-value.field-0-1.now)) c.self.invariant.are
     (ap (option_map deref_pair) (sym c.in_ok-value.was) ∙ found))
 
 pub returns-in_err-value : goal.returns-in_err-value
@@ -22,5 +22,5 @@ returns-in_err-value c =
     find_from_yields_List is_there _ _ c.find.result c.find.ensures.ran (YieldsList-from_rest c.self.inside.counts.entries c.iter.ensures.rest) (λ x b q k. search (rules, tests)) in
     let none : option_copied c.from_residual.result ≡ None = search rules in
     rw (← c.self.view_is, none)
-    (least-found c.self.inside.counts.entries c.self.inside.nulls None c.self.invariant
+    (least-found c.self.inside.counts.entries c.self.inside.nulls None c.self.invariant.are
     (ap (option_map deref_pair) (sym c.in_err-value.was) ∙ found))

@@ -1,5 +1,6 @@
-use Rattle.std.proofs.Common.{◌^◌, ◌∙◌, ap, length, refl, subst, sym, inl}
+use Rattle.std.proofs.Common.{◌∙◌, ap, length, refl, subst, sym, inl}
 use Rattle.cq_model.specs.declared.query.Query.{Query}
+use Rattle.cq_model_state.specs.Fitting.{rows_limit}
 use Rattle.cq_views.proofs.Standing.{standing-by_bags}
 use Rattle.cq_engine_queue.proofs.Later.{right-built}
 use Rattle.cq_engine_tables.proofs.Rows.{bounded_more}
@@ -13,7 +14,7 @@ use Rattle.cq_engine.proofs.engine.Engine.create_view.Goals as goal
 
 pub create_view_in-requires-clause-limited : goal.create_view_in-requires-clause-limited
 create_view_in-requires-clause-limited c =
-    rw c.deref.ensures.value (bounded_more c.self.inside.limits.max_rows (2 ^ 24) (tables_of c.self.inside.tables.items) c.self.inside.limits.in_range.1 c.self.invariant.limited)
+    rw c.deref.ensures.value (bounded_more c.self.inside.limits.max_rows rows_limit (tables_of c.self.inside.tables.items) c.self.inside.limits.in_range.1 c.self.invariant.limited)
 
 pub invariant_of-self-2 : goal.invariant_of-self-2
 invariant_of-self-2 c =

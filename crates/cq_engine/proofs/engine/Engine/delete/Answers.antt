@@ -1,9 +1,10 @@
-use Rattle.std.proofs.Common.{◌^◌, Bool, not, ap, arith, inl, length, refl, subst, sym}
+use Rattle.std.proofs.Common.{Bool, not, ap, arith, inl, length, refl, subst, sym}
 use Rattle.std.proofs.lemmas.Result.{err_from_is_err_and}
 use Rattle.cq_binder_rules.specs.declared.bound.Bound.TheVariants as commands
 use Rattle.cq_model.specs.Write.{left_by}
 use Rattle.cq_engine_writes.proofs.Written.{left_bounded, left_fit}
 use Rattle.cq_model_state.specs.State.{State, rows_in}
+use Rattle.cq_model_state.specs.Fitting.{rows_limit}
 use Rattle.cq_model_step.specs.declared.answer.Answer.TheVariants.{Count}
 use Rattle.cq_views.proofs.Standing.{standing-by_bags}
 use Rattle.cq_engine_tables.proofs.Rows.{bounded_more}
@@ -16,7 +17,7 @@ use Rattle.cq_engine.proofs.Counted.{counted-all}
 use Rattle.cq_engine.proofs.engine.Engine.delete.Goals as goal
 
 pub delete_in-deleted-requires-clause-limited : goal.delete_in-deleted-requires-clause-limited
-delete_in-deleted-requires-clause-limited c = bounded_more c.self.inside.limits.max_rows (2 ^ 24) (tables_of c.self.inside.tables.items) c.self.inside.limits.in_range.1 c.self.invariant.limited
+delete_in-deleted-requires-clause-limited c = bounded_more c.self.inside.limits.max_rows rows_limit (tables_of c.self.inside.tables.items) c.self.inside.limits.in_range.1 c.self.invariant.limited
 
 -- a write that is refused changes nothing
 pub invariant_of-self : goal.invariant_of-self

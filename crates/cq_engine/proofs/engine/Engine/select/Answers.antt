@@ -1,5 +1,6 @@
-use Rattle.std.proofs.Common.{◌^◌, inl, inr, refl}
+use Rattle.std.proofs.Common.{inl, inr, refl}
 use Rattle.std.proofs.lemmas.Result.{err_from_is_err_and}
+use Rattle.cq_model_state.specs.Fitting.{rows_limit}
 use Rattle.cq_binder_rules.specs.declared.bound.Bound.TheVariants as commands
 use Rattle.cq_views.proofs.Standing.{standing-by_bags}
 use Rattle.cq_engine_tables.proofs.Rows.{bounded_more}
@@ -25,7 +26,7 @@ select_at_present-selected-requires c =
       history = c.self.invariant.history;
       right = c.self.invariant.right;
       fitting = c.self.invariant.fitting;
-      limited = bounded_more e.limits.max_rows (2 ^ 24) tables e.limits.in_range.1 c.self.invariant.limited;
+      limited = bounded_more e.limits.max_rows rows_limit tables e.limits.in_range.1 c.self.invariant.limited;
       can = rw (← c.self.view_is) at c.requires;
     })
 

@@ -1,0 +1,4 @@
+pub mod ColumnPairs
+pub mod Counted
+pub mod KeyOf
+pub mod SetsPut

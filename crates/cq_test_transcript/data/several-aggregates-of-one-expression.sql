@@ -1,0 +1,13 @@
+CREATE TABLE t (k INTEGER, a INTEGER, b INTEGER);
+CREATE VIEW v AS SELECT k, MIN(a) AS least, MIN(b) AS other, MAX(a) AS most, COUNT(DISTINCT a) AS n, MAX(b) AS top, COUNT(DISTINCT a + 0) AS m FROM t GROUP BY k;
+INSERT INTO t VALUES (1, 5, 50), (1, 3, 70), (1, 5, 60), (1, NULL, 10), (2, 9, NULL);
+SELECT k, least, most, n, other, top, m FROM v ORDER BY k;
+DELETE FROM t WHERE a = 3;
+SELECT k, least, most, n, other, top, m FROM v ORDER BY k;
+UPDATE t SET a = b WHERE k = 1;
+SELECT k, least, most, n, other, top, m FROM v ORDER BY k;
+DELETE FROM t WHERE b = 60;
+INSERT INTO t VALUES (1, 10, 20), (2, NULL, NULL), (2, 9, 4);
+SELECT k, least, most, n, other, top, m FROM v ORDER BY k;
+DELETE FROM t WHERE a = 9;
+SELECT k, least, most, n, other, top, m FROM v ORDER BY k;
