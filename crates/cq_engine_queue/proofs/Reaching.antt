@@ -30,7 +30,7 @@ use Rattle.cq_views.proofs.Taking.{sizes-once_each}
 use Rattle.cq_model_laws.proofs.Chains.{SameSources}
 use Rattle.cq_views.specs.Laws.{StandingDependsOnSources, WorkDependsOnSources}
 use Rattle.cq_views.specs.State.{StandsFor}
-use Rattle.cq_views_model.specs.Delta.{changed, view_work}
+use Rattle.cq_views_model.specs.Delta.{changed, joins_work}
 use Rattle.cq_views_state.specs.Work.{work_of}
 use Rattle.cq_views_state.specs.State.{AreBags}
 use Rattle.cq_engine_tables.proofs.Bags.{stored-once_each}
@@ -299,7 +299,7 @@ module _ (law : StandingDependsOnSources) (q : Queued) (s : State) (of : IsQueue
     counts-next takes = counts-same work v.kept.query old (bags_at s epoch) moved (changes_at s epoch) (work_of v.kept.state) (work_of w.kept.state) same-tables same-changes (takes.counts old moved can-count)
 
     -- also where memory was wanting for it
-    pub within-next : StaysWithin c v w → work_of w.kept.state ≤ work_of v.kept.state + view_work v.kept.query (bags_at s epoch) (changes_at s epoch)
+    pub within-next : StaysWithin c v w → work_of w.kept.state ≤ work_of v.kept.state + joins_work v.kept.query (bags_at s epoch) (changes_at s epoch)
     within-next stays = omega (arith, stays.most old moved can-count, work v.kept.query old (bags_at s epoch) moved (changes_at s epoch) same-tables same-changes)
 
   -- and is right at the next epoch
@@ -368,7 +368,7 @@ counted-next s to u v w c on takes counted one =
 
 -- for one that was begun
 pub begun-next : (s : State) (to : ℕ) (u v w : NamedView) (c : ChangeOf) → IsTakenOn to u v → IsSame v w → v.kept.state.epoch < to → HasCounted s u v → StaysWithin c v w
-    → work_of w.kept.state ≤ work_of v.kept.state + view_work v.kept.query (bags_at s v.kept.state.epoch) (changes_at s v.kept.state.epoch) → HasBegun s to u w
+    → work_of w.kept.state ≤ work_of v.kept.state + joins_work v.kept.query (bags_at s v.kept.state.epoch) (changes_at s v.kept.state.epoch) → HasBegun s to u w
 begun-next s to u v w c on same next counted stays most =
     let at : w.kept.state.epoch ≡ v.kept.state.epoch = same.kept.state.epoch in
     record {
@@ -378,8 +378,8 @@ begun-next s to u v w c on same next counted stays most =
       next = omega (arith, at, next);
       more = stays.more;
       most =
-          subst (λ (e : ℕ). work_of w.kept.state ≤ work_of v.kept.state + view_work u.kept.query (bags_at s e) (changes_at s e)) (sym at)
-          (subst (λ (d : Query). work_of w.kept.state ≤ work_of v.kept.state + view_work d (bags_at s v.kept.state.epoch) (changes_at s v.kept.state.epoch)) on.query most);
+          subst (λ (e : ℕ). work_of w.kept.state ≤ work_of v.kept.state + joins_work u.kept.query (bags_at s e) (changes_at s e)) (sym at)
+          (subst (λ (d : Query). work_of w.kept.state ≤ work_of v.kept.state + joins_work d (bags_at s v.kept.state.epoch) (changes_at s v.kept.state.epoch)) on.query most);
     }
 
 pub right-same : (s : State) (v w : NamedView) → IsRight s v → IsSame v w → IsRight s w

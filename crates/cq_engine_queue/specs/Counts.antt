@@ -6,17 +6,17 @@ use Rattle.cq_model.specs.Views.{tables_alone}
 use Rattle.cq_model.specs.declared.query.Query.{Query}
 use Rattle.cq_model_bags.specs.Bag.{SameBag}
 use Rattle.cq_model_state.specs.State.{State, ViewOf, above, change_of, tables_at}
-use Rattle.cq_views_model.specs.Delta.{changed, view_work}
+use Rattle.cq_views_model.specs.Delta.{changed, joins_work}
 use Rattle.cq_views_state.specs.Work.{work_of}
 use Rattle.cq_engine_tables.specs.Views.{AreRight, IsRight, NamedView, view_of}
 use Rattle.cq_engine_queue.specs.History.{IsHistory, IsQueueOf}
 use Rattle.cq_engine_queue.specs.Queued.{Queued}
 
--- for changes of tables a count rises by at most the work of the query, and by at least one where its bag changes, until the
--- count is at its end
+-- for changes of tables a count rises by at most the work of the query's joins, and by at least one where its bag changes,
+-- until the count is at its end
 pub record CountsFor (q : Query) (tables changes : Tables) (before after : ℕ) : Type 0 where
   pub more : before ≤ after
-  pub most : after ≤ before + view_work q tables changes
+  pub most : after ≤ before + joins_work q tables changes
   pub rises : (SameBag (meaning q (changed tables changes)) (meaning q tables) → ⊥) → min (before + 1) (2 ^ 128 - 1) ≤ after
 
 -- the tables at an epoch
@@ -50,7 +50,7 @@ pub record HasBegun (s : State) (to : ℕ) (old new : NamedView) : Type 0 where
   pub next : new.kept.state.epoch < to
   pub more : between ≤ work_of new.kept.state
   pub most : work_of new.kept.state
-      ≤ between + view_work old.kept.query (bags_at s new.kept.state.epoch) (changes_at s new.kept.state.epoch)
+      ≤ between + joins_work old.kept.query (bags_at s new.kept.state.epoch) (changes_at s new.kept.state.epoch)
 
 abbrev pub MayHaveBegun : State → ℕ → NamedView → NamedView → Type 0
 MayHaveBegun s to old new = HasCounted s old new ⊎ HasBegun s to old new

@@ -15,7 +15,7 @@ use Rattle.cq_views.specs.Shown.{Suits}
 use Rattle.cq_views.specs.State.{StandsFor}
 use Rattle.cq_views.specs.Work.{AreAsTold}
 use Rattle.cq_views_columns.specs.Narrow.{HaveColumns}
-use Rattle.cq_views_model.specs.Delta.{changed, view_work}
+use Rattle.cq_views_model.specs.Delta.{changed, joins_work}
 use Rattle.cq_views_model.specs.Query.{reads}
 use Rattle.cq_views_state.specs.State.{AreBags}
 use Rattle.cq_views_state.specs.Work.{work_of}
@@ -57,11 +57,11 @@ pub record CanCount (c : ChangeOf) (v : NamedView) (tables changes : Tables) : T
   pub told : AreAsTold v.kept tables changes
   pub same : AllByRecursion (λ s. SameBag (changes_by c s) (changes s)) (sources_of v.kept.query)
 
--- a view counted no less, and no more than its work for a change
+-- a view counted no less, and no more than the work of its joins for a change
 pub record StaysWithin (c : ChangeOf) (old new : NamedView) : Type 0 where
   pub more : work_of old.kept.state ≤ work_of new.kept.state
   pub most : (tables changes : Tables) → CanCount c old tables changes
-      → work_of new.kept.state ≤ work_of old.kept.state + view_work old.kept.query tables changes
+      → work_of new.kept.state ≤ work_of old.kept.state + joins_work old.kept.query tables changes
 
 -- it is one epoch further, and whatever tables it stood for, it stands for the changed ones, and counted for the changes
 pub record TakesChange (c : ChangeOf) (old new : NamedView) : Type 0 where

@@ -12,7 +12,7 @@ use Rattle.cq_model.specs.declared.query.Source.{Source}
 use Rattle.cq_model.specs.Group.{count_all, count_values, sum_values, aggregate, value_bag, extreme_of, lower, higher, group_row, grouped}
 use Rattle.cq_model.specs.Meaning.{Tables, chain, keeps, joined_rows, shown, meaning, MeaningInRange}
 use Rattle.cq_model.specs.Views.{with_views, AnswerInRange, sources_of}
-use Rattle.cq_views_model.specs.Delta.{SameTables, changed, chain_change, joined_change, view_work}
+use Rattle.cq_views_model.specs.Delta.{SameTables, changed, chain_change, joined_change}
 use Rattle.cq_model.specs.Pushed.{Pushed, pushed_rows, HaveWidths, IsImplied, AreBelow}
 use Rattle.cq_model.specs.Own.{passes_own, AreOwn}
 use Rattle.cq_views_model.specs.Kept.{Kept, IsKept, kept_value, Group, GroupStands, Last, LastStands, shown_row}
@@ -106,9 +106,3 @@ ViewsDependOnBags =
 -- over bags a query means a bag, with no negative row
 abbrev pub MeaningIsBag : Type 0
 MeaningIsBag = (q : Query) (tables : Tables) → ((source : Source) → IsBag (tables source)) → IsBag (meaning q tables)
-
--- a view's work depends on the bags, and on the changes as bags, alone
-abbrev pub WorkDependsOnBags : Type 0
-WorkDependsOnBags =
-    (q : Query) (tables others changes other_changes : Tables) → SameTables tables others → SameTables changes other_changes
-    → view_work q tables changes ≡ view_work q others other_changes

@@ -1,5 +1,5 @@
 //! What holds of queries and of the states that views keep.
-ghost use Rattle.cq_model_laws.specs.Laws.{ChainLaw, ConditionBelowJoins, ExtremesAreCounted, GroupShows, GroupsDependOnBag, JoinedRowsGoOn, KeptShows, LastShows, MeaningDependsOnBags, MeaningDependsOnSources, MeaningIsBag, OwnConditionsAreImplied, ViewsDependOnBags, WorkDependsOnBags};
+ghost use Rattle.cq_model_laws.specs.Laws.{ChainLaw, ConditionBelowJoins, ExtremesAreCounted, GroupShows, GroupsDependOnBag, JoinedRowsGoOn, KeptShows, LastShows, MeaningDependsOnBags, MeaningDependsOnSources, MeaningIsBag, OwnConditionsAreImplied, ViewsDependOnBags};
 ghost use Rattle.cq_model_laws.specs.Sizes.{GroupsKeepSizes, JoinedRowsKeepSizes};
 
 /// A chain of joins over changed sources is the old chain and what the changes add.
@@ -50,11 +50,6 @@ pub fn views_depend_on_bags()
 /// No row of a query over bags is negative.
 pub fn meaning_is_bag()
     ensures { MeaningIsBag }
-{}
-
-/// The work of a change is that of the bags, however they are listed.
-pub fn work_depends_on_bags()
-    ensures { WorkDependsOnBags }
 {}
 
 /// What is kept of an aggregate is enough to show it.

@@ -1,4 +1,4 @@
--- What a view counts for changes is within the work of its query for them.
+-- What a view counts for changes is within the work of its query's joins for them.
 use Rattle.std.proofs.Common.{◌≡◌, ◌+◌, ◌≤◌, List, subst, sym, arith}
 use Rattle.std.specs.List.{AllByRecursion}
 use Rattle.std.specs.Prelude.{IfOk, OnErr, Ok, Err, Result}
@@ -20,16 +20,15 @@ use Rattle.cq_views.specs.State.{CountsPairs, SameView, StandsFor}
 use Rattle.cq_views.specs.Work.{AreAsTold, CountsWithin}
 use Rattle.cq_views.specs.declared.kept_view.KeptView.{KeptView}
 use Rattle.cq_views_columns.specs.Narrow.{columns_at, narrowed_bags}
-use Rattle.cq_views_model.specs.Delta.{SameTables, view_work}
+use Rattle.cq_views_model.specs.Delta.{SameTables, joins_work}
 use Rattle.cq_views_state.proofs.Working.{counts-within_work, pairs-within_work, put-nothing}
-use Rattle.cq_views_state.specs.Laws.{joins_work}
 use Rattle.cq_views_state.specs.Work.{work_of}
 use Rattle.cq_views_state.specs.declared.state.Pending.{Pending}
 use Rattle.cq_views_state.specs.declared.state.ViewState.{ViewState}
 
--- the joins do no more work over rows that are cut than the view's query over whole rows
+-- the joins do no more work over rows that are cut than those of the view's query over whole rows
 joins-within : (v : KeptView) (tables changes others cut : Tables) → StandsFor v tables → AreAsTold v tables others → SameSources changes others (sources_of v.query) → SameTables cut (cut_bags v.columns changes)
-    → joins_work v.state.query (cut_bags v.columns tables) cut ≤ view_work v.query tables others
+    → joins_work v.state.query (cut_bags v.columns tables) cut ≤ joins_work v.query tables others
 joins-within v tables changes others cut stands told also same =
     let inner = v.state.query in
     let rows = cut_bags v.columns tables in
@@ -83,7 +82,7 @@ module _ (v : KeptView) (changes cut : Tables) (are : AreCut v.columns changes c
         );
   }
 
-  -- either way what is counted is within the view's work
+  -- either way what is counted is within the work of the view's joins
   pub prepared-within : {E : Type 0} (r : Result Pending E) → SameView v (record v { state = w }) → IfOk r (CountsPairs v changes (record v { state = w })) → OnErr r (w.ticks ≡ v.state.ticks)
       → CountsWithin v changes (record v { state = w })
   prepared-within (Ok pending) same waiting ticks = waiting-within changes v (record v { state = w }) pending same waiting

@@ -2,7 +2,7 @@
 use Rattle.std.specs.Prelude.{◌≡◌, ◌+◌, ◌-◌, ◌^◌, ◌≤◌, min}
 use Rattle.std.specs.List.{AllByRecursion}
 use Rattle.cq_model_bags.specs.Bag.{SameBag}
-use Rattle.cq_views_model.specs.Delta.{changed, view_work}
+use Rattle.cq_views_model.specs.Delta.{changed, joins_work}
 use Rattle.cq_views.specs.Shown.{Suits}
 use Rattle.cq_views.specs.State.{CountsPairs, SameView, StandsFor}
 use Rattle.cq_views.specs.Work.{CountsWithin}
@@ -20,7 +20,7 @@ StandingDependsOnSources =
     (v : KeptView) (tables others : Tables) → AllByRecursion (λ s. SameBag (tables s) (others s)) (sources_of v.query)
     → StandsFor v tables → StandsFor v others
 
--- for changes that are prepared and then put in, the counts rise by at most the view's work for them
+-- for changes that are prepared and then put in, the counts rise by at most the work of the view's joins for them
 abbrev pub CountsWithinWork : Type 0
 CountsWithinWork =
     (changes : Tables) (old ready new : KeptView) (pending : Pending)
@@ -33,9 +33,9 @@ RisesWhereChanged =
     → Suits old tables → HaveColumns old.query old.widths (changed tables changes) → CountsPairs old changes ready pending → CountsPut ready.state pending new.state
     → (SameBag (meaning old.query (changed tables changes)) (meaning old.query tables) → ⊥) → min (work_of old.state + 1) (2 ^ 128 - 1) ≤ work_of new.state
 
--- the work of a view's query depends on the bags of the tables that FROM names alone
+-- the work of the joins of a view's query depends on the bags of the tables that FROM names alone
 abbrev pub WorkDependsOnSources : Type 0
 WorkDependsOnSources =
     (q : Query) (tables others changes more : Tables)
     → AllByRecursion (λ s. SameBag (tables s) (others s)) (sources_of q) → AllByRecursion (λ s. SameBag (changes s) (more s)) (sources_of q)
-    → view_work q tables changes ≡ view_work q others more
+    → joins_work q tables changes ≡ joins_work q others more

@@ -6,8 +6,8 @@ pub fn standing_depends_on_sources()
     ensures { StandingDependsOnSources }
 {}
 
-/// What [`crate::KeptView::prepare`] and [`crate::KeptView::commit`] count is within the work of the view's query for the
-/// changes, over its tables' whole rows.
+/// What [`crate::KeptView::prepare`] and [`crate::KeptView::commit`] count is within the work of the joins of the view's
+/// query for the changes, over its tables' whole rows.
 pub fn counts_are_within_work()
     ensures { CountsWithinWork }
 {}
@@ -17,7 +17,7 @@ pub fn counts_rise_where_changed()
     ensures { RisesWhereChanged }
 {}
 
-/// The work of a view's query depends on the bags of the tables that FROM names alone.
+/// The work of the joins of a view's query depends on the bags of the tables that FROM names alone.
 pub fn work_depends_on_sources()
     ensures { WorkDependsOnSources }
 {}

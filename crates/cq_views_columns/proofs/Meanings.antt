@@ -15,9 +15,8 @@ use Rattle.cq_model.specs.Sizes.{column_sizes}
 use Rattle.cq_model.specs.Views.{sources_of}
 use Rattle.cq_model.specs.declared.query.Query.{Query}
 use Rattle.cq_model.specs.declared.query.Source.{Source}
-use Rattle.cq_views_model.specs.Delta.{chain_work}
+use Rattle.cq_views_model.specs.Delta.{chain_work, joins_work}
 use Rattle.cq_views_model.specs.Query.{CanBeKept}
-use Rattle.cq_views_state.specs.Laws.{joins_work}
 use Rattle.cq_views_columns.specs.Laws.{IsRenamedOf}
 use Rattle.cq_views_columns.specs.Narrow.{HaveColumns, HaveColumnsAlike, IsNarrowOf, columns_at, narrowed_bags, renamed_query, sources_read}
 use Rattle.cq_model_terms.specs.Places.{is_one_of, place_in}

@@ -15,7 +15,7 @@ use Rattle.cq_model.specs.declared.query.Join.{Join}
 use Rattle.cq_model.specs.declared.query.Query.{Query}
 use Rattle.cq_model.specs.declared.query.Source.{Source}
 use Rattle.cq_views_model.specs.Query.{CanBeKept}
-use Rattle.cq_views_state.specs.Laws.{joins_work}
+use Rattle.cq_views_model.specs.Delta.{joins_work}
 use Rattle.cq_model_terms.specs.Places.{place_in}
 use Rattle.cq_views_columns.specs.Places.{places_from}
 use Rattle.cq_views_columns.specs.Reads.{is_read}

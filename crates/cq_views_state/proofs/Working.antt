@@ -10,13 +10,13 @@ use Rattle.cq_deltas_joins.specs.Chains.{IsChange, first_rows, joins_of}
 use Rattle.cq_deltas_joins.specs.Steps.{change_at, hands_on}
 use Rattle.cq_deltas_joins.specs.Work.{CountsPairs, pairs_along, work_along, work_at}
 use Rattle.cq_deltas_joins.specs.declared.step.Step.{Step}
-use Rattle.cq_views_model.specs.Delta.{chain_work, changed}
+use Rattle.cq_views_model.specs.Delta.{chain_work, changed, joins_work}
 use Rattle.cq_model_laws.proofs.Meanings.{shown-respects}
 use Rattle.cq_model.specs.Meaning.{Tables, joined_rows, keeps, meaning, shown}
 use Rattle.cq_views_state.proofs.Filtering.{work-less}
 use Rattle.cq_views_state.proofs.Standing.{kept-change}
 use Rattle.cq_views_state.specs.Last.{kept_rows}
-use Rattle.cq_views_state.specs.Laws.{CountsWithinWork, RisesWhereChanged, joins_work}
+use Rattle.cq_views_state.specs.Laws.{CountsWithinWork, RisesWhereChanged}
 use Rattle.cq_views_state.specs.State.{AreAsTold, StandsFor}
 use Rattle.cq_views_state.specs.Work.{CountsPut, work_of}
 use Rattle.cq_views_state.specs.declared.state.Pending.{Pending}

@@ -3,10 +3,9 @@ use Rattle.std.specs.Prelude.{◌+◌, ◌-◌, ◌^◌, ◌≤◌, ℕ, min}
 use Rattle.std.specs.List.{AllByRecursion}
 use Rattle.cq_model_bags.specs.Bag.{SameBag}
 use Rattle.cq_deltas_joins.specs.Work.{CountsPairs}
-use Rattle.cq_views_model.specs.Delta.{chain_work, changed}
+use Rattle.cq_views_model.specs.Delta.{changed, joins_work}
 use Rattle.cq_model.specs.Meaning.{Tables, meaning}
 use Rattle.cq_model.specs.Views.{sources_of}
-use Rattle.cq_model.specs.declared.query.Query.{Query}
 use Rattle.cq_views_state.specs.State.{AreAsTold, SameView, StandsFor, WaitsFor}
 use Rattle.cq_views_state.specs.Work.{CountsPut, CountsRows, work_of}
 use Rattle.cq_views_state.specs.declared.state.Pending.{Pending}
@@ -17,10 +16,6 @@ abbrev pub StandingDependsOnSources : Type 0
 StandingDependsOnSources =
     (v : ViewState) (tables others : Tables) → AllByRecursion (λ s. SameBag (tables s) (others s)) (sources_of v.query)
     → StandsFor v tables → StandsFor v others
-
--- the work of a query's joins for changes of its sources
-abbrev pub joins_work : Query → Tables → Tables → ℕ
-joins_work q tables changes = chain_work tables changes (tables q.first) (changes q.first) q.joins
 
 -- for changes that are prepared and then put in, the counts rise by at most the work of the query's joins over all rows
 abbrev pub CountsWithinWork : Type 0
