@@ -82,7 +82,7 @@ class Run:
             listener.join(0.01)
 
     def seconds(self, part):
-        """What the part took that ends at this tick, the last one at the end."""
+        """What the part took that ends at this tick, the last one when the program has given its memory back and ended."""
         return self.came[part] - self.left[part]
 
 
@@ -125,7 +125,7 @@ class Colview(System):
     def query(self, name, rounds):
         tables = "".join(self.brought(it) for it in self.schema.tables_of(name))
         text = f"{self.schema.text(name)};\n"
-        it = self.run(tables, *[text] * rounds)
+        it = self.run(tables, *[text] * rounds, "")
         found = answers_of(it.text)
         if any(rows != found[0] for rows in found):
             raise RuntimeError(f"colview: {name} is answered otherwise the second time")
@@ -135,7 +135,7 @@ class Colview(System):
         """The least seconds of some rounds and the rows of each query, all in one run."""
         tables = dict.fromkeys(table for name in names for table in self.schema.tables_of(name))
         texts = [f"{self.schema.text(name)};\n" for name in names for _ in range(rounds)]
-        it = self.run("".join(map(self.brought, tables)), *texts)
+        it = self.run("".join(map(self.brought, tables)), *texts, "")
         found = answers_of(it.text)
         for place, name in enumerate(names):
             first = place * rounds
@@ -143,7 +143,7 @@ class Colview(System):
 
     def alternated(self, tables, view, writes, read):
         """The seconds to make a view, those of writes with a read behind each, and what was read."""
-        it = self.run(tables, view, "".join(f"{write};\n{read};\n" for write in writes))
+        it = self.run(tables, view, "".join(f"{write};\n{read};\n" for write in writes), "")
         return it.seconds(1), it.seconds(2), answers_of(it.text)
 
     def kept(self, upkeep):
