@@ -1,2 +1,3 @@
 pub mod Laws
+pub mod Keyed
 pub mod Sizes

@@ -4,5 +4,6 @@ pub mod Linked
 pub mod Listed
 pub mod Meeting
 pub mod Pairs
+pub mod Partners
 pub mod Shown
 pub mod Taking

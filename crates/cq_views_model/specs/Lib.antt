@@ -1,4 +1,5 @@
 pub mod Delta
+pub mod Keyed
 pub mod Kept
 pub mod Query
 pub mod Shown
