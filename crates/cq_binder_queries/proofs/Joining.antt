@@ -3,7 +3,6 @@ use Rattle.std.proofs.Common.{◌≡◌, ℕ, ◌+◌, ◌<◌, Bool, false, Lis
 use Rattle.std.specs.Prelude.{nat_lt, unwrap_or}
 use Rattle.cq_model.specs.declared.query.Equality.{Equality}
 use Rattle.cq_model.specs.declared.query.Join.{Join}
-use Rattle.cq_model.specs.declared.query.JoinKind.{JoinKind}
 use Rattle.cq_model.specs.declared.query.Source.{Source}
 use Rattle.cq_model_state.specs.State.{State}
 use Rattle.std.proofs.lemmas.List.{at_drop_more}
@@ -11,7 +10,7 @@ use Rattle.cq_sql_language.specs.declared.statement.FromSource.{FromSource}
 use Rattle.cq_sql_language.specs.declared.statement.JoinedSource.{JoinedSource}
 use Rattle.cq_binder_rules.specs.declared.fault.Fault.{Fault}
 use Rattle.cq_binder_rules.specs.Checks.{first_fault, MayRefuse}
-use Rattle.cq_binder_rules.specs.From.{From, base_limit, columns_with, equality_check, equality_of, first_from, first_walk, join_checks, join_walk, joined_with, joins_walk, kind_of, passing}
+use Rattle.cq_binder_rules.specs.From.{From, base_limit, columns_with, equality_check, equality_of, first_from, first_walk, join_checks, join_walk, joined_with, joins_walk, passing}
 use Rattle.cq_binder_rules.specs.Kinds.{◌and_then◌}
 use Rattle.cq_binder_rules.specs.Scopes.{Named, known_as, source_columns, source_named}
 use Rattle.cq_binder_rules.specs.Typing.{ScopeColumn, fault_in, is_known}
@@ -110,10 +109,10 @@ module _ (from : From) (j : JoinedSource) (source : Named) where
   abbrev wide_columns : List ScopeColumn
   wide_columns = columns_with from.columns j.source source
 
-  pub joined_made : (joins : List Join) (wide : List ScopeColumn) (kind : JoinKind) (on : List Equality) (named : Source) (bases : ℕ)
-      → joins ≡ from.joins ++ record { kind = kind; source = named; on = on } ∷ [] → wide ≡ wide_columns → on ≡ map (equality_of wide_columns (length from.columns)) j.on
-      → kind ≡ kind_of j source → named ≡ source.source → bases ≡ source.bases
+  pub joined_made : (joins : List Join) (wide : List ScopeColumn) (on : List Equality) (named : Source) (bases : ℕ)
+      → joins ≡ from.joins ++ record { source = named; on = on } ∷ [] → wide ≡ wide_columns → on ≡ map (equality_of wide_columns (length from.columns)) j.on
+      → named ≡ source.source → bases ≡ source.bases
       → record { first = from.first; joins = joins; columns = wide; bases = from.bases + bases } ≡ joined_with from j source
-  joined_made joins wide kind on named bases all e h is k b =
+  joined_made joins wide on named bases all e h k b =
       ap (λ (js : List Join). record { first = from.first; joins = js; columns = wide; bases = from.bases + bases }) all
-      ∙ λ i. record { first = from.first; joins = from.joins ++ record { kind = is i; source = k i; on = h i } ∷ []; columns = e i; bases = from.bases + b i }
+      ∙ λ i. record { first = from.first; joins = from.joins ++ record { source = k i; on = h i } ∷ []; columns = e i; bases = from.bases + b i }

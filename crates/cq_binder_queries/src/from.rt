@@ -1,6 +1,6 @@
 //! FROM: its sources, each joined to those before it.
 ghost use Rattle.std.specs.Prelude.{◌+◌, ◌∷◌, ◌≡◌, ◌<◌, ◌≤◌, [], IfOk, OnOk, length, nat_lt};
-ghost use Rattle.cq_binder_rules.specs.From.{base_limit, equality_at, first_from, kind_of, may_equal};
+ghost use Rattle.cq_binder_rules.specs.From.{base_limit, equality_at, first_from, may_equal};
 ghost use Rattle.cq_binder_rules.specs.Scopes.{source_named};
 ghost use Rattle.cq_binder_queries.specs.Catalog.{state_of};
 ghost use Rattle.cq_binder_queries.specs.From.{Begins, BindsEquality, BindsOn, Finds, JoinsAll, JoinsBehind, JoinsFound, PutsColumns, may_stand, shown_from, shown_source};
@@ -10,9 +10,9 @@ use crate::catalog::{Catalog, TableEntry, ViewEntry};
 use crate::scopes::{known_as, push_shown, push_stored};
 use cq_binder_expressions::{ScopeColumn, is_known, resolved};
 use cq_binder_rules::Fault;
-use cq_model::{Equality, Join, JoinKind, Source};
+use cq_model::{Equality, Join, Source};
 use cq_sql_language::{FromSource, JoinedSource, OnEquality, Select};
-use cq_values::{ColumnDef, Seq};
+use cq_values::Seq;
 use std::alloc::{AllocError, Global};
 
 /// A query reads at most so many base tables.
@@ -60,26 +60,6 @@ impl<'a> FoundSource<'a> {
         match self {
             FoundSource::Table(_) => 1,
             FoundSource::View(view) => view.bases,
-        }
-    }
-
-    /// The kind of a join with it.
-    fn kind(&self, join: &JoinedSource) -> JoinKind
-        ensures { result ≡ kind_of join.now (shown_source self.now) }
-    {
-        if join.is_left {
-            JoinKind::Left(self.columns().len())
-        } else {
-            JoinKind::Inner
-        }
-    }
-
-    fn columns(&self) -> &[ColumnDef]
-        ensures { result.now ≡ (shown_source self.now).columns }
-    {
-        match self {
-            FoundSource::Table(table) => table.columns,
-            FoundSource::View(view) => view.columns,
         }
     }
 
@@ -203,7 +183,6 @@ fn joined<'a>(
     found.push_columns(&mut wide.columns, known)?;
     let on = equalities(alloc, &wide.columns, before, join.on.as_slice())?;
     wide.joins.push(Join {
-        kind: found.kind(join),
         source: found.source(),
         on,
     })?;

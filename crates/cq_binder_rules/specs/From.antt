@@ -4,8 +4,6 @@ use denote.Enum.Bare.{sameb}
 use Rattle.cq_values.specs.contracts.ty.Ty as ty
 use Rattle.cq_model.specs.declared.query.Equality.{Equality}
 use Rattle.cq_model.specs.declared.query.Join.{Join}
-use Rattle.cq_model.specs.declared.query.JoinKind.{JoinKind}
-use Rattle.cq_model.specs.declared.query.JoinKind.TheVariants.{Inner, Left}
 use Rattle.cq_model.specs.declared.query.Source.{Source}
 use Rattle.cq_model.specs.declared.query.Source.TheVariants.{Table, View}
 use Rattle.cq_sql_language.specs.declared.statement.FromSource.{FromSource}
@@ -60,13 +58,9 @@ equality_of columns before e = equality_at before (row_place columns e.left) (ro
 abbrev pub columns_with : List ScopeColumn → FromSource → Named → List ScopeColumn
 columns_with columns f source = columns ++ source_columns (known_as f source) source
 
--- LEFT JOIN has a NULL for each column of its source
-abbrev pub kind_of : JoinedSource → Named → JoinKind
-kind_of j source = if j.is_left then Left (length source.columns) else Inner
-
 -- a source behind the columns that stand before it, with the equalities by which it is joined
 abbrev pub join_of : List ScopeColumn → JoinedSource → Named → Join
-join_of columns j source = record { source = source.source; kind = kind_of j source; on = map (equality_of (columns_with columns j.source source) (length columns)) j.on }
+join_of columns j source = record { source = source.source; on = map (equality_of (columns_with columns j.source source) (length columns)) j.on }
 
 -- FROM with a source behind the others
 abbrev pub joined_with : From → JoinedSource → Named → From

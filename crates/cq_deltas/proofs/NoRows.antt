@@ -4,11 +4,11 @@ use Rattle.std.specs.List.{list_any}
 use Rattle.cq_values.specs.Value.{Row}
 use Rattle.cq_values.specs.Order.{same_row}
 use Rattle.cq_values.specs.Keys.{same_row-refl}
-use Rattle.cq_model_bags.specs.Bag.{Weighted, weight_of, SameBag, IsBag, once_each, distinct_rows, projected, weighed}
+use Rattle.cq_model_bags.specs.Bag.{Weighted, weight_of, SameBag, IsBag, once_each, distinct_rows, projected}
 use Rattle.cq_model_bags.proofs.Bags.{same-refl, projected-respects}
 use Rattle.cq_model_bags.proofs.Totals.{is_row, total-same}
 use Rattle.cq_model_bags.proofs.Linears.{weight_of-projected}
-use Rattle.cq_model_bags.proofs.Entries.{bag-entries, image-there}
+use Rattle.cq_model_bags.proofs.Entries.{weighed, bag-entries, image-there}
 use Rattle.cq_model.specs.declared.query.Aggregate.{Aggregate}
 use Rattle.cq_model.specs.declared.query.Aggregate.TheVariants.{CountAll, Count, CountDistinct, Sum, Min, Max}
 use Rattle.cq_model.specs.Eval.{eval}

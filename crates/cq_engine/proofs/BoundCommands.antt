@@ -150,7 +150,6 @@ module _ (tables : List TableOf) (views : List ViewOf) (next : ℕ) (numbered : 
         let query = bound_query q from in
         record {
           there = are.there;
-          joins = are.joins;
           filter = subst (λ (ns : List ℕ). IsConditionSized ns query.filter) are.sizes (filter_sized q from.columns bag);
           shown = subst (λ (ns : List ℕ). IsShapeSized ns query.shape query.items) are.sizes (shape_sized q from.columns bag);
         }

@@ -225,7 +225,6 @@ module _ (tables : List TableOf) (views : List ViewOf) (v : Select) (from : From
         ∙ sym (items_shown (item_scope v from.columns) [] (shown_by v.items) ∙ length-map v.items (λ item. item.value));
     fits = query_fits;
     there = joined.there;
-    joins = joined.joins;
   }
 
 -- ---- What a view may have

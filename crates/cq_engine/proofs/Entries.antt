@@ -22,7 +22,6 @@ use Rattle.cq_model.specs.Meaning.{Tables}
 use Rattle.cq_model.specs.Views.{sources_of}
 use Rattle.cq_sides_weights.specs.Held.{sizes}
 use Rattle.cq_deltas_joins.specs.Chains.{nothing, spans}
-use Rattle.cq_deltas_joins.specs.LeftLimits.{ArePositive}
 use Rattle.cq_deltas_joins.specs.Steps.{AreStored, span}
 use Rattle.cq_model_state.specs.Fitting.{AreFitting, AreLimited, rows_limit}
 use Rattle.cq_model_state.specs.State.{TableOf, rows_in}
@@ -33,8 +32,8 @@ use Rattle.cq_views.specs.State.{StandsFor}
 use Rattle.cq_views.specs.declared.kept_view.KeptView.{KeptView}
 use Rattle.cq_views_state.specs.State.{CanStart}
 use Rattle.cq_engine_tables.specs.Views.{Fits, bags_in}
-use Rattle.cq_engine_tables.proofs.Bags.{bags_few, positive-once_each, stored-once_each}
-use Rattle.cq_engine_tables.proofs.Crossed.{countable_few}
+use Rattle.cq_engine_tables.proofs.Bags.{bags_few, stored-once_each}
+use Rattle.cq_engine_tables.proofs.Crossed.{crossed_few}
 use Rattle.cq_engine_tables.proofs.Rows.{rows_have}
 use Rattle.cq_engine_tables.proofs.Stored.{tables_stored}
 use Rattle.cq_engine_answers.specs.Gathered.{AreRowsThere}
@@ -216,7 +215,7 @@ module _ (tables : List TableOf) (query : Query) (gathered : List StoredSource) 
       record {
         can = fits.can;
         few = spans_few (bags_at gathered) few (sources_of query) fits.few;
-        countable = countable_few (bags_at gathered) few (have ArePositive tt (λ rows s same. positive-once_each rows)) (sources_of query) fits.few;
+        countable = crossed_few (bags_at gathered) few (sources_of query) fits.few;
         stored =
             all-of (λ s. AreStored (bags_at gathered s)) (have AreStored tt (stored_as tables fitting))
             (sources_of query);

@@ -9,9 +9,8 @@ use Rattle.cq_binder_queries.specs.Catalog.{alone}
 use Rattle.cq_binder_rules.specs.declared.fault.Fault.{Fault}
 use Rattle.cq_binder_rules.specs.declared.fault.Fault.TheVariants.{Memory, SumOutOfRange}
 use Rattle.cq_model_bags.proofs.Totals.{by_test}
-use Rattle.cq_model.specs.Meaning.{IsAsWide, meaning}
+use Rattle.cq_model.specs.Meaning.{meaning}
 use Rattle.cq_model.specs.Views.{AnswerInRange, is_view, sources_of, with_views}
-use Rattle.cq_model.specs.declared.query.Join.{Join}
 use Rattle.cq_model.specs.declared.query.Order.{Order}
 use Rattle.cq_model.specs.declared.query.Query.{Query}
 use Rattle.cq_model.specs.declared.query.Source.{Source}
@@ -22,7 +21,7 @@ use Rattle.cq_model_step.proofs.SameAnswers.{queries_timeless}
 use Rattle.cq_model_step.specs.Next.{at_epoch, taken_on}
 use Rattle.cq_model_step.specs.Step.{AreBetween}
 use Rattle.cq_views.specs.Laws.{StandingDependsOnSources}
-use Rattle.cq_engine_answers.specs.Narrow.{IsConditionSized, IsShapeSized, joined_sizes, source_sizes, source_width, view_sizes}
+use Rattle.cq_engine_answers.specs.Narrow.{IsConditionSized, IsShapeSized, joined_sizes, source_sizes, view_sizes}
 use Rattle.cq_engine_answers.specs.Reading.{CanRead, IsReadable, IsSourceThere}
 use Rattle.cq_engine_answers.specs.Selects.{AreListed, Selects}
 use Rattle.cq_engine_queue.proofs.Later.{present-right}
@@ -71,19 +70,10 @@ module _ (tables : List TableOf) (vs ws : List ViewOf) (same : SameButEpochs vs 
   joined-epochs : (q : Query) → joined_sizes tables vs q ≡ joined_sizes tables ws q
   joined-epochs q = sym (joined-timeless tables vs q) ∙ ap (λ (us : List ViewOf). joined_sizes tables us q) same ∙ joined-timeless tables ws q
 
-  width-epochs : (s : Source) → source_width tables vs s ≡ source_width tables ws s
-  width-epochs s =
-      ap length (sym (source-timeless tables vs s) ∙ ap (λ (us : List ViewOf). source_sizes tables us s) same ∙ source-timeless tables ws s)
-
-  joins-epochs : (js : List Join) → AllByRecursion (λ j. IsAsWide j.kind (source_width tables vs j.source)) js → AllByRecursion (λ j. IsAsWide j.kind (source_width tables ws j.source)) js
-  joins-epochs [] all = tt
-  joins-epochs (j ∷ js) all = (subst (IsAsWide j.kind) (width-epochs j.source) all.0, joins-epochs js all.1)
-
   -- a query that can be read from the ones can be read from the others
   pub read-epochs : (q : Query) → CanRead tables vs q → CanRead tables ws q
   read-epochs q can = record {
     there = all-there (sources_of q) can.there;
-    joins = joins-epochs q.joins can.joins;
     filter = subst (λ ns. IsConditionSized ns q.filter) (joined-epochs q) can.filter;
     shown = subst (λ ns. IsShapeSized ns q.shape q.items) (joined-epochs q) can.shown;
   }

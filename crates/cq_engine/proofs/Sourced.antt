@@ -1,6 +1,6 @@
 -- What FROM joins is there, with the sizes of its columns.
-use Rattle.std.proofs.Common.{◌≡◌, ◌+◌, ◌≤◌, ℕ, Bool, true, false, List, [], ◌∷◌, ◌++◌, map, length, Option, Some, None, Result, Ok, Err, refl, sym, ap, ◌∙◌, arith, subst}
-use Rattle.std.specs.Prelude.{nat_lt, if◌then◌else◌}
+use Rattle.std.proofs.Common.{◌≡◌, ◌+◌, ◌≤◌, ℕ, List, [], ◌∷◌, ◌++◌, map, length, Option, Some, None, Result, Ok, Err, refl, sym, ap, ◌∙◌, arith, subst}
+use Rattle.std.specs.Prelude.{nat_lt}
 use Rattle.std.proofs.lemmas.Bool.{ltb-false}
 use Rattle.std.specs.List.{AllByRecursion, flat_map, zip}
 use Rattle.std.proofs.lemmas.List.{append-nil, append_assoc, length-append, map-append}
@@ -10,21 +10,19 @@ use Rattle.cq_model_bags.proofs.Totals.{by_test}
 use Rattle.cq_sql_language.specs.declared.statement.FromSource.{FromSource}
 use Rattle.cq_sql_language.specs.declared.statement.JoinedSource.{JoinedSource}
 use Rattle.cq_sql_language.specs.declared.statement.Select.{Select}
-use Rattle.cq_model.specs.Meaning.{IsAsWide}
 use Rattle.cq_model.specs.declared.query.Join.{Join}
-use Rattle.cq_model.specs.declared.query.JoinKind.TheVariants.{Inner, Left}
 use Rattle.cq_model.specs.declared.query.Source.{Source}
 use Rattle.cq_model.specs.declared.query.Source.TheVariants.{Table, View}
 use Rattle.cq_binder_rules.specs.declared.fault.Fault.{Fault}
 use Rattle.cq_binder_rules.specs.declared.fault.Fault.TheVariants.{ClauseInView, NameTaken, TooManyTables}
 use Rattle.cq_binder_rules.specs.Bound.{standing}
 use Rattle.cq_binder_rules.specs.Checks.{fault_if, first_fault}
-use Rattle.cq_binder_rules.specs.From.{From, columns_with, equality_check, first_from, first_walk, is_any_view, join_checks, join_of, join_walk, joined_with, joins_walk, no_view, passing, sources_walk, view_walk}
+use Rattle.cq_binder_rules.specs.From.{From, columns_with, equality_check, first_from, first_walk, is_any_view, join_checks, join_walk, joined_with, joins_walk, no_view, passing, sources_walk, view_walk}
 use Rattle.cq_binder_rules.specs.Scopes.{Named, known_as, scope_column, source_columns, source_named}
 use Rattle.cq_binder_rules.specs.Typing.{ScopeColumn, is_known}
 use Rattle.cq_model_state.specs.State.{State, TableOf, ViewOf}
 use Rattle.cq_engine_answers.specs.Reading.{IsSourceThere}
-use Rattle.cq_engine_answers.specs.Narrow.{source_sizes, source_width}
+use Rattle.cq_engine_answers.specs.Narrow.{source_sizes}
 use Rattle.cq_views_model.specs.Query.{IsTable}
 use Rattle.cq_engine_writes.proofs.Checks.{back_free, first_free}
 use Rattle.cq_engine.proofs.Fitting.{second_free}
@@ -64,34 +62,24 @@ module _ (tables : List TableOf) (views : List ViewOf) where
     pub sizes : source_sizes tables views source.source ≡ source.sizes
     pub even : length source.columns ≡ length source.sizes
 
-  -- what was joined is there, with the sizes of all columns, of which a left join has a NULL for each of its source's
+  -- what was joined is there, with the sizes of all columns
   pub record AreJoined (from : From) : Type 0 where
     pub there : AllByRecursion (IsSourceThere tables views) (sources_joined from)
-    pub joins : AllByRecursion (λ j. IsAsWide j.kind (source_width tables views j.source)) from.joins
     pub sizes : map (λ c. c.size) from.columns ≡ flat_map (source_sizes tables views) (sources_joined from)
 
   -- one source is
   pub one_joined : (q : Select) (source : Named) → IsFound source → AreJoined (first_from q.first source)
   one_joined q source is = record {
     there = (is.there, tt);
-    joins = tt;
     sizes =
         columns_sized (known_as q.first source) source is.even ∙ sym is.sizes
         ∙ sym (append-nil (source_sizes tables views source.source));
   }
 
-  -- a left join with a source has a NULL for each of its columns
-  kind_wide : (b : Bool) (n m : ℕ) → n ≡ m → IsAsWide (if b then Left n else Inner) m
-  kind_wide true n m e = e
-  kind_wide false n m e = tt
-
   module _ (s : State) (found : (name : List ℕ) (source : Named) → source_named name s ≡ Some source → IsFound source) (may : Named → Option Fault) where
     one_more : (from : From) (j : JoinedSource) (source : Named) → AreJoined from → IsFound source → AreJoined (joined_with from j source)
     one_more from j source are is = record {
       there = subst (AllByRecursion (IsSourceThere tables views)) (sym (sources_more from j source)) (all-push (IsSourceThere tables views) (sources_joined from) source.source are.there is.there);
-      joins =
-          all-push (λ (k : Join). IsAsWide k.kind (source_width tables views k.source)) from.joins (join_of from.columns j source) are.joins
-          (kind_wide j.is_left (length source.columns) (source_width tables views source.source) (is.even ∙ sym (ap length is.sizes)));
       sizes =
           map-append (λ (c : ScopeColumn). c.size) from.columns (source_columns (known_as j.source source) source)
           ∙ (λ i. are.sizes i ++ (columns_sized (known_as j.source source) source is.even ∙ sym is.sizes) i)

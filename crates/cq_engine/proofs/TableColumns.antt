@@ -1,22 +1,15 @@
 -- How many columns the tables have that a query names.
-use Rattle.std.proofs.Common.{◌≡◌, ◌∙◌, ◌+◌, ◌<◌, ℕ, zero, suc, false, List, [], ◌∷◌, ◌++◌, length, get_or, map, Some, refl, sym, ap, subst, arith}
+use Rattle.std.proofs.Common.{◌≡◌, ◌∙◌, ◌+◌, ◌<◌, ℕ, zero, suc, false, List, [], ◌∷◌, ◌++◌, length, get_or, Some, refl, sym, ap, arith}
 use Rattle.std.specs.Prelude.{◌==◌, sum}
-use Rattle.std.specs.List.{AllByRecursion, AllZip}
+use Rattle.std.specs.List.{AllByRecursion}
 use Rattle.std.proofs.lemmas.Bool.{eq-eqb, ne_eqb}
-use Rattle.std.proofs.lemmas.List.{length-map}
 use Rattle.std.proofs.lemmas.List.Sums.{sum_by-append}
-use Rattle.cq_engine_answers.specs.Narrow.{AreJoinsWide, source_width}
 use Rattle.cq_engine_answers.specs.Reading.{IsSourceThere}
-use Rattle.cq_model.specs.Meaning.{IsAsWide}
-use Rattle.cq_model.specs.declared.query.Join.{Join}
-use Rattle.cq_model.specs.declared.query.Query.{Query}
 use Rattle.cq_model.specs.declared.query.Source.{Source}
 use Rattle.cq_model.specs.declared.query.Source.TheVariants.{Table, View}
-use Rattle.cq_model_state.specs.State.{AreNumbered, TableOf, ViewOf, columns_in}
+use Rattle.cq_model_state.specs.State.{AreNumbered, TableOf, ViewOf}
 use Rattle.cq_engine_tables.proofs.Numbers.{above_at}
-use Rattle.cq_engine_tables.proofs.Wide.{columns-wide}
-use Rattle.cq_engine_tables.specs.Views.{AreWide, IsWide, width_at}
-use Rattle.cq_plan.specs.Planned.{JoinsFit}
+use Rattle.cq_engine_tables.specs.Views.{width_at}
 use Rattle.cq_views_model.specs.Query.{IsTable}
 use Rattle.cq_engine.specs.TableWidths.{IsTableThere}
 
@@ -45,20 +38,3 @@ width-numbered ts i t next n numbered h is number = ap (width_at ts) (sym number
 -- one width more adds to their sum
 pub sum-more : (xs : List ℕ) (x : ℕ) → sum (xs ++ x ∷ []) ≡ sum xs + x
 sum-more xs x = omega (arith, sum_by-append (λ (n : ℕ). n) xs (x ∷ []))
-
--- a table that is so wide has a column for each of these
-width-source : (tables : List TableOf) (views : List ViewOf) (s : Source) (wide : ℕ) → IsWide tables s wide → source_width tables views s ≡ wide
-width-source tables views (Table n) wide is = length-map (columns_in tables n) _ ∙ columns-wide tables tables n wide is
-width-source tables views (View place) wide is = absurd is
-
--- left joins that have a NULL for each column of tables fit these
-pub joins-fit : (tables : List TableOf) (views : List ViewOf) (q : Query) (widths : List ℕ) → AreJoinsWide (source_width tables views) q → AreWide tables q widths → JoinsFit q.joins widths
-joins-fit tables views q [] joins wide = tt
-joins-fit tables views q (first ∷ widths) joins wide = behind q.joins widths joins wide.1
-  where
-    behind : (js : List Join) (ws : List ℕ) → AllByRecursion (λ j. IsAsWide j.kind (source_width tables views j.source)) js → AllZip (IsWide tables) (map (λ (j : Join). j.source) js) ws
-        → AllZip (λ j w. IsAsWide j.kind w) js ws
-    behind [] [] all are = tt
-    behind [] (w ∷ ws) all are = absurd are
-    behind (j ∷ js) [] all are = absurd are
-    behind (j ∷ js) (w ∷ ws) all are = (subst (IsAsWide j.kind) (width-source tables views j.source w are.0) all.0, behind js ws all.1 are.1)

@@ -22,7 +22,6 @@ use Rattle.cq_engine_queue.specs.Queued.{Queued}
 use Rattle.cq_engine_writes.specs.Updates.{CanUpdateIn, value_fault_in}
 use Rattle.cq_engine_tables.specs.HeldTables.{HeldTable, tables_of}
 use Rattle.cq_engine_tables.specs.Views.{AreRight, Fits, NamedView, views_of}
-use Rattle.cq_engine_answers.specs.Narrow.{AreJoinsWide, source_width}
 use Rattle.cq_engine_answers.specs.Reading.{CanRead, IsSourceThere}
 use Rattle.cq_engine_writes.specs.Writing.{room_for}
 use Rattle.cq_sql_language.specs.declared.statement.Statement.{Statement}
@@ -52,7 +51,6 @@ pub record CanBuild (tables : List TableOf) (views : List ViewOf) (columns : Lis
   pub shown : length columns ≡ length q.items
   pub fits : Fits q
   pub there : AllByRecursion (IsSourceThere tables views) (sources_of q)
-  pub joins : AreJoinsWide (source_width tables views) q
 
 -- what is known of a command that was bound to these tables and views
 abbrev pub CanCarryOut : List TableOf → List ViewOf → Bound → Type 0

@@ -1,10 +1,9 @@
 //! CREATE VIEW.
-ghost use Rattle.std.specs.Prelude.{◌≡◌, ℕ, IfOk, List, OnErr, OnOk};
+ghost use Rattle.std.specs.Prelude.{◌≡◌, ℕ, IfOk, OnErr, OnOk};
 ghost use Rattle.cq_model.specs.Views.{sources_of};
 ghost use Rattle.cq_model_state.specs.Fitting.{AreFitting, AreLimited, rows_limit};
-ghost use Rattle.cq_model_state.specs.State.{AreNumbered, ViewOf};
+ghost use Rattle.cq_model_state.specs.State.{AreNumbered};
 ghost use Rattle.cq_model_step.specs.Next.{new_view};
-ghost use Rattle.cq_engine_answers.specs.Narrow.{AreJoinsWide, source_width};
 ghost use Rattle.cq_engine_answers.specs.Reading.{AreTablesThere};
 ghost use Rattle.cq_engine.specs.Commands.{CanBuild};
 ghost use Rattle.cq_engine_tables.specs.HeldTables.{tables_of};
@@ -54,7 +53,6 @@ fn built_state(
     requires limited { AreLimited rows_limit (tables_of tables.now) }
     requires fits { Fits query }
     requires there { AreTablesThere (tables_of tables.now) (sources_of query) }
-    requires joins { (vs : List ViewOf) × AreJoinsWide (source_width (tables_of tables.now) vs) query }
     ensures { IfOk result (IsBuilt (tables_of tables.now) query now) }
 {
     let sources = gathered_rows(alloc, tables, &query)?;

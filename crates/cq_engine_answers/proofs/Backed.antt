@@ -8,8 +8,8 @@ use Rattle.cq_model.specs.declared.query.Source.TheVariants.{Table, View}
 use Rattle.cq_model_state.specs.Fitting.{AreFitting, AreLimited, rows_limit}
 use Rattle.cq_model_state.specs.State.{TableOf}
 use Rattle.cq_engine_tables.specs.Views.{IsPresent, NamedView, bags_in}
-use Rattle.cq_engine_tables.proofs.Bags.{bags_are, bags_few, bags_positive, bags_stored}
-use Rattle.cq_engine_tables.proofs.Crossed.{countable_few}
+use Rattle.cq_engine_tables.proofs.Bags.{bags_are, bags_few, bags_stored}
+use Rattle.cq_engine_tables.proofs.Crossed.{crossed_few}
 use Rattle.cq_engine_answers.specs.Gathered.{IsBacked, IsBackedAt}
 use Rattle.cq_engine_answers.specs.Reading.{IsReadable}
 use Rattle.cq_model_bags.proofs.Lists.{all-of, all-weaker}
@@ -26,7 +26,7 @@ module _ (tables : List TableOf) (fitting : AreFitting tables) (few : AreLimited
         stands = present.stands;
         stored = all-of (λ s. AreStored (bags_in tables s)) (bags_stored tables fitting) sources;
         bags = bags_are tables;
-        countable = countable_few (bags_in tables) (bags_few tables few) (bags_positive tables) sources present.fits.few;
+        few = crossed_few (bags_in tables) (bags_few tables few) sources present.fits.few;
       }
 
   -- so is each that the sources name

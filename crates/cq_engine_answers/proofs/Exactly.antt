@@ -1,15 +1,11 @@
 -- A query that can be worked out with the sizes of columns is exact on the rows that lent rows become.
-use Rattle.std.proofs.Common.{◌≡◌, ◌+◌, ℕ, ℤ, not, pos, ◌<ℤ◌, List, [], ◌∷◌, ◌++◌, append_assoc, filter, length, map, get_or, Option, Some, None, Ok, Err, refl, sym, ◌∙◌, ap, inl, inr, subst, arith, Bool, true, false}
+use Rattle.std.proofs.Common.{◌≡◌, ◌+◌, ℕ, pos, ◌<ℤ◌, List, [], ◌∷◌, ◌++◌, append_assoc, filter, length, map, get_or, Option, Some, None, Ok, Err, refl, sym, ◌∙◌, ap, inl, inr, subst, arith, Bool, true, false}
 use Rattle.std.specs.Prelude.{if◌then◌else◌}
 use Rattle.std.proofs.lemmas.Int.{ints}
 use Rattle.std.proofs.lemmas.List.{length-append}
-use Rattle.std.specs.List.{AllByRecursion, AllZip, flat_map}
+use Rattle.std.specs.List.{AllByRecursion, flat_map}
 use Rattle.cq_values.specs.Value.{Row}
-use Rattle.cq_model_bags.proofs.Bags.{same-sym, same-trans}
-use Rattle.cq_model_bags.proofs.Distincts.{distinct-respects}
-use Rattle.cq_model_bags.proofs.LeftParts.{filtered-all}
-use Rattle.cq_model_bags.proofs.Totals.{by_test}
-use Rattle.cq_model_bags.specs.Bag.{IsBag, SameBag, Weighted, distinct, filtered, once_each, weight_of}
+use Rattle.cq_model_bags.specs.Bag.{IsBag, Weighted, distinct, once_each, weight_of}
 use Rattle.cq_model_bags.specs.Listing.{IsListing}
 use Rattle.cq_binder_rules.specs.declared.fault.Fault.TheVariants as faults
 use Rattle.cq_model_eval.specs.Laws.{NarrowIsExact, NarrowIsExactIn}
@@ -19,9 +15,7 @@ use Rattle.cq_model.specs.declared.fault.ShowFault.TheVariants.{Memory, SumOutOf
 use Rattle.cq_operators.specs.Exec.{GivesRest, IsInRange, IsOpened, Remaining}
 use Rattle.cq_model_laws.specs.Sizes.{GroupsKeepSizes, HasSizes, JoinedHaveSizes, JoinedRowsKeepSizes, KeepsColumns, grouped_sizes}
 use Rattle.cq_model_laws.proofs.Columns.{listed-columns}
-use Rattle.cq_model_laws.proofs.Meanings.{shown-respects}
 use Rattle.cq_model_laws.proofs.Positives.{once_each-bag}
-use Rattle.cq_model_laws.proofs.Ranges.{range-same}
 use Rattle.cq_table_columns.specs.Sources.{stored_bags, rows_or}
 use Rattle.cq_table_columns.specs.declared.stored_source.StoredSource.{StoredSource}
 use Rattle.cq_model.specs.Exact.{AreExactAt, AreExactIn}
@@ -34,17 +28,16 @@ use Rattle.cq_model.specs.declared.query.Query.{Query}
 use Rattle.cq_model.specs.declared.query.Shape.{Shape}
 use Rattle.cq_model.specs.declared.query.Shape.TheVariants.{Grouped, Plain}
 use Rattle.cq_model.specs.declared.query.Source.{Source}
-use Rattle.cq_model.specs.declared.query.Source.TheVariants.{Table}
 use Rattle.cq_model.specs.Group.{group_row, grouped, keys_of, rows_of_key}
-use Rattle.cq_model.specs.Meaning.{IsAsWide, MeaningInRange, ShapeInRange, chain, joined_rows, keeps, meaning, shown}
+use Rattle.cq_model.specs.Meaning.{MeaningInRange, ShapeInRange, chain, joined_rows, keeps, meaning, shown}
 use Rattle.cq_model.specs.Own.{in_place}
 use Rattle.cq_model.specs.Views.{sources_of}
 use Rattle.cq_model.specs.Width.{IsNarrowIn, sizes_of}
-use Rattle.cq_operators.specs.Selected.{AreCounted, CanSelect, CanShape, CanShow, IsExactBy, bag_shown, kept_rows, rows_in}
+use Rattle.cq_operators.specs.Selected.{AreCounted, CanSelect, CanShape, CanShow, IsExactBy, kept_rows, rows_in}
 use Rattle.cq_plan.specs.Chain.{AreOf, ChainedSource, joined_lists, links_with}
 use Rattle.cq_plan.specs.Own.{AreOwnOf, conditions_of}
 use Rattle.cq_plan.specs.Plan.{IsPlanOf, kept_of}
-use Rattle.cq_plan.specs.Planned.{AreAllOwn, CanAskEach, HaveColumns, JoinsFit, asked_below, below_of, is_joined, rights_of, widths_of}
+use Rattle.cq_plan.specs.Planned.{AreAllOwn, CanAskEach, HaveColumns, asked_below, below_of, is_joined, widths_of}
 use Rattle.cq_plan.specs.declared.plans.Plan.{Plan}
 use Rattle.cq_plan.specs.declared.plans.PlannedSource.{PlannedSource}
 use Rattle.cq_plan.specs.Laws.{ChainOfLists, OwnConditionsAreExact}
@@ -124,11 +117,6 @@ module _ (at : NarrowIsExact) (within : NarrowIsExactIn) where
   )
 
 -- ---- the rows of each source, as they are planned
--- WHERE, or nothing, can be worked out where WHERE can
-sized-below : (sizes : List ℕ) (where_is : Option Cond) (below : Bool) → IsConditionSized sizes where_is → IsConditionSized sizes (asked_below below where_is)
-sized-below sizes where_is true can = can
-sized-below sizes where_is false can = λ row sized. tt
-
 module _ (sizes : Source → List ℕ) (lents : List StoredSource) where
   abbrev rows_at : Source → List Row
   rows_at s = rows_or lents s []
@@ -148,48 +136,32 @@ module _ (sizes : Source → List ℕ) (lents : List StoredSource) where
 
   -- and what they are asked can be worked out
   module _ (law : OwnConditionsAreExact) (below : Option Cond) where
-    can-ask : (front : List ℕ) (before : ℕ) (rights : List Bool) (ss : List PlannedSource) (sources : List Source) → before ≡ length front → AreAllOwn below before rights ss → widths_of ss ≡ map width_at sources → AllByRecursion (HaveSizes sizes lents) sources
+    can-ask : (front : List ℕ) (before : ℕ) (ss : List PlannedSource) (sources : List Source) → before ≡ length front → AreAllOwn below before ss → widths_of ss ≡ map width_at sources → AllByRecursion (HaveSizes sizes lents) sources
         → IsConditionSized (front ++ flat_map sizes sources) below → CanAskEach ss (map rows_at sources)
-    can-ask front before [] [] [] is own wide sized can = tt
-    can-ask front before [] [] (s ∷ sources) is own wide sized can = absurd (cc wide)
-    can-ask front before [] (p ∷ ss) sources is own wide sized can = absurd own
-    can-ask front before (right ∷ rights) [] sources is own wide sized can = absurd own
-    can-ask front before (right ∷ rights) (p ∷ ss) [] is own wide sized can = absurd (cc wide)
-    can-ask front before (right ∷ rights) (p ∷ ss) (s ∷ sources) is own wide sized can =
+    can-ask front before [] [] is own wide sized can = tt
+    can-ask front before [] (s ∷ sources) is own wide sized can = absurd (cc wide)
+    can-ask front before (p ∷ ss) [] is own wide sized can = absurd (cc wide)
+    can-ask front before (p ∷ ss) (s ∷ sources) is own wide sized can =
         let head : p.wide ≡ width_at s = cc wide in
         let tail : widths_of ss ≡ map width_at sources = cc wide in
         let conditions = conditions_of p.own.items in (
           subst (λ n. AllByRecursion (λ row. AllByRecursion (λ c. AreExactIn c (in_place n row)) conditions) (rows_at s)) (sym is ∙ sym own.0.place)
-              (law (asked_below (not right) below) front (sizes s) (flat_map sizes sources) p.wide conditions (rows_at s) (sized-below (front ++ sizes s ++ flat_map sizes sources) below (not right) can) (subst (λ n. AreOwnOf (asked_below (not right) below) n p.wide conditions) is own.0.own) (all-weaker _ _ (λ row has. has.sized) (rows_at s) sized.0)),
-          can-ask (front ++ sizes s) (before + p.wide) rights ss sources
+              (law below front (sizes s) (flat_map sizes sources) p.wide conditions (rows_at s) can (subst (λ n. AreOwnOf below n p.wide conditions) is own.0.own) (all-weaker _ _ (λ row has. has.sized) (rows_at s) sized.0)),
+          can-ask (front ++ sizes s) (before + p.wide) ss sources
               (omega (arith, is, length-append front (sizes s), head))
               own.1 tail sized.1 (subst (λ ns. IsConditionSized ns below) (sym (append_assoc front (sizes s) (flat_map sizes sources))) can),
         )
 
--- whether the totals of rows can be shown depends on their bag alone
-shape-same : (shape : Shape) (xs ys : Weighted) → SameBag xs ys → ShapeInRange shape xs → ShapeInRange shape ys
-shape-same shape xs ys same range =
-    let q : Query = record { first = Table 0; joins = []; filter = None; shape = shape; items = []; distinct = false } in
-    let all : (zs : Weighted) → filtered (keeps None) zs ≡ zs = filtered-all (keeps None) (λ r. refl) in
-    let law = range-same q (λ s. xs) (λ s. ys) (same, tt) in
-    subst (ShapeInRange shape) (all ys) (law.0 (subst (ShapeInRange shape) (sym (all xs)) range))
-
--- a listing of a bag is one of each list with it
-listing-same : (order : Order) (xs ys : Weighted) (rows : List Row) → SameBag xs ys → IsListing order.keys order.limit xs rows → IsListing order.keys order.limit ys rows
-listing-same order xs ys rows same is =
-    let lists = is.1 in
-    (is.0, record { same = same-trans (once_each is.0) xs ys lists.same same; in_order = lists.in_order }, is.2)
+-- WHERE, or nothing, can be worked out where WHERE can
+sized-below : (sizes : List ℕ) (where_is : Option Cond) (below : Bool) → IsConditionSized sizes where_is → IsConditionSized sizes (asked_below below where_is)
+sized-below sizes where_is true can = can
+sized-below sizes where_is false can = λ row sized. tt
 
 -- ---- rows that are lent
 -- the others are the sources of the joins
 links-are : (lents : List StoredSource) (joins : List Join) → AreOf (stored_bags lents) joins (links_with joins (map (λ s. rows_or lents s []) (map (λ j. j.source) joins)))
 links-are lents [] = tt
-links-are lents (j ∷ joins) = (refl, refl, refl, links-are lents joins)
-
--- left joins that have a NULL for each column by the sizes of these fit them
-fit-all : (sizes : Source → List ℕ) (js : List Join) → AllByRecursion (λ j. IsAsWide j.kind (length (sizes j.source))) js → AllZip (λ j wide. IsAsWide j.kind wide) js (map (λ s. length (sizes s)) (map (λ (j : Join). j.source) js))
-fit-all sizes [] all = tt
-fit-all sizes (j ∷ js) all = (all.0, fit-all sizes js all.1)
+links-are lents (j ∷ joins) = (refl, refl, links-are lents joins)
 
 module _ (law : ChainOfLists) (lents : List StoredSource) (q : Query) where
   abbrev pub all_sources : List (List Row)
@@ -201,10 +173,10 @@ module _ (law : ChainOfLists) (lents : List StoredSource) (q : Query) where
   abbrev links : List ChainedSource
   links = links_with q.joins (map (λ s. rows_or lents s []) (map (λ j. j.source) q.joins))
 
-  chained : SameBag (once_each joined) (chain (stored_bags lents) (stored_bags lents q.first) q.joins)
+  chained : once_each joined ≡ chain (stored_bags lents) (stored_bags lents q.first) q.joins
   chained = law.chain (stored_bags lents) (rows_or lents q.first []) q.joins links (links-are lents q.joins)
 
-  kept : SameBag (once_each (kept_of q all_sources)) (joined_rows q (stored_bags lents))
+  kept : once_each (kept_of q all_sources) ≡ joined_rows q (stored_bags lents)
   kept = law.kept q (stored_bags lents) (rows_or lents q.first []) links refl (links-are lents q.joins)
 
   module _ (widths : List ℕ) (can : CanAnswer lents q widths) where
@@ -213,24 +185,20 @@ module _ (law : ChainOfLists) (lents : List StoredSource) (q : Query) where
 
     -- joined rows have the sizes of all columns
     joined_sized : JoinedRowsKeepSizes → JoinedHaveSizes all_sizes q (stored_bags lents)
-    joined_sized law_of_joins = law_of_joins q (stored_bags lents) can.sizes (bags (sources_of q)) (all-weaker _ _ (λ s sized. listed-columns (can.sizes s) (rows_or lents s []) sized) (sources_of q) can.rows) can.joins
+    joined_sized law_of_joins = law_of_joins q (stored_bags lents) can.sizes (bags (sources_of q)) (all-weaker _ _ (λ s sized. listed-columns (can.sizes s) (rows_or lents s []) sized) (sources_of q) can.rows)
       where
         bags : (sources : List Source) → AllByRecursion (λ s. IsBag (stored_bags lents s)) sources
         bags [] = tt
         bags (s ∷ sources) = (once_each-bag (rows_or lents s []), bags sources)
-
-    -- its left joins are as wide as its sources
-    pub joins_fit : JoinsFit q.joins widths
-    joins_fit = subst (JoinsFit q.joins) (sym can.wide) (fit-all can.sizes q.joins can.joins)
 
     -- so the query can be worked out on them
     pub can_select : NarrowIsExact → NarrowIsExactIn → JoinedRowsKeepSizes → GroupsKeepSizes → CanSelect q joined
     can_select at within law_of_joins law_of_groups =
         let sized = joined_sized law_of_joins in
         record {
-          exact = exact_by at within all_sizes q.filter joined can.filter (all-there (HasSizes all_sizes) joined (λ row there. sized.joined row (subst (λ (w : ℤ). pos 0 <ℤ w) (chained.at row) there)));
+          exact = exact_by at within all_sizes q.filter joined can.filter (all-there (HasSizes all_sizes) joined (subst (KeepsColumns all_sizes) (sym chained) sized.joined));
           shape = can_shape at within law_of_groups all_sizes q.shape q.items (kept_rows q joined) can.shown
-              (all-there (HasSizes all_sizes) (kept_rows q joined) (λ row there. sized.kept row (subst (λ (w : ℤ). pos 0 <ℤ w) (kept.at row) there)));
+              (all-there (HasSizes all_sizes) (kept_rows q joined) (subst (KeepsColumns all_sizes) (sym kept) sized.kept));
         }
 
     module _ (plan : Plan) (order : Order) (is : IsPlanOf q order widths plan) where
@@ -244,35 +212,26 @@ module _ (law : ChainOfLists) (lents : List StoredSource) (q : Query) where
       -- and own conditions can be worked out on them
       pub can_ask_each : OwnConditionsAreExact → CanAskEach plan.sources.items all_sources
       can_ask_each law_of_own =
-          can-ask can.sizes lents law_of_own (below_of plan.query.now) [] 0 (rights_of plan.query.now.joins) plan.sources.items (sources_of q) refl is.whole.own wide can.rows
+          can-ask can.sizes lents law_of_own (below_of plan.query.now) [] 0 plan.sources.items (sources_of q) refl is.whole.own wide can.rows
           (subst (λ (p : Query). IsConditionSized all_sizes (below_of p)) (sym is.query) (sized-below all_sizes q.filter (is_joined q) can.filter))
 
   -- ---- the list
   module _ (order : Order) (e : Remaining) (opened : IsOpened q order all_sources e) where
     ranged : IsInRange e → MeaningInRange q (stored_bags lents)
     ranged range =
-        shape-same q.shape (once_each (kept_of q all_sources)) (joined_rows q (stored_bags lents)) kept
+        subst (ShapeInRange q.shape) kept
         (subst (λ (rows : List Row). ShapeInRange q.shape (once_each rows)) opened.kept (subst (λ (p : Query). ShapeInRange p.shape (once_each e.kept)) opened.query range))
 
     unranged : MeaningInRange q (stored_bags lents) → IsInRange e
     unranged range =
         subst (λ (p : Query). ShapeInRange p.shape (once_each e.kept)) (sym opened.query)
-        (subst (λ (rows : List Row). ShapeInRange q.shape (once_each rows)) (sym opened.kept)
-        (shape-same q.shape (joined_rows q (stored_bags lents)) (once_each (kept_of q all_sources)) (same-sym (once_each (kept_of q all_sources)) (joined_rows q (stored_bags lents)) kept) range))
-
-    -- what it shows of the rows that WHERE keeps is what it means
-    meant : SameBag (bag_shown q (kept_of q all_sources)) (meaning q (stored_bags lents))
-    meant =
-        let own = shown q (once_each (kept_of q all_sources)) in
-        let whole = shown q (joined_rows q (stored_bags lents)) in
-        let same = shown-respects q (once_each (kept_of q all_sources)) (joined_rows q (stored_bags lents)) kept in
-        by_test q.distinct (λ d. rw d (distinct-respects own whole same)) (λ d. rw d same)
+        (subst (λ (rows : List Row). ShapeInRange q.shape (once_each rows)) (sym opened.kept) (subst (ShapeInRange q.shape) (sym kept) range))
 
     -- what remains of the query's list is all of it
     pub selects_rest : (rows : List Row) → GivesRest e (Ok rows) → SelectsLent q order lents (Ok rows)
     selects_rest rows rest = (
       subst (λ (list : List Row). IsListing order.keys order.limit (meaning q (stored_bags lents)) list) (sym rest.0)
-          (listing-same order (bag_shown q (kept_of q all_sources)) (meaning q (stored_bags lents)) e.left meant opened.whole),
+          (subst (λ xs. IsListing order.keys order.limit (let all = shown q xs in if q.distinct then distinct all else all) e.left) kept opened.whole),
       ranged rest.2,
     )
 

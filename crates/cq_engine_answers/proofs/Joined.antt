@@ -143,7 +143,6 @@ module _ (tables : List TableOf) (views : List NamedView) where
         can_answer widths wide = record {
           sizes = Sizes;
           wide = wide;
-          joins = can.joins;
           rows = have (λ s rows. AllByRecursion (HasSizes (Sizes s)) rows) (λ s rows are. are.sized);
           filter = can.filter;
           shown = can.shown;

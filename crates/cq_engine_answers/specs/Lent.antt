@@ -9,7 +9,7 @@ use Rattle.cq_model.specs.declared.query.Query.{Query}
 use Rattle.cq_model.specs.declared.query.Source.{Source}
 use Rattle.cq_model.specs.Views.{sources_of}
 use Rattle.cq_operators.specs.Selected.{rows_of_all}
-use Rattle.cq_engine_answers.specs.Narrow.{AreJoinsWide, IsConditionSized, IsShapeSized}
+use Rattle.cq_engine_answers.specs.Narrow.{IsConditionSized, IsShapeSized}
 
 -- these are the rows of each source that FROM names, in its order
 abbrev pub AreInputs : List StoredSource → Query → List Stored → Type 0
@@ -19,11 +19,10 @@ AreInputs lents q inputs = rows_of_all inputs ≡ map (λ s. rows_or lents s [])
 abbrev pub HaveSizes : (Source → List ℕ) → List StoredSource → Source → Type 0
 HaveSizes sizes lents s = AllByRecursion (HasSizes (sizes s)) (rows_or lents s [])
 
--- the columns of each source, so many, as its left joins say too, have sizes with which a query can be worked out on lent rows
+-- the columns of each source, so many, have sizes with which a query can be worked out on lent rows
 pub record CanAnswer (lents : List StoredSource) (q : Query) (widths : List ℕ) : Type 0 where
   pub sizes : Source → List ℕ
   pub wide : widths ≡ map (λ s. length (sizes s)) (sources_of q)
-  pub joins : AreJoinsWide (λ s. length (sizes s)) q
   pub rows : AllByRecursion (HaveSizes sizes lents) (sources_of q)
   pub filter : IsConditionSized (flat_map sizes (sources_of q)) q.filter
   pub shown : IsShapeSized (flat_map sizes (sources_of q)) q.shape q.items

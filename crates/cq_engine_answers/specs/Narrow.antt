@@ -5,7 +5,6 @@ use Rattle.cq_values.specs.Value.{Row}
 use Rattle.cq_model_laws.specs.Sizes.{grouped_sizes}
 use Rattle.cq_model.specs.Sizes.{IsArgumentNarrow, IsSized, column_sizes, stored_sizes}
 use Rattle.cq_model.specs.Expr.{Cond, Expr}
-use Rattle.cq_model.specs.Meaning.{IsAsWide}
 use Rattle.cq_model.specs.declared.query.Aggregate.{Aggregate}
 use Rattle.cq_model.specs.declared.query.Query.{Query}
 use Rattle.cq_model.specs.declared.query.Shape.{Shape}
@@ -50,14 +49,6 @@ source_sizes tables views (View place) = view_sizes (slice_get views place)
 abbrev pub joined_sizes : List TableOf → List ViewOf → Query → List ℕ
 joined_sizes tables views q = flat_map (source_sizes tables views) (sources_of q)
 
--- each left join has a NULL for each column of its source, which has so many
-abbrev pub AreJoinsWide : (Source → ℕ) → Query → Type 0
-AreJoinsWide width q = AllByRecursion (λ j. IsAsWide j.kind (width j.source)) q.joins
-
--- how many columns what a name in FROM stands for has
-abbrev pub source_width : List TableOf → List ViewOf → Source → ℕ
-source_width tables views s = length (source_sizes tables views s)
-
--- and each of these
+-- how many columns each of these has
 abbrev pub source_widths : List TableOf → List ViewOf → List Source → List ℕ
-source_widths tables views sources = map (source_width tables views) sources
+source_widths tables views sources = map (λ s. length (source_sizes tables views s)) sources

@@ -9,7 +9,7 @@ use Rattle.cq_model.specs.declared.query.Source.TheVariants.{Table, View}
 use Rattle.cq_model.specs.Views.{sources_of}
 use Rattle.cq_model_state.specs.State.{IsThere, TableOf, ViewOf}
 use Rattle.cq_engine_tables.specs.Views.{IsPresent, NamedView}
-use Rattle.cq_engine_answers.specs.Narrow.{AreJoinsWide, IsConditionSized, IsShapeSized, joined_sizes, source_width}
+use Rattle.cq_engine_answers.specs.Narrow.{IsConditionSized, IsShapeSized, joined_sizes}
 
 -- what items show of the rows of one source that WHERE keeps
 abbrev pub plain : Source → Option Cond → List Expr → Query
@@ -32,11 +32,9 @@ AreTablesThere tables sources = (views : List ViewOf) × AllByRecursion (IsSourc
 abbrev pub AreViewsThere : List ViewOf → List Source → Type 0
 AreViewsThere views sources = (tables : List TableOf) × AllByRecursion (IsSourceThere tables views) sources
 
--- a query whose sources are there and as wide as its left joins say, and that can be worked out on each row that joins rows of
--- them, and on their groups
+-- a query whose sources are there, and that can be worked out on each row that joins rows of them, and on their groups
 pub record CanRead (tables : List TableOf) (views : List ViewOf) (q : Query) : Type 0 where
   pub there : AllByRecursion (IsSourceThere tables views) (sources_of q)
-  pub joins : AreJoinsWide (source_width tables views) q
   pub filter : IsConditionSized (joined_sizes tables views q) q.filter
   pub shown : IsShapeSized (joined_sizes tables views q) q.shape q.items
 

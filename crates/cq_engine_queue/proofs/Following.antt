@@ -22,7 +22,7 @@ use Rattle.cq_views.proofs.Taking.{only-have}
 use Rattle.cq_views_model.specs.Delta.{changed}
 use Rattle.cq_views_model.specs.Query.{reads}
 use Rattle.cq_views_state.specs.declared.state.Pending.{Pending}
-use Rattle.cq_engine_tables.proofs.Crossed.{countable_few}
+use Rattle.cq_engine_tables.proofs.Crossed.{crossed_few}
 use Rattle.cq_engine_tables.proofs.Rows.{unread}
 use Rattle.cq_engine_tables.specs.Taking.{CountsReady, HasTaken, IsLed, IsReady, IsSame}
 use Rattle.cq_engine_tables.specs.Views.{NamedView}
@@ -31,9 +31,9 @@ use Rattle.cq_engine_queue.proofs.Unread.{others}
 use Rattle.cq_engine_queue.specs.Taking.{CanTakeIn, TakesChange, changes_by}
 
 -- ---- Views that can be made ready
-module _ (tables changes : Tables) (each : (source : Source) → span (tables source) (changes source) ≤ 3 * 2 ^ 30 + 2) where
-  more_spans : (source : Source) (sources : List Source) (m : ℕ) → spans tables changes sources ≤ m → spans tables changes (source ∷ sources) ≤ (3 * 2 ^ 30 + 2) * m
-  more_spans source sources m h = mul-le (span (tables source) (changes source)) (spans tables changes sources) (3 * 2 ^ 30 + 2) m (each source) h
+module _ (tables changes : Tables) (each : (source : Source) → span (tables source) (changes source) ≤ 3 * 2 ^ 30 + 1) where
+  more_spans : (source : Source) (sources : List Source) (m : ℕ) → spans tables changes sources ≤ m → spans tables changes (source ∷ sources) ≤ (3 * 2 ^ 30 + 1) * m
+  more_spans source sources m h = mul-le (span (tables source) (changes source)) (spans tables changes sources) (3 * 2 ^ 30 + 1) m (each source) h
 
   -- at most four sources of few rows are few
   pub spans_few : (sources : List Source) → length sources ≤ 4 → spans tables changes sources < 2 ^ 127
@@ -45,8 +45,8 @@ module _ (tables changes : Tables) (each : (source : Source) → span (tables so
       let two : spans tables changes (b ∷ c ∷ []) ≤ 2 ^ 64 = omega (arith, more_spans b (c ∷ []) (2 ^ 32) last) in
       omega (arith, more_spans a (b ∷ c ∷ []) (2 ^ 64) two)
   spans_few (a ∷ b ∷ c ∷ d ∷ []) h =
-      let last : spans tables changes (d ∷ []) ≤ 3 * 2 ^ 30 + 2 = omega (arith, more_spans d [] 1 (omega arith)) in
-      let two : spans tables changes (c ∷ d ∷ []) ≤ 10 * 2 ^ 60 = omega (arith, more_spans c (d ∷ []) (3 * 2 ^ 30 + 2) last) in
+      let last : spans tables changes (d ∷ []) ≤ 3 * 2 ^ 30 + 1 = omega (arith, more_spans d [] 1 (omega arith)) in
+      let two : spans tables changes (c ∷ d ∷ []) ≤ 10 * 2 ^ 60 = omega (arith, more_spans c (d ∷ []) (3 * 2 ^ 30 + 1) last) in
       let three : spans tables changes (b ∷ c ∷ d ∷ []) ≤ 31 * 2 ^ 90 = omega (arith, more_spans b (c ∷ d ∷ []) (10 * 2 ^ 60) two) in
       omega (arith, more_spans a (b ∷ c ∷ d ∷ []) (31 * 2 ^ 90) three)
   spans_few (a ∷ b ∷ c ∷ d ∷ e ∷ sources) h = absurd (omega (arith, h))
@@ -59,10 +59,10 @@ can-prepare v c can = record {
   stands = can.stands;
   few = spans_few can.tables (changes_by c) small (sources_of v.kept.query) can.fits.few;
   countable = record {
-    before = countable_few can.tables can.held.few can.held.positive (sources_of v.kept.query) can.fits.few;
+    before = crossed_few can.tables can.held.few (sources_of v.kept.query) can.fits.few;
     behind = can.behind;
     same = can.same;
-    after = countable_few can.behind can.few_behind can.positive_behind (sources_of v.kept.query) can.fits.few;
+    after = crossed_few can.behind can.few_behind (sources_of v.kept.query) can.fits.few;
   };
   stored = (
     all-of (λ s. AreStored (can.tables s)) can.held.stored (sources_of v.kept.query),
@@ -70,7 +70,7 @@ can-prepare v c can = record {
   );
 }
   where
-    small : (source : Source) → span (can.tables source) (changes_by c source) ≤ 3 * 2 ^ 30 + 2
+    small : (source : Source) → span (can.tables source) (changes_by c source) ≤ 3 * 2 ^ 30 + 1
     small source = omega (arith, can.held.few source, only-have (λ xs. sizes xs ≤ 2 * rows_limit) (Table c.table) c.rows can.few (omega arith) source)
 
 -- ---- A view that took in what waited

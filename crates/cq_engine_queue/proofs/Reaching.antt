@@ -25,7 +25,6 @@ use Rattle.cq_model_state.specs.Fitting.{rows_limit}
 use Rattle.cq_model_state.specs.State.{IsThere, ChangeOf, State, above, change_of, tables_at}
 use Rattle.cq_model_step_laws.proofs.Pasts.{at-next}
 use Rattle.cq_sides_weights.specs.Held.{sizes}
-use Rattle.cq_deltas_joins.specs.LeftLimits.{ArePositive}
 use Rattle.cq_deltas_joins.specs.Steps.{AreStored}
 use Rattle.cq_views.proofs.Taking.{sizes-once_each}
 use Rattle.cq_model_laws.proofs.Chains.{SameSources}
@@ -34,7 +33,7 @@ use Rattle.cq_views.specs.State.{StandsFor}
 use Rattle.cq_views_model.specs.Delta.{changed, joins_work}
 use Rattle.cq_views_state.specs.Work.{work_of}
 use Rattle.cq_views_state.specs.State.{AreBags}
-use Rattle.cq_engine_tables.proofs.Bags.{positive-once_each, stored-once_each}
+use Rattle.cq_engine_tables.proofs.Bags.{stored-once_each}
 use Rattle.cq_engine_tables.proofs.Wide.{all-widths, columns-wide, once-wide, there-wide, wide-there, width_of}
 use Rattle.cq_engine_tables.specs.Taking.{IsSame}
 use Rattle.cq_engine_tables.specs.Views.{AreWide, Fits, IsRight, IsWide, NamedView, width_at}
@@ -75,16 +74,12 @@ module _ (s : State) (history : IsHistory s) (epoch : ℕ) (low : s.passed ≤ e
   held_few (Table n) = few_once _ (each_has (λ rows. length rows ≤ rows_limit) (omega arith) (λ m wide is. (history.held epoch m wide low high is).few) n (width_at s.tables n) refl)
   held_few (View place) = omega arith
 
-  held_positive : (source : Source) → ArePositive (held source)
-  held_positive (Table n) = positive-once_each _
-  held_positive (View place) = tt
-
   pub held_bags : AreBags held
   held_bags (Table n) = once_each-bag _
   held_bags (View place) = once_each-bag []
 
   pub are_held : AreHeld held
-  are_held = record { stored = held_stored; few = held_few; positive = held_positive; bags = held_bags }
+  are_held = record { stored = held_stored; few = held_few; bags = held_bags }
 
   -- they have the columns of their table
   rows_wide : (n : ℕ) (wide : Option ℕ) (is : width_at s.tables n ≡ wide) → HasWidth (width_of s.tables (Table n)) (once_each (few_rows n wide is))
@@ -218,7 +213,6 @@ module _ (law : StandingDependsOnSources) (q : Queued) (s : State) (of : IsQueue
     behind = next;
     same = sources-there s (λ x. SameBag (next x) (changed old (changes_by c) x)) next-held (sources_of v.kept.query) v.kept.widths right.wide;
     few_behind = (are_held s history (epoch + 1) (omega (arith, right.time.kept)) (omega (arith, before))).few;
-    positive_behind = (are_held s history (epoch + 1) (omega (arith, right.time.kept)) (omega (arith, before))).positive;
     epoch = omega (arith, before, history.range);
   }
 

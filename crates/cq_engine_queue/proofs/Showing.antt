@@ -14,7 +14,7 @@ use Rattle.cq_deltas_joins.specs.Steps.{AreStored}
 use Rattle.cq_views.specs.Laws.{StandingDependsOnSources}
 use Rattle.cq_views.specs.Shown.{CanShow, Suits}
 use Rattle.cq_views.specs.State.{StandsFor}
-use Rattle.cq_engine_tables.proofs.Crossed.{countable_few}
+use Rattle.cq_engine_tables.proofs.Crossed.{crossed_few}
 use Rattle.cq_engine_tables.proofs.Wide.{all-widths, width_of}
 use Rattle.cq_engine_tables.specs.Views.{IsRight, NamedView}
 use Rattle.cq_engine_queue.specs.Counts.{bags_at}
@@ -58,7 +58,7 @@ module _ (law : StandingDependsOnSources) (s : State) (history : IsHistory s) (v
           can = right.fits.can;
           tables = rows;
           stands = suits.stands;
-          countable = countable_few rows there.few there.positive (sources_of q) right.fits.few;
+          few = crossed_few rows there.few (sources_of q) right.fits.few;
           stored = all-of (λ x. AreStored (rows x)) there.stored (sources_of q);
           bags = there.bags;
         };

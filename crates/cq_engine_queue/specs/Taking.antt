@@ -1,7 +1,6 @@
 -- A view that takes a change in.
 use Rattle.std.specs.Prelude.{◌≡◌, ◌+◌, ◌*◌, ◌≤◌, ◌<◌, ◌^◌, true}
 use Rattle.std.specs.List.{AllByRecursion}
-use Rattle.cq_deltas_joins.specs.LeftLimits.{ArePositive}
 use Rattle.cq_deltas_joins.specs.Steps.{AreStored}
 use Rattle.cq_model_bags.specs.Bag.{SameBag}
 use Rattle.cq_model.specs.Views.{sources_of}
@@ -28,11 +27,10 @@ use Rattle.cq_engine_queue.specs.Counts.{CountsFor}
 abbrev pub changes_by : ChangeOf → Tables
 changes_by c = only (Table c.table) c.rows
 
--- tables of stored rows that are there, few enough in each
+-- tables of stored rows, few enough in each
 pub record AreHeld (tables : Tables) : Type 0 where
   pub stored : (source : Source) → AreStored (tables source)
   pub few : (source : Source) → sizes (tables source) ≤ rows_limit
-  pub positive : (source : Source) → ArePositive (tables source)
   pub bags : AreBags tables
 
 -- the view can be kept, and stands for tables that are held before the change and behind it; few stored rows change
@@ -46,7 +44,6 @@ pub record CanTakeIn (v : NamedView) (c : ChangeOf) : Type 0 where
   pub behind : Tables
   pub same : AllByRecursion (λ s. SameBag (behind s) (changed tables (changes_by c) s)) (sources_of v.kept.query)
   pub few_behind : (source : Source) → sizes (behind source) ≤ rows_limit
-  pub positive_behind : (source : Source) → ArePositive (behind source)
   pub epoch : v.kept.state.epoch + 1 < 2 ^ 64
 
 -- the changed tables are bags, if the view reads the one that changes

@@ -1,15 +1,12 @@
 -- The bag that a query means on the bags of its sources (ISO 9075-2, 7.16).
-use Rattle.std.specs.Prelude.{◌≡◌, ℕ, Bool, true, if◌then◌else◌, List, [], ◌∷◌, map, Option, Some, None}
+use Rattle.std.specs.Prelude.{Bool, true, if◌then◌else◌, List, [], ◌∷◌, map, Option, Some, None}
 use Rattle.std.specs.List.{list_all}
 use Rattle.cq_values.specs.Truth.{is_true}
 use Rattle.cq_values.specs.Value.{Row, column}
 use Rattle.cq_model_bags.specs.Bag.{Weighted, filtered, projected, joined, distinct}
-use Rattle.cq_model_bags.specs.Left.{left_joined}
 use Rattle.cq_model.specs.Expr.{Expr, Cond}
 use Rattle.cq_model.specs.declared.query.Equality.{Equality}
 use Rattle.cq_model.specs.declared.query.Join.{Join}
-use Rattle.cq_model.specs.declared.query.JoinKind.{JoinKind}
-use Rattle.cq_model.specs.declared.query.JoinKind.TheVariants.{Inner, Left}
 use Rattle.cq_model.specs.declared.query.Query.{Query}
 use Rattle.cq_model.specs.declared.query.Shape.{Shape}
 use Rattle.cq_model.specs.declared.query.Shape.TheVariants.{Plain, Grouped}
@@ -28,20 +25,10 @@ Tables = Source → Weighted
 abbrev pub meets : List Equality → Row → Row → Bool
 meets on r s = list_all (λ e. is_true (compared Equal (column r e.left) (column s e.right))) on
 
--- the join of two bags by its kind (7.10)
-abbrev pub joined_by : JoinKind → (Row → Row → Bool) → Weighted → Weighted → Weighted
-joined_by Inner on xs ys = joined on xs ys
-joined_by (Left width) on xs ys = left_joined on width xs ys
-
--- a left join has a NULL for each of so many columns
-abbrev pub IsAsWide : JoinKind → ℕ → Type 0
-IsAsWide Inner wide = Unit {0}
-IsAsWide (Left width) wide = width ≡ wide
-
 -- the rows so far, joined with each source that follows (7.10)
 abbrev pub chain : Tables → Weighted → List Join → Weighted
 chain tables xs [] = xs
-chain tables xs (j ∷ js) = chain tables (joined_by j.kind (meets j.on) xs (tables j.source)) js
+chain tables xs (j ∷ js) = chain tables (joined (meets j.on) xs (tables j.source)) js
 
 -- WHERE and HAVING keep what is True, and every row where absent (7.12, 7.14)
 abbrev pub keeps : Option Cond → Row → Bool

@@ -30,7 +30,7 @@ IsNarrowOnStored condition = (row : Row) → IsStored row → IsNarrowIn conditi
 abbrev pub text_limit : ℕ
 text_limit = 4096
 
--- a count is at most so large: four tables have 2^30 rows each
+-- a count is at most so large, as more rows than this have no place in memory
 abbrev pub count_size : ℕ
 count_size = 2 ^ 120
 

@@ -14,5 +14,5 @@ pub use expr::{Cond, CondTree, Expr, ExprTree};
 pub use fault::ShowFault;
 pub use limits::{COUNT_SIZE, MAX_TEXT, STORED_SIZE, TOO_WIDE};
 pub use query::{
-    Aggregate, Equality, Join, JoinKind, Order, Query, Shape, Source, left_columns, right_columns,
+    Aggregate, Equality, Join, Order, Query, Shape, Source, left_columns, right_columns,
 };

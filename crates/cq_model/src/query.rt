@@ -21,18 +21,9 @@ pub struct Equality {
     pub right: usize,
 }
 
-/// How a source is joined to the rows before it: by the pairs that go together alone, or also with each row before it
-/// that goes with none. That row has a NULL in place of each of the source's columns, which are so many.
-#[derive(Clone, Copy, Debug, PartialEq, Eq)]
-pub enum JoinKind {
-    Inner,
-    Left(usize),
-}
-
 /// A source that is joined to those before it.
 #[derive(Debug, Drop)]
 pub struct Join {
-    pub kind: JoinKind,
     pub source: Source,
     pub on: Seq<Equality>,
 }

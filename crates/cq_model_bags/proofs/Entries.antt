@@ -6,13 +6,17 @@ use Rattle.std.proofs.lemmas.Int.{ints}
 use Rattle.cq_values.specs.Value.{Row}
 use Rattle.cq_values.specs.Order.{same_row}
 use Rattle.cq_values.specs.Keys.{same_row-same}
-use Rattle.cq_model_bags.specs.Bag.{Weighted, weight_of, SameBag, IsBag, once_each, projected, weighed, firsts, distinct_rows, distinct, total}
+use Rattle.cq_model_bags.specs.Bag.{Weighted, weight_of, SameBag, IsBag, once_each, projected, firsts, distinct_rows, distinct, total}
 use Rattle.cq_model_bags.proofs.Integers.{mul-distribute-right}
 use Rattle.cq_model_bags.proofs.Totals.{by_test, is_row, weight_of-total, total-respects, total-projected}
 use Rattle.cq_model_bags.proofs.Lists.{all-filter}
 use Rattle.cq_model_bags.proofs.Distincts.{weight_of-distinct}
 
--- rows that a factor weighs weigh the product
+-- rows with the weights that a list gives them
+abbrev pub weighed : (Row → ℤ) → Weighted → Weighted
+weighed w xs = map (λ x. (x.0, x.1 *ℤ w x.0)) xs
+
+-- a row then weighs the product
 pub weight_of-weighed : (w : Row → ℤ) (xs : Weighted) (r : Row) → weight_of (weighed w xs) r ≡ weight_of xs r *ℤ w r
 weight_of-weighed w [] r = sym (zero-*ℤ (w r))
 weight_of-weighed w (x ∷ xs) r = by_test (same_row x.0 r)

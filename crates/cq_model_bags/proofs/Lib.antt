@@ -10,10 +10,6 @@ pub mod Entries
 pub mod Sizes
 pub mod Fewer
 pub mod Positives
-pub mod LeftJoins
-pub mod LeftBags
-pub mod LeftParts
-pub mod LeftMeanings
 pub mod Listings
 pub mod Once
 pub mod Canonicals

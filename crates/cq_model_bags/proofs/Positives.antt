@@ -3,10 +3,10 @@ use Rattle.std.proofs.Common.{ℤ, pos, negsuc, ◌*ℤ◌, ◌≤ℤ◌, ◌<�
 use Rattle.std.proofs.lemmas.Int.{ints}
 use Rattle.cq_values.specs.Value.{Row}
 use Rattle.cq_values.specs.Order.{same_row}
-use Rattle.cq_model_bags.specs.Bag.{Weighted, weight_of, SameBag, IsBag, once_each, filtered, projected, weighed, joined, distinct, distinct_rows, total}
+use Rattle.cq_model_bags.specs.Bag.{Weighted, weight_of, SameBag, IsBag, once_each, filtered, projected, joined, distinct, distinct_rows, total}
 use Rattle.cq_model_bags.proofs.Totals.{by_test, is_row, weight_of-total, weight_of-filtered, total-projected, total-respects}
 use Rattle.cq_model_bags.proofs.Joins.{beside, weight_of-joined}
-use Rattle.cq_model_bags.proofs.Entries.{bag-entries}
+use Rattle.cq_model_bags.proofs.Entries.{weighed, bag-entries}
 
 -- a product of numbers that are not negative
 product-positive : (a b : ℤ) → pos 0 ≤ℤ a → pos 0 ≤ℤ b → pos 0 ≤ℤ (a *ℤ b)

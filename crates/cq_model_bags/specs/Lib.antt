@@ -1,8 +1,6 @@
 pub mod Bag
 pub mod Join
-pub mod Left
 pub mod Size
 pub mod Canonical
 pub mod Listing
 pub mod Laws
-pub mod LeftLaws

@@ -2,7 +2,6 @@
 ghost use Rattle.std.specs.Prelude.{◌≡◌, List, Option, ℕ};
 ghost use Rattle.cq_values.specs.Value.{Row};
 ghost use Rattle.cq_model_bags.specs.Bag.{Weighted};
-ghost use Rattle.cq_model_bags.specs.LeftLaws.{AloneMeans, LeftConditionBelow, LeftJoinLaw, LeftJoinMeans, LeftJoinedWeight, LeftJoinsDependOnBags};
 ghost use Rattle.cq_model_bags.specs.Laws.{DistinctRespects, DistinctWeight, JoinLaw, JoinedWeight, LinearOperators, OneListing, ProjectedWeight, SizesDependOnBag, SumsDependOnBag};
 
 /// A bag has one listing in each order, also cut by LIMIT.
@@ -28,36 +27,6 @@ pub fn join_law()
 /// A pair of rows that go together weighs the product of their weights.
 pub fn joined_weight()
     ensures { JoinedWeight }
-{}
-
-/// Over a bag a row is alone exactly where no row that is there goes with it.
-pub fn alone_means()
-    ensures { AloneMeans }
-{}
-
-/// A pair weighs its parts' product, and a row that goes with no other its own weight.
-pub fn left_joined_weight()
-    ensures { LeftJoinedWeight }
-{}
-
-/// A left join has each pair that goes together, and each row without a partner once with NULLs.
-pub fn left_join_means()
-    ensures { LeftJoinMeans }
-{}
-
-/// The left join of two changed sides is the old one and what the changes add.
-pub fn left_join_law()
-    ensures { LeftJoinLaw }
-{}
-
-/// A left join depends on the bags alone, and of bags it is a bag.
-pub fn left_joins_depend_on_bags()
-    ensures { LeftJoinsDependOnBags }
-{}
-
-/// A condition on the left side may be put below a left join.
-pub fn left_condition_below()
-    ensures { LeftConditionBelow }
 {}
 
 /// An image weighs what the rows that give it weigh together.

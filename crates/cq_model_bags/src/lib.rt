@@ -8,8 +8,7 @@ mod laws;
 mod sort_key;
 
 pub use laws::{
-    alone_means, distinct_respects, distinct_weight, join_law, joined_weight, left_condition_below,
-    left_join_law, left_join_means, left_joined_weight, left_joins_depend_on_bags,
-    linear_operators, one_listing, projected_weight, sizes_depend_on_bag, sums_depend_on_bag,
+    distinct_respects, distinct_weight, join_law, joined_weight, linear_operators, one_listing,
+    projected_weight, sizes_depend_on_bag, sums_depend_on_bag,
 };
 pub use sort_key::SortKey;

@@ -20,11 +20,9 @@ use Rattle.cq_model.specs.declared.query.Aggregate.{Aggregate}
 use Rattle.cq_model.specs.declared.query.Aggregate.TheVariants.{CountAll, Count, CountDistinct, Sum, Min, Max}
 use Rattle.cq_model.specs.declared.query.Equality.{Equality}
 use Rattle.cq_model.specs.declared.query.Join.{Join}
-use Rattle.cq_model.specs.declared.query.JoinKind.{JoinKind}
-use Rattle.cq_model.specs.declared.query.JoinKind.TheVariants.{Inner, Left}
 use Rattle.cq_model.specs.declared.query.Source.{Source}
 use Rattle.cq_model.specs.declared.query.Source.TheVariants.{Table, View}
-use Rattle.cq_model_core.specs.Core.{same_equality, same_join, same_kind}
+use Rattle.cq_model_core.specs.Core.{same_equality, same_join}
 use Rattle.cq_model_core.specs.Same.{same_aggregate, same_comparison, same_cond, same_expr, same_part, same_value}
 
 -- ---- Tests that pass together
@@ -172,24 +170,13 @@ equality_itself e = ap₂ (λ s t. s && t) (eq-eqb e.left e.left refl) (eq-eqb e
 equality_told : (e f : Equality) → Decides (same_equality e f) (e ≡ f)
 equality_told = told same_equality equality_is equality_itself
 
-kind_is : (a b : JoinKind) → same_kind a b ≡ true → a ≡ b
-kind_is Inner Inner h = refl
-kind_is (Left m) (Left n) h = ap Left (eqb-true m n h)
-kind_is Inner (Left n) h = absurd (cc h)
-kind_is (Left m) Inner h = absurd (cc h)
-
-kind_itself : (a : JoinKind) → same_kind a a ≡ true
-kind_itself Inner = refl
-kind_itself (Left n) = eq-eqb n n refl
-
 join_is : (j k : Join) → same_join j k ≡ true → j ≡ k
 join_is j k h =
-    let p = both_true (same_kind j.kind k.kind) _ h in
-    let q = both_true (same_source j.source k.source) _ p.1 in
-    λ i. record { kind = kind_is j.kind k.kind p.0 i; source = source_is j.source k.source q.0 i; on = (pointwise_decides equality_told j.on k.on).0 q.1 i }
+    let p = both_true (same_source j.source k.source) _ h in
+    λ i. record { source = source_is j.source k.source p.0 i; on = (pointwise_decides equality_told j.on k.on).0 p.1 i }
 
 join_itself : (j : Join) → same_join j j ≡ true
-join_itself j = ap₂ (λ s t. s && t) (kind_itself j.kind) (ap₂ (λ s t. s && t) (source_itself j.source) ((pointwise_decides equality_told j.on j.on).1 refl))
+join_itself j = ap₂ (λ s t. s && t) (source_itself j.source) ((pointwise_decides equality_told j.on j.on).1 refl)
 
 pub join_told : (j k : Join) → Decides (same_join j k) (j ≡ k)
 join_told = told same_join join_is join_itself

@@ -2,9 +2,9 @@
 use Rattle.std.proofs.Common.{◌≡◌, ℕ, Bool, List, [], ◌∷◌, Some, refl, sym, ◌∙◌, ap, ap₂, subst}
 use Rattle.std.specs.Prelude.{if◌then◌else◌, map, Option}
 use Rattle.std.specs.List.{AllByRecursion}
-use Rattle.cq_model_bags.specs.Bag.{Weighted, distinct, filtered, projected}
+use Rattle.cq_model_bags.specs.Bag.{Weighted, distinct, filtered, joined, projected}
 use Rattle.cq_model.specs.Expr.{Cond}
-use Rattle.cq_model.specs.Meaning.{MeaningInRange, ShapeInRange, chain, items_of, joined_by, joined_rows, keeps, meaning, meets, shaped, shown}
+use Rattle.cq_model.specs.Meaning.{MeaningInRange, ShapeInRange, chain, items_of, joined_rows, keeps, meaning, meets, shaped, shown}
 use Rattle.cq_model.specs.Views.{SourceInRange, sources_of, tables_alone, view_bag, with_views}
 use Rattle.cq_model.specs.declared.query.Join.{Join}
 use Rattle.cq_model.specs.declared.query.Query.{Query}
@@ -30,8 +30,8 @@ module _ (tables : ℕ → Weighted) (queries : ℕ → Option Query) where
   chain-alone : (xs : Weighted) (js : List Join) → AllByRecursion IsTable (map (λ j. j.source) js) → chain (with_views tables queries) xs js ≡ chain (tables_alone tables) xs js
   chain-alone xs [] all = refl
   chain-alone xs (j ∷ js) all =
-      ap (λ ys. chain (with_views tables queries) (joined_by j.kind (meets j.on) xs ys) js) (table_bag j.source all.0)
-      ∙ chain-alone (joined_by j.kind (meets j.on) xs (tables_alone tables j.source)) js all.1
+      ap (λ ys. chain (with_views tables queries) (joined (meets j.on) xs ys) js) (table_bag j.source all.0)
+      ∙ chain-alone (joined (meets j.on) xs (tables_alone tables j.source)) js all.1
 
   module _ (q view : Query) (core : HasCoreOf q view) (can : CanBeKept view) where
     -- the rows that WHERE keeps are those of the view

@@ -5,15 +5,13 @@ use Rattle.std.specs.Option.{option_eq}
 use Rattle.cq_model.specs.Sources.{same_source}
 use Rattle.cq_model.specs.declared.query.Equality.{Equality}
 use Rattle.cq_model.specs.declared.query.Join.{Join}
-use Rattle.cq_model.specs.declared.query.JoinKind.{JoinKind}
-use Rattle.cq_model.specs.declared.query.JoinKind.TheVariants.{Inner, Left}
 use Rattle.cq_model.specs.declared.query.Query.{Query}
 use Rattle.cq_model.specs.declared.query.Shape.{Shape}
 use Rattle.cq_model.specs.declared.query.Shape.TheVariants.{Plain, Grouped}
 use Rattle.cq_views_model.specs.Query.{HasNoHaving}
 use Rattle.cq_model_core.specs.Same.{same_aggregate, same_cond, same_expr}
 
--- the query has no HAVING, and its sources, joins with their kinds and equalities, WHERE, GROUP BY and items are those of the other
+-- the query has no HAVING, and its sources, ON equalities, WHERE, GROUP BY and items are those of the other
 pub record HasCoreOf (q other : Query) : Type 0 where
   pub first : q.first ≡ other.first
   pub joins : q.joins ≡ other.joins
@@ -27,15 +25,9 @@ pub record HasCoreOf (q other : Query) : Type 0 where
 abbrev pub same_equality : Equality → Equality → Bool
 same_equality e f = e.left == f.left && e.right == f.right
 
--- two kinds of joins
-abbrev pub same_kind : JoinKind → JoinKind → Bool
-same_kind Inner Inner = true
-same_kind (Left m) (Left n) = m == n
-same_kind a b = false
-
 -- two sources that are joined
 abbrev pub same_join : Join → Join → Bool
-same_join j k = same_kind j.kind k.kind && (same_source j.source k.source && pointwise same_equality j.on k.on)
+same_join j k = same_source j.source k.source && pointwise same_equality j.on k.on
 
 -- two shapes without HAVING
 abbrev pub same_shape : Shape → Shape → Bool

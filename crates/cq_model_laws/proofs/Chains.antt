@@ -3,11 +3,12 @@ use Rattle.std.proofs.Common.{List, [], ◌∷◌, ◌++◌, map}
 use Rattle.std.specs.List.{AllByRecursion}
 use Rattle.cq_model.specs.declared.query.Join.{Join}
 use Rattle.cq_model.specs.declared.query.Source.{Source}
-use Rattle.cq_model_bags.specs.Bag.{Weighted, SameBag}
-use Rattle.cq_model.specs.Meaning.{Tables, joined_by, meets, chain}
-use Rattle.cq_views_model.specs.Delta.{SameTables, change_by, chain_change, changed}
+use Rattle.cq_model_bags.specs.Bag.{Weighted, SameBag, joined}
+use Rattle.cq_model.specs.Meaning.{Tables, meets, chain}
+use Rattle.cq_views_model.specs.Delta.{SameTables, chain_change, changed}
+use Rattle.cq_model_bags.specs.Join.{join_change}
 use Rattle.cq_model_bags.proofs.Bags.{same-refl, same-trans}
-use Rattle.cq_model_laws.proofs.JoinKinds.{kind-law, kind-respects}
+use Rattle.cq_model_bags.proofs.Joins.{joined-respects, join-law}
 
 -- these sources have one bag in both
 abbrev pub SameSources : Tables → Tables → List Source → Type 0
@@ -23,8 +24,8 @@ pub chain-same : (tables others : Tables) (xs xs' : Weighted) → SameBag xs xs'
     → SameBag (chain tables xs js) (chain others xs' js)
 chain-same tables others xs xs' s [] h = s
 chain-same tables others xs xs' s (j ∷ js) h =
-    chain-same tables others (joined_by j.kind (meets j.on) xs (tables j.source)) (joined_by j.kind (meets j.on) xs' (others j.source))
-    (kind-respects j.kind (meets j.on) xs xs' (tables j.source) (others j.source) s h.0) js h.1
+    chain-same tables others (joined (meets j.on) xs (tables j.source)) (joined (meets j.on) xs' (others j.source))
+    (joined-respects (meets j.on) xs xs' (tables j.source) (others j.source) s h.0) js h.1
 
 -- and so where each source has one bag in both
 pub chain-respects : (tables others : Tables) → SameTables tables others → (xs xs' : Weighted) → SameBag xs xs' → (js : List Join) → SameBag (chain tables xs js) (chain others xs' js)
@@ -37,9 +38,7 @@ chain-law tables changes xs dxs (j ∷ js) =
     let on = meets j.on in
     let s = tables j.source in
     let ds = changes j.source in
-    let rows = joined_by j.kind on xs s in
-    let more = change_by j.kind on xs dxs s ds in
-    same-trans (chain (changed tables changes) (joined_by j.kind on (xs ++ dxs) (s ++ ds)) js) (chain (changed tables changes) (rows ++ more) js) (chain tables rows js ++ chain_change tables changes rows more js)
+    same-trans (chain (changed tables changes) (joined on (xs ++ dxs) (s ++ ds)) js) (chain (changed tables changes) (joined on xs s ++ join_change on xs dxs s ds) js) (chain tables (joined on xs s) js ++ chain_change tables changes (joined on xs s) (join_change on xs dxs s ds) js)
     (chain-respects (changed tables changes) (changed tables changes) (record { at = λ t. same-refl (changed tables changes t) })
-    (joined_by j.kind on (xs ++ dxs) (s ++ ds)) (rows ++ more) (kind-law j.kind on xs dxs s ds) js)
-    (chain-law tables changes rows more js)
+    (joined on (xs ++ dxs) (s ++ ds)) (joined on xs s ++ join_change on xs dxs s ds) (join-law on xs dxs s ds) js)
+    (chain-law tables changes (joined on xs s) (join_change on xs dxs s ds) js)

@@ -6,26 +6,21 @@ use Rattle.std.proofs.lemmas.List.{append-nil}
 use Rattle.cq_values.specs.Keys.{same_row-same}
 use Rattle.cq_values.specs.Order.{same_row}
 use Rattle.cq_values.specs.Value.{Row}
-use Rattle.cq_model_bags.specs.Bag.{IsBag, Weighted, distinct, distinct_rows, filtered, joined, once_each, total, weighed, weight_of}
-use Rattle.cq_model_bags.proofs.Entries.{ArePositive, bag-entries, distinct_rows-positive}
+use Rattle.cq_model_bags.specs.Bag.{IsBag, Weighted, distinct, distinct_rows, filtered, joined, once_each, total, weight_of}
+use Rattle.cq_model_bags.proofs.Entries.{ArePositive, bag-entries, distinct_rows-positive, weighed}
 use Rattle.cq_model_bags.proofs.Joins.{beside, weight_of-joined}
 use Rattle.cq_model_bags.proofs.Listings.{weight_of-once_each}
-use Rattle.cq_model_bags.proofs.Linears.{weight_of-projected}
-use Rattle.cq_model_bags.proofs.Positives.{filtered-bag, kept-there}
-use Rattle.cq_model_bags.specs.Left.{is_alone, left_joined, nulls, padded}
-use Rattle.cq_model_bags.proofs.Totals.{by_test, is_row, total-respects, weight_of-append}
+use Rattle.cq_model_bags.proofs.Positives.{joined-bag, kept-there}
+use Rattle.cq_model_bags.proofs.Totals.{by_test, is_row, total-respects}
 use Rattle.cq_model.specs.declared.query.Join.{Join}
-use Rattle.cq_model.specs.declared.query.JoinKind.{JoinKind}
-use Rattle.cq_model.specs.declared.query.JoinKind.TheVariants.{Inner, Left}
 use Rattle.cq_model.specs.declared.query.Query.{Query}
 use Rattle.cq_model.specs.declared.query.Source.{Source}
-use Rattle.cq_model.specs.Meaning.{Tables, IsAsWide, chain, joined_by, keeps, meets}
+use Rattle.cq_model.specs.Meaning.{Tables, chain, keeps, meets}
 use Rattle.cq_model.specs.Views.{sources_of}
 use Rattle.cq_model.specs.Width.{limits_of}
 use Rattle.cq_model_laws.specs.Sizes.{HasSizes, JoinedHaveSizes, KeepsColumns}
 use Rattle.cq_model.specs.Sizes.{IsSized}
 use Rattle.cq_model_laws.proofs.Fits.{FitBeside, beside-append, beside-at, row-of}
-use Rattle.cq_model_laws.proofs.JoinKinds.{kind-bag}
 use Rattle.cq_model_laws.proofs.Ranges.{all-at}
 
 -- ---- a sum above zero has a term above zero
@@ -114,39 +109,6 @@ joined-columns on ns ms xs ys b c h k row there =
     let p = parts-of on xs ys b c row there in
     subst (HasSizes (ns ++ ms)) p.whole (append-sizes ns ms p.first p.second (h p.first p.first_there) (k p.second p.second_there))
 
--- NULLs are of each size
-nulls-fit : (ms : List ℕ) → FitBeside (nulls (length ms)) ms
-nulls-fit [] = tt
-nulls-fit (m ∷ ms) = (omega arith, nulls-fit ms)
-
--- rows with NULLs behind them
-padded-columns : (ns ms : List ℕ) (xs : Weighted) → IsBag xs → KeepsColumns ns xs → KeepsColumns (ns ++ ms) (padded (length ms) xs)
-padded-columns ns ms xs b h row there =
-    let blank = nulls (length ms) in
-    let p = bag-term (λ r. is_row row (r ++ blank)) xs b (subst (λ n. pos 0 <ℤ n) (weight_of-projected (λ r. r ++ blank) xs row) there) in
-    let kept = h p.0 p.1 in
-    let same : same_row (p.0 ++ blank) row ≡ true = by_test (same_row (p.0 ++ blank) row) (λ k. k) (λ k. let low = rw k at p.2 in absurd (omega (arith, ints, low))) in
-    subst (HasSizes (ns ++ ms)) (same_row-same (p.0 ++ blank) row same)
-    (sizes-beside (p.0 ++ blank) (ns ++ ms) (beside-append p.0 ns blank ms (beside-sizes p.0 ns kept.values kept.sized) (nulls-fit ms)))
-
--- a left join keeps the sizes that the join keeps
-left_joined-columns : (on : Row → Row → Bool) (ns ms : List ℕ) (xs ys : Weighted) → IsBag xs → KeepsColumns ns xs → KeepsColumns (ns ++ ms) (joined on xs ys) → KeepsColumns (ns ++ ms) (left_joined on (length ms) xs ys)
-left_joined-columns on ns ms xs ys b h both row there =
-    let keep = is_alone on ys in
-    let rows = filtered keep xs in
-    let sum = weight_of-append (joined on xs ys) (padded (length ms) rows) row in
-    let kept : KeepsColumns ns rows = λ r k. h r (kept-there keep xs r k) in
-    by_test (int_lt (pos 0) (weight_of (joined on xs ys) row))
-    (λ t. both row (omega (arith, ints, t)))
-    (λ t. padded-columns ns ms rows (filtered-bag keep xs b) kept row (omega (arith, ints, t, sum, there)))
-
--- a join of either kind
-kind-columns : (kind : JoinKind) (on : Row → Row → Bool) (ns ms : List ℕ) (xs ys : Weighted) → IsAsWide kind (length ms) → IsBag xs → IsBag ys → KeepsColumns ns xs → KeepsColumns ms ys
-    → KeepsColumns (ns ++ ms) (joined_by kind on xs ys)
-kind-columns Inner on ns ms xs ys same b c h k = joined-columns on ns ms xs ys b c h k
-kind-columns (Left width) on ns ms xs ys same b c h k =
-    subst (λ n. KeepsColumns (ns ++ ms) (left_joined on n xs ys)) (sym same) (left_joined-columns on ns ms xs ys b h (joined-columns on ns ms xs ys b c h k))
-
 -- a condition
 pub filtered-columns : (keep : Row → Bool) (sizes : List ℕ) (xs : Weighted) → KeepsColumns sizes xs → KeepsColumns sizes (filtered keep xs)
 filtered-columns keep sizes xs h row there = h row (kept-there keep xs row there)
@@ -155,20 +117,19 @@ module _ (tables : Tables) (sizes : Source → List ℕ) where
   -- a chain
   chain-columns : (ns : List ℕ) (xs : Weighted) → IsBag xs → KeepsColumns ns xs → (js : List Join)
       → AllByRecursion (λ s. IsBag (tables s)) (map (λ (j : Join). j.source) js) → AllByRecursion (λ s. KeepsColumns (sizes s) (tables s)) (map (λ (j : Join). j.source) js)
-      → AllByRecursion (λ j. IsAsWide j.kind (length (sizes j.source))) js
       → KeepsColumns (ns ++ flat_map sizes (map (λ (j : Join). j.source) js)) (chain tables xs js)
-  chain-columns ns xs b h [] bags columns wide = subst (λ ms. KeepsColumns ms xs) (sym (append-nil ns)) h
-  chain-columns ns xs b h (j ∷ js) bags columns wide =
+  chain-columns ns xs b h [] bags columns = subst (λ ms. KeepsColumns ms xs) (sym (append-nil ns)) h
+  chain-columns ns xs b h (j ∷ js) bags columns =
       let source = tables j.source in
       let rest = flat_map sizes (map (λ (k : Join). k.source) js) in
-      subst (λ ms. KeepsColumns ms (chain tables (joined_by j.kind (meets j.on) xs source) js)) (append_assoc ns (sizes j.source) rest)
-      (chain-columns (ns ++ sizes j.source) (joined_by j.kind (meets j.on) xs source) (kind-bag j.kind (meets j.on) xs source b bags.0)
-      (kind-columns j.kind (meets j.on) ns (sizes j.source) xs source wide.0 b bags.0 h columns.0) js bags.1 columns.1 wide.1)
+      subst (λ ms. KeepsColumns ms (chain tables (joined (meets j.on) xs source) js)) (append_assoc ns (sizes j.source) rest)
+      (chain-columns (ns ++ sizes j.source) (joined (meets j.on) xs source) (joined-bag (meets j.on) xs source b bags.0)
+      (joined-columns (meets j.on) ns (sizes j.source) xs source b bags.0 h columns.0) js bags.1 columns.1)
 
 -- the joined rows of a query
 pub joined_have_sizes : (q : Query) (tables : Tables) (sizes : Source → List ℕ) → AllByRecursion (λ s. IsBag (tables s)) (sources_of q)
-    → AllByRecursion (λ s. KeepsColumns (sizes s) (tables s)) (sources_of q) → AllByRecursion (λ j. IsAsWide j.kind (length (sizes j.source))) q.joins → JoinedHaveSizes (flat_map sizes (sources_of q)) q tables
-joined_have_sizes q tables sizes bags columns wide =
+    → AllByRecursion (λ s. KeepsColumns (sizes s) (tables s)) (sources_of q) → JoinedHaveSizes (flat_map sizes (sources_of q)) q tables
+joined_have_sizes q tables sizes bags columns =
     let all = flat_map sizes (sources_of q) in
-    let joined = chain-columns tables sizes (sizes q.first) (tables q.first) bags.0 columns.0 q.joins bags.1 columns.1 wide in
+    let joined = chain-columns tables sizes (sizes q.first) (tables q.first) bags.0 columns.0 q.joins bags.1 columns.1 in
     record { joined = joined; kept = filtered-columns (keeps q.filter) all (chain tables (tables q.first) q.joins) joined }

@@ -1,8 +1,3 @@
-pub mod Nulls
-pub mod Turns
-pub mod Costs
-pub mod JoinWorks
-pub mod JoinKinds
 pub mod Chains
 pub mod DistinctValues
 pub mod Groups
@@ -14,6 +9,7 @@ pub mod Names
 pub mod Own
 pub mod Positives
 pub mod Ranges
+pub mod Works
 pub mod Shown
 pub mod Fits
 pub mod Columns

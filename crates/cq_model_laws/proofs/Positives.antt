@@ -2,10 +2,10 @@
 use Rattle.std.proofs.Common.{ℕ, pos, ◌≤ℤ◌, List, [], ◌∷◌, map, Option, Some, None, sym, subst, arith}
 use Rattle.std.proofs.lemmas.Int.{ints}
 use Rattle.cq_values.specs.Value.{Row}
-use Rattle.cq_model_bags.specs.Bag.{Weighted, IsBag, once_each, distinct_rows}
+use Rattle.cq_model_bags.specs.Bag.{Weighted, IsBag, once_each, joined, distinct_rows}
 use Rattle.cq_model_bags.proofs.Totals.{by_test}
 use Rattle.cq_model_bags.proofs.Listings.{weight_of-once_each}
-use Rattle.cq_model_bags.proofs.Positives.{filtered-bag, projected-bag}
+use Rattle.cq_model_bags.proofs.Positives.{filtered-bag, projected-bag, joined-bag}
 use Rattle.cq_model.specs.declared.query.Aggregate.{Aggregate}
 use Rattle.cq_model.specs.declared.query.Join.{Join}
 use Rattle.cq_model.specs.declared.query.Query.{Query}
@@ -13,8 +13,7 @@ use Rattle.cq_model.specs.declared.query.Shape.{Shape}
 use Rattle.cq_model.specs.declared.query.Shape.TheVariants.{Plain, Grouped}
 use Rattle.cq_model.specs.declared.query.Source.{Source}
 use Rattle.cq_model.specs.Group.{grouped, group_row, rows_of_key, keys_of}
-use Rattle.cq_model.specs.Meaning.{Tables, joined_by, meets, chain, keeps, joined_rows, items_of, shaped, shown, meaning}
-use Rattle.cq_model_laws.proofs.JoinKinds.{kind-bag}
+use Rattle.cq_model.specs.Meaning.{Tables, meets, chain, keeps, joined_rows, items_of, shaped, shown, meaning}
 
 -- rows that stand once each are a bag
 pub once_each-bag : (rows : List Row) → IsBag (once_each rows)
@@ -23,7 +22,7 @@ once_each-bag rows = record { at = λ r. subst (λ n. pos 0 ≤ℤ n) (sym (weig
 -- a chain over bags is a bag
 chain-bag : (tables : Tables) → ((source : Source) → IsBag (tables source)) → (xs : Weighted) → IsBag xs → (js : List Join) → IsBag (chain tables xs js)
 chain-bag tables b xs c [] = c
-chain-bag tables b xs c (j ∷ js) = chain-bag tables b (joined_by j.kind (meets j.on) xs (tables j.source)) (kind-bag j.kind (meets j.on) xs (tables j.source) c (b j.source)) js
+chain-bag tables b xs c (j ∷ js) = chain-bag tables b (joined (meets j.on) xs (tables j.source)) (joined-bag (meets j.on) xs (tables j.source) c (b j.source)) js
 
 -- the joined rows over bags are a bag
 pub joined_rows-bag : (q : Query) (tables : Tables) → ((source : Source) → IsBag (tables source)) → IsBag (joined_rows q tables)

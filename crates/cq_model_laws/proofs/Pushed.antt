@@ -2,16 +2,15 @@
 use Rattle.std.proofs.Common.{◌≡◌, ℕ, ◌+◌, ◌≤◌, Bool, true, false, ◌&&◌, List, [], ◌∷◌, ◌++◌, length, take, drop, refl, sym, ◌∙◌, ap, arith, append_assoc}
 use Rattle.std.proofs.lemmas.List.{append-nil, length-drop, length-take-le, nil_from_length, take-append-drop}
 use Rattle.cq_values.specs.Value.{Row}
-use Rattle.cq_model_bags.specs.Bag.{Weighted, filtered}
+use Rattle.cq_model_bags.specs.Bag.{Weighted, filtered, joined}
 use Rattle.cq_model_bags.specs.Join.{HasWidth}
 use Rattle.cq_model_bags.proofs.Totals.{by_test}
-use Rattle.cq_model_bags.proofs.Widths.{on_parts}
+use Rattle.cq_model_bags.proofs.Widths.{joined-width, on_parts, joined-filtered}
 use Rattle.cq_model.specs.declared.query.Join.{Join}
 use Rattle.cq_model.specs.declared.query.Query.{Query}
 use Rattle.cq_model.specs.declared.query.Source.{Source}
-use Rattle.cq_model.specs.Meaning.{Tables, joined_by, meets, chain, keeps, joined_rows}
-use Rattle.cq_model.specs.Pushed.{Below, DropsNone, Pushed, next, pushed_chain, pushed_rows, HaveWidths, IsImplied, AreImplied, AreBelow}
-use Rattle.cq_model_laws.proofs.JoinKinds.{kind-filtered, kind-width}
+use Rattle.cq_model.specs.Meaning.{Tables, meets, chain, keeps, joined_rows}
+use Rattle.cq_model.specs.Pushed.{Below, Pushed, next, pushed_chain, pushed_rows, HaveWidths, IsImplied, AreImplied, AreBelow}
 
 -- two filters are one of both conditions
 pub filtered-filtered : (keep also : Row → Bool) (xs : Weighted) → filtered also (filtered keep xs) ≡ filtered (λ r. keep r && also r) xs
@@ -55,11 +54,10 @@ both-implied whole keep also then n m i j k = record {
     and-true false = refl
 
 -- the next rows, of rows that pass a condition, are those of all rows that pass both
-pub next-filtered : (tables : Tables) (keep : Row → Bool) (n : ℕ) (xs : Weighted) → HasWidth n xs → (j : Join) (b : Below) → DropsNone j.kind b.source
-    → next tables (filtered keep xs) j b ≡ filtered (both n keep b.source b.joined) (joined_by j.kind (meets j.on) xs (tables j.source))
-next-filtered tables keep n xs w j b all =
-    ap (filtered b.joined) (kind-filtered j.kind (meets j.on) n keep b.source all xs (tables j.source) w)
-    ∙ filtered-filtered (on_parts n keep b.source) b.joined (joined_by j.kind (meets j.on) xs (tables j.source))
+pub next-filtered : (tables : Tables) (keep : Row → Bool) (n : ℕ) (xs : Weighted) → HasWidth n xs → (j : Join) (b : Below)
+    → next tables (filtered keep xs) j b ≡ filtered (both n keep b.source b.joined) (joined (meets j.on) xs (tables j.source))
+next-filtered tables keep n xs w j b =
+    ap (filtered b.joined) (joined-filtered (meets j.on) n keep b.source xs (tables j.source) w) ∙ filtered-filtered (on_parts n keep b.source) b.joined (joined (meets j.on) xs (tables j.source))
 
 -- with conditions at its joins and on its first rows, the chain has the rows that WHERE keeps
 chain-pushed : (width : Source → ℕ) (tables : Tables) → HaveWidths width tables → (whole keep : Row → Bool) (n : ℕ) (xs : Weighted) → HasWidth n xs
@@ -72,9 +70,9 @@ chain-pushed width tables wide whole keep n xs w i (j ∷ js) (b ∷ bs) a =
     let on = meets j.on in
     let rows = tables j.source in
     let m = width j.source in
-    ap (λ ys. filtered whole (pushed_chain tables ys js bs)) (next-filtered tables keep n xs w j b a.1)
-    ∙ chain-pushed width tables wide whole (both n keep b.source b.joined) (n + m) (joined_by j.kind on xs rows) (kind-width j.kind on n m a.0 xs rows w (wide j.source))
-    (both-implied whole keep b.source b.joined n m i a.2 a.3) js bs a.4
+    ap (λ ys. filtered whole (pushed_chain tables ys js bs)) (next-filtered tables keep n xs w j b)
+    ∙ chain-pushed width tables wide whole (both n keep b.source b.joined) (n + m) (joined on xs rows) (joined-width on n m xs rows w (wide j.source))
+    (both-implied whole keep b.source b.joined n m i a.0 a.1) js bs a.2
 
 -- so the query keeps the same joined rows
 pub rows-pushed : (width : Source → ℕ) (q : Query) (p : Pushed) (tables : Tables) → HaveWidths width tables → AreBelow width q p → pushed_rows q p tables ≡ joined_rows q tables

@@ -1,28 +1,22 @@
 -- What holds of queries and of the states that views keep. Each statement is the contract of a function in laws.rt.
-use Rattle.std.specs.Prelude.{◌≡◌, ◌↔◌, ℕ, false, List, ◌∷◌, ◌++◌, Option, Some}
+use Rattle.std.specs.Prelude.{◌≡◌, ◌↔◌, ℕ, List, ◌++◌, Option, Some}
 use Rattle.std.specs.List.{AllByRecursion}
 use Rattle.cq_values.specs.Value.{Row}
 use Rattle.cq_model_bags.specs.Bag.{Weighted, SameBag, IsBag}
-use Rattle.cq_model_bags.specs.Left.{nulls}
 use Rattle.cq_model.specs.Expr.{Expr, Cond}
 use Rattle.cq_model.specs.declared.query.Aggregate.{Aggregate}
 use Rattle.cq_model.specs.declared.query.Aggregate.TheVariants.{Min, Max}
-use Rattle.cq_model.specs.declared.query.Equality.{Equality}
 use Rattle.cq_model.specs.declared.query.Join.{Join}
 use Rattle.cq_model.specs.declared.query.Query.{Query}
 use Rattle.cq_model.specs.declared.query.Source.{Source}
 use Rattle.cq_model.specs.Group.{count_all, count_values, sum_values, aggregate, value_bag, extreme_of, lower, higher, group_row, grouped}
-use Rattle.cq_model.specs.Meaning.{Tables, chain, keeps, meets, joined_rows, shown, meaning, MeaningInRange}
+use Rattle.cq_model.specs.Meaning.{Tables, chain, keeps, joined_rows, shown, meaning, MeaningInRange}
 use Rattle.cq_model.specs.Views.{with_views, AnswerInRange, sources_of}
 use Rattle.cq_views_model.specs.Delta.{SameTables, changed, chain_change, joined_change}
 use Rattle.cq_model.specs.Pushed.{Pushed, pushed_rows, HaveWidths, IsImplied, AreBelow}
 use Rattle.cq_model.specs.Own.{passes_own, AreOwn}
 use Rattle.cq_views_model.specs.Kept.{Kept, IsKept, kept_value, Group, GroupStands, Last, LastStands, shown_row}
 use Rattle.cq_views_model.specs.Shown.{shown_rows, ListsKeys}
-
--- NULLs go with no row, where ON has an equality
-abbrev pub NullsGoWithNone : Type 0
-NullsGoWithNone = (e : Equality) (on : List Equality) (width : ℕ) (r : Row) → meets (e ∷ on) r (nulls width) ≡ false
 
 -- the chain over changed sources is the old chain with its change
 abbrev pub ChainLaw : Type 0

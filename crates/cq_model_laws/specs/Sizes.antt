@@ -7,7 +7,7 @@ use Rattle.cq_model.specs.declared.query.Aggregate.{Aggregate}
 use Rattle.cq_model.specs.declared.query.Query.{Query}
 use Rattle.cq_model.specs.declared.query.Source.{Source}
 use Rattle.cq_model.specs.Group.{SumsInRange, count_all, grouped}
-use Rattle.cq_model.specs.Meaning.{Tables, IsAsWide, chain, joined_rows}
+use Rattle.cq_model.specs.Meaning.{Tables, chain, joined_rows}
 use Rattle.cq_model.specs.Sizes.{IsSized, aggregate_size, count_size}
 use Rattle.cq_model.specs.Views.{sources_of}
 use Rattle.cq_model.specs.Width.{limits_of}
@@ -31,7 +31,7 @@ abbrev pub JoinedRowsKeepSizes : Type 0
 JoinedRowsKeepSizes =
     (q : Query) (tables : Tables) (sizes : Source → List ℕ)
     → AllByRecursion (λ s. IsBag (tables s)) (sources_of q) → AllByRecursion (λ s. KeepsColumns (sizes s) (tables s)) (sources_of q)
-    → AllByRecursion (λ j. IsAsWide j.kind (length (sizes j.source))) q.joins → JoinedHaveSizes (flat_map sizes (sources_of q)) q tables
+    → JoinedHaveSizes (flat_map sizes (sources_of q)) q tables
 
 -- the sizes of a group's row: those of its key's columns, and then of what it shows
 abbrev pub grouped_sizes : List ℕ → Option (List ℕ) → List Aggregate → List ℕ

@@ -1,42 +1,6 @@
 //! What holds of queries and of the states that views keep.
-ghost use Rattle.cq_model_laws.specs.Keyed.{AloneByKeys, KeysWeighTheirRows, NoneKeysAreAlone, PartnersByKey, TurnsByKey, TurnsCost};
-ghost use Rattle.cq_model_laws.specs.Laws.{ChainLaw, ConditionBelowJoins, ExtremesAreCounted, GroupShows, GroupsDependOnBag, JoinedRowsGoOn, KeptShows, LastShows, MeaningDependsOnBags, MeaningDependsOnSources, MeaningIsBag, NullsGoWithNone, OwnConditionsAreImplied, ViewsDependOnBags};
+ghost use Rattle.cq_model_laws.specs.Laws.{ChainLaw, ConditionBelowJoins, ExtremesAreCounted, GroupShows, GroupsDependOnBag, JoinedRowsGoOn, KeptShows, LastShows, MeaningDependsOnBags, MeaningDependsOnSources, MeaningIsBag, OwnConditionsAreImplied, ViewsDependOnBags};
 ghost use Rattle.cq_model_laws.specs.Sizes.{GroupsKeepSizes, JoinedRowsKeepSizes};
-
-/// NULLs equal no value, so that a row that a left join puts them behind is told from each pair.
-pub fn nulls_go_with_none()
-    ensures { NullsGoWithNone }
-{}
-
-/// How often a row goes with one is the weight of its key.
-pub fn partners_by_key()
-    ensures { PartnersByKey }
-{}
-
-/// A row whose key goes with none is alone, whatever comes and goes.
-pub fn none_keys_are_alone()
-    ensures { NoneKeysAreAlone }
-{}
-
-/// A key weighs as much as the rows that a look-up of it finds.
-pub fn keys_weigh_their_rows()
-    ensures { KeysWeighTheirRows }
-{}
-
-/// The rows whose partners turn are found by look-ups of the changed keys.
-pub fn turns_by_key()
-    ensures { TurnsByKey }
-{}
-
-/// These look-ups find as many rows as there are whose partners turn.
-pub fn turns_cost()
-    ensures { TurnsCost }
-{}
-
-/// What changes add to the rows that are alone is worked out by keys and look-ups.
-pub fn alone_by_keys()
-    ensures { AloneByKeys }
-{}
 
 /// A chain of joins over changed sources is the old chain and what the changes add.
 pub fn chain_law()

@@ -6,9 +6,8 @@
 mod laws;
 
 pub use laws::{
-    alone_by_keys, chain_law, condition_below_joins, extremes_are_counted, group_shows,
-    groups_depend_on_bag, groups_keep_sizes, joined_rows_go_on, joined_rows_keep_sizes, kept_shows,
-    keys_weigh_their_rows, last_shows, meaning_depends_on_bags, meaning_depends_on_sources,
-    meaning_is_bag, none_keys_are_alone, nulls_go_with_none, own_conditions_are_implied,
-    partners_by_key, turns_by_key, turns_cost, views_depend_on_bags,
+    chain_law, condition_below_joins, extremes_are_counted, group_shows, groups_depend_on_bag,
+    groups_keep_sizes, joined_rows_go_on, joined_rows_keep_sizes, kept_shows, last_shows,
+    meaning_depends_on_bags, meaning_depends_on_sources, meaning_is_bag,
+    own_conditions_are_implied, views_depend_on_bags,
 };

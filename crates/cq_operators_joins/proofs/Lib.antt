@@ -1,14 +1,11 @@
 pub mod Collecting
-pub mod Finding
 pub mod Going
 pub mod Kept
 pub mod Keyed
 pub mod MetRows
 pub mod Moving
 pub mod Pairing
-pub mod Partnered
 pub mod Passing
 pub mod PlacesThere
 pub mod ShownRows
-pub mod Stretching
 pub mod Widths

@@ -4,6 +4,5 @@ pub mod Linked
 pub mod Listed
 pub mod Meeting
 pub mod Pairs
-pub mod Partners
 pub mod Shown
 pub mod Taking

@@ -1,5 +1,5 @@
 -- WHERE of which each part is one source's own: it keeps each row that is joined of rows which have passed these.
-use Rattle.std.proofs.Common.{◌≡◌, ◌∙◌, ℕ, ◌+◌, ◌⊎◌, inl, inr, Bool, true, false, not, ◌&&◌, ◌||◌, List, [], ◌∷◌, ◌++◌, map, filter, length, Option, Some, None, refl, sym, subst, ap, arith, Vec, Box, Global}
+use Rattle.std.proofs.Common.{◌≡◌, ◌∙◌, ℕ, ◌+◌, ◌⊎◌, inl, inr, Bool, true, false, ◌&&◌, ◌||◌, List, [], ◌∷◌, ◌++◌, map, filter, length, Option, Some, None, refl, sym, subst, ap, arith, Vec, Box, Global}
 use Rattle.std.specs.Prelude.{◌==◌}
 use Rattle.std.specs.List.{AllByRecursion, fold}
 use Rattle.std.specs.Vec.{vec_len}
@@ -13,20 +13,18 @@ use Rattle.cq_model_laws.proofs.Names.{holds-same}
 use Rattle.cq_model_laws.proofs.Own.{column-part}
 use Rattle.cq_model.specs.Condition.{holds}
 use Rattle.cq_model.specs.Expr.{Cond, Compare, IsNull, Between, In, Like, Not, And, Or}
-use Rattle.cq_model.specs.Meaning.{IsAsWide, keeps, meets}
+use Rattle.cq_model.specs.Meaning.{keeps, meets}
 use Rattle.cq_model.specs.Own.{IsPart, whole, before_and, behind_and, in_place, passes_own, tests_only}
 use Rattle.cq_model.specs.Trees.{cond_of}
 use Rattle.cq_model.specs.declared.expr.CondTree.{CondTree}
 use Rattle.cq_model.specs.declared.expr.CondTree.TheViews as cond_view
 use Rattle.cq_model.specs.declared.query.Equality.{Equality}
-use Rattle.cq_model.specs.declared.query.JoinKind.{JoinKind}
-use Rattle.cq_model.specs.declared.query.JoinKind.TheVariants.{Inner, Left}
 use Rattle.cq_plan.proofs.Asked.{some-trees, true-both}
-use Rattle.cq_plan.proofs.Chains.{behind-values, kind-values}
+use Rattle.cq_plan.proofs.Chains.{joined-values}
 use Rattle.cq_plan.proofs.Owned.{part-through}
-use Rattle.cq_plan.specs.Below.{ArePassing, LinksPass, asked_by}
-use Rattle.cq_plan.specs.Chain.{AreAsWide, ChainedSource, HaveValues, behind_row, chain_list, joined_list, left_list, list_by, pairs_with}
-use Rattle.cq_plan.specs.EachOwn.{AreEachOwn, Spread, each_is_of_one, each_names_one, is_of_one, is_right, names_one, spreads}
+use Rattle.cq_plan.specs.Below.{ArePassing, LinksPass}
+use Rattle.cq_plan.specs.Chain.{AreAsWide, ChainedSource, HaveValues, chain_list, joined_list, pairs_with}
+use Rattle.cq_plan.specs.EachOwn.{AreEachOwn, each_is_of_one, each_names_one, is_of_one, names_one}
 use Rattle.cq_plan.specs.Own.{AskAllOwn}
 use Rattle.cq_plan.specs.declared.plans.PlannedSource.{PlannedSource}
 use Rattle.cq_values.specs.Truth.{is_true}
@@ -56,33 +54,29 @@ each-or sources tree first rest is some =
     by_parts (t ∷ ts) some = sym (or-one sources (cond_of first.value) (cond_of t) (map cond_of ts))
 
 -- ---- what holds of rows that are joined
--- such sources, of which the last one ends there
-abbrev Ends : ℕ → List Spread → ℕ → Type 0
+-- sources of these widths, of which the last one ends there
+abbrev Ends : ℕ → List ℕ → ℕ → Type 0
 Ends before [] n = before ≡ n
-Ends before (s ∷ sources) n = Ends (before + s.0) sources n
+Ends before (w ∷ ws) n = Ends (before + w) ws n
 
-ends-more : (before : ℕ) (sources : List Spread) (n : ℕ) (last : Spread) → Ends before sources n → Ends before (sources ++ last ∷ []) (n + last.0)
-ends-more before [] n last e = ap (λ k. k + last.0) e
-ends-more before (s ∷ sources) n last e = ends-more (before + s.0) sources n last e
-
--- whether a condition names this source alone, which is no right side of a left join
-abbrev names_it : ℕ → Spread → Cond → Bool
-names_it n s c = not s.1 && tests_only n s.0 c
+ends-more : (before : ℕ) (widths : List ℕ) (n wide : ℕ) → Ends before widths n → Ends before (widths ++ wide ∷ []) (n + wide)
+ends-more before [] n wide e = ap (λ k. k + wide) e
+ends-more before (w ∷ ws) n wide e = ends-more (before + w) ws n wide e
 
 -- with a source more, one of those before is named or this one
-one-more : (before : ℕ) (sources : List Spread) (n : ℕ) (last : Spread) (c : Cond) → Ends before sources n → names_one before (sources ++ last ∷ []) c ≡ true
-    → (names_one before sources c ≡ true) ⊎ (names_it n last c ≡ true)
-one-more before [] n last c e h = inr (ap (λ k. names_it k last c) (sym e) ∙ alone (names_it before last c) h)
+one-more : (before : ℕ) (widths : List ℕ) (n wide : ℕ) (c : Cond) → Ends before widths n → names_one before (widths ++ wide ∷ []) c ≡ true
+    → (names_one before widths c ≡ true) ⊎ (tests_only n wide c ≡ true)
+one-more before [] n wide c e h = inr (ap (λ k. tests_only k wide c) (sym e) ∙ alone (tests_only before wide c) h)
   where
     alone : (x : Bool) → (x || false) ≡ true → x ≡ true
     alone true e = refl
     alone false e = e
-one-more before (s ∷ sources) n last c e h = by_test (names_it before s c)
-    (λ k. inl (ap (λ x. x || names_one (before + s.0) sources c) k))
-    (λ k. rest k (one-more (before + s.0) sources n last c e (rw k at h)))
+one-more before (w ∷ ws) n wide c e h = by_test (tests_only before w c)
+    (λ k. inl (ap (λ x. x || names_one (before + w) ws c) k))
+    (λ k. rest k (one-more (before + w) ws n wide c e (rw k at h)))
   where
-    rest : names_it before s c ≡ false → (names_one (before + s.0) sources c ≡ true) ⊎ (names_it n last c ≡ true) → (names_one before (s ∷ sources) c ≡ true) ⊎ (names_it n last c ≡ true)
-    rest k (inl m) = inl (ap (λ x. x || names_one (before + s.0) sources c) k ∙ m)
+    rest : tests_only before w c ≡ false → (names_one (before + w) ws c ≡ true) ⊎ (tests_only n wide c ≡ true) → (names_one before (w ∷ ws) c ≡ true) ⊎ (tests_only n wide c ≡ true)
+    rest k (inl m) = inl (ap (λ x. x || names_one (before + w) ws c) k ∙ m)
     rest k (inr m) = inr m
 
 -- what a test keeps passes it
@@ -97,81 +91,52 @@ kept-whole keep (r ∷ rows) all = rw (all.0, kept-whole keep rows all.1) refl
 
 module _ (filter_is : Cond) where
   -- each part that names one of these sources alone is True in the row, whatever stands behind it
-  abbrev Covers : List Spread → Row → Type 0
-  Covers sources r = (part : Cond) (t : Row) → IsPart part filter_is → names_one 0 sources part ≡ true → is_true (holds part (r ++ t)) ≡ true
+  abbrev Covers : List ℕ → Row → Type 0
+  Covers widths r = (part : Cond) (t : Row) → IsPart part filter_is → names_one 0 widths part ≡ true → is_true (holds part (r ++ t)) ≡ true
 
-  module _ (done : List Spread) (n : ℕ) (last : Spread) (cs : List Cond) (ends : Ends 0 done n) (asks : not last.1 ≡ true → AskAllOwn filter_is n last.0 cs) where
-    -- the row of a source passes what is asked of it, if anything is
-    abbrev Passes : Row → Type 0
-    Passes s = not last.1 ≡ true → passes_own n cs s ≡ true
-
-    pair-covers : (r s : Row) → length r ≡ n → length s ≡ last.0 → Covers done r → Passes s → Covers (done ++ last ∷ []) (r ++ s)
-    pair-covers r s e w covers passes part t is named = by_one (one-more 0 done n last part ends named)
+  module _ (done : List ℕ) (n wide : ℕ) (cs : List Cond) (ends : Ends 0 done n) (asks : AskAllOwn filter_is n wide cs) where
+    pair-covers : (r s : Row) → length r ≡ n → length s ≡ wide → Covers done r → passes_own n cs s ≡ true → Covers (done ++ wide ∷ []) (r ++ s)
+    pair-covers r s e w covers passes part t is named = by_one (one-more 0 done n wide part ends named)
       where
-        by_one : (names_one 0 done part ≡ true) ⊎ (names_it n last part ≡ true) → is_true (holds part ((r ++ s) ++ t)) ≡ true
+        by_one : (names_one 0 done part ≡ true) ⊎ (tests_only n wide part ≡ true) → is_true (holds part ((r ++ s) ++ t)) ≡ true
         by_one (inl m) = ap (λ row. is_true (holds part row)) (append_assoc r s t) ∙ covers part (s ++ t) is m
         by_one (inr m) =
-            let both = and_parts (not last.1) (tests_only n last.0 part) m in
-            ap is_true (holds-same n last.0 (r ++ s ++ t) (in_place n s) (column-part n last.0 r s t e w) part both.1) ∙ asks both.0 part s is both.1 (passes both.0)
+            ap is_true (holds-same n wide (r ++ s ++ t) (in_place n s) (column-part n wide r s t e w) part m) ∙ asks part s is m passes
 
-    -- what stands behind one row
-    row-covers : (r : Row) (zs : List Row) → length r ≡ n → Covers done r → HaveValues last.0 zs → AllByRecursion Passes zs → AllByRecursion (Covers (done ++ last ∷ [])) (map (λ s. r ++ s) zs)
-    row-covers r [] e covers v p = tt
-    row-covers r (s ∷ zs) e covers v p = (pair-covers r s e v.0 covers p.0, row-covers r zs e covers v.1 p.1)
+    -- the pairs of a row with those of a source that pass
+    pairs-cover : (on : List Equality) (r : Row) (others : List Row) → length r ≡ n → Covers done r → HaveValues wide others
+        → AllByRecursion (λ s. passes_own n cs s ≡ true) others → AllByRecursion (Covers (done ++ wide ∷ [])) (pairs_with on r others)
+    pairs-cover on r [] e covers v p = tt
+    pairs-cover on r (s ∷ others) e covers v p = by_test (meets on r s)
+        (λ m. rw m (pair-covers r s e v.0 covers p.0, pairs-cover on r others e covers v.1 p.1))
+        (λ m. rw m (pairs-cover on r others e covers v.1 p.1))
 
-    joined-cover : (on : List Equality) (rows others : List Row) → HaveValues n rows → AllByRecursion (Covers done) rows → HaveValues last.0 others
-        → AllByRecursion Passes others → AllByRecursion (Covers (done ++ last ∷ [])) (joined_list on rows others)
+    joined-cover : (on : List Equality) (rows others : List Row) → HaveValues n rows → AllByRecursion (Covers done) rows → HaveValues wide others
+        → AllByRecursion (λ s. passes_own n cs s ≡ true) others → AllByRecursion (Covers (done ++ wide ∷ [])) (joined_list on rows others)
     joined-cover on [] others v all w p = tt
     joined-cover on (r ∷ rows) others v all w p =
-        all-append (Covers (done ++ last ∷ [])) (pairs_with on r others) (joined_list on rows others)
-        (row-covers r (filter (meets on r) others) v.0 all.0 (all-filter (λ s. length s ≡ last.0) (meets on r) others w) (all-filter Passes (meets on r) others p))
-        (joined-cover on rows others v.1 all.1 w p)
-
-    -- of a left join nothing is asked
-    left-cover : last.1 ≡ true → (width : ℕ) (on : List Equality) (rows others : List Row) → width ≡ last.0 → HaveValues n rows → AllByRecursion (Covers done) rows → HaveValues last.0 others
-        → AllByRecursion (Covers (done ++ last ∷ [])) (left_list width on rows others)
-    left-cover right width on [] others same v all w = tt
-    left-cover right width on (r ∷ rows) others same v all w =
-        let zs = behind_row width on r others in
-        all-append (Covers (done ++ last ∷ [])) (map (λ s. r ++ s) zs) (left_list width on rows others)
-        (row-covers r zs v.0 all.0 (behind-values width last.0 on r others same w) (all-so Passes (λ s asked. absurd (let k : false ≡ true = ap not (sym right) ∙ asked in cc)) zs))
-        (left-cover right width on rows others same v.1 all.1 w)
-      where
-        all-so : (P : Row → Type 0) → ((s : Row) → P s) → (ss : List Row) → AllByRecursion P ss
-        all-so P h [] = tt
-        all-so P h (s ∷ ss) = (h s, all-so P h ss)
-
-  -- a join of either kind, with a source whose rows pass what they are asked
-  kind-cover : (kind : JoinKind) (done : List Spread) (n wide : ℕ) (on : List Equality) (rows others passing : List Row) → Ends 0 done n → (pass : ArePassing (asked_by kind (Some filter_is)) n wide others passing)
-      → IsAsWide kind wide → HaveValues n rows → AllByRecursion (Covers done) rows → HaveValues wide passing → AllByRecursion (Covers (done ++ (wide, is_right kind) ∷ [])) (list_by kind on rows passing)
-  kind-cover Inner done n wide on rows others passing ends pass same v all w =
-      joined-cover done n (wide, false) pass.conditions ends (λ asked. pass.all) on rows passing v all w
-      (all-weaker (λ s. passes_own n pass.conditions s ≡ true) (λ s. not false ≡ true → passes_own n pass.conditions s ≡ true) (λ s p asked. p) passing
-      (subst (AllByRecursion (λ s. passes_own n pass.conditions s ≡ true)) (sym pass.are) (kept-pass (passes_own n pass.conditions) others)))
-  kind-cover (Left width) done n wide on rows others passing ends pass same v all w =
-      left-cover done n (wide, true) pass.conditions ends (λ asked. absurd (cc asked)) refl width on rows passing same v all w
+        all-append (Covers (done ++ wide ∷ [])) (pairs_with on r others) (joined_list on rows others)
+        (pairs-cover on r others v.0 all.0 w p) (joined-cover on rows others v.1 all.1 w p)
 
   -- of sources in turn
-  chain-cover : (done : List Spread) (n : ℕ) (widths : List ℕ) (rows : List Row) (links passed : List ChainedSource) → Ends 0 done n → HaveValues n rows → AllByRecursion (Covers done) rows
-      → AreAsWide widths links → LinksPass (Some filter_is) n widths links passed → AllByRecursion (Covers (done ++ spreads widths links)) (chain_list rows passed)
-  chain-cover done n [] rows [] [] ends v all w pass = subst (λ (ds : List Spread). AllByRecursion (Covers ds) rows) (sym (append-nil done)) all
+  chain-cover : (done : List ℕ) (n : ℕ) (widths : List ℕ) (rows : List Row) (links passed : List ChainedSource) → Ends 0 done n → HaveValues n rows → AllByRecursion (Covers done) rows
+      → AreAsWide widths links → LinksPass (Some filter_is) n widths links passed → AllByRecursion (Covers (done ++ widths)) (chain_list rows passed)
+  chain-cover done n [] rows [] [] ends v all w pass = subst (λ (ds : List ℕ). AllByRecursion (Covers ds) rows) (sym (append-nil done)) all
   chain-cover done n [] rows [] (p ∷ ps) ends v all w pass = absurd pass
   chain-cover done n [] rows (link ∷ links) passed ends v all w pass = absurd w
   chain-cover done n (wide ∷ widths) rows [] passed ends v all w pass = absurd w
   chain-cover done n (wide ∷ widths) rows (link ∷ links) [] ends v all w pass = absurd pass
   chain-cover done n (wide ∷ widths) rows (link ∷ links) (p ∷ ps) ends v all w pass =
-      let last : Spread = (wide, is_right link.2) in
-      let wide_ones : HaveValues wide p.1 = subst (HaveValues wide) (sym pass.2.are) (all-filter (λ s. length s ≡ wide) (passes_own n pass.2.conditions) link.1 w.0) in
-      let here = list_by link.2 p.0 rows p.1 in
-      let next = list_by p.2 p.0 rows p.1 in
-      let is : here ≡ next = ap (λ (kind : JoinKind). list_by kind p.0 rows p.1) (sym pass.1) in
-      let wider : HaveValues (n + wide) next = subst (HaveValues (n + wide)) is (kind-values link.2 p.0 n wide rows p.1 w.1 v wide_ones) in
-      let covers : AllByRecursion (Covers (done ++ last ∷ [])) next = subst (AllByRecursion (Covers (done ++ last ∷ []))) is (kind-cover link.2 done n wide p.0 rows link.1 p.1 ends pass.2 w.1 v all wide_ones) in
-      subst (λ (ds : List Spread). AllByRecursion (Covers ds) (chain_list next ps)) (append_assoc done (last ∷ []) (spreads widths links))
-      (chain-cover (done ++ last ∷ []) (n + wide) widths next links ps (ends-more 0 done n last ends) wider covers w.2 pass.3)
+      let cs = pass.1.conditions in
+      let wide_ones : HaveValues wide p.1 = subst (HaveValues wide) (sym pass.1.are) (all-filter (λ s. length s ≡ wide) (passes_own n cs) link.1 w.0) in
+      let passing : AllByRecursion (λ s. passes_own n cs s ≡ true) p.1 = subst (AllByRecursion (λ s. passes_own n cs s ≡ true)) (sym pass.1.are) (kept-pass (passes_own n cs) link.1) in
+      let next = joined_list p.0 rows p.1 in
+      subst (λ (ds : List ℕ). AllByRecursion (Covers ds) (chain_list next ps)) (append_assoc done (wide ∷ []) widths)
+      (chain-cover (done ++ wide ∷ []) (n + wide) widths next links ps (ends-more 0 done n wide ends) (joined-values p.0 n wide rows p.1 v wide_ones)
+      (joined-cover done n wide cs ends pass.1.all p.0 rows p.1 v all wide_ones passing) w.1 pass.2)
 
   -- a condition of such parts is True in the row
-  covered : (widths : List Spread) (r : Row) → Covers widths r → (c : Cond) → IsPart c filter_is → each_names_one widths c ≡ true → is_true (holds c r) ≡ true
+  covered : (widths : List ℕ) (r : Row) → Covers widths r → (c : Cond) → IsPart c filter_is → each_names_one widths c ≡ true → is_true (holds c r) ≡ true
   covered widths r covers c is h = by_form c is h
     where
       alone : (part : Cond) → IsPart part filter_is → names_one 0 widths part ≡ true → is_true (holds part r) ≡ true
@@ -193,19 +158,18 @@ module _ (filter_is : Cond) where
 
 -- WHERE keeps all
 pub owned-all : (where_is : Option Cond) (n : ℕ) (widths : List ℕ) (rows passing : List Row) (links passed : List ChainedSource)
-    → AreEachOwn where_is ((n, false) ∷ spreads widths links) → HaveValues n rows → AreAsWide widths links → ArePassing where_is 0 n rows passing → LinksPass where_is n widths links passed
+    → AreEachOwn where_is (n ∷ widths) → HaveValues n rows → AreAsWide widths links → ArePassing where_is 0 n rows passing → LinksPass where_is n widths links passed
     → filter (keeps where_is) (chain_list passing passed) ≡ chain_list passing passed
 owned-all None n widths rows passing links passed own v w first pass = none-kept (chain_list passing passed)
 owned-all (Some filter_is) n widths rows passing links passed own v w first pass =
     let cs = first.conditions in
-    let front : Spread = (n, false) in
     let wide_ones : HaveValues n passing = subst (HaveValues n) (sym first.are) (all-filter (λ s. length s ≡ n) (passes_own 0 cs) rows v) in
     let kept : AllByRecursion (λ s. passes_own 0 cs s ≡ true) passing = subst (AllByRecursion (λ s. passes_own 0 cs s ≡ true)) (sym first.are) (kept-pass (passes_own 0 cs) rows) in
-    let covers = chain-cover filter_is (front ∷ []) n widths passing links passed (omega arith) wide_ones (firsts passing wide_ones kept) w pass in
+    let covers = chain-cover filter_is (n ∷ []) n widths passing links passed (omega arith) wide_ones (firsts passing wide_ones kept) w pass in
     kept-whole (keeps (Some filter_is)) (chain_list passing passed)
-    (all-weaker (Covers filter_is (front ∷ spreads widths links)) (λ r. keeps (Some filter_is) r ≡ true) (λ r c. covered filter_is (front ∷ spreads widths links) r c filter_is (whole filter_is) own) (chain_list passing passed) covers)
+    (all-weaker (Covers filter_is (n ∷ widths)) (λ r. keeps (Some filter_is) r ≡ true) (λ r c. covered filter_is (n ∷ widths) r c filter_is (whole filter_is) own) (chain_list passing passed) covers)
   where
-    firsts : (some : List Row) → HaveValues n some → AllByRecursion (λ s. passes_own 0 first.conditions s ≡ true) some → AllByRecursion (Covers filter_is ((n, false) ∷ [])) some
+    firsts : (some : List Row) → HaveValues n some → AllByRecursion (λ s. passes_own 0 first.conditions s ≡ true) some → AllByRecursion (Covers filter_is (n ∷ [])) some
     firsts [] v p = tt
     firsts (s ∷ some) v p =
-        (pair-covers filter_is [] 0 (n, false) first.conditions refl (λ asked. first.all) [] s refl v.0 (λ part t is named. absurd (cc named)) (λ asked. p.0), firsts some v.1 p.1)
+        (pair-covers filter_is [] 0 n first.conditions refl first.all [] s refl v.0 (λ part t is named. absurd (cc named)) p.0, firsts some v.1 p.1)

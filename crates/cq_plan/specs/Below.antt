@@ -1,9 +1,7 @@
 -- Sources whose rows pass conditions of WHERE before any join, where these are the source's own.
-use Rattle.std.specs.Prelude.{◌≡◌, ℕ, ◌+◌, List, [], ◌∷◌, Option, None, filter}
+use Rattle.std.specs.Prelude.{◌≡◌, ℕ, ◌+◌, List, [], ◌∷◌, Option, filter}
 use Rattle.cq_model.specs.Own.{passes_own}
 use Rattle.cq_model.specs.Expr.{Cond}
-use Rattle.cq_model.specs.declared.query.JoinKind.{JoinKind}
-use Rattle.cq_model.specs.declared.query.JoinKind.TheVariants.{Inner, Left}
 use Rattle.cq_values.specs.Value.{Row}
 use Rattle.cq_plan.specs.Chain.{AreAsWide, ChainedSource}
 use Rattle.cq_plan.specs.Own.{AreOwnOf, AskAllOwnOf}
@@ -15,17 +13,11 @@ pub record ArePassing (where_is : Option Cond) (before wide : ℕ) (rows passing
   pub all : AskAllOwnOf where_is before wide conditions
   pub are : passing ≡ filter (passes_own before conditions) rows
 
--- the condition whose own parts a source's rows are asked: below a left join nothing, since none of them is dropped there
-abbrev pub asked_by : JoinKind → Option Cond → Option Cond
-asked_by Inner where_is = where_is
-asked_by (Left width) where_is = None
-
--- sources that are joined, each with the rows that pass own conditions, and in the same way
+-- sources that are joined, each with the rows that pass own conditions, and with the same ON
 abbrev pub LinksPass : Option Cond → ℕ → List ℕ → List ChainedSource → List ChainedSource → Type 0
 LinksPass where_is before [] [] [] = Unit {0}
 LinksPass where_is before (wide ∷ widths) (link ∷ links) (passed ∷ others) =
-    (passed.0 ≡ link.0) × (passed.2 ≡ link.2) × ArePassing (asked_by link.2 where_is) before wide link.1 passed.1
-    × LinksPass where_is (before + wide) widths links others
+    (passed.0 ≡ link.0) × ArePassing where_is before wide link.1 passed.1 × LinksPass where_is (before + wide) widths links others
 LinksPass where_is before widths links others = ⊥
 
 -- joined sources of these widths behind so many columns, and the same ones with the rows that pass

@@ -1,15 +1,14 @@
 -- What of WHERE is asked of the rows of each source, and what of the joined rows.
 use Rattle.std.specs.Prelude.{◌==◌, ◌≡◌, ◌&&◌, ℕ, ◌+◌, Bool, false, not, List, [], ◌∷◌, Option, Some, None, if◌then◌else◌, length, map, filter}
-use Rattle.std.specs.List.{AllByRecursion, AllZip}
+use Rattle.std.specs.List.{AllByRecursion}
 use Rattle.cq_values.specs.Value.{Row}
 use Rattle.cq_model.specs.Exact.{AreExactIn}
 use Rattle.cq_model.specs.Expr.{Cond}
-use Rattle.cq_model.specs.Meaning.{IsAsWide}
 use Rattle.cq_model.specs.Own.{in_place, passes_own}
 use Rattle.cq_model.specs.declared.query.Join.{Join}
 use Rattle.cq_model.specs.declared.query.Query.{Query}
 use Rattle.cq_plan.specs.Chain.{ChainedSource, HaveValues, chain_list}
-use Rattle.cq_plan.specs.EachOwn.{Spread, each_is_of_one, is_right}
+use Rattle.cq_plan.specs.EachOwn.{each_is_of_one}
 use Rattle.cq_plan.specs.Own.{AreOwnOf, AskAllOwnOf, conditions_of}
 use Rattle.cq_plan.specs.declared.plans.PlannedSource.{PlannedSource}
 
@@ -21,37 +20,21 @@ asked_below below where_is = if below then where_is else None
 abbrev pub asked_behind : Bool → Option Cond → Option Cond
 asked_behind asks where_is = if asks then where_is else None
 
--- a source stands behind so many columns, and is asked all parts of a condition that are its own; none on the right side of
--- a left join
-pub record IsPlanned (condition : Option Cond) (before : ℕ) (right : Bool) (source : PlannedSource) : Type 0 where
+-- a source stands behind so many columns, and is asked all parts of a condition that are its own
+pub record IsPlanned (condition : Option Cond) (before : ℕ) (source : PlannedSource) : Type 0 where
   pub place : source.before ≡ before
-  pub right_side : source.optional ≡ right
-  pub own : AreOwnOf (asked_below (not right) condition) before source.wide (conditions_of source.own.items)
-  pub all : AskAllOwnOf (asked_below (not right) condition) before source.wide (conditions_of source.own.items)
+  pub own : AreOwnOf condition before source.wide (conditions_of source.own.items)
+  pub all : AskAllOwnOf condition before source.wide (conditions_of source.own.items)
 
--- so it is with each of these sources, of which these are right sides of left joins
-abbrev pub AreAllOwn : Option Cond → ℕ → List Bool → List PlannedSource → Type 0
-AreAllOwn condition before [] [] = Unit {0}
-AreAllOwn condition before (right ∷ rights) (s ∷ ss) = IsPlanned condition before right s × AreAllOwn condition (before + s.wide) rights ss
-AreAllOwn condition before rights ss = ⊥
-
--- which of a query's sources are right sides of left joins
-abbrev pub rights_of : List Join → List Bool
-rights_of joins = false ∷ map (λ j. is_right j.kind) joins
-
--- a left join has a NULL for each of its source's columns
-abbrev pub JoinsFit : List Join → List ℕ → Type 0
-JoinsFit joins [] = Unit {0}
-JoinsFit joins (first ∷ widths) = AllZip (λ j wide. IsAsWide j.kind wide) joins widths
+-- so it is with each of these sources
+abbrev pub AreAllOwn : Option Cond → ℕ → List PlannedSource → Type 0
+AreAllOwn condition before [] = Unit {0}
+AreAllOwn condition before (s ∷ ss) = IsPlanned condition before s × AreAllOwn condition (before + s.wide) ss
 
 -- whether WHERE is asked of the joined rows: there is one, and it is asked below no joins or some part is no source's own
 abbrev pub is_asked_behind : Option Cond → Bool → List PlannedSource → Bool
 is_asked_behind None below sources = false
 is_asked_behind (Some c) below sources = not (below && each_is_of_one sources c)
-
--- the columns of each source, and whether it is the right side of a left join
-abbrev pub spreads_of : List PlannedSource → List Spread
-spreads_of sources = map (λ s. (s.wide, s.optional)) sources
 
 -- the columns of each source
 abbrev pub widths_of : List PlannedSource → List ℕ
@@ -65,12 +48,11 @@ is_joined q = not (length q.joins == 0)
 abbrev pub below_of : Query → Option Cond
 below_of q = asked_below (is_joined q) q.filter
 
--- there is a source for each name in FROM, each is asked all parts of WHERE that are its own before it is joined unless it
--- is the right side of a left join, and WHERE is asked behind the joins where some part is left
+-- there is a source for each name in FROM, each is asked all parts of WHERE that are its own before it is joined, and WHERE
+-- is asked behind the joins where some part is left
 pub record AsksWhere (q : Query) (sources : List PlannedSource) (asks_behind : Bool) : Type 0 where
   pub count : length sources ≡ length q.joins + 1
-  pub fit : JoinsFit q.joins (widths_of sources)
-  pub own : AreAllOwn (below_of q) 0 (rights_of q.joins) sources
+  pub own : AreAllOwn (below_of q) 0 sources
   pub behind : asks_behind ≡ is_asked_behind q.filter (is_joined q) sources
 
 -- ---- Rows
@@ -78,9 +60,9 @@ pub record AsksWhere (q : Query) (sources : List PlannedSource) (asks_behind : B
 abbrev pub passing_of : PlannedSource → List Row → List Row
 passing_of s rows = filter (passes_own s.before (conditions_of s.own.items)) rows
 
--- each source that is joined, with its ON, those of its rows that pass, and its kind
+-- each source that is joined, with its ON and those of its rows that pass
 abbrev pub passing_links : List Join → List PlannedSource → List (List Row) → List ChainedSource
-passing_links (j ∷ js) (s ∷ ss) (rows ∷ others) = (j.on, passing_of s rows, j.kind) ∷ passing_links js ss others
+passing_links (j ∷ js) (s ∷ ss) (rows ∷ others) = (j.on, passing_of s rows) ∷ passing_links js ss others
 passing_links js ss others = []
 
 -- the rows that pass, joined in the order of FROM

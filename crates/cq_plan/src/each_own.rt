@@ -35,12 +35,12 @@ pub(crate) fn each_is_own(tree: &CondTree, sources: &[PlannedSource<'_>]) -> boo
     }
 }
 
-/// Whether the condition names the columns of one source alone, whose rows are asked it.
+/// Whether the condition names the columns of one source alone.
 fn is_own_of_one(tree: &CondTree, sources: &[PlannedSource<'_>]) -> bool
     ensures { result ≡ is_of_one sources.now (cond_of tree.now) }
 {
     for source in sources {
-        if !source.optional && tests_only(tree, source.before, source.wide) {
+        if tests_only(tree, source.before, source.wide) {
             return true;
         }
     }

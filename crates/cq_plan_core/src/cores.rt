@@ -10,7 +10,7 @@ use crate::lists::{same_aggregates, same_items, same_joins, same_source};
 use cq_model::{Cond, Query, Shape};
 use cq_values::Seq;
 
-/// Whether a query has no HAVING, and the sources, joins, WHERE, GROUP BY and items of another one, which is a
+/// Whether a query has no HAVING, and the sources, ON equalities, WHERE, GROUP BY and items of another one, which is a
 /// view's. Names, DISTINCT, ORDER BY and LIMIT play no part. It takes no memory.
 pub fn same_core(query: &Query, view: &Query) -> bool
     ensures { result ≡ has_core query.now view.now }

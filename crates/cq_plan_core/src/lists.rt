@@ -3,11 +3,11 @@ ghost use Rattle.std.specs.Cmp.Lexicographic.{pointwise};
 ghost use Rattle.std.specs.Prelude.{◌≡◌, map};
 ghost use Rattle.cq_model.specs.Sources.{same_source as is_one_source};
 ghost use Rattle.cq_model.specs.Trees.{expr_of};
-ghost use Rattle.cq_model_core.specs.Core.{same_equality, same_join as is_one_join, same_kind as is_one_kind};
+ghost use Rattle.cq_model_core.specs.Core.{same_equality, same_join as is_one_join};
 ghost use Rattle.cq_model_core.specs.Same.{same_aggregate as is_one_aggregate, same_expr as is_one_expr};
 
 use crate::exprs::same_expr;
-use cq_model::{Aggregate, Equality, Expr, ExprTree, Join, JoinKind, Source};
+use cq_model::{Aggregate, Equality, Expr, ExprTree, Join, Source};
 
 /// The choices behind IN.
 pub(crate) fn same_exprs(a: &[ExprTree], b: &[ExprTree]) -> bool
@@ -84,15 +84,7 @@ pub(crate) fn same_joins(a: &[Join], b: &[Join]) -> bool
 fn same_join(a: &Join, b: &Join) -> bool
     ensures { result ≡ is_one_join a.now b.now }
 {
-    same_kind(a.kind, b.kind)
-        && same_source(a.source, b.source)
-        && same_equalities(a.on.as_slice(), b.on.as_slice())
-}
-
-fn same_kind(a: JoinKind, b: JoinKind) -> bool
-    ensures { result ≡ is_one_kind a b }
-{
-    a == b
+    same_source(a.source, b.source) && same_equalities(a.on.as_slice(), b.on.as_slice())
 }
 
 pub(crate) fn same_source(a: Source, b: Source) -> bool

@@ -10,7 +10,7 @@ use Rattle.cq_sql_language.specs.Query.{IsLimit}
 use Rattle.cq_sql_language.specs.Written.{Written}
 use Rattle.cq_sql_expressions.proofs.Conditions.{EndsExpression}
 use Rattle.cq_sql_expressions.proofs.Tight.{joint}
-use Rattle.cq_sql_expressions.specs.Lists.{at_join}
+use Rattle.cq_sql_expressions.specs.Lists.{after_join}
 use Rattle.cq_sql_expressions.specs.Read.{after_keyword, after_symbol}
 use Rattle.cq_sql_expressions.proofs.Exact.{Takes, keyword_takes, symbol_takes}
 use Rattle.cq_sql.specs.Parts.{name_at}
@@ -19,7 +19,6 @@ use Rattle.cq_sql.specs.Parts.{name_at}
 abbrev pub place_of : Keyword → ℕ
 place_of keywords.Join = 1
 place_of keywords.Inner = 1
-place_of keywords.Left = 1
 place_of keywords.Where = 2
 place_of keywords.Group = 3
 place_of keywords.Having = 4
@@ -54,17 +53,15 @@ not_name (tokens.Name name ∷ ts) lt = absurd (omega (arith, lt))
 not_name ts lt = refl
 
 -- nor JOIN from WHERE on
-pub not_join : (ts : List Token) → 1 < place ts → at_join ts ≡ None
+pub not_join : (ts : List Token) → 1 < place ts → after_join ts ≡ None
 not_join (tokens.Keyword keywords.Join ∷ ts) lt = absurd (omega (arith, lt))
 not_join (tokens.Keyword keywords.Inner ∷ ts) lt = absurd (omega (arith, lt))
-not_join (tokens.Keyword keywords.Left ∷ ts) lt = absurd (omega (arith, lt))
 not_join ts lt = refl
 
 -- no word of a clause goes on with an expression
 word_ends : (word : Keyword) → 0 < place_of word → joint (tokens.Keyword word) ≡ 0
 word_ends keywords.Join lt = refl
 word_ends keywords.Inner lt = refl
-word_ends keywords.Left lt = refl
 word_ends keywords.Where lt = refl
 word_ends keywords.Group lt = refl
 word_ends keywords.Having lt = refl

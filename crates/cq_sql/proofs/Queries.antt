@@ -156,12 +156,10 @@ later_reads =
 abbrev IsJoinedOn : List JoinedSource × LaterClauses → List Token → Type 0
 IsJoinedOn x = Each IsJoin x.0 before IsLater x.1
 
--- the words in front of a source that is joined have a place
-join_place : (is_left : Bool) (front more : List Token) → AreJoinWords is_left front → 1 ≤ place (front ++ more)
-join_place false front more (inl h) = rw h (omega arith)
-join_place false front more (inr h) = rw (h.2, h.3) (omega arith)
-join_place true front more (inl h) = rw (h.2, h.3) (omega arith)
-join_place true front more (inr h) = rw (h.2, h.3) (omega arith)
+-- JOIN has a place
+join_place : (front more : List Token) → AreJoinWords front → 1 ≤ place (front ++ more)
+join_place front more (inl h) = rw h (omega arith)
+join_place front more (inr h) = rw (h.2, h.3) (omega arith)
 
 -- joins begin at a place, or what follows them does
 joins_start : (joins : List JoinedSource) (ts rest : List Token) → Each IsJoin joins ts → 1 ≤ place rest → 1 ≤ place (ts ++ rest)
@@ -169,7 +167,7 @@ joins_start [] ts rest h next = rw h next
 joins_start (j ∷ js) ts rest h next =
     let one = h.3 in
     let split : ts ++ rest ≡ one.0 ++ (one.1 ++ (h.1 ++ rest)) = rw (h.2, one.2) (append_assoc (one.0 ++ one.1) h.1 rest ∙ append_assoc one.0 one.1 (h.1 ++ rest)) in
-    subst (λ (us : List Token). 1 ≤ place us) (sym split) (join_place j.is_left one.0 (one.1 ++ (h.1 ++ rest)) one.3)
+    subst (λ (us : List Token). 1 ≤ place us) (sym split) (join_place one.0 (one.1 ++ (h.1 ++ rest)) one.3)
 
 -- behind the first source a clause begins, or nothing is left
 joins_place : (x : List JoinedSource × LaterClauses) (ts rest : List Token) → rest ≡ [] → IsJoinedOn x ts → 1 ≤ place (ts ++ rest)

@@ -46,18 +46,9 @@ source_at = followed_by name_at (λ name. followed_by known_as_at (λ alias. don
 unfoldable pub equality_at : Reader OnEquality
 equality_at = followed_by column_name_at (λ left. behind (after_symbol symbols.Equal) (followed_by column_name_at (λ right. done (record { left = left; right = right }))))
 
--- takes the words in front of a source that is joined: whether LEFT is one of them
-abbrev pub join_words_at : Reader Bool
-join_words_at (tokens.Keyword keywords.Join ∷ ts) = Some (false, ts)
-join_words_at (tokens.Keyword keywords.Inner ∷ tokens.Keyword keywords.Join ∷ ts) = Some (false, ts)
-join_words_at (tokens.Keyword keywords.Left ∷ tokens.Keyword keywords.Join ∷ ts) = Some (true, ts)
-join_words_at (tokens.Keyword keywords.Left ∷ tokens.Keyword keywords.Outer ∷ tokens.Keyword keywords.Join ∷ ts) = Some (true, ts)
-join_words_at ts = None
-
--- takes a source that is joined, and its equalities behind ON
+-- takes what follows JOIN: a source, and its equalities behind ON
 unfoldable pub joined_source_at : Reader JoinedSource
-joined_source_at =
-    followed_by join_words_at (λ is_left. followed_by source_at (λ source. behind (after_keyword keywords.On) (followed_by (list_at leads.And equality_at) (λ on. done (record { is_left = is_left; source = source; on = on })))))
+joined_source_at = followed_by source_at (λ source. behind (after_keyword keywords.On) (followed_by (list_at leads.And equality_at) (λ on. done (record { source = source; on = on }))))
 
 -- takes each source that is joined
 unfoldable pub joins_at : Reader (List JoinedSource)

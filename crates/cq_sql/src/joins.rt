@@ -1,7 +1,7 @@
 //! The sources that are joined, and the equalities that they are joined by.
 ghost use Rattle.std.specs.Prelude.{◌≡◌};
 ghost use Rattle.cq_sql_expressions.specs.Gives.{Gives};
-ghost use Rattle.cq_sql.specs.Queries.{equality_at, join_words_at, joined_source_at, joins_at};
+ghost use Rattle.cq_sql.specs.Queries.{equality_at, joined_source_at, joins_at};
 
 use crate::names::ColumnNames;
 use crate::source::FromSources;
@@ -28,33 +28,7 @@ impl Readable for Equalities {
     }
 }
 
-/// Whether LEFT is one of the words in front of a source that is joined, and the tokens behind these.
-fn join_words_at(tokens: &[Token]) -> Result<(bool, &[Token]), SqlFault>
-    ensures { Gives (λ x. (x.0, x.1.now)) result (join_words_at tokens.now) }
-{
-    match tokens {
-        [Token::Keyword(Keyword::Join), rest @ ..] => Ok((false, rest)),
-        [
-            Token::Keyword(Keyword::Inner),
-            Token::Keyword(Keyword::Join),
-            rest @ ..,
-        ] => Ok((false, rest)),
-        [
-            Token::Keyword(Keyword::Left),
-            Token::Keyword(Keyword::Join),
-            rest @ ..,
-        ] => Ok((true, rest)),
-        [
-            Token::Keyword(Keyword::Left),
-            Token::Keyword(Keyword::Outer),
-            Token::Keyword(Keyword::Join),
-            rest @ ..,
-        ] => Ok((true, rest)),
-        _ => Err(SqlFault::Syntax),
-    }
-}
-
-/// A source that is joined, from its first word on.
+/// What follows JOIN.
 struct JoinedSources;
 
 impl Readable for JoinedSources {
@@ -64,20 +38,14 @@ impl Readable for JoinedSources {
 
     #[tactic(auto, unfolding(crate::specs::Queries::joined_source_at))]
     fn read(alloc: Global, tokens: &[Token]) -> Result<(JoinedSource, &[Token]), SqlFault> {
-        let (is_left, rest) = join_words_at(tokens)?;
-        let (source, rest) = FromSources::read(alloc, rest)?;
+        let (source, rest) = FromSources::read(alloc, tokens)?;
         let rest = expect_keyword(Keyword::On, rest)?;
         let (on, rest) = list_of::<Equalities>(alloc, Lead::And, rest)?;
-        let joined = JoinedSource {
-            is_left,
-            source,
-            on,
-        };
-        Ok((joined, rest))
+        Ok((JoinedSource { source, on }, rest))
     }
 }
 
-/// Each source that is joined, as far as one follows.
+/// Each source that is joined, as far as a JOIN follows.
 #[tactic(auto, unfolding(crate::specs::Queries::joins_at))]
 pub fn joins_at(alloc: Global, tokens: &[Token]) -> Result<(Seq<JoinedSource>, &[Token]), SqlFault>
     ensures { Gives (λ x. (x.0, x.1.now)) result (joins_at tokens.now) }

@@ -1,14 +1,17 @@
 -- Readers that find exactly what a relation says.
-use Rattle.std.proofs.Common.{◌≡◌, ◌<◌, Bool, true, false, List, [], ◌∷◌, ◌++◌, length, Option, Some, None, refl, ap, ◌∙◌, arith}
+use Rattle.std.proofs.Common.{◌≡◌, ◌<◌, Bool, true, false, List, [], ◌∷◌, ◌++◌, length, Option, Some, None, refl, ap, ◌∙◌, arith, inl, inr}
 use Rattle.std.specs.Prelude.{if◌then◌else◌}
 use denote.Enum.Bare.{sameb, same_true, true_same}
 use Rattle.cq_sql_language.specs.contracts.token.Keyword as keyword
 use Rattle.cq_sql_language.specs.contracts.token.Symbol as symbol
 use Rattle.cq_sql_language.specs.declared.token.Keyword.{Keyword}
+use Rattle.cq_sql_language.specs.declared.token.Keyword.TheVariants as keywords
 use Rattle.cq_sql_language.specs.declared.token.Symbol.{Symbol}
 use Rattle.cq_sql_language.specs.declared.token.Token.{Token}
 use Rattle.cq_sql_language.specs.declared.token.Token.TheVariants as tokens
 use Rattle.cq_sql_language.specs.Parts.{IsWord, IsSign}
+use Rattle.cq_sql_language.specs.Query.{AreJoinWords}
+use Rattle.cq_sql_expressions.specs.Lists.{after_join}
 use Rattle.cq_sql_expressions.specs.Read.{◌>>=◌, Reader, after_keyword, after_symbol}
 
 -- ---- What is stated of readers
@@ -96,3 +99,29 @@ word_leads word = token_leads (tokens.Keyword word) (after_keyword word) (keywor
 -- a symbol is taken exactly
 pub sign_leads : (sign : Symbol) → Leads (IsSign sign) (after_symbol sign)
 sign_leads sign = token_leads (tokens.Symbol sign) (after_symbol sign) (symbol_takes sign)
+
+-- JOIN and INNER JOIN are taken exactly
+pub join_leads : Leads AreJoinWords after_join
+join_leads = record { found = found; only = only; some = some } where
+  found : (front rest : List Token) → AreJoinWords front → after_join (front ++ rest) ≡ Some rest
+  found front rest (inl h) = rw h refl
+  found front rest (inr h) = rw (h.2, h.3, h.4) refl
+
+  only : (ts rest : List Token) → after_join ts ≡ Some rest → (front : List Token) × (ts ≡ front ++ rest) × AreJoinWords front
+  only (tokens.Keyword keywords.Join ∷ ts) rest e = (tokens.Keyword keywords.Join ∷ [], rw (the_rest ts rest e) refl, inl refl) where
+    the_rest : (ts rest : List Token) → ◌≡◌ {A = Option (List Token)} (Some ts) (Some rest) → ts ≡ rest
+    the_rest ts rest e = cc
+  only (tokens.Keyword keywords.Inner ∷ tokens.Keyword keywords.Join ∷ ts) rest e = (
+    tokens.Keyword keywords.Inner ∷ tokens.Keyword keywords.Join ∷ [],
+    rw (the_rest ts rest e) refl,
+    inr (tokens.Keyword keywords.Inner ∷ [], tokens.Keyword keywords.Join ∷ [], refl, refl, refl),
+  ) where
+    the_rest : (ts rest : List Token) → ◌≡◌ {A = Option (List Token)} (Some ts) (Some rest) → ts ≡ rest
+    the_rest ts rest e = cc
+  only ts rest e = absurd cc
+
+  some : (front : List Token) → AreJoinWords front → 0 < length front
+  some front (inl h) = omega (arith, ap (λ (ts : List Token). length ts) h)
+  some front (inr h) =
+      let whole : front ≡ tokens.Keyword keywords.Inner ∷ tokens.Keyword keywords.Join ∷ [] = rw (h.2, h.3, h.4) refl in
+      omega (arith, ap (λ (ts : List Token). length ts) whole)

@@ -1,89 +1,82 @@
 -- Lists are read exactly, where their entries are.
-use Rattle.std.proofs.Common.{◌≡◌, ℕ, zero, suc, ◌≤◌, ◌<◌, List, [], ◌∷◌, ◌++◌, length, Option, Some, None, refl, sym, ap, subst, ◌∙◌, append_assoc, arith, length-append}
+use Rattle.std.proofs.Common.{◌≡◌, ℕ, zero, suc, ◌≤◌, List, [], ◌∷◌, ◌++◌, length, Option, Some, None, refl, sym, ap, subst, ◌∙◌, append_assoc, arith, length-append}
 use Rattle.std.proofs.lemmas.List.{append-nil}
 use Rattle.cq_sql_language.specs.declared.token.Keyword.TheVariants as keywords
 use Rattle.cq_sql_language.specs.declared.token.Symbol.TheVariants as symbols
 use Rattle.cq_sql_language.specs.declared.token.Token.{Token}
 use Rattle.cq_sql_language.specs.declared.token.Token.TheVariants as tokens
-use Rattle.cq_sql_language.specs.Parts.{◌before◌, IsSign, IsWord, Each, Separated, SeparatedBy}
+use Rattle.cq_sql_language.specs.Parts.{◌before◌, IsWord, Each, Separated, SeparatedBy}
+use Rattle.cq_sql_language.specs.Query.{AreJoinWords}
 use Rattle.cq_sql_expressions.specs.declared.leads.Lead.{Lead}
 use Rattle.cq_sql_expressions.specs.declared.leads.Lead.TheVariants as leads
 use Rattle.cq_sql_expressions.specs.Read.{Reader, followed_by}
 use Rattle.cq_sql_expressions.specs.Lists.{chain_from, after_lead, led, more_at, list_at, one_more_behind}
 use Rattle.cq_sql_expressions.proofs.Chains.{goes_on, breaks, stops, runs_out}
-use Rattle.cq_sql_expressions.proofs.Exact.{Reads, Leads, bind_some, word_leads, sign_leads}
+use Rattle.cq_sql_expressions.proofs.Exact.{Reads, Leads, bind_some, word_leads, sign_leads, join_leads}
 use Rattle.cq_sql_expressions.proofs.Steps.{by_same}
 use Rattle.std.proofs.lemmas.Option.{some_pair_parts}
+
+-- the tokens of a lead
+abbrev pub IsLead : Lead → List Token → Type 0
+IsLead leads.Comma = λ ts. ts ≡ tokens.Symbol symbols.Comma ∷ []
+IsLead leads.And = IsWord keywords.And
+IsLead leads.Join = AreJoinWords
+
+-- leads are taken exactly
+leads_lead : (lead : Lead) → Leads (IsLead lead) (after_lead lead)
+leads_lead leads.Comma = sign_leads symbols.Comma
+leads_lead leads.And = word_leads keywords.And
+leads_lead leads.Join = join_leads
 
 -- what follows is an end of an entry, and no further lead
 abbrev pub EndsList : Lead → (List Token → Type 0) → List Token → Type 0
 EndsList lead Ends rest = Ends rest × (after_lead lead rest ≡ None)
 
--- an entry, and then further ones that are led
-abbrev pub IsList : {A : Type 0} → (A → List Token → Type 0) → (A → List Token → Type 0) → List A → List Token → Type 0
-IsList Is IsLed [] ts = ⊥
-IsList Is IsLed (x ∷ xs) ts = (Is x before Each IsLed xs) ts
+-- an entry behind its lead
+abbrev pub IsLed : {A : Type 0} → Lead → (A → List Token → Type 0) → A → List Token → Type 0
+IsLed lead Is x = IsLead lead before Is x
 
--- an entry is found exactly, with what leads it, and ends what stands in front of it
-pub record ReadsLed {A : Type 0} (lead : Lead) (Ends : List Token → Type 0) (IsLed : A → List Token → Type 0) (item : Reader A) : Type 0 where
-  pub found : (x : A) (front rest : List Token) → IsLed x front → Ends rest → (us : List Token) × (after_lead lead (front ++ rest) ≡ Some us) × (item us ≡ Some (x, rest))
-  pub only : (x : A) (ts us rest : List Token) → after_lead lead ts ≡ Some us → item us ≡ Some (x, rest) → (front : List Token) × (ts ≡ front ++ rest) × IsLed x front
-  pub some : (x : A) (front : List Token) → IsLed x front → 0 < length front
-  pub ends : (x : A) (front rest : List Token) → IsLed x front → Ends (front ++ rest)
+-- an entry, and then further ones behind their leads
+abbrev pub IsList : {A : Type 0} → Lead → (A → List Token → Type 0) → List A → List Token → Type 0
+IsList lead Is [] ts = ⊥
+IsList lead Is (x ∷ xs) ts = (Is x before Each (IsLed lead Is) xs) ts
 
--- so is one that is read exactly behind a sign or a word
-behind_lead : {A : Type 0} {lead : Lead} {Ends IsLead : List Token → Type 0} {Is : A → List Token → Type 0} {item : Reader A}
-    → Leads IsLead (after_lead lead) → Reads Ends Is item → ((front rest : List Token) → IsLead front → Ends (front ++ rest)) → ReadsLed lead Ends (λ x. IsLead before Is x) item
-behind_lead {A} {lead} {Ends} {IsLead} {Is} {item} takes reads at_lead = record { found = found; only = only; some = some; ends = ends } where
-  found : (x : A) (front rest : List Token) → (IsLead before Is x) front → Ends rest → (us : List Token) × (after_lead lead (front ++ rest) ≡ Some us) × (item us ≡ Some (x, rest))
-  found x front rest h end =
-      let split : front ++ rest ≡ h.0 ++ (h.1 ++ rest) = ap (λ (ts : List Token). ts ++ rest) h.2 ∙ append_assoc h.0 h.1 rest in
-      (h.1 ++ rest, ap (after_lead lead) split ∙ takes.found h.0 (h.1 ++ rest) h.3, reads.found x h.1 rest h.4 end)
-
-  only : (x : A) (ts us rest : List Token) → after_lead lead ts ≡ Some us → item us ≡ Some (x, rest) → (front : List Token) × (ts ≡ front ++ rest) × (IsLead before Is x) front
-  only x ts us rest there read =
-      let l = takes.only ts us there in
-      let o = reads.only x us rest read in
-      (l.0 ++ o.0, l.1 ∙ ap (λ (vs : List Token). l.0 ++ vs) o.1 ∙ sym (append_assoc l.0 o.0 rest), (l.0, o.0, refl, l.2, o.2))
-
-  some : (x : A) (front : List Token) → (IsLead before Is x) front → 0 < length front
-  some x front h = omega (arith, takes.some h.0 h.3, ap (λ (us : List Token). length us) h.2, length-append h.0 h.1)
-
-  ends : (x : A) (front rest : List Token) → (IsLead before Is x) front → Ends (front ++ rest)
-  ends x front rest h =
-      let split : front ++ rest ≡ h.0 ++ (h.1 ++ rest) = ap (λ (ts : List Token). ts ++ rest) h.2 ∙ append_assoc h.0 h.1 rest in
-      subst Ends (sym split) (at_lead h.0 (h.1 ++ rest) h.3)
-
--- entries that are found exactly
-module _ {A : Type 0} (lead : Lead) (Ends : List Token → Type 0) (IsLed : A → List Token → Type 0) (item : Reader A) (reads : ReadsLed lead Ends IsLed item) where
+-- an entry that is read exactly, and may end at the lead of the next
+module _ {A : Type 0} (lead : Lead) (Ends : List Token → Type 0) (Is : A → List Token → Type 0) (item : Reader A) (reads : Reads Ends Is item) (at_lead : (front rest : List Token) → IsLead lead front → Ends (front ++ rest)) where
   -- at most as many entries as tokens
-  entries : (xs : List A) (ts : List Token) → Each IsLed xs ts → length xs ≤ length ts
+  entries : (xs : List A) (ts : List Token) → Each (IsLed lead Is) xs ts → length xs ≤ length ts
   entries [] ts h = omega arith
-  entries (x ∷ xs) ts h = omega (arith, entries xs h.1 h.4, reads.some x h.0 h.3, ap (λ (us : List Token). length us) h.2, length-append h.0 h.1)
+  entries (x ∷ xs) ts h =
+      let one = h.3 in
+      let takes = leads_lead lead in
+      omega (arith, entries xs h.1 h.4, takes.some one.0 one.3, ap (λ (us : List Token). length us) h.2, length-append h.0 h.1, ap (λ (us : List Token). length us) one.2, length-append one.0 one.1)
 
-  -- what follows an entry ends it: a further entry, or what ends the list
-  ends_entry : (xs : List A) (ts rest : List Token) → Each IsLed xs ts → EndsList lead Ends rest → Ends (ts ++ rest)
+  -- what follows an entry ends it: a further lead, or what ends the list
+  ends_entry : (xs : List A) (ts rest : List Token) → Each (IsLed lead Is) xs ts → EndsList lead Ends rest → Ends (ts ++ rest)
   ends_entry [] ts rest h end = rw h end.0
   ends_entry (x ∷ xs) ts rest h end =
-      let split : ts ++ rest ≡ h.0 ++ (h.1 ++ rest) = ap (λ (us : List Token). us ++ rest) h.2 ∙ append_assoc h.0 h.1 rest in
-      subst Ends (sym split) (reads.ends x h.0 (h.1 ++ rest) h.3)
+      let one = h.3 in
+      let split : ts ++ rest ≡ one.0 ++ (one.1 ++ (h.1 ++ rest)) = rw (h.2, one.2) (append_assoc (one.0 ++ one.1) h.1 rest ∙ append_assoc one.0 one.1 (h.1 ++ rest)) in
+      subst Ends (sym split) (at_lead one.0 (one.1 ++ (h.1 ++ rest)) one.3)
 
   -- further entries are found in as many turns as there are
-  led_found : (n : ℕ) (earlier xs : List A) (ts rest : List Token) → length xs ≤ n → Each IsLed xs ts → EndsList lead Ends rest → chain_from (led lead item) n earlier (ts ++ rest) ≡ Some (earlier ++ xs, rest)
+  led_found : (n : ℕ) (earlier xs : List A) (ts rest : List Token) → length xs ≤ n → Each (IsLed lead Is) xs ts → EndsList lead Ends rest → chain_from (led lead item) n earlier (ts ++ rest) ≡ Some (earlier ++ xs, rest)
   unfolding one_more_behind
   led_found n earlier [] ts rest le h end =
       let step : led lead item earlier rest ≡ None = rw end.1 refl in
       rw h (stops (led lead item) n earlier rest step ∙ ap (λ (xs : List A). Some (xs, rest)) (sym (append-nil earlier)))
   led_found zero earlier (x ∷ xs) ts rest le h end = absurd (omega arith)
   led_found (suc n) earlier (x ∷ xs) ts rest le h end =
-      let split : ts ++ rest ≡ h.0 ++ (h.1 ++ rest) = ap (λ (us : List Token). us ++ rest) h.2 ∙ append_assoc h.0 h.1 rest in
-      let f = reads.found x h.0 (h.1 ++ rest) h.3 (ends_entry xs h.1 rest h.4 end) in
-      let step : led lead item earlier (ts ++ rest) ≡ Some (Some (earlier ++ x ∷ [], h.1 ++ rest)) = rw (split, f.1, f.2) refl in
+      let one = h.3 in
+      let takes = leads_lead lead in
+      let split : ts ++ rest ≡ one.0 ++ (one.1 ++ (h.1 ++ rest)) = rw (h.2, one.2) (append_assoc (one.0 ++ one.1) h.1 rest ∙ append_assoc one.0 one.1 (h.1 ++ rest)) in
+      let step : led lead item earlier (ts ++ rest) ≡ Some (Some (earlier ++ x ∷ [], h.1 ++ rest))
+      = rw (split, takes.found one.0 (one.1 ++ (h.1 ++ rest)) one.3, reads.found x one.1 (h.1 ++ rest) one.4 (ends_entry xs h.1 rest h.4 end)) refl in
       goes_on (led lead item) n earlier (earlier ++ x ∷ []) (ts ++ rest) (h.1 ++ rest) step ∙ led_found n (earlier ++ x ∷ []) xs h.1 rest (omega arith) h.4 end ∙ ap (λ (ys : List A). Some (ys, rest)) (append_assoc earlier (x ∷ []) xs)
 
-  -- what was read behind other entries are entries with what leads them
+  -- what was read behind other entries are entries behind their leads
   abbrev AreLed : List A → List Token → List A → List Token → Type 0
-  AreLed earlier ts all rest = (xs : List A) × (front : List Token) × (earlier ++ xs ≡ all) × (ts ≡ front ++ rest) × Each IsLed xs front
+  AreLed earlier ts all rest = (xs : List A) × (front : List Token) × (earlier ++ xs ≡ all) × (ts ≡ front ++ rest) × Each (IsLed lead Is) xs front
 
   -- no further entry was read
   no_more : (earlier all : List A) (ts rest : List Token) → ◌≡◌ {A = Option (List A × List Token)} (Some (earlier, ts)) (Some (all, rest)) → AreLed earlier ts all rest
@@ -100,13 +93,15 @@ module _ {A : Type 0} (lead : Lead) (Ends : List Token → Type 0) (IsLed : A �
       let bad : ◌≡◌ {A = Option (List A × List Token)} None (Some (all, rest)) = sym (breaks (led lead item) n earlier ts step) ∙ e in
       absurd (cc bad)
   one_more n earlier all ts us rest (Some (x, vs)) is there e again =
+      let takes = leads_lead lead in
       let step : led lead item earlier ts ≡ Some (Some (earlier ++ x ∷ [], vs)) = rw (there, is) refl in
-      let o = reads.only x ts us vs there is in
+      let l = takes.only ts us there in
+      let o = reads.only x us vs is in
       let m = again (earlier ++ x ∷ []) vs (sym (goes_on (led lead item) n earlier (earlier ++ x ∷ []) ts vs step) ∙ e) in
-      let split : ts ≡ (o.0 ++ m.1) ++ rest = o.1 ∙ ap (λ (qs : List Token). o.0 ++ qs) m.3 ∙ sym (append_assoc o.0 m.1 rest) in
-      (x ∷ m.0, o.0 ++ m.1, sym (append_assoc earlier (x ∷ []) m.0) ∙ m.2, split, (o.0, m.1, refl, o.2, m.4))
+      let split : ts ≡ ((l.0 ++ o.0) ++ m.1) ++ rest = l.1 ∙ ap (λ (qs : List Token). l.0 ++ qs) (o.1 ∙ ap (λ (qs : List Token). o.0 ++ qs) m.3) ∙ sym (append_assoc (l.0 ++ o.0) m.1 rest ∙ append_assoc l.0 o.0 (m.1 ++ rest)) in
+      (x ∷ m.0, (l.0 ++ o.0) ++ m.1, sym (append_assoc earlier (x ∷ []) m.0) ∙ m.2, split, (l.0 ++ o.0, m.1, refl, (l.0, o.0, refl, l.2, o.2), m.4))
 
-  -- with or without a lead, entries with their leads were read
+  -- with or without a lead, entries behind their leads were read
   by_lead : (n : ℕ) (earlier all : List A) (ts rest : List Token) (after : Option (List Token)) → after_lead lead ts ≡ after → chain_from (led lead item) (suc n) earlier ts ≡ Some (all, rest)
       → ((ys : List A) (vs : List Token) → chain_from (led lead item) n ys vs ≡ Some (all, rest) → AreLed ys vs all rest) → AreLed earlier ts all rest
   unfolding one_more_behind
@@ -115,39 +110,39 @@ module _ {A : Type 0} (lead : Lead) (Ends : List Token → Type 0) (IsLed : A �
       no_more earlier all ts rest (sym (stops (led lead item) (suc n) earlier ts step) ∙ e)
   by_lead n earlier all ts rest (Some us) there e again = one_more n earlier all ts us rest (item us) refl there e again
 
-  -- what is read in some turns are entries with their leads
+  -- what is read in some turns are entries behind their leads
   led_only : (n : ℕ) (earlier all : List A) (ts rest : List Token) → chain_from (led lead item) n earlier ts ≡ Some (all, rest) → AreLed earlier ts all rest
   led_only zero earlier all ts rest e = no_more earlier all ts rest (sym (runs_out (led lead item) zero earlier ts refl) ∙ e)
   led_only (suc n) earlier all ts rest e = by_lead n earlier all ts rest (after_lead lead ts) refl e (λ ys vs h. led_only n ys all vs rest h)
 
   -- further entries are read exactly
-  pub more_reads : Reads (EndsList lead Ends) (Each IsLed) (more_at lead item [])
+  pub more_reads : Reads (EndsList lead Ends) (Each (IsLed lead Is)) (more_at lead item [])
   unfolding more_at
   more_reads = record { found = found; only = only } where
-    found : (xs : List A) (front rest : List Token) → Each IsLed xs front → EndsList lead Ends rest → chain_from (led lead item) (length (front ++ rest)) [] (front ++ rest) ≡ Some (xs, rest)
+    found : (xs : List A) (front rest : List Token) → Each (IsLed lead Is) xs front → EndsList lead Ends rest → chain_from (led lead item) (length (front ++ rest)) [] (front ++ rest) ≡ Some (xs, rest)
     found xs front rest h end = led_found (length (front ++ rest)) [] xs front rest (omega (arith, entries xs front h, length-append front rest)) h end
 
-    only : (xs : List A) (ts rest : List Token) → chain_from (led lead item) (length ts) [] ts ≡ Some (xs, rest) → (front : List Token) × (ts ≡ front ++ rest) × Each IsLed xs front
+    only : (xs : List A) (ts rest : List Token) → chain_from (led lead item) (length ts) [] ts ≡ Some (xs, rest) → (front : List Token) × (ts ≡ front ++ rest) × Each (IsLed lead Is) xs front
     only xs ts rest e =
         let o = led_only (length ts) [] xs ts rest e in
-        (o.1, o.3, subst (λ (ys : List A). Each IsLed ys o.1) o.2 o.4)
+        (o.1, o.3, subst (λ (ys : List A). Each (IsLed lead Is) ys o.1) o.2 o.4)
 
   -- a first entry and further ones are read exactly
-  pub list_reads : {Is : A → List Token → Type 0} → Reads Ends Is item → Reads (EndsList lead Ends) (IsList Is IsLed) (list_at lead item)
+  pub list_reads : Reads (EndsList lead Ends) (IsList lead Is) (list_at lead item)
   unfolding list_at more_at
-  list_reads {Is} first = record { found = found; only = only } where
-    found : (xs : List A) (front rest : List Token) → IsList Is IsLed xs front → EndsList lead Ends rest → followed_by item (λ x. more_at lead item (x ∷ [])) (front ++ rest) ≡ Some (xs, rest)
+  list_reads = record { found = found; only = only } where
+    found : (xs : List A) (front rest : List Token) → IsList lead Is xs front → EndsList lead Ends rest → followed_by item (λ x. more_at lead item (x ∷ [])) (front ++ rest) ≡ Some (xs, rest)
     found [] front rest h end = absurd h
     found (x ∷ xs) front rest h end =
         let split : front ++ rest ≡ h.0 ++ (h.1 ++ rest) = ap (λ (ts : List Token). ts ++ rest) h.2 ∙ append_assoc h.0 h.1 rest in
-        rw (split, first.found x h.0 (h.1 ++ rest) h.3 (ends_entry xs h.1 rest h.4 end)) (led_found (length (h.1 ++ rest)) (x ∷ []) xs h.1 rest (omega (arith, entries xs h.1 h.4, length-append h.1 rest)) h.4 end)
+        rw (split, reads.found x h.0 (h.1 ++ rest) h.3 (ends_entry xs h.1 rest h.4 end)) (led_found (length (h.1 ++ rest)) (x ∷ []) xs h.1 rest (omega (arith, entries xs h.1 h.4, length-append h.1 rest)) h.4 end)
 
-    only : (xs : List A) (ts rest : List Token) → followed_by item (λ x. more_at lead item (x ∷ [])) ts ≡ Some (xs, rest) → (front : List Token) × (ts ≡ front ++ rest) × IsList Is IsLed xs front
+    only : (xs : List A) (ts rest : List Token) → followed_by item (λ x. more_at lead item (x ∷ [])) ts ≡ Some (xs, rest) → (front : List Token) × (ts ≡ front ++ rest) × IsList lead Is xs front
     only xs ts rest e =
         let b = bind_some (item ts) (λ r. more_at lead item (r.0 ∷ []) r.1) (xs, rest) e in
-        let a = first.only b.0.0 ts b.0.1 b.1 in
+        let a = reads.only b.0.0 ts b.0.1 b.1 in
         let o = led_only (length b.0.1) (b.0.0 ∷ []) xs b.0.1 rest b.2 in
-        (a.0 ++ o.1, a.1 ∙ ap (λ (us : List Token). a.0 ++ us) o.3 ∙ sym (append_assoc a.0 o.1 rest), subst (λ (ys : List A). IsList Is IsLed ys (a.0 ++ o.1)) o.2 (a.0, o.1, refl, a.2, o.4))
+        (a.0 ++ o.1, a.1 ∙ ap (λ (us : List Token). a.0 ++ us) o.3 ∙ sym (append_assoc a.0 o.1 rest), subst (λ (ys : List A). IsList lead Is ys (a.0 ++ o.1)) o.2 (a.0, o.1, refl, a.2, o.4))
 
 -- ---- Separated lists
 -- entries behind links are entries in front of which a link stands
@@ -184,10 +179,10 @@ module _ {A : Type 0} (link : Token) (Is : A → List Token → Type 0) where
 pub comma_reads : {A : Type 0} {Ends : List Token → Type 0} {Is : A → List Token → Type 0} {item : Reader A} → Reads Ends Is item → ((ts : List Token) → Ends (tokens.Symbol symbols.Comma ∷ ts))
     → Reads (EndsList leads.Comma Ends) (Separated Is) (list_at leads.Comma item)
 comma_reads {A} {Ends} {Is} {item} reads at_comma =
-    by_same (list_reads leads.Comma Ends (λ x. IsSign symbols.Comma before Is x) item (behind_lead (sign_leads symbols.Comma) reads (λ front rest h. rw h (at_comma rest))) reads) (linked (tokens.Symbol symbols.Comma) Is) (separated (tokens.Symbol symbols.Comma) Is)
+    by_same (list_reads leads.Comma Ends Is item reads (λ front rest h. rw h (at_comma rest))) (linked (tokens.Symbol symbols.Comma) Is) (separated (tokens.Symbol symbols.Comma) Is)
 
 -- lists with AND are read exactly
 pub and_reads : {A : Type 0} {Ends : List Token → Type 0} {Is : A → List Token → Type 0} {item : Reader A} → Reads Ends Is item → ((ts : List Token) → Ends (tokens.Keyword keywords.And ∷ ts))
     → Reads (EndsList leads.And Ends) (SeparatedBy (tokens.Keyword keywords.And) Is) (list_at leads.And item)
 and_reads {A} {Ends} {Is} {item} reads at_and =
-    by_same (list_reads leads.And Ends (λ x. IsWord keywords.And before Is x) item (behind_lead (word_leads keywords.And) reads (λ front rest h. rw h (at_and rest))) reads) (linked (tokens.Keyword keywords.And) Is) (separated (tokens.Keyword keywords.And) Is)
+    by_same (list_reads leads.And Ends Is item reads (λ front rest h. rw h (at_and rest))) (linked (tokens.Keyword keywords.And) Is) (separated (tokens.Keyword keywords.And) Is)

@@ -22,18 +22,17 @@ chain_from next zero w ts = Some (w, ts)
 chain_from next (suc n) w ts = stop_or_go (chain_from next n) w ts (next w ts)
 
 -- ---- Lists
--- all the tokens, if JOIN, INNER or LEFT stands in front
-abbrev pub at_join : List Token → Option (List Token)
-at_join (tokens.Keyword keywords.Join ∷ ts) = Some (tokens.Keyword keywords.Join ∷ ts)
-at_join (tokens.Keyword keywords.Inner ∷ ts) = Some (tokens.Keyword keywords.Inner ∷ ts)
-at_join (tokens.Keyword keywords.Left ∷ ts) = Some (tokens.Keyword keywords.Left ∷ ts)
-at_join ts = None
+-- the tokens behind JOIN or INNER JOIN, if it stands in front
+abbrev pub after_join : List Token → Option (List Token)
+after_join (tokens.Keyword keywords.Join ∷ ts) = Some ts
+after_join (tokens.Keyword keywords.Inner ∷ tokens.Keyword keywords.Join ∷ ts) = Some ts
+after_join ts = None
 
--- the tokens behind this sign or word, or from a first word of what is joined on, if it stands in front
+-- the tokens behind this lead, if it stands in front
 abbrev pub after_lead : Lead → List Token → Option (List Token)
 after_lead leads.Comma = after_symbol symbols.Comma
 after_lead leads.And = after_keyword keywords.And
-after_lead leads.Join = at_join
+after_lead leads.Join = after_join
 
 -- one more entry, where what is taken by the first function stands in front of it
 unfoldable pub one_more_behind : {A : Type 0} → (List Token → Option (List Token)) → Reader A → List A → List Token → Option (Option (List A × List Token))

@@ -1,42 +1,44 @@
-//! What tells that a later entry of a list follows.
+//! What stands in front of each later entry of a list.
 //!
 //! Whoever reads a list names its [`Lead`]; [`after_lead`] looks for it at the front of the tokens, once before each
-//! entry. It looks at one token.
+//! entry. It looks at two tokens at most.
 ghost use Rattle.std.specs.Prelude.{◌≡◌};
 ghost use Rattle.std.specs.Option.{option_map};
-ghost use Rattle.cq_sql_expressions.specs.Lists.{after_lead, at_join};
+ghost use Rattle.cq_sql_expressions.specs.Lists.{after_join, after_lead};
 
 use crate::read::{after_keyword, after_symbol};
 use cq_sql_language::{Keyword, Symbol, Token};
 
-/// What tells that a later entry of a list follows: a sign or a word in front of it, or its own first word.
+/// What stands in front of each later entry of a list.
 #[derive(Clone, Copy, Debug, PartialEq, Eq)]
 pub enum Lead {
     Comma,
     And,
-    /// A first word of what is joined, which is left for the entry.
     Join,
 }
 
-/// All the tokens, if JOIN, INNER or LEFT stands in front.
-fn at_join(tokens: &[Token]) -> Option<&[Token]>
-    ensures { option_map (λ x. x.now) result ≡ at_join tokens.now }
+/// The tokens behind JOIN or INNER JOIN, if it is there.
+fn after_join(tokens: &[Token]) -> Option<&[Token]>
+    ensures { option_map (λ x. x.now) result ≡ after_join tokens.now }
 {
     match tokens {
-        [Token::Keyword(Keyword::Join), ..] => Some(tokens),
-        [Token::Keyword(Keyword::Inner), ..] => Some(tokens),
-        [Token::Keyword(Keyword::Left), ..] => Some(tokens),
+        [Token::Keyword(Keyword::Join), rest @ ..] => Some(rest),
+        [
+            Token::Keyword(Keyword::Inner),
+            Token::Keyword(Keyword::Join),
+            rest @ ..,
+        ] => Some(rest),
         _ => None,
     }
 }
 
-/// The tokens of a later entry, if its lead is there.
+/// The tokens behind the lead, if it is there.
 pub fn after_lead(lead: Lead, tokens: &[Token]) -> Option<&[Token]>
     ensures { option_map (λ x. x.now) result ≡ after_lead lead tokens.now }
 {
     match lead {
         Lead::Comma => after_symbol(Symbol::Comma, tokens),
         Lead::And => after_keyword(Keyword::And, tokens),
-        Lead::Join => at_join(tokens),
+        Lead::Join => after_join(tokens),
     }
 }

@@ -49,14 +49,13 @@ IsColumnName c ts = ts ≡ column_tokens c.source c.name
 abbrev pub IsEquality : OnEquality → List Token → Type 0
 IsEquality e = IsColumnName e.left before IsSign symbols.Equal before IsColumnName e.right
 
--- LEFT [OUTER] JOIN, or else [INNER] JOIN
-abbrev pub AreJoinWords : Bool → List Token → Type 0
-AreJoinWords true ts = (IsWord keywords.Left before IsWord keywords.Join) ts ⊎ (IsWord keywords.Left before IsWord keywords.Outer before IsWord keywords.Join) ts
-AreJoinWords false ts = IsWord keywords.Join ts ⊎ (IsWord keywords.Inner before IsWord keywords.Join) ts
+-- [INNER] JOIN
+abbrev pub AreJoinWords : List Token → Type 0
+AreJoinWords ts = IsWord keywords.Join ts ⊎ (IsWord keywords.Inner before IsWord keywords.Join) ts
 
--- ([INNER] | LEFT [OUTER]) JOIN source ON eq {AND eq}
+-- [INNER] JOIN source ON eq {AND eq}
 abbrev pub IsJoin : JoinedSource → List Token → Type 0
-IsJoin j = AreJoinWords j.is_left before IsSource j.source before IsWord keywords.On before SeparatedBy (tokens.Keyword keywords.And) IsEquality j.on
+IsJoin j = AreJoinWords before IsSource j.source before IsWord keywords.On before SeparatedBy (tokens.Keyword keywords.And) IsEquality j.on
 
 -- ---- ORDER BY and LIMIT
 -- name or int

@@ -40,8 +40,6 @@ pub struct OnEquality {
 /// A source that is joined to those before it where each equality holds.
 #[derive(Debug, Drop)]
 pub struct JoinedSource {
-    /// Whether LEFT stands in front: rows that go with none of the source stay, with NULLs.
-    pub is_left: bool,
     pub source: FromSource,
     pub on: Seq<OnEquality>,
 }

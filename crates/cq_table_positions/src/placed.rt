@@ -2,10 +2,10 @@
 //!
 //! What passes in a source that stands in one segment is `of` its places there, and so is what a join finds of it. `at`
 //! and `at_each` keep some of these, and `gather` gives a column of them. It costs two bytes a row; no row is copied.
-ghost use Rattle.std.specs.Prelude.{◌<◌, ◌≡◌, ◌≤◌, [], IfOk, length, slice_index_or};
+ghost use Rattle.std.specs.Prelude.{◌≡◌, ◌≤◌, IfOk, length};
 ghost use Rattle.cq_encodings_vectors.specs.Places.{AreBelow, rows_at};
 ghost use Rattle.cq_segments_pieces.specs.Marked.{rows_of};
-ghost use Rattle.cq_segments_pieces.specs.Rows.{row_of, stored_rows};
+ghost use Rattle.cq_segments_pieces.specs.Rows.{stored_rows};
 ghost use Rattle.cq_vectors.specs.Gathered.{column_of};
 
 use crate::places::copies_each;
@@ -59,14 +59,6 @@ impl<'a> Placed<'a> {
         self.places.len()
     }
 
-    /// The one at a place.
-    pub fn row(&self, place: usize) -> StoredRow<'a>
-        requires { place < length self.now }
-        ensures { row_of result ≡ slice_index_or self.now place [] }
-    {
-        self.segment.row(usize::from(place_in(&self.places, place)))
-    }
-
     /// The values of a column, where a row that is too short has NULL.
     pub fn gather(&self, alloc: Global, column: usize) -> Result<Vector<'a>, AllocError>
         requires { length self.now ≤ 1024 }
@@ -116,11 +108,4 @@ fn segment_at<'a>(
         found.push_reserved(segment.row(usize::from(*place)));
     }
     Ok(found)
-}
-
-fn place_in(places: &[u16], at: usize) -> u16
-    requires { at < length places.now }
-    ensures { result ≡ slice_index_or places.now at 0 }
-{
-    places[at]
 }

@@ -5,7 +5,7 @@ use Rattle.std.proofs.lemmas.List.{get_or_append_left, get_or_past, get_or_push,
 use Rattle.std.specs.Prelude.{if◌then◌else◌, nat_eq, slice_get}
 use Rattle.std.specs.List.{AllByRecursion, Any, list_any}
 use Rattle.cq_values.specs.Value.{Row}
-use Rattle.cq_model_bags.specs.Bag.{Weighted, SameBag, distinct, filtered, once_each}
+use Rattle.cq_model_bags.specs.Bag.{Weighted, SameBag, distinct, filtered, joined, once_each}
 use Rattle.cq_model_bags.specs.Listing.{IsListing}
 use Rattle.cq_model_bags.specs.declared.sort_key.SortKey.{SortKey}
 use Rattle.cq_model_bags.proofs.Bags.{same-trans}
@@ -14,7 +14,7 @@ use Rattle.cq_model.specs.declared.query.Join.{Join}
 use Rattle.cq_model.specs.declared.query.Query.{Query}
 use Rattle.cq_model.specs.declared.query.Source.{Source}
 use Rattle.cq_model.specs.declared.query.Source.TheVariants.{Table, View}
-use Rattle.cq_model.specs.Meaning.{Tables, MeaningInRange, ShapeInRange, chain, joined_by, joined_rows, keeps, meaning, meets, shown}
+use Rattle.cq_model.specs.Meaning.{Tables, MeaningInRange, ShapeInRange, chain, joined_rows, keeps, meaning, meets, shown}
 use Rattle.cq_model.specs.Views.{sources_of, tables_alone, view_bag, with_views, SourceInRange, ViewInRange}
 use Rattle.cq_test_plain.specs.declared.fault.PlainFault.{PlainFault}
 use Rattle.cq_test_plain.specs.Faults.{Tells}
@@ -45,7 +45,7 @@ alone tables = λ k source. alone_at tables source k
 chain-agrees : (tables others : Tables) (joins : List Join) (xs : Weighted) → AllByRecursion (λ source. tables source ≡ others source) (map (λ join. join.source) joins) → chain tables xs joins ≡ chain others xs joins
 chain-agrees tables others [] xs all = refl
 chain-agrees tables others (j ∷ joins) xs all =
-    ap (λ ys. chain tables (joined_by j.kind (meets j.on) xs ys) joins) all.0 ∙ chain-agrees tables others joins (joined_by j.kind (meets j.on) xs (others j.source)) all.1
+    ap (λ ys. chain tables (joined (meets j.on) xs ys) joins) all.0 ∙ chain-agrees tables others joins (joined (meets j.on) xs (others j.source)) all.1
 
 pub all-agrees : (q : Query) (tables others : Tables) → AllByRecursion (λ source. tables source ≡ others source) (sources_of q) → chain tables (tables q.first) q.joins ≡ chain others (others q.first) q.joins
 all-agrees q tables others all = ap (λ xs. chain tables xs q.joins) all.0 ∙ chain-agrees tables others q.joins (others q.first) all.1

@@ -18,12 +18,12 @@ use crate::evaluation::value_at;
 use crate::fault::PlainFault;
 use crate::filtering::filtered;
 use crate::groups::grouped;
-use crate::joining::{joined, left_joined};
+use crate::joining::joined;
 use crate::lent::{lent_all, lent_tables};
 use crate::lists::listing;
 use crate::repeats::firsts;
 use crate::source_rows::{Lent, rows_of};
-use cq_model::{Expr, Join, JoinKind, Order, Query, Shape, Source};
+use cq_model::{Expr, Join, Order, Query, Shape, Source};
 use cq_values::{Row, Seq, Value};
 use std::alloc::{AllocError, Global};
 
@@ -170,12 +170,12 @@ fn joined_with(
 ) -> Result<Vec<Row>, AllocError>
     ensures { IfOk result (MakeUp (joined_with (lent_bags sources.now) (once_each rows.now) join.now)) }
 {
-    let on = join.on.as_slice();
-    let others = rows_of(sources, join.source);
-    match join.kind {
-        JoinKind::Inner => joined(alloc, on, rows, others),
-        JoinKind::Left(width) => left_joined(alloc, width, on, rows, others),
-    }
+    joined(
+        alloc,
+        join.on.as_slice(),
+        rows,
+        rows_of(sources, join.source),
+    )
 }
 
 /// What the query shows of its joined rows, before DISTINCT.

@@ -1,11 +1,8 @@
 -- Queries that the tests open: they can be worked out on all rows, whatever these hold.
 use Rattle.std.specs.Prelude.{◌≡◌, ℕ, List, [], ◌∷◌, None}
-use Rattle.std.specs.List.{AllByRecursion}
 use Rattle.cq_values.specs.Value.{Row}
 use Rattle.cq_hash_groups.specs.Exact.{AreExactOver}
 use Rattle.cq_model.specs.Exact.{AreExactAt}
-use Rattle.cq_model.specs.declared.query.Join.{Join}
-use Rattle.cq_model.specs.declared.query.JoinKind.TheVariants.{Inner}
 use Rattle.cq_model.specs.declared.query.Query.{Query}
 use Rattle.cq_model.specs.declared.query.Shape.{Shape}
 use Rattle.cq_model.specs.declared.query.Shape.TheVariants.{Plain, Grouped}
@@ -18,13 +15,8 @@ abbrev pub IsAlwaysExact : Shape → Type 0
 IsAlwaysExact Plain = Unit {0}
 IsAlwaysExact (Grouped keys aggregates having) = ((row : Row) → AreExactOver aggregates row) × ((row : Row) → IsExactBy having row)
 
--- no join is a left one
-abbrev pub AreInner : List Join → Type 0
-AreInner joins = AllByRecursion (λ j. j.kind ≡ Inner) joins
-
--- each part of a query can be worked out on each row, no part of WHERE is asked below joins, and these are inner ones
+-- each part of a query can be worked out on each row, and no part of WHERE is asked below joins
 pub record IsOpenTo (q : Query) : Type 0 where
-  pub inner : AreInner q.joins
   pub below : below_of q ≡ None
   pub filter : (row : Row) → IsExactBy q.filter row
   pub shape : IsAlwaysExact q.shape

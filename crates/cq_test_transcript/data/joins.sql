@@ -78,6 +78,4 @@ SELECT t.k FROM t JOIN s ON t.k = s.k LIMIT 0;
 SELECT a FROM t, u;
 SELECT a FROM t JOIN u;
 SELECT a FROM t JOIN u ON t.k < u.k;
-SELECT a FROM t OUTER JOIN u ON t.k = u.k;
-SELECT a FROM t LEFT INNER JOIN u ON t.k = u.k;
-SELECT a FROM t LEFT u ON t.k = u.k;
+SELECT a FROM t LEFT JOIN u ON t.k = u.k;

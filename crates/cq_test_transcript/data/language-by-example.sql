@@ -23,8 +23,6 @@ INSERT INTO shops VALUES ('harbour', 'Kiel'), ('market', 'Bonn'), (NULL, 'Ulm');
 SELECT s.shop, town, total FROM shops s JOIN by_shop v ON s.shop = v.shop;
 SELECT shop FROM shops s JOIN by_shop v ON s.shop = v.shop;
 SELECT DISTINCT town FROM shops x JOIN sales y ON y.shop = x.shop;
-SELECT town, total FROM shops s LEFT JOIN by_shop v ON s.shop = v.shop;
-SELECT town FROM shops s LEFT JOIN by_shop v ON s.shop = v.shop WHERE total IS NULL;
 CREATE TABLE notes(note TEXT);
 INSERT INTO notes VALUES ('a,b'), ('he said "no"'), (''), (NULL), ('\N');
 SELECT note FROM notes;

@@ -1,12 +1,10 @@
 -- What becomes of bags of rows that are cut to columns.
-use Rattle.std.proofs.Common.{◌≡◌, ◌≤◌, List, [], ◌∷◌, ◌++◌, Option, Some, None, refl, arith}
-use Rattle.cq_values.specs.Value.{Row}
+use Rattle.std.proofs.Common.{◌≡◌, ◌≤◌, List, [], ◌++◌, Option, Some, None, refl, arith}
 use Rattle.cq_model_bags.proofs.Bags.{projected-respects, same-refl}
 use Rattle.cq_model_bags.proofs.Linears.{projected-append}
 use Rattle.cq_model_bags.proofs.Positives.{projected-bag}
-use Rattle.cq_model_bags.specs.Bag.{IsBag, SameBag, Weighted, projected}
+use Rattle.cq_model_bags.specs.Bag.{IsBag, SameBag, Weighted}
 use Rattle.cq_model_bags.specs.Join.{HasWidth}
-use Rattle.cq_deltas_joins.specs.LeftLimits.{ArePositive}
 use Rattle.cq_deltas_joins.specs.Steps.{AreStored}
 use Rattle.cq_views_model.specs.Delta.{changed}
 use Rattle.cq_model.specs.Pushed.{HaveWidths}
@@ -41,14 +39,6 @@ cut-bag (Some x) xs bag = projected-bag (key_of x.columns) xs bag
 pub cut-stored : (x : Option SourceColumns) (xs : Weighted) → AreStored xs → AreStored (cut_to x xs)
 cut-stored None xs stored = tt
 cut-stored (Some x) xs stored = rows-stored x.columns xs stored
-
-positive-cut : (f : Row → Row) (xs : Weighted) → ArePositive xs → ArePositive (projected f xs)
-positive-cut f [] all = tt
-positive-cut f (x ∷ xs) all = (all.0, positive-cut f xs all.1)
-
-pub cut-positive : (x : Option SourceColumns) (xs : Weighted) → ArePositive xs → ArePositive (cut_to x xs)
-cut-positive None xs all = tt
-cut-positive (Some x) xs all = positive-cut (key_of x.columns) xs all
 
 pub cut-same : (x : Option SourceColumns) (xs ys : Weighted) → SameBag xs ys → SameBag (cut_to x xs) (cut_to x ys)
 cut-same None xs ys same = same-refl []

@@ -1,37 +1,33 @@
 -- A state of a query that takes rows of tables in which are cut to its columns.
-use Rattle.std.proofs.Common.{◌≡◌, ◌∙◌, ◌*◌, ◌<◌, ◌≤◌, max, Bool, IsTrue, false, ◌^◌, ℕ, List, [], ◌∷◌, ◌++◌, length, map, Option, Some, None, refl, sym, ap, subst, arith}
+use Rattle.std.proofs.Common.{◌≡◌, ◌∙◌, ◌<◌, ◌≤◌, Bool, IsTrue, false, ◌^◌, ℕ, List, [], ◌∷◌, ◌++◌, length, map, Option, Some, None, refl, sym, ap, subst, arith}
 use Rattle.std.proofs.lemmas.List.{map-append}
-use Rattle.std.specs.List.{AllByRecursion, AllZip}
+use Rattle.std.specs.List.{AllByRecursion}
 use Rattle.cq_values.specs.Value.{Row}
 use Rattle.cq_model_bags.proofs.Bags.{same-refl}
 use Rattle.cq_model_bags.proofs.Distincts.{once_each-map}
 use Rattle.cq_model_bags.proofs.Totals.{by_test}
 use Rattle.cq_model_bags.specs.Bag.{SameBag, Weighted, once_each}
 use Rattle.cq_deltas_joins.specs.Chains.{nothing, spans}
-use Rattle.cq_deltas_joins.specs.LeftLimits.{ArePositive}
 use Rattle.cq_deltas_joins.specs.Steps.{AreStored}
-use Rattle.cq_sides_weights.specs.Held.{sizes}
 use Rattle.cq_table_columns.specs.Stored.{all_rows}
 use Rattle.cq_views_model.specs.Delta.{changed}
-use Rattle.cq_views.proofs.Bags.{cut-append, cut-bags, cut-none, cut-positive, cut-sizes, cut-stored}
+use Rattle.cq_views.proofs.Bags.{cut-append, cut-bags, cut-none, cut-sizes, cut-stored}
 use Rattle.cq_views.proofs.Told.{start-wide}
-use Rattle.cq_views.proofs.Taking.{bags_at-bags, can-first, can-second, can-swapped, countable-less, fills-none, fills-swapped, only-bags, spans-less}
-use Rattle.cq_views.specs.Cut.{IsFilled, cut_bags, cut_only, cut_table, cut_to, cut_widths, entry_of, width_at}
+use Rattle.cq_views.proofs.Taking.{bags_at-bags, can-first, can-second, can-swapped, crossed-less, fills-none, fills-swapped, only-bags, spans-less}
+use Rattle.cq_views.specs.Cut.{IsFilled, cut_bags, cut_only, cut_table, cut_to, cut_widths, entry_of}
 use Rattle.cq_views.specs.Filling.{CanFill, Fills, bags_at, only}
 use Rattle.cq_model_laws.proofs.Positives.{once_each-bag}
 use Rattle.cq_model.specs.Sources.{same_source}
 use Rattle.cq_model.specs.Group.{key_of}
-use Rattle.cq_model.specs.Meaning.{IsAsWide, Tables}
+use Rattle.cq_model.specs.Meaning.{Tables}
 use Rattle.cq_model.specs.Views.{sources_of}
-use Rattle.cq_model.specs.declared.query.Join.{Join}
 use Rattle.cq_model.specs.declared.query.Query.{Query}
 use Rattle.cq_model.specs.declared.query.Source.{Source}
-use Rattle.cq_plan.specs.Planned.{JoinsFit}
-use Rattle.cq_views_columns.specs.Narrow.{IsNarrowOf, JoinsAreWide, columns_at}
+use Rattle.cq_views_columns.specs.Narrow.{IsNarrowOf}
 use Rattle.cq_views_columns.specs.declared.columns.SourceColumns.{SourceColumns}
 use Rattle.cq_views_columns.specs.declared.narrow_query.NarrowQuery.{NarrowQuery}
 use Rattle.cq_table_columns.specs.declared.stored_source.StoredSource.{StoredSource}
-use Rattle.cq_views_state.specs.State.{AreAsTold, AreBags, AreCountable, CanStart, HoldStored, SameView, StandsFor, crossed}
+use Rattle.cq_views_state.specs.State.{AreAsTold, AreBags, AreCountable, CanStart, HoldStored, SameView, StandsFor}
 use Rattle.cq_views_state.specs.Work.{work_of}
 use Rattle.cq_views_state.specs.declared.state.ViewState.{ViewState}
 use Rattle.cq_model_bags.proofs.Lists.{all-of, all-weaker}
@@ -108,14 +104,6 @@ some-left [] empty is_empty fails = absurd (cc (is_empty refl, fails))
 some-left (r ∷ left) empty is_empty fails = omega arith
 
 -- ---- a state without rows, and the rows of all tables
--- no rows are countable
-none-crossed : (sources : List Source) → crossed nothing sources ≡ 1
-none-crossed [] = refl
-none-crossed (s ∷ sources) = ap (λ (n : ℕ). max 1 (sizes (nothing s)) * n) (none-crossed sources)
-
-nothing-countable : (sources : List Source) → AreCountable sources nothing
-nothing-countable sources = record { positive = all-of (λ s. ArePositive (nothing s)) (λ s. tt) sources; few = omega (arith, none-crossed sources) }
-
 -- rows that it can start with can be taken in
 pub start-can : (v : ViewState) (query : Query) (more : Tables) → v.query ≡ query → CanStart query more → AreBags more → StandsFor v nothing → AreAsTold v nothing more → CanFill v more
 start-can v query more is start bags stands wide =
@@ -127,7 +115,7 @@ start-can v query more is start bags stands wide =
         stands = stands;
         wide = wide;
         few = own.few;
-        countable = record { before = nothing-countable (sources_of v.query); behind = more; same = all-of (λ s. SameBag (more s) (more s)) (λ s. same-refl (more s)) (sources_of v.query); after = own.countable };
+        countable = record { before = omega arith; behind = more; same = all-of (λ s. SameBag (more s) (more s)) (λ s. same-refl (more s)) (sources_of v.query); after = own.countable };
         stored = (all-of (λ s. AreStored (nothing s)) (λ s. tt) (sources_of v.query), own.stored);
       };
       bags = (λ s. once_each-bag [], bags);
@@ -160,23 +148,11 @@ module _ (query : Query) (widths : List ℕ) (narrow : NarrowQuery) (is : IsNarr
       let columns = narrow.columns in
       let less = spans-less nothing (cut_bags columns tables) nothing tables (λ s. omega (arith, cut-sizes (entry_of columns s) (tables s))) (sources_of query) in
       let few : spans nothing (cut_bags columns tables) (sources_of query) < 2 ^ 127 = omega (arith, less, start.few) in
-      let countable = countable-less (cut_bags columns tables) tables (λ s. cut-sizes (entry_of columns s) (tables s)) (λ s all. cut-positive (entry_of columns s) (tables s) all) (sources_of query) start.countable in
+      let fewer = crossed-less (cut_bags columns tables) tables (λ s. cut-sizes (entry_of columns s) (tables s)) (sources_of query) in
+      let countable : AreCountable (sources_of query) (cut_bags columns tables) = omega (arith, fewer, start.countable) in
       record {
         can = is.kept start.can;
         few = subst (λ (ss : List Source). spans nothing (cut_bags columns tables) ss < 2 ^ 127) (sym is.sources) few;
         countable = subst (λ (ss : List Source). AreCountable ss (cut_bags columns tables)) (sym is.sources) countable;
         stored = cut-hold tables start.stored;
       }
-
--- ---- rows with the columns alone that a query reads are as wide as its left joins say
-narrow-wide : (columns : List SourceColumns) (s : Source) → width_at columns s ≡ length (columns_at columns s)
-narrow-wide [] s = refl
-narrow-wide (x ∷ columns) s = by_test (same_source x.source s) (λ k. rw k refl) (λ k. rw k (narrow-wide columns s))
-
-narrow-joins : (columns : List SourceColumns) (js : List Join) → JoinsAreWide (λ s. length (columns_at columns s)) js
-    → AllZip (λ j wide. IsAsWide j.kind wide) js (map (width_at columns) (map (λ (j : Join). j.source) js))
-narrow-joins columns [] all = tt
-narrow-joins columns (j ∷ js) all = (subst (IsAsWide j.kind) (sym (narrow-wide columns j.source)) all.0, narrow-joins columns js all.1)
-
-pub narrow-fit : (columns : List SourceColumns) (q : Query) → JoinsAreWide (λ s. length (columns_at columns s)) q.joins → JoinsFit q.joins (cut_widths columns q)
-narrow-fit columns q all = narrow-joins columns q.joins all

@@ -5,9 +5,9 @@ use Rattle.cq_values.specs.Value.{Row}
 use Rattle.cq_model_bags.proofs.Bags.{same-refl}
 use Rattle.cq_model_bags.specs.Bag.{SameBag, Weighted, once_each}
 use Rattle.cq_deltas_joins.specs.Steps.{AreStored}
-use Rattle.cq_views.proofs.Bags.{cut-bags, cut-positive, cut-sizes, cut-stored}
+use Rattle.cq_views.proofs.Bags.{cut-bags, cut-sizes, cut-stored}
 use Rattle.cq_views.proofs.Sources.{entries-read}
-use Rattle.cq_views.proofs.Taking.{countable-less}
+use Rattle.cq_views.proofs.Taking.{crossed-less}
 use Rattle.cq_views.specs.Cut.{cut_bags, entry_of}
 use Rattle.cq_views.specs.Shown.{AreRowsOf, CanShow, IsNotShown, IsShown, Suits}
 use Rattle.cq_views.specs.declared.kept_view.KeptView.{KeptView}
@@ -22,7 +22,7 @@ use Rattle.cq_views_columns.specs.Narrow.{HaveColumns, IsNarrowOf, narrowed_bags
 use Rattle.cq_views_columns.specs.declared.columns.SourceColumns.{SourceColumns}
 use Rattle.cq_views_state.proofs.SameBags.{standing-by_sources}
 use Rattle.cq_views_state.specs.Shown as inner
-use Rattle.cq_views_state.specs.State.{AreBags, AreCountable, StandsFor}
+use Rattle.cq_views_state.specs.State.{AreBags, StandsFor, crossed}
 use Rattle.cq_model_bags.proofs.Lists.{all-weaker}
 
 module _ (v : KeptView) where
@@ -31,13 +31,14 @@ module _ (v : KeptView) where
   can-show can =
       let is = can.stands.narrow in
       let cut = cut_bags v.columns can.tables in
-      let countable = countable-less cut can.tables (λ s. cut-sizes (entry_of v.columns s) (can.tables s)) (λ s all. cut-positive (entry_of v.columns s) (can.tables s) all) (sources_of v.query) can.countable in
+      let less = crossed-less cut can.tables (λ s. cut-sizes (entry_of v.columns s) (can.tables s)) (sources_of v.query) in
+      let few : crossed cut (sources_of v.query) ≤ count_size = omega (arith, less, can.few) in
       let stored = all-weaker (λ s. AreStored (can.tables s)) (λ s. AreStored (cut s)) (λ s h. cut-stored (entry_of v.columns s) (can.tables s) h) (sources_of v.query) can.stored in
       record {
         can = is.kept can.can;
         tables = cut;
         stands = can.stands.rows;
-        countable = subst (λ (ss : List Source). AreCountable ss cut) (sym is.sources) countable;
+        few = subst (λ (ss : List Source). crossed cut ss ≤ count_size) (sym is.sources) few;
         stored = subst (λ (ss : List Source). AllByRecursion (λ s. AreStored (cut s)) ss) (sym is.sources) stored;
         bags = cut-bags v.columns can.tables can.bags;
       }

@@ -10,7 +10,7 @@ use Rattle.cq_deltas_joins.specs.Chains.{spans}
 use Rattle.cq_deltas_joins.specs.Work as chains
 use Rattle.cq_deltas_joins.specs.Steps.{AreStored, span}
 use Rattle.cq_views_model.specs.Delta.{changed}
-use Rattle.cq_views.proofs.Bags.{cut-bags, cut-changed, cut-positive, cut-same, cut-sizes, cut-stored}
+use Rattle.cq_views.proofs.Bags.{cut-bags, cut-changed, cut-same, cut-sizes, cut-stored}
 use Rattle.cq_views.specs.Cut.{AreCut, cut_bags, cut_widths, entry_of}
 use Rattle.cq_views.specs.Laws.{StandingDependsOnSources}
 use Rattle.cq_views.specs.State.{CanPrepare, CountsPairs, IsWaiting, SameView, TakesIn, narrow_query}
@@ -21,7 +21,7 @@ use Rattle.cq_model.specs.declared.query.Query.{Query}
 use Rattle.cq_model.specs.declared.query.Source.{Source}
 use Rattle.cq_views_columns.specs.Narrow.{IsNarrowOf}
 use Rattle.cq_deltas_joins.proofs.Sizes.{sizes-least}
-use Rattle.cq_views.proofs.Taking.{countable-less, spans-less}
+use Rattle.cq_views.proofs.Taking.{crossed-less, spans-less}
 use Rattle.cq_views.proofs.Told.{all-wide, changes-wide}
 use Rattle.cq_views_state.proofs.SameBags.{standing-by_sources}
 use Rattle.cq_views_state.specs.Work.{CountsRows, work_of}
@@ -100,7 +100,7 @@ module _ (v : KeptView) (changes : Tables) (can : CanPrepare v changes) where
 
     -- rows that are cut are no more, whatever is joined
     cut-countable : (tables : Tables) → AreCountable (sources_of v.query) tables → AreCountable (sources_of v.query) (cut_bags v.columns tables)
-    cut-countable tables h = countable-less (cut_bags v.columns tables) tables (λ s. cut-sizes (entry_of v.columns s) (tables s)) (λ s all. cut-positive (entry_of v.columns s) (tables s) all) (sources_of v.query) h
+    cut-countable tables h = omega (arith, h, crossed-less (cut_bags v.columns tables) tables (λ s. cut-sizes (entry_of v.columns s) (tables s)) (sources_of v.query))
 
     -- and tables with the bags of the changed ones have those of the changed ones that are cut
     cut-behind : (s : Source) → SameBag (can.countable.behind s) (changed can.tables changes s) → SameBag (cut_bags v.columns can.countable.behind s) (changed (cut_bags v.columns can.tables) cut s)

@@ -1,5 +1,5 @@
 -- A state that takes rows in stands for them beside those that it had.
-use Rattle.std.proofs.Common.{◌≡◌, ◌∙◌, ◌+◌, ◌<◌, ◌≤◌, ◌^◌, ◌<ℤ◌, max, ℤ, pos, List, [], ◌∷◌, ◌++◌, length, refl, sym, ap, subst, arith, append_assoc}
+use Rattle.std.proofs.Common.{◌≡◌, ◌∙◌, ◌+◌, ◌<◌, ◌≤◌, ◌^◌, pos, List, [], ◌∷◌, ◌++◌, length, refl, sym, ap, subst, arith, append_assoc}
 use Rattle.std.proofs.lemmas.Int.{ints}
 use Rattle.std.proofs.lemmas.List.{append-nil, map-append}
 use Rattle.std.proofs.lemmas.Nat.{mul-le}
@@ -25,7 +25,6 @@ use Rattle.cq_sides_weights.proofs.RowByRow.{sizes-append, sizes-cons}
 use Rattle.cq_sides_weights.specs.Held.{sizes}
 use Rattle.cq_deltas_joins.proofs.Storing.{merged-all, stored-append, stored-merged}
 use Rattle.cq_deltas_joins.specs.Chains.{spans}
-use Rattle.cq_deltas_joins.specs.LeftLimits.{ArePositive}
 use Rattle.cq_deltas_joins.specs.Steps.{AreStored, span}
 use Rattle.cq_table_columns.specs.declared.stored_source.StoredSource.{StoredSource}
 use Rattle.cq_views_state.proofs.SameBags.{standing-by_sources}
@@ -33,7 +32,7 @@ use Rattle.cq_views_model.specs.Query.{CanBeKept}
 use Rattle.cq_views_state.specs.Build.{Gains}
 use Rattle.cq_views_state.specs.State.{AreBags, AreAsTold, AreCountable, CanPrepare, HoldStored, StandsFor, StayCountable, crossed}
 use Rattle.cq_views_state.specs.declared.state.ViewState.{ViewState}
-use Rattle.cq_model_bags.proofs.Lists.{all-append, all-back as back-of, all-both, all-front as front-of, all-of, all-weaker}
+use Rattle.cq_model_bags.proofs.Lists.{all-both, all-of}
 
 -- ---- Rows, each of them once
 -- rows that are there once each have their number as their sizes
@@ -53,15 +52,7 @@ spans-less tables changes others more less (s ∷ sources) =
 pub crossed-less : (tables others : Tables) → ((s : Source) → sizes (tables s) ≤ sizes (others s)) → (sources : List Source) → crossed tables sources ≤ crossed others sources
 crossed-less tables others less [] = omega arith
 crossed-less tables others less (s ∷ sources) =
-    mul-le (max 1 (sizes (tables s))) (crossed tables sources) (max 1 (sizes (others s))) (crossed others sources) (omega (arith, less s)) (crossed-less tables others less sources)
-
--- and so they are countable where the larger ones are, if they are there more than never
-pub countable-less : (tables others : Tables) → ((s : Source) → sizes (tables s) ≤ sizes (others s)) → ((s : Source) → ArePositive (others s) → ArePositive (tables s)) → (sources : List Source)
-    → AreCountable sources others → AreCountable sources tables
-countable-less tables others less positive sources are = record {
-  positive = all-weaker (λ s. ArePositive (others s)) (λ s. ArePositive (tables s)) positive sources are.positive;
-  few = omega (arith, are.few, crossed-less tables others less sources);
-}
+    mul-le (sizes (tables s)) (crossed tables sources) (sizes (others s)) (crossed others sources) (less s) (crossed-less tables others less sources)
 
 -- a join that has no more rows than can be counted, and none with all that changes add, stays so
 changed-countable : (sources : List Source) (tables changes : Tables) → AreCountable sources tables → AreCountable sources (changed tables changes) → StayCountable sources tables changes
@@ -73,19 +64,6 @@ changed-countable sources tables changes before after = record {
 }
 
 -- ---- Rows beside others
-positive-front : (xs ys : Weighted) → ArePositive (xs ++ ys) → ArePositive xs
-positive-front xs ys all = front-of (λ (x : Row × ℤ). pos 0 <ℤ x.1) xs ys all
-
-positive-back : (xs ys : Weighted) → ArePositive (xs ++ ys) → ArePositive ys
-positive-back xs ys all = back-of (λ (x : Row × ℤ). pos 0 <ℤ x.1) xs ys all
-
-positive-append : (xs ys : Weighted) → ArePositive xs → ArePositive ys → ArePositive (xs ++ ys)
-positive-append xs ys first second = all-append (λ (x : Row × ℤ). pos 0 <ℤ x.1) xs ys first second
-
--- some of the rows beside others, in their place
-positive-part : (xs ys zs : Weighted) → (ArePositive ys → ArePositive zs) → ArePositive (xs ++ ys) → ArePositive (xs ++ zs)
-positive-part xs ys zs part all = positive-append xs zs (positive-front xs ys all) (part (positive-back xs ys all))
-
 stored-front : (xs ys : Weighted) → AreStored (xs ++ ys) → AreStored xs
 stored-front xs ys all = all-front IsStored xs ys all
 
@@ -126,14 +104,14 @@ fills-none v more none = record {
 
 module _ (v : ViewState) (a b : Tables) (first : AreBags a) (second : AreBags b) where
   -- as both can be taken in, so can bags that are as wide, no larger, and stored where both are
-  can-as : (c : Tables) (can : CanFill v (changed a b)) → AreBags c → AreAsTold v can.can.tables c → ((s : Source) → sizes (c s) ≤ sizes (a s) + sizes (b s)) → ((s : Source) → ArePositive (a s ++ b s) → ArePositive (c s)) → ((s : Source) → AreStored (a s ++ b s) → AreStored (c s))
+  can-as : (c : Tables) (can : CanFill v (changed a b)) → AreBags c → AreAsTold v can.can.tables c → ((s : Source) → sizes (c s) ≤ sizes (a s) + sizes (b s)) → ((s : Source) → AreStored (a s ++ b s) → AreStored (c s))
       → CanFill v c
-  can-as c can bags wide no_larger positive stored =
+  can-as c can bags wide no_larger stored =
       let tables = can.can.tables in
       let less = spans-less tables c tables (changed a b) (λ s. omega (arith, sizes-append (a s) (b s), no_larger s)) (sources_of v.query) in
-      let countable = countable-less (changed tables c) (changed tables (changed a b))
-      (λ s. omega (arith, sizes-append (tables s) (c s), sizes-append (tables s) (a s ++ b s), sizes-append (a s) (b s), no_larger s))
-      (λ s all. positive-part (tables s) (a s ++ b s) (c s) (positive s) all) (sources_of v.query) can.countable in
+      let fewer = crossed-less (changed tables c) (changed tables (changed a b))
+      (λ s. omega (arith, sizes-append (tables s) (c s), sizes-append (tables s) (a s ++ b s), sizes-append (a s) (b s), no_larger s)) (sources_of v.query) in
+      let countable : AreCountable (sources_of v.query) (changed tables c) = omega (arith, can.countable, fewer) in
       let whole = can.can.stored.1 in
       record {
         can = record {
@@ -151,13 +129,12 @@ module _ (v : ViewState) (a b : Tables) (first : AreBags a) (second : AreBags b)
 
   -- rows that can be taken in with others can be taken in alone
   pub can-first : CanFill v (changed a b) → CanFill v a
-  can-first can = can-as a can first (wide-first v can.can.tables a b can.can.wide) (λ s. omega arith) (λ s all. positive-front (a s) (b s) all) (λ s all. stored-front (a s) (b s) all)
+  can-first can = can-as a can first (wide-first v can.can.tables a b can.can.wide) (λ s. omega arith) (λ s all. stored-front (a s) (b s) all)
 
   -- and behind the others
   pub can-swapped : CanFill v (changed a b) → CanFill v (changed b a)
   can-swapped can =
       can-as (changed b a) can (bags-changed b a second first) (wide-swapped v can.can.tables a b can.can.wide) (λ s. omega (arith, sizes-append (b s) (a s)))
-      (λ s all. positive-append (b s) (a s) (positive-back (a s) (b s) all) (positive-front (a s) (b s) all))
       (λ s all. stored-append (b s) (a s) (stored-back (a s) (b s) all) (stored-front (a s) (b s) all))
 
   -- so the others are what is left then
@@ -166,15 +143,14 @@ module _ (v : ViewState) (a b : Tables) (first : AreBags a) (second : AreBags b)
       let tables = can.can.tables in
       let less = spans-less (changed tables a) b tables (changed a b) (λ s. omega (arith, sizes-append (tables s) (a s), sizes-append (a s) (b s))) (sources_of v.query) in
       let few : spans (changed tables a) b (sources_of v.query) < 2 ^ 127 = omega (arith, can.can.few, less) in
-      let before = countable-less (changed tables a) (changed tables (changed a b))
-      (λ s. omega (arith, sizes-append (tables s) (a s), sizes-append (tables s) (a s ++ b s), sizes-append (a s) (b s)))
-      (λ s all. positive-part (tables s) (a s ++ b s) (a s) (λ both. positive-front (a s) (b s) both) all) (sources_of v.query) can.countable in
-      let countable = countable-less (changed (changed tables a) b) (changed tables (changed a b))
-      (λ s. omega (arith, sizes-append (tables s ++ a s) (b s), sizes-append (tables s) (a s), sizes-append (tables s) (a s ++ b s), sizes-append (a s) (b s)))
-      (λ s all. subst ArePositive (sym (append_assoc (tables s) (a s) (b s))) all) (sources_of v.query) can.countable in
-      let stays : StayCountable (sources_of v.query) (changed tables a) b = changed-countable (sources_of v.query) (changed tables a) b before countable in
+      let fewer = crossed-less (changed tables a) (changed tables (changed a b))
+      (λ s. omega (arith, sizes-append (tables s) (a s), sizes-append (tables s) (a s ++ b s), sizes-append (a s) (b s))) (sources_of v.query) in
+      let same = crossed-less (changed (changed tables a) b) (changed tables (changed a b))
+      (λ s. omega (arith, sizes-append (tables s ++ a s) (b s), sizes-append (tables s) (a s), sizes-append (tables s) (a s ++ b s), sizes-append (a s) (b s))) (sources_of v.query) in
+      let countable : AreCountable (sources_of v.query) (changed (changed tables a) b) = omega (arith, can.countable, same) in
+      let stays : StayCountable (sources_of v.query) (changed tables a) b = changed-countable (sources_of v.query) (changed tables a) b (omega (arith, can.countable, fewer)) countable in
       let whole = can.can.stored.1 in
-      let stored_before = all-both (λ s. AreStored (tables s)) (λ s. AreStored (a s ++ b s)) (λ s. AreStored (tables s ++ a s))
+      let before = all-both (λ s. AreStored (tables s)) (λ s. AreStored (a s ++ b s)) (λ s. AreStored (tables s ++ a s))
       (λ s old all. stored-append (tables s) (a s) old (stored-front (a s) (b s) all)) (sources_of v.query) can.can.stored.0 whole in
       let after = all-both (λ s. AreStored (a s ++ b s)) (λ s. AreStored (a s ++ b s)) (λ s. AreStored (b s)) (λ s all same. stored-back (a s) (b s) all) (sources_of v.query) whole whole in
       record {
@@ -185,7 +161,7 @@ module _ (v : ViewState) (a b : Tables) (first : AreBags a) (second : AreBags b)
           wide = wide-second v tables a b can.can.wide w fills.query fills.widths;
           few = subst (λ (q : Query). spans (changed tables a) b (sources_of q) < 2 ^ 127) (sym fills.query) few;
           countable = subst (λ (q : Query). StayCountable (sources_of q) (changed tables a) b) (sym fills.query) stays;
-          stored = subst (λ (q : Query). HoldStored q (changed tables a) × HoldStored q b) (sym fills.query) (stored_before, after);
+          stored = subst (λ (q : Query). HoldStored q (changed tables a) × HoldStored q b) (sym fills.query) (before, after);
         };
         bags = (bags-changed tables a can.bags.0 first, second);
         countable = subst (λ (q : Query). AreCountable (sources_of q) (changed (changed tables a) b)) (sym fills.query) countable;

@@ -1,14 +1,16 @@
 -- The work of the joins of a query depends on the bags of the tables that its FROM names alone.
 use Rattle.std.proofs.Common.{◌≡◌, ◌+◌, List, [], ◌∷◌, map}
+use Rattle.cq_model_bags.proofs.Joins.{joined-respects}
 use Rattle.cq_model_bags.proofs.Sizes.{size-respects}
-use Rattle.cq_model_bags.specs.Bag.{Weighted, SameBag}
-use Rattle.cq_model.specs.Meaning.{Tables, joined_by, meets}
+use Rattle.cq_model_bags.specs.Bag.{Weighted, SameBag, joined}
+use Rattle.cq_model_bags.specs.Join.{join_change}
+use Rattle.cq_model.specs.Meaning.{Tables, meets}
 use Rattle.cq_model.specs.Views.{sources_of}
 use Rattle.cq_model.specs.declared.query.Join.{Join}
 use Rattle.cq_model.specs.declared.query.Query.{Query}
 use Rattle.cq_model_laws.proofs.Chains.{SameSources}
-use Rattle.cq_model_laws.proofs.JoinKinds.{kind-respects, kind_change-respects, kind_work-respects}
-use Rattle.cq_views_model.specs.Delta.{chain_work, change_by, joins_work}
+use Rattle.cq_model_laws.proofs.Works.{join_change-respects, join_work-respects}
+use Rattle.cq_views_model.specs.Delta.{chain_work, joins_work}
 use Rattle.cq_views.specs.Laws.{WorkDependsOnSources}
 
 module _ (tables others changes more : Tables) where
@@ -25,10 +27,10 @@ module _ (tables others changes more : Tables) where
       let ys' = others j.source in
       let dys = changes j.source in
       let dys' = more j.source in
-      let here = kind_work-respects j.kind on xs xs' dxs dxs' ys ys' dys dys' s d are.0.0 are.1.0 in
-      let later = chain_work-same (joined_by j.kind on xs ys) (joined_by j.kind on xs' ys') (change_by j.kind on xs dxs ys dys) (change_by j.kind on xs' dxs' ys' dys')
-      (kind-respects j.kind on xs xs' ys ys' s are.0.0)
-      (kind_change-respects j.kind on xs xs' dxs dxs' ys ys' dys dys' s d are.0.0 are.1.0) js (are.0.1, are.1.1) in
+      let here = join_work-respects on xs xs' dxs dxs' ys ys' dys dys' s d are.0.0 are.1.0 in
+      let later = chain_work-same (joined on xs ys) (joined on xs' ys') (join_change on xs dxs ys dys) (join_change on xs' dxs' ys' dys')
+      (joined-respects on xs xs' ys ys' s are.0.0)
+      (join_change-respects on xs xs' dxs dxs' ys ys' dys dys' s d are.0.0 are.1.0) js (are.0.1, are.1.1) in
       λ i. here i + later i
 
   -- the work of all joins of a query

@@ -18,8 +18,8 @@ pub record AreAsTold (v : KeptView) (tables changes : Tables) : Type 0 where
   pub rows : HaveWidths width tables
   pub more : HaveWidths width changes
 
--- what is done with changes makes the counts rise by at most the work of the view's joins for them, and never fall; others
--- stand for these where each source of FROM has the same bag
+-- what is done with changes makes the counts rise by at most the work of the view's joins for them, and never fall; others stand for
+-- these where each source of FROM has the same bag
 pub record CountsWithin (old : KeptView) (changes : Tables) (new : KeptView) : Type 0 where
   pub more : work_of old.state ≤ work_of new.state
   pub most : (tables others : Tables) → AllByRecursion (λ s. SameBag (changes s) (others s)) (sources_of old.query)

@@ -1,7 +1,6 @@
 //! Rows of tables that are cut to the columns that a query reads, and taken in, some at a time.
 ghost use Rattle.std.specs.Prelude.{◌≡◌, ◌≤◌, IfOk, OnOk, length};
 ghost use Rattle.cq_deltas_joins.specs.Chains.{nothing};
-ghost use Rattle.cq_plan.specs.Planned.{JoinsFit};
 ghost use Rattle.cq_table_columns.specs.Stored.{all_rows, front_rows};
 ghost use Rattle.cq_views.specs.Cut.{FillsFrom, IsFilled, cut_bags, cut_only, cut_table, cut_widths};
 ghost use Rattle.cq_views.specs.Filling.{CanFill, Fills, bags_at};
@@ -24,8 +23,7 @@ pub(crate) fn filled(
     tables: &[StoredSource],
     epoch: u64,
 ) -> Result<ViewState, AllocError>
-    requires start { CanStart query (cut_bags columns.now (bags_at tables.now)) }
-    requires fit { JoinsFit query.joins (cut_widths columns.now query) }
+    requires { CanStart query (cut_bags columns.now (bags_at tables.now)) }
     ensures { IfOk result (IsFilled columns.now query epoch (bags_at tables.now)) }
 {
     let mut view = empty(alloc, query, columns, epoch)?;
@@ -45,7 +43,6 @@ fn empty(
     columns: &[SourceColumns],
     epoch: u64,
 ) -> Result<ViewBuild, AllocError>
-    requires { JoinsFit query.joins (cut_widths columns.now query) }
     ensures query { IfOk result (λ v. v.query ≡ query) }
     ensures widths { IfOk result (λ v. v.widths ≡ cut_widths columns.now query) }
     ensures epoch { IfOk result (λ v. v.epoch ≡ epoch) }

@@ -7,7 +7,6 @@
 ghost use Rattle.std.specs.List.{AllByRecursion};
 ghost use Rattle.std.specs.Prelude.{◌+◌, ◌-◌, ◌<◌, ◌≡◌, ◌^◌, IfErr, IfOk, OnOk, sum};
 ghost use Rattle.cq_model.specs.declared.fault.ShowFault.TheVariants.{SumOutOfRange};
-ghost use Rattle.cq_plan.specs.Planned.{JoinsFit};
 ghost use Rattle.cq_views.specs.Changes.{changes_of};
 ghost use Rattle.cq_views.specs.Shown.{AreRowsOf, CanShow, IsNotShown, IsShown};
 ghost use Rattle.cq_views.specs.State.{CanCommit, CanPrepare, CountsPairs, IsOver, IsWaiting, SameView, StandsFor, StaysStanding, TakesIn};
@@ -52,7 +51,6 @@ impl KeptView {
     ) -> Result<KeptView, AllocError>
         requires start { CanStart query (bags_at tables.now) }
         requires widths { sum widths < 2 ^ 64 }
-        requires fit { JoinsFit query.joins widths }
         ensures query { IfOk result (λ v. v.query ≡ query) }
         ensures widths { IfOk result (λ v. v.widths ≡ widths) }
         ensures epoch { IfOk result (λ v. v.state.epoch ≡ epoch) }
@@ -177,7 +175,6 @@ fn built_state(
 ) -> Result<(Seq<SourceColumns>, ViewState), AllocError>
     requires start { CanStart query.now (bags_at tables.now) }
     requires widths { sum widths.now < 2 ^ 64 }
-    requires fit { JoinsFit query.now.joins widths.now }
     ensures { IfOk result (IsOver query.now widths.now (bags_at tables.now) epoch) }
 {
     let NarrowQuery { query, columns } = NarrowQuery::of(alloc, query, widths)?;

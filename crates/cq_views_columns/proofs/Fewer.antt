@@ -7,13 +7,13 @@ use Rattle.std.proofs.lemmas.Int.{ints}
 use Rattle.std.proofs.lemmas.List.Sums.{sum_by-cons, length-filter}
 use Rattle.cq_values.specs.Value.{Row}
 use Rattle.cq_values.specs.Order.{same_row}
-use Rattle.cq_model_bags.specs.Bag.{Weighted, weight_of, SameBag, once_each, projected, weighed, firsts, total}
+use Rattle.cq_model_bags.specs.Bag.{Weighted, weight_of, SameBag, once_each, projected, firsts, total}
 use Rattle.cq_model_bags.specs.Join.{HasWidth}
 use Rattle.cq_model_bags.specs.Size.{entries, size, pairs_met}
 use Rattle.cq_model_bags.proofs.Totals.{by_test, is_row, total-projected, total-respects, weight_of-filtered, weight_of-total}
 use Rattle.cq_model_bags.proofs.Lists.{all-filter, all-of}
 use Rattle.cq_model_bags.proofs.Distincts.{is_among, is_among-filter, once_each-filter, weight_of-firsts}
-use Rattle.cq_model_bags.proofs.Entries.{weight_of-weighed}
+use Rattle.cq_model_bags.proofs.Entries.{weighed, weight_of-weighed}
 use Rattle.cq_model_bags.proofs.Sizes.{support, sum-ones, total-ones, weight_of-support}
 
 -- ---- which images are there

@@ -1,29 +1,56 @@
 -- Joins of narrower rows are the narrower rows of joins.
-use Rattle.std.proofs.Common.{◌≡◌, ℕ, ◌+◌, ◌<◌, ◌≤◌, ◌-◌, Bool, true, ◌&&◌, nat_lt, List, [], ◌∷◌, ◌++◌, map, length, refl, sym, ◌∙◌, ap, arith, append_assoc}
+use Rattle.std.proofs.Common.{◌≡◌, ℕ, ◌+◌, ◌<◌, ◌≤◌, ◌-◌, ℤ, ◌*ℤ◌, Bool, true, ◌&&◌, nat_lt, List, [], ◌∷◌, ◌++◌, map, length, refl, sym, ◌∙◌, ap, ap₂, arith, append_assoc}
 use Rattle.std.proofs.lemmas.Bool.Decides.{nat_tests}
-use Rattle.std.proofs.lemmas.List.{append-nil}
+use Rattle.std.proofs.lemmas.List.{append-nil, map-append}
 use Rattle.std.specs.List.{AllByRecursion}
 use Rattle.cq_values.specs.declared.comparison.Comparison.TheVariants.{Equal}
 use Rattle.cq_values.specs.Comparison.{compared}
 use Rattle.cq_values.specs.Truth.{is_true}
 use Rattle.cq_values.specs.Value.{Row}
-use Rattle.cq_model_bags.specs.Bag.{Weighted, projected}
-use Rattle.cq_model_bags.specs.Left.{nulls}
+use Rattle.cq_model_bags.specs.Bag.{Weighted, joined, pairs_of, projected}
 use Rattle.cq_model_bags.specs.Join.{HasWidth}
 use Rattle.cq_model_bags.proofs.Totals.{by_test}
-use Rattle.cq_model_laws.proofs.JoinKinds.{kind-width}
-use Rattle.cq_model_laws.proofs.Nulls.{column-nulls}
+use Rattle.cq_model_bags.proofs.Widths.{joined-width}
 use Rattle.cq_model.specs.Pushed.{HaveWidths}
 use Rattle.cq_model.specs.Group.{key_of}
-use Rattle.cq_model.specs.Meaning.{IsAsWide, Tables, chain, joined_by, meets}
+use Rattle.cq_model.specs.Meaning.{Tables, chain, meets}
 use Rattle.cq_model.specs.declared.query.Equality.{Equality}
 use Rattle.cq_model.specs.declared.query.Join.{Join}
 use Rattle.cq_model.specs.declared.query.Source.{Source}
-use Rattle.cq_views_columns.specs.Narrow.{JoinsAreWide, renamed_join, renamed_on}
-use Rattle.cq_views_columns.proofs.LeftJoins.{kind-projected}
+use Rattle.cq_views_columns.specs.Narrow.{renamed_join, renamed_on}
 use Rattle.cq_model_terms.specs.Places.{is_one_of, place_in}
 use Rattle.cq_views_columns.specs.Places.{behind, places_from}
 use Rattle.cq_views_columns.proofs.Rows.{all-below, below-joined, column-kept, column-of-kept, is_one-front, is_one-joined, key-joined}
+
+-- ---- joins of images
+-- where images go together as the rows do, and their pairs are images of pairs
+module _ (on also : Row → Row → Bool) (f g both : Row → Row) where
+  abbrev GoTogether : Row → Row → Type 0
+  GoTogether r s = (on (f r) (g s) ≡ also r s) × (f r ++ g s ≡ both (r ++ s))
+
+  pairs-through : (x : Row × ℤ) (ys : Weighted) → AllByRecursion (λ y. GoTogether x.0 y.0) ys → pairs_of on (f x.0, x.1) (projected g ys) ≡ projected both (pairs_of also x ys)
+  pairs-through x [] h = refl
+  pairs-through x (y ∷ ys) h =
+      let rest = pairs-through x ys h.1 in
+      by_test (also x.0 y.0)
+      (λ k. rw (h.0.0, k) (λ i. (h.0.1 i, x.1 *ℤ y.1) ∷ rest i))
+      (λ k. rw (h.0.0, k) rest)
+
+  pub joined-through : (xs ys : Weighted) → AllByRecursion (λ x. AllByRecursion (λ y. GoTogether x.0 y.0) ys) xs → joined on (projected f xs) (projected g ys) ≡ projected both (joined also xs ys)
+  joined-through [] ys h = refl
+  joined-through (x ∷ xs) ys h =
+      ap₂ (λ (us vs : Weighted). us ++ vs) (pairs-through x ys h.0) (joined-through xs ys h.1)
+      ∙ sym (map-append (λ (z : Row × ℤ). (both z.0, z.1)) (pairs_of also x ys) (joined also xs ys))
+
+-- what holds of two rows of these widths holds of each two of two lists
+both-wide : (P : Row → Row → Type 0) (n m : ℕ) → ((r s : Row) → length r ≡ n → length s ≡ m → P r s) → (xs ys : Weighted) → HasWidth n xs → HasWidth m ys
+    → AllByRecursion (λ x. AllByRecursion (λ y. P x.0 y.0) ys) xs
+both-wide P n m f [] ys v w = tt
+both-wide P n m f (x ∷ xs) ys v w = (with_each ys w, both-wide P n m f xs ys v.1 w)
+  where
+    with_each : (zs : Weighted) → HasWidth m zs → AllByRecursion (λ y. P x.0 y.0) zs
+    with_each [] u = tt
+    with_each (z ∷ zs) u = (f x.0 z.0 v.0 u.0, with_each zs u.1)
 
 -- ---- ON
 module _ (front more own : List ℕ) (r s : Row) where
@@ -105,39 +132,32 @@ module _ (read : ℕ → Bool) (columns : Source → List ℕ) (width : Source �
       kept-on [] c = tt
       kept-on (q ∷ es) c = ((λ k. h q.left (grind (arith, nat_tests, k, e)) c.0.0, λ k. c.0.1 (grind (arith, nat_tests, k, d))), kept-on es c.1)
 
-  -- NULLs have NULL in each column
-  key-nulls : (m : ℕ) (own : List ℕ) → key_of own (nulls m) ≡ nulls (length own)
-  key-nulls m [] = refl
-  key-nulls m (c ∷ own) = λ i. column-nulls m c i ∷ key-nulls m own i
-
-  -- a row with NULLs behind it is so in its columns
-  pub key-padded : (front own : List ℕ) (n m : ℕ) (r : Row) → length r ≡ n → AllByRecursion (λ c. c < n) front → key_of (front ++ behind n own) (r ++ nulls m) ≡ key_of front r ++ nulls (length own)
-  key-padded front own n m r e below = key-joined front own n r (nulls m) e below ∙ ap (λ (q : Row). key_of front r ++ q) (key-nulls m own)
-
   module _ (tables : Tables) (wide : HaveWidths width tables) where
     -- the joined rows have all columns
-    pub chain-wide : (n : ℕ) (xs : Weighted) (js : List Join) → HasWidth n xs → JoinsAreWide width js → HasWidth (columns_behind n js) (chain tables xs js)
-    chain-wide n xs [] w fits = w
-    chain-wide n xs (j ∷ js) w fits = chain-wide (n + width j.source) (joined_by j.kind (meets j.on) xs (tables j.source)) js (kind-width j.kind (meets j.on) n (width j.source) fits.0 xs (tables j.source) w (wide j.source)) fits.1
+    pub chain-wide : (n : ℕ) (xs : Weighted) (js : List Join) → HasWidth n xs → HasWidth (columns_behind n js) (chain tables xs js)
+    chain-wide n xs [] w = w
+    chain-wide n xs (j ∷ js) w = chain-wide (n + width j.source) (joined (meets j.on) xs (tables j.source)) js (joined-width (meets j.on) n (width j.source) xs (tables j.source) w (wide j.source))
 
     -- one join of narrower rows
-    pub next-narrow : (kept front more : List ℕ) (n : ℕ) (xs : Weighted) (j : Join) → kept ≡ front ++ more → HasWidth n xs → IsAsWide j.kind (width j.source) → AllByRecursion (λ c. c < n) front → HasRead n front → AllByRecursion (IsCovered j.source) j.on
-        → joined_by (renamed_join (place_in kept) columns j).kind (meets (renamed_join (place_in kept) columns j).on) (projected (key_of front) xs) (projected (key_of (columns j.source)) (tables j.source))
-        ≡ projected (key_of (front ++ behind n (columns j.source))) (joined_by j.kind (meets j.on) xs (tables j.source))
-    next-narrow kept front more n xs j are w fits below h on =
+    pub next-narrow : (kept front more : List ℕ) (n : ℕ) (xs : Weighted) (j : Join) → kept ≡ front ++ more → HasWidth n xs → AllByRecursion (λ c. c < n) front → HasRead n front → AllByRecursion (IsCovered j.source) j.on
+        → joined (meets (renamed_join (place_in kept) columns j).on) (projected (key_of front) xs) (projected (key_of (columns j.source)) (tables j.source))
+        ≡ projected (key_of (front ++ behind n (columns j.source))) (joined (meets j.on) xs (tables j.source))
+    next-narrow kept front more n xs j are w below h on =
         let own = columns j.source in
-        kind-projected (meets (renamed_join (place_in kept) columns j).on) (meets j.on) (key_of front) (key_of own) (key_of (front ++ behind n own)) n (width j.source) (length own)
-        (meets-narrow kept front more n j are h on) (λ r s e d. key-joined front own n r s e below) (λ r e. key-padded front own n (width j.source) r e below)
-        j.kind fits xs (tables j.source) w (wide j.source)
+        let narrower = meets (renamed_join (place_in kept) columns j).on in
+        joined-through narrower (meets j.on) (key_of front) (key_of own) (key_of (front ++ behind n own)) xs (tables j.source)
+        (both-wide (GoTogether narrower (meets j.on) (key_of front) (key_of own) (key_of (front ++ behind n own))) n (width j.source)
+        (λ r s e d. (meets-narrow kept front more n j are h on r s e d, sym (key-joined front own n r s e below)))
+        xs (tables j.source) w (wide j.source))
 
     -- a chain of them
-    pub chain-narrow : (kept front : List ℕ) (n : ℕ) (xs : Weighted) (js : List Join) → kept ≡ all_places front n js → HasWidth n xs → JoinsAreWide width js → AllByRecursion (λ c. c < n) front → HasRead n front → AreCovered n js
+    pub chain-narrow : (kept front : List ℕ) (n : ℕ) (xs : Weighted) (js : List Join) → kept ≡ all_places front n js → HasWidth n xs → AllByRecursion (λ c. c < n) front → HasRead n front → AreCovered n js
         → chain (λ s. projected (key_of (columns s)) (tables s)) (projected (key_of front) xs) (map (renamed_join (place_in kept) columns) js) ≡ projected (key_of kept) (chain tables xs js)
-    chain-narrow kept front n xs [] are w fits below h c = ap (λ (ks : List ℕ). projected (key_of ks) xs) (sym (are ∙ append-nil front))
-    chain-narrow kept front n xs (j ∷ js) are w fits below h c =
+    chain-narrow kept front n xs [] are w below h c = ap (λ (ks : List ℕ). projected (key_of ks) xs) (sym (are ∙ append-nil front))
+    chain-narrow kept front n xs (j ∷ js) are w below h c =
         let own = columns j.source in
-        let next = joined_by j.kind (meets j.on) xs (tables j.source) in
+        let next = joined (meets j.on) xs (tables j.source) in
         ap (λ (zs : Weighted). chain (λ s. projected (key_of (columns s)) (tables s)) zs (map (renamed_join (place_in kept) columns) js))
-        (next-narrow kept front (places_from columns n (map (λ k. k.source) (j ∷ js)) (map width (map (λ k. k.source) (j ∷ js)))) n xs j are w fits.0 below h c.1)
-        ∙ chain-narrow kept (front ++ behind n own) (n + width j.source) next js (are ∙ more-places front n j js c.0.within) (kind-width j.kind (meets j.on) n (width j.source) fits.0 xs (tables j.source) w (wide j.source)) fits.1
+        (next-narrow kept front (places_from columns n (map (λ k. k.source) (j ∷ js)) (map width (map (λ k. k.source) (j ∷ js)))) n xs j are w below h c.1)
+        ∙ chain-narrow kept (front ++ behind n own) (n + width j.source) next js (are ∙ more-places front n j js c.0.within) (joined-width (meets j.on) n (width j.source) xs (tables j.source) w (wide j.source))
         (below-joined n (width j.source) front own below c.0.within) (has_read-more n j.source front h c.0) c.2

@@ -1,6 +1,5 @@
 pub mod Sources
 pub mod Rows
-pub mod LeftJoins
 pub mod Joined
 pub mod Grouped
 pub mod Covered

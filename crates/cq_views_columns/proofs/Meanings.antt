@@ -1,7 +1,7 @@
 -- A query whose columns are renamed means over the narrower rows what it means over the whole rows, and its joins do no more work.
 use Rattle.std.proofs.Common.{◌≡◌, ◌↔◌, ℕ, ◌+◌, ◌<◌, ◌≤◌, true, ◌||◌, if◌then◌else◌, List, [], ◌∷◌, ◌++◌, map, length, refl, sym, ◌∙◌, ap, subst, arith}
 use Rattle.std.proofs.lemmas.Bool.Decides.{nat_tests}
-use Rattle.std.specs.List.{AllByRecursion, AllZip, list_any}
+use Rattle.std.specs.List.{AllByRecursion, list_any}
 use Rattle.std.specs.Option.{option_map}
 use Rattle.cq_values.specs.Value.{Row, column}
 use Rattle.cq_model_bags.specs.Bag.{IsBag, Weighted, distinct, filtered, projected}
@@ -10,19 +10,15 @@ use Rattle.cq_model_bags.proofs.Widths.{filtered-width}
 use Rattle.cq_model.specs.Pushed.{HaveWidths}
 use Rattle.cq_model_laws.proofs.Positives.{joined_rows-bag}
 use Rattle.cq_model.specs.Group.{key_of}
-use Rattle.cq_model.specs.Meaning.{IsAsWide, MeaningInRange, ShapeInRange, Tables, chain, joined_rows, keeps, meaning, shown}
+use Rattle.cq_model.specs.Meaning.{MeaningInRange, ShapeInRange, Tables, chain, joined_rows, keeps, meaning, shown}
 use Rattle.cq_model.specs.Sizes.{column_sizes}
 use Rattle.cq_model.specs.Views.{sources_of}
-use Rattle.cq_model.specs.declared.query.Join.{Join}
-use Rattle.cq_model.specs.declared.query.JoinKind.{JoinKind}
-use Rattle.cq_model.specs.declared.query.JoinKind.TheVariants.{Inner, Left}
 use Rattle.cq_model.specs.declared.query.Query.{Query}
 use Rattle.cq_model.specs.declared.query.Source.{Source}
-use Rattle.cq_plan.specs.Planned.{JoinsFit}
 use Rattle.cq_views_model.specs.Delta.{chain_work, joins_work}
 use Rattle.cq_views_model.specs.Query.{CanBeKept}
 use Rattle.cq_views_columns.specs.Laws.{IsRenamedOf}
-use Rattle.cq_views_columns.specs.Narrow.{HaveColumns, HaveColumnsAlike, IsNarrowOf, JoinsAreWide, columns_at, narrowed_bags, renamed_join, renamed_kind, renamed_query, sources_read}
+use Rattle.cq_views_columns.specs.Narrow.{HaveColumns, HaveColumnsAlike, IsNarrowOf, columns_at, narrowed_bags, renamed_query, sources_read}
 use Rattle.cq_model_terms.specs.Places.{is_one_of, place_in}
 use Rattle.cq_views_columns.specs.Places.{behind, places_from}
 use Rattle.cq_views_columns.specs.Reads.{reads_filter, reads_joined, reads_left, reads_shape}
@@ -40,7 +36,7 @@ use Rattle.cq_model_terms.specs.Laws.{AreSameOn}
 
 -- columns for each source, among which are those that the query reads
 module _ (q : Query) (columns : Source → List ℕ) (width : Source → ℕ) (first : Covers (reads_joined q) columns width 0 q.first)
-    (joins : AreCovered (reads_joined q) columns width (0 + width q.first) q.joins) (fits : JoinsAreWide width q.joins) where
+    (joins : AreCovered (reads_joined q) columns width (0 + width q.first) q.joins) where
   abbrev places : List ℕ
   places = places_from columns 0 (sources_of q) (map width (sources_of q))
 
@@ -93,10 +89,10 @@ module _ (q : Query) (columns : Source → List ℕ) (width : Source → ℕ) (f
     chain-same : chain (narrower tables) (narrower tables q.first) new.joins ≡ projected (key_of places) (chain tables (tables q.first) q.joins)
     chain-same =
         ap (λ (cs : List ℕ). chain (narrower tables) (projected (key_of cs) (tables q.first)) new.joins) (sym (same-front (columns q.first)))
-        ∙ chain-narrow (reads_joined q) columns width tables wide places front (0 + width q.first) (tables q.first) q.joins are-places (wide-first tables wide) fits front-below front-read joins
+        ∙ chain-narrow (reads_joined q) columns width tables wide places front (0 + width q.first) (tables q.first) q.joins are-places (wide-first tables wide) front-below front-read joins
 
     chain-count : HasWidth count (chain tables (tables q.first) q.joins)
-    chain-count = chain-wide (reads_joined q) columns width tables wide (0 + width q.first) (tables q.first) q.joins (wide-first tables wide) fits
+    chain-count = chain-wide (reads_joined q) columns width tables wide (0 + width q.first) (tables q.first) q.joins (wide-first tables wide)
 
     -- WHERE keeps the same
     joined-same : joined_rows new (narrower tables) ≡ projected (key_of places) (joined_rows q tables)
@@ -131,7 +127,7 @@ module _ (q : Query) (columns : Source → List ℕ) (width : Source → ℕ) (f
       subst (λ (cs : List ℕ). chain_work (narrower tables) (narrower changes) (projected (key_of cs) (tables q.first)) (projected (key_of cs) (changes q.first)) new.joins ≤ joins_work q tables changes)
       (same-front (columns q.first))
       (work-narrow (reads_joined q) columns width tables changes wide more places front (0 + width q.first) (tables q.first) (changes q.first) q.joins
-      are-places (wide-first tables wide) (wide-first changes more) fits front-below front-read joins)
+      are-places (wide-first tables wide) (wide-first changes more) front-below front-read joins)
 
 -- the columns that are read, for widths of the sources
 abbrev read_of : Query → List ℕ → Source → List ℕ
@@ -143,61 +139,39 @@ new_of q widths = renamed_query (places_from (read_of q widths) 0 (sources_of q)
 abbrev bags_of : Query → List ℕ → Tables → Tables
 bags_of q widths tables = narrowed_bags (sources_read q widths (sources_of q) widths) tables
 
--- left joins that have a NULL for each column by these widths
-joins-wide : (width : Source → ℕ) (js : List Join) → AllZip (λ j wide. IsAsWide j.kind wide) js (map width (map (λ (j : Join). j.source) js)) → JoinsAreWide width js
-joins-wide width [] fit = tt
-joins-wide width (j ∷ js) fit = (fit.0, joins-wide width js fit.1)
+bag-read : (q : Query) (widths : List ℕ) (tables : Tables) → HaveColumns q widths tables → meaning (new_of q widths) (bags_of q widths tables) ≡ meaning q tables
+bag-read q widths tables h =
+    subst (λ (ws : List ℕ). meaning (new_of q ws) (bags_of q ws tables) ≡ meaning q tables) h.from
+    (meaning-same q (read_of q (map h.width (sources_of q))) h.width (first-covers q h.width) (all-covered q h.width) tables h.rows h.bags)
 
--- so it is source by source
-fit-wide : (q : Query) (widths : List ℕ) → JoinsFit q.joins widths → (width : Source → ℕ) → map width (sources_of q) ≡ widths → JoinsAreWide width q.joins
-fit-wide q widths fit width from = joins-wide width q.joins (subst (JoinsFit q.joins) (sym from) fit)
+range-read : (q : Query) (widths : List ℕ) (tables : Tables) → HaveColumns q widths tables → MeaningInRange (new_of q widths) (bags_of q widths tables) ↔ MeaningInRange q tables
+range-read q widths tables h =
+    subst (λ (ws : List ℕ). MeaningInRange (new_of q ws) (bags_of q ws tables) ↔ MeaningInRange q tables) h.from
+    (range-same q (read_of q (map h.width (sources_of q))) h.width (first-covers q h.width) (all-covered q h.width) tables h.rows h.bags)
 
-module _ (q : Query) (widths : List ℕ) (fit : JoinsFit q.joins widths) where
-  bag-read : (tables : Tables) → HaveColumns q widths tables → meaning (new_of q widths) (bags_of q widths tables) ≡ meaning q tables
-  bag-read tables h =
-      subst (λ (ws : List ℕ). meaning (new_of q ws) (bags_of q ws tables) ≡ meaning q tables) h.from
-      (meaning-same q (read_of q (map h.width (sources_of q))) h.width (first-covers q h.width) (all-covered q h.width) (fit-wide q widths fit h.width h.from) tables h.rows h.bags)
-
-  range-read : (tables : Tables) → HaveColumns q widths tables → MeaningInRange (new_of q widths) (bags_of q widths tables) ↔ MeaningInRange q tables
-  range-read tables h =
-      subst (λ (ws : List ℕ). MeaningInRange (new_of q ws) (bags_of q ws tables) ↔ MeaningInRange q tables) h.from
-      (range-same q (read_of q (map h.width (sources_of q))) h.width (first-covers q h.width) (all-covered q h.width) (fit-wide q widths fit h.width h.from) tables h.rows h.bags)
-
-  work-read : (tables changes : Tables) → HaveColumnsAlike q widths tables changes
-      → joins_work (new_of q widths) (bags_of q widths tables) (bags_of q widths changes) ≤ joins_work q tables changes
-  work-read tables changes h =
-      subst (λ (ws : List ℕ). joins_work (new_of q ws) (bags_of q ws tables) (bags_of q ws changes) ≤ joins_work q tables changes) h.from
-      (work-less q (read_of q (map h.width (sources_of q))) h.width (first-covers q h.width) (all-covered q h.width) (fit-wide q widths fit h.width h.from) tables changes h.rows h.more)
-
--- each left join has a NULL for each column that is kept of its source
-renamed-wide : (to : ℕ → ℕ) (columns : Source → List ℕ) (js : List Join) → JoinsAreWide (λ s. length (columns s)) (map (renamed_join to columns) js)
-renamed-wide to columns [] = tt
-renamed-wide to columns (j ∷ js) = (one j.kind, renamed-wide to columns js)
-  where
-    one : (kind : JoinKind) → IsAsWide (renamed_kind (length (columns j.source)) kind) (length (columns j.source))
-    one Inner = tt
-    one (Left width) = refl
+work-read : (q : Query) (widths : List ℕ) (tables changes : Tables) → HaveColumnsAlike q widths tables changes
+    → joins_work (new_of q widths) (bags_of q widths tables) (bags_of q widths changes) ≤ joins_work q tables changes
+work-read q widths tables changes h =
+    subst (λ (ws : List ℕ). joins_work (new_of q ws) (bags_of q ws tables) (bags_of q ws changes) ≤ joins_work q tables changes) h.from
+    (work-less q (read_of q (map h.width (sources_of q))) h.width (first-covers q h.width) (all-covered q h.width) tables changes h.rows h.more)
 
 -- the statement of the law
-pub renamed-means : (whole : Query) (widths : List ℕ) (new : NarrowQuery) → JoinsFit whole.joins widths → IsRenamedOf whole widths new → IsNarrowOf whole widths new
-renamed-means whole widths new fit is =
+pub renamed-means : (whole : Query) (widths : List ℕ) (new : NarrowQuery) → IsRenamedOf whole widths new → IsNarrowOf whole widths new
+renamed-means whole widths new is =
     let places = places_from (read_of whole widths) 0 (sources_of whole) widths in
     let made : new.query ≡ new_of whole widths =
     is.query ∙ ap (λ (cs : List SourceColumns). renamed_query (places_from (columns_at cs) 0 (sources_of whole) widths) (columns_at cs) whole) is.columns in
     record {
       columns = is.columns;
-      bag = λ tables h. (λ i. meaning (made i) (narrowed_bags (is.columns i) tables)) ∙ bag-read whole widths fit tables h;
+      bag = λ tables h. (λ i. meaning (made i) (narrowed_bags (is.columns i) tables)) ∙ bag-read whole widths tables h;
       range = λ tables h.
           subst (λ (cs : List SourceColumns). MeaningInRange new.query (narrowed_bags cs tables) ↔ MeaningInRange whole tables) (sym is.columns)
-          (subst (λ (p : Query). MeaningInRange p (bags_of whole widths tables) ↔ MeaningInRange whole tables) (sym made) (range-read whole widths fit tables h));
+          (subst (λ (p : Query). MeaningInRange p (bags_of whole widths tables) ↔ MeaningInRange whole tables) (sym made) (range-read whole widths tables h));
       sources = ap sources_of made ∙ renamed-sources places (read_of whole widths) whole;
-      joins =
-          subst (λ (cs : List SourceColumns). JoinsAreWide (λ s. length (columns_at cs s)) new.query.joins) (sym is.columns)
-          (subst (λ (p : Query). JoinsAreWide (λ s. length (read_of whole widths s)) p.joins) (sym made) (renamed-wide (place_in places) (read_of whole widths) whole.joins));
       distinct = ap (λ (q : Query). q.distinct) made;
       sizes = ap column_sizes made ∙ renamed-sizes places (read_of whole widths) whole;
       kept = λ k. subst CanBeKept (sym made) (renamed-kept places (read_of whole widths) whole k);
       work = λ tables changes h.
           subst (λ (cs : List SourceColumns). joins_work new.query (narrowed_bags cs tables) (narrowed_bags cs changes) ≤ joins_work whole tables changes) (sym is.columns)
-          (subst (λ (p : Query). joins_work p (bags_of whole widths tables) (bags_of whole widths changes) ≤ joins_work whole tables changes) (sym made) (work-read whole widths fit tables changes h));
+          (subst (λ (p : Query). joins_work p (bags_of whole widths tables) (bags_of whole widths changes) ≤ joins_work whole tables changes) (sym made) (work-read whole widths tables changes h));
     }

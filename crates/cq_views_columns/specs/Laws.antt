@@ -8,7 +8,6 @@ use Rattle.cq_model.specs.Meaning.{Tables}
 use Rattle.cq_model.specs.Views.{sources_of}
 use Rattle.cq_model.specs.declared.query.Query.{Query}
 use Rattle.cq_model.specs.declared.query.Source.{Source}
-use Rattle.cq_plan.specs.Planned.{JoinsFit}
 use Rattle.cq_views_columns.specs.Narrow.{IsNarrowOf, columns_at, narrowed_bags, renamed_over, sources_read}
 use Rattle.cq_views_columns.specs.declared.columns.SourceColumns.{SourceColumns}
 use Rattle.cq_views_columns.specs.declared.narrow_query.NarrowQuery.{NarrowQuery}
@@ -18,10 +17,9 @@ pub record IsRenamedOf (whole : Query) (widths : List ℕ) (new : NarrowQuery) :
   pub columns : new.columns ≡ sources_read whole widths (sources_of whole) widths
   pub query : new.query ≡ renamed_over whole (sources_of whole) widths new.columns
 
--- it means the same over the narrower rows, where its left joins have a NULL for each column of their sources
+-- it means the same over the narrower rows
 abbrev pub RenamedMeansSame : Type 0
-RenamedMeansSame =
-    (whole : Query) (widths : List ℕ) (new : NarrowQuery) → JoinsFit whole.joins widths → IsRenamedOf whole widths new → IsNarrowOf whole widths new
+RenamedMeansSame = (whole : Query) (widths : List ℕ) (new : NarrowQuery) → IsRenamedOf whole widths new → IsNarrowOf whole widths new
 
 -- narrower rows have these columns alone, change as the whole rows do, and are a bag, and stored, where these are
 pub record AreNarrow (columns : List SourceColumns) (source : Source) : Type 0 where

@@ -1,19 +1,17 @@
 -- A query over rows that have the columns alone which it reads.
-use Rattle.std.specs.Prelude.{◌≡◌, ◌↔◌, ℕ, ◌≤◌, if◌then◌else◌, List, [], ◌∷◌, length, map, filter, Option}
-use Rattle.std.specs.List.{AllByRecursion, range_with_len}
+use Rattle.std.specs.Prelude.{◌≡◌, ◌↔◌, ℕ, ◌≤◌, if◌then◌else◌, List, [], ◌∷◌, map, filter, Option}
+use Rattle.std.specs.List.{range_with_len}
 use Rattle.std.specs.Option.{option_map}
 use Rattle.cq_model_bags.specs.Bag.{IsBag, projected}
 use Rattle.cq_model.specs.Expr.{Cond, Expr}
 use Rattle.cq_model.specs.Pushed.{HaveWidths}
 use Rattle.cq_model.specs.Sources.{same_source}
 use Rattle.cq_model.specs.Group.{key_of}
-use Rattle.cq_model.specs.Meaning.{IsAsWide, Tables, meaning, MeaningInRange}
+use Rattle.cq_model.specs.Meaning.{Tables, meaning, MeaningInRange}
 use Rattle.cq_model.specs.Sizes.{column_sizes}
 use Rattle.cq_model.specs.Views.{sources_of}
 use Rattle.cq_model.specs.declared.query.Equality.{Equality}
 use Rattle.cq_model.specs.declared.query.Join.{Join}
-use Rattle.cq_model.specs.declared.query.JoinKind.{JoinKind}
-use Rattle.cq_model.specs.declared.query.JoinKind.TheVariants.{Inner, Left}
 use Rattle.cq_model.specs.declared.query.Query.{Query}
 use Rattle.cq_model.specs.declared.query.Source.{Source}
 use Rattle.cq_views_model.specs.Query.{CanBeKept}
@@ -52,18 +50,9 @@ joined_places columns sources widths = places_from (columns_at columns) 0 source
 abbrev pub renamed_on : (ℕ → ℕ) → List ℕ → List Equality → List Equality
 renamed_on to own on = map (λ e. record { left = to e.left; right = place_in own e.right }) on
 
--- a left join has a NULL for each of so many columns then
-abbrev pub renamed_kind : ℕ → JoinKind → JoinKind
-renamed_kind wide Inner = Inner
-renamed_kind wide (Left width) = Left wide
-
 -- and a join
 abbrev pub renamed_join : (ℕ → ℕ) → (Source → List ℕ) → Join → Join
-renamed_join to columns join = record {
-  kind = renamed_kind (length (columns join.source)) join.kind;
-  source = join.source;
-  on = renamed_on to (columns join.source) join.on;
-}
+renamed_join to columns join = record { source = join.source; on = renamed_on to (columns join.source) join.on }
 
 -- several joins; these are the places of the columns in the joined rows
 abbrev pub renamed_joins : List ℕ → (Source → List ℕ) → List Join → List Join
@@ -89,10 +78,6 @@ renamed_query places columns q = record q {
 -- a query over rows with these columns alone, whose sources have these widths
 abbrev pub renamed_over : Query → List Source → List ℕ → List SourceColumns → Query
 renamed_over q sources widths columns = renamed_query (joined_places columns sources widths) (columns_at columns) q
-
--- each left join has a NULL for each column of its source
-abbrev pub JoinsAreWide : (Source → ℕ) → List Join → Type 0
-JoinsAreWide width joins = AllByRecursion (λ j. IsAsWide j.kind (width j.source)) joins
 
 -- bags whose rows have as many columns as these widths say, source by source of FROM
 pub record HaveColumns (q : Query) (widths : List ℕ) (tables : Tables) : Type 0 where
@@ -123,7 +108,6 @@ pub record IsNarrowOf (query : Query) (widths : List ℕ) (new : NarrowQuery) : 
   pub bag : (tables : Tables) → HaveColumns query widths tables → meaning new.query (narrowed_bags new.columns tables) ≡ meaning query tables
   pub range : (tables : Tables) → HaveColumns query widths tables → IsInRangeAlike query new tables
   pub sources : sources_of new.query ≡ sources_of query
-  pub joins : JoinsAreWide (λ s. length (columns_at new.columns s)) new.query.joins
   pub distinct : new.query.distinct ≡ query.distinct
   pub sizes : column_sizes new.query ≡ column_sizes query
   pub kept : CanBeKept query → CanBeKept new.query

@@ -3,7 +3,6 @@
 //! [`NarrowQuery::of`] is called once, when a view is made. From then on each row of a source is cut to the source's
 //! `columns` before `query` sees it, so that a row costs what is read of it, however wide the table is.
 ghost use Rattle.std.specs.Prelude.{◌<◌, ◌^◌, ◌≡◌, IfOk, sum};
-ghost use Rattle.cq_plan.specs.Planned.{JoinsFit};
 ghost use Rattle.cq_views_columns.specs.Narrow.{IsNarrowOf, renamed_over};
 
 use crate::columns::{SourceColumns, sources_read};
@@ -26,8 +25,7 @@ pub struct NarrowQuery {
 impl NarrowQuery {
     /// The query over the columns that it reads. The rows of what FROM names have so many columns, in its order.
     pub fn of(alloc: Global, query: &Query, widths: &[usize]) -> Result<NarrowQuery, AllocError>
-        requires widths { sum widths.now < 2 ^ 64 }
-        requires fit { JoinsFit query.now.joins widths.now }
+        requires { sum widths.now < 2 ^ 64 }
         ensures { IfOk result (IsNarrowOf query.now widths.now) }
     {
         renamed_means_same();

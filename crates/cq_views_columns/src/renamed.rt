@@ -4,11 +4,11 @@ ghost use Rattle.std.specs.Prelude.{◌≡◌, IfOk, map};
 ghost use Rattle.cq_model_terms.specs.Naming.{place_by};
 ghost use Rattle.cq_model_terms.specs.Places.{place_in};
 ghost use Rattle.cq_model_terms.specs.Renamed.{renamed, renamed_cond};
-ghost use Rattle.cq_views_columns.specs.Narrow.{columns_at, filter_at, items_at, renamed_joins, renamed_kind, renamed_on, renamed_query};
+ghost use Rattle.cq_views_columns.specs.Narrow.{columns_at, filter_at, items_at, renamed_joins, renamed_on, renamed_query};
 ghost use Rattle.cq_views_columns.specs.Renamed.{groups_at, renamed_aggregate, renamed_items, renamed_shape};
 
 use crate::columns::{SourceColumns, columns_at};
-use cq_model::{Aggregate, Cond, Equality, Expr, Join, JoinKind, Query, Shape};
+use cq_model::{Aggregate, Cond, Equality, Expr, Join, Query, Shape};
 use cq_model_terms::{Naming, place_in, renamed_cond, renamed_expr};
 use cq_values::{Seq, both};
 use std::alloc::{AllocError, Global};
@@ -48,22 +48,11 @@ fn renamed_joins(
         let own = columns_at(columns, join.source);
         let on = renamed_on(alloc, join.on.as_slice(), places, own)?;
         all.push(Join {
-            kind: renamed_kind(join.kind, own.len()),
             source: join.source,
             on,
         })?;
     }
     Ok(all)
-}
-
-/// The kind of a join with a source that has so many columns then.
-fn renamed_kind(kind: JoinKind, wide: usize) -> JoinKind
-    ensures { result ≡ renamed_kind wide kind }
-{
-    match kind {
-        JoinKind::Inner => JoinKind::Inner,
-        JoinKind::Left(_) => JoinKind::Left(wide),
-    }
 }
 
 fn renamed_on(

@@ -1,5 +1,4 @@
 pub mod Delta
-pub mod Keyed
 pub mod Kept
 pub mod Query
 pub mod Shown

@@ -1,29 +1,23 @@
 -- Conditions below the joins of a chain leave rows out of the joined rows, and lessen the work of their change.
 use Rattle.std.proofs.Common.{◌≡◌, ◌∙◌, ℕ, ◌+◌, ◌≤◌, Bool, List, [], ◌∷◌, ◌++◌, refl, sym, ap, arith}
-use Rattle.std.specs.List.{AllByRecursion}
 use Rattle.std.proofs.lemmas.Int.{ints}
 use Rattle.cq_values.specs.Value.{Row}
 use Rattle.cq_model_bags.proofs.Bags.{filtered-respects}
-use Rattle.cq_model_bags.proofs.Fewer.{size-fewer}
+use Rattle.cq_model_bags.proofs.Fewer.{pairs-fewer, size-fewer}
 use Rattle.cq_model_bags.proofs.Linears.{filtered-append}
 use Rattle.cq_model_bags.proofs.Totals.{weight_of-append}
-use Rattle.cq_model_bags.proofs.Widths.{append-width, on_parts}
-use Rattle.cq_model_bags.specs.Bag.{Weighted, SameBag, filtered, weight_of}
-use Rattle.cq_model_bags.specs.Join.{HasWidth}
-use Rattle.cq_views_model.specs.Delta.{chain_change, chain_work, change_by, changed}
-use Rattle.cq_model.specs.Pushed.{DropsNone, HaveWidths}
-use Rattle.cq_model_laws.proofs.JoinKinds.{kind-filtered, kind-width, kind_change-filtered, kind_change-width, kind_work-fewer}
+use Rattle.cq_model_bags.proofs.Widths.{append-width, joined-filtered, joined-width, on_parts}
+use Rattle.cq_model_bags.specs.Bag.{Weighted, SameBag, filtered, joined, weight_of}
+use Rattle.cq_model_bags.specs.Join.{HasWidth, join_change}
+use Rattle.cq_views_model.specs.Delta.{chain_change, chain_work, changed, join_work}
+use Rattle.cq_model.specs.Pushed.{HaveWidths}
 use Rattle.cq_model_laws.proofs.Chains.{chain-law}
-use Rattle.cq_model.specs.Meaning.{IsAsWide, Tables, chain, joined_by, keeps, meets}
+use Rattle.cq_model.specs.Meaning.{Tables, chain, keeps, meets}
 use Rattle.cq_model.specs.declared.query.Source.{Source}
 use Rattle.cq_deltas_joins.specs.Chains.{IsChange, Stands, joined_from, joins_of, rows_of}
 use Rattle.cq_deltas_joins.specs.Work.{work_along}
 use Rattle.cq_deltas_joins.specs.declared.chain.Chain.{Chain}
 use Rattle.cq_deltas_joins.specs.declared.step.Step.{Step}
-
--- a step has a NULL for each of its source's columns, and drops no row below a left join
-abbrev pub StepFits : (Source → ℕ) → Step → Type 0
-StepFits width s = IsAsWide s.kind (width s.source) × DropsNone s.kind (keeps s.below)
 
 module _ (width : Source → ℕ) where
   -- what the conditions of steps make of one on the rows before them, which have so many columns
@@ -32,45 +26,63 @@ module _ (width : Source → ℕ) where
   all_of n keep (s ∷ steps) = all_of (n + width s.source) (on_parts n keep (keeps s.below)) steps
 
   -- behind the steps are the joined rows that pass it
-  rows-filtered : (tables : Tables) → HaveWidths width tables → (n : ℕ) (keep : Row → Bool) (xs : Weighted) → HasWidth n xs → (steps : List Step) → AllByRecursion (StepFits width) steps
+  rows-filtered : (tables : Tables) → HaveWidths width tables → (n : ℕ) (keep : Row → Bool) (xs : Weighted) → HasWidth n xs → (steps : List Step)
       → joined_from tables (filtered keep xs) steps ≡ filtered (all_of n keep steps) (chain tables xs (joins_of steps))
-  rows-filtered tables wide n keep xs w [] fits = refl
-  rows-filtered tables wide n keep xs w (s ∷ steps) fits =
+  rows-filtered tables wide n keep xs w [] = refl
+  rows-filtered tables wide n keep xs w (s ∷ steps) =
       let on = meets s.node.on in
       let ys = tables s.source in
       let m = width s.source in
-      ap (λ (zs : Weighted). joined_from tables zs steps) (kind-filtered s.kind on n keep (keeps s.below) fits.0.1 xs ys w)
-      ∙ rows-filtered tables wide (n + m) (on_parts n keep (keeps s.below)) (joined_by s.kind on xs ys) (kind-width s.kind on n m fits.0.0 xs ys w (wide s.source)) steps fits.1
+      ap (λ (zs : Weighted). joined_from tables zs steps) (joined-filtered on n keep (keeps s.below) xs ys w)
+      ∙ rows-filtered tables wide (n + m) (on_parts n keep (keeps s.below)) (joined on xs ys) (joined-width on n m xs ys w (wide s.source)) steps
+
+  -- ---- one join
+  module _ (on : Row → Row → Bool) (n : ℕ) (keep also : Row → Bool) (xs dxs ys dys : Weighted) (v : HasWidth n xs) (w : HasWidth n dxs) where
+    -- the change of rows that pass is what passes of the change
+    change-filtered : join_change on (filtered keep xs) (filtered keep dxs) (filtered also ys) (filtered also dys) ≡ filtered (on_parts n keep also) (join_change on xs dxs ys dys)
+    change-filtered =
+        let parts = on_parts n keep also in
+        (λ i. joined-filtered on n keep also dxs ys w i ++ joined-filtered on n keep also xs dys v i ++ joined-filtered on n keep also dxs dys w i)
+        ∙ sym (filtered-append parts (joined on dxs ys ++ joined on xs dys) (joined on dxs dys) ∙ ap (λ (zs : Weighted). zs ++ filtered parts (joined on dxs dys)) (filtered-append parts (joined on dxs ys) (joined on xs dys)))
+
+    change-width : (m : ℕ) → HasWidth m ys → HasWidth m dys → HasWidth (n + m) (join_change on xs dxs ys dys)
+    change-width m x y =
+        append-width (n + m) (joined on dxs ys ++ joined on xs dys) (joined on dxs dys)
+        (append-width (n + m) (joined on dxs ys) (joined on xs dys) (joined-width on n m dxs ys w x) (joined-width on n m xs dys v y))
+        (joined-width on n m dxs dys w y)
+
+    -- and takes no more work
+    join-less : join_work on (filtered keep xs) (filtered keep dxs) (filtered also ys) (filtered also dys) ≤ join_work on xs dxs ys dys
+    join-less = omega (arith, size-fewer keep dxs, size-fewer also dys, pairs-fewer on keep also dxs ys, pairs-fewer on keep also xs dys, pairs-fewer on keep also dxs dys)
 
   -- ---- all joins
   module _ (tables changes : Tables) (wide : HaveWidths width tables) (as_wide : HaveWidths width changes) where
     -- the steps do no more work than the joins
-    pub work-less : (n : ℕ) (keep : Row → Bool) (xs dxs : Weighted) → HasWidth n xs → HasWidth n dxs → (steps : List Step) → AllByRecursion (StepFits width) steps
+    pub work-less : (n : ℕ) (keep : Row → Bool) (xs dxs : Weighted) → HasWidth n xs → HasWidth n dxs → (steps : List Step)
         → work_along tables changes (filtered keep xs) (filtered keep dxs) steps
         ≤ chain_work tables changes xs dxs (joins_of steps)
-    work-less n keep xs dxs v w [] fits = size-fewer keep dxs
-    work-less n keep xs dxs v w (s ∷ steps) fits =
+    work-less n keep xs dxs v w [] = size-fewer keep dxs
+    work-less n keep xs dxs v w (s ∷ steps) =
         let on = meets s.node.on in
         let also = keeps s.below in
         let ys = tables s.source in
         let dys = changes s.source in
         let m = width s.source in
         let passing = on_parts n keep also in
-        let next = joined_by s.kind on xs ys in
-        let add = change_by s.kind on xs dxs ys dys in
-        let rows = kind-filtered s.kind on n keep also fits.0.1 xs ys v in
-        let more = kind_change-filtered s.kind on n keep also fits.0.1 xs dxs ys dys v w in
-        let same : work_along tables changes (joined_by s.kind on (filtered keep xs) (filtered also ys)) (change_by s.kind on (filtered keep xs) (filtered keep dxs) (filtered also ys) (filtered also dys)) steps
-        ≡ work_along tables changes (filtered passing next) (filtered passing add) steps =
+        let rows : joined on (filtered keep xs) (filtered also ys) ≡ filtered passing (joined on xs ys) = joined-filtered on n keep also xs ys v in
+        let more : join_change on (filtered keep xs) (filtered keep dxs) (filtered also ys) (filtered also dys) ≡ filtered passing (join_change on xs dxs ys dys) =
+        change-filtered on n keep also xs dxs ys dys v w in
+        let same : work_along tables changes (joined on (filtered keep xs) (filtered also ys)) (join_change on (filtered keep xs) (filtered keep dxs) (filtered also ys) (filtered also dys)) steps
+        ≡ work_along tables changes (filtered passing (joined on xs ys)) (filtered passing (join_change on xs dxs ys dys)) steps =
         λ i. work_along tables changes (rows i) (more i) steps in
-        let rest = work-less (n + m) passing next add (kind-width s.kind on n m fits.0.0 xs ys v (wide s.source))
-        (kind_change-width s.kind on n m fits.0.0 xs dxs ys dys v w (wide s.source) (as_wide s.source)) steps fits.1 in
-        omega (arith, kind_work-fewer s.kind on keep also fits.0.1 xs dxs ys dys, same, rest)
+        let rest = work-less (n + m) passing (joined on xs ys) (join_change on xs dxs ys dys) (joined-width on n m xs ys v (wide s.source))
+        (change-width on n keep also xs dxs ys dys v w m (wide s.source) (as_wide s.source)) steps in
+        omega (arith, join-less on n keep also xs dxs ys dys v w, same, rest)
 
     all-wide : HaveWidths width (changed tables changes)
     all-wide s = append-width (width s) (tables s) (changes s) (wide s) (as_wide s)
 
-    module _ (c : Chain) (stands : Stands tables c) (fits : AllByRecursion (StepFits width) c.steps.items) where
+    module _ (c : Chain) (stands : Stands tables c) where
       -- what passes of the joined rows
       abbrev pub passes : Row → Bool
       passes = all_of (width c.first) (keeps c.condition) c.steps.items
@@ -79,7 +91,7 @@ module _ (width : Source → ℕ) where
       whole all = chain all (all c.first) (joins_of c.steps.items)
 
       rows-passing : (all : Tables) → HaveWidths width all → rows_of c all ≡ filtered passes (whole all)
-      rows-passing all w = rows-filtered all w (width c.first) (keeps c.condition) (all c.first) (w c.first) c.steps.items fits
+      rows-passing all w = rows-filtered all w (width c.first) (keeps c.condition) (all c.first) (w c.first) c.steps.items
 
       -- what the chain hands on of a change is what passes of the change of all joined rows
       pub given-filtered : (given : Weighted) → IsChange c changes given

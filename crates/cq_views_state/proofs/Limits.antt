@@ -1,5 +1,5 @@
 -- Joined rows and what changes add to them are few where the sources are, and stored.
-use Rattle.std.proofs.Common.{◌≡◌, ◌∙◌, ℕ, ◌+◌, ◌*◌, ◌≤◌, ◌^◌, max, neg_ℤ, ◌+ℤ◌, Bool, List, [], ◌∷◌, ◌++◌, map, refl, sym, ap, subst, arith}
+use Rattle.std.proofs.Common.{◌≡◌, ◌∙◌, ℕ, ◌+◌, ◌*◌, ◌≤◌, ◌^◌, neg_ℤ, ◌+ℤ◌, Bool, List, [], ◌∷◌, ◌++◌, map, refl, sym, ap, subst, arith}
 use Rattle.std.proofs.Math.Nat.{mul_assoc}
 use Rattle.std.proofs.lemmas.Int.{ints}
 use Rattle.std.proofs.lemmas.Nat.{mul-le}
@@ -8,27 +8,22 @@ use Rattle.cq_values.specs.Value.{Row}
 use Rattle.cq_model_bags.proofs.Bags.{filtered-respects, same-append, same-refl, same-sym, same-trans}
 use Rattle.cq_model_bags.proofs.Linears.{filtered-append}
 use Rattle.cq_model_bags.proofs.Totals.{weight_of-append, weight_of-negative}
-use Rattle.cq_model_bags.specs.Bag.{Weighted, SameBag, difference, filtered, negative, weight_of}
+use Rattle.cq_model_bags.specs.Bag.{Weighted, SameBag, difference, filtered, joined, negative, weight_of}
 use Rattle.cq_model_bags.specs.Size.{IsClean}
 use Rattle.cq_views_model.specs.Delta.{chain_change, changed}
 use Rattle.cq_model_laws.proofs.Chains.{chain-law, chain-same}
-use Rattle.cq_model.specs.Meaning.{Tables, chain, joined_by, joined_rows, keeps, meets}
-use Rattle.cq_model.specs.Sizes.{count_size}
+use Rattle.cq_model.specs.Meaning.{Tables, chain, joined_rows, keeps, meets}
 use Rattle.cq_model.specs.Views.{sources_of}
 use Rattle.cq_model.specs.declared.query.Join.{Join}
-use Rattle.cq_model.specs.declared.query.JoinKind.{JoinKind}
-use Rattle.cq_model.specs.declared.query.JoinKind.TheVariants.{Inner, Left}
 use Rattle.cq_model.specs.declared.query.Query.{Query}
-use Rattle.cq_deltas_joins.proofs.LeftSizes.{left_join-within}
 use Rattle.cq_deltas_joins.proofs.Limits.{join_within-product}
 use Rattle.cq_deltas_joins.proofs.Sizes.{sizes-least}
 use Rattle.cq_deltas_joins.proofs.Spans.{sizes-filtered}
-use Rattle.cq_deltas_joins.proofs.Storing.{kind-stored, stored-filtered}
-use Rattle.cq_deltas_joins.specs.LeftLimits.{ArePositive}
+use Rattle.cq_deltas_joins.proofs.Storing.{stored-filtered, stored-joined}
 use Rattle.cq_deltas_joins.specs.Steps.{AreStored}
 use Rattle.cq_sides_weights.proofs.RowByRow.{sizes-append, sizes-cons}
 use Rattle.cq_sides_weights.specs.Held.{sizes}
-use Rattle.cq_views_state.specs.State.{AreCountable, HoldStored, StayCountable, crossed}
+use Rattle.cq_views_state.specs.State.{HoldStored, StayCountable, crossed}
 
 -- rows that are taken off have the sizes that they had
 sizes-negative : (xs : Weighted) → sizes (negative xs) ≡ sizes xs
@@ -44,30 +39,24 @@ taken_off ns os cs led = record {
       omega (arith, ints, led.at r, weight_of-append os cs r, made);
 }
 
--- a join is within the product of both sides, of which the right one counts as one row at least
-kind-crossed : (kind : JoinKind) (on : Row → Row → Bool) (xs ys : Weighted) → ArePositive ys → sizes (joined_by kind on xs ys) ≤ sizes xs * max 1 (sizes ys)
-kind-crossed Inner on xs ys p = omega (arith, join_within-product on xs ys, mul-le (sizes xs) (sizes ys) (sizes xs) (max 1 (sizes ys)) (omega arith) (omega arith))
-kind-crossed (Left width) on xs ys p = left_join-within on width xs ys p
-
--- so is a chain
-chain-crossed : (tables : Tables) (xs : Weighted) (js : List Join) → AllByRecursion (λ s. ArePositive (tables s)) (map (λ j. j.source) js)
+-- a chain is within the product of the sizes
+chain-crossed : (tables : Tables) (xs : Weighted) (js : List Join)
     → sizes (chain tables xs js) ≤ sizes xs * crossed tables (map (λ j. j.source) js)
-chain-crossed tables xs [] positive = omega arith
-chain-crossed tables xs (j ∷ js) positive =
+chain-crossed tables xs [] = omega arith
+chain-crossed tables xs (j ∷ js) =
     let on = meets j.on in
     let ys = tables j.source in
     let n = crossed tables (map (λ j. j.source) js) in
-    let next = joined_by j.kind on xs ys in
-    let rest = chain-crossed tables next js positive.1 in
-    let whole = mul_assoc (sizes xs) (max 1 (sizes ys)) n in
-    omega (arith, rest, whole, mul-le (sizes next) n (sizes xs * max 1 (sizes ys)) n (kind-crossed j.kind on xs ys positive.0) (omega arith))
+    let rest = chain-crossed tables (joined on xs ys) js in
+    let whole = mul_assoc (sizes xs) (sizes ys) n in
+    omega (arith, rest, whole, mul-le (sizes (joined on xs ys)) n (sizes xs * sizes ys) n (join_within-product on xs ys) (omega arith))
 
 -- a chain of stored rows is stored
 stored-chain : (tables : Tables) (xs : Weighted) (js : List Join) → AreStored xs → AllByRecursion (λ s. AreStored (tables s)) (map (λ j. j.source) js)
     → AreStored (chain tables xs js)
 stored-chain tables xs [] stored all = stored
 stored-chain tables xs (j ∷ js) stored all =
-    stored-chain tables (joined_by j.kind (meets j.on) xs (tables j.source)) js (kind-stored j.kind (meets j.on) xs (tables j.source) stored all.0) all.1
+    stored-chain tables (joined (meets j.on) xs (tables j.source)) js (stored-joined (meets j.on) xs (tables j.source) stored all.0) all.1
 
 module _ (query : Query) where
   -- the joined rows, before WHERE
@@ -78,21 +67,10 @@ module _ (query : Query) where
   abbrev all_change : Tables → Tables → Weighted
   all_change tables changes = chain_change tables changes (tables query.first) (changes query.first) query.joins
 
-  -- they are no more than can be counted
-  all-countable : (tables : Tables) → AreCountable (sources_of query) tables → sizes (all_rows tables) ≤ count_size
-  all-countable tables are =
-      let n = crossed tables (map (λ j. j.source) query.joins) in
-      let first = tables query.first in
-      omega (
-        arith,
-        are.few,
-        chain-crossed tables first query.joins are.positive.1,
-        mul-le (sizes first) n (max 1 (sizes first)) n (omega arith) (omega arith),
-      )
-
-  -- nor are those that WHERE keeps
-  pub rows-countable : (tables : Tables) → AreCountable (sources_of query) tables → sizes (joined_rows query tables) ≤ count_size
-  rows-countable tables are = omega (arith, all-countable tables are, sizes-filtered (keeps query.filter) (all_rows tables))
+  -- those that WHERE keeps are no more than the sources' rows, multiplied
+  pub rows-crossed : (tables : Tables) (most : ℕ) → crossed tables (sources_of query) ≤ most → sizes (joined_rows query tables) ≤ most
+  rows-crossed tables most few =
+      omega (arith, few, sizes-filtered (keeps query.filter) (all_rows tables), chain-crossed tables (tables query.first) query.joins)
 
   -- and stored where these are
   pub rows-stored : (tables : Tables) → HoldStored query tables → AreStored (joined_rows query tables)
@@ -121,8 +99,10 @@ module _ (query : Query) where
       (same-append (filtered keep old) (filtered keep old) (filtered keep more) given (same-refl (filtered keep old)) (same-sym given (filtered keep more) same)))) in
       omega (
         arith,
-        all-countable tables stay.before,
-        all-countable stay.behind stay.after,
+        stay.before,
+        stay.after,
+        chain-crossed tables (tables query.first) query.joins,
+        chain-crossed stay.behind (stay.behind query.first) query.joins,
         sizes-filtered (keeps query.filter) old,
         sizes-filtered keep old,
         sizes-filtered keep new,

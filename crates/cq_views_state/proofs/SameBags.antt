@@ -1,9 +1,9 @@
 -- A view that stands for the bags of the tables that FROM names stands for them however they are listed.
 use Rattle.std.proofs.Common.{List, [], ◌∷◌, map, sym, subst}
 use Rattle.cq_model_bags.proofs.Bags.{filtered-respects}
+use Rattle.cq_model_bags.proofs.Joins.{joined-respects}
 use Rattle.cq_model_bags.specs.Bag.{Weighted, SameBag}
 use Rattle.cq_model_laws.proofs.Chains.{SameSources}
-use Rattle.cq_model_laws.proofs.JoinKinds.{kind-respects}
 use Rattle.cq_model_laws.proofs.Keeps.{last-respects}
 use Rattle.cq_model_laws.proofs.Meanings.{joined_rows-same}
 use Rattle.cq_model.specs.Meaning.{Tables, joined_rows, keeps, meets}
@@ -28,7 +28,7 @@ all-by_bags tables others xs us rows (s ∷ steps) same stand =
     let right : SameBag ys vs = filtered-respects (keeps s.below) (tables s.source) (others s.source) same.0 in (
       stands-by_bags s.node xs us ys vs rows right stand.0,
       all-by_bags tables others (hands_on s xs (tables s.source)) (hands_on s us (others s.source))
-          (kind-respects s.kind on xs us ys vs rows right) steps same.1 stand.1,
+          (joined-respects on xs us ys vs rows right) steps same.1 stand.1,
     )
 
 pub standing-by_sources : StandingDependsOnSources

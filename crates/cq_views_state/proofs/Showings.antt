@@ -20,7 +20,7 @@ use Rattle.cq_deltas.specs.Keyed.{KeyedGroups, group_at}
 use Rattle.cq_deltas.specs.Shown.{GroupsCanBeShown, counted_keys, group_rows}
 use Rattle.cq_views_state.proofs.Changing.{images-for}
 use Rattle.cq_views_state.proofs.Groups.{can-be-shown, in-range, one-can-be-shown, one-in-range, one-row}
-use Rattle.cq_views_state.proofs.Limits.{rows-countable, rows-stored}
+use Rattle.cq_views_state.proofs.Limits.{rows-crossed, rows-stored}
 use Rattle.cq_views_model.specs.Query.{HasNoHaving, aggregates_in, aggregates_of}
 use Rattle.cq_views_state.specs.Shown.{AreRowsOf, CanShow, IsNotShown, IsShown, ShowsInRange, ShowsOutOfRange, ShowsRows, StandsOnStored, all_rows}
 use Rattle.cq_views_state.specs.declared.last.Last.TheVariants as stored
@@ -91,7 +91,7 @@ module _ (v : ViewState) (can : CanShow v) where
   on-stored = record {
     xs = joined_rows v.query can.tables;
     stands = can.stands.last;
-    few = rows-countable v.query can.tables can.countable;
+    few = rows-crossed v.query can.tables count_size can.few;
     stored = rows-stored v.query can.tables can.stored;
     bag = joined_rows-bag v.query can.tables can.bags;
   }

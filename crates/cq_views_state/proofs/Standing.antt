@@ -17,7 +17,7 @@ use Rattle.cq_deltas_joins.specs.declared.chain.Chain.{Chain}
 use Rattle.cq_deltas_joins.specs.declared.chain.Waiting.{Waiting}
 use Rattle.cq_deltas_joins.specs.declared.step.Step.{Step}
 use Rattle.cq_views_state.proofs.Behind.{seen-stands}
-use Rattle.cq_views_state.proofs.Joining.{all-sources, chain-fits, chain-kept, chain-narrow, chain-sources, same-chain}
+use Rattle.cq_views_state.proofs.Joining.{all-sources, chain-kept, chain-narrow, chain-sources, same-chain}
 use Rattle.cq_views_state.proofs.Filtering.{given-filtered, passes}
 use Rattle.cq_views_state.proofs.Limits.{rows-few, rows-stored}
 use Rattle.cq_views_state.specs.Build.{Gains}
@@ -82,9 +82,8 @@ module _ (v : ViewState) (changes : Tables) (can : CanPrepare v changes) where
       let wide = can.wide in
       let is = can.stands.is_of in
       let tables = can.tables in
-      let fits = chain-fits v.query v.widths v.chain is wide.width wide.told in
-      let passes = passes wide.width tables changes wide.rows wide.more v.chain can.stands.sides fits in
-      let own = given-filtered wide.width tables changes wide.rows wide.more v.chain can.stands.sides fits given change in
+      let passes = passes wide.width tables changes wide.rows wide.more v.chain can.stands.sides in
+      let own = given-filtered wide.width tables changes wide.rows wide.more v.chain can.stands.sides given change in
       let whole : SameBag given (filtered passes (chain_change tables changes (tables v.query.first) (changes v.query.first) v.query.joins)) =
       subst (λ (xs : Weighted). SameBag given (filtered passes xs)) (λ i. chain_change tables changes (tables (is.first i)) (changes (is.first i)) (is.joins i)) own in
       record {

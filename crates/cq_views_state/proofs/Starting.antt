@@ -1,26 +1,18 @@
 -- A view of no rows stands for them.
-use Rattle.std.proofs.Common.{◌≡◌, ◌∙◌, Bool, List, [], ◌∷◌, refl, sym, ap, subst}
-use Rattle.cq_values.specs.Value.{Row}
+use Rattle.std.proofs.Common.{◌≡◌, List, [], ◌∷◌, refl, sym, ap, subst}
 use Rattle.cq_model_bags.specs.Bag.{Weighted, filtered}
 use Rattle.cq_deltas_joins.specs.Chains.{Stands, nothing}
-use Rattle.cq_model.specs.Meaning.{chain, joined_by, keeps, meets}
-use Rattle.cq_model.specs.declared.query.JoinKind.{JoinKind}
-use Rattle.cq_model.specs.declared.query.JoinKind.TheVariants.{Inner, Left}
+use Rattle.cq_model.specs.Meaning.{chain, keeps}
 use Rattle.cq_model.specs.declared.query.Join.{Join}
 use Rattle.cq_views_state.specs.Joins.{IsChainOf}
 use Rattle.cq_views_state.specs.Last.{StandsBehind}
 use Rattle.cq_views_state.specs.State.{StandsFor}
 use Rattle.cq_views_state.specs.declared.state.ViewState.{ViewState}
 
--- a join of no rows has none
-kind-none : (kind : JoinKind) (on : Row → Row → Bool) (ys : Weighted) → joined_by kind on [] ys ≡ []
-kind-none Inner on ys = refl
-kind-none (Left width) on ys = refl
-
--- nor has a chain
+-- a chain of no rows has none
 chain-none : (js : List Join) → chain nothing [] js ≡ []
 chain-none [] = refl
-chain-none (j ∷ js) = ap (λ (xs : Weighted). chain nothing xs js) (kind-none j.kind (meets j.on) []) ∙ chain-none js
+chain-none (j ∷ js) = chain-none js
 
 -- a view stands for no rows where its joins do, and what stands behind them
 pub starts : (v : ViewState) → IsChainOf v.query v.widths v.chain → Stands nothing v.chain → StandsBehind v.query [] v.last → StandsFor v nothing

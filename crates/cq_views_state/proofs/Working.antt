@@ -5,16 +5,15 @@ use Rattle.cq_model_bags.proofs.Distincts.{distinct-respects}
 use Rattle.cq_model_bags.proofs.Sizes.{size-clean}
 use Rattle.cq_model_bags.proofs.Totals.{by_test}
 use Rattle.cq_model_bags.specs.Bag.{SameBag, Weighted}
-use Rattle.cq_deltas_joins.proofs.Counting.{counts_within-work, kind-within}
+use Rattle.cq_deltas_joins.proofs.Counting.{counts_within-work}
 use Rattle.cq_deltas_joins.specs.Chains.{IsChange, first_rows, joins_of}
-use Rattle.cq_deltas_joins.specs.Steps.{change_at, hands_on, let_in}
+use Rattle.cq_deltas_joins.specs.Steps.{change_at, hands_on}
 use Rattle.cq_deltas_joins.specs.Work.{CountsPairs, pairs_along, work_along, work_at}
 use Rattle.cq_deltas_joins.specs.declared.step.Step.{Step}
 use Rattle.cq_views_model.specs.Delta.{chain_work, changed, joins_work}
 use Rattle.cq_model_laws.proofs.Meanings.{shown-respects}
-use Rattle.cq_model.specs.Meaning.{Tables, joined_rows, keeps, meaning, meets, shown}
+use Rattle.cq_model.specs.Meaning.{Tables, joined_rows, keeps, meaning, shown}
 use Rattle.cq_views_state.proofs.Filtering.{work-less}
-use Rattle.cq_views_state.proofs.Joining.{chain-fits}
 use Rattle.cq_views_state.proofs.Standing.{kept-change}
 use Rattle.cq_views_state.specs.Last.{kept_rows}
 use Rattle.cq_views_state.specs.Laws.{CountsWithinWork, RisesWhereChanged}
@@ -29,7 +28,7 @@ chain-within tables changes v stands wide =
     let is = stands.is_of in
     let c = v.chain in
     let less = work-less wide.width tables changes wide.rows wide.more (wide.width c.first) (keeps c.condition) (tables c.first) (changes c.first)
-    (wide.rows c.first) (wide.more c.first) c.steps.items (chain-fits v.query v.widths c is wide.width wide.told) in
+    (wide.rows c.first) (wide.more c.first) c.steps.items in
     let whole : chain_work tables changes (tables c.first) (changes c.first) (joins_of c.steps.items) ≡ joins_work v.query tables changes =
     λ i. chain_work tables changes (tables (is.first i)) (changes (is.first i)) (is.joins i) in
     omega (arith, less, whole)
@@ -57,11 +56,7 @@ pairs-within : (tables changes : Tables) (xs dxs : Weighted) (steps : List Step)
 pairs-within tables changes xs dxs [] = omega arith
 pairs-within tables changes xs dxs (s ∷ steps) =
     let rows = tables s.source in
-    omega (
-      arith,
-      kind-within s.kind (meets s.node.on) xs dxs (let_in s rows) (let_in s (changes s.source)),
-      pairs-within tables changes (hands_on s xs rows) (change_at s xs dxs rows (changes s.source)) steps,
-    )
+    omega (arith, pairs-within tables changes (hands_on s xs rows) (change_at s xs dxs rows (changes s.source)) steps)
 
 -- where memory was short, only pairs were counted
 pub pairs-within_work : (tables changes : Tables) (old new : ViewState) → StandsFor old tables → AreAsTold old tables changes → CountsPairs old.chain changes new.chain → new.ticks ≡ old.ticks

@@ -20,7 +20,7 @@ use Rattle.cq_views_model.specs.Kept.{Groups}
 use Rattle.cq_views_model.specs.Shown.{ListsKeys}
 use Rattle.cq_views_state.specs.Last.{StandsBehind}
 use Rattle.cq_views_model.specs.Query.{CanBeKept, aggregates_in, aggregates_of}
-use Rattle.cq_views_state.specs.State.{AreBags, AreCountable, HoldStored, StandsFor}
+use Rattle.cq_views_state.specs.State.{AreBags, HoldStored, StandsFor, crossed}
 use Rattle.cq_views_state.specs.declared.last.Last.{Last as Stored}
 use Rattle.cq_views_state.specs.declared.state.ViewState.{ViewState}
 
@@ -87,7 +87,7 @@ pub record CanShowBags (query : Query) (standing : Tables → Type 0) : Type 0 w
   pub can : CanBeKept query
   pub tables : Tables
   pub stands : standing tables
-  pub countable : AreCountable (sources_of query) tables
+  pub few : crossed tables (sources_of query) ≤ count_size
   pub stored : HoldStored query tables
   pub bags : AreBags tables
 

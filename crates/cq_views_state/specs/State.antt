@@ -1,5 +1,5 @@
 -- A view as it is kept, the tables that it stands for, and what changes of them do.
-use Rattle.std.specs.Prelude.{◌≡◌, ◌<◌, ◌≤◌, ◌+◌, ◌*◌, ◌^◌, max, ℕ, List, [], ◌∷◌, ◌++◌, map}
+use Rattle.std.specs.Prelude.{◌≡◌, ◌<◌, ◌≤◌, ◌+◌, ◌*◌, ◌^◌, ℕ, List, [], ◌∷◌, ◌++◌, map}
 use Rattle.std.specs.List.{AllByRecursion, AllZip}
 use Rattle.cq_model_bags.specs.Bag.{Weighted, SameBag, IsBag}
 use Rattle.cq_views_model.specs.Delta.{changed}
@@ -11,7 +11,6 @@ use Rattle.cq_model.specs.declared.query.Query.{Query}
 use Rattle.cq_model.specs.declared.query.Source.{Source}
 use Rattle.cq_sides_weights.specs.Held.{sizes}
 use Rattle.cq_deltas_joins.specs.Chains.{IsStill, Stands, nothing, spans}
-use Rattle.cq_deltas_joins.specs.LeftLimits.{ArePositive}
 use Rattle.cq_deltas_joins.specs.WaitingChanges.{WaitFor}
 use Rattle.cq_deltas_joins.specs.Steps.{AreStored, CanTake}
 use Rattle.cq_views_state.specs.Joins.{IsChainOf}
@@ -46,15 +45,14 @@ AreBags tables = (source : Source) → IsBag (tables source)
 abbrev pub HoldStored : Query → Tables → Type 0
 HoldStored query tables = AllByRecursion (λ s. AreStored (tables s)) (sources_of query)
 
--- the sizes of the sources' rows, each counted as one row at least, multiplied: a join of them has no more rows
+-- the sizes of the sources' rows, multiplied: a join of them has no more rows
 abbrev pub crossed : Tables → List Source → ℕ
 crossed tables [] = 1
-crossed tables (source ∷ sources) = max 1 (sizes (tables source)) * crossed tables sources
+crossed tables (source ∷ sources) = sizes (tables source) * crossed tables sources
 
--- the rows of the sources are there more than never, and a join of them has no more rows than can be counted
-pub record AreCountable (sources : List Source) (tables : Tables) : Type 0 where
-  pub positive : AllByRecursion (λ s. ArePositive (tables s)) sources
-  pub few : crossed tables sources ≤ count_size
+-- a join of the sources has no more rows than can be counted
+abbrev pub AreCountable : List Source → Tables → Type 0
+AreCountable sources tables = crossed tables sources ≤ count_size
 
 -- so it is before changes, and with tables of the same bags as those that they lead to
 pub record StayCountable (sources : List Source) (tables changes : Tables) : Type 0 where

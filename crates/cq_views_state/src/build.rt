@@ -7,7 +7,6 @@ ghost use Rattle.std.specs.Prelude.{◌≡◌, IfOk, OnErr, OnOk, length};
 ghost use Rattle.cq_deltas_joins.specs.Chains.{nothing};
 ghost use Rattle.cq_deltas_joins.specs.Sources.{rows_at};
 ghost use Rattle.cq_model.specs.Views.{sources_of};
-ghost use Rattle.cq_plan.specs.Planned.{JoinsFit};
 ghost use Rattle.cq_views_state.specs.Build.{Gains};
 ghost use Rattle.cq_views_state.specs.State.{CanPrepare, SameView, StandsFor};
 ghost use Rattle.cq_views_state.specs.Work.{work_of};
@@ -46,8 +45,7 @@ impl ViewBuild {
         widths: Seq<usize>,
         epoch: u64,
     ) -> Result<ViewBuild, AllocError>
-        requires all { length widths ≡ length (sources_of query) }
-        requires fit { JoinsFit query.joins widths }
+        requires { length widths ≡ length (sources_of query) }
         ensures query { IfOk result (λ v. v.query ≡ query) }
         ensures widths { IfOk result (λ v. v.widths ≡ widths) }
         ensures epoch { IfOk result (λ v. v.epoch ≡ epoch) }

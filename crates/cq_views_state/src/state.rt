@@ -13,7 +13,6 @@ ghost use Rattle.cq_model.specs.declared.fault.ShowFault.TheVariants.{SumOutOfRa
 ghost use Rattle.cq_model_laws.specs.Sizes.{HasSizes};
 ghost use Rattle.cq_model.specs.Sizes.{column_sizes};
 ghost use Rattle.cq_model.specs.Views.{sources_of};
-ghost use Rattle.cq_plan.specs.Planned.{JoinsFit};
 ghost use Rattle.cq_sides.specs.Ticks.{counted};
 ghost use Rattle.cq_views_state.specs.Shown.{AreRowsOf, CanShow, IsNotShown, IsShown};
 ghost use Rattle.cq_views_state.specs.Work.{CountsPut, CountsRows, work_of};
@@ -63,8 +62,7 @@ impl ViewState {
         widths: Seq<usize>,
         epoch: u64,
     ) -> Result<ViewState, AllocError>
-        requires all { length widths ≡ length (sources_of query) }
-        requires fit { JoinsFit query.joins widths }
+        requires { length widths ≡ length (sources_of query) }
         ensures query { IfOk result (λ v. v.query ≡ query) }
         ensures widths { IfOk result (λ v. v.widths ≡ widths) }
         ensures epoch { IfOk result (λ v. v.epoch ≡ epoch) }

@@ -1,36 +1,21 @@
 //! A query on narrower rows: which columns are left, and where its own are then.
-ghost use Rattle.std.specs.Prelude.{◌≡◌, ◌∷◌, [], IfOk};
-ghost use Rattle.cq_plan.specs.Planned.{JoinsFit};
-
-use cq_model::{
-    Aggregate, Cond, CondTree, Equality, Expr, ExprTree, Join, JoinKind, Query, Shape, Source,
-};
+use cq_model::{Aggregate, Cond, CondTree, Equality, Expr, ExprTree, Join, Query, Shape, Source};
 use cq_values::Seq;
 use cq_views_columns::NarrowQuery;
 use std::alloc::{AllocError, Global};
 use std::test::Fail;
 
-fn join(
-    alloc: Global,
-    kind: JoinKind,
-    source: Source,
-    left: usize,
-    right: usize,
-) -> Result<Join, AllocError>
-    ensures { IfOk result (λ join. join.kind ≡ kind) }
-{
+fn join(alloc: Global, source: Source, left: usize, right: usize) -> Result<Join, AllocError> {
     let mut on = Seq::new(alloc);
     on.push(Equality { left, right })?;
-    Ok(Join { kind, source, on })
+    Ok(Join { source, on })
 }
 
-/// Table 0 as `a` and as `b`, and table 1 as `c`, whose three columns may be NULL, by `a.2 = b.0` and `a.0 = c.1`.
-fn joins(alloc: Global) -> Result<Seq<Join>, AllocError>
-    ensures { IfOk result (λ joins. JoinsFit joins (5 ∷ 5 ∷ 3 ∷ [])) }
-{
+/// Table 0 as `a` and as `b`, and table 1 as `c`, by `a.2 = b.0` and `a.0 = c.1`.
+fn joins(alloc: Global) -> Result<Seq<Join>, AllocError> {
     let mut joins = Seq::new(alloc);
-    joins.push(join(alloc, JoinKind::Inner, Source::Table(0), 2, 0)?)?;
-    joins.push(join(alloc, JoinKind::Left(3), Source::Table(1), 0, 1)?)?;
+    joins.push(join(alloc, Source::Table(0), 2, 0)?)?;
+    joins.push(join(alloc, Source::Table(1), 0, 1)?)?;
     Ok(joins)
 }
 
@@ -48,9 +33,7 @@ fn groups(alloc: Global) -> Result<Shape, AllocError> {
 }
 
 /// Of all rows where `b.3` is NULL.
-fn query(alloc: Global) -> Result<Query, AllocError>
-    ensures { IfOk result (λ query. JoinsFit query.joins (5 ∷ 5 ∷ 3 ∷ [])) }
-{
+fn query(alloc: Global) -> Result<Query, AllocError> {
     let mut items = Seq::new(alloc);
     items.push(Expr::column(1))?;
     Ok(Query {
@@ -120,7 +103,6 @@ fn columns_go_to_their_new_places_and_items_of_groups_stay(rt: HostRuntime) -> R
     assert!(rt; joins.len() == 2);
     assert!(rt; joins[0].on.as_slice() == [Equality { left: 1, right: 0 }].as_slice());
     assert!(rt; joins[1].on.as_slice() == [Equality { left: 0, right: 0 }].as_slice());
-    assert!(rt; joins[0].kind == JoinKind::Inner && joins[1].kind == JoinKind::Left(2));
     assert_eq!(rt; tested(&narrow.query.filter), Some(6));
     assert_eq!(rt; places(&narrow.query), Some((9, 3, 1)));
     drop(narrow);

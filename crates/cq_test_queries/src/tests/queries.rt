@@ -5,11 +5,9 @@ ghost use Rattle.cq_model.specs.Exact.{AreExactIn};
 ghost use Rattle.cq_model.specs.Expr as terms;
 ghost use Rattle.cq_hash_groups.specs.Exact.{IsExactFor};
 ghost use Rattle.cq_plan.specs.Chain.{HaveValues};
-ghost use Rattle.cq_test_queries.specs.Opened.{AreInner, IsOpenTo};
+ghost use Rattle.cq_test_queries.specs.Opened.{IsOpenTo};
 
-use cq_model::{
-    Aggregate, Cond, CondTree, Equality, Expr, ExprTree, Join, JoinKind, Query, Shape, Source,
-};
+use cq_model::{Aggregate, Cond, CondTree, Equality, Expr, ExprTree, Join, Query, Shape, Source};
 use cq_values::{Comparison, Row, Seq, Value, both};
 use std::alloc::{AllocError, Global};
 
@@ -90,14 +88,12 @@ pub(crate) fn joined_by_the_first(alloc: Global) -> Result<Query, AllocError>
 
 /// A source that is joined where its first column is the first of all.
 fn join_by_the_first(alloc: Global) -> Result<Seq<Join>, AllocError>
-    ensures one { IfOk result (λ joins. length joins ≡ 1) }
-    ensures inner { IfOk result AreInner }
+    ensures { IfOk result (λ joins. length joins ≡ 1) }
 {
     let mut on = Seq::new(alloc);
     on.push(Equality { left: 0, right: 0 })?;
     let mut joins = Seq::new(alloc);
     joins.push(Join {
-        kind: JoinKind::Inner,
         source: Source::Table(1),
         on,
     })?;

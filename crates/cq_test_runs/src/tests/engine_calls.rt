@@ -256,44 +256,6 @@ fn a_write_is_little_work_for_a_view(rt: HostRuntime) -> Result<(), Fail> {
     bounded
 }
 
-/// Three rows and no partner of them, and a view that pads them.
-const PADDED: &[&str] = &[
-    "CREATE TABLE c(id INTEGER, nm TEXT)",
-    "CREATE TABLE o(c INTEGER, amt INTEGER)",
-    "CREATE VIEW v AS SELECT x.nm, COUNT(y.amt) AS n, COUNT(*) AS r FROM c x LEFT JOIN o y ON x.id = y.c GROUP BY x.nm",
-    "INSERT INTO c VALUES (1,'ann'), (2,'bob'), (NULL,'cy')",
-    "REFRESH v 1",
-];
-
-/// Writes of partners, and by how much at most the work of the view rises for each: the entries of the change, the changed
-/// key, the pairs, and the rows that turn.
-const PARTNERS: &[(&str, u128)] = &[
-    ("INSERT INTO o VALUES (1,5)", 6),
-    ("INSERT INTO o VALUES (1,7)", 4),
-    ("INSERT INTO o VALUES (NULL,7)", 3),
-    ("DELETE FROM o WHERE amt = 5", 4),
-    ("DELETE FROM o WHERE c = 1", 6),
-];
-
-fn bound_padding(rt: &impl Abort, alloc: Global, engine: &mut Engine) -> Result<(), Fail> {
-    for statement in PADDED {
-        drop(carry_out(rt, alloc, engine, statement)?);
-    }
-    for (statement, most) in PARTNERS {
-        drop(carry_out(rt, alloc, engine, statement)?);
-        assert!(rt; work_for_one(engine, "v")? <= *most, "{statement}");
-    }
-    Ok(())
-}
-
-#[test]
-fn a_partner_that_comes_or_goes_is_little_work(rt: HostRuntime) -> Result<(), Fail> {
-    let mut engine = engine(rt.alloc())?;
-    let bounded = bound_padding(&rt, rt.alloc(), &mut engine);
-    drop(engine);
-    bounded
-}
-
 #[test]
 fn a_view_counts_the_writes_that_change_it(rt: HostRuntime) -> Result<(), Fail> {
     let mut engine = engine(rt.alloc())?;

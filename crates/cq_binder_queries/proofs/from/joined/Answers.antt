@@ -32,4 +32,4 @@ returns c =
     let before : c.len-before.result ≡ length from.columns = omega (arith, c.len-before.ensures, c.args.from.columns.ok.0) in
     let on = rw (c.as_slice.ensures, before, c.deref-2.ensures.value, wide) at c.in_ok-on.ensures in
     joins (may_stand c.args.allowed) from c.args.join.now source may.free may.few c.in_ok-check.ensures.0 on.0
-    ∙ ap (λ (f : From). Ok f) (sym (joined_made from c.args.join.now source c.push.new.self c.push_columns.new.columns.items c.kind.result c.in_ok-on.on c.source.result c.bases-2.result c.in_ok-push.ensures.ok wide on.1 c.kind.ensures c.source.ensures c.bases-2.ensures))
+    ∙ ap (λ (f : From). Ok f) (sym (joined_made from c.args.join.now source c.push.new.self c.push_columns.new.columns.items c.in_ok-on.on c.source.result c.bases-2.result c.in_ok-push.ensures.ok wide on.1 c.source.ensures c.bases-2.ensures))

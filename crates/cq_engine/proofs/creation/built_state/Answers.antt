@@ -3,7 +3,7 @@ use Rattle.cq_model.specs.Views.{sources_of}
 use Rattle.cq_model.specs.declared.query.Query.{Query}
 use Rattle.cq_engine_tables.specs.Views.{AreWide}
 use Rattle.cq_engine.proofs.Entries.{can_start, stands_for_tables}
-use Rattle.cq_engine.proofs.TableColumns.{joins-fit, tables-there}
+use Rattle.cq_engine.proofs.TableColumns.{tables-there}
 use Rattle.cq_engine_tables.specs.HeldTables.{tables_of}
 use Rattle.cq_engine.proofs.creation.built_state.Goals as goal
 
@@ -17,10 +17,6 @@ build-requires-clause-start c =
     rw c.deref.ensures.value
     (can_start (tables_of c.args.tables.now) c.args.query c.in_ok-sources.sources.items c.in_ok-sources.ensures c.requires.fitting
     c.requires.limited c.requires.fits)
-
--- the left joins are as wide as their tables
-pub build-requires-clause-fit : goal.build-requires-clause-fit
-build-requires-clause-fit c = joins-fit (tables_of c.args.tables.now) c.requires.joins.0 c.args.query c.in_ok-widths.widths c.requires.joins.1 c.in_ok-widths.ensures.wide
 
 -- the view that is built of them stands for the tables
 pub returns : goal.returns

@@ -29,7 +29,6 @@ select_from-requires-clause-can_read c =
     let shows = c.in_ok-rows.ensures in
     subst (CanRead tables views) (sym shows.is) (record {
       there = (omega (arith, c.requires.inside, length-map c.args.views.now view_of), tt);
-      joins = tt;
       filter = λ row sized. tt;
       shown = columns-narrow (joined_sizes tables views (of_view c.args.place c.in_ok-rows.rows.items c.args.query.now.distinct)) c.in_ok-rows.rows.items shows.items.columns;
     })

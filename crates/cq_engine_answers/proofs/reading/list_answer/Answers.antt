@@ -7,12 +7,8 @@ use Rattle.cq_plan.specs.Planned.{CanAskEach, HaveColumns}
 use Rattle.cq_operators.specs.Exec.{GivesRest}
 use Rattle.cq_operators.specs.Selected.{CanSelect, rows_of_all}
 use Rattle.cq_engine_answers.specs.Selects.{SelectsLent}
-use Rattle.cq_engine_answers.proofs.Exactly.{all_sources, all_wide, can_ask_each, can_select, joins_fit, opened-of, selects_rest, tells-rest}
+use Rattle.cq_engine_answers.proofs.Exactly.{all_sources, all_wide, can_ask_each, can_select, opened-of, selects_rest, tells-rest}
 use Rattle.cq_engine_answers.proofs.reading.list_answer.Goals as goal
-
--- the left joins are as wide as their sources
-pub plan-planned-requires-clause-fit : goal.plan-planned-requires-clause-fit
-plan-planned-requires-clause-fit c = joins_fit c.chain_of_lists.ensures c.args.lent.now c.args.query.now c.args.widths.now c.requires
 
 -- the plan can be worked out on the rows of its sources
 pub open-exec-requires : goal.open-exec-requires

@@ -13,7 +13,7 @@ returns-clause-is c =
       query = refl;
       order = refl;
       wide = sources.wide;
-      whole = asks-where c.args.query.now c.in_ok-sources.sources.items below c.args.widths.now (ap not c.is_empty-below.ensures) sources.own sources.wide c.requires.all c.requires.fit c.is_asked_behind-asks_behind.result behind;
+      whole = asks-where c.args.query.now c.in_ok-sources.sources.items below c.args.widths.now (ap not c.is_empty-below.ensures) sources.own sources.wide c.requires c.is_asked_behind-asks_behind.result behind;
     }
 
 -- so WHERE keeps the same rows
@@ -24,4 +24,4 @@ returns-clause-means c =
     let below = not c.is_empty-below.result in
     let behind = asks.ensures ∙ ap (is_asked_behind c.args.query.now.filter below) c.deref.ensures.value in
     kept-planned c.args.query.now c.in_ok-sources.sources.items asks.result
-    (asks-where c.args.query.now c.in_ok-sources.sources.items below c.args.widths.now (ap not c.is_empty-below.ensures) sources.own sources.wide c.requires.all c.requires.fit asks.result behind)
+    (asks-where c.args.query.now c.in_ok-sources.sources.items below c.args.widths.now (ap not c.is_empty-below.ensures) sources.own sources.wide c.requires asks.result behind)

@@ -12,7 +12,7 @@ fill-requires c =
     let empty = c.in_ok-view in
     let columns = c.args.columns.now in
     let rows = bags_at c.args.tables.now in
-    start-can empty.view c.args.query (cut_bags columns rows) empty.ensures.query c.requires.start (cut-bags columns rows (bags_at-bags c.args.tables.now)) empty.ensures.stands
+    start-can empty.view c.args.query (cut_bags columns rows) empty.ensures.query c.requires (cut-bags columns rows (bags_at-bags c.args.tables.now)) empty.ensures.stands
     (start-wide empty.view columns c.args.query rows empty.ensures.query empty.ensures.widths)
 
 pub returns-in-Ok : goal.returns-in-Ok

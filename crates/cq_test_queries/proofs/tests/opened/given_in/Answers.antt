@@ -1,9 +1,6 @@
 use Rattle.cq_operators.specs.Selected.{rows_of_all}
-use Rattle.cq_test_queries.proofs.Plans.{can-open, inner-fit}
+use Rattle.cq_test_queries.proofs.Plans.{can-open}
 use Rattle.cq_test_queries.proofs.tests.opened.given_in.Goals as goal
-
-pub plan-planned-requires-clause-fit : goal.plan-planned-requires-clause-fit
-plan-planned-requires-clause-fit c = inner-fit c.args.query.now.joins c.args.widths.now c.requires.count c.requires.always.inner
 
 pub open-exec-requires : goal.open-exec-requires
 open-exec-requires c =

@@ -17,7 +17,7 @@ returns c =
     c.in_ok-columns.ensures ∙ ap (λ (ss : List Source). sources_read q widths ss widths) c.deref.ensures.value in
     let query : new.query ≡ renamed_over q c.in_ok-sources.sources.items widths c.in_ok-columns.columns.items =
     (rw new.ensures.1 at c.renamed_over-query.ensures) ∙ ap₂ (λ (ss : List Source) (cs : List SourceColumns). renamed_over q ss widths cs) c.deref-2.ensures.value c.deref-3.ensures.value in
-    c.renamed_means_same.ensures q widths (record { query = new.query; columns = c.from_vec.result }) c.requires.fit (record {
+    c.renamed_means_same.ensures q widths (record { query = new.query; columns = c.from_vec.result }) (record {
       columns = made ∙ columns ∙ ap (λ (ss : List Source). sources_read q widths ss widths) sources;
       query = query ∙ ap₂ (λ (ss : List Source) (cs : List SourceColumns). renamed_over q ss widths cs) sources (sym made);
     })
