@@ -78,7 +78,7 @@ fn a_value_of_two_groups_counts_once_in_each(rt: HostRuntime) -> Result<(), Fail
     let given = different(rt.alloc(), &rows, 0)?;
     let steps = [Step::Rows(3), Step::End, Step::End, Step::End, Step::End];
     assert!(rt; given.steps.as_slice() == steps.as_slice());
-    assert_eq!(rt; given.numbers.as_slice(), [3, 2, 1, 1, 2, 1].as_slice());
+    assert_eq!(rt; given.numbers.as_slice(), [1, 1, 2, 1, 3, 2].as_slice());
     Ok(())
 }
 
