@@ -1,5 +1,5 @@
 //! Values that are met in groups.
-ghost use Rattle.std.specs.Prelude.{OnOk, length, ◌≡◌};
+ghost use Rattle.std.specs.Prelude.{OnOk, length, ◌<◌, ◌^◌, ◌≡◌};
 ghost use Rattle.cq_hash_groups_sums.specs.Puts.{AreNumbers};
 ghost use Rattle.cq_hash_groups_distinct.specs.Sets.{AddsColumns, AddsValues};
 
@@ -24,6 +24,7 @@ pub(crate) fn meet(
     keys: &mut Vec<usize>,
 ) -> Result<(), AllocError>
     requires width { met.old.width ≡ 2 }
+    requires few { count < 2 ^ 63 }
     requires there { AreNumbers count numbers.now }
     requires same { length numbers.now ≡ length values.now }
     ensures { OnOk result (AddsValues met.old numbers.now values.now met.new) }
@@ -33,7 +34,7 @@ pub(crate) fn meet(
         let column = Vector::new(Form::Constant(one, values.len()));
         return meet_columns(alloc, met, &column, values, keys);
     }
-    lay_groups(alloc, count, numbers, groups)?;
+    lay_groups(count, numbers, groups)?;
     none.set_all(false, values.len());
     let column = Vector::new(Form::LentNumbers(LentNumbers::new(groups.as_slice(), none)));
     meet_columns(alloc, met, &column, values, keys)

@@ -22,7 +22,7 @@ returns-in-Some c =
 
 pub new-requires-clause-fit : goal.new-requires-clause-fit
 new-requires-clause-fit c =
-    subst (AllFit w64) (sym (c.as_slice.ensures.value ∙ c.in_ok-lay_groups.ensures.laid)) (laid-fit c.args.count c.args.numbers.now c.in_ok-lay_groups.ensures.few c.requires.there)
+    subst (AllFit w64) (sym (c.as_slice.ensures.value ∙ c.in_ok-lay_groups.ensures)) (laid-fit c.args.count c.args.numbers.now c.requires.few c.requires.there)
 
 pub meet_columns-requires-2-clause-same : goal.meet_columns-requires-2-clause-same
 meet_columns-requires-2-clause-same c =
@@ -30,7 +30,7 @@ meet_columns-requires-2-clause-same c =
     let values = c.args.values.now in
     let column : c.new-column-2.result ≡ zip2 number_unless (map pos numbers) (replicate (length values) false) =
     c.new-column-2.ensures ∙ c.new.ensures
-    ∙ ap₂ (zip2 number_unless) (c.as_slice.ensures.value ∙ c.in_ok-lay_groups.ensures.laid) (c.set_all.ensures ∙ ap (λ n. replicate n false) c.len-2.ensures.len) in
+    ∙ ap₂ (zip2 number_unless) (c.as_slice.ensures.value ∙ c.in_ok-lay_groups.ensures) (c.set_all.ensures ∙ ap (λ n. replicate n false) c.len-2.ensures.len) in
     ap (λ (vs : List Value). length vs) column ∙ laid-long numbers values c.requires.same
 
 pub returns : goal.returns
@@ -39,6 +39,6 @@ returns c =
     let values = c.args.values.now in
     let column : c.new-column-2.result ≡ zip2 number_unless (map pos numbers) (replicate (length values) false) =
     c.new-column-2.ensures ∙ c.new.ensures
-    ∙ ap₂ (zip2 number_unless) (c.as_slice.ensures.value ∙ c.in_ok-lay_groups.ensures.laid) (c.set_all.ensures ∙ ap (λ n. replicate n false) c.len-2.ensures.len) in
+    ∙ ap₂ (zip2 number_unless) (c.as_slice.ensures.value ∙ c.in_ok-lay_groups.ensures) (c.set_all.ensures ∙ ap (λ n. replicate n false) c.len-2.ensures.len) in
     let rows = ap (λ (groups : List Value). column_pairs groups values) column ∙ laid-pairs numbers values c.requires.same in
     on_ok_weaker c.meet_columns-2.result (λ adds. subst (λ (rs : List Row). Adds c.args.met.now rs c.meet_columns-2.new.met) rows adds) c.meet_columns-2.ensures
